@@ -1,0 +1,4 @@
+pub mod Bits
+pub mod Decimals
+pub mod Names
+pub mod Texts

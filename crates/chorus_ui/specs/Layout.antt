@@ -1,0 +1,67 @@
+-- The places of a layout, and where a name stands among them.
+use Rattle.std.specs.Prelude.{◌≢◌, ℕ, ◌≤◌, ◌+◌, ◌-◌, ◌*◌, ◌/◌, ◌%◌, Bool, ◌&&◌, ◌||◌, ◌==◌, nat_le, Option, Some, None, if◌then◌else◌}
+use Rattle.chorus_ui.specs.Name.{Name}
+use Rattle.chorus_ui.specs.declared.layout.TheConstants.{MAX_SITES, ACTORS_PER_SITE, PORTS_PER_SITE}
+
+-- how many sites there are, and how many places each of them has
+pub record Shape : Type 0 where
+  pub sites : ℕ
+  pub turns : ℕ
+
+-- 1 to 16 sites of 1, 2 or 4 places
+pub record IsShape (l : Shape) : Type 0 where
+  pub sites_from_one : 1 ≤ l.sites
+  pub sites_to_max : l.sites ≤ MAX_SITES
+  pub turns_from_one : 1 ≤ l.turns
+  pub turns_to_four : l.turns ≤ 4
+  pub turns_not_three : l.turns ≢ 3
+
+-- the same, as a test
+abbrev pub is_shape : Shape → Bool
+is_shape l = nat_le 1 l.sites && nat_le l.sites MAX_SITES && ((l.turns == 1) || (l.turns == 2) || (l.turns == 4))
+
+-- the layout of these numbers
+abbrev pub new_layout : ℕ → ℕ → Option Shape
+new_layout s t = let l : Shape = record { sites = s; turns = t } in if is_shape l then Some l else None
+
+-- places are numbered from 1 to this
+abbrev pub places : Shape → ℕ
+places l = l.sites * l.turns
+
+abbrev pub has_site : Shape → ℕ → Bool
+has_site l site = nat_le 1 site && nat_le site l.sites
+
+abbrev pub has_place : Shape → ℕ → Bool
+has_place l place = nat_le 1 place && nat_le place (places l)
+
+-- the first place of a site
+abbrev pub first_place : Shape → ℕ → ℕ
+first_place l site = (site - 1) * l.turns + 1
+
+-- where a thing of this name stands on a site: a site's things are divided among its places by their numbers
+abbrev pub place_at : Shape → ℕ → Name → ℕ
+place_at l site u = first_place l site + (u.number - 1) % l.turns
+
+-- the site of a place
+abbrev pub site_of : Shape → ℕ → ℕ
+site_of l place = (place - 1) / l.turns + 1
+
+-- the eight actors of each site are there from the start
+abbrev pub has_actor : Shape → Name → Bool
+has_actor l u = has_site l u.site && nat_le 1 u.number && nat_le u.number ACTORS_PER_SITE
+
+-- a site makes at most 32 ports
+abbrev pub can_make_port : Shape → Name → Bool
+can_make_port l u = has_site l u.site && nat_le 1 u.number && nat_le u.number PORTS_PER_SITE
+
+-- where a thing of this name stands on the site that made it
+abbrev pub creation_place : Shape → Name → ℕ
+creation_place l u = place_at l u.site u
+
+-- the home place of an actor, where the layout has it
+abbrev pub home : Shape → Name → Option ℕ
+home l actor = if has_actor l actor then Some (creation_place l actor) else None
+
+-- the place of a group, where the layout has its site: groups stand at the first place, and never move
+abbrev pub group_place : Shape → Name → Option ℕ
+group_place l group = if nat_le group.site l.sites then Some (first_place l group.site) else None

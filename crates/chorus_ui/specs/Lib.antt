@@ -1,0 +1,6 @@
+pub mod Decimals
+pub mod Kind
+pub mod Name
+pub mod Bits
+pub mod Text
+pub mod Layout

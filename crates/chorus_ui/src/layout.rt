@@ -1,0 +1,158 @@
+//! The places of a layout.
+
+ghost use Rattle.std.specs.Prelude.{◌≡◌, ◌≤◌, IsTrue, IfSome};
+
+use crate::kind::Kind;
+use crate::ui::Ui;
+use std::marker::Model;
+
+/// The most sites of a layout.
+pub const MAX_SITES: u16 = 16;
+
+/// The actors of each site, numbered from 1. They are there from the start.
+pub const ACTORS_PER_SITE: u64 = 8;
+
+/// The most ports that a site makes.
+pub const PORTS_PER_SITE: u64 = 32;
+
+/// How many sites there are, from 1 to 16, and how many places each of them has: 1, 2 or 4, its turns. Places
+/// are numbered from 1, those of site 1 first. Places and turns are this project's own.
+#[derive(Clone, Copy, Debug)]
+pub struct Layout {
+    sites: u16,
+    turns: u16,
+}
+
+impl Model for Layout {
+    ghost use Rattle.chorus_ui.specs.Layout.{Shape, IsShape};
+
+    ghost Value = { Shape };
+
+    ghost view = { λ l. record { sites = l.sites; turns = l.turns } };
+
+    ghost invariant = { λ l. IsShape (record { sites = l.sites; turns = l.turns }) };
+
+    ghost inverse = { λ shape. record { sites = shape.sites; turns = shape.turns } };
+}
+
+impl Layout {
+    ghost use Rattle.chorus_ui.specs.Layout.{IsShape, new_layout, places, has_site, has_place, can_make_port, first_place, place_at, site_of, home, group_place};
+
+    /// The layout of these numbers. None exactly outside 1 to 16 sites and 1, 2 or 4 turns.
+    pub fn new(sites: u16, turns: u16) -> Option<Layout>
+        ensures { result ≡ new_layout sites turns }
+    {
+        if 1 <= sites && sites <= MAX_SITES && matches!(turns, 1 | 2 | 4) {
+            Some(Layout { sites, turns })
+        } else {
+            None
+        }
+    }
+
+    /// The number of sites, from 1 to 16.
+    pub fn sites(&self) -> u16
+        ensures value { result ≡ self.now.sites }
+        ensures shape { IsShape self.now }
+    {
+        self.sites
+    }
+
+    /// The number of places of each site: 1, 2 or 4.
+    pub fn turns(&self) -> u16
+        ensures value { result ≡ self.now.turns }
+        ensures shape { IsShape self.now }
+    {
+        self.turns
+    }
+
+    /// The number of places, from 1 to 64.
+    pub fn places(&self) -> u16
+        ensures value { result ≡ places self.now }
+        ensures bounds { (1 ≤ result) × (result ≤ 64) }
+    {
+        self.sites * self.turns
+    }
+
+    /// Whether this is a site of the layout.
+    pub fn has_site(&self, site: u16) -> bool
+        ensures { result ≡ has_site self.now site }
+    {
+        1 <= site && site <= self.sites
+    }
+
+    /// Whether this is a place of the layout.
+    pub fn has_place(&self, place: u16) -> bool
+        ensures { result ≡ has_place self.now place }
+    {
+        1 <= place && place <= self.places()
+    }
+
+    /// Whether the layout can make this port: its site is one of the layout's and its number at most 32.
+    pub fn can_make_port(&self, port: Ui) -> bool
+        requires { port.kind ≡ Kind.Port }
+        ensures { result ≡ can_make_port self.now port }
+    {
+        self.has_site(port.site()) && port.number() <= PORTS_PER_SITE
+    }
+
+    /// The first place of a site, where its groups stand.
+    pub fn first_place(&self, site: u16) -> u16
+        requires { IsTrue (has_site self.now site) }
+        ensures value { result ≡ first_place self.now site }
+        ensures in_layout { IsTrue (has_place self.now result) }
+        ensures on_site { site_of self.now result ≡ site }
+    {
+        (site - 1) * self.turns + 1
+    }
+
+    /// The place at which a thing of this name stands on this site: the things of a site are divided among its
+    /// places by their numbers.
+    pub fn place_at(&self, site: u16, ui: Ui) -> u16
+        requires { IsTrue (has_site self.now site) }
+        ensures value { result ≡ place_at self.now site ui }
+        ensures in_layout { IsTrue (has_place self.now result) }
+        ensures on_site { site_of self.now result ≡ site }
+    {
+        let turn = (ui.number() - 1) % u64::from(self.turns);
+        self.first_place(site) + turn as u16
+    }
+
+    /// The home place of an actor. None exactly where the actor is not one of the layout's: its site is above
+    /// the number of sites, or its number above 8.
+    pub fn home(&self, actor: Ui) -> Option<u16>
+        requires { actor.kind ≡ Kind.Actor }
+        ensures value { result ≡ home self.now actor }
+        ensures in_layout { IfSome result (λ place. IsTrue (has_place self.now place)) }
+    {
+        let site = actor.site();
+        if self.has_site(site) && actor.number() <= ACTORS_PER_SITE {
+            Some(self.place_at(site, actor))
+        } else {
+            None
+        }
+    }
+
+    /// The place of a group, which never moves: the first of the site that made it. None exactly where that
+    /// site is above the number of sites.
+    pub fn group_place(&self, group: Ui) -> Option<u16>
+        requires { group.kind ≡ Kind.Group }
+        ensures value { result ≡ group_place self.now group }
+        ensures in_layout { IfSome result (λ place. IsTrue (has_place self.now place)) }
+    {
+        let site = group.site();
+        if site <= self.sites {
+            Some(self.first_place(site))
+        } else {
+            None
+        }
+    }
+
+    /// The site of a place.
+    pub fn site_of(&self, place: u16) -> u16
+        requires { IsTrue (has_place self.now place) }
+        ensures value { result ≡ site_of self.now place }
+        ensures in_layout { IsTrue (has_site self.now result) }
+    {
+        (place - 1) / self.turns + 1
+    }
+}
