@@ -1,0 +1,2 @@
+pub mod ClientTables
+pub mod Same

@@ -1,0 +1,15 @@
+pub mod Act
+pub mod Answer
+pub mod Body
+pub mod ClientTable
+pub mod Command
+pub mod Dest
+pub mod Ids
+pub mod Kinds
+pub mod Members
+pub mod Message
+pub mod MsgId
+pub mod PortRecord
+pub mod Ranges
+pub mod Tag
+pub mod Places

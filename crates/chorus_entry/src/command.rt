@@ -1,0 +1,38 @@
+//! What callers ask for.
+
+use crate::body::Body;
+use crate::dest::Dest;
+use chorus_ui::Ui;
+
+/// What a caller asks of the nucleus. A place performs a command in one turn and appends one entry that answers it.
+///
+/// The commands are those of the Chorus article of 1988, without its memory: actors, ports, groups, migration and remote
+/// calls. A command is given under conditions, which are `meets_conditions` of `specs/Command.antt`: a capacity is from 1
+/// to 64, a destination names a port or a group as its variant says, and the site that it demands is from 1 to 16.
+#[derive(Debug, Drop)]
+pub enum Command {
+    /// Makes a port of this actor, with room for `capacity` waiting messages, 1 to 64.
+    Make { actor: Ui, capacity: u8 },
+    /// Posts a message that asks for nothing.
+    Send { dest: Dest, body: Body },
+    /// Posts a request to a port; the reply goes to the port `back`. A caller has at most one call outstanding.
+    Call { port: Ui, back: Ui, body: Body },
+    /// Posts the request of the outstanding call again.
+    Retry,
+    /// Ends the outstanding call.
+    Cancel,
+    /// Answers the request in hand, the one that was taken last.
+    Reply { body: Body },
+    /// Receives the first waiting message of a port of the caller's actor.
+    Take { port: Ui },
+    /// Moves a port, with all that waits in it, to an actor of this or another site.
+    Move { port: Ui, actor: Ui },
+    /// Makes a group at the first place of a site.
+    GroupMake { site: u16 },
+    /// Makes a port the last member of a group.
+    Join { group: Ui, port: Ui },
+    /// Takes a port out of a group.
+    Leave { group: Ui, port: Ui },
+    /// Deletes a port of the caller's actor, and with it what waits there.
+    Delete { port: Ui },
+}

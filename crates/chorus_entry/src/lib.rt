@@ -1,0 +1,40 @@
+//! What is said on every layer of chorus: messages, commands, the entries of a journal, the record of a port and the
+//! packets between places.
+//!
+//! The layers above rest on these types and on the words of `specs/`: what an act is (a command's own entry, a
+//! decision, a verdict), the answer that it gives, and the message, port and group that it names, each case by case.
+//! A record keeps its room wherever it goes, so that what a port does after it is made takes no memory. The texts,
+//! bytes and rules that go with the types stand in the layers above.
+//!
+//! Begin with `act`: the forty kinds of events. `entry` adds when, where and by whom.
+#![tactic(auto)]
+
+mod act;
+mod answer;
+mod body;
+mod command;
+mod dest;
+mod entry;
+mod id;
+mod ids;
+mod members;
+mod message;
+mod packet;
+mod record;
+mod tag;
+#[cfg(test)]
+mod tests;
+
+pub use act::Act;
+pub use answer::Answer;
+pub use body::{BODY_LIMIT, Body};
+pub use command::Command;
+pub use dest::Dest;
+pub use entry::Entry;
+pub use id::MsgId;
+pub use ids::Ids;
+pub use members::{MEMBERS_LIMIT, Members};
+pub use message::Message;
+pub use packet::{Cargo, Packet};
+pub use record::{CLIENTS_LIMIT, ClientTable, PENDING_LIMIT, Pending, PortRecord};
+pub use tag::Tag;

@@ -1,0 +1,53 @@
+//! What places send to one another.
+
+use crate::answer::Answer;
+use crate::dest::Dest;
+use crate::id::MsgId;
+use crate::message::Message;
+use crate::record::PortRecord;
+use chorus_ui::Ui;
+
+/// What one place sends to another.
+#[derive(Debug, Drop)]
+pub struct Packet {
+    /// The clock of the entry that caused it.
+    pub clock: u64,
+    /// The place that sends it, from 1.
+    pub from: u16,
+    pub cargo: Cargo,
+}
+
+/// The contents of a packet, which also says what is to be done with it.
+#[derive(Debug, Drop)]
+pub enum Cargo {
+    /// A message for a port that the sending place located at the receiver by its hop `hop`. `route` is the group that the
+    /// message went through, None for a direct one; `only` is the site that a message for one site demands.
+    Try {
+        message: Message,
+        port: Ui,
+        route: Option<Ui>,
+        only: Option<u16>,
+        hop: u64,
+    },
+    /// The decision on a message that the receiver sent in a Try.
+    Verdict {
+        id: MsgId,
+        port: Ui,
+        route: Option<Ui>,
+        answer: Answer,
+    },
+    /// A port that migrates, with its queue and the clients that it remembers.
+    Transfer {
+        port: PortRecord,
+    },
+    /// A post to a group, for the group's place to choose members.
+    Ask {
+        message: Message,
+        dest: Dest,
+    },
+    /// What became of a group's post or of one of its copies, for the place where it was posted.
+    Report {
+        id: MsgId,
+        answer: Answer,
+    },
+}

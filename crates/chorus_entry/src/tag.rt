@@ -1,0 +1,15 @@
+//! What a message is beside its body.
+
+use chorus_ui::Ui;
+
+/// What a message is beside its body.
+#[derive(Clone, Copy, Debug, PartialEq, Eq)]
+pub enum Tag {
+    /// An asynchronous message, which asks for nothing.
+    Plain,
+    /// A request, the client's call number `number`, from 1. The reply goes to the port `back`. The client is the seat of
+    /// the message's id.
+    Request { number: u32, back: Ui },
+    /// The reply to the request `number` of the client.
+    Reply { client: u32, number: u32 },
+}
