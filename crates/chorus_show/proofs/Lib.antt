@@ -1,0 +1,4 @@
+pub mod PortSums
+pub mod Waiting
+pub mod ReadBack
+pub mod LineBack

@@ -1,0 +1,7 @@
+pub mod Phrases
+pub mod Lines
+pub mod Law
+pub mod Journal
+pub mod Summary
+pub mod Tally
+pub mod Faults

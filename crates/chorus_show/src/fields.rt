@@ -1,0 +1,124 @@
+//! The fields of a line.
+
+ghost use Rattle.std.specs.Prelude.{◌≡◌, ◌<◌, ℕ, List, ◌++◌, OnOk, decimal};
+ghost use Rattle.std.specs.List.{flat_map};
+ghost use Rattle.chorus_ui.specs.Text.{name_text};
+ghost use Rattle.chorus_show.specs.Phrases.{byte_text, hex_digit};
+
+use chorus_entry::{Body, MsgId};
+use chorus_ui::{Ui, push_decimal};
+use std::alloc::AllocError;
+
+/// A value that a line shows as one field.
+pub(crate) trait Field {
+    /// Its text.
+    ghost text: { Self → List ℕ };
+
+    /// Appends its text. After an error a part of it may stand there.
+    fn push(&self, out: &mut Vec<u8>) -> Result<(), AllocError>
+        ensures { OnOk result (out.new.items ≡ out.old.items ++ text self.now) };
+}
+
+impl Field for u8 {
+    ghost text = { decimal };
+
+    fn push(&self, out: &mut Vec<u8>) -> Result<(), AllocError> {
+        push_decimal(u64::from(*self), out)
+    }
+}
+
+impl Field for u16 {
+    ghost text = { decimal };
+
+    fn push(&self, out: &mut Vec<u8>) -> Result<(), AllocError> {
+        push_decimal(u64::from(*self), out)
+    }
+}
+
+impl Field for u32 {
+    ghost text = { decimal };
+
+    fn push(&self, out: &mut Vec<u8>) -> Result<(), AllocError> {
+        push_decimal(u64::from(*self), out)
+    }
+}
+
+impl Field for u64 {
+    ghost text = { decimal };
+
+    fn push(&self, out: &mut Vec<u8>) -> Result<(), AllocError> {
+        push_decimal(*self, out)
+    }
+}
+
+impl Field for u128 {
+    ghost text = { decimal };
+
+    fn push(&self, out: &mut Vec<u8>) -> Result<(), AllocError> {
+        let mut buffer = itoa::Buffer::new();
+        out.extend_from_slice(buffer.format(*self).as_bytes())
+    }
+}
+
+impl Field for Ui {
+    ghost text = { name_text };
+
+    fn push(&self, out: &mut Vec<u8>) -> Result<(), AllocError> {
+        self.text(out)
+    }
+}
+
+impl Field for MsgId {
+    ghost use Rattle.chorus_show.specs.Phrases.{id_text};
+
+    ghost text = { id_text };
+
+    fn push(&self, out: &mut Vec<u8>) -> Result<(), AllocError> {
+        push_decimal(u64::from(self.seat), out)?;
+        out.push(b':')?;
+        push_decimal(u64::from(self.number), out)?;
+        out.push(b':')?;
+        push_decimal(u64::from(self.copy), out)
+    }
+}
+
+impl Field for Body {
+    ghost use Rattle.chorus_show.specs.Phrases.{body_text};
+
+    ghost text = { body_text };
+
+    fn push(&self, out: &mut Vec<u8>) -> Result<(), AllocError> {
+        out.push(b'=')?;
+        push_escaped(self.bytes(), out)
+    }
+}
+
+fn push_escaped(bytes: &[u8], out: &mut Vec<u8>) -> Result<(), AllocError>
+    ensures { OnOk result (out.new.items ≡ out.old.items ++ flat_map byte_text bytes.now) }
+{
+    for byte in bytes {
+        push_byte(*byte, out)?;
+    }
+    Ok(())
+}
+
+fn push_byte(byte: u8, out: &mut Vec<u8>) -> Result<(), AllocError>
+    ensures { OnOk result (out.new.items ≡ out.old.items ++ byte_text byte) }
+{
+    if (32..=126).contains(&byte) && byte != b'%' {
+        out.push(byte)?;
+        return Ok(());
+    }
+    out.extend_from_slice(&[b'%', hex_digit(byte / 16), hex_digit(byte % 16)])
+}
+
+fn hex_digit(digit: u8) -> u8
+    requires { digit < 16 }
+    ensures { result ≡ hex_digit digit }
+{
+    if digit < 10 {
+        b'0' + digit
+    } else {
+        b'a' + (digit - 10)
+    }
+}

@@ -1,0 +1,8 @@
+//! What a reader of a printed journal stands on.
+
+ghost use Rattle.chorus_show.specs.Law.{LinesTellEntries};
+
+/// The law that a line has one entry: two entries whose numbers are within their types, and whose lines are equal, are equal.
+pub fn a_line_has_one_entry()
+    ensures { LinesTellEntries }
+{}

@@ -1,0 +1,26 @@
+//! The texts that are written: the journal, its summary, and the line of a fault.
+//!
+//! Each text has one definition, `specs/Lines.antt` for the forty lines of a journal above all, and the calls here append
+//! exactly its bytes, or nothing where there is no memory. The program prints with these calls, and the reader of a printed
+//! journal stands on the law that a line has one entry.
+//!
+//! Begin with [`entry_line`].
+
+#![tactic(auto)]
+
+mod counts;
+mod entries;
+mod fields;
+mod journal;
+mod law;
+mod phrases;
+mod queues;
+mod status;
+mod summary;
+#[cfg(test)]
+mod tests;
+
+pub use journal::{entry_line, journal_text};
+pub use law::a_line_has_one_entry;
+pub use status::{Status, fault_text};
+pub use summary::summary_text;

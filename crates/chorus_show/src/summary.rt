@@ -1,0 +1,75 @@
+//! The summary text.
+
+ghost use Rattle.std.specs.Prelude.{◌≡◌, ◌++◌, List, OnOk, OnErr};
+ghost use Rattle.chorus_entry.specs.declared.entry.Entry.{Entry};
+ghost use Rattle.chorus_show.specs.Summary.{summary_text, message_lines, discarded_line, other_lines};
+ghost use Rattle.chorus_show.specs.Tally.{AreCounts, AreQueues};
+
+use crate::counts::Counts;
+use crate::phrases::{push_count, push_word};
+use crate::queues::Queues;
+use chorus_entry::Entry;
+use std::alloc::AllocError;
+
+/// Appends the summary text: the line `summary`, eight lines `WORD NUMBER`, and the line `end`. Exactly where an entry deletes
+/// a port, a ninth line `discarded NUMBER` stands behind `moving`. What the numbers are is said for every list of entries. An
+/// error leaves `out` as it was.
+pub fn summary_text(entries: &[Entry], out: &mut Vec<u8>) -> Result<(), AllocError>
+    ensures ok { OnOk result (out.new.items ≡ out.old.items ++ summary_text entries.now) }
+    ensures err { OnErr result (out.new.items ≡ out.old.items) }
+{
+    let mut counts = Counts::new();
+    let mut queues = Queues::new(*out.allocator());
+    let mut rest = entries;
+    // From the last entry to the first: the last one that puts a port somewhere says where it is.
+    while let [before @ .., entry] = rest {
+        counts.add(entry);
+        queues.add(entry)?;
+        rest = before;
+    }
+    let mut text = Vec::new(*out.allocator());
+    push_summary(&counts, &queues, &mut text)?;
+    out.extend_from_slice(&text)
+}
+
+/// Appends the text of a summary with these numbers. After an error a part of it may stand there.
+fn push_summary(counts: &Counts, queues: &Queues, out: &mut Vec<u8>) -> Result<(), AllocError>
+    ensures { OnOk result ((entries : List Entry) → AreCounts counts.now entries → AreQueues queues.now entries → out.new.items ≡ out.old.items ++ summary_text entries) }
+{
+    push_word("summary\n", out)?;
+    push_message_lines(counts, queues, out)?;
+    push_discarded_line(counts, out)?;
+    push_other_lines(counts, out)?;
+    push_word("end\n", out)?;
+    Ok(())
+}
+
+fn push_message_lines(counts: &Counts, queues: &Queues, out: &mut Vec<u8>) -> Result<(), AllocError>
+    ensures { OnOk result ((entries : List Entry) → AreCounts counts.now entries → AreQueues queues.now entries → out.new.items ≡ out.old.items ++ message_lines entries) }
+{
+    push_count("posted", &counts.posted, out)?;
+    push_count("accepted", &counts.accepted, out)?;
+    push_count("taken", &counts.taken, out)?;
+    push_count("queued", &queues.queued, out)?;
+    push_count("moving", &queues.moving, out)?;
+    Ok(())
+}
+
+fn push_discarded_line(counts: &Counts, out: &mut Vec<u8>) -> Result<(), AllocError>
+    ensures { OnOk result ((entries : List Entry) → AreCounts counts.now entries → out.new.items ≡ out.old.items ++ discarded_line entries) }
+{
+    if counts.deletes == 0 {
+        return Ok(());
+    }
+    push_count("discarded", &counts.discarded, out)?;
+    Ok(())
+}
+
+fn push_other_lines(counts: &Counts, out: &mut Vec<u8>) -> Result<(), AllocError>
+    ensures { OnOk result ((entries : List Entry) → AreCounts counts.now entries → out.new.items ≡ out.old.items ++ other_lines entries) }
+{
+    push_count("refused", &counts.refused, out)?;
+    push_count("stale", &counts.stale, out)?;
+    push_count("departs", &counts.departs, out)?;
+    Ok(())
+}
