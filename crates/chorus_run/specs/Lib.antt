@@ -1,0 +1,3 @@
+pub mod Form
+pub mod Output
+pub mod Sites

@@ -1,0 +1,40 @@
+-- What a top call did to its source and sink, by its status.
+use Rattle.std.specs.Prelude.{◌≡◌, ℕ, List, [], ◌++◌, Option, Some, None}
+use Rattle.std.specs.List.{flat_map}
+use Rattle.std.specs.Io.KnownBytes.{Appends}
+use Rattle.chorus_io.specs.Bytes.{AppendsPrefix}
+use Rattle.chorus_entry.specs.declared.entry.Entry.{Entry}
+use Rattle.chorus_show.specs.Journal.{journal_text}
+use Rattle.chorus_show.specs.Summary.{summary_text}
+use Rattle.chorus_run.specs.declared.sites.Closed.{Closed}
+use Rattle.chorus_show.specs.declared.status.Status.{Status}
+use Rattle.chorus_show.specs.declared.status.Status.TheVariants.{Done, Usage, Scenario, ReadFault, WriteFault, Memory, Worn}
+
+-- the sink took the whole text at Done, a prefix of it at WriteFault, and nothing with any other status
+abbrev pub Writes : Status → Option (List ℕ) → Option (List ℕ) → List ℕ → Type 0
+Writes Done old new text = Appends old new text
+Writes WriteFault old new text = AppendsPrefix old new text
+Writes Usage old new text = new ≡ old
+Writes (Scenario line reason) old new text = new ≡ old
+Writes ReadFault old new text = new ≡ old
+Writes Memory old new text = new ≡ old
+Writes (Worn clock) old new text = new ≡ old
+
+-- a call that reads gave up before it wrote
+abbrev pub GivesUp : Status → Type 0
+GivesUp Done = ⊥
+GivesUp WriteFault = ⊥
+GivesUp Usage = ⊥
+GivesUp (Scenario line reason) = Unit {0}
+GivesUp ReadFault = Unit {0}
+GivesUp Memory = Unit {0}
+GivesUp (Worn clock) = ⊥
+
+-- the entries of what was closed: so far there is one journal
+abbrev pub entries_of : Closed → List Entry
+entries_of closed = flat_map (λ journal. journal.items) closed.journals.items
+
+-- the text of what was closed: its journal text, and its summary text
+abbrev pub text_of : Option Closed → List ℕ
+text_of None = []
+text_of (Some closed) = journal_text (entries_of closed) ++ summary_text (entries_of closed)
