@@ -1,0 +1,122 @@
+//! The two ends of a link.
+ghost use Rattle.std.specs.Prelude.{◌≡◌, true};
+ghost use Rattle.std.specs.Arc.{arc_value};
+ghost use Rattle.crossbeam_queue.specs.Passes.{view, IsPassOf};
+ghost use Rattle.chorus_link.specs.Ties.{pass_of_prop};
+
+use crate::rule::{Gets, InOrder, Log, Puts};
+use crossbeam_queue::{Pass, RuledArrayQueue};
+use std::alloc::Global;
+use std::sync::{Arc, Wait};
+
+/// The queue under the rule of a link, shared by the two ends.
+pub(crate) type Line<P> = Arc<RuledArrayQueue<P, Log<P>, InOrder>, Global>;
+
+/// The end of a link that puts packets.
+///
+/// A contract sees which link it is of, its `room`, all that was `put`, as much of what was got as this end knows, and the
+/// count of its `fulls`.
+#[derive(Drop)]
+pub struct SendEnd<P> {
+    pub(crate) queue: Line<P>,
+    pub(crate) pass: Pass<P, Log<P>>,
+    pub(crate) fulls: u64,
+    ghost of_queue: { IsPassOf (arc_value queue) pass } by { pass_of_prop (arc_value queue) pass },
+    ghost puts: { (view pass).puts ≡ true },
+}
+
+/// The end of a link that gets packets.
+///
+/// A contract sees which link it is of, all that was `got`, as much of what was put as this end knows, and the count of its
+/// `empties`.
+#[derive(Drop)]
+pub struct RecvEnd<P> {
+    pub(crate) queue: Line<P>,
+    pub(crate) pass: Pass<P, Log<P>>,
+    pub(crate) empties: u64,
+    ghost of_queue: { IsPassOf (arc_value queue) pass } by { pass_of_prop (arc_value queue) pass },
+    ghost gets: { (view pass).gets ≡ true },
+}
+
+impl<P: Drop> SendEnd<P> {
+    ghost use Rattle.std.specs.Prelude.{◌≡◌, ◌+◌, [], ◌∷◌, ◌++◌, OnOk, OnErr, IfErr, MatchResult};
+    ghost use Rattle.chorus_link.specs.Lists.{StartsWith};
+    ghost use Rattle.chorus_link.specs.Ends.{put, known_got, fulls_of, send_link, room, WasFull};
+
+    /// Puts a packet behind all that was put, in one operation of the queue.
+    ///
+    /// The packet comes back only where the link was full at a step of this call, and `fulls` rises by one. Such a call that
+    /// finds the count at 2^64 - 1 tries again until there is room, so the count stands still there. Takes no memory.
+    pub fn push<R: Wait>(&mut self, rt: &R, packet: P) -> Result<(), P>
+        ensures link { (send_link self.new ≡ send_link self.old) × (room self.new ≡ room self.old) }
+        ensures moved { OnOk result (put self.new ≡ put self.old ++ packet ∷ []) }
+        ensures learned { OnOk result (StartsWith (known_got self.new) (known_got self.old)) }
+        ensures back { IfErr result (λ x. x ≡ packet) }
+        ensures unmoved { OnErr result ((put self.new ≡ put self.old) × (known_got self.new ≡ known_got self.old)) }
+        ensures counted { MatchResult result (λ _. fulls_of self.new ≡ fulls_of self.old) (λ _. fulls_of self.new ≡ fulls_of self.old + 1) }
+        ensures full { OnErr result (WasFull (room self.old) (put self.old) (known_got self.old)) }
+    {
+        let mut packet = packet;
+        for _ in rt.forever() {
+            match self.queue.push_as::<Puts, R>(rt, &mut self.pass, packet) {
+                Ok(()) => return Ok(()),
+                Err(back) => {
+                    if self.fulls < u64::MAX {
+                        self.fulls += 1;
+                        return Err(back);
+                    }
+                    packet = back;
+                }
+            }
+        }
+        unreachable!()
+    }
+
+    /// How many packets came back because the link was full, up to 2^64 - 1.
+    pub fn fulls(&self) -> u64
+        ensures { result ≡ fulls_of self.now }
+    {
+        self.fulls
+    }
+}
+
+impl<P: Drop> RecvEnd<P> {
+    ghost use Rattle.std.specs.Prelude.{◌≡◌, ◌+◌, [], ◌∷◌, ◌++◌, OnSome, IfSome, IfNone, MatchOption};
+    ghost use Rattle.chorus_link.specs.Lists.{StartsWith};
+    ghost use Rattle.chorus_link.specs.Ends.{got, known_put, empties_of, recv_link, WasEmpty};
+
+    /// Gets the first packet that was put and not got, in one operation of the queue.
+    ///
+    /// None comes only where the link was empty at a step of this call, and `empties` rises by one. Such a call that finds the
+    /// count at 2^64 - 1 tries again until there is a packet, so the count stands still there. Takes no memory.
+    #[tactic(auto, using(crate::proofs::Steps::steps))]
+    pub fn pop<R: Wait>(&mut self, rt: &R) -> Option<P>
+        ensures link { recv_link self.new ≡ recv_link self.old }
+        ensures moved { IfSome result (λ x. got self.new ≡ got self.old ++ x ∷ []) }
+        ensures learned { OnSome result (StartsWith (known_put self.new) (known_put self.old)) }
+        ensures within { OnSome result (StartsWith (known_put self.new) (got self.new)) }
+        ensures unmoved { IfNone result ((got self.new ≡ got self.old) × (known_put self.new ≡ known_put self.old)) }
+        ensures counted { MatchOption result (empties_of self.new ≡ empties_of self.old + 1) (λ _. empties_of self.new ≡ empties_of self.old) }
+        ensures empty { IfNone result (WasEmpty (got self.old) (known_put self.old)) }
+    {
+        for _ in rt.forever() {
+            match self.queue.pop_as::<Gets, R>(rt, &mut self.pass) {
+                Some(packet) => return Some(packet),
+                None => {
+                    if self.empties < u64::MAX {
+                        self.empties += 1;
+                        return None;
+                    }
+                }
+            }
+        }
+        unreachable!()
+    }
+
+    /// How many calls of `pop` gave none because the link was empty, up to 2^64 - 1.
+    pub fn empties(&self) -> u64
+        ensures { result ≡ empties_of self.now }
+    {
+        self.empties
+    }
+}
