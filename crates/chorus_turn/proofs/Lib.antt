@@ -1,0 +1,15 @@
+pub mod Counts
+pub mod Fronts
+pub mod Parts
+pub mod Views
+pub mod Numbers
+pub mod Draws
+pub mod Splits
+pub mod Takes
+pub mod Growth
+pub mod Gives
+pub mod Joins
+pub mod Rows
+pub mod Opens
+pub mod Closes
+pub mod Jobs
