@@ -1,0 +1,4 @@
+pub mod Window
+pub mod Sending
+pub mod Receiving
+pub mod Line
