@@ -1,0 +1,9 @@
+pub mod Order
+pub mod Merges
+pub mod Folds
+pub mod Loops
+pub mod Kept
+pub mod Numbering
+pub mod Places
+pub mod Sorted
+pub mod Next

@@ -1,0 +1,4 @@
+pub mod Order
+pub mod Merge
+pub mod Steps
+pub mod Laws
