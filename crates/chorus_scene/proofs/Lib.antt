@@ -1,0 +1,17 @@
+pub mod Texts
+pub mod Hex
+pub mod Numbers
+pub mod Tables
+pub mod Counts
+pub mod Next
+pub mod Lines
+pub mod Order
+pub mod Opens
+pub mod Spelled
+pub mod Bodies
+pub mod Reprint
+pub mod Words
+pub mod Again
+pub mod Sofar
+pub mod Law
+pub mod PrintedLines

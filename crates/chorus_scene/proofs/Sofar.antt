@@ -1,0 +1,80 @@
+-- The lines that a scenario is printed as grow by the text of each line that is read.
+use Rattle.std.proofs.Common.{◌≡◌, ℕ, zero, suc, ◌+◌, ◌-◌, ◌<◌, List, [], ◌∷◌, ◌++◌, ◌⊎◌, inl, inr, length, get_or, set, map, refl, sym, ap, ◌∙◌, arith, append_assoc}
+use Rattle.std.specs.List.{flat_map}
+use Rattle.std.proofs.lemmas.List.{map_push, append-nil}
+use Rattle.chorus_ui.specs.Name.{Name}
+use Rattle.chorus_ui.specs.Layout.{Shape}
+use Rattle.chorus_entry.specs.declared.command.Command.{Command}
+use Rattle.chorus_scene.specs.declared.word.Section.{Section}
+use Rattle.chorus_scene.specs.declared.word.Section.TheVariants as sections
+use Rattle.chorus_scene.specs.declared.scenario.SetupLine.{SetupLine}
+use Rattle.chorus_scene.specs.declared.scenario.SetupLine.TheVariants as setups
+use Rattle.chorus_scene.specs.Scene.{Scene, Script}
+use Rattle.chorus_scene.specs.Making.{makes, made_after, next_port, next_group}
+use Rattle.chorus_scene.specs.Line.{Line, Version, Count, MakePort, MakeGroup, Enlist, Begin, Do, Steps, Go, Ends}
+use Rattle.chorus_scene.specs.Judge.{State, after, made, with_command, last_script, no_script}
+use Rattle.chorus_scene.specs.Print.{setup_text, setup_texts, script_texts, command_text, step_text, version_text, sites_text, text_of, texts_in, before_schedule}
+
+setup_more : (l : Shape) (made : List Name) (lines : List SetupLine) (line : SetupLine) → setup_texts l made (lines ++ line ∷ []) ≡ setup_texts l made lines ++ setup_text l (made_after l made lines) line ∷ []
+setup_more l made [] line = refl
+setup_more l made (first ∷ lines) line = ap (λ rest. setup_text l made first ∷ rest) (setup_more l (made ++ makes l made first) lines line)
+
+flat_more : (scripts : List Script) (s : Script) → flat_map script_texts (scripts ++ s ∷ []) ≡ flat_map script_texts scripts ++ script_texts s
+flat_more [] s = append-nil (script_texts s)
+flat_more (x ∷ xs) s = rw (flat_more xs s) (sym (append_assoc (script_texts x) (flat_map script_texts xs) (script_texts s)))
+
+one_command : (c : Command) (s : Script) → script_texts (with_command c s) ≡ script_texts s ++ command_text c ∷ []
+one_command c s = ap (λ rest. text_of (Begin s.actor) ∷ rest) (map_push command_text s.commands c)
+
+last_at : (c : Command) (scripts : List Script) (i : ℕ) → i + 1 ≡ length scripts → flat_map script_texts (set scripts i (with_command c (get_or scripts i no_script))) ≡ flat_map script_texts scripts ++ command_text c ∷ []
+last_at c [] i e = absurd (omega arith)
+last_at c (x ∷ []) zero e = append-nil (script_texts (with_command c x)) ∙ one_command c x ∙ ap (λ rest. rest ++ command_text c ∷ []) (sym (append-nil (script_texts x)))
+last_at c (x ∷ []) (suc i) e = absurd (omega arith)
+last_at c (x ∷ y ∷ ys) zero e = absurd (omega arith)
+last_at c (x ∷ y ∷ ys) (suc i) e = ap (λ rest. script_texts x ++ rest) (last_at c (y ∷ ys) i (omega arith)) ∙ sym (append_assoc (script_texts x) (flat_map script_texts (y ∷ ys)) (command_text c ∷ []))
+
+last_more : (c : Command) (scripts : List Script) → 0 < length scripts → flat_map script_texts (set scripts (length scripts - 1) (with_command c (last_script scripts))) ≡ flat_map script_texts scripts ++ command_text c ∷ []
+last_more c scripts some = last_at c scripts (length scripts - 1) (omega arith)
+
+-- where a line may follow, as far as printing goes
+abbrev pub Follows : State → Line → Type 0
+Follows s (Version v) = s.section ≡ sections.Head
+Follows s (Count n) = (s.section ≡ sections.Sites) × (s.scene.setup ≡ []) × (s.scene.scripts ≡ [])
+Follows s (MakePort u actor capacity) = (s.section ≡ sections.Setup) × (s.scene.scripts ≡ []) × (u ≡ next_port s.scene.layout actor (made s.scene))
+Follows s (MakeGroup u) = (s.section ≡ sections.Setup) × (s.scene.scripts ≡ []) × (u ≡ next_group s.scene.layout u.site (made s.scene))
+Follows s (Enlist group port) = (s.section ≡ sections.Setup) × (s.scene.scripts ≡ [])
+Follows s (Begin actor) = (s.section ≡ sections.Setup) ⊎ (s.section ≡ sections.Scripts)
+Follows s (Do command) = (s.section ≡ sections.Scripts) × (0 < length s.scene.scripts)
+Follows s Steps = ((s.section ≡ sections.Setup) ⊎ (s.section ≡ sections.Scripts)) × (s.scene.schedule ≡ [])
+Follows s (Go step) = s.section ≡ sections.Schedule
+Follows s Ends = s.section ≡ sections.Schedule
+
+early_texts : (s : Section) (c : Scene) → (s ≡ sections.Setup) ⊎ (s ≡ sections.Scripts) → texts_in s c ≡ before_schedule c
+early_texts s c (inl e) = rw e refl
+early_texts s c (inr e) = rw e refl
+
+-- a line of the setup more
+setup_grows : (s : State) (line : SetupLine) (text : List ℕ) → s.section ≡ sections.Setup → s.scene.scripts ≡ [] → setup_text s.scene.layout (made s.scene) line ≡ text
+    → texts_in sections.Setup (record s.scene { setup = s.scene.setup ++ line ∷ [] }) ≡ texts_in s.section s.scene ++ text ∷ []
+setup_grows s line text section scripts same =
+    rw (section, scripts) (ap (λ rest. version_text s.scene.version ∷ sites_text s.scene.sites ∷ rest)
+    (append-nil (setup_texts s.scene.layout [] (s.scene.setup ++ line ∷ [])) ∙ setup_more s.scene.layout [] s.scene.setup line
+    ∙ ap (λ t. setup_texts s.scene.layout [] s.scene.setup ++ t ∷ []) same
+    ∙ ap (λ rest. rest ++ text ∷ []) (sym (append-nil (setup_texts s.scene.layout [] s.scene.setup)))))
+
+pub grows : (s : State) (x : Line) → Follows s x → texts_in (after s x).section (after s x).scene ≡ texts_in s.section s.scene ++ text_of x ∷ []
+grows s (Version v) h = rw h refl
+grows s (Count n) h = rw (h.0, h.1, h.2) refl
+grows s (MakePort u actor capacity) h = setup_grows s (setups.Port actor capacity) (text_of (MakePort u actor capacity)) h.0 h.1 (ap (λ v. text_of (MakePort v actor capacity)) (sym h.2))
+grows s (MakeGroup u) h = setup_grows s (setups.Group u.site) (text_of (MakeGroup u)) h.0 h.1 (ap (λ v. text_of (MakeGroup v)) (sym h.2))
+grows s (Enlist group port) h = setup_grows s (setups.Member group port) (text_of (Enlist group port)) h.0 h.1 refl
+grows s (Begin actor) h =
+    let e = early_texts s.section s.scene h in
+    rw e (ap (λ rest. version_text s.scene.version ∷ sites_text s.scene.sites ∷ rest)
+    (ap (λ rest. setup_texts s.scene.layout [] s.scene.setup ++ rest) (flat_more s.scene.scripts (record { actor = actor; commands = [] })) ∙ sym (append_assoc (setup_texts s.scene.layout [] s.scene.setup) (flat_map script_texts s.scene.scripts) (text_of (Begin actor) ∷ []))))
+grows s (Do command) h =
+    rw h.0 (ap (λ rest. version_text s.scene.version ∷ sites_text s.scene.sites ∷ rest)
+    (ap (λ rest. setup_texts s.scene.layout [] s.scene.setup ++ rest) (last_more command s.scene.scripts h.1) ∙ sym (append_assoc (setup_texts s.scene.layout [] s.scene.setup) (flat_map script_texts s.scene.scripts) (command_text command ∷ []))))
+grows s Steps h = let e = early_texts s.section s.scene h.0 in rw (e, h.1) refl
+grows s (Go step) h = rw h (ap (λ rest. before_schedule s.scene ++ text_of Steps ∷ rest) (map_push step_text s.scene.schedule step) ∙ sym (append_assoc (before_schedule s.scene) (text_of Steps ∷ map step_text s.scene.schedule) (step_text step ∷ [])))
+grows s Ends h = rw h refl

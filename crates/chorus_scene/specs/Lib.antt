@@ -1,0 +1,9 @@
+pub mod Text
+pub mod Body
+pub mod Scene
+pub mod Making
+pub mod Line
+pub mod Judge
+pub mod Laws
+pub mod Print
+pub mod Reader

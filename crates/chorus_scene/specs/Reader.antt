@@ -1,0 +1,128 @@
+-- What a reader has read, and what it keeps beside that.
+use Rattle.std.specs.Prelude.{◌≡◌, ℕ, ◌+◌, ◌-◌, ◌*◌, ◌≤◌, ◌<◌, ◌%◌, Bool, true, false, ◌&&◌, List, [], length, map, Option, Result, Ok, Err, slice_index, slice_index_or, nat_le, count_by}
+use Rattle.chorus_ui.specs.declared.kind.Kind.{Kind}
+use Rattle.chorus_ui.specs.declared.kind.Kind.TheVariants as kinds
+use Rattle.chorus_ui.specs.Kind.{same_kind}
+use Rattle.chorus_ui.specs.Name.{Name}
+use Rattle.chorus_ui.specs.Layout.{Shape}
+use Rattle.chorus_entry.specs.declared.command.Command.{Command}
+use Rattle.chorus_scene.specs.declared.word.Word.{Word}
+use Rattle.chorus_scene.specs.declared.word.Word.TheVariants as words
+use Rattle.chorus_scene.specs.declared.word.Verb.{Verb}
+use Rattle.chorus_scene.specs.declared.word.Section.{Section}
+use Rattle.chorus_scene.specs.declared.word.Section.TheVariants as sections
+use Rattle.chorus_scene.specs.declared.word.Reason.{Reason}
+use Rattle.chorus_scene.specs.declared.setup.Setup.{Setup}
+use Rattle.chorus_scene.specs.declared.reader.Reader.{Reader}
+use Rattle.chorus_scene.specs.declared.fault.Stop.{Stop}
+use Rattle.chorus_scene.specs.declared.fault.Stop.TheVariants as stops
+use Rattle.chorus_scene.specs.declared.fault.ReadFault.{ReadFault}
+use Rattle.chorus_scene.specs.declared.fault.ReadFault.TheVariants as faults
+use Rattle.chorus_scene.specs.Text.{fields}
+use Rattle.chorus_scene.specs.Scene.{Scene}
+use Rattle.chorus_scene.specs.Making.{stride, shares_place, made_after, names_said, is_among, members_of}
+use Rattle.chorus_scene.specs.Line.{Line, Do, cuts}
+use Rattle.chorus_scene.specs.Judge.{State, judge_fields, then_after, is_step, reason_number}
+
+-- where the table of a setup counts what one place has given: four places a site, ports and then groups
+abbrev pub home : Shape → Kind → ℕ → ℕ → ℕ
+home l kinds.Group site number = 64 + (site - 1) * 4 + (number - 1) % stride l kinds.Group
+home l kind site number = (site - 1) * 4 + (number - 1) % stride l kind
+
+abbrev pub is_actor : Kind → Bool
+is_actor kinds.Actor = true
+is_actor kinds.Port = false
+is_actor kinds.Group = false
+
+-- a group that has a list of members: four groups a site
+abbrev pub is_listed : Name → Bool
+is_listed g = same_kind g.kind kinds.Group && nat_le 1 g.site && nat_le g.site 16 && nat_le 1 g.number && nat_le g.number 4
+
+abbrev pub list_number : Name → ℕ
+list_number g = (g.site - 1) * 4 + (g.number - 1)
+
+abbrev pub listed : Setup → Name → List Name
+listed s g = slice_index_or (map (λ v. v.items) s.members.items) (list_number g) []
+
+-- a site makes 32 ports and 4 groups
+abbrev pub most_number : Kind → ℕ
+most_number kinds.Group = 4
+most_number _ = 32
+
+-- what the setup lines of a setup have made
+abbrev pub made_by : Shape → Setup → List Name
+made_by l s = made_after l [] s.lines.items
+
+-- the tables of a setup are those of its lines
+pub record IsSetup (l : Shape) (s : Setup) : Type 0 where
+  pub names : s.names.items ≡ names_said l [] s.lines.items
+  pub homes : length s.counts ≡ 128
+  pub counts : (kind : Kind) (site number : ℕ) → is_actor kind ≡ false → 1 ≤ site → site ≤ 16 → slice_index s.counts (home l kind site number) ≡ count_by (shares_place l kind site number) (made_by l s)
+  pub lists : length s.members.items ≡ 64
+  pub members : (g : Name) → is_listed g ≡ true → listed s g ≡ members_of g s.lines.items
+  pub strangers : (g : Name) → is_listed g ≡ false → members_of g s.lines.items ≡ []
+  pub groups : (g : Name) → same_kind g.kind kinds.Group ≡ true → is_among g (made_by l s) ≡ true → is_listed g ≡ true
+
+abbrev pub scene_of : Reader → Scene
+scene_of r = record { layout = r.layout; version = r.version; sites = r.sites; setup = r.setup.lines.items; scripts = r.scripts.items; schedule = r.schedule.items }
+
+abbrev pub state_of : Reader → State
+state_of r = record { section = r.section; scene = scene_of r }
+
+-- what a line with this word is judged as
+abbrev pub read_with : Reader → Word → Option (List ℕ) → Result State Reason
+read_with r w rest = then_after (state_of r) (judge_fields (scene_of r) w (fields (cuts w) rest))
+
+abbrev pub command_with : Reader → Verb → Option (List ℕ) → Result Line Reason
+command_with r verb rest = judge_fields (scene_of r) (words.Command verb) (fields (cuts (words.Command verb)) rest)
+
+-- what a function returned is what judging gives, unless memory ran out
+abbrev pub Fails : {X : Type 0} → Stop → Result X Reason → Type 0
+Fails (stops.Memory error) judged = Unit {0}
+Fails (stops.Fault reason) judged = judged ≡ Err reason
+
+abbrev pub Gives : {X : Type 0} → State → Result X Stop → Result State Reason → Type 0
+Gives t (Ok x) judged = judged ≡ Ok t
+Gives t (Err stop) judged = Fails stop judged
+
+abbrev pub Tells : Result Command Stop → Result Line Reason → Type 0
+Tells (Ok command) judged = judged ≡ Ok (Do command)
+Tells (Err stop) judged = Fails stop judged
+
+abbrev pub IsMemory : Stop → Type 0
+IsMemory (stops.Memory error) = Unit {0}
+IsMemory (stops.Fault reason) = ⊥
+
+-- the schedule has not begun
+abbrev pub is_early : Section → Bool
+is_early sections.Schedule = false
+is_early sections.Ended = false
+is_early _ = true
+
+-- a script has begun
+abbrev pub is_in_scripts : Section → Bool
+is_in_scripts sections.Scripts = true
+is_in_scripts _ = false
+
+-- the tables and counts of a reader are those of the lines so far
+pub record Stands (r : Reader) : Type 0 where
+  pub tables : IsSetup r.layout r.setup
+  pub sites : r.sites ≤ 16
+  pub used_len : length r.used.items ≡ length r.scripts.items
+  pub used : (k : ℕ) → k < length r.scripts.items → slice_index r.used.items k ≡ count_by (is_step (k + 1)) r.schedule.items
+  pub early : is_early r.section ≡ true → r.schedule.items ≡ []
+  pub some_script : is_in_scripts r.section ≡ true → 0 < length r.scripts.items
+  pub few_scripts : length r.scripts.items ≤ 16
+
+-- what read returned is what the definition says, unless memory ran out
+abbrev pub Refuses : ReadFault → Result Scene (ℕ × ℕ) → Type 0
+Refuses (faults.Memory error) judged = Unit {0}
+Refuses (faults.Scene fault) judged = judged ≡ Err (fault.line, fault.reason)
+
+abbrev pub Reads : Result Scene ReadFault → Result Scene (ℕ × ℕ) → Type 0
+Reads (Ok scene) judged = judged ≡ Ok scene
+Reads (Err fault) judged = Refuses fault judged
+
+abbrev pub fault_at : ℕ → Stop → ReadFault
+fault_at line (stops.Memory error) = faults.Memory error
+fault_at line (stops.Fault reason) = faults.Scene (record { line = line; reason = reason_number reason })

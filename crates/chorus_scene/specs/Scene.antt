@@ -1,0 +1,21 @@
+-- What a scenario says.
+use Rattle.std.specs.Prelude.{ℕ, List}
+use Rattle.chorus_ui.specs.Name.{Name}
+use Rattle.chorus_ui.specs.Layout.{Shape}
+use Rattle.chorus_entry.specs.declared.command.Command.{Command}
+use Rattle.chorus_scene.specs.declared.scenario.SetupLine.{SetupLine}
+use Rattle.chorus_scene.specs.declared.scenario.Step.{Step}
+
+-- the commands of one caller, in their order
+pub record Script : Type 0 where
+  pub actor : Name
+  pub commands : List Command
+
+-- a scenario, with the layout for which it was read
+pub record Scene : Type 0 where
+  pub layout : Shape
+  pub version : ℕ
+  pub sites : ℕ
+  pub setup : List SetupLine
+  pub scripts : List Script
+  pub schedule : List Step

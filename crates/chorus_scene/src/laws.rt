@@ -1,0 +1,20 @@
+//! What holds of every text.
+
+ghost use Rattle.chorus_scene.specs.Laws.{TooLong, FirstFault, NoEnd, Accepted};
+ghost use Rattle.chorus_scene.specs.Print.{PrintedAgain};
+
+/// The lines of a text are tested in order: the first line that fails a test is the line of the fault, with the reason of
+/// the first test that it fails. A text without such a line says what its lines say, or lacks its end. The law makes no
+/// call.
+pub fn lines_are_tested_in_order()
+    ensures too_long { TooLong }
+    ensures first_fault { FirstFault }
+    ensures no_end { NoEnd }
+    ensures accepted { Accepted }
+{}
+
+/// What is printed of a scenario that was read is no longer than the text, and is read as the same scenario. The law
+/// makes no call.
+pub fn what_is_printed_is_read_again()
+    ensures { PrintedAgain }
+{}

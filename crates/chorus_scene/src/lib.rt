@@ -1,0 +1,33 @@
+//! Scenario texts: what happens to a nucleus, written down. The text is this project's own.
+//!
+//! A scenario of version 1 or 2 says which ports and groups there are, what each caller does, and in which order.
+//! [`read`] gives what a text says, or its first line that fails a test, with the reason; [`print`] writes a scenario so
+//! that it is read again. The layers above rest on the definition `read_scene` of `specs/Judge.antt`, which is the tests
+//! from top to bottom, and on the two laws of `laws`: the lines are tested in order, and what is printed of a scenario
+//! that was read says the same.
+//!
+//! Begin with `scenario`, what a text says. `reading` goes over the lines; `reader` takes one line, with its parts
+//! `setup_lines`, `commands` and `steps`; `setup` has the tables by which no earlier line is searched; `text`, `fields`,
+//! `body` and `word` take a line apart; `fault` has the reasons.
+#![tactic(auto)]
+
+mod body;
+mod fault;
+mod fields;
+mod laws;
+mod printing;
+mod reader;
+mod reading;
+mod scenario;
+mod setup;
+#[cfg(test)]
+mod tests;
+mod text;
+mod word;
+
+pub use chorus_entry::Command;
+pub use fault::{ReadFault, SceneFault};
+pub use laws::{lines_are_tested_in_order, what_is_printed_is_read_again};
+pub use printing::print;
+pub use reading::{TEXT_LIMIT, read};
+pub use scenario::{Scenario, Script, SetupLine, Step};

@@ -1,0 +1,374 @@
+//! The commands of scripts.
+
+ghost use Rattle.std.specs.Prelude.{◌≡◌, ◌<◌, true, length, OnOk, IfErr};
+ghost use Rattle.std.specs.Option.{option_copied};
+ghost use Rattle.chorus_scene.specs.Judge.{after, last_is_full, most_bytes};
+ghost use Rattle.chorus_scene.specs.Line.{may_stand, target_kind, dest_of, Do};
+ghost use Rattle.chorus_scene.specs.Reader.{Gives, Tells, Stands, IsMemory, is_early, read_with, command_with, state_of, scene_of};
+
+use crate::body::{begins_a_body, body_in, body_len};
+use crate::fault::Stop;
+use crate::fields::{body_alone, none, one, one_and_body, two, two_and_body};
+use crate::reader::{Reader, name_in};
+use crate::text::{BEYOND, number_in};
+use crate::word::{Reason, Section, Target, Verb, Word};
+use chorus_entry::{Command, Dest};
+use chorus_ui::{Kind, Ui};
+use std::alloc::Global;
+
+impl Reader {
+    pub(crate) fn command_line(
+        &mut self,
+        alloc: Global,
+        verb: Verb,
+        rest: Option<&[u8]>,
+    ) -> Result<(), Stop>
+        requires stands { Stands self.old }
+        requires may { may_stand self.old.section (Word.Command verb) ≡ true }
+        ensures gives { Gives (state_of self.new) result (read_with self.old (Word.Command verb) (option_copied rest.entry)) }
+        ensures stands { OnOk result (Stands self.new) }
+    {
+        let command = self.command(alloc, verb, rest)?;
+        self.push_command(command)
+    }
+
+    fn push_command(&mut self, command: Command) -> Result<(), Stop>
+        requires stands { Stands self.old }
+        requires some { 0 < length self.old.scripts.items }
+        requires early { is_early self.old.section ≡ true }
+        ensures ok { OnOk result (state_of self.new ≡ after (state_of self.old) (Do command)) }
+        ensures stands { OnOk result (Stands self.new) }
+        ensures memory { IfErr result IsMemory }
+    {
+        let last = self.scripts.len() - 1;
+        self.scripts[last].push(command)?;
+        self.section = Section::Scripts;
+        Ok(())
+    }
+
+    /// The command that the fields say.
+    fn command(&self, alloc: Global, verb: Verb, rest: Option<&[u8]>) -> Result<Command, Stop>
+        requires some { 0 < length self.now.scripts.items }
+        ensures { Tells result (command_with self.now verb (option_copied rest.entry)) }
+    {
+        match verb {
+            Verb::Send(target) => self.send(alloc, target, rest),
+            Verb::At => self.at(alloc, rest),
+            Verb::Call => self.call(alloc, rest),
+            Verb::Retry => self.retry(rest),
+            Verb::Cancel => self.cancel(rest),
+            Verb::Reply => self.reply(alloc, rest),
+            Verb::Take => self.take(rest),
+            Verb::Move => self.move_port(rest),
+            Verb::Delete => self.delete(rest),
+            Verb::NewPort => self.new_port(rest),
+            Verb::NewGroup => self.new_group(rest),
+            Verb::Join => self.join(rest),
+            Verb::Leave => self.leave(rest),
+        }
+    }
+
+    fn send(&self, alloc: Global, target: Target, rest: Option<&[u8]>) -> Result<Command, Stop>
+        requires some { 0 < length self.now.scripts.items }
+        ensures { Tells result (command_with self.now (Verb.Send target) (option_copied rest.entry)) }
+    {
+        let Some((name, body)) = one_and_body(rest) else {
+            return Err(Stop::Fault(Reason::Word));
+        };
+        if !begins_a_body(self.version, body) {
+            return Err(Stop::Fault(Reason::Word));
+        }
+        let (Some(name), Some(len)) = (name_in(target_kind(target), name), body_len(body)) else {
+            return Err(Stop::Fault(Reason::Number));
+        };
+        if self.last_is_full() || self.most_bytes() < len {
+            return Err(Stop::Fault(Reason::Limit));
+        }
+        if self.is_far(name) {
+            return Err(Stop::Fault(Reason::Unknown));
+        }
+        let body = body_in(alloc, body)?;
+        Ok(Command::Send {
+            dest: dest_of(target, name),
+            body,
+        })
+    }
+
+    fn at(&self, alloc: Global, rest: Option<&[u8]>) -> Result<Command, Stop>
+        requires some { 0 < length self.now.scripts.items }
+        ensures { Tells result (command_with self.now Verb.At (option_copied rest.entry)) }
+    {
+        let Some((group, site, body)) = two_and_body(rest) else {
+            return Err(Stop::Fault(Reason::Word));
+        };
+        if !begins_a_body(self.version, body) {
+            return Err(Stop::Fault(Reason::Word));
+        }
+        let (Some(group), Some(site), Some(len)) = (
+            name_in(Kind::Group, group),
+            number_in(site),
+            body_len(body),
+        ) else {
+            return Err(Stop::Fault(Reason::Number));
+        };
+        if self.last_is_full() || site >= BEYOND || self.most_bytes() < len {
+            return Err(Stop::Fault(Reason::Limit));
+        }
+        if self.is_far(group) || site == 0 || u128::from(self.sites) < site {
+            return Err(Stop::Fault(Reason::Unknown));
+        }
+        let body = body_in(alloc, body)?;
+        Ok(Command::Send {
+            dest: Dest::OneAt(group, site as u16),
+            body,
+        })
+    }
+
+    fn call(&self, alloc: Global, rest: Option<&[u8]>) -> Result<Command, Stop>
+        requires some { 0 < length self.now.scripts.items }
+        ensures { Tells result (command_with self.now Verb.Call (option_copied rest.entry)) }
+    {
+        let Some((port, back, body)) = two_and_body(rest) else {
+            return Err(Stop::Fault(Reason::Word));
+        };
+        if !begins_a_body(self.version, body) {
+            return Err(Stop::Fault(Reason::Word));
+        }
+        let (Some(port), Some(back), Some(len)) = (
+            name_in(Kind::Port, port),
+            name_in(Kind::Port, back),
+            body_len(body),
+        ) else {
+            return Err(Stop::Fault(Reason::Number));
+        };
+        if self.last_is_full() || self.most_bytes() < len {
+            return Err(Stop::Fault(Reason::Limit));
+        }
+        if self.is_far(port) || self.is_far(back) {
+            return Err(Stop::Fault(Reason::Unknown));
+        }
+        let body = body_in(alloc, body)?;
+        Ok(Command::Call { port, back, body })
+    }
+
+    fn retry(&self, rest: Option<&[u8]>) -> Result<Command, Stop>
+        requires some { 0 < length self.now.scripts.items }
+        ensures { Tells result (command_with self.now Verb.Retry (option_copied rest.entry)) }
+    {
+        if !none(rest) {
+            return Err(Stop::Fault(Reason::Word));
+        }
+        if self.last_is_full() {
+            return Err(Stop::Fault(Reason::Limit));
+        }
+        Ok(Command::Retry)
+    }
+
+    fn cancel(&self, rest: Option<&[u8]>) -> Result<Command, Stop>
+        requires some { 0 < length self.now.scripts.items }
+        ensures { Tells result (command_with self.now Verb.Cancel (option_copied rest.entry)) }
+    {
+        if !none(rest) {
+            return Err(Stop::Fault(Reason::Word));
+        }
+        if self.last_is_full() {
+            return Err(Stop::Fault(Reason::Limit));
+        }
+        Ok(Command::Cancel)
+    }
+
+    fn reply(&self, alloc: Global, rest: Option<&[u8]>) -> Result<Command, Stop>
+        requires some { 0 < length self.now.scripts.items }
+        ensures { Tells result (command_with self.now Verb.Reply (option_copied rest.entry)) }
+    {
+        let Some(body) = body_alone(rest) else {
+            return Err(Stop::Fault(Reason::Word));
+        };
+        if !begins_a_body(self.version, body) {
+            return Err(Stop::Fault(Reason::Word));
+        }
+        let Some(len) = body_len(body) else {
+            return Err(Stop::Fault(Reason::Number));
+        };
+        if self.last_is_full() || self.most_bytes() < len {
+            return Err(Stop::Fault(Reason::Limit));
+        }
+        let body = body_in(alloc, body)?;
+        Ok(Command::Reply { body })
+    }
+
+    fn take(&self, rest: Option<&[u8]>) -> Result<Command, Stop>
+        requires some { 0 < length self.now.scripts.items }
+        ensures { Tells result (command_with self.now Verb.Take (option_copied rest.entry)) }
+    {
+        let Some(port) = one(rest) else {
+            return Err(Stop::Fault(Reason::Word));
+        };
+        let Some(port) = name_in(Kind::Port, port) else {
+            return Err(Stop::Fault(Reason::Number));
+        };
+        if self.last_is_full() {
+            return Err(Stop::Fault(Reason::Limit));
+        }
+        if self.is_far(port) {
+            return Err(Stop::Fault(Reason::Unknown));
+        }
+        Ok(Command::Take { port })
+    }
+
+    fn move_port(&self, rest: Option<&[u8]>) -> Result<Command, Stop>
+        requires some { 0 < length self.now.scripts.items }
+        ensures { Tells result (command_with self.now Verb.Move (option_copied rest.entry)) }
+    {
+        let Some((port, actor)) = two(rest) else {
+            return Err(Stop::Fault(Reason::Word));
+        };
+        let (Some(port), Some(actor)) = (name_in(Kind::Port, port), name_in(Kind::Actor, actor))
+        else {
+            return Err(Stop::Fault(Reason::Number));
+        };
+        if self.last_is_full() {
+            return Err(Stop::Fault(Reason::Limit));
+        }
+        if self.is_far(port) || self.is_no_actor(actor) {
+            return Err(Stop::Fault(Reason::Unknown));
+        }
+        Ok(Command::Move { port, actor })
+    }
+
+    fn delete(&self, rest: Option<&[u8]>) -> Result<Command, Stop>
+        requires some { 0 < length self.now.scripts.items }
+        ensures { Tells result (command_with self.now Verb.Delete (option_copied rest.entry)) }
+    {
+        let Some(port) = one(rest) else {
+            return Err(Stop::Fault(Reason::Word));
+        };
+        let Some(port) = name_in(Kind::Port, port) else {
+            return Err(Stop::Fault(Reason::Number));
+        };
+        if self.last_is_full() {
+            return Err(Stop::Fault(Reason::Limit));
+        }
+        if self.is_far(port) {
+            return Err(Stop::Fault(Reason::Unknown));
+        }
+        Ok(Command::Delete { port })
+    }
+
+    fn new_port(&self, rest: Option<&[u8]>) -> Result<Command, Stop>
+        requires some { 0 < length self.now.scripts.items }
+        ensures { Tells result (command_with self.now Verb.NewPort (option_copied rest.entry)) }
+    {
+        let Some((actor, capacity)) = two(rest) else {
+            return Err(Stop::Fault(Reason::Word));
+        };
+        let (Some(actor), Some(capacity)) = (name_in(Kind::Actor, actor), number_in(capacity))
+        else {
+            return Err(Stop::Fault(Reason::Number));
+        };
+        if self.last_is_full() || capacity == 0 || 64 < capacity {
+            return Err(Stop::Fault(Reason::Limit));
+        }
+        if self.is_no_actor(actor) {
+            return Err(Stop::Fault(Reason::Unknown));
+        }
+        Ok(Command::Make {
+            actor,
+            capacity: capacity as u8,
+        })
+    }
+
+    fn new_group(&self, rest: Option<&[u8]>) -> Result<Command, Stop>
+        requires some { 0 < length self.now.scripts.items }
+        ensures { Tells result (command_with self.now Verb.NewGroup (option_copied rest.entry)) }
+    {
+        let Some(site) = one(rest) else {
+            return Err(Stop::Fault(Reason::Word));
+        };
+        let Some(site) = number_in(site) else {
+            return Err(Stop::Fault(Reason::Number));
+        };
+        if self.last_is_full() || site >= BEYOND {
+            return Err(Stop::Fault(Reason::Limit));
+        }
+        if site == 0 || u128::from(self.sites) < site {
+            return Err(Stop::Fault(Reason::Unknown));
+        }
+        Ok(Command::GroupMake { site: site as u16 })
+    }
+
+    fn join(&self, rest: Option<&[u8]>) -> Result<Command, Stop>
+        requires some { 0 < length self.now.scripts.items }
+        ensures { Tells result (command_with self.now Verb.Join (option_copied rest.entry)) }
+    {
+        let Some((group, port)) = two(rest) else {
+            return Err(Stop::Fault(Reason::Word));
+        };
+        let (Some(group), Some(port)) = (name_in(Kind::Group, group), name_in(Kind::Port, port))
+        else {
+            return Err(Stop::Fault(Reason::Number));
+        };
+        if self.last_is_full() {
+            return Err(Stop::Fault(Reason::Limit));
+        }
+        if self.is_far(group) || self.is_far(port) {
+            return Err(Stop::Fault(Reason::Unknown));
+        }
+        Ok(Command::Join { group, port })
+    }
+
+    fn leave(&self, rest: Option<&[u8]>) -> Result<Command, Stop>
+        requires some { 0 < length self.now.scripts.items }
+        ensures { Tells result (command_with self.now Verb.Leave (option_copied rest.entry)) }
+    {
+        let Some((group, port)) = two(rest) else {
+            return Err(Stop::Fault(Reason::Word));
+        };
+        let (Some(group), Some(port)) = (name_in(Kind::Group, group), name_in(Kind::Port, port))
+        else {
+            return Err(Stop::Fault(Reason::Number));
+        };
+        if self.last_is_full() {
+            return Err(Stop::Fault(Reason::Limit));
+        }
+        if self.is_far(group) || self.is_far(port) {
+            return Err(Stop::Fault(Reason::Unknown));
+        }
+        Ok(Command::Leave { group, port })
+    }
+
+    /// Whether the last script has as many commands as it may have.
+    fn last_is_full(&self) -> bool
+        requires some { 0 < length self.now.scripts.items }
+        ensures { result ≡ last_is_full (scene_of self.now) }
+    {
+        let last = self.scripts.len() - 1;
+        self.scripts[last].commands().len() >= 4096
+    }
+
+    /// The most bytes of a body.
+    fn most_bytes(&self) -> usize
+        ensures { result ≡ most_bytes self.now.version }
+    {
+        if self.version == 1 { 240 } else { 4096 }
+    }
+}
+
+fn target_kind(target: Target) -> Kind
+    ensures { result ≡ target_kind target }
+{
+    match target {
+        Target::Port => Kind::Port,
+        Target::All | Target::One => Kind::Group,
+    }
+}
+
+fn dest_of(target: Target, name: Ui) -> Dest
+    ensures { result ≡ dest_of target name }
+{
+    match target {
+        Target::Port => Dest::Port(name),
+        Target::All => Dest::All(name),
+        Target::One => Dest::One(name),
+    }
+}

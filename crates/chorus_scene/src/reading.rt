@@ -1,0 +1,68 @@
+//! Reading a whole text.
+
+ghost use Rattle.std.specs.Prelude.{◌≡◌, ◌<◌, ◌∷◌, length};
+ghost use Rattle.chorus_scene.specs.Text.{lines};
+ghost use Rattle.chorus_scene.specs.Judge.{read_scene};
+ghost use Rattle.chorus_scene.specs.Reader.{Reads};
+
+use crate::fault::{ReadFault, SceneFault, fault_at, reason_number};
+use crate::reader::Reader;
+use crate::scenario::Scenario;
+use crate::text::cut;
+use crate::word::{Reason, Section};
+use chorus_ui::Layout;
+use std::alloc::Global;
+
+/// The most bytes of a text: 4 MiB.
+pub const TEXT_LIMIT: usize = 4_194_304;
+
+/// Reads a scenario text, of either version, for a layout.
+///
+/// Ok is the scenario that the text says. A text that says none is refused by its first line that fails a test, with the
+/// reason of the first test that it fails; what was read before it is dropped. Each body takes one allocation.
+#[tactic(auto, unfolding(crate::specs::Judge::read_scene))]
+pub fn read(alloc: Global, text: &[u8], layout: Layout) -> Result<Scenario, ReadFault>
+    ensures { Reads result (read_scene layout text.now) }
+{
+    if text.len() > TEXT_LIMIT {
+        return Err(ReadFault::Scene(SceneFault {
+            line: 0,
+            reason: reason_number(Reason::Limit),
+        }));
+    }
+    let mut reader = match Reader::start(alloc, layout) {
+        Ok(reader) => reader,
+        Err(error) => return Err(ReadFault::Memory(error)),
+    };
+    let mut rest = text;
+    let mut number: u32 = 1;
+    while !rest.is_empty() {
+        let (line, after) = first_line(rest);
+        match reader.line(alloc, line) {
+            Ok(()) => {}
+            Err(stop) => return Err(fault_at(number, stop)),
+        }
+        rest = after;
+        number += 1;
+    }
+    if let Section::Ended = reader.section {
+        return Ok(reader.finish());
+    }
+    Err(ReadFault::Scene(SceneFault {
+        line: number,
+        reason: reason_number(Reason::Unfinished),
+    }))
+}
+
+/// The first line, and what stands behind it.
+fn first_line(text: &[u8]) -> (&[u8], &[u8])
+    requires { 0 < length text.now }
+    ensures first { lines text.now ≡ result.0.now ∷ lines result.1.now }
+    ensures shorter { length result.1.now < length text.now }
+{
+    let (line, rest) = cut(b'\n', text);
+    match rest {
+        Some(rest) => (line, rest),
+        None => (line, &[]),
+    }
+}

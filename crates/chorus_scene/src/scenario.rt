@@ -1,0 +1,188 @@
+//! Scenarios: what a text says.
+
+ghost use Rattle.std.specs.Prelude.{◌≡◌, [], OnOk};
+
+use crate::setup::Setup;
+use chorus_entry::Command;
+use chorus_ui::{Layout, Ui};
+use std::alloc::{AllocError, Global};
+use std::marker::Model;
+
+/// A line of the setup, performed by seat 0 before all scripts.
+#[derive(Clone, Copy, Debug)]
+pub enum SetupLine {
+    /// Makes a port of this actor, with room for `capacity` messages, 1 to 64. Its name is the one that the making gives.
+    Port { actor: Ui, capacity: u8 },
+    /// Makes a group at the first place of this site. Its name is the one that the making gives.
+    Group { site: u16 },
+    /// Makes a port a member of a group. Earlier lines made both, and the port is no member yet.
+    Member { group: Ui, port: Ui },
+}
+
+/// One step of a schedule.
+#[derive(Clone, Copy, Debug)]
+pub enum Step {
+    /// The next command of the script of this number; scripts are numbered from 1, in the order of the text.
+    Step(u32),
+    /// The first packet from the first place to the second, two different places.
+    Deliver(u16, u16),
+    /// Packets are delivered until none is left.
+    Drain,
+}
+
+/// The commands of one caller.
+#[derive(Debug, Drop)]
+pub struct Script {
+    actor: Ui,
+    commands: Vec<Command>,
+}
+
+impl Model for Script {
+    ghost use Rattle.chorus_scene.specs.Scene as scene;
+
+    ghost Value = { scene.Script };
+
+    ghost view = { λ s. record { actor = s.actor; commands = s.commands.items } };
+}
+
+impl Script {
+    ghost use Rattle.chorus_scene.specs.Judge.{with_command};
+
+    /// The caller's actor.
+    pub fn actor(&self) -> Ui
+        ensures { result ≡ self.now.actor }
+    {
+        self.actor
+    }
+
+    /// The commands, in the order of the text; at most 4,096.
+    pub fn commands(&self) -> &[Command]
+        ensures { result.now ≡ self.now.commands }
+    {
+        self.commands.as_slice()
+    }
+
+    /// The script of this actor, with no command.
+    pub(crate) fn new(alloc: Global, actor: Ui) -> Script
+        ensures { result ≡ record { actor = actor; commands = [] } }
+    {
+        Script {
+            actor,
+            commands: Vec::new(alloc),
+        }
+    }
+
+    /// Adds a command.
+    pub(crate) fn push(&mut self, command: Command) -> Result<(), AllocError>
+        ensures { OnOk result (self.new ≡ with_command command self.old) }
+    {
+        self.commands.push(command)?;
+        Ok(())
+    }
+}
+
+/// What a scenario text says, with the layout for which it was read. Only reading makes one.
+#[derive(Debug, Drop)]
+pub struct Scenario {
+    layout: Layout,
+    version: u8,
+    sites: u16,
+    setup: Vec<SetupLine>,
+    /// The name that each line of the setup begins with.
+    names: Vec<Ui>,
+    scripts: Vec<Script>,
+    schedule: Vec<Step>,
+}
+
+impl Model for Scenario {
+    ghost use Rattle.std.specs.Prelude.{◌≡◌, []};
+    ghost use Rattle.chorus_scene.specs.Scene.{Scene};
+    ghost use Rattle.chorus_scene.specs.Making.{names_said};
+    ghost use Rattle.chorus_scene.specs.Print.{IsReadAgain};
+
+    ghost Value = { Scene };
+
+    ghost view = { λ s. record { layout = s.layout; version = s.version; sites = s.sites; setup = s.setup.items; scripts = s.scripts.items; schedule = s.schedule.items } };
+
+    ghost invariant = { λ s. (s.names.items ≡ names_said s.layout [] s.setup.items) × IsReadAgain (record { layout = s.layout; version = s.version; sites = s.sites; setup = s.setup.items; scripts = s.scripts.items; schedule = s.schedule.items }) };
+}
+
+impl Scenario {
+    ghost use Rattle.chorus_scene.specs.Making.{names_said};
+    ghost use Rattle.chorus_scene.specs.Print.{IsReadAgain};
+    ghost use Rattle.chorus_scene.specs.Reader.{IsSetup};
+
+    /// The layout for which the text was read.
+    pub fn layout(&self) -> Layout
+        ensures { result ≡ self.now.layout }
+    {
+        self.layout
+    }
+
+    /// The version of the text: 1 or 2.
+    pub fn version(&self) -> u8
+        ensures { result ≡ self.now.version }
+    {
+        self.version
+    }
+
+    /// How many sites the scenario has: 1 to 16, and at most those of the layout. It bounds the names only.
+    pub fn sites(&self) -> u16
+        ensures { result ≡ self.now.sites }
+    {
+        self.sites
+    }
+
+    /// The lines of the setup, in the order of the text.
+    pub fn setup(&self) -> &[SetupLine]
+        ensures { result.now ≡ self.now.setup }
+    {
+        self.setup.as_slice()
+    }
+
+    /// The scripts, in the order of the text; at most 16. The script of number k stands at k - 1.
+    pub fn scripts(&self) -> &[Script]
+        ensures { result.now ≡ self.now.scripts }
+    {
+        self.scripts.as_slice()
+    }
+
+    /// The steps of the schedule, in the order of the text; at most 131,072.
+    pub fn schedule(&self) -> &[Step]
+        ensures { result.now ≡ self.now.schedule }
+    {
+        self.schedule.as_slice()
+    }
+
+    /// The name that each line of the setup begins with: of what it makes, or of the group that is joined.
+    pub(crate) fn names(&self) -> &[Ui]
+        ensures names { result.now ≡ names_said self.now.layout [] self.now.setup }
+        ensures again { IsReadAgain self.now }
+    {
+        self.names.as_slice()
+    }
+
+    /// The scenario of these parts, which is read again from its text.
+    pub(crate) fn of(
+        layout: Layout,
+        version: u8,
+        sites: u16,
+        setup: Setup,
+        scripts: Vec<Script>,
+        schedule: Vec<Step>,
+    ) -> Scenario
+        requires tables { IsSetup layout setup }
+        requires again { IsReadAgain (record { layout = layout; version = version; sites = sites; setup = setup.lines.items; scripts = scripts.items; schedule = schedule.items }) }
+        ensures { result ≡ record { layout = layout; version = version; sites = sites; setup = setup.lines.items; scripts = scripts.items; schedule = schedule.items } }
+    {
+        Scenario {
+            layout,
+            version,
+            sites,
+            setup: setup.lines,
+            names: setup.names,
+            scripts,
+            schedule,
+        }
+    }
+}

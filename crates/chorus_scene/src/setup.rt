@@ -1,0 +1,178 @@
+//! The setup lines that were read, with tables of what they made.
+
+ghost use Rattle.std.specs.Prelude.{◌≡◌, ◌+◌, ◌<◌, ◌≤◌, List, [], ◌∷◌, ◌++◌, true, false, OnOk, IfOk};
+ghost use Rattle.chorus_ui.specs.Name.{Name};
+ghost use Rattle.chorus_ui.specs.Layout.{Shape, IsShape};
+ghost use Rattle.chorus_scene.specs.Making.{stride, next_name, makes, name_said, is_among, members_of};
+ghost use Rattle.chorus_scene.specs.Reader.{home, is_actor, is_listed, list_number, most_number, made_by, IsSetup};
+
+use crate::scenario::SetupLine;
+use chorus_ui::{Kind, Layout, Ui};
+use std::alloc::{AllocError, Global};
+
+/// The counts of the table: four places on each of 16 sites, for ports and for groups.
+const HOMES: usize = 128;
+
+/// The lists of members: four groups on each of 16 sites.
+const LISTS: usize = 64;
+
+/// The setup lines so far. The tables say in one step what a search of the lines would say.
+#[derive(Drop)]
+pub(crate) struct Setup {
+    pub(crate) lines: Vec<SetupLine>,
+    /// The name that each line begins with.
+    pub(crate) names: Vec<Ui>,
+    /// How many names each place has given.
+    pub(crate) counts: [u8; 128],
+    /// The members of each group that can be made.
+    pub(crate) members: Vec<Vec<Ui>>,
+}
+
+/// How far apart the numbers stand that one place gives.
+fn stride(layout: Layout, kind: Kind) -> u64
+    ensures value { result ≡ stride layout kind }
+    ensures some { 1 ≤ result }
+    ensures few { result ≤ 4 }
+    ensures shape { IsShape layout }
+{
+    let turns = u64::from(layout.turns());
+    match kind {
+        Kind::Port => turns,
+        _ => 1,
+    }
+}
+
+/// Where the count stands of the place that gives this number.
+fn home(layout: Layout, kind: Kind, site: u16, number: u64) -> usize
+    requires site { (1 ≤ site) × (site ≤ 16) }
+    requires number { 1 ≤ number }
+    ensures value { result ≡ home layout kind site number }
+    ensures small { result < 128 }
+    ensures shape { IsShape layout }
+{
+    let row = (site as usize - 1) * 4 + ((number - 1) % stride(layout, kind)) as usize;
+    match kind {
+        Kind::Group => 64 + row,
+        _ => row,
+    }
+}
+
+/// Whether the table has a list for the members of this group.
+fn is_listed(group: Ui) -> bool
+    requires { group.kind ≡ Kind.Group }
+    ensures { result ≡ is_listed group }
+{
+    let (site, number) = (group.site(), group.number());
+    1 <= site && site <= 16 && 1 <= number && number <= 4
+}
+
+/// Where the list of the group's members stands.
+fn list_number(group: Ui) -> usize
+    requires { is_listed group ≡ true }
+    ensures value { result ≡ list_number group }
+    ensures small { result < 64 }
+{
+    (group.site() as usize - 1) * 4 + (group.number() as usize - 1)
+}
+
+impl Setup {
+    /// No lines.
+    pub(crate) fn start(alloc: Global) -> Result<Setup, AllocError>
+        ensures lines { IfOk result (λ s. s.lines.items ≡ []) }
+        ensures tables { IfOk result (λ s. (l : Shape) → IsSetup l s) }
+    {
+        let mut members = Vec::new(alloc);
+        for _at in 0..LISTS {
+            members.push(Vec::new(alloc))?;
+        }
+        Ok(Setup {
+            lines: Vec::new(alloc),
+            names: Vec::new(alloc),
+            counts: [0; HOMES],
+            members,
+        })
+    }
+
+    /// Whether a line made this port or group.
+    pub(crate) fn has_made(&self, layout: Layout, ui: Ui) -> bool
+        requires tables { IsSetup layout self.now }
+        requires site { ui.site ≤ 16 }
+        requires kind { is_actor ui.kind ≡ false }
+        ensures { result ≡ is_among ui (made_by layout self.now) }
+    {
+        let at = home(layout, ui.kind(), ui.site(), ui.number());
+        (ui.number() - 1) / stride(layout, ui.kind()) < u64::from(self.counts[at])
+    }
+
+    /// The number that the place of this number gives next.
+    pub(crate) fn next_number(&self, layout: Layout, kind: Kind, site: u16, number: u64) -> u64
+        requires tables { IsSetup layout self.now }
+        requires site { (1 ≤ site) × (site ≤ 16) }
+        requires number { 1 ≤ number }
+        requires kind { is_actor kind ≡ false }
+        ensures { result ≡ (next_name layout kind site number (made_by layout self.now)).number }
+    {
+        let stride = stride(layout, kind);
+        let given = self.counts[home(layout, kind, site, number)];
+        1 + (number - 1) % stride + stride * u64::from(given)
+    }
+
+    /// The members of a group, in the order in which they joined.
+    pub(crate) fn members(&self, group: Ui) -> &[Ui]
+        requires tables { (l : Shape) × IsSetup l self.now }
+        requires kind { group.kind ≡ Kind.Group }
+        ensures { result.now ≡ members_of group self.now.lines.items }
+    {
+        if is_listed(group) {
+            self.members[list_number(group)].as_slice()
+        } else {
+            &[]
+        }
+    }
+
+    /// Adds a line that makes the next name of the place that gives this number.
+    pub(crate) fn push_making(
+        &mut self,
+        layout: Layout,
+        line: SetupLine,
+        ui: Ui,
+        number: u64,
+    ) -> Result<(), AllocError>
+        requires tables { IsSetup layout self.old }
+        requires site { ui.site ≤ 16 }
+        requires number { 1 ≤ number }
+        requires kind { is_actor ui.kind ≡ false }
+        requires given { ui ≡ next_name layout ui.kind ui.site number (made_by layout self.old) }
+        requires room { ui.number ≤ most_number ui.kind }
+        requires makes { (made : List Name) → makes layout made line ≡ next_name layout ui.kind ui.site number made ∷ [] }
+        requires says { (made : List Name) → name_said layout made line ≡ next_name layout ui.kind ui.site number made }
+        requires joins { (group : Name) → members_of group (line ∷ []) ≡ [] }
+        ensures ok { OnOk result (self.new.lines.items ≡ self.old.lines.items ++ line ∷ []) }
+        ensures tables { OnOk result (IsSetup layout self.new) }
+    {
+        let at = home(layout, ui.kind(), ui.site(), number);
+        self.lines.push(line)?;
+        self.names.push(ui)?;
+        self.counts[at] += 1;
+        Ok(())
+    }
+
+    /// Adds a member to a group.
+    pub(crate) fn push_member(
+        &mut self,
+        layout: Layout,
+        group: Ui,
+        port: Ui,
+    ) -> Result<(), AllocError>
+        requires tables { IsSetup layout self.old }
+        requires kind { group.kind ≡ Kind.Group }
+        requires made { is_among group (made_by layout self.old) ≡ true }
+        ensures ok { OnOk result (self.new.lines.items ≡ self.old.lines.items ++ SetupLine.Member group port ∷ []) }
+        ensures tables { OnOk result (IsSetup layout self.new) }
+    {
+        self.lines.push(SetupLine::Member { group, port })?;
+        self.names.push(group)?;
+        self.members[list_number(group)].push(port)?;
+        Ok(())
+    }
+}
