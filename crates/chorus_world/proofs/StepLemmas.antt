@@ -1,0 +1,59 @@
+-- What a step does to the ports.
+use Rattle.std.proofs.Common.{ℕ, ◌≡◌, ◌==◌, ◌<◌, Bool, true, false, ◌&&◌, cond, List, [], ◌∷◌, ◌++◌, length, reverse, Option, Some, None, refl, sym, ◌∙◌, ap, arith}
+use Rattle.std.specs.List.{slice_get}
+use Rattle.std.proofs.lemmas.Bool.{and_parts, eqb-true, false≢true}
+use Rattle.std.proofs.lemmas.List.{reverse-append}
+use Rattle.std.proofs.lemmas.Option.{slice_get_within}
+use Rattle.chorus_ui.specs.declared.ui.Ui.{Ui}
+use Rattle.chorus_ui.specs.declared.layout.Layout.{Layout}
+use Rattle.chorus_ui.specs.Name.{same_ui}
+use Rattle.chorus_ui.proofs.Names.{from_same_ui}
+use Rattle.chorus_entry.specs.declared.entry.Entry.{Entry}
+use Rattle.chorus_entry.specs.declared.id.MsgId.{MsgId}
+use Rattle.chorus_entry.specs.declared.act.Act.{Act}
+use Rattle.chorus_entry.specs.declared.act.Act.TheVariants.{Take}
+use Rattle.chorus_entry.specs.Act.{held_port_of}
+use Rattle.chorus_world.specs.Views.{views, on, at, is_on, is_id, are_same}
+use Rattle.chorus_world.specs.Places.{just_taken}
+use Rattle.chorus_world.specs.Ports.{Fate, fate, fate_after, TakeFits, is_held_at, is_first_waiting}
+use Rattle.chorus_world.specs.Steps.{act_may, act_follows, may, is_timely, may_stand_behind}
+use Rattle.chorus_entry.specs.Kinds.{has_kinds}
+
+there : (x : MsgId) (o : Option MsgId) → is_id x o ≡ true → (y : MsgId) × (o ≡ Some y)
+there x None h = absurd (false≢true h)
+there x (Some y) h = (y, refl)
+
+first_fits : (n : ℕ) (x : MsgId) (f : Fate) → is_first_waiting n x (Some f) ≡ true → f.taken < length f.accepted
+first_fits n x f h =
+    let two = and_parts (n == f.taken) (is_id x (slice_get f.accepted n)) h in
+    let is : n ≡ f.taken = eqb-true n f.taken two.0 in
+    let y = there x (slice_get f.accepted n) two.1 in
+    let lt : n < length f.accepted = slice_get_within f.accepted n y.0 y.1 in
+    omega arith
+
+fits_case : (l : Layout) (past : List Entry) (p s : ℕ) (a : Act) (q : Ui) (f : Fate) → act_may l (views past p s a) p s a ≡ true → are_same same_ui (Some q) (held_port_of a) ≡ true → fate (on q past) ≡ Some f → TakeFits a f
+fits_case l past p s (Take r n x) q f h e m =
+    let same : q ≡ r = from_same_ui q r e in
+    let two = and_parts (is_held_at p (fate (on r past))) (is_first_waiting n x (fate (on r past))) h in
+    let here : fate (on r past) ≡ Some f = ap (λ u. fate (on u past)) (sym same) ∙ m in
+    first_fits n x f (ap (is_first_waiting n x) (sym here) ∙ two.1)
+fits_case l past p s _ q f h e m = tt
+
+-- a Take that may come next finds a message that waits
+pub take_fits : (l : Layout) (past : List Entry) (e : Entry) (q : Ui) (f : Fate) → may l past e ≡ true → is_on (Some q) e ≡ true → fate (on q past) ≡ Some f → TakeFits e.act f
+take_fits l past e q f h o m =
+    let follows = (and_parts (is_timely l past e) (act_follows l past e.place e.seat e.act) h).1 in
+    let needs = (and_parts (has_kinds e.act && may_stand_behind (just_taken past (at e.place past)) e.act) (act_may l (views past e.place e.seat e.act) e.place e.seat e.act) follows).1 in
+    fits_case l past e.place e.seat e.act q f needs o m
+
+under : (b : Bool) (x y : List Entry) → fate (cond b x y) ≡ cond b (fate x) (fate y)
+under true x y = refl
+under false x y = refl
+
+-- the fate of a port after one entry more
+pub fate_grows : (q : Ui) (es : List Entry) (e : Entry) (o n : Option Fate) → o ≡ fate (on q (reverse es)) → n ≡ cond (is_on (Some q) e) (fate_after e.place e.act o) o → n ≡ fate (on q (reverse (es ++ e ∷ [])))
+fate_grows q es e o n old new =
+    new
+    ∙ (ap (λ m. cond (is_on (Some q) e) (fate_after e.place e.act m) m) old
+    ∙ (sym (under (is_on (Some q) e) (e ∷ on q (reverse es)) (on q (reverse es)))
+    ∙ ap (λ xs. fate (on q xs)) (sym (reverse-append es (e ∷ [])))))

@@ -1,0 +1,21 @@
+-- Fates: what became of each message that a port accepted.
+use Rattle.std.specs.Prelude.{ℕ, nat_lt, cond}
+use Rattle.chorus_world.specs.declared.port.Spot.{Spot}
+use Rattle.chorus_world.specs.declared.port.Spot.TheVariants.{Held, Moving, Ended}
+use Rattle.chorus_world.specs.Ports.{Fate}
+
+pub data MessageFate : Type 0 where
+  Received : MessageFate
+  Queued : MessageFate
+  UnderWay : MessageFate
+  Discarded : MessageFate
+
+-- of the messages that were not received
+abbrev pub fate_left : Spot → MessageFate
+fate_left (Held a) = Queued
+fate_left (Moving a) = UnderWay
+fate_left Ended = Discarded
+
+-- the fate of the message that a port accepted at position i
+abbrev pub fate_at : ℕ → Fate → MessageFate
+fate_at i f = cond (nat_lt i f.taken) Received (fate_left f.spot)

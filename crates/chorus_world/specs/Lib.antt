@@ -1,0 +1,15 @@
+pub mod Views
+pub mod Ports
+pub mod Posts
+pub mod Clients
+pub mod Messages
+pub mod Places
+pub mod Groups
+pub mod Seats
+pub mod Steps
+pub mod Rules
+pub mod Runs
+pub mod Commands
+pub mod Fates
+pub mod Table
+pub mod Refusals

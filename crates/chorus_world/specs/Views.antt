@@ -1,0 +1,82 @@
+-- What of the past an entry can read: the entries of its place, of its seat, about its message, and on the line of its
+-- port, which are those that stand only where the port is held or comes to be held. A past is the list of all entries so
+-- far, the newest first.
+use Rattle.std.specs.Prelude.{ℕ, Bool, false, List, Option, Some, None, ◌==◌}
+use Rattle.std.specs.List.{filter}
+use Rattle.chorus_ui.specs.declared.ui.Ui.{Ui}
+use Rattle.chorus_ui.specs.Name.{same_ui}
+use Rattle.chorus_entry.specs.declared.entry.Entry.{Entry}
+use Rattle.chorus_entry.specs.declared.id.MsgId.{MsgId}
+use Rattle.chorus_entry.specs.declared.act.Act.{Act}
+use Rattle.chorus_entry.specs.declared.act.Act.TheVariants.{Stale, Early, NoPort, Elsewhere, Gone}
+use Rattle.chorus_entry.specs.Act.{message_of, held_port_of}
+use Rattle.chorus_entry.specs.MsgId.{same_id}
+
+-- both are there, and the same
+abbrev pub are_same : {A : Type 0} → (A → A → Bool) → Option A → Option A → Bool
+are_same same None b = false
+are_same same (Some a) None = false
+are_same same (Some a) (Some b) = same a b
+
+-- the number is there, and is n
+abbrev pub is_number : ℕ → Option ℕ → Bool
+is_number n None = false
+is_number n (Some m) = m == n
+
+-- the id is there, and is x
+abbrev pub is_id : MsgId → Option MsgId → Bool
+is_id x None = false
+is_id x (Some y) = same_id y x
+
+-- the port that an act reads: the one that it needs held, makes or brings, or the one that it finds away
+abbrev pub port_read_by : Act → Option Ui
+port_read_by (Stale x q tried to hop) = Some q
+port_read_by (Early x q hop) = Some q
+port_read_by (NoPort x q) = Some q
+port_read_by (Elsewhere x q to hop) = Some q
+port_read_by (Gone x q) = Some q
+port_read_by a = held_port_of a
+
+abbrev pub is_at : ℕ → Entry → Bool
+is_at p e = e.place == p
+
+abbrev pub is_by : ℕ → Entry → Bool
+is_by s e = e.seat == s
+
+abbrev pub is_about : Option MsgId → Entry → Bool
+is_about x e = are_same same_id x (message_of e.act)
+
+abbrev pub is_on : Option Ui → Entry → Bool
+is_on q e = are_same same_ui q (held_port_of e.act)
+
+-- the past of a place, of a seat, of a message, and of a port
+abbrev pub at : ℕ → List Entry → List Entry
+at p past = filter (is_at p) past
+
+abbrev pub by : ℕ → List Entry → List Entry
+by s past = filter (is_by s) past
+
+abbrev pub about : MsgId → List Entry → List Entry
+about x past = filter (is_about (Some x)) past
+
+abbrev pub on : Ui → List Entry → List Entry
+on q past = filter (is_on (Some q)) past
+
+-- what one entry reads. Of the whole past it reads only what the first fitting entry settles for ever: what was posted
+-- under an id, which posts to a group were made at a place before one that is there, and whether a group is made.
+pub record Views : Type 0 where
+  pub here : List Entry
+  pub mine : List Entry
+  pub message : List Entry
+  pub port : List Entry
+  pub all : List Entry
+
+abbrev pub views : List Entry → ℕ → ℕ → Act → Views
+views past p s a =
+    record {
+      here = at p past;
+      mine = by s past;
+      message = filter (is_about (message_of a)) past;
+      port = filter (is_on (port_read_by a)) past;
+      all = past;
+    }
