@@ -18,7 +18,7 @@ same_answer (Chosen n) (Chosen m) = n == m
 same_answer Gone Gone = true
 same_answer _ _ = false
 
--- the answer settles its message: it is not tried again
+-- every answer but Stale: a message that was told this is not tried again
 abbrev pub is_final : Answer → Bool
 is_final (Accepted n) = true
 is_final (Full n) = true

@@ -1,4 +1,4 @@
--- The ranges of what a packet holds. A packet within them has a frame, and no other is ever put.
+-- The ranges of what a packet holds.
 use Rattle.std.specs.Prelude.{ℕ, Bool, true, false, ◌&&◌, nat_le, Option, Some, None, List, length}
 use Rattle.std.specs.List.{list_all}
 use Rattle.chorus_ui.specs.declared.ui.Ui.{Ui}
@@ -11,6 +11,7 @@ use Rattle.chorus_entry.specs.declared.tag.Tag.{Tag}
 use Rattle.chorus_entry.specs.declared.tag.Tag.TheVariants.{Plain, Request, Reply}
 use Rattle.chorus_entry.specs.declared.dest.Dest.{Dest}
 use Rattle.chorus_entry.specs.declared.dest.Dest.TheVariants.{Port, All, One, OneAt}
+use Rattle.chorus_entry.specs.Answer.{is_final}
 use Rattle.chorus_entry.specs.declared.message.Message.{Message}
 use Rattle.chorus_entry.specs.declared.answer.Answer.{Answer}
 use Rattle.chorus_entry.specs.declared.answer.Answer.TheVariants as A
@@ -82,19 +83,9 @@ is_told A.NoMember = false
 is_told (A.Chosen count) = false
 is_told A.Gone = true
 
--- what settles a message, and how many copies a post has, may be reported
+-- every answer but Stale, after which the message is tried again, may be reported
 abbrev pub is_reported : Answer → Bool
-is_reported (A.Accepted pos) = true
-is_reported (A.Full len) = true
-is_reported (A.Stale to hop) = false
-is_reported (A.Early hop) = true
-is_reported A.NoPort = true
-is_reported A.Already = true
-is_reported A.ClientsFull = true
-is_reported (A.Elsewhere to hop) = true
-is_reported A.NoMember = true
-is_reported (A.Chosen count) = true
-is_reported A.Gone = true
+is_reported answer = is_final answer
 
 abbrev pub has_range_of_client : ℕ × ℕ → Bool
 has_range_of_client entry = nat_le 1 entry.1

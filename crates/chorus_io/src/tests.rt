@@ -73,22 +73,3 @@ fn sink_takes_1_5_and_64_bytes(rt: HostRuntime) -> Result<(), Fail> {
     }
     Ok(())
 }
-
-#[test]
-fn standard_streams(rt: HostRuntime) -> Result<(), Fail> {
-    let mut source = StdSource::new(rt.stdin());
-    let mut sink = StdSink::new(rt.stdout());
-    let input = read_all(rt.alloc(), &mut source, 1_000)?;
-    write_all(&mut sink, b"standard input has ")?;
-    write_all(
-        &mut sink,
-        if input.is_empty() {
-            b"no bytes\n"
-        } else {
-            b"some bytes\n"
-        },
-    )?;
-    assert_eq!(rt; source.faults(), 0);
-    assert_eq!(rt; sink.faults(), 0);
-    Ok(())
-}

@@ -8,9 +8,9 @@ ghost use Rattle.std.specs.Vec.{vec_len, vec_capacity};
 use atomic_table::{Refused, Table, TableRule};
 use std::alloc::Global;
 
+/// The rule of the room: the list that lies there is empty and has room for as many states as the key says.
 pub struct HasRoom;
 
-// The key is for how many states there is room.
 impl<S> TableRule<Vec<S>, (), usize> for HasRoom {
     ghost use Rattle.chorus_turn.specs.Rooms.{KeepsRoom};
 
@@ -19,6 +19,7 @@ impl<S> TableRule<Vec<S>, (), usize> for HasRoom {
     ghost first = { λ _. tt };
 }
 
+/// Room for the states, in the one slot of a table.
 #[derive(Drop)]
 pub struct Room<S> {
     pub(crate) table: Table<Vec<S>, (), usize, HasRoom, Global>,

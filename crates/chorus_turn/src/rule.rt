@@ -11,9 +11,9 @@ use atomic_table::{Join, Play, Split, TableRule};
 use std::marker::{Brand, PhantomData};
 use std::snapshot::Snapshot;
 
+/// The rule of turns. The key is the states as they were handed in.
 pub struct InTurn;
 
-// The key is the states as they were handed in.
 impl<S: Kept> TableRule<Option<S>, View<S::Remark>, Snapshot<Vec<S>>> for InTurn {
     ghost holds = { λ key. Turned (IsJournal S.entries S.fits) (λ place x. IsMarkAt S.mark key.value.items place (S.mark x)) };
 
