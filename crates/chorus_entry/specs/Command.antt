@@ -4,18 +4,20 @@ use Rattle.chorus_entry.specs.declared.dest.Dest.{Dest}
 use Rattle.chorus_entry.specs.declared.dest.Dest.TheVariants.{Port, All, One, OneAt}
 use Rattle.chorus_entry.specs.declared.command.Command.{Command}
 use Rattle.chorus_entry.specs.declared.command.Command.TheVariants.{Make, Send, Call, Retry, Cancel, Reply, Take, Move, GroupMake, Join, Leave, Delete}
+use Rattle.chorus_entry.specs.declared.record.pending.TheConstants.{PENDING_LIMIT}
+use Rattle.chorus_ui.specs.declared.layout.TheConstants.{MAX_SITES}
 use Rattle.chorus_entry.specs.Kinds.{names_actor, names_port, names_group, has_kinds_in_dest}
 
 -- a capacity is from 1 to 64
 abbrev pub is_capacity : ℕ → Bool
-is_capacity n = nat_le 1 n && nat_le n 64
+is_capacity n = nat_le 1 n && nat_le n PENDING_LIMIT
 
 -- the site that is demanded, where one is, is from 1 to 16
 abbrev pub demands_a_site : Dest → Bool
 demands_a_site (Port q) = true
 demands_a_site (All g) = true
 demands_a_site (One g) = true
-demands_a_site (OneAt g s) = nat_le 1 s && nat_le s 16
+demands_a_site (OneAt g s) = nat_le 1 s && nat_le s MAX_SITES
 
 -- the command's capacity is one; its destination names a port, or a group and a site from 1 to 16
 abbrev pub meets_conditions : Command → Bool

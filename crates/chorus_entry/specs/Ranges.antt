@@ -1,7 +1,8 @@
 -- The ranges of what a packet holds.
-use Rattle.std.specs.Prelude.{ℕ, Bool, true, false, ◌&&◌, nat_le, Option, Some, None, List, length}
+use Rattle.std.specs.Prelude.{ℕ, ◌*◌, Bool, true, false, ◌&&◌, nat_le, Option, Some, None, List, length}
 use Rattle.std.specs.List.{list_all}
 use Rattle.chorus_ui.specs.declared.ui.Ui.{Ui}
+use Rattle.chorus_ui.specs.declared.layout.TheConstants.{MAX_SITES}
 use Rattle.chorus_entry.specs.declared.body.TheConstants.{BODY_LIMIT}
 use Rattle.chorus_entry.specs.declared.members.TheConstants.{MEMBERS_LIMIT}
 use Rattle.chorus_entry.specs.declared.record.clients.TheConstants.{CLIENTS_LIMIT}
@@ -26,13 +27,13 @@ use Rattle.chorus_entry.specs.Kinds.{names_actor, names_port, names_group, has_k
 abbrev pub is_from : ℕ → ℕ → ℕ → Bool
 is_from low high n = nat_le low n && nat_le n high
 
--- the number of a place in the largest layout
+-- the number of a place in the largest layout, whose sites have four places each
 abbrev pub is_place_number : ℕ → Bool
-is_place_number = is_from 1 64
+is_place_number = is_from 1 (MAX_SITES * 4)
 
 -- the number of a site in the largest layout
 abbrev pub is_site_number : ℕ → Bool
-is_site_number = is_from 1 16
+is_site_number = is_from 1 MAX_SITES
 
 abbrev pub has_range_of_id : MsgId → Bool
 has_range_of_id id = nat_le 1 id.number && nat_le id.copy MEMBERS_LIMIT

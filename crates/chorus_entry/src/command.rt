@@ -1,8 +1,11 @@
 //! What callers ask for.
 
+ghost use Rattle.std.specs.Prelude.{◌≡◌, IfOk};
+
 use crate::body::Body;
 use crate::dest::Dest;
 use chorus_ui::Ui;
+use std::alloc::AllocError;
 
 /// What a caller asks of the nucleus. A place performs a command in one turn and appends one entry that answers it.
 ///
@@ -35,4 +38,48 @@ pub enum Command {
     Leave { group: Ui, port: Ui },
     /// Deletes a port of the caller's actor, and with it what waits there.
     Delete { port: Ui },
+}
+
+impl Command {
+    /// The same command again, in memory of its own.
+    pub fn copied(&self) -> Result<Command, AllocError>
+        ensures { IfOk result (λ command. command ≡ self.now) }
+    {
+        let command = match self {
+            Command::Make { actor, capacity } => Command::Make {
+                actor: *actor,
+                capacity: *capacity,
+            },
+            Command::Send { dest, body } => Command::Send {
+                dest: *dest,
+                body: body.copied()?,
+            },
+            Command::Call { port, back, body } => Command::Call {
+                port: *port,
+                back: *back,
+                body: body.copied()?,
+            },
+            Command::Retry => Command::Retry,
+            Command::Cancel => Command::Cancel,
+            Command::Reply { body } => Command::Reply {
+                body: body.copied()?,
+            },
+            Command::Take { port } => Command::Take { port: *port },
+            Command::Move { port, actor } => Command::Move {
+                port: *port,
+                actor: *actor,
+            },
+            Command::GroupMake { site } => Command::GroupMake { site: *site },
+            Command::Join { group, port } => Command::Join {
+                group: *group,
+                port: *port,
+            },
+            Command::Leave { group, port } => Command::Leave {
+                group: *group,
+                port: *port,
+            },
+            Command::Delete { port } => Command::Delete { port: *port },
+        };
+        Ok(command)
+    }
 }

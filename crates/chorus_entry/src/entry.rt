@@ -17,6 +17,7 @@ pub struct Entry {
     pub place: u16,
     /// The caller in whose call it was appended.
     pub seat: u32,
+    /// What happened.
     pub act: Act,
 }
 

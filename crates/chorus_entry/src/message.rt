@@ -11,8 +11,11 @@ use std::alloc::AllocError;
 /// A message: its id, what it is, and the bytes that it carries.
 #[derive(Debug, Drop, PartialEq, Eq)]
 pub struct Message {
+    /// Its name.
     pub id: MsgId,
+    /// Whether it is a request, a reply or neither.
     pub tag: Tag,
+    /// The bytes that it carries.
     pub body: Body,
 }
 

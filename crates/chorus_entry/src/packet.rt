@@ -14,6 +14,7 @@ pub struct Packet {
     pub clock: u64,
     /// The place that sends it, from 1.
     pub from: u16,
+    /// What it carries.
     pub cargo: Cargo,
 }
 

@@ -64,4 +64,4 @@ home l actor = if has_actor l actor then Some (creation_place l actor) else None
 
 -- the place of a group, where the layout has its site: groups stand at the first place, and never move
 abbrev pub group_place : Shape → Name → Option ℕ
-group_place l group = if nat_le group.site l.sites then Some (first_place l group.site) else None
+group_place l group = if has_site l group.site then Some (first_place l group.site) else None

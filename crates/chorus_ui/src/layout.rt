@@ -140,7 +140,7 @@ impl Layout {
         ensures in_layout { IfSome result (λ place. IsTrue (has_place self.now place)) }
     {
         let site = group.site();
-        if site <= self.sites {
+        if self.has_site(site) {
             Some(self.first_place(site))
         } else {
             None
