@@ -12,6 +12,8 @@
 mod caller;
 mod client;
 mod law;
+#[cfg(test)]
+mod tests;
 
 pub use caller::Caller;
 pub use client::{Again, Client, Outstanding, Settle};
