@@ -1,5 +1,6 @@
 -- What a step does to the ports.
 use Rattle.std.proofs.Common.{ℕ, ◌≡◌, ◌==◌, ◌<◌, Bool, true, false, ◌&&◌, cond, List, [], ◌∷◌, ◌++◌, length, reverse, Option, Some, None, refl, sym, ◌∙◌, ap, arith}
+use Rattle.std.specs.Cmp.Derive.{both_true}
 use Rattle.std.specs.List.{slice_get}
 use Rattle.std.proofs.lemmas.Bool.{and_parts, eqb-true, false≢true}
 use Rattle.std.proofs.lemmas.List.{reverse-append}
@@ -13,19 +14,21 @@ use Rattle.chorus_entry.specs.declared.id.MsgId.{MsgId}
 use Rattle.chorus_entry.specs.declared.act.Act.{Act}
 use Rattle.chorus_entry.specs.declared.act.Act.TheVariants.{Take}
 use Rattle.chorus_entry.specs.Act.{held_port_of}
-use Rattle.chorus_world.specs.Views.{views, on, at, is_on, is_id, are_same}
+use Rattle.chorus_entry.specs.MsgId.{same_id}
+use Rattle.chorus_world.specs.Views.{views, on, is_on, are_same}
 use Rattle.chorus_world.specs.Places.{just_taken}
-use Rattle.chorus_world.specs.Ports.{Fate, fate, fate_after, TakeFits, is_held_at, is_first_waiting}
-use Rattle.chorus_world.specs.Steps.{act_may, act_follows, may, is_timely, may_stand_behind}
+use Rattle.chorus_world.specs.Ports.{Fate, fate, fate_after, is_held_at, is_first_waiting}
+use Rattle.chorus_world.specs.Computing.{TakeFits}
+use Rattle.chorus_world.specs.Steps.{act_may, act_follows, may, is_timely, may_stand_behind, is_legal}
 use Rattle.chorus_entry.specs.Kinds.{has_kinds}
 
-there : (x : MsgId) (o : Option MsgId) → is_id x o ≡ true → (y : MsgId) × (o ≡ Some y)
+there : (x : MsgId) (o : Option MsgId) → are_same same_id (Some x) o ≡ true → (y : MsgId) × (o ≡ Some y)
 there x None h = absurd (false≢true h)
 there x (Some y) h = (y, refl)
 
 first_fits : (n : ℕ) (x : MsgId) (f : Fate) → is_first_waiting n x (Some f) ≡ true → f.taken < length f.accepted
 first_fits n x f h =
-    let two = and_parts (n == f.taken) (is_id x (slice_get f.accepted n)) h in
+    let two = and_parts (n == f.taken) (are_same same_id (Some x) (slice_get f.accepted n)) h in
     let is : n ≡ f.taken = eqb-true n f.taken two.0 in
     let y = there x (slice_get f.accepted n) two.1 in
     let lt : n < length f.accepted = slice_get_within f.accepted n y.0 y.1 in
@@ -42,8 +45,9 @@ fits_case l past p s _ q f h e m = tt
 -- a Take that may come next finds a message that waits
 pub take_fits : (l : Layout) (past : List Entry) (e : Entry) (q : Ui) (f : Fate) → may l past e ≡ true → is_on (Some q) e ≡ true → fate (on q past) ≡ Some f → TakeFits e.act f
 take_fits l past e q f h o m =
-    let follows = (and_parts (is_timely l past e) (act_follows l past e.place e.seat e.act) h).1 in
-    let needs = (and_parts (has_kinds e.act && may_stand_behind (just_taken past (at e.place past)) e.act) (act_may l (views past e.place e.seat e.act) e.place e.seat e.act) follows).1 in
+    let v = views past e.place e.seat e.act in
+    let follows = (and_parts (is_timely l v e) (act_follows l v e.place e.seat e.act) h).1 in
+    let needs = (and_parts (has_kinds e.act && may_stand_behind (just_taken past v.here) e.act) (act_may l v e.place e.seat e.act) follows).1 in
     fits_case l past e.place e.seat e.act q f needs o m
 
 under : (b : Bool) (x y : List Entry) → fate (cond b x y) ≡ cond b (fate x) (fate y)
@@ -57,3 +61,10 @@ fate_grows q es e o n old new =
     ∙ (ap (λ m. cond (is_on (Some q) e) (fate_after e.place e.act m) m) old
     ∙ (sym (under (is_on (Some q) e) (e ∷ on q (reverse es)) (on q (reverse es)))
     ∙ ap (λ xs. fate (on q xs)) (sym (reverse-append es (e ∷ [])))))
+
+-- the past stays legal
+pub legal_grows : (l : Layout) (es xs : List Entry) (e : Entry) → is_legal l (reverse es) ≡ true → may l (reverse es) e ≡ true → xs ≡ es ++ e ∷ [] → is_legal l (reverse xs) ≡ true
+legal_grows l es xs e old now is =
+    ap (λ ys. is_legal l (reverse ys)) is
+    ∙ (ap (is_legal l) (reverse-append es (e ∷ []))
+    ∙ both_true now old)

@@ -7,7 +7,7 @@ use Rattle.chorus_ui.specs.Name.{same_ui}
 use Rattle.chorus_ui.proofs.Names.{from_same_ui}
 use Rattle.chorus_world.specs.declared.table.NamedPort.{NamedPort}
 use Rattle.chorus_world.specs.Ports.{Fate}
-use Rattle.chorus_world.specs.Table.{row_of, fate_in}
+use Rattle.chorus_world.specs.Computing.{row_of, fate_in}
 
 -- the row is the first of the port's name
 pub record IsRow (q : Ui) (rs : List NamedPort) (r : NamedPort) : Type 0 where
@@ -89,8 +89,8 @@ row_push p q f (r ∷ rs) h =
     push_case p q f r rs (same_ui r.ui q) refl h (row_push p q f rs (none_below q r rs (same_ui r.ui q) h))
 
 -- the same for a row that is reached by its index
-pub fate_at : (q : Ui) (rs : List NamedPort) (i : ℕ) (r d : NamedPort) → i ≡ row_of q rs → i < length rs → r ≡ slice_index_or rs i d → fate_in q rs ≡ Some r.fate
-fate_at q rs i r d e h m =
+pub fate_of_row : (q : Ui) (rs : List NamedPort) (i : ℕ) (r d : NamedPort) → i ≡ row_of q rs → i < length rs → r ≡ slice_index_or rs i d → fate_in q rs ≡ Some r.fate
+fate_of_row q rs i r d e h m =
     let lt : row_of q rs < length rs = omega arith in
     (row_at q rs d lt).fate ∙ ap (λ x. Some x.fate) (sym (m ∙ ap (λ j. slice_index_or rs j d) e))
 
@@ -115,7 +115,7 @@ mapped_case p q rs g o e =
 pub change_at : (p q : Ui) (rs : List NamedPort) (i : ℕ) (r d : NamedPort) (g : Fate → Fate) (f : Fate) → f ≡ g r.fate → i ≡ row_of q rs → i < length rs → r ≡ slice_index_or rs i d → fate_in p (slice_set rs i (record { ui = r.ui; fate = f })) ≡ cond (same_ui q p) (option_map g (fate_in p rs)) (fate_in p rs)
 change_at p q rs i r d g f n e h m =
     put_at p q rs i r d f e h m
-    ∙ (ap (λ x. cond (same_ui q p) (Some x) (fate_in p rs)) n ∙ mapped_case p q rs g (Some r.fate) (fate_at q rs i r d e h m))
+    ∙ (ap (λ x. cond (same_ui q p) (Some x) (fate_in p rs)) n ∙ mapped_case p q rs g (Some r.fate) (fate_of_row q rs i r d e h m))
 
 pub change_none : (p q : Ui) (rs : List NamedPort) (g : Fate → Fate) → fate_in q rs ≡ None → fate_in p rs ≡ cond (same_ui q p) (option_map g (fate_in p rs)) (fate_in p rs)
 change_none p q rs g e =

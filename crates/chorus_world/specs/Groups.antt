@@ -13,7 +13,7 @@ use Rattle.chorus_entry.specs.declared.act.Act.{Act}
 use Rattle.chorus_entry.specs.declared.act.Act.TheVariants.{Post, NoMember, Choose, GroupMake, Join, Leave}
 use Rattle.chorus_entry.specs.Dest.{group_in}
 use Rattle.chorus_entry.specs.MsgId.{same_id}
-use Rattle.chorus_world.specs.Views.{at, are_same, is_number, is_id}
+use Rattle.chorus_world.specs.Views.{at, are_same, is_number}
 use Rattle.chorus_world.specs.Places.{located}
 
 -- how many groups were made
@@ -24,15 +24,6 @@ groups_after _ n = n
 abbrev pub groups_made : List Entry → ℕ
 groups_made [] = 0
 groups_made (e ∷ here) = groups_after e.act (groups_made here)
-
--- the group was made
-abbrev pub makes_group : Ui → Act → Bool
-makes_group g (GroupMake h) = same_ui h g
-makes_group g _ = false
-
-abbrev pub is_group : Ui → List Entry → Bool
-is_group g [] = false
-is_group g (e ∷ past) = makes_group g e.act || is_group g past
 
 -- the place of a port in a list, counted from 0: the length where it is not in it
 abbrev pub index_of : Ui → List Ui → ℕ
@@ -127,7 +118,7 @@ first_unchosen here (x ∷ xs) = cond (is_chosen x here) (first_unchosen here xs
 
 -- the post x, made at the place `from`, is the next of that place's posts to the group to be chosen here
 abbrev pub is_next_to : Ui → MsgId → ℕ → List Entry → List Entry → Bool
-is_next_to g x from here past = is_id x (first_unchosen here (posts_to g (at from past)))
+is_next_to g x from here past = are_same same_id (Some x) (first_unchosen here (posts_to g (at from past)))
 
 -- p is the group's place
 abbrev pub is_group_place : Layout → Ui → ℕ → Bool

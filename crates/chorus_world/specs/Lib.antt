@@ -11,5 +11,5 @@ pub mod Rules
 pub mod Runs
 pub mod Commands
 pub mod Fates
-pub mod Table
+pub mod Computing
 pub mod Refusals

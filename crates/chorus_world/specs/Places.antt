@@ -21,7 +21,7 @@ use Rattle.chorus_entry.specs.MsgId.{same_id}
 use Rattle.chorus_world.specs.declared.place.Sent.{Sent}
 use Rattle.chorus_world.specs.declared.place.Location.{Location}
 use Rattle.chorus_world.specs.declared.place.TakenReply.{TakenReply}
-use Rattle.chorus_world.specs.Views.{is_id, are_same}
+use Rattle.chorus_world.specs.Views.{are_same}
 use Rattle.chorus_world.specs.Posts.{tag_of}
 
 -- the clock of the last entry
@@ -103,7 +103,7 @@ is_tried x (e ∷ here) = tried_after x e.act (is_tried x here)
 abbrev pub is_first_as : MsgId → Ui → List Entry → Option Sent → Bool
 is_first_as x q here None = false
 is_first_as x q here (Some m) =
-    same_ui m.port q && is_id x (first_for q m.route (unsettled here (sent here))) && not (is_tried x here)
+    same_ui m.port q && are_same same_id (Some x) (first_for q m.route (unsettled here (sent here))) && not (is_tried x here)
 
 abbrev pub is_first : MsgId → Ui → List Entry → Bool
 is_first x q here = is_first_as x q here (find_sent x (sent here))

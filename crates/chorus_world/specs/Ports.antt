@@ -8,7 +8,8 @@ use Rattle.chorus_entry.specs.declared.act.Act.TheVariants.{Make, Accept, Take, 
 use Rattle.chorus_entry.specs.Ids.{same_ids}
 use Rattle.chorus_world.specs.declared.port.Spot.{Spot}
 use Rattle.chorus_world.specs.declared.port.Spot.TheVariants.{Held, Moving, Ended}
-use Rattle.chorus_world.specs.Views.{is_id}
+use Rattle.chorus_entry.specs.MsgId.{same_id}
+use Rattle.chorus_world.specs.Views.{are_same}
 
 -- what became of a port: how many messages may wait in it, the ids that it accepted, in order, how many of these were
 -- received, the places of its hops 0, 1, .., and whether it is held, by which actor, moving, to which actor, or deleted
@@ -36,11 +37,6 @@ changed (Depart q to a hop) f = record f { path = f.path ++ to ∷ []; spot = Mo
 changed (Arrive q hop) f = record f { spot = arrived f.spot }
 changed (Delete q xs) f = record f { spot = Ended }
 changed _ f = f
-
--- a Take finds a message that was accepted and not received
-abbrev pub TakeFits : Act → Fate → Type 0
-TakeFits (Take q n x) f = f.taken < length f.accepted
-TakeFits _ f = Unit {0}
 
 -- a port that may not be made after an act on its line at the place p
 abbrev pub fate_after : ℕ → Act → Option Fate → Option Fate
@@ -115,7 +111,7 @@ is_full n (Some f) = (waiting f == f.capacity) && (n == waiting f)
 -- the message x, at position n, is the first that waits in it
 abbrev pub is_first_waiting : ℕ → MsgId → Option Fate → Bool
 is_first_waiting n x None = false
-is_first_waiting n x (Some f) = (n == f.taken) && is_id x (slice_get f.accepted n)
+is_first_waiting n x (Some f) = (n == f.taken) && are_same same_id (Some x) (slice_get f.accepted n)
 
 abbrev pub is_empty : Option Fate → Bool
 is_empty None = false

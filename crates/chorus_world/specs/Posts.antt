@@ -13,7 +13,6 @@ use Rattle.chorus_entry.specs.declared.act.Act.{Act}
 use Rattle.chorus_entry.specs.declared.act.Act.TheVariants.{Post}
 use Rattle.chorus_entry.specs.Dest.{site_in}
 use Rattle.chorus_entry.specs.MsgId.{same_id}
-use Rattle.chorus_world.specs.declared.post.Posting.{Posting}
 use Rattle.chorus_world.specs.Views.{by}
 
 -- a post: where it was made, the message, and where it goes
@@ -29,11 +28,6 @@ posted_by x p _ = None
 abbrev pub posted_in : MsgId → List Entry → Option Posted
 posted_in x [] = None
 posted_in x (e ∷ mine) = option_or (posted_in x mine) (posted_by x e.place e.act)
-
--- what a post is without its body
-abbrev pub in_brief : Option Posted → Option Posting
-in_brief None = None
-in_brief (Some m) = Some (record { place = m.place; tag = m.message.tag; dest = m.dest })
 
 -- the post with copy 0 of which x is a copy, or x itself
 abbrev pub source : MsgId → MsgId

@@ -11,7 +11,7 @@ use Rattle.chorus_entry.specs.declared.dest.Dest.TheVariants.{Port}
 use Rattle.chorus_entry.specs.declared.act.Act.{Act}
 use Rattle.chorus_entry.specs.declared.act.Act.TheVariants.{Post, Take, Done, Cancel}
 use Rattle.chorus_entry.specs.Body.{same_body}
-use Rattle.chorus_world.specs.declared.seat.Hand.{Hand}
+use Rattle.chorus_entry.specs.declared.hand.Hand.{Hand}
 use Rattle.chorus_world.specs.Views.{are_same}
 use Rattle.chorus_world.specs.Posts.{tag_of}
 
@@ -74,11 +74,6 @@ pub record Call : Type 0 where
 
 abbrev pub same_call : Call → Call → Bool
 same_call a b = same_ui a.port b.port && same_ui a.back b.back && same_body a.body b.body
-
--- whether it is the other call again, where it is there
-abbrev pub compared : Option Call → Option Call → Option Bool
-compared None b = None
-compared (Some a) b = Some (are_same same_call (Some a) b)
 
 abbrev pub call_in : ℕ → Tag → Dest → List ℕ → Option Call
 call_in n (Request k back) (Port q) body = cond (k == n) (Some (record { port = q; back = back; body = body })) None

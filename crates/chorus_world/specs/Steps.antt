@@ -3,7 +3,7 @@ use Rattle.std.specs.Prelude.{ℕ, ◌+◌, ◌-◌, ◌*◌, ◌/◌, ◌%◌, 
 use Rattle.chorus_ui.specs.declared.ui.Ui.{Ui}
 use Rattle.chorus_ui.specs.declared.layout.Layout.{Layout}
 use Rattle.chorus_ui.specs.Name.{same_ui}
-use Rattle.chorus_ui.specs.Layout.{has_site, has_place, has_actor, place_at, first_place, site_of}
+use Rattle.chorus_ui.specs.Layout.{has_site, has_place, has_actor, place_at, first_place, site_of, group_place}
 use Rattle.chorus_entry.specs.declared.entry.Entry.{Entry}
 use Rattle.chorus_entry.specs.declared.id.MsgId.{MsgId}
 use Rattle.chorus_entry.specs.declared.message.Message.{Message}
@@ -16,7 +16,7 @@ use Rattle.chorus_entry.specs.declared.act.Act.TheVariants.{Make, MakeFull, NoAc
 use Rattle.chorus_entry.specs.Dest.{group_in}
 use Rattle.chorus_entry.specs.Members.{same_uis}
 use Rattle.chorus_entry.specs.Kinds.{has_kinds}
-use Rattle.chorus_world.specs.Views.{Views, views, at, is_number, are_same}
+use Rattle.chorus_world.specs.Views.{Views, views, is_group, is_number, are_same}
 use Rattle.chorus_world.specs.Ports.{fate, is_made, is_held_at, is_ended_at, is_coming, is_next_hop, has_room, is_full, is_first_waiting, is_empty, are_waiting}
 use Rattle.chorus_world.specs.Posts.{Posted, post_of, site_asked, is_on_site}
 use Rattle.chorus_world.specs.Clients.{is_already, finds_clients_full}
@@ -24,12 +24,12 @@ use Rattle.chorus_world.specs.declared.message.Progress.{Progress}
 use Rattle.chorus_world.specs.declared.message.Progress.TheVariants.{Tried, Asked}
 use Rattle.chorus_world.specs.declared.place.Location.{Location}
 use Rattle.chorus_world.specs.declared.place.TakenReply.{TakenReply}
-use Rattle.chorus_world.specs.declared.seat.Hand.{Hand}
+use Rattle.chorus_entry.specs.declared.hand.Hand.{Hand}
 use Rattle.chorus_world.specs.declared.step.Due.{Due}
 use Rattle.chorus_world.specs.declared.step.Due.TheVariants.{NotDue, ByTry, AtHome}
 use Rattle.chorus_world.specs.Messages.{progress, is_to_be_told, is_to_be_heard}
 use Rattle.chorus_world.specs.Places.{last_clock, ports_made, is_first, located, is_location, just_taken}
-use Rattle.chorus_world.specs.Groups.{groups_made, is_group, members, is_member, choice, is_next_to, is_group_place, is_choosing_place}
+use Rattle.chorus_world.specs.Groups.{groups_made, members, is_member, choice, is_next_to, is_group_place, is_choosing_place}
 use Rattle.chorus_world.specs.Seats.{posts, posts_stay, requests, call, same_call, call_in, first_call, same_hand, hand}
 
 -- The place of ports and actors.
@@ -55,7 +55,7 @@ may_make l v p q a c =
 
 -- the layout has no such site: a port of it is located nowhere
 abbrev pub is_beyond : Layout → Ui → Bool
-is_beyond l q = nat_lt l.sites q.site
+is_beyond l q = not (has_site l q.site)
 
 -- p is on the site that x asks for, where x asks for one
 abbrev pub suits : Layout → Views → ℕ → MsgId → Bool
@@ -197,7 +197,7 @@ may_find_no_member l v p x g =
 -- p is the place of a post to a group of another place
 abbrev pub is_asking_place : Layout → ℕ → Option Ui → Bool
 is_asking_place l p None = false
-is_asking_place l p (Some g) = not (is_beyond l g) && not (first_place l g.site == p)
+is_asking_place l p (Some g) = is_some (group_place l g) && not (is_group_place l g p)
 
 abbrev pub is_asked_from : Layout → ℕ → Option Posted → Bool
 is_asked_from l p None = false
@@ -306,7 +306,7 @@ act_may l v p s (GroupMake g) = may_make_group l v p g
 act_may l v p s (GroupsFull n) = may_find_groups_full l v p n
 act_may l v p s (Join g q) = may_join l v p g q
 act_may l v p s (Leave g q) = may_find_there l v p g q
-act_may l v p s (NoGroup g) = not (is_group g v.all)
+act_may l v p s (NoGroup g) = not v.group_made
 act_may l v p s (There g q) = may_find_there l v p g q
 act_may l v p s (NotThere g q) = may_find_not_there l v p g q
 act_may l v p s (MembersFull g) = may_find_members_full l v p g
@@ -328,17 +328,17 @@ may_stand_behind None a = true
 may_stand_behind (Some r) a = ends_reply a
 
 -- the act may come next at the place p by the seat s
-abbrev pub act_follows : Layout → List Entry → ℕ → ℕ → Act → Bool
-act_follows l past p s a =
-    has_kinds a && may_stand_behind (just_taken past (at p past)) a && act_may l (views past p s a) p s a
+abbrev pub act_follows : Layout → Views → ℕ → ℕ → Act → Bool
+act_follows l v p s a = has_kinds a && may_stand_behind (just_taken v.all v.here) a && act_may l v p s a
 
 -- the entry's place is one of the layout, and its clock above the last clock there
-abbrev pub is_timely : Layout → List Entry → Entry → Bool
-is_timely l past e = has_place l e.place && nat_lt (last_clock (at e.place past)) e.clock
+abbrev pub is_timely : Layout → Views → Entry → Bool
+is_timely l v e = has_place l e.place && nat_lt (last_clock v.here) e.clock
 
 -- the entry may come next
 abbrev pub may : Layout → List Entry → Entry → Bool
-may l past e = is_timely l past e && act_follows l past e.place e.seat e.act
+may l past e =
+    let v = views past e.place e.seat e.act in is_timely l v e && act_follows l v e.place e.seat e.act
 
 -- a world: its layout, and all entries so far, the newest first. All else that it has is read from these.
 pub record State : Type 0 where

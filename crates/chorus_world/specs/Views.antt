@@ -1,14 +1,14 @@
 -- What of the past an entry can read: the entries of its place, of its seat, about its message, and on the line of its
 -- port, which are those that stand only where the port is held or comes to be held. A past is the list of all entries so
 -- far, the newest first.
-use Rattle.std.specs.Prelude.{ℕ, Bool, false, List, Option, Some, None, ◌==◌}
+use Rattle.std.specs.Prelude.{ℕ, Bool, false, ◌||◌, List, [], ◌∷◌, Option, Some, None, ◌==◌}
 use Rattle.std.specs.List.{filter}
 use Rattle.chorus_ui.specs.declared.ui.Ui.{Ui}
 use Rattle.chorus_ui.specs.Name.{same_ui}
 use Rattle.chorus_entry.specs.declared.entry.Entry.{Entry}
 use Rattle.chorus_entry.specs.declared.id.MsgId.{MsgId}
 use Rattle.chorus_entry.specs.declared.act.Act.{Act}
-use Rattle.chorus_entry.specs.declared.act.Act.TheVariants.{Stale, Early, NoPort, Elsewhere, Gone}
+use Rattle.chorus_entry.specs.declared.act.Act.TheVariants.{Stale, Early, NoPort, Elsewhere, GroupMake, NoGroup, Gone}
 use Rattle.chorus_entry.specs.Act.{message_of, held_port_of}
 use Rattle.chorus_entry.specs.MsgId.{same_id}
 
@@ -22,11 +22,6 @@ are_same same (Some a) (Some b) = same a b
 abbrev pub is_number : ℕ → Option ℕ → Bool
 is_number n None = false
 is_number n (Some m) = m == n
-
--- the id is there, and is x
-abbrev pub is_id : MsgId → Option MsgId → Bool
-is_id x None = false
-is_id x (Some y) = same_id y x
 
 -- the port that an act reads: the one that it needs held, makes or brings, or the one that it finds away
 abbrev pub port_read_by : Act → Option Ui
@@ -62,14 +57,30 @@ about x past = filter (is_about (Some x)) past
 abbrev pub on : Ui → List Entry → List Entry
 on q past = filter (is_on (Some q)) past
 
--- what one entry reads. Of the whole past it reads only what the first fitting entry settles for ever: what was posted
--- under an id, which posts to a group were made at a place before one that is there, and whether a group is made.
+-- the group was made
+abbrev pub makes_group : Ui → Act → Bool
+makes_group g (GroupMake h) = same_ui h g
+makes_group g _ = false
+
+abbrev pub is_group : Ui → List Entry → Bool
+is_group g [] = false
+is_group g (e ∷ past) = makes_group g e.act || is_group g past
+
+-- the group that a NoGroup names was made
+abbrev pub finds_group : Act → List Entry → Bool
+finds_group (NoGroup g) past = is_group g past
+finds_group _ past = false
+
+-- What one entry reads. In the whole past it only looks up what the oldest fitting entry settles for ever: what was posted
+-- under an id, and which posts to a group a place made before one that is there. A NoGroup besides reads that its group was
+-- not made, which a later entry may change.
 pub record Views : Type 0 where
   pub here : List Entry
   pub mine : List Entry
   pub message : List Entry
   pub port : List Entry
   pub all : List Entry
+  pub group_made : Bool
 
 abbrev pub views : List Entry → ℕ → ℕ → Act → Views
 views past p s a =
@@ -79,4 +90,9 @@ views past p s a =
       message = filter (is_about (message_of a)) past;
       port = filter (is_on (port_read_by a)) past;
       all = past;
+      group_made = finds_group a past;
     }
+
+-- what a decision on the message x for the port q reads at the place p
+abbrev pub views_about : List Entry → ℕ → MsgId → Ui → Views
+views_about past p x q = views past p 0 (Gone x q)

@@ -11,7 +11,8 @@
 //! and is then that world; else it names the rule and changes nothing.
 //!
 //! Begin with `world`. The other modules compute the terms of the definitions from the entries, one module for each
-//! subject, and each function says exactly which term it gives. They go over all entries each time.
+//! subject, and each function says exactly which term it gives. They go over all entries each time. [`Progress`], [`Due`],
+//! [`Sent`], [`Location`] and [`TakenReply`] are here for the definitions, which name them.
 #![tactic(auto)]
 
 mod client;
@@ -31,5 +32,8 @@ mod view;
 mod world;
 
 pub use fault::WorldFault;
+pub use message::Progress;
+pub use place::{Location, Sent, TakenReply};
 pub use port::{PortFate, Spot};
+pub use step::Due;
 pub use world::World;

@@ -11,7 +11,7 @@ use chorus_ui::Ui;
 
 /// How far a message is on its way.
 #[derive(Clone, Copy, Debug)]
-pub(crate) enum Progress {
+pub enum Progress {
     /// It waits where it was sent from, or it is not sent.
     Idle,
     /// It was posted to a group at the place `from`, and no member is chosen.

@@ -2,7 +2,8 @@
 
 ghost use Rattle.std.specs.Prelude.{◌≡◌, ◌≤◌, ◌<◌, Some, IfOk, OnOk, OnErr, length};
 ghost use Rattle.std.specs.Option.{option_copied};
-ghost use Rattle.chorus_world.specs.Ports.{new_port, arrived, changed, TakeFits, last_of, is_held, is_moving, is_ended, is_made, is_held_at, is_ended_at, is_coming, is_next_hop, waiting, has_room, is_full, is_first_waiting, is_empty, are_waiting};
+ghost use Rattle.chorus_world.specs.Computing.{TakeFits};
+ghost use Rattle.chorus_world.specs.Ports.{new_port, arrived, changed, last_of, is_held, is_moving, is_ended, is_made, is_held_at, is_ended_at, is_coming, is_next_hop, waiting, has_room, is_full, is_first_waiting, is_empty, are_waiting};
 
 use chorus_entry::{Act, MsgId};
 use chorus_ui::Ui;
@@ -231,7 +232,7 @@ pub(crate) fn is_first_waiting(port: Option<&PortFate>, pos: u64, id: MsgId) -> 
         Some(fate) => {
             pos == fate.taken()
                 && match fate.accepted().get(pos as usize) {
-                    Some(first) => *first == id,
+                    Some(first) => id == *first,
                     None => false,
                 }
         }

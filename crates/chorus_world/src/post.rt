@@ -2,7 +2,8 @@
 
 ghost use Rattle.std.specs.Prelude.{◌≡◌, reverse};
 ghost use Rattle.chorus_entry.specs.Dest.{site_in, group_in};
-ghost use Rattle.chorus_world.specs.Posts.{posted_by, post_of, in_brief, tag_of, site_asked};
+ghost use Rattle.chorus_world.specs.Computing.{in_brief};
+ghost use Rattle.chorus_world.specs.Posts.{posted_by, post_of, tag_of, site_asked};
 
 use chorus_entry::{Act, Dest, Entry, MsgId, Tag};
 use chorus_ui::Ui;

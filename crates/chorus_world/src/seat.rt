@@ -2,19 +2,12 @@
 
 ghost use Rattle.std.specs.Prelude.{◌≡◌, ◌≤◌, Some, reverse, length};
 ghost use Rattle.chorus_world.specs.Views.{by, are_same};
-ghost use Rattle.chorus_world.specs.Seats.{posts, stays_at, posts_stay, number_in, requests, call_with, ended, call_after, call, same_call, call_in, call_by, compared, first_call, hand_with, hand_without, hand_after, hand};
+ghost use Rattle.chorus_world.specs.Computing.{compared};
+ghost use Rattle.chorus_world.specs.Seats.{posts, stays_at, posts_stay, number_in, requests, call_with, ended, call_after, call, same_call, call_in, call_by, first_call, hand_with, hand_without, hand_after, hand};
 
 use crate::post::tag_of;
-use chorus_entry::{Act, Dest, Entry, Message, Tag};
+use chorus_entry::{Act, Dest, Entry, Hand, Message, Tag};
 use chorus_ui::Ui;
-
-/// A request in the hand of the caller that took it: its client and number, and the port of the reply.
-#[derive(Clone, Copy, Debug)]
-pub(crate) struct Hand {
-    pub client: u32,
-    pub number: u32,
-    pub back: Ui,
-}
 
 /// How many messages the caller posted.
 pub(crate) fn posts(entries: &[Entry], seat: u32) -> usize

@@ -3,9 +3,9 @@
 ghost use Rattle.std.specs.Prelude.{◌≡◌, ◌≤◌, ◌<◌, ◌∷◌, [], Some, None, cond, true, OnOk, OnErr, IfSome, IfNone, length, slice_get};
 ghost use Rattle.std.specs.Option.{option_copied};
 ghost use Rattle.chorus_ui.specs.declared.ui.Ui.{Ui};
-ghost use Rattle.chorus_world.specs.Ports.{Fate, TakeFits, changed, fate_after};
+ghost use Rattle.chorus_world.specs.Ports.{Fate, changed, fate_after};
 ghost use Rattle.chorus_world.specs.Views.{is_on};
-ghost use Rattle.chorus_world.specs.Table.{row_of, fate_in};
+ghost use Rattle.chorus_world.specs.Computing.{TakeFits, row_of, fate_in};
 ghost use Rattle.chorus_entry.specs.Act.{held_port_of};
 ghost use Rattle.chorus_ui.specs.Name.{same_ui};
 ghost use Rattle.std.specs.Option.{option_map};

@@ -5,8 +5,8 @@ ghost use Rattle.std.specs.Option.{option_copied};
 ghost use Rattle.chorus_world.specs.Messages.{verdict};
 ghost use Rattle.chorus_world.specs.Ports.{fate};
 ghost use Rattle.chorus_world.specs.Refusals.{IsRefusal};
-ghost use Rattle.chorus_world.specs.Steps.{opening, is_timely, act_follows, may, next};
-ghost use Rattle.chorus_world.specs.Views.{on};
+ghost use Rattle.chorus_world.specs.Steps.{opening, is_timely, act_follows, may, is_legal, next};
+ghost use Rattle.chorus_world.specs.Views.{on, views};
 
 mod acts;
 mod groups;
@@ -18,7 +18,7 @@ use crate::fault::WorldFault;
 use crate::message::verdict_of;
 use crate::place::{just_taken, last_clock};
 use crate::port::PortFate;
-use crate::rule::{has_kinds, number_of};
+use crate::rule::{act_number, has_kinds};
 use crate::table::{NamedPort, fate_in, follow};
 use chorus_entry::{Act, Answer, Entry, MsgId};
 use chorus_ui::{Layout, Ui};
@@ -34,18 +34,18 @@ pub struct World {
 }
 
 impl Model for World {
-    ghost use Rattle.std.specs.Prelude.{◌≡◌, reverse};
+    ghost use Rattle.std.specs.Prelude.{◌≡◌, reverse, true};
     ghost use Rattle.chorus_ui.specs.declared.ui.Ui.{Ui};
     ghost use Rattle.chorus_world.specs.Ports.{fate};
-    ghost use Rattle.chorus_world.specs.Steps.{State};
-    ghost use Rattle.chorus_world.specs.Table.{fate_in};
+    ghost use Rattle.chorus_world.specs.Steps.{State, is_legal};
+    ghost use Rattle.chorus_world.specs.Computing.{fate_in};
     ghost use Rattle.chorus_world.specs.Views.{on};
 
     ghost Value = { State };
 
     ghost view = { λ w. record { layout = w.layout; past = reverse w.entries.items } };
 
-    ghost invariant = { λ w. (q : Ui) → fate_in q w.ports.items ≡ fate (on q (reverse w.entries.items)) };
+    ghost invariant = { λ w. ((q : Ui) → fate_in q w.ports.items ≡ fate (on q (reverse w.entries.items))) × (is_legal w.layout (reverse w.entries.items) ≡ true) };
 }
 
 impl World {
@@ -62,21 +62,23 @@ impl World {
 
     /// What became of the port. None exactly where it is not made. Takes no memory.
     pub fn port(&self, ui: Ui) -> Option<&PortFate>
-        ensures { option_copied result ≡ fate (on ui self.now.past) }
+        ensures value { option_copied result ≡ fate (on ui self.now.past) }
+        ensures legal { is_legal self.now.layout self.now.past ≡ true }
     {
         fate_in(self.ports.as_slice(), ui)
     }
 
     /// The answer of the verdict of the message. None exactly where there is no verdict of it. Takes no memory.
     pub fn verdict(&self, id: MsgId) -> Option<Answer>
-        ensures { result ≡ verdict id self.now.past }
+        ensures value { result ≡ verdict id self.now.past }
+        ensures legal { is_legal self.now.layout self.now.past ≡ true }
     {
         verdict_of(self.entries.as_slice(), id)
     }
 
     /// Whether the entry's place is one of the layout, and its clock above the last clock there.
     fn is_timely(&self, entry: &Entry) -> bool
-        ensures { result ≡ is_timely self.now.layout self.now.past entry.now }
+        ensures { result ≡ is_timely self.now.layout (views self.now.past entry.now.place entry.now.seat entry.now.act) entry.now }
     {
         self.layout.has_place(entry.place)
             && last_clock(self.entries.as_slice(), entry.place) < entry.clock
@@ -84,7 +86,7 @@ impl World {
 
     /// Whether the act may come next.
     fn act_follows(&self, entry: &Entry) -> Result<bool, AllocError>
-        ensures { IfOk result (λ b. b ≡ act_follows self.now.layout self.now.past entry.now.place entry.now.seat entry.now.act) }
+        ensures { IfOk result (λ b. b ≡ act_follows self.now.layout (views self.now.past entry.now.place entry.now.seat entry.now.act) entry.now.place entry.now.seat entry.now.act) }
     {
         let closes = matches!(entry.act, Act::Done { .. } | Act::Late { .. });
         let owed = just_taken(self.entries.as_slice(), entry.place).is_some();
@@ -123,7 +125,7 @@ impl World {
             Ok(true) => {}
             Ok(false) => {
                 return Err(WorldFault::NotLegal {
-                    rule: number_of(&entry.act),
+                    rule: act_number(&entry.act),
                 });
             }
             Err(fault) => return Err(WorldFault::Memory(fault)),

@@ -17,7 +17,7 @@ const GROUPS_PER_SITE: usize = 4;
 
 impl World {
     /// Whether the place is the group's.
-    fn is_group_place(&self, place: u16, group: Ui) -> bool
+    pub(super) fn is_group_place(&self, place: u16, group: Ui) -> bool
         ensures { result ≡ is_group_place self.now.layout group place }
     {
         self.layout.has_site(group.site()) && self.layout.first_place(group.site()) == place

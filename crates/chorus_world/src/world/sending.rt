@@ -6,7 +6,7 @@ ghost use Rattle.chorus_entry.specs.declared.act.Act.TheVariants as Act;
 ghost use Rattle.chorus_world.specs.Posts.{is_on_site, post_of};
 ghost use Rattle.chorus_world.specs.Steps.{is_beyond, is_to_go, suits, due_at_home, due, is_due, meets, may_enter, is_early, is_elsewhere, may_choose_from, choice_from, is_asked_from, act_may};
 ghost use Rattle.chorus_world.specs.Places.{located, is_location};
-ghost use Rattle.chorus_world.specs.Views.{views, at};
+ghost use Rattle.chorus_world.specs.Views.{views, views_about, at};
 ghost use Rattle.chorus_ui.specs.Layout.{group_place};
 ghost use Rattle.chorus_entry.specs.declared.id.MsgId.{MsgId};
 
@@ -27,7 +27,7 @@ impl World {
     fn is_beyond(&self, ui: Ui) -> bool
         ensures { result ≡ is_beyond self.now.layout ui }
     {
-        self.layout.sites() < ui.site()
+        !self.layout.has_site(ui.site())
     }
 
     /// Whether the place is on the site, where one is asked for.
@@ -42,14 +42,14 @@ impl World {
 
     /// Whether the place is on the site that the message asks for, where it asks for one.
     fn suits(&self, place: u16, id: MsgId, port: Ui) -> bool
-        ensures { result ≡ suits self.now.layout (views self.now.past place 0 (Act.Gone id port)) place id }
+        ensures { result ≡ suits self.now.layout (views_about self.now.past place id port) place id }
     {
         self.is_on_site(site_asked(self.entries.as_slice(), id), place)
     }
 
     /// Whether the message is to be tried from the place, and its port is located at `to`.
     fn is_to_go(&self, place: u16, id: MsgId, port: Ui, to: u16) -> bool
-        ensures { result ≡ is_to_go self.now.layout (views self.now.past place 0 (Act.Gone id port)) id port to }
+        ensures { result ≡ is_to_go self.now.layout (views_about self.now.past place id port) id port to }
     {
         is_first(self.entries.as_slice(), place, id, port)
             && !self.is_beyond(port)
@@ -58,7 +58,7 @@ impl World {
 
     /// How the message is due at the place where it waits.
     fn due_at_home(&self, place: u16, id: MsgId, port: Ui) -> Due
-        ensures { result ≡ due_at_home self.now.layout (views self.now.past place 0 (Act.Gone id port)) place id port }
+        ensures { result ≡ due_at_home self.now.layout (views_about self.now.past place id port) place id port }
     {
         if self.is_to_go(place, id, port, place) && self.suits(place, id, port) {
             let hop = located(self.layout, self.entries.as_slice(), place, port).hop;
@@ -70,7 +70,7 @@ impl World {
 
     /// How the message is due at the place.
     fn due(&self, place: u16, id: MsgId, port: Ui) -> Due
-        ensures { result ≡ due self.now.layout (views self.now.past place 0 (Act.Gone id port)) place id port }
+        ensures { result ≡ due self.now.layout (views_about self.now.past place id port) place id port }
     {
         let progress = progress_of(self.entries.as_slice(), id);
         match &progress {
@@ -86,7 +86,7 @@ impl World {
 
     /// Whether the message is due at the place.
     fn is_due(&self, place: u16, id: MsgId, port: Ui) -> bool
-        ensures { result ≡ is_due (due self.now.layout (views self.now.past place 0 (Act.Gone id port)) place id port) }
+        ensures { result ≡ is_due (due self.now.layout (views_about self.now.past place id port) place id port) }
     {
         match self.due(place, id, port) {
             Due::NotDue => false,
@@ -96,14 +96,14 @@ impl World {
 
     /// Whether the message is due at the place, and its port is held there.
     fn meets(&self, place: u16, id: MsgId, port: Ui) -> bool
-        ensures { result ≡ meets self.now.layout (views self.now.past place 0 (Act.Gone id port)) place id port }
+        ensures { result ≡ meets self.now.layout (views_about self.now.past place id port) place id port }
     {
         self.is_due(place, id, port) && is_held_at(self.port(port), place)
     }
 
     /// Whether the message meets its port there, suits the site, and neither Already nor ClientsFull answers it.
     fn may_enter(&self, place: u16, id: MsgId, port: Ui) -> bool
-        ensures { result ≡ may_enter self.now.layout (views self.now.past place 0 (Act.Gone id port)) place id port }
+        ensures { result ≡ may_enter self.now.layout (views_about self.now.past place id port) place id port }
     {
         self.meets(place, id, port)
             && self.suits(place, id, port)
@@ -190,7 +190,7 @@ impl World {
 
     /// Whether the place where the message waits, or was tried, finds the port elsewhere than on the site asked for.
     fn is_elsewhere(&self, place: u16, id: MsgId, port: Ui, to: u16, hop: u64) -> bool
-        ensures { result ≡ is_elsewhere self.now.layout (views self.now.past place 0 (Act.Gone id port)) place id port to hop }
+        ensures { result ≡ is_elsewhere self.now.layout (views_about self.now.past place id port) place id port to hop }
     {
         let off_site = !self.is_on_site(site_asked(self.entries.as_slice(), id), to);
         if off_site && self.is_to_go(place, id, port, to) {
@@ -253,7 +253,7 @@ impl World {
                 named
                     && self.choosing_place(group, *from) == place
                     && match first_unchosen(self.entries.as_slice(), place, *from, group) {
-                        Some(next) => next == id,
+                        Some(next) => id == next,
                         None => false,
                     }
             }
@@ -265,10 +265,10 @@ impl World {
     fn choosing_place(&self, group: Ui, from: u16) -> u16
         ensures { result ≡ unwrap_or (group_place self.now.layout group) from }
     {
-        if self.is_beyond(group) {
-            from
-        } else {
+        if self.layout.has_site(group.site()) {
             self.layout.first_place(group.site())
+        } else {
+            from
         }
     }
 
@@ -325,7 +325,7 @@ impl World {
                 post.place == place
                     && match group_in(post.dest) {
                         Some(group) => {
-                            !self.is_beyond(group) && self.layout.first_place(group.site()) != place
+                            self.layout.has_site(group.site()) && !self.is_group_place(place, group)
                         }
                         None => false,
                     }

@@ -1,6 +1,5 @@
 use Rattle.std.proofs.Common.{◌≡◌, take, reverse}
-use Rattle.chorus_world.specs.Views.{at}
-use Rattle.chorus_world.specs.Groups.{is_group}
+use Rattle.chorus_world.specs.Views.{at, is_group}
 use Rattle.chorus_world.proofs.group.is_group_here.Given as goal
 
 abbrev pub invariant-loop-entry : goal.invariant-loop-entry

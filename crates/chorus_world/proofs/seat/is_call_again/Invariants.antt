@@ -1,6 +1,7 @@
 use Rattle.std.proofs.Common.{◌≡◌, take, reverse}
 use Rattle.chorus_world.specs.Views.{by}
-use Rattle.chorus_world.specs.Seats.{compared, first_call, call_in}
+use Rattle.chorus_world.specs.Seats.{first_call, call_in}
+use Rattle.chorus_world.specs.Computing.{compared}
 use Rattle.chorus_world.proofs.seat.is_call_again.Given as goal
 
 abbrev pub invariant-loop-entry : goal.invariant-loop-entry

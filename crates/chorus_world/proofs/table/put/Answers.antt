@@ -1,5 +1,5 @@
 use Rattle.std.proofs.Common.{◌≡◌, ◌<◌, ◌≤◌, ◌∙◌, ap, arith, length}
-use Rattle.chorus_world.specs.Table.{row_of, fate_in}
+use Rattle.chorus_world.specs.Computing.{row_of, fate_in}
 use Rattle.chorus_world.proofs.TableLemmas.{put_at, row_push, row_none}
 use Rattle.chorus_world.proofs.table.put.Goals as goal
 

@@ -1,5 +1,5 @@
 use Rattle.std.proofs.Common.{◌≡◌, ◌+◌, drop}
-use Rattle.chorus_world.specs.Table.{row_of}
+use Rattle.chorus_world.specs.Computing.{row_of}
 use Rattle.chorus_world.proofs.table.row_of.Given as goal
 
 abbrev pub invariant-loop-i : goal.invariant-loop-i
