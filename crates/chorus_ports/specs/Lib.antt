@@ -1,0 +1,5 @@
+pub mod Deciding
+pub mod Limits
+pub mod Rows
+pub mod Table
+pub mod Taking

@@ -1,0 +1,173 @@
+//! The table of the ports that a place holds.
+
+ghost use Rattle.std.specs.Prelude.{◌≡◌, ◌==◌, ◌+◌, ◌-◌, ◌^◌, ◌<◌, ◌≤◌, true, drop, length, slice_get, IsSome, IsNone, IfSome, IfOk, OnOk, OnErr, MatchOption};
+ghost use Rattle.std.specs.Option.{option_copied};
+ghost use Rattle.chorus_entry.specs.PortRecord.{new_record};
+ghost use Rattle.chorus_entry.specs.declared.record.pending.TheConstants.{PENDING_LIMIT};
+ghost use Rattle.chorus_ports.specs.Table.{empty_table, find, replace, without, are_distinct, added};
+ghost use Rattle.chorus_ports.specs.Limits.{IsWithinLimits, AreWithinLimits};
+ghost use Rattle.chorus_ports.specs.Deciding.{answer_to, after_offer};
+ghost use Rattle.chorus_ports.specs.Taking.{taken, after_take, rehomed};
+
+use crate::deciding::{Accept, offer};
+use crate::row::row_of;
+use crate::taking::{Taken, take};
+use chorus_entry::{Message, PortRecord};
+use chorus_ui::Ui;
+use std::alloc::{AllocError, Global};
+use std::marker::Model;
+
+/// The records of the ports that a place holds, in table order: a port that is made or arrives is the last, and one that
+/// departs leaves no gap. Its room is that of `with_room`; a record that leaves gives its room back.
+///
+/// A place holds at most 32 ports of its own making and those that came to it, so a port is found by going over the records.
+#[derive(Debug, Drop)]
+pub struct Ports {
+    records: Vec<PortRecord>,
+    most: u16,
+}
+
+impl Model for Ports {
+    ghost use Rattle.std.specs.Prelude.{◌-◌, length, vec_capacity};
+    ghost use Rattle.chorus_ports.specs.Table.{Table};
+    ghost use Rattle.chorus_ports.specs.Limits.{IsTable};
+
+    ghost Value = { Table };
+
+    ghost view = { λ ports. record { records = ports.records.items; spare = ports.most - length ports.records.items } };
+
+    ghost invariant = { λ ports. IsTable ports.records.items ports.most (vec_capacity ports.records) };
+}
+
+impl Ports {
+    /// No port, and room for `most`.
+    pub fn with_room(alloc: Global, most: u16) -> Result<Ports, AllocError>
+        ensures { IfOk result (λ ports. ports ≡ empty_table most) }
+    {
+        let records = Vec::with_capacity(alloc, usize::from(most))?;
+        Ok(Ports { records, most })
+    }
+
+    /// How many ports are held.
+    pub fn len(&self) -> u16
+        ensures len { result ≡ length self.now.records }
+        // Each port has one record, which keeps its limits.
+        ensures distinct { are_distinct self.now.records ≡ true }
+        ensures limits { AreWithinLimits self.now.records }
+    {
+        self.records.len() as u16
+    }
+
+    /// Whether none is.
+    pub fn is_empty(&self) -> bool
+        ensures { result ≡ (length self.now.records == 0) }
+    {
+        self.records.is_empty()
+    }
+
+    /// How many records still fit.
+    pub fn spare(&self) -> u16
+        ensures { result ≡ self.now.spare }
+    {
+        self.most - self.len()
+    }
+
+    /// The record of the port; None exactly where it is not held.
+    pub fn get(&self, ui: Ui) -> Option<&PortRecord>
+        ensures value { option_copied result ≡ find ui self.now.records }
+        ensures limits { IfSome (find ui self.now.records) IsWithinLimits }
+    {
+        let row = row_of(&self.records, ui);
+        self.records.get(row)
+    }
+
+    /// Makes the port, with its actor and its capacity: it is the last, and nothing waits in it. This takes the room of its
+    /// messages and of 64 clients. An error leaves the table as it was.
+    pub fn make(&mut self, ui: Ui, actor: Ui, capacity: u8) -> Result<(), AllocError>
+        requires not_held { IsNone (find ui self.old.records) }
+        requires least { 1 ≤ capacity }
+        requires most { capacity ≤ PENDING_LIMIT }
+        requires room { 0 < self.old.spare }
+        ensures ok { OnOk result (self.new ≡ added self.old (new_record ui actor capacity)) }
+        ensures err { OnErr result (self.new ≡ self.old) }
+    {
+        let alloc = *self.records.allocator();
+        let port = PortRecord::with_room(alloc, ui, actor, capacity)?;
+        self.arrive(port);
+        Ok(())
+    }
+
+    /// Decides on a message at a port that is held. The answer is the first of these that holds: `Already`, `ClientsFull`,
+    /// `Full`, and else `Accepted` behind those that wait. A request that is accepted has its client remembered: a new one
+    /// last, a known one with the new number. A refusal changes nothing and hands the message back. Takes no memory.
+    pub fn accept(&mut self, ui: Ui, message: Message) -> Accept
+        requires held { IsSome (find ui self.old.records) }
+        requires positions { IfSome (find ui self.old.records) (λ port. port.first + length port.pending < 2 ^ 64 - 1) }
+        ensures answer { IfSome (find ui self.old.records) (λ port. result ≡ answer_to message port) }
+        ensures after { self.new ≡ record self.old { records = replace ui (after_offer message) self.old.records } }
+    {
+        let row = row_of(&self.records, ui);
+        offer(&mut self.records[row], message)
+    }
+
+    /// Takes the first message that waits in the port. `NotHere` exactly where the port is not held here or by another actor;
+    /// else `Empty` exactly where nothing waits. Both change nothing. Takes no memory.
+    pub fn take(&mut self, ui: Ui, actor: Ui) -> Taken
+        ensures value { result ≡ taken actor (find ui self.old.records) }
+        ensures after { self.new ≡ record self.old { records = replace ui (after_take actor) self.old.records } }
+    {
+        let row = row_of(&self.records, ui);
+        if row == self.records.len() {
+            return Taken::NotHere;
+        }
+        take(&mut self.records[row], actor)
+    }
+
+    /// Gives the port, which is held, to another actor, and changes nothing else. Takes no memory.
+    pub fn rehome(&mut self, ui: Ui, actor: Ui)
+        requires { IsSome (find ui self.old.records) }
+        ensures { self.new ≡ record self.old { records = replace ui (rehomed actor) self.old.records } }
+    {
+        let row = row_of(&self.records, ui);
+        let port = &mut self.records[row];
+        port.actor = actor;
+    }
+
+    /// Hands out the very record of the port and closes the gap; None exactly where it is not held, and then nothing changes.
+    /// Takes no memory.
+    pub fn depart(&mut self, ui: Ui) -> Option<PortRecord>
+        ensures value { result ≡ find ui self.old.records }
+        ensures limits { IfSome result IsWithinLimits }
+        ensures records { self.new.records ≡ without ui self.old.records }
+        ensures spare { MatchOption result (self.new.spare ≡ self.old.spare) (λ _. self.new.spare ≡ self.old.spare + 1) }
+    {
+        let row = row_of(&self.records, ui);
+        if row == self.records.len() {
+            return None;
+        }
+        Some(self.records.remove(row))
+    }
+
+    /// Puts the very record of a port that is not held last. Takes no memory.
+    pub fn arrive(&mut self, port: PortRecord)
+        requires not_held { IsNone (find port.ui self.old.records) }
+        requires room { 0 < self.old.spare }
+        requires limits { IsWithinLimits port }
+        ensures { self.new ≡ added self.old port }
+    {
+        self.records.push_reserved(port);
+    }
+
+    /// Takes the first record out; None exactly where there is none, and then nothing changes. Takes no memory.
+    pub fn pop(&mut self) -> Option<PortRecord>
+        ensures first { result ≡ slice_get self.old.records 0 }
+        ensures limits { IfSome result IsWithinLimits }
+        ensures rest { self.new.records ≡ drop 1 self.old.records }
+        ensures spare { MatchOption result (self.new.spare ≡ self.old.spare) (λ _. self.new.spare ≡ self.old.spare + 1) }
+    {
+        if self.records.is_empty() {
+            return None;
+        }
+        Some(self.records.remove(0))
+    }
+}
