@@ -140,7 +140,7 @@ each_append test (c ∷ cs) b h k =
     let r = each_append test cs b p.1 k in
     rw (p.0, r) refl
 
-and_join : (a b : Bool) → a ≡ true → b ≡ true → (a && b) ≡ true
+pub and_join : (a b : Bool) → a ≡ true → b ≡ true → (a && b) ≡ true
 and_join true b h k = k
 and_join false b h k = h
 
@@ -212,11 +212,11 @@ shape_three version (y ∷ ys) (z ∷ zs) t [] e h = absurd cc
 shape_three version (y ∷ ys) (z ∷ zs) t (x ∷ xs) e h = rw h refl
 
 -- numbers within their limits
-or_second : (a b : Bool) → (a || b) ≡ false → b ≡ false
+pub or_second : (a b : Bool) → (a || b) ≡ false → b ≡ false
 or_second false b h = h
 or_second true b h = absurd cc
 
-or_first : (a b : Bool) → (a || b) ≡ false → a ≡ false
+pub or_first : (a b : Bool) → (a || b) ≡ false → a ≡ false
 or_first false b h = refl
 or_first true b h = absurd cc
 

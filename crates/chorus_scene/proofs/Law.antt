@@ -24,13 +24,14 @@ use Rattle.chorus_scene.specs.Scene.{Scene}
 use Rattle.chorus_scene.specs.Making.{next_port, next_group}
 use Rattle.chorus_scene.specs.Line.{Line, Version, Count, MakePort, MakeGroup, Enlist, Begin, Do, Steps, Go, Ends, name_in, command_of, word_of, line_of, cuts, may_stand, wants, has_body, field}
 use Rattle.chorus_ui.specs.declared.kind.Kind.TheVariants as kinds
-use Rattle.chorus_scene.specs.Judge.{State, opening, made, or_at, judge, read_scene, is_ended, judge_fields, judge_line, judge_head, judge_word, unless, is_head, next, then_after, after, with_command, last_script, is_beyond, names_unknown, repeats, is_not_given, is_unscheduled}
+use Rattle.chorus_scene.specs.Judge.{State, opening, made, or_at, judge, read_scene, is_ended, judge_fields, judge_line, judge_head, judge_word, unless, is_head, next, then_after, after, with_command, last_script, is_not_given}
 use Rattle.chorus_scene.specs.Laws.{Pass}
 use Rattle.chorus_scene.specs.Print.{behind, text_of, texts_in, joined, printed, PrintedAgain}
 use Rattle.chorus_scene.proofs.Spelled.{lacks, both, marked, uncut, cut_join, cut_all, cut_lacks, behind_fields, is_line, are_lines, lines_joined, total, total-append, total_lines, length_joined}
 use Rattle.chorus_scene.proofs.Reprint.{last_reprinted, swap}
 use Rattle.chorus_scene.proofs.Words.{word_text, word_spelled, word_some}
 use Rattle.chorus_scene.proofs.Again.{Passes, Again, as_printed, again, len, each_append, each_parts, inv_known, inv_unless, inv_map, inv_two, inv_three, inv_fields, fields_again}
+use Rattle.chorus_scene.proofs.Fits.{Tested, clear, not_so}
 use Rattle.chorus_scene.proofs.Next.{next_is}
 use Rattle.chorus_scene.proofs.Order.{accepted}
 use Rattle.chorus_scene.proofs.Sofar.{Follows, grows}
@@ -78,25 +79,10 @@ TidyIn sections.Ended c = Unit {0}
 abbrev pub Tidy : State → Type 0
 Tidy s = TidyIn s.section s.scene
 
-tidy_at : (sec : Section) (s : State) → s.section ≡ sec → Tidy s → TidyIn sec s.scene
+pub tidy_at : (sec : Section) (s : State) → s.section ≡ sec → Tidy s → TidyIn sec s.scene
 tidy_at sec s e t = rw e at t
 
-not_so : (b : Bool) → not b ≡ false → b ≡ true
-not_so true h = refl
-not_so false h = absurd cc
-
-given_so : (c : Scene) (x : Line) → judge_line c x ≡ Ok x → is_not_given c x ≡ false
-given_so c x judged =
-    let r4 : Result Line Reason = unless (is_unscheduled c x) reasons.Schedule (Ok x) in
-    let r3 : Result Line Reason = unless (is_not_given c x) reasons.Order r4 in
-    let r2 : Result Line Reason = unless (repeats c x) reasons.Twice r3 in
-    let r1 : Result Line Reason = unless (names_unknown c x) reasons.Unknown r2 in
-    let h0 = inv_unless (is_beyond c x) reasons.Limit r1 x judged in
-    let h1 = inv_unless (names_unknown c x) reasons.Unknown r2 x h0.1 in
-    let h2 = inv_unless (repeats c x) reasons.Twice r3 x h1.1 in
-    (inv_unless (is_not_given c x) reasons.Order r4 x h2.1).0
-
-early_steps : (s : State) → (s.section ≡ sections.Setup) ⊎ (s.section ≡ sections.Scripts) → Tidy s → s.scene.schedule ≡ []
+pub early_steps : (s : State) → (s.section ≡ sections.Setup) ⊎ (s.section ≡ sections.Scripts) → Tidy s → s.scene.schedule ≡ []
 early_steps s (inl e) t = (tidy_at sections.Setup s e t).1
 early_steps s (inr e) t = (tidy_at sections.Scripts s e t).1
 
@@ -122,12 +108,12 @@ module _ (s : State) (t : Tidy s) (fs : List (List ℕ)) (x : Line) (judged : ju
   stays_by words.Port e h =
       let k = tidy_at sections.Setup s e t in
       let p = inv_three MakePort (name_in kinds.Port (field 0 fs)) (name_in kinds.Actor (field 1 fs)) (number_in (field 2 fs)) x h in
-      let given = not_so (same_ui p.0 (next_port s.scene.layout p.1 (made s.scene))) (ap (is_not_given s.scene) p.6 ∙ given_so s.scene x judged) in
+      let given = not_so (same_ui p.0 (next_port s.scene.layout p.1 (made s.scene))) (ap (is_not_given s.scene) p.6 ∙ (clear s.scene x judged).order) in
       subst (Stays s) p.6 ((e, k.0, from_same_ui p.0 (next_port s.scene.layout p.1 (made s.scene)) given), (k.0, k.1))
   stays_by words.Group e h =
       let k = tidy_at sections.Setup s e t in
       let p = inv_map MakeGroup (name_in kinds.Group (field 0 fs)) x h in
-      let given = not_so (same_ui p.0 (next_group s.scene.layout p.0.site (made s.scene))) (ap (is_not_given s.scene) p.2 ∙ given_so s.scene x judged) in
+      let given = not_so (same_ui p.0 (next_group s.scene.layout p.0.site (made s.scene))) (ap (is_not_given s.scene) p.2 ∙ (clear s.scene x judged).order) in
       subst (Stays s) p.2 ((e, k.0, from_same_ui p.0 (next_group s.scene.layout p.0.site (made s.scene)) given), (k.0, k.1))
   stays_by words.Member e h =
       let k = tidy_at sections.Setup s e t in
@@ -171,6 +157,7 @@ pub record Said (s : State) (bytes : List ℕ) (u : State) : Type 0 where
   pub is_one : is_line (text_of line) ≡ true
   pub short : length (text_of line) ≤ length bytes
   pub so : u ≡ after s line
+  pub tested : Tested s.scene line
 
 inv_then : (s : State) (r : Result Line Reason) (u : State) → then_after s r ≡ Ok u → (x : Line) × (r ≡ Ok x) × (u ≡ after s x)
 inv_then s (Ok x) u h = (x, refl, cc)
@@ -202,24 +189,25 @@ two_line : is_line (codes "chorus 2") ≡ true
 unfolding each_byte
 two_line = refl
 
-head_said : (s u : State) (v : ℕ) (bytes : List ℕ) → s.section ≡ sections.Head → Tidy s → text_of (Version v) ≡ bytes → next s bytes ≡ Ok (after s (Version v)) → is_line bytes ≡ true → u ≡ after s (Version v) → Said s bytes u
-head_said s u v bytes e t text again one so = record {
+head_said : (s u : State) (v : ℕ) (bytes : List ℕ) → s.section ≡ sections.Head → Tidy s → text_of (Version v) ≡ bytes → next s bytes ≡ Ok (after s (Version v)) → is_line bytes ≡ true → u ≡ after s (Version v) → 1 ≤ v → v ≤ 2 → Said s bytes u
+head_said s u v bytes e t text again one so from to = record {
   line = Version v;
   stays = head_stays s v e t;
   again = subst (λ xs. next s xs ≡ Ok (after s (Version v))) (sym text) again;
   is_one = subst (λ xs. is_line xs ≡ true) (sym text) one;
   short = subst (λ xs. length xs ≤ length bytes) (sym text) (omega arith);
   so = so;
+  tested = inl (v, refl, from, to);
 }
 
 head_by : (s u : State) (bytes : List ℕ) (x : Line) (a b : Bool) → (a ≡ true → bytes ≡ codes "chorus 1") → (b ≡ true → bytes ≡ codes "chorus 2") → s.section ≡ sections.Head → Tidy s
     → cond a (Ok (Version 1)) (cond b (Ok (Version 2)) (Err reasons.Header)) ≡ Ok x → u ≡ after s x → Said s bytes u
 head_by s u bytes x true b one two e t h so =
     let same : Version 1 ≡ x = cc in
-    subst (λ xs. Said s xs u) (sym (one refl)) (head_said s u 1 (codes "chorus 1") e t one_text (one_again s e) one_line (so ∙ ap (after s) (sym same)))
+    subst (λ xs. Said s xs u) (sym (one refl)) (head_said s u 1 (codes "chorus 1") e t one_text (one_again s e) one_line (so ∙ ap (after s) (sym same)) (omega arith) (omega arith))
 head_by s u bytes x false true one two e t h so =
     let same : Version 2 ≡ x = cc in
-    subst (λ xs. Said s xs u) (sym (two refl)) (head_said s u 2 (codes "chorus 2") e t two_text (two_again s e) two_line (so ∙ ap (after s) (sym same)))
+    subst (λ xs. Said s xs u) (sym (two refl)) (head_said s u 2 (codes "chorus 2") e t two_text (two_again s e) two_line (so ∙ ap (after s) (sym same)) (omega arith) (omega arith))
 head_by s u bytes x false false one two e t h so = absurd cc
 
 -- a line with a word
@@ -305,6 +293,7 @@ module _ (s u : State) (bytes word : List ℕ) (rest : Option (List ℕ)) (x : L
     is_one = subst (λ xs. is_line xs ≡ true) (sym text_is) (line_by (word ++ marked 32 found.0) kept_text plain_text);
     short = no_longer;
     so = so;
+    tested = inr (record { word = w; text = word; fields = fields (cuts w) rest; is = is; passes = p });
   }
 
 worded : (s u : State) (bytes : List ℕ) (x : Line) → (s.section ≡ sections.Head → ⊥) → Tidy s → each_byte is_plain bytes ≡ true → is_skipped bytes ≡ false → judge_word s (cut 32 bytes) ≡ Ok x → u ≡ after s x → Said s bytes u
@@ -333,7 +322,7 @@ bytes_said s u bytes x t plain kept (inr e) h so =
     let g : judge_word s (cut 32 bytes) ≡ Ok x = rw n at h in
     worded s u bytes x e.1 t plain kept g so
 
-line_said : (s u : State) (bytes : List ℕ) (k p : Bool) → is_skipped bytes ≡ k → is_text bytes ≡ p → Tidy s → next s bytes ≡ Ok u → (s ≡ u) ⊎ Said s bytes u
+pub line_said : (s u : State) (bytes : List ℕ) (k p : Bool) → is_skipped bytes ≡ k → is_text bytes ≡ p → Tidy s → next s bytes ≡ Ok u → (s ≡ u) ⊎ Said s bytes u
 unfolding next
 line_said s u bytes true true e f t h = let g : ◌≡◌ {A = Result State Reason} (Ok s) (Ok u) = rw (e, f) at h in inl cc
 line_said s u bytes true false e f t h = absurd (let g : ◌≡◌ {A = Result State Reason} (Err reasons.Text) (Ok u) = rw (e, f) at h in cc)
@@ -402,7 +391,7 @@ ended_or_not : (b : Bool) (d c : Scene) (f : ℕ × ℕ) → cond b (Ok d) (Err 
 ended_or_not true d c f h = (refl, cc)
 ended_or_not false d c f h = absurd cc
 
-inv_judge : (n : ℕ) (s : State) (lines : List (List ℕ)) (c : Scene) → judge n s lines ≡ Ok c → (t : State) × Pass s lines t × (is_ended t.section ≡ true) × (t.scene ≡ c)
+pub inv_judge : (n : ℕ) (s : State) (lines : List (List ℕ)) (c : Scene) → judge n s lines ≡ Ok c → (t : State) × Pass s lines t × (is_ended t.section ≡ true) × (t.scene ≡ c)
 unfolding judge
 inv_judge n s [] c h = let p = ended_or_not (is_ended s.section) s.scene c (n, 9) h in (s, refl, p.0, p.1)
 inv_judge n s (line ∷ lines) c h =
@@ -414,11 +403,11 @@ inv_read : (b : Bool) (r : Result Scene (ℕ × ℕ)) (c : Scene) → cond b (Er
 inv_read true r c h = absurd cc
 inv_read false r c h = (refl, h)
 
-inv_text : (l : Shape) (text : List ℕ) (c : Scene) → read_scene l text ≡ Ok c → (ltb 4194304 (length text) ≡ false) × (judge 1 (opening l) (lines text) ≡ Ok c)
+pub inv_text : (l : Shape) (text : List ℕ) (c : Scene) → read_scene l text ≡ Ok c → (ltb 4194304 (length text) ≡ false) × (judge 1 (opening l) (lines text) ≡ Ok c)
 unfolding read_scene
 inv_text l text c h = inv_read (ltb 4194304 (length text)) (judge 1 (opening l) (lines text)) c h
 
-section_ended : (s : Section) → is_ended s ≡ true → s ≡ sections.Ended
+pub section_ended : (s : Section) → is_ended s ≡ true → s ≡ sections.Ended
 section_ended sections.Ended h = refl
 section_ended _ h = absurd cc
 

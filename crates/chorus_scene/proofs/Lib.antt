@@ -12,6 +12,9 @@ pub mod Bodies
 pub mod Reprint
 pub mod Words
 pub mod Again
+pub mod Fits
 pub mod Sofar
 pub mod Law
+pub mod Keeping
+pub mod Kept
 pub mod PrintedLines

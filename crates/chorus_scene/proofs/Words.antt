@@ -1,6 +1,6 @@
 -- A word that was read is spelled in one way.
-use Rattle.std.proofs.Common.{◌≡◌, ℕ, ◌<◌, Bool, true, false, cond, List, length, Option, Some, None, option_map, refl, sym, ap, ◌∙◌, arith}
-use Rattle.std.specs.Prelude.{codes, ◌==◌}
+use Rattle.std.proofs.Common.{◌≡◌, ℕ, ◌<◌, Bool, true, false, cond, List, length, Option, Some, None, option_map, refl, sym, ap, ◌∙◌, arith, subst}
+use Rattle.std.specs.Prelude.{codes, ◌==◌, if◌then◌else◌}
 use Rattle.std.specs.Str.{bytes_eq}
 use Rattle.std.proofs.lemmas.Slice.Eq.{bytes_eq-Decides}
 use Rattle.chorus_scene.specs.declared.word.Target.TheVariants as targets
@@ -124,3 +124,14 @@ word_some words.Deliver = omega arith
 word_some words.Drain = omega arith
 word_some words.End = omega arith
 word_some (words.Command v) = verb_some v
+
+-- delete is a word of version 2 alone
+of_two : (b : Bool) → option_map words.Command (if b then Some verbs.Delete else None) ≡ Some (words.Command verbs.Delete) → b ≡ true
+of_two true h = refl
+of_two false h = absurd (let e : ◌≡◌ {A = Option Word} None (Some (words.Command verbs.Delete)) = h in cc)
+
+pub delete_is_of_two : (version : ℕ) (text : List ℕ) → word_of version text ≡ Some (words.Command verbs.Delete) → (version == 2) ≡ true
+unfolding word_of verb_of
+delete_is_of_two version text h =
+    let here : word_of version (codes "delete") ≡ Some (words.Command verbs.Delete) = subst (λ xs. word_of version xs ≡ Some (words.Command verbs.Delete)) (word_spelled version text (words.Command verbs.Delete) h) h in
+    of_two (version == 2) here

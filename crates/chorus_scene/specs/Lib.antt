@@ -4,6 +4,7 @@ pub mod Scene
 pub mod Making
 pub mod Line
 pub mod Judge
+pub mod Limits
 pub mod Laws
 pub mod Print
 pub mod Reader

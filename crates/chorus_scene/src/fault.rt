@@ -16,6 +16,9 @@ pub struct SceneFault {
     pub reason: u8,
 }
 
+/// The fault of a text of more than [`TEXT_LIMIT`](crate::TEXT_LIMIT) bytes: line 0, reason 6.
+pub const TOO_LONG: SceneFault = SceneFault { line: 0, reason: 6 };
+
 /// Why a text was not read. Nothing is left of what was read of it.
 #[derive(Debug, Drop)]
 pub enum ReadFault {

@@ -1,6 +1,7 @@
 //! What holds of every text.
 
 ghost use Rattle.chorus_scene.specs.Laws.{TooLong, FirstFault, NoEnd, Accepted};
+ghost use Rattle.chorus_scene.specs.Limits.{ReadKeeps};
 ghost use Rattle.chorus_scene.specs.Print.{PrintedAgain};
 
 /// The lines of a text are tested in order: the first line that fails a test is the line of the fault, with the reason of
@@ -17,4 +18,10 @@ pub fn lines_are_tested_in_order()
 /// makes no call.
 pub fn what_is_printed_is_read_again()
     ensures { PrintedAgain }
+{}
+
+/// A scenario that was read keeps all limits: of its version and sites, its setup, its scripts and its schedule. The law
+/// makes no call.
+pub fn a_scenario_keeps_its_limits()
+    ensures { ReadKeeps }
 {}

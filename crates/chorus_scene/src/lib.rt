@@ -26,8 +26,12 @@ mod text;
 mod word;
 
 pub use chorus_entry::Command;
-pub use fault::{ReadFault, SceneFault};
-pub use laws::{lines_are_tested_in_order, what_is_printed_is_read_again};
+pub use fault::{ReadFault, SceneFault, TOO_LONG};
+pub use laws::{
+    a_scenario_keeps_its_limits, lines_are_tested_in_order, what_is_printed_is_read_again,
+};
 pub use printing::print;
 pub use reading::{TEXT_LIMIT, read};
-pub use scenario::{Scenario, Script, SetupLine, Step};
+pub use scenario::{
+    COMMANDS_LIMIT, GROUPS_PER_SITE, SCRIPTS_LIMIT, STEPS_LIMIT, Scenario, Script, SetupLine, Step,
+};

@@ -5,6 +5,7 @@ ghost use Rattle.std.specs.Option.{option_copied};
 ghost use Rattle.chorus_scene.specs.Judge.{judge_head, opening, then_after, next, after, is_far, is_no_actor};
 ghost use Rattle.chorus_scene.specs.Line.{may_stand, name_in, Begin};
 ghost use Rattle.chorus_scene.specs.Print.{IsReadAgain};
+ghost use Rattle.chorus_scene.specs.Limits.{Keeps};
 ghost use Rattle.chorus_scene.specs.Reader.{Gives, Stands, IsMemory, read_with, state_of, scene_of};
 
 mod commands;
@@ -53,10 +54,11 @@ impl Reader {
         })
     }
 
-    /// What all lines have said, where it is read again from its text.
+    /// What all lines have said, where it is read again from its text and keeps the limits.
     pub(crate) fn finish(self) -> Scenario
         requires stands { Stands self }
         requires again { IsReadAgain (scene_of self) }
+        requires keeps { Keeps (scene_of self) }
         ensures { result ≡ scene_of self }
     {
         Scenario::of(

@@ -5,7 +5,7 @@ ghost use Rattle.chorus_scene.specs.Text.{lines};
 ghost use Rattle.chorus_scene.specs.Judge.{read_scene};
 ghost use Rattle.chorus_scene.specs.Reader.{Reads};
 
-use crate::fault::{ReadFault, SceneFault, fault_at, reason_number};
+use crate::fault::{ReadFault, SceneFault, TOO_LONG, fault_at, reason_number};
 use crate::reader::Reader;
 use crate::scenario::Scenario;
 use crate::text::cut;
@@ -19,16 +19,13 @@ pub const TEXT_LIMIT: usize = 4_194_304;
 /// Reads a scenario text, of either version, for a layout.
 ///
 /// Ok is the scenario that the text says. A text that says none is refused by its first line that fails a test, with the
-/// reason of the first test that it fails; what was read before it is dropped. Each body takes one allocation.
+/// reason of the first test that it fails; one that is too long is refused by [`TOO_LONG`]. What was read is dropped then.
 #[tactic(auto, unfolding(crate::specs::Judge::read_scene))]
 pub fn read(alloc: Global, text: &[u8], layout: Layout) -> Result<Scenario, ReadFault>
     ensures { Reads result (read_scene layout text.now) }
 {
     if text.len() > TEXT_LIMIT {
-        return Err(ReadFault::Scene(SceneFault {
-            line: 0,
-            reason: reason_number(Reason::Limit),
-        }));
+        return Err(ReadFault::Scene(TOO_LONG));
     }
     let mut reader = match Reader::start(alloc, layout) {
         Ok(reader) => reader,

@@ -1,12 +1,24 @@
 //! Scenarios: what a text says.
 
-ghost use Rattle.std.specs.Prelude.{◌≡◌, [], OnOk};
+ghost use Rattle.std.specs.Prelude.{◌≡◌, ◌≤◌, [], OnOk};
 
 use crate::setup::Setup;
 use chorus_entry::Command;
 use chorus_ui::{Layout, Ui};
 use std::alloc::{AllocError, Global};
 use std::marker::Model;
+
+/// The most scripts of a scenario.
+pub const SCRIPTS_LIMIT: usize = 16;
+
+/// The most commands of a script.
+pub const COMMANDS_LIMIT: usize = 4_096;
+
+/// The most steps of a schedule.
+pub const STEPS_LIMIT: usize = 131_072;
+
+/// The most groups that the setup makes on one site.
+pub const GROUPS_PER_SITE: u64 = 4;
 
 /// A line of the setup, performed by seat 0 before all scripts.
 #[derive(Clone, Copy, Debug)]
@@ -99,29 +111,34 @@ impl Model for Scenario {
     ghost use Rattle.chorus_scene.specs.Scene.{Scene};
     ghost use Rattle.chorus_scene.specs.Making.{names_said};
     ghost use Rattle.chorus_scene.specs.Print.{IsReadAgain};
+    ghost use Rattle.chorus_scene.specs.Limits.{Keeps};
 
     ghost Value = { Scene };
 
     ghost view = { λ s. record { layout = s.layout; version = s.version; sites = s.sites; setup = s.setup.items; scripts = s.scripts.items; schedule = s.schedule.items } };
 
-    ghost invariant = { λ s. (s.names.items ≡ names_said s.layout [] s.setup.items) × IsReadAgain (record { layout = s.layout; version = s.version; sites = s.sites; setup = s.setup.items; scripts = s.scripts.items; schedule = s.schedule.items }) };
+    ghost invariant = { λ s. (s.names.items ≡ names_said s.layout [] s.setup.items) × IsReadAgain (record { layout = s.layout; version = s.version; sites = s.sites; setup = s.setup.items; scripts = s.scripts.items; schedule = s.schedule.items }) × Keeps (record { layout = s.layout; version = s.version; sites = s.sites; setup = s.setup.items; scripts = s.scripts.items; schedule = s.schedule.items }) };
 }
 
 impl Scenario {
     ghost use Rattle.chorus_scene.specs.Making.{names_said};
     ghost use Rattle.chorus_scene.specs.Print.{IsReadAgain};
+    ghost use Rattle.chorus_scene.specs.Limits.{Keeps};
     ghost use Rattle.chorus_scene.specs.Reader.{IsSetup};
 
-    /// The layout for which the text was read.
+    /// The layout for which the text was read. With it the scenario is read again from its text, and it keeps the limits.
     pub fn layout(&self) -> Layout
-        ensures { result ≡ self.now.layout }
+        ensures value { result ≡ self.now.layout }
+        ensures again { IsReadAgain self.now }
+        ensures keeps { Keeps self.now }
     {
         self.layout
     }
 
     /// The version of the text: 1 or 2.
     pub fn version(&self) -> u8
-        ensures { result ≡ self.now.version }
+        ensures value { result ≡ self.now.version }
+        ensures one_or_two { (1 ≤ result) × (result ≤ 2) }
     {
         self.version
     }
@@ -173,6 +190,7 @@ impl Scenario {
     ) -> Scenario
         requires tables { IsSetup layout setup }
         requires again { IsReadAgain (record { layout = layout; version = version; sites = sites; setup = setup.lines.items; scripts = scripts.items; schedule = schedule.items }) }
+        requires keeps { Keeps (record { layout = layout; version = version; sites = sites; setup = setup.lines.items; scripts = scripts.items; schedule = schedule.items }) }
         ensures { result ≡ record { layout = layout; version = version; sites = sites; setup = setup.lines.items; scripts = scripts.items; schedule = schedule.items } }
     {
         Scenario {

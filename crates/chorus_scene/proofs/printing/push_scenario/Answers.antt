@@ -23,6 +23,6 @@ returns-clause-text c =
     ∙ ap (λ o. o ++ all_ended (flat_map script_texts s.scripts)) (c.in_ok-push_setup.ensures
     ∙ ap (λ ls. c.push_head.new.out.items ++ all_ended (said_texts names ls)) c.setup.ensures
     ∙ ap (λ o. o ++ all_ended (said_texts names s.setup)) (c.in_ok-push_head.ensures
-    ∙ ap (λ v. start ++ all_ended (version_text v ∷ sites_text c.sites.result ∷ [])) c.version.ensures
+    ∙ ap (λ v. start ++ all_ended (version_text v ∷ sites_text c.sites.result ∷ [])) c.version.ensures.value
     ∙ ap (λ n. start ++ all_ended (version_text s.version ∷ sites_text n ∷ [])) c.sites.ensures))) in
     c.in_ok-extend_from_slice.ensures.items ∙ printed_parts s start c.push_schedule.new.out.items names c.names-names.ensures.names parts

@@ -3,6 +3,7 @@ use Rattle.std.proofs.lemmas.Bool.Decides.{nat_tests}
 use Rattle.chorus_scene.specs.Judge.{read_scene}
 use Rattle.chorus_scene.specs.Reader.{state_of}
 use Rattle.chorus_scene.proofs.Law.{printed_again}
+use Rattle.chorus_scene.proofs.Kept.{kept}
 use Rattle.chorus_scene.proofs.Lines.{judge_on, judge_stops, judge_end, ended_is, not_ended, read_is}
 use Rattle.chorus_scene.proofs.reading.read.Goals as goal
 
@@ -29,6 +30,14 @@ finish-requires-clause-again c =
     let said : read_scene c.args.layout c.args.text.now ≡ Ok s.scene = read_is c.args.layout c.args.text.now (omega arith) ∙ judge_end c.loop-rest.number s c.loop-rest.rest.now _ (grind (arith, nat_tests)) h.judged ∙ rw t refl in
     (printed_again c.args.layout c.args.text.now s.scene said).2
 
+pub finish-requires-clause-keeps : goal.finish-requires-clause-keeps
+finish-requires-clause-keeps c =
+    let h = c.loop-rest.invariant in
+    let s = state_of c.loop-rest.reader in
+    let t = ended_is s.section c.in-Ended.is in
+    let said : read_scene c.args.layout c.args.text.now ≡ Ok s.scene = read_is c.args.layout c.args.text.now (omega arith) ∙ judge_end c.loop-rest.number s c.loop-rest.rest.now _ (grind (arith, nat_tests)) h.judged ∙ rw t refl in
+    kept c.args.layout c.args.text.now s.scene said
+
 pub returns-in-Ended : goal.returns-in-Ended
 returns-in-Ended c =
     let h = c.loop-rest.invariant in
@@ -41,4 +50,4 @@ returns c =
     let h = c.loop-rest.invariant in
     let s = state_of c.loop-rest.reader in
     let t = not_ended s.section c.in_default.not-Ended in
-    rw c.reason_number-2.ensures (read_is c.args.layout c.args.text.now (omega arith) ∙ judge_end c.loop-rest.number s c.loop-rest.rest.now _ (grind (arith, nat_tests)) h.judged ∙ rw t refl)
+    rw c.reason_number.ensures (read_is c.args.layout c.args.text.now (omega arith) ∙ judge_end c.loop-rest.number s c.loop-rest.rest.now _ (grind (arith, nat_tests)) h.judged ∙ rw t refl)

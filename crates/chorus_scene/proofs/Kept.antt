@@ -1,0 +1,241 @@
+-- A scenario that was read keeps the limits.
+use Rattle.std.proofs.Common.{◌≡◌, ℕ, zero, suc, ◌-◌, ◌<◌, ◌≤◌, Bool, true, ◌&&◌, List, [], ◌∷◌, ◌++◌, ◌⊎◌, inl, inr, length, set, refl, sym, arith, subst, length-append, length-set, append_assoc}
+use Rattle.std.specs.Prelude.{nat_le}
+use Rattle.std.specs.List.{list_all}
+use Rattle.std.proofs.lemmas.Bool.Decides.{nat_tests}
+use Rattle.std.proofs.lemmas.List.{append-nil}
+use Rattle.chorus_ui.specs.Layout.{Shape}
+use Rattle.chorus_entry.specs.declared.command.Command.{Command}
+use Rattle.chorus_scene.specs.declared.scenario.SetupLine.{SetupLine}
+use Rattle.chorus_scene.specs.declared.scenario.SetupLine.TheVariants as setups
+use Rattle.chorus_scene.specs.declared.scenario.Step as step
+use Rattle.chorus_scene.specs.declared.word.Section.{Section}
+use Rattle.chorus_scene.specs.declared.word.Section.TheVariants as sections
+use Rattle.chorus_scene.specs.Text.{lines, is_text, is_skipped}
+use Rattle.chorus_scene.specs.Scene.{Scene, Script}
+use Rattle.chorus_scene.specs.Line.{Line, Version, Count, MakePort, MakeGroup, Enlist, Begin, Do, Steps, Go, Ends}
+use Rattle.chorus_scene.specs.Judge.{State, opening, after, with_command, last_script, no_script}
+use Rattle.chorus_scene.specs.Laws.{Pass}
+use Rattle.chorus_scene.specs.Limits.{is_actor_of, command_keeps, script_keeps, setup_line_keeps, setup_keeps, step_keeps, schedule_keeps, Keeps, ReadKeeps}
+use Rattle.chorus_scene.proofs.Again.{and_join}
+use Rattle.chorus_scene.proofs.Spelled.{both}
+use Rattle.chorus_scene.proofs.Keeping.{all_at}
+use Rattle.chorus_scene.proofs.Fits.{IsCounted, Fits, fits}
+use Rattle.chorus_scene.proofs.Law.{Tidy, tidy_at, early_steps, Stays, Said, line_said, inv_text, inv_judge, section_ended}
+
+-- lists that grow
+all_more : {X : Type 0} (p : X → Bool) (xs : List X) (x : X) → list_all p xs ≡ true → p x ≡ true → list_all p (xs ++ x ∷ []) ≡ true
+all_more p [] x h k = and_join _ _ k refl
+all_more p (y ∷ ys) x h k = let q = both (p y) (list_all p ys) h in and_join _ _ q.0 (all_more p ys x q.1 k)
+
+all_set : {X : Type 0} (p : X → Bool) (xs : List X) (i : ℕ) (x : X) → list_all p xs ≡ true → p x ≡ true → list_all p (set xs i x) ≡ true
+all_set p [] i x h k = h
+all_set p (y ∷ ys) zero x h k = and_join _ _ k (both (p y) (list_all p ys) h).1
+all_set p (y ∷ ys) (suc i) x h k = let q = both (p y) (list_all p ys) h in and_join _ _ q.0 (all_set p ys i x q.1 k)
+
+module _ (l : Shape) (n : ℕ) where
+  setup_more : (before lines : List SetupLine) (line : SetupLine) → setup_keeps l n before lines ≡ true → setup_line_keeps l n (before ++ lines) line ≡ true → setup_keeps l n before (lines ++ line ∷ []) ≡ true
+  setup_more before [] line h k = and_join _ _ (subst (λ xs. setup_line_keeps l n xs line ≡ true) (append-nil before) k) refl
+  setup_more before (first ∷ lines) line h k =
+      let p = both (setup_line_keeps l n before first) (setup_keeps l n (before ++ first ∷ []) lines) h in
+      and_join _ _ p.0 (setup_more (before ++ first ∷ []) lines line p.1 (subst (λ xs. setup_line_keeps l n xs line ≡ true) (sym (append_assoc before (first ∷ []) lines)) k))
+
+  schedule_more : (scripts : List Script) (before steps : List step.Step) (step : step.Step) → schedule_keeps l n scripts before steps ≡ true → step_keeps l n scripts (before ++ steps) step ≡ true → schedule_keeps l n scripts before (steps ++ step ∷ []) ≡ true
+  schedule_more scripts before [] step h k = and_join _ _ (subst (λ xs. step_keeps l n scripts xs step ≡ true) (append-nil before) k) refl
+  schedule_more scripts before (first ∷ steps) step h k =
+      let p = both (step_keeps l n scripts before first) (schedule_keeps l n scripts (before ++ first ∷ []) steps) h in
+      and_join _ _ p.0 (schedule_more scripts (before ++ first ∷ []) steps step p.1 (subst (λ xs. step_keeps l n scripts xs step ≡ true) (sym (append_assoc before (first ∷ []) steps)) k))
+
+few : (n m : ℕ) → nat_le n m ≡ true → n ≤ m
+few n m h = grind (arith, nat_tests)
+
+so_few : (n m : ℕ) → n ≤ m → nat_le n m ≡ true
+so_few n m h = grind (arith, nat_tests)
+
+-- a command more in the last script
+script_more : (l : Shape) (version n : ℕ) (command : Command) (s : Script) → script_keeps l version n s ≡ true → command_keeps l version n command ≡ true → length s.commands < 4096 → script_keeps l version n (with_command command s) ≡ true
+script_more l version n command s h k lt =
+    let p = both (is_actor_of l n s.actor && nat_le (length s.commands) 4096) (list_all (command_keeps l version n) s.commands) h in
+    let q = both (is_actor_of l n s.actor) (nat_le (length s.commands) 4096) p.0 in
+    and_join _ _ (and_join _ _ q.0 (so_few (length (s.commands ++ command ∷ [])) 4096 (omega (arith, length-append s.commands (command ∷ []))))) (all_more (command_keeps l version n) s.commands command p.1 k)
+
+last_more : (l : Shape) (version n : ℕ) (command : Command) (scripts : List Script) → 0 < length scripts → list_all (script_keeps l version n) scripts ≡ true → command_keeps l version n command ≡ true → length (last_script scripts).commands < 4096
+    → list_all (script_keeps l version n) (set scripts (length scripts - 1) (with_command command (last_script scripts))) ≡ true
+last_more l version n command scripts some h k lt =
+    all_set (script_keeps l version n) scripts (length scripts - 1) (with_command command (last_script scripts)) h
+    (script_more l version n command (last_script scripts) (all_at (script_keeps l version n) scripts (length scripts - 1) no_script h (omega arith)) k lt)
+
+-- the version and the sites, as far as the lines have said them
+abbrev BoundIn : Section → Scene → Type 0
+BoundIn sections.Head c = Unit {0}
+BoundIn sections.Sites c = (1 ≤ c.version) × (c.version ≤ 2)
+BoundIn _ c = (1 ≤ c.version) × (c.version ≤ 2) × IsCounted c
+
+-- what the lines so far keep
+record Within (s : State) : Type 0 where
+  tidy : Tidy s
+  bound : BoundIn s.section s.scene
+  setup : setup_keeps s.scene.layout s.scene.sites [] s.scene.setup ≡ true
+  few_scripts : length s.scene.scripts ≤ 16
+  scripts : list_all (script_keeps s.scene.layout s.scene.version s.scene.sites) s.scene.scripts ≡ true
+  few_steps : length s.scene.schedule ≤ 131072
+  schedule : schedule_keeps s.scene.layout s.scene.sites s.scene.scripts [] s.scene.schedule ≡ true
+
+bound_at : (sec : Section) (s : State) → s.section ≡ sec → Within s → BoundIn sec s.scene
+bound_at sec s e w = let b = w.bound in rw e at b
+
+bound_early : (s : State) → (s.section ≡ sections.Setup) ⊎ (s.section ≡ sections.Scripts) → Within s → (1 ≤ s.scene.version) × (s.scene.version ≤ 2) × IsCounted s.scene
+bound_early s (inl e) w = bound_at sections.Setup s e w
+bound_early s (inr e) w = bound_at sections.Scripts s e w
+
+no_setup : (l : Shape) (n : ℕ) (lines : List SetupLine) → lines ≡ [] → setup_keeps l n [] lines ≡ true
+no_setup l n lines e = rw e refl
+
+no_scripts : (l : Shape) (version n : ℕ) (scripts : List Script) → scripts ≡ [] → list_all (script_keeps l version n) scripts ≡ true
+no_scripts l version n scripts e = rw e refl
+
+no_steps : (l : Shape) (n : ℕ) (scripts : List Script) (schedule : List step.Step) → schedule ≡ [] → schedule_keeps l n scripts [] schedule ≡ true
+no_steps l n scripts schedule e = rw e refl
+
+-- a line more
+more : (s : State) (x : Line) → Within s → Stays s x → Fits s.scene x → Within (after s x)
+more s (Version v) w st f =
+    let t = tidy_at sections.Head s st.0 w.tidy in
+    record {
+      tidy = st.1;
+      bound = f;
+      setup = w.setup;
+      few_scripts = w.few_scripts;
+      scripts = no_scripts s.scene.layout v s.scene.sites s.scene.scripts t.1;
+      few_steps = w.few_steps;
+      schedule = w.schedule;
+    }
+more s (Count n) w st f =
+    let t = tidy_at sections.Sites s st.0.0 w.tidy in
+    let b = bound_at sections.Sites s st.0.0 w in
+    record {
+      tidy = st.1;
+      bound = (b.0, b.1, record { from_one = f.0; of_layout = f.1; of_version = f.2 });
+      setup = no_setup s.scene.layout n s.scene.setup t.0;
+      few_scripts = w.few_scripts;
+      scripts = no_scripts s.scene.layout s.scene.version n s.scene.scripts t.1;
+      few_steps = w.few_steps;
+      schedule = no_steps s.scene.layout n s.scene.scripts s.scene.schedule t.2;
+    }
+more s (MakePort u actor capacity) w st f =
+    let b = bound_at sections.Setup s st.0.0 w in
+    record {
+      tidy = st.1;
+      bound = b;
+      setup = setup_more s.scene.layout s.scene.sites [] s.scene.setup (setups.Port actor capacity) w.setup (f b.2);
+      few_scripts = w.few_scripts;
+      scripts = w.scripts;
+      few_steps = w.few_steps;
+      schedule = w.schedule;
+    }
+more s (MakeGroup u) w st f =
+    let b = bound_at sections.Setup s st.0.0 w in
+    record {
+      tidy = st.1;
+      bound = b;
+      setup = setup_more s.scene.layout s.scene.sites [] s.scene.setup (setups.Group u.site) w.setup (f b.2);
+      few_scripts = w.few_scripts;
+      scripts = w.scripts;
+      few_steps = w.few_steps;
+      schedule = w.schedule;
+    }
+more s (Enlist group port) w st f =
+    let b = bound_at sections.Setup s st.0.0 w in
+    record {
+      tidy = st.1;
+      bound = b;
+      setup = setup_more s.scene.layout s.scene.sites [] s.scene.setup (setups.Member group port) w.setup (f b.2);
+      few_scripts = w.few_scripts;
+      scripts = w.scripts;
+      few_steps = w.few_steps;
+      schedule = w.schedule;
+    }
+more s (Begin actor) w st f =
+    let b = bound_early s st.0 w in
+    let none : List Command = [] in
+    let script : Script = record { actor = actor; commands = none } in
+    record {
+      tidy = st.1;
+      bound = b;
+      setup = w.setup;
+      few_scripts = omega (arith, f.1, length-append s.scene.scripts (script ∷ []));
+      scripts = all_more (script_keeps s.scene.layout s.scene.version s.scene.sites) s.scene.scripts script w.scripts (and_join _ _ (and_join _ _ (f.0 b.2) refl) refl);
+      few_steps = w.few_steps;
+      schedule = no_steps s.scene.layout s.scene.sites (s.scene.scripts ++ script ∷ []) s.scene.schedule (early_steps s st.0 w.tidy);
+    }
+more s (Do command) w st f =
+    let b = bound_at sections.Scripts s st.0.0 w in
+    let t = tidy_at sections.Scripts s st.0.0 w.tidy in
+    let now = set s.scene.scripts (length s.scene.scripts - 1) (with_command command (last_script s.scene.scripts)) in
+    record {
+      tidy = st.1;
+      bound = b;
+      setup = w.setup;
+      few_scripts = omega (arith, w.few_scripts, length-set s.scene.scripts (length s.scene.scripts - 1) (with_command command (last_script s.scene.scripts)));
+      scripts = last_more s.scene.layout s.scene.version s.scene.sites command s.scene.scripts t.0 w.scripts (f.0 b.2) f.1;
+      few_steps = w.few_steps;
+      schedule = no_steps s.scene.layout s.scene.sites now s.scene.schedule t.1;
+    }
+more s Steps w st f = record {
+  tidy = st.1;
+  bound = bound_early s st.0.0 w;
+  setup = w.setup;
+  few_scripts = w.few_scripts;
+  scripts = w.scripts;
+  few_steps = w.few_steps;
+  schedule = w.schedule;
+}
+more s (Go step) w st f = record {
+  tidy = st.1;
+  bound = bound_at sections.Schedule s st.0 w;
+  setup = w.setup;
+  few_scripts = w.few_scripts;
+  scripts = w.scripts;
+  few_steps = omega (arith, f.1, length-append s.scene.schedule (step ∷ []));
+  schedule = schedule_more s.scene.layout s.scene.sites s.scene.scripts [] s.scene.schedule step w.schedule f.0;
+}
+more s Ends w st f = record {
+  tidy = st.1;
+  bound = bound_at sections.Schedule s st.0 w;
+  setup = w.setup;
+  few_scripts = w.few_scripts;
+  scripts = w.scripts;
+  few_steps = w.few_steps;
+  schedule = w.schedule;
+}
+
+one_more : (s u : State) (line : List ℕ) → Within s → (s ≡ u) ⊎ Said s line u → Within u
+one_more s u line w (inl e) = subst Within e w
+one_more s u line w (inr d) = subst Within (sym d.so) (more s d.line w d.stays (fits s.scene d.line d.tested))
+
+all_more_lines : (s t : State) (lines : List (List ℕ)) → Within s → Pass s lines t → Within t
+all_more_lines s t [] w e = subst Within e w
+all_more_lines s t (line ∷ lines) w e = all_more_lines e.0 t lines (one_more s e.0 line w (line_said s e.0 line (is_skipped line) (is_text line) refl refl w.tidy e.1)) e.2
+
+ended_keeps : (t : State) → t.section ≡ sections.Ended → Within t → Keeps t.scene
+ended_keeps t e w =
+    let b = bound_at sections.Ended t e w in
+    record {
+      version_from_one = b.0;
+      version_to_two = b.1;
+      sites_from_one = b.2.from_one;
+      sites_of_layout = b.2.of_layout;
+      sites_of_version = b.2.of_version;
+      setup = w.setup;
+      few_scripts = w.few_scripts;
+      scripts = w.scripts;
+      few_steps = w.few_steps;
+      schedule = w.schedule;
+    }
+
+pub kept : ReadKeeps
+kept l text c h =
+    let i = inv_text l text c h in
+    let p = inv_judge 1 (opening l) (lines text) c i.1 in
+    let w = all_more_lines (opening l) p.0 (lines text) (record { tidy = (refl, refl, refl); bound = tt; setup = refl; few_scripts = omega arith; scripts = refl; few_steps = omega arith; schedule = refl }) p.1 in
+    subst Keeps p.3 (ended_keeps p.0 (section_ended p.0.section p.2) w)
