@@ -1,0 +1,71 @@
+-- The sites of a layout on one thread: so far one place, and the callers by their seats.
+use Rattle.std.specs.Prelude.{ℕ, ◌==◌, cond, List, [], ◌∷◌, ◌++◌, length, Option, Some, None, slice_get, slice_set}
+use Rattle.std.specs.Option.{option_map}
+use Rattle.chorus_ui.specs.declared.kind.Kind.TheVariants as kinds
+use Rattle.chorus_ui.specs.declared.ui.Ui.{Ui}
+use Rattle.chorus_ui.specs.declared.layout.Layout.{Layout}
+use Rattle.chorus_entry.specs.declared.command.Command.{Command}
+use Rattle.chorus_calls.specs.Callers.{Seated, new_caller}
+use Rattle.chorus_place.specs.State.{PlaceState, Turn, started}
+use Rattle.chorus_place.specs.Machine.{call}
+
+-- the place, and the caller of each seat given, from seat 0 on
+pub record SitesState : Type 0 where
+  pub place : PlaceState
+  pub callers : List Seated
+
+-- the actor of seat 0
+abbrev pub first_actor : Ui
+first_actor = record { site = 1; kind = kinds.Actor; number = 1 }
+
+-- nothing happened yet, and seat 0 was given
+abbrev pub opening : Layout → SitesState
+opening l = record { place = started l 1; callers = new_caller 0 first_actor 0 ∷ [] }
+
+-- the last clock of a caller, if there is one
+abbrev pub last_of : Option Seated → ℕ
+last_of None = 0
+last_of (Some caller) = caller.last
+
+-- one seat more, in this actor, whose last clock is that of seat 0
+abbrev pub entered : Ui → SitesState → SitesState
+entered actor s =
+    record s { callers = s.callers ++ new_caller (length s.callers) actor (last_of (slice_get s.callers 0)) ∷ [] }
+
+abbrev pub put_back : ℕ → Turn → SitesState → SitesState
+put_back k t s = record { place = t.place; callers = slice_set s.callers k t.caller }
+
+abbrev pub acted_by : ℕ → Option Seated → Command → SitesState → SitesState
+acted_by k None c s = s
+acted_by k (Some caller) c s = put_back k (call c (record { place = s.place; caller = caller })) s
+
+-- the sites after a command of the seat k
+abbrev pub acted : ℕ → Command → SitesState → SitesState
+acted k c s = acted_by k (slice_get s.callers k) c s
+
+-- the actor in which the seat k runs
+abbrev pub actor_of : SitesState → ℕ → Option Ui
+actor_of s k = option_map (λ (caller : Seated). caller.actor) (slice_get s.callers k)
+
+-- What happens on the sites, one after the other: a seat is given, or a seat's command is performed. Lists have the latest
+-- first.
+pub data Event : Type 0 where
+  Enter : (actor : Ui) → Event
+  Act : (seat : ℕ) (command : Command) → Event
+
+abbrev pub happened : Event → SitesState → SitesState
+happened (Enter actor) s = entered actor s
+happened (Act k c) s = acted k c s
+
+abbrev pub after : Layout → List Event → SitesState
+after l [] = opening l
+after l (event ∷ events) = happened event (after l events)
+
+-- the commands of the seat k, the latest first
+abbrev pub command_in : ℕ → Event → List Command → List Command
+command_in k (Enter actor) cs = cs
+command_in k (Act s c) cs = cond (s == k) (c ∷ cs) cs
+
+abbrev pub commands_of : ℕ → List Event → List Command
+commands_of k [] = []
+commands_of k (event ∷ events) = command_in k event (commands_of k events)

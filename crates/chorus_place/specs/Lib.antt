@@ -1,0 +1,5 @@
+pub mod State
+pub mod Journal
+pub mod Turns
+pub mod Machine
+pub mod Calls

@@ -1,0 +1,17 @@
+//! A place: its journal, the ports that it holds, and what a caller's command appends and changes there.
+//!
+//! The layer above rests on this: [`Place::act`] appends exactly the entries of the place machine, changes exactly what it
+//! changes, and gives its reply (`specs/Machine.antt`); a refusal changes nothing, and says why.
+//!
+//! Begin with `place`. So far a place makes ports, decides on messages to ports that it made, and hands messages out.
+#![tactic(auto)]
+
+mod fault;
+mod journal;
+mod place;
+mod reply;
+mod turn;
+
+pub use fault::{PlaceFault, WORN};
+pub use place::Place;
+pub use reply::Reply;
