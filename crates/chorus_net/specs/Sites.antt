@@ -1,13 +1,16 @@
 -- The sites of a layout on one thread: so far one place, and the callers by their seats.
-use Rattle.std.specs.Prelude.{ℕ, ◌==◌, cond, List, [], ◌∷◌, ◌++◌, length, Option, Some, None, slice_get, slice_set}
+use Rattle.std.specs.Prelude.{ℕ, ◌≡◌, ◌≤◌, ◌==◌, max, cond, List, [], ◌∷◌, ◌++◌, length, Option, Some, None, slice_get, slice_set}
 use Rattle.std.specs.Option.{option_map}
 use Rattle.chorus_ui.specs.declared.kind.Kind.TheVariants as kinds
 use Rattle.chorus_ui.specs.declared.ui.Ui.{Ui}
 use Rattle.chorus_ui.specs.declared.layout.Layout.{Layout}
 use Rattle.chorus_entry.specs.declared.command.Command.{Command}
+use Rattle.chorus_world.specs.Places.{last_clock}
 use Rattle.chorus_calls.specs.Callers.{Seated, new_caller}
 use Rattle.chorus_place.specs.State.{PlaceState, Turn, started}
-use Rattle.chorus_place.specs.Machine.{call}
+use Rattle.chorus_place.specs.declared.reply.Reply.{Reply}
+use Rattle.chorus_place.specs.Machine.{call, reply}
+use Rattle.chorus_net.specs.declared.sites.TheConstants.{SEATS_LIMIT}
 
 -- the place, and the caller of each seat given, from seat 0 on
 pub record SitesState : Type 0 where
@@ -46,6 +49,24 @@ acted k c s = acted_by k (slice_get s.callers k) c s
 -- the actor in which the seat k runs
 abbrev pub actor_of : SitesState → ℕ → Option Ui
 actor_of s k = option_map (λ (caller : Seated). caller.actor) (slice_get s.callers k)
+
+-- how many messages the seat k posted
+abbrev pub posts_of : SitesState → ℕ → Option ℕ
+posts_of s k = option_map (λ (caller : Seated). caller.posts) (slice_get s.callers k)
+
+-- the reply to a command of the seat k, if the seat was given
+abbrev pub replied : ℕ → Command → SitesState → Option Reply
+replied k c s = option_map (λ (caller : Seated). reply c (record { place = s.place; caller = caller })) (slice_get s.callers k)
+
+-- the greater of the last clocks of the place and of the seat k
+abbrev pub compared : ℕ → SitesState → ℕ
+compared k s = max (last_clock s.place.journal) (last_of (slice_get s.callers k))
+
+-- what sites keep: their place is the first, and at least seat 0 and at most 1,048,576 seats were given
+pub record AreSites (s : SitesState) : Type 0 where
+  pub place : s.place.number ≡ 1
+  pub some_seat : 1 ≤ length s.callers
+  pub few_seats : length s.callers ≤ SEATS_LIMIT
 
 -- What happens on the sites, one after the other: a seat is given, or a seat's command is performed. Lists have the latest
 -- first.

@@ -3,7 +3,7 @@ use Rattle.std.specs.Prelude.{ℕ, ◌≡◌, ◌+◌, ◌≤◌, ◌/◌, ◌<�
 use Rattle.chorus_ui.specs.declared.ui.Ui.{Ui}
 use Rattle.chorus_ui.specs.declared.layout.Layout.{Layout}
 use Rattle.chorus_ui.specs.declared.layout.TheConstants.{PORTS_PER_SITE}
-use Rattle.chorus_ui.specs.Layout.{has_place, has_actor}
+use Rattle.chorus_ui.specs.Layout.{has_place}
 use Rattle.chorus_entry.specs.declared.entry.Entry.{Entry}
 use Rattle.chorus_entry.specs.declared.command.Command.{Command}
 use Rattle.chorus_entry.specs.declared.record.PortRecord.{PortRecord}
@@ -47,10 +47,8 @@ abbrev pub is_take : Command → Bool
 is_take (Command.Take port) = true
 is_take _ = false
 
--- the conditions of a call: the caller's actor is one of the layout, the command meets its conditions, and it is to be
--- carried out here, by what the place has so far
+-- the conditions of a call: the command meets its own, it is to be carried out here, and the place has it so far
 pub record MayCall (place : PlaceState) (caller : Seated) (c : Command) : Type 0 where
-  pub actor : has_actor place.layout caller.actor ≡ true
   pub conditions : meets_conditions c ≡ true
   pub kinds : has_kinds_in_command c ≡ true
   pub here : place_for place.layout caller.actor c ≡ place.number

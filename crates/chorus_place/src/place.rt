@@ -1,6 +1,6 @@
 //! A place, and the calls of callers there.
 
-ghost use Rattle.std.specs.Prelude.{◌≡◌, ℕ, ◌+◌, ◌-◌, ◌*◌, ◌/◌, ◌%◌, ◌^◌, ◌<◌, ◌≤◌, ◌∷◌, ◌↔◌, max, true, reverse, IsOk, IfOk, OnOk, OnErr, IsErrOf, Some, ◌⊎◌};
+ghost use Rattle.std.specs.Prelude.{◌≡◌, ℕ, ◌+◌, ◌-◌, ◌*◌, ◌/◌, ◌%◌, ◌^◌, ◌<◌, ◌≤◌, ◌∷◌, ◌↔◌, max, true, length, reverse, IsOk, IfOk, OnOk, OnErr, IsErrOf, Some, ◌⊎◌};
 ghost use Rattle.std.specs.Option.{option_copied};
 ghost use Rattle.chorus_ui.specs.Layout.{has_place, has_actor};
 ghost use Rattle.chorus_entry.specs.declared.dest.Dest.TheVariants as Dest;
@@ -17,7 +17,9 @@ ghost use Rattle.chorus_place.specs.declared.fault.TheConstants.{WORN};
 use crate::fault::{PlaceFault, WORN};
 use crate::journal::Journal;
 use crate::reply::Reply;
-use crate::turn::{decision, next_message, next_port, port_in, post, say, take_act, take_reply, verdict_reply};
+use crate::turn::{
+    decision, next_message, next_port, port_in, post, say, take_act, take_reply, verdict_reply,
+};
 use chorus_calls::Caller;
 use chorus_entry::{Act, Body, Command, Entry};
 use chorus_ports::Ports;
@@ -62,6 +64,13 @@ impl Place {
         })
     }
 
+    /// The layout that it is a place of.
+    pub fn layout(&self) -> Layout
+        ensures { result ≡ self.now.state.layout }
+    {
+        self.layout
+    }
+
     /// Its journal: all its entries, in order.
     pub fn journal(&self) -> &[Entry]
         ensures { reverse result.now ≡ self.now.state.journal }
@@ -82,6 +91,13 @@ impl Place {
         ensures in_layout { has_place self.now.state.layout self.now.state.number ≡ true }
     {
         self.number
+    }
+
+    /// How many ports it holds.
+    pub fn held(&self) -> u16
+        ensures { result ≡ length self.now.state.ports }
+    {
+        self.ports.len()
     }
 
     /// How many entries it can append without memory.
@@ -135,12 +151,7 @@ impl Place {
     }
 
     /// Makes a port of the actor, whose home place this is where the layout has it.
-    fn make(
-        &mut self,
-        caller: &mut Caller,
-        actor: Ui,
-        capacity: u8,
-    ) -> Result<Reply, AllocError>
+    fn make(&mut self, caller: &mut Caller, actor: Ui, capacity: u8) -> Result<Reply, AllocError>
         requires may { MayCall self.old.state caller.old (Command.Make actor capacity) }
         requires clock { greatest (turn self.old caller.old) < WORN }
         ensures called { IfOk result (λ r. Called self.old self.new caller.old caller.new (Command.Make actor capacity) r) }
@@ -149,11 +160,21 @@ impl Place {
     {
         self.journal.reserve(1)?;
         if self.layout.home(actor).is_none() {
-            say(&mut self.journal, self.number, caller, Act::NoActor { actor });
+            say(
+                &mut self.journal,
+                self.number,
+                caller,
+                Act::NoActor { actor },
+            );
             return Ok(Reply::NoActor);
         }
         if self.ports.spare() == 0 {
-            say(&mut self.journal, self.number, caller, Act::MakeFull { actor });
+            say(
+                &mut self.journal,
+                self.number,
+                caller,
+                Act::MakeFull { actor },
+            );
             return Ok(Reply::MakeFull);
         }
         let port = next_port(self.layout, self.number, self.made, actor);
@@ -181,14 +202,24 @@ impl Place {
         let id = message.id;
         if self.ports.get(port).is_none() {
             post(&mut self.journal, self.number, caller, message, port);
-            say(&mut self.journal, self.number, caller, Act::NoPort { id, port });
+            say(
+                &mut self.journal,
+                self.number,
+                caller,
+                Act::NoPort { id, port },
+            );
             return Ok(Reply::NoPort(id));
         }
         // One is the journal's, and the other waits in the port.
         let copy = message.copied(0)?;
         post(&mut self.journal, self.number, caller, message, port);
         let answer = self.ports.accept(port, copy);
-        say(&mut self.journal, self.number, caller, decision(id, port, &answer));
+        say(
+            &mut self.journal,
+            self.number,
+            caller,
+            decision(id, port, &answer),
+        );
         Ok(verdict_reply(id, &answer))
     }
 
@@ -202,7 +233,12 @@ impl Place {
     {
         self.journal.reserve(1)?;
         let taken = self.ports.take(port, caller.actor());
-        say(&mut self.journal, self.number, caller, take_act(port, &taken));
+        say(
+            &mut self.journal,
+            self.number,
+            caller,
+            take_act(port, &taken),
+        );
         Ok(take_reply(taken))
     }
 }

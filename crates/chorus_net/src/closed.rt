@@ -1,0 +1,23 @@
+//! What is left when the sites are closed.
+
+use chorus_entry::{Entry, Packet, PortRecord};
+
+/// What is left when the sites are closed.
+#[derive(Debug, Drop)]
+pub struct Closed {
+    /// The journal of each place, by place, in order.
+    pub journals: Vec<Vec<Entry>>,
+    /// The packets that were put and not worked off.
+    pub rest: Vec<Packet>,
+    /// The ports that are held, by place, then in table order.
+    pub ports: Vec<Placed>,
+}
+
+/// A port that is held at a place.
+#[derive(Debug, Drop)]
+pub struct Placed {
+    /// The place's number, from 1.
+    pub place: u16,
+    /// The port.
+    pub port: PortRecord,
+}
