@@ -21,8 +21,8 @@ use Rattle.chorus_scene.specs.declared.word.Reason.TheVariants as reasons
 use Rattle.chorus_scene.specs.Text.{are_fields, some_empty, each_byte, is_plain, number_in}
 use Rattle.chorus_scene.specs.Body.{body_in, body_text, begins_a_body}
 use Rattle.chorus_scene.specs.Scene.{Scene}
-use Rattle.chorus_scene.specs.Line.{Line, Count, MakePort, MakeGroup, Enlist, Begin, Do, Steps, Go, Ends, wants, has_body, is_misshapen, field, with_two, with_three, name_in, target_kind, dest_of, line_of}
-use Rattle.chorus_scene.specs.Judge.{judge_fields, judge_line, unless, known, is_beyond, names_unknown, repeats, is_not_given, is_unscheduled, is_huge, is_no_capacity, most_sites, most_bytes, last_is_full, command_is_beyond}
+use Rattle.chorus_scene.specs.Line.{Line, SitesLine, PortLine, GroupLine, MemberLine, ScriptLine, CommandLine, ScheduleLine, StepLine, EndLine, wants, has_body, is_misshapen, field, with_two, with_three, name_in, target_kind, dest_of, line_of}
+use Rattle.chorus_scene.specs.Grammar.{judge_fields, judge_line, unless, known, is_beyond, names_unknown, repeats, is_not_given, is_unscheduled, is_huge, is_no_capacity, most_sites, most_bytes, last_is_full, command_is_beyond}
 use Rattle.chorus_scene.specs.Print.{behind, command_text, text_of}
 use Rattle.chorus_scene.proofs.Spelled.{both, spelled_name}
 use Rattle.chorus_scene.proofs.Numbers.{spelled_number}
@@ -254,46 +254,46 @@ module _ (c : Scene) (x : Line) where
         short = subst (λ gs. length (behind gs) ≤ length (behind fs)) (sym e) (omega arith);
       }
 
-  beyond_of : (command : Command) → Do command ≡ x → judge_line c x ≡ Ok x → command_is_beyond c.version command ≡ false
+  beyond_of : (command : Command) → CommandLine command ≡ x → judge_line c x ≡ Ok x → command_is_beyond c.version command ≡ false
   beyond_of command same judged = or_second (last_is_full c) (command_is_beyond c.version command) (ap (is_beyond c) same ∙ not_beyond c x judged)
 
   -- the texts of the lines without a body
   sites_is : (a : List ℕ) → Passes c words.Sites (a ∷ []) x → text_of x ≡ codes "sites" ++ behind (a ∷ [])
   sites_is a p =
-      let q = inv_map Count (number_in a) x p.line in
+      let q = inv_map SitesLine (number_in a) x p.line in
       let small = sites_small q.0 c.layout.sites (most_sites c.version) (most_few c.version) (ap (is_beyond c) q.2 ∙ not_beyond c x p.judged) in
       sym (ap text_of q.2) ∙ same_one (codes "sites") (decimal q.0) a (spelled_number a q.0 q.1 small)
 
   port_is : (a b d : List ℕ) → Passes c words.Port (a ∷ b ∷ d ∷ []) x → text_of x ≡ codes "port" ++ behind (a ∷ b ∷ d ∷ [])
   port_is a b d p =
-      let q = inv_three MakePort (name_in kinds.Port a) (name_in kinds.Actor b) (number_in d) x p.line in
+      let q = inv_three PortLine (name_in kinds.Port a) (name_in kinds.Actor b) (number_in d) x p.line in
       let small = capacity_small q.2 (or_first (is_no_capacity q.2) (nat_lt 32 q.0.number) (ap (is_beyond c) q.6 ∙ not_beyond c x p.judged)) in
       sym (ap text_of q.6) ∙ same_three (codes "port") (name_text q.0) (name_text q.1) (decimal q.2) a b d (spelled_name kinds.Port a q.0 q.3) (spelled_name kinds.Actor b q.1 q.4) (spelled_number d q.2 q.5 small)
 
   group_is : (a : List ℕ) → Passes c words.Group (a ∷ []) x → text_of x ≡ codes "group" ++ behind (a ∷ [])
   group_is a p =
-      let q = inv_map MakeGroup (name_in kinds.Group a) x p.line in
+      let q = inv_map GroupLine (name_in kinds.Group a) x p.line in
       sym (ap text_of q.2) ∙ same_one (codes "group") (name_text q.0) a (spelled_name kinds.Group a q.0 q.1)
 
   member_is : (a b : List ℕ) → Passes c words.Member (a ∷ b ∷ []) x → text_of x ≡ codes "member" ++ behind (a ∷ b ∷ [])
   member_is a b p =
-      let q = inv_two Enlist (name_in kinds.Group a) (name_in kinds.Port b) x p.line in
+      let q = inv_two MemberLine (name_in kinds.Group a) (name_in kinds.Port b) x p.line in
       sym (ap text_of q.4) ∙ same_two (codes "member") (name_text q.0) (name_text q.1) a b (spelled_name kinds.Group a q.0 q.2) (spelled_name kinds.Port b q.1 q.3)
 
   script_is : (a : List ℕ) → Passes c words.Script (a ∷ []) x → text_of x ≡ codes "script" ++ behind (a ∷ [])
   script_is a p =
-      let q = inv_map Begin (name_in kinds.Actor a) x p.line in
+      let q = inv_map ScriptLine (name_in kinds.Actor a) x p.line in
       sym (ap text_of q.2) ∙ same_one (codes "script") (name_text q.0) a (spelled_name kinds.Actor a q.0 q.1)
 
   step_is : (a : List ℕ) → Passes c words.Step (a ∷ []) x → text_of x ≡ codes "step" ++ behind (a ∷ [])
   step_is a p =
-      let q = inv_map (λ n. Go (steps.Step n)) (number_in a) x p.line in
+      let q = inv_map (λ n. StepLine (steps.Step n)) (number_in a) x p.line in
       let small = not_huge q.0 (or_second (nat_le 131072 (length c.schedule)) (is_huge q.0) (ap (is_beyond c) q.2 ∙ not_beyond c x p.judged)) in
       sym (ap text_of q.2) ∙ same_one (codes "step") (decimal q.0) a (spelled_number a q.0 q.1 small)
 
   deliver_is : (a b : List ℕ) → Passes c words.Deliver (a ∷ b ∷ []) x → text_of x ≡ codes "deliver" ++ behind (a ∷ b ∷ [])
   deliver_is a b p =
-      let q = inv_two (λ m n. Go (steps.Deliver m n)) (number_in a) (number_in b) x p.line in
+      let q = inv_two (λ m n. StepLine (steps.Deliver m n)) (number_in a) (number_in b) x p.line in
       let huge = or_second (nat_le 131072 (length c.schedule)) (is_huge q.0 || is_huge q.1) (ap (is_beyond c) q.4 ∙ not_beyond c x p.judged) in
       sym (ap text_of q.4) ∙ same_two (codes "deliver") (decimal q.0) (decimal q.1) a b (spelled_number a q.0 q.2 (not_huge q.0 (or_first (is_huge q.0) (is_huge q.1) huge))) (spelled_number b q.1 q.3 (not_huge q.1 (or_second (is_huge q.0) (is_huge q.1) huge)))
 
@@ -301,30 +301,30 @@ module _ (c : Scene) (x : Line) where
   bare_is w y same text = let e : y ≡ x = cc in sym (ap text_of e) ∙ text
 
   -- a command with one name
-  named_is : (verb : Verb) (make : Name → Command) (k : Kind) (a : List ℕ) → option_map Do (option_map make (name_in k a)) ≡ Some x → ((u : Name) → command_text (make u) ≡ verb_text verb ++ behind (name_text u ∷ [])) → text_of x ≡ verb_text verb ++ behind (a ∷ [])
+  named_is : (verb : Verb) (make : Name → Command) (k : Kind) (a : List ℕ) → option_map CommandLine (option_map make (name_in k a)) ≡ Some x → ((u : Name) → command_text (make u) ≡ verb_text verb ++ behind (name_text u ∷ [])) → text_of x ≡ verb_text verb ++ behind (a ∷ [])
   named_is verb make k a h text =
-      let p = inv_map Do (option_map make (name_in k a)) x h in
+      let p = inv_map CommandLine (option_map make (name_in k a)) x h in
       let q = inv_map make (name_in k a) p.0 p.1 in
       sym (ap text_of p.2) ∙ sym (ap command_text q.2) ∙ text q.0 ∙ same_one (verb_text verb) (name_text q.0) a (spelled_name k a q.0 q.1)
 
   -- a command with two names
-  two_named_is : (verb : Verb) (make : Name → Name → Command) (j k : Kind) (a b : List ℕ) → option_map Do (with_two make (name_in j a) (name_in k b)) ≡ Some x
+  two_named_is : (verb : Verb) (make : Name → Name → Command) (j k : Kind) (a b : List ℕ) → option_map CommandLine (with_two make (name_in j a) (name_in k b)) ≡ Some x
       → ((u v : Name) → command_text (make u v) ≡ verb_text verb ++ behind (name_text u ∷ name_text v ∷ [])) → text_of x ≡ verb_text verb ++ behind (a ∷ b ∷ [])
   two_named_is verb make j k a b h text =
-      let p = inv_map Do (with_two make (name_in j a) (name_in k b)) x h in
+      let p = inv_map CommandLine (with_two make (name_in j a) (name_in k b)) x h in
       let q = inv_two make (name_in j a) (name_in k b) p.0 p.1 in
       sym (ap text_of p.2) ∙ sym (ap command_text q.4) ∙ text q.0 q.1 ∙ same_two (verb_text verb) (name_text q.0) (name_text q.1) a b (spelled_name j a q.0 q.2) (spelled_name k b q.1 q.3)
 
   new_port_is : (a b : List ℕ) → Passes c (words.Command verbs.NewPort) (a ∷ b ∷ []) x → text_of x ≡ codes "newport" ++ behind (a ∷ b ∷ [])
   new_port_is a b p =
-      let r = inv_map Do (with_two commands.Make (name_in kinds.Actor a) (number_in b)) x p.line in
+      let r = inv_map CommandLine (with_two commands.Make (name_in kinds.Actor a) (number_in b)) x p.line in
       let q = inv_two commands.Make (name_in kinds.Actor a) (number_in b) r.0 r.1 in
       let small = capacity_small q.1 (ap (command_is_beyond c.version) q.4 ∙ beyond_of r.0 r.2 p.judged) in
       sym (ap text_of r.2) ∙ sym (ap command_text q.4) ∙ same_two (codes "newport") (name_text q.0) (decimal q.1) a b (spelled_name kinds.Actor a q.0 q.2) (spelled_number b q.1 q.3 small)
 
   new_group_is : (a : List ℕ) → Passes c (words.Command verbs.NewGroup) (a ∷ []) x → text_of x ≡ codes "newgroup" ++ behind (a ∷ [])
   new_group_is a p =
-      let r = inv_map Do (option_map commands.GroupMake (number_in a)) x p.line in
+      let r = inv_map CommandLine (option_map commands.GroupMake (number_in a)) x p.line in
       let q = inv_map commands.GroupMake (number_in a) r.0 r.1 in
       let small = not_huge q.0 (ap (command_is_beyond c.version) q.2 ∙ beyond_of r.0 r.2 p.judged) in
       sym (ap text_of r.2) ∙ sym (ap command_text q.2) ∙ same_one (codes "newgroup") (decimal q.0) a (spelled_number a q.0 q.1 small)
@@ -332,12 +332,12 @@ module _ (c : Scene) (x : Line) where
   -- the lines with a body
   reply_again : (t : List ℕ) → Passes c (words.Command verbs.Reply) (t ∷ []) x → each_byte is_plain (behind (t ∷ [])) ≡ true → Again c (words.Command verbs.Reply) (t ∷ []) x
   reply_again t p plain =
-      let r = inv_map Do (option_map commands.Reply (body_in t)) x p.line in
+      let r = inv_map CommandLine (option_map commands.Reply (body_in t)) x p.line in
       let q = inv_map commands.Reply (body_in t) r.0 r.1 in
       let f = field_parts t [] plain in
       let b = body_of c.version t q.0 f.0 (begins_of 1 c.version (t ∷ []) t p.shape) q.1 in
       record {
-        passes = record { shape = shape_one c.version (reprint t) b.begins; line = ap (λ o. option_map Do (option_map commands.Reply o)) b.again ∙ p.line; judged = p.judged };
+        passes = record { shape = shape_one c.version (reprint t) b.begins; line = ap (λ o. option_map CommandLine (option_map commands.Reply o)) b.again ∙ p.line; judged = p.judged };
         text = sym (ap text_of r.2) ∙ sym (ap command_text q.2) ∙ same_one (codes "reply") (body_text q.0) (reprint t) (body_text_is t q.0 q.1);
         plain = field_joined (reprint t) [] b.plain f.1;
         short = omega (arith, b.short, length-append (reprint t) [], length-append t []);
@@ -351,13 +351,13 @@ module _ (c : Scene) (x : Line) where
   send_again : (target : Target) (a t : List ℕ) → Passes c (words.Command (verbs.Send target)) (a ∷ t ∷ []) x → each_byte is_plain (behind (a ∷ t ∷ [])) ≡ true → Again c (words.Command (verbs.Send target)) (a ∷ t ∷ []) x
   send_again target a t p plain =
       let make : Name → List ℕ → Command = λ name body. commands.Send (dest_of target name) body in
-      let r = inv_map Do (with_two make (name_in (target_kind target) a) (body_in t)) x p.line in
+      let r = inv_map CommandLine (with_two make (name_in (target_kind target) a) (body_in t)) x p.line in
       let q = inv_two make (name_in (target_kind target) a) (body_in t) r.0 r.1 in
       let f = field_parts a (t ∷ []) plain in
       let g = field_parts t [] f.1 in
       let b = body_of c.version t q.1 g.0 (begins_of 2 c.version (a ∷ t ∷ []) t p.shape) q.3 in
       record {
-        passes = record { shape = shape_two c.version a t (reprint t) p.shape b.begins; line = ap (λ o. option_map Do (with_two make (name_in (target_kind target) a) o)) b.again ∙ p.line; judged = p.judged };
+        passes = record { shape = shape_two c.version a t (reprint t) p.shape b.begins; line = ap (λ o. option_map CommandLine (with_two make (name_in (target_kind target) a) o)) b.again ∙ p.line; judged = p.judged };
         text = sym (ap text_of r.2) ∙ sym (ap command_text q.4) ∙ sent target q.0 q.1 ∙ same_two (verb_text (verbs.Send target)) (name_text q.0) (body_text q.1) a (reprint t) (spelled_name (target_kind target) a q.0 q.2) (body_text_is t q.1 q.3);
         plain = field_joined a (reprint t ∷ []) f.0 (field_joined (reprint t) [] b.plain g.1);
         short = omega (arith, b.short, length-append a (behind (reprint t ∷ [])), length-append a (behind (t ∷ [])), length-append (reprint t) [], length-append t []);
@@ -386,17 +386,17 @@ module _ (c : Scene) (x : Line) where
   at_again : (a b t : List ℕ) → Passes c (words.Command verbs.At) (a ∷ b ∷ t ∷ []) x → each_byte is_plain (behind (a ∷ b ∷ t ∷ [])) ≡ true → Again c (words.Command verbs.At) (a ∷ b ∷ t ∷ []) x
   at_again a b t p plain =
       let make : Name → ℕ → List ℕ → Command = λ group site body. commands.Send (dests.OneAt group site) body in
-      let r = inv_map Do (with_three make (name_in kinds.Group a) (number_in b) (body_in t)) x p.line in
+      let r = inv_map CommandLine (with_three make (name_in kinds.Group a) (number_in b) (body_in t)) x p.line in
       let q = inv_three make (name_in kinds.Group a) (number_in b) (body_in t) r.0 r.1 in
       let small = not_huge q.1 (or_first (is_huge q.1) (nat_lt (most_bytes c.version) (length q.2)) (ap (command_is_beyond c.version) q.6 ∙ beyond_of r.0 r.2 p.judged)) in
-      three_again verbs.At a b t q.2 refl refl p plain q.5 p.shape (λ h. h) (λ e. ap (λ o. option_map Do (with_three make (name_in kinds.Group a) (number_in b) o)) e)
+      three_again verbs.At a b t q.2 refl refl p plain q.5 p.shape (λ h. h) (λ e. ap (λ o. option_map CommandLine (with_three make (name_in kinds.Group a) (number_in b) o)) e)
       (sym (ap text_of r.2) ∙ sym (ap command_text q.6) ∙ same_three (codes "at") (name_text q.0) (decimal q.1) (body_text q.2) a b (reprint t) (spelled_name kinds.Group a q.0 q.3) (spelled_number b q.1 q.4 small) (body_text_is t q.2 q.5))
 
   call_again : (a b t : List ℕ) → Passes c (words.Command verbs.Call) (a ∷ b ∷ t ∷ []) x → each_byte is_plain (behind (a ∷ b ∷ t ∷ [])) ≡ true → Again c (words.Command verbs.Call) (a ∷ b ∷ t ∷ []) x
   call_again a b t p plain =
-      let r = inv_map Do (with_three commands.Call (name_in kinds.Port a) (name_in kinds.Port b) (body_in t)) x p.line in
+      let r = inv_map CommandLine (with_three commands.Call (name_in kinds.Port a) (name_in kinds.Port b) (body_in t)) x p.line in
       let q = inv_three commands.Call (name_in kinds.Port a) (name_in kinds.Port b) (body_in t) r.0 r.1 in
-      three_again verbs.Call a b t q.2 refl refl p plain q.5 p.shape (λ h. h) (λ e. ap (λ o. option_map Do (with_three commands.Call (name_in kinds.Port a) (name_in kinds.Port b) o)) e)
+      three_again verbs.Call a b t q.2 refl refl p plain q.5 p.shape (λ h. h) (λ e. ap (λ o. option_map CommandLine (with_three commands.Call (name_in kinds.Port a) (name_in kinds.Port b) o)) e)
       (sym (ap text_of r.2) ∙ sym (ap command_text q.6) ∙ same_three (codes "call") (name_text q.0) (name_text q.1) (body_text q.2) a b (reprint t) (spelled_name kinds.Port a q.0 q.3) (spelled_name kinds.Port b q.1 q.4) (body_text_is t q.2 q.5))
 
   pub len : (w : Word) (fs : List (List ℕ)) → Passes c w fs x → length fs ≡ wants w
@@ -426,8 +426,8 @@ module _ (c : Scene) (x : Line) where
   command_again (verbs.Send target) fs p plain = two (words.Command (verbs.Send target)) refl fs p (send_again target) plain
   command_again verbs.At fs p plain = three (words.Command verbs.At) refl fs p at_again plain
   command_again verbs.Call fs p plain = three (words.Command verbs.Call) refl fs p call_again plain
-  command_again verbs.Retry fs p plain = none (words.Command verbs.Retry) refl refl fs p (bare_is (words.Command verbs.Retry) (Do commands.Retry) p.line refl) plain
-  command_again verbs.Cancel fs p plain = none (words.Command verbs.Cancel) refl refl fs p (bare_is (words.Command verbs.Cancel) (Do commands.Cancel) p.line refl) plain
+  command_again verbs.Retry fs p plain = none (words.Command verbs.Retry) refl refl fs p (bare_is (words.Command verbs.Retry) (CommandLine commands.Retry) p.line refl) plain
+  command_again verbs.Cancel fs p plain = none (words.Command verbs.Cancel) refl refl fs p (bare_is (words.Command verbs.Cancel) (CommandLine commands.Cancel) p.line refl) plain
   command_again verbs.Reply fs p plain = one (words.Command verbs.Reply) refl fs p reply_again plain
   command_again verbs.Take fs p plain = one (words.Command verbs.Take) refl fs p (λ a q k. same_fields (words.Command verbs.Take) (a ∷ []) refl q k (named_is verbs.Take commands.Take kinds.Port a q.line (λ u. refl))) plain
   command_again verbs.Move fs p plain = two (words.Command verbs.Move) refl fs p (λ a b q k. same_fields (words.Command verbs.Move) (a ∷ b ∷ []) refl q k (two_named_is verbs.Move commands.Move kinds.Port kinds.Actor a b q.line (λ u v. refl))) plain
@@ -446,8 +446,8 @@ module _ (c : Scene) (x : Line) where
   again words.Member fs p plain = two words.Member refl fs p (λ a b q k. same_fields words.Member (a ∷ b ∷ []) refl q k (member_is a b q)) plain
   again words.Script fs p plain = one words.Script refl fs p (λ a q k. same_fields words.Script (a ∷ []) refl q k (script_is a q)) plain
   again (words.Command verb) fs p plain = command_again verb fs p plain
-  again words.Schedule fs p plain = none words.Schedule refl refl fs p (bare_is words.Schedule Steps p.line refl) plain
+  again words.Schedule fs p plain = none words.Schedule refl refl fs p (bare_is words.Schedule ScheduleLine p.line refl) plain
   again words.Step fs p plain = one words.Step refl fs p (λ a q k. same_fields words.Step (a ∷ []) refl q k (step_is a q)) plain
   again words.Deliver fs p plain = two words.Deliver refl fs p (λ a b q k. same_fields words.Deliver (a ∷ b ∷ []) refl q k (deliver_is a b q)) plain
-  again words.Drain fs p plain = none words.Drain refl refl fs p (bare_is words.Drain (Go steps.Drain) p.line refl) plain
-  again words.End fs p plain = none words.End refl refl fs p (bare_is words.End Ends p.line refl) plain
+  again words.Drain fs p plain = none words.Drain refl refl fs p (bare_is words.Drain (StepLine steps.Drain) p.line refl) plain
+  again words.End fs p plain = none words.End refl refl fs p (bare_is words.End EndLine p.line refl) plain

@@ -4,7 +4,7 @@ use Rattle.std.proofs.lemmas.List.Sums.{sum_by-append}
 use Rattle.std.proofs.lemmas.Bool.Decides.{nat_tests}
 use Rattle.chorus_scene.specs.declared.scenario.Step.{Step}
 use Rattle.chorus_scene.specs.declared.scenario.Step.TheVariants as steps
-use Rattle.chorus_scene.specs.Judge.{is_step}
+use Rattle.chorus_scene.specs.Grammar.{is_step}
 
 step_more : (ss : List Step) (j k : ℕ) → count_by (is_step j) (ss ++ steps.Step k ∷ []) ≡ count_by (is_step j) ss + cond (eqb k j) 1 0
 step_more ss j k = sum_by-append (λ x. cond (is_step j x) 1 0) ss (steps.Step k ∷ []) ∙ omega arith

@@ -29,8 +29,8 @@ use Rattle.chorus_scene.specs.Text.{number_in}
 use Rattle.chorus_scene.specs.Body.{body_in}
 use Rattle.chorus_scene.specs.Scene.{Scene}
 use Rattle.chorus_scene.specs.Making.{next_port, next_group, is_among, members_of}
-use Rattle.chorus_scene.specs.Line.{Line, Version, Count, MakePort, MakeGroup, Enlist, Begin, Do, Steps, Go, Ends, word_of, line_of, command_of, name_in, if_of_kind, target_kind, dest_of, field}
-use Rattle.chorus_scene.specs.Judge.{made, judge_line, unless, is_beyond, names_unknown, repeats, is_not_given, is_unscheduled, is_far, is_no_actor, is_no_site, is_known, is_no_capacity, is_huge, dest_is_huge, dest_is_unknown, command_is_beyond, command_is_unknown, last_is_full, last_script, most_sites, most_bytes, script_at, is_step}
+use Rattle.chorus_scene.specs.Line.{Line, VersionLine, SitesLine, PortLine, GroupLine, MemberLine, ScriptLine, CommandLine, ScheduleLine, StepLine, EndLine, word_of, line_of, command_of, name_in, if_of_kind, target_kind, dest_of, field}
+use Rattle.chorus_scene.specs.Grammar.{made, judge_line, unless, is_beyond, names_unknown, repeats, is_not_given, is_unscheduled, is_far, is_no_actor, is_no_site, is_known, is_no_capacity, is_huge, dest_is_huge, dest_is_unknown, command_is_beyond, command_is_unknown, last_is_full, last_script, most_sites, most_bytes, script_at, is_step}
 use Rattle.chorus_scene.specs.Limits.{is_site, is_actor_of, dest_is_of, command_is_of, bytes_sent, is_of_version, command_keeps, setup_line_keeps, step_keeps}
 use Rattle.chorus_scene.proofs.Again.{Passes, inv_unless, inv_map, inv_two, inv_three, and_join, or_first, or_second}
 use Rattle.chorus_scene.proofs.Spelled.{both}
@@ -46,7 +46,7 @@ pub record Worded (c : Scene) (x : Line) : Type 0 where
 
 -- a line is the head of version 1 or 2, or has a word
 abbrev pub Tested : Scene → Line → Type 0
-Tested c x = ((v : ℕ) × (Version v ≡ x) × (1 ≤ v) × (v ≤ 2)) ⊎ Worded c x
+Tested c x = ((v : ℕ) × (VersionLine v ≡ x) × (1 ≤ v) × (v ≤ 2)) ⊎ Worded c x
 
 -- none of tests 7 to 11 fails
 pub record Clear (c : Scene) (x : Line) : Type 0 where
@@ -80,16 +80,16 @@ IsCounted c = Counted c.layout c.version c.sites
 
 -- what a line that passes keeps; what it is about is counted, but for the first two
 abbrev pub Fits : Scene → Line → Type 0
-Fits c (Version v) = (1 ≤ v) × (v ≤ 2)
-Fits c (Count n) = (1 ≤ n) × (n ≤ c.layout.sites) × (n ≤ most_sites c.version)
-Fits c (MakePort u actor capacity) = IsCounted c → setup_line_keeps c.layout c.sites c.setup (setups.Port actor capacity) ≡ true
-Fits c (MakeGroup u) = IsCounted c → setup_line_keeps c.layout c.sites c.setup (setups.Group u.site) ≡ true
-Fits c (Enlist group port) = IsCounted c → setup_line_keeps c.layout c.sites c.setup (setups.Member group port) ≡ true
-Fits c (Begin actor) = (IsCounted c → is_actor_of c.layout c.sites actor ≡ true) × (length c.scripts < 16)
-Fits c (Do command) = (IsCounted c → command_keeps c.layout c.version c.sites command ≡ true) × (length (last_script c.scripts).commands < 4096)
-Fits c Steps = Unit {0}
-Fits c (Go step) = (step_keeps c.layout c.sites c.scripts c.schedule step ≡ true) × (length c.schedule < 131072)
-Fits c Ends = Unit {0}
+Fits c (VersionLine v) = (1 ≤ v) × (v ≤ 2)
+Fits c (SitesLine n) = (1 ≤ n) × (n ≤ c.layout.sites) × (n ≤ most_sites c.version)
+Fits c (PortLine u actor capacity) = IsCounted c → setup_line_keeps c.layout c.sites c.setup (setups.Port actor capacity) ≡ true
+Fits c (GroupLine u) = IsCounted c → setup_line_keeps c.layout c.sites c.setup (setups.Group u.site) ≡ true
+Fits c (MemberLine group port) = IsCounted c → setup_line_keeps c.layout c.sites c.setup (setups.Member group port) ≡ true
+Fits c (ScriptLine actor) = (IsCounted c → is_actor_of c.layout c.sites actor ≡ true) × (length c.scripts < 16)
+Fits c (CommandLine command) = (IsCounted c → command_keeps c.layout c.version c.sites command ≡ true) × (length (last_script c.scripts).commands < 4096)
+Fits c ScheduleLine = Unit {0}
+Fits c (StepLine step) = (step_keeps c.layout c.sites c.scripts c.schedule step ≡ true) × (length c.schedule < 131072)
+Fits c EndLine = Unit {0}
 
 -- what a command that passes keeps, where delete has the version 2
 abbrev CommandFits : Scene → Verb → Command → Type 0
@@ -257,51 +257,51 @@ module _ (c : Scene) where
   line_fits : (w : Word) (fs : List (List ℕ)) (x : Line) → line_of w fs ≡ Some x → (w ≡ words.Command verbs.Delete → (c.version == 2) ≡ true) → Clear c x → Fits c x
   line_fits words.Chorus fs x h two = absurd (let e : ◌≡◌ {A = Option Line} None (Some x) = h in cc)
   line_fits words.Sites fs x h two =
-      let p = inv_map Count (number_in (field 0 fs)) x h in
+      let p = inv_map SitesLine (number_in (field 0 fs)) x h in
       subst (λ y. Clear c y → Fits c y) p.2 (λ k. counted p.0 c.layout.sites (most_sites c.version) k.limit)
   line_fits words.Port fs x h two =
-      let p = inv_three MakePort (name_in kinds.Port (field 0 fs)) (name_in kinds.Actor (field 1 fs)) (number_in (field 2 fs)) x h in
+      let p = inv_three PortLine (name_in kinds.Port (field 0 fs)) (name_in kinds.Actor (field 1 fs)) (number_in (field 2 fs)) x h in
       subst (λ y. Clear c y → Fits c y) p.6 (λ k sites.
       let given = from_same_ui p.0 (next_port c.layout p.1 (made c)) (not_so (same_ui p.0 (next_port c.layout p.1 (made c))) k.order) in
       and_join _ _ (and_join _ _ (room p.2 (or_first (is_no_capacity p.2) (nat_lt 32 p.0.number) k.limit)) (actor_of (field 1 fs) p.1 p.4 (or_second (is_far c p.0) (is_no_actor c p.1) k.unknown) sites)) (subst (λ (u : Name). nat_le u.number 32 ≡ true) given (at_most p.0.number 32 (or_second (is_no_capacity p.2) (nat_lt 32 p.0.number) k.limit))))
   line_fits words.Group fs x h two =
-      let p = inv_map MakeGroup (name_in kinds.Group (field 0 fs)) x h in
+      let p = inv_map GroupLine (name_in kinds.Group (field 0 fs)) x h in
       subst (λ y. Clear c y → Fits c y) p.2 (λ k sites.
       let given = from_same_ui p.0 (next_group c.layout p.0.site (made c)) (not_so (same_ui p.0 (next_group c.layout p.0.site (made c))) k.order) in
       and_join _ _ (site_of kinds.Group (field 0 fs) p.0 p.1 k.unknown) (subst (λ (u : Name). nat_le u.number 4 ≡ true) given (at_most p.0.number 4 k.limit)))
   line_fits words.Member fs x h two =
-      let p = inv_two Enlist (name_in kinds.Group (field 0 fs)) (name_in kinds.Port (field 1 fs)) x h in
+      let p = inv_two MemberLine (name_in kinds.Group (field 0 fs)) (name_in kinds.Port (field 1 fs)) x h in
       subst (λ y. Clear c y → Fits c y) p.4 (λ k sites.
       let g = known_of kinds.Group (field 0 fs) p.0 p.2 (or_first (not (is_known c p.0)) (not (is_known c p.1)) k.unknown) in
       let q = known_of kinds.Port (field 1 fs) p.1 p.3 (or_second (not (is_known c p.0)) (not (is_known c p.1)) k.unknown) in
       and_join _ _ (and_join _ _ (and_join _ _ (and_join _ _ (and_join _ _ (and_join _ _ (and_join _ _ (named kinds.Group (field 0 fs) p.0 p.2).0 (named kinds.Port (field 1 fs) p.1 p.3).0) g.0) q.0) g.1) q.1)
       (fewer (length (members_of p.0 c.setup)) 32 k.limit)) (so_not (is_among p.1 (members_of p.0 c.setup)) k.twice))
   line_fits words.Script fs x h two =
-      let p = inv_map Begin (name_in kinds.Actor (field 0 fs)) x h in
+      let p = inv_map ScriptLine (name_in kinds.Actor (field 0 fs)) x h in
       subst (λ y. Clear c y → Fits c y) p.2 (λ k. (actor_of (field 0 fs) p.0 p.1 k.unknown, below (length c.scripts) 16 k.limit))
   line_fits (words.Command verb) fs x h two =
-      let p = inv_map Do (command_of verb fs) x h in
+      let p = inv_map CommandLine (command_of verb fs) x h in
       subst (λ y. Clear c y → Fits c y) p.2 (λ k. (
         λ sites. verb_fits sites verb fs p.0 p.1 (or_second (last_is_full c) (command_is_beyond c.version p.0) k.limit) k.unknown (λ e. two (ap words.Command e)),
         below (length (last_script c.scripts).commands) 4096 (or_first (last_is_full c) (command_is_beyond c.version p.0) k.limit),
       ))
-  line_fits words.Schedule fs x h two = let same : Steps ≡ x = bare Steps x h in subst (λ y. Clear c y → Fits c y) same (λ k. tt)
+  line_fits words.Schedule fs x h two = let same : ScheduleLine ≡ x = bare ScheduleLine x h in subst (λ y. Clear c y → Fits c y) same (λ k. tt)
   line_fits words.Step fs x h two =
-      let p = inv_map (λ n. Go (steps.Step n)) (number_in (field 0 fs)) x h in
+      let p = inv_map (λ n. StepLine (steps.Step n)) (number_in (field 0 fs)) x h in
       subst (λ y. Clear c y → Fits c y) p.2 (λ k. (
         stepped p.0 (length c.scripts) (length (script_at p.0 c.scripts).commands) (count_by (is_step p.0) c.schedule) k.schedule,
         below (length c.schedule) 131072 (or_first (nat_le 131072 (length c.schedule)) (is_huge p.0) k.limit),
       ))
   line_fits words.Deliver fs x h two =
-      let p = inv_two (λ a b. Go (steps.Deliver a b)) (number_in (field 0 fs)) (number_in (field 1 fs)) x h in
+      let p = inv_two (λ a b. StepLine (steps.Deliver a b)) (number_in (field 0 fs)) (number_in (field 1 fs)) x h in
       subst (λ y. Clear c y → Fits c y) p.4 (λ k. (
         delivered p.0 p.1 (c.sites * c.layout.turns) k.schedule,
         below (length c.schedule) 131072 (or_first (nat_le 131072 (length c.schedule)) (is_huge p.0 || is_huge p.1) k.limit),
       ))
   line_fits words.Drain fs x h two =
-      let same : Go steps.Drain ≡ x = bare (Go steps.Drain) x h in
+      let same : StepLine steps.Drain ≡ x = bare (StepLine steps.Drain) x h in
       subst (λ y. Clear c y → Fits c y) same (λ k. (refl, below (length c.schedule) 131072 (or_first (nat_le 131072 (length c.schedule)) false k.limit)))
-  line_fits words.End fs x h two = let same : Ends ≡ x = bare Ends x h in subst (λ y. Clear c y → Fits c y) same (λ k. tt)
+  line_fits words.End fs x h two = let same : EndLine ≡ x = bare EndLine x h in subst (λ y. Clear c y → Fits c y) same (λ k. tt)
 
   pub fits : (x : Line) → Tested c x → Fits c x
   fits x (inl p) = subst (Fits c) p.1 (p.2, p.3)

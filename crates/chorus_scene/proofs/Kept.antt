@@ -13,8 +13,8 @@ use Rattle.chorus_scene.specs.declared.word.Section.{Section}
 use Rattle.chorus_scene.specs.declared.word.Section.TheVariants as sections
 use Rattle.chorus_scene.specs.Text.{lines, is_text, is_skipped}
 use Rattle.chorus_scene.specs.Scene.{Scene, Script}
-use Rattle.chorus_scene.specs.Line.{Line, Version, Count, MakePort, MakeGroup, Enlist, Begin, Do, Steps, Go, Ends}
-use Rattle.chorus_scene.specs.Judge.{State, opening, after, with_command, last_script, no_script}
+use Rattle.chorus_scene.specs.Line.{Line, VersionLine, SitesLine, PortLine, GroupLine, MemberLine, ScriptLine, CommandLine, ScheduleLine, StepLine, EndLine}
+use Rattle.chorus_scene.specs.Grammar.{State, opening, after, with_command, last_script, no_script}
 use Rattle.chorus_scene.specs.Laws.{Pass}
 use Rattle.chorus_scene.specs.Limits.{is_actor_of, command_keeps, script_keeps, setup_line_keeps, setup_keeps, step_keeps, schedule_keeps, Keeps, ReadKeeps}
 use Rattle.chorus_scene.proofs.Again.{and_join}
@@ -99,7 +99,7 @@ no_steps l n scripts schedule e = rw e refl
 
 -- a line more
 more : (s : State) (x : Line) → Within s → Stays s x → Fits s.scene x → Within (after s x)
-more s (Version v) w st f =
+more s (VersionLine v) w st f =
     let t = tidy_at sections.Head s st.0 w.tidy in
     record {
       tidy = st.1;
@@ -110,7 +110,7 @@ more s (Version v) w st f =
       few_steps = w.few_steps;
       schedule = w.schedule;
     }
-more s (Count n) w st f =
+more s (SitesLine n) w st f =
     let t = tidy_at sections.Sites s st.0.0 w.tidy in
     let b = bound_at sections.Sites s st.0.0 w in
     record {
@@ -122,7 +122,7 @@ more s (Count n) w st f =
       few_steps = w.few_steps;
       schedule = no_steps s.scene.layout n s.scene.scripts s.scene.schedule t.2;
     }
-more s (MakePort u actor capacity) w st f =
+more s (PortLine u actor capacity) w st f =
     let b = bound_at sections.Setup s st.0.0 w in
     record {
       tidy = st.1;
@@ -133,7 +133,7 @@ more s (MakePort u actor capacity) w st f =
       few_steps = w.few_steps;
       schedule = w.schedule;
     }
-more s (MakeGroup u) w st f =
+more s (GroupLine u) w st f =
     let b = bound_at sections.Setup s st.0.0 w in
     record {
       tidy = st.1;
@@ -144,7 +144,7 @@ more s (MakeGroup u) w st f =
       few_steps = w.few_steps;
       schedule = w.schedule;
     }
-more s (Enlist group port) w st f =
+more s (MemberLine group port) w st f =
     let b = bound_at sections.Setup s st.0.0 w in
     record {
       tidy = st.1;
@@ -155,7 +155,7 @@ more s (Enlist group port) w st f =
       few_steps = w.few_steps;
       schedule = w.schedule;
     }
-more s (Begin actor) w st f =
+more s (ScriptLine actor) w st f =
     let b = bound_early s st.0 w in
     let none : List Command = [] in
     let script : Script = record { actor = actor; commands = none } in
@@ -168,7 +168,7 @@ more s (Begin actor) w st f =
       few_steps = w.few_steps;
       schedule = no_steps s.scene.layout s.scene.sites (s.scene.scripts ++ script ∷ []) s.scene.schedule (early_steps s st.0 w.tidy);
     }
-more s (Do command) w st f =
+more s (CommandLine command) w st f =
     let b = bound_at sections.Scripts s st.0.0 w in
     let t = tidy_at sections.Scripts s st.0.0 w.tidy in
     let now = set s.scene.scripts (length s.scene.scripts - 1) (with_command command (last_script s.scene.scripts)) in
@@ -181,7 +181,7 @@ more s (Do command) w st f =
       few_steps = w.few_steps;
       schedule = no_steps s.scene.layout s.scene.sites now s.scene.schedule t.1;
     }
-more s Steps w st f = record {
+more s ScheduleLine w st f = record {
   tidy = st.1;
   bound = bound_early s st.0.0 w;
   setup = w.setup;
@@ -190,7 +190,7 @@ more s Steps w st f = record {
   few_steps = w.few_steps;
   schedule = w.schedule;
 }
-more s (Go step) w st f = record {
+more s (StepLine step) w st f = record {
   tidy = st.1;
   bound = bound_at sections.Schedule s st.0 w;
   setup = w.setup;
@@ -199,7 +199,7 @@ more s (Go step) w st f = record {
   few_steps = omega (arith, f.1, length-append s.scene.schedule (step ∷ []));
   schedule = schedule_more s.scene.layout s.scene.sites s.scene.scripts [] s.scene.schedule step w.schedule f.0;
 }
-more s Ends w st f = record {
+more s EndLine w st f = record {
   tidy = st.1;
   bound = bound_at sections.Schedule s st.0 w;
   setup = w.setup;

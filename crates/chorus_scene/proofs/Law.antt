@@ -22,11 +22,11 @@ use Rattle.chorus_scene.specs.declared.word.Reason.TheVariants as reasons
 use Rattle.chorus_scene.specs.Text.{cut, lines, fields, number_in, each_byte, is_plain, is_text, is_skipped}
 use Rattle.chorus_scene.specs.Scene.{Scene}
 use Rattle.chorus_scene.specs.Making.{next_port, next_group}
-use Rattle.chorus_scene.specs.Line.{Line, Version, Count, MakePort, MakeGroup, Enlist, Begin, Do, Steps, Go, Ends, name_in, command_of, word_of, line_of, cuts, may_stand, wants, has_body, field}
+use Rattle.chorus_scene.specs.Line.{Line, VersionLine, SitesLine, PortLine, GroupLine, MemberLine, ScriptLine, CommandLine, ScheduleLine, StepLine, EndLine, name_in, command_of, word_of, line_of, cuts, may_stand, wants, has_body, field}
 use Rattle.chorus_ui.specs.declared.kind.Kind.TheVariants as kinds
-use Rattle.chorus_scene.specs.Judge.{State, opening, made, or_at, judge, read_scene, is_ended, judge_fields, judge_line, judge_head, judge_word, unless, is_head, next, then_after, after, with_command, last_script, is_not_given}
-use Rattle.chorus_scene.specs.Laws.{Pass}
-use Rattle.chorus_scene.specs.Print.{behind, text_of, texts_in, joined, printed, PrintedAgain}
+use Rattle.chorus_scene.specs.Grammar.{State, opening, made, or_at, judge, read_scene, is_ended, judge_fields, judge_line, judge_head, judge_word, unless, is_head, next, then_after, after, with_command, last_script, is_not_given}
+use Rattle.chorus_scene.specs.Laws.{Pass, PrintedAgain}
+use Rattle.chorus_scene.specs.Print.{behind, text_of, joined, printed}
 use Rattle.chorus_scene.proofs.Spelled.{lacks, both, marked, uncut, cut_join, cut_all, cut_lacks, behind_fields, is_line, are_lines, lines_joined, total, total-append, total_lines, length_joined}
 use Rattle.chorus_scene.proofs.Reprint.{last_reprinted, swap}
 use Rattle.chorus_scene.proofs.Words.{word_text, word_spelled, word_some}
@@ -34,7 +34,7 @@ use Rattle.chorus_scene.proofs.Again.{Passes, Again, as_printed, again, len, eac
 use Rattle.chorus_scene.proofs.Fits.{Tested, clear, not_so}
 use Rattle.chorus_scene.proofs.Next.{next_is}
 use Rattle.chorus_scene.proofs.Order.{accepted}
-use Rattle.chorus_scene.proofs.Sofar.{Follows, grows}
+use Rattle.chorus_scene.proofs.Sofar.{Follows, texts_in, grows}
 
 -- where a word may stand
 abbrev Allowed : Word → Section → Type 0
@@ -94,7 +94,7 @@ abbrev pub Stays : State → Line → Type 0
 Stays s x = Follows s x × Tidy (after s x)
 
 module _ (s : State) (t : Tidy s) (fs : List (List ℕ)) (x : Line) (judged : judge_line s.scene x ≡ Ok x) where
-  command_stays : (command : Command) → Do command ≡ x → s.section ≡ sections.Scripts → Stays s x
+  command_stays : (command : Command) → CommandLine command ≡ x → s.section ≡ sections.Scripts → Stays s x
   command_stays command same e =
       let k = tidy_at sections.Scripts s e t in
       subst (Stays s) same ((e, k.0), (rw (length-set s.scene.scripts (length s.scene.scripts - 1) (with_command command (last_script s.scene.scripts))) k.0, k.1))
@@ -103,31 +103,31 @@ module _ (s : State) (t : Tidy s) (fs : List (List ℕ)) (x : Line) (judged : ju
   stays_by words.Chorus e h = absurd e
   stays_by words.Sites e h =
       let k = tidy_at sections.Sites s e t in
-      let p = inv_map Count (number_in (field 0 fs)) x h in
+      let p = inv_map SitesLine (number_in (field 0 fs)) x h in
       subst (Stays s) p.2 ((e, k.0, k.1), (k.1, k.2))
   stays_by words.Port e h =
       let k = tidy_at sections.Setup s e t in
-      let p = inv_three MakePort (name_in kinds.Port (field 0 fs)) (name_in kinds.Actor (field 1 fs)) (number_in (field 2 fs)) x h in
+      let p = inv_three PortLine (name_in kinds.Port (field 0 fs)) (name_in kinds.Actor (field 1 fs)) (number_in (field 2 fs)) x h in
       let given = not_so (same_ui p.0 (next_port s.scene.layout p.1 (made s.scene))) (ap (is_not_given s.scene) p.6 ∙ (clear s.scene x judged).order) in
       subst (Stays s) p.6 ((e, k.0, from_same_ui p.0 (next_port s.scene.layout p.1 (made s.scene)) given), (k.0, k.1))
   stays_by words.Group e h =
       let k = tidy_at sections.Setup s e t in
-      let p = inv_map MakeGroup (name_in kinds.Group (field 0 fs)) x h in
+      let p = inv_map GroupLine (name_in kinds.Group (field 0 fs)) x h in
       let given = not_so (same_ui p.0 (next_group s.scene.layout p.0.site (made s.scene))) (ap (is_not_given s.scene) p.2 ∙ (clear s.scene x judged).order) in
       subst (Stays s) p.2 ((e, k.0, from_same_ui p.0 (next_group s.scene.layout p.0.site (made s.scene)) given), (k.0, k.1))
   stays_by words.Member e h =
       let k = tidy_at sections.Setup s e t in
-      let p = inv_two Enlist (name_in kinds.Group (field 0 fs)) (name_in kinds.Port (field 1 fs)) x h in
+      let p = inv_two MemberLine (name_in kinds.Group (field 0 fs)) (name_in kinds.Port (field 1 fs)) x h in
       subst (Stays s) p.4 ((e, k.0), (k.0, k.1))
   stays_by words.Script e h =
-      let p = inv_map Begin (name_in kinds.Actor (field 0 fs)) x h in
+      let p = inv_map ScriptLine (name_in kinds.Actor (field 0 fs)) x h in
       subst (Stays s) p.2 (e, (omega (arith, length-append s.scene.scripts (record { actor = p.0; commands = [] } ∷ [])), early_steps s e t))
-  stays_by (words.Command verb) e h = let p = inv_map Do (command_of verb fs) x h in command_stays p.0 p.2 e
-  stays_by words.Schedule e h = subst (Stays s) (bare x Steps h) ((e, early_steps s e t), tt)
-  stays_by words.Step e h = let p = inv_map (λ n. Go (steps.Step n)) (number_in (field 0 fs)) x h in subst (Stays s) p.2 (e, tt)
-  stays_by words.Deliver e h = let p = inv_two (λ a b. Go (steps.Deliver a b)) (number_in (field 0 fs)) (number_in (field 1 fs)) x h in subst (Stays s) p.4 (e, tt)
-  stays_by words.Drain e h = subst (Stays s) (bare x (Go steps.Drain) h) (e, tt)
-  stays_by words.End e h = subst (Stays s) (bare x Ends h) (e, tt)
+  stays_by (words.Command verb) e h = let p = inv_map CommandLine (command_of verb fs) x h in command_stays p.0 p.2 e
+  stays_by words.Schedule e h = subst (Stays s) (bare x ScheduleLine h) ((e, early_steps s e t), tt)
+  stays_by words.Step e h = let p = inv_map (λ n. StepLine (steps.Step n)) (number_in (field 0 fs)) x h in subst (Stays s) p.2 (e, tt)
+  stays_by words.Deliver e h = let p = inv_two (λ a b. StepLine (steps.Deliver a b)) (number_in (field 0 fs)) (number_in (field 1 fs)) x h in subst (Stays s) p.4 (e, tt)
+  stays_by words.Drain e h = subst (Stays s) (bare x (StepLine steps.Drain) h) (e, tt)
+  stays_by words.End e h = subst (Stays s) (bare x EndLine h) (e, tt)
 
   stays : (w : Word) → may_stand s.section w ≡ true → line_of w fs ≡ Some x → Stays s x
   stays w may h = stays_by w (allowed s.section w may) h
@@ -164,20 +164,20 @@ inv_then s (Ok x) u h = (x, refl, cc)
 inv_then s (Err e) u h = absurd cc
 
 -- the head
-head_stays : (s : State) (v : ℕ) → s.section ≡ sections.Head → Tidy s → Stays s (Version v)
+head_stays : (s : State) (v : ℕ) → s.section ≡ sections.Head → Tidy s → Stays s (VersionLine v)
 head_stays s v e t = (e, tidy_at sections.Head s e t)
 
-one_text : text_of (Version 1) ≡ codes "chorus 1"
+one_text : text_of (VersionLine 1) ≡ codes "chorus 1"
 one_text = ap (λ ds. codes "chorus" ++ behind (ds ∷ [])) (decimal_digit 1 (omega arith))
 
-two_text : text_of (Version 2) ≡ codes "chorus 2"
+two_text : text_of (VersionLine 2) ≡ codes "chorus 2"
 two_text = ap (λ ds. codes "chorus" ++ behind (ds ∷ [])) (decimal_digit 2 (omega arith))
 
-one_again : (s : State) → s.section ≡ sections.Head → next s (codes "chorus 1") ≡ Ok (after s (Version 1))
+one_again : (s : State) → s.section ≡ sections.Head → next s (codes "chorus 1") ≡ Ok (after s (VersionLine 1))
 unfolding next each_byte
 one_again s e = rw e refl
 
-two_again : (s : State) → s.section ≡ sections.Head → next s (codes "chorus 2") ≡ Ok (after s (Version 2))
+two_again : (s : State) → s.section ≡ sections.Head → next s (codes "chorus 2") ≡ Ok (after s (VersionLine 2))
 unfolding next each_byte
 two_again s e = rw e refl
 
@@ -189,11 +189,11 @@ two_line : is_line (codes "chorus 2") ≡ true
 unfolding each_byte
 two_line = refl
 
-head_said : (s u : State) (v : ℕ) (bytes : List ℕ) → s.section ≡ sections.Head → Tidy s → text_of (Version v) ≡ bytes → next s bytes ≡ Ok (after s (Version v)) → is_line bytes ≡ true → u ≡ after s (Version v) → 1 ≤ v → v ≤ 2 → Said s bytes u
+head_said : (s u : State) (v : ℕ) (bytes : List ℕ) → s.section ≡ sections.Head → Tidy s → text_of (VersionLine v) ≡ bytes → next s bytes ≡ Ok (after s (VersionLine v)) → is_line bytes ≡ true → u ≡ after s (VersionLine v) → 1 ≤ v → v ≤ 2 → Said s bytes u
 head_said s u v bytes e t text again one so from to = record {
-  line = Version v;
+  line = VersionLine v;
   stays = head_stays s v e t;
-  again = subst (λ xs. next s xs ≡ Ok (after s (Version v))) (sym text) again;
+  again = subst (λ xs. next s xs ≡ Ok (after s (VersionLine v))) (sym text) again;
   is_one = subst (λ xs. is_line xs ≡ true) (sym text) one;
   short = subst (λ xs. length xs ≤ length bytes) (sym text) (omega arith);
   so = so;
@@ -201,12 +201,12 @@ head_said s u v bytes e t text again one so from to = record {
 }
 
 head_by : (s u : State) (bytes : List ℕ) (x : Line) (a b : Bool) → (a ≡ true → bytes ≡ codes "chorus 1") → (b ≡ true → bytes ≡ codes "chorus 2") → s.section ≡ sections.Head → Tidy s
-    → cond a (Ok (Version 1)) (cond b (Ok (Version 2)) (Err reasons.Header)) ≡ Ok x → u ≡ after s x → Said s bytes u
+    → cond a (Ok (VersionLine 1)) (cond b (Ok (VersionLine 2)) (Err reasons.Header)) ≡ Ok x → u ≡ after s x → Said s bytes u
 head_by s u bytes x true b one two e t h so =
-    let same : Version 1 ≡ x = cc in
+    let same : VersionLine 1 ≡ x = cc in
     subst (λ xs. Said s xs u) (sym (one refl)) (head_said s u 1 (codes "chorus 1") e t one_text (one_again s e) one_line (so ∙ ap (after s) (sym same)) (omega arith) (omega arith))
 head_by s u bytes x false true one two e t h so =
-    let same : Version 2 ≡ x = cc in
+    let same : VersionLine 2 ≡ x = cc in
     subst (λ xs. Said s xs u) (sym (two refl)) (head_said s u 2 (codes "chorus 2") e t two_text (two_again s e) two_line (so ∙ ap (after s) (sym same)) (omega arith) (omega arith))
 head_by s u bytes x false false one two e t h so = absurd cc
 
@@ -353,16 +353,16 @@ pub record Prints (l : Shape) (s : State) (room : ℕ) : Type 0 where
   pub short : total (texts_in s.section s.scene) ≤ room
 
 layout_stays : (s : State) (x : Line) → (after s x).scene.layout ≡ s.scene.layout
-layout_stays s (Version v) = refl
-layout_stays s (Count n) = refl
-layout_stays s (MakePort u actor capacity) = refl
-layout_stays s (MakeGroup u) = refl
-layout_stays s (Enlist group port) = refl
-layout_stays s (Begin actor) = refl
-layout_stays s (Do command) = refl
-layout_stays s Steps = refl
-layout_stays s (Go step) = refl
-layout_stays s Ends = refl
+layout_stays s (VersionLine v) = refl
+layout_stays s (SitesLine n) = refl
+layout_stays s (PortLine u actor capacity) = refl
+layout_stays s (GroupLine u) = refl
+layout_stays s (MemberLine group port) = refl
+layout_stays s (ScriptLine actor) = refl
+layout_stays s (CommandLine command) = refl
+layout_stays s ScheduleLine = refl
+layout_stays s (StepLine step) = refl
+layout_stays s EndLine = refl
 
 one_more : (l : Shape) (s u : State) (room : ℕ) (line : List ℕ) → Prints l s room → (s ≡ u) ⊎ Said s line u → Prints l u (room + (length line + 1))
 one_more l s u room line h (inl e) = subst (λ v. Prints l v (room + (length line + 1))) e (record { layout = h.layout; tidy = h.tidy; pass = h.pass; each = h.each; short = omega (arith, h.short) })

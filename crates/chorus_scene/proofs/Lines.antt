@@ -4,10 +4,10 @@ use Rattle.std.specs.Prelude.{unwrap_or}
 use Rattle.chorus_ui.specs.Layout.{Shape}
 use Rattle.chorus_scene.specs.declared.fault.Stop.{Stop}
 use Rattle.chorus_scene.specs.declared.fault.Stop.TheVariants as stops
-use Rattle.chorus_scene.specs.Reader.{Fails, Refuses, fault_at}
+use Rattle.chorus_scene.specs.Reader.{Fails, fault_at}
 use Rattle.chorus_scene.specs.Scene.{Scene}
 use Rattle.chorus_scene.specs.Text.{cut, lines, in_front}
-use Rattle.chorus_scene.specs.Judge.{State, next, judge, is_ended, read_scene, opening}
+use Rattle.chorus_scene.specs.Grammar.{State, next, judge, is_ended, read_scene, opening, Refuses}
 use Rattle.std.proofs.lemmas.Bool.Decides.{nat_tests}
 use Rattle.chorus_scene.specs.declared.word.Section.{Section}
 use Rattle.chorus_scene.specs.declared.word.Section.TheVariants as sections

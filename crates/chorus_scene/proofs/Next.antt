@@ -15,8 +15,8 @@ use Rattle.chorus_scene.specs.declared.word.Reason.TheVariants as reasons
 use Rattle.chorus_scene.specs.Text.{cut, is_text, is_skipped, fields, are_fields, number_in}
 use Rattle.chorus_scene.specs.Body.{begins_a_body}
 use Rattle.chorus_scene.specs.Making.{next_name, is_among}
-use Rattle.chorus_scene.specs.Line.{Line, MakePort, MakeGroup, word_of, may_stand, cuts, is_misshapen, line_of, name_in, with_three}
-use Rattle.chorus_scene.specs.Judge.{State, made, next, then_after, judge_fields, is_head, unless, after, with_setup, is_far, is_no_actor, is_beyond, names_unknown, repeats, is_not_given, is_unscheduled}
+use Rattle.chorus_scene.specs.Line.{Line, PortLine, GroupLine, word_of, may_stand, cuts, is_misshapen, line_of, name_in, with_three}
+use Rattle.chorus_scene.specs.Grammar.{State, made, next, then_after, judge_fields, is_head, unless, after, with_setup, is_far, is_no_actor, is_beyond, names_unknown, repeats, is_not_given, is_unscheduled}
 
 not_head : (s : Section) → (s ≡ sections.Head → ⊥) → is_head s ≡ false
 not_head sections.Head h = absurd (h refl)
@@ -60,7 +60,7 @@ pub group_read : (s : State) (a : List ℕ) (g : Name) (kind : Kind) (site : ℕ
 group_read s a g kind site shape name small near new is-kind is-site =
     ap (λ k. unless (not (same_ui g (next_name s.scene.layout k site 1 (made s.scene)))) reasons.Order (Ok (with_setup s (setups.Group site)))) is-kind
     ∙ ap (λ m. unless (not (same_ui g (next_name s.scene.layout kinds.Group m 1 (made s.scene)))) reasons.Order (Ok (with_setup s (setups.Group m)))) is-site
-    ∙ made_line s words.Group (a ∷ []) (MakeGroup g) (whole 1 s.scene.version (a ∷ []) a shape) (ap (option_map MakeGroup) (sym name)) (few g.number 4 small) near new refl
+    ∙ made_line s words.Group (a ∷ []) (GroupLine g) (whole 1 s.scene.version (a ∷ []) a shape) (ap (option_map GroupLine) (sym name)) (few g.number 4 small) near new refl
 
 pub port_read : (s : State) (a b d : List ℕ) (u actor : Name) (capacity : ℕ) (kind : Kind) (site number : ℕ) → are_fields 3 (a ∷ b ∷ d ∷ []) ≡ true → Some u ≡ name_in kinds.Port a → Some actor ≡ name_in kinds.Actor b → Some capacity ≡ number_in d
     → capacity ≢ 0 → capacity ≤ 64 → u.number ≤ 32 → is_far s.scene u ≡ false → is_no_actor s.scene actor ≡ false → is_among u (made s.scene) ≡ false → kind ≡ kinds.Port → site ≡ actor.site → number ≡ actor.number
@@ -70,6 +70,6 @@ port_read s a b d u actor capacity kind site number shape port-name actor-name c
     ap (λ k. unless (not (same_ui u (next_name s.scene.layout k site number (made s.scene)))) reasons.Order t) is-kind
     ∙ ap (λ m. unless (not (same_ui u (next_name s.scene.layout kinds.Port m number (made s.scene)))) reasons.Order t) is-site
     ∙ ap (λ n. unless (not (same_ui u (next_name s.scene.layout kinds.Port actor.site n (made s.scene)))) reasons.Order t) is-number
-    ∙ made_line s words.Port (a ∷ b ∷ d ∷ []) (MakePort u actor capacity) (whole 3 s.scene.version (a ∷ b ∷ d ∷ []) d shape)
-    (ap (λ o. with_three MakePort o (name_in kinds.Actor b) (number_in d)) (sym port-name) ∙ ap (λ o. with_three MakePort (Some u) o (number_in d)) (sym actor-name) ∙ ap (λ o. with_three MakePort (Some u) (Some actor) o) (sym count))
+    ∙ made_line s words.Port (a ∷ b ∷ d ∷ []) (PortLine u actor capacity) (whole 3 s.scene.version (a ∷ b ∷ d ∷ []) d shape)
+    (ap (λ o. with_three PortLine o (name_in kinds.Actor b) (number_in d)) (sym port-name) ∙ ap (λ o. with_three PortLine (Some u) o (number_in d)) (sym actor-name) ∙ ap (λ o. with_three PortLine (Some u) (Some actor) o) (sym count))
     (capacity_fits capacity u.number 32 some most small) (neither (is_far s.scene u) (is_no_actor s.scene actor) near there) new refl

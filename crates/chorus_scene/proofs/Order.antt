@@ -4,7 +4,7 @@ use Rattle.std.proofs.lemmas.List.{append-nil}
 use Rattle.chorus_ui.specs.Layout.{Shape}
 use Rattle.chorus_scene.specs.Scene.{Scene}
 use Rattle.chorus_scene.specs.Text.{lines}
-use Rattle.chorus_scene.specs.Judge.{State, opening, judge, read_scene, reason_number, is_ended}
+use Rattle.chorus_scene.specs.Grammar.{State, opening, judge, read_scene, reason_number, is_ended}
 use Rattle.chorus_scene.specs.Laws.{Pass, FirstFault, NoEnd, Accepted}
 use Rattle.chorus_scene.proofs.Lines.{read_is}
 

@@ -1,5 +1,6 @@
 -- The lines that a scenario is printed as grow by the text of each line that is read.
 use Rattle.std.proofs.Common.{◌≡◌, ℕ, zero, suc, ◌+◌, ◌-◌, ◌<◌, List, [], ◌∷◌, ◌++◌, ◌⊎◌, inl, inr, length, get_or, set, map, refl, sym, ap, ◌∙◌, arith, append_assoc}
+use Rattle.std.specs.Prelude.{codes}
 use Rattle.std.specs.List.{flat_map}
 use Rattle.std.proofs.lemmas.List.{map_push, append-nil}
 use Rattle.chorus_ui.specs.Name.{Name}
@@ -11,9 +12,18 @@ use Rattle.chorus_scene.specs.declared.scenario.SetupLine.{SetupLine}
 use Rattle.chorus_scene.specs.declared.scenario.SetupLine.TheVariants as setups
 use Rattle.chorus_scene.specs.Scene.{Scene, Script}
 use Rattle.chorus_scene.specs.Making.{makes, made_after, next_port, next_group}
-use Rattle.chorus_scene.specs.Line.{Line, Version, Count, MakePort, MakeGroup, Enlist, Begin, Do, Steps, Go, Ends}
-use Rattle.chorus_scene.specs.Judge.{State, after, made, with_command, last_script, no_script}
-use Rattle.chorus_scene.specs.Print.{setup_text, setup_texts, script_texts, command_text, step_text, version_text, sites_text, text_of, texts_in, before_schedule}
+use Rattle.chorus_scene.specs.Line.{Line, VersionLine, SitesLine, PortLine, GroupLine, MemberLine, ScriptLine, CommandLine, ScheduleLine, StepLine, EndLine}
+use Rattle.chorus_scene.specs.Grammar.{State, after, made, with_command, last_script, no_script}
+use Rattle.chorus_scene.specs.Print.{setup_text, setup_texts, script_texts, command_text, step_text, version_text, sites_text, text_of, before_schedule, scene_texts}
+
+-- the lines that a scenario so far is printed as
+abbrev pub texts_in : Section → Scene → List (List ℕ)
+texts_in sections.Head c = []
+texts_in sections.Sites c = version_text c.version ∷ []
+texts_in sections.Setup c = before_schedule c
+texts_in sections.Scripts c = before_schedule c
+texts_in sections.Schedule c = before_schedule c ++ codes "schedule" ∷ map step_text c.schedule
+texts_in sections.Ended c = scene_texts c
 
 setup_more : (l : Shape) (made : List Name) (lines : List SetupLine) (line : SetupLine) → setup_texts l made (lines ++ line ∷ []) ≡ setup_texts l made lines ++ setup_text l (made_after l made lines) line ∷ []
 setup_more l made [] line = refl
@@ -24,7 +34,7 @@ flat_more [] s = append-nil (script_texts s)
 flat_more (x ∷ xs) s = rw (flat_more xs s) (sym (append_assoc (script_texts x) (flat_map script_texts xs) (script_texts s)))
 
 one_command : (c : Command) (s : Script) → script_texts (with_command c s) ≡ script_texts s ++ command_text c ∷ []
-one_command c s = ap (λ rest. text_of (Begin s.actor) ∷ rest) (map_push command_text s.commands c)
+one_command c s = ap (λ rest. text_of (ScriptLine s.actor) ∷ rest) (map_push command_text s.commands c)
 
 last_at : (c : Command) (scripts : List Script) (i : ℕ) → i + 1 ≡ length scripts → flat_map script_texts (set scripts i (with_command c (get_or scripts i no_script))) ≡ flat_map script_texts scripts ++ command_text c ∷ []
 last_at c [] i e = absurd (omega arith)
@@ -38,16 +48,16 @@ last_more c scripts some = last_at c scripts (length scripts - 1) (omega arith)
 
 -- where a line may follow, as far as printing goes
 abbrev pub Follows : State → Line → Type 0
-Follows s (Version v) = s.section ≡ sections.Head
-Follows s (Count n) = (s.section ≡ sections.Sites) × (s.scene.setup ≡ []) × (s.scene.scripts ≡ [])
-Follows s (MakePort u actor capacity) = (s.section ≡ sections.Setup) × (s.scene.scripts ≡ []) × (u ≡ next_port s.scene.layout actor (made s.scene))
-Follows s (MakeGroup u) = (s.section ≡ sections.Setup) × (s.scene.scripts ≡ []) × (u ≡ next_group s.scene.layout u.site (made s.scene))
-Follows s (Enlist group port) = (s.section ≡ sections.Setup) × (s.scene.scripts ≡ [])
-Follows s (Begin actor) = (s.section ≡ sections.Setup) ⊎ (s.section ≡ sections.Scripts)
-Follows s (Do command) = (s.section ≡ sections.Scripts) × (0 < length s.scene.scripts)
-Follows s Steps = ((s.section ≡ sections.Setup) ⊎ (s.section ≡ sections.Scripts)) × (s.scene.schedule ≡ [])
-Follows s (Go step) = s.section ≡ sections.Schedule
-Follows s Ends = s.section ≡ sections.Schedule
+Follows s (VersionLine v) = s.section ≡ sections.Head
+Follows s (SitesLine n) = (s.section ≡ sections.Sites) × (s.scene.setup ≡ []) × (s.scene.scripts ≡ [])
+Follows s (PortLine u actor capacity) = (s.section ≡ sections.Setup) × (s.scene.scripts ≡ []) × (u ≡ next_port s.scene.layout actor (made s.scene))
+Follows s (GroupLine u) = (s.section ≡ sections.Setup) × (s.scene.scripts ≡ []) × (u ≡ next_group s.scene.layout u.site (made s.scene))
+Follows s (MemberLine group port) = (s.section ≡ sections.Setup) × (s.scene.scripts ≡ [])
+Follows s (ScriptLine actor) = (s.section ≡ sections.Setup) ⊎ (s.section ≡ sections.Scripts)
+Follows s (CommandLine command) = (s.section ≡ sections.Scripts) × (0 < length s.scene.scripts)
+Follows s ScheduleLine = ((s.section ≡ sections.Setup) ⊎ (s.section ≡ sections.Scripts)) × (s.scene.schedule ≡ [])
+Follows s (StepLine step) = s.section ≡ sections.Schedule
+Follows s EndLine = s.section ≡ sections.Schedule
 
 early_texts : (s : Section) (c : Scene) → (s ≡ sections.Setup) ⊎ (s ≡ sections.Scripts) → texts_in s c ≡ before_schedule c
 early_texts s c (inl e) = rw e refl
@@ -63,18 +73,18 @@ setup_grows s line text section scripts same =
     ∙ ap (λ rest. rest ++ text ∷ []) (sym (append-nil (setup_texts s.scene.layout [] s.scene.setup)))))
 
 pub grows : (s : State) (x : Line) → Follows s x → texts_in (after s x).section (after s x).scene ≡ texts_in s.section s.scene ++ text_of x ∷ []
-grows s (Version v) h = rw h refl
-grows s (Count n) h = rw (h.0, h.1, h.2) refl
-grows s (MakePort u actor capacity) h = setup_grows s (setups.Port actor capacity) (text_of (MakePort u actor capacity)) h.0 h.1 (ap (λ v. text_of (MakePort v actor capacity)) (sym h.2))
-grows s (MakeGroup u) h = setup_grows s (setups.Group u.site) (text_of (MakeGroup u)) h.0 h.1 (ap (λ v. text_of (MakeGroup v)) (sym h.2))
-grows s (Enlist group port) h = setup_grows s (setups.Member group port) (text_of (Enlist group port)) h.0 h.1 refl
-grows s (Begin actor) h =
+grows s (VersionLine v) h = rw h refl
+grows s (SitesLine n) h = rw (h.0, h.1, h.2) refl
+grows s (PortLine u actor capacity) h = setup_grows s (setups.Port actor capacity) (text_of (PortLine u actor capacity)) h.0 h.1 (ap (λ v. text_of (PortLine v actor capacity)) (sym h.2))
+grows s (GroupLine u) h = setup_grows s (setups.Group u.site) (text_of (GroupLine u)) h.0 h.1 (ap (λ v. text_of (GroupLine v)) (sym h.2))
+grows s (MemberLine group port) h = setup_grows s (setups.Member group port) (text_of (MemberLine group port)) h.0 h.1 refl
+grows s (ScriptLine actor) h =
     let e = early_texts s.section s.scene h in
     rw e (ap (λ rest. version_text s.scene.version ∷ sites_text s.scene.sites ∷ rest)
-    (ap (λ rest. setup_texts s.scene.layout [] s.scene.setup ++ rest) (flat_more s.scene.scripts (record { actor = actor; commands = [] })) ∙ sym (append_assoc (setup_texts s.scene.layout [] s.scene.setup) (flat_map script_texts s.scene.scripts) (text_of (Begin actor) ∷ []))))
-grows s (Do command) h =
+    (ap (λ rest. setup_texts s.scene.layout [] s.scene.setup ++ rest) (flat_more s.scene.scripts (record { actor = actor; commands = [] })) ∙ sym (append_assoc (setup_texts s.scene.layout [] s.scene.setup) (flat_map script_texts s.scene.scripts) (text_of (ScriptLine actor) ∷ []))))
+grows s (CommandLine command) h =
     rw h.0 (ap (λ rest. version_text s.scene.version ∷ sites_text s.scene.sites ∷ rest)
     (ap (λ rest. setup_texts s.scene.layout [] s.scene.setup ++ rest) (last_more command s.scene.scripts h.1) ∙ sym (append_assoc (setup_texts s.scene.layout [] s.scene.setup) (flat_map script_texts s.scene.scripts) (command_text command ∷ []))))
-grows s Steps h = let e = early_texts s.section s.scene h.0 in rw (e, h.1) refl
-grows s (Go step) h = rw h (ap (λ rest. before_schedule s.scene ++ text_of Steps ∷ rest) (map_push step_text s.scene.schedule step) ∙ sym (append_assoc (before_schedule s.scene) (text_of Steps ∷ map step_text s.scene.schedule) (step_text step ∷ [])))
-grows s Ends h = rw h refl
+grows s ScheduleLine h = let e = early_texts s.section s.scene h.0 in rw (e, h.1) refl
+grows s (StepLine step) h = rw h (ap (λ rest. before_schedule s.scene ++ text_of ScheduleLine ∷ rest) (map_push step_text s.scene.schedule step) ∙ sym (append_assoc (before_schedule s.scene) (text_of ScheduleLine ∷ map step_text s.scene.schedule) (step_text step ∷ [])))
+grows s EndLine h = rw h refl

@@ -18,7 +18,7 @@ use Rattle.chorus_scene.specs.declared.scenario.SetupLine.{SetupLine}
 use Rattle.chorus_scene.specs.declared.scenario.SetupLine.TheVariants as setups
 use Rattle.chorus_scene.specs.Making.{stride, shares_place, next_name, makes, made_after, name_said, names_said, is_among, members_of}
 use Rattle.chorus_scene.specs.declared.setup.Setup.{Setup}
-use Rattle.chorus_scene.specs.Reader.{home, is_actor, is_listed, list_number, most_number, listed, made_by, IsSetup}
+use Rattle.chorus_scene.specs.Reader.{count_at, is_actor, is_listed, list_number, most_number, listed, made_by, IsSetup}
 
 same_product : (t q c : ℕ) → 1 ≤ t → t * q ≡ t * c → q ≡ c
 same_product t q c h e =
@@ -160,7 +160,7 @@ one_count counts p q v m b same lt here there =
 module _ (l : Shape) (some : 1 ≤ l.turns) (most : l.turns ≤ 4) where
   -- two names share their place exactly where their counts stand at one index
   one_home : (kind other : Kind) (site number osite onumber : ℕ) → is_actor kind ≡ false → is_actor other ≡ false → 1 ≤ site → site ≤ 16 → 1 ≤ osite → osite ≤ 16
-      → ((same_kind kind other && eqb site osite) && eqb ((number - 1) % stride l other) ((onumber - 1) % stride l other)) ≡ eqb (home l other osite onumber) (home l kind site number)
+      → ((same_kind kind other && eqb site osite) && eqb ((number - 1) % stride l other) ((onumber - 1) % stride l other)) ≡ eqb (count_at l other osite onumber) (count_at l kind site number)
   one_home kinds.Port kinds.Port site number osite onumber a b c d e f = one_row site osite ((number - 1) % l.turns) ((onumber - 1) % l.turns) c e (omega arith) (omega arith)
   one_home kinds.Port kinds.Group site number osite onumber a b c d e f = not_above site osite ((number - 1) % l.turns) ((onumber - 1) % 1) d (omega arith) c
   one_home kinds.Group kinds.Port site number osite onumber a b c d e f = not_below site osite ((number - 1) % 1) ((onumber - 1) % l.turns) f (omega arith) e
@@ -211,7 +211,7 @@ module _ (l : Shape) (s t : Setup) (shape : IsShape l) (h : IsSetup l s) (line :
 
     -- the new name shares a place exactly where its place is counted
     shares_next : (other : Kind) (osite onumber : ℕ) → is_actor other ≡ false → 1 ≤ osite → osite ≤ 16
-        → shares_place l other osite onumber (next_name l kind site number (made_by l s)) ≡ eqb (home l other osite onumber) (home l kind site number)
+        → shares_place l other osite onumber (next_name l kind site number (made_by l s)) ≡ eqb (count_at l other osite onumber) (count_at l kind site number)
     shares_next other osite onumber actual one most =
         shares_by other osite onumber (same_kind kind other) refl ∙ one_home l shape.turns_from_one shape.turns_to_four kind other site number osite onumber real actual low high one most
       where
@@ -224,15 +224,15 @@ module _ (l : Shape) (s t : Setup) (shape : IsShape l) (h : IsSetup l s) (line :
             ap (λ r. (same_kind kind other && eqb site osite) && eqb r ((onumber - 1) % stride l other)) (subst P same residue)
         shares_by other osite onumber false e = rw e refl
 
-    making_at : t.names.items ≡ names_said l [] t.lines.items → (v : ℕ) → v ≡ get_or s.counts (home l kind site number) 0 → t.counts ≡ set s.counts (home l kind site number) (v + 1) → map (λ x. x.items) t.members.items ≡ map (λ x. x.items) s.members.items
-        → (next_name l kind site number (made_by l s)).number ≤ most_number kind → home l kind site number < 128 → IsSetup l t
+    making_at : t.names.items ≡ names_said l [] t.lines.items → (v : ℕ) → v ≡ get_or s.counts (count_at l kind site number) 0 → t.counts ≡ set s.counts (count_at l kind site number) (v + 1) → map (λ x. x.items) t.members.items ≡ map (λ x. x.items) s.members.items
+        → (next_name l kind site number (made_by l s)).number ≤ most_number kind → count_at l kind site number < 128 → IsSetup l t
     making_at names v is counts members room small = record {
       names = names;
-      homes = ap length counts ∙ length-set s.counts (home l kind site number) (v + 1) ∙ h.homes;
+      counts_len = ap length counts ∙ length-set s.counts (count_at l kind site number) (v + 1) ∙ h.counts_len;
       counts = λ other osite onumber actual one most.
           rw (counts, made_next, count_more l other osite onumber (next_name l kind site number (made_by l s)) (made_by l s))
-          (one_count s.counts (home l kind site number) (home l other osite onumber) v (count_by (shares_place l other osite onumber) (made_by l s)) (shares_place l other osite onumber (next_name l kind site number (made_by l s)))
-          (shares_next other osite onumber actual one most) (omega (arith, h.homes)) is (h.counts other osite onumber actual one most));
+          (one_count s.counts (count_at l kind site number) (count_at l other osite onumber) v (count_by (shares_place l other osite onumber) (made_by l s)) (shares_place l other osite onumber (next_name l kind site number (made_by l s)))
+          (shares_next other osite onumber actual one most) (omega (arith, h.counts_len)) is (h.counts other osite onumber actual one most));
       lists = lists_now;
       members = λ g is-listed. ap (λ ms. get_or ms (list_number g) []) members ∙ h.members g is-listed ∙ sym (members_stay g);
       strangers = λ g not-listed. members_stay g ∙ h.strangers g not-listed;
@@ -253,10 +253,10 @@ module _ (l : Shape) (s t : Setup) (shape : IsShape l) (h : IsSetup l s) (line :
         lists_now : length t.members.items ≡ 64
         lists_now = sym (length-map t.members.items (λ (x : Vec Name). x.items)) ∙ ap length members ∙ length-map s.members.items (λ (x : Vec Name). x.items) ∙ h.lists
 
-    pub making_tables : (at : ℕ) → at ≡ home l kind site number → s.names.items ++ next_name l kind site number (made_by l s) ∷ [] ≡ t.names.items → name_said l (made_by l s) line ≡ next_name l kind site number (made_by l s) → t.counts ≡ set s.counts at (get_or s.counts at 0 + 1) → t.members ≡ s.members
+    pub making_tables : (at : ℕ) → at ≡ count_at l kind site number → s.names.items ++ next_name l kind site number (made_by l s) ∷ [] ≡ t.names.items → name_said l (made_by l s) line ≡ next_name l kind site number (made_by l s) → t.counts ≡ set s.counts at (get_or s.counts at 0 + 1) → t.members ≡ s.members
         → (next_name l kind site number (made_by l s)).number ≤ most_number kind → at < 128 → IsSetup l t
     making_tables at is grown said counts members room small =
-        let i = home l kind site number in
+        let i = count_at l kind site number in
         making_at (names_now (next_name l kind site number (made_by l s)) grown said) (get_or s.counts i 0) refl (subst (λ j. t.counts ≡ set s.counts j (get_or s.counts j 0 + 1)) is counts) (ap (λ ms. map (λ x. x.items) ms.items) members) room (omega (arith, is))
 
 -- the place of a group's list
@@ -351,7 +351,7 @@ module _ (l : Shape) (s t : Setup) (h : IsSetup l s) (group port : Name) (kind :
   pub member_tables : length t.members.items ≡ length s.members.items → IsSetup l t
   member_tables len = record {
     names = grown ∙ ap (λ names. names ++ group ∷ []) h.names ∙ sym (names_more l [] s.lines.items (setups.Member group port)) ∙ ap (names_said l []) (sym lines);
-    homes = ap length counts ∙ h.homes;
+    counts_len = ap length counts ∙ h.counts_len;
     counts = λ other site number actual one most. rw (counts, made_same) (h.counts other site number actual one most);
     lists = len ∙ h.lists;
     members = listed_now;
@@ -368,8 +368,8 @@ zeros (suc n) (suc i) = zeros n i
 pub no_tables : (l : Shape) (s : Setup) → s.lines.items ≡ [] → s.names.items ≡ [] → s.counts ≡ replicate 128 0 → length s.members.items ≡ 64 → ((k : ℕ) → get_or (map (λ (x : Vec Name). x.items) s.members.items) k [] ≡ []) → IsSetup l s
 no_tables l s lines names counts lists members = record {
   names = names ∙ ap (names_said l []) (sym lines);
-  homes = ap length counts;
-  counts = λ kind site number actual one most. rw (counts, lines, zeros 128 (home l kind site number)) refl;
+  counts_len = ap length counts;
+  counts = λ kind site number actual one most. rw (counts, lines, zeros 128 (count_at l kind site number)) refl;
   lists = lists;
   members = λ g listed-g. members (list_number g) ∙ sym (ap (members_of g) lines);
   strangers = λ g out. ap (members_of g) lines;

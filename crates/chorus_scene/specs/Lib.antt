@@ -3,7 +3,7 @@ pub mod Body
 pub mod Scene
 pub mod Making
 pub mod Line
-pub mod Judge
+pub mod Grammar
 pub mod Limits
 pub mod Laws
 pub mod Print

@@ -15,10 +15,10 @@ use Rattle.chorus_scene.specs.declared.scenario.SetupLine.{SetupLine}
 use Rattle.chorus_scene.specs.declared.scenario.SetupLine.TheVariants as setups
 use Rattle.chorus_scene.specs.declared.scenario.Step as step
 use Rattle.chorus_scene.specs.declared.scenario.Step.TheVariants as steps
-use Rattle.chorus_scene.specs.declared.scenario.TheConstants.{SCRIPTS_LIMIT, COMMANDS_LIMIT, STEPS_LIMIT, GROUPS_PER_SITE}
+use Rattle.chorus_scene.specs.declared.limits.TheConstants.{SCRIPTS_LIMIT, COMMANDS_LIMIT, STEPS_LIMIT, GROUPS_PER_SITE}
 use Rattle.chorus_scene.specs.Scene.{Scene, Script}
 use Rattle.chorus_scene.specs.Making.{next_port, next_group, made_after, is_among, members_of}
-use Rattle.chorus_scene.specs.Judge.{most_sites, most_bytes, script_at, is_step, read_scene}
+use Rattle.chorus_scene.specs.Grammar.{most_sites, most_bytes, script_at, is_step, read_scene}
 
 -- one of the sites 1 to n
 abbrev pub is_site : ℕ → ℕ → Bool

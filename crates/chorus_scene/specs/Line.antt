@@ -58,7 +58,7 @@ word_of version text =
     else if bytes_eq text (codes "end") then Some words.End
     else option_map words.Command (verb_of version text)
 
--- the words that may follow the lines of a section
+-- the words that may stand where a text has come so far
 abbrev pub may_stand : Section → Word → Bool
 may_stand sections.Sites words.Sites = true
 may_stand sections.Setup words.Port = true
@@ -131,16 +131,16 @@ is_misshapen version w fields =
 
 -- a line that is spelled as it should be
 pub data Line : Type 0 where
-  Version : ℕ → Line
-  Count : ℕ → Line
-  MakePort : Name → Name → ℕ → Line
-  MakeGroup : Name → Line
-  Enlist : Name → Name → Line
-  Begin : Name → Line
-  Do : Command → Line
-  Steps : Line
-  Go : step.Step → Line
-  Ends : Line
+  VersionLine : ℕ → Line
+  SitesLine : ℕ → Line
+  PortLine : Name → Name → ℕ → Line
+  GroupLine : Name → Line
+  MemberLine : Name → Name → Line
+  ScriptLine : Name → Line
+  CommandLine : Command → Line
+  ScheduleLine : Line
+  StepLine : step.Step → Line
+  EndLine : Line
 
 abbrev pub with_two : {A B C : Type 0} → (A → B → C) → Option A → Option B → Option C
 with_two f (Some a) (Some b) = Some (f a b)
@@ -190,14 +190,14 @@ command_of verbs.Leave fields = with_two commands.Leave (name_in kinds.Group (fi
 -- test 6: none where a number, a name or a body is not spelled as one
 abbrev pub line_of : Word → List (List ℕ) → Option Line
 line_of words.Chorus fields = None
-line_of words.Sites fields = option_map Count (number_in (field 0 fields))
-line_of words.Port fields = with_three MakePort (name_in kinds.Port (field 0 fields)) (name_in kinds.Actor (field 1 fields)) (number_in (field 2 fields))
-line_of words.Group fields = option_map MakeGroup (name_in kinds.Group (field 0 fields))
-line_of words.Member fields = with_two Enlist (name_in kinds.Group (field 0 fields)) (name_in kinds.Port (field 1 fields))
-line_of words.Script fields = option_map Begin (name_in kinds.Actor (field 0 fields))
-line_of (words.Command verb) fields = option_map Do (command_of verb fields)
-line_of words.Schedule fields = Some Steps
-line_of words.Step fields = option_map (λ n. Go (steps.Step n)) (number_in (field 0 fields))
-line_of words.Deliver fields = with_two (λ from to. Go (steps.Deliver from to)) (number_in (field 0 fields)) (number_in (field 1 fields))
-line_of words.Drain fields = Some (Go steps.Drain)
-line_of words.End fields = Some Ends
+line_of words.Sites fields = option_map SitesLine (number_in (field 0 fields))
+line_of words.Port fields = with_three PortLine (name_in kinds.Port (field 0 fields)) (name_in kinds.Actor (field 1 fields)) (number_in (field 2 fields))
+line_of words.Group fields = option_map GroupLine (name_in kinds.Group (field 0 fields))
+line_of words.Member fields = with_two MemberLine (name_in kinds.Group (field 0 fields)) (name_in kinds.Port (field 1 fields))
+line_of words.Script fields = option_map ScriptLine (name_in kinds.Actor (field 0 fields))
+line_of (words.Command verb) fields = option_map CommandLine (command_of verb fields)
+line_of words.Schedule fields = Some ScheduleLine
+line_of words.Step fields = option_map (λ n. StepLine (steps.Step n)) (number_in (field 0 fields))
+line_of words.Deliver fields = with_two (λ from to. StepLine (steps.Deliver from to)) (number_in (field 0 fields)) (number_in (field 1 fields))
+line_of words.Drain fields = Some (StepLine steps.Drain)
+line_of words.End fields = Some EndLine

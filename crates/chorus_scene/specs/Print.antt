@@ -1,5 +1,5 @@
 -- The one text of a scenario.
-use Rattle.std.specs.Prelude.{◌≡◌, ℕ, ◌≤◌, List, [], ◌∷◌, ◌++◌, length, map, Ok, codes, decimal}
+use Rattle.std.specs.Prelude.{◌≡◌, ℕ, List, [], ◌∷◌, ◌++◌, map, Ok, codes, decimal}
 use Rattle.std.specs.List.{flat_map}
 use Rattle.chorus_ui.specs.Name.{Name}
 use Rattle.chorus_ui.specs.Text.{name_text}
@@ -12,13 +12,11 @@ use Rattle.chorus_scene.specs.declared.scenario.SetupLine.{SetupLine}
 use Rattle.chorus_scene.specs.declared.scenario.SetupLine.TheVariants as setups
 use Rattle.chorus_scene.specs.declared.scenario.Step as step
 use Rattle.chorus_scene.specs.declared.scenario.Step.TheVariants as steps
-use Rattle.chorus_scene.specs.declared.word.Section.{Section}
-use Rattle.chorus_scene.specs.declared.word.Section.TheVariants as sections
 use Rattle.chorus_scene.specs.Body.{body_text}
 use Rattle.chorus_scene.specs.Scene.{Scene, Script}
 use Rattle.chorus_scene.specs.Making.{makes, name_said}
-use Rattle.chorus_scene.specs.Line.{Line, Version, Count, MakePort, MakeGroup, Enlist, Begin, Do, Steps, Go, Ends}
-use Rattle.chorus_scene.specs.Judge.{read_scene}
+use Rattle.chorus_scene.specs.Line.{Line, VersionLine, SitesLine, PortLine, GroupLine, MemberLine, ScriptLine, CommandLine, ScheduleLine, StepLine, EndLine}
+use Rattle.chorus_scene.specs.Grammar.{read_scene}
 
 -- fields, each behind one space
 abbrev pub behind : List (List ℕ) → List ℕ
@@ -87,29 +85,20 @@ step_text steps.Drain = codes "drain"
 
 -- the one text of a line
 abbrev pub text_of : Line → List ℕ
-text_of (Version v) = version_text v
-text_of (Count n) = sites_text n
-text_of (MakePort u actor capacity) = port_text u actor capacity
-text_of (MakeGroup u) = group_text u
-text_of (Enlist group port) = member_text group port
-text_of (Begin actor) = actor_text actor
-text_of (Do command) = command_text command
-text_of Steps = codes "schedule"
-text_of (Go step) = step_text step
-text_of Ends = codes "end"
+text_of (VersionLine v) = version_text v
+text_of (SitesLine n) = sites_text n
+text_of (PortLine u actor capacity) = port_text u actor capacity
+text_of (GroupLine u) = group_text u
+text_of (MemberLine group port) = member_text group port
+text_of (ScriptLine actor) = actor_text actor
+text_of (CommandLine command) = command_text command
+text_of ScheduleLine = codes "schedule"
+text_of (StepLine step) = step_text step
+text_of EndLine = codes "end"
 
 -- the lines before the schedule
 abbrev pub before_schedule : Scene → List (List ℕ)
 before_schedule c = version_text c.version ∷ sites_text c.sites ∷ (setup_texts c.layout [] c.setup ++ flat_map script_texts c.scripts)
-
--- the lines that a scenario so far is printed as
-abbrev pub texts_in : Section → Scene → List (List ℕ)
-texts_in sections.Head c = []
-texts_in sections.Sites c = version_text c.version ∷ []
-texts_in sections.Setup c = before_schedule c
-texts_in sections.Scripts c = before_schedule c
-texts_in sections.Schedule c = before_schedule c ++ codes "schedule" ∷ map step_text c.schedule
-texts_in sections.Ended c = (before_schedule c ++ codes "schedule" ∷ map step_text c.schedule) ++ codes "end" ∷ []
 
 -- LF behind each line but the last
 unfoldable pub joined : List (List ℕ) → List ℕ
@@ -117,9 +106,13 @@ joined [] = []
 joined (line ∷ []) = line
 joined (line ∷ second ∷ lines) = line ++ 10 ∷ joined (second ∷ lines)
 
+-- the lines of a scenario
+abbrev pub scene_texts : Scene → List (List ℕ)
+scene_texts c = (before_schedule c ++ codes "schedule" ∷ map step_text c.schedule) ++ codes "end" ∷ []
+
 -- the text of a scenario
 abbrev pub printed : Scene → List ℕ
-printed c = joined (texts_in sections.Ended c)
+printed c = joined (scene_texts c)
 
 -- what is printed of it says the same
 abbrev pub IsReadAgain : Scene → Type 0
@@ -137,7 +130,3 @@ abbrev pub said_texts : List Name → List SetupLine → List (List ℕ)
 said_texts [] lines = []
 said_texts (name ∷ names) [] = []
 said_texts (name ∷ names) (line ∷ lines) = said_text name line ∷ said_texts names lines
-
--- a scenario that was read keeps the layout, and what is printed of it is no longer than the text and says the same
-abbrev pub PrintedAgain : Type 0
-PrintedAgain = (l : Shape) (text : List ℕ) (c : Scene) → read_scene l text ≡ Ok c → (c.layout ≡ l) × (length (printed c) ≤ length text) × IsReadAgain c

@@ -1,4 +1,4 @@
--- What a reader has read, and what it keeps beside that.
+-- What a reader keeps: what the lines so far have said, and tables beside that.
 use Rattle.std.specs.Prelude.{◌≡◌, ℕ, ◌+◌, ◌-◌, ◌*◌, ◌≤◌, ◌<◌, ◌%◌, Bool, true, false, ◌&&◌, List, [], length, map, Option, Result, Ok, Err, slice_index, slice_index_or, nat_le, count_by}
 use Rattle.chorus_ui.specs.declared.kind.Kind.{Kind}
 use Rattle.chorus_ui.specs.declared.kind.Kind.TheVariants as kinds
@@ -18,16 +18,19 @@ use Rattle.chorus_scene.specs.declared.fault.Stop.{Stop}
 use Rattle.chorus_scene.specs.declared.fault.Stop.TheVariants as stops
 use Rattle.chorus_scene.specs.declared.fault.ReadFault.{ReadFault}
 use Rattle.chorus_scene.specs.declared.fault.ReadFault.TheVariants as faults
+use Rattle.chorus_ui.specs.declared.layout.TheConstants.{MAX_SITES, PORTS_PER_SITE}
+use Rattle.chorus_scene.specs.declared.limits.TheConstants.{GROUPS_PER_SITE, SCRIPTS_LIMIT}
+use Rattle.chorus_scene.specs.declared.setup.TheConstants.{PORT_COUNTS, COUNTS, LISTS}
 use Rattle.chorus_scene.specs.Text.{fields}
 use Rattle.chorus_scene.specs.Scene.{Scene}
 use Rattle.chorus_scene.specs.Making.{stride, shares_place, made_after, names_said, is_among, members_of}
-use Rattle.chorus_scene.specs.Line.{Line, Do, cuts}
-use Rattle.chorus_scene.specs.Judge.{State, judge_fields, then_after, is_step, reason_number}
+use Rattle.chorus_scene.specs.Line.{Line, CommandLine, cuts}
+use Rattle.chorus_scene.specs.Grammar.{State, judge_fields, then_after, is_step, reason_number}
 
--- where the table of a setup counts what one place has given: four places a site, ports and then groups
-abbrev pub home : Shape → Kind → ℕ → ℕ → ℕ
-home l kinds.Group site number = 64 + (site - 1) * 4 + (number - 1) % stride l kinds.Group
-home l kind site number = (site - 1) * 4 + (number - 1) % stride l kind
+-- where the table of a setup counts what one place has given: four places for each site, ports and then groups
+abbrev pub count_at : Shape → Kind → ℕ → ℕ → ℕ
+count_at l kinds.Group site number = PORT_COUNTS + (site - 1) * 4 + (number - 1) % stride l kinds.Group
+count_at l kind site number = (site - 1) * 4 + (number - 1) % stride l kind
 
 abbrev pub is_actor : Kind → Bool
 is_actor kinds.Actor = true
@@ -36,7 +39,7 @@ is_actor kinds.Group = false
 
 -- a group that has a list of members: four groups a site
 abbrev pub is_listed : Name → Bool
-is_listed g = same_kind g.kind kinds.Group && nat_le 1 g.site && nat_le g.site 16 && nat_le 1 g.number && nat_le g.number 4
+is_listed g = same_kind g.kind kinds.Group && nat_le 1 g.site && nat_le g.site MAX_SITES && nat_le 1 g.number && nat_le g.number GROUPS_PER_SITE
 
 abbrev pub list_number : Name → ℕ
 list_number g = (g.site - 1) * 4 + (g.number - 1)
@@ -44,10 +47,10 @@ list_number g = (g.site - 1) * 4 + (g.number - 1)
 abbrev pub listed : Setup → Name → List Name
 listed s g = slice_index_or (map (λ v. v.items) s.members.items) (list_number g) []
 
--- a site makes 32 ports and 4 groups
+-- the most that a site makes
 abbrev pub most_number : Kind → ℕ
-most_number kinds.Group = 4
-most_number _ = 32
+most_number kinds.Group = GROUPS_PER_SITE
+most_number _ = PORTS_PER_SITE
 
 -- what the setup lines of a setup have made
 abbrev pub made_by : Shape → Setup → List Name
@@ -56,9 +59,9 @@ made_by l s = made_after l [] s.lines.items
 -- the tables of a setup are those of its lines
 pub record IsSetup (l : Shape) (s : Setup) : Type 0 where
   pub names : s.names.items ≡ names_said l [] s.lines.items
-  pub homes : length s.counts ≡ 128
-  pub counts : (kind : Kind) (site number : ℕ) → is_actor kind ≡ false → 1 ≤ site → site ≤ 16 → slice_index s.counts (home l kind site number) ≡ count_by (shares_place l kind site number) (made_by l s)
-  pub lists : length s.members.items ≡ 64
+  pub counts_len : length s.counts ≡ COUNTS
+  pub counts : (kind : Kind) (site number : ℕ) → is_actor kind ≡ false → 1 ≤ site → site ≤ MAX_SITES → slice_index s.counts (count_at l kind site number) ≡ count_by (shares_place l kind site number) (made_by l s)
+  pub lists : length s.members.items ≡ LISTS
   pub members : (g : Name) → is_listed g ≡ true → listed s g ≡ members_of g s.lines.items
   pub strangers : (g : Name) → is_listed g ≡ false → members_of g s.lines.items ≡ []
   pub groups : (g : Name) → same_kind g.kind kinds.Group ≡ true → is_among g (made_by l s) ≡ true → is_listed g ≡ true
@@ -86,7 +89,7 @@ Gives t (Ok x) judged = judged ≡ Ok t
 Gives t (Err stop) judged = Fails stop judged
 
 abbrev pub Tells : Result Command Stop → Result Line Reason → Type 0
-Tells (Ok command) judged = judged ≡ Ok (Do command)
+Tells (Ok command) judged = judged ≡ Ok (CommandLine command)
 Tells (Err stop) judged = Fails stop judged
 
 abbrev pub IsMemory : Stop → Type 0
@@ -107,21 +110,12 @@ is_in_scripts _ = false
 -- the tables and counts of a reader are those of the lines so far
 pub record Stands (r : Reader) : Type 0 where
   pub tables : IsSetup r.layout r.setup
-  pub sites : r.sites ≤ 16
+  pub sites : r.sites ≤ MAX_SITES
   pub used_len : length r.used.items ≡ length r.scripts.items
   pub used : (k : ℕ) → k < length r.scripts.items → slice_index r.used.items k ≡ count_by (is_step (k + 1)) r.schedule.items
   pub early : is_early r.section ≡ true → r.schedule.items ≡ []
   pub some_script : is_in_scripts r.section ≡ true → 0 < length r.scripts.items
-  pub few_scripts : length r.scripts.items ≤ 16
-
--- what read returned is what the definition says, unless memory ran out
-abbrev pub Refuses : ReadFault → Result Scene (ℕ × ℕ) → Type 0
-Refuses (faults.Memory error) judged = Unit {0}
-Refuses (faults.Scene fault) judged = judged ≡ Err (fault.line, fault.reason)
-
-abbrev pub Reads : Result Scene ReadFault → Result Scene (ℕ × ℕ) → Type 0
-Reads (Ok scene) judged = judged ≡ Ok scene
-Reads (Err fault) judged = Refuses fault judged
+  pub few_scripts : length r.scripts.items ≤ SCRIPTS_LIMIT
 
 abbrev pub fault_at : ℕ → Stop → ReadFault
 fault_at line (stops.Memory error) = faults.Memory error

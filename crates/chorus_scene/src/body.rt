@@ -35,7 +35,7 @@ pub(crate) fn body_len(text: &[u8]) -> Option<usize>
 #[tactic(auto, unfolding(crate::specs::Body::body_in))]
 pub(crate) fn body_in(alloc: Global, text: &[u8]) -> Result<Body, AllocError>
     requires body { IsSome (body_in text.now) }
-    requires small { ForSome (body_in text.now) (λ bytes. length bytes ≤ 4096) }
+    requires small { ForSome (body_in text.now) (λ bytes. length bytes ≤ BODY_LIMIT) }
     ensures { IfOk result (λ body. body_in text.now ≡ Some body) }
 {
     match text {
@@ -60,7 +60,7 @@ fn hex_len(digits: &[u8]) -> Option<usize>
 /// The body of the bytes that the digits stand for, with no other memory than the body's own.
 fn hex_body(alloc: Global, digits: &[u8]) -> Result<Body, AllocError>
     requires hex { is_hex_text digits.now ≡ true }
-    requires small { length digits.now ≤ 8192 }
+    requires small { length digits.now ≤ 2 * BODY_LIMIT }
     ensures { IfOk result (λ body. body ≡ pairs digits.now) }
 {
     let mut bytes = [0; BODY_LIMIT];

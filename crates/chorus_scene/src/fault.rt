@@ -1,18 +1,22 @@
 //! Why a text is refused.
 
 ghost use Rattle.std.specs.Prelude.{◌≡◌};
-ghost use Rattle.chorus_scene.specs.Judge.{reason_number};
+ghost use Rattle.chorus_scene.specs.Grammar.{reason_number};
 ghost use Rattle.chorus_scene.specs.Reader.{fault_at};
 
 use crate::word::Reason;
 use std::alloc::{AllocError, AllocFailed};
+use thiserror::Error;
 
-/// The first line that fails a test, and why.
-#[derive(Clone, Copy, Debug, PartialEq, Eq)]
+/// The first line that fails a test, and why. Lines and reasons are this project's own.
+#[derive(Clone, Copy, Debug, PartialEq, Eq, Error)]
+#[error("line {line} is refused for reason {reason}")]
 pub struct SceneFault {
     /// The number of the line, from 1; 0 for a text that is too long, and one more than the lines for a text without end.
     pub line: u32,
-    /// The reason of the first test that the line fails, from 1 to 10.
+    /// The reason of the first test that the line fails: 1 header, 2 word, 3 number, 4 unknown name, 5 twice, 6 limit,
+    /// 7 order, 8 text, 9 unfinished, 10 schedule. Without a line that fails, a text that is too long has 6 and a text
+    /// without end 9. `docs/FORMATS.md` says what each one means, and what to write instead.
     pub reason: u8,
 }
 
@@ -20,11 +24,13 @@ pub struct SceneFault {
 pub const TOO_LONG: SceneFault = SceneFault { line: 0, reason: 6 };
 
 /// Why a text was not read. Nothing is left of what was read of it.
-#[derive(Debug, Drop)]
+#[derive(Debug, Drop, Error)]
 pub enum ReadFault {
     /// The text is no scenario.
+    #[error(transparent)]
     Scene(SceneFault),
     /// Memory ran out.
+    #[error(transparent)]
     Memory(AllocError),
 }
 

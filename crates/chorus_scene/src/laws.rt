@@ -1,8 +1,7 @@
 //! What holds of every text.
 
-ghost use Rattle.chorus_scene.specs.Laws.{TooLong, FirstFault, NoEnd, Accepted};
+ghost use Rattle.chorus_scene.specs.Laws.{TooLong, FirstFault, NoEnd, Accepted, PrintedAgain};
 ghost use Rattle.chorus_scene.specs.Limits.{ReadKeeps};
-ghost use Rattle.chorus_scene.specs.Print.{PrintedAgain};
 
 /// The lines of a text are tested in order: the first line that fails a test is the line of the fault, with the reason of
 /// the first test that it fails. A text without such a line says what its lines say, or lacks its end. The law makes no

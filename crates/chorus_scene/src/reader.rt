@@ -2,9 +2,10 @@
 
 ghost use Rattle.std.specs.Prelude.{◌≡◌, ◌<◌, true, length, OnOk, IfOk, IfErr, IfSome};
 ghost use Rattle.std.specs.Option.{option_copied};
-ghost use Rattle.chorus_scene.specs.Judge.{judge_head, opening, then_after, next, after, is_far, is_no_actor};
-ghost use Rattle.chorus_scene.specs.Line.{may_stand, name_in, Begin};
+ghost use Rattle.chorus_scene.specs.Grammar.{judge_head, opening, then_after, next, after, is_far, is_no_actor};
+ghost use Rattle.chorus_scene.specs.Line.{may_stand, name_in, ScriptLine};
 ghost use Rattle.chorus_scene.specs.Print.{IsReadAgain};
+ghost use Rattle.chorus_scene.specs.declared.limits.TheConstants.{SCRIPTS_LIMIT};
 ghost use Rattle.chorus_scene.specs.Limits.{Keeps};
 ghost use Rattle.chorus_scene.specs.Reader.{Gives, Stands, IsMemory, read_with, state_of, scene_of};
 
@@ -14,11 +15,12 @@ mod steps;
 
 use crate::fault::Stop;
 use crate::fields::{none, one};
+use crate::limits::{SCRIPTS_LIMIT, VERSION_ONE_SITES};
 use crate::scenario::{Scenario, Script, Step};
 use crate::setup::Setup;
 use crate::text::{cut, is_skipped, is_text, number_in};
 use crate::word::{Reason, Section, Word, may_stand, word_of};
-use chorus_ui::{Kind, Layout, Ui};
+use chorus_ui::{ACTORS_PER_SITE, Kind, Layout, MAX_SITES, Ui};
 use std::alloc::{AllocError, Global};
 
 /// What the lines so far have said, with counts for the tests.
@@ -72,7 +74,7 @@ impl Reader {
     }
 
     /// Reads one line more.
-    #[tactic(auto, unfolding(crate::specs::Judge::next))]
+    #[tactic(auto, unfolding(crate::specs::Grammar::next))]
     pub(crate) fn line(&mut self, alloc: Global, bytes: &[u8]) -> Result<(), Stop>
         requires stands { Stands self.old }
         ensures gives { Gives (state_of self.new) result (next (state_of self.old) bytes.now) }
@@ -150,8 +152,12 @@ impl Reader {
         let Some(sites) = number_in(sites) else {
             return Err(Stop::Fault(Reason::Number));
         };
-        let most = if self.version == 1 { 8 } else { 16 };
-        if sites == 0 || u128::from(self.layout.sites()) < sites || most < sites {
+        let most = if self.version == 1 {
+            VERSION_ONE_SITES
+        } else {
+            MAX_SITES
+        };
+        if sites == 0 || u128::from(self.layout.sites()) < sites || u128::from(most) < sites {
             return Err(Stop::Fault(Reason::Limit));
         }
         self.sites = sites as u16;
@@ -171,7 +177,7 @@ impl Reader {
         let Some(actor) = name_in(Kind::Actor, actor) else {
             return Err(Stop::Fault(Reason::Number));
         };
-        if self.scripts.len() >= 16 {
+        if self.scripts.len() >= SCRIPTS_LIMIT {
             return Err(Stop::Fault(Reason::Limit));
         }
         if self.is_no_actor(actor) {
@@ -183,8 +189,8 @@ impl Reader {
     fn push_script(&mut self, alloc: Global, actor: Ui) -> Result<(), Stop>
         requires stands { Stands self.old }
         requires may { may_stand self.old.section Word.Script ≡ true }
-        requires room { length self.old.scripts.items < 16 }
-        ensures ok { OnOk result (state_of self.new ≡ after (state_of self.old) (Begin actor)) }
+        requires room { length self.old.scripts.items < SCRIPTS_LIMIT }
+        ensures ok { OnOk result (state_of self.new ≡ after (state_of self.old) (ScriptLine actor)) }
         ensures stands { OnOk result (Stands self.new) }
         ensures memory { IfErr result IsMemory }
     {
@@ -231,7 +237,7 @@ impl Reader {
     fn is_no_actor(&self, actor: Ui) -> bool
         ensures { result ≡ is_no_actor (scene_of self.now) actor }
     {
-        self.is_far(actor) || 8 < actor.number()
+        self.is_far(actor) || ACTORS_PER_SITE < actor.number()
     }
 }
 

@@ -2,10 +2,11 @@
 
 ghost use Rattle.std.specs.Prelude.{◌≡◌, ◌<◌, ◌∷◌, length};
 ghost use Rattle.chorus_scene.specs.Text.{lines};
-ghost use Rattle.chorus_scene.specs.Judge.{read_scene};
-ghost use Rattle.chorus_scene.specs.Reader.{Reads};
+ghost use Rattle.chorus_scene.specs.Grammar.{read_scene};
+ghost use Rattle.chorus_scene.specs.Grammar.{Reads};
 
 use crate::fault::{ReadFault, SceneFault, TOO_LONG, fault_at, reason_number};
+use crate::limits::TEXT_LIMIT;
 use crate::reader::Reader;
 use crate::scenario::Scenario;
 use crate::text::cut;
@@ -13,24 +14,18 @@ use crate::word::{Reason, Section};
 use chorus_ui::Layout;
 use std::alloc::Global;
 
-/// The most bytes of a text: 4 MiB.
-pub const TEXT_LIMIT: usize = 4_194_304;
-
 /// Reads a scenario text, of either version, for a layout.
 ///
 /// Ok is the scenario that the text says. A text that says none is refused by its first line that fails a test, with the
 /// reason of the first test that it fails; one that is too long is refused by [`TOO_LONG`]. What was read is dropped then.
-#[tactic(auto, unfolding(crate::specs::Judge::read_scene))]
+#[tactic(auto, unfolding(crate::specs::Grammar::read_scene))]
 pub fn read(alloc: Global, text: &[u8], layout: Layout) -> Result<Scenario, ReadFault>
     ensures { Reads result (read_scene layout text.now) }
 {
     if text.len() > TEXT_LIMIT {
         return Err(ReadFault::Scene(TOO_LONG));
     }
-    let mut reader = match Reader::start(alloc, layout) {
-        Ok(reader) => reader,
-        Err(error) => return Err(ReadFault::Memory(error)),
-    };
+    let mut reader = Reader::start(alloc, layout).map_err(ReadFault::Memory)?;
     let mut rest = text;
     let mut number: u32 = 1;
     while !rest.is_empty() {

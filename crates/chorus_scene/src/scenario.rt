@@ -8,18 +8,6 @@ use chorus_ui::{Layout, Ui};
 use std::alloc::{AllocError, Global};
 use std::marker::Model;
 
-/// The most scripts of a scenario.
-pub const SCRIPTS_LIMIT: usize = 16;
-
-/// The most commands of a script.
-pub const COMMANDS_LIMIT: usize = 4_096;
-
-/// The most steps of a schedule.
-pub const STEPS_LIMIT: usize = 131_072;
-
-/// The most groups that the setup makes on one site.
-pub const GROUPS_PER_SITE: u64 = 4;
-
 /// A line of the setup, performed by seat 0 before all scripts.
 #[derive(Clone, Copy, Debug)]
 pub enum SetupLine {
@@ -58,7 +46,7 @@ impl Model for Script {
 }
 
 impl Script {
-    ghost use Rattle.chorus_scene.specs.Judge.{with_command};
+    ghost use Rattle.chorus_scene.specs.Grammar.{with_command};
 
     /// The caller's actor.
     pub fn actor(&self) -> Ui

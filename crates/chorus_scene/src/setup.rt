@@ -1,17 +1,23 @@
 //! The setup lines that were read, with tables of what they made.
 
 ghost use Rattle.std.specs.Prelude.{◌≡◌, ◌+◌, ◌<◌, ◌≤◌, List, [], ◌∷◌, ◌++◌, true, false, OnOk, IfOk};
+ghost use Rattle.chorus_ui.specs.declared.layout.TheConstants.{MAX_SITES};
 ghost use Rattle.chorus_ui.specs.Name.{Name};
 ghost use Rattle.chorus_ui.specs.Layout.{Shape, IsShape};
+ghost use Rattle.chorus_scene.specs.declared.setup.TheConstants.{COUNTS, LISTS};
 ghost use Rattle.chorus_scene.specs.Making.{stride, next_name, makes, name_said, is_among, members_of};
-ghost use Rattle.chorus_scene.specs.Reader.{home, is_actor, is_listed, list_number, most_number, made_by, IsSetup};
+ghost use Rattle.chorus_scene.specs.Reader.{count_at, is_actor, is_listed, list_number, most_number, made_by, IsSetup};
 
+use crate::limits::GROUPS_PER_SITE;
 use crate::scenario::SetupLine;
-use chorus_ui::{Kind, Layout, Ui};
+use chorus_ui::{Kind, Layout, MAX_SITES, Ui};
 use std::alloc::{AllocError, Global};
 
-/// The counts of the table: four places on each of 16 sites, for ports and for groups.
-const HOMES: usize = 128;
+/// The counts of ports: one for each place that a layout may have, four on each of 16 sites.
+const PORT_COUNTS: usize = 64;
+
+/// All counts of the table: those of ports, and as many of groups.
+const COUNTS: usize = 128;
 
 /// The lists of members: four groups on each of 16 sites.
 const LISTS: usize = 64;
@@ -23,7 +29,7 @@ pub(crate) struct Setup {
     /// The name that each line begins with.
     pub(crate) names: Vec<Ui>,
     /// How many names each place has given.
-    pub(crate) counts: [u8; 128],
+    pub(crate) counts: [u8; COUNTS],
     /// The members of each group that can be made.
     pub(crate) members: Vec<Vec<Ui>>,
 }
@@ -43,16 +49,16 @@ fn stride(layout: Layout, kind: Kind) -> u64
 }
 
 /// Where the count stands of the place that gives this number.
-fn home(layout: Layout, kind: Kind, site: u16, number: u64) -> usize
-    requires site { (1 ≤ site) × (site ≤ 16) }
+fn count_at(layout: Layout, kind: Kind, site: u16, number: u64) -> usize
+    requires site { (1 ≤ site) × (site ≤ MAX_SITES) }
     requires number { 1 ≤ number }
-    ensures value { result ≡ home layout kind site number }
-    ensures small { result < 128 }
+    ensures value { result ≡ count_at layout kind site number }
+    ensures small { result < COUNTS }
     ensures shape { IsShape layout }
 {
     let row = (site as usize - 1) * 4 + ((number - 1) % stride(layout, kind)) as usize;
     match kind {
-        Kind::Group => 64 + row,
+        Kind::Group => PORT_COUNTS + row,
         _ => row,
     }
 }
@@ -63,14 +69,14 @@ fn is_listed(group: Ui) -> bool
     ensures { result ≡ is_listed group }
 {
     let (site, number) = (group.site(), group.number());
-    1 <= site && site <= 16 && 1 <= number && number <= 4
+    1 <= site && site <= MAX_SITES && 1 <= number && number <= GROUPS_PER_SITE
 }
 
 /// Where the list of the group's members stands.
 fn list_number(group: Ui) -> usize
     requires { is_listed group ≡ true }
     ensures value { result ≡ list_number group }
-    ensures small { result < 64 }
+    ensures small { result < LISTS }
 {
     (group.site() as usize - 1) * 4 + (group.number() as usize - 1)
 }
@@ -88,7 +94,7 @@ impl Setup {
         Ok(Setup {
             lines: Vec::new(alloc),
             names: Vec::new(alloc),
-            counts: [0; HOMES],
+            counts: [0; COUNTS],
             members,
         })
     }
@@ -96,24 +102,24 @@ impl Setup {
     /// Whether a line made this port or group.
     pub(crate) fn has_made(&self, layout: Layout, ui: Ui) -> bool
         requires tables { IsSetup layout self.now }
-        requires site { ui.site ≤ 16 }
+        requires site { ui.site ≤ MAX_SITES }
         requires kind { is_actor ui.kind ≡ false }
         ensures { result ≡ is_among ui (made_by layout self.now) }
     {
-        let at = home(layout, ui.kind(), ui.site(), ui.number());
+        let at = count_at(layout, ui.kind(), ui.site(), ui.number());
         (ui.number() - 1) / stride(layout, ui.kind()) < u64::from(self.counts[at])
     }
 
     /// The number that the place of this number gives next.
     pub(crate) fn next_number(&self, layout: Layout, kind: Kind, site: u16, number: u64) -> u64
         requires tables { IsSetup layout self.now }
-        requires site { (1 ≤ site) × (site ≤ 16) }
+        requires site { (1 ≤ site) × (site ≤ MAX_SITES) }
         requires number { 1 ≤ number }
         requires kind { is_actor kind ≡ false }
         ensures { result ≡ (next_name layout kind site number (made_by layout self.now)).number }
     {
         let stride = stride(layout, kind);
-        let given = self.counts[home(layout, kind, site, number)];
+        let given = self.counts[count_at(layout, kind, site, number)];
         1 + (number - 1) % stride + stride * u64::from(given)
     }
 
@@ -139,7 +145,7 @@ impl Setup {
         number: u64,
     ) -> Result<(), AllocError>
         requires tables { IsSetup layout self.old }
-        requires site { ui.site ≤ 16 }
+        requires site { ui.site ≤ MAX_SITES }
         requires number { 1 ≤ number }
         requires kind { is_actor ui.kind ≡ false }
         requires given { ui ≡ next_name layout ui.kind ui.site number (made_by layout self.old) }
@@ -150,7 +156,7 @@ impl Setup {
         ensures ok { OnOk result (self.new.lines.items ≡ self.old.lines.items ++ line ∷ []) }
         ensures tables { OnOk result (IsSetup layout self.new) }
     {
-        let at = home(layout, ui.kind(), ui.site(), number);
+        let at = count_at(layout, ui.kind(), ui.site(), number);
         self.lines.push(line)?;
         self.names.push(ui)?;
         self.counts[at] += 1;

@@ -1,3 +1,6 @@
+mod counts;
+mod refused;
+
 use crate::{ReadFault, print, read};
 use chorus_ui::Layout;
 use std::alloc::{AllocError, Global};
@@ -21,13 +24,35 @@ fn prints_as(alloc: Global, text: &[u8], layout: Layout, want: &[u8]) -> bool {
     print(&scenario, &mut out).is_ok() && out.as_slice() == want
 }
 
-/// The lines of a row, which has `;` for each LF, between its head and its end.
-fn whole(alloc: Global, head: &[u8], row: &[u8]) -> Result<Vec<u8>, AllocError> {
-    let mut text = Vec::from_slice(alloc, head)?;
-    for c in row {
-        text.push(if *c == b';' { b'\n' } else { *c })?;
+/// A text that has `;` for each LF.
+fn lines(alloc: Global, text: &[u8]) -> Result<Vec<u8>, AllocError> {
+    let mut lines = Vec::new(alloc);
+    for c in text {
+        lines.push(if *c == b';' { b'\n' } else { *c })?;
     }
+    Ok(lines)
+}
+
+/// A scenario, which has `;` for each LF, between its head and its end.
+fn whole(alloc: Global, head: &[u8], scenario: &[u8]) -> Result<Vec<u8>, AllocError> {
+    let mut text = Vec::from_slice(alloc, head)?;
+    text.extend_from_slice(&lines(alloc, scenario)?)?;
     text.extend_from_slice(b"\nend")?;
+    Ok(text)
+}
+
+/// A port of capacity 64, and 65 sends of 240 bytes to it.
+fn sixty_five_sends(alloc: Global) -> Result<Vec<u8>, AllocError> {
+    let mut text = Vec::from_slice(
+        alloc,
+        b"chorus 1\nsites 1\nport 1.p.1 1.a.1 64\nscript 1.a.1\n",
+    )?;
+    let send = ending_in(alloc, b"send 1.p.1 =", b'x', 240)?;
+    for _ in 0..65 {
+        text.extend_from_slice(&send)?;
+        text.push(b'\n')?;
+    }
+    text.extend_from_slice(b"schedule\nend")?;
     Ok(text)
 }
 
@@ -151,12 +176,12 @@ fn tests_in_their_order(rt: HostRuntime) {
 #[test]
 fn binary_bodies(rt: HostRuntime) {
     let sixteen = Layout::new(16, 1).expect(&rt, "a layout");
-    let row = b"sites 1;port 1.p.1 1.a.1 1;script 1.a.1;send 1.p.1 x00ff;schedule";
-    let text = whole(rt.alloc(), b"chorus 2\n", row).expect(&rt, "memory");
+    let scenario = b"sites 1;port 1.p.1 1.a.1 1;script 1.a.1;send 1.p.1 x00ff;schedule";
+    let text = whole(rt.alloc(), b"chorus 2\n", scenario).expect(&rt, "memory");
     assert!(rt; prints_as(rt.alloc(), &text, sixteen, &text));
     let front = b"chorus 2\nsites 1\nport 1.p.1 1.a.1 1\nscript 1.a.1\nsend 1.p.1 ";
-    let odd = ending_in(rt.alloc(), front, b'x', 1).expect(&rt, "memory");
-    assert_eq!(rt; fault(rt.alloc(), &odd, sixteen), Some((6, 9)));
+    let empty = ending_in(rt.alloc(), front, b'x', 1).expect(&rt, "memory");
+    assert_eq!(rt; fault(rt.alloc(), &empty, sixteen), Some((6, 9)));
     let texts: [&[u8]; 2] = [
         b"chorus 2\nsites 1\nport 1.p.1 1.a.1 1\nscript 1.a.1\nsend 1.p.1 x0",
         b"chorus 2\nsites 1\nport 1.p.1 1.a.1 1\nscript 1.a.1\nsend 1.p.1 x0F",
@@ -169,11 +194,11 @@ fn binary_bodies(rt: HostRuntime) {
 #[test]
 fn delete_in_scenarios(rt: HostRuntime) {
     let sixteen = Layout::new(16, 1).expect(&rt, "a layout");
-    let row =
+    let scenario =
         b"sites 3;port 1.p.1 1.a.1 4;script 3.a.1;send 1.p.1 =x;script 1.a.1;move 1.p.1 2.a.1;script 2.a.1;delete 1.p.1;schedule;step 2;deliver 1 2;step 3;step 1;deliver 3 1;deliver 1 3;deliver 3 2;deliver 2 3";
-    let second = whole(rt.alloc(), b"chorus 2\n", row).expect(&rt, "memory");
+    let second = whole(rt.alloc(), b"chorus 2\n", scenario).expect(&rt, "memory");
     assert!(rt; prints_as(rt.alloc(), &second, sixteen, &second));
-    let first = whole(rt.alloc(), b"chorus 1\n", row).expect(&rt, "memory");
+    let first = whole(rt.alloc(), b"chorus 1\n", scenario).expect(&rt, "memory");
     assert_eq!(rt; fault(rt.alloc(), &first, sixteen), Some((9, 2)));
 }
 
@@ -182,7 +207,7 @@ fn delete_in_scenarios(rt: HostRuntime) {
 fn texts_are_read_and_printed_back(rt: HostRuntime) {
     let sixteen = Layout::new(16, 1).expect(&rt, "a layout");
     let two_turns = Layout::new(16, 2).expect(&rt, "a layout");
-    let rows: [&[u8]; 17] = [
+    let scenarios: [&[u8]; 19] = [
         b"sites 1;script 1.a.1;schedule",
         b"sites 1;port 1.p.1 1.a.1 1;script 1.a.1;send 1.p.1 =a;send 1.p.1 =b;take 1.p.1;take 1.p.1;take 1.p.1;schedule",
         b"sites 2;port 2.p.1 2.a.1 4;script 1.a.1;send 2.p.1 =hi;script 2.a.1;send 2.p.1 =yo;schedule;step 1;step 2;deliver 1 2;deliver 2 1",
@@ -192,8 +217,10 @@ fn texts_are_read_and_printed_back(rt: HostRuntime) {
         b"sites 4;port 1.p.1 1.a.1 4;script 4.a.1;send 1.p.1 =x;script 1.a.1;move 1.p.1 2.a.1;move 1.p.1 3.a.1;script 2.a.1;move 1.p.1 1.a.1;schedule;step 2;deliver 1 2;step 3;deliver 2 1;step 2;deliver 1 3;step 1;deliver 4 1;deliver 1 4;deliver 4 3;deliver 3 4",
         b"sites 1;port 1.p.1 1.a.1 2;script 1.a.1;send 1.p.1 =a;move 1.p.1 1.a.2;take 1.p.1;script 1.a.2;take 1.p.1;schedule",
         b"sites 1;port 1.p.1 1.a.1 2;script 1.a.1;send 1.p.9 =x;send 1.p.1 =y;schedule",
-        b"sites 1;port 1.p.1 1.a.1 1;port 1.p.2 1.a.1 1;port 1.p.3 1.a.1 1;group 1.g.1;group 1.g.2;member 1.g.1 1.p.1;member 1.g.1 1.p.2;member 1.g.1 1.p.3;script 1.a.1;one 1.g.2 =z;one 1.g.1 =z;schedule",
+        b"sites 1;port 1.p.1 1.a.1 1;port 1.p.2 1.a.1 1;port 1.p.3 1.a.1 1;group 1.g.1;group 1.g.2;member 1.g.1 1.p.1;member 1.g.1 1.p.2;member 1.g.1 1.p.3;script 1.a.1;one 1.g.2 =z;one 1.g.1 =z;one 1.g.1 =z;one 1.g.1 =z;one 1.g.1 =z;schedule",
         b"sites 3;port 2.p.1 2.a.1 4;group 1.g.1;member 1.g.1 2.p.1;script 1.a.1;at 1.g.1 2 =x;script 2.a.1;move 2.p.1 3.a.1;schedule;step 1;step 2;deliver 1 2;drain",
+        b"sites 2;port 2.p.1 2.a.1 4;group 1.g.1;member 1.g.1 2.p.1;script 1.a.1;at 1.g.1 2 =x;at 1.g.1 2 =y;script 2.a.1;move 2.p.1 1.a.1;schedule;step 1;step 1;step 2;deliver 2 1;deliver 1 2;deliver 2 1",
+        b"sites 3;port 1.p.1 1.a.1 4;script 3.a.1;send 1.p.1 =x;send 1.p.1 =y;script 1.a.1;move 1.p.1 2.a.1;schedule;step 2;step 1;step 1;deliver 3 1;deliver 1 3;deliver 1 2;deliver 3 2;deliver 2 3;deliver 3 2",
         b"sites 1;port 1.p.1 1.a.1 2;port 1.p.2 1.a.1 1;port 1.p.3 1.a.1 2;group 1.g.1;member 1.g.1 1.p.1;member 1.g.1 1.p.2;member 1.g.1 1.p.3;script 1.a.1;send 1.p.2 =f;all 1.g.1 =b;schedule",
         b"sites 3;port 1.p.1 1.a.1 4;port 2.p.1 2.a.1 4;script 2.a.1;call 1.p.1 2.p.1 =q;retry;cancel;call 1.p.1 2.p.1 =r;take 2.p.1;script 1.a.1;move 1.p.1 3.a.1;script 3.a.1;take 1.p.1;reply =ans;schedule;step 1;deliver 2 1;deliver 1 2;step 2;deliver 1 3;step 1;deliver 2 1;deliver 1 2;deliver 2 3;deliver 3 2;step 3;step 1;step 1;step 3;drain",
         b"sites 2;port 2.p.1 2.a.1 4;group 1.g.1;member 1.g.1 2.p.1;script 2.a.1;one 1.g.1 =k;schedule",
@@ -201,10 +228,12 @@ fn texts_are_read_and_printed_back(rt: HostRuntime) {
         b"sites 1;port 1.p.1 1.a.1 4;script 1.a.1;call 1.p.1 1.p.1 =q;call 1.p.1 1.p.1 =r;take 1.p.1;reply =s;take 1.p.1;retry;reply =t;schedule",
         b"sites 8;script 8.a.8;newport 8.a.8 64;newgroup 8;join 8.g.1 8.p.1;leave 8.g.1 8.p.1;send 1.p.1 =;reply = two  spaces ;schedule;drain",
     ];
-    for row in rows {
-        let text = whole(rt.alloc(), b"chorus 1\n", row).expect(&rt, "memory");
+    for scenario in scenarios {
+        let text = whole(rt.alloc(), b"chorus 1\n", scenario).expect(&rt, "memory");
         assert!(rt; prints_as(rt.alloc(), &text, sixteen, &text));
     }
+    let sends = sixty_five_sends(rt.alloc()).expect(&rt, "memory");
+    assert!(rt; prints_as(rt.alloc(), &sends, sixteen, &sends));
     let turns = whole(
         rt.alloc(),
         b"chorus 1\n",

@@ -46,7 +46,8 @@ pub(crate) enum Word {
     End,
 }
 
-/// How far a text has come: what its last line was, which decides what may follow.
+/// How far a text has come, which decides what may follow: before the head, before the line `sites`, in the setup, in the
+/// scripts, in the schedule, or behind the end.
 #[derive(Clone, Copy, Debug, PartialEq, Eq)]
 pub(crate) enum Section {
     Head,
@@ -57,7 +58,7 @@ pub(crate) enum Section {
     Ended,
 }
 
-/// Why a line is refused, in the order of the numbers from 1; `docs/FORMATS.md` says what each one means.
+/// Why a line is refused, in the order of the numbers from 1.
 #[derive(Clone, Copy, Debug, PartialEq, Eq)]
 pub(crate) enum Reason {
     Header,

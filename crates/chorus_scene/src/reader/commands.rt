@@ -2,17 +2,18 @@
 
 ghost use Rattle.std.specs.Prelude.{◌≡◌, ◌<◌, true, length, OnOk, IfErr};
 ghost use Rattle.std.specs.Option.{option_copied};
-ghost use Rattle.chorus_scene.specs.Judge.{after, last_is_full, most_bytes};
-ghost use Rattle.chorus_scene.specs.Line.{may_stand, target_kind, dest_of, Do};
+ghost use Rattle.chorus_scene.specs.Grammar.{after, last_is_full, most_bytes};
+ghost use Rattle.chorus_scene.specs.Line.{may_stand, target_kind, dest_of, CommandLine};
 ghost use Rattle.chorus_scene.specs.Reader.{Gives, Tells, Stands, IsMemory, is_early, read_with, command_with, state_of, scene_of};
 
 use crate::body::{begins_a_body, body_in, body_len};
 use crate::fault::Stop;
 use crate::fields::{body_alone, none, one, one_and_body, two, two_and_body};
+use crate::limits::{COMMANDS_LIMIT, VERSION_ONE_BODY};
 use crate::reader::{Reader, name_in};
 use crate::text::{BEYOND, number_in};
 use crate::word::{Reason, Section, Target, Verb, Word};
-use chorus_entry::{Command, Dest};
+use chorus_entry::{BODY_LIMIT, Command, Dest, PENDING_LIMIT};
 use chorus_ui::{Kind, Ui};
 use std::alloc::Global;
 
@@ -36,7 +37,7 @@ impl Reader {
         requires stands { Stands self.old }
         requires some { 0 < length self.old.scripts.items }
         requires early { is_early self.old.section ≡ true }
-        ensures ok { OnOk result (state_of self.new ≡ after (state_of self.old) (Do command)) }
+        ensures ok { OnOk result (state_of self.new ≡ after (state_of self.old) (CommandLine command)) }
         ensures stands { OnOk result (Stands self.new) }
         ensures memory { IfErr result IsMemory }
     {
@@ -266,7 +267,7 @@ impl Reader {
         else {
             return Err(Stop::Fault(Reason::Number));
         };
-        if self.last_is_full() || capacity == 0 || 64 < capacity {
+        if self.last_is_full() || capacity == 0 || (PENDING_LIMIT as u128) < capacity {
             return Err(Stop::Fault(Reason::Limit));
         }
         if self.is_no_actor(actor) {
@@ -343,14 +344,18 @@ impl Reader {
         ensures { result ≡ last_is_full (scene_of self.now) }
     {
         let last = self.scripts.len() - 1;
-        self.scripts[last].commands().len() >= 4096
+        self.scripts[last].commands().len() >= COMMANDS_LIMIT
     }
 
     /// The most bytes of a body.
     fn most_bytes(&self) -> usize
         ensures { result ≡ most_bytes self.now.version }
     {
-        if self.version == 1 { 240 } else { 4096 }
+        if self.version == 1 {
+            VERSION_ONE_BODY
+        } else {
+            BODY_LIMIT
+        }
     }
 }
 

@@ -2,19 +2,22 @@
 
 ghost use Rattle.std.specs.Prelude.{◌≡◌, ◌≤◌, List, [], ◌∷◌, true, false, not, OnOk, IfErr};
 ghost use Rattle.std.specs.Option.{option_copied};
+ghost use Rattle.chorus_ui.specs.declared.layout.TheConstants.{MAX_SITES};
 ghost use Rattle.chorus_ui.specs.Name.{Name, same_ui};
 ghost use Rattle.chorus_scene.specs.Making.{makes, name_said, next_name, members_of};
-ghost use Rattle.chorus_scene.specs.Judge.{is_known, made, unless, with_setup};
+ghost use Rattle.chorus_scene.specs.Grammar.{is_known, made, unless, with_setup};
 ghost use Rattle.chorus_scene.specs.Line.{may_stand};
 ghost use Rattle.chorus_scene.specs.Reader.{Gives, Stands, IsMemory, read_with, state_of, scene_of, is_actor, most_number};
 
 use crate::fault::Stop;
 use crate::fields::{one, three, two};
+use crate::limits::GROUPS_PER_SITE;
 use crate::reader::{Reader, name_in};
 use crate::scenario::SetupLine;
 use crate::text::number_in;
 use crate::word::{Reason, Section, Word};
-use chorus_ui::{Kind, Ui};
+use chorus_entry::{MEMBERS_LIMIT, PENDING_LIMIT};
+use chorus_ui::{Kind, PORTS_PER_SITE, Ui};
 
 impl Reader {
     pub(crate) fn port_line(&mut self, rest: Option<&[u8]>) -> Result<(), Stop>
@@ -33,7 +36,7 @@ impl Reader {
         ) else {
             return Err(Stop::Fault(Reason::Number));
         };
-        if capacity == 0 || 64 < capacity || 32 < port.number() {
+        if capacity == 0 || (PENDING_LIMIT as u128) < capacity || PORTS_PER_SITE < port.number() {
             return Err(Stop::Fault(Reason::Limit));
         }
         if self.is_far(port) || self.is_no_actor(actor) {
@@ -61,7 +64,7 @@ impl Reader {
         let Some(group) = name_in(Kind::Group, group) else {
             return Err(Stop::Fault(Reason::Number));
         };
-        if 4 < group.number() {
+        if GROUPS_PER_SITE < group.number() {
             return Err(Stop::Fault(Reason::Limit));
         }
         if self.is_far(group) {
@@ -88,7 +91,7 @@ impl Reader {
             return Err(Stop::Fault(Reason::Number));
         };
         let members = self.setup.members(group);
-        if members.len() >= 32 {
+        if members.len() >= MEMBERS_LIMIT {
             return Err(Stop::Fault(Reason::Limit));
         }
         if !self.is_known(group) || !self.is_known(port) {
@@ -113,7 +116,7 @@ impl Reader {
     fn make(&mut self, ui: Ui, line: SetupLine, site: u16, number: u64) -> Result<(), Stop>
         requires stands { Stands self.old }
         requires section { self.old.section ≡ Section.Setup }
-        requires site { (1 ≤ site) × (site ≤ 16) }
+        requires site { (1 ≤ site) × (site ≤ MAX_SITES) }
         requires number { 1 ≤ number }
         requires kind { is_actor ui.kind ≡ false }
         requires room { ui.number ≤ most_number ui.kind }

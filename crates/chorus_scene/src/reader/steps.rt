@@ -2,19 +2,18 @@
 
 ghost use Rattle.std.specs.Prelude.{◌≡◌, ◌≤◌, ◌<◌, true, length, OnOk, IfErr};
 ghost use Rattle.std.specs.Option.{option_copied};
-ghost use Rattle.chorus_scene.specs.Judge.{after, is_done};
-ghost use Rattle.chorus_scene.specs.Line.{may_stand, Go};
+ghost use Rattle.chorus_scene.specs.declared.limits.TheConstants.{STEPS_LIMIT};
+ghost use Rattle.chorus_scene.specs.Grammar.{after, is_done};
+ghost use Rattle.chorus_scene.specs.Line.{may_stand, StepLine};
 ghost use Rattle.chorus_scene.specs.Reader.{Gives, Stands, IsMemory, read_with, state_of, scene_of};
 
 use crate::fault::Stop;
 use crate::fields::{none, one, two};
+use crate::limits::STEPS_LIMIT;
 use crate::reader::Reader;
 use crate::scenario::Step;
 use crate::text::{BEYOND, number_in};
 use crate::word::{Reason, Section, Word};
-
-/// The most steps of a schedule.
-const MOST_STEPS: usize = 131_072;
 
 impl Reader {
     pub(crate) fn step_line(&mut self, rest: Option<&[u8]>) -> Result<(), Stop>
@@ -29,7 +28,7 @@ impl Reader {
         let Some(script) = number_in(script) else {
             return Err(Stop::Fault(Reason::Number));
         };
-        if self.schedule.len() >= MOST_STEPS || script >= BEYOND {
+        if self.schedule.len() >= STEPS_LIMIT || script >= BEYOND {
             return Err(Stop::Fault(Reason::Limit));
         }
         if script == 0 || (self.scripts.len() as u128) < script || self.is_done(script as u32) {
@@ -50,7 +49,7 @@ impl Reader {
         let (Some(from), Some(to)) = (number_in(from), number_in(to)) else {
             return Err(Stop::Fault(Reason::Number));
         };
-        if self.schedule.len() >= MOST_STEPS || from >= BEYOND || to >= BEYOND {
+        if self.schedule.len() >= STEPS_LIMIT || from >= BEYOND || to >= BEYOND {
             return Err(Stop::Fault(Reason::Limit));
         }
         let places = u128::from(self.sites) * u128::from(self.layout.turns());
@@ -71,7 +70,7 @@ impl Reader {
         if !none(rest) {
             return Err(Stop::Fault(Reason::Word));
         }
-        if self.schedule.len() >= MOST_STEPS {
+        if self.schedule.len() >= STEPS_LIMIT {
             return Err(Stop::Fault(Reason::Limit));
         }
         self.schedule.push(Step::Drain)?;
@@ -92,8 +91,8 @@ impl Reader {
     fn push_step(&mut self, script: u32) -> Result<(), Stop>
         requires stands { Stands self.old }
         requires script { (1 ≤ script) × (script ≤ length self.old.scripts.items) }
-        requires room { length self.old.schedule.items < 131072 }
-        ensures ok { OnOk result (state_of self.new ≡ after (state_of self.old) (Go (Step.Step script))) }
+        requires room { length self.old.schedule.items < STEPS_LIMIT }
+        ensures ok { OnOk result (state_of self.new ≡ after (state_of self.old) (StepLine (Step.Step script))) }
         ensures stands { OnOk result (Stands self.new) }
         ensures memory { IfErr result IsMemory }
     {

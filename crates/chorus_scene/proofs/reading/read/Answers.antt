@@ -1,24 +1,24 @@
 use Rattle.std.proofs.Common.{◌≡◌, Ok, ◌∙◌, arith, refl}
 use Rattle.std.proofs.lemmas.Bool.Decides.{nat_tests}
-use Rattle.chorus_scene.specs.Judge.{read_scene}
+use Rattle.chorus_scene.specs.Grammar.{read_scene}
 use Rattle.chorus_scene.specs.Reader.{state_of}
 use Rattle.chorus_scene.proofs.Law.{printed_again}
 use Rattle.chorus_scene.proofs.Kept.{kept}
 use Rattle.chorus_scene.proofs.Lines.{judge_on, judge_stops, judge_end, ended_is, not_ended, read_is}
 use Rattle.chorus_scene.proofs.reading.read.Goals as goal
 
-pub returns-in-Err-line : goal.returns-in-Err-line
-returns-in-Err-line c =
+pub returns-in-Err : goal.returns-in-Err
+returns-in-Err c =
     let h = c.loop-rest.invariant in
     rw (c.fault_at.ensures, read_is c.args.layout c.args.text.now (omega arith))
-    (judge_stops c.loop-rest.number (state_of c.loop-rest.reader) c.loop-rest.rest.now c.first_line.result.0.now c.first_line.result.1.now _ c.first_line.ensures.first h.judged c.in-Err-line.stop c.in-Err-line.ensures.gives)
+    (judge_stops c.loop-rest.number (state_of c.loop-rest.reader) c.loop-rest.rest.now c.first_line.result.0.now c.first_line.result.1.now _ c.first_line.ensures.first h.judged c.in-Err.stop c.in-Err.ensures.gives)
 
 pub loop-rest-preserved : goal.loop-rest-preserved
 loop-rest-preserved c =
     let h = c.loop-rest.invariant in
     record {
-      judged = judge_on c.loop-rest.number (state_of c.loop-rest.reader) c.loop-rest.rest.now c.first_line.result.0.now c.first_line.result.1.now _ c.first_line.ensures.first h.judged (state_of c.line.new.self) c.in-Ok-line.ensures.gives;
-      stands = c.in-Ok-line.ensures.stands;
+      judged = judge_on c.loop-rest.number (state_of c.loop-rest.reader) c.loop-rest.rest.now c.first_line.result.0.now c.first_line.result.1.now _ c.first_line.ensures.first h.judged (state_of c.line.new.self) c.in-Ok.ensures.gives;
+      stands = c.in-Ok.ensures.stands;
       small = omega (arith, h.small, c.first_line.ensures.shorter);
     }
 

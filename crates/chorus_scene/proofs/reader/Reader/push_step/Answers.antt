@@ -1,7 +1,7 @@
 use Rattle.std.proofs.Common.{◌≡◌, arith, count_by, ◌∙◌, length, length-set, get_or, ◌-◌, ◌+◌}
 use Rattle.std.proofs.lemmas.List.{get_or_read}
 use Rattle.std.proofs.lemmas.List.Sums.{count_by-le-length}
-use Rattle.chorus_scene.specs.Judge.{is_step}
+use Rattle.chorus_scene.specs.Grammar.{is_step}
 use Rattle.chorus_scene.proofs.Counts.{used_on}
 use Rattle.chorus_scene.proofs.reader.Reader.push_step.Goals as goal
 

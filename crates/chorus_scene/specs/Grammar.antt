@@ -1,5 +1,5 @@
--- Which lines are refused, and what a text says that is not refused.
-use Rattle.std.specs.Prelude.{ℕ, ◌+◌, ◌*◌, ◌-◌, ◌^◌, Bool, true, false, not, ◌&&◌, ◌||◌, List, [], ◌∷◌, ◌++◌, length, Option, Some, None, Result, Ok, Err, nat_lt, nat_le, ◌==◌, if◌then◌else◌, codes, slice_index_or, slice_set, count_by}
+-- The grammar: which lines are refused, and what a text says that is not refused.
+use Rattle.std.specs.Prelude.{◌≡◌, ℕ, ◌+◌, ◌*◌, ◌-◌, ◌^◌, Bool, true, false, not, ◌&&◌, ◌||◌, List, [], ◌∷◌, ◌++◌, length, Option, Some, None, Result, Ok, Err, nat_lt, nat_le, ◌==◌, if◌then◌else◌, codes, slice_index_or, slice_set, count_by}
 use Rattle.std.specs.Str.{bytes_eq}
 use Rattle.chorus_ui.specs.declared.kind.Kind.TheVariants as kinds
 use Rattle.chorus_ui.specs.Name.{Name, same_ui}
@@ -17,10 +17,17 @@ use Rattle.chorus_scene.specs.declared.word.Section.{Section}
 use Rattle.chorus_scene.specs.declared.word.Section.TheVariants as sections
 use Rattle.chorus_scene.specs.declared.word.Reason.{Reason}
 use Rattle.chorus_scene.specs.declared.word.Reason.TheVariants as reasons
+use Rattle.chorus_ui.specs.declared.layout.TheConstants.{MAX_SITES, ACTORS_PER_SITE, PORTS_PER_SITE}
+use Rattle.chorus_entry.specs.declared.body.TheConstants.{BODY_LIMIT}
+use Rattle.chorus_entry.specs.declared.members.TheConstants.{MEMBERS_LIMIT}
+use Rattle.chorus_entry.specs.declared.record.pending.TheConstants.{PENDING_LIMIT}
+use Rattle.chorus_scene.specs.declared.limits.TheConstants.{TEXT_LIMIT, VERSION_ONE_SITES, VERSION_ONE_BODY, GROUPS_PER_SITE, SCRIPTS_LIMIT, COMMANDS_LIMIT, STEPS_LIMIT}
+use Rattle.chorus_scene.specs.declared.fault.ReadFault.{ReadFault}
+use Rattle.chorus_scene.specs.declared.fault.ReadFault.TheVariants as faults
 use Rattle.chorus_scene.specs.Text.{cut, fields, lines, is_text, is_skipped}
 use Rattle.chorus_scene.specs.Scene.{Scene, Script}
 use Rattle.chorus_scene.specs.Making.{next_port, next_group, made_after, is_among, members_of}
-use Rattle.chorus_scene.specs.Line.{Line, Version, Count, MakePort, MakeGroup, Enlist, Begin, Do, Steps, Go, Ends, word_of, may_stand, cuts, is_misshapen, line_of}
+use Rattle.chorus_scene.specs.Line.{Line, VersionLine, SitesLine, PortLine, GroupLine, MemberLine, ScriptLine, CommandLine, ScheduleLine, StepLine, EndLine, word_of, may_stand, cuts, is_misshapen, line_of}
 
 -- what the lines so far have said, and the section that they came to
 pub record State : Type 0 where
@@ -49,17 +56,17 @@ is_step k (steps.Step n) = n == k
 is_step k _ = false
 
 abbrev pub most_sites : ℕ → ℕ
-most_sites version = if version == 1 then 8 else 16
+most_sites version = if version == 1 then VERSION_ONE_SITES else MAX_SITES
 
 abbrev pub most_bytes : ℕ → ℕ
-most_bytes version = if version == 1 then 240 else 4096
+most_bytes version = if version == 1 then VERSION_ONE_BODY else BODY_LIMIT
 
 -- a decimal of more than 64 bits, which counts as 2 ^ 64
 abbrev pub is_huge : ℕ → Bool
 is_huge n = nat_le (2 ^ 64) n
 
 abbrev pub is_no_capacity : ℕ → Bool
-is_no_capacity n = (n == 0) || nat_lt 64 n
+is_no_capacity n = (n == 0) || nat_lt PENDING_LIMIT n
 
 abbrev pub dest_is_huge : Dest → Bool
 dest_is_huge (dests.OneAt group site) = is_huge site
@@ -81,17 +88,17 @@ step_is_beyond steps.Drain = false
 
 -- the last script has as many commands as a script may have
 abbrev pub last_is_full : Scene → Bool
-last_is_full c = nat_le 4096 (length (last_script c.scripts).commands)
+last_is_full c = nat_le COMMANDS_LIMIT (length (last_script c.scripts).commands)
 
 -- test 7: a number or a count is beyond its limit
 abbrev pub is_beyond : Scene → Line → Bool
-is_beyond c (Count n) = (n == 0) || nat_lt c.layout.sites n || nat_lt (most_sites c.version) n
-is_beyond c (MakePort u actor capacity) = is_no_capacity capacity || nat_lt 32 u.number
-is_beyond c (MakeGroup u) = nat_lt 4 u.number
-is_beyond c (Enlist group port) = nat_le 32 (length (members_of group c.setup))
-is_beyond c (Begin actor) = nat_le 16 (length c.scripts)
-is_beyond c (Do command) = last_is_full c || command_is_beyond c.version command
-is_beyond c (Go step) = nat_le 131072 (length c.schedule) || step_is_beyond step
+is_beyond c (SitesLine n) = (n == 0) || nat_lt c.layout.sites n || nat_lt (most_sites c.version) n
+is_beyond c (PortLine u actor capacity) = is_no_capacity capacity || nat_lt PORTS_PER_SITE u.number
+is_beyond c (GroupLine u) = nat_lt GROUPS_PER_SITE u.number
+is_beyond c (MemberLine group port) = nat_le MEMBERS_LIMIT (length (members_of group c.setup))
+is_beyond c (ScriptLine actor) = nat_le SCRIPTS_LIMIT (length c.scripts)
+is_beyond c (CommandLine command) = last_is_full c || command_is_beyond c.version command
+is_beyond c (StepLine step) = nat_le STEPS_LIMIT (length c.schedule) || step_is_beyond step
 is_beyond c _ = false
 
 -- on a site above the last
@@ -99,12 +106,12 @@ abbrev pub is_far : Scene → Name → Bool
 is_far c u = nat_lt c.sites u.site
 
 abbrev pub is_no_actor : Scene → Name → Bool
-is_no_actor c actor = is_far c actor || nat_lt 8 actor.number
+is_no_actor c actor = is_far c actor || nat_lt ACTORS_PER_SITE actor.number
 
 abbrev pub is_no_site : Scene → ℕ → Bool
 is_no_site c site = (site == 0) || nat_lt c.sites site
 
--- an earlier line made it
+-- its site is one of the scenario's, and an earlier line made it
 abbrev pub is_known : Scene → Name → Bool
 is_known c u = not (is_far c u) && is_among u (made c)
 
@@ -131,24 +138,24 @@ command_is_unknown c (commands.Leave group port) = is_far c group || is_far c po
 
 -- test 8: a name or a site is unknown
 abbrev pub names_unknown : Scene → Line → Bool
-names_unknown c (MakePort u actor capacity) = is_far c u || is_no_actor c actor
-names_unknown c (MakeGroup u) = is_far c u
-names_unknown c (Enlist group port) = not (is_known c group) || not (is_known c port)
-names_unknown c (Begin actor) = is_no_actor c actor
-names_unknown c (Do command) = command_is_unknown c command
+names_unknown c (PortLine u actor capacity) = is_far c u || is_no_actor c actor
+names_unknown c (GroupLine u) = is_far c u
+names_unknown c (MemberLine group port) = not (is_known c group) || not (is_known c port)
+names_unknown c (ScriptLine actor) = is_no_actor c actor
+names_unknown c (CommandLine command) = command_is_unknown c command
 names_unknown c _ = false
 
 -- test 9: a setup line says again what an earlier one said
 abbrev pub repeats : Scene → Line → Bool
-repeats c (MakePort u actor capacity) = is_among u (made c)
-repeats c (MakeGroup u) = is_among u (made c)
-repeats c (Enlist group port) = is_among port (members_of group c.setup)
+repeats c (PortLine u actor capacity) = is_among u (made c)
+repeats c (GroupLine u) = is_among u (made c)
+repeats c (MemberLine group port) = is_among port (members_of group c.setup)
 repeats c _ = false
 
 -- test 10: the name is not the one that the making gives
 abbrev pub is_not_given : Scene → Line → Bool
-is_not_given c (MakePort u actor capacity) = not (same_ui u (next_port c.layout actor (made c)))
-is_not_given c (MakeGroup u) = not (same_ui u (next_group c.layout u.site (made c)))
+is_not_given c (PortLine u actor capacity) = not (same_ui u (next_port c.layout actor (made c)))
+is_not_given c (GroupLine u) = not (same_ui u (next_group c.layout u.site (made c)))
 is_not_given c _ = false
 
 abbrev pub is_no_place : Scene → ℕ → Bool
@@ -165,7 +172,7 @@ cannot_go c steps.Drain = false
 
 -- test 11: a step cannot be done
 abbrev pub is_unscheduled : Scene → Line → Bool
-is_unscheduled c (Go step) = cannot_go c step
+is_unscheduled c (StepLine step) = cannot_go c step
 is_unscheduled c _ = false
 
 -- refused for this reason where a test fails
@@ -202,17 +209,15 @@ judge_word s (word, rest) =
 
 -- test 2
 abbrev pub judge_head : List ℕ → Result Line Reason
-judge_head bytes = if bytes_eq bytes (codes "chorus 1") then Ok (Version 1) else if bytes_eq bytes (codes "chorus 2") then Ok (Version 2) else Err reasons.Header
+judge_head bytes = if bytes_eq bytes (codes "chorus 1") then Ok (VersionLine 1) else if bytes_eq bytes (codes "chorus 2") then Ok (VersionLine 2) else Err reasons.Header
 
 abbrev pub is_head : Section → Bool
 is_head sections.Head = true
 is_head _ = false
 
--- what a line says, or the reason of the first test that it fails
+-- tests 2 to 11: what a line that is not skipped says
 abbrev pub judge_bytes : State → List ℕ → Result Line Reason
-judge_bytes s bytes =
-    unless (not (is_text bytes)) reasons.Text
-    (if is_head s.section then judge_head bytes else judge_word s (cut 32 bytes))
+judge_bytes s bytes = if is_head s.section then judge_head bytes else judge_word s (cut 32 bytes)
 
 abbrev pub with_command : Command → Script → Script
 with_command command script = record { actor = script.actor; commands = script.commands ++ command ∷ [] }
@@ -222,24 +227,25 @@ with_setup s line = record { section = sections.Setup; scene = record s.scene { 
 
 -- what is said with the line too
 abbrev pub after : State → Line → State
-after s (Version v) = record { section = sections.Sites; scene = record s.scene { version = v } }
-after s (Count n) = record { section = sections.Setup; scene = record s.scene { sites = n } }
-after s (MakePort u actor capacity) = with_setup s (setups.Port actor capacity)
-after s (MakeGroup u) = with_setup s (setups.Group u.site)
-after s (Enlist group port) = with_setup s (setups.Member group port)
-after s (Begin actor) = record { section = sections.Scripts; scene = record s.scene { scripts = s.scene.scripts ++ record { actor = actor; commands = [] } ∷ [] } }
-after s (Do command) = record { section = sections.Scripts; scene = record s.scene { scripts = slice_set s.scene.scripts (length s.scene.scripts - 1) (with_command command (last_script s.scene.scripts)) } }
-after s Steps = record { section = sections.Schedule; scene = s.scene }
-after s (Go step) = record { section = sections.Schedule; scene = record s.scene { schedule = s.scene.schedule ++ step ∷ [] } }
-after s Ends = record { section = sections.Ended; scene = s.scene }
+after s (VersionLine v) = record { section = sections.Sites; scene = record s.scene { version = v } }
+after s (SitesLine n) = record { section = sections.Setup; scene = record s.scene { sites = n } }
+after s (PortLine u actor capacity) = with_setup s (setups.Port actor capacity)
+after s (GroupLine u) = with_setup s (setups.Group u.site)
+after s (MemberLine group port) = with_setup s (setups.Member group port)
+after s (ScriptLine actor) = record { section = sections.Scripts; scene = record s.scene { scripts = s.scene.scripts ++ record { actor = actor; commands = [] } ∷ [] } }
+after s (CommandLine command) = record { section = sections.Scripts; scene = record s.scene { scripts = slice_set s.scene.scripts (length s.scene.scripts - 1) (with_command command (last_script s.scene.scripts)) } }
+after s ScheduleLine = record { section = sections.Schedule; scene = s.scene }
+after s (StepLine step) = record { section = sections.Schedule; scene = record s.scene { schedule = s.scene.schedule ++ step ∷ [] } }
+after s EndLine = record { section = sections.Ended; scene = s.scene }
 
 abbrev pub then_after : State → Result Line Reason → Result State Reason
 then_after s (Ok line) = Ok (after s line)
 then_after s (Err reason) = Err reason
 
--- what the lines have said when this one is read too; a skipped line says nothing, but its bytes are tested
+-- what the lines have said when this one is read too, or the reason of the first test that it fails. Test 1 is for skipped
+-- lines too, which say nothing
 unfoldable pub next : State → List ℕ → Result State Reason
-next s bytes = if is_skipped bytes then unless (not (is_text bytes)) reasons.Text (Ok s) else then_after s (judge_bytes s bytes)
+next s bytes = unless (not (is_text bytes)) reasons.Text (if is_skipped bytes then Ok s else then_after s (judge_bytes s bytes))
 
 abbrev pub is_ended : Section → Bool
 is_ended sections.Ended = true
@@ -269,4 +275,13 @@ judge n s (line ∷ lines) = or_at n (next s line) (λ t. judge (n + 1) t lines)
 
 -- the scenario that a text says for a layout, or the line and the reason of its fault
 unfoldable pub read_scene : Shape → List ℕ → Result Scene (ℕ × ℕ)
-read_scene l text = if nat_lt 4194304 (length text) then Err (0, reason_number reasons.Limit) else judge 1 (opening l) (lines text)
+read_scene l text = if nat_lt TEXT_LIMIT (length text) then Err (0, reason_number reasons.Limit) else judge 1 (opening l) (lines text)
+
+-- what reading returned is what the definition says, unless memory ran out
+abbrev pub Refuses : ReadFault → Result Scene (ℕ × ℕ) → Type 0
+Refuses (faults.Memory error) judged = Unit {0}
+Refuses (faults.Scene fault) judged = judged ≡ Err (fault.line, fault.reason)
+
+abbrev pub Reads : Result Scene ReadFault → Result Scene (ℕ × ℕ) → Type 0
+Reads (Ok scene) judged = judged ≡ Ok scene
+Reads (Err fault) judged = Refuses fault judged
