@@ -1,8 +1,8 @@
 -- What a step does to the ports.
-use Rattle.std.proofs.Common.{ℕ, ◌≡◌, ◌==◌, ◌<◌, Bool, true, false, ◌&&◌, cond, List, [], ◌∷◌, ◌++◌, length, reverse, Option, Some, None, refl, sym, ◌∙◌, ap, arith}
+use Rattle.std.proofs.Common.{ℕ, ◌≡◌, ◌==◌, ◌<◌, nat_le, not, Bool, true, false, ◌&&◌, cond, List, [], ◌∷◌, ◌++◌, length, reverse, Option, Some, None, refl, sym, ◌∙◌, ap, arith}
 use Rattle.std.specs.Cmp.Derive.{both_true}
 use Rattle.std.specs.List.{slice_get}
-use Rattle.std.proofs.lemmas.Bool.{and_parts, eqb-true, false≢true}
+use Rattle.std.proofs.lemmas.Bool.{and_parts, eqb-true, leb-true, false≢true}
 use Rattle.std.proofs.lemmas.List.{reverse-append}
 use Rattle.std.proofs.lemmas.Option.{slice_get_within}
 use Rattle.chorus_ui.specs.declared.ui.Ui.{Ui}
@@ -12,14 +12,14 @@ use Rattle.chorus_ui.proofs.Names.{from_same_ui}
 use Rattle.chorus_entry.specs.declared.entry.Entry.{Entry}
 use Rattle.chorus_entry.specs.declared.id.MsgId.{MsgId}
 use Rattle.chorus_entry.specs.declared.act.Act.{Act}
-use Rattle.chorus_entry.specs.declared.act.Act.TheVariants.{Take}
+use Rattle.chorus_entry.specs.declared.act.Act.TheVariants.{Make, Take}
 use Rattle.chorus_entry.specs.Act.{held_port_of}
 use Rattle.chorus_entry.specs.MsgId.{same_id}
-use Rattle.chorus_world.specs.Views.{views, on, is_on, are_same}
+use Rattle.chorus_world.specs.Views.{Views, views, on, is_on, are_same}
 use Rattle.chorus_world.specs.Places.{just_taken}
 use Rattle.chorus_world.specs.Ports.{Fate, fate, fate_after, is_held_at, is_first_waiting}
-use Rattle.chorus_world.specs.Computing.{TakeFits}
-use Rattle.chorus_world.specs.Steps.{act_may, act_follows, may, is_timely, may_stand_behind, is_legal}
+use Rattle.chorus_world.specs.Computing.{MakeFits, TakeFits}
+use Rattle.chorus_world.specs.Steps.{is_home, is_full_of_ports, next_number, act_may, act_follows, may, is_timely, may_stand_behind, is_legal}
 use Rattle.chorus_entry.specs.Kinds.{has_kinds}
 
 there : (x : MsgId) (o : Option MsgId) → are_same same_id (Some x) o ≡ true → (y : MsgId) × (o ≡ Some y)
@@ -68,3 +68,24 @@ legal_grows l es xs e old now is =
     ap (λ ys. is_legal l (reverse ys)) is
     ∙ (ap (is_legal l) (reverse-append es (e ∷ []))
     ∙ both_true now old)
+
+makes_case : (l : Layout) (v : Views) (p s : ℕ) (a : Act) → act_may l v p s a ≡ true → MakeFits a
+makes_case l v p s (Make q a c) h =
+    let site = is_home l a p && nat_le 1 c && nat_le c 64 && not (is_full_of_ports l v.here) && (q.site == a.site) in
+    let room = is_home l a p && nat_le 1 c && nat_le c 64 && not (is_full_of_ports l v.here) in
+    let most = is_home l a p && nat_le 1 c && nat_le c 64 in
+    let one = and_parts site (q.number == next_number l p v.here) h in
+    let two = and_parts room (q.site == a.site) one.0 in
+    let three = and_parts most (not (is_full_of_ports l v.here)) two.0 in
+    let four = and_parts (is_home l a p && nat_le 1 c) (nat_le c 64) three.0 in
+    let five = and_parts (is_home l a p) (nat_le 1 c) four.0 in
+    (leb-true 1 c five.1, leb-true c 64 four.1)
+makes_case l v p s _ h = tt
+
+-- a Make that may come next has a capacity
+pub make_fits : (l : Layout) (past : List Entry) (e : Entry) → may l past e ≡ true → MakeFits e.act
+make_fits l past e h =
+    let v = views past e.place e.seat e.act in
+    let follows = (and_parts (is_timely l v e) (act_follows l v e.place e.seat e.act) h).1 in
+    let needs = (and_parts (has_kinds e.act && may_stand_behind (just_taken past v.here) e.act) (act_may l v e.place e.seat e.act) follows).1 in
+    makes_case l v e.place e.seat e.act needs

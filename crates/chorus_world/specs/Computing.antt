@@ -1,9 +1,9 @@
 -- Computing: words of the code, for what its functions compute on the way. No definition uses them.
-use Rattle.std.specs.Prelude.{ℕ, ◌+◌, ◌<◌, cond, Bool, List, [], ◌∷◌, length, Option, Some, None}
+use Rattle.std.specs.Prelude.{ℕ, ◌+◌, ◌<◌, ◌≤◌, cond, Bool, List, [], ◌∷◌, length, Option, Some, None}
 use Rattle.chorus_ui.specs.declared.ui.Ui.{Ui}
 use Rattle.chorus_ui.specs.Name.{same_ui}
 use Rattle.chorus_entry.specs.declared.act.Act.{Act}
-use Rattle.chorus_entry.specs.declared.act.Act.TheVariants.{Take}
+use Rattle.chorus_entry.specs.declared.act.Act.TheVariants.{Make, Take}
 use Rattle.chorus_world.specs.declared.post.Posting.{Posting}
 use Rattle.chorus_world.specs.declared.table.NamedPort.{NamedPort}
 use Rattle.chorus_world.specs.Views.{are_same}
@@ -20,6 +20,11 @@ in_brief (Some m) = Some (record { place = m.place; tag = m.message.tag; dest = 
 abbrev pub compared : Option Call → Option Call → Option Bool
 compared None b = None
 compared (Some a) b = Some (are_same same_call (Some a) b)
+
+-- a Make has a capacity
+abbrev pub MakeFits : Act → Type 0
+MakeFits (Make q a c) = (1 ≤ c) × (c ≤ 64)
+MakeFits _ = Unit {0}
 
 -- a Take finds a message that was accepted and not received
 abbrev pub TakeFits : Act → Fate → Type 0

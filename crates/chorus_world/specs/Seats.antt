@@ -12,7 +12,6 @@ use Rattle.chorus_entry.specs.declared.act.Act.{Act}
 use Rattle.chorus_entry.specs.declared.act.Act.TheVariants.{Post, Take, Done, Cancel}
 use Rattle.chorus_entry.specs.Body.{same_body}
 use Rattle.chorus_entry.specs.declared.hand.Hand.{Hand}
-use Rattle.chorus_world.specs.Views.{are_same}
 use Rattle.chorus_world.specs.Posts.{tag_of}
 
 -- how many messages it posted

@@ -179,7 +179,7 @@ fn first_one(
 ) -> Option<MsgId>
     ensures { result ≡ first_for port route.now (unsettled (at place (reverse entries.now)) (sent.now ∷ [])) }
 {
-    if !is_settled(entries, place, sent.id) && sent.port == port && same_route(&sent.route, route) {
+    if sent.port == port && same_route(&sent.route, route) && !is_settled(entries, place, sent.id) {
         Some(sent.id)
     } else {
         None

@@ -2,6 +2,7 @@
 
 ghost use Rattle.std.specs.Prelude.{◌≡◌, ◌≤◌, ◌<◌, Some, IfOk, OnOk, OnErr, length};
 ghost use Rattle.std.specs.Option.{option_copied};
+ghost use Rattle.chorus_entry.specs.declared.record.pending.TheConstants.{PENDING_LIMIT};
 ghost use Rattle.chorus_world.specs.Computing.{TakeFits};
 ghost use Rattle.chorus_world.specs.Ports.{new_port, arrived, changed, last_of, is_held, is_moving, is_ended, is_made, is_held_at, is_ended_at, is_coming, is_next_hop, waiting, has_room, is_full, is_first_waiting, is_empty, are_waiting};
 
@@ -35,13 +36,14 @@ pub struct PortFate {
 
 impl Model for PortFate {
     ghost use Rattle.std.specs.Prelude.{◌≤◌, length};
+    ghost use Rattle.chorus_entry.specs.declared.record.pending.TheConstants.{PENDING_LIMIT};
     ghost use Rattle.chorus_world.specs.Ports.{Fate};
 
     ghost Value = { Fate };
 
     ghost view = { λ f. record { capacity = f.capacity; accepted = f.accepted.items; taken = f.taken; path = f.path.items; spot = f.spot } };
 
-    ghost invariant = { λ f. f.taken ≤ length f.accepted.items };
+    ghost invariant = { λ f. (f.taken ≤ length f.accepted.items) × (1 ≤ f.capacity) × (f.capacity ≤ PENDING_LIMIT) };
 }
 
 impl PortFate {
@@ -52,6 +54,7 @@ impl PortFate {
         actor: Ui,
         capacity: u8,
     ) -> Result<PortFate, AllocError>
+        requires { (1 ≤ capacity) × (capacity ≤ PENDING_LIMIT) }
         ensures { IfOk result (λ f. f ≡ new_port place actor capacity) }
     {
         let mut path = Vec::new(alloc);
@@ -67,7 +70,8 @@ impl PortFate {
 
     /// How many messages may wait in it, from 1 to 64.
     pub fn capacity(&self) -> u8
-        ensures { result ≡ self.now.capacity }
+        ensures value { result ≡ self.now.capacity }
+        ensures within { (1 ≤ result) × (result ≤ PENDING_LIMIT) }
     {
         self.capacity
     }

@@ -5,7 +5,7 @@ ghost use Rattle.std.specs.Option.{option_copied};
 ghost use Rattle.chorus_ui.specs.declared.ui.Ui.{Ui};
 ghost use Rattle.chorus_world.specs.Ports.{Fate, changed, fate_after};
 ghost use Rattle.chorus_world.specs.Views.{is_on};
-ghost use Rattle.chorus_world.specs.Computing.{TakeFits, row_of, fate_in};
+ghost use Rattle.chorus_world.specs.Computing.{MakeFits, TakeFits, row_of, fate_in};
 ghost use Rattle.chorus_entry.specs.Act.{held_port_of};
 ghost use Rattle.chorus_ui.specs.Name.{same_ui};
 ghost use Rattle.std.specs.Option.{option_map};
@@ -85,7 +85,8 @@ pub(crate) fn follow(
     alloc: Global,
     entry: &Entry,
 ) -> Result<(), AllocError>
-    requires { (q : Ui) (f : Fate) → is_on (Some q) entry.now ≡ true → fate_in q ports.old.items ≡ Some f → TakeFits entry.now.act f }
+    requires makes { MakeFits entry.now.act }
+    requires takes { (q : Ui) (f : Fate) → is_on (Some q) entry.now ≡ true → fate_in q ports.old.items ≡ Some f → TakeFits entry.now.act f }
     ensures ok { OnOk result ((q : Ui) → fate_in q ports.new.items ≡ cond (is_on (Some q) entry.now) (fate_after entry.now.place entry.now.act (fate_in q ports.old.items)) (fate_in q ports.old.items)) }
     ensures err { OnErr result (ports.new.items ≡ ports.old.items) }
 {

@@ -1,26 +1,32 @@
 //! Acts and posts, in few words.
 
+ghost use Rattle.std.specs.Prelude.{◌≤◌, length};
+ghost use Rattle.chorus_entry.specs.declared.body.TheConstants.{BODY_LIMIT};
+
 use chorus_entry::{Act, Answer, Body, Dest, Ids, Members, Message, MsgId, Tag};
 use chorus_ui::Ui;
 use std::alloc::{AllocError, Global};
 
-/// A post of a one-byte body.
 pub(super) fn post(
     alloc: Global,
     id: MsgId,
     dest: Dest,
     tag: Tag,
-    byte: u8,
-) -> Result<Act, AllocError> {
-    let body = Body::new(alloc, &[byte])?;
+    body: &[u8],
+) -> Result<Act, AllocError>
+    requires { length body.now ≤ BODY_LIMIT }
+{
+    let body = Body::new(alloc, body)?;
     Ok(Act::Post {
         message: Message { id, tag, body },
         dest,
     })
 }
 
-pub(super) fn plain(alloc: Global, id: MsgId, dest: Dest, byte: u8) -> Result<Act, AllocError> {
-    post(alloc, id, dest, Tag::Plain, byte)
+pub(super) fn plain(alloc: Global, id: MsgId, dest: Dest, body: &[u8]) -> Result<Act, AllocError>
+    requires { length body.now ≤ BODY_LIMIT }
+{
+    post(alloc, id, dest, Tag::Plain, body)
 }
 
 pub(super) fn choose(alloc: Global, id: MsgId, group: Ui, member: Ui) -> Result<Act, AllocError> {

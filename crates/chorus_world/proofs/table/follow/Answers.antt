@@ -6,5 +6,5 @@ use Rattle.chorus_world.proofs.table.follow.Goals as goal
 
 pub change-requires : goal.change-requires
 change-requires c = λ f h.
-    c.requires c.in-Some.port f
+    c.requires.takes c.in-Some.port f
     (ap (are_same same_ui (Some c.in-Some.port)) (sym c.in-Some.ensures) ∙ same_ui-self c.in-Some.port) h

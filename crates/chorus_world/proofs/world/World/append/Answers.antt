@@ -4,11 +4,15 @@ use Rattle.chorus_world.specs.Ports.{fate}
 use Rattle.chorus_world.specs.Steps.{State, may}
 use Rattle.chorus_world.specs.Computing.{fate_in}
 use Rattle.chorus_world.specs.Views.{on}
-use Rattle.chorus_world.proofs.StepLemmas.{take_fits, fate_grows, legal_grows}
+use Rattle.chorus_world.proofs.StepLemmas.{make_fits, take_fits, fate_grows, legal_grows}
 use Rattle.chorus_world.proofs.world.World.append.Goals as goal
 
-pub follow-requires : goal.follow-requires
-follow-requires c = λ q f o m.
+pub follow-requires-clause-makes : goal.follow-requires-clause-makes
+follow-requires-clause-makes c =
+    make_fits c.args.self.now.layout c.args.self.now.past c.args.entry.now c.requires
+
+pub follow-requires-clause-takes : goal.follow-requires-clause-takes
+follow-requires-clause-takes c = λ q f o m.
     take_fits c.args.self.now.layout c.args.self.now.past c.args.entry.now q f c.requires o
     (ap (λ (w : State). fate (on q w.past)) (sym c.self.view_is) ∙ (sym (c.self.invariant.0 q) ∙ m))
 
