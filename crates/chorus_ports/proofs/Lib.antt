@@ -1,3 +1,5 @@
+pub mod Clients
+pub mod Histories
 pub mod Records
-pub mod Tables
 pub mod Rows
+pub mod Tables

@@ -1,4 +1,5 @@
 pub mod Deciding
+pub mod History
 pub mod Limits
 pub mod Rows
 pub mod Table

@@ -5,14 +5,18 @@
 //! leaving out by name (`Table`), deciding on a message (`Deciding`), taking (`Taking`), and the limits that each record
 //! keeps (`Limits`). `proofs/Tables.antt` has what follows of the list after a call for each name.
 //!
-//! Begin with `ports.rt`.
+//! Begin with `ports.rt`. `law.rt` says what holds over the whole life of a port.
 #![tactic(auto)]
 
 mod deciding;
+mod law;
 mod ports;
 mod row;
 mod taking;
+#[cfg(test)]
+mod tests;
 
 pub use deciding::Accept;
+pub use law::a_port_keeps_order_and_accepts_once;
 pub use ports::Ports;
 pub use taking::Taken;

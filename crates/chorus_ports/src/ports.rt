@@ -76,6 +76,8 @@ impl Ports {
     pub fn get(&self, ui: Ui) -> Option<&PortRecord>
         ensures value { option_copied result ≡ find ui self.now.records }
         ensures limits { IfSome (find ui self.now.records) IsWithinLimits }
+        // Each port has one record.
+        ensures distinct { are_distinct self.now.records ≡ true }
     {
         let row = row_of(&self.records, ui);
         self.records.get(row)
@@ -139,6 +141,8 @@ impl Ports {
         ensures value { result ≡ find ui self.old.records }
         ensures limits { IfSome result IsWithinLimits }
         ensures records { self.new.records ≡ without ui self.old.records }
+        // Each port has one record, so this one is gone.
+        ensures distinct { are_distinct self.old.records ≡ true }
         ensures spare { MatchOption result (self.new.spare ≡ self.old.spare) (λ _. self.new.spare ≡ self.old.spare + 1) }
     {
         let row = row_of(&self.records, ui);
@@ -163,6 +167,8 @@ impl Ports {
         ensures first { result ≡ slice_get self.old.records 0 }
         ensures limits { IfSome result IsWithinLimits }
         ensures rest { self.new.records ≡ drop 1 self.old.records }
+        // Each port has one record, so this one is gone.
+        ensures distinct { are_distinct self.old.records ≡ true }
         ensures spare { MatchOption result (self.new.spare ≡ self.old.spare) (λ _. self.new.spare ≡ self.old.spare + 1) }
     {
         if self.records.is_empty() {

@@ -1,0 +1,11 @@
+use Rattle.chorus_hints.proofs.Lessons.{never_falls, farthest, first_stays}
+use Rattle.chorus_hints.proofs.law.hops_never_fall.Goals as goal
+
+pub returns-clause-never_falls : goal.returns-clause-never_falls
+returns-clause-never_falls c = never_falls
+
+pub returns-clause-farthest : goal.returns-clause-farthest
+returns-clause-farthest c = farthest
+
+pub returns-clause-first : goal.returns-clause-first
+returns-clause-first c = first_stays

@@ -1,0 +1,87 @@
+//! The pairs of place and hop that are kept.
+
+ghost use Rattle.std.specs.Prelude.{◌≡◌, nat_lt, IsTrue, IfOk};
+ghost use Rattle.chorus_ui.specs.declared.ui.Ui.{Ui};
+ghost use Rattle.chorus_ui.specs.declared.kind.Kind.TheVariants.{Port};
+ghost use Rattle.chorus_ui.specs.Layout.{has_site, can_make_port};
+ghost use Rattle.chorus_hints.specs.Known.{row_of, kept, newest, hop_of, learned};
+
+use chorus_ui::{Kind, Layout, PORTS_PER_SITE, Ui};
+use std::alloc::{AllocError, Global};
+use std::marker::Model;
+
+/// Where ports are, as far as a place knows: of each port that the layout can make, the place with the greatest hop that was
+/// learned, the first of them. An array by site and number, so each call takes constant time.
+#[derive(Debug, Drop)]
+pub struct Hints {
+    layout: Layout,
+    pairs: Vec<Option<(u16, u64)>>,
+}
+
+impl Model for Hints {
+    ghost use Rattle.std.specs.Prelude.{◌≡◌, ◌*◌, length};
+    ghost use Rattle.chorus_ui.specs.declared.layout.TheConstants.{PORTS_PER_SITE};
+    ghost use Rattle.chorus_hints.specs.Known.{Known};
+
+    ghost Value = { Known };
+
+    ghost view = { λ hints. record { layout = hints.layout; pairs = hints.pairs.items } };
+
+    ghost invariant = { λ hints. length hints.pairs.items ≡ hints.layout.sites * PORTS_PER_SITE };
+}
+
+/// Where the pair of a port stands, counted from 0.
+fn row_of(port: Ui) -> usize
+    ensures { result ≡ row_of port }
+{
+    let site = usize::from(port.site() - 1);
+    site * PORTS_PER_SITE as usize + (port.number() - 1) as usize
+}
+
+impl Hints {
+    /// Nothing is kept, and there is room for each port that the layout can make.
+    pub fn with_room(alloc: Global, layout: Layout) -> Result<Hints, AllocError>
+        ensures layout { IfOk result (λ hints. hints.layout ≡ layout) }
+        ensures nothing { IfOk result (λ hints. (q : Ui) → kept hints q ≡ None) }
+    {
+        let ports = usize::from(layout.sites()) * PORTS_PER_SITE as usize;
+        let pairs = vec![in alloc; None; ports]?;
+        Ok(Hints { layout, pairs })
+    }
+
+    /// Keeps the place, where its hop is greater than that of the kept pair, or than 0 where none is kept; and answers whether.
+    /// The port is one that the layout can make. Takes no memory.
+    pub fn learn(&mut self, ui: Ui, place: u16, hop: u64) -> bool
+        requires port { ui.kind ≡ Port }
+        requires in_layout { IsTrue (can_make_port self.old.layout ui) }
+        ensures answer { result ≡ nat_lt (hop_of (kept self.old ui)) hop }
+        ensures pairs { (q : Ui) → kept self.new q ≡ learned ui place hop (kept self.old) q }
+        ensures layout { self.new.layout ≡ self.old.layout }
+    {
+        let row = row_of(ui);
+        let farthest = match self.pairs[row] {
+            Some((_, kept)) => kept,
+            None => 0,
+        };
+        let farther = farthest < hop;
+        if farther {
+            self.pairs[row] = Some((place, hop));
+        }
+        farther
+    }
+
+    /// The kept pair of place and hop, and where none is kept the creation place with hop 0. The port's site is in the
+    /// layout. Takes no memory.
+    pub fn newest(&self, ui: Ui) -> (u16, u64)
+        requires port { ui.kind ≡ Port }
+        requires in_layout { IsTrue (has_site self.now.layout ui.site) }
+        ensures { result ≡ newest self.now ui }
+    {
+        let made = (self.layout.place_at(ui.site(), ui), 0);
+        if self.layout.can_make_port(ui) {
+            self.pairs[row_of(ui)].unwrap_or(made)
+        } else {
+            made
+        }
+    }
+}
