@@ -1,0 +1,5 @@
+pub mod Ports
+pub mod Groups
+pub mod Faults
+pub mod Choosing
+pub mod Made
