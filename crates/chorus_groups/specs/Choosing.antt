@@ -3,6 +3,7 @@ use Rattle.std.specs.Prelude.{ℕ, ◌+◌, ◌==◌, Bool, ◌&&◌, not, cond,
 use Rattle.chorus_ui.specs.declared.ui.Ui.{Ui}
 use Rattle.chorus_entry.specs.declared.dest.Dest.{Dest}
 use Rattle.chorus_entry.specs.declared.dest.Dest.TheVariants.{Port, All, One, OneAt}
+use Rattle.chorus_entry.specs.Dest.{group_in}
 use Rattle.chorus_groups.specs.Ports.{index_of, wrapped, in_turn, first_of, listed}
 use Rattle.chorus_groups.specs.Groups.{Group, Table, members, rotation, with_change}
 
@@ -16,12 +17,13 @@ first_at s [] located = None
 first_at s (q ∷ qs) [] = None
 first_at s (q ∷ qs) (newest ∷ located) = cond (is_on s newest) (Some q) (first_at s qs located)
 
--- the members of the group that is posted to
+-- the members of the group that is posted to, where it is posted to one
+abbrev pub members_of : Option Ui → Table → List Ui
+members_of None t = []
+members_of (Some g) t = members g t
+
 abbrev pub members_for : Dest → Table → List Ui
-members_for (Port q) t = []
-members_for (All g) t = members g t
-members_for (One g) t = members g t
-members_for (OneAt g s) t = members g t
+members_for d t = members_of (group_in d) t
 
 -- the members that a post chooses: all, one, or one at a site
 abbrev pub choice : Table → Dest → List ℕ → List Ui

@@ -13,8 +13,12 @@ mod choice;
 mod fault;
 mod group;
 mod groups;
+mod law;
 mod ports;
+#[cfg(test)]
+mod tests;
 
 pub use choice::Choice;
 pub use fault::{JoinFault, LeaveFault};
 pub use groups::Groups;
+pub use law::chosen_in_turn;
