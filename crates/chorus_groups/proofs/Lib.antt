@@ -1,0 +1,4 @@
+pub mod PortLemmas
+pub mod TableLemmas
+pub mod GroupLemmas
+pub mod Turns

@@ -1,0 +1,6 @@
+pub mod Ports
+pub mod Groups
+pub mod Faults
+pub mod Choosing
+pub mod Made
+pub mod Law

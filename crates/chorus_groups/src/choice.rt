@@ -1,0 +1,32 @@
+//! What a post to a group finds.
+
+ghost use Rattle.std.specs.Prelude.{◌≡◌, ◌≤◌, length, IfOk};
+ghost use Rattle.chorus_entry.specs.declared.members.TheConstants.{MEMBERS_LIMIT};
+ghost use Rattle.chorus_groups.specs.Made.{made_of};
+
+use chorus_entry::Members;
+use chorus_ui::Ui;
+use std::alloc::{AllocError, Global};
+
+/// What a post to a group finds.
+#[derive(Debug, PartialEq, Eq, Drop)]
+pub enum Choice {
+    /// These members, at least one, in the order of the copies.
+    Members(Members),
+    /// No member to choose.
+    NoMember,
+}
+
+impl Choice {
+    /// The choice of these members.
+    pub(crate) fn of(alloc: Global, members: &[Ui]) -> Result<Choice, AllocError>
+        requires { length members.now ≤ MEMBERS_LIMIT }
+        ensures { IfOk result (λ choice. choice ≡ made_of members.now) }
+    {
+        if members.is_empty() {
+            return Ok(Choice::NoMember);
+        }
+        let members = Members::of(alloc, members)?;
+        Ok(Choice::Members(members))
+    }
+}

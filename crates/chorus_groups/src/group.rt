@@ -1,0 +1,124 @@
+//! One group.
+
+ghost use Rattle.std.specs.Prelude.{◌≡◌, ◌≤◌, ◌+◌, length, IfOk, IsTrue};
+ghost use Rattle.chorus_ui.specs.Name.{same_ui};
+ghost use Rattle.chorus_entry.specs.declared.members.TheConstants.{MEMBERS_LIMIT};
+ghost use Rattle.chorus_groups.specs.Ports.{IsPosition, are_distinct, first_of, in_turn};
+ghost use Rattle.chorus_groups.specs.Groups.{IsGroup, new_group, joined, left, turned_behind};
+ghost use Rattle.chorus_groups.specs.Faults.{unless, refuses_join, refuses_leave, after};
+ghost use Rattle.chorus_groups.specs.Choosing.{first_at};
+
+use crate::fault::{JoinFault, LeaveFault};
+use crate::ports::{first_at, index_of, is_member, moved_back, wrapped};
+use chorus_entry::MEMBERS_LIMIT;
+use chorus_ui::Ui;
+use std::alloc::{AllocError, Global};
+use std::marker::Model;
+
+/// A group with room for all the members that it may have.
+#[derive(Debug, Drop)]
+pub(crate) struct Group {
+    ui: Ui,
+    members: Vec<Ui>,
+    rotation: usize,
+}
+
+impl Model for Group {
+    ghost use Rattle.std.specs.Prelude.{◌≡◌, ◌≤◌, length, IsTrue, vec_capacity};
+    ghost use Rattle.chorus_entry.specs.declared.members.TheConstants.{MEMBERS_LIMIT};
+    ghost use Rattle.chorus_groups.specs.Groups.{Group, IsGroup};
+
+    ghost Value = { Group };
+
+    ghost view = { λ g. record { ui = g.ui; members = g.members.items; rotation = g.rotation } };
+
+    ghost invariant = { λ g. (vec_capacity g.members ≡ MEMBERS_LIMIT) × IsGroup (record { ui = g.ui; members = g.members.items; rotation = g.rotation }) };
+}
+
+impl Group {
+    /// The group, with no member.
+    pub(crate) fn with_room(alloc: Global, ui: Ui) -> Result<Group, AllocError>
+        ensures { IfOk result (λ group. group ≡ new_group ui) }
+    {
+        Ok(Group {
+            ui,
+            members: Vec::with_capacity(alloc, MEMBERS_LIMIT)?,
+            rotation: 0,
+        })
+    }
+
+    /// Whether this is its name.
+    pub(crate) fn is_named(&self, ui: Ui) -> bool
+        ensures { result ≡ same_ui self.now.ui ui }
+    {
+        self.ui == ui
+    }
+
+    /// Its members, in the order in which they joined.
+    pub(crate) fn members(&self) -> &[Ui]
+        ensures members { result.now ≡ self.now.members }
+        ensures group { IsGroup self.now }
+    {
+        self.members.as_slice()
+    }
+
+    /// The port joins, as the last member.
+    #[tactic(auto, using(crate::proofs::GroupLemmas::joined_is_group))]
+    pub(crate) fn join(&mut self, port: Ui) -> Result<(), JoinFault>
+        ensures answer { result ≡ unless (refuses_join port self.old) }
+        ensures after { self.new ≡ after (refuses_join port self.old) (joined port) self.old }
+    {
+        if is_member(self.members.as_slice(), port) {
+            return Err(JoinFault::There);
+        }
+        if self.members.len() >= MEMBERS_LIMIT {
+            return Err(JoinFault::MembersFull);
+        }
+        self.members.push_reserved(port);
+        Ok(())
+    }
+
+    /// The port leaves: the members behind it close up, and the rotation place moves one back where the port was before it.
+    #[tactic(auto, using(crate::proofs::GroupLemmas::left_is_group, crate::proofs::GroupLemmas::leaves, crate::proofs::GroupLemmas::not_there))]
+    pub(crate) fn leave(&mut self, port: Ui) -> Result<(), LeaveFault>
+        ensures answer { result ≡ unless (refuses_leave port self.old) }
+        ensures after { self.new ≡ after (refuses_leave port self.old) (left port) self.old }
+    {
+        let at = index_of(self.members.as_slice(), port);
+        if at >= self.members.len() {
+            return Err(LeaveFault::NotThere);
+        }
+        let _left = self.members.remove(at);
+        self.rotation = wrapped(self.members.len(), moved_back(self.rotation, at));
+        Ok(())
+    }
+
+    /// The member at the rotation place.
+    #[tactic(auto, using(crate::proofs::PortLemmas::first_of_in_turn))]
+    pub(crate) fn first(&self) -> Option<Ui>
+        ensures { result ≡ first_of (in_turn self.now.rotation self.now.members) }
+    {
+        self.members.get(self.rotation).copied()
+    }
+
+    /// The first member from the rotation place on, round the list, that is on the site, where `located` has the newest
+    /// site of each.
+    pub(crate) fn first_at(&self, site: u16, located: &[u16]) -> Option<Ui>
+        requires { length located.now ≡ length self.now.members }
+        ensures { result ≡ first_at site (in_turn self.now.rotation self.now.members) (in_turn self.now.rotation located.now) }
+    {
+        let at = self.rotation;
+        let members = self.members.as_slice();
+        let behind = first_at(site, &members[at..], &located[at..]);
+        behind.or(first_at(site, &members[..at], &located[..at]))
+    }
+
+    /// Moves the rotation place behind the member.
+    #[tactic(auto, using(crate::proofs::GroupLemmas::turned_is_group))]
+    pub(crate) fn turn_behind(&mut self, port: Ui)
+        ensures { self.new ≡ turned_behind port self.old }
+    {
+        let at = index_of(self.members.as_slice(), port);
+        self.rotation = wrapped(self.members.len(), at + 1);
+    }
+}
