@@ -1,0 +1,7 @@
+pub mod Fault
+pub mod Numbers
+pub mod Spelling
+pub mod Reading
+pub mod Widths
+pub mod Laws
+pub mod Calls
