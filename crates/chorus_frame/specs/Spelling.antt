@@ -34,11 +34,17 @@ only_field (Some site) = number 2 site
 abbrev pub id_fields : MsgId → List ℕ
 id_fields id = number 4 id.seat ++ number 4 id.number ++ number 2 id.copy
 
+abbrev pub request_fields : ℕ → Ui → List ℕ
+request_fields call back = number 4 call ++ name_field back
+
+abbrev pub reply_fields : ℕ → ℕ → List ℕ
+reply_fields client call = number 4 client ++ number 4 call
+
 -- a code, and what goes with it
 abbrev pub tag_fields : Tag → List ℕ
 tag_fields Plain = number 1 0
-tag_fields (Request call back) = number 1 1 ++ number 4 call ++ name_field back
-tag_fields (Reply client call) = number 1 2 ++ number 4 client ++ number 4 call
+tag_fields (Request call back) = number 1 1 ++ request_fields call back
+tag_fields (Reply client call) = number 1 2 ++ reply_fields client call
 
 -- how long it is, and its bytes
 abbrev pub body_fields : List ℕ → List ℕ
@@ -47,15 +53,19 @@ body_fields body = number 2 (length body) ++ body
 abbrev pub message_fields : Message → List ℕ
 message_fields m = id_fields m.id ++ tag_fields m.tag ++ body_fields m.body
 
+-- a place, and the hop by which a port went there
+abbrev pub located_fields : ℕ → ℕ → List ℕ
+located_fields to hop = number 2 to ++ number 8 hop
+
 abbrev pub answer_fields : Answer → List ℕ
 answer_fields (A.Accepted pos) = number 1 1 ++ number 8 pos
 answer_fields (A.Full len) = number 1 2 ++ number 1 len
-answer_fields (A.Stale to hop) = number 1 3 ++ number 2 to ++ number 8 hop
+answer_fields (A.Stale to hop) = number 1 3 ++ located_fields to hop
 answer_fields (A.Early hop) = number 1 4 ++ number 8 hop
 answer_fields A.NoPort = number 1 5
 answer_fields A.Already = number 1 6
 answer_fields A.ClientsFull = number 1 7
-answer_fields (A.Elsewhere to hop) = number 1 8 ++ number 2 to ++ number 8 hop
+answer_fields (A.Elsewhere to hop) = number 1 8 ++ located_fields to hop
 answer_fields A.NoMember = number 1 9
 answer_fields (A.Chosen count) = number 1 10 ++ number 2 count
 answer_fields A.Gone = number 1 11
