@@ -1,4 +1,5 @@
 pub mod Fault
+pub mod Frames
 pub mod Numbers
 pub mod Spelling
 pub mod Reading
