@@ -1,0 +1,9 @@
+pub mod AnswerFormats
+pub mod Fails
+pub mod Formats
+pub mod Loops
+pub mod MessageFormats
+pub mod Numbers
+pub mod PacketFormats
+pub mod RecordFormats
+pub mod Written

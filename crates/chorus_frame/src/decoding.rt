@@ -1,0 +1,31 @@
+//! Packets from their frames.
+
+ghost use Rattle.chorus_frame.specs.Calls.{Gives};
+ghost use Rattle.chorus_frame.specs.Reading.{packet_of};
+
+mod answer;
+mod cargo;
+mod message;
+mod name;
+mod record;
+
+use crate::fault::DecodeFault;
+use crate::reader::Reader;
+use chorus_entry::Packet;
+use std::alloc::Global;
+
+/// The packet whose frame these bytes are, all of them.
+///
+/// Fields are read from the front, and the first one that cannot be read gives the fault. No byte behind the end is read,
+/// and memory is taken for nothing that the bytes do not hold, but for the room of a port's record.
+#[tactic(auto, unfolding(crate::specs::Reading::packet_of))]
+pub fn decode(alloc: Global, bytes: &[u8]) -> Result<Packet, DecodeFault>
+    ensures { Gives result (packet_of bytes.now) }
+{
+    let mut reader = Reader::new(bytes);
+    let packet = cargo::packet_from(alloc, &mut reader)?;
+    if !reader.is_empty() {
+        return Err(DecodeFault::Trailing);
+    }
+    Ok(packet)
+}

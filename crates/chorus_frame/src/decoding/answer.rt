@@ -1,0 +1,132 @@
+//! Answers.
+
+ghost use Rattle.std.specs.Prelude.{ℕ};
+ghost use Rattle.chorus_frame.specs.Calls.{Reads};
+ghost use Rattle.chorus_frame.specs.Reading.{place_at, accepted_at, full_at, located_at, stale_at, early_at, elsewhere_at, chosen_at, answer_of, answer_at, is_told_code, is_reported_code};
+
+use super::name::past_from;
+use crate::fault::DecodeFault;
+use crate::reader::Reader;
+use chorus_entry::{Answer, MEMBERS_LIMIT, PENDING_LIMIT};
+use chorus_ui::MAX_SITES;
+
+/// How many places the largest layout has, whose sites have four places each.
+const MAX_PLACES: u16 = MAX_SITES * 4;
+
+/// The number of a place.
+#[tactic(auto, unfolding(crate::specs::Numbers::tested_at))]
+pub(super) fn place_from(reader: &mut Reader<'_>) -> Result<u16, DecodeFault>
+    ensures { Reads result reader.new (place_at reader.old) }
+{
+    let place = reader.u16()?;
+    if place == 0 || place > MAX_PLACES {
+        return Err(DecodeFault::Range);
+    }
+    Ok(place)
+}
+
+/// A place, and the hop by which a port went there.
+#[tactic(auto, unfolding(crate::specs::Reading::located_at))]
+fn located_from(reader: &mut Reader<'_>, clock: u64) -> Result<(u16, u64), DecodeFault>
+    ensures { Reads result reader.new (located_at clock reader.old) }
+{
+    let to = place_from(reader)?;
+    let hop = past_from(reader, clock)?;
+    Ok((to, hop))
+}
+
+#[tactic(auto, unfolding(crate::specs::Reading::accepted_at))]
+fn accepted_from(reader: &mut Reader<'_>, clock: u64) -> Result<Answer, DecodeFault>
+    ensures { Reads result reader.new (accepted_at clock reader.old) }
+{
+    let pos = past_from(reader, clock)?;
+    Ok(Answer::Accepted { pos })
+}
+
+#[tactic(auto, unfolding(crate::specs::Reading::full_at, crate::specs::Numbers::tested_at))]
+fn full_from(reader: &mut Reader<'_>) -> Result<Answer, DecodeFault>
+    ensures { Reads result reader.new (full_at reader.old) }
+{
+    let len = reader.u8()?;
+    if len == 0 || usize::from(len) > PENDING_LIMIT {
+        return Err(DecodeFault::Range);
+    }
+    Ok(Answer::Full { len })
+}
+
+#[tactic(auto, unfolding(crate::specs::Reading::stale_at))]
+fn stale_from(reader: &mut Reader<'_>, clock: u64) -> Result<Answer, DecodeFault>
+    ensures { Reads result reader.new (stale_at clock reader.old) }
+{
+    let (to, hop) = located_from(reader, clock)?;
+    Ok(Answer::Stale { to, hop })
+}
+
+#[tactic(auto, unfolding(crate::specs::Reading::early_at))]
+fn early_from(reader: &mut Reader<'_>, clock: u64) -> Result<Answer, DecodeFault>
+    ensures { Reads result reader.new (early_at clock reader.old) }
+{
+    let hop = past_from(reader, clock)?;
+    Ok(Answer::Early { hop })
+}
+
+#[tactic(auto, unfolding(crate::specs::Reading::elsewhere_at))]
+fn elsewhere_from(reader: &mut Reader<'_>, clock: u64) -> Result<Answer, DecodeFault>
+    ensures { Reads result reader.new (elsewhere_at clock reader.old) }
+{
+    let (to, hop) = located_from(reader, clock)?;
+    Ok(Answer::Elsewhere { to, hop })
+}
+
+#[tactic(auto, unfolding(crate::specs::Reading::chosen_at, crate::specs::Numbers::tested_at))]
+fn chosen_from(reader: &mut Reader<'_>) -> Result<Answer, DecodeFault>
+    ensures { Reads result reader.new (chosen_at reader.old) }
+{
+    let count = reader.u16()?;
+    if count == 0 || usize::from(count) > MEMBERS_LIMIT {
+        return Err(DecodeFault::Range);
+    }
+    Ok(Answer::Chosen { count })
+}
+
+/// What goes with the code of an answer.
+#[tactic(auto, unfolding(crate::specs::Reading::answer_of))]
+fn answer_with(code: u8, reader: &mut Reader<'_>, clock: u64) -> Result<Answer, DecodeFault>
+    ensures { Reads result reader.new (answer_of clock (code, reader.old)) }
+{
+    match code {
+        1 => accepted_from(reader, clock),
+        2 => full_from(reader),
+        3 => stale_from(reader, clock),
+        4 => early_from(reader, clock),
+        5 => Ok(Answer::NoPort),
+        6 => Ok(Answer::Already),
+        7 => Ok(Answer::ClientsFull),
+        8 => elsewhere_from(reader, clock),
+        9 => Ok(Answer::NoMember),
+        10 => chosen_from(reader),
+        _ => Ok(Answer::Gone),
+    }
+}
+
+/// The answer of a decision, which a Verdict tells.
+#[tactic(auto, unfolding(crate::specs::Reading::answer_at, crate::specs::Numbers::tested_at))]
+pub(super) fn told_from(reader: &mut Reader<'_>, clock: u64) -> Result<Answer, DecodeFault>
+    ensures { Reads result reader.new (answer_at is_told_code clock reader.old) }
+{
+    match reader.u8()? {
+        code @ (1..=8 | 11) => answer_with(code, reader, clock),
+        _ => Err(DecodeFault::Kind),
+    }
+}
+
+/// The answer that a Report tells.
+#[tactic(auto, unfolding(crate::specs::Reading::answer_at, crate::specs::Numbers::tested_at))]
+pub(super) fn reported_from(reader: &mut Reader<'_>, clock: u64) -> Result<Answer, DecodeFault>
+    ensures { Reads result reader.new (answer_at is_reported_code clock reader.old) }
+{
+    match reader.u8()? {
+        code @ (1 | 2 | 4..=11) => answer_with(code, reader, clock),
+        _ => Err(DecodeFault::Kind),
+    }
+}

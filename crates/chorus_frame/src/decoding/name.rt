@@ -1,0 +1,70 @@
+//! Names and numbers within their ranges.
+
+ghost use Rattle.std.specs.Prelude.{nat_le};
+ghost use Rattle.chorus_frame.specs.Calls.{Reads};
+ghost use Rattle.chorus_frame.specs.Reading.{name_at, route_at, only_at, positive_at, past_at};
+
+use crate::fault::DecodeFault;
+use crate::reader::Reader;
+use chorus_ui::{Kind, MAX_SITES, Ui};
+
+/// A name of this kind.
+#[tactic(auto, unfolding(crate::specs::Reading::name_at))]
+pub(super) fn name_from(reader: &mut Reader<'_>, kind: Kind) -> Result<Ui, DecodeFault>
+    ensures { Reads result reader.new (name_at kind reader.old) }
+{
+    match Ui::of_bits(reader.u64()?) {
+        Some(ui) if ui.kind() == kind => Ok(ui),
+        _ => Err(DecodeFault::Range),
+    }
+}
+
+/// The group that a message went through, or 0 where there is none.
+#[tactic(auto, unfolding(crate::specs::Reading::route_at))]
+pub(super) fn route_from(reader: &mut Reader<'_>) -> Result<Option<Ui>, DecodeFault>
+    ensures { Reads result reader.new (route_at reader.old) }
+{
+    let bits = reader.u64()?;
+    if bits == 0 {
+        return Ok(None);
+    }
+    match Ui::of_bits(bits) {
+        Some(ui) if ui.kind() == Kind::Group => Ok(Some(ui)),
+        _ => Err(DecodeFault::Range),
+    }
+}
+
+/// The site that a message demands, or 0 where it demands none.
+#[tactic(auto, unfolding(crate::specs::Reading::only_at, crate::specs::Numbers::tested_at))]
+pub(super) fn only_from(reader: &mut Reader<'_>) -> Result<Option<u16>, DecodeFault>
+    ensures { Reads result reader.new (only_at reader.old) }
+{
+    match reader.u16()? {
+        0 => Ok(None),
+        site if site <= MAX_SITES => Ok(Some(site)),
+        _ => Err(DecodeFault::Range),
+    }
+}
+
+/// A number from 1.
+#[tactic(auto, unfolding(crate::specs::Numbers::tested_at))]
+pub(super) fn positive_from(reader: &mut Reader<'_>) -> Result<u32, DecodeFault>
+    ensures { Reads result reader.new (positive_at reader.old) }
+{
+    match reader.u32()? {
+        0 => Err(DecodeFault::Range),
+        number => Ok(number),
+    }
+}
+
+/// A hop or a position, which is at most the clock of its packet.
+#[tactic(auto, unfolding(crate::specs::Numbers::tested_at))]
+pub(super) fn past_from(reader: &mut Reader<'_>, clock: u64) -> Result<u64, DecodeFault>
+    ensures { Reads result reader.new (past_at clock reader.old) }
+{
+    let number = reader.u64()?;
+    if number > clock {
+        return Err(DecodeFault::Range);
+    }
+    Ok(number)
+}

@@ -1,0 +1,105 @@
+//! Messages and answers.
+
+ghost use Rattle.std.specs.Prelude.{◌≡◌, ◌++◌, OnOk, OnErr, length, take};
+ghost use Rattle.chorus_frame.specs.Numbers.{number};
+ghost use Rattle.chorus_frame.specs.Spelling.{id_fields, tag_fields, body_fields, message_fields, answer_fields, located_fields};
+ghost use Rattle.chorus_frame.specs.Widths.{IsHeldId, IsHeldTag, IsHeldMessage};
+
+use super::number::{push_name, push_u8, push_u16, push_u32, push_u64};
+use chorus_entry::{Answer, Body, Message, MsgId, Tag};
+use std::alloc::AllocError;
+
+/// Appends the id of a message, or a front of it for want of memory, here and in the calls below.
+pub(super) fn push_id(id: &MsgId, out: &mut Vec<u8>) -> Result<(), AllocError>
+    ensures ok { OnOk result (out.new.items ≡ out.old.items ++ id_fields id.now) }
+    ensures err { OnErr result (take (length out.old.items) out.new.items ≡ out.old.items) }
+    ensures held { OnOk result (IsHeldId id.now) }
+{
+    push_u32(id.seat, out)?;
+    push_u32(id.number, out)?;
+    push_u16(id.copy, out)
+}
+
+/// Appends what a message is beside its body.
+fn push_tag(tag: &Tag, out: &mut Vec<u8>) -> Result<(), AllocError>
+    ensures ok { OnOk result (out.new.items ≡ out.old.items ++ tag_fields tag.now) }
+    ensures err { OnErr result (take (length out.old.items) out.new.items ≡ out.old.items) }
+    ensures held { OnOk result (IsHeldTag tag.now) }
+{
+    match tag {
+        Tag::Plain => push_u8(0, out),
+        Tag::Request { number, back } => {
+            push_u8(1, out)?;
+            push_u32(*number, out)?;
+            push_name(back, out)
+        }
+        Tag::Reply { client, number } => {
+            push_u8(2, out)?;
+            push_u32(*client, out)?;
+            push_u32(*number, out)
+        }
+    }
+}
+
+/// Appends the length of a body, and the body.
+fn push_body(body: &Body, out: &mut Vec<u8>) -> Result<(), AllocError>
+    ensures ok { OnOk result (out.new.items ≡ out.old.items ++ body_fields body.now) }
+    ensures err { OnErr result (take (length out.old.items) out.new.items ≡ out.old.items) }
+{
+    let bytes = body.bytes();
+    push_u16(bytes.len() as u16, out)?;
+    out.extend_from_slice(bytes)
+}
+
+/// Appends a message.
+pub(super) fn push_message(message: &Message, out: &mut Vec<u8>) -> Result<(), AllocError>
+    ensures ok { OnOk result (out.new.items ≡ out.old.items ++ message_fields message.now) }
+    ensures err { OnErr result (take (length out.old.items) out.new.items ≡ out.old.items) }
+    ensures held { OnOk result (IsHeldMessage message.now) }
+{
+    push_id(&message.id, out)?;
+    push_tag(&message.tag, out)?;
+    push_body(&message.body, out)
+}
+
+/// Appends an answer.
+pub(super) fn push_answer(answer: &Answer, out: &mut Vec<u8>) -> Result<(), AllocError>
+    ensures ok { OnOk result (out.new.items ≡ out.old.items ++ answer_fields answer.now) }
+    ensures err { OnErr result (take (length out.old.items) out.new.items ≡ out.old.items) }
+{
+    match answer {
+        Answer::Accepted { pos } => {
+            push_u8(1, out)?;
+            push_u64(*pos, out)
+        }
+        Answer::Full { len } => {
+            push_u8(2, out)?;
+            push_u8(*len, out)
+        }
+        Answer::Stale { to, hop } => push_located(3, *to, *hop, out),
+        Answer::Early { hop } => {
+            push_u8(4, out)?;
+            push_u64(*hop, out)
+        }
+        Answer::NoPort => push_u8(5, out),
+        Answer::Already => push_u8(6, out),
+        Answer::ClientsFull => push_u8(7, out),
+        Answer::Elsewhere { to, hop } => push_located(8, *to, *hop, out),
+        Answer::NoMember => push_u8(9, out),
+        Answer::Chosen { count } => {
+            push_u8(10, out)?;
+            push_u16(*count, out)
+        }
+        Answer::Gone => push_u8(11, out),
+    }
+}
+
+/// Appends the code of an answer, a place, and the hop by which a port went there.
+fn push_located(code: u8, to: u16, hop: u64, out: &mut Vec<u8>) -> Result<(), AllocError>
+    ensures ok { OnOk result (out.new.items ≡ out.old.items ++ (number 1 code ++ located_fields to hop)) }
+    ensures err { OnErr result (take (length out.old.items) out.new.items ≡ out.old.items) }
+{
+    push_u8(code, out)?;
+    push_u16(to, out)?;
+    push_u64(hop, out)
+}
