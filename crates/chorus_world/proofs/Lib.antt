@@ -4,3 +4,13 @@ pub mod SeatLemmas
 pub mod SentLemmas
 pub mod StepLemmas
 pub mod TableLemmas
+pub mod LegalLemmas
+pub mod LineLemmas
+pub mod PortLaws
+pub mod SendingLemmas
+pub mod StageLemmas
+pub mod DueLemmas
+pub mod MessageInvariant
+pub mod AcceptedLemmas
+pub mod OnceLaws
+pub mod RequestLaws

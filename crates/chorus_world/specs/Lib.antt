@@ -13,3 +13,5 @@ pub mod Commands
 pub mod Fates
 pub mod Computing
 pub mod Refusals
+pub mod AcceptedLaws
+pub mod RequestLaws

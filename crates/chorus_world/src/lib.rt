@@ -18,6 +18,7 @@
 mod client;
 mod fault;
 mod group;
+pub mod laws;
 mod message;
 mod place;
 mod port;

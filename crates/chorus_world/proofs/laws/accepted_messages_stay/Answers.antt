@@ -1,0 +1,5 @@
+use Rattle.chorus_world.proofs.PortLaws.{accepted_grows}
+use Rattle.chorus_world.proofs.laws.accepted_messages_stay.Goals as goal
+
+pub returns : goal.returns
+returns c = accepted_grows

@@ -1,0 +1,97 @@
+-- The laws of what ports accept. They speak of every legal past, and so of each past on the way to it.
+use Rattle.std.specs.Prelude.{ℕ, ◌≡◌, ◌≤◌, ◌+◌, Bool, true, List, [], ◌∷◌, ◌++◌, length, take, Option, Some, None, slice_get}
+use Rattle.chorus_ui.specs.declared.ui.Ui.{Ui}
+use Rattle.chorus_ui.specs.declared.layout.Layout.{Layout}
+use Rattle.chorus_ui.specs.Layout.{IsShape}
+use Rattle.chorus_entry.specs.declared.entry.Entry.{Entry}
+use Rattle.chorus_entry.specs.declared.id.MsgId.{MsgId}
+use Rattle.chorus_entry.specs.declared.act.Act.{Act}
+use Rattle.chorus_entry.specs.declared.act.Act.TheVariants.{Take, Delete}
+use Rattle.chorus_world.specs.Views.{on}
+use Rattle.chorus_world.specs.Ports.{Fate, fate}
+use Rattle.chorus_world.specs.Fates.{MessageFate, fate_at}
+use Rattle.chorus_world.specs.Steps.{is_legal}
+
+abbrev pub accepted_from : Option Fate → List MsgId
+accepted_from None = []
+accepted_from (Some f) = f.accepted
+
+-- the ids that the port accepted, in order
+abbrev pub accepted_by : Ui → List Entry → List MsgId
+accepted_by q past = accepted_from (fate (on q past))
+
+abbrev pub taken_from : Option Fate → ℕ
+taken_from None = 0
+taken_from (Some f) = f.taken
+
+-- how many of them were received
+abbrev pub taken_by : Ui → List Entry → ℕ
+taken_by q past = taken_from (fate (on q past))
+
+-- the ids of the Take entries, in order
+abbrev pub received_after : Act → List MsgId → List MsgId
+received_after (Take q n x) xs = xs ++ x ∷ []
+received_after _ xs = xs
+
+abbrev pub received : List Entry → List MsgId
+received [] = []
+received (e ∷ port) = received_after e.act (received port)
+
+-- the ids of the Delete entry, where there is one
+abbrev pub discarded_after : Act → Option (List MsgId) → Option (List MsgId)
+discarded_after (Delete q xs) o = Some xs
+discarded_after _ o = o
+
+abbrev pub discarded : List Entry → Option (List MsgId)
+discarded [] = None
+discarded (e ∷ port) = discarded_after e.act (discarded port)
+
+-- each accepted id stands at one position of one port
+abbrev pub StandsOnce : Type 0
+StandsOnce =
+    (l : Layout) (past : List Entry) (q r : Ui) (i j : ℕ) (x : MsgId) → is_legal l past ≡ true →
+    slice_get (accepted_by q past) i ≡ Some x → slice_get (accepted_by r past) j ≡ Some x → (q ≡ r) × (i ≡ j)
+
+-- the message x was accepted, and this became of it
+pub record HasFate (x : MsgId) (past : List Entry) (what : MessageFate) : Type 0 where
+  pub port : Ui
+  pub position : ℕ
+  pub state : Fate
+  pub made : fate (on port past) ≡ Some state
+  pub stands : slice_get state.accepted position ≡ Some x
+  pub is : fate_at position state ≡ what
+
+-- so each accepted message has one fate
+abbrev pub HasOneFate : Type 0
+HasOneFate =
+    (l : Layout) (past : List Entry) (x : MsgId) (a b : MessageFate) → is_legal l past ≡ true → HasFate x past a → HasFate x past b → a ≡ b
+
+-- what a port accepted stays where it is, whatever comes after: only more is put behind it
+abbrev pub AcceptedGrows : Type 0
+AcceptedGrows =
+    (l : Layout) (newer past : List Entry) (q : Ui) → IsShape l → is_legal l (newer ++ past) ≡ true →
+    (more : List MsgId) × (accepted_by q (newer ++ past) ≡ accepted_by q past ++ more)
+
+-- the ids of a port's Take entries are the first ones that it accepted, as many as were received
+abbrev pub ReceivesInOrder : Type 0
+ReceivesInOrder =
+    (l : Layout) (past : List Entry) (q : Ui) → IsShape l → is_legal l past ≡ true →
+    (received (on q past) ≡ take (taken_by q past) (accepted_by q past)) × (taken_by q past ≤ length (accepted_by q past))
+
+-- no more messages wait in a port than it has room for, and that is room for 1 to 64
+abbrev pub KeepsToCapacity : Type 0
+KeepsToCapacity =
+    (l : Layout) (past : List Entry) (q : Ui) (f : Fate) → IsShape l → is_legal l past ≡ true → fate (on q past) ≡ Some f →
+    (length f.accepted ≤ f.taken + f.capacity) × (1 ≤ f.capacity) × (f.capacity ≤ 64)
+
+-- the ids of a port's Delete entry are all that it accepted and that was not received
+abbrev pub DiscardsTheRest : Type 0
+DiscardsTheRest =
+    (l : Layout) (past : List Entry) (q : Ui) (xs : List MsgId) → IsShape l → is_legal l past ≡ true → discarded (on q past) ≡ Some xs →
+    accepted_by q past ≡ received (on q past) ++ xs
+
+-- after its Delete entry nothing becomes of a port any more
+abbrev pub EndsWithDelete : Type 0
+EndsWithDelete =
+    (l : Layout) (newer past : List Entry) (q : Ui) (xs : List MsgId) → IsShape l → is_legal l (newer ++ past) ≡ true →
+    discarded (on q past) ≡ Some xs → on q (newer ++ past) ≡ on q past
