@@ -4,3 +4,9 @@ pub mod SeatLemmas
 pub mod SentLemmas
 pub mod StepLemmas
 pub mod TableLemmas
+pub mod Whereabouts
+pub mod Viewing
+pub mod Local
+pub mod PortSteps
+pub mod PortMoves
+pub mod MessageSteps

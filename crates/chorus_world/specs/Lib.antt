@@ -13,3 +13,4 @@ pub mod Commands
 pub mod Fates
 pub mod Computing
 pub mod Refusals
+pub mod LocationLaws

@@ -24,6 +24,7 @@ mod port;
 mod post;
 mod rule;
 mod seat;
+mod sorting;
 mod step;
 mod table;
 #[cfg(test)]
@@ -35,5 +36,6 @@ pub use fault::WorldFault;
 pub use message::Progress;
 pub use place::{Location, Sent, TakenReply};
 pub use port::{PortFate, Spot};
+pub use sorting::locates_on_path;
 pub use step::Due;
 pub use world::World;
