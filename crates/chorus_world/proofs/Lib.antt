@@ -10,3 +10,4 @@ pub mod Local
 pub mod PortSteps
 pub mod PortMoves
 pub mod MessageSteps
+pub mod Exchange

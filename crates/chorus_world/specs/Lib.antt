@@ -14,3 +14,5 @@ pub mod Fates
 pub mod Computing
 pub mod Refusals
 pub mod LocationLaws
+pub mod Order
+pub mod SortingLaws
