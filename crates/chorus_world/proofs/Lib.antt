@@ -11,3 +11,6 @@ pub mod PortSteps
 pub mod PortMoves
 pub mod MessageSteps
 pub mod Exchange
+pub mod Posted
+pub mod Agreement
+pub mod Observers

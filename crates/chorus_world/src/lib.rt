@@ -36,6 +36,6 @@ pub use fault::WorldFault;
 pub use message::Progress;
 pub use place::{Location, Sent, TakenReply};
 pub use port::{PortFate, Spot};
-pub use sorting::{locates_on_path, sorting_keeps_views};
+pub use sorting::{locates_on_path, sorting_is_legal, sorting_keeps_views};
 pub use step::Due;
 pub use world::World;

@@ -1,7 +1,7 @@
 //! Laws of legal lists: where ports were, and what sorting keeps. They speak of the definitions alone, and make no call.
 
 ghost use Rattle.chorus_world.specs.LocationLaws.{LocatesOnPath};
-ghost use Rattle.chorus_world.specs.SortingLaws.{KeepsViews, SortsInOrder};
+ghost use Rattle.chorus_world.specs.SortingLaws.{KeepsViews, SortsInOrder, SortsLegally};
 
 /// A place locates a port only where the port was, with the hop that it had there.
 pub fn locates_on_path()
@@ -12,4 +12,10 @@ pub fn locates_on_path()
 pub fn sorting_keeps_views()
     ensures views { KeepsViews }
     ensures in_order { SortsInOrder }
+{}
+
+/// A legal list along whose views clock and place rise, and each of whose NoGroup entries stands at the group's place or
+/// names a group of no site of the layout, is legal when it is sorted.
+pub fn sorting_is_legal()
+    ensures { SortsLegally }
 {}
