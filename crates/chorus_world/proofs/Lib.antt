@@ -14,3 +14,4 @@ pub mod Exchange
 pub mod Posted
 pub mod Agreement
 pub mod Observers
+pub mod Holders

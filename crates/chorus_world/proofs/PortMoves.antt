@@ -47,7 +47,7 @@ held_fate p (Some f) h =
     let s = held_spot f.spot two.0 in
     (f, s.0, refl, s.1, eqb-true (last_of 0 f.path) p two.1)
 
-coming_fate : (p hop : ℕ) (o : Option Fate) → is_coming p hop o ≡ true → (f : Fate) × (b : Ui) × (o ≡ Some f) × (f.spot ≡ Moving b) × (last_of 0 f.path ≡ p) × (hop ≡ length f.path - 1)
+pub coming_fate : (p hop : ℕ) (o : Option Fate) → is_coming p hop o ≡ true → (f : Fate) × (b : Ui) × (o ≡ Some f) × (f.spot ≡ Moving b) × (last_of 0 f.path ≡ p) × (hop ≡ length f.path - 1)
 coming_fate p hop None h = absurd (false≢true h)
 coming_fate p hop (Some f) h =
     let two = and_parts (is_moving f.spot && (last_of 0 f.path == p)) (hop == length f.path - 1) h in
@@ -234,7 +234,7 @@ ports_step l past q c p s (Arrive r hop) shape f g h = port_arrive l past q c p 
 ports_step l past q c p s (Delete r xs) shape f g h = port_delete l past q c p s r xs f h
 ports_step l past q c p s (Told x b) shape f g h =
     let t = g x b refl in port_told l past q c p s x b t.0 f t.1.0 t.1.1
-ports_step l past q c p s a shape f g h = still l past q (entry c p s a) refl f
+ports_step l past q c p s a shape f g h = still l past q (entry c p s a) refl (λ here. refl) f
 
 -- Where a port was with some hop, it was whatever follows.
 
@@ -263,10 +263,6 @@ path_deleted : (l : Layout) (q : Ui) (p : ℕ) (r : Ui) (xs : List MsgId) (o : O
 path_deleted l q p r xs None = refl
 path_deleted l q p r xs (Some f) = refl
 
-path_told : (l : Layout) (q : Ui) (p : ℕ) (x : MsgId) (a : Answer) (o : Option Fate) → path_in l q (fate_after p (Told x a) o) ≡ path_in l q o
-path_told l q p x a None = refl
-path_told l q p x a (Some f) = refl
-
 pub known_departed : (l : Layout) (q : Ui) (p : ℕ) (r : Ui) (to : ℕ) (a : Ui) (hop : ℕ) (o : Option Fate) (n z : ℕ) → slice_get (path_in l q o) n ≡ Some z → slice_get (path_in l q (fate_after p (Depart r to a hop) o)) n ≡ Some z
 known_departed l q p r to a hop None n z h = h
 known_departed l q p r to a hop (Some f) n z h = known_push f.path to n z h
@@ -288,6 +284,5 @@ known_step l past q c p s (Depart r to a hop) shape f h n z k =
 known_step l past q c p s (Rehome r a) shape f h n z k = known_same l past (entry c p s (Rehome r a)) q n z (path_rehomed l q p r a (fate (on q past))) k
 known_step l past q c p s (Arrive r hop) shape f h n z k = known_same l past (entry c p s (Arrive r hop)) q n z (path_arrived l q p r hop (fate (on q past))) k
 known_step l past q c p s (Delete r xs) shape f h n z k = known_same l past (entry c p s (Delete r xs)) q n z (path_deleted l q p r xs (fate (on q past))) k
-known_step l past q c p s (Told x b) shape f h n z k = known_same l past (entry c p s (Told x b)) q n z (path_told l q p x b (fate (on q past))) k
 known_step l past q c p s a shape f h n z k =
     known_same l past (entry c p s a) q n z (path_still l q p a (fate (on q past)) refl) k

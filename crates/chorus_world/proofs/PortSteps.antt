@@ -91,20 +91,18 @@ number_made l past c p s r a n q shape home number =
     let lt : next_number l p (at p past) < next_number l p (e ∷ at p past) = next_more (ports_made (at p past)) l.turns ((p - 1) % l.turns) shape.turns_from_one in
     subst (λ z. q.number < next_number l z (at z (e ∷ past))) (sym home) (subst (λ z. q.number < z) (sym one) (omega arith))
 
--- Entries that neither move a port nor tell where one is.
+-- Entries that do not move a port.
 
 abbrev pub is_still : Act → Bool
 is_still (Make q a c) = false
-is_still (Told x a) = false
 is_still (Rehome q a) = false
 is_still (Depart q to a hop) = false
 is_still (Arrive q hop) = false
 is_still (Delete q xs) = false
 is_still _ = true
 
-spot_still : (p : ℕ) (a : Act) (o : Option Fate) → is_still a ≡ true → spot_in (fate_after p a o) ≡ spot_in o
+pub spot_still : (p : ℕ) (a : Act) (o : Option Fate) → is_still a ≡ true → spot_in (fate_after p a o) ≡ spot_in o
 spot_still p (Make q b c) o h = absurd (false≢true h)
-spot_still p (Told x b) o h = absurd (false≢true h)
 spot_still p (Rehome q b) o h = absurd (false≢true h)
 spot_still p (Depart q to b hop) o h = absurd (false≢true h)
 spot_still p (Arrive q hop) o h = absurd (false≢true h)
@@ -114,7 +112,6 @@ spot_still p a (Some f) h = refl
 
 pub path_still : (l : Layout) (q : Ui) (p : ℕ) (a : Act) (o : Option Fate) → is_still a ≡ true → path_in l q (fate_after p a o) ≡ path_in l q o
 path_still l q p (Make r b c) o h = absurd (false≢true h)
-path_still l q p (Told x b) o h = absurd (false≢true h)
 path_still l q p (Rehome r b) o h = absurd (false≢true h)
 path_still l q p (Depart r to b hop) o h = absurd (false≢true h)
 path_still l q p (Arrive r hop) o h = absurd (false≢true h)
@@ -133,14 +130,8 @@ deleted_still : (q : Ui) (a : Act) (b : Bool) → is_still a ≡ true → delete
 deleted_still q (Delete r xs) b h = absurd (false≢true h)
 deleted_still q a b h = refl
 
-learned_still : (q : Ui) (p : ℕ) (a : Act) (here : List Entry) → is_still a ≡ true → learned q p here a ≡ None
-learned_still q p (Told x b) here h = absurd (false≢true h)
-learned_still q p (Depart r to d hop) here h = absurd (false≢true h)
-learned_still q p (Arrive r hop) here h = absurd (false≢true h)
-learned_still q p a here h = refl
-
-pub still : (l : Layout) (past : List Entry) (q : Ui) (e : Entry) → is_still e.act ≡ true → PortFacts l past q → PortFacts l (e ∷ past) q
-still l past q e h f =
+pub still : (l : Layout) (past : List Entry) (q : Ui) (e : Entry) → is_still e.act ≡ true → ((here : List Entry) → learned q e.place here e.act ≡ None) → PortFacts l past q → PortFacts l (e ∷ past) q
+still l past q e h hl f =
     let o = fate (on q past) in
     let b = is_on (Some q) e in
     facts_same f
@@ -148,7 +139,7 @@ still l past q e h f =
     (sym (under (λ es. path_in l q (fate es)) b (e ∷ on q past) (on q past) ∙ cond_idem_if b (path_in l q (fate_after e.place e.act o)) (path_in l q o) (λ _. path_still l q e.place e.act o h)))
     (λ p. under (is_kept q) (is_at p e) (e ∷ at p past) (at p past) ∙ cond_idem_if (is_at p e) (kept_after q e.act (is_kept q (at p past))) (is_kept q (at p past)) (λ _. kept_still q e.act (is_kept q (at p past)) h))
     (λ p. under (is_deleted q) (is_at p e) (e ∷ at p past) (at p past) ∙ cond_idem_if (is_at p e) (deleted_after q e.act (is_deleted q (at p past))) (is_deleted q (at p past)) (λ _. deleted_still q e.act (is_deleted q (at p past)) h))
-    (λ p. under (located l q) (is_at p e) (e ∷ at p past) (at p past) ∙ cond_idem_if (is_at p e) (farther (located l q (at p past)) (learned q e.place (at p past) e.act)) (located l q (at p past)) (λ _. ap (λ m. farther (located l q (at p past)) m) (learned_still q e.place e.act (at p past) h)))
+    (λ p. under (located l q) (is_at p e) (e ∷ at p past) (at p past) ∙ cond_idem_if (is_at p e) (farther (located l q (at p past)) (learned q e.place (at p past) e.act)) (located l q (at p past)) (λ _. ap (λ m. farther (located l q (at p past)) m) (hl (at p past))))
     (number_grows l q e past)
 
 -- Entries on the line of the port, or of another port.

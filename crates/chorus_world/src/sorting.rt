@@ -1,7 +1,7 @@
 //! Laws of legal lists: where ports were, and what sorting keeps. They speak of the definitions alone, and make no call.
 
 ghost use Rattle.chorus_world.specs.LocationLaws.{LocatesOnPath};
-ghost use Rattle.chorus_world.specs.SortingLaws.{KeepsViews, SortsInOrder, SortsLegally};
+ghost use Rattle.chorus_world.specs.SortingLaws.{KeepsViews, SortsInOrder, SortsLegally, SortsRuns};
 
 /// A place locates a port only where the port was, with the hop that it had there.
 pub fn locates_on_path()
@@ -15,7 +15,8 @@ pub fn sorting_keeps_views()
 {}
 
 /// A legal list along whose views clock and place rise, and each of whose NoGroup entries stands at the group's place or
-/// names a group of no site of the layout, is legal when it is sorted.
+/// names a group of no site of the layout, is legal when it is sorted, and a run for the same callers where it was one.
 pub fn sorting_is_legal()
-    ensures { SortsLegally }
+    ensures legal { SortsLegally }
+    ensures runs { SortsRuns }
 {}
