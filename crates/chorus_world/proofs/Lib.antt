@@ -14,3 +14,14 @@ pub mod MessageInvariant
 pub mod AcceptedLemmas
 pub mod OnceLaws
 pub mod RequestLaws
+pub mod Whereabouts
+pub mod Viewing
+pub mod Local
+pub mod PortSteps
+pub mod PortMoves
+pub mod MessageSteps
+pub mod Exchange
+pub mod Posted
+pub mod Agreement
+pub mod Observers
+pub mod Holders

@@ -15,3 +15,6 @@ pub mod Computing
 pub mod Refusals
 pub mod AcceptedLaws
 pub mod RequestLaws
+pub mod LocationLaws
+pub mod Order
+pub mod SortingLaws

@@ -25,6 +25,7 @@ mod port;
 mod post;
 mod rule;
 mod seat;
+mod sorting;
 mod step;
 mod table;
 #[cfg(test)]
@@ -36,5 +37,6 @@ pub use fault::WorldFault;
 pub use message::Progress;
 pub use place::{Location, Sent, TakenReply};
 pub use port::{PortFate, Spot};
+pub use sorting::{locates_on_path, sorting_is_legal, sorting_keeps_views};
 pub use step::Due;
 pub use world::World;

@@ -1,0 +1,6 @@
+use Rattle.chorus_world.proofs.Observers.{sorts_legally}
+use Rattle.chorus_world.proofs.Holders.{sorts_runs}
+use Rattle.chorus_world.proofs.sorting.sorting_is_legal.Goals as goal
+
+pub returns : goal.returns
+returns c = record { legal = sorts_legally; runs = sorts_runs }
