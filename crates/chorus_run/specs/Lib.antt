@@ -1,3 +1,3 @@
-pub mod Form
+pub mod Order
+pub mod Headline
 pub mod Output
-pub mod Sites

@@ -1,12 +1,11 @@
 -- What a top call did to its source and sink, by its status.
 use Rattle.std.specs.Prelude.{◌≡◌, ℕ, List, [], ◌++◌, Option, Some, None}
-use Rattle.std.specs.List.{flat_map}
 use Rattle.std.specs.Io.KnownBytes.{Appends}
 use Rattle.chorus_io.specs.Bytes.{AppendsPrefix}
-use Rattle.chorus_entry.specs.declared.entry.Entry.{Entry}
 use Rattle.chorus_show.specs.Journal.{journal_text}
 use Rattle.chorus_show.specs.Summary.{summary_text}
-use Rattle.chorus_run.specs.declared.sites.Closed.{Closed}
+use Rattle.chorus_net.specs.declared.closed.Closed.{Closed}
+use Rattle.chorus_run.specs.Headline.{merge_of}
 use Rattle.chorus_show.specs.declared.status.Status.{Status}
 use Rattle.chorus_show.specs.declared.status.Status.TheVariants.{Done, Usage, Scenario, ReadFault, WriteFault, Memory, Worn}
 
@@ -30,11 +29,7 @@ GivesUp ReadFault = Unit {0}
 GivesUp Memory = Unit {0}
 GivesUp (Worn clock) = ⊥
 
--- the entries of what was closed: so far there is one journal
-abbrev pub entries_of : Closed → List Entry
-entries_of closed = flat_map (λ journal. journal.items) closed.journals.items
-
--- the text of what was closed: its journal text, and its summary text
+-- the text of what was closed: the journal text and the summary text of the merge of its journals
 abbrev pub text_of : Option Closed → List ℕ
 text_of None = []
-text_of (Some closed) = journal_text (entries_of closed) ++ summary_text (entries_of closed)
+text_of (Some closed) = journal_text (merge_of closed) ++ summary_text (merge_of closed)

@@ -1,14 +1,16 @@
 //! What the program does, by its words.
 
-ghost use Rattle.std.specs.Prelude.{◌≡◌, ◌↔◌, ◌≢◌, ◌⊎◌, ℕ, IsTrue, IsSome, map, [], ◌∷◌, codes};
+ghost use Rattle.std.specs.Prelude.{◌≡◌, ◌↔◌, ◌≢◌, ◌⊎◌, ℕ, IsTrue, IsSome, IfSome, Some, Ok, Err, map, [], ◌∷◌, codes};
 ghost use Rattle.chorus_io.specs.Count.{Rose};
-ghost use Rattle.chorus_run.specs.Sites.{IsJustStarted};
+ghost use Rattle.chorus_scene.specs.Scene.{Scene};
+ghost use Rattle.chorus_run.specs.Order.{journal_of};
+ghost use Rattle.chorus_run.specs.Headline.{AreJustStarted, Gives, IsRead, merge_of, IsRun, Performs, ReceivesInOrder};
 ghost use Rattle.chorus_run.specs.Output.{Writes, text_of};
 
 use crate::finished::Finished;
 use crate::on_one_thread::replay;
-use crate::sites::Sites;
 use chorus_io::{Sink, Source};
+use chorus_net::Sites;
 use chorus_show::Status;
 use std::alloc::Global;
 
@@ -21,14 +23,25 @@ pub fn words<S: Source, K: Sink>(
     sink: &mut K,
     sites: Sites,
 ) -> Finished
-    requires { IsJustStarted sites }
+    requires { AreJustStarted sites }
+
+    // Why it ended. Want of memory is the one free answer.
     ensures usage { (result.status ≡ Status.Usage) ↔ (map (λ word. word.now) words.now ≢ codes "replay" ∷ []) }
     ensures untouched { result.status ≡ Status.Usage → (source.new ≡ source.old) × (sink.new ≡ sink.old) }
-    ensures not_worn { (clock : ℕ) → result.status ≢ Status.Worn clock }
+    ensures worn { (clock : ℕ) → result.status ≢ Status.Worn clock }
+    ensures scenario { (line reason : ℕ) → result.status ≡ Status.Scenario line reason → IsSome (S.left source.old) → Gives sites.place.layout (S.left source.old) (Err (line, reason)) }
+    ensures accepted { IsSome result.closed → IsSome (S.left source.old) → (c : Scene) × Gives sites.place.layout (S.left source.old) (Ok c) }
     ensures read_fault { result.status ≡ Status.ReadFault → Rose (S.faults source.old) (S.faults source.new) }
     ensures write_fault { result.status ≡ Status.WriteFault → Rose (K.faults sink.old) (K.faults sink.new) }
-    ensures written { Writes result.status (K.held sink.old) (K.held sink.new) (text_of result.closed) }
+    ensures read { result.status ≢ Status.Usage → result.status ≢ Status.ReadFault → result.status ≢ Status.Memory → IsRead (S.left source.old) (S.left source.new) }
     ensures closed { IsSome result.closed ↔ (result.status ≡ Status.Done) ⊎ (result.status ≡ Status.WriteFault) }
+
+    // What it did, where it handed out what it closed.
+    ensures prints { Writes result.status (K.held sink.old) (K.held sink.new) (text_of result.closed) }
+    ensures ordered { (c : Scene) → Gives sites.place.layout (S.left source.old) (Ok c) → IfSome result.closed (λ closed. merge_of closed ≡ journal_of c) }
+    ensures run { (c : Scene) → Gives sites.place.layout (S.left source.old) (Ok c) → IfSome result.closed (IsRun c) }
+    ensures performs { (c : Scene) → Gives sites.place.layout (S.left source.old) (Ok c) → IfSome result.closed (Performs c) }
+    ensures receives { IfSome result.closed ReceivesInOrder }
 {
     if is_replay(words) {
         return replay(alloc, source, sink, sites);

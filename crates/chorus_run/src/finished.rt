@@ -1,11 +1,13 @@
 //! How a top call ended.
 
-use crate::sites::Closed;
+use chorus_net::Closed;
 use chorus_show::Status;
 
-/// How a top call ended, and what it closed: Some exactly at `Done`, `WriteFault` and `Worn`.
+/// How a top call ended.
 #[derive(Debug, Drop)]
 pub struct Finished {
+    /// Whether it did all, or why it did not.
     pub status: Status,
+    /// What was left when the sites were closed: Some exactly at `Done` and `WriteFault`.
     pub closed: Option<Closed>,
 }

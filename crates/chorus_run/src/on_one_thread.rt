@@ -1,42 +1,58 @@
 //! A scenario on one thread.
 
-ghost use Rattle.std.specs.Prelude.{◌≡◌, ◌≢◌, ◌↔◌, ◌⊎◌, ℕ, IfOk, IfErr, IsErrOf, IsSome, Some, None};
+ghost use Rattle.std.specs.Prelude.{◌≡◌, ◌≢◌, ◌↔◌, ◌⊎◌, ¬◌, ℕ, IfOk, IfErr, IsErrOf, IfSome, IsSome, Some, None, Ok, Err};
 ghost use Rattle.chorus_io.specs.Count.{Rose};
-ghost use Rattle.chorus_run.specs.Form.{IsForm};
-ghost use Rattle.chorus_run.specs.Sites.{IsJustStarted};
+ghost use Rattle.chorus_scene.specs.Scene.{Scene};
+ghost use Rattle.chorus_net.specs.Closing.{journals_of};
+ghost use Rattle.chorus_run.specs.Order.{scene_is_built, journal_of};
+ghost use Rattle.chorus_run.specs.Headline.{AreJustStarted, judged, Gives, IsRead, merge_of, IsRun, Performs, ReceivesInOrder};
 ghost use Rattle.chorus_run.specs.Output.{Writes, GivesUp, text_of};
 
+use crate::built::is_built;
 use crate::finished::Finished;
-use crate::form::{Command, Form, read_form};
-use crate::sites::{Closed, Sites};
+use crate::order::perform;
 use chorus_io::{ReadAll, Sink, Source, read_all, write_all};
+use chorus_merge::merge;
+use chorus_net::{Closed, Sites};
+use chorus_scene::{ReadFault, Scenario, SceneFault, TEXT_LIMIT, TOO_LONG, read};
 use chorus_show::{Status, journal_text, summary_text};
+use chorus_ui::Layout;
 use std::alloc::{AllocError, Global};
 
-/// The most bytes of a scenario's text.
-const MOST_TEXT: usize = 4_194_304;
-
-/// Reads the source to its end, runs the scenario that it gives, and writes the journal and the summary. The sites were
-/// just started.
+/// Reads the source to its end, replays the scenario that it gives on the sites, and writes the journal and the summary.
+///
+/// The sites were just started. So far a scenario of one site with ports alone is replayed, on sites of one place each; any
+/// other that the grammar accepts is refused with line 0 and reason 0.
 pub fn replay<S: Source, K: Sink>(
     alloc: Global,
     source: &mut S,
     sink: &mut K,
     sites: Sites,
 ) -> Finished
-    requires { IsJustStarted sites }
-    ensures reads { result.status ≢ Status.Usage }
-    ensures not_worn { (clock : ℕ) → result.status ≢ Status.Worn clock }
+    requires { AreJustStarted sites }
+
+    // Why it ended. Want of memory is the one free answer.
+    ensures usage { result.status ≢ Status.Usage }
+    ensures worn { (clock : ℕ) → result.status ≢ Status.Worn clock }
+    ensures scenario { (line reason : ℕ) → result.status ≡ Status.Scenario line reason → IsSome (S.left source.old) → Gives sites.place.layout (S.left source.old) (Err (line, reason)) }
+    ensures accepted { IsSome result.closed → IsSome (S.left source.old) → (c : Scene) × Gives sites.place.layout (S.left source.old) (Ok c) }
     ensures read_fault { result.status ≡ Status.ReadFault → Rose (S.faults source.old) (S.faults source.new) }
     ensures write_fault { result.status ≡ Status.WriteFault → Rose (K.faults sink.old) (K.faults sink.new) }
-    ensures written { Writes result.status (K.held sink.old) (K.held sink.new) (text_of result.closed) }
+    ensures read { result.status ≢ Status.ReadFault → result.status ≢ Status.Memory → IsRead (S.left source.old) (S.left source.new) }
     ensures closed { IsSome result.closed ↔ (result.status ≡ Status.Done) ⊎ (result.status ≡ Status.WriteFault) }
+
+    // What it did, where it handed out what it closed.
+    ensures prints { Writes result.status (K.held sink.old) (K.held sink.new) (text_of result.closed) }
+    ensures ordered { (c : Scene) → Gives sites.place.layout (S.left source.old) (Ok c) → IfSome result.closed (λ closed. merge_of closed ≡ journal_of c) }
+    ensures run { (c : Scene) → Gives sites.place.layout (S.left source.old) (Ok c) → IfSome result.closed (IsRun c) }
+    ensures performs { (c : Scene) → Gives sites.place.layout (S.left source.old) (Ok c) → IfSome result.closed (Performs c) }
+    ensures receives { IfSome result.closed ReceivesInOrder }
 {
-    let form = match read_scenario(alloc, source) {
-        Ok(form) => form,
+    let scenario = match read_scenario(alloc, source, sites.layout()) {
+        Ok(scenario) => scenario,
         Err(status) => return gave_up(status),
     };
-    let Ok((closed, text)) = run(alloc, sites, form) else {
+    let Ok((closed, text)) = play(alloc, sites, &scenario) else {
         return gave_up(Status::Memory);
     };
     let status = match write_all(sink, &text) {
@@ -49,43 +65,68 @@ pub fn replay<S: Source, K: Sink>(
     }
 }
 
-/// The scenario that the source gives, or why there is none.
-fn read_scenario<S: Source>(alloc: Global, source: &mut S) -> Result<Form, Status>
-    ensures ok { IfOk result IsForm }
+/// The scenario that the source gives, where it is one that is built so far; else why there is none.
+fn read_scenario<S: Source>(
+    alloc: Global,
+    source: &mut S,
+    layout: Layout,
+) -> Result<Scenario, Status>
+    ensures ok { IfOk result (λ c. (c.layout ≡ layout) × (scene_is_built c ≡ true)) }
+    ensures accepted { IfOk result (λ c. IsSome (S.left source.old) → Gives layout (S.left source.old) (Ok c)) }
+    ensures refused { (line reason : ℕ) → IsErrOf result (Status.Scenario line reason) → IsSome (S.left source.old) → Gives layout (S.left source.old) (Err (line, reason)) }
     ensures err { IfErr result GivesUp }
     ensures read_fault { IsErrOf result Status.ReadFault → Rose (S.faults source.old) (S.faults source.new) }
+    ensures read { ¬ (IsErrOf result Status.ReadFault) → ¬ (IsErrOf result Status.Memory) → IsRead (S.left source.old) (S.left source.new) }
 {
-    let refused = Status::Scenario { line: 0, reason: 0 };
-    let text = match read_all(alloc, source, MOST_TEXT) {
+    let text = match read_all(alloc, source, TEXT_LIMIT) {
         Ok(text) => text,
         Err(ReadAll::Fault) => return Err(Status::ReadFault),
-        Err(ReadAll::TooLong) => return Err(refused),
+        Err(ReadAll::TooLong) => return Err(refused(TOO_LONG)),
         Err(ReadAll::Memory(_)) => return Err(Status::Memory),
     };
-    match read_form(alloc, &text) {
-        Ok(Some(form)) => Ok(form),
-        Ok(None) => Err(refused),
-        Err(_) => Err(Status::Memory),
+    let scenario = match read(alloc, &text, layout) {
+        Ok(scenario) => scenario,
+        Err(ReadFault::Scene(fault)) => return Err(refused(fault)),
+        Err(ReadFault::Memory(_)) => return Err(Status::Memory),
+    };
+    if !is_built(&scenario) {
+        return Err(Status::Scenario { line: 0, reason: 0 });
     }
+    Ok(scenario)
 }
 
-/// Runs the scenario, and gives what it left with the text of it.
-fn run(alloc: Global, mut sites: Sites, form: Form) -> Result<(Closed, Vec<u8>), AllocError>
-    requires just_started { IsJustStarted sites }
-    requires form { IsForm form }
-    ensures { IfOk result (λ ran. ran.1.items ≡ text_of (Some ran.0)) }
+/// Replays the scenario, and gives what was closed with the text of it.
+fn play(
+    alloc: Global,
+    mut sites: Sites,
+    scenario: &Scenario,
+) -> Result<(Closed, Vec<u8>), AllocError>
+    requires just_started { AreJustStarted sites }
+    requires layout { scenario.now.layout ≡ sites.place.layout }
+    requires built { scene_is_built scenario.now ≡ true }
+    ensures text { IfOk result (λ played. played.1.items ≡ text_of (Some played.0)) }
+    ensures journal { IfOk result (λ played. merge_of played.0 ≡ journal_of scenario.now) }
 {
-    sites.make(form.capacity)?;
-    for command in form.commands {
-        match command {
-            Command::Send(body) => sites.send(body)?,
-            Command::Take => sites.take()?,
-        }
-    }
+    perform(alloc, &mut sites, scenario)?;
+    let closed = match sites.close(alloc) {
+        Ok(closed) => closed,
+        Err((_, error)) => return Err(error),
+    };
+    let entries = merge(alloc, &closed.journals)?;
     let mut text = Vec::new(alloc);
-    journal_text(sites.journal(), &mut text)?;
-    summary_text(sites.journal(), &mut text)?;
-    Ok((sites.close(alloc)?, text))
+    journal_text(&entries, &mut text)?;
+    summary_text(&entries, &mut text)?;
+    Ok((closed, text))
+}
+
+/// The status of a text that the grammar refuses.
+fn refused(fault: SceneFault) -> Status
+    ensures { result ≡ Status.Scenario fault.line fault.reason }
+{
+    Status::Scenario {
+        line: fault.line,
+        reason: fault.reason,
+    }
 }
 
 fn gave_up(status: Status) -> Finished
