@@ -1,3 +1,4 @@
 pub mod Order
 pub mod Headline
 pub mod Output
+pub mod Calls

@@ -1,7 +1,8 @@
 //! Which scenarios are built so far.
 
 ghost use Rattle.std.specs.Prelude.{◌≡◌, true};
-ghost use Rattle.chorus_ui.specs.Layout.{has_site, creation_place};
+ghost use Rattle.chorus_ui.specs.Layout.{IsShape, has_site, creation_place};
+ghost use Rattle.chorus_scene.specs.Limits.{Keeps};
 ghost use Rattle.chorus_place.specs.Machine.{is_built};
 ghost use Rattle.chorus_run.specs.Order.{setup_command, scene_is_built};
 
@@ -11,11 +12,14 @@ use chorus_ui::Layout;
 
 /// Whether the scenario is one that is replayed so far: one site of one place, with ports alone.
 pub(crate) fn is_built(scenario: &Scenario) -> bool
-    ensures { result ≡ scene_is_built scenario.now }
+    ensures value { result ≡ scene_is_built scenario.now }
+    ensures keeps { Keeps scenario.now }
+    ensures shape { IsShape scenario.now.layout }
 {
     let layout = scenario.layout();
+    let turns = layout.turns();
     scenario.sites() == 1
-        && layout.turns() == 1
+        && turns == 1
         && scenario.setup().iter().all(|line| matches!(line, SetupLine::Port { .. }))
         && scenario.scripts().iter().all(|script| {
             script.commands().iter().all(|command| command_is_built(layout, command))

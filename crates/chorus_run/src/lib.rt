@@ -14,6 +14,7 @@ mod by_words;
 mod finished;
 mod on_one_thread;
 mod order;
+mod performing;
 
 pub use by_words::words;
 pub use finished::Finished;

@@ -2,7 +2,9 @@
 
 ghost use Rattle.std.specs.Prelude.{◌≡◌, ◌≢◌, ◌↔◌, ◌⊎◌, ¬◌, ℕ, IfOk, IfErr, IsErrOf, IfSome, IsSome, Some, None, Ok, Err};
 ghost use Rattle.chorus_io.specs.Count.{Rose};
+ghost use Rattle.chorus_ui.specs.Layout.{IsShape};
 ghost use Rattle.chorus_scene.specs.Scene.{Scene};
+ghost use Rattle.chorus_scene.specs.Limits.{Keeps};
 ghost use Rattle.chorus_net.specs.Closing.{journals_of};
 ghost use Rattle.chorus_run.specs.Order.{scene_is_built, journal_of};
 ghost use Rattle.chorus_run.specs.Headline.{AreJustStarted, judged, Gives, IsRead, merge_of, IsRun, Performs, ReceivesInOrder};
@@ -10,7 +12,7 @@ ghost use Rattle.chorus_run.specs.Output.{Writes, GivesUp, text_of};
 
 use crate::built::is_built;
 use crate::finished::Finished;
-use crate::order::perform;
+use crate::performing::perform;
 use chorus_io::{ReadAll, Sink, Source, read_all, write_all};
 use chorus_merge::merge;
 use chorus_net::{Closed, Sites};
@@ -71,7 +73,7 @@ fn read_scenario<S: Source>(
     source: &mut S,
     layout: Layout,
 ) -> Result<Scenario, Status>
-    ensures ok { IfOk result (λ c. (c.layout ≡ layout) × (scene_is_built c ≡ true)) }
+    ensures ok { IfOk result (λ c. (c.layout ≡ layout) × (scene_is_built c ≡ true) × Keeps c × IsShape c.layout) }
     ensures accepted { IfOk result (λ c. IsSome (S.left source.old) → Gives layout (S.left source.old) (Ok c)) }
     ensures refused { (line reason : ℕ) → IsErrOf result (Status.Scenario line reason) → IsSome (S.left source.old) → Gives layout (S.left source.old) (Err (line, reason)) }
     ensures err { IfErr result GivesUp }
@@ -104,6 +106,8 @@ fn play(
     requires just_started { AreJustStarted sites }
     requires layout { scenario.now.layout ≡ sites.place.layout }
     requires built { scene_is_built scenario.now ≡ true }
+    requires keeps { Keeps scenario.now }
+    requires shape { IsShape scenario.now.layout }
     ensures text { IfOk result (λ played. played.1.items ≡ text_of (Some played.0)) }
     ensures journal { IfOk result (λ played. merge_of played.0 ≡ journal_of scenario.now) }
 {
