@@ -3,8 +3,10 @@
 #![tactic(auto)]
 
 use chorus_io::{StdSink, StdSource};
-use chorus_run::{Sites, words};
+use chorus_net::Sites;
+use chorus_run::words;
 use chorus_show::{Status, fault_text};
+use chorus_ui::Layout;
 use std::io::Write;
 use std::process::ExitCode;
 use std::{env, io};
@@ -29,6 +31,7 @@ fn run(rt: &HostRuntime) -> io::Result<Status> {
     let said: Vec<&str> = arguments.iter().map(|word| word.as_str()).collect(alloc)?;
     let mut source = StdSource::new(rt.stdin());
     let mut sink = StdSink::new(rt.stdout());
-    let finished = words(alloc, &said, &mut source, &mut sink, Sites::start(alloc));
+    let sites = Sites::start(alloc, Layout::new(16, 1).unwrap())?;
+    let finished = words(alloc, &said, &mut source, &mut sink, sites);
     Ok(finished.status)
 }

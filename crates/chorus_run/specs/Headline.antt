@@ -13,7 +13,7 @@ use Rattle.chorus_world.specs.AcceptedLaws.{received, taken_by, accepted_by}
 use Rattle.chorus_net.specs.declared.closed.Closed.{Closed}
 use Rattle.chorus_net.specs.Closing.{journals_of}
 use Rattle.chorus_net.specs.Sites.{SitesState, opening, first_actor}
-use Rattle.chorus_scene.specs.declared.reading.TheConstants.{TEXT_LIMIT}
+use Rattle.chorus_scene.specs.declared.limits.TheConstants.{TEXT_LIMIT}
 use Rattle.chorus_scene.specs.Scene.{Scene, Script}
 use Rattle.chorus_scene.specs.Grammar.{read_scene}
 use Rattle.chorus_run.specs.Order.{scene_is_built, setup_commands}

@@ -2,7 +2,7 @@
 
 ghost use Rattle.std.specs.Prelude.{◌≡◌, ◌++◌, map, IfOk, OnOk};
 ghost use Rattle.chorus_scene.specs.Limits.{Keeps};
-ghost use Rattle.chorus_net.specs.Sites.TheVariants as event;
+ghost use Rattle.chorus_net.specs.Sites.{Act};
 ghost use Rattle.chorus_run.specs.Order.{in_schedule, left_from};
 ghost use Rattle.chorus_run.specs.Calls.{events_of, AreNext};
 
@@ -80,7 +80,7 @@ fn push_all<'a>(
     commands: &'a [Command],
     calls: &mut Vec<Call<'a>>,
 ) -> Result<(), AllocError>
-    ensures { OnOk result (events_of calls.new.items ≡ events_of calls.old.items ++ map (event.Act seat) commands.now) }
+    ensures { OnOk result (events_of calls.new.items ≡ events_of calls.old.items ++ map (Act seat) commands.now) }
 {
     for command in commands {
         calls.push(Call { seat, command })?;

@@ -3,8 +3,7 @@
 ghost use Rattle.std.specs.Prelude.{◌≡◌, ◌++◌, reverse, OnOk, true};
 ghost use Rattle.chorus_scene.specs.Limits.{Keeps};
 ghost use Rattle.chorus_ui.specs.Layout.{IsShape};
-ghost use Rattle.chorus_net.specs.Sites.{acted, after};
-ghost use Rattle.chorus_net.specs.Sites.TheVariants as event;
+ghost use Rattle.chorus_net.specs.Sites.{Act, acted, after};
 ghost use Rattle.chorus_run.specs.Order.{scene_is_built, setup_command, in_setup, entering, replayed};
 ghost use Rattle.chorus_run.specs.Headline.{AreJustStarted};
 ghost use Rattle.chorus_run.specs.Calls.{IsNext};
@@ -90,7 +89,7 @@ fn act(
     seat: u32,
     command: Command,
 ) -> Result<(), AllocError>
-    requires next { IsNext scenario.now sites.old (event.Act seat command) }
+    requires next { IsNext scenario.now sites.old (Act seat command) }
     requires built { scene_is_built scenario.now ≡ true }
     requires keeps { Keeps scenario.now }
     requires shape { IsShape scenario.now.layout }
