@@ -1,6 +1,6 @@
 //! A scenario on one thread.
 
-ghost use Rattle.std.specs.Prelude.{◌≡◌, ◌≢◌, ◌↔◌, ◌⊎◌, ℕ, IfOk, IfErr, IsErrOf, IfSome, IsSome, Some, None, Ok, Err};
+ghost use Rattle.std.specs.Prelude.{◌≡◌, ◌≢◌, ◌↔◌, ◌⊎◌, ℕ, IfOk, IfErr, IsErrOf, IfSome, IsSome, Some, None, Ok, Err, true};
 ghost use Rattle.chorus_io.specs.Count.{Rose};
 ghost use Rattle.chorus_ui.specs.Layout.{IsShape};
 ghost use Rattle.chorus_scene.specs.Scene.{Scene};

@@ -1,6 +1,6 @@
 //! The order of a replay: the calls of the scripts, one after the other.
 
-ghost use Rattle.std.specs.Prelude.{◌≡◌, ◌++◌, map, IfOk, OnOk};
+ghost use Rattle.std.specs.Prelude.{◌≡◌, ◌++◌, [], map, IfOk, OnOk};
 ghost use Rattle.chorus_scene.specs.Limits.{Keeps};
 ghost use Rattle.chorus_net.specs.Sites.{Act};
 ghost use Rattle.chorus_run.specs.Order.{in_schedule, left_from};
