@@ -1,1 +1,3 @@
 pub mod Texts
+pub mod Closed
+pub mod Given
