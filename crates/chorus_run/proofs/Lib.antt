@@ -1,3 +1,4 @@
 pub mod Texts
 pub mod Closed
 pub mod Given
+pub mod Callers
