@@ -20,8 +20,12 @@ use Rattle.chorus_net.specs.OnePlace.{are_ready}
 use Rattle.chorus_net.proofs.Seating.{run-more}
 use Rattle.chorus_net.proofs.AfterEvents.{holds}
 use Rattle.chorus_scene.specs.Scene.{Scene}
-use Rattle.chorus_run.specs.Order.{order, replayed, journal_of}
+use Rattle.chorus_scene.specs.Limits.{Keeps}
+use Rattle.chorus_run.specs.Order.{order, replayed, journal_of, scene_is_built}
 use Rattle.chorus_run.specs.Headline.{merge_of, past_of, callers_of, commands_by, IsRun, Performs, ReceivesInOrder}
+use Rattle.chorus_run.proofs.Given.{commands-given}
+use Rattle.chorus_run.proofs.Callers.{callers-given}
+use Rattle.chorus_run.proofs.Ready.{order-ready}
 
 -- the merge of one journal is that journal
 pub merge-is : (c : Scene) (closed : Closed) → journals_of closed ≡ journal_of c ∷ [] → merge_of closed ≡ journal_of c
@@ -71,3 +75,14 @@ receives-of c closed shape run =
     λ newer past port e.
     let legal = run-legal c.layout (callers_of c) (past_of closed) run in
     (receives_in_order c.layout past port shape (legal-older c.layout newer past (ap (is_legal c.layout) (sym e) ∙ legal))).0
+
+-- The headline of a scenario that keeps its limits and is built.
+
+pub runs : (c : Scene) (closed : Closed) → IsShape c.layout → Keeps c → scene_is_built c ≡ true → merge_of closed ≡ journal_of c → IsRun c closed
+runs c closed shape keeps built h = run-of c closed shape (order-ready c keeps built) (callers-given c) h
+
+pub performs-all : (c : Scene) (closed : Closed) → IsShape c.layout → Keeps c → scene_is_built c ≡ true → merge_of closed ≡ journal_of c → Performs c closed
+performs-all c closed shape keeps built h = performs-of c closed shape (order-ready c keeps built) (callers-given c) (commands-given c keeps) h
+
+pub receives-in-order : (c : Scene) (closed : Closed) → IsShape c.layout → Keeps c → scene_is_built c ≡ true → merge_of closed ≡ journal_of c → ReceivesInOrder closed
+receives-in-order c closed shape keeps built h = receives-of c closed shape (runs c closed shape keeps built h)

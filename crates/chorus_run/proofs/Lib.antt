@@ -2,3 +2,4 @@ pub mod Texts
 pub mod Closed
 pub mod Given
 pub mod Callers
+pub mod Ready
