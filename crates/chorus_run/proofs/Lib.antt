@@ -1,1 +1,5 @@
 pub mod Texts
+pub mod Closed
+pub mod Given
+pub mod Callers
+pub mod Ready
