@@ -1,0 +1,42 @@
+use Rattle.std.proofs.Common.{◌≡◌, ℕ, Err, refl, sym, ◌∙◌, ap, subst, arith, rules}
+use Rattle.chorus_scene.specs.Grammar.{read_scene, Refuses}
+use Rattle.chorus_scene.proofs.Law.{printed_again}
+use Rattle.chorus_run.proofs.Reading.{gives-whole, gives-long-as, built-is, unbuilt-is, refused-is, refused-of}
+use Rattle.chorus_run.proofs.on_one_thread.read_scenario.Goals as goal
+
+pub returns-in-Err-TooLong-clause-refused : goal.returns-in-Err-TooLong-clause-refused
+returns-in-Err-TooLong-clause-refused g c line reason is some =
+    let r = c.refused.ensures in
+    let l : line ≡ 0 = cc in
+    let k : reason ≡ 6 = cc in
+    let given = c.in-Err-TooLong.ensures.given in
+    gives-long-as _ _ _ given.given line reason given.consumed (given.too_long.0 (ap Err c.in-Err-TooLong.field-0-is)) l k some
+
+pub returns-in-Err-Scene-clause-refused : goal.returns-in-Err-Scene-clause-refused
+returns-in-Err-Scene-clause-refused g c line reason is some =
+    let r = c.refused-in-Err-Scene.ensures in
+    let within = c.in-Ok.ensures.within in
+    let len = c.deref.ensures.len in
+    gives-whole _ _ c.in-Ok.text.items _ c.in-Ok.ensures.whole (grind (arith, within, len))
+    (refused-is _ _ _ _ _ (ap (read_scene c.args.layout) (sym c.deref.ensures.value) ∙ subst (λ f. Refuses f (read_scene c.args.layout c.deref.result.now)) c.in-Err-Scene.field-0-is c.in-Err-Scene.ensures) (cc) (cc)) some
+
+pub returns-then-not-is_built-clause-refused : goal.returns-then-not-is_built-clause-refused
+returns-then-not-is_built-clause-refused g c line reason is some =
+    let fails = c.if-not-is_built.true in
+    let within = c.in-Ok.ensures.within in
+    let len = c.deref.ensures.len in
+    gives-whole _ _ c.in-Ok.text.items _ c.in-Ok.ensures.whole (grind (arith, within, len))
+    (refused-of _ _ _ (unbuilt-is _ _ (ap (read_scene c.args.layout) (sym c.deref.ensures.value) ∙ c.in-Ok-read.ensures) (sym c.is_built.ensures.value ∙ grind (arith, fails))) (cc) (cc)) some
+
+pub returns-clause-ok : goal.returns-clause-ok
+returns-clause-ok g c =
+    let holds = c.if-not-is_built.false in
+    ((printed_again c.args.layout c.deref.result.now c.in-Ok-read.scenario c.in-Ok-read.ensures).0, sym c.is_built.ensures.value ∙ grind (arith, holds), c.is_built.ensures.keeps, c.is_built.ensures.shape)
+
+pub returns-clause-accepted : goal.returns-clause-accepted
+returns-clause-accepted g c some =
+    let holds = c.if-not-is_built.false in
+    let within = c.in-Ok.ensures.within in
+    let len = c.deref.ensures.len in
+    gives-whole _ _ c.in-Ok.text.items _ c.in-Ok.ensures.whole (grind (arith, within, len))
+    (built-is _ _ (ap (read_scene c.args.layout) (sym c.deref.ensures.value) ∙ c.in-Ok-read.ensures) (sym c.is_built.ensures.value ∙ grind (arith, holds))) some
