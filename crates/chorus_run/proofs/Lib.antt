@@ -4,3 +4,4 @@ pub mod Given
 pub mod Callers
 pub mod Ready
 pub mod Bounds
+pub mod Lengths
