@@ -73,7 +73,7 @@ other-one k j None e = refl
 other-one k j (Some x) e = ap (λ b. cond b (x ∷ []) []) e
 
 -- one step more is counted where it is one of the script
-count-more : (p : step.Step → Bool) (before : List step.Step) (s : step.Step) (b : Bool) → p s ≡ b → count_by p (before ++ s ∷ []) ≡ count_by p before + cond b 1 0
+pub count-more : (p : step.Step → Bool) (before : List step.Step) (s : step.Step) (b : Bool) → p s ≡ b → count_by p (before ++ s ∷ []) ≡ count_by p before + cond b 1 0
 count-more p before s b e =
     let one : count_by p (s ∷ []) ≡ cond b 1 0 = ap (λ z. 0 + cond z 1 0) e ∙ plus (cond b 1 0) in
     sum_by-append (λ x. cond (p x) 1 0) before (s ∷ []) ∙ ap (λ z. count_by p before + z) one

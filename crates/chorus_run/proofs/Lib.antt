@@ -4,3 +4,6 @@ pub mod Given
 pub mod Callers
 pub mod Ready
 pub mod Reading
+pub mod Bounds
+pub mod Lengths
+pub mod Next

@@ -115,12 +115,12 @@ site-one n site one h =
     let high = leb-true site n parts.1 in
     omega arith
 
-record OfOne (l : Layout) (n : ℕ) (u : Ui) : Type 0 where
-  kind : names_actor u ≡ true
-  there : has_actor l u ≡ true
-  site : u.site ≡ 1
+pub record OfOne (l : Layout) (n : ℕ) (u : Ui) : Type 0 where
+  pub kind : names_actor u ≡ true
+  pub there : has_actor l u ≡ true
+  pub site : u.site ≡ 1
 
-of-one : (l : Layout) (n : ℕ) (u : Ui) → n ≡ 1 → is_actor_of l n u ≡ true → OfOne l n u
+pub of-one : (l : Layout) (n : ℕ) (u : Ui) → n ≡ 1 → is_actor_of l n u ≡ true → OfOne l n u
 of-one l n u one h =
     let outer = and_parts (names_actor u && has_actor l u) (is_site n u.site) h in
     let inner = and_parts (names_actor u) (has_actor l u) outer.0 in
@@ -247,13 +247,13 @@ left-fine l actors schedule k (script ∷ scripts) fits =
 
 -- All of it.
 
-record OneSite (c : Scene) : Type 0 where
-  sites : c.sites ≡ 1
-  turns : c.layout.turns ≡ 1
-  setup : list_all (is_built c.layout 1) (setup_commands c) ≡ true
-  scripts : list_all (script_is_built c) c.scripts ≡ true
+pub record OneSite (c : Scene) : Type 0 where
+  pub sites : c.sites ≡ 1
+  pub turns : c.layout.turns ≡ 1
+  pub setup : list_all (is_built c.layout 1) (setup_commands c) ≡ true
+  pub scripts : list_all (script_is_built c) c.scripts ≡ true
 
-one-site : (c : Scene) → scene_is_built c ≡ true → OneSite c
+pub one-site : (c : Scene) → scene_is_built c ≡ true → OneSite c
 one-site c built =
     let setup = list_all (is_built c.layout 1) (setup_commands c) in
     let three = and_parts ((c.sites == 1) && (c.layout.turns == 1) && setup) (list_all (script_is_built c) c.scripts) built in
