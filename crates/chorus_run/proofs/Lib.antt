@@ -5,3 +5,4 @@ pub mod Callers
 pub mod Ready
 pub mod Bounds
 pub mod Lengths
+pub mod Moments
