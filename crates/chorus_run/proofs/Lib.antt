@@ -7,3 +7,4 @@ pub mod Reading
 pub mod Bounds
 pub mod Lengths
 pub mod Next
+pub mod Moments
