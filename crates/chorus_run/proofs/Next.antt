@@ -1,20 +1,23 @@
 -- The next event of a scenario's order on the sites.
-use Rattle.std.proofs.Common.{◌≡◌, ℕ, suc, ◌+◌, ◌<◌, true, Option, Some, None, IfSome, List, [], ◌∷◌, ◌++◌, length, take, drop, reverse, slice_get, append_assoc, take-append-drop, take-suc, arith, refl, sym, ◌∙◌, ap, subst}
-use Rattle.std.proofs.lemmas.List.{reverse-append}
-use Rattle.std.proofs.lemmas.Option.{slice_get_within, get_or_from_slice_get}
+use Rattle.std.proofs.Common.{◌≡◌, ℕ, suc, ◌+◌, ◌<◌, true, Option, Some, None, IfSome, List, [], ◌∷◌, ◌++◌, length, take, drop, reverse, slice_get, append_assoc, append-nil, take_all, ap₂, ◌≤◌, take-append-drop, take-suc, arith, refl, sym, ◌∙◌, ap, subst}
+use Rattle.std.proofs.lemmas.List.{reverse-append, length-map}
+use Rattle.std.specs.Option.{option_map}
+use Rattle.std.proofs.lemmas.Option.{slice_get_within, get_or_from_slice_get, slice_get-map}
 use Rattle.chorus_ui.specs.declared.ui.Ui.{Ui}
 use Rattle.chorus_ui.specs.Layout.{IsShape, has_actor}
 use Rattle.chorus_entry.specs.Kinds.{names_actor}
 use Rattle.chorus_entry.specs.declared.command.Command.{Command}
 use Rattle.chorus_place.specs.declared.fault.TheConstants.{WORN}
-use Rattle.chorus_scene.specs.Scene.{Scene}
+use Rattle.chorus_scene.specs.declared.scenario.SetupLine.{SetupLine}
+use Rattle.chorus_scene.specs.Scene.{Scene, Script}
 use Rattle.chorus_scene.specs.Limits.{Keeps}
 use Rattle.chorus_net.specs.declared.sites.TheConstants.{SEATS_LIMIT}
-use Rattle.chorus_net.specs.Sites.{SitesState, Event, Enter, Act, happened, after, actor_of, posts_of, compared}
+use Rattle.chorus_net.specs.Sites.{SitesState, Event, Enter, Act, happened, entered, acted, after, actor_of, posts_of, compared}
 use Rattle.chorus_net.specs.OnePlace.{may_give}
 use Rattle.chorus_net.proofs.AfterEvents.{holds}
-use Rattle.chorus_run.specs.Order.{order, scene_is_built}
-use Rattle.chorus_run.specs.Calls.{IsNext}
+use Rattle.chorus_run.specs.Order.{order, scene_is_built, setup_command, setup_commands, in_setup, entering, in_schedule, left_from, replayed}
+use Rattle.chorus_run.specs.declared.order.Call.{Call}
+use Rattle.chorus_run.specs.Calls.{IsNext, event_of, events_of}
 use Rattle.chorus_run.proofs.Ready.{may-next, enter-next, ready-so_far}
 use Rattle.chorus_run.proofs.Lengths.{clock-fits, posts-fit, seats-fit}
 
@@ -85,3 +88,76 @@ after-at c s t before part i e h now then_is =
     let more : before ++ take (i + 1) part ≡ (before ++ take i part) ++ e ∷ [] = ap (λ xs. before ++ xs) (taken-one part i e h) ∙ sym (append_assoc before (take i part) (e ∷ [])) in
     let back : reverse (before ++ take (i + 1) part) ≡ e ∷ reverse (before ++ take i part) = ap reverse more ∙ reverse-append (before ++ take i part) (e ∷ []) in
     then_is ∙ (ap (happened e) now ∙ ap (after c.layout) (sym back))
+
+-- The three parts of the order.
+
+order-enter : (c : Scene) → order c ≡ in_setup c ++ entering c ++ (in_schedule c.scripts [] c.schedule ++ left_from c.schedule 1 c.scripts)
+order-enter c = append_assoc (in_setup c ++ entering c) (in_schedule c.scripts [] c.schedule) (left_from c.schedule 1 c.scripts)
+
+order-setup : (c : Scene) → order c ≡ [] ++ in_setup c ++ (entering c ++ (in_schedule c.scripts [] c.schedule ++ left_from c.schedule 1 c.scripts))
+order-setup c = order-enter c ∙ append_assoc (in_setup c) (entering c) (in_schedule c.scripts [] c.schedule ++ left_from c.schedule 1 c.scripts)
+
+order-calls : (c : Scene) (events : List Event) → events ≡ in_schedule c.scripts [] c.schedule ++ left_from c.schedule 1 c.scripts → order c ≡ (in_setup c ++ entering c) ++ events ++ []
+order-calls c events e = order-enter c ∙ (ap (λ xs. in_setup c ++ entering c ++ xs) (sym e) ∙ sym (append-nil ((in_setup c ++ entering c) ++ events)))
+
+setup-item : (c : Scene) (lines : List SetupLine) (i : ℕ) (line : SetupLine) (command : Command) → lines ≡ c.setup → slice_get lines i ≡ Some line → command ≡ setup_command line
+    → slice_get (in_setup c) i ≡ Some (Act 0 command)
+setup-item c lines i line command e h is =
+    slice_get-map (Act 0) (setup_commands c) i
+    ∙ (ap (option_map (Act 0)) (slice_get-map setup_command c.setup i ∙ ap (option_map setup_command) (ap (λ xs. slice_get xs i) (sym e) ∙ h))
+    ∙ ap (λ x. Some (Act 0 x)) (sym is))
+
+script-item : (c : Scene) (scripts : List Script) (i : ℕ) (script : Script) (actor : Ui) → scripts ≡ c.scripts → slice_get scripts i ≡ Some script → actor ≡ script.actor
+    → slice_get (entering c) i ≡ Some (Enter actor)
+script-item c scripts i script actor e h is =
+    slice_get-map (λ (s : Script). Enter s.actor) c.scripts i
+    ∙ (ap (option_map (λ (s : Script). Enter s.actor)) (ap (λ xs. slice_get xs i) (sym e) ∙ h) ∙ ap (λ x. Some (Enter x)) (sym is))
+
+call-item : (calls : List Call) (i : ℕ) (call : Call) (seat : ℕ) (command : Command) → slice_get calls i ≡ Some call → seat ≡ call.seat → command ≡ call.command.now
+    → slice_get (events_of calls) i ≡ Some (Act seat command)
+call-item calls i call seat command h one two =
+    slice_get-map event_of calls i ∙ (ap (option_map event_of) h ∙ ap₂ (λ k x. Some (Act k x)) (sym one) (sym two))
+
+-- The setup: each line is next, and the sites are after it.
+
+pub setup-next : (c : Scene) (s : SitesState) (lines : List SetupLine) (i : ℕ) (line : SetupLine) (command : Command) → lines ≡ c.setup → slice_get lines i ≡ Some line
+    → command ≡ setup_command line → s ≡ after c.layout (reverse (take i (in_setup c))) → IsNext c s (Act 0 command)
+setup-next c s lines i line command e h is now = next-at c s [] (in_setup c) _ i (Act 0 command) (order-setup c) (setup-item c lines i line command e h is) now
+
+pub setup-after : (c : Scene) (s t : SitesState) (lines : List SetupLine) (i : ℕ) (line : SetupLine) (command : Command) → lines ≡ c.setup → slice_get lines i ≡ Some line
+    → command ≡ setup_command line → s ≡ after c.layout (reverse (take i (in_setup c))) → t ≡ acted 0 command s → t ≡ after c.layout (reverse (take (i + 1) (in_setup c)))
+setup-after c s t lines i line command e h is now done = after-at c s t [] (in_setup c) i (Act 0 command) (setup-item c lines i line command e h is) now done
+
+-- A seat for each script.
+
+pub script-next : (c : Scene) (s : SitesState) (scripts : List Script) (i : ℕ) (script : Script) (actor : Ui) → scripts ≡ c.scripts → slice_get scripts i ≡ Some script
+    → actor ≡ script.actor → s ≡ after c.layout (reverse (in_setup c ++ take i (entering c))) → IsNext c s (Enter actor)
+script-next c s scripts i script actor e h is now = next-at c s (in_setup c) (entering c) _ i (Enter actor) (order-enter c) (script-item c scripts i script actor e h is) now
+
+pub script-after : (c : Scene) (s t : SitesState) (scripts : List Script) (i : ℕ) (script : Script) (actor : Ui) → scripts ≡ c.scripts → slice_get scripts i ≡ Some script
+    → actor ≡ script.actor → s ≡ after c.layout (reverse (in_setup c ++ take i (entering c))) → t ≡ entered actor s
+    → t ≡ after c.layout (reverse (in_setup c ++ take (i + 1) (entering c)))
+script-after c s t scripts i script actor e h is now done = after-at c s t (in_setup c) (entering c) i (Enter actor) (script-item c scripts i script actor e h is) now done
+
+-- The calls of the scripts.
+
+pub call-next : (c : Scene) (s : SitesState) (calls : List Call) (i : ℕ) (call : Call) (seat : ℕ) (command : Command)
+    → events_of calls ≡ in_schedule c.scripts [] c.schedule ++ left_from c.schedule 1 c.scripts → slice_get calls i ≡ Some call → seat ≡ call.seat → command ≡ call.command.now
+    → s ≡ after c.layout (reverse ((in_setup c ++ entering c) ++ take i (events_of calls))) → IsNext c s (Act seat command)
+call-next c s calls i call seat command e h one two now =
+    next-at c s (in_setup c ++ entering c) (events_of calls) [] i (Act seat command) (order-calls c (events_of calls) e) (call-item calls i call seat command h one two) now
+
+pub call-after : (c : Scene) (s t : SitesState) (calls : List Call) (i : ℕ) (call : Call) (seat : ℕ) (command : Command) → slice_get calls i ≡ Some call
+    → seat ≡ call.seat → command ≡ call.command.now → s ≡ after c.layout (reverse ((in_setup c ++ entering c) ++ take i (events_of calls))) → t ≡ acted seat command s
+    → t ≡ after c.layout (reverse ((in_setup c ++ entering c) ++ take (i + 1) (events_of calls)))
+call-after c s t calls i call seat command h one two now done =
+    after-at c s t (in_setup c ++ entering c) (events_of calls) i (Act seat command) (call-item calls i call seat command h one two) now done
+
+-- after all of them the scenario is replayed
+pub calls-done : (c : Scene) (s : SitesState) (calls : List Call) (n : ℕ) → events_of calls ≡ in_schedule c.scripts [] c.schedule ++ left_from c.schedule 1 c.scripts
+    → length calls ≤ n → s ≡ after c.layout (reverse ((in_setup c ++ entering c) ++ take n (events_of calls))) → s ≡ replayed c
+calls-done c s calls n e all now =
+    let len = length-map calls event_of in
+    let whole : (in_setup c ++ entering c) ++ take n (events_of calls) ≡ order c =
+        ap (λ xs. (in_setup c ++ entering c) ++ xs) (take_all n (events_of calls) (omega (arith, len, all)) ∙ e) ∙ sym (order-enter c)
+    in now ∙ ap (λ xs. after c.layout (reverse xs)) whole

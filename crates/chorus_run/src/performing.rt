@@ -76,7 +76,8 @@ fn enter(sites: &mut Sites, scenario: &Scenario) -> Result<(), AllocError>
         match sites.enter(script.actor()) {
             Ok(_) => {}
             Err(EnterFault::Memory(error)) => return Err(error),
-            Err(_) => unreachable!(),
+            Err(EnterFault::NoActor) => unreachable!(),
+            Err(EnterFault::NoSeat { .. }) => unreachable!(),
         }
     }
     Ok(())

@@ -1,4 +1,4 @@
-use Rattle.std.proofs.Common.{ℕ, arith, refl, ap}
+use Rattle.std.proofs.Common.{arith, refl, ap, Err}
 use Rattle.chorus_run.proofs.Next.{next-may, next-posts, next-clock}
 use Rattle.chorus_run.proofs.performing.act.Goals as goal
 
@@ -11,5 +11,6 @@ act-requires-clause-posts c h = next-posts _ _ c.args.seat _ c.requires.keeps c.
 pub unreachable-requires : goal.unreachable-requires
 unreachable-requires c =
     let low = next-clock _ _ c.args.seat _ c.requires.keeps c.requires.built c.requires.next in
-    let v = c.in-Err-Worn.ensures.worn in let w : ℕ = v in
-    ?
+    let high = (c.in-Err-Worn.ensures.worn _).0 (ap Err c.in-Err-Worn.field-0-is) in
+    let worn = high.0 in
+    omega (arith, low, worn)

@@ -1,0 +1,15 @@
+use Rattle.std.proofs.Common.{refl, ap, ◌∙◌}
+use Rattle.std.proofs.lemmas.Option.{slice_get_read}
+use Rattle.chorus_run.specs.Calls.{events_of}
+use Rattle.chorus_run.proofs.Next.{call-next, call-after, calls-done}
+use Rattle.chorus_run.proofs.performing.perform.Goals as goal
+
+pub act-requires-clause-next : goal.act-requires-clause-next
+act-requires-clause-next c =
+    let read = slice_get_read _ _ _ _ refl c.loop-call-test.true c.call-item.is in
+    call-next c.args.scenario.now _ _ _ _ _ _ (ap events_of c.deref-call-items.ensures.value ∙ c.in_ok-calls.ensures) read refl c.in_ok-copied.ensures c.loop-call.invariant
+
+pub loop-call-preserved : goal.loop-call-preserved
+loop-call-preserved c =
+    let read = slice_get_read _ _ _ _ refl c.loop-call-test.true c.call-item.is in
+    call-after c.args.scenario.now _ _ _ _ _ _ _ read refl c.in_ok-copied.ensures c.loop-call.invariant c.in_ok-act.ensures
