@@ -3,3 +3,4 @@ pub mod Closed
 pub mod Given
 pub mod Callers
 pub mod Ready
+pub mod Scheduling
