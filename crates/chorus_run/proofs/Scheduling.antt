@@ -3,7 +3,7 @@ use Rattle.std.proofs.Common.{ℕ, zero, suc, ◌≡◌, ◌<◌, ◌≤◌, ◌
 use Rattle.std.specs.Option.{option_map}
 use Rattle.std.proofs.lemmas.Bool.{and_parts, eqb-true, eq-eqb, ltb-true, leb-true, false≢true}
 use Rattle.std.proofs.lemmas.Grind.{get_or-set_at}
-use Rattle.std.proofs.lemmas.List.{take_more, map-append, length-set, length-take-le, get_or_read, get_or-set_other}
+use Rattle.std.proofs.lemmas.List.{take_more, map-append, length-set, length-take-le, length-drop, take_all, get_or_read, get_or-set_other}
 use Rattle.std.proofs.lemmas.List.Sums.{sum_by-append}
 use Rattle.std.proofs.lemmas.Option.{slice_get-get_or}
 use Rattle.chorus_ui.specs.Layout.{Shape}
@@ -271,7 +271,7 @@ left-below c keeps next are items i script commands same lt is of =
 pub left-added : (c : Scene) (next : List ℕ) → AreNext c.scripts c.schedule next
     → (items : List Script) (i : ℕ) (script : Script) (commands : List Command) (first old new : List Event) → items ≡ c.scripts → i < length items → script ≡ get_or items i script → commands ≡ script.commands
     → old ≡ first ++ left_from c.schedule 1 (take i c.scripts)
-    → new ≡ old ++ map (Act (i + 1)) (drop (slice_index next i) commands)
+    → new ≡ old ++ map (Act (i + 1)) (take (length commands - slice_index next i) (drop (slice_index next i) commands))
     → new ≡ first ++ left_from c.schedule 1 (take (i + 1) c.scripts)
 left-added c next are items i script commands first old new same lt is of so added =
     let within : i < length c.scripts = subst (λ xs. i < length xs) same lt in
@@ -281,8 +281,10 @@ left-added c next are items i script commands first old new same lt is of so add
     let here : script ≡ get_or c.scripts i no_script = script-at c.scripts items i script same lt is in
     let more : take (i + 1) c.scripts ≡ done ++ script ∷ [] = take_more c.scripts i no_script within ∙ ap (λ s. done ++ s ∷ []) (sym here) in
     let left = map (Act k) (drop (count_by (is_step k) c.schedule) script.commands) in
+    let behind = drop (slice_index next i) commands in
+    let whole : take (length commands - slice_index next i) behind ≡ behind = ap (λ n. take n behind) (sym (length-drop (slice_index next i) commands)) ∙ take_all (length behind) behind (omega arith) in
     added
-    ∙ (ap (λ m. old ++ map (Act k) (drop m commands)) (are.counts i within)
+    ∙ (ap (λ cs. old ++ map (Act k) cs) (whole ∙ ap (λ m. drop m commands) (are.counts i within))
     ∙ (ap (λ cs. old ++ map (Act k) (drop (count_by (is_step k) c.schedule) cs)) of
     ∙ (ap (λ es. es ++ left) so
     ∙ (append_assoc first (left_from c.schedule 1 done) left

@@ -15,7 +15,6 @@ slice_bounds-left-start c =
 
 pub loop-index-preserved : goal.loop-index-preserved
 loop-index-preserved c =
-    let a = c.push_all.ensures in
-    let b = c.in_ok-push_all.ensures in
-    let d = c.loop-index.invariant in
-    ?
+    left-added c.args.scenario.now c.args.next.now c.requires.next c.scripts-script-items.result.now c.loop-index.index c.script-item.result c.commands.result.now
+    (events_of c.args.calls.now.items) (events_of c.loop-index.calls.items) (events_of c.push_all.new.calls.items)
+    c.scripts-script-items.ensures c.loop-index-test.true c.script-item.is c.commands.ensures c.loop-index.invariant c.in_ok-push_all.ensures
