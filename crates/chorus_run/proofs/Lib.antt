@@ -8,3 +8,4 @@ pub mod Bounds
 pub mod Lengths
 pub mod Next
 pub mod Moments
+pub mod Scheduling
