@@ -1,5 +1,5 @@
 -- What was read is what the input gives.
-use Rattle.std.proofs.Common.{◌≡◌, ℕ, ◌+◌, ◌<◌, ◌≤◌, Bool, true, false, cond, not, Option, Some, None, IsSome, IfSome, Result, Ok, Err, List, ◌++◌, length, take, take_all, refl, sym, ◌∙◌, ap, ap₂, subst₂, arith}
+use Rattle.std.proofs.Common.{◌≡◌, ℕ, ◌+◌, ◌<◌, ◌≤◌, Bool, true, false, cond, not, Option, Some, None, IsSome, IfSome, Result, Ok, Err, List, ◌++◌, length, take, take_all, refl, sym, ◌∙◌, ap, ap₂, subst, subst₂, arith}
 use Rattle.std.proofs.Math.Seq.{take-append_seam}
 use Rattle.std.specs.Io.KnownBytes.{Consumes}
 use Rattle.chorus_ui.specs.declared.layout.Layout.{Layout}
@@ -45,3 +45,12 @@ pub gives-long-as : (l : Layout) (told left : Option (List ℕ)) (given : List �
     → line ≡ 0 → reason ≡ 6 → IsSome told → Gives l told (Err (line, reason))
 gives-long-as l told left given line reason consumed long one two some =
     subst₂ (λ m n. Gives l told (Err (m, n))) (sym one) (sym two) (gives-long l told left given consumed long some)
+
+-- an input gives one scenario
+pub gives-one : (l m : Layout) (told : Option (List ℕ)) (a b : Scene) → m ≡ l → Gives l told (Ok b) → (IsSome told → Gives m told (Ok a)) → a ≡ b
+gives-one l m None a b e h k = absurd h
+gives-one l m (Some input) a b e h k = by (judged l input) (subst (λ n. judged n input ≡ Ok a) e (k refl)) h
+  where
+    by : (r : Result Scene (ℕ × ℕ)) → r ≡ Ok a → r ≡ Ok b → a ≡ b
+    by (Ok c) one two = cc
+    by (Err f) one two = absurd (cc)
