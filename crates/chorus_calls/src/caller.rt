@@ -10,7 +10,7 @@ use chorus_entry::Hand;
 use chorus_ui::Ui;
 use std::marker::Model;
 
-/// A seat of an actor, from which commands come: what its home place keeps of it. No call takes memory.
+/// A seat of an actor, from which commands come: what its home place keeps of it. No function of it takes memory.
 #[derive(Debug, Drop)]
 pub struct Caller {
     seat: u32,
@@ -97,7 +97,7 @@ impl Caller {
         self.last = last;
     }
 
-    /// Counts one post more and gives its number. While fewer than 2^32 - 1 were counted.
+    /// Counts one post more and gives its number. Fewer than 2^32 - 1 are to have been counted before.
     pub fn posted(&mut self) -> u32
         requires { self.old.posts < u32.MAX }
         ensures number { result ≡ self.old.posts + 1 }

@@ -48,8 +48,8 @@ pub enum Settle {
 }
 
 /// The calls of one caller: at most one of them is outstanding. Each has a number, from 1 on, and none has that of another.
-/// That a caller waits for one reply at a time is from the Chorus article of 1988; that it may give up a call and go on
-/// is this project's own. No call takes memory.
+/// That a call is a request which is answered by a reply is from the Chorus article of 1988; the numbers, the port of the
+/// reply, sending again and `cancel` are this project's own. No function of it takes memory.
 #[derive(Debug, Drop)]
 pub struct Client {
     outstanding: Option<Call>,
@@ -87,7 +87,8 @@ impl Client {
         self.given
     }
 
-    /// Begins a call and gives its number, the next from 1. While fewer than 2^32 - 1 numbers were given.
+    /// Begins a call and gives its number, the next from 1. Fewer than 2^32 - 1 numbers are to have been given before, which
+    /// `given` tells.
     ///
     /// It fails exactly where a call is outstanding: then the body comes back with that call's number, and nothing changes.
     pub fn begin(&mut self, port: Ui, back: Ui, body: Body) -> Result<u32, (Body, Outstanding)>

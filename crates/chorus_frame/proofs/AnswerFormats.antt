@@ -1,5 +1,5 @@
 -- Answers both ways.
-use Rattle.std.proofs.Common.{◌≡◌, ℕ, zero, suc, ◌^◌, ◌<◌, ◌≤◌, Bool, true, false, ◌&&◌, ◌||◌, ◌==◌, nat_le, List, ◌++◌, Result, Ok, Err, refl, sym, ap, subst, ◌∙◌, arith}
+use Rattle.std.proofs.Common.{◌≡◌, ℕ, zero, suc, ◌^◌, ◌<◌, ◌≤◌, Bool, true, ◌&&◌, nat_le, List, ◌++◌, Result, Ok, refl, sym, ap, subst, ◌∙◌, arith}
 use Rattle.std.proofs.lemmas.Bool.{and_parts}
 use Rattle.std.proofs.lemmas.Bool.Decides.{nat_tests}
 use Rattle.chorus_entry.specs.declared.members.TheConstants.{MEMBERS_LIMIT}
@@ -9,12 +9,12 @@ use Rattle.chorus_entry.specs.declared.answer.Answer.TheVariants.{Accepted, Full
 use Rattle.chorus_entry.specs.Ranges.{is_from, is_place_number, has_ranges_of_answer, is_told, is_reported}
 use Rattle.chorus_frame.specs.Fault.{Fault, Range}
 use Rattle.chorus_frame.specs.Fault as faults
-use Rattle.chorus_frame.specs.Numbers.{◌>>=◌, number, number_at, tested_at, ranged_at}
+use Rattle.chorus_frame.specs.Numbers.{number}
 use Rattle.chorus_frame.specs.Laws.{AreBytes}
 use Rattle.chorus_frame.specs.Spelling.{located_fields, answer_fields}
 use Rattle.chorus_frame.specs.Reading.{code_at, past_at, place_at, accepted_at, full_at, located_at, stale_at, early_at, elsewhere_at, chosen_at, answer_of, answer_at, is_told_code, is_reported_code}
 use Rattle.chorus_frame.proofs.Numbers.{ok_is}
-use Rattle.chorus_frame.proofs.Formats.{Taken, IsFormat, step, join, IsTested, number_format, tested_format, assoc2, from_nat_le, both}
+use Rattle.chorus_frame.proofs.Formats.{Taken, IsFormat, step, join, IsTested, tested_format, assoc2, from_nat_le, both}
 
 -- ---- places and hops
 

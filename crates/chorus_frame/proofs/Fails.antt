@@ -1,5 +1,5 @@
 -- A fault in one field is the fault of all that is read from there on.
-use Rattle.std.proofs.Common.{◌≡◌, ℕ, List, Result, Ok, Err, refl}
+use Rattle.std.proofs.Common.{Result, refl}
 use Rattle.chorus_frame.specs.declared.fault.DecodeFault.{DecodeFault}
 use Rattle.chorus_frame.specs.declared.fault.DecodeFault.TheVariants as calls
 use Rattle.chorus_frame.specs.Fault.{Fault}

@@ -1,6 +1,7 @@
 pub mod AnswerFormats
 pub mod Fails
 pub mod Formats
+pub mod Fronts
 pub mod Loops
 pub mod MessageFormats
 pub mod Numbers

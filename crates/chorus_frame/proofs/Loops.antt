@@ -1,5 +1,5 @@
 -- Reading messages and clients one after the other, as a loop does.
-use Rattle.std.proofs.Common.{◌≡◌, ℕ, suc, ◌-◌, ◌+◌, ◌≤◌, ◌<◌, List, [], ◌∷◌, ◌++◌, Result, Ok, Err, refl, sym, subst, ◌∙◌, arith}
+use Rattle.std.proofs.Common.{◌≡◌, ℕ, suc, ◌-◌, ◌+◌, ◌≤◌, ◌<◌, List, [], ◌∷◌, ◌++◌, Result, Ok, refl, sym, subst, ◌∙◌, arith}
 use Rattle.chorus_entry.specs.declared.message.Message.{Message}
 use Rattle.chorus_frame.specs.declared.fault.DecodeFault.{DecodeFault}
 use Rattle.chorus_frame.specs.Fault.{Fault}

@@ -1,5 +1,5 @@
 -- Names, ids, tags and messages both ways.
-use Rattle.std.proofs.Common.{◌≡◌, ℕ, zero, suc, ◌+◌, ◌*◌, ◌/◌, ◌%◌, ◌^◌, ◌<◌, ◌≤◌, Bool, true, false, ◌&&◌, cond, ◌==◌, nat_le, if◌then◌else◌, Option, Some, None, List, [], ◌∷◌, ◌++◌, length, Result, Ok, Err, refl, sym, ap, subst, ◌∙◌, append_assoc, arith}
+use Rattle.std.proofs.Common.{◌≡◌, ℕ, zero, suc, ◌^◌, ◌<◌, ◌≤◌, Bool, true, false, ◌&&◌, cond, ◌==◌, nat_le, if◌then◌else◌, Option, Some, None, List, ◌++◌, length, Ok, refl, sym, ap, subst, ◌∙◌, arith}
 use Rattle.std.proofs.lemmas.Bool.{and_parts, eqb-true, ne_eqb}
 use Rattle.std.proofs.lemmas.Bool.Decides.{nat_tests}
 use Rattle.chorus_ui.specs.declared.ui.Ui.{Ui}
@@ -7,7 +7,7 @@ use Rattle.chorus_ui.specs.declared.kind.Kind.{Kind}
 use Rattle.chorus_ui.specs.declared.kind.Kind.TheVariants as K
 use Rattle.chorus_ui.specs.declared.layout.TheConstants.{MAX_SITES}
 use Rattle.chorus_ui.specs.Kind.{same_kind, kind_number, kind_with_number}
-use Rattle.chorus_ui.specs.Name.{Name, IsName, is_name, name_of_parts}
+use Rattle.chorus_ui.specs.Name.{IsName, is_name, name_of_parts}
 use Rattle.chorus_ui.specs.Bits.{name_bits, name_of_bits, site_bits, kind_bits, number_bits}
 use Rattle.chorus_ui.proofs.Names.{from_is_name}
 use Rattle.chorus_ui.proofs.Bits.{name_of_bits-name_bits}
@@ -17,15 +17,15 @@ use Rattle.chorus_entry.specs.declared.id.MsgId.{MsgId}
 use Rattle.chorus_entry.specs.declared.tag.Tag.{Tag}
 use Rattle.chorus_entry.specs.declared.tag.Tag.TheVariants.{Plain, Request, Reply}
 use Rattle.chorus_entry.specs.declared.message.Message.{Message}
-use Rattle.chorus_entry.specs.Kinds.{has_kinds_in_tag, names_port}
-use Rattle.chorus_entry.specs.Ranges.{is_route, is_demanded_site, is_site_number, has_range_of_id, has_range_of_tag, has_ranges_of_message}
+use Rattle.chorus_entry.specs.Kinds.{has_kinds_in_tag}
+use Rattle.chorus_entry.specs.Ranges.{is_route, is_demanded_site, has_range_of_id, has_range_of_tag, has_ranges_of_message}
 use Rattle.chorus_frame.specs.Fault.{Fault, Short, Range}
 use Rattle.chorus_frame.specs.Fault as faults
-use Rattle.chorus_frame.specs.Numbers.{◌>>=◌, number, number_at, bytes_at, tested_at, ranged_at}
+use Rattle.chorus_frame.specs.Numbers.{number, bytes_at, ranged_at}
 use Rattle.chorus_frame.specs.Laws.{AreBytes}
 use Rattle.chorus_frame.specs.Spelling.{name_field, route_field, only_field, id_fields, request_fields, reply_fields, tag_fields, body_fields, message_fields}
-use Rattle.chorus_frame.specs.Reading.{code_at, named, name_at, route_named, route_at, only_at, positive_at, id_at, request_at, reply_at, tag_of, tag_at, body_at, message_at}
-use Rattle.chorus_frame.specs.Widths.{IsCount, IsHeldId, IsHeldTag, IsHeldMessage, IsHeldRoute}
+use Rattle.chorus_frame.specs.Reading.{code_at, named, name_at, route_named, route_at, only_at, id_at, request_at, reply_at, tag_of, tag_at, body_at, message_at}
+use Rattle.chorus_frame.specs.Widths.{IsHeldId, IsHeldTag, IsHeldMessage, IsHeldRoute}
 use Rattle.chorus_frame.proofs.Numbers.{test_ok, bind_ok, ok_is, number-again, bytes-takes, bytes-again}
 use Rattle.chorus_frame.proofs.Formats.{Taken, IsFormat, step, join, IsTested, number_format, tested_format, assoc2, assoc3, from_nat_le, both}
 

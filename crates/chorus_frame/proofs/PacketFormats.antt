@@ -1,12 +1,10 @@
 -- Packets both ways.
-use Rattle.std.proofs.Common.{◌≡◌, ◌≢◌, ℕ, zero, suc, ◌^◌, ◌<◌, ◌≤◌, Bool, true, false, ◌&&◌, ◌==◌, nat_le, Option, Some, None, List, [], ◌∷◌, ◌++◌, length, Result, Ok, Err, refl, sym, ap, subst, ◌∙◌, append_assoc, arith}
+use Rattle.std.proofs.Common.{◌≡◌, ◌≢◌, ℕ, zero, suc, ◌^◌, ◌<◌, ◌≤◌, true, false, ◌==◌, nat_le, List, [], ◌++◌, length, Result, Ok, Err, refl, sym, ap, subst, ◌∙◌, arith}
 use Rattle.std.proofs.lemmas.Bool.{and_parts, eqb-true, ne_eqb}
-use Rattle.std.proofs.lemmas.Bool.Decides.{nat_tests}
 use Rattle.std.proofs.lemmas.List.{append-nil, nil_from_length}
 use Rattle.chorus_ui.specs.declared.ui.Ui.{Ui}
 use Rattle.chorus_ui.specs.declared.kind.Kind.TheVariants as K
 use Rattle.chorus_ui.specs.declared.layout.TheConstants.{MAX_SITES}
-use Rattle.chorus_ui.specs.Kind.{same_kind}
 use Rattle.chorus_ui.specs.Name.{IsName}
 use Rattle.chorus_entry.specs.declared.dest.Dest.{Dest}
 use Rattle.chorus_entry.specs.declared.dest.Dest.TheVariants as D
@@ -15,12 +13,15 @@ use Rattle.chorus_entry.specs.declared.packet.Cargo.{Cargo}
 use Rattle.chorus_entry.specs.declared.packet.Cargo.TheVariants.{Try, Verdict, Transfer, Ask, Report}
 use Rattle.chorus_entry.specs.Kinds.{names_port, names_group}
 use Rattle.chorus_entry.specs.Ranges.{is_from, is_place_number, is_site_number, is_route, is_demanded_site, is_told, is_reported, is_asked, has_range_of_id, has_ranges_of_answer, has_ranges_of_message, has_ranges_of_cargo, has_ranges}
+use Rattle.std.specs.Prelude.{IfOk}
+use Rattle.chorus_frame.specs.declared.fault.DecodeFault.{DecodeFault}
+use Rattle.chorus_frame.specs.Calls.{Gives}
 use Rattle.chorus_frame.specs.Fault.{Fault, Range, Trailing}
 use Rattle.chorus_frame.specs.Fault as faults
-use Rattle.chorus_frame.specs.Numbers.{◌>>=◌, number, number_at, tested_at, ranged_at}
+use Rattle.chorus_frame.specs.Numbers.{number, ranged_at}
 use Rattle.chorus_frame.specs.Laws.{AreBytes}
 use Rattle.chorus_frame.specs.Spelling.{name_field, route_field, only_field, id_fields, message_fields, answer_fields, asked_fields, cargo_fields, kind_of, frame}
-use Rattle.chorus_frame.specs.Reading.{code_at, name_at, dest_of, is_site_with, is_told_code, is_reported_code, asked_at, try_at, verdict_at, transfer_at, ask_at, report_at, cargo_at, packet_at, packet_of}
+use Rattle.chorus_frame.specs.Reading.{code_at, dest_of, is_site_with, is_told_code, is_reported_code, asked_at, try_at, verdict_at, transfer_at, ask_at, report_at, cargo_at, packet_at, packet_of}
 use Rattle.chorus_frame.specs.Widths.{IsHeldDest, IsHeldCargo, IsHeld}
 use Rattle.chorus_frame.proofs.Numbers.{bind_ok, test_ok, ok_is, number-again}
 use Rattle.chorus_frame.proofs.Formats.{Taken, IsFormat, step, join, IsTested, number_format, tested_format, assoc2, assoc3, assoc4, assoc5, from_nat_le, both}
@@ -247,3 +248,8 @@ unfolding packet_of
 trails x rest held ranges some =
     let more : (length rest == 0) ≡ false = ne_eqb (length rest) 0 (λ h. some (nil_from_length rest h)) in
     rw (packet-again x rest held ranges, more) refl
+
+-- what a call gives of bytes is within the ranges
+pub is_ranged : (bytes : List ℕ) (given : Result Packet DecodeFault) → AreBytes bytes → Gives given (packet_of bytes) → IfOk given (λ packet. has_ranges packet ≡ true)
+is_ranged bytes (Ok packet) are read = (whole-takes bytes packet are read).2
+is_ranged bytes (Err fault) are read = tt

@@ -1,8 +1,7 @@
 -- The record of a port both ways.
-use Rattle.std.proofs.Common.{◌≡◌, ℕ, zero, suc, ◌^◌, ◌<◌, ◌≤◌, Bool, true, false, not, ◌&&◌, ◌||◌, cond, ◌==◌, nat_le, Option, Some, None, is_some, List, [], ◌∷◌, ◌++◌, length, Result, Ok, Err, refl, sym, ap, subst, ◌∙◌, append_assoc, arith}
+use Rattle.std.proofs.Common.{◌≡◌, ℕ, zero, suc, ◌^◌, ◌<◌, Bool, true, false, not, ◌&&◌, ◌||◌, cond, ◌==◌, nat_le, Some, is_some, List, [], ◌∷◌, ◌++◌, length, Ok, refl, sym, ap, subst, ◌∙◌, append_assoc, arith}
 use Rattle.std.specs.List.{flat_map, list_all, AllByRecursion}
-use Rattle.std.proofs.lemmas.Bool.{and_parts, eqb-true, ne_eqb, eq-eqb}
-use Rattle.std.proofs.lemmas.Bool.Decides.{nat_tests}
+use Rattle.std.proofs.lemmas.Bool.{and_parts, eqb-true, eq-eqb}
 use Rattle.std.proofs.lemmas.List.{append-nil}
 use Rattle.std.proofs.lemmas.List.Concat.{flat_map-cons}
 use Rattle.chorus_ui.specs.declared.kind.Kind.TheVariants as K
@@ -14,14 +13,14 @@ use Rattle.chorus_entry.specs.ClientTable.{number_of, are_distinct}
 use Rattle.chorus_entry.proofs.ClientTables.{are_distinct-snoc}
 use Rattle.chorus_entry.specs.Kinds.{names_port, names_actor}
 use Rattle.chorus_entry.specs.Ranges.{is_from, has_ranges_of_message, has_range_of_client, has_ranges_of_clients, has_ranges_of_record}
-use Rattle.chorus_frame.specs.Fault.{Fault, Range}
-use Rattle.chorus_frame.specs.Numbers.{◌>>=◌, number, number_at, tested_at, ranged_at}
+use Rattle.chorus_frame.specs.Fault.{Range}
+use Rattle.chorus_frame.specs.Numbers.{number}
 use Rattle.chorus_frame.specs.Laws.{AreBytes}
 use Rattle.chorus_frame.specs.Spelling.{name_field, message_fields, client_fields, pending_fields, clients_fields, record_fields}
-use Rattle.chorus_frame.specs.Reading.{past_at, capacity_at, positive_at, message_at, messages_at, pending_at, is_new, client_at, entries_at, clients_at, record_at}
-use Rattle.chorus_frame.specs.Widths.{IsCount, IsHeldMessage, IsHeldClient, IsHeldRecord}
-use Rattle.chorus_frame.proofs.Numbers.{ok_is, number-again}
-use Rattle.chorus_frame.proofs.Formats.{Taken, IsFormat, step, join, IsTested, number_format, tested_format, assoc2, assoc7, from_nat_le, both}
+use Rattle.chorus_frame.specs.Reading.{capacity_at, messages_at, pending_at, is_new, client_at, entries_at, clients_at, record_at}
+use Rattle.chorus_frame.specs.Widths.{IsHeldMessage, IsHeldClient, IsHeldRecord}
+use Rattle.chorus_frame.proofs.Numbers.{ok_is}
+use Rattle.chorus_frame.proofs.Formats.{Taken, IsFormat, step, join, IsTested, tested_format, assoc2, assoc7, from_nat_le, both}
 use Rattle.chorus_frame.proofs.MessageFormats.{name_format, IsGoodMessage, message_format}
 use Rattle.chorus_frame.proofs.AnswerFormats.{past_format, past_fits}
 

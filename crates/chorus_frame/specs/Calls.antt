@@ -1,6 +1,5 @@
 -- What a call answers, beside what the bytes say.
 use Rattle.std.specs.Prelude.{◌≡◌, ℕ, List, Result, Ok, Err}
-use Rattle.chorus_entry.specs.declared.packet.Packet.{Packet}
 use Rattle.chorus_frame.specs.declared.fault.DecodeFault.{DecodeFault}
 use Rattle.chorus_frame.specs.declared.fault.DecodeFault.TheVariants as calls
 use Rattle.chorus_frame.specs.Fault.{Fault}

@@ -1,8 +1,8 @@
 -- Frames both ways.
-use Rattle.std.specs.Prelude.{◌≡◌, ◌≢◌, ℕ, ◌<◌, List, [], ◌++◌, slice_index, Ok, Err, IsTrue}
+use Rattle.std.specs.Prelude.{◌≡◌, ◌≢◌, ℕ, ◌<◌, List, [], ◌++◌, length, take, slice_index, Ok, Err, IsTrue}
 use Rattle.chorus_entry.specs.declared.packet.Packet.{Packet}
 use Rattle.chorus_entry.specs.Ranges.{has_ranges}
-use Rattle.chorus_frame.specs.Fault.{Trailing}
+use Rattle.chorus_frame.specs.Fault.{Short, Trailing}
 use Rattle.chorus_frame.specs.Spelling.{frame}
 use Rattle.chorus_frame.specs.Reading.{packet_at, packet_of}
 use Rattle.chorus_frame.specs.Widths.{IsHeld}
@@ -32,3 +32,7 @@ EachReadIsInRange = (bytes : List ℕ) (packet : Packet) → AreBytes bytes → 
 
 abbrev pub EachReadIsHeld : Type 0
 EachReadIsHeld = (bytes : List ℕ) (packet : Packet) → AreBytes bytes → packet_of bytes ≡ Ok packet → IsHeld packet
+
+-- a front of a frame that is not all of it is short
+abbrev pub FrontsAreShort : Type 0
+FrontsAreShort = (packet : Packet) (n : ℕ) → IsHeld packet → IsTrue (has_ranges packet) → n < length (frame packet) → packet_of (take n (frame packet)) ≡ Err Short

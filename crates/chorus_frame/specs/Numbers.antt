@@ -1,5 +1,5 @@
 -- Numbers as bytes, the highest byte first.
-use Rattle.std.specs.Prelude.{ℕ, List, [], length, take, drop, Result, Ok, Err, nat_lt, Bool, if◌then◌else◌}
+use Rattle.std.specs.Prelude.{ℕ, List, length, take, drop, Result, Ok, Err, nat_lt, Bool, if◌then◌else◌}
 use Rattle.byteorder.specs.Endian.{big_bytes, big_number}
 use Rattle.chorus_frame.specs.Fault.{Fault, Short, Range}
 

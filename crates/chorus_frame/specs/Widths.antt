@@ -39,8 +39,9 @@ IsHeldClient entry = IsCount entry.0 × IsCount entry.1
 abbrev pub IsHeldRecord : PortRecord → Type 0
 IsHeldRecord port = IsName port.ui × IsName port.actor × AllByRecursion IsHeldMessage port.pending × AllByRecursion IsHeldClient port.clients
 
+-- a post to a port is not asked for
 abbrev pub IsHeldDest : Dest → Type 0
-IsHeldDest (D.Port port) = IsName port
+IsHeldDest (D.Port port) = Unit {0}
 IsHeldDest (D.All group) = IsName group
 IsHeldDest (D.One group) = IsName group
 IsHeldDest (D.OneAt group site) = IsName group

@@ -1,4 +1,12 @@
-//! Frames.
+//! Packets as bytes: the frames that places send to one another.
+//!
+//! A frame has one definition, in two halves that two laws tie together: `specs/Spelling.antt` says which bytes a packet has,
+//! and `specs/Reading.antt` reads bytes field by field, into the packet or the first fault that is met. The layers above rest
+//! on this: each packet within its ranges (`has_ranges` of `chorus_entry`) has one frame and is read back from it, whatever
+//! stands behind, and what is read as a packet is that packet's frame. No bytes from outside make the reader read past their
+//! end, or take memory for what they only announce.
+//!
+//! Begin with [`Frame`], a packet kept as its bytes, and with [`encode`] and [`decode`].
 #![tactic(auto)]
 
 mod decoding;
@@ -7,6 +15,8 @@ mod fault;
 mod frame;
 mod laws;
 mod reader;
+#[cfg(test)]
+mod tests;
 
 pub use decoding::decode;
 pub use encoding::encode;

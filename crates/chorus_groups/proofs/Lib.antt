@@ -2,3 +2,4 @@ pub mod PortLemmas
 pub mod TableLemmas
 pub mod GroupLemmas
 pub mod Turns
+pub mod Ties

@@ -1,5 +1,5 @@
 -- Lists of ports: where one stands, and one more or less.
-use Rattle.std.proofs.Common.{ℕ, suc, zero, ◌≡◌, ◌+◌, ◌-◌, ◌<◌, nat_lt, Bool, true, false, cond, List, [], ◌∷◌, ◌++◌, length, take, drop, Option, Some, slice_get, length-drop, refl, sym, ◌∙◌, ap, arith}
+use Rattle.std.proofs.Common.{ℕ, suc, zero, ◌≡◌, ◌-◌, ◌<◌, nat_lt, Bool, true, false, cond, List, [], ◌∷◌, ◌++◌, length, take, drop, Option, Some, slice_get, length-drop, refl, sym, ◌∙◌, ap, arith}
 use Rattle.std.specs.List.{list_any, remove}
 use Rattle.std.specs.Option.{option_or}
 use Rattle.std.proofs.lemmas.Bool.Decides.{nat_tests}
@@ -11,10 +11,6 @@ use Rattle.chorus_groups.specs.Choosing.{is_on, first_at}
 
 pub wrapped-position : (n i : ℕ) → IsPosition (wrapped n i) n
 wrapped-position n i = grind (arith, nat_tests)
-
-index_test : (b : Bool) (k n : ℕ) (c : Bool) → c ≡ nat_lt k n → cond b true c ≡ nat_lt (cond b 0 (k + 1)) (n + 1)
-index_test true k n c e = grind (arith, nat_tests)
-index_test false k n c e = grind (arith, nat_tests)
 
 -- a port is in a list where its place is one of the list's
 pub is_member-index : (q : Ui) (qs : List Ui) → is_member q qs ≡ nat_lt (index_of q qs) (length qs)

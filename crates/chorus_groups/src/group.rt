@@ -63,7 +63,6 @@ impl Group {
     }
 
     /// The port joins, as the last member.
-    #[tactic(auto, using(crate::proofs::GroupLemmas::joined_is_group))]
     pub(crate) fn join(&mut self, port: Ui) -> Result<(), JoinFault>
         ensures answer { result ≡ unless (refuses_join port self.old) }
         ensures after { self.new ≡ after (refuses_join port self.old) (joined port) self.old }
@@ -79,7 +78,7 @@ impl Group {
     }
 
     /// The port leaves: the members behind it close up, and the rotation place moves one back where the port was before it.
-    #[tactic(auto, using(crate::proofs::GroupLemmas::left_is_group, crate::proofs::GroupLemmas::leaves, crate::proofs::GroupLemmas::not_there))]
+    #[tactic(auto, using(crate::proofs::GroupLemmas::leaves, crate::proofs::GroupLemmas::not_there))]
     pub(crate) fn leave(&mut self, port: Ui) -> Result<(), LeaveFault>
         ensures answer { result ≡ unless (refuses_leave port self.old) }
         ensures after { self.new ≡ after (refuses_leave port self.old) (left port) self.old }

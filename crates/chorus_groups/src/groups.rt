@@ -156,7 +156,6 @@ impl Groups {
     }
 
     /// The group; None exactly where it is not made.
-    #[tactic(auto, using(crate::proofs::TableLemmas::found))]
     fn get(&self, group: Ui) -> Option<&Group>
         ensures { option_copied result ≡ group_of group self.now.groups }
     {

@@ -1,10 +1,11 @@
 -- What a lesson, and so a list of them, leaves of the pair of each port.
-use Rattle.std.proofs.Common.{◌≡◌, ℕ, ◌<◌, ◌≤◌, nat_lt, Bool, true, false, ◌&&◌, if◌then◌else◌, Option, Some, List, [], ◌∷◌, ◌++◌, refl, sym, ◌∙◌, ap, arith}
+use Rattle.std.proofs.Common.{◌≡◌, ℕ, ◌<◌, ◌≤◌, nat_lt, Bool, true, false, ◌&&◌, if◌then◌else◌, Option, Some, None, List, [], ◌∷◌, ◌++◌, refl, sym, ◌∙◌, ap, arith}
 use Rattle.std.proofs.lemmas.Bool.Decides.{nat_tests}
+use Rattle.chorus_ui.specs.declared.layout.Layout.{Layout}
 use Rattle.chorus_ui.specs.declared.ui.Ui.{Ui}
 use Rattle.chorus_ui.specs.Name.{same_ui}
 use Rattle.chorus_ui.proofs.Names.{from_same_ui, same_ui-self}
-use Rattle.chorus_hints.specs.Known.{hop_of, learned}
+use Rattle.chorus_hints.specs.Known.{newest_of, hop_of, learned}
 use Rattle.chorus_hints.specs.Lessons.{Lesson, after}
 
 -- the pair of a port after a lesson, by whether the lesson is farther and of this port
@@ -50,3 +51,24 @@ first_stays pairs (l ∷ ls) q e =
     let on = never_falls (learned l.port l.place l.hop pairs) ls q in
     let same : hop_of (learned l.port l.place l.hop pairs q) ≡ hop_of (pairs q) = omega (arith, e, on, one.rises) in
     first_stays (learned l.port l.place l.hop pairs) ls q (e ∙ sym same) ∙ one.first same
+
+second-newest_of : (layout : Layout) (q : Ui) (o : Option (ℕ × ℕ)) → hop_of o ≡ (newest_of layout q o).1
+second-newest_of layout q None = refl
+second-newest_of layout q (Some pair) = refl
+
+-- the newest place of a port after a lesson: that of the lesson, where it is of this port and its hop is greater
+pub newest-learned : (layout : Layout) (port : Ui) (place hop : ℕ) (pairs : Ui → Option (ℕ × ℕ)) (q : Ui) → newest_of layout q (learned port place hop pairs q) ≡ (if same_ui port q && nat_lt (newest_of layout q (pairs q)).1 hop then (place, hop) else newest_of layout q (pairs q))
+newest-learned layout port place hop pairs q = by (nat_lt (hop_of (pairs port)) hop) (same_ui port q) refl refl
+  where
+    choice : (b t : Bool) → t ≡ b → newest_of layout q (if b && true then Some (place, hop) else pairs q) ≡ (if true && t then (place, hop) else newest_of layout q (pairs q))
+    choice true true e = refl
+    choice true false e = absurd (cc)
+    choice false true e = absurd (cc)
+    choice false false e = refl
+
+    by : (b s : Bool) → nat_lt (hop_of (pairs port)) hop ≡ b → same_ui port q ≡ s → newest_of layout q (if b && s then Some (place, hop) else pairs q) ≡ (if s && nat_lt (newest_of layout q (pairs q)).1 hop then (place, hop) else newest_of layout q (pairs q))
+    by b true eb es =
+        choice b _
+        (ap (λ n. nat_lt n hop) (sym (second-newest_of layout q (pairs q)) ∙ ap (λ u. hop_of (pairs u)) (sym (from_same_ui port q es))) ∙ eb)
+    by true false eb es = refl
+    by false false eb es = refl

@@ -1,10 +1,9 @@
 -- What is kept of each client after a request of one is remembered.
-use Rattle.std.proofs.Common.{◌≡◌, ℕ, Bool, true, false, not, cond, ◌==◌, if◌then◌else◌, Option, Some, None, is_some, List, [], ◌∷◌, ◌++◌, refl, sym, ◌∙◌, ap, arith}
+use Rattle.std.proofs.Common.{◌≡◌, ℕ, Bool, true, false, cond, ◌==◌, if◌then◌else◌, Option, Some, None, is_some, List, [], ◌∷◌, ◌++◌, refl, sym, ◌∙◌, ap, arith}
 use Rattle.std.specs.Option.{option_map, option_or}
 use Rattle.std.proofs.lemmas.Bool.{eqb-true, eq-eqb}
-use Rattle.chorus_entry.specs.ClientTable.{number_of, renumbered, with_number}
+use Rattle.chorus_entry.specs.ClientTable.{number_of, with_number}
 use Rattle.chorus_ports.specs.Deciding.{with_client}
-use Rattle.chorus_ports.proofs.Tables.{none_of}
 
 -- of a client that gets another number
 number_of-with_number : (clients : List (ℕ × ℕ)) (client number other : ℕ) → number_of (with_number clients client number) other ≡ cond (client == other) (option_map (λ n. number) (number_of clients other)) (number_of clients other)

@@ -1,5 +1,5 @@
 -- The calls of the schedule's steps, and those that are left, with one step or one script more.
-use Rattle.std.proofs.Common.{ℕ, zero, suc, ◌≡◌, ◌<◌, ◌≤◌, ◌==◌, ◌+◌, ◌-◌, nat_le, nat_lt, Bool, true, false, ◌&&◌, cond, List, [], ◌∷◌, ◌++◌, length, map, take, drop, get_or, set, slice_index, count_by, option_to_list, slice_get, refl, sym, ◌∙◌, ap, subst, append_assoc, append-nil, arith}
+use Rattle.std.proofs.Common.{ℕ, zero, suc, ◌≡◌, ◌<◌, ◌≤◌, ◌==◌, ◌+◌, ◌-◌, nat_le, nat_lt, Bool, true, false, ◌&&◌, cond, List, [], ◌∷◌, ◌++◌, length, map, take, drop, get_or, set, slice_index, count_by, option_to_list, refl, sym, ◌∙◌, ap, subst, append_assoc, append-nil, arith}
 use Rattle.std.specs.Option.{option_map}
 use Rattle.std.proofs.lemmas.Bool.{and_parts, eqb-true, eq-eqb, ltb-true, leb-true, false≢true}
 use Rattle.std.proofs.lemmas.Grind.{get_or-set_at}
@@ -20,7 +20,7 @@ use Rattle.chorus_run.specs.Calls.{AreNext, event_of, events_of}
 
 -- One step more.
 
-pub scheduled-more : (scripts : List Script) (before done : List step.Step) (s : step.Step)
+scheduled-more : (scripts : List Script) (before done : List step.Step) (s : step.Step)
     → in_schedule scripts before (done ++ s ∷ []) ≡ in_schedule scripts before done ++ performed scripts (before ++ done) s
 scheduled-more scripts before [] s =
     append-nil (performed scripts before s) ∙ ap (λ b. performed scripts b s) (sym (append-nil before))
@@ -39,10 +39,10 @@ count-more p before s b e =
     plus : (n : ℕ) → 0 + n ≡ n
     plus n = omega arith
 
-pub counts-it : (k : ℕ) (before : List step.Step) (s : step.Step) → is_step k s ≡ true → count_by (is_step k) (before ++ s ∷ []) ≡ count_by (is_step k) before + 1
+counts-it : (k : ℕ) (before : List step.Step) (s : step.Step) → is_step k s ≡ true → count_by (is_step k) (before ++ s ∷ []) ≡ count_by (is_step k) before + 1
 counts-it k before s e = count-more (is_step k) before s true e
 
-pub counts-none : (k : ℕ) (before : List step.Step) (s : step.Step) → is_step k s ≡ false → count_by (is_step k) (before ++ s ∷ []) ≡ count_by (is_step k) before
+counts-none : (k : ℕ) (before : List step.Step) (s : step.Step) → is_step k s ≡ false → count_by (is_step k) (before ++ s ∷ []) ≡ count_by (is_step k) before
 counts-none k before s e = count-more (is_step k) before s false e ∙ less (count_by (is_step k) before)
   where
     less : (n : ℕ) → n + 0 ≡ n
@@ -86,7 +86,7 @@ has-next c keeps items i k d same lt is =
     ∙ keeps-at c.layout c.sites c.scripts [] c.schedule i d within keeps.schedule)
 
 -- such a step performs that command of it
-pub performs-next : (scripts : List Script) (before : List step.Step) (k : ℕ) (d : Command) → HasNext scripts before k
+performs-next : (scripts : List Script) (before : List step.Step) (k : ℕ) (d : Command) → HasNext scripts before k
     → performed scripts before (steps.Step k) ≡ Act k (get_or (script_at k scripts).commands (count_by (is_step k) before) d) ∷ []
 performs-next scripts before k d has =
     ap (λ o. option_to_list (option_map (Act k) o)) (slice_get-get_or (script_at k scripts).commands (count_by (is_step k) before) d has.left)
@@ -122,12 +122,12 @@ module _ (l : Shape) (n : ℕ) (scripts : List Script) (k : ℕ) where
       let parts = and_parts (step_keeps l n scripts before s) (schedule_keeps l n scripts later rest) h in
       subst Within (append_assoc before (s ∷ []) rest) (all-within later rest parts.1 (more-within before s parts.0 w))
 
-pub counts-within : (c : Scene) → Keeps c → (k : ℕ) → count_by (is_step k) c.schedule ≤ length (script_at k c.scripts).commands
+counts-within : (c : Scene) → Keeps c → (k : ℕ) → count_by (is_step k) c.schedule ≤ length (script_at k c.scripts).commands
 counts-within c keeps k = all-within c.layout c.sites c.scripts k [] c.schedule keeps.schedule (omega arith)
 
 -- One script more.
 
-pub left-more : (schedule : List step.Step) (j k : ℕ) (done : List Script) (script : Script) → k ≡ j + length done
+left-more : (schedule : List step.Step) (j k : ℕ) (done : List Script) (script : Script) → k ≡ j + length done
     → left_from schedule j (done ++ script ∷ []) ≡ left_from schedule j done ++ map (Act k) (drop (count_by (is_step k) schedule) script.commands)
 left-more schedule j k [] script e =
     let acts : ℕ → List Event = λ m. map (Act m) (drop (count_by (is_step m) schedule) script.commands) in
@@ -145,10 +145,10 @@ left-more schedule j k (first ∷ done) script e =
 -- The numbers of the next commands.
 
 module _ (scripts : List Script) (before : List step.Step) (next : List ℕ) (are : AreNext scripts before next) (k : ℕ) (has : HasNext scripts before k) where
-  pub next-within : k - 1 < length next
+  next-within : k - 1 < length next
   next-within = omega (arith, has.low, has.high, are.len)
 
-  pub next-is : (r : ℕ) → r ≡ get_or next (k - 1) r → r ≡ count_by (is_step k) before
+  next-is : (r : ℕ) → r ≡ get_or next (k - 1) r → r ≡ count_by (is_step k) before
   next-is r is =
       get_or_read next (k - 1) r next-within is 0
       ∙ (are.counts (k - 1) (omega (arith, has.low, has.high))
@@ -195,7 +195,7 @@ module _ (scripts : List Script) (before : List step.Step) (next : List ℕ) (ar
 
 -- The calls and the numbers behind a step more.
 
-pub call-pushed : (old new : List Call) (call : Call) → new ≡ old ++ call ∷ [] → events_of new ≡ events_of old ++ event_of call ∷ []
+call-pushed : (old new : List Call) (call : Call) → new ≡ old ++ call ∷ [] → events_of new ≡ events_of old ++ event_of call ∷ []
 call-pushed old new call e = ap events_of e ∙ map-append event_of old (call ∷ [])
 
 pub record Done (scripts : List Script) (done : List step.Step) (calls : List Call) (next : List ℕ) : Type 0 where
@@ -217,12 +217,12 @@ done-step scripts before s old new next k command call so is pushed acts perform
     subst (λ x. Done scripts (before ++ x ∷ []) new next) (sym is)
     (record {
       events =
-        call-pushed old new call pushed
-        ∙ (ap (λ e. events_of old ++ e ∷ []) acts
-        ∙ (ap (λ es. es ++ Act k command ∷ []) so
-        ∙ (ap (λ es. in_schedule scripts [] before ++ es) (sym performs)
-        ∙ sym (scheduled-more scripts [] before (steps.Step k)))));
-      are = are
+          call-pushed old new call pushed
+          ∙ (ap (λ e. events_of old ++ e ∷ []) acts
+          ∙ (ap (λ es. es ++ Act k command ∷ []) so
+          ∙ (ap (λ es. in_schedule scripts [] before ++ es) (sym performs)
+          ∙ sym (scheduled-more scripts [] before (steps.Step k)))));
+      are = are;
     })
 
 -- a step that is none of a script changes nothing
@@ -242,11 +242,11 @@ pub done-idle : (scripts : List Script) (before : List step.Step) (s : step.Step
 done-idle scripts before s calls next so are never =
     record {
       events =
-        so
-        ∙ (sym (append-nil (in_schedule scripts [] before))
-        ∙ (ap (λ es. in_schedule scripts [] before ++ es) (sym (performs-none scripts before s never))
-        ∙ sym (scheduled-more scripts [] before s)));
-      are = record { len = are.len; counts = λ j lt. are.counts j lt ∙ sym (counts-none (j + 1) before s (none-of s never (j + 1))) }
+          so
+          ∙ (sym (append-nil (in_schedule scripts [] before))
+          ∙ (ap (λ es. in_schedule scripts [] before ++ es) (sym (performs-none scripts before s never))
+          ∙ sym (scheduled-more scripts [] before s)));
+      are = record { len = are.len; counts = λ j lt. are.counts j lt ∙ sym (counts-none (j + 1) before s (none-of s never (j + 1))) };
     }
 
 -- The commands that are left of the script at i.

@@ -19,10 +19,7 @@ pub(crate) struct Call<'a> {
 
 /// The calls of the scripts: those of the schedule's steps, in their order, and then the commands that are left, script by
 /// script.
-pub(crate) fn calls<'a>(
-    alloc: Global,
-    scenario: &'a Scenario,
-) -> Result<Vec<Call<'a>>, AllocError>
+pub(crate) fn calls<'a>(alloc: Global, scenario: &'a Scenario) -> Result<Vec<Call<'a>>, AllocError>
     requires { Keeps scenario.now }
     ensures { IfOk result (λ calls. events_of calls.items ≡ in_schedule scenario.now.scripts [] scenario.now.schedule ++ left_from scenario.now.schedule 1 scenario.now.scripts) }
 {

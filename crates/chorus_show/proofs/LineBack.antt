@@ -26,7 +26,7 @@ use Rattle.chorus_entry.specs.declared.message.Message.{Message}
 use Rattle.chorus_entry.specs.declared.act.Act.{Act}
 use Rattle.chorus_entry.specs.declared.act.Act.TheVariants.{Make, MakeFull, NoActor, NoSite, Post, Accept, Full, Already, ClientsFull, Stale, Early, NoPort, Elsewhere, NoMember, Choose, Try, Told, Heard, Take, Done, Late, Empty, NotHere, Rehome, Depart, Arrive, GroupMake, GroupsFull, Join, Leave, NoGroup, There, NotThere, MembersFull, Outstanding, NoCall, NoRequest, Cancel, Delete, Gone}
 use Rattle.chorus_entry.specs.declared.entry.Entry.{Entry}
-use Rattle.chorus_show.specs.Phrases.{spaced, phrase, id_text, is_plain, hex_digit, byte_text, body_text}
+use Rattle.chorus_show.specs.Phrases.{spaced, phrase, id_text, stands_for_itself, hex_digit, byte_text, escaped_body}
 use Rattle.chorus_show.specs.Lines.{dest_text, tag_text, answer_text, act_text}
 use Rattle.chorus_show.specs.Law.{Is8, Is16, Is32, Is64, IsId, AreNames, AreIds, AreBytes, IsDest, IsTag, IsMessage, IsAnswer, IsAct, IsEntry, LinesTellEntries}
 use Rattle.chorus_show.proofs.ReadBack.{parts, word_at, number_in, name_in, id_in, digit_in, unescape, body_in, dest_in, behind_dest, tag_in, behind_tag, answer_in, act_in, entry_in}
@@ -178,13 +178,13 @@ ids_back (x ∷ xs) h = λ i. id_back x h.0 i ∷ ids_back xs h.1 i
 digit_back : (d : ℕ) → d < 16 → digit_in (hex_digit d) ≡ d
 digit_back d h = grind (arith, nat_tests)
 
-plain_is_no_escape : (c : ℕ) → is_plain c ≡ true → (c == 37) ≡ false
+plain_is_no_escape : (c : ℕ) → stands_for_itself c ≡ true → (c == 37) ≡ false
 plain_is_no_escape c h = grind (arith, nat_tests)
 
 byte_back : (c : ℕ) (cs : List ℕ) → Is8 c → unescape None (byte_text c ++ cs) ≡ c ∷ unescape None cs
-byte_back c cs h = by (is_plain c) refl
+byte_back c cs h = by (stands_for_itself c) refl
   where
-    by : (b : Bool) → is_plain c ≡ b → unescape None ((if b then c ∷ [] else 37 ∷ hex_digit (c / 16) ∷ hex_digit (c % 16) ∷ []) ++ cs) ≡ c ∷ unescape None cs
+    by : (b : Bool) → stands_for_itself c ≡ b → unescape None ((if b then c ∷ [] else 37 ∷ hex_digit (c / 16) ∷ hex_digit (c % 16) ∷ []) ++ cs) ≡ c ∷ unescape None cs
     by true e = rw (plain_is_no_escape c e) refl
     by false e =
         let whole : digit_in (hex_digit (c / 16)) * 16 + digit_in (hex_digit (c % 16)) ≡ c = omega (arith, digit_back (c / 16) (omega arith), digit_back (c % 16) (omega arith)) in
@@ -240,7 +240,7 @@ module _ (more : List ℕ) where
 
 module _ (m : Message) (d : Dest) (hm : IsMessage m) (hd : IsDest d) where
   body : List ℕ
-  body = body_text m.body ++ []
+  body = escaped_body m.body ++ []
 
   behind_id : List ℕ
   behind_id = dest_text d ++ 32 ∷ (tag_text m.tag ++ 32 ∷ body)
@@ -251,7 +251,7 @@ module _ (m : Message) (d : Dest) (hm : IsMessage m) (hd : IsDest d) where
 
   body_back : body_in (join_with_byte 32 (parts 32 body)) ≡ m.body
   unfolding body
-  body_back = ap body_in (join_with_byte-slice_split 32 body ∙ append-nil (body_text m.body)) ∙ bytes_back m.body hm.body
+  body_back = ap body_in (join_with_byte-slice_split 32 body ∙ append-nil (escaped_body m.body)) ∙ bytes_back m.body hm.body
 
   dest_gone : behind_dest (parts 32 behind_id) ≡ parts 32 (tag_text m.tag ++ 32 ∷ body)
   unfolding behind_id

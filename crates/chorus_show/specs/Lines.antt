@@ -10,7 +10,7 @@ use Rattle.chorus_entry.specs.declared.answer.Answer.{Answer}
 use Rattle.chorus_entry.specs.declared.answer.Answer.TheVariants as A
 use Rattle.chorus_entry.specs.declared.act.Act.{Act}
 use Rattle.chorus_entry.specs.declared.act.Act.TheVariants.{Make, MakeFull, NoActor, NoSite, Post, Accept, Full, Already, ClientsFull, Stale, Early, NoPort, Elsewhere, NoMember, Choose, Try, Told, Heard, Take, Done, Late, Empty, NotHere, Rehome, Depart, Arrive, GroupMake, GroupsFull, Join, Leave, NoGroup, There, NotThere, MembersFull, Outstanding, NoCall, NoRequest, Cancel, Delete, Gone}
-use Rattle.chorus_show.specs.Phrases.{phrase, id_text, body_text}
+use Rattle.chorus_show.specs.Phrases.{phrase, id_text, escaped_body}
 
 abbrev pub dest_text : Dest → List ℕ
 dest_text (D.Port q) = phrase (codes "port") (name_text q ∷ [])
@@ -41,7 +41,7 @@ act_text (Make q a n) = phrase (codes "make") (name_text q ∷ name_text a ∷ d
 act_text (MakeFull a) = phrase (codes "make-full") (name_text a ∷ [])
 act_text (NoActor a) = phrase (codes "no-actor") (name_text a ∷ [])
 act_text (NoSite site) = phrase (codes "no-site") (decimal site ∷ [])
-act_text (Post m d) = phrase (codes "post") (id_text m.id ∷ dest_text d ∷ tag_text m.tag ∷ body_text m.body ∷ [])
+act_text (Post m d) = phrase (codes "post") (id_text m.id ∷ dest_text d ∷ tag_text m.tag ∷ escaped_body m.body ∷ [])
 act_text (Accept x q pos) = phrase (codes "accept") (id_text x ∷ name_text q ∷ decimal pos ∷ [])
 act_text (Full x q len) = phrase (codes "full") (id_text x ∷ name_text q ∷ decimal len ∷ [])
 act_text (Already x q) = phrase (codes "already") (id_text x ∷ name_text q ∷ [])

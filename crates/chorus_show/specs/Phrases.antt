@@ -16,8 +16,8 @@ abbrev pub id_text : MsgId → List ℕ
 id_text x = decimal x.seat ++ 58 ∷ decimal x.number ++ 58 ∷ decimal x.copy
 
 -- a byte that stands for itself: 0x20 to 0x7E, but for `%`
-abbrev pub is_plain : ℕ → Bool
-is_plain c = nat_le 32 c && nat_le c 126 && not (c == 37)
+abbrev pub stands_for_itself : ℕ → Bool
+stands_for_itself c = nat_le 32 c && nat_le c 126 && not (c == 37)
 
 -- a hexadecimal digit, in lower case
 abbrev pub hex_digit : ℕ → ℕ
@@ -25,8 +25,8 @@ hex_digit d = if nat_lt d 10 then 48 + d else 87 + d
 
 -- any other byte is `%` and two digits
 abbrev pub byte_text : ℕ → List ℕ
-byte_text c = if is_plain c then c ∷ [] else 37 ∷ hex_digit (c / 16) ∷ hex_digit (c % 16) ∷ []
+byte_text c = if stands_for_itself c then c ∷ [] else 37 ∷ hex_digit (c / 16) ∷ hex_digit (c % 16) ∷ []
 
 -- `=BODY`
-abbrev pub body_text : List ℕ → List ℕ
-body_text bytes = 61 ∷ flat_map byte_text bytes
+abbrev pub escaped_body : List ℕ → List ℕ
+escaped_body bytes = 61 ∷ flat_map byte_text bytes

@@ -83,9 +83,9 @@ impl Field for MsgId {
 }
 
 impl Field for Body {
-    ghost use Rattle.chorus_show.specs.Phrases.{body_text};
+    ghost use Rattle.chorus_show.specs.Phrases.{escaped_body};
 
-    ghost text = { body_text };
+    ghost text = { escaped_body };
 
     fn push(&self, out: &mut Vec<u8>) -> Result<(), AllocError> {
         out.push(b'=')?;

@@ -2,7 +2,8 @@
 
 ghost use Rattle.chorus_show.specs.Law.{LinesTellEntries};
 
-/// The law that a line has one entry: two entries whose numbers are within their types, and whose lines are equal, are equal.
+/// The law that a line has one entry: two entries whose numbers are within their types, whose names are names, and whose
+/// lines are equal, are equal. The law makes no call.
 pub fn a_line_has_one_entry()
     ensures { LinesTellEntries }
 {}

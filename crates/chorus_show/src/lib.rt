@@ -1,4 +1,4 @@
-//! The texts that are written: the journal, its summary, and the line of a fault.
+//! The texts that are written: the journal, its summary, and the line of a fault. They are this project's own.
 //!
 //! Each text has one definition, `specs/Lines.antt` for the forty lines of a journal above all, and the calls here append
 //! exactly its bytes, or nothing where there is no memory. The program prints with these calls, and the reader of a printed

@@ -23,7 +23,7 @@ pub enum Status {
     WriteFault,
     /// There was no memory.
     Memory,
-    /// A place's clock came to its limit, 2^62.
+    /// A place's clock came to its limit, 2^62. `clock` is that of an entry at or above it.
     Worn { clock: u64 },
 }
 

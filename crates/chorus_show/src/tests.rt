@@ -288,7 +288,7 @@ fn port(number: u64) -> Result<Ui, Fail> {
 }
 
 /// Port 1 moves with two messages. Port 2 is held, and more was taken than accepted. Port 3 came back and holds one. Port 4 is
-/// deleted, with two discarded. Port 5 was never made.
+/// deleted, with two discarded, and port 6, with none. Port 5 was never made.
 #[test]
 fn summaries_count_where_ports_are(rt: HostRuntime) -> Result<(), Fail> {
     let things = named_things(rt.alloc())?;
@@ -303,10 +303,22 @@ fn summaries_count_where_ports_are(rt: HostRuntime) -> Result<(), Fail> {
         4,
     );
     let (one, two, three, four, five) = (port(1)?, port(2)?, port(3)?, port(4)?, port(5)?);
+    let six = port(6)?;
+    let message = Message {
+        id,
+        tag: Tag::Plain,
+        body: Body::new(alloc, b"")?,
+    };
+    let tried = 0;
+    let none = Ids::of(alloc, &[])?;
     let discarded = Ids::of(alloc, &[id, id])?;
     let acts = Vec::from_array(
         alloc,
         [
+            Act::Post {
+                message,
+                dest: Dest::Port(one),
+            },
             Act::Make {
                 port: one,
                 actor,
@@ -355,6 +367,24 @@ fn summaries_count_where_ports_are(rt: HostRuntime) -> Result<(), Fail> {
                 discarded,
             },
             Act::Gone { id, port: four },
+            Act::Delete {
+                port: six,
+                discarded: none,
+            },
+            Act::Stale {
+                id,
+                port: six,
+                tried,
+                to,
+                hop,
+            },
+            Act::Stale {
+                id,
+                port: one,
+                tried,
+                to,
+                hop,
+            },
             Act::Accept {
                 id,
                 port: five,
@@ -367,7 +397,24 @@ fn summaries_count_where_ports_are(rt: HostRuntime) -> Result<(), Fail> {
     summary_text(&entries, &mut out)?;
     assert_eq!(rt;
         out.as_slice(),
-        b"> summary\nposted 0\naccepted 7\ntaken 3\nqueued 1\nmoving 2\ndiscarded 2\nrefused 2\nstale 0\ndeparts 2\nend\n".as_slice()
+        b"> summary\nposted 1\naccepted 7\ntaken 3\nqueued 1\nmoving 2\ndiscarded 2\nrefused 2\nstale 2\ndeparts 2\nend\n".as_slice()
+    );
+    Ok(())
+}
+
+#[test]
+fn deletes_without_ids_have_their_line(rt: HostRuntime) -> Result<(), Fail> {
+    let discarded = Ids::of(rt.alloc(), &[])?;
+    let delete = Act::Delete {
+        port: port(6)?,
+        discarded,
+    };
+    let entries = entries_of(rt.alloc(), Vec::from_array(rt.alloc(), [delete])?)?;
+    let mut out = Vec::new(rt.alloc());
+    summary_text(&entries, &mut out)?;
+    assert_eq!(rt;
+        out.as_slice(),
+        b"summary\nposted 0\naccepted 0\ntaken 0\nqueued 0\nmoving 0\ndiscarded 0\nrefused 0\nstale 0\ndeparts 0\nend\n".as_slice()
     );
     Ok(())
 }

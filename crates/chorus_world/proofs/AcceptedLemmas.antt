@@ -1,5 +1,5 @@
 -- What is so of each message that a port accepted, in every legal past.
-use Rattle.std.proofs.Common.{ℕ, ◌≡◌, ◌≢◌, ◌+◌, ◌<◌, ◌≤◌, suc, zero, Bool, true, false, ◌⊎◌, cond, List, [], ◌∷◌, ◌++◌, length, Option, Some, None, refl, sym, ◌∙◌, ap, subst, arith, inl, inr}
+use Rattle.std.proofs.Common.{ℕ, ◌≡◌, ◌<◌, suc, zero, Bool, true, false, ◌⊎◌, cond, List, [], ◌∷◌, ◌++◌, length, Option, Some, None, refl, sym, ◌∙◌, ap, subst, arith, inl, inr}
 use Rattle.std.specs.List.{slice_get}
 use Rattle.std.specs.Option.{option_or}
 use Rattle.std.proofs.lemmas.Bool.{cases_Bool}
@@ -11,23 +11,23 @@ use Rattle.chorus_entry.specs.declared.id.MsgId.{MsgId}
 use Rattle.chorus_entry.specs.declared.answer.Answer.{Answer}
 use Rattle.chorus_entry.specs.declared.answer.Answer.TheVariants as A
 use Rattle.chorus_entry.specs.declared.act.Act.{Act}
-use Rattle.chorus_entry.specs.declared.act.Act.TheVariants.{Make, Accept, Take, Rehome, Depart, Arrive, Delete}
+use Rattle.chorus_entry.specs.declared.act.Act.TheVariants.{Make, Accept}
 use Rattle.chorus_entry.specs.Act.{held_port_of}
 use Rattle.chorus_entry.proofs.Same.{same_id-self}
 use Rattle.chorus_world.specs.declared.place.Sent.{Sent}
 use Rattle.chorus_world.specs.declared.message.Progress.TheVariants.{Tried}
 use Rattle.chorus_world.specs.Views.{views, is_about, is_on, at, on, about}
 use Rattle.chorus_world.specs.Ports.{Fate, fate, fate_after}
-use Rattle.chorus_world.specs.Messages.{progress, verdict, verdict_by}
+use Rattle.chorus_world.specs.Messages.{verdict, verdict_by}
 use Rattle.chorus_world.specs.Places.{is_settled}
 use Rattle.chorus_world.specs.Posts.{Posted, post_of}
 use Rattle.chorus_world.specs.Steps.{act_may, is_legal}
 use Rattle.chorus_world.specs.AcceptedLaws.{accepted_by, accepted_from}
 use Rattle.chorus_world.proofs.LegalLemmas.{entry, legal_parts, on_is, skips, keeps}
 use Rattle.chorus_world.proofs.LineLemmas.{none_some}
-use Rattle.chorus_world.proofs.SendingLemmas.{sent_as, IsAhead, FirstHere, first_here, sent_stays, ahead_stays, some_is}
-use Rattle.chorus_world.proofs.StageLemmas.{IsUnderWay, IsOpen, Stage, HasOrigin, MessageFacts, first_is_idle}
-use Rattle.chorus_world.proofs.DueLemmas.{IsDue, IsTriedAt, due_accept}
+use Rattle.chorus_world.proofs.SendingLemmas.{sent_as, IsAhead, first_here, sent_stays, ahead_stays}
+use Rattle.chorus_world.proofs.StageLemmas.{IsOpen, Stage, MessageFacts, first_is_idle}
+use Rattle.chorus_world.proofs.DueLemmas.{IsDue, due_accept}
 use Rattle.chorus_world.proofs.MessageInvariant.{legal_messages}
 
 -- A list with one more at its end.

@@ -1,6 +1,6 @@
 -- What was posted can be read from a table that stands for the whole list: of any past of it, and of the sorted list, it
 -- says the same.
-use Rattle.std.proofs.Common.{ℕ, ◌≡◌, ◌+◌, ◌⊎◌, inl, inr, max, Bool, true, false, ◌==◌, ◌&&◌, not, cond, List, [], ◌∷◌, ◌++◌, Option, Some, None, refl, sym, ◌∙◌, ap, subst, append_assoc, append-nil}
+use Rattle.std.proofs.Common.{ℕ, ◌≡◌, ◌⊎◌, inl, inr, Bool, true, false, cond, List, [], ◌∷◌, ◌++◌, Option, Some, None, refl, sym, ◌∙◌, ap, subst, append_assoc, append-nil}
 use Rattle.std.specs.List.{filter}
 use Rattle.std.specs.Option.{option_or}
 use Rattle.std.proofs.lemmas.Bool.{false≢true, true≢false}
@@ -9,17 +9,16 @@ use Rattle.chorus_entry.specs.declared.entry.Entry.{Entry}
 use Rattle.chorus_entry.specs.declared.id.MsgId.{MsgId}
 use Rattle.chorus_entry.specs.declared.hand.Hand.{Hand}
 use Rattle.chorus_entry.specs.declared.act.Act.{Act}
-use Rattle.chorus_entry.specs.declared.act.Act.TheVariants.{Post, Accept, NoMember, Choose, Take}
+use Rattle.chorus_entry.specs.declared.act.Act.TheVariants.{Post, Accept, Take}
 use Rattle.chorus_entry.specs.MsgId.{same_id}
 use Rattle.chorus_entry.proofs.Same.{from_same_id}
-use Rattle.chorus_world.specs.declared.place.TakenReply.{TakenReply}
 use Rattle.chorus_world.specs.Views.{at, by, is_at, is_by, are_same}
 use Rattle.chorus_world.specs.Posts.{Posted, post_of, posted_in, posted_by, source, tag_of, tag_from, site_asked, site_from}
 use Rattle.chorus_world.specs.Clients.{kept, kept_after, kept_with, clients, clients_after, clients_with, is_already, finds_clients_full, is_old, is_one_too_many}
 use Rattle.chorus_world.specs.Places.{just_taken, reply_taken_by, reply_taken}
 use Rattle.chorus_world.specs.Groups.{posts_to, post_to, is_next_to, first_unchosen, is_chosen}
 use Rattle.chorus_world.specs.Seats.{hand, hand_after, hand_with}
-use Rattle.chorus_world.specs.Order.{IsCausal, sort}
+use Rattle.chorus_world.specs.Order.{sort}
 use Rattle.chorus_world.proofs.GroupLemmas.{first_unchosen_append}
 use Rattle.chorus_world.proofs.Exchange.{IsChain, IsChained, filter_sort, at_chain, by_chain}
 use Rattle.chorus_world.proofs.MessageSteps.{IsAmong}

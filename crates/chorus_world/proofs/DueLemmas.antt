@@ -1,26 +1,24 @@
 -- What an act about a message needs of it: that it was tried here or waits here first, or how far it is.
-use Rattle.std.proofs.Common.{ℕ, ◌≡◌, ◌+◌, ◌<◌, ◌≤◌, ◌==◌, Bool, true, false, ◌&&◌, ◌||◌, ◌⊎◌, not, cond, List, [], ◌∷◌, length, nat_lt, nat_le, Option, Some, None, is_some, is_none, eqb, refl, sym, ◌∙◌, ap, subst, arith, inl, inr}
-use Rattle.std.proofs.lemmas.Bool.{and_parts, eqb-true, false≢true, cases_Bool, or_cases, not-true}
+use Rattle.std.proofs.Common.{ℕ, ◌≡◌, ◌==◌, Bool, true, false, ◌&&◌, ◌⊎◌, not, cond, List, nat_lt, is_some, is_none, refl, sym, ◌∙◌, ap, subst, inl, inr}
+use Rattle.std.proofs.lemmas.Bool.{and_parts, eqb-true, false≢true, or_cases, not-true}
 use Rattle.chorus_ui.specs.declared.ui.Ui.{Ui}
 use Rattle.chorus_ui.specs.declared.layout.Layout.{Layout}
 use Rattle.chorus_ui.specs.Name.{same_ui}
 use Rattle.chorus_ui.proofs.Names.{from_same_ui}
 use Rattle.chorus_entry.specs.declared.entry.Entry.{Entry}
 use Rattle.chorus_entry.specs.declared.id.MsgId.{MsgId}
-use Rattle.chorus_entry.specs.declared.act.Act.{Act}
 use Rattle.chorus_entry.specs.declared.act.Act.TheVariants.{Accept, Full, Already, ClientsFull, Stale, Early, NoPort, Elsewhere, Try, Gone}
 use Rattle.chorus_world.specs.declared.message.Progress.{Progress}
 use Rattle.chorus_world.specs.declared.message.Progress.TheVariants.{Idle, Asked, Tried, Decided, Settled, Reported}
 use Rattle.chorus_world.specs.declared.step.Due.{Due}
 use Rattle.chorus_world.specs.declared.step.Due.TheVariants.{NotDue, ByTry, AtHome}
-use Rattle.chorus_world.specs.declared.place.Location.{Location}
 use Rattle.chorus_world.specs.Views.{Views, views, at, about}
 use Rattle.chorus_world.specs.Ports.{fate, is_made, is_held_at, is_ended_at, is_coming, has_room, is_full}
 use Rattle.chorus_world.specs.Posts.{site_asked, is_on_site}
 use Rattle.chorus_world.specs.Clients.{is_already, finds_clients_full}
 use Rattle.chorus_world.specs.Messages.{progress}
 use Rattle.chorus_world.specs.Places.{is_first, located, is_location}
-use Rattle.chorus_world.specs.Steps.{act_may, is_beyond, suits, is_to_go, due_at_home, due_by_try, due, is_due_with, is_due, is_tried_with, meets, may_enter, may_accept, may_find_full, may_be_stale, is_early, is_elsewhere}
+use Rattle.chorus_world.specs.Steps.{act_may, is_beyond, suits, is_to_go, due_at_home, due_by_try, due, is_due_with, is_due, is_tried_with, meets, may_enter, is_early, is_elsewhere}
 
 -- it was tried for the port at this place, and is not decided
 pub record IsTriedAt (x : MsgId) (q : Ui) (p : ℕ) (past : List Entry) : Type 0 where

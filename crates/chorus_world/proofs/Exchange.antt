@@ -1,8 +1,8 @@
 -- Two entries that read nothing of one another may be exchanged, so what each entry of a list finds in its own place, seat,
 -- message and held port is the same when the list is sorted.
-use Rattle.std.proofs.Common.{ℕ, ◌≡◌, ◌<◌, ◌⊎◌, inl, inr, Bool, true, false, ◌==◌, nat_lt, ◌&&◌, ◌||◌, cond, List, [], ◌∷◌, Option, Some, None, eqb, ltb, refl, sym, ◌∙◌, ap, subst, arith, All}
+use Rattle.std.proofs.Common.{ℕ, ◌≡◌, ◌<◌, ◌⊎◌, inl, inr, Bool, true, false, ◌==◌, nat_lt, ◌&&◌, cond, List, [], ◌∷◌, Option, Some, None, refl, sym, ◌∙◌, ap, subst, arith, All}
 use Rattle.std.specs.List.{filter, AllByRecursion as Each}
-use Rattle.std.proofs.lemmas.List.Elements.{All-nil, All-cons, All-head, All-tail, All-from_recursion, recursion_from_All}
+use Rattle.std.proofs.lemmas.List.Elements.{All-from_recursion, recursion_from_All}
 use Rattle.std.proofs.lemmas.Bool.{and_parts, and_from, cases_Bool, eqb-true, eq-eqb, ltb-true, lt-ltb, or_cases, or_left, or_right, false≢true, cases_order}
 use Rattle.chorus_ui.specs.declared.ui.Ui.{Ui}
 use Rattle.chorus_ui.specs.Name.{same_ui}
@@ -14,8 +14,8 @@ use Rattle.chorus_entry.specs.MsgId.{same_id}
 use Rattle.chorus_entry.proofs.Same.{from_same_id, same_id-self}
 use Rattle.chorus_world.specs.Views.{at, by, about, on, is_at, is_by, is_about, is_on, are_same}
 use Rattle.chorus_world.specs.Order.{comes_before, IsRising, IsCausal, insert, sort}
-use Rattle.chorus_world.specs.SortingLaws.{SortsViews, KeepsViews, SortsInOrder}
-use Rattle.chorus_world.proofs.Viewing.{filter_skip, filter_take}
+use Rattle.chorus_world.specs.SortingLaws.{KeepsViews, SortsInOrder}
+use Rattle.chorus_world.proofs.LegalLemmas.{skips, keeps}
 
 -- nothing that e reads is in f, and nothing that f reads is in e: place, seat, message and held port differ
 pub record IsApart (e f : Entry) : Type 0 where
@@ -127,7 +127,7 @@ each_filter P t (f ∷ past) h = filter_choice P t f past (t f) refl (each_filte
 rises_over : (t : Entry → Bool) (e : Entry) (past : List Entry) → t e ≡ true → IsRising (filter t (e ∷ past)) → Each (λ (f : Entry). t f ≡ true → comes_before f e ≡ true) past
 rises_over t e past h r =
     each_filter (λ f. comes_before f e ≡ true) t past
-    (recursion_from_All (λ (f : Entry). comes_before f e ≡ true) (filter t past) (subst IsRising (filter_take t e past h) r).0)
+    (recursion_from_All (λ (f : Entry). comes_before f e ≡ true) (filter t past) (subst IsRising (keeps t e past h) r).0)
 
 none_over : (t : Entry → Bool) (P : Entry → Type 0) (past : List Entry) → ((f : Entry) → t f ≡ false) → Each (λ (f : Entry). t f ≡ true → P f) past
 none_over t P [] h = tt
@@ -347,10 +347,10 @@ chains_same a b c d = cc
 chains_skip : (past : List Entry) (e f : Entry) → IsApart e f → chains (f ∷ past) e ≡ chains past e
 chains_skip past e f a =
     chains_same
-    (filter_skip (is_at e.place) f past a.place)
-    (filter_skip (is_by e.seat) f past a.seat)
-    (filter_skip (is_about (message_of e.act)) f past a.message)
-    (filter_skip (is_on (held_port_of e.act)) f past a.port)
+    (skips (is_at e.place) f past a.place)
+    (skips (is_by e.seat) f past a.seat)
+    (skips (is_about (message_of e.act)) f past a.message)
+    (skips (is_on (held_port_of e.act)) f past a.port)
 
 find_skip : (test : Chains → Entry → Bool) (past : List Entry) (e f : Entry) → IsApart e f → test (chains (f ∷ past) e) e ≡ test (chains past e) e
 find_skip test past e f a = ap (λ c. test c e) (chains_skip past e f a)
@@ -366,11 +366,11 @@ swap test past e f a b h =
 
 skip_choice : (t : Entry → Bool) (e f : Entry) (past : List Entry) (b : Bool) → t e ≡ false → filter t (insert e past) ≡ filter t past → filter t (cond b (f ∷ insert e past) (e ∷ f ∷ past)) ≡ filter t (f ∷ past)
 skip_choice t e f past true n ih = ap (λ xs. cond (t f) (f ∷ xs) xs) ih
-skip_choice t e f past false n ih = filter_skip t e (f ∷ past) n
+skip_choice t e f past false n ih = skips t e (f ∷ past) n
 
 -- the views of f do not see an entry that is apart from it, wherever that is put
 insert_skip : (t : Entry → Bool) (e : Entry) (past : List Entry) → t e ≡ false → filter t (insert e past) ≡ filter t past
-insert_skip t e [] n = filter_skip t e [] n
+insert_skip t e [] n = skips t e [] n
 insert_skip t e (f ∷ past) n = skip_choice t e f past (comes_before e f) n (insert_skip t e past n)
 
 find_insert : (test : Chains → Entry → Bool) (past : List Entry) (f e : Entry) → IsApart f e → test (chains (insert e past) f) f ≡ test (chains past f) f

@@ -1,8 +1,7 @@
 -- In a legal past a place tells by itself which actor holds a port there; so a run is a run when it is sorted.
-use Rattle.std.proofs.Common.{ℕ, ◌≡◌, ◌+◌, ◌-◌, ◌<◌, ◌≤◌, inl, inr, Bool, true, false, ◌==◌, nat_lt, ◌&&◌, ◌||◌, not, cond, List, [], ◌∷◌, ◌++◌, length, Option, Some, None, eqb, refl, sym, ◌∙◌, ap, subst, arith}
-use Rattle.std.specs.List.{filter}
+use Rattle.std.proofs.Common.{ℕ, ◌≡◌, ◌+◌, ◌-◌, ◌≤◌, Bool, true, false, ◌==◌, nat_lt, ◌&&◌, not, cond, List, [], ◌∷◌, ◌++◌, length, Option, Some, None, refl, sym, ◌∙◌, ap, subst, arith}
 use Rattle.std.specs.Option.{option_or}
-use Rattle.std.proofs.lemmas.Bool.{eqb-true, eq-eqb, ne_eqb, cases_Bool, false≢true, true≢false, and_parts, and_from, and_left, and_right}
+use Rattle.std.proofs.lemmas.Bool.{eqb-true, eq-eqb, ne_eqb, false≢true, and_parts, and_from, and_left, and_right}
 use Rattle.std.proofs.lemmas.List.{length_push}
 use Rattle.std.proofs.lemmas.List.Elements.{All-head, All-tail}
 use Rattle.chorus_ui.specs.declared.ui.Ui.{Ui}
@@ -13,20 +12,19 @@ use Rattle.chorus_entry.specs.declared.entry.Entry.{Entry}
 use Rattle.chorus_entry.specs.declared.id.MsgId.{MsgId}
 use Rattle.chorus_entry.specs.declared.act.Act.{Act}
 use Rattle.chorus_entry.specs.declared.act.Act.TheVariants.{Make, Take, Empty, NotHere, Rehome, Depart, Arrive, Delete}
-use Rattle.chorus_entry.specs.Act.{held_port_of}
 use Rattle.chorus_world.specs.declared.port.Spot.{Spot}
 use Rattle.chorus_world.specs.declared.port.Spot.TheVariants.{Held, Moving, Ended}
 use Rattle.chorus_world.specs.Views.{views, at, by, on, is_at, is_on, are_same}
 use Rattle.chorus_world.specs.Ports.{Fate, fate, fate_after, last_of, is_held, is_last, is_held_at, is_coming, is_next_hop, are_waiting, arrived}
-use Rattle.chorus_world.specs.Places.{last_clock, named_location}
+use Rattle.chorus_world.specs.Places.{last_clock}
 use Rattle.chorus_world.specs.Steps.{act_may, may, is_legal}
 use Rattle.chorus_world.specs.Runs.{is_held_by, is_held_at_by, fits_caller, fits_callers, may_run, is_run}
 use Rattle.chorus_world.specs.Order.{sort}
 use Rattle.chorus_world.specs.SortingLaws.{LooksAtHome, AllLookAtHome, SortsRuns}
-use Rattle.chorus_world.proofs.Viewing.{entry, under, cond_idem, cond_idem_if, filter_take, filter_skip}
-use Rattle.chorus_world.proofs.PortLemmas.{last_of_push}
+use Rattle.chorus_world.specs.LocationLaws.{path_of}
+use Rattle.chorus_world.proofs.LegalLemmas.{entry, under, cond_idem, cond_same, keeps, skips}
 use Rattle.chorus_world.proofs.Local.{is_kept}
-use Rattle.chorus_world.proofs.PortSteps.{PortFacts, spot_in, path_in, is_still, spot_still, path_still, same_or_not}
+use Rattle.chorus_world.proofs.PortSteps.{PortFacts, spot_in, is_still, spot_still, path_still, same_or_not}
 use Rattle.chorus_world.proofs.PortMoves.{held_fate, coming_fate, make_new}
 use Rattle.chorus_world.proofs.MessageSteps.{may_act, legal_inv}
 use Rattle.chorus_world.proofs.Exchange.{Chains, chains, all_find, all_find_sort, all_sort, chained, on_chain}
@@ -132,7 +130,7 @@ holding_ended f =
 
 abbrev HolderFacts : Layout → List Entry → Ui → Type 0
 HolderFacts l past q =
-    Holding (spot_in (fate (on q past))) (path_in l q (fate (on q past))) (λ n. departed_to n (on q past)) (λ t. Extends t past) (λ t p. holder q (on q t) (at p past))
+    Holding (spot_in (fate (on q past))) (path_of l q (fate (on q past))) (λ n. departed_to n (on q past)) (λ t. Extends t past) (λ t p. holder q (on q t) (at p past))
 
 or_none : {A : Type 0} (o : Option A) → option_or o None ≡ o
 or_none None = refl
@@ -153,21 +151,21 @@ holders_still l past q e h f =
     let o = fate (on q past) in
     let b = is_on (Some q) e in
     holding_same f
-    (sym (under (λ es. spot_in (fate es)) b (e ∷ on q past) (on q past) ∙ cond_idem_if b (spot_in (fate_after e.place e.act o)) (spot_in o) (λ _. spot_still e.place e.act o h)))
-    (sym (under (λ es. path_in l q (fate es)) b (e ∷ on q past) (on q past) ∙ cond_idem_if b (path_in l q (fate_after e.place e.act o)) (path_in l q o) (λ _. path_still l q e.place e.act o h)))
+    (sym (under (λ es. spot_in (fate es)) b (e ∷ on q past) (on q past) ∙ cond_same b (spot_in (fate_after e.place e.act o)) (spot_in o) (λ _. spot_still e.place e.act o h)))
+    (sym (under (λ es. path_of l q (fate es)) b (e ∷ on q past) (on q past) ∙ cond_same b (path_of l q (fate_after e.place e.act o)) (path_of l q o) (λ _. path_still l q e.place e.act o h)))
     (λ n. under (departed_to n) b (e ∷ on q past) (on q past)
-    ∙ cond_idem_if b (option_or (departed_to n (on q past)) (departed_by n e.act)) (departed_to n (on q past)) (λ _. ap (option_or (departed_to n (on q past))) (departed_still n e.act h) ∙ or_none (departed_to n (on q past))))
+    ∙ cond_same b (option_or (departed_to n (on q past)) (departed_by n e.act)) (departed_to n (on q past)) (λ _. ap (option_or (departed_to n (on q past))) (departed_still n e.act h) ∙ or_none (departed_to n (on q past))))
     (λ t x. extends_before t past e x)
     (λ t p. under (holder q (on q t)) (is_at p e) (e ∷ at p past) (at p past)
-    ∙ cond_idem_if (is_at p e) (holder_after q (on q t) e.act (holder q (on q t) (at p past))) (holder q (on q t) (at p past)) (λ _. holder_still q (on q t) e.act (holder q (on q t) (at p past)) h))
+    ∙ cond_same (is_at p e) (holder_after q (on q t) e.act (holder q (on q t) (at p past))) (holder q (on q t) (at p past)) (λ _. holder_still q (on q t) e.act (holder q (on q t) (at p past)) h))
 
 -- an entry on the line of the port
-holders_moved : (l : Layout) (past : List Entry) (q : Ui) (e : Entry) → is_on (Some q) e ≡ true → Holding (spot_in (fate_after e.place e.act (fate (on q past)))) (path_in l q (fate_after e.place e.act (fate (on q past)))) (λ n. option_or (departed_to n (on q past)) (departed_by n e.act)) (λ t. Extends t (e ∷ past)) (λ t r. cond (is_at r e) (holder_after q (on q t) e.act (holder q (on q t) (at r past))) (holder q (on q t) (at r past))) → HolderFacts l (e ∷ past) q
+holders_moved : (l : Layout) (past : List Entry) (q : Ui) (e : Entry) → is_on (Some q) e ≡ true → Holding (spot_in (fate_after e.place e.act (fate (on q past)))) (path_of l q (fate_after e.place e.act (fate (on q past)))) (λ n. option_or (departed_to n (on q past)) (departed_by n e.act)) (λ t. Extends t (e ∷ past)) (λ t r. cond (is_at r e) (holder_after q (on q t) e.act (holder q (on q t) (at r past))) (holder q (on q t) (at r past))) → HolderFacts l (e ∷ past) q
 holders_moved l past q e t f =
     holding_same f
     (ap (λ b. spot_in (fate (cond b (e ∷ on q past) (on q past)))) (sym t))
-    (ap (λ b. path_in l q (fate (cond b (e ∷ on q past) (on q past)))) (sym t))
-    (λ n. ap (departed_to n) (filter_take (is_on (Some q)) e past t))
+    (ap (λ b. path_of l q (fate (cond b (e ∷ on q past) (on q past)))) (sym t))
+    (λ n. ap (departed_to n) (keeps (is_on (Some q)) e past t))
     (λ s x. x)
     (λ s p. under (holder q (on q s)) (is_at p e) (e ∷ at p past) (at p past))
 
@@ -176,16 +174,16 @@ holders_other : (l : Layout) (past : List Entry) (q : Ui) (e : Entry) → is_on 
 holders_other l past q e n hh f =
     holding_same f
     (ap (λ b. spot_in (fate (cond b (e ∷ on q past) (on q past)))) (sym n))
-    (ap (λ b. path_in l q (fate (cond b (e ∷ on q past) (on q past)))) (sym n))
-    (λ m. ap (departed_to m) (filter_skip (is_on (Some q)) e past n))
+    (ap (λ b. path_of l q (fate (cond b (e ∷ on q past) (on q past)))) (sym n))
+    (λ m. ap (departed_to m) (skips (is_on (Some q)) e past n))
     (λ t x. extends_before t past e x)
     (λ t p. under (holder q (on q t)) (is_at p e) (e ∷ at p past) (at p past)
-    ∙ cond_idem_if (is_at p e) (holder_after q (on q t) e.act (holder q (on q t) (at p past))) (holder q (on q t) (at p past)) (λ _. hh (on q t) (holder q (on q t) (at p past))))
+    ∙ cond_same (is_at p e) (holder_after q (on q t) e.act (holder q (on q t) (at p past))) (holder q (on q t) (at p past)) (λ _. hh (on q t) (holder q (on q t) (at p past))))
 
 -- the facts of a port whose fate is known
 holders_of : (l : Layout) (past : List Entry) (q : Ui) (f : Fate) (s : Spot) → HolderFacts l past q → fate (on q past) ≡ Some f → f.spot ≡ s → Holding (Some s) f.path (λ n. departed_to n (on q past)) (λ t. Extends t past) (λ t p. holder q (on q t) (at p past))
 holders_of l past q f s facts was spot =
-    holding_same facts (ap spot_in was ∙ ap (λ z. Some z) spot) (ap (path_in l q) was) (λ n. refl) (λ t x. x) (λ t p. refl)
+    holding_same facts (ap spot_in was ∙ ap (λ z. Some z) spot) (ap (path_of l q) was) (λ n. refl) (λ t x. x) (λ t p. refl)
 
 holders_make : (l : Layout) (past : List Entry) (q : Ui) (c p s : ℕ) (r a : Ui) (n : ℕ) → IsShape l → PortFacts l past q → HolderFacts l past q → act_may l (views past p s (Make r a n)) p s (Make r a n) ≡ true → HolderFacts l (entry c p s (Make r a n) ∷ past) q
 holders_make l past q c p s r a n shape ports f h =
@@ -195,8 +193,8 @@ holders_make l past q c p s r a n shape ports f h =
     let new = make_new l past p s q a n shape ports (subst (λ z. act_may l (views past p s (Make z a n)) p s (Make z a n) ≡ true) (sym is_r) h) in
     holders_moved l past q e t
     (holding_same
-    (holding_taken {F = λ t. Extends t (e ∷ past)} p a f (ap (λ o. last_of 0 (path_in l q o)) new.0 ∙ new.2))
-    refl (ap (path_in l q) new.0 ∙ ap (λ z. z ∷ []) new.2)
+    (holding_taken {F = λ t. Extends t (e ∷ past)} p a f (ap (λ o. last_of 0 (path_of l q o)) new.0 ∙ new.2))
+    refl (ap (path_of l q) new.0 ∙ ap (λ z. z ∷ []) new.2)
     (λ m. or_none (departed_to m (on q past)))
     (λ t x. x)
     (λ t x. ap (λ b. cond (p == x) (cond b (Some a) (holder q (on q t) (at x past))) (holder q (on q t) (at x past))) back)))
@@ -213,7 +211,7 @@ holders_rehome l past q c p s r a f h =
     (holding_same
     (holding_taken {F = λ t. Extends t (e ∷ past)} p a (holders_of l past q old.0 (Held old.1) f old.2 old.3) old.4)
     (sym (ap (λ o. spot_in (fate_after p (Rehome r a) o)) old.2))
-    (sym (ap (λ o. path_in l q (fate_after p (Rehome r a) o)) old.2))
+    (sym (ap (λ o. path_of l q (fate_after p (Rehome r a) o)) old.2))
     (λ m. or_none (departed_to m (on q past)))
     (λ t x. x)
     (λ t x. ap (λ b. cond (p == x) (cond b (Some a) (holder q (on q t) (at x past))) (holder q (on q t) (at x past))) back)))
@@ -235,7 +233,7 @@ holders_depart l past q c p s r to a hop f h =
     (holding_same
     (holding_departed {F = λ t. Extends t (e ∷ past)} to a old.1 (holders_of l past q old.0 (Held old.1) f old.2 old.3))
     (sym (ap (λ o. spot_in (fate_after p (Depart r to a hop) o)) old.2))
-    (sym (ap (λ o. path_in l q (fate_after p (Depart r to a hop) o)) old.2))
+    (sym (ap (λ o. path_of l q (fate_after p (Depart r to a hop) o)) old.2))
     (λ m. ap (λ z. option_or (departed_to m (on q past)) (cond (z == m) (Some a) None)) far)
     (λ t x. x)
     (λ t x. cond_idem (p == x) (holder q (on q t) (at x past)))))
@@ -262,7 +260,7 @@ holders_arrive l past q c p s r hop f h =
     (holding_arrived {F = λ t. Extends t (e ∷ past)} p hop old.1 (λ t. departed_to hop (on q t)) (holders_of l past q old.0 (Moving old.1) f old.2 old.3) old.4 old.5
     (λ t x found. departed_table t past q hop old.1 (extends_before t past e x) found))
     (sym (ap (λ o. spot_in (fate_after p (Arrive r hop) o)) old.2 ∙ ap (λ z. Some (arrived z)) old.3))
-    (sym (ap (λ o. path_in l q (fate_after p (Arrive r hop) o)) old.2))
+    (sym (ap (λ o. path_of l q (fate_after p (Arrive r hop) o)) old.2))
     (λ m. or_none (departed_to m (on q past)))
     (λ t x. x)
     (λ t x. ap (λ b. cond (p == x) (cond b (departed_to hop (on q t)) (holder q (on q t) (at x past))) (holder q (on q t) (at x past))) back)))
@@ -279,7 +277,7 @@ holders_delete l past q c p s r xs f h =
     (holding_same
     (holding_ended {F = λ t. Extends t (e ∷ past)} (holders_of l past q old.0 (Held old.1) f old.2 old.3))
     (sym (ap (λ o. spot_in (fate_after p (Delete r xs) o)) old.2))
-    (sym (ap (λ o. path_in l q (fate_after p (Delete r xs) o)) old.2))
+    (sym (ap (λ o. path_of l q (fate_after p (Delete r xs) o)) old.2))
     (λ m. or_none (departed_to m (on q past)))
     (λ t x. x)
     (λ t x. cond_idem (p == x) (holder q (on q t) (at x past)))))
@@ -320,7 +318,7 @@ held_by_case a (Held b) false k h e f = and_right (same_ui a b) false refl ∙ s
 held_by_case a (Moving b) last k h e f = sym (and_left k (are_same same_ui (Some a) h) e)
 held_by_case a Ended last k h e f = sym (and_left k (are_same same_ui (Some a) h) e)
 
-held_by_fate : (l : Layout) (q a : Ui) (p : ℕ) (o : Option Fate) (k : Bool) (h : Option Ui) → is_held_at p o ≡ k → ((b : Ui) → spot_in o ≡ Some (Held b) → last_of 0 (path_in l q o) ≡ p → h ≡ Some b) → is_held_at_by p a o ≡ (k && are_same same_ui (Some a) h)
+held_by_fate : (l : Layout) (q a : Ui) (p : ℕ) (o : Option Fate) (k : Bool) (h : Option Ui) → is_held_at p o ≡ k → ((b : Ui) → spot_in o ≡ Some (Held b) → last_of 0 (path_of l q o) ≡ p → h ≡ Some b) → is_held_at_by p a o ≡ (k && are_same same_ui (Some a) h)
 held_by_fate l q a p None k h e f = sym (and_left k (are_same same_ui (Some a) h) (sym e))
 held_by_fate l q a p (Some g) k h e f =
     held_by_case a g.spot (is_last p g) k h (sym e) (λ b s last. f b (ap (λ z. Some z) s) (eqb-true (last_of 0 g.path) p last))

@@ -14,8 +14,16 @@ pub mod MessageInvariant
 pub mod AcceptedLemmas
 pub mod OnceLaws
 pub mod RequestLaws
+pub mod OrderLemmas
+pub mod ChoiceLemmas
+pub mod MemberLemmas
+pub mod SenderLaws
+pub mod FunctionalLaws
+pub mod BroadcastLaws
+pub mod VerdictLemmas
+pub mod PostLemmas
+pub mod ClockLemmas
 pub mod Whereabouts
-pub mod Viewing
 pub mod Local
 pub mod PortSteps
 pub mod PortMoves
@@ -25,3 +33,5 @@ pub mod Posted
 pub mod Agreement
 pub mod Observers
 pub mod Holders
+pub mod Tries
+pub mod LookingHome

@@ -1,31 +1,28 @@
 -- What is so of the entries on the line of one port, in every legal past.
-use Rattle.std.proofs.Common.{ℕ, ◌≡◌, ◌+◌, ◌*◌, ◌<◌, ◌≤◌, ◌==◌, Bool, true, false, ◌&&◌, ◌||◌, not, cond, List, [], ◌∷◌, ◌++◌, length, take, drop, nat_lt, nat_le, Option, Some, None, eqb, refl, sym, ◌∙◌, ap, subst, arith, inl, inr}
-use Rattle.std.specs.List.{filter, slice_get}
-use Rattle.std.proofs.lemmas.Bool.{and_parts, eqb-true, eq-eqb, ltb-true, false≢true, cases_Bool}
+use Rattle.std.proofs.Common.{ℕ, ◌≡◌, ◌+◌, ◌<◌, ◌≤◌, ◌==◌, true, ◌&&◌, not, List, [], ◌∷◌, ◌++◌, length, take, drop, nat_lt, nat_le, Option, Some, None, refl, sym, ◌∙◌, ap, subst, arith}
+use Rattle.std.specs.List.{slice_get}
+use Rattle.std.proofs.lemmas.Bool.{and_parts, eqb-true, ltb-true, false≢true}
 use Rattle.std.proofs.lemmas.Bool.Decides.{nat_tests}
-use Rattle.std.proofs.lemmas.List.{take-append-le, length-append, take-append-drop, take_more}
+use Rattle.std.proofs.lemmas.List.{take-append-le, length-append, take_more}
 use Rattle.std.proofs.lemmas.Option.{slice_get_within, get_or_from_slice_get}
-use Rattle.std.proofs.lemmas.Grind.{common_steps}
 use Rattle.chorus_ui.specs.declared.ui.Ui.{Ui}
 use Rattle.chorus_ui.specs.declared.layout.Layout.{Layout}
-use Rattle.chorus_ui.specs.Name.{same_ui}
 use Rattle.chorus_entry.specs.declared.entry.Entry.{Entry}
 use Rattle.chorus_entry.specs.declared.id.MsgId.{MsgId}
 use Rattle.chorus_entry.specs.declared.act.Act.{Act}
 use Rattle.chorus_entry.specs.declared.act.Act.TheVariants.{Make, Accept, Full, Already, ClientsFull, Take, Empty, Rehome, Depart, Arrive, Delete}
 use Rattle.chorus_entry.specs.MsgId.{same_id}
-use Rattle.chorus_entry.specs.Ids.{same_ids}
 use Rattle.chorus_entry.specs.Act.{held_port_of}
 use Rattle.chorus_entry.proofs.Same.{from_same_id, from_same_ids}
 use Rattle.chorus_world.specs.declared.port.Spot.{Spot}
 use Rattle.chorus_world.specs.declared.port.Spot.TheVariants.{Held, Moving, Ended}
-use Rattle.chorus_world.specs.Views.{Views, views, are_same, is_on, on}
+use Rattle.chorus_world.specs.Views.{Views, views, are_same, on}
 use Rattle.chorus_world.specs.Ports.{Fate, fate, fate_after, changed, new_port, arrived, waiting, is_held, is_moving, is_last, is_held_at, is_coming, has_room, is_full, is_first_waiting, is_empty, is_next_hop, are_waiting}
 use Rattle.chorus_world.specs.Clients.{is_already, finds_clients_full}
 use Rattle.chorus_ui.specs.Layout.{has_actor, site_of, place_at}
-use Rattle.chorus_world.specs.Steps.{is_home, is_full_of_ports, next_number, act_may, due, is_due, suits, meets, may_enter, may_take, may_rehome, may_depart, may_delete}
+use Rattle.chorus_world.specs.Steps.{is_home, is_full_of_ports, next_number, act_may, due, is_due, suits, meets, may_enter}
 use Rattle.chorus_world.specs.AcceptedLaws.{received, received_after, discarded, discarded_after}
-use Rattle.chorus_world.proofs.LegalLemmas.{entry, on_is}
+use Rattle.chorus_world.proofs.LegalLemmas.{entry}
 
 -- the ids were discarded, exactly where the port is deleted
 abbrev pub Discards : Spot → Option (List MsgId) → List MsgId → Type 0

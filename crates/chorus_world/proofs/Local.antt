@@ -1,5 +1,5 @@
 -- The step relation read from the entry's own place, seat, message and held port alone.
-use Rattle.std.proofs.Common.{ℕ, ◌==◌, nat_lt, Bool, true, false, ◌&&◌, ◌||◌, not, cond, List, [], ◌∷◌, Option, Some, None, is_some, is_none}
+use Rattle.std.proofs.Common.{ℕ, ◌==◌, nat_lt, Bool, false, ◌&&◌, ◌||◌, not, List, [], ◌∷◌, is_some, is_none}
 use Rattle.std.specs.List.{filter}
 use Rattle.chorus_ui.specs.declared.ui.Ui.{Ui}
 use Rattle.chorus_ui.specs.declared.layout.Layout.{Layout}

@@ -1,13 +1,13 @@
 -- What is so of each message in every legal past, and that each entry that may come next keeps it; so a port was wherever
 -- it is located.
-use Rattle.std.proofs.Common.{ℕ, ◌≡◌, ◌+◌, ◌-◌, ◌<◌, ◌⊎◌, inl, inr, Bool, true, false, ◌==◌, nat_lt, ◌&&◌, ◌||◌, not, cond, List, [], ◌∷◌, ◌++◌, length, Option, Some, None, is_some, is_none, eqb, refl, sym, ◌∙◌, ap, subst, arith}
-use Rattle.std.specs.List.{slice_get, filter}
+use Rattle.std.proofs.Common.{ℕ, ◌≡◌, ◌+◌, ◌<◌, ◌⊎◌, inl, inr, Bool, true, false, ◌==◌, nat_lt, ◌&&◌, not, cond, List, [], ◌∷◌, ◌++◌, Option, Some, None, is_some, is_none, refl, sym, ◌∙◌, ap, subst, arith}
+use Rattle.std.specs.List.{slice_get}
 use Rattle.std.specs.Option.{option_or}
-use Rattle.std.proofs.lemmas.Bool.{eqb-true, eq-eqb, cases_Bool, false≢true, true≢false, and_parts, cond_both}
+use Rattle.std.proofs.lemmas.Bool.{eqb-true, eq-eqb, cases_Bool, false≢true, and_parts, cond_both}
 use Rattle.chorus_ui.specs.declared.ui.Ui.{Ui}
 use Rattle.chorus_ui.specs.declared.layout.Layout.{Layout}
 use Rattle.chorus_ui.specs.Name.{same_ui}
-use Rattle.chorus_ui.specs.Layout.{IsShape, has_site, creation_place}
+use Rattle.chorus_ui.specs.Layout.{IsShape}
 use Rattle.chorus_ui.proofs.Names.{from_same_ui}
 use Rattle.chorus_entry.specs.declared.entry.Entry.{Entry}
 use Rattle.chorus_entry.specs.declared.id.MsgId.{MsgId}
@@ -21,24 +21,22 @@ use Rattle.chorus_entry.specs.declared.act.Act.TheVariants.{Post, Accept, Full, 
 use Rattle.chorus_entry.specs.Answer.{is_final}
 use Rattle.chorus_entry.specs.Dest.{group_in}
 use Rattle.chorus_entry.specs.Kinds.{has_kinds}
-use Rattle.chorus_entry.specs.MsgId.{same_id}
-use Rattle.chorus_entry.proofs.Same.{from_same_id, same_id-self}
+use Rattle.chorus_entry.proofs.Same.{from_same_id}
 use Rattle.chorus_world.specs.declared.place.Location.{Location}
 use Rattle.chorus_world.specs.declared.place.Sent.{Sent}
 use Rattle.chorus_world.specs.declared.message.Progress.{Progress}
 use Rattle.chorus_world.specs.declared.message.Progress.TheVariants.{Idle, Asked, Tried, Decided, Settled, Reported}
-use Rattle.chorus_world.specs.Views.{views, at, on, about, is_at, is_on, is_about, are_same}
-use Rattle.chorus_world.specs.Ports.{Fate, fate, is_held_at}
-use Rattle.chorus_world.specs.Messages.{progress, progress_after, posted, decided, settled, told, is_to_be_told}
+use Rattle.chorus_world.specs.Views.{views, at, on, about, is_at, is_about, are_same}
+use Rattle.chorus_world.specs.Ports.{fate}
+use Rattle.chorus_world.specs.Messages.{progress, progress_after, posted, decided, settled, told}
 use Rattle.chorus_world.specs.Posts.{is_on_site, site_asked}
-use Rattle.chorus_world.specs.Places.{located, named_location, is_location, taught, sent, sent_by, find_sent, first_for, unsettled, is_first, is_first_as, is_tried, just_taken}
+use Rattle.chorus_world.specs.Places.{located, is_location, taught, sent, sent_by, find_sent, is_first, is_first_as, is_tried, just_taken}
 use Rattle.chorus_world.specs.Groups.{posts_to, post_to}
-use Rattle.chorus_world.specs.Steps.{act_may, act_follows, may, is_timely, may_stand_behind, is_legal, is_to_go, is_beyond, due, is_due_with, is_elsewhere, may_be_elsewhere}
+use Rattle.chorus_world.specs.Steps.{act_may, act_follows, may, is_timely, may_stand_behind, is_legal, is_to_go, is_beyond, is_elsewhere}
 use Rattle.chorus_world.specs.LocationLaws.{path_of, LocatesOnPath}
 use Rattle.chorus_world.proofs.SentLemmas.{find_sent_append}
-use Rattle.chorus_world.proofs.Viewing.{entry, under, cond_idem, cond_idem_if, filter_skip, filter_take}
-use Rattle.chorus_world.proofs.Whereabouts.{Facts}
-use Rattle.chorus_world.proofs.PortSteps.{PortFacts, Known, path_in}
+use Rattle.chorus_world.proofs.LegalLemmas.{entry, under, skips, keeps}
+use Rattle.chorus_world.proofs.PortSteps.{PortFacts, Known}
 use Rattle.chorus_world.proofs.PortMoves.{Teaches, IsSentTo, to_be_told, ports_step, known_step}
 
 -- the id is one of these
@@ -118,7 +116,7 @@ decided_fits l es x p q a Reported g h = h
 post_among : (past : List Entry) (c p s : ℕ) (m : Message) (d : Dest) (x : MsgId) (g : Ui) → m.id ≡ x → are_same same_ui (Some g) (group_in d) ≡ true → IsAmong x (posts_to g (at p (entry c p s (Post m d) ∷ past)))
 post_among past c p s m d x g e t =
     let f = entry c p s (Post m d) in
-    let here : at p (f ∷ past) ≡ f ∷ at p past = filter_take (is_at p) f past (eq-eqb p p refl) in
+    let here : at p (f ∷ past) ≡ f ∷ at p past = keeps (is_at p) f past (eq-eqb p p refl) in
     let one : post_to g (Post m d) ≡ m.id ∷ [] = ap (λ b. cond b (m.id ∷ []) []) t in
     subst (λ es. IsAmong x (posts_to g es)) (sym here)
     (subst (λ xs. IsAmong x (posts_to g (at p past) ++ xs)) (sym one)
@@ -143,7 +141,7 @@ first_sent past p x q h = first_as x q (at p past) (find_sent x (sent (at p past
 
 pub located_known : (l : Layout) (past : List Entry) (q : Ui) (p to hop : ℕ) → PortFacts l past q → (located l q (at p past)).to ≡ to → (located l q (at p past)).hop ≡ hop → Known l past q hop to
 located_known l past q p to hop f a b =
-    subst (λ z. slice_get (path_in l q (fate (on q past))) z ≡ Some to) b (f.located p ∙ ap (λ z. Some z) a)
+    subst (λ z. slice_get (path_of l q (fate (on q past))) z ≡ Some to) b (f.located p ∙ ap (λ z. Some z) a)
 
 pub location_known : (l : Layout) (past : List Entry) (q : Ui) (p to hop : ℕ) → PortFacts l past q → is_location to hop (located l q (at p past)) ≡ true → Known l past q hop to
 location_known l past q p to hop f h =
@@ -209,8 +207,8 @@ messages_step l past x c p s a shape i h =
     let grow : (q : Ui) (n z : ℕ) → Known l past q n z → Known l (e ∷ past) q n z = λ q. known_step l past q c p s a shape (i.ports q) h in
     let old : Fits l (e ∷ past) x (progress (about x past)) = fits_grows l past e grow x (progress (about x past)) (i.messages x) in
     elim (cases_Bool (is_about (Some x) e)) [
-      | inl t ↦ subst (λ es. Fits l (e ∷ past) x (progress es)) (sym (filter_take (is_about (Some x)) e past t)) (on_message l past x c p s a i grow h t old)
-      | inr n ↦ subst (λ es. Fits l (e ∷ past) x (progress es)) (sym (filter_skip (is_about (Some x)) e past n)) old
+      | inl t ↦ subst (λ es. Fits l (e ∷ past) x (progress es)) (sym (keeps (is_about (Some x)) e past t)) (on_message l past x c p s a i grow h t old)
+      | inr n ↦ subst (λ es. Fits l (e ∷ past) x (progress es)) (sym (skips (is_about (Some x)) e past n)) old
     ]
 
 -- what a place is told of a message
@@ -255,12 +253,6 @@ legal_inv l (e ∷ past) shape h =
     let two = and_parts (may l past e) (is_legal l past) h in
     inv_more l past e shape (legal_inv l past shape two.1) two.0
 
-path_same : (l : Layout) (q : Ui) (o : Option Fate) → has_site l q.site ≡ true → path_of l q o ≡ path_in l q o
-path_same l q None h = ap (λ b. cond b (creation_place l q) 0 ∷ []) (sym h)
-path_same l q (Some f) h = refl
-
 -- the law on locations
 pub locates : LocatesOnPath
-locates l past p q shape h has =
-    ap (λ ps. slice_get ps (located l q (at p past)).hop) (path_same l q (fate (on q past)) has)
-    ∙ ((legal_inv l past shape h).ports q).located p
+locates l past p q shape h = ((legal_inv l past shape h).ports q).located p

@@ -1,6 +1,6 @@
 -- In a legal past what an entry needs of the world can be read from its own place, seat, message and held port; so a legal
 -- list along whose views clock and place rise is legal when it is sorted.
-use Rattle.std.proofs.Common.{ℕ, ◌≡◌, ◌+◌, ◌-◌, ◌<◌, ◌≤◌, ◌⊎◌, inl, inr, zero, suc, Bool, true, false, ◌==◌, nat_lt, nat_le, ◌&&◌, ◌||◌, not, cond, if◌then◌else◌, List, [], ◌∷◌, ◌++◌, length, Option, Some, None, is_some, is_none, eqb, refl, sym, ◌∙◌, ap, subst, arith, All}
+use Rattle.std.proofs.Common.{ℕ, ◌≡◌, ◌+◌, ◌-◌, ◌<◌, ◌≤◌, ◌⊎◌, inl, inr, Bool, true, false, ◌==◌, nat_lt, nat_le, ◌&&◌, ◌||◌, not, cond, if◌then◌else◌, List, [], ◌∷◌, length, Option, Some, None, is_some, is_none, refl, sym, ◌∙◌, ap, subst, arith}
 use Rattle.std.specs.List.{slice_get, filter}
 use Rattle.std.proofs.lemmas.Bool.{eqb-true, eq-eqb, ne_eqb, ltb-true, leb-true, cases_Bool, cases_eq, false≢true, true≢false, and_parts, and_from, and_left, and_right, or_cases}
 use Rattle.std.proofs.lemmas.List.Elements.{All-head, All-tail}
@@ -26,7 +26,6 @@ use Rattle.chorus_world.specs.declared.port.Spot.TheVariants.{Held, Moving, Ende
 use Rattle.chorus_world.specs.declared.place.Location.{Location}
 use Rattle.chorus_world.specs.declared.message.Progress.{Progress}
 use Rattle.chorus_world.specs.declared.message.Progress.TheVariants.{Idle, Asked, Tried, Decided, Settled, Reported}
-use Rattle.chorus_world.specs.declared.step.Due.{Due}
 use Rattle.chorus_world.specs.declared.step.Due.TheVariants.{NotDue, ByTry, AtHome}
 use Rattle.chorus_world.specs.Views.{Views, views, at, by, on, about, is_at, is_by, is_on, is_number, are_same, is_group, makes_group, finds_group}
 use Rattle.chorus_world.specs.Ports.{Fate, fate, last_of, is_made, is_held_at, is_ended_at, is_coming, has_room, is_full}
@@ -35,15 +34,16 @@ use Rattle.chorus_world.specs.Clients.{is_already, finds_clients_full}
 use Rattle.chorus_world.specs.Messages.{progress, is_to_be_heard}
 use Rattle.chorus_world.specs.Places.{located, is_location, is_first, just_taken}
 use Rattle.chorus_world.specs.Groups.{is_group_place, is_choosing_place, is_next_to}
-use Rattle.chorus_world.specs.Seats.{posts, posts_stay, hand, call, same_hand}
-use Rattle.chorus_world.specs.Steps.{act_may, act_follows, may, is_timely, may_stand_behind, is_legal, is_to_go, is_beyond, suits, due, due_by_try, is_due, is_due_with, is_tried_with, is_early, meets, may_enter, is_elsewhere, is_asked_from, may_tag, reply_to, may_choose_from, choice_from, is_taken_by, ends_call}
-use Rattle.chorus_world.specs.Order.{IsCausal, sort}
+use Rattle.chorus_world.specs.Seats.{posts, posts_stay, call, same_hand}
+use Rattle.chorus_world.specs.Steps.{act_may, may, is_timely, may_stand_behind, is_legal, is_to_go, is_beyond, suits, due, due_by_try, is_due, is_due_with, is_tried_with, is_early, meets, may_enter, is_elsewhere, is_asked_from, may_tag, reply_to, may_choose_from, choice_from, is_taken_by, ends_call}
+use Rattle.chorus_world.specs.Order.{sort}
 use Rattle.chorus_world.specs.SortingLaws.{LooksAtHome, AllLookAtHome, SortsLegally}
-use Rattle.chorus_world.proofs.Viewing.{entry, under, cond_idem}
-use Rattle.chorus_world.proofs.Local.{local_views, is_kept, is_deleted, act_may_here, follows_here, may_here}
+use Rattle.chorus_world.specs.LocationLaws.{path_of}
+use Rattle.chorus_world.proofs.LegalLemmas.{under, cond_idem}
+use Rattle.chorus_world.proofs.Local.{local_views, is_kept, is_deleted, act_may_here, may_here}
 use Rattle.chorus_world.proofs.Whereabouts.{Facts, holds, moves, has_ended, at_last}
-use Rattle.chorus_world.proofs.PortSteps.{PortFacts, Known, spot_in, path_in}
-use Rattle.chorus_world.proofs.MessageSteps.{Inv, Fits, IsAmong, may_act, legal_inv, location_known, located_known}
+use Rattle.chorus_world.proofs.PortSteps.{PortFacts, Known, spot_in}
+use Rattle.chorus_world.proofs.MessageSteps.{Inv, Fits, may_act, legal_inv, location_known, located_known}
 use Rattle.chorus_world.proofs.Posted.{IsPosted, AllPosted, filtered, busy_posted, heard_busy, first_posted, due_posted, elsewhere_posted, posted_more}
 use Rattle.chorus_world.proofs.Agreement.{Extends, extends_self, extends_sort, extends_before, post_agrees, site_agrees, already_agrees, clients_full_agrees, hand_agrees, taken_agrees, next_agrees}
 use Rattle.chorus_world.proofs.Exchange.{Chains, chains, all_find, all_find_sort, all_sort, chained}
@@ -185,15 +185,15 @@ last_hop q s ps k d at' m f p hop h le =
 
 -- The same of the past.
 
-held_is : (l : Layout) (q : Ui) (p : ℕ) (o : Option Fate) → is_held_at p o ≡ (holds (spot_in o) && (last_of 0 (path_in l q o) == p))
+held_is : (l : Layout) (q : Ui) (p : ℕ) (o : Option Fate) → is_held_at p o ≡ (holds (spot_in o) && (last_of 0 (path_of l q o) == p))
 held_is l q p None = refl
 held_is l q p (Some f) = refl
 
-ended_is : (l : Layout) (q : Ui) (p : ℕ) (o : Option Fate) → is_ended_at p o ≡ (has_ended (spot_in o) && (last_of 0 (path_in l q o) == p))
+ended_is : (l : Layout) (q : Ui) (p : ℕ) (o : Option Fate) → is_ended_at p o ≡ (has_ended (spot_in o) && (last_of 0 (path_of l q o) == p))
 ended_is l q p None = refl
 ended_is l q p (Some f) = refl
 
-coming_is : (l : Layout) (q : Ui) (p hop : ℕ) (o : Option Fate) → is_coming p hop o ≡ (moves (spot_in o) && (last_of 0 (path_in l q o) == p) && (hop == length (path_in l q o) - 1))
+coming_is : (l : Layout) (q : Ui) (p hop : ℕ) (o : Option Fate) → is_coming p hop o ≡ (moves (spot_in o) && (last_of 0 (path_of l q o) == p) && (hop == length (path_of l q o) - 1))
 coming_is l q p hop None = refl
 coming_is l q p hop (Some f) = refl
 
@@ -209,11 +209,11 @@ ended_here l past q p f = ended_is l q p (fate (on q past)) ∙ sym (f.ended p)
 
 unmade_here : (l : Layout) (past : List Entry) (q : Ui) (p : ℕ) → PortFacts l past q → Known l past q 0 p → not (is_made (fate (on q past))) ≡ (not (is_kept q (at p past)) && not (is_deleted q (at p past)) && ((located l q (at p past)).hop == 0))
 unmade_here l past q p f k =
-    ap not (made_is (fate (on q past))) ∙ find_unmade q (spot_in (fate (on q past))) (path_in l q (fate (on q past))) _ _ _ _ f p k
+    ap not (made_is (fate (on q past))) ∙ find_unmade q (spot_in (fate (on q past))) (path_of l q (fate (on q past))) _ _ _ _ f p k
 
 coming_here : (l : Layout) (past : List Entry) (q : Ui) (p hop : ℕ) → PortFacts l past q → Known l past q hop p → 0 < hop → (located l q (at p past)).hop ≤ hop → is_coming p hop (fate (on q past)) ≡ (not (is_kept q (at p past)) && not (is_deleted q (at p past)))
 coming_here l past q p hop f k pos le =
-    let ps = path_in l q (fate (on q past)) in
+    let ps = path_of l q (fate (on q past)) in
     let len = last_hop q (spot_in (fate (on q past))) ps _ _ _ _ f p hop k le in
     let last : last_of 0 ps ≡ p = some_same (last_of 0 ps) p (sym (at_last 0 ps hop len) ∙ k) in
     coming_is l q p hop (fate (on q past)) ∙ find_coming q (spot_in (fate (on q past))) ps _ _ _ _ f p hop k pos le len last

@@ -1,16 +1,15 @@
 -- Each accepted message stands at one position of one port, and has one fate.
-use Rattle.std.proofs.Common.{ℕ, ◌≡◌, ◌<◌, ◌≤◌, List, [], ◌∷◌, length, Option, Some, None, refl, sym, ◌∙◌, ap, subst, arith, inl, inr}
+use Rattle.std.proofs.Common.{ℕ, ◌≡◌, ◌<◌, List, [], ◌∷◌, length, Some, sym, ◌∙◌, ap, arith, inl, inr}
 use Rattle.std.specs.List.{slice_get}
 use Rattle.std.proofs.lemmas.Option.{slice_get_within}
 use Rattle.chorus_ui.specs.declared.ui.Ui.{Ui}
-use Rattle.chorus_ui.specs.declared.layout.Layout.{Layout}
 use Rattle.chorus_entry.specs.declared.entry.Entry.{Entry}
 use Rattle.chorus_entry.specs.declared.id.MsgId.{MsgId}
 use Rattle.chorus_entry.specs.declared.act.Act.TheVariants.{Accept}
 use Rattle.chorus_world.specs.Views.{on}
 use Rattle.chorus_world.specs.Ports.{Fate, fate}
-use Rattle.chorus_world.specs.Fates.{MessageFate, fate_at}
-use Rattle.chorus_world.specs.AcceptedLaws.{accepted_by, accepted_from, StandsOnce, HasOneFate, HasFate}
+use Rattle.chorus_world.specs.Fates.{fate_at}
+use Rattle.chorus_world.specs.AcceptedLaws.{accepted_by, accepted_from, StandsOnce, HasOneFate}
 use Rattle.chorus_world.proofs.LegalLemmas.{legal_parts}
 use Rattle.chorus_world.proofs.LineLemmas.{none_some}
 use Rattle.chorus_world.proofs.AcceptedLemmas.{accepted_before, accepted_belongs, accept_waits}

@@ -1,27 +1,24 @@
 -- The laws of one port: what it accepts stays, is received in order, and is discarded by its Delete entry.
-use Rattle.std.proofs.Common.{ℕ, ◌≡◌, ◌+◌, ◌-◌, ◌*◌, ◌%◌, ◌<◌, ◌≤◌, ◌==◌, Bool, true, false, ◌&&◌, ◌⊎◌, not, cond, List, [], ◌∷◌, ◌++◌, length, take, drop, nat_lt, nat_le, Option, Some, None, eqb, refl, sym, ◌∙◌, ap, subst, arith, inl, inr}
-use Rattle.std.specs.List.{filter, slice_get}
+use Rattle.std.proofs.Common.{ℕ, ◌≡◌, ◌+◌, ◌-◌, ◌*◌, ◌%◌, ◌<◌, ◌≤◌, ◌==◌, Bool, true, false, ◌&&◌, ◌⊎◌, not, cond, List, [], ◌∷◌, ◌++◌, length, take, drop, nat_le, Option, Some, None, refl, sym, ◌∙◌, ap, subst, arith, inl, inr}
 use Rattle.std.proofs.lemmas.Bool.{and_parts, eqb-true, eq-eqb, false≢true, cases_Bool}
 use Rattle.std.proofs.lemmas.List.{take-append-drop, append-nil, append_assoc}
 use Rattle.std.proofs.lemmas.Nat.{mod-mul-add}
 use Rattle.chorus_ui.specs.declared.ui.Ui.{Ui}
 use Rattle.chorus_ui.specs.declared.layout.Layout.{Layout}
-use Rattle.chorus_ui.specs.Name.{same_ui}
-use Rattle.chorus_ui.specs.Layout.{IsShape, has_actor, site_of, place_at, creation_place, first_place}
-use Rattle.chorus_ui.proofs.Names.{same_ui-self}
+use Rattle.chorus_ui.specs.Layout.{IsShape, has_actor, place_at, creation_place, first_place}
 use Rattle.chorus_entry.specs.declared.entry.Entry.{Entry}
 use Rattle.chorus_entry.specs.declared.id.MsgId.{MsgId}
 use Rattle.chorus_entry.specs.declared.act.Act.{Act}
-use Rattle.chorus_entry.specs.declared.act.Act.TheVariants.{Make, Accept, Full, Already, ClientsFull, Take, Empty, Rehome, Depart, Arrive, Delete}
+use Rattle.chorus_entry.specs.declared.act.Act.TheVariants.{Make, Accept, Arrive}
 use Rattle.chorus_entry.specs.Act.{held_port_of}
 use Rattle.chorus_world.specs.declared.port.Spot.{Spot}
 use Rattle.chorus_world.specs.declared.port.Spot.TheVariants.{Held, Moving, Ended}
-use Rattle.chorus_world.specs.Views.{views, are_same, is_on, is_at, on, at}
-use Rattle.chorus_world.specs.Ports.{Fate, fate, fate_after, is_made, is_held, is_moving, is_held_at, is_coming, changed}
+use Rattle.chorus_world.specs.Views.{views, is_on, is_at, on, at}
+use Rattle.chorus_world.specs.Ports.{Fate, fate, fate_after, is_made, is_held, is_moving, is_held_at}
 use Rattle.chorus_world.specs.Places.{ports_made, ports_after}
 use Rattle.chorus_world.specs.Steps.{act_may, is_legal, is_home, is_full_of_ports, next_number}
-use Rattle.chorus_world.specs.AcceptedLaws.{accepted_by, accepted_from, taken_by, taken_from, received, received_after, discarded, discarded_after, AcceptedGrows, ReceivesInOrder, KeepsToCapacity, DiscardsTheRest, EndsWithDelete}
-use Rattle.chorus_world.proofs.LegalLemmas.{entry, legal_parts, on_is, skips, keeps, under, cond_same}
+use Rattle.chorus_world.specs.AcceptedLaws.{accepted_by, accepted_from, taken_from, received, discarded, AcceptedGrows, ReceivesInOrder, KeepsToCapacity, DiscardsTheRest, EndsWithDelete}
+use Rattle.chorus_world.proofs.LegalLemmas.{entry, legal_parts, on_is, skips, keeps, under}
 use Rattle.chorus_world.proofs.LineLemmas.{Discards, Needs, needs, held_at, coming, LineFacts, LineIs, IsLine, MakesNew, step_line, none_some}
 
 -- a made port has a number that its creation place has given

@@ -1,10 +1,9 @@
 -- Each entry that may come next keeps what is so of each port; and where a port was, it was whatever follows.
-use Rattle.std.proofs.Common.{ℕ, ◌≡◌, ◌+◌, ◌-◌, ◌<◌, ◌≤◌, inl, inr, Bool, true, false, ◌==◌, nat_le, ◌&&◌, ◌||◌, not, cond, List, [], ◌∷◌, ◌++◌, length, Option, Some, None, is_some, eqb, refl, sym, ◌∙◌, ap, subst, arith}
-use Rattle.std.specs.List.{slice_get, filter}
-use Rattle.std.proofs.lemmas.Bool.{eqb-true, eq-eqb, cases_Bool, false≢true, true≢false, and_parts, false_from_ne_true}
+use Rattle.std.proofs.Common.{ℕ, ◌≡◌, ◌-◌, ◌<◌, Bool, true, false, ◌==◌, nat_le, ◌&&◌, ◌||◌, not, cond, List, [], ◌∷◌, length, Option, Some, None, is_some, refl, sym, ◌∙◌, ap, subst, arith}
+use Rattle.std.specs.List.{slice_get}
+use Rattle.std.proofs.lemmas.Bool.{eqb-true, false≢true, true≢false, and_parts, false_from_ne_true}
 use Rattle.chorus_ui.specs.declared.ui.Ui.{Ui}
 use Rattle.chorus_ui.specs.declared.layout.Layout.{Layout}
-use Rattle.chorus_ui.specs.Name.{same_ui}
 use Rattle.chorus_ui.specs.Layout.{IsShape, has_site, has_actor, place_at, creation_place, site_of}
 use Rattle.chorus_ui.proofs.Names.{from_same_ui}
 use Rattle.chorus_entry.specs.declared.entry.Entry.{Entry}
@@ -20,15 +19,20 @@ use Rattle.chorus_world.specs.declared.place.Location.{Location}
 use Rattle.chorus_world.specs.declared.place.Sent.{Sent}
 use Rattle.chorus_world.specs.declared.message.Progress.{Progress}
 use Rattle.chorus_world.specs.declared.message.Progress.TheVariants.{Decided}
-use Rattle.chorus_world.specs.Views.{views, at, on, about, is_at, is_on}
-use Rattle.chorus_world.specs.Ports.{Fate, fate, fate_after, last_of, is_held, is_moving, is_held_at, is_coming, is_next_hop, is_last, are_waiting, arrived}
-use Rattle.chorus_world.specs.Messages.{progress, is_to_be_told}
+use Rattle.chorus_world.specs.Views.{views, at, on, is_at, is_on}
+use Rattle.chorus_world.specs.Ports.{Fate, fate, fate_after, last_of, is_held, is_moving, is_held_at, is_coming, is_next_hop, are_waiting, arrived}
+use Rattle.chorus_world.specs.Messages.{is_to_be_told}
 use Rattle.chorus_world.specs.Places.{located, learned, farther, named_location, is_sent_to, find_sent, sent, taught}
-use Rattle.chorus_world.specs.Steps.{act_may, is_home, is_full_of_ports, next_number}
-use Rattle.chorus_world.proofs.Viewing.{entry, under, cond_idem, cond_idem_if, cond_agree}
-use Rattle.chorus_world.proofs.Local.{is_kept, kept_after, is_deleted, deleted_after}
+use Rattle.chorus_world.specs.Steps.{act_may, is_full_of_ports, next_number}
+use Rattle.chorus_world.specs.LocationLaws.{path_of}
+use Rattle.chorus_world.proofs.LegalLemmas.{entry, under, cond_idem, cond_same}
+use Rattle.chorus_world.proofs.Local.{is_kept, is_deleted}
 use Rattle.chorus_world.proofs.Whereabouts.{Facts, facts_same, facts_learn, facts_make, facts_rehome, facts_depart, facts_arrive, facts_delete, known_push}
-use Rattle.chorus_world.proofs.PortSteps.{PortFacts, Known, spot_in, path_in, next_at_home, still, moved, other, number_made, number_grows, made_at, is_still, path_still, same_or_not}
+use Rattle.chorus_world.proofs.PortSteps.{PortFacts, Known, spot_in, next_at_home, still, moved, other, number_made, number_grows, made_at, path_still, same_or_not}
+
+cond_agree : {A : Type 0} → (b : Bool) (x y z : A) → (b ≡ true → x ≡ y) → cond b x z ≡ cond b y z
+cond_agree true x y z h = h refl
+cond_agree false x y z h = refl
 
 held_spot : (s : Spot) → is_held s ≡ true → (a : Ui) × (s ≡ Held a)
 held_spot (Held a) h = (a, refl)
@@ -59,7 +63,7 @@ coming_fate p hop (Some f) h =
 facts_of : (l : Layout) (past : List Entry) (q : Ui) (f : Fate) (s : Spot) → PortFacts l past q → fate (on q past) ≡ Some f → f.spot ≡ s → Facts q (Some s) f.path (λ p. is_kept q (at p past)) (λ p. is_deleted q (at p past)) (λ p. located l q (at p past)) (next_at_home l q past)
 facts_of l past q f s facts was spot =
     subst (λ z. Facts q (Some z) f.path (λ p. is_kept q (at p past)) (λ p. is_deleted q (at p past)) (λ p. located l q (at p past)) (next_at_home l q past)) spot
-    (subst (λ o. Facts q (spot_in o) (path_in l q o) (λ p. is_kept q (at p past)) (λ p. is_deleted q (at p past)) (λ p. located l q (at p past)) (next_at_home l q past)) was facts)
+    (subst (λ o. Facts q (spot_in o) (path_of l q o) (λ p. is_kept q (at p past)) (λ p. is_deleted q (at p past)) (λ p. located l q (at p past)) (next_at_home l q past)) was facts)
 
 unmade_fate : (o : Option Fate) → is_some (spot_in o) ≡ false → o ≡ None
 unmade_fate None h = refl
@@ -91,7 +95,7 @@ port_make l past q c p s r a n shape f h =
     moved l past q e t
     (facts_same
     (facts_make p a (next_at_home l q (e ∷ past))
-    (subst (λ o. Facts q (spot_in o) (path_in l q o) (λ z. is_kept q (at z past)) (λ z. is_deleted q (at z past)) (λ z. located l q (at z past)) (next_at_home l q past)) new.0 f)
+    (subst (λ o. Facts q (spot_in o) (path_of l q o) (λ z. is_kept q (at z past)) (λ z. is_deleted q (at z past)) (λ z. located l q (at z past)) (next_at_home l q past)) new.0 f)
     new.2 (number_made l past c p s r a n q shape new.1 new.3))
     refl (ap (λ z. z ∷ []) new.2)
     (λ x. ap (λ b. cond (p == x) (b || is_kept q (at x past)) (is_kept q (at x past))) back)
@@ -111,7 +115,7 @@ port_rehome l past q c p s r a f h =
     (facts_same
     (facts_rehome a old.1 (facts_of l past q old.0 (Held old.1) f old.2 old.3))
     (sym (ap (λ o. spot_in (fate_after p (Rehome r a) o)) old.2))
-    (sym (ap (λ o. path_in l q (fate_after p (Rehome r a) o)) old.2))
+    (sym (ap (λ o. path_of l q (fate_after p (Rehome r a) o)) old.2))
     (λ x. cond_idem (p == x) (is_kept q (at x past)))
     (λ x. cond_idem (p == x) (is_deleted q (at x past)))
     (λ x. cond_idem (p == x) (located l q (at x past)))
@@ -134,7 +138,7 @@ port_depart l past q c p s r to a hop f h =
     (facts_same
     (facts_depart p to a old.1 (facts_of l past q old.0 (Held old.1) f old.2 old.3) old.4)
     (sym (ap (λ o. spot_in (fate_after p (Depart r to a hop) o)) old.2))
-    (sym (ap (λ o. path_in l q (fate_after p (Depart r to a hop) o)) old.2))
+    (sym (ap (λ o. path_of l q (fate_after p (Depart r to a hop) o)) old.2))
     (λ x. ap (λ b. cond (p == x) (not b && is_kept q (at x past)) (is_kept q (at x past))) back)
     (λ x. cond_idem (p == x) (is_deleted q (at x past)))
     (λ x. ap (λ b. cond (p == x) (farther (located l q (at x past)) (cond b (Some (record { to = to; hop = hop })) None)) (located l q (at x past))) back
@@ -152,7 +156,7 @@ port_arrive l past q c p s r hop f h =
     (facts_same
     (facts_arrive p hop old.1 (facts_of l past q old.0 (Moving old.1) f old.2 old.3) old.4 old.5)
     (sym (ap (λ o. spot_in (fate_after p (Arrive r hop) o)) old.2 ∙ ap (λ z. Some (arrived z)) old.3))
-    (sym (ap (λ o. path_in l q (fate_after p (Arrive r hop) o)) old.2))
+    (sym (ap (λ o. path_of l q (fate_after p (Arrive r hop) o)) old.2))
     (λ x. ap (λ b. cond (p == x) (b || is_kept q (at x past)) (is_kept q (at x past))) back)
     (λ x. cond_idem (p == x) (is_deleted q (at x past)))
     (λ x. ap (λ b. cond (p == x) (farther (located l q (at x past)) (cond b (Some (record { to = p; hop = hop })) None)) (located l q (at x past))) back)
@@ -170,7 +174,7 @@ port_delete l past q c p s r xs f h =
     (facts_same
     (facts_delete p old.1 (facts_of l past q old.0 (Held old.1) f old.2 old.3) old.4)
     (sym (ap (λ o. spot_in (fate_after p (Delete r xs) o)) old.2))
-    (sym (ap (λ o. path_in l q (fate_after p (Delete r xs) o)) old.2))
+    (sym (ap (λ o. path_of l q (fate_after p (Delete r xs) o)) old.2))
     (λ x. ap (λ b. cond (p == x) (not b && is_kept q (at x past)) (is_kept q (at x past))) back)
     (λ x. ap (λ b. cond (p == x) (b || is_deleted q (at x past)) (is_deleted q (at x past))) back)
     (λ x. cond_idem (p == x) (located l q (at x past)))
@@ -194,7 +198,7 @@ to_be_told p a (Decided from by r b) h =
     (by, r, λ i. Decided (eqb-true from p two.0 i) by r (sym (from_same_answer a b two.1) i))
 to_be_told p a _ h = absurd (false≢true h)
 
-told_facts : (l : Layout) (past : List Entry) (q : Ui) (p : ℕ) (m : Option Location) → PortFacts l past q → Teaches l past q m → Facts q (spot_in (fate (on q past))) (path_in l q (fate (on q past))) (λ r. is_kept q (at r past)) (λ r. is_deleted q (at r past)) (λ r. cond (p == r) (farther (located l q (at r past)) m) (located l q (at r past))) (next_at_home l q past)
+told_facts : (l : Layout) (past : List Entry) (q : Ui) (p : ℕ) (m : Option Location) → PortFacts l past q → Teaches l past q m → Facts q (spot_in (fate (on q past))) (path_of l q (fate (on q past))) (λ r. is_kept q (at r past)) (λ r. is_deleted q (at r past)) (λ r. cond (p == r) (farther (located l q (at r past)) m) (located l q (at r past))) (next_at_home l q past)
 told_facts l past q p None f g =
     facts_same f refl refl (λ _. refl) (λ _. refl) (λ r. cond_idem (p == r) (located l q (at r past))) (omega arith)
 told_facts l past q p (Some y) f g = facts_learn p y f g
@@ -238,32 +242,32 @@ ports_step l past q c p s a shape f g h = still l past q (entry c p s a) refl (�
 
 -- Where a port was with some hop, it was whatever follows.
 
-known_same : (l : Layout) (past : List Entry) (e : Entry) (q : Ui) (n p : ℕ) → path_in l q (fate_after e.place e.act (fate (on q past))) ≡ path_in l q (fate (on q past)) → Known l past q n p → Known l (e ∷ past) q n p
+known_same : (l : Layout) (past : List Entry) (e : Entry) (q : Ui) (n p : ℕ) → path_of l q (fate_after e.place e.act (fate (on q past))) ≡ path_of l q (fate (on q past)) → Known l past q n p → Known l (e ∷ past) q n p
 known_same l past e q n p h k =
     ap (λ ps. slice_get ps n)
-    (under (λ es. path_in l q (fate es)) (is_on (Some q) e) (e ∷ on q past) (on q past)
-    ∙ cond_idem_if (is_on (Some q) e) (path_in l q (fate_after e.place e.act (fate (on q past)))) (path_in l q (fate (on q past))) (λ _. h))
+    (under (λ es. path_of l q (fate es)) (is_on (Some q) e) (e ∷ on q past) (on q past)
+    ∙ cond_same (is_on (Some q) e) (path_of l q (fate_after e.place e.act (fate (on q past)))) (path_of l q (fate (on q past))) (λ _. h))
     ∙ k
 
 known_other : (l : Layout) (past : List Entry) (e : Entry) (q : Ui) (n p : ℕ) → is_on (Some q) e ≡ false → Known l past q n p → Known l (e ∷ past) q n p
-known_other l past e q n p off k = ap (λ b. slice_get (path_in l q (fate (cond b (e ∷ on q past) (on q past)))) n) off ∙ k
+known_other l past e q n p off k = ap (λ b. slice_get (path_of l q (fate (cond b (e ∷ on q past) (on q past)))) n) off ∙ k
 
-known_on : (l : Layout) (past : List Entry) (e : Entry) (q : Ui) (n p : ℕ) → is_on (Some q) e ≡ true → slice_get (path_in l q (fate_after e.place e.act (fate (on q past)))) n ≡ Some p → Known l (e ∷ past) q n p
-known_on l past e q n p t k = ap (λ b. slice_get (path_in l q (fate (cond b (e ∷ on q past) (on q past)))) n) t ∙ k
+known_on : (l : Layout) (past : List Entry) (e : Entry) (q : Ui) (n p : ℕ) → is_on (Some q) e ≡ true → slice_get (path_of l q (fate_after e.place e.act (fate (on q past)))) n ≡ Some p → Known l (e ∷ past) q n p
+known_on l past e q n p t k = ap (λ b. slice_get (path_of l q (fate (cond b (e ∷ on q past) (on q past)))) n) t ∙ k
 
-path_rehomed : (l : Layout) (q : Ui) (p : ℕ) (r a : Ui) (o : Option Fate) → path_in l q (fate_after p (Rehome r a) o) ≡ path_in l q o
+path_rehomed : (l : Layout) (q : Ui) (p : ℕ) (r a : Ui) (o : Option Fate) → path_of l q (fate_after p (Rehome r a) o) ≡ path_of l q o
 path_rehomed l q p r a None = refl
 path_rehomed l q p r a (Some f) = refl
 
-path_arrived : (l : Layout) (q : Ui) (p : ℕ) (r : Ui) (hop : ℕ) (o : Option Fate) → path_in l q (fate_after p (Arrive r hop) o) ≡ path_in l q o
+path_arrived : (l : Layout) (q : Ui) (p : ℕ) (r : Ui) (hop : ℕ) (o : Option Fate) → path_of l q (fate_after p (Arrive r hop) o) ≡ path_of l q o
 path_arrived l q p r hop None = refl
 path_arrived l q p r hop (Some f) = refl
 
-path_deleted : (l : Layout) (q : Ui) (p : ℕ) (r : Ui) (xs : List MsgId) (o : Option Fate) → path_in l q (fate_after p (Delete r xs) o) ≡ path_in l q o
+path_deleted : (l : Layout) (q : Ui) (p : ℕ) (r : Ui) (xs : List MsgId) (o : Option Fate) → path_of l q (fate_after p (Delete r xs) o) ≡ path_of l q o
 path_deleted l q p r xs None = refl
 path_deleted l q p r xs (Some f) = refl
 
-pub known_departed : (l : Layout) (q : Ui) (p : ℕ) (r : Ui) (to : ℕ) (a : Ui) (hop : ℕ) (o : Option Fate) (n z : ℕ) → slice_get (path_in l q o) n ≡ Some z → slice_get (path_in l q (fate_after p (Depart r to a hop) o)) n ≡ Some z
+pub known_departed : (l : Layout) (q : Ui) (p : ℕ) (r : Ui) (to : ℕ) (a : Ui) (hop : ℕ) (o : Option Fate) (n z : ℕ) → slice_get (path_of l q o) n ≡ Some z → slice_get (path_of l q (fate_after p (Depart r to a hop) o)) n ≡ Some z
 known_departed l q p r to a hop None n z h = h
 known_departed l q p r to a hop (Some f) n z h = known_push f.path to n z h
 
@@ -274,7 +278,7 @@ known_step l past q c p s (Make r a m) shape f h n z k =
     (λ is_r t back.
     let new = make_new l past p s q a m shape f (subst (λ z. act_may l (views past p s (Make z a m)) p s (Make z a m) ≡ true) (sym is_r) h) in
     known_on l past e q n z t
-    (ap (λ y. slice_get (y ∷ []) n) (sym new.2) ∙ (ap (λ o. slice_get (path_in l q o) n) (sym new.0) ∙ k)))
+    (ap (λ y. slice_get (y ∷ []) n) (sym new.2) ∙ (ap (λ o. slice_get (path_of l q o) n) (sym new.0) ∙ k)))
     (λ off back. known_other l past e q n z off k)
 known_step l past q c p s (Depart r to a hop) shape f h n z k =
     let e = entry c p s (Depart r to a hop) in

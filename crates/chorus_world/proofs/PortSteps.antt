@@ -1,46 +1,39 @@
 -- What is so of each port in every legal past, and that each entry that may come next keeps it.
-use Rattle.std.proofs.Common.{ℕ, ◌≡◌, ◌≢◌, ◌+◌, ◌-◌, ◌*◌, ◌/◌, ◌%◌, ◌<◌, ◌≤◌, zero, suc, inl, inr, Bool, true, false, ◌==◌, nat_le, ◌&&◌, ◌||◌, not, cond, List, [], ◌∷◌, ◌++◌, length, Option, Some, None, is_some, eqb, refl, sym, ◌∙◌, ap, subst, arith, add-mul, one-mul, mul-le-mul_right}
-use Rattle.std.specs.List.{slice_get, filter}
-use Rattle.std.proofs.lemmas.Bool.{eqb-true, eq-eqb, cases_Bool, false≢true, true≢false, and_parts, false_from_ne_true}
+use Rattle.std.proofs.Common.{ℕ, ◌≡◌, ◌≢◌, ◌+◌, ◌-◌, ◌*◌, ◌%◌, ◌<◌, ◌≤◌, zero, suc, inl, inr, Bool, true, false, cond, List, ◌∷◌, Option, Some, None, refl, sym, ◌∙◌, ap, subst, arith, add-mul, one-mul, mul-le-mul_right}
+use Rattle.std.specs.List.{slice_get}
+use Rattle.std.proofs.lemmas.Bool.{eq-eqb, cases_Bool, false≢true, true≢false, false_from_ne_true}
 use Rattle.chorus_ui.specs.declared.ui.Ui.{Ui}
 use Rattle.chorus_ui.specs.declared.layout.Layout.{Layout}
 use Rattle.chorus_ui.specs.Name.{same_ui}
-use Rattle.chorus_ui.specs.Layout.{IsShape, has_site, has_actor, place_at, creation_place, site_of}
+use Rattle.chorus_ui.specs.Layout.{IsShape, place_at, creation_place}
 use Rattle.chorus_ui.proofs.Names.{from_same_ui, same_ui-self}
 use Rattle.chorus_entry.specs.declared.entry.Entry.{Entry}
-use Rattle.chorus_entry.specs.declared.id.MsgId.{MsgId}
 use Rattle.chorus_entry.specs.declared.act.Act.{Act}
-use Rattle.chorus_entry.specs.declared.act.Act.TheVariants.{Make, Told, Rehome, Depart, Arrive, Delete}
+use Rattle.chorus_entry.specs.declared.act.Act.TheVariants.{Make, Rehome, Depart, Arrive, Delete}
 use Rattle.chorus_world.specs.declared.port.Spot.{Spot}
-use Rattle.chorus_world.specs.declared.port.Spot.TheVariants.{Held, Moving, Ended}
-use Rattle.chorus_world.specs.declared.place.Location.{Location}
-use Rattle.chorus_world.specs.Views.{views, at, on, is_at, is_on}
-use Rattle.chorus_world.specs.Ports.{Fate, fate, fate_after, last_of, is_held, is_moving, is_held_at, is_coming, is_next_hop, is_last, are_waiting}
-use Rattle.chorus_world.specs.Places.{located, learned, farther, named_location, ports_made, ports_after, is_sent_to, find_sent, sent, taught}
-use Rattle.chorus_world.specs.Steps.{act_may, is_home, is_full_of_ports, next_number}
-use Rattle.chorus_world.proofs.Viewing.{entry, under, cond_idem, cond_idem_if, cond_agree}
+use Rattle.chorus_world.specs.Views.{at, on, is_at, is_on}
+use Rattle.chorus_world.specs.Ports.{Fate, fate, fate_after}
+use Rattle.chorus_world.specs.Places.{located, learned, farther, ports_made, ports_after}
+use Rattle.chorus_world.specs.Steps.{next_number}
+use Rattle.chorus_world.specs.LocationLaws.{path_of}
+use Rattle.chorus_world.proofs.LegalLemmas.{entry, under, cond_same}
 use Rattle.chorus_world.proofs.Local.{is_kept, kept_after, is_deleted, deleted_after}
-use Rattle.chorus_world.proofs.Whereabouts.{Facts, facts_same, facts_learn, facts_make, facts_rehome, facts_depart, facts_arrive, facts_delete}
+use Rattle.chorus_world.proofs.Whereabouts.{Facts, facts_same}
 
 abbrev pub spot_in : Option Fate → Option Spot
 spot_in None = None
 spot_in (Some f) = Some f.spot
-
--- the places of its hops; of a port that is not made the place that its name tells
-abbrev pub path_in : Layout → Ui → Option Fate → List ℕ
-path_in l q None = (named_location l q).to ∷ []
-path_in l q (Some f) = f.path
 
 abbrev pub next_at_home : Layout → Ui → List Entry → ℕ
 next_at_home l q past = next_number l (creation_place l q) (at (creation_place l q) past)
 
 abbrev pub PortFacts : Layout → List Entry → Ui → Type 0
 PortFacts l past q =
-    Facts q (spot_in (fate (on q past))) (path_in l q (fate (on q past))) (λ p. is_kept q (at p past)) (λ p. is_deleted q (at p past)) (λ p. located l q (at p past)) (next_at_home l q past)
+    Facts q (spot_in (fate (on q past))) (path_of l q (fate (on q past))) (λ p. is_kept q (at p past)) (λ p. is_deleted q (at p past)) (λ p. located l q (at p past)) (next_at_home l q past)
 
 -- the port was at the place p with its n-th hop
 abbrev pub Known : Layout → List Entry → Ui → ℕ → ℕ → Type 0
-Known l past q n p = slice_get (path_in l q (fate (on q past))) n ≡ Some p
+Known l past q n p = slice_get (path_of l q (fate (on q past))) n ≡ Some p
 
 -- The numbers that a place gives.
 
@@ -110,7 +103,7 @@ spot_still p (Delete q xs) o h = absurd (false≢true h)
 spot_still p a None h = refl
 spot_still p a (Some f) h = refl
 
-pub path_still : (l : Layout) (q : Ui) (p : ℕ) (a : Act) (o : Option Fate) → is_still a ≡ true → path_in l q (fate_after p a o) ≡ path_in l q o
+pub path_still : (l : Layout) (q : Ui) (p : ℕ) (a : Act) (o : Option Fate) → is_still a ≡ true → path_of l q (fate_after p a o) ≡ path_of l q o
 path_still l q p (Make r b c) o h = absurd (false≢true h)
 path_still l q p (Rehome r b) o h = absurd (false≢true h)
 path_still l q p (Depart r to b hop) o h = absurd (false≢true h)
@@ -135,21 +128,21 @@ still l past q e h hl f =
     let o = fate (on q past) in
     let b = is_on (Some q) e in
     facts_same f
-    (sym (under (λ es. spot_in (fate es)) b (e ∷ on q past) (on q past) ∙ cond_idem_if b (spot_in (fate_after e.place e.act o)) (spot_in o) (λ _. spot_still e.place e.act o h)))
-    (sym (under (λ es. path_in l q (fate es)) b (e ∷ on q past) (on q past) ∙ cond_idem_if b (path_in l q (fate_after e.place e.act o)) (path_in l q o) (λ _. path_still l q e.place e.act o h)))
-    (λ p. under (is_kept q) (is_at p e) (e ∷ at p past) (at p past) ∙ cond_idem_if (is_at p e) (kept_after q e.act (is_kept q (at p past))) (is_kept q (at p past)) (λ _. kept_still q e.act (is_kept q (at p past)) h))
-    (λ p. under (is_deleted q) (is_at p e) (e ∷ at p past) (at p past) ∙ cond_idem_if (is_at p e) (deleted_after q e.act (is_deleted q (at p past))) (is_deleted q (at p past)) (λ _. deleted_still q e.act (is_deleted q (at p past)) h))
-    (λ p. under (located l q) (is_at p e) (e ∷ at p past) (at p past) ∙ cond_idem_if (is_at p e) (farther (located l q (at p past)) (learned q e.place (at p past) e.act)) (located l q (at p past)) (λ _. ap (λ m. farther (located l q (at p past)) m) (hl (at p past))))
+    (sym (under (λ es. spot_in (fate es)) b (e ∷ on q past) (on q past) ∙ cond_same b (spot_in (fate_after e.place e.act o)) (spot_in o) (λ _. spot_still e.place e.act o h)))
+    (sym (under (λ es. path_of l q (fate es)) b (e ∷ on q past) (on q past) ∙ cond_same b (path_of l q (fate_after e.place e.act o)) (path_of l q o) (λ _. path_still l q e.place e.act o h)))
+    (λ p. under (is_kept q) (is_at p e) (e ∷ at p past) (at p past) ∙ cond_same (is_at p e) (kept_after q e.act (is_kept q (at p past))) (is_kept q (at p past)) (λ _. kept_still q e.act (is_kept q (at p past)) h))
+    (λ p. under (is_deleted q) (is_at p e) (e ∷ at p past) (at p past) ∙ cond_same (is_at p e) (deleted_after q e.act (is_deleted q (at p past))) (is_deleted q (at p past)) (λ _. deleted_still q e.act (is_deleted q (at p past)) h))
+    (λ p. under (located l q) (is_at p e) (e ∷ at p past) (at p past) ∙ cond_same (is_at p e) (farther (located l q (at p past)) (learned q e.place (at p past) e.act)) (located l q (at p past)) (λ _. ap (λ m. farther (located l q (at p past)) m) (hl (at p past))))
     (number_grows l q e past)
 
 -- Entries on the line of the port, or of another port.
 
 -- what is so of the port behind an entry on its line
-pub moved : (l : Layout) (past : List Entry) (q : Ui) (e : Entry) → is_on (Some q) e ≡ true → Facts q (spot_in (fate_after e.place e.act (fate (on q past)))) (path_in l q (fate_after e.place e.act (fate (on q past)))) (λ r. cond (is_at r e) (kept_after q e.act (is_kept q (at r past))) (is_kept q (at r past))) (λ r. cond (is_at r e) (deleted_after q e.act (is_deleted q (at r past))) (is_deleted q (at r past))) (λ r. cond (is_at r e) (farther (located l q (at r past)) (learned q e.place (at r past) e.act)) (located l q (at r past))) (next_at_home l q (e ∷ past)) → PortFacts l (e ∷ past) q
+pub moved : (l : Layout) (past : List Entry) (q : Ui) (e : Entry) → is_on (Some q) e ≡ true → Facts q (spot_in (fate_after e.place e.act (fate (on q past)))) (path_of l q (fate_after e.place e.act (fate (on q past)))) (λ r. cond (is_at r e) (kept_after q e.act (is_kept q (at r past))) (is_kept q (at r past))) (λ r. cond (is_at r e) (deleted_after q e.act (is_deleted q (at r past))) (is_deleted q (at r past))) (λ r. cond (is_at r e) (farther (located l q (at r past)) (learned q e.place (at r past) e.act)) (located l q (at r past))) (next_at_home l q (e ∷ past)) → PortFacts l (e ∷ past) q
 moved l past q e t f =
     facts_same f
     (ap (λ b. spot_in (fate (cond b (e ∷ on q past) (on q past)))) (sym t))
-    (ap (λ b. path_in l q (fate (cond b (e ∷ on q past) (on q past)))) (sym t))
+    (ap (λ b. path_of l q (fate (cond b (e ∷ on q past) (on q past)))) (sym t))
     (λ p. under (is_kept q) (is_at p e) (e ∷ at p past) (at p past))
     (λ p. under (is_deleted q) (is_at p e) (e ∷ at p past) (at p past))
     (λ p. under (located l q) (is_at p e) (e ∷ at p past) (at p past))
@@ -160,10 +153,10 @@ pub other : (l : Layout) (past : List Entry) (q : Ui) (e : Entry) → is_on (Som
 other l past q e n hk hd hl f =
     facts_same f
     (ap (λ b. spot_in (fate (cond b (e ∷ on q past) (on q past)))) (sym n))
-    (ap (λ b. path_in l q (fate (cond b (e ∷ on q past) (on q past)))) (sym n))
-    (λ p. under (is_kept q) (is_at p e) (e ∷ at p past) (at p past) ∙ cond_idem_if (is_at p e) (kept_after q e.act (is_kept q (at p past))) (is_kept q (at p past)) (λ _. hk (is_kept q (at p past))))
-    (λ p. under (is_deleted q) (is_at p e) (e ∷ at p past) (at p past) ∙ cond_idem_if (is_at p e) (deleted_after q e.act (is_deleted q (at p past))) (is_deleted q (at p past)) (λ _. hd (is_deleted q (at p past))))
-    (λ p. under (located l q) (is_at p e) (e ∷ at p past) (at p past) ∙ cond_idem_if (is_at p e) (farther (located l q (at p past)) (learned q e.place (at p past) e.act)) (located l q (at p past)) (λ _. ap (λ m. farther (located l q (at p past)) m) (hl (at p past))))
+    (ap (λ b. path_of l q (fate (cond b (e ∷ on q past) (on q past)))) (sym n))
+    (λ p. under (is_kept q) (is_at p e) (e ∷ at p past) (at p past) ∙ cond_same (is_at p e) (kept_after q e.act (is_kept q (at p past))) (is_kept q (at p past)) (λ _. hk (is_kept q (at p past))))
+    (λ p. under (is_deleted q) (is_at p e) (e ∷ at p past) (at p past) ∙ cond_same (is_at p e) (deleted_after q e.act (is_deleted q (at p past))) (is_deleted q (at p past)) (λ _. hd (is_deleted q (at p past))))
+    (λ p. under (located l q) (is_at p e) (e ∷ at p past) (at p past) ∙ cond_same (is_at p e) (farther (located l q (at p past)) (learned q e.place (at p past) e.act)) (located l q (at p past)) (λ _. ap (λ m. farther (located l q (at p past)) m) (hl (at p past))))
     (number_grows l q e past)
 
 -- the two names are one, or neither test says so

@@ -1,11 +1,10 @@
 -- In a legal past each message that an entry is about, or takes, was posted.
-use Rattle.std.proofs.Common.{ℕ, ◌≡◌, ◌+◌, ◌<◌, ◌⊎◌, inl, inr, zero, suc, Bool, true, false, ◌==◌, nat_lt, nat_le, ◌&&◌, ◌||◌, not, cond, List, [], ◌∷◌, ◌++◌, length, Option, Some, None, is_some, is_none, eqb, refl, sym, ◌∙◌, ap, subst, arith}
+use Rattle.std.proofs.Common.{ℕ, ◌≡◌, ◌+◌, ◌⊎◌, inl, inr, zero, suc, Bool, true, false, ◌==◌, nat_lt, ◌&&◌, not, cond, List, [], ◌∷◌, ◌++◌, length, Option, Some, None, is_none, refl, sym, ◌∙◌, ap, subst}
 use Rattle.std.specs.List.{slice_get, filter}
 use Rattle.std.specs.Option.{option_or}
 use Rattle.std.proofs.lemmas.Bool.{eqb-true, eq-eqb, cases_Bool, false≢true, true≢false, and_parts, and_from, or_cases}
 use Rattle.chorus_ui.specs.declared.ui.Ui.{Ui}
 use Rattle.chorus_ui.specs.declared.layout.Layout.{Layout}
-use Rattle.chorus_ui.specs.Name.{same_ui}
 use Rattle.chorus_entry.specs.declared.entry.Entry.{Entry}
 use Rattle.chorus_entry.specs.declared.id.MsgId.{MsgId}
 use Rattle.chorus_entry.specs.declared.message.Message.{Message}
@@ -15,26 +14,22 @@ use Rattle.chorus_entry.specs.declared.answer.Answer.{Answer}
 use Rattle.chorus_entry.specs.declared.act.Act.{Act}
 use Rattle.chorus_entry.specs.declared.act.Act.TheVariants.{Make, Post, Accept, Full, Already, ClientsFull, Stale, Early, NoPort, Elsewhere, NoMember, Choose, Try, Told, Heard, Take, Gone}
 use Rattle.chorus_entry.specs.Act.{message_of}
-use Rattle.chorus_entry.specs.Answer.{same_answer}
 use Rattle.chorus_entry.specs.MsgId.{same_id}
-use Rattle.chorus_entry.proofs.Same.{from_same_id, same_id-self}
+use Rattle.chorus_entry.proofs.Same.{from_same_id}
 use Rattle.chorus_world.specs.declared.place.Sent.{Sent}
 use Rattle.chorus_world.specs.declared.message.Progress.{Progress}
 use Rattle.chorus_world.specs.declared.message.Progress.TheVariants.{Idle, Asked, Tried, Decided, Settled, Reported}
-use Rattle.chorus_world.specs.declared.step.Due.{Due}
-use Rattle.chorus_world.specs.declared.step.Due.TheVariants.{NotDue, ByTry, AtHome}
+use Rattle.chorus_world.specs.declared.step.Due.TheVariants.{NotDue, AtHome}
 use Rattle.chorus_world.specs.Views.{Views, views, at, by, on, about, is_at, is_by, is_on, is_about, are_same}
 use Rattle.chorus_world.specs.Posts.{Posted, post_of, posted_in, posted_by, source, site_asked, is_on_site}
-use Rattle.chorus_world.specs.Ports.{Fate, fate, fate_after, new_port, is_held_at, is_made, is_coming, is_ended_at, is_first_waiting, is_full, has_room}
+use Rattle.chorus_world.specs.Ports.{Fate, fate, fate_after, is_held_at, is_made, is_coming, is_ended_at, is_first_waiting, is_full, has_room}
 use Rattle.chorus_world.specs.Clients.{is_already, finds_clients_full}
 use Rattle.chorus_world.specs.Messages.{progress, is_to_be_told, is_to_be_heard}
-use Rattle.chorus_world.specs.Places.{located, is_location, sent, sent_by, sent_to, copies, find_sent, is_first, is_tried}
-use Rattle.chorus_world.specs.Groups.{choice, is_choosing_place}
+use Rattle.chorus_world.specs.Places.{located, is_location, sent, sent_by, sent_to, copies, find_sent, is_first}
 use Rattle.chorus_world.specs.Seats.{posts, posts_stay}
-use Rattle.chorus_world.specs.Steps.{act_may, due, due_by_try, due_at_home, is_due, is_due_with, is_tried_with, is_early, is_to_go, is_beyond, suits, meets, is_elsewhere, may_tag, may_choose_from, choice_from, is_asked_from}
+use Rattle.chorus_world.specs.Steps.{act_may, due, due_by_try, is_due, is_due_with, is_tried_with, is_early, is_to_go, is_beyond, suits, meets, is_elsewhere, may_tag, may_choose_from}
 use Rattle.chorus_world.proofs.SentLemmas.{find_sent_append}
-use Rattle.chorus_world.proofs.Viewing.{entry, under, filter_skip, filter_take}
-use Rattle.chorus_world.proofs.PortMoves.{to_be_told}
+use Rattle.chorus_world.proofs.LegalLemmas.{entry, under, skips, keeps}
 use Rattle.chorus_world.proofs.MessageSteps.{first_sent, to_go_parts}
 
 abbrev pub IsPosted : List Entry → MsgId → Type 0
@@ -99,7 +94,7 @@ about_posted past x (e ∷ es) h =
     elim (cases_Bool (is_about (Some x) e)) [
       | inl t ↦ inr (subst (IfPosted past) (id_of_message e.act x (about_is x (message_of e.act) t)) h.0)
       | inr n ↦ elim (about_posted past x es h.1) [
-        | inl empty ↦ inl (filter_skip (is_about (Some x)) e es n ∙ empty)
+        | inl empty ↦ inl (skips (is_about (Some x)) e es n ∙ empty)
         | inr p ↦ inr p
       ]
     ]
@@ -244,7 +239,7 @@ post_posted past c p s m d seat copy =
     let found : posted_by (source x) p (Post m d) ≡ Some new = ap (λ b. cond b (Some new) None) same in
     let y = or_some (posted_in (source x) (by x.seat past)) new in (
       y.0,
-      ap (posted_in (source x)) (filter_take (is_by x.seat) e past (eq-eqb s x.seat (sym seat)))
+      ap (posted_in (source x)) (keeps (is_by x.seat) e past (eq-eqb s x.seat (sym seat)))
           ∙ (ap (λ o. option_or (posted_in (source x) (by x.seat past)) o) found ∙ y.1),
     )
 

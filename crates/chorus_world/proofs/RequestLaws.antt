@@ -1,5 +1,5 @@
 -- A port accepts the requests of each client in the order of their numbers, each at most once.
-use Rattle.std.proofs.Common.{ℕ, ◌≡◌, ◌<◌, ◌≤◌, ◌==◌, Bool, true, false, cond, max, nat_le, List, [], ◌∷◌, length, Option, Some, None, eqb, refl, sym, ◌∙◌, ap, subst, arith, inl, inr}
+use Rattle.std.proofs.Common.{ℕ, ◌≡◌, ◌<◌, ◌≤◌, ◌==◌, Bool, true, false, cond, max, nat_le, List, [], ◌∷◌, Some, refl, sym, ◌∙◌, ap, subst, arith, inl, inr}
 use Rattle.std.specs.List.{slice_get}
 use Rattle.std.proofs.lemmas.Bool.{eq-eqb, and_parts, cases_lt}
 use Rattle.std.proofs.lemmas.Bool.Decides.{nat_tests}
@@ -13,16 +13,15 @@ use Rattle.chorus_entry.specs.declared.tag.Tag.TheVariants.{Plain, Request, Repl
 use Rattle.chorus_entry.specs.declared.act.Act.{Act}
 use Rattle.chorus_entry.specs.declared.act.Act.TheVariants.{Accept}
 use Rattle.chorus_world.specs.Views.{views, on}
-use Rattle.chorus_world.specs.Ports.{fate, fate_after, has_room}
+use Rattle.chorus_world.specs.Ports.{fate, has_room}
 use Rattle.chorus_world.specs.Posts.{Posted, post_of, tag_of, tag_from}
 use Rattle.chorus_world.specs.Clients.{kept, kept_after, kept_with, is_old}
 use Rattle.chorus_world.specs.Steps.{act_may, may_enter, is_legal}
 use Rattle.chorus_world.specs.AcceptedLaws.{accepted_by, accepted_from}
 use Rattle.chorus_world.specs.RequestLaws.{RequestsRise, RequestsOnce}
 use Rattle.chorus_world.proofs.LegalLemmas.{legal_parts}
-use Rattle.chorus_world.proofs.LineLemmas.{none_some}
 use Rattle.chorus_world.proofs.DueLemmas.{enters}
-use Rattle.chorus_world.proofs.MessageInvariant.{post_stays}
+use Rattle.chorus_world.proofs.PostLemmas.{post_stays}
 use Rattle.chorus_world.proofs.AcceptedLemmas.{accepted_after, accepted_before, accepted_posted, accept_waits, waiting_posted}
 
 -- what a port keeps of a client only grows

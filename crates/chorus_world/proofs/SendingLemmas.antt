@@ -1,26 +1,22 @@
 -- What a place has sent, tried and settled: how one entry more changes it, and which messages stand before one.
-use Rattle.std.proofs.Common.{ℕ, ◌≡◌, ◌+◌, ◌<◌, ◌≤◌, ◌==◌, Bool, true, false, ◌&&◌, ◌||◌, ◌⊎◌, not, cond, List, [], ◌∷◌, ◌++◌, length, Option, Some, None, eqb, refl, sym, ◌∙◌, ap, subst, arith, inl, inr}
-use Rattle.std.specs.List.{filter}
+use Rattle.std.proofs.Common.{ℕ, ◌≡◌, Bool, true, false, ◌&&◌, ◌||◌, ◌⊎◌, not, cond, List, [], ◌∷◌, ◌++◌, Option, Some, None, eqb, refl, sym, ◌∙◌, ap, subst, arith, inl, inr}
 use Rattle.std.specs.Option.{option_or}
-use Rattle.std.proofs.lemmas.Bool.{and_parts, eqb-true, eq-eqb, false≢true, cases_Bool, or_left, or_right, not-true}
-use Rattle.std.proofs.lemmas.Bool.Decides.{nat_tests}
+use Rattle.std.proofs.lemmas.Bool.{and_parts, eqb-true, eq-eqb, false≢true, or_left, or_right, not-true}
 use Rattle.chorus_ui.specs.declared.ui.Ui.{Ui}
 use Rattle.chorus_ui.specs.Name.{same_ui}
-use Rattle.chorus_ui.proofs.Names.{from_same_ui, same_ui-self}
+use Rattle.chorus_ui.proofs.Names.{from_same_ui}
 use Rattle.chorus_entry.specs.declared.entry.Entry.{Entry}
 use Rattle.chorus_entry.specs.declared.id.MsgId.{MsgId}
 use Rattle.chorus_entry.specs.declared.act.Act.{Act}
-use Rattle.chorus_entry.specs.declared.act.Act.TheVariants.{Post, Choose, Try, Told}
-use Rattle.chorus_entry.specs.declared.dest.Dest.TheVariants.{Port}
-use Rattle.chorus_entry.specs.declared.dest.Dest.{Dest}
-use Rattle.chorus_entry.specs.Act.{message_of, is_verdict}
+use Rattle.chorus_entry.specs.declared.act.Act.TheVariants.{Try, Told}
+use Rattle.chorus_entry.specs.Act.{message_of}
 use Rattle.chorus_entry.specs.MsgId.{same_id}
-use Rattle.chorus_entry.proofs.Same.{from_same_id, same_id-self}
+use Rattle.chorus_entry.proofs.Same.{same_id-self}
 use Rattle.chorus_world.specs.declared.place.Sent.{Sent}
-use Rattle.chorus_world.specs.Views.{are_same, is_at, at, is_about}
-use Rattle.chorus_world.specs.Places.{sent, sent_by, sent_to, copies, find_sent, settles, is_settling, is_settled, unsettled, same_route, first_for, tried_after, is_tried, is_first, is_first_as}
+use Rattle.chorus_world.specs.Views.{are_same, is_at, at}
+use Rattle.chorus_world.specs.Places.{sent, sent_by, find_sent, settles, is_settling, is_settled, unsettled, same_route, first_for, tried_after, is_tried, is_first, is_first_as}
 use Rattle.chorus_world.proofs.SentLemmas.{find_sent_append}
-use Rattle.chorus_world.proofs.LegalLemmas.{entry, skips, keeps, under, cond_idem, cond_same}
+use Rattle.chorus_world.proofs.LegalLemmas.{keeps, under, cond_same}
 use Rattle.chorus_world.proofs.LineLemmas.{none_some, id_is}
 
 eqb_sym : (a b : ℕ) → eqb a b ≡ eqb b a
@@ -29,7 +25,7 @@ eqb_sym a b = grind (arith, eqb-true, eq-eqb)
 pub same_id_sym : (x y : MsgId) → same_id x y ≡ same_id y x
 same_id_sym x y = grind (arith, eqb_sym)
 
-and_false : (b : Bool) → b && false ≡ false
+pub and_false : (b : Bool) → b && false ≡ false
 and_false true = refl
 and_false false = refl
 

@@ -1,31 +1,23 @@
 -- What is so of one message in every legal past: where it was sent, and how far it is.
-use Rattle.std.proofs.Common.{ℕ, ◌≡◌, ◌≢◌, ◌+◌, ◌<◌, ◌≤◌, ◌==◌, Bool, true, false, ◌&&◌, ◌||◌, ◌⊎◌, not, cond, List, [], ◌∷◌, ◌++◌, length, Option, Some, None, eqb, refl, sym, ◌∙◌, ap, subst, arith, inl, inr}
-use Rattle.std.specs.List.{filter}
-use Rattle.std.specs.Option.{option_or}
-use Rattle.std.proofs.lemmas.Bool.{and_parts, eqb-true, eq-eqb, false≢true, cases_Bool, or_left, or_right, not-true}
+use Rattle.std.proofs.Common.{ℕ, ◌≡◌, ◌<◌, true, false, List, [], Some, None, refl, sym, ◌∙◌, ap}
+use Rattle.std.proofs.lemmas.Bool.{false≢true}
 use Rattle.chorus_ui.specs.declared.ui.Ui.{Ui}
-use Rattle.chorus_ui.specs.Name.{same_ui}
-use Rattle.chorus_ui.proofs.Names.{from_same_ui, same_ui-self}
 use Rattle.chorus_entry.specs.declared.entry.Entry.{Entry}
 use Rattle.chorus_entry.specs.declared.id.MsgId.{MsgId}
-use Rattle.chorus_entry.specs.declared.answer.Answer.{Answer}
 use Rattle.chorus_entry.specs.declared.dest.Dest.{Dest}
-use Rattle.chorus_entry.specs.Act.{message_of}
 use Rattle.chorus_entry.specs.Answer.{is_final}
 use Rattle.chorus_entry.specs.Dest.{group_in}
-use Rattle.chorus_entry.specs.MsgId.{same_id}
-use Rattle.chorus_entry.proofs.Same.{from_same_id, same_id-self}
 use Rattle.chorus_world.specs.declared.place.Sent.{Sent}
 use Rattle.chorus_world.specs.declared.message.Progress.{Progress}
 use Rattle.chorus_world.specs.declared.message.Progress.TheVariants.{Idle, Asked, Tried, Decided, Settled, Reported}
-use Rattle.chorus_world.specs.Views.{is_about, at, by, about}
+use Rattle.chorus_world.specs.Views.{at, by, about}
 use Rattle.chorus_world.specs.Messages.{progress, verdict}
 use Rattle.chorus_world.specs.Places.{is_settled, is_tried}
 use Rattle.chorus_world.specs.Posts.{Posted, post_of, source}
 use Rattle.chorus_world.specs.Groups.{is_chosen}
 use Rattle.chorus_world.specs.Seats.{posts}
 use Rattle.chorus_world.proofs.LineLemmas.{none_some}
-use Rattle.chorus_world.proofs.SendingLemmas.{sent_as, IsAhead, FirstHere, some_is}
+use Rattle.chorus_world.proofs.SendingLemmas.{sent_as, IsAhead, FirstHere}
 
 -- the place `from` sent it to the port and tried it
 pub record IsUnderWay (x : MsgId) (past : List Entry) (from : ℕ) (q : Ui) : Type 0 where

@@ -1,10 +1,10 @@
 -- What is so of one port in every legal past, and how each change of the port keeps it: s is its spot, if it is made, ps
 -- its path, k whether each place keeps it, d whether each place saw it deleted, at where each place locates it, and m the
 -- number of the next port that its creation place makes.
-use Rattle.std.proofs.Common.{ℕ, ◌≡◌, ◌≢◌, ◌+◌, ◌-◌, ◌<◌, ◌≤◌, ◌⊎◌, inl, inr, zero, suc, Bool, true, false, ◌&&◌, cond, ◌==◌, List, [], ◌∷◌, ◌++◌, length, length-append, Option, Some, None, is_some, eqb, ltb, refl, sym, ◌∙◌, ap, subst, arith}
+use Rattle.std.proofs.Common.{ℕ, ◌≡◌, ◌+◌, ◌-◌, ◌<◌, ◌≤◌, inl, inr, zero, suc, Bool, true, false, ◌&&◌, cond, ◌==◌, List, [], ◌∷◌, ◌++◌, length, Option, Some, None, is_some, ltb, refl, sym, ◌∙◌, ap, subst, arith}
 use Rattle.std.specs.List.{slice_get}
 use Rattle.std.proofs.lemmas.List.{length_push}
-use Rattle.std.proofs.lemmas.Bool.{eqb-true, eq-eqb, ltb-true, ltb-false, cond_both, cases_eq, false≢true, true≢false}
+use Rattle.std.proofs.lemmas.Bool.{eq-eqb, ltb-true, ltb-false, cond_both, cases_eq, false≢true, true≢false}
 use Rattle.std.proofs.lemmas.Option.{slice_get_within}
 use Rattle.chorus_ui.specs.declared.ui.Ui.{Ui}
 use Rattle.chorus_world.specs.declared.port.Spot.{Spot}
@@ -12,7 +12,6 @@ use Rattle.chorus_world.specs.declared.port.Spot.TheVariants.{Held, Moving, Ende
 use Rattle.chorus_world.specs.declared.place.Location.{Location}
 use Rattle.chorus_world.specs.Ports.{last_of, is_held, is_moving, is_ended}
 use Rattle.chorus_world.specs.Places.{farther}
-use Rattle.chorus_world.proofs.PortLemmas.{last_of_push}
 
 abbrev pub holds : Option Spot → Bool
 holds None = false

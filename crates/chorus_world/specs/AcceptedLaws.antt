@@ -1,12 +1,14 @@
 -- The laws of what ports accept. They speak of every legal past, and so of each past on the way to it.
-use Rattle.std.specs.Prelude.{ℕ, ◌≡◌, ◌≤◌, ◌+◌, Bool, true, List, [], ◌∷◌, ◌++◌, length, take, Option, Some, None, slice_get}
+use Rattle.std.specs.Prelude.{ℕ, ◌≡◌, ◌≤◌, ◌+◌, true, List, [], ◌∷◌, ◌++◌, length, take, Option, Some, None, slice_get}
 use Rattle.chorus_ui.specs.declared.ui.Ui.{Ui}
 use Rattle.chorus_ui.specs.declared.layout.Layout.{Layout}
 use Rattle.chorus_ui.specs.Layout.{IsShape}
 use Rattle.chorus_entry.specs.declared.entry.Entry.{Entry}
 use Rattle.chorus_entry.specs.declared.id.MsgId.{MsgId}
+use Rattle.chorus_entry.specs.declared.answer.Answer.{Answer}
 use Rattle.chorus_entry.specs.declared.act.Act.{Act}
 use Rattle.chorus_entry.specs.declared.act.Act.TheVariants.{Take, Delete}
+use Rattle.chorus_world.specs.Messages.{verdict, verdict_by}
 use Rattle.chorus_world.specs.Views.{on}
 use Rattle.chorus_world.specs.Ports.{Fate, fate}
 use Rattle.chorus_world.specs.Fates.{MessageFate, fate_at}
@@ -95,3 +97,9 @@ abbrev pub EndsWithDelete : Type 0
 EndsWithDelete =
     (l : Layout) (newer past : List Entry) (q : Ui) (xs : List MsgId) → IsShape l → is_legal l (newer ++ past) ≡ true →
     discarded (on q past) ≡ Some xs → on q (newer ++ past) ≡ on q past
+
+-- a verdict of a message is the first verdict of it
+abbrev pub HasOneVerdict : Type 0
+HasOneVerdict =
+    (l : Layout) (past : List Entry) (e : Entry) (x : MsgId) (a : Answer) → is_legal l (e ∷ past) ≡ true →
+    verdict_by x e.act ≡ Some a → verdict x past ≡ None

@@ -15,6 +15,8 @@ pub mod Computing
 pub mod Refusals
 pub mod AcceptedLaws
 pub mod RequestLaws
+pub mod SenderLaws
+pub mod GroupLaws
 pub mod LocationLaws
 pub mod Order
 pub mod SortingLaws

@@ -1,5 +1,5 @@
 -- The laws of sorting: what is legal, and a run, in some order is so in the order by clock and place.
-use Rattle.std.specs.Prelude.{ℕ, ◌≡◌, ◌⊎◌, Bool, true, false, List, [], ◌∷◌, Option}
+use Rattle.std.specs.Prelude.{ℕ, ◌≡◌, ◌⊎◌, true, false, List, Option}
 use Rattle.std.specs.List.{All}
 use Rattle.chorus_ui.specs.declared.ui.Ui.{Ui}
 use Rattle.chorus_ui.specs.declared.layout.Layout.{Layout}
@@ -8,10 +8,12 @@ use Rattle.chorus_entry.specs.declared.entry.Entry.{Entry}
 use Rattle.chorus_entry.specs.declared.id.MsgId.{MsgId}
 use Rattle.chorus_entry.specs.declared.act.Act.{Act}
 use Rattle.chorus_entry.specs.declared.act.Act.TheVariants.{NoGroup}
+use Rattle.chorus_entry.specs.declared.command.Command.{Command}
 use Rattle.chorus_world.specs.Views.{at, by, about, on}
 use Rattle.chorus_world.specs.Groups.{is_group_place}
 use Rattle.chorus_world.specs.Steps.{is_legal}
 use Rattle.chorus_world.specs.Runs.{is_run}
+use Rattle.chorus_world.specs.Commands.{answers}
 use Rattle.chorus_world.specs.Order.{IsRising, IsCausal, sort}
 
 -- a NoGroup stands at the group's place, or the layout has no such site
@@ -47,3 +49,8 @@ KeepsViews = (past : List Entry) → IsCausal past → SortsViews past
 -- and the sorted list is in order: clock and place rise from each entry to the next
 abbrev pub SortsInOrder : Type 0
 SortsInOrder = (past : List Entry) → IsCausal past → IsRising (sort past)
+
+-- a NoGroup that answers a command looks at home
+abbrev pub AnswersLookAtHome : Type 0
+AnswersLookAtHome =
+    (l : Layout) (past : List Entry) (a : Ui) (c : Command) (e : Entry) → answers l past a c e ≡ true → LooksAtHome l e.place e.act

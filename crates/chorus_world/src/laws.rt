@@ -1,7 +1,9 @@
 //! The laws of the world. They speak of the definitions alone, over every legal list of entries, and make no call.
 
-ghost use Rattle.chorus_world.specs.AcceptedLaws.{StandsOnce, HasOneFate, AcceptedGrows, ReceivesInOrder, KeepsToCapacity, DiscardsTheRest, EndsWithDelete};
+ghost use Rattle.chorus_world.specs.AcceptedLaws.{StandsOnce, HasOneFate, AcceptedGrows, ReceivesInOrder, KeepsToCapacity, DiscardsTheRest, EndsWithDelete, HasOneVerdict};
 ghost use Rattle.chorus_world.specs.RequestLaws.{RequestsRise, RequestsOnce};
+ghost use Rattle.chorus_world.specs.SenderLaws.{KeepsSenderOrder};
+ghost use Rattle.chorus_world.specs.GroupLaws.{HasOneCopy, IsAcceptedOnce, IsAcceptedOnSite, IsChosenOnce, KeepsChoiceOrder};
 
 /// Each message that a port accepted stands at one position of one port, and so it has one fate: it was received, it is
 /// queued, it is under way or it was discarded.
@@ -29,9 +31,35 @@ pub fn deleted_port_discards_the_rest()
     ensures end { EndsWithDelete }
 {}
 
+/// A message has at most one verdict.
+pub fn message_has_one_verdict()
+    ensures { HasOneVerdict }
+{}
+
 /// Of each client, the numbers of the requests that a port accepted rise, and so it accepts each request at most once,
 /// however often it is posted.
 pub fn port_accepts_a_request_once()
     ensures rise { RequestsRise }
     ensures once { RequestsOnce }
+{}
+
+/// A port accepts the messages of one caller that came to it by one route in the order in which they were posted. A route is
+/// the direct one, or through one group.
+pub fn port_keeps_sender_order()
+    ensures { KeepsSenderOrder }
+{}
+
+/// A post to one member of a group has at most one copy and is accepted at most once, one that asks for a site only by a
+/// place on that site.
+pub fn functional_post_reaches_one_member()
+    ensures copy { HasOneCopy }
+    ensures accepted { IsAcceptedOnce }
+    ensures site { IsAcceptedOnSite }
+{}
+
+/// Members are chosen for each post to a group at most once, and the copies of the group's posts stand in each port in the
+/// order of their Choose entries.
+pub fn port_keeps_choice_order()
+    ensures once { IsChosenOnce }
+    ensures order { KeepsChoiceOrder }
 {}

@@ -8,10 +8,12 @@
 //! its rules (`Rules`). `Runs` and `Commands` say which lists are runs for callers and which perform commands.
 //!
 //! The layers above rest on this: [`World::apply`] takes an entry exactly where the step relation gives a world after it,
-//! and is then that world; else it names the rule and changes nothing.
+//! and is then that world; else it names the rule and changes nothing. [`laws`] has what holds of every legal list, and
+//! [`sorting`] where ports were, and that such a list is legal in the order by clock and place too.
 //!
 //! Begin with `world`. The other modules compute the terms of the definitions from the entries, one module for each
-//! subject, and each function says exactly which term it gives. They go over all entries each time. [`Progress`], [`Due`],
+//! subject, and each function says exactly which term it gives. They go over all entries each time, so that one
+//! entry may take up to the cube of the number of entries so far. [`Progress`], [`Due`],
 //! [`Sent`], [`Location`] and [`TakenReply`] are here for the definitions, which name them.
 #![tactic(auto)]
 
@@ -25,7 +27,7 @@ mod port;
 mod post;
 mod rule;
 mod seat;
-mod sorting;
+pub mod sorting;
 mod step;
 mod table;
 #[cfg(test)]
@@ -37,6 +39,5 @@ pub use fault::WorldFault;
 pub use message::Progress;
 pub use place::{Location, Sent, TakenReply};
 pub use port::{PortFate, Spot};
-pub use sorting::{locates_on_path, sorting_is_legal, sorting_keeps_views};
 pub use step::Due;
 pub use world::World;

@@ -1,11 +1,16 @@
 //! Laws of legal lists: where ports were, and what sorting keeps. They speak of the definitions alone, and make no call.
 
-ghost use Rattle.chorus_world.specs.LocationLaws.{LocatesOnPath};
-ghost use Rattle.chorus_world.specs.SortingLaws.{KeepsViews, SortsInOrder, SortsLegally, SortsRuns};
+ghost use Rattle.chorus_world.specs.LocationLaws.{LocatesOnPath, TriesWithinPath};
+ghost use Rattle.chorus_world.specs.SortingLaws.{AnswersLookAtHome, KeepsViews, SortsInOrder, SortsLegally, SortsRuns};
 
 /// A place locates a port only where the port was, with the hop that it had there.
 pub fn locates_on_path()
     ensures { LocatesOnPath }
+{}
+
+/// A message is tried at most once for each place where its port was: at most once more than the port has hops so far.
+pub fn tries_are_within_path()
+    ensures { TriesWithinPath }
 {}
 
 /// Where clock and place rise along each view of a list, the sorted list has these views as they were, and is in order.
@@ -19,4 +24,9 @@ pub fn sorting_keeps_views()
 pub fn sorting_is_legal()
     ensures legal { SortsLegally }
     ensures runs { SortsRuns }
+{}
+
+/// A NoGroup that answers a command stands at the group's place, or names a group of no site of the layout.
+pub fn answers_look_at_home()
+    ensures { AnswersLookAtHome }
 {}

@@ -54,15 +54,11 @@ fn try_from(alloc: Global, reader: &mut Reader<'_>, clock: u64) -> Result<Cargo,
 fn verdict_from(reader: &mut Reader<'_>, clock: u64) -> Result<Cargo, DecodeFault>
     ensures { Reads result reader.new (verdict_at clock reader.old) }
 {
-    let id = id_from(reader)?;
-    let port = name_from(reader, Kind::Port)?;
-    let route = route_from(reader)?;
-    let answer = told_from(reader, clock)?;
     Ok(Cargo::Verdict {
-        id,
-        port,
-        route,
-        answer,
+        id: id_from(reader)?,
+        port: name_from(reader, Kind::Port)?,
+        route: route_from(reader)?,
+        answer: told_from(reader, clock)?,
     })
 }
 

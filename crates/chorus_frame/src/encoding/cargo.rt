@@ -75,10 +75,7 @@ fn push_asked(dest: &Dest, out: &mut Vec<u8>) -> Result<(), AllocError>
     ensures held { OnOk result (IsHeldDest dest.now) }
 {
     let (mode, group, site) = match dest {
-        Dest::Port(port) => {
-            let _named = port.bits();
-            return Ok(());
-        }
+        Dest::Port(_) => return Ok(()),
         Dest::All(group) => (1, group, 0),
         Dest::One(group) => (2, group, 0),
         Dest::OneAt(group, site) => (3, group, *site),

@@ -1,3 +1,4 @@
+use Rattle.chorus_frame.proofs.Fronts.{fronts}
 use Rattle.chorus_frame.proofs.PacketFormats.{packet-again, whole-again, trails}
 use Rattle.chorus_frame.proofs.laws.packets_are_read_back.Goals as goal
 
@@ -9,3 +10,6 @@ returns-clause-whole c = whole-again
 
 pub returns-clause-trailing : goal.returns-clause-trailing
 returns-clause-trailing c = trails
+
+pub returns-clause-short : goal.returns-clause-short
+returns-clause-short c = fronts

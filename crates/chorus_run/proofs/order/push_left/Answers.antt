@@ -1,4 +1,3 @@
-use Rattle.std.proofs.Common.{◌≡◌, ◌++◌, ℕ, ◌≤◌, List, drop, map, refl, sym, ◌∙◌, ap}
 use Rattle.chorus_run.specs.Calls.{events_of}
 use Rattle.chorus_run.proofs.Scheduling.{left-below, left-added}
 use Rattle.chorus_run.proofs.order.push_left.Goals as goal

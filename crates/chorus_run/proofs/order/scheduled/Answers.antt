@@ -1,8 +1,8 @@
-use Rattle.std.proofs.Common.{◌≡◌, ◌++◌, [], ℕ, ◌+◌, ◌-◌, ◌*◌, ◌<◌, ◌≤◌, length, take, List, ◌∷◌, get_or, set, refl, sym, ◌∙◌, ap, subst, arith, Vec, Global}
+use Rattle.std.proofs.Common.{◌++◌, [], ℕ, ◌+◌, length, take, ◌∷◌, get_or, refl, sym, ◌∙◌, ap, subst, arith, Vec, Global}
 use Rattle.chorus_scene.specs.declared.scenario.Step.TheVariants as steps
 use Rattle.chorus_run.specs.declared.order.Call.{Call}
 use Rattle.chorus_run.specs.Calls.{AreNext}
-use Rattle.chorus_run.proofs.Scheduling.{HasNext, has-next, next-within, commands-are, next-below, performs-it, next-more, Done, done-take, done-step, done-idle}
+use Rattle.chorus_run.proofs.Scheduling.{has-next, commands-are, next-below, performs-it, next-more, Done, done-take, done-step, done-idle}
 use Rattle.chorus_run.proofs.order.scheduled.Goals as goal
 use Rattle.chorus_run.proofs.order.scheduled.Goals.{in-Step+in_ok-push, in_default}
 
@@ -73,19 +73,19 @@ loop-step-preserved c =
     let s = get_or items i (steps.Step 0) in
     let done : Done scene.scripts (take (i + 1) scene.schedule) c.match-step.calls.items c.match-step.next.items = done-take scene.scripts items scene.schedule i (steps.Step 0) c.match-step.calls.items c.match-step.next.items same lt
     (elim c.match-step.branch [
-      in-Step+in_ok-push w ↦
-        let k = w.in-Step.seat in
-        let has = has-next scene c.requires items i k (steps.Step 0) same lt w.in-Step.is in
-        let of = commands-are scene.scripts before next are k has c.scripts-scripts.result.now w.index-scripts-index.result w.commands.result.now c.scripts-scripts.ensures w.index-scripts-index.is w.commands.ensures in
-        let command = w.index-commands-index.result in
-        let performs = performs-it scene.scripts before next are k has w.index.result.now w.commands.result.now command w.index.ensures of w.index-commands-index.is in
-        let more = next-more scene.scripts before next are k has w.index_mut.result.now w.index_mut.ensures.value in
-        done-step scene.scripts before s c.loop-step.calls.items c.match-step.calls.items c.match-step.next.items k command _ c.loop-step.invariant.0 w.in-Step.is
-        (ap (λ (v : Vec Call Global). v.items) w.calls-is ∙ w.in_ok-push.ensures.items) refl performs
-        (subst (λ xs. AreNext scene.scripts (before ++ steps.Step k ∷ []) xs) (sym (ap (λ (v : Vec ℕ Global). v.items) w.next-is)) more)
+      | in-Step+in_ok-push w ↦
+          let k = w.in-Step.seat in
+          let has = has-next scene c.requires items i k (steps.Step 0) same lt w.in-Step.is in
+          let of = commands-are scene.scripts before next are k has c.scripts-scripts.result.now w.index-scripts-index.result w.commands.result.now c.scripts-scripts.ensures w.index-scripts-index.is w.commands.ensures in
+          let command = w.index-commands-index.result in
+          let performs = performs-it scene.scripts before next are k has w.index.result.now w.commands.result.now command w.index.ensures of w.index-commands-index.is in
+          let more = next-more scene.scripts before next are k has w.index_mut.result.now w.index_mut.ensures.value in
+          done-step scene.scripts before s c.loop-step.calls.items c.match-step.calls.items c.match-step.next.items k command _ c.loop-step.invariant.0 w.in-Step.is
+          (ap (λ (v : Vec Call Global). v.items) w.calls-is ∙ w.in_ok-push.ensures.items) refl performs
+          (subst (λ xs. AreNext scene.scripts (before ++ steps.Step k ∷ []) xs) (sym (ap (λ (v : Vec ℕ Global). v.items) w.next-is)) more)
       | in_default w ↦
-        subst (λ (v : Vec Call Global). Done scene.scripts (before ++ s ∷ []) v.items c.match-step.next.items) (sym w.calls-is)
-        (subst (λ (v : Vec ℕ Global). Done scene.scripts (before ++ s ∷ []) c.loop-step.calls.items v.items) (sym w.next-is)
-        (done-idle scene.scripts before s c.loop-step.calls.items next c.loop-step.invariant.0 are w.in_default.not-Step))
+          subst (λ (v : Vec Call Global). Done scene.scripts (before ++ s ∷ []) v.items c.match-step.next.items) (sym w.calls-is)
+          (subst (λ (v : Vec ℕ Global). Done scene.scripts (before ++ s ∷ []) c.loop-step.calls.items v.items) (sym w.next-is)
+          (done-idle scene.scripts before s c.loop-step.calls.items next c.loop-step.invariant.0 are w.in_default.not-Step))
     ]) in
     (done.events, done.are)

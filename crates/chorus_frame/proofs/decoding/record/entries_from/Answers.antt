@@ -1,7 +1,6 @@
 use Rattle.std.proofs.Common.{arith}
 use Rattle.std.proofs.lemmas.Grind.{common_steps}
 use Rattle.std.proofs.lemmas.Result.{err_from_is_err_and}
-use Rattle.chorus_frame.specs.Reading.{entries_at}
 use Rattle.chorus_frame.proofs.Loops.{entries-on, entries-fail, entries-done}
 use Rattle.chorus_frame.proofs.decoding.record.entries_from.Goals as goal
 

@@ -1,7 +1,6 @@
 use Rattle.std.proofs.Common.{arith}
 use Rattle.std.proofs.lemmas.Grind.{common_steps}
 use Rattle.std.proofs.lemmas.Result.{err_from_is_err_and}
-use Rattle.chorus_frame.specs.Reading.{messages_at}
 use Rattle.chorus_frame.proofs.Loops.{messages-on, messages-fail, messages-done}
 use Rattle.chorus_frame.proofs.decoding.record.messages_from.Goals as goal
 

@@ -1,0 +1,84 @@
+-- The laws of posts to groups: what a functional post reaches, and the order of a group's posts at its members.
+use Rattle.std.specs.Prelude.{ℕ, ◌≡◌, ◌<◌, ◌≤◌, Bool, true, false, cond, List, [], ◌∷◌, ◌++◌, length, Some, slice_get}
+use Rattle.chorus_ui.specs.declared.ui.Ui.{Ui}
+use Rattle.chorus_ui.specs.declared.layout.Layout.{Layout}
+use Rattle.chorus_ui.specs.Name.{same_ui}
+use Rattle.chorus_ui.specs.Layout.{site_of}
+use Rattle.chorus_entry.specs.declared.entry.Entry.{Entry}
+use Rattle.chorus_entry.specs.declared.id.MsgId.{MsgId}
+use Rattle.chorus_entry.specs.declared.dest.Dest.{Dest}
+use Rattle.chorus_entry.specs.declared.dest.Dest.TheVariants.{One, OneAt}
+use Rattle.chorus_entry.specs.declared.act.Act.{Act}
+use Rattle.chorus_entry.specs.declared.act.Act.TheVariants.{Accept, Choose}
+use Rattle.chorus_entry.specs.MsgId.{same_id}
+use Rattle.chorus_world.specs.declared.place.Sent.{Sent}
+use Rattle.chorus_world.specs.Places.{copies}
+use Rattle.chorus_world.specs.Posts.{Posted, post_of, source, site_asked}
+use Rattle.chorus_world.specs.Steps.{is_legal}
+use Rattle.chorus_world.specs.AcceptedLaws.{accepted_by}
+use Rattle.chorus_world.specs.SenderLaws.{route_of}
+
+-- it goes to one member of a group
+abbrev pub is_functional : Dest → Bool
+is_functional (One g) = true
+is_functional (OneAt g s) = true
+is_functional _ = false
+
+-- the copies that the Choose entries of the post x make
+abbrev pub copies_by : MsgId → Act → List Sent
+copies_by x (Choose y g qs) = cond (same_id y x) (copies y g 1 qs) []
+copies_by x _ = []
+
+abbrev pub copies_of : MsgId → List Entry → List Sent
+copies_of x [] = []
+copies_of x (e ∷ past) = copies_of x past ++ copies_by x e.act
+
+-- a functional post has at most one copy
+abbrev pub HasOneCopy : Type 0
+HasOneCopy =
+    (l : Layout) (past : List Entry) (x : MsgId) (post : Posted) → is_legal l past ≡ true → post_of x past ≡ Some post →
+    is_functional post.dest ≡ true → length (copies_of x past) ≤ 1
+
+-- it is accepted at most once: two accepted messages of one functional post are one message at one position of one port
+abbrev pub IsAcceptedOnce : Type 0
+IsAcceptedOnce =
+    (l : Layout) (past : List Entry) (q r : Ui) (i j : ℕ) (x y : MsgId) (post : Posted) → is_legal l past ≡ true →
+    post_of x past ≡ Some post → is_functional post.dest ≡ true → source x ≡ source y →
+    slice_get (accepted_by q past) i ≡ Some x → slice_get (accepted_by r past) j ≡ Some y →
+    (x ≡ y) × (q ≡ r) × (i ≡ j)
+
+-- and one that asks for a site is accepted only by a place on that site
+abbrev pub IsAcceptedOnSite : Type 0
+IsAcceptedOnSite =
+    (l : Layout) (past : List Entry) (e : Entry) (x : MsgId) (port : Ui) (position site : ℕ) → is_legal l (e ∷ past) ≡ true →
+    e.act ≡ Accept x port position → site_asked x past ≡ Some site → site_of l e.place ≡ site
+
+-- the posts of the Choose entries of a group, in order
+abbrev pub choice_by : Ui → Act → List MsgId
+choice_by g (Choose x h qs) = cond (same_ui h g) (x ∷ []) []
+choice_by g _ = []
+
+abbrev pub choices_of : Ui → List Entry → List MsgId
+choices_of g [] = []
+choices_of g (e ∷ past) = choices_of g past ++ choice_by g e.act
+
+-- each post has at most one Choose
+abbrev pub IsChosenOnce : Type 0
+IsChosenOnce =
+    (l : Layout) (past : List Entry) (g : Ui) (i j : ℕ) (x : MsgId) → is_legal l past ≡ true →
+    slice_get (choices_of g past) i ≡ Some x → slice_get (choices_of g past) j ≡ Some x → i ≡ j
+
+-- x stands in the list before y
+pub record StandsBefore (x y : MsgId) (xs : List MsgId) : Type 0 where
+  pub first : ℕ
+  pub second : ℕ
+  pub less : first < second
+  pub is_first : slice_get xs first ≡ Some x
+  pub is_second : slice_get xs second ≡ Some y
+
+-- the copies of a group's posts stand in each port in the order of their Choose entries
+abbrev pub KeepsChoiceOrder : Type 0
+KeepsChoiceOrder =
+    (l : Layout) (past : List Entry) (port : Ui) (i j : ℕ) (x y : MsgId) (group : Ui) → is_legal l past ≡ true →
+    i < j → slice_get (accepted_by port past) i ≡ Some x → slice_get (accepted_by port past) j ≡ Some y →
+    route_of x past ≡ Some group → route_of y past ≡ Some group → StandsBefore (source x) (source y) (choices_of group past)
