@@ -38,7 +38,8 @@ use Rattle.chorus_world.proofs.MessageSteps.{may_act, legal_inv, to_go_parts, lo
 use Rattle.chorus_world.proofs.SendingLemmas.{sent_as, FirstHere, first_here, sent_stays}
 use Rattle.chorus_world.proofs.StageLemmas.{MessageFacts, first_is_idle}
 use Rattle.chorus_world.proofs.DueLemmas.{IsDue, IsTriedAt, due_accept, due_full, due_already, due_clients_full, due_stale, due_early, due_no_port, due_elsewhere, due_gone, first_try}
-use Rattle.chorus_world.proofs.MessageInvariant.{post_needs, legal_messages}
+use Rattle.chorus_world.proofs.PostLemmas.{post_needs}
+use Rattle.chorus_world.proofs.MessageInvariant.{legal_messages}
 
 -- what an answer says of the number of tries before it
 abbrev BoundBy : ℕ → Answer → Type 0
