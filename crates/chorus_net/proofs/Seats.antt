@@ -1,19 +1,18 @@
 -- A command of a seat that was given.
-use Rattle.std.proofs.Common.{◌≡◌, ℕ, ◌<◌, ◌≤◌, ◌==◌, max, Bool, true, false, ◌&&◌, Option, Some, None, Result, Ok, Err, IfOk, OnOk, IfSome, List, length, slice_get, slice_set, refl, sym, ◌∙◌, ap, subst, eqb-true}
+use Rattle.std.proofs.Common.{◌≡◌, ℕ, ◌<◌, ◌==◌, true, ◌&&◌, Option, Some, None, Result, Ok, Err, IfOk, OnOk, length, slice_get, slice_set, refl, sym, ◌∙◌, ap, subst, eqb-true}
 use Rattle.std.proofs.lemmas.Bool.{and_parts}
 use Rattle.std.proofs.lemmas.Option.{slice_get_within}
 use Rattle.std.specs.Option.{option_map}
-use Rattle.chorus_ui.specs.declared.ui.Ui.{Ui}
 use Rattle.chorus_ui.specs.declared.layout.Layout.{Layout}
 use Rattle.chorus_entry.specs.declared.command.Command.{Command}
 use Rattle.chorus_entry.specs.Command.{meets_conditions, has_kinds_in_command}
 use Rattle.chorus_entry.specs.Places.{place_for}
 use Rattle.chorus_calls.specs.Callers.{Seated}
 use Rattle.chorus_place.specs.declared.reply.Reply.{Reply}
-use Rattle.chorus_place.specs.State.{PlaceState, Turn}
+use Rattle.chorus_place.specs.State.{PlaceState}
 use Rattle.chorus_place.specs.Machine.{is_built, call, reply}
 use Rattle.chorus_place.specs.Calls.{MayCall}
-use Rattle.chorus_net.specs.Sites.{SitesState, put_back, acted, acted_by, replied, actor_of, compared, last_of}
+use Rattle.chorus_net.specs.Sites.{SitesState, put_back, acted, acted_by, replied, actor_of}
 use Rattle.chorus_net.specs.OnePlace.{may_give}
 
 -- a seat that may give a command was given

@@ -1,5 +1,5 @@
 -- What closing gives.
-use Rattle.std.specs.Prelude.{◌≡◌, ℕ, List, [], ◌∷◌, map, reverse}
+use Rattle.std.specs.Prelude.{◌≡◌, List, [], ◌∷◌, map, reverse}
 use Rattle.std.specs.Global.{Vec}
 use Rattle.chorus_entry.specs.declared.entry.Entry.{Entry}
 use Rattle.chorus_entry.specs.declared.record.PortRecord.{PortRecord}

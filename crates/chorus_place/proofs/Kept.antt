@@ -1,9 +1,8 @@
 -- What a place keeps stays kept with each entry.
-use Rattle.std.proofs.Common.{◌≡◌, ◌≢◌, ℕ, max, Bor, option_copied, is_none, IfSome, subst₂, ◌+◌, ◌-◌, ◌*◌, ◌/◌, ◌%◌, ◌<◌, ◌≤◌, Bool, true, false, cond, Option, Some, None, is_some, IsSome, List, [], ◌∷◌, ◌++◌, length, length-append, add-mul, one-mul, refl, sym, ◌∙◌, ap, subst, arith, rules}
+use Rattle.std.proofs.Common.{◌≡◌, ℕ, max, Bor, option_copied, IfSome, subst₂, ◌+◌, ◌-◌, ◌*◌, ◌%◌, ◌<◌, ◌≤◌, Bool, true, false, cond, Option, Some, None, is_some, List, [], ◌∷◌, ◌++◌, length, length-append, add-mul, one-mul, refl, sym, ◌∙◌, ap, subst, arith}
 use Rattle.std.specs.Option.{option_map}
 use Rattle.std.proofs.Math.Nat.{le-max_left}
 use Rattle.chorus_ui.specs.declared.ui.Ui.{Ui}
-use Rattle.chorus_ui.specs.declared.kind.Kind.TheVariants as kinds
 use Rattle.chorus_ui.specs.declared.layout.Layout.{Layout}
 use Rattle.chorus_ui.specs.Name.{same_ui}
 use Rattle.chorus_ui.proofs.Names.{from_same_ui}
@@ -20,7 +19,7 @@ use Rattle.chorus_ports.specs.declared.deciding.Accept.TheVariants as accepts
 use Rattle.chorus_ports.specs.declared.taking.Taken.{Taken}
 use Rattle.chorus_ports.specs.declared.taking.Taken.TheVariants as takes
 use Rattle.chorus_ports.specs.Table.{find, replace}
-use Rattle.chorus_ports.specs.Deciding.{answer_to, answered, after_offer, enqueued}
+use Rattle.chorus_ports.specs.Deciding.{answer_to, answered, after_offer}
 use Rattle.chorus_ports.specs.Taking.{passed, after_take}
 use Rattle.chorus_ports.proofs.Tables.{KeepsName, find-replace, held-replace, find-last}
 use Rattle.chorus_place.specs.Calls.{IsKept}

@@ -1,4 +1,4 @@
-use Rattle.std.proofs.Common.{◌≡◌, ◌≤◌, ◌+◌, ℕ, length, map, ◌++◌, vec_len, vec_capacity}
+use Rattle.std.proofs.Common.{◌≡◌, ◌≤◌, ◌+◌, length, map, ◌++◌, vec_len, vec_capacity}
 use Rattle.chorus_net.specs.Closing.{placed}
 use Rattle.chorus_net.proofs.sites.Sites.close.Given as goal
 

@@ -1,4 +1,4 @@
-use Rattle.std.proofs.Common.{ap, ◌∙◌, refl, sym, rules, arith, le_of_lt}
+use Rattle.std.proofs.Common.{ap, refl, arith, le_of_lt}
 use Rattle.chorus_place.proofs.Kept.{kept-added, made-by, later-by, absent-next}
 use Rattle.chorus_place.proofs.place.Place.make.Goals as goal
 

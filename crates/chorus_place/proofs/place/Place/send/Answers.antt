@@ -1,4 +1,4 @@
-use Rattle.std.proofs.Common.{ap, ◌∙◌, refl, sym, rules, arith, lt_trans}
+use Rattle.std.proofs.Common.{ap, ◌∙◌, refl, rules, arith, lt_trans}
 use Rattle.std.proofs.Math.Nat.{le-max_left}
 use Rattle.chorus_world.specs.Places.{last_clock}
 use Rattle.chorus_ports.specs.Deciding.{after_offer}

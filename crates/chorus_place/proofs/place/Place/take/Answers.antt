@@ -1,5 +1,4 @@
 use Rattle.std.proofs.Common.{ap, ◌∙◌, refl}
-use Rattle.chorus_world.specs.Places.{last_clock}
 use Rattle.chorus_ports.specs.Taking.{after_take}
 use Rattle.chorus_place.proofs.Kept.{kept-replaced, take-name, take-end, take-makes_none, made-by, later-by}
 use Rattle.chorus_place.proofs.place.Place.take.Goals as goal
