@@ -11,6 +11,8 @@ mod closed;
 mod fault;
 mod laws;
 mod sites;
+#[cfg(test)]
+mod tests;
 
 pub use closed::{Closed, Placed};
 pub use fault::EnterFault;

@@ -10,6 +10,8 @@ mod fault;
 mod journal;
 mod place;
 mod reply;
+#[cfg(test)]
+mod tests;
 mod turn;
 
 pub use fault::{PlaceFault, WORN};

@@ -74,10 +74,10 @@ next-at c s before part behind i e whole h now =
       front = before ++ take i part;
       rest = drop (i + 1) part ++ behind;
       whole =
-        whole
-        ∙ (ap (λ xs. before ++ xs ++ behind) (part-at part i e h)
-        ∙ (ap (λ xs. xs ++ behind) (sym (append_assoc before (take i part) (e ∷ drop (i + 1) part)))
-        ∙ append_assoc (before ++ take i part) (e ∷ drop (i + 1) part) behind));
+          whole
+          ∙ (ap (λ xs. before ++ xs ++ behind) (part-at part i e h)
+          ∙ (ap (λ xs. xs ++ behind) (sym (append_assoc before (take i part) (e ∷ drop (i + 1) part)))
+          ∙ append_assoc (before ++ take i part) (e ∷ drop (i + 1) part) behind));
       now = now;
     }
 
@@ -159,5 +159,5 @@ pub calls-done : (c : Scene) (s : SitesState) (calls : List Call) (n : ℕ) → 
 calls-done c s calls n e all now =
     let len = length-map calls event_of in
     let whole : (in_setup c ++ entering c) ++ take n (events_of calls) ≡ order c =
-        ap (λ xs. (in_setup c ++ entering c) ++ xs) (take_all n (events_of calls) (omega (arith, len, all)) ∙ e) ∙ sym (order-enter c)
+    ap (λ xs. (in_setup c ++ entering c) ++ xs) (take_all n (events_of calls) (omega (arith, len, all)) ∙ e) ∙ sym (order-enter c)
     in now ∙ ap (λ xs. after c.layout (reverse xs)) whole

@@ -194,21 +194,43 @@ fn fills_to_capacity(rt: HostRuntime) -> Result<(), Fail> {
 #[test]
 fn texts_are_refused_with_line_and_reason(rt: HostRuntime) -> Result<(), Fail> {
     let body = String::from_utf8(Vec::from_slice(rt.alloc(), &[b'b'; 241])?)?;
-    let long = format!(in rt.alloc(); "chorus 1\nsites 1\nscript 1.a.1\nsend 1.p.1 ={body}\nschedule\nend")?;
+    let long = format!(in rt.alloc();
+        "chorus 1\nsites 1\nscript 1.a.1\nsend 1.p.1 ={body}\nschedule\nend"
+    )?;
     for (text, line, reason) in [
         (long.as_str(), 4, 6),
         ("chorus 1\nsites 1\nport 1.p.1 1.a.1 0\nschedule\nend", 3, 6),
-        ("chorus 1\nsites 1\nport 1.p.1 1.a.1 65\nschedule\nend", 3, 6),
+        (
+            "chorus 1\nsites 1\nport 1.p.1 1.a.1 65\nschedule\nend",
+            3,
+            6,
+        ),
         ("chorus 1\nsites 1\nschedule\n", 4, 9),
         ("chorus 1\nsites 2\nscript 3.a.1\nschedule\nend", 3, 4),
-        ("chorus 1\nsites 1\nscript 1.a.1\nschedule\nstep 1\nend", 5, 10),
+        (
+            "chorus 1\nsites 1\nscript 1.a.1\nschedule\nstep 1\nend",
+            5,
+            10,
+        ),
         ("", 1, 9),
         // Accepted, but not built yet.
         ("chorus 1\nsites 2\nscript 1.a.1\nschedule\nend", 0, 0),
         ("chorus 1\nsites 1\ngroup 1.g.1\nschedule\nend", 0, 0),
-        ("chorus 1\nsites 1\nscript 1.a.1\nretry\nschedule\nend", 0, 0),
-        ("chorus 1\nsites 1\nscript 1.a.1\none 1.g.1 =x\nschedule\nend", 0, 0),
-        ("chorus 1\nsites 1\nscript 1.a.1\nmove 1.p.1 1.a.2\nschedule\nend", 0, 0),
+        (
+            "chorus 1\nsites 1\nscript 1.a.1\nretry\nschedule\nend",
+            0,
+            0,
+        ),
+        (
+            "chorus 1\nsites 1\nscript 1.a.1\none 1.g.1 =x\nschedule\nend",
+            0,
+            0,
+        ),
+        (
+            "chorus 1\nsites 1\nscript 1.a.1\nmove 1.p.1 1.a.2\nschedule\nend",
+            0,
+            0,
+        ),
     ] {
         let (finished, sink) = run(rt.alloc(), text.as_bytes(), &[], 4096, &[])?;
         let status = Status::Scenario { line, reason };
@@ -245,7 +267,13 @@ fn faults_of_source_and_sink(rt: HostRuntime) -> Result<(), Fail> {
         assert_eq!(rt; finished.status, Status::ReadFault, "at {call}");
         assert_eq!(rt; sink.bytes().len(), 0, "at {call}");
     }
-    let (finished, sink) = run(rt.alloc(), TAKEN_THEN_EMPTY.as_bytes(), &[1_000_000], 4096, &[])?;
+    let (finished, sink) = run(
+        rt.alloc(),
+        TAKEN_THEN_EMPTY.as_bytes(),
+        &[1_000_000],
+        4096,
+        &[],
+    )?;
     assert_eq!(rt; finished.status, Status::Done);
     assert_eq!(rt; sink.bytes(), PRINTS_TAKEN_THEN_EMPTY.as_bytes());
     for call in 1..98_u64 {
