@@ -290,22 +290,24 @@ fn faults_of_source_and_sink(rt: HostRuntime) -> Result<(), Fail> {
     Ok(())
 }
 
+/// How `words` ends on an empty source, and how many bytes it wrote.
+fn status_of(alloc: Global, said: &[&str]) -> Result<(Status, usize), Fail> {
+    let mut source = MemSource::new(Vec::new(alloc), Vec::new(alloc));
+    let mut sink = MemSink::new(alloc, 64, Vec::new(alloc));
+    let layout = Layout::new(16, 1).ok_or("a layout")?;
+    let sites = Sites::start(alloc, layout)?;
+    let finished = words(alloc, said, &mut source, &mut sink, sites);
+    Ok((finished.status, sink.bytes().len()))
+}
+
 #[test]
 fn other_words_are_usage(rt: HostRuntime) -> Result<(), Fail> {
     let alloc = rt.alloc();
-    for said in [
-        [].as_slice(),
-        ["replay", "x"].as_slice(),
-        ["--help"].as_slice(),
-        ["run"].as_slice(),
-    ] {
-        let mut source = MemSource::new(Vec::new(alloc), Vec::new(alloc));
-        let mut sink = MemSink::new(alloc, 64, Vec::new(alloc));
-        let layout = Layout::new(16, 1).ok_or("a layout")?;
-        let sites = Sites::start(alloc, layout)?;
-        let finished = words(alloc, said, &mut source, &mut sink, sites);
-        assert_eq!(rt; finished.status, Status::Usage);
-        assert_eq!(rt; sink.bytes().len(), 0);
-    }
+    assert_eq!(rt; status_of(alloc, &[])?, (Status::Usage, 0));
+    assert_eq!(rt; status_of(alloc, &["replay", "x"])?, (Status::Usage, 0));
+    assert_eq!(rt; status_of(alloc, &["--help"])?, (Status::Usage, 0));
+    assert_eq!(rt; status_of(alloc, &["run"])?, (Status::Usage, 0));
+    let empty = Status::Scenario { line: 1, reason: 9 };
+    assert_eq!(rt; status_of(alloc, &["replay"])?, (empty, 0));
     Ok(())
 }
