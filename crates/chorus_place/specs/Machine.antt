@@ -115,7 +115,7 @@ is_built l p (Command.Send (Dest.Port q) body) = has_site l q.site && (creation_
 is_built l p (Command.Take q) = true
 is_built l p _ = false
 
--- the place and the caller after the caller's command
+-- the place and the caller after the caller's command. One that is not built yet changes nothing, and no caller gives one
 abbrev pub call : Command → Turn → Turn
 call (Command.Make actor capacity) t = make actor capacity t
 call (Command.Send (Dest.Port q) body) t = send q body t

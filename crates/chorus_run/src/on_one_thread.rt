@@ -1,6 +1,6 @@
 //! A scenario on one thread.
 
-ghost use Rattle.std.specs.Prelude.{◌≡◌, ◌≢◌, ◌↔◌, ◌⊎◌, ℕ, IfOk, IfErr, IsErrOf, IfSome, IsSome, Some, None, Ok, Err, true};
+ghost use Rattle.std.specs.Prelude.{◌≡◌, ◌≢◌, ◌↔◌, ◌⊎◌, ℕ, IfOk, IfErr, IsErrOf, IfSome, IsSome, IsNone, Some, None, Ok, Err, true};
 ghost use Rattle.chorus_io.specs.Count.{Rose};
 ghost use Rattle.chorus_ui.specs.Layout.{IsShape};
 ghost use Rattle.chorus_scene.specs.Scene.{Scene};
@@ -39,11 +39,13 @@ pub fn replay<S: Source, K: Sink>(
     ensures scenario { (line reason : ℕ) → result.status ≡ Status.Scenario line reason → IsSome (S.left source.old) → Gives sites.place.layout (S.left source.old) (Err (line, reason)) }
     ensures accepted { IsSome result.closed → IsSome (S.left source.old) → (c : Scene) × Gives sites.place.layout (S.left source.old) (Ok c) }
     ensures read_fault { result.status ≡ Status.ReadFault → Rose (S.faults source.old) (S.faults source.new) }
+    ensures reliable { S.reliable source.old → S.faults source.new ≡ S.faults source.old }
     ensures write_fault { result.status ≡ Status.WriteFault → Rose (K.faults sink.old) (K.faults sink.new) }
     ensures read { result.status ≢ Status.ReadFault → result.status ≢ Status.Memory → IsRead (S.left source.old) (S.left source.new) }
     ensures closed { IsSome result.closed ↔ (result.status ≡ Status.Done) ⊎ (result.status ≡ Status.WriteFault) }
 
     // What it did, where it handed out what it closed.
+    ensures unwritten { IsNone result.closed → sink.new ≡ sink.old }
     ensures prints { Writes result.status (K.held sink.old) (K.held sink.new) (text_of result.closed) }
     ensures ordered { (c : Scene) → Gives sites.place.layout (S.left source.old) (Ok c) → IfSome result.closed (λ closed. merge_of closed ≡ journal_of c) }
     ensures run { (c : Scene) → Gives sites.place.layout (S.left source.old) (Ok c) → IfSome result.closed (IsRun c) }
@@ -78,6 +80,7 @@ fn read_scenario<S: Source>(
     ensures refused { (line reason : ℕ) → IsErrOf result (Status.Scenario line reason) → IsSome (S.left source.old) → Gives layout (S.left source.old) (Err (line, reason)) }
     ensures err { IfErr result GivesUp }
     ensures read_fault { IsErrOf result Status.ReadFault → Rose (S.faults source.old) (S.faults source.new) }
+    ensures reliable { S.reliable source.old → S.faults source.new ≡ S.faults source.old }
     ensures read { ¬ (IsErrOf result Status.ReadFault) → ¬ (IsErrOf result Status.Memory) → IsRead (S.left source.old) (S.left source.new) }
 {
     let text = match read_all(alloc, source, TEXT_LIMIT) {

@@ -1,4 +1,4 @@
-//! The worked row, and a long run over a bad line.
+//! The worked example, and a long run over a bad line.
 use crate::{Acked, Chunk, Got, PutFault, Receiver, Sender};
 use std::alloc::Global;
 use std::mem;
