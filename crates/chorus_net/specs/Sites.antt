@@ -17,6 +17,10 @@ pub record SitesState : Type 0 where
   pub place : PlaceState
   pub callers : List Seated
 
+-- the layout of the sites
+abbrev pub layout_of : SitesState → Layout
+layout_of s = s.place.layout
+
 -- the actor of seat 0
 abbrev pub first_actor : Ui
 first_actor = record { site = 1; kind = kinds.Actor; number = 1 }

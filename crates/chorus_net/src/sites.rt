@@ -83,7 +83,7 @@ impl Sites {
         self.place.reserve(more)
     }
 
-    /// Gives the next seat, to a caller in this actor, whose last clock is that of seat 0.
+    /// Gives the next seat, to a caller in this actor, whose last clock is that of seat 0. The name is one of an actor.
     ///
     /// `NoActor` comes exactly where the layout has no such actor, and else `NoSeat` exactly where 1,048,576 seats were given.
     /// An error changes nothing.

@@ -10,6 +10,7 @@ fn seats_are_given_in_order(rt: HostRuntime) -> Result<(), Fail> {
     let mut sites = Sites::start(rt.alloc(), layout)?;
     for (site, number, seat) in [(1, 1, Some(1)), (2, 8, Some(2)), (2, 9, None), (3, 1, None)] {
         let actor = Ui::new(site, Kind::Actor, number).ok_or("an actor")?;
+        // What `enter` asks of a name.
         if actor.kind() == Kind::Actor {
             let given = match sites.enter(actor) {
                 Ok(given) => Some(given),

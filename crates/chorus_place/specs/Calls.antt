@@ -54,8 +54,8 @@ pub record MayCall (place : PlaceState) (caller : Seated) (c : Command) : Type 0
   pub here : place_for place.layout caller.actor c ≡ place.number
   pub built : is_built place.layout place.number c ≡ true
 
--- the call did what the machine does and gave its reply, in the room of at most two entries
+-- the call did what the machine does and gave its reply, and took no more room than that of the entries that it appended
 pub record Called (old new : Place) (before after : Seated) (c : Command) (r : Reply) : Type 0 where
   pub done : turn new after ≡ call c (turn old before)
   pub answer : r ≡ reply c (turn old before)
-  pub spare : old.spare ≤ new.spare + 2
+  pub spare : old.spare + length old.state.journal ≤ new.spare + length new.state.journal

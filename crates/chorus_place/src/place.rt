@@ -110,6 +110,7 @@ impl Place {
     /// Makes room for at least so many entries. An error leaves the room as it was.
     pub fn reserve(&mut self, more: u32) -> Result<(), AllocError>
         ensures state { self.new.state ≡ self.old.state }
+        ensures spare { self.old.spare ≤ self.new.spare }
         ensures ok { OnOk result (more ≤ self.new.spare) }
         ensures err { OnErr result (self.new ≡ self.old) }
     {

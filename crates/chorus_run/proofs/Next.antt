@@ -1,5 +1,5 @@
 -- The next event of a scenario's order on the sites.
-use Rattle.std.proofs.Common.{◌≡◌, ℕ, suc, ◌+◌, ◌<◌, true, Option, Some, None, IfSome, List, [], ◌∷◌, ◌++◌, length, take, drop, reverse, slice_get, append_assoc, append-nil, take_all, ap₂, ◌≤◌, take-append-drop, take-suc, arith, refl, sym, ◌∙◌, ap, subst}
+use Rattle.std.proofs.Common.{◌≡◌, ℕ, suc, ◌+◌, ◌<◌, true, Option, Some, None, IfSome, List, [], ◌∷◌, ◌++◌, length, take, drop, reverse, slice_get, append_assoc, append-nil, length-append, take_all, ap₂, ◌≤◌, take-append-drop, take-suc, arith, refl, sym, ◌∙◌, ap, subst}
 use Rattle.std.proofs.lemmas.List.{reverse-append, length-map}
 use Rattle.std.specs.Option.{option_map}
 use Rattle.std.proofs.lemmas.Option.{slice_get_within, get_or_from_slice_get, slice_get-map}
@@ -19,7 +19,7 @@ use Rattle.chorus_run.specs.Order.{order, scene_is_built, setup_command, setup_c
 use Rattle.chorus_run.specs.declared.order.Call.{Call}
 use Rattle.chorus_run.specs.Calls.{IsNext, event_of, events_of}
 use Rattle.chorus_run.proofs.Ready.{may-next, enter-next, ready-so_far}
-use Rattle.chorus_run.proofs.Lengths.{clock-fits, posts-fit, seats-fit}
+use Rattle.chorus_run.proofs.Lengths.{EVENTS_LIMIT, order-length, clock-fits, posts-fit, seats-fit}
 
 layout-is : (c : Scene) (done rest : List Event) → IsShape c.layout → Keeps c → scene_is_built c ≡ true → order c ≡ done ++ rest → (after c.layout (reverse done)).place.layout ≡ c.layout
 layout-is c done rest shape keeps built e = (holds c.layout (reverse done) shape (ready-so_far c done rest keeps built e)).layout
@@ -161,3 +161,17 @@ calls-done c s calls n e all now =
     let whole : (in_setup c ++ entering c) ++ take n (events_of calls) ≡ order c =
     ap (λ xs. (in_setup c ++ entering c) ++ xs) (take_all n (events_of calls) (omega (arith, len, all)) ∙ e) ∙ sym (order-enter c)
     in now ∙ ap (λ xs. after c.layout (reverse xs)) whole
+
+-- The lines of the setup and the calls are few.
+pub room-fits : (c : Scene) (lines : List SetupLine) (calls : List Call) → Keeps c → scene_is_built c ≡ true → lines ≡ c.setup
+    → events_of calls ≡ in_schedule c.scripts [] c.schedule ++ left_from c.schedule 1 c.scripts → length lines + length calls ≤ EVENTS_LIMIT
+room-fits c lines calls keeps built e is =
+    let most = order-length c keeps built in
+    let whole = ap length (order-enter c) in
+    let parts = length-append (in_setup c ++ entering c) (in_schedule c.scripts [] c.schedule ++ left_from c.schedule 1 c.scripts) in
+    let front = length-append (in_setup c) (entering c) in
+    let setup = length-map (setup_commands c) (Act 0) in
+    let commands = length-map c.setup setup_command in
+    let given = ap length e in
+    let called = sym (ap length is) ∙ length-map calls event_of in
+    omega (arith, most, whole, parts, front, setup, commands, given, called)

@@ -12,7 +12,7 @@ use Rattle.chorus_world.specs.Commands.{performs}
 use Rattle.chorus_world.specs.AcceptedLaws.{received, taken_by, accepted_by}
 use Rattle.chorus_net.specs.declared.closed.Closed.{Closed}
 use Rattle.chorus_net.specs.Closing.{journals_of}
-use Rattle.chorus_net.specs.Sites.{SitesState, opening, first_actor}
+use Rattle.chorus_net.specs.Sites.{SitesState, layout_of, opening, first_actor}
 use Rattle.chorus_scene.specs.declared.limits.TheConstants.{TEXT_LIMIT}
 use Rattle.chorus_scene.specs.Scene.{Scene, Script}
 use Rattle.chorus_scene.specs.Grammar.{read_scene}
@@ -20,7 +20,7 @@ use Rattle.chorus_run.specs.Order.{scene_is_built, setup_commands}
 
 -- nothing happened on the sites yet
 abbrev pub AreJustStarted : SitesState → Type 0
-AreJustStarted s = s ≡ opening s.place.layout
+AreJustStarted s = s ≡ opening (layout_of s)
 
 -- What was read.
 
@@ -47,6 +47,10 @@ pub record IsRead (old new : Option (List ℕ)) : Type 0 where
   pub bytes : List ℕ
   pub consumed : Consumes old new bytes
   pub whole : (length bytes ≡ TEXT_LIMIT + 1) ⊎ (IsAtEnd new × (length bytes ≤ TEXT_LIMIT))
+
+-- at most one byte more than the limit was read of the source, whatever came of it
+abbrev pub ReadsAtMost : Option (List ℕ) → Option (List ℕ) → Type 0
+ReadsAtMost old new = (bytes : List ℕ) × Consumes old new bytes × (length bytes ≤ TEXT_LIMIT + 1)
 
 -- What is handed out.
 

@@ -11,7 +11,8 @@ use chorus_entry::{Command, Dest};
 use chorus_scene::{Scenario, Script, SetupLine};
 use chorus_ui::Layout;
 
-/// Whether the scenario is one that is replayed so far: one site of one place, with ports alone.
+/// Whether the scenario is one that is replayed so far: one site of one place, and the commands that a
+/// place has.
 pub(crate) fn is_built(scenario: &Scenario) -> bool
     ensures value { result ≡ scene_is_built scenario.now }
     ensures keeps { Keeps scenario.now }

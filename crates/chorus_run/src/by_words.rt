@@ -3,8 +3,10 @@
 ghost use Rattle.std.specs.Prelude.{◌≡◌, ◌↔◌, ◌≢◌, ◌⊎◌, ℕ, IsTrue, IsSome, IsNone, IfSome, Some, Ok, Err, map, [], ◌∷◌, codes};
 ghost use Rattle.chorus_io.specs.Count.{Rose};
 ghost use Rattle.chorus_scene.specs.Scene.{Scene};
-ghost use Rattle.chorus_run.specs.Order.{journal_of};
-ghost use Rattle.chorus_run.specs.Headline.{AreJustStarted, Gives, IsRead, merge_of, IsRun, Performs, ReceivesInOrder};
+ghost use Rattle.chorus_net.specs.Closing.{IsClosed};
+ghost use Rattle.chorus_net.specs.Sites.{layout_of};
+ghost use Rattle.chorus_run.specs.Order.{replayed};
+ghost use Rattle.chorus_run.specs.Headline.{AreJustStarted, Gives, IsRead, IsRun, Performs, ReceivesInOrder};
 ghost use Rattle.chorus_run.specs.Output.{Writes, text_of};
 
 use crate::finished::Finished;
@@ -29,8 +31,8 @@ pub fn words<S: Source, K: Sink>(
     ensures usage { (result.status ≡ Status.Usage) ↔ (map (λ word. word.now) words.now ≢ codes "replay" ∷ []) }
     ensures untouched { result.status ≡ Status.Usage → (source.new ≡ source.old) × (sink.new ≡ sink.old) }
     ensures worn { (clock : ℕ) → result.status ≢ Status.Worn clock }
-    ensures scenario { (line reason : ℕ) → result.status ≡ Status.Scenario line reason → IsSome (S.left source.old) → Gives sites.place.layout (S.left source.old) (Err (line, reason)) }
-    ensures accepted { IsSome result.closed → IsSome (S.left source.old) → (c : Scene) × Gives sites.place.layout (S.left source.old) (Ok c) }
+    ensures scenario { (line reason : ℕ) → result.status ≡ Status.Scenario line reason → IsSome (S.left source.old) → Gives (layout_of sites) (S.left source.old) (Err (line, reason)) }
+    ensures accepted { IsSome result.closed → IsSome (S.left source.old) → (c : Scene) × Gives (layout_of sites) (S.left source.old) (Ok c) }
     ensures read_fault { result.status ≡ Status.ReadFault → Rose (S.faults source.old) (S.faults source.new) }
     ensures reliable { S.reliable source.old → S.faults source.new ≡ S.faults source.old }
     ensures write_fault { result.status ≡ Status.WriteFault → Rose (K.faults sink.old) (K.faults sink.new) }
@@ -40,9 +42,9 @@ pub fn words<S: Source, K: Sink>(
     // What it did, where it handed out what it closed.
     ensures unwritten { IsNone result.closed → sink.new ≡ sink.old }
     ensures prints { Writes result.status (K.held sink.old) (K.held sink.new) (text_of result.closed) }
-    ensures ordered { (c : Scene) → Gives sites.place.layout (S.left source.old) (Ok c) → IfSome result.closed (λ closed. merge_of closed ≡ journal_of c) }
-    ensures run { (c : Scene) → Gives sites.place.layout (S.left source.old) (Ok c) → IfSome result.closed (IsRun c) }
-    ensures performs { (c : Scene) → Gives sites.place.layout (S.left source.old) (Ok c) → IfSome result.closed (Performs c) }
+    ensures ordered { (c : Scene) → Gives (layout_of sites) (S.left source.old) (Ok c) → IfSome result.closed (IsClosed (replayed c)) }
+    ensures run { (c : Scene) → Gives (layout_of sites) (S.left source.old) (Ok c) → IfSome result.closed (IsRun c) }
+    ensures performs { (c : Scene) → Gives (layout_of sites) (S.left source.old) (Ok c) → IfSome result.closed (Performs c) }
     ensures receives { IfSome result.closed ReceivesInOrder }
 {
     if is_replay(words) {
@@ -54,6 +56,7 @@ pub fn words<S: Source, K: Sink>(
     }
 }
 
+/// Whether the words are `replay` alone.
 fn is_replay(words: &[&str]) -> bool
     ensures { IsTrue result ↔ (map (λ word. word.now) words.now ≡ codes "replay" ∷ []) }
 {

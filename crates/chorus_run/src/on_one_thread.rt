@@ -5,9 +5,10 @@ ghost use Rattle.chorus_io.specs.Count.{Rose};
 ghost use Rattle.chorus_ui.specs.Layout.{IsShape};
 ghost use Rattle.chorus_scene.specs.Scene.{Scene};
 ghost use Rattle.chorus_scene.specs.Limits.{Keeps};
-ghost use Rattle.chorus_net.specs.Closing.{journals_of};
-ghost use Rattle.chorus_run.specs.Order.{scene_is_built, journal_of};
-ghost use Rattle.chorus_run.specs.Headline.{AreJustStarted, judged, Gives, IsRead, merge_of, IsRun, Performs, ReceivesInOrder};
+ghost use Rattle.chorus_net.specs.Closing.{IsClosed};
+ghost use Rattle.chorus_net.specs.Sites.{layout_of};
+ghost use Rattle.chorus_run.specs.Order.{scene_is_built, replayed};
+ghost use Rattle.chorus_run.specs.Headline.{AreJustStarted, Gives, IsRead, ReadsAtMost, IsRun, Performs, ReceivesInOrder};
 ghost use Rattle.chorus_run.specs.Output.{Writes, GivesUp, text_of};
 
 use crate::built::is_built;
@@ -23,7 +24,8 @@ use std::alloc::{AllocError, Global};
 
 /// Reads the source to its end, replays the scenario that it gives on the sites, and writes the journal and the summary.
 ///
-/// The sites were just started. So far a scenario of one site with ports alone is replayed, on sites of one place each; any
+/// The sites were just started. So far a scenario of one site is replayed whose commands make ports, send to
+/// them and take from them, on sites of one place each; any
 /// other that the grammar accepts is refused with line 0 and reason 0.
 pub fn replay<S: Source, K: Sink>(
     alloc: Global,
@@ -36,20 +38,21 @@ pub fn replay<S: Source, K: Sink>(
     // Why it ended. Want of memory is the one free answer.
     ensures usage { result.status ≢ Status.Usage }
     ensures worn { (clock : ℕ) → result.status ≢ Status.Worn clock }
-    ensures scenario { (line reason : ℕ) → result.status ≡ Status.Scenario line reason → IsSome (S.left source.old) → Gives sites.place.layout (S.left source.old) (Err (line, reason)) }
-    ensures accepted { IsSome result.closed → IsSome (S.left source.old) → (c : Scene) × Gives sites.place.layout (S.left source.old) (Ok c) }
+    ensures scenario { (line reason : ℕ) → result.status ≡ Status.Scenario line reason → IsSome (S.left source.old) → Gives (layout_of sites) (S.left source.old) (Err (line, reason)) }
+    ensures accepted { IsSome result.closed → IsSome (S.left source.old) → (c : Scene) × Gives (layout_of sites) (S.left source.old) (Ok c) }
     ensures read_fault { result.status ≡ Status.ReadFault → Rose (S.faults source.old) (S.faults source.new) }
     ensures reliable { S.reliable source.old → S.faults source.new ≡ S.faults source.old }
     ensures write_fault { result.status ≡ Status.WriteFault → Rose (K.faults sink.old) (K.faults sink.new) }
     ensures read { result.status ≢ Status.ReadFault → result.status ≢ Status.Memory → IsRead (S.left source.old) (S.left source.new) }
+    ensures reads_at_most { ReadsAtMost (S.left source.old) (S.left source.new) }
     ensures closed { IsSome result.closed ↔ (result.status ≡ Status.Done) ⊎ (result.status ≡ Status.WriteFault) }
 
     // What it did, where it handed out what it closed.
     ensures unwritten { IsNone result.closed → sink.new ≡ sink.old }
     ensures prints { Writes result.status (K.held sink.old) (K.held sink.new) (text_of result.closed) }
-    ensures ordered { (c : Scene) → Gives sites.place.layout (S.left source.old) (Ok c) → IfSome result.closed (λ closed. merge_of closed ≡ journal_of c) }
-    ensures run { (c : Scene) → Gives sites.place.layout (S.left source.old) (Ok c) → IfSome result.closed (IsRun c) }
-    ensures performs { (c : Scene) → Gives sites.place.layout (S.left source.old) (Ok c) → IfSome result.closed (Performs c) }
+    ensures ordered { (c : Scene) → Gives (layout_of sites) (S.left source.old) (Ok c) → IfSome result.closed (IsClosed (replayed c)) }
+    ensures run { (c : Scene) → Gives (layout_of sites) (S.left source.old) (Ok c) → IfSome result.closed (IsRun c) }
+    ensures performs { (c : Scene) → Gives (layout_of sites) (S.left source.old) (Ok c) → IfSome result.closed (Performs c) }
     ensures receives { IfSome result.closed ReceivesInOrder }
 {
     let scenario = match read_scenario(alloc, source, sites.layout()) {
@@ -81,6 +84,7 @@ fn read_scenario<S: Source>(
     ensures err { IfErr result GivesUp }
     ensures read_fault { IsErrOf result Status.ReadFault → Rose (S.faults source.old) (S.faults source.new) }
     ensures reliable { S.reliable source.old → S.faults source.new ≡ S.faults source.old }
+    ensures reads_at_most { ReadsAtMost (S.left source.old) (S.left source.new) }
     ensures read { ¬ (IsErrOf result Status.ReadFault) → ¬ (IsErrOf result Status.Memory) → IsRead (S.left source.old) (S.left source.new) }
 {
     let text = match read_all(alloc, source, TEXT_LIMIT) {
@@ -107,12 +111,12 @@ fn play(
     scenario: &Scenario,
 ) -> Result<(Closed, Vec<u8>), AllocError>
     requires just_started { AreJustStarted sites }
-    requires layout { scenario.now.layout ≡ sites.place.layout }
+    requires layout { scenario.now.layout ≡ layout_of sites }
     requires built { scene_is_built scenario.now ≡ true }
     requires keeps { Keeps scenario.now }
     requires shape { IsShape scenario.now.layout }
     ensures text { IfOk result (λ played. played.1.items ≡ text_of (Some played.0)) }
-    ensures journal { IfOk result (λ played. merge_of played.0 ≡ journal_of scenario.now) }
+    ensures closed { IfOk result (λ played. IsClosed (replayed scenario.now) played.0) }
 {
     perform(alloc, &mut sites, scenario)?;
     let closed = match sites.close(alloc) {
@@ -136,6 +140,7 @@ fn refused(fault: SceneFault) -> Status
     }
 }
 
+/// A run that ended with this status, and closed nothing.
 fn gave_up(status: Status) -> Finished
     requires { GivesUp status }
     ensures { result ≡ record { status = status; closed = None } }

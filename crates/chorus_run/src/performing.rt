@@ -30,6 +30,8 @@ pub(crate) fn perform(
     ensures { OnOk result (sites.new ≡ replayed scenario.now) }
 {
     let calls = calls(alloc, scenario)?;
+    let room = scenario.setup().len() + calls.len();
+    sites.reserve(room as u32)?;
     set_up(sites, scenario)?;
     enter(sites, scenario)?;
     for call in &calls {

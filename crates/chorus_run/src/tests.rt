@@ -9,6 +9,7 @@ use chorus_show::Status;
 use chorus_ui::Layout;
 use std::alloc::Global;
 use std::fmt::Write;
+use std::process::Abort;
 use std::test::Fail;
 
 const NOTHING: &str = "chorus 1\nsites 1\nscript 1.a.1\nschedule\nend";
@@ -191,20 +192,44 @@ fn fills_to_capacity(rt: HostRuntime) -> Result<(), Fail> {
     Ok(())
 }
 
+/// Asserts that the text is refused with this line and reason, and nothing is written or closed.
+fn assert_refused(
+    rt: &impl Abort,
+    alloc: Global,
+    text: &str,
+    line: u32,
+    reason: u8,
+) -> Result<(), Fail> {
+    let (finished, sink) = run(alloc, text.as_bytes(), &[], 4096, &[])?;
+    assert_eq!(rt;
+        finished.status,
+        Status::Scenario { line, reason },
+        "{text}"
+    );
+    assert_eq!(rt; sink.bytes().len(), 0, "{text}");
+    assert!(rt; finished.closed.is_none(), "{text}");
+    Ok(())
+}
+
 #[test]
-fn texts_are_refused_with_line_and_reason(rt: HostRuntime) -> Result<(), Fail> {
+fn limits_are_refused_with_line_and_reason(rt: HostRuntime) -> Result<(), Fail> {
     let body = String::from_utf8(Vec::from_slice(rt.alloc(), &[b'b'; 241])?)?;
     let long = format!(in rt.alloc();
         "chorus 1\nsites 1\nscript 1.a.1\nsend 1.p.1 ={body}\nschedule\nend"
     )?;
+    for (text, line) in [
+        (long.as_str(), 4),
+        ("chorus 1\nsites 1\nport 1.p.1 1.a.1 0\nschedule\nend", 3),
+        ("chorus 1\nsites 1\nport 1.p.1 1.a.1 65\nschedule\nend", 3),
+    ] {
+        assert_refused(&rt, rt.alloc(), text, line, 6)?;
+    }
+    Ok(())
+}
+
+#[test]
+fn unfinished_and_unknown_texts(rt: HostRuntime) -> Result<(), Fail> {
     for (text, line, reason) in [
-        (long.as_str(), 4, 6),
-        ("chorus 1\nsites 1\nport 1.p.1 1.a.1 0\nschedule\nend", 3, 6),
-        (
-            "chorus 1\nsites 1\nport 1.p.1 1.a.1 65\nschedule\nend",
-            3,
-            6,
-        ),
         ("chorus 1\nsites 1\nschedule\n", 4, 9),
         ("chorus 1\nsites 2\nscript 3.a.1\nschedule\nend", 3, 4),
         (
@@ -213,30 +238,22 @@ fn texts_are_refused_with_line_and_reason(rt: HostRuntime) -> Result<(), Fail> {
             10,
         ),
         ("", 1, 9),
-        // Accepted, but not built yet.
-        ("chorus 1\nsites 2\nscript 1.a.1\nschedule\nend", 0, 0),
-        ("chorus 1\nsites 1\ngroup 1.g.1\nschedule\nend", 0, 0),
-        (
-            "chorus 1\nsites 1\nscript 1.a.1\nretry\nschedule\nend",
-            0,
-            0,
-        ),
-        (
-            "chorus 1\nsites 1\nscript 1.a.1\none 1.g.1 =x\nschedule\nend",
-            0,
-            0,
-        ),
-        (
-            "chorus 1\nsites 1\nscript 1.a.1\nmove 1.p.1 1.a.2\nschedule\nend",
-            0,
-            0,
-        ),
     ] {
-        let (finished, sink) = run(rt.alloc(), text.as_bytes(), &[], 4096, &[])?;
-        let status = Status::Scenario { line, reason };
-        assert_eq!(rt; finished.status, status, "{text}");
-        assert_eq!(rt; sink.bytes().len(), 0, "{text}");
-        assert!(rt; finished.closed.is_none(), "{text}");
+        assert_refused(&rt, rt.alloc(), text, line, reason)?;
+    }
+    Ok(())
+}
+
+#[test]
+fn what_is_not_built_yet_is_refused(rt: HostRuntime) -> Result<(), Fail> {
+    for text in [
+        "chorus 1\nsites 2\nscript 1.a.1\nschedule\nend",
+        "chorus 1\nsites 1\ngroup 1.g.1\nschedule\nend",
+        "chorus 1\nsites 1\nscript 1.a.1\nretry\nschedule\nend",
+        "chorus 1\nsites 1\nscript 1.a.1\none 1.g.1 =x\nschedule\nend",
+        "chorus 1\nsites 1\nscript 1.a.1\nmove 1.p.1 1.a.2\nschedule\nend",
+    ] {
+        assert_refused(&rt, rt.alloc(), text, 0, 0)?;
     }
     Ok(())
 }

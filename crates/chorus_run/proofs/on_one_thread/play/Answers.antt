@@ -1,11 +1,11 @@
-use Rattle.std.proofs.Common.{refl, sym, ◌∙◌, ap, [], ◌∷◌, reverse}
+use Rattle.std.proofs.Common.{◌∙◌, ap, subst}
 use Rattle.chorus_net.specs.Sites.{SitesState}
 use Rattle.chorus_merge.specs.Merge.{merged}
 use Rattle.chorus_merge.specs.Steps.{journals_of}
 use Rattle.chorus_show.specs.Journal.{journal_text}
 use Rattle.chorus_show.specs.Summary.{summary_text}
 use Rattle.chorus_run.proofs.Texts.{two_texts}
-use Rattle.chorus_run.proofs.Closed.{merge-is}
+use Rattle.chorus_net.specs.Closing.{IsClosed}
 use Rattle.chorus_run.proofs.on_one_thread.play.Goals as goal
 
 pub returns-clause-text : goal.returns-clause-text
@@ -14,7 +14,5 @@ returns-clause-text c =
     two_texts journal_text summary_text _ _ _ _ _ _ c.new-text.ensures.items c.in_ok-journal_text.ensures.ok c.in_ok-summary_text.ensures.ok
     (c.deref-2.ensures.value ∙ merges) (c.deref-3.ensures.value ∙ merges)
 
-pub returns-clause-journal : goal.returns-clause-journal
-returns-clause-journal c =
-    merge-is c.args.scenario.now c.in-Ok.closed
-    (c.in-Ok.ensures.ok.journals ∙ ap (λ (s : SitesState). reverse s.place.journal ∷ []) c.in_ok-perform.ensures)
+pub returns-clause-closed : goal.returns-clause-closed
+returns-clause-closed c = subst (λ (s : SitesState). IsClosed s c.in-Ok.closed) c.in_ok-perform.ensures c.in-Ok.ensures.ok
