@@ -170,17 +170,22 @@ choose_open l past e x g qs h a =
     let needs = choose_needs l past e.place e.seat x g qs may in
     (asked_facts x past needs.from needs.dest (legal_messages l past two.1 x) needs.asked).0.chosen
 
+same_choice : (x : MsgId) (g h : Ui) (qs rs : List Ui) → Choose x g qs ≡ Choose x h rs → g ≡ h
+same_choice x g h qs rs e = cc
+
 pub is_chosen_once : IsChosenOnce
-is_chosen_once l [] g i j x h a b = absurd (let lt : i < 0 = slice_get_within [] i x a in omega arith)
-is_chosen_once l (e ∷ past) g i j x h a b =
+is_chosen_once l [] g k i j x h a b = absurd (let lt : i < 0 = slice_get_within [] i x a in omega arith)
+is_chosen_once l (e ∷ past) g k i j x h a b =
     elim (choices_before g past e i x a) [
-      | inl old ↦ elim (choices_before g past e j x b) [
-        | inl before ↦ is_chosen_once l past g i j x (legal_parts l e past h).1 old before
-        | inr new ↦ absurd (false≢true (sym (choose_open l past e x g new.0 h new.1) ∙ choices_chosen g past i x old))
+      | inl old ↦ elim (choices_before k past e j x b) [
+        | inl before ↦ is_chosen_once l past g k i j x (legal_parts l e past h).1 old before
+        | inr new ↦ absurd (false≢true (sym (choose_open l past e x k new.0 h new.1) ∙ choices_chosen g past i x old))
       ]
-      | inr now ↦ elim (choices_before g past e j x b) [
-        | inl before ↦ absurd (false≢true (sym (choose_open l past e x g now.0 h now.1) ∙ choices_chosen g past j x before))
-        | inr new ↦ now.2 ∙ sym new.2
+      | inr now ↦ elim (choices_before k past e j x b) [
+        | inl before ↦ absurd (false≢true (sym (choose_open l past e x g now.0 h now.1) ∙ choices_chosen k past j x before))
+        | inr new ↦ (
+            let group : g ≡ k = same_choice x g k now.0 new.0 (sym now.1 ∙ new.1) in
+            (group, now.2 ∙ (ap (λ z. length (choices_of z past)) group ∙ sym new.2)))
       ]
     ]
 

@@ -13,6 +13,7 @@ pub mod DueLemmas
 pub mod MessageInvariant
 pub mod AcceptedLemmas
 pub mod OnceLaws
+pub mod CallLemmas
 pub mod RequestLaws
 pub mod OrderLemmas
 pub mod ChoiceLemmas

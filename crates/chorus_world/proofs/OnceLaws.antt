@@ -1,5 +1,5 @@
 -- Each accepted message stands at one position of one port, and has one fate.
-use Rattle.std.proofs.Common.{ℕ, ◌≡◌, ◌<◌, List, [], ◌∷◌, length, Some, sym, ◌∙◌, ap, arith, inl, inr}
+use Rattle.std.proofs.Common.{ℕ, ◌≡◌, ◌<◌, List, [], ◌∷◌, length, Option, Some, None, refl, sym, ◌∙◌, ap, arith, inl, inr}
 use Rattle.std.specs.List.{slice_get}
 use Rattle.std.proofs.lemmas.Option.{slice_get_within}
 use Rattle.chorus_ui.specs.declared.ui.Ui.{Ui}
@@ -8,8 +8,8 @@ use Rattle.chorus_entry.specs.declared.id.MsgId.{MsgId}
 use Rattle.chorus_entry.specs.declared.act.Act.TheVariants.{Accept}
 use Rattle.chorus_world.specs.Views.{on}
 use Rattle.chorus_world.specs.Ports.{Fate, fate}
-use Rattle.chorus_world.specs.Fates.{fate_at}
-use Rattle.chorus_world.specs.AcceptedLaws.{accepted_by, accepted_from, StandsOnce, HasOneFate}
+use Rattle.chorus_world.specs.Fates.{MessageFate, fate_at}
+use Rattle.chorus_world.specs.AcceptedLaws.{accepted_by, accepted_from, StandsOnce, HasFate, HasOneFate, HasSomeFate}
 use Rattle.chorus_world.proofs.LegalLemmas.{legal_parts}
 use Rattle.chorus_world.proofs.LineLemmas.{none_some}
 use Rattle.chorus_world.proofs.AcceptedLemmas.{accepted_before, accepted_belongs, accept_waits}
@@ -51,3 +51,10 @@ has_one_fate l past x a b h u v =
     let two = stands_once l past u.port v.port u.position v.position x h (stands u.port past u.state u.position x u.made u.stands) (stands v.port past v.state v.position x v.made v.stands) in
     let same = same_state u.port v.port past u.state v.state two.0 u.made v.made in
     sym u.is ∙ ((λ i. fate_at (two.1 i) (same i)) ∙ v.is)
+
+some_fate : (past : List Entry) (q : Ui) (i : ℕ) (x : MsgId) (o : Option Fate) → fate (on q past) ≡ o → slice_get (accepted_from o) i ≡ Some x → (what : MessageFate) × HasFate x past what
+some_fate past q i x None e h = absurd (let lt : i < 0 = slice_get_within [] i x h in omega arith)
+some_fate past q i x (Some f) e h = (fate_at i f, record { port = q; position = i; state = f; made = e; stands = h; is = refl })
+
+pub has_some_fate : HasSomeFate
+has_some_fate l past q i x h a = some_fate past q i x (fate (on q past)) refl a

@@ -1,4 +1,4 @@
--- A port accepts the requests of each client in the order of their numbers, each at most once.
+-- A port accepts the requests of each client in the order of their numbers, and each request is accepted at most once.
 use Rattle.std.proofs.Common.{ℕ, ◌≡◌, ◌<◌, ◌≤◌, ◌==◌, Bool, true, false, cond, max, nat_le, List, [], ◌∷◌, Some, refl, sym, ◌∙◌, ap, subst, arith, inl, inr}
 use Rattle.std.specs.List.{slice_get}
 use Rattle.std.proofs.lemmas.Bool.{eq-eqb, and_parts, cases_lt}
@@ -12,17 +12,20 @@ use Rattle.chorus_entry.specs.declared.tag.Tag.{Tag}
 use Rattle.chorus_entry.specs.declared.tag.Tag.TheVariants.{Plain, Request, Reply}
 use Rattle.chorus_entry.specs.declared.act.Act.{Act}
 use Rattle.chorus_entry.specs.declared.act.Act.TheVariants.{Accept}
-use Rattle.chorus_world.specs.Views.{views, on}
+use Rattle.chorus_world.specs.Views.{views, by, on}
 use Rattle.chorus_world.specs.Ports.{fate, has_room}
 use Rattle.chorus_world.specs.Posts.{Posted, post_of, tag_of, tag_from}
+use Rattle.chorus_world.specs.Seats.{Call, first_call}
 use Rattle.chorus_world.specs.Clients.{kept, kept_after, kept_with, is_old}
 use Rattle.chorus_world.specs.Steps.{act_may, may_enter, is_legal}
 use Rattle.chorus_world.specs.AcceptedLaws.{accepted_by, accepted_from}
 use Rattle.chorus_world.specs.RequestLaws.{RequestsRise, RequestsOnce}
 use Rattle.chorus_world.proofs.LegalLemmas.{legal_parts}
+use Rattle.chorus_world.proofs.SendingLemmas.{some_is}
 use Rattle.chorus_world.proofs.DueLemmas.{enters}
 use Rattle.chorus_world.proofs.PostLemmas.{post_stays}
-use Rattle.chorus_world.proofs.AcceptedLemmas.{accepted_after, accepted_before, accepted_posted, accept_waits, waiting_posted}
+use Rattle.chorus_world.proofs.AcceptedLemmas.{accepted_after, accepted_before, accepted_belongs, accepted_posted, accept_waits, waiting_posted}
+use Rattle.chorus_world.proofs.CallLemmas.{request_goes, direct_port}
 
 -- what a port keeps of a client only grows
 with_grows : (c d : ℕ) (g : Tag) (k : ℕ) → k ≤ kept_with c d g k
@@ -96,8 +99,8 @@ requests_rise l (e ∷ past) q i j x y n m b c h lt a k s t u =
           ])
     ]
 
-pub requests_once : RequestsOnce
-requests_once l past q i j x y n b c h a k s t u =
+once_here : (l : Layout) (past : List Entry) (q : Ui) (i j : ℕ) (x y : MsgId) (n : ℕ) (b c : Ui) → is_legal l past ≡ true → slice_get (accepted_by q past) i ≡ Some x → slice_get (accepted_by q past) j ≡ Some y → x.seat ≡ y.seat → tag_of x past ≡ Request n b → tag_of y past ≡ Request n c → i ≡ j
+once_here l past q i j x y n b c h a k s t u =
     elim (cases_lt i j) [
       | inl less ↦ absurd (let f = requests_rise l past q i j x y n n b c h less a k s t u in omega arith)
       | inr le ↦ elim (cases_lt j i) [
@@ -105,3 +108,19 @@ requests_once l past q i j x y n b c h a k s t u =
         | inr ge ↦ (omega arith)
       ]
     ]
+
+-- a port that accepted a request is the one that its first post goes to
+port_called : (l : Layout) (past : List Entry) (q : Ui) (i : ℕ) (x : MsgId) (n : ℕ) (b : Ui) → is_legal l past ≡ true → slice_get (accepted_by q past) i ≡ Some x → tag_of x past ≡ Request n b → (f : Call) × (first_call n (by x.seat past) ≡ Some f) × (q ≡ f.port)
+port_called l past q i x n b h a t =
+    let d = accepted_posted l past q i x h a in
+    let f = request_goes l past x d.0 n b h d.1 (ap tag_from (sym d.1) ∙ t) in
+    let k = accepted_belongs l past q i x h a in
+    (f.0, f.1, sym k.port ∙ direct_port l past k.place x k.message d.0 f.0.port h k.is d.1 f.2)
+
+pub requests_once : RequestsOnce
+requests_once l past q r i j x y n b c h a k s t u =
+    let f = port_called l past q i x n b h a t in
+    let g = port_called l past r j y n c h k u in
+    let same : f.0 ≡ g.0 = some_is f.0 g.0 (sym f.1 ∙ (ap (λ z. first_call n (by z past)) s ∙ g.1)) in
+    let port : q ≡ r = f.2 ∙ (ap (λ (z : Call). z.port) same ∙ sym g.2) in
+    (port, once_here l past r i j x y n b c h (ap (λ z. slice_get (accepted_by z past) i) (sym port) ∙ a) k s t u)

@@ -63,10 +63,16 @@ pub record HasFate (x : MsgId) (past : List Entry) (what : MessageFate) : Type 0
   pub stands : slice_get state.accepted position ≡ Some x
   pub is : fate_at position state ≡ what
 
--- so each accepted message has one fate
+-- so each accepted message has at most one fate
 abbrev pub HasOneFate : Type 0
 HasOneFate =
     (l : Layout) (past : List Entry) (x : MsgId) (a b : MessageFate) → is_legal l past ≡ true → HasFate x past a → HasFate x past b → a ≡ b
+
+-- and it has one
+abbrev pub HasSomeFate : Type 0
+HasSomeFate =
+    (l : Layout) (past : List Entry) (q : Ui) (i : ℕ) (x : MsgId) → is_legal l past ≡ true → slice_get (accepted_by q past) i ≡ Some x →
+    (what : MessageFate) × HasFate x past what
 
 -- what a port accepted stays where it is, whatever comes after: only more is put behind it
 abbrev pub AcceptedGrows : Type 0

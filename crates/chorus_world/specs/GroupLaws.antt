@@ -62,11 +62,11 @@ abbrev pub choices_of : Ui → List Entry → List MsgId
 choices_of g [] = []
 choices_of g (e ∷ past) = choices_of g past ++ choice_by g e.act
 
--- each post has at most one Choose
+-- each post has at most one Choose, of one group
 abbrev pub IsChosenOnce : Type 0
 IsChosenOnce =
-    (l : Layout) (past : List Entry) (g : Ui) (i j : ℕ) (x : MsgId) → is_legal l past ≡ true →
-    slice_get (choices_of g past) i ≡ Some x → slice_get (choices_of g past) j ≡ Some x → i ≡ j
+    (l : Layout) (past : List Entry) (g h : Ui) (i j : ℕ) (x : MsgId) → is_legal l past ≡ true →
+    slice_get (choices_of g past) i ≡ Some x → slice_get (choices_of h past) j ≡ Some x → (g ≡ h) × (i ≡ j)
 
 -- x stands in the list before y
 pub record StandsBefore (x y : MsgId) (xs : List MsgId) : Type 0 where

@@ -43,8 +43,8 @@ abbrev pub is_tried_for : Ui → List Entry → Bool
 is_tried_for q [] = false
 is_tried_for q (e ∷ message) = is_try_for q e.act || is_tried_for q message
 
--- in a legal past a message is tried at most once for each place of its port's path: so with h hops of the port so far it is
--- tried at most h + 1 times
+-- in a legal past a message is tried at most as many times as its port's path has places: with h hops of the port so far,
+-- at most h + 1 times
 abbrev pub TriesWithinPath : Type 0
 TriesWithinPath =
     (l : Layout) (past : List Entry) (x : MsgId) (q : Ui) → IsShape l → is_legal l past ≡ true → is_tried_for q (about x past) ≡ true →

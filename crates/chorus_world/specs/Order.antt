@@ -23,7 +23,7 @@ pub record IsCausal (past : List Entry) : Type 0 where
   pub messages : (x : MsgId) → IsRising (about x past)
   pub ports : (q : Ui) → IsRising (on q past)
 
--- the list with e put in behind all entries that it comes before; without any, it is the newest
+-- the list with e put in as older than the newest entries, as far as it comes before them; without any, it is the newest
 abbrev pub insert : Entry → List Entry → List Entry
 insert e [] = e ∷ []
 insert e (f ∷ past) = cond (comes_before e f) (f ∷ insert e past) (e ∷ f ∷ past)

@@ -46,7 +46,7 @@ pub record SortsViews (past : List Entry) : Type 0 where
 abbrev pub KeepsViews : Type 0
 KeepsViews = (past : List Entry) → IsCausal past → SortsViews past
 
--- and the sorted list is in order: clock and place rise from each entry to the next
+-- and the sorted list is in order: clock and place rise from older to newer
 abbrev pub SortsInOrder : Type 0
 SortsInOrder = (past : List Entry) → IsCausal past → IsRising (sort past)
 

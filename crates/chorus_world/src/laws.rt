@@ -1,15 +1,16 @@
 //! The laws of the world. They speak of the definitions alone, over every legal list of entries, and make no call.
 
-ghost use Rattle.chorus_world.specs.AcceptedLaws.{StandsOnce, HasOneFate, AcceptedGrows, ReceivesInOrder, KeepsToCapacity, DiscardsTheRest, EndsWithDelete, HasOneVerdict};
+ghost use Rattle.chorus_world.specs.AcceptedLaws.{StandsOnce, HasOneFate, HasSomeFate, AcceptedGrows, ReceivesInOrder, KeepsToCapacity, DiscardsTheRest, EndsWithDelete, HasOneVerdict};
 ghost use Rattle.chorus_world.specs.RequestLaws.{RequestsRise, RequestsOnce};
 ghost use Rattle.chorus_world.specs.SenderLaws.{KeepsSenderOrder};
 ghost use Rattle.chorus_world.specs.GroupLaws.{HasOneCopy, IsAcceptedOnce, IsAcceptedOnSite, IsChosenOnce, KeepsChoiceOrder};
 
-/// Each message that a port accepted stands at one position of one port, and so it has one fate: it was received, it is
-/// queued, it is under way or it was discarded.
+/// Each message that a port accepted stands at one position of one port, and it has exactly one fate: it was received, it
+/// is queued, it is under way or it was discarded.
 pub fn accepted_message_has_one_fate()
     ensures position { StandsOnce }
     ensures fate { HasOneFate }
+    ensures some_fate { HasSomeFate }
 {}
 
 /// What a port accepted stays at its position, whatever comes after: only more is put behind it.
@@ -36,9 +37,9 @@ pub fn message_has_one_verdict()
     ensures { HasOneVerdict }
 {}
 
-/// Of each client, the numbers of the requests that a port accepted rise, and so it accepts each request at most once,
-/// however often it is posted.
-pub fn port_accepts_a_request_once()
+/// Of each client, the numbers of the requests that a port accepted rise; and each request is accepted at most once, at one
+/// position of one port, however often it is posted.
+pub fn request_is_accepted_once()
     ensures rise { RequestsRise }
     ensures once { RequestsOnce }
 {}
@@ -57,8 +58,8 @@ pub fn functional_post_reaches_one_member()
     ensures site { IsAcceptedOnSite }
 {}
 
-/// Members are chosen for each post to a group at most once, and the copies of the group's posts stand in each port in the
-/// order of their Choose entries.
+/// Members are chosen for each post at most once, and of one group; and the copies of a group's posts stand in each port in
+/// the order of their Choose entries.
 pub fn port_keeps_choice_order()
     ensures once { IsChosenOnce }
     ensures order { KeepsChoiceOrder }

@@ -8,7 +8,7 @@ pub fn locates_on_path()
     ensures { LocatesOnPath }
 {}
 
-/// A message is tried at most once for each place where its port was: at most once more than the port has hops so far.
+/// A message is tried at most as many times as its port's path has places: with h hops of the port so far, at most h + 1 times.
 pub fn tries_are_within_path()
     ensures { TriesWithinPath }
 {}

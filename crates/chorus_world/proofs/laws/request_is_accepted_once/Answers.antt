@@ -1,5 +1,5 @@
 use Rattle.chorus_world.proofs.RequestLaws.{requests_rise, requests_once}
-use Rattle.chorus_world.proofs.laws.port_accepts_a_request_once.Goals as goal
+use Rattle.chorus_world.proofs.laws.request_is_accepted_once.Goals as goal
 
 pub returns : goal.returns
 returns c = record { rise = requests_rise; once = requests_once }
