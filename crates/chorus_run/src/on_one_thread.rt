@@ -24,9 +24,8 @@ use std::alloc::{AllocError, Global};
 
 /// Reads the source to its end, replays the scenario that it gives on the sites, and writes the journal and the summary.
 ///
-/// The sites were just started. So far a scenario of one site is replayed whose commands make ports, send to
-/// them and take from them, on sites of one place each; any
-/// other that the grammar accepts is refused with line 0 and reason 0.
+/// The sites were just started. So far a scenario of one site is replayed whose commands make ports, send to them and take
+/// from them, on sites of one place each; any other that the grammar accepts is refused with line 0 and reason 0.
 pub fn replay<S: Source, K: Sink>(
     alloc: Global,
     source: &mut S,
