@@ -36,7 +36,7 @@ past-is c closed h = ap reverse h ∙ reverse-reverse (replayed c).place.journal
 
 -- A run is legal, and so is each past on the way to it.
 
-run-legal : (l : Layout) (callers : ℕ → Option Ui) (past : List Entry) → is_run l callers past ≡ true → is_legal l past ≡ true
+pub run-legal : (l : Layout) (callers : ℕ → Option Ui) (past : List Entry) → is_run l callers past ≡ true → is_legal l past ≡ true
 run-legal l callers [] h = refl
 run-legal l callers (e ∷ past) h =
     let outer = and_parts (may l past e && may_run callers past e) (is_run l callers past) h in
@@ -44,7 +44,7 @@ run-legal l callers (e ∷ past) h =
     let rest = run-legal l callers past outer.1 in
     λ i. inner.0 i && rest i
 
-legal-older : (l : Layout) (newer past : List Entry) → is_legal l (newer ++ past) ≡ true → is_legal l past ≡ true
+pub legal-older : (l : Layout) (newer past : List Entry) → is_legal l (newer ++ past) ≡ true → is_legal l past ≡ true
 legal-older l [] past h = h
 legal-older l (e ∷ newer) past h = legal-older l newer past (and_parts (may l (newer ++ past) e) (is_legal l (newer ++ past)) h).1
 

@@ -1,5 +1,6 @@
 pub mod Texts
 pub mod Closed
+pub mod Holding
 pub mod Given
 pub mod Callers
 pub mod Ready

@@ -4,9 +4,12 @@ use Rattle.std.specs.Io.KnownBytes.{Consumes, IsAtEnd}
 use Rattle.chorus_ui.specs.declared.ui.Ui.{Ui}
 use Rattle.chorus_ui.specs.declared.layout.Layout.{Layout}
 use Rattle.chorus_entry.specs.declared.entry.Entry.{Entry}
+use Rattle.chorus_entry.specs.declared.id.MsgId.{MsgId}
 use Rattle.chorus_entry.specs.declared.command.Command.{Command}
 use Rattle.chorus_merge.specs.Merge.{merged}
 use Rattle.chorus_world.specs.Views.{on}
+use Rattle.chorus_world.specs.Ports.{Fate, fate}
+use Rattle.chorus_world.specs.Fates.{Received, Queued, fate_at}
 use Rattle.chorus_world.specs.Runs.{is_run}
 use Rattle.chorus_world.specs.Commands.{performs}
 use Rattle.chorus_world.specs.AcceptedLaws.{received, taken_by, accepted_by}
@@ -84,3 +87,16 @@ abbrev pub ReceivesInOrder : Closed → Type 0
 ReceivesInOrder closed =
     (newer past : List Entry) (port : Ui) → past_of closed ≡ newer ++ past →
     received (on port past) ≡ take (taken_by port past) (accepted_by port past)
+
+-- a message that a port accepted at this position stands there alone, and was received or waits in the port's queue
+pub record IsHeldOnce (past : List Entry) (port : Ui) (position : ℕ) (x : MsgId) : Type 0 where
+  pub state : Fate
+  pub made : fate (on port past) ≡ Some state
+  pub held : (fate_at position state ≡ Received) ⊎ (fate_at position state ≡ Queued)
+  pub alone : (other : Ui) (place : ℕ) → slice_get (accepted_by other past) place ≡ Some x → (other ≡ port) × (place ≡ position)
+
+-- at each moment of the merge each message that a port accepted is held once
+abbrev pub HasOneHolder : Closed → Type 0
+HasOneHolder closed =
+    (newer past : List Entry) (port : Ui) (position : ℕ) (x : MsgId) → past_of closed ≡ newer ++ past →
+    slice_get (accepted_by port past) position ≡ Some x → IsHeldOnce past port position x

@@ -1,0 +1,108 @@
+-- Each accepted message is held once. At each moment each port that was made is held: after an event the table says so, and
+-- within a call only a post comes before the last entry, and that is on the line of no port.
+use Rattle.std.proofs.Common.{ℕ, ◌≡◌, ◌<◌, nat_lt, ◌⊎◌, inl, inr, Bool, true, false, ◌&&◌, cond, List, [], ◌∷◌, ◌++◌, reverse, Option, Some, None, slice_get, refl, sym, ◌∙◌, ap, subst, arith}
+use Rattle.std.proofs.lemmas.Bool.{and_parts, false≢true}
+use Rattle.std.proofs.lemmas.Option.{slice_get_within}
+use Rattle.chorus_ui.specs.declared.ui.Ui.{Ui}
+use Rattle.chorus_ui.specs.declared.layout.Layout.{Layout}
+use Rattle.chorus_ui.specs.Layout.{IsShape, has_actor}
+use Rattle.chorus_entry.specs.declared.entry.Entry.{Entry}
+use Rattle.chorus_entry.specs.declared.id.MsgId.{MsgId}
+use Rattle.chorus_entry.specs.declared.dest.Dest.{Dest}
+use Rattle.chorus_entry.specs.declared.command.Command.{Command}
+use Rattle.chorus_entry.specs.Kinds.{names_actor}
+use Rattle.chorus_world.specs.declared.port.Spot.{Spot}
+use Rattle.chorus_world.specs.declared.port.Spot.TheVariants.{Held, Moving, Ended}
+use Rattle.chorus_world.specs.Views.{on}
+use Rattle.chorus_world.specs.Ports.{Fate, fate, is_held}
+use Rattle.chorus_world.specs.Fates.{Received, Queued, fate_left}
+use Rattle.chorus_world.specs.Steps.{is_legal}
+use Rattle.chorus_world.specs.AcceptedLaws.{accepted_by, accepted_from}
+use Rattle.chorus_world.proofs.OnceLaws.{stands_once}
+use Rattle.chorus_calls.specs.Callers.{Seated}
+use Rattle.chorus_place.specs.State.{Turn}
+use Rattle.chorus_place.specs.Machine.{call}
+use Rattle.chorus_net.specs.declared.closed.Closed.{Closed}
+use Rattle.chorus_net.specs.Sites.{SitesState, actor_of, Event, Enter, Act, acted_by, after}
+use Rattle.chorus_net.specs.OnePlace.{may_give, are_ready}
+use Rattle.chorus_net.proofs.Shown.{IfSound}
+use Rattle.chorus_net.proofs.AfterEvents.{Holds, holds}
+use Rattle.chorus_scene.specs.Scene.{Scene}
+use Rattle.chorus_scene.specs.Limits.{Keeps}
+use Rattle.chorus_run.specs.Order.{order, journal_of, scene_is_built}
+use Rattle.chorus_run.specs.Headline.{merge_of, past_of, callers_of, IsHeldOnce, HasOneHolder}
+use Rattle.chorus_run.proofs.Ready.{order-ready}
+use Rattle.chorus_run.proofs.Closed.{past-is, run-legal, legal-older, runs}
+
+abbrev if_made_held : Option Fate → Bool
+if_made_held None = true
+if_made_held (Some f) = is_held f.spot
+
+-- each port that was made is held
+abbrev AreHeld : List Entry → Type 0
+AreHeld past = (q : Ui) → if_made_held (fate (on q past)) ≡ true
+
+-- at each moment of the past
+abbrev AreHeldThroughout : List Entry → Type 0
+AreHeldThroughout [] = Unit {0}
+AreHeldThroughout (e ∷ past) = AreHeld (e ∷ past) × AreHeldThroughout past
+
+held-older : (newer past : List Entry) → AreHeldThroughout (newer ++ past) → AreHeld past
+held-older [] [] h = λ q. refl
+held-older [] (e ∷ past) h = h.0
+held-older (e ∷ newer) past h = held-older newer past h.1
+
+sound-held : (l : Layout) (past : List Entry) (q : Ui) (o : Option Fate) → IfSound l past q o → if_made_held o ≡ true
+sound-held l past q None h = refl
+sound-held l past q (Some f) h = ap is_held h.held
+
+held-now : (l : Layout) (events : List Event) (s : SitesState) → Holds l events s → AreHeld s.place.journal
+held-now l events s w = λ q. sound-held l s.place.journal q (fate (on q s.place.journal)) (w.world.table.sound q)
+
+call-held : (c : Command) (t : Turn) → AreHeld (call c t).place.journal → AreHeld t.place.journal → AreHeldThroughout t.place.journal → AreHeldThroughout (call c t).place.journal
+call-held (Command.Make actor n) t now before h = (now, h)
+call-held (Command.Send (Dest.Port q) body) t now before h = (now, (before, h))
+call-held (Command.Take q) t now before h = (now, h)
+call-held _ t now before h = h
+
+acted-held : (k : ℕ) (o : Option Seated) (c : Command) (s : SitesState) → AreHeld (acted_by k o c s).place.journal → AreHeld s.place.journal → AreHeldThroughout s.place.journal → AreHeldThroughout (acted_by k o c s).place.journal
+acted-held k None c s now before h = h
+acted-held k (Some v) c s now before h = call-held c (record { place = s.place; caller = v }) now before h
+
+held-after : (l : Layout) (events : List Event) → IsShape l → are_ready l events ≡ true → AreHeldThroughout (after l events).place.journal
+held-after l [] shape h = tt
+held-after l (Enter actor ∷ events) shape h =
+    held-after l events shape (and_parts (names_actor actor && has_actor l actor) (are_ready l events) h).1
+held-after l (Act k c ∷ events) shape h =
+    let s = after l events in
+    let ready = (and_parts (may_give l (actor_of s k) c) (are_ready l events) h).1 in
+    let now = held-now l (Act k c ∷ events) (after l (Act k c ∷ events)) (holds l (Act k c ∷ events) shape h) in
+    acted-held k (slice_get s.callers k) c s now (held-now l events s (holds l events shape ready)) (held-after l events shape ready)
+
+-- what a held port accepted was received or is in its queue
+received-or-queued : (b : Bool) (s : Spot) → is_held s ≡ true → (cond b Received (fate_left s) ≡ Received) ⊎ (cond b Received (fate_left s) ≡ Queued)
+received-or-queued true s h = inl refl
+received-or-queued false (Held a) h = inr refl
+received-or-queued false (Moving a) h = absurd (false≢true h)
+received-or-queued false Ended h = absurd (false≢true h)
+
+held-once : (l : Layout) (past : List Entry) (port : Ui) (position : ℕ) (x : MsgId) → is_legal l past ≡ true → AreHeld past → slice_get (accepted_by port past) position ≡ Some x → IsHeldOnce past port position x
+held-once l past port position x legal held stands = by (fate (on port past)) refl (held port) stands
+  where
+    by : (o : Option Fate) → fate (on port past) ≡ o → if_made_held o ≡ true → slice_get (accepted_from o) position ≡ Some x → IsHeldOnce past port position x
+    by None e k h = absurd (let lt : position < 0 = slice_get_within [] position x h in omega arith)
+    by (Some f) e k h =
+        record {
+          state = f;
+          made = e;
+          held = received-or-queued (nat_lt position f.taken) f.spot k;
+          alone = λ other place s. stands_once l past other port place position x legal s stands;
+        }
+
+pub has-one-holder : (c : Scene) (closed : Closed) → IsShape c.layout → Keeps c → scene_is_built c ≡ true → merge_of closed ≡ journal_of c → HasOneHolder closed
+has-one-holder c closed shape keeps built h =
+    λ newer past port position x e stands.
+    let legal = run-legal c.layout (callers_of c) (past_of closed) (runs c closed shape keeps built h) in
+    let throughout = held-after c.layout (reverse (order c)) shape (order-ready c keeps built) in
+    held-once c.layout past port position x (legal-older c.layout newer past (ap (is_legal c.layout) (sym e) ∙ legal))
+    (held-older newer past (subst AreHeldThroughout (sym (past-is c closed h) ∙ e) throughout)) stands
