@@ -1,5 +1,5 @@
 -- The next event of a scenario's order on the sites.
-use Rattle.std.proofs.Common.{◌≡◌, ℕ, suc, ◌+◌, ◌<◌, true, Option, Some, None, IfSome, List, [], ◌∷◌, ◌++◌, length, take, drop, reverse, slice_get, append_assoc, append-nil, length-append, take_all, ap₂, ◌≤◌, take-append-drop, take-suc, arith, refl, sym, ◌∙◌, ap, subst}
+use Rattle.std.proofs.Common.{◌≡◌, ℕ, suc, ◌+◌, ◌<◌, true, Some, IfSome, List, [], ◌∷◌, ◌++◌, length, take, drop, reverse, slice_get, append_assoc, append-nil, length-append, take_all, ap₂, ◌≤◌, take-append-drop, take-suc, arith, sym, ◌∙◌, ap, subst}
 use Rattle.std.proofs.lemmas.List.{reverse-append, length-map}
 use Rattle.std.specs.Option.{option_map}
 use Rattle.std.proofs.lemmas.Option.{slice_get_within, get_or_from_slice_get, slice_get-map}

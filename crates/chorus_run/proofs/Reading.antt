@@ -1,5 +1,5 @@
 -- What was read is what the input gives.
-use Rattle.std.proofs.Common.{◌≡◌, ℕ, ◌+◌, ◌<◌, ◌≤◌, Bool, true, false, cond, not, Option, Some, None, IsSome, IfSome, Result, Ok, Err, List, ◌++◌, length, take, take_all, refl, sym, ◌∙◌, ap, ap₂, subst, subst₂, arith}
+use Rattle.std.proofs.Common.{◌≡◌, ℕ, ◌+◌, ◌<◌, ◌≤◌, true, false, cond, Option, Some, None, IsSome, IfSome, Result, Ok, Err, List, ◌++◌, length, take, take_all, refl, sym, ◌∙◌, ap, ap₂, subst, subst₂, arith}
 use Rattle.std.proofs.Math.Seq.{take-append_seam}
 use Rattle.std.specs.Io.KnownBytes.{Consumes}
 use Rattle.chorus_ui.specs.declared.layout.Layout.{Layout}

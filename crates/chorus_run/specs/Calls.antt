@@ -1,6 +1,5 @@
 -- The calls of the scripts, and how far the sites are.
 use Rattle.std.specs.Prelude.{ℕ, ◌≡◌, ◌+◌, ◌<◌, List, ◌∷◌, ◌++◌, length, map, reverse, slice_index, count_by}
-use Rattle.chorus_entry.specs.declared.command.Command.{Command}
 use Rattle.chorus_scene.specs.Scene.{Scene, Script}
 use Rattle.chorus_scene.specs.Grammar.{is_step}
 use Rattle.chorus_scene.specs.declared.scenario.Step as step

@@ -1,5 +1,5 @@
 -- The order of a replay: what happens on the sites, one after the other, when a scenario is replayed.
-use Rattle.std.specs.Prelude.{ℕ, ◌+◌, ◌==◌, Bool, false, ◌&&◌, List, [], ◌∷◌, ◌++◌, map, drop, reverse, option_to_list, slice_get, count_by}
+use Rattle.std.specs.Prelude.{ℕ, ◌+◌, ◌==◌, Bool, ◌&&◌, List, [], ◌∷◌, ◌++◌, map, drop, reverse, option_to_list, slice_get, count_by}
 use Rattle.std.specs.List.{list_all}
 use Rattle.std.specs.Option.{option_map}
 use Rattle.chorus_entry.specs.declared.entry.Entry.{Entry}

@@ -6,7 +6,7 @@ ghost use Rattle.chorus_scene.specs.Scene.{Scene};
 ghost use Rattle.chorus_net.specs.Closing.{IsClosed};
 ghost use Rattle.chorus_net.specs.Sites.{layout_of};
 ghost use Rattle.chorus_run.specs.Order.{replayed};
-ghost use Rattle.chorus_run.specs.Headline.{AreJustStarted, Gives, IsRead, IsRun, Performs, ReceivesInOrder};
+ghost use Rattle.chorus_run.specs.Headline.{AreJustStarted, Gives, IsRead, IsRun, Performs, ReceivesInOrder, HasOneHolder};
 ghost use Rattle.chorus_run.specs.Output.{Writes, text_of};
 
 use crate::finished::Finished;
@@ -46,6 +46,7 @@ pub fn words<S: Source, K: Sink>(
     ensures run { (c : Scene) → Gives (layout_of sites) (S.left source.old) (Ok c) → IfSome result.closed (IsRun c) }
     ensures performs { (c : Scene) → Gives (layout_of sites) (S.left source.old) (Ok c) → IfSome result.closed (Performs c) }
     ensures receives { IfSome result.closed ReceivesInOrder }
+    ensures holder { IfSome result.closed HasOneHolder }
 {
     if is_replay(words) {
         return replay(alloc, source, sink, sites);

@@ -8,7 +8,7 @@ ghost use Rattle.chorus_scene.specs.Limits.{Keeps};
 ghost use Rattle.chorus_net.specs.Closing.{IsClosed};
 ghost use Rattle.chorus_net.specs.Sites.{layout_of};
 ghost use Rattle.chorus_run.specs.Order.{scene_is_built, replayed};
-ghost use Rattle.chorus_run.specs.Headline.{AreJustStarted, Gives, IsRead, ReadsAtMost, IsRun, Performs, ReceivesInOrder};
+ghost use Rattle.chorus_run.specs.Headline.{AreJustStarted, Gives, IsRead, ReadsAtMost, IsRun, Performs, ReceivesInOrder, HasOneHolder};
 ghost use Rattle.chorus_run.specs.Output.{Writes, GivesUp, text_of};
 
 use crate::built::is_built;
@@ -53,6 +53,7 @@ pub fn replay<S: Source, K: Sink>(
     ensures run { (c : Scene) → Gives (layout_of sites) (S.left source.old) (Ok c) → IfSome result.closed (IsRun c) }
     ensures performs { (c : Scene) → Gives (layout_of sites) (S.left source.old) (Ok c) → IfSome result.closed (Performs c) }
     ensures receives { IfSome result.closed ReceivesInOrder }
+    ensures holder { IfSome result.closed HasOneHolder }
 {
     let scenario = match read_scenario(alloc, source, sites.layout()) {
         Ok(scenario) => scenario,

@@ -1,4 +1,4 @@
-use Rattle.std.proofs.Common.{◌≡◌, ℕ, Err, refl, sym, ◌∙◌, ap, subst, arith, rules}
+use Rattle.std.proofs.Common.{◌≡◌, Err, sym, ◌∙◌, ap, subst, arith}
 use Rattle.chorus_scene.specs.Grammar.{read_scene, Refuses}
 use Rattle.chorus_scene.proofs.Law.{printed_again}
 use Rattle.chorus_run.proofs.Reading.{gives-whole, gives-long-as, built-is, unbuilt-is, refused-is, refused-of}

@@ -1,4 +1,4 @@
-use Rattle.std.proofs.Common.{arith, refl, ap, Err}
+use Rattle.std.proofs.Common.{arith, ap, Err}
 use Rattle.chorus_run.proofs.Next.{next-may, next-posts, next-clock}
 use Rattle.chorus_run.proofs.performing.act.Goals as goal
 

@@ -1,7 +1,7 @@
 use Rattle.std.proofs.Common.{refl, ap, ◌∙◌, rules}
 use Rattle.std.proofs.lemmas.Option.{slice_get_read}
 use Rattle.chorus_run.specs.Calls.{events_of}
-use Rattle.chorus_run.proofs.Next.{call-next, call-after, calls-done, room-fits}
+use Rattle.chorus_run.proofs.Next.{call-next, call-after, room-fits}
 use Rattle.chorus_run.proofs.performing.perform.Goals as goal
 
 pub act-requires-clause-next : goal.act-requires-clause-next
