@@ -1,7 +1,10 @@
 -- What happens to a client, one event after another.
-use Rattle.std.specs.Prelude.{ℕ, ◌+◌, ◌==◌, Bool, ◌&&◌, not, false, is_some, List, [], ◌∷◌, cond}
+use Rattle.std.specs.Prelude.{ℕ, ◌+◌, ◌==◌, Bool, ◌&&◌, true, false, List, [], ◌∷◌, Result, Ok, Err, cond}
 use Rattle.chorus_ui.specs.declared.ui.Ui.{Ui}
-use Rattle.chorus_calls.specs.Clients.{Calling, new_client, after_begin, after_settle, after_cancel, is_outstanding}
+use Rattle.chorus_calls.specs.declared.client.Outstanding.{Outstanding}
+use Rattle.chorus_calls.specs.declared.client.Settle.{Settle}
+use Rattle.chorus_calls.specs.declared.client.Settle.TheVariants.{Done, Late}
+use Rattle.chorus_calls.specs.Clients.{Calling, new_client, begun, after_begin, answer_to, after_settle, after_cancel}
 
 -- a call is begun, a reply to the call of a number comes, or the outstanding call is cancelled
 pub data Event : Type 0 where
@@ -20,16 +23,25 @@ abbrev pub client_after : List Event → Calling
 client_after [] = new_client
 client_after (event ∷ past) = happens event (client_after past)
 
+-- a begin that is answered with this number
+abbrev pub is_given : ℕ → Result ℕ (List ℕ × Outstanding) → Bool
+is_given n (Ok number) = number == n
+is_given n (Err refused) = false
+
 -- the event is a call that gets this number
 abbrev pub gives : ℕ → Event → Calling → Bool
-gives n (Begin port back body) c = not (is_some c.outstanding) && (c.given + 1 == n)
+gives n (Begin port back body) c = is_given n (begun c body)
 gives n (Reply number) c = false
 gives n Cancel c = false
+
+abbrev pub is_done : Settle → Bool
+is_done Done = true
+is_done Late = false
 
 -- the event is a reply that ends the call of this number
 abbrev pub settles : ℕ → Event → Calling → Bool
 settles n (Begin port back body) c = false
-settles n (Reply number) c = (number == n) && is_outstanding number c
+settles n (Reply number) c = (number == n) && is_done (answer_to c number)
 settles n Cancel c = false
 
 -- how often the number was given

@@ -1,8 +1,8 @@
 //! A caller: a seat of an actor.
 
 ghost use Rattle.std.specs.Prelude.{◌≡◌, ◌+◌, ◌<◌};
-ghost use Rattle.std.specs.Borrow.{Lends, sem};
-ghost use Rattle.chorus_calls.specs.Callers.{new_caller, after_tick, after_post, with_client, with_hand, IsNumbered};
+ghost use Rattle.std.specs.Borrow.{sem};
+ghost use Rattle.chorus_calls.specs.Callers.{new_caller, after_tick, after_post, with_hand, IsNumbered};
 ghost use Rattle.chorus_calls.specs.Lending.{LendsClient};
 
 use crate::client::Client;

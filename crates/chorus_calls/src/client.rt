@@ -1,6 +1,6 @@
 //! The calls of one caller, one after another.
 
-ghost use Rattle.std.specs.Prelude.{◌≡◌, ℕ, ◌<◌, IfSome};
+ghost use Rattle.std.specs.Prelude.{◌≡◌, ◌<◌};
 ghost use Rattle.std.specs.Option.{option_map};
 ghost use Rattle.chorus_calls.specs.Clients.{new_client, begun, after_begin, number_of, answer_to, after_settle, after_cancel, IsLatest};
 ghost use Rattle.chorus_calls.specs.Again.{call_again};

@@ -3,8 +3,10 @@
 //! A frame has one definition, in two halves that two laws tie together: `specs/Spelling.antt` says which bytes a packet has,
 //! and `specs/Reading.antt` reads bytes field by field, into the packet or the first fault that is met. The layers above rest
 //! on this: each packet within its ranges (`has_ranges` of `chorus_entry`) has one frame and is read back from it, whatever
-//! stands behind, and what is read as a packet is that packet's frame. No bytes from outside make the reader read past their
-//! end, or take memory for what they only announce.
+//! stands behind, and what is read as a packet is that packet's frame.
+//!
+//! No bytes from outside make the reader read past their end. Nor does it take memory for what they only announce, but for the
+//! room of a port's record; this is by the code, and no contract says it.
 //!
 //! Begin with [`Frame`], a packet kept as its bytes, and with [`encode`] and [`decode`].
 #![tactic(auto)]

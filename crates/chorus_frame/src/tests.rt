@@ -7,14 +7,14 @@ use std::alloc::{AllocError, Global};
 use std::process::Abort;
 use std::test::Fail;
 
-/// The begin of a frame of this kind: for a Verdict and a Report all but the answer, for a Transfer all but the number of the
-/// second client, and for a Try and an Ask the clock 9 and the place.
+/// The beginning of a frame of this kind: for a Verdict and a Report all but the answer, for a Transfer all but the second
+/// client, and for a Try and an Ask the clock 9 and the place.
 fn begin(kind: u8) -> &'static str {
     match kind {
         1 => "01 0000000000000009 0002",
         2 => "02 0000000000000009 0001 00000003 00000007 0002 0001020000000001 0002030000000001",
         3 =>
-            "03 0000000000000009 0001 0001020000000001 0002010000000008 02 0000000000000009 0000000000000004 02 00000003 00000007 0000 00 0001 61 00000003 00000008 0000 00 0000 02 00000005 00000001 00000000",
+            "03 0000000000000009 0001 0001020000000001 0002010000000008 02 0000000000000009 0000000000000004 02 00000003 00000007 0000 00 0001 61 00000003 00000008 0000 00 0000 02 00000005 00000001",
         4 => "04 0000000000000009 0001",
         _ => "05 0000000000000005 0001 00000001 00000002 0000",
     }
@@ -24,7 +24,7 @@ fn begin(kind: u8) -> &'static str {
 fn damage(at: u8) -> Option<(u8, &'static str, u8)> {
     Some(match at {
         // A kind, tag, mode or code that may not stand there.
-        0 => (5, "ff", 2),
+        0 => (2, "ff", 2),
         1 => (5, "03 0001 0000000000000001", 2),
         2 => (2, "09", 2),
         3 => (2, "0a 0001", 2),
@@ -52,11 +52,12 @@ fn damage(at: u8) -> Option<(u8, &'static str, u8)> {
         // A site with mode 1, and none with mode 3.
         15 => (4, "01 0002030000000001 0001", 3),
         16 => (4, "03 0002030000000001 0000", 3),
-        // A client's number 0, and a byte too many.
-        17 => (3, "00000000", 3),
-        18 => (3, "00000007 00", 4),
-        19 => (5, "09 00", 4),
-        20 => (5, "", 1),
+        // A client's number 0, a client that is there already, also with its number cut off, and a byte too many.
+        17 => (3, "00000000 00000000", 3),
+        18 => (3, "00000005 00000002", 3),
+        19 => (3, "00000005", 3),
+        20 => (3, "00000000 00000007 00", 4),
+        21 => (5, "", 1),
         _ => return None,
     })
 }
@@ -164,6 +165,12 @@ fn report_frame_bytes(rt: HostRuntime) -> Result<(), Fail> {
     assert_eq!(rt; bytes.len(), 22);
     let packet = packet_in(&rt, alloc, &bytes)?;
     assert_eq!(rt; (packet.clock, packet.from), (5, 1));
+    assert_eq!(rt; fault_of(alloc, &bytes_of(alloc, 5, "ff")?), 2, "Kind");
+    assert_eq!(rt;
+        fault_of(alloc, &bytes_of(alloc, 5, "09 00")?),
+        4,
+        "Trailing"
+    );
     Ok(())
 }
 
@@ -232,6 +239,24 @@ fn a_message_is_tried(rt: HostRuntime) -> Result<(), Fail> {
 }
 
 #[test]
+fn a_site_is_demanded_without_a_route(rt: HostRuntime) -> Result<(), Fail> {
+    let alloc = rt.alloc();
+    let end =
+        "0000000000000000 0010 0000000000000003 0001020000000001 00000003 00000007 0000 00 0000";
+    let packet = packet_in(&rt, alloc, &bytes_of(alloc, 1, end)?)?;
+    match &packet.cargo {
+        Cargo::Try {
+            route,
+            only,
+            hop,
+            ..
+        } => assert_eq!(rt; (*route, *only, *hop), (None, Some(16), 3)),
+        _ => return Err("no Try".into()),
+    }
+    Ok(())
+}
+
+#[test]
 fn a_message_is_asked(rt: HostRuntime) -> Result<(), Fail> {
     let alloc = rt.alloc();
     let group = Ui::new(2, Kind::Group, 1).ok_or("a group")?;
@@ -257,7 +282,7 @@ fn a_message_is_asked(rt: HostRuntime) -> Result<(), Fail> {
 #[test]
 fn a_port_is_transferred(rt: HostRuntime) -> Result<(), Fail> {
     let alloc = rt.alloc();
-    let packet = packet_in(&rt, alloc, &bytes_of(alloc, 3, "00000007")?)?;
+    let packet = packet_in(&rt, alloc, &bytes_of(alloc, 3, "00000000 00000007")?)?;
     match &packet.cargo {
         Cargo::Transfer { port } => {
             assert_eq!(rt;

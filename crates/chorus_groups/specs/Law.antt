@@ -1,4 +1,4 @@
--- Functional choices, one after another, with no join or leave between them.
+-- Functional choices, one after another, with no join, no leave and no other choice between them.
 use Rattle.std.specs.Prelude.{ℕ, zero, suc, ◌+◌, cond, List, [], ◌∷◌, ◌++◌, length, slice_get}
 use Rattle.chorus_ui.specs.declared.ui.Ui.{Ui}
 use Rattle.chorus_ui.specs.Name.{same_ui}

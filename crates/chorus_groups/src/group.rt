@@ -1,9 +1,9 @@
 //! One group.
 
-ghost use Rattle.std.specs.Prelude.{◌≡◌, ◌≤◌, ◌+◌, length, IfOk, IsTrue};
+ghost use Rattle.std.specs.Prelude.{◌≡◌, ◌+◌, length, IfOk};
 ghost use Rattle.chorus_ui.specs.Name.{same_ui};
 ghost use Rattle.chorus_entry.specs.declared.members.TheConstants.{MEMBERS_LIMIT};
-ghost use Rattle.chorus_groups.specs.Ports.{IsPosition, are_distinct, first_of, in_turn};
+ghost use Rattle.chorus_groups.specs.Ports.{first_of, in_turn};
 ghost use Rattle.chorus_groups.specs.Groups.{IsGroup, new_group, joined, left, turned_behind};
 ghost use Rattle.chorus_groups.specs.Faults.{unless, refuses_join, refuses_leave, after};
 ghost use Rattle.chorus_groups.specs.Choosing.{first_at};
@@ -24,7 +24,7 @@ pub(crate) struct Group {
 }
 
 impl Model for Group {
-    ghost use Rattle.std.specs.Prelude.{◌≡◌, ◌≤◌, length, IsTrue, vec_capacity};
+    ghost use Rattle.std.specs.Prelude.{◌≡◌, length, vec_capacity};
     ghost use Rattle.chorus_entry.specs.declared.members.TheConstants.{MEMBERS_LIMIT};
     ghost use Rattle.chorus_groups.specs.Groups.{Group, IsGroup};
 

@@ -1,11 +1,11 @@
 //! The groups that were made at a place.
 
-ghost use Rattle.std.specs.Prelude.{◌≡◌, ◌<◌, ◌≤◌, length, slice_index_or, IfOk, IfSome, OnOk, OnErr, IsSome, IsNone, IsTrue, None, is_some};
+ghost use Rattle.std.specs.Prelude.{◌≡◌, ◌<◌, ◌≤◌, length, IfOk, OnOk, OnErr, IsSome, IsTrue, None, is_some};
 ghost use Rattle.std.specs.Option.{option_copied};
 ghost use Rattle.chorus_entry.specs.Dest.{group_in};
 ghost use Rattle.chorus_entry.specs.declared.members.TheConstants.{MEMBERS_LIMIT};
 ghost use Rattle.chorus_groups.specs.Ports.{are_distinct, first_of, in_turn, listed, IsPosition};
-ghost use Rattle.chorus_groups.specs.Groups.{Group as OneGroup, new_table, group_of, row_of, after_make, members, rotation, with_change};
+ghost use Rattle.chorus_groups.specs.Groups.{new_table, group_of, row_of, after_make, members, rotation, with_change};
 ghost use Rattle.chorus_groups.specs.Faults.{unless, join_fault_of, after_join, leave_fault_of, after_leave};
 ghost use Rattle.chorus_groups.specs.Choosing.{choice, turned_by, after_choose, first_at, members_for};
 ghost use Rattle.chorus_groups.specs.Made.{made_of};

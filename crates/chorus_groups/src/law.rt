@@ -7,7 +7,7 @@ ghost use Rattle.chorus_groups.specs.Groups.{Table, members, rotation};
 ghost use Rattle.chorus_groups.specs.Law.{chosen_of, times, around};
 
 /// The law of functional choices, for every table of groups and every list of such choices, of one group or of several,
-/// with no join or leave between them. What it takes of the group is what `Groups::members` ensures.
+/// with no join, no leave and no other choice between them. What it takes of the group is what `Groups::members` ensures.
 pub fn chosen_in_turn()
     // The members of a group are chosen in turn, from the one at its rotation place on, round the list.
     ensures turns { (group : Ui) (choices : List Ui) (table : Table) →

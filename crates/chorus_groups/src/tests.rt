@@ -136,6 +136,23 @@ fn the_turn_closes_up(rt: HostRuntime) -> Result<(), Fail> {
     Ok(())
 }
 
+/// The last of two members was chosen, and a third one joins: the turn is at the first.
+#[test]
+fn a_port_joins_behind_the_turn(rt: HostRuntime) -> Result<(), Fail> {
+    let alloc = rt.alloc();
+    let mut groups = grouped(&rt, alloc, &[1, 2])?;
+    let made = group(&rt, 1);
+    let one = Dest::One(made);
+    for chosen in [1, 2] {
+        assert_chosen(&rt, alloc, &mut groups, one, &[0; 2], &[chosen])?;
+    }
+    assert!(rt; groups.join(made, port(&rt, 3)).is_ok());
+    for chosen in [1, 2, 3, 1] {
+        assert_chosen(&rt, alloc, &mut groups, one, &[0; 3], &[chosen])?;
+    }
+    Ok(())
+}
+
 #[test]
 fn joins_and_leaves_are_refused_in_order(rt: HostRuntime) -> Result<(), Fail> {
     let alloc = rt.alloc();

@@ -16,7 +16,7 @@ use Rattle.chorus_ports.specs.declared.deciding.Accept.TheVariants.{Accepted, Al
 use Rattle.chorus_ports.specs.declared.taking.Taken.TheVariants as T
 use Rattle.chorus_ports.specs.Deciding.{is_reached, is_repeated, is_one_too_many, is_full, answer_to, with_client, remembered, enqueued, answered}
 use Rattle.chorus_ports.specs.Taking.{first_at, passed}
-use Rattle.chorus_ports.specs.History.{Event, Offer, Take, Rehome, History, accepted_by, taken_by, happens, run, history, has_request, is_request}
+use Rattle.chorus_ports.specs.History.{Event, Offer, Take, Rehome, Migrate, History, accepted_by, taken_by, happens, run, history, has_request, is_request}
 use Rattle.chorus_ports.proofs.Clients.{number_of-with_client}
 
 -- what every event keeps: the last says that a request whose number is not reached was not accepted
@@ -126,6 +126,7 @@ event_keeps : (e : Event) (h : History) → Holds h → Holds (happens h e)
 event_keeps (Offer m) h k = offer_keeps m h k
 event_keeps (Take actor) h k = take_keeps actor h k
 event_keeps (Rehome actor) h k = record { waiting = k.waiting; counted = k.counted; once = k.once; fresh = k.fresh }
+event_keeps (Migrate hop actor) h k = record { waiting = k.waiting; counted = k.counted; once = k.once; fresh = k.fresh }
 
 pub run_keeps : (es : List Event) (h : History) → Holds h → Holds (run es h)
 run_keeps [] h k = k

@@ -1,5 +1,5 @@
 -- What a port accepted and what was taken from it, over any events of its life: it is offered messages, actors take from it,
--- and it gets other holders. A departure and an arrival are no events of it, since they hand the very record on.
+-- it gets other holders, and it migrates.
 use Rattle.std.specs.Prelude.{◌≡◌, ℕ, ◌==◌, Bool, false, ◌&&◌, List, [], ◌∷◌, ◌++◌}
 use Rattle.chorus_ui.specs.declared.ui.Ui.{Ui}
 use Rattle.chorus_entry.specs.declared.message.Message.{Message}
@@ -18,6 +18,7 @@ pub data Event : Type 0 where
   Offer : (message : Message) → Event
   Take : (actor : Ui) → Event
   Rehome : (actor : Ui) → Event
+  Migrate : (hop : ℕ) (actor : Ui) → Event
 
 -- a port, and all messages that it accepted and that were taken from it, in order
 pub record History : Type 0 where
@@ -36,10 +37,15 @@ taken_by (T.Message pos m) = m ∷ []
 taken_by T.Empty = []
 taken_by T.NotHere = []
 
+-- a port that migrates gets a hop and an actor; a departure and an arrival hand on all else as it is
+abbrev pub migrated : ℕ → Ui → PortRecord → PortRecord
+migrated hop actor port = record port { hop = hop; actor = actor }
+
 abbrev pub happens : History → Event → History
 happens h (Offer m) = record h { port = after_offer m h.port; accepted = h.accepted ++ accepted_by (answer_to m h.port) m }
 happens h (Take actor) = record h { port = after_take actor h.port; taken = h.taken ++ taken_by (taken_from actor h.port) }
 happens h (Rehome actor) = record h { port = rehomed actor h.port }
+happens h (Migrate hop actor) = record h { port = migrated hop actor h.port }
 
 abbrev pub run : List Event → History → History
 run [] h = h

@@ -8,8 +8,8 @@ ghost use Rattle.chorus_ports.specs.declared.deciding.Accept.TheVariants.{Accept
 ghost use Rattle.chorus_ports.specs.Deciding.{answer_to};
 ghost use Rattle.chorus_ports.specs.History.{Event, history, IsFrontOf, is_request};
 
-/// The law of a port, for every list of offers, takes and changes of its holder, from its making on. Since a departure and
-/// an arrival hand the very record on, it holds across all migrations.
+/// The law of a port, for every list of offers, takes, changes of its holder and migrations, from its making on. A migration
+/// gives the record any hop and any actor, and hands on all else as it is.
 pub fn a_port_keeps_order_and_accepts_once()
     // What was taken is a front of what was accepted.
     ensures front { (ui actor : Ui) (capacity : ℕ) (events : List Event) →

@@ -1,6 +1,5 @@
 //! Answers.
 
-ghost use Rattle.std.specs.Prelude.{ℕ};
 ghost use Rattle.chorus_frame.specs.Calls.{Reads};
 ghost use Rattle.chorus_frame.specs.Reading.{place_at, accepted_at, full_at, located_at, stale_at, early_at, elsewhere_at, chosen_at, answer_of, answer_at, is_told_code, is_reported_code};
 

@@ -1,6 +1,5 @@
 //! Names and numbers within their ranges.
 
-ghost use Rattle.std.specs.Prelude.{nat_le};
 ghost use Rattle.chorus_frame.specs.Calls.{Reads};
 ghost use Rattle.chorus_frame.specs.Reading.{name_at, route_at, only_at, positive_at, past_at};
 

@@ -1,8 +1,8 @@
 //! Packets, kind by kind.
 
 ghost use Rattle.std.specs.Prelude.{◌≡◌, ◌++◌, OnOk, OnErr, length, take};
-ghost use Rattle.std.specs.List.{flat_map, AllByRecursion};
-ghost use Rattle.chorus_frame.specs.Spelling.{message_fields, client_fields, pending_fields, clients_fields, record_fields, asked_fields, cargo_fields, kind_of, frame};
+ghost use Rattle.std.specs.List.{AllByRecursion};
+ghost use Rattle.chorus_frame.specs.Spelling.{client_fields, pending_fields, clients_fields, record_fields, asked_fields, cargo_fields, kind_of, frame};
 ghost use Rattle.chorus_frame.specs.Numbers.{number};
 ghost use Rattle.chorus_frame.specs.Widths.{IsHeldMessage, IsHeldClient, IsHeldRecord, IsHeldDest, IsHeldCargo, IsHeld};
 

@@ -1,6 +1,6 @@
 //! Numbers and names.
 
-ghost use Rattle.std.specs.Prelude.{◌≡◌, ◌<◌, ◌^◌, ◌++◌, OnOk, OnErr, length, take};
+ghost use Rattle.std.specs.Prelude.{◌≡◌, ◌<◌, ◌^◌, ◌++◌, OnOk, OnErr};
 ghost use Rattle.chorus_ui.specs.Name.{IsName};
 ghost use Rattle.chorus_frame.specs.Numbers.{number};
 ghost use Rattle.chorus_frame.specs.Spelling.{name_field, route_field, only_field};
