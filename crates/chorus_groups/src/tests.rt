@@ -142,13 +142,12 @@ fn a_port_joins_behind_the_turn(rt: HostRuntime) -> Result<(), Fail> {
     let alloc = rt.alloc();
     let mut groups = grouped(&rt, alloc, &[1, 2])?;
     let made = group(&rt, 1);
-    let one = Dest::One(made);
     for chosen in [1, 2] {
-        assert_chosen(&rt, alloc, &mut groups, one, &[0; 2], &[chosen])?;
+        assert_chosen(&rt, alloc, &mut groups, Dest::One(made), &[0; 2], &[chosen])?;
     }
     assert!(rt; groups.join(made, port(&rt, 3)).is_ok());
     for chosen in [1, 2, 3, 1] {
-        assert_chosen(&rt, alloc, &mut groups, one, &[0; 3], &[chosen])?;
+        assert_chosen(&rt, alloc, &mut groups, Dest::One(made), &[0; 3], &[chosen])?;
     }
     Ok(())
 }
