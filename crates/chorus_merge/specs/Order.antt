@@ -3,7 +3,7 @@ use Rattle.std.specs.Prelude.{ℕ, ◌≡◌, ◌≢◌, ◌<◌, ◌==◌, nat_
 use Rattle.std.specs.List.{All}
 use Rattle.chorus_entry.specs.declared.entry.Entry.{Entry}
 
--- e stands before f in every merge
+-- e's clock is less than f's, or the clocks are equal and e's place is less
 abbrev pub comes_before : Entry → Entry → Bool
 comes_before e f = nat_lt e.clock f.clock || ((e.clock == f.clock) && nat_lt e.place f.place)
 
