@@ -129,7 +129,7 @@ calls l f past ports v (Command.Take q) shape w h =
     taking l f past ports v q shape w two.1 one.1
 calls l f past ports v c shape w h = absurd (false≢true (and_parts (meets_conditions c && has_kinds_in_command c && (place_for l v.actor c == 1)) (is_built l 1 c) h).1)
 
-place-is : (l : Layout) (p : PlaceState) → p.layout ≡ l → p.number ≡ 1 → (let q : PlaceState = record { layout = l; number = 1; journal = p.journal; ports = p.ports } in p ≡ q)
+pub place-is : (l : Layout) (p : PlaceState) → p.layout ≡ l → p.number ≡ 1 → (let q : PlaceState = record { layout = l; number = 1; journal = p.journal; ports = p.ports } in p ≡ q)
 place-is l p e n = λ i. record { layout = e i; number = n i; journal = p.journal; ports = p.ports }
 
 module _ (l : Layout) (events : List Event) (s : SitesState) (k : ℕ) (v : Seated) (command : Command) (t : Turn) (w : Holds l events s) (given : slice_get s.callers k ≡ Some v) (d : IsDone l (actor_of s) s.place.journal v command t) where

@@ -9,5 +9,6 @@ pub mod Taking
 pub mod Sending
 pub mod Seating
 pub mod AfterEvents
+pub mod Once
 pub mod Example
 pub mod Seats

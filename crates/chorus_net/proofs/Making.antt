@@ -29,7 +29,7 @@ use Rattle.chorus_net.proofs.Says.{InCall, Owes, says, next_clock, next_entry, p
 abbrev next : Layout → List Entry → Ui → Ui
 next l past actor = record { site = actor.site; kind = kinds.Port; number = next_number l 1 past }
 
-next-absent : (l : Layout) (past : List Entry) (ports : List PortRecord) (actor : Ui) → PortsStand l past ports → find (next l past actor) ports ≡ None
+pub next-absent : (l : Layout) (past : List Entry) (ports : List PortRecord) (actor : Ui) → PortsStand l past ports → find (next l past actor) ports ≡ None
 next-absent l past ports actor w = by (port-cases l past ports (next l past actor) w)
   where
     by : HasNoPort past ports (next l past actor) ⊎ HasPort l past ports (next l past actor) → find (next l past actor) ports ≡ None

@@ -26,11 +26,12 @@ use Rattle.chorus_world.specs.Seats.{posts}
 use Rattle.chorus_ports.specs.declared.deciding.Accept.{Accept}
 use Rattle.chorus_ports.specs.declared.deciding.Accept.TheVariants as accepts
 use Rattle.chorus_ports.specs.Table.{find, replace}
-use Rattle.chorus_ports.specs.Deciding.{answer_to, answered, after_offer}
-use Rattle.chorus_ports.proofs.Tables.{KeepsName, replace-absent}
+use Rattle.chorus_ports.specs.Deciding.{answered, after_offer}
+use Rattle.chorus_ports.proofs.Tables.{replace-absent}
 use Rattle.chorus_calls.specs.Callers.{Seated, after_tick}
 use Rattle.chorus_place.specs.State.{say}
 use Rattle.chorus_place.specs.Machine.{decision, decision_at, send}
+use Rattle.chorus_place.proofs.Kept.{offer-name}
 use Rattle.chorus_net.specs.OnePlace.{as_posted, record_in, record_of}
 use Rattle.chorus_net.proofs.Core.{posts-grow}
 use Rattle.chorus_net.proofs.Shown.{ArePosted, Sound, HasPort, HasNoPort, port-cases, pending-stays, posted-more, still-stands, Changes, changed-stands}
@@ -38,15 +39,6 @@ use Rattle.chorus_net.proofs.Changed.{table-one, table-same, fates-one}
 use Rattle.chorus_net.proofs.Waits.{new_sent, IsWaiting, none-left, posts-here, new_id, new_post, post-waits, post-posted, about-known}
 use Rattle.chorus_net.proofs.May.{may-post, may-accept, may-full, may-no_port}
 use Rattle.chorus_net.proofs.Says.{InCall, Owes, says, next_clock, next_entry, after_act, Performed, performs-own, performs-behind, turn, IsDone, place-one}
-
-answered-name : (o : Accept) (m : Message) (r : PortRecord) → (answered o m r).ui ≡ r.ui
-answered-name (accepts.Accepted n) m r = refl
-answered-name (accepts.Already b) m r = refl
-answered-name (accepts.ClientsFull b) m r = refl
-answered-name (accepts.Full n b) m r = refl
-
-offer-name : (m : Message) → KeepsName (after_offer m)
-offer-name m r = answered-name (answer_to m r) m r
 
 posted-append : (past : List Entry) (xs : List MsgId) (x : MsgId) → ArePosted past xs → is_some (post_of x past) ≡ true → ArePosted past (xs ++ x ∷ [])
 posted-append past [] x h k = (k, tt)

@@ -21,26 +21,16 @@ use Rattle.chorus_ports.specs.declared.taking.Taken.{Taken}
 use Rattle.chorus_ports.specs.declared.taking.Taken.TheVariants as takes
 use Rattle.chorus_ports.specs.Table.{find, replace}
 use Rattle.chorus_ports.specs.Taking.{first_at, taken, passed, after_take}
-use Rattle.chorus_ports.proofs.Tables.{KeepsName, replace-absent, differs_back}
+use Rattle.chorus_ports.proofs.Tables.{replace-absent, differs_back}
 use Rattle.chorus_calls.specs.Callers.{Seated}
 use Rattle.chorus_place.specs.State.{say}
 use Rattle.chorus_place.specs.Machine.{take_act, take}
+use Rattle.chorus_place.proofs.Kept.{take-name}
 use Rattle.chorus_net.specs.OnePlace.{as_posted, record_in, record_of}
 use Rattle.chorus_net.proofs.Shown.{Sound, HasPort, HasNoPort, port-cases, pending-stays, posted-more, still-stands, Changes, changed-stands}
 use Rattle.chorus_net.proofs.Changed.{table-one, table-same, fates-one, drop-head, drop-tail}
 use Rattle.chorus_net.proofs.May.{may-take, may-empty}
 use Rattle.chorus_net.proofs.Says.{InCall, Owes, says, next_clock, next_entry, performs-own, turn, IsDone, place-one, quiet-waits}
-
-passed-name : (ms : List Message) (r : PortRecord) → (passed ms r).ui ≡ r.ui
-passed-name [] r = refl
-passed-name (m ∷ ms) r = refl
-
-take-name : (actor : Ui) → KeepsName (after_take actor)
-take-name actor r = by (same_ui r.actor actor)
-  where
-    by : (b : Bool) → (if b then passed r.pending r else r).ui ≡ r.ui
-    by true = passed-name r.pending r
-    by false = refl
 
 posted-id : (x : MsgId) (o : Option Posted) → (as_posted x o).id ≡ x
 posted-id x None = refl

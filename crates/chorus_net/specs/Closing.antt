@@ -4,6 +4,7 @@ use Rattle.std.specs.Global.{Vec}
 use Rattle.chorus_entry.specs.declared.entry.Entry.{Entry}
 use Rattle.chorus_entry.specs.declared.record.PortRecord.{PortRecord}
 use Rattle.chorus_net.specs.declared.closed.Closed.{Closed}
+use Rattle.chorus_net.specs.declared.closed.Origin.{Origin}
 use Rattle.chorus_net.specs.declared.closed.Placed.{Placed}
 use Rattle.chorus_net.specs.Sites.{SitesState}
 
@@ -15,8 +16,13 @@ journals_of closed = map (λ (journal : Vec Entry). journal.items) closed.journa
 abbrev pub placed : PortRecord → Placed
 placed port = record { place = 1; port = port }
 
+-- it was made by closing sites
+abbrev pub IsOfSites : Closed → Type 0
+IsOfSites closed = closed.origin ≡ Origin.Sites
+
 -- the journal of the one place, no packet, and the ports of its table
 pub record IsClosed (s : SitesState) (closed : Closed) : Type 0 where
   pub journals : journals_of closed ≡ reverse s.place.journal ∷ []
   pub rest : closed.rest.items ≡ []
   pub ports : closed.ports.items ≡ map placed s.place.ports
+  pub origin : IsOfSites closed

@@ -20,9 +20,9 @@ use Rattle.chorus_world.specs.Posts.{Posted, post_of}
 use Rattle.chorus_world.specs.Places.{sent, unsettled}
 use Rattle.chorus_world.specs.Runs.{is_run}
 use Rattle.chorus_world.specs.Commands.{performs}
-use Rattle.chorus_ports.specs.Table.{find}
+use Rattle.chorus_ports.specs.Table.{find, are_distinct}
 use Rattle.chorus_place.specs.Machine.{is_built}
-use Rattle.chorus_net.specs.Sites.{SitesState, Event, Enter, Act, after, actor_of, commands_of}
+use Rattle.chorus_net.specs.Sites.{Event, Enter, Act, after, actor_of, commands_of}
 
 -- the command is one that a caller in this actor may give: it meets its conditions, place 1 carries it out and has it so far
 abbrev pub may_give : Layout → Option Ui → Command → Bool
@@ -58,9 +58,10 @@ abbrev pub record_of : Ui → List Entry → Option Fate → Option PortRecord
 record_of q past None = None
 record_of q past (Some f) = record_in q past f f.spot
 
--- the table stands for the world: it has the record of each port that the world has held, and no other
-abbrev pub StandsFor : SitesState → Type 0
-StandsFor s = (q : Ui) → find q s.place.ports ≡ record_of q s.place.journal (fate (on q s.place.journal))
+-- the records of a table stand for the world of a past: that of each port that the world has held, and no other, each once
+pub record StandsFor (past : List Entry) (ports : List PortRecord) : Type 0 where
+  pub shown : (q : Ui) → find q ports ≡ record_of q past (fate (on q past))
+  pub once : are_distinct ports ≡ true
 
 -- the journal is a run for the callers
 abbrev pub Runs : Type 0
@@ -75,7 +76,8 @@ Performs = (l : Layout) (events : List Event) (k : ℕ) (a : Ui) → IsShape l �
 
 -- the table stands for the world of it
 abbrev pub TablesStand : Type 0
-TablesStand = (l : Layout) (events : List Event) → IsShape l → are_ready l events ≡ true → StandsFor (after l events)
+TablesStand = (l : Layout) (events : List Event) → IsShape l → are_ready l events ≡ true →
+    StandsFor (after l events).place.journal (after l events).place.ports
 
 -- and each message that was sent has its verdict
 abbrev pub IsQuiet : Type 0

@@ -10,7 +10,7 @@ ghost use Rattle.chorus_net.specs.Sites.{opening, entered, acted, replied, actor
 ghost use Rattle.chorus_net.specs.OnePlace.{may_give};
 ghost use Rattle.chorus_net.specs.Closing.{IsClosed};
 
-use crate::closed::{Closed, Placed};
+use crate::closed::{Closed, Origin, Placed};
 use crate::fault::EnterFault;
 use chorus_calls::Caller;
 use chorus_entry::Command;
@@ -149,6 +149,7 @@ impl Sites {
             journals,
             rest: Vec::new(alloc),
             ports: placed,
+            origin: Origin::Sites,
         })
     }
 }

@@ -1,6 +1,7 @@
 use Rattle.std.proofs.Common.{◌≡◌, Some, sym, ◌∙◌}
 use Rattle.chorus_ui.specs.declared.ui.Ui.{Ui}
 use Rattle.chorus_net.proofs.AfterEvents.{holds}
+use Rattle.chorus_net.proofs.Once.{once}
 use Rattle.chorus_net.proofs.laws.one_place_runs.Goals as goal
 
 some : (a b : Ui) → Some a ≡ Some b → b ≡ a
@@ -16,7 +17,8 @@ returns-clause-performs c = λ l events k a shape ready actor. (holds l events s
 
 -- src/laws.rt:8:1
 pub returns-clause-tables : goal.returns-clause-tables
-returns-clause-tables c = λ l events shape ready q. (holds l events shape ready).world.table.shown q
+returns-clause-tables c = λ l events shape ready.
+    record { shown = (holds l events shape ready).world.table.shown; once = once l events shape ready }
 
 -- src/laws.rt:8:1
 pub returns-clause-quiet : goal.returns-clause-quiet
