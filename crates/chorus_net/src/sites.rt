@@ -1,9 +1,8 @@
 //! The sites on one thread.
 
-ghost use Rattle.std.specs.Prelude.{◌≡◌, ◌≢◌, ℕ, ◌+◌, ◌<◌, ◌≤◌, ◌↔◌, true, false, length, map, reverse, [], ◌∷◌, slice_get, IsOk, IfOk, OnOk, OnErr, IfErr, IsErrOf, Some, IfSome, is_some};
+ghost use Rattle.std.specs.Prelude.{◌≡◌, ℕ, ◌<◌, ◌≤◌, ◌↔◌, true, false, length, IfOk, OnOk, OnErr, IfErr, IsErrOf, Some, IfSome};
 ghost use Rattle.chorus_ui.specs.Layout.{has_actor};
 ghost use Rattle.chorus_entry.specs.Kinds.{names_actor};
-ghost use Rattle.chorus_world.specs.Places.{last_clock};
 ghost use Rattle.chorus_place.specs.Calls.{is_post};
 ghost use Rattle.chorus_place.specs.declared.fault.TheConstants.{WORN};
 ghost use Rattle.chorus_net.specs.Sites.{opening, entered, acted, replied, actor_of, posts_of, compared};

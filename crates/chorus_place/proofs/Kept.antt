@@ -13,7 +13,7 @@ use Rattle.chorus_entry.specs.declared.message.Message.{Message}
 use Rattle.chorus_entry.specs.declared.record.PortRecord.{PortRecord}
 use Rattle.chorus_entry.specs.PortRecord.{new_record}
 use Rattle.chorus_world.specs.Places.{last_clock, ports_made, ports_after}
-use Rattle.chorus_world.specs.Steps.{next_number}
+use Rattle.chorus_world.specs.Steps.{next_number, is_full_of_ports}
 use Rattle.chorus_ports.specs.declared.deciding.Accept.{Accept}
 use Rattle.chorus_ports.specs.declared.deciding.Accept.TheVariants as accepts
 use Rattle.chorus_ports.specs.declared.taking.Taken.{Taken}
@@ -188,6 +188,12 @@ absent-of (Some b) f e h = cc
 pub positions-fit : (o : Option PortRecord) (b c : ℕ) → ((r : PortRecord) → o ≡ Some r → end_of r ≤ b) → b ≤ c → c < 4611686018427387904 → IfSome o (λ port. port.first + length port.pending < 18446744073709551615)
 positions-fit None b c k h w = tt
 positions-fit (Some r) b c k h w = let g = k r refl in omega (arith, g, h, w)
+
+-- a record more fits until the place made all that it may
+pub room-left : (l : Layout) (p : ℕ) (past : List Entry) (made : ℕ) (ports : List PortRecord) (spare : ℕ)
+    → IsKept l p past made ports spare → is_full_of_ports l past ≡ false → 1 ≤ spare
+room-left l p past made ports spare k few =
+    let count = k.count in let room = k.room in grind (arith, few, count, room)
 
 -- the next port is not held yet
 pub absent-next : (l : Layout) (p : ℕ) (past : List Entry) (made : ℕ) (ports : List PortRecord) (spare : ℕ) (q : Ui)

@@ -3,7 +3,8 @@
 //! The layer above rests on this: [`Place::act`] appends exactly the entries of the place machine, changes exactly what it
 //! changes, and gives its reply (`specs/Machine.antt`); a refusal changes nothing, and says why.
 //!
-//! Begin with `place`. So far a place makes ports, decides on messages to ports that it made, and hands messages out.
+//! Begin with `place`. So far a place makes ports, decides on messages to ports whose creation place it is, and hands messages
+//! out.
 #![tactic(auto)]
 
 mod fault;

@@ -1,16 +1,11 @@
 //! A place, and the calls of callers there.
 
-ghost use Rattle.std.specs.Prelude.{◌≡◌, ℕ, ◌+◌, ◌-◌, ◌*◌, ◌/◌, ◌%◌, ◌^◌, ◌<◌, ◌≤◌, ◌∷◌, ◌↔◌, max, true, length, reverse, IsOk, IfOk, OnOk, OnErr, IsErrOf, Some, ◌⊎◌};
-ghost use Rattle.std.specs.Option.{option_copied};
-ghost use Rattle.chorus_ui.specs.Layout.{has_place, has_actor};
+ghost use Rattle.std.specs.Prelude.{◌≡◌, ℕ, ◌<◌, ◌≤◌, ◌↔◌, true, length, reverse, IsOk, IfOk, OnOk, OnErr, IsErrOf};
+ghost use Rattle.chorus_ui.specs.Layout.{has_place};
 ghost use Rattle.chorus_entry.specs.declared.dest.Dest.TheVariants as Dest;
-ghost use Rattle.chorus_entry.specs.Kinds.{names_actor, names_port};
 ghost use Rattle.chorus_world.specs.Places.{last_clock};
-ghost use Rattle.chorus_world.specs.Steps.{next_number, is_full_of_ports};
-ghost use Rattle.chorus_ports.specs.Table.{find};
-ghost use Rattle.chorus_calls.specs.Callers.{after_tick};
-ghost use Rattle.chorus_place.specs.State.{started, greatest, said, say};
-ghost use Rattle.chorus_place.specs.Machine.{next_port, make, send, take, make_reply, send_reply, take_act, take_reply, decision, verdict_reply, next_message, call, reply};
+ghost use Rattle.chorus_world.specs.Steps.{is_full_of_ports};
+ghost use Rattle.chorus_place.specs.State.{started, greatest};
 ghost use Rattle.chorus_place.specs.Calls.{turn, is_post, is_take, MayCall, Called};
 ghost use Rattle.chorus_place.specs.declared.fault.TheConstants.{WORN};
 
@@ -27,8 +22,8 @@ use chorus_ui::{Layout, PORTS_PER_SITE, Ui};
 use std::alloc::{AllocError, Global};
 use std::marker::Model;
 
-/// A place of a layout: its journal, and the ports that it holds. So far it makes ports, decides on messages to the ports that
-/// it made, and hands messages to the actors that hold these.
+/// A place of a layout: its journal, and the ports that it holds. So far it makes ports, decides on messages to the ports whose
+/// creation place it is, and hands messages to the actors that hold ports here.
 #[derive(Debug, Drop)]
 pub struct Place {
     layout: Layout,
@@ -159,6 +154,7 @@ impl Place {
         ensures refused { OnErr result ((self.new.state ≡ self.old.state) × (caller.new ≡ caller.old)) }
         ensures room { OnErr result (self.old.spare ≤ self.new.spare) }
     {
+        let made_all = self.has_made_all();
         self.journal.reserve(1)?;
         if self.layout.home(actor).is_none() {
             say(
@@ -169,7 +165,7 @@ impl Place {
             );
             return Ok(Reply::NoActor);
         }
-        if self.ports.spare() == 0 {
+        if made_all {
             say(
                 &mut self.journal,
                 self.number,
@@ -190,7 +186,14 @@ impl Place {
         Ok(Reply::Made(port))
     }
 
-    /// Posts a message to a port that this place made, or is to make, and decides on it.
+    /// Whether it made as many ports as it may make.
+    fn has_made_all(&self) -> bool
+        ensures { result ≡ is_full_of_ports self.now.state.layout self.now.state.journal }
+    {
+        u64::from(self.made) == PORTS_PER_SITE / u64::from(self.layout.turns())
+    }
+
+    /// Posts a message to a port whose creation place this is, and decides on it.
     fn send(&mut self, caller: &mut Caller, port: Ui, body: Body) -> Result<Reply, AllocError>
         requires posts { caller.old.posts < u32.MAX }
         requires clock { greatest (turn self.old caller.old) < WORN }

@@ -1,6 +1,6 @@
 //! The steps of a call: the entries that it appends, and what the caller is told of them.
 
-ghost use Rattle.std.specs.Prelude.{◌≡◌, ◌+◌, ◌<◌, ◌≤◌, max, true, IsSome, Some};
+ghost use Rattle.std.specs.Prelude.{◌≡◌, ◌<◌, ◌≤◌, max, true, IsSome, Some};
 ghost use Rattle.chorus_ui.specs.Layout.{has_place};
 ghost use Rattle.chorus_entry.specs.Dest.{port_in};
 ghost use Rattle.chorus_world.specs.Places.{last_clock};
