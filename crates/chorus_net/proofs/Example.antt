@@ -13,16 +13,16 @@ use Rattle.chorus_net.specs.Sites.{Event, Enter, after}
 use Rattle.chorus_net.specs.Sites as sites
 use Rattle.chorus_net.specs.OnePlace.{are_ready}
 
-abbrev one_site : Layout
+abbrev pub one_site : Layout
 one_site = record { sites = 1; turns = 1 }
 
-abbrev actor : Ui
+abbrev pub actor : Ui
 actor = record { site = 1; kind = kinds.Actor; number = 1 }
 
-abbrev other : Ui
+abbrev pub other : Ui
 other = record { site = 1; kind = kinds.Actor; number = 2 }
 
-abbrev port : Ui
+abbrev pub port : Ui
 port = record { site = 1; kind = kinds.Port; number = 1 }
 
 abbrev events : List Event

@@ -11,4 +11,5 @@ pub mod Seating
 pub mod AfterEvents
 pub mod Once
 pub mod Example
+pub mod Rows
 pub mod Seats
