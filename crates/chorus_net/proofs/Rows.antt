@@ -48,9 +48,16 @@ rows x y a q =
 example : (x y : List ℕ) → MayAll (entered other (opening one_site)) (rows x y actor port)
 example x y =
     let given : 0 < 4294967295 = omega arith in
-    let posted : 1 < 4294967295 = omega arith in
-    ((record { may = refl; posts = given }), ((record { may = refl; posts = given }), ((record { may = refl; posts = given }),
-    ((record { may = refl; posts = posted }), ((record { may = refl; posts = posted }), ((record { may = refl; posts = posted }), tt))))))
+    let posted : 1 < 4294967295 = omega arith in (
+      (record { may = refl; posts = given }),
+      (
+        (record { may = refl; posts = given }),
+        (
+          (record { may = refl; posts = given }),
+          ((record { may = refl; posts = posted }), ((record { may = refl; posts = posted }), ((record { may = refl; posts = posted }), tt))),
+        ),
+      ),
+    )
 
 pub share-a-port : (x y : List ℕ) (l : Layout) (a b q : Ui) (s : SitesState) → one_site ≡ l → actor ≡ a → other ≡ b → port ≡ q → entered b (opening l) ≡ s → MayAll s (rows x y a q)
 share-a-port x y l a b q s el ea eb eq es =
