@@ -21,11 +21,15 @@ use Rattle.chorus_net.proofs.Seating.{run-more}
 use Rattle.chorus_net.proofs.AfterEvents.{holds}
 use Rattle.chorus_scene.specs.Scene.{Scene}
 use Rattle.chorus_scene.specs.Limits.{Keeps}
-use Rattle.chorus_run.specs.Order.{order, replayed, journal_of, scene_is_built}
+use Rattle.chorus_run.specs.Order.{order, replayed, scene_is_built}
 use Rattle.chorus_run.specs.Headline.{merge_of, past_of, callers_of, commands_by, IsRun, Performs, ReceivesInOrder}
 use Rattle.chorus_run.proofs.Given.{commands-given}
 use Rattle.chorus_run.proofs.Callers.{callers-given}
 use Rattle.chorus_run.proofs.Ready.{order-ready}
+
+-- the journal of the replay, in order
+abbrev pub journal_of : Scene → List Entry
+journal_of c = reverse (replayed c).place.journal
 
 -- the merge of one journal is that journal
 pub merge-is : (c : Scene) (closed : Closed) → journals_of closed ≡ journal_of c ∷ [] → merge_of closed ≡ journal_of c

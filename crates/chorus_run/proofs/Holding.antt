@@ -1,7 +1,7 @@
--- Each accepted message is held once. At each moment each port that was made is held: after an event the table says so, and
--- within a call only a post comes before the last entry, and that is on the line of no port.
-use Rattle.std.proofs.Common.{ℕ, ◌≡◌, ◌<◌, nat_lt, ◌⊎◌, inl, inr, Bool, true, false, ◌&&◌, cond, List, [], ◌∷◌, ◌++◌, reverse, Option, Some, None, slice_get, refl, sym, ◌∙◌, ap, subst, arith}
-use Rattle.std.proofs.lemmas.Bool.{and_parts, false≢true}
+-- Each accepted message stands alone, and at each moment each port that was made is held: after an event the table says so,
+-- and within a call only a post comes before the last entry, and that is on the line of no port.
+use Rattle.std.proofs.Common.{ℕ, ◌≡◌, ◌<◌, Bool, true, ◌&&◌, List, [], ◌∷◌, ◌++◌, reverse, Option, Some, None, slice_get, refl, sym, ◌∙◌, ap, subst, arith}
+use Rattle.std.proofs.lemmas.Bool.{and_parts}
 use Rattle.std.proofs.lemmas.Option.{slice_get_within}
 use Rattle.chorus_ui.specs.declared.ui.Ui.{Ui}
 use Rattle.chorus_ui.specs.declared.layout.Layout.{Layout}
@@ -11,11 +11,9 @@ use Rattle.chorus_entry.specs.declared.id.MsgId.{MsgId}
 use Rattle.chorus_entry.specs.declared.dest.Dest.{Dest}
 use Rattle.chorus_entry.specs.declared.command.Command.{Command}
 use Rattle.chorus_entry.specs.Kinds.{names_actor}
-use Rattle.chorus_world.specs.declared.port.Spot.{Spot}
-use Rattle.chorus_world.specs.declared.port.Spot.TheVariants.{Held, Moving, Ended}
 use Rattle.chorus_world.specs.Views.{on}
 use Rattle.chorus_world.specs.Ports.{Fate, fate, is_held}
-use Rattle.chorus_world.specs.Fates.{Received, Queued, fate_left}
+use Rattle.chorus_world.specs.Fates.{fate_at}
 use Rattle.chorus_world.specs.Steps.{is_legal}
 use Rattle.chorus_world.specs.AcceptedLaws.{accepted_by, accepted_from}
 use Rattle.chorus_world.proofs.OnceLaws.{stands_once}
@@ -29,10 +27,10 @@ use Rattle.chorus_net.proofs.Shown.{IfSound}
 use Rattle.chorus_net.proofs.AfterEvents.{Holds, holds}
 use Rattle.chorus_scene.specs.Scene.{Scene}
 use Rattle.chorus_scene.specs.Limits.{Keeps}
-use Rattle.chorus_run.specs.Order.{order, journal_of, scene_is_built}
-use Rattle.chorus_run.specs.Headline.{merge_of, past_of, callers_of, IsHeldOnce, HasOneHolder}
+use Rattle.chorus_run.specs.Order.{order, scene_is_built}
+use Rattle.chorus_run.specs.Headline.{merge_of, past_of, callers_of, IsRun, StandsAlone, HasOneHolder, HoldsAllPorts}
 use Rattle.chorus_run.proofs.Ready.{order-ready}
-use Rattle.chorus_run.proofs.Closed.{past-is, run-legal, legal-older, runs}
+use Rattle.chorus_run.proofs.Closed.{journal_of, past-is, run-legal, legal-older}
 
 abbrev if_made_held : Option Fate → Bool
 if_made_held None = true
@@ -79,30 +77,33 @@ held-after l (Act k c ∷ events) shape h =
     let now = held-now l (Act k c ∷ events) (after l (Act k c ∷ events)) (holds l (Act k c ∷ events) shape h) in
     acted-held k (slice_get s.callers k) c s now (held-now l events s (holds l events shape ready)) (held-after l events shape ready)
 
--- what a held port accepted was received or is in its queue
-received-or-queued : (b : Bool) (s : Spot) → is_held s ≡ true → (cond b Received (fate_left s) ≡ Received) ⊎ (cond b Received (fate_left s) ≡ Queued)
-received-or-queued true s h = inl refl
-received-or-queued false (Held a) h = inr refl
-received-or-queued false (Moving a) h = absurd (false≢true h)
-received-or-queued false Ended h = absurd (false≢true h)
+-- Each accepted message stands alone.
 
-held-once : (l : Layout) (past : List Entry) (port : Ui) (position : ℕ) (x : MsgId) → is_legal l past ≡ true → AreHeld past → slice_get (accepted_by port past) position ≡ Some x → IsHeldOnce past port position x
-held-once l past port position x legal held stands = by (fate (on port past)) refl (held port) stands
+stands-alone : (l : Layout) (past : List Entry) (port : Ui) (position : ℕ) (x : MsgId) → is_legal l past ≡ true → slice_get (accepted_by port past) position ≡ Some x → StandsAlone past port position x
+stands-alone l past port position x legal stands = by (fate (on port past)) refl stands
   where
-    by : (o : Option Fate) → fate (on port past) ≡ o → if_made_held o ≡ true → slice_get (accepted_from o) position ≡ Some x → IsHeldOnce past port position x
-    by None e k h = absurd (let lt : position < 0 = slice_get_within [] position x h in omega arith)
-    by (Some f) e k h =
+    by : (o : Option Fate) → fate (on port past) ≡ o → slice_get (accepted_from o) position ≡ Some x → StandsAlone past port position x
+    by None e k = absurd (let lt : position < 0 = slice_get_within [] position x k in omega arith)
+    by (Some f) e k =
         record {
           state = f;
           made = e;
-          held = received-or-queued (nat_lt position f.taken) f.spot k;
+          what = fate_at position f;
+          is = refl;
           alone = λ other place s. stands_once l past other port place position x legal s stands;
         }
 
-pub has-one-holder : (c : Scene) (closed : Closed) → IsShape c.layout → Keeps c → scene_is_built c ≡ true → merge_of closed ≡ journal_of c → HasOneHolder closed
-has-one-holder c closed shape keeps built h =
+pub has-one-holder : (c : Scene) (closed : Closed) → IsShape c.layout → IsRun c closed → HasOneHolder closed
+has-one-holder c closed shape run =
     λ newer past port position x e stands.
-    let legal = run-legal c.layout (callers_of c) (past_of closed) (runs c closed shape keeps built h) in
+    let legal = run-legal c.layout (callers_of c) (past_of closed) run in
+    stands-alone c.layout past port position x (legal-older c.layout newer past (ap (is_legal c.layout) (sym e) ∙ legal)) stands
+
+-- Each port is held.
+
+pub holds-all-ports : (c : Scene) (closed : Closed) → IsShape c.layout → Keeps c → scene_is_built c ≡ true → merge_of closed ≡ journal_of c → HoldsAllPorts closed
+holds-all-ports c closed shape keeps built h =
+    λ newer past port state e made.
     let throughout = held-after c.layout (reverse (order c)) shape (order-ready c keeps built) in
-    held-once c.layout past port position x (legal-older c.layout newer past (ap (is_legal c.layout) (sym e) ∙ legal))
-    (held-older newer past (subst AreHeldThroughout (sym (past-is c closed h) ∙ e) throughout)) stands
+    let held = held-older newer past (subst AreHeldThroughout (sym (past-is c closed h) ∙ e) throughout) in
+    sym (ap if_made_held made) ∙ held port

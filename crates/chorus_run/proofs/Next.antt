@@ -17,9 +17,16 @@ use Rattle.chorus_net.specs.OnePlace.{may_give}
 use Rattle.chorus_net.proofs.AfterEvents.{holds}
 use Rattle.chorus_run.specs.Order.{order, scene_is_built, setup_command, setup_commands, in_setup, entering, in_schedule, left_from, replayed}
 use Rattle.chorus_run.specs.declared.order.Call.{Call}
-use Rattle.chorus_run.specs.Calls.{IsNext, event_of, events_of}
+use Rattle.chorus_run.specs.Calls.{event_of, events_of}
 use Rattle.chorus_run.proofs.Ready.{may-next, enter-next, ready-so_far}
 use Rattle.chorus_run.proofs.Lengths.{EVENTS_LIMIT, order-length, clock-fits, posts-fit, seats-fit}
+
+-- the event is the next one of the scenario's order on these sites
+pub record IsNext (c : Scene) (s : SitesState) (event : Event) : Type 0 where
+  pub front : List Event
+  pub rest : List Event
+  pub whole : order c ≡ front ++ event ∷ rest
+  pub now : s ≡ after c.layout (reverse front)
 
 layout-is : (c : Scene) (done rest : List Event) → IsShape c.layout → Keeps c → scene_is_built c ≡ true → order c ≡ done ++ rest → (after c.layout (reverse done)).place.layout ≡ c.layout
 layout-is c done rest shape keeps built e = (holds c.layout (reverse done) shape (ready-so_far c done rest keeps built e)).layout

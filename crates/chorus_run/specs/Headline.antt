@@ -1,5 +1,5 @@
 -- What a replay promises: what was read, and what the journals that it hands out are.
-use Rattle.std.specs.Prelude.{ℕ, ◌≡◌, ◌+◌, ◌≤◌, ◌⊎◌, true, cond, List, ◌∷◌, ◌++◌, length, map, take, reverse, Option, Some, None, Result, Ok, Err, slice_get}
+use Rattle.std.specs.Prelude.{ℕ, ◌≡◌, ◌+◌, ◌≤◌, ◌⊎◌, true, cond, List, ◌∷◌, ◌++◌, length, map, take, reverse, Option, Some, None, IfSome, Result, Ok, Err, slice_get}
 use Rattle.std.specs.Io.KnownBytes.{Consumes, IsAtEnd}
 use Rattle.chorus_ui.specs.declared.ui.Ui.{Ui}
 use Rattle.chorus_ui.specs.declared.layout.Layout.{Layout}
@@ -8,8 +8,8 @@ use Rattle.chorus_entry.specs.declared.id.MsgId.{MsgId}
 use Rattle.chorus_entry.specs.declared.command.Command.{Command}
 use Rattle.chorus_merge.specs.Merge.{merged}
 use Rattle.chorus_world.specs.Views.{on}
-use Rattle.chorus_world.specs.Ports.{Fate, fate}
-use Rattle.chorus_world.specs.Fates.{Received, Queued, fate_at}
+use Rattle.chorus_world.specs.Ports.{Fate, fate, is_held}
+use Rattle.chorus_world.specs.Fates.{MessageFate, fate_at}
 use Rattle.chorus_world.specs.Runs.{is_run}
 use Rattle.chorus_world.specs.Commands.{performs}
 use Rattle.chorus_world.specs.AcceptedLaws.{received, taken_by, accepted_by}
@@ -51,11 +51,15 @@ pub record IsRead (old new : Option (List ℕ)) : Type 0 where
   pub consumed : Consumes old new bytes
   pub whole : (length bytes ≡ TEXT_LIMIT + 1) ⊎ (IsAtEnd new × (length bytes ≤ TEXT_LIMIT))
 
--- at most one byte more than the limit was read of the source, whatever came of it
-abbrev pub ReadsAtMost : Option (List ℕ) → Option (List ℕ) → Type 0
-ReadsAtMost old new = (bytes : List ℕ) × Consumes old new bytes × (length bytes ≤ TEXT_LIMIT + 1)
+-- no more than one byte more than the limit was read of the source, whatever came of it
+abbrev pub ReadsNoFurther : Option (List ℕ) → Option (List ℕ) → Type 0
+ReadsNoFurther old new = (bytes : List ℕ) × Consumes old new bytes × (length bytes ≤ TEXT_LIMIT + 1)
 
 -- What is handed out.
+
+-- this holds of the scenario that the input gives and of what was closed, where there are both
+abbrev pub OfScene : Layout → Option (List ℕ) → Option Closed → (Scene → Closed → Type 0) → Type 0
+OfScene l told closed holds = (c : Scene) → Gives l told (Ok c) → IfSome closed (holds c)
 
 -- the merge of the journals, in order, and as a past of the world
 abbrev pub merge_of : Closed → List Entry
@@ -88,15 +92,23 @@ ReceivesInOrder closed =
     (newer past : List Entry) (port : Ui) → past_of closed ≡ newer ++ past →
     received (on port past) ≡ take (taken_by port past) (accepted_by port past)
 
--- a message that a port accepted at this position stands there alone, and was received or waits in the port's queue
-pub record IsHeldOnce (past : List Entry) (port : Ui) (position : ℕ) (x : MsgId) : Type 0 where
+-- a message that a port accepted at this position stands nowhere else, and this became of it there
+pub record StandsAlone (past : List Entry) (port : Ui) (position : ℕ) (x : MsgId) : Type 0 where
   pub state : Fate
   pub made : fate (on port past) ≡ Some state
-  pub held : (fate_at position state ≡ Received) ⊎ (fate_at position state ≡ Queued)
+  pub what : MessageFate
+  pub is : fate_at position state ≡ what
   pub alone : (other : Ui) (place : ℕ) → slice_get (accepted_by other past) place ≡ Some x → (other ≡ port) × (place ≡ position)
 
--- at each moment of the merge each message that a port accepted is held once
+-- at each moment of the merge each message that a port accepted stands alone
 abbrev pub HasOneHolder : Closed → Type 0
 HasOneHolder closed =
     (newer past : List Entry) (port : Ui) (position : ℕ) (x : MsgId) → past_of closed ≡ newer ++ past →
-    slice_get (accepted_by port past) position ≡ Some x → IsHeldOnce past port position x
+    slice_get (accepted_by port past) position ≡ Some x → StandsAlone past port position x
+
+-- at each moment of the merge each port that was made is held: so far none moves and none is deleted, so each message that
+-- it accepted was received or is queued
+abbrev pub HoldsAllPorts : Closed → Type 0
+HoldsAllPorts closed =
+    (newer past : List Entry) (port : Ui) (state : Fate) → past_of closed ≡ newer ++ past →
+    fate (on port past) ≡ Some state → is_held state.spot ≡ true

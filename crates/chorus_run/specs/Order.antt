@@ -2,7 +2,6 @@
 use Rattle.std.specs.Prelude.{ℕ, ◌+◌, ◌==◌, Bool, ◌&&◌, List, [], ◌∷◌, ◌++◌, map, drop, reverse, option_to_list, slice_get, count_by}
 use Rattle.std.specs.List.{list_all}
 use Rattle.std.specs.Option.{option_map}
-use Rattle.chorus_entry.specs.declared.entry.Entry.{Entry}
 use Rattle.chorus_entry.specs.declared.command.Command.{Command}
 use Rattle.chorus_place.specs.Machine.{is_built}
 use Rattle.chorus_net.specs.Sites.{Event, Enter, Act, SitesState, after}
@@ -53,10 +52,6 @@ order c = in_setup c ++ entering c ++ in_schedule c.scripts [] c.schedule ++ lef
 -- the sites after it
 abbrev pub replayed : Scene → SitesState
 replayed c = after c.layout (reverse (order c))
-
--- the journal, in order
-abbrev pub journal_of : Scene → List Entry
-journal_of c = reverse (replayed c).place.journal
 
 -- What is built so far: one site of one place, and the commands that it has.
 

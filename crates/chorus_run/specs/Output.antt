@@ -7,27 +7,20 @@ use Rattle.chorus_show.specs.Summary.{summary_text}
 use Rattle.chorus_net.specs.declared.closed.Closed.{Closed}
 use Rattle.chorus_run.specs.Headline.{merge_of}
 use Rattle.chorus_show.specs.declared.status.Status.{Status}
-use Rattle.chorus_show.specs.declared.status.Status.TheVariants.{Done, Usage, Scenario, ReadFault, WriteFault, Memory, Worn}
+use Rattle.chorus_show.specs.declared.status.Status.TheVariants.{Done, Scenario, ReadFault, WriteFault, Memory}
 
 -- the sink took the whole text at Done, a prefix of it at WriteFault, and nothing with any other status
 abbrev pub Writes : Status → Option (List ℕ) → Option (List ℕ) → List ℕ → Type 0
 Writes Done old new text = Appends old new text
 Writes WriteFault old new text = AppendsPrefix old new text
-Writes Usage old new text = new ≡ old
-Writes (Scenario line reason) old new text = new ≡ old
-Writes ReadFault old new text = new ≡ old
-Writes Memory old new text = new ≡ old
-Writes (Worn clock) old new text = new ≡ old
+Writes _ old new text = new ≡ old
 
 -- a call that reads gave up before it wrote
 abbrev pub GivesUp : Status → Type 0
-GivesUp Done = ⊥
-GivesUp WriteFault = ⊥
-GivesUp Usage = ⊥
 GivesUp (Scenario line reason) = Unit {0}
 GivesUp ReadFault = Unit {0}
 GivesUp Memory = Unit {0}
-GivesUp (Worn clock) = ⊥
+GivesUp _ = ⊥
 
 -- the text of what was closed: the journal text and the summary text of the merge of its journals
 abbrev pub text_of : Option Closed → List ℕ

@@ -2,7 +2,7 @@
 
 ghost use Rattle.std.specs.Prelude.{◌≡◌, ◌&&◌, map};
 ghost use Rattle.std.specs.List.{list_all};
-ghost use Rattle.chorus_ui.specs.Layout.{IsShape, has_site, creation_place};
+ghost use Rattle.chorus_ui.specs.Layout.{IsShape};
 ghost use Rattle.chorus_scene.specs.Limits.{Keeps};
 ghost use Rattle.chorus_place.specs.Machine.{is_built};
 ghost use Rattle.chorus_run.specs.Order.{setup_command, setup_commands, script_is_built, scene_is_built};

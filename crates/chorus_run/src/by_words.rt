@@ -1,12 +1,12 @@
 //! What the program does, by its words.
 
-ghost use Rattle.std.specs.Prelude.{◌≡◌, ◌↔◌, ◌≢◌, ◌⊎◌, ℕ, IsTrue, IsSome, IsNone, IfSome, Some, Ok, Err, map, [], ◌∷◌, codes};
+ghost use Rattle.std.specs.Prelude.{◌≡◌, ◌↔◌, ◌≢◌, ◌⊎◌, ℕ, IsTrue, IsSome, IsNone, IfSome, Ok, Err, map, [], ◌∷◌, codes};
 ghost use Rattle.chorus_io.specs.Count.{Rose};
 ghost use Rattle.chorus_scene.specs.Scene.{Scene};
 ghost use Rattle.chorus_net.specs.Closing.{IsClosed};
 ghost use Rattle.chorus_net.specs.Sites.{layout_of};
 ghost use Rattle.chorus_run.specs.Order.{replayed};
-ghost use Rattle.chorus_run.specs.Headline.{AreJustStarted, Gives, IsRead, IsRun, Performs, ReceivesInOrder, HasOneHolder};
+ghost use Rattle.chorus_run.specs.Headline.{AreJustStarted, Gives, IsRead, ReadsNoFurther, OfScene, IsRun, Performs, ReceivesInOrder, HasOneHolder, HoldsAllPorts};
 ghost use Rattle.chorus_run.specs.Output.{Writes, text_of};
 
 use crate::finished::Finished;
@@ -37,16 +37,18 @@ pub fn words<S: Source, K: Sink>(
     ensures reliable { S.reliable source.old → S.faults source.new ≡ S.faults source.old }
     ensures write_fault { result.status ≡ Status.WriteFault → Rose (K.faults sink.old) (K.faults sink.new) }
     ensures read { result.status ≢ Status.Usage → result.status ≢ Status.ReadFault → result.status ≢ Status.Memory → IsRead (S.left source.old) (S.left source.new) }
+    ensures reads_at_most { ReadsNoFurther (S.left source.old) (S.left source.new) }
     ensures closed { IsSome result.closed ↔ (result.status ≡ Status.Done) ⊎ (result.status ≡ Status.WriteFault) }
 
     // What it did, where it handed out what it closed.
     ensures unwritten { IsNone result.closed → sink.new ≡ sink.old }
     ensures prints { Writes result.status (K.held sink.old) (K.held sink.new) (text_of result.closed) }
-    ensures ordered { (c : Scene) → Gives (layout_of sites) (S.left source.old) (Ok c) → IfSome result.closed (IsClosed (replayed c)) }
-    ensures run { (c : Scene) → Gives (layout_of sites) (S.left source.old) (Ok c) → IfSome result.closed (IsRun c) }
-    ensures performs { (c : Scene) → Gives (layout_of sites) (S.left source.old) (Ok c) → IfSome result.closed (Performs c) }
+    ensures ordered { OfScene (layout_of sites) (S.left source.old) result.closed (λ c. IsClosed (replayed c)) }
+    ensures run { OfScene (layout_of sites) (S.left source.old) result.closed IsRun }
+    ensures performs { OfScene (layout_of sites) (S.left source.old) result.closed Performs }
     ensures receives { IfSome result.closed ReceivesInOrder }
     ensures holder { IfSome result.closed HasOneHolder }
+    ensures still { IfSome result.closed HoldsAllPorts }
 {
     if is_replay(words) {
         return replay(alloc, source, sink, sites);

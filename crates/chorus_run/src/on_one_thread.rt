@@ -8,7 +8,7 @@ ghost use Rattle.chorus_scene.specs.Limits.{Keeps};
 ghost use Rattle.chorus_net.specs.Closing.{IsClosed};
 ghost use Rattle.chorus_net.specs.Sites.{layout_of};
 ghost use Rattle.chorus_run.specs.Order.{scene_is_built, replayed};
-ghost use Rattle.chorus_run.specs.Headline.{AreJustStarted, Gives, IsRead, ReadsAtMost, IsRun, Performs, ReceivesInOrder, HasOneHolder};
+ghost use Rattle.chorus_run.specs.Headline.{AreJustStarted, Gives, IsRead, ReadsNoFurther, OfScene, IsRun, Performs, ReceivesInOrder, HasOneHolder, HoldsAllPorts};
 ghost use Rattle.chorus_run.specs.Output.{Writes, GivesUp, text_of};
 
 use crate::built::is_built;
@@ -43,17 +43,18 @@ pub fn replay<S: Source, K: Sink>(
     ensures reliable { S.reliable source.old → S.faults source.new ≡ S.faults source.old }
     ensures write_fault { result.status ≡ Status.WriteFault → Rose (K.faults sink.old) (K.faults sink.new) }
     ensures read { result.status ≢ Status.ReadFault → result.status ≢ Status.Memory → IsRead (S.left source.old) (S.left source.new) }
-    ensures reads_at_most { ReadsAtMost (S.left source.old) (S.left source.new) }
+    ensures reads_at_most { ReadsNoFurther (S.left source.old) (S.left source.new) }
     ensures closed { IsSome result.closed ↔ (result.status ≡ Status.Done) ⊎ (result.status ≡ Status.WriteFault) }
 
     // What it did, where it handed out what it closed.
     ensures unwritten { IsNone result.closed → sink.new ≡ sink.old }
     ensures prints { Writes result.status (K.held sink.old) (K.held sink.new) (text_of result.closed) }
-    ensures ordered { (c : Scene) → Gives (layout_of sites) (S.left source.old) (Ok c) → IfSome result.closed (IsClosed (replayed c)) }
-    ensures run { (c : Scene) → Gives (layout_of sites) (S.left source.old) (Ok c) → IfSome result.closed (IsRun c) }
-    ensures performs { (c : Scene) → Gives (layout_of sites) (S.left source.old) (Ok c) → IfSome result.closed (Performs c) }
+    ensures ordered { OfScene (layout_of sites) (S.left source.old) result.closed (λ c. IsClosed (replayed c)) }
+    ensures run { OfScene (layout_of sites) (S.left source.old) result.closed IsRun }
+    ensures performs { OfScene (layout_of sites) (S.left source.old) result.closed Performs }
     ensures receives { IfSome result.closed ReceivesInOrder }
     ensures holder { IfSome result.closed HasOneHolder }
+    ensures still { IfSome result.closed HoldsAllPorts }
 {
     let scenario = match read_scenario(alloc, source, sites.layout()) {
         Ok(scenario) => scenario,
@@ -84,7 +85,7 @@ fn read_scenario<S: Source>(
     ensures err { IfErr result GivesUp }
     ensures read_fault { IsErrOf result Status.ReadFault → Rose (S.faults source.old) (S.faults source.new) }
     ensures reliable { S.reliable source.old → S.faults source.new ≡ S.faults source.old }
-    ensures reads_at_most { ReadsAtMost (S.left source.old) (S.left source.new) }
+    ensures reads_at_most { ReadsNoFurther (S.left source.old) (S.left source.new) }
     ensures read { ¬ (IsErrOf result Status.ReadFault) → ¬ (IsErrOf result Status.Memory) → IsRead (S.left source.old) (S.left source.new) }
 {
     let text = match read_all(alloc, source, TEXT_LIMIT) {

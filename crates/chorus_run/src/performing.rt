@@ -1,12 +1,14 @@
 //! Performing a scenario on sites.
 
-ghost use Rattle.std.specs.Prelude.{◌≡◌, ◌++◌, reverse, OnOk, true};
+ghost use Rattle.std.specs.Prelude.{◌≡◌, ◌<◌, ◌++◌, reverse, IfSome, OnOk, true};
 ghost use Rattle.chorus_scene.specs.Limits.{Keeps};
 ghost use Rattle.chorus_ui.specs.Layout.{IsShape};
-ghost use Rattle.chorus_net.specs.Sites.{Act, acted, after};
+ghost use Rattle.chorus_place.specs.Calls.{is_post};
+ghost use Rattle.chorus_place.specs.declared.fault.TheConstants.{WORN};
+ghost use Rattle.chorus_net.specs.Sites.{acted, actor_of, posts_of, compared, after};
+ghost use Rattle.chorus_net.specs.OnePlace.{may_give};
 ghost use Rattle.chorus_run.specs.Order.{scene_is_built, setup_command, in_setup, entering, replayed};
 ghost use Rattle.chorus_run.specs.Headline.{AreJustStarted};
-ghost use Rattle.chorus_run.specs.Calls.{IsNext};
 
 use crate::order::calls;
 use chorus_entry::Command;
@@ -35,7 +37,7 @@ pub(crate) fn perform(
     set_up(sites, scenario)?;
     enter(sites, scenario)?;
     for call in &calls {
-        act(sites, scenario, call.seat, call.command.copied()?)?;
+        act(sites, call.seat, call.command.copied()?)?;
     }
     Ok(())
 }
@@ -50,7 +52,7 @@ fn set_up(sites: &mut Sites, scenario: &Scenario) -> Result<(), AllocError>
     ensures { OnOk result (sites.new ≡ after scenario.now.layout (reverse (in_setup scenario.now))) }
 {
     for line in scenario.setup() {
-        act(sites, scenario, 0, setup_command(line))?;
+        act(sites, 0, setup_command(line))?;
     }
     Ok(())
 }
@@ -85,17 +87,11 @@ fn enter(sites: &mut Sites, scenario: &Scenario) -> Result<(), AllocError>
     Ok(())
 }
 
-/// Performs the next command of the scenario's order.
-fn act(
-    sites: &mut Sites,
-    scenario: &Scenario,
-    seat: u32,
-    command: Command,
-) -> Result<(), AllocError>
-    requires next { IsNext scenario.now sites.old (Act seat command) }
-    requires built { scene_is_built scenario.now ≡ true }
-    requires keeps { Keeps scenario.now }
-    requires shape { IsShape scenario.now.layout }
+/// Performs a command of the seat, where no clock is worn.
+fn act(sites: &mut Sites, seat: u32, command: Command) -> Result<(), AllocError>
+    requires may { may_give sites.old.place.layout (actor_of sites.old seat) command ≡ true }
+    requires posts { is_post command ≡ true → IfSome (posts_of sites.old seat) (λ posts. posts < u32.MAX) }
+    requires clock { compared seat sites.old < WORN }
     ensures { OnOk result (sites.new ≡ acted seat command sites.old) }
 {
     match sites.act(seat, command) {

@@ -42,6 +42,48 @@ departs 0
 end
 ";
 
+const NO_PORT: &str =
+    "chorus 1\nsites 1\nport 1.p.1 1.a.1 2\nscript 1.a.1\nsend 1.p.9 =x\nsend 1.p.1 =y\nschedule\nend";
+
+const PRINTS_NO_PORT: &str = "\
+journal 5
+1 1 0 make 1.p.1 1.a.1 2
+2 1 1 post 1:1:0 port 1.p.9 plain =x
+3 1 1 no-port 1:1:0 1.p.9
+4 1 1 post 1:2:0 port 1.p.1 plain =y
+5 1 1 accept 1:2:0 1.p.1 0
+summary
+posted 2
+accepted 1
+taken 0
+queued 1
+moving 0
+refused 1
+stale 0
+departs 0
+end
+";
+
+const PERCENT: &str =
+    "chorus 1\nsites 1\nport 1.p.1 1.a.1 1\nscript 1.a.1\nsend 1.p.1 =100%\nschedule\nend";
+
+const PRINTS_PERCENT: &str = "\
+journal 3
+1 1 0 make 1.p.1 1.a.1 1
+2 1 1 post 1:1:0 port 1.p.1 plain =100%25
+3 1 1 accept 1:1:0 1.p.1 0
+summary
+posted 1
+accepted 1
+taken 0
+queued 1
+moving 0
+refused 0
+stale 0
+departs 0
+end
+";
+
 /// Three scripts of two actors, whose steps the schedule interleaves; the commands that it leaves come script by script.
 const INTERLEAVED: &str = "\
 chorus 2
@@ -50,6 +92,7 @@ port 1.p.1 1.a.1 2
 script 1.a.1
 send 1.p.2 =a
 newport 1.a.2 1
+take 1.p.1
 take 1.p.1
 script 1.a.2
 take 1.p.2
@@ -65,11 +108,13 @@ step 1
 drain
 step 2
 step 3
+step 2
+step 1
 end
 ";
 
 const PRINTS_INTERLEAVED: &str = "\
-journal 12
+journal 13
 1 1 0 make 1.p.1 1.a.1 2
 2 1 1 post 1:1:0 port 1.p.2 plain =a
 3 1 1 no-port 1:1:0 1.p.2
@@ -78,15 +123,16 @@ journal 12
 6 1 1 make 1.p.2 1.a.2 1
 7 1 2 empty 1.p.2
 8 1 3 empty 1.p.2
-9 1 1 empty 1.p.1
-10 1 2 post 2:1:0 port 1.p.1 plain =b
-11 1 2 accept 2:1:0 1.p.1 0
-12 1 3 not-here 1.p.1
+9 1 2 post 2:1:0 port 1.p.1 plain =b
+10 1 2 accept 2:1:0 1.p.1 0
+11 1 1 take 1.p.1 0 2:1:0
+12 1 1 empty 1.p.1
+13 1 3 not-here 1.p.1
 summary
 posted 3
 accepted 1
-taken 0
-queued 1
+taken 1
+queued 0
 moving 0
 refused 2
 stale 0
@@ -113,40 +159,45 @@ fn run(
     Ok((finished, sink))
 }
 
-#[test]
-fn scenarios_are_printed(rt: HostRuntime) -> Result<(), Fail> {
-    for (name, text, printed) in [
-        ("empty_scenario", NOTHING, PRINTS_NOTHING),
-        (
-            "full_then_taken_then_empty",
-            TAKEN_THEN_EMPTY,
-            PRINTS_TAKEN_THEN_EMPTY,
-        ),
-        ("three scripts", INTERLEAVED, PRINTS_INTERLEAVED),
-    ] {
-        for most in [1, 64, 4096] {
-            let (finished, sink) = run(rt.alloc(), text.as_bytes(), &[], most, &[])?;
-            assert_eq!(rt; finished.status, Status::Done, "{name}");
-            assert_eq!(rt; sink.bytes(), printed.as_bytes(), "{name}");
-            assert!(rt; finished.closed.is_some(), "{name}");
-        }
+/// Asserts that the text is replayed and this is printed, whatever a write takes.
+fn assert_prints(rt: &impl Abort, alloc: Global, text: &str, printed: &str) -> Result<(), Fail> {
+    for most in [1, 64, 4096] {
+        let (finished, sink) = run(alloc, text.as_bytes(), &[], most, &[])?;
+        assert_eq!(rt; finished.status, Status::Done, "{text}");
+        assert_eq!(rt; sink.bytes(), printed.as_bytes(), "{text}");
+        assert!(rt; finished.closed.is_some(), "{text}");
     }
     Ok(())
 }
 
 #[test]
+fn empty_scenario(rt: HostRuntime) -> Result<(), Fail> {
+    assert_prints(&rt, rt.alloc(), NOTHING, PRINTS_NOTHING)
+}
+
+#[test]
+fn full_then_taken_then_empty(rt: HostRuntime) -> Result<(), Fail> {
+    assert_prints(&rt, rt.alloc(), TAKEN_THEN_EMPTY, PRINTS_TAKEN_THEN_EMPTY)
+}
+
+#[test]
+fn no_port(rt: HostRuntime) -> Result<(), Fail> {
+    assert_prints(&rt, rt.alloc(), NO_PORT, PRINTS_NO_PORT)
+}
+
+#[test]
+fn percent_is_escaped(rt: HostRuntime) -> Result<(), Fail> {
+    assert_prints(&rt, rt.alloc(), PERCENT, PRINTS_PERCENT)
+}
+
+#[test]
+fn scripts_are_interleaved(rt: HostRuntime) -> Result<(), Fail> {
+    assert_prints(&rt, rt.alloc(), INTERLEAVED, PRINTS_INTERLEAVED)
+}
+
+#[test]
 fn scenarios_print_these_lines(rt: HostRuntime) -> Result<(), Fail> {
     for (name, text, line) in [
-        (
-            "no_port",
-            "chorus 1\nsites 1\nport 1.p.1 1.a.1 2\nscript 1.a.1\nsend 1.p.9 =x\nsend 1.p.1 =y\nschedule\nend",
-            "\n3 1 1 no-port 1:1:0 1.p.9\n4 1 1 post 1:2:0 port 1.p.1 plain =y\n5 1 1 accept 1:2:0 1.p.1 0\nsummary\nposted 2\naccepted 1\ntaken 0\nqueued 1\nmoving 0\nrefused 1\n",
-        ),
-        (
-            "percent_is_escaped",
-            "chorus 1\nsites 1\nport 1.p.1 1.a.1 1\nscript 1.a.1\nsend 1.p.1 =100%\nschedule\nend",
-            "\n2 1 1 post 1:1:0 port 1.p.1 plain =100%25\n",
-        ),
         (
             "binary_bodies",
             "chorus 2\nsites 1\nport 1.p.1 1.a.1 1\nscript 1.a.1\nsend 1.p.1 x00ff\nschedule\nend",
@@ -255,6 +306,22 @@ fn what_is_not_built_yet_is_refused(rt: HostRuntime) -> Result<(), Fail> {
     ] {
         assert_refused(&rt, rt.alloc(), text, 0, 0)?;
     }
+    Ok(())
+}
+
+#[test]
+fn sites_of_two_places_are_refused(rt: HostRuntime) -> Result<(), Fail> {
+    let alloc = rt.alloc();
+    let text = Vec::from_slice(alloc, NOTHING.as_bytes())?;
+    let mut source = MemSource::new(text, Vec::new(alloc));
+    let mut sink = MemSink::new(alloc, 4096, Vec::new(alloc));
+    let layout = Layout::new(16, 2).ok_or("a layout")?;
+    let sites = Sites::start(alloc, layout)?;
+    let finished = words(alloc, &["replay"], &mut source, &mut sink, sites);
+    let unbuilt = Status::Scenario { line: 0, reason: 0 };
+    assert_eq!(rt; finished.status, unbuilt);
+    assert_eq!(rt; sink.bytes().len(), 0);
+    assert!(rt; finished.closed.is_none());
     Ok(())
 }
 

@@ -4,7 +4,7 @@ use Rattle.chorus_run.specs.Order.{replayed}
 use Rattle.chorus_run.specs.Headline.{IsRun, Performs}
 use Rattle.chorus_run.proofs.Reading.{gives-one}
 use Rattle.chorus_run.proofs.Closed.{merge-is, runs, performs-all, receives-in-order}
-use Rattle.chorus_run.proofs.Holding.{has-one-holder}
+use Rattle.chorus_run.proofs.Holding.{has-one-holder, holds-all-ports}
 use Rattle.chorus_run.proofs.on_one_thread.replay.Goals as goal
 
 pub returns-clause-ordered : goal.returns-clause-ordered
@@ -31,5 +31,11 @@ returns-clause-receives g c =
 pub returns-clause-holder : goal.returns-clause-holder
 returns-clause-holder g c =
     let ok = c.in-Ok.ensures.ok in
-    has-one-holder c.in-Ok.scenario c.in-Ok-play.closed ok.3 ok.2 ok.1
+    has-one-holder c.in-Ok.scenario c.in-Ok-play.closed ok.3
+    (runs c.in-Ok.scenario c.in-Ok-play.closed ok.3 ok.2 ok.1 (merge-is c.in-Ok.scenario c.in-Ok-play.closed c.in-Ok-play.ensures.closed.journals))
+
+pub returns-clause-still : goal.returns-clause-still
+returns-clause-still g c =
+    let ok = c.in-Ok.ensures.ok in
+    holds-all-ports c.in-Ok.scenario c.in-Ok-play.closed ok.3 ok.2 ok.1
     (merge-is c.in-Ok.scenario c.in-Ok-play.closed c.in-Ok-play.ensures.closed.journals)

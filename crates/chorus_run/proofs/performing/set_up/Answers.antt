@@ -1,12 +1,18 @@
 use Rattle.std.proofs.Common.{refl}
 use Rattle.std.proofs.lemmas.Option.{slice_get_read}
-use Rattle.chorus_run.proofs.Next.{setup-next, setup-after}
+use Rattle.chorus_run.proofs.Next.{setup-next, setup-after, next-may, next-posts, next-clock}
 use Rattle.chorus_run.proofs.performing.set_up.Goals as goal
 
-pub act-requires-clause-next : goal.act-requires-clause-next
-act-requires-clause-next c =
+pub act-requires : goal.act-requires
+act-requires c =
+    let scene = c.args.scenario.now in
     let read = slice_get_read _ _ _ _ refl c.loop-line-test.true c.line-item.is in
-    setup-next c.args.scenario.now _ _ _ _ _ c.setup-line-items.ensures read c.setup_command.ensures c.loop-line.invariant
+    let next = setup-next scene _ _ _ _ _ c.setup-line-items.ensures read c.setup_command.ensures c.loop-line.invariant in
+    record {
+      may = next-may scene _ 0 _ c.requires.shape c.requires.keeps c.requires.built next;
+      posts = λ h. next-posts scene _ 0 _ c.requires.keeps c.requires.built next;
+      clock = next-clock scene _ 0 _ c.requires.keeps c.requires.built next;
+    }
 
 pub loop-line-preserved : goal.loop-line-preserved
 loop-line-preserved c =
