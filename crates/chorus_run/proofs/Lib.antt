@@ -1,6 +1,7 @@
 pub mod Texts
 pub mod Closed
 pub mod Holding
+pub mod Standing
 pub mod Given
 pub mod Callers
 pub mod Ready

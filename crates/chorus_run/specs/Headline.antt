@@ -1,20 +1,24 @@
 -- What a replay promises: what was read, and what the journals that it hands out are.
-use Rattle.std.specs.Prelude.{ℕ, ◌≡◌, ◌+◌, ◌≤◌, ◌⊎◌, true, cond, List, ◌∷◌, ◌++◌, length, map, take, reverse, Option, Some, None, IfSome, Result, Ok, Err, slice_get}
+use Rattle.std.specs.Prelude.{ℕ, ◌≡◌, ◌+◌, ◌≤◌, ◌⊎◌, true, cond, List, [], ◌∷◌, ◌++◌, All, length, map, take, reverse, Option, Some, None, IfSome, Result, Ok, Err, slice_get}
 use Rattle.std.specs.Io.KnownBytes.{Consumes, IsAtEnd}
 use Rattle.chorus_ui.specs.declared.ui.Ui.{Ui}
 use Rattle.chorus_ui.specs.declared.layout.Layout.{Layout}
 use Rattle.chorus_entry.specs.declared.entry.Entry.{Entry}
 use Rattle.chorus_entry.specs.declared.id.MsgId.{MsgId}
 use Rattle.chorus_entry.specs.declared.command.Command.{Command}
+use Rattle.chorus_entry.specs.declared.record.PortRecord.{PortRecord}
 use Rattle.chorus_merge.specs.Merge.{merged}
 use Rattle.chorus_world.specs.Views.{on}
+use Rattle.chorus_world.specs.Places.{sent, unsettled}
 use Rattle.chorus_world.specs.Ports.{Fate, fate, is_held}
 use Rattle.chorus_world.specs.Fates.{MessageFate, fate_at}
 use Rattle.chorus_world.specs.Runs.{is_run}
 use Rattle.chorus_world.specs.Commands.{performs}
 use Rattle.chorus_world.specs.AcceptedLaws.{received, taken_by, accepted_by}
 use Rattle.chorus_net.specs.declared.closed.Closed.{Closed}
+use Rattle.chorus_net.specs.declared.closed.Placed.{Placed}
 use Rattle.chorus_net.specs.Closing.{journals_of}
+use Rattle.chorus_net.specs.OnePlace.{StandsFor}
 use Rattle.chorus_net.specs.Sites.{SitesState, layout_of, opening, first_actor}
 use Rattle.chorus_scene.specs.declared.limits.TheConstants.{TEXT_LIMIT}
 use Rattle.chorus_scene.specs.Scene.{Scene, Script}
@@ -112,3 +116,19 @@ abbrev pub HoldsAllPorts : Closed → Type 0
 HoldsAllPorts closed =
     (newer past : List Entry) (port : Ui) (state : Fate) → past_of closed ≡ newer ++ past →
     fate (on port past) ≡ Some state → is_held state.spot ≡ true
+
+-- In the real tables.
+
+-- the records of the ports that are handed out
+abbrev pub ports_of : Closed → List PortRecord
+ports_of closed = map (λ (placed : Placed). placed.port) closed.ports.items
+
+-- these are the ports that the world of the merge holds, each once, with what waits in it; and each is at place 1
+pub record StandsForMerge (closed : Closed) : Type 0 where
+  pub ports : StandsFor (past_of closed) (ports_of closed)
+  pub places : All (λ (placed : Placed). placed.place ≡ 1) closed.ports.items
+
+-- no packet is left, and each message that was sent has its verdict
+pub record IsQuiet (closed : Closed) : Type 0 where
+  pub rest : closed.rest.items ≡ []
+  pub settled : unsettled (past_of closed) (sent (past_of closed)) ≡ []

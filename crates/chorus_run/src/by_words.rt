@@ -3,10 +3,10 @@
 ghost use Rattle.std.specs.Prelude.{◌≡◌, ◌↔◌, ◌≢◌, ◌⊎◌, ℕ, IsTrue, IsSome, IsNone, IfSome, Ok, Err, map, [], ◌∷◌, codes};
 ghost use Rattle.chorus_io.specs.Count.{Rose};
 ghost use Rattle.chorus_scene.specs.Scene.{Scene};
-ghost use Rattle.chorus_net.specs.Closing.{IsClosed};
+ghost use Rattle.chorus_net.specs.Closing.{IsClosed, IsOfSites};
 ghost use Rattle.chorus_net.specs.Sites.{layout_of};
 ghost use Rattle.chorus_run.specs.Order.{replayed};
-ghost use Rattle.chorus_run.specs.Headline.{AreJustStarted, Gives, IsRead, ReadsNoFurther, OfScene, IsRun, Performs, ReceivesInOrder, HasOneHolder, HoldsAllPorts};
+ghost use Rattle.chorus_run.specs.Headline.{AreJustStarted, Gives, IsRead, ReadsNoFurther, OfScene, IsRun, Performs, ReceivesInOrder, HasOneHolder, HoldsAllPorts, StandsForMerge, IsQuiet};
 ghost use Rattle.chorus_run.specs.Output.{Writes, text_of};
 
 use crate::finished::Finished;
@@ -49,6 +49,9 @@ pub fn words<S: Source, K: Sink>(
     ensures receives { IfSome result.closed ReceivesInOrder }
     ensures holder { IfSome result.closed HasOneHolder }
     ensures still { IfSome result.closed HoldsAllPorts }
+    ensures stands { IfSome result.closed StandsForMerge }
+    ensures quiet { IfSome result.closed IsQuiet }
+    ensures origin { IfSome result.closed IsOfSites }
 {
     if is_replay(words) {
         return replay(alloc, source, sink, sites);

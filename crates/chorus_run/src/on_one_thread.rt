@@ -5,10 +5,10 @@ ghost use Rattle.chorus_io.specs.Count.{Rose};
 ghost use Rattle.chorus_ui.specs.Layout.{IsShape};
 ghost use Rattle.chorus_scene.specs.Scene.{Scene};
 ghost use Rattle.chorus_scene.specs.Limits.{Keeps};
-ghost use Rattle.chorus_net.specs.Closing.{IsClosed};
+ghost use Rattle.chorus_net.specs.Closing.{IsClosed, IsOfSites};
 ghost use Rattle.chorus_net.specs.Sites.{layout_of};
 ghost use Rattle.chorus_run.specs.Order.{scene_is_built, replayed};
-ghost use Rattle.chorus_run.specs.Headline.{AreJustStarted, Gives, IsRead, ReadsNoFurther, OfScene, IsRun, Performs, ReceivesInOrder, HasOneHolder, HoldsAllPorts};
+ghost use Rattle.chorus_run.specs.Headline.{AreJustStarted, Gives, IsRead, ReadsNoFurther, OfScene, IsRun, Performs, ReceivesInOrder, HasOneHolder, HoldsAllPorts, StandsForMerge, IsQuiet};
 ghost use Rattle.chorus_run.specs.Output.{Writes, GivesUp, text_of};
 
 use crate::built::is_built;
@@ -55,6 +55,9 @@ pub fn replay<S: Source, K: Sink>(
     ensures receives { IfSome result.closed ReceivesInOrder }
     ensures holder { IfSome result.closed HasOneHolder }
     ensures still { IfSome result.closed HoldsAllPorts }
+    ensures stands { IfSome result.closed StandsForMerge }
+    ensures quiet { IfSome result.closed IsQuiet }
+    ensures origin { IfSome result.closed IsOfSites }
 {
     let scenario = match read_scenario(alloc, source, sites.layout()) {
         Ok(scenario) => scenario,

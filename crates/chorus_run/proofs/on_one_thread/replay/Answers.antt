@@ -5,6 +5,7 @@ use Rattle.chorus_run.specs.Headline.{IsRun, Performs}
 use Rattle.chorus_run.proofs.Reading.{gives-one}
 use Rattle.chorus_run.proofs.Closed.{merge-is, runs, performs-all, receives-in-order}
 use Rattle.chorus_run.proofs.Holding.{has-one-holder, holds-all-ports}
+use Rattle.chorus_run.proofs.Standing.{stands-for-merge, is-quiet}
 use Rattle.chorus_run.proofs.on_one_thread.replay.Goals as goal
 
 pub returns-clause-ordered : goal.returns-clause-ordered
@@ -39,3 +40,13 @@ returns-clause-still g c =
     let ok = c.in-Ok.ensures.ok in
     holds-all-ports c.in-Ok.scenario c.in-Ok-play.closed ok.3 ok.2 ok.1
     (merge-is c.in-Ok.scenario c.in-Ok-play.closed c.in-Ok-play.ensures.closed.journals)
+
+pub returns-clause-stands : goal.returns-clause-stands
+returns-clause-stands g c =
+    let ok = c.in-Ok.ensures.ok in
+    stands-for-merge c.in-Ok.scenario c.in-Ok-play.closed ok.3 ok.2 ok.1 c.in-Ok-play.ensures.closed
+
+pub returns-clause-quiet : goal.returns-clause-quiet
+returns-clause-quiet g c =
+    let ok = c.in-Ok.ensures.ok in
+    is-quiet c.in-Ok.scenario c.in-Ok-play.closed ok.3 ok.2 ok.1 c.in-Ok-play.ensures.closed
