@@ -1,67 +1,58 @@
 //! Worked journals, applied entry by entry, and for each act an entry that its rule refuses.
+//!
+//! A journal is written as its lines are printed (docs/FORMATS.md, "Journal text"). A line `! RULE: ENTRY` has an entry
+//! that the world refuses there by that rule, and so is no line of the journal.
 
 mod acts;
 mod calls;
 mod groups;
 mod sending;
+mod words;
 
 use crate::{World, WorldFault};
-use chorus_entry::{Act, Entry, MsgId};
-use chorus_ui::{Kind, Layout, Ui};
+use acts::entry_in;
+use chorus_ui::{Layout, Ui};
+use std::alloc::Global;
 use std::process::Abort;
 
-fn layout(rt: &impl Abort, sites: u16, turns: u16) -> Layout {
-    Layout::new(sites, turns).expect(rt, "a layout")
+/// The name with this text.
+fn named(rt: &impl Abort, text: &str) -> Ui {
+    Ui::parse(text.as_bytes()).expect(rt, "a name")
 }
 
-fn actor(rt: &impl Abort, site: u16, number: u64) -> Ui {
-    Ui::new(site, Kind::Actor, number).expect(rt, "an actor")
+/// The world of so many sites, each with so many places, after the journal.
+fn replay(rt: &impl Abort, alloc: Global, sites: u16, turns: u16, journal: &str) -> World {
+    let layout = Layout::new(sites, turns).expect(rt, "a layout");
+    let mut world = World::opening(alloc, layout).expect(rt, "memory");
+    follow(rt, alloc, &mut world, journal);
+    world
 }
 
-fn port(rt: &impl Abort, site: u16, number: u64) -> Ui {
-    Ui::new(site, Kind::Port, number).expect(rt, "a port")
-}
-
-fn group(rt: &impl Abort, site: u16, number: u64) -> Ui {
-    Ui::new(site, Kind::Group, number).expect(rt, "a group")
-}
-
-fn id(seat: u32, number: u32, copy: u16) -> MsgId {
-    MsgId { seat, number, copy }
-}
-
-/// The world takes the entry.
-fn takes(rt: &impl Abort, world: &mut World, clock: u64, place: u16, seat: u32, act: Act) {
-    let entry = Entry {
-        clock,
-        place,
-        seat,
-        act,
-    };
-    let answer = world.apply(&entry);
-    assert!(rt; answer.is_ok(), "at {clock} {place}: {answer:?}");
-}
-
-/// The world refuses the entry by this rule.
-fn refuses(
-    rt: &impl Abort,
-    world: &mut World,
-    rule: u8,
-    clock: u64,
-    place: u16,
-    seat: u32,
-    act: Act,
-) {
-    let entry = Entry {
-        clock,
-        place,
-        seat,
-        act,
-    };
-    match world.apply(&entry) {
-        Err(WorldFault::NotLegal { rule: named }) => {
-            assert_eq!(rt; named, rule, "at {clock} {place}");
+/// The world takes or refuses the entry of each line, as the line says.
+fn follow(rt: &impl Abort, alloc: Global, world: &mut World, journal: &str) {
+    for line in journal.lines() {
+        let line = line.trim();
+        match line.strip_prefix("! ") {
+            Some(refused) => refuses(rt, alloc, world, refused),
+            None if line.is_empty() => {}
+            None => takes(rt, alloc, world, line),
         }
-        other => assert!(rt; false, "at {clock} {place}: {other:?}"),
+    }
+}
+
+/// The world takes the entry of the line.
+fn takes(rt: &impl Abort, alloc: Global, world: &mut World, line: &str) {
+    let answer = world.apply(&entry_in(rt, alloc, line));
+    assert!(rt; answer.is_ok(), "{line}: {answer:?}");
+}
+
+/// The world refuses the entry of the line by the rule that stands before it.
+fn refuses(rt: &impl Abort, alloc: Global, world: &mut World, refused: &str) {
+    let (rule, line) = refused.split_once(": ").expect(rt, "a rule");
+    match world.apply(&entry_in(rt, alloc, line)) {
+        Err(WorldFault::NotLegal { rule: named }) => {
+            assert_eq!(rt; rule.parse().ok(), Some(named), "{line}");
+        }
+        other => assert!(rt; false, "{line}: {other:?}"),
     }
 }
