@@ -1,8 +1,8 @@
 -- The ranges of what a packet holds.
-use Rattle.std.specs.Prelude.{ℕ, ◌*◌, Bool, true, false, ◌&&◌, nat_le, Option, Some, None, List, length}
+use Rattle.std.specs.Prelude.{ℕ, Bool, true, false, ◌&&◌, nat_le, Option, Some, None, List, length}
 use Rattle.std.specs.List.{list_all}
 use Rattle.chorus_ui.specs.declared.ui.Ui.{Ui}
-use Rattle.chorus_ui.specs.declared.layout.TheConstants.{MAX_SITES}
+use Rattle.chorus_ui.specs.declared.layout.TheConstants.{MAX_SITES, MAX_PLACES}
 use Rattle.chorus_entry.specs.declared.body.TheConstants.{BODY_LIMIT}
 use Rattle.chorus_entry.specs.declared.members.TheConstants.{MEMBERS_LIMIT}
 use Rattle.chorus_entry.specs.declared.record.clients.TheConstants.{CLIENTS_LIMIT}
@@ -27,9 +27,9 @@ use Rattle.chorus_entry.specs.Kinds.{names_actor, names_port, names_group, has_k
 abbrev pub is_from : ℕ → ℕ → ℕ → Bool
 is_from low high n = nat_le low n && nat_le n high
 
--- the number of a place in the largest layout, whose sites have four places each
+-- the number of a place in the largest layout
 abbrev pub is_place_number : ℕ → Bool
-is_place_number = is_from 1 (MAX_SITES * 4)
+is_place_number = is_from 1 MAX_PLACES
 
 -- the number of a site in the largest layout
 abbrev pub is_site_number : ℕ → Bool

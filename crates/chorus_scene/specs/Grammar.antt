@@ -17,11 +17,11 @@ use Rattle.chorus_scene.specs.declared.word.Section.{Section}
 use Rattle.chorus_scene.specs.declared.word.Section.TheVariants as sections
 use Rattle.chorus_scene.specs.declared.word.Reason.{Reason}
 use Rattle.chorus_scene.specs.declared.word.Reason.TheVariants as reasons
-use Rattle.chorus_ui.specs.declared.layout.TheConstants.{MAX_SITES, ACTORS_PER_SITE, PORTS_PER_SITE}
+use Rattle.chorus_ui.specs.declared.layout.TheConstants.{MAX_SITES, ACTORS_PER_SITE, PORTS_PER_SITE, GROUPS_PER_SITE}
 use Rattle.chorus_entry.specs.declared.body.TheConstants.{BODY_LIMIT}
 use Rattle.chorus_entry.specs.declared.members.TheConstants.{MEMBERS_LIMIT}
 use Rattle.chorus_entry.specs.declared.record.pending.TheConstants.{PENDING_LIMIT}
-use Rattle.chorus_scene.specs.declared.limits.TheConstants.{TEXT_LIMIT, VERSION_ONE_SITES, VERSION_ONE_BODY, GROUPS_PER_SITE, SCRIPTS_LIMIT, COMMANDS_LIMIT, STEPS_LIMIT}
+use Rattle.chorus_scene.specs.declared.limits.TheConstants.{TEXT_LIMIT, VERSION_ONE_SITES, VERSION_ONE_BODY, SCRIPTS_LIMIT, COMMANDS_LIMIT, STEPS_LIMIT}
 use Rattle.chorus_scene.specs.declared.fault.ReadFault.{ReadFault}
 use Rattle.chorus_scene.specs.declared.fault.ReadFault.TheVariants as faults
 use Rattle.chorus_scene.specs.Text.{cut, fields, lines, is_text, is_skipped}

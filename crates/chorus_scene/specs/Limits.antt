@@ -3,7 +3,7 @@ use Rattle.std.specs.Prelude.{◌≡◌, ℕ, ◌≤◌, ◌*◌, Bool, true, no
 use Rattle.std.specs.List.{list_all}
 use Rattle.chorus_ui.specs.Name.{Name}
 use Rattle.chorus_ui.specs.Layout.{Shape, has_actor}
-use Rattle.chorus_ui.specs.declared.layout.TheConstants.{PORTS_PER_SITE}
+use Rattle.chorus_ui.specs.declared.layout.TheConstants.{PORTS_PER_SITE, GROUPS_PER_SITE}
 use Rattle.chorus_entry.specs.declared.members.TheConstants.{MEMBERS_LIMIT}
 use Rattle.chorus_entry.specs.declared.dest.Dest.{Dest}
 use Rattle.chorus_entry.specs.declared.dest.Dest.TheVariants as dests
@@ -15,7 +15,7 @@ use Rattle.chorus_scene.specs.declared.scenario.SetupLine.{SetupLine}
 use Rattle.chorus_scene.specs.declared.scenario.SetupLine.TheVariants as setups
 use Rattle.chorus_scene.specs.declared.scenario.Step as step
 use Rattle.chorus_scene.specs.declared.scenario.Step.TheVariants as steps
-use Rattle.chorus_scene.specs.declared.limits.TheConstants.{SCRIPTS_LIMIT, COMMANDS_LIMIT, STEPS_LIMIT, GROUPS_PER_SITE}
+use Rattle.chorus_scene.specs.declared.limits.TheConstants.{SCRIPTS_LIMIT, COMMANDS_LIMIT, STEPS_LIMIT}
 use Rattle.chorus_scene.specs.Scene.{Scene, Script}
 use Rattle.chorus_scene.specs.Making.{next_port, next_group, made_after, is_among, members_of}
 use Rattle.chorus_scene.specs.Grammar.{most_sites, most_bytes, script_at, is_step, read_scene}

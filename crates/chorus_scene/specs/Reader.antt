@@ -18,8 +18,8 @@ use Rattle.chorus_scene.specs.declared.fault.Stop.{Stop}
 use Rattle.chorus_scene.specs.declared.fault.Stop.TheVariants as stops
 use Rattle.chorus_scene.specs.declared.fault.ReadFault.{ReadFault}
 use Rattle.chorus_scene.specs.declared.fault.ReadFault.TheVariants as faults
-use Rattle.chorus_ui.specs.declared.layout.TheConstants.{MAX_SITES, PORTS_PER_SITE}
-use Rattle.chorus_scene.specs.declared.limits.TheConstants.{GROUPS_PER_SITE, SCRIPTS_LIMIT}
+use Rattle.chorus_ui.specs.declared.layout.TheConstants.{MAX_SITES, PORTS_PER_SITE, GROUPS_PER_SITE}
+use Rattle.chorus_scene.specs.declared.limits.TheConstants.{SCRIPTS_LIMIT}
 use Rattle.chorus_scene.specs.declared.setup.TheConstants.{PORT_COUNTS, COUNTS, LISTS}
 use Rattle.chorus_scene.specs.Text.{fields}
 use Rattle.chorus_scene.specs.Scene.{Scene}

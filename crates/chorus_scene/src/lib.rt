@@ -32,8 +32,7 @@ pub use laws::{
     a_scenario_keeps_its_limits, lines_are_tested_in_order, what_is_printed_is_read_again,
 };
 pub use limits::{
-    COMMANDS_LIMIT, GROUPS_PER_SITE, SCRIPTS_LIMIT, STEPS_LIMIT, TEXT_LIMIT, VERSION_ONE_BODY,
-    VERSION_ONE_SITES,
+    COMMANDS_LIMIT, SCRIPTS_LIMIT, STEPS_LIMIT, TEXT_LIMIT, VERSION_ONE_BODY, VERSION_ONE_SITES,
 };
 pub use printing::print;
 pub use reading::read;

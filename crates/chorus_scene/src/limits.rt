@@ -9,9 +9,6 @@ pub const VERSION_ONE_SITES: u16 = 8;
 /// The most bytes of a body in version 1.
 pub const VERSION_ONE_BODY: usize = 240;
 
-/// The most groups that the setup makes on one site.
-pub const GROUPS_PER_SITE: u64 = 4;
-
 /// The most scripts of a scenario.
 pub const SCRIPTS_LIMIT: usize = 16;
 

@@ -8,9 +8,8 @@ ghost use Rattle.chorus_scene.specs.declared.setup.TheConstants.{COUNTS, LISTS};
 ghost use Rattle.chorus_scene.specs.Making.{stride, next_name, makes, name_said, is_among, members_of};
 ghost use Rattle.chorus_scene.specs.Reader.{count_at, is_actor, is_listed, list_number, most_number, made_by, IsSetup};
 
-use crate::limits::GROUPS_PER_SITE;
 use crate::scenario::SetupLine;
-use chorus_ui::{Kind, Layout, MAX_SITES, Ui};
+use chorus_ui::{GROUPS_PER_SITE, Kind, Layout, MAX_SITES, Ui};
 use std::alloc::{AllocError, Global};
 
 /// The counts of ports: one for each place that a layout may have, four on each of 16 sites.

@@ -9,11 +9,17 @@ use std::marker::Model;
 /// The most sites of a layout.
 pub const MAX_SITES: u16 = 16;
 
+/// The most places of a layout: four on each of its sites.
+pub const MAX_PLACES: u16 = MAX_SITES * 4;
+
 /// The actors of each site, numbered from 1. They are there from the start.
 pub const ACTORS_PER_SITE: u64 = 8;
 
 /// The most ports that a site makes.
 pub const PORTS_PER_SITE: u64 = 32;
+
+/// The most groups that a site makes.
+pub const GROUPS_PER_SITE: u64 = 4;
 
 /// How many sites there are, from 1 to 16, and how many places each of them has: 1, 2 or 4, its turns. Places
 /// are numbered from 1, those of site 1 first. Places and turns are this project's own.

@@ -20,5 +20,5 @@ mod ui;
 
 pub use decimal::{is_decimal, parse_decimal, push_decimal};
 pub use kind::Kind;
-pub use layout::{ACTORS_PER_SITE, Layout, MAX_SITES, PORTS_PER_SITE};
+pub use layout::{ACTORS_PER_SITE, GROUPS_PER_SITE, Layout, MAX_PLACES, MAX_SITES, PORTS_PER_SITE};
 pub use ui::Ui;

@@ -3,6 +3,7 @@ use Rattle.std.specs.Prelude.{ℕ, ◌≡◌, ◌≤◌, ◌+◌, true, List, []
 use Rattle.chorus_ui.specs.declared.ui.Ui.{Ui}
 use Rattle.chorus_ui.specs.declared.layout.Layout.{Layout}
 use Rattle.chorus_ui.specs.Layout.{IsShape}
+use Rattle.chorus_entry.specs.declared.record.pending.TheConstants.{PENDING_LIMIT}
 use Rattle.chorus_entry.specs.declared.entry.Entry.{Entry}
 use Rattle.chorus_entry.specs.declared.id.MsgId.{MsgId}
 use Rattle.chorus_entry.specs.declared.answer.Answer.{Answer}
@@ -90,7 +91,7 @@ ReceivesInOrder =
 abbrev pub KeepsToCapacity : Type 0
 KeepsToCapacity =
     (l : Layout) (past : List Entry) (q : Ui) (f : Fate) → IsShape l → is_legal l past ≡ true → fate (on q past) ≡ Some f →
-    (length f.accepted ≤ f.taken + f.capacity) × (1 ≤ f.capacity) × (f.capacity ≤ 64)
+    (length f.accepted ≤ f.taken + f.capacity) × (1 ≤ f.capacity) × (f.capacity ≤ PENDING_LIMIT)
 
 -- the ids of a port's Delete entry are all that it accepted and that was not received
 abbrev pub DiscardsTheRest : Type 0

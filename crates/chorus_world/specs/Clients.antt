@@ -4,6 +4,7 @@ use Rattle.chorus_entry.specs.declared.entry.Entry.{Entry}
 use Rattle.chorus_entry.specs.declared.id.MsgId.{MsgId}
 use Rattle.chorus_entry.specs.declared.tag.Tag.{Tag}
 use Rattle.chorus_entry.specs.declared.tag.Tag.TheVariants.{Request}
+use Rattle.chorus_entry.specs.declared.record.clients.TheConstants.{CLIENTS_LIMIT}
 use Rattle.chorus_entry.specs.declared.act.Act.{Act}
 use Rattle.chorus_entry.specs.declared.act.Act.TheVariants.{Accept}
 use Rattle.chorus_world.specs.Posts.{tag_of}
@@ -39,9 +40,9 @@ abbrev pub is_old : Tag → ℕ → Bool
 is_old (Request n back) k = nat_le n k
 is_old _ k = false
 
--- it is a request of a client of whom nothing is kept, while 64 others are kept
+-- it is a request of a client of whom nothing is kept, while as many others are kept as a port can keep
 abbrev pub is_one_too_many : Tag → ℕ → ℕ → Bool
-is_one_too_many (Request n back) k m = (k == 0) && nat_le 64 m
+is_one_too_many (Request n back) k m = (k == 0) && nat_le CLIENTS_LIMIT m
 is_one_too_many _ k m = false
 
 -- Already answers the message x at the port, and ClientsFull

@@ -2,6 +2,7 @@
 use Rattle.std.specs.Prelude.{ℕ, ◌+◌, ◌<◌, ◌≤◌, cond, Bool, List, [], ◌∷◌, length, Option, Some, None}
 use Rattle.chorus_ui.specs.declared.ui.Ui.{Ui}
 use Rattle.chorus_ui.specs.Name.{same_ui}
+use Rattle.chorus_entry.specs.declared.record.pending.TheConstants.{PENDING_LIMIT}
 use Rattle.chorus_entry.specs.declared.act.Act.{Act}
 use Rattle.chorus_entry.specs.declared.act.Act.TheVariants.{Make, Take}
 use Rattle.chorus_world.specs.declared.post.Posting.{Posting}
@@ -23,7 +24,7 @@ compared (Some a) b = Some (are_same same_call (Some a) b)
 
 -- a Make has a capacity
 abbrev pub MakeFits : Act → Type 0
-MakeFits (Make q a c) = (1 ≤ c) × (c ≤ 64)
+MakeFits (Make q a c) = (1 ≤ c) × (c ≤ PENDING_LIMIT)
 MakeFits _ = Unit {0}
 
 -- a Take finds a message that was accepted and not received

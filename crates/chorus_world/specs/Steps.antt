@@ -3,6 +3,7 @@ use Rattle.std.specs.Prelude.{ℕ, ◌+◌, ◌-◌, ◌*◌, ◌/◌, ◌%◌, 
 use Rattle.chorus_ui.specs.declared.ui.Ui.{Ui}
 use Rattle.chorus_ui.specs.declared.layout.Layout.{Layout}
 use Rattle.chorus_ui.specs.Name.{same_ui}
+use Rattle.chorus_ui.specs.declared.layout.TheConstants.{PORTS_PER_SITE, GROUPS_PER_SITE}
 use Rattle.chorus_ui.specs.Layout.{has_site, has_place, has_actor, place_at, first_place, site_of, group_place}
 use Rattle.chorus_entry.specs.declared.entry.Entry.{Entry}
 use Rattle.chorus_entry.specs.declared.id.MsgId.{MsgId}
@@ -13,6 +14,8 @@ use Rattle.chorus_entry.specs.declared.tag.Tag.TheVariants.{Plain, Request, Repl
 use Rattle.chorus_entry.specs.declared.answer.Answer.{Answer}
 use Rattle.chorus_entry.specs.declared.act.Act.{Act}
 use Rattle.chorus_entry.specs.declared.act.Act.TheVariants.{Make, MakeFull, NoActor, NoSite, Post, Accept, Full, Already, ClientsFull, Stale, Early, NoPort, Elsewhere, NoMember, Choose, Try, Told, Heard, Take, Done, Late, Empty, NotHere, Rehome, Depart, Arrive, GroupMake, GroupsFull, Join, Leave, NoGroup, There, NotThere, MembersFull, Outstanding, NoCall, NoRequest, Cancel, Delete, Gone}
+use Rattle.chorus_entry.specs.declared.record.pending.TheConstants.{PENDING_LIMIT}
+use Rattle.chorus_entry.specs.declared.members.TheConstants.{MEMBERS_LIMIT}
 use Rattle.chorus_entry.specs.Dest.{group_in}
 use Rattle.chorus_entry.specs.Members.{same_uis}
 use Rattle.chorus_entry.specs.Kinds.{has_kinds}
@@ -38,9 +41,9 @@ use Rattle.chorus_world.specs.Seats.{posts, posts_stay, requests, call, same_cal
 abbrev pub is_home : Layout → Ui → ℕ → Bool
 is_home l a p = has_actor l a && (place_at l a.site a == p)
 
--- a place makes its share of the 32 ports of a site
+-- a place makes its share of the ports of a site
 abbrev pub is_full_of_ports : Layout → List Entry → Bool
-is_full_of_ports l here = nat_le (32 / l.turns) (ports_made here)
+is_full_of_ports l here = nat_le (PORTS_PER_SITE / l.turns) (ports_made here)
 
 -- the number of the next port that p makes: the least one that is not made and whose place is p
 abbrev pub next_number : Layout → ℕ → List Entry → ℕ
@@ -48,7 +51,7 @@ next_number l p here = ports_made here * l.turns + (p - 1) % l.turns + 1
 
 abbrev pub may_make : Layout → Views → ℕ → Ui → Ui → ℕ → Bool
 may_make l v p q a c =
-    is_home l a p && nat_le 1 c && nat_le c 64 && not (is_full_of_ports l v.here)
+    is_home l a p && nat_le 1 c && nat_le c PENDING_LIMIT && not (is_full_of_ports l v.here)
     && (q.site == a.site) && (q.number == next_number l p v.here)
 
 -- The way of a message to its port.
@@ -252,10 +255,10 @@ may_delete v p xs = is_held_at p (fate v.port) && are_waiting xs (fate v.port)
 
 abbrev pub may_make_group : Layout → Views → ℕ → Ui → Bool
 may_make_group l v p g =
-    is_group_place l g p && (g.number == groups_made v.here + 1) && nat_le g.number 4
+    is_group_place l g p && (g.number == groups_made v.here + 1) && nat_le g.number GROUPS_PER_SITE
 
 abbrev pub may_find_groups_full : Layout → Views → ℕ → ℕ → Bool
-may_find_groups_full l v p s = has_site l s && (first_place l s == p) && (groups_made v.here == 4)
+may_find_groups_full l v p s = has_site l s && (first_place l s == p) && (groups_made v.here == GROUPS_PER_SITE)
 
 -- the group is made, and p is its place
 abbrev pub is_group_at : Layout → Views → ℕ → Ui → Bool
@@ -263,7 +266,7 @@ is_group_at l v p g = is_group_place l g p && is_group g v.here
 
 abbrev pub may_join : Layout → Views → ℕ → Ui → Ui → Bool
 may_join l v p g q =
-    is_group_at l v p g && not (is_member q (members g v.here)) && nat_lt (length (members g v.here)) 32
+    is_group_at l v p g && not (is_member q (members g v.here)) && nat_lt (length (members g v.here)) MEMBERS_LIMIT
 
 abbrev pub may_find_there : Layout → Views → ℕ → Ui → Ui → Bool
 may_find_there l v p g q = is_group_at l v p g && is_member q (members g v.here)
@@ -272,7 +275,7 @@ abbrev pub may_find_not_there : Layout → Views → ℕ → Ui → Ui → Bool
 may_find_not_there l v p g q = is_group_at l v p g && not (is_member q (members g v.here))
 
 abbrev pub may_find_members_full : Layout → Views → ℕ → Ui → Bool
-may_find_members_full l v p g = is_group_at l v p g && (length (members g v.here) == 32)
+may_find_members_full l v p g = is_group_at l v p g && (length (members g v.here) == MEMBERS_LIMIT)
 
 -- What each act needs, where the entry is at the place p and by the seat s.
 abbrev pub act_may : Layout → Views → ℕ → ℕ → Act → Bool

@@ -11,13 +11,12 @@ ghost use Rattle.chorus_scene.specs.Reader.{Gives, Stands, IsMemory, read_with, 
 
 use crate::fault::Stop;
 use crate::fields::{one, three, two};
-use crate::limits::GROUPS_PER_SITE;
 use crate::reader::{Reader, name_in};
 use crate::scenario::SetupLine;
 use crate::text::number_in;
 use crate::word::{Reason, Section, Word};
 use chorus_entry::{MEMBERS_LIMIT, PENDING_LIMIT};
-use chorus_ui::{Kind, PORTS_PER_SITE, Ui};
+use chorus_ui::{GROUPS_PER_SITE, Kind, PORTS_PER_SITE, Ui};
 
 impl Reader {
     pub(crate) fn port_line(&mut self, rest: Option<&[u8]>) -> Result<(), Stop>

@@ -9,11 +9,8 @@ ghost use Rattle.chorus_world.specs.Views.{views, at};
 use crate::group::{group_at, groups_made, is_group, is_group_here, is_member};
 use crate::world::World;
 use chorus_entry::MEMBERS_LIMIT;
-use chorus_ui::Ui;
+use chorus_ui::{GROUPS_PER_SITE, Ui};
 use std::alloc::AllocError;
-
-/// The groups that a site makes.
-const GROUPS_PER_SITE: usize = 4;
 
 impl World {
     /// Whether the place is the group's.
@@ -54,7 +51,7 @@ impl World {
     {
         let made = groups_made(self.entries.as_slice(), place);
         self.is_group_place(place, group)
-            && group.number() <= GROUPS_PER_SITE as u64
+            && group.number() <= GROUPS_PER_SITE
             && group.number() as usize - 1 == made
     }
 
@@ -63,7 +60,7 @@ impl World {
     {
         self.layout.has_site(site)
             && self.layout.first_place(site) == place
-            && groups_made(self.entries.as_slice(), place) == GROUPS_PER_SITE
+            && groups_made(self.entries.as_slice(), place) == GROUPS_PER_SITE as usize
     }
 
     pub(super) fn may_join(&self, place: u16, group: Ui, port: Ui) -> Result<bool, AllocError>
