@@ -12,7 +12,7 @@ use Rattle.chorus_frame.specs.Fault as faults
 use Rattle.chorus_frame.specs.Numbers.{number}
 use Rattle.chorus_frame.specs.Laws.{AreBytes}
 use Rattle.chorus_frame.specs.Spelling.{located_fields, answer_fields}
-use Rattle.chorus_frame.specs.Reading.{code_at, past_at, place_at, accepted_at, full_at, located_at, stale_at, early_at, elsewhere_at, chosen_at, answer_of, answer_at, is_told_code, is_reported_code}
+use Rattle.chorus_frame.specs.Reading.{code_at, up_to_clock_at, place_at, accepted_at, full_at, located_at, stale_at, early_at, elsewhere_at, chosen_at, answer_of, answer_at, is_told_code, is_reported_code}
 use Rattle.chorus_frame.proofs.Numbers.{ok_is}
 use Rattle.chorus_frame.proofs.Formats.{Taken, IsFormat, step, join, IsTested, tested_format, assoc2, from_nat_le, both}
 
@@ -21,12 +21,12 @@ use Rattle.chorus_frame.proofs.Formats.{Taken, IsFormat, step, join, IsTested, t
 pub place_format : IsFormat ℕ (IsTested 2 is_place_number) (number 2) place_at
 place_format = tested_format 2 is_place_number Range
 
-pub past_format : (clock : ℕ) → IsFormat ℕ (IsTested 8 (λ n. nat_le n clock)) (number 8) (past_at clock)
-past_format clock = tested_format 8 (λ n. nat_le n clock) Range
+pub up_to_clock_format : (clock : ℕ) → IsFormat ℕ (IsTested 8 (λ n. nat_le n clock)) (number 8) (up_to_clock_at clock)
+up_to_clock_format clock = tested_format 8 (λ n. nat_le n clock) Range
 
 -- what is within its range fits its field
-pub past_fits : (clock n : ℕ) → clock < 2 ^ 64 → nat_le n clock ≡ true → IsTested 8 (λ n. nat_le n clock) n
-past_fits clock n held fit = let top = from_nat_le n clock fit in (omega arith, fit)
+pub up_to_clock_fits : (clock n : ℕ) → clock < 2 ^ 64 → nat_le n clock ≡ true → IsTested 8 (λ n. nat_le n clock) n
+up_to_clock_fits clock n held fit = let top = from_nat_le n clock fit in (omega arith, fit)
 
 pub place_fits : (n : ℕ) → is_place_number n ≡ true → IsTested 2 is_place_number n
 place_fits n fit = (grind (arith, nat_tests), fit)
@@ -47,7 +47,7 @@ located-takes : (clock : ℕ) (bytes : List ℕ) (x : ℕ × ℕ) (rest : List �
 unfolding located_at
 located-takes clock bytes x rest are e =
     let a = step place_format _ bytes (x, rest) are e in
-    let b = step (past_format clock) _ a.rest (x, rest) a.taken.rest_bytes a.on in
+    let b = step (up_to_clock_format clock) _ a.rest (x, rest) a.taken.rest_bytes a.on in
     let made : (ℕ × ℕ) × List ℕ = ((a.value, b.value), b.rest) in
     subst (λ (p : (ℕ × ℕ) × List ℕ). Taken bytes (located p.0) p.1 × IsLocated clock p.0) (ok_is made (x, rest) b.on) (join a.taken b.taken, both _ _ a.fit.1 b.fit.1)
 
@@ -56,7 +56,7 @@ unfolding located_at
 located-again clock to hop rest held fit =
     let p = and_parts (is_place_number to) (nat_le hop clock) fit in
     ap (located_at clock) (assoc2 (number 2 to) (number 8 hop) rest)
-    ∙ rw (place_format.again to (number 8 hop ++ rest) (place_fits to p.0), (past_format clock).again hop rest (past_fits clock hop held p.1)) refl
+    ∙ rw (place_format.again to (number 8 hop ++ rest) (place_fits to p.0), (up_to_clock_format clock).again hop rest (up_to_clock_fits clock hop held p.1)) refl
 
 located_format : (clock : ℕ) → clock < 2 ^ 64 → IsFormat (ℕ × ℕ) (IsLocated clock) located (located_at clock)
 located_format clock held = record { takes = located-takes clock; again = λ x rest fit. located-again clock x.0 x.1 rest held fit }
@@ -110,7 +110,7 @@ IsAnswer clock n bytes p = Taken bytes (answer_fields p.0) p.1 × (has_ranges_of
 accepted-takes : (clock : ℕ) (bytes left : List ℕ) (x : Answer) (rest : List ℕ) → Taken bytes (number 1 1) left → accepted_at clock left ≡ Ok (x, rest) → IsAnswer clock 1 bytes (x, rest)
 unfolding accepted_at
 accepted-takes clock bytes left x rest code e =
-    let a = step (past_format clock) _ left (x, rest) code.rest_bytes e in
+    let a = step (up_to_clock_format clock) _ left (x, rest) code.rest_bytes e in
     let made : Answer × List ℕ = (Accepted a.value, a.rest) in
     subst (IsAnswer clock 1 bytes) (ok_is made (x, rest) a.on) (join code a.taken, a.fit.1, refl)
 
@@ -131,7 +131,7 @@ stale-takes clock bytes left x rest held code e =
 early-takes : (clock : ℕ) (bytes left : List ℕ) (x : Answer) (rest : List ℕ) → Taken bytes (number 1 4) left → early_at clock left ≡ Ok (x, rest) → IsAnswer clock 4 bytes (x, rest)
 unfolding early_at
 early-takes clock bytes left x rest code e =
-    let a = step (past_format clock) _ left (x, rest) code.rest_bytes e in
+    let a = step (up_to_clock_format clock) _ left (x, rest) code.rest_bytes e in
     let made : Answer × List ℕ = (Early a.value, a.rest) in
     subst (IsAnswer clock 4 bytes) (ok_is made (x, rest) a.on) (join code a.taken, a.fit.1, refl)
 
@@ -205,7 +205,7 @@ answer-again : (may : Answer → Bool) (is_code : ℕ → Bool) → IsSetting ma
 unfolding answer_at answer_of accepted_at full_at stale_at early_at elsewhere_at chosen_at
 answer-again may is_code setting clock held (Accepted pos) rest fit =
     ap (answer_at is_code clock) (assoc2 (number 1 1) (number 8 pos) rest)
-    ∙ rw (code-again may is_code setting (Accepted pos) (number 8 pos ++ rest) fit.0, (past_format clock).again pos rest (past_fits clock pos held fit.1)) refl
+    ∙ rw (code-again may is_code setting (Accepted pos) (number 8 pos ++ rest) fit.0, (up_to_clock_format clock).again pos rest (up_to_clock_fits clock pos held fit.1)) refl
 answer-again may is_code setting clock held (Full len) rest fit =
     ap (answer_at is_code clock) (assoc2 (number 1 2) (number 1 len) rest)
     ∙ rw (code-again may is_code setting (Full len) (number 1 len ++ rest) fit.0, (tested_format 1 (is_from 1 PENDING_LIMIT) Range).again len rest (full_fits len fit.1)) refl
@@ -214,7 +214,7 @@ answer-again may is_code setting clock held (Stale to hop) rest fit =
     ∙ rw (code-again may is_code setting (Stale to hop) (located_fields to hop ++ rest) fit.0, located-again clock to hop rest held fit.1) refl
 answer-again may is_code setting clock held (Early hop) rest fit =
     ap (answer_at is_code clock) (assoc2 (number 1 4) (number 8 hop) rest)
-    ∙ rw (code-again may is_code setting (Early hop) (number 8 hop ++ rest) fit.0, (past_format clock).again hop rest (past_fits clock hop held fit.1)) refl
+    ∙ rw (code-again may is_code setting (Early hop) (number 8 hop ++ rest) fit.0, (up_to_clock_format clock).again hop rest (up_to_clock_fits clock hop held fit.1)) refl
 answer-again may is_code setting clock held NoPort rest fit = rw (code-again may is_code setting NoPort rest fit.0) refl
 answer-again may is_code setting clock held Already rest fit = rw (code-again may is_code setting Already rest fit.0) refl
 answer-again may is_code setting clock held ClientsFull rest fit = rw (code-again may is_code setting ClientsFull rest fit.0) refl

@@ -28,7 +28,7 @@ use Rattle.chorus_frame.specs.Fault as faults
 use Rattle.chorus_frame.specs.Numbers.{◌>>=◌, number_at, bytes_at, passes, tested_at}
 use Rattle.chorus_frame.specs.Spelling.{frame}
 use Rattle.chorus_frame.specs.Reading.{named, name_at, route_at, only_at, id_at, request_at, reply_at, tag_at, body_at, message_at, accepted_at, full_at, located_at, stale_at, early_at, elsewhere_at, chosen_at, answer_of, answer_at, is_told_code, is_reported_code, messages_at, pending_at, is_new, client_at, entries_at, clients_at, record_at, is_site_with, asked_at, try_at, verdict_at, transfer_at, ask_at, report_at, cargo_at, packet_at, packet_of}
-use Rattle.chorus_frame.specs.Widths.{IsHeld}
+use Rattle.chorus_frame.specs.Held.{IsHeld}
 use Rattle.chorus_frame.proofs.Numbers.{ok_is}
 use Rattle.chorus_frame.proofs.PacketFormats.{packet-again}
 

@@ -25,7 +25,7 @@ use Rattle.chorus_frame.specs.Numbers.{number, bytes_at, ranged_at}
 use Rattle.chorus_frame.specs.Laws.{AreBytes}
 use Rattle.chorus_frame.specs.Spelling.{name_field, route_field, only_field, id_fields, request_fields, reply_fields, tag_fields, body_fields, message_fields}
 use Rattle.chorus_frame.specs.Reading.{code_at, named, name_at, route_named, route_at, only_at, id_at, request_at, reply_at, tag_of, tag_at, body_at, message_at}
-use Rattle.chorus_frame.specs.Widths.{IsHeldId, IsHeldTag, IsHeldMessage, IsHeldRoute}
+use Rattle.chorus_frame.specs.Held.{IsHeldId, IsHeldTag, IsHeldMessage, IsHeldRoute}
 use Rattle.chorus_frame.proofs.Numbers.{test_ok, bind_ok, ok_is, number-again, bytes-takes, bytes-again}
 use Rattle.chorus_frame.proofs.Formats.{Taken, IsFormat, step, join, IsTested, number_format, tested_format, assoc2, assoc3, from_nat_le, both}
 

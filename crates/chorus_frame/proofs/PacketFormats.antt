@@ -22,11 +22,11 @@ use Rattle.chorus_frame.specs.Numbers.{number, ranged_at}
 use Rattle.chorus_frame.specs.Laws.{AreBytes}
 use Rattle.chorus_frame.specs.Spelling.{name_field, route_field, only_field, id_fields, message_fields, answer_fields, asked_fields, cargo_fields, kind_of, frame}
 use Rattle.chorus_frame.specs.Reading.{code_at, dest_of, is_site_with, is_told_code, is_reported_code, asked_at, try_at, verdict_at, transfer_at, ask_at, report_at, cargo_at, packet_at, packet_of}
-use Rattle.chorus_frame.specs.Widths.{IsHeldDest, IsHeldCargo, IsHeld}
+use Rattle.chorus_frame.specs.Held.{IsHeldDest, IsHeldCargo, IsHeld}
 use Rattle.chorus_frame.proofs.Numbers.{bind_ok, test_ok, ok_is, number-again}
 use Rattle.chorus_frame.proofs.Formats.{Taken, IsFormat, step, join, IsTested, number_format, tested_format, assoc2, assoc3, assoc4, assoc5, from_nat_le, both}
 use Rattle.chorus_frame.proofs.MessageFormats.{name_format, route_format, only_format, id_format, message_format}
-use Rattle.chorus_frame.proofs.AnswerFormats.{place_format, place_fits, past_format, past_fits, told_setting, reported_setting, answer_format}
+use Rattle.chorus_frame.proofs.AnswerFormats.{place_format, place_fits, up_to_clock_format, up_to_clock_fits, told_setting, reported_setting, answer_format}
 use Rattle.chorus_frame.proofs.RecordFormats.{record_format}
 
 -- ---- what is asked
@@ -93,7 +93,7 @@ unfolding try_at
 try-takes clock bytes x rest are e =
     let a = step route_format _ bytes (x, rest) are e in
     let b = step only_format _ a.rest (x, rest) a.taken.rest_bytes a.on in
-    let c = step (past_format clock) _ b.rest (x, rest) b.taken.rest_bytes b.on in
+    let c = step (up_to_clock_format clock) _ b.rest (x, rest) b.taken.rest_bytes b.on in
     let d = step (name_format K.Port) _ c.rest (x, rest) c.taken.rest_bytes c.on in
     let f = step message_format _ d.rest (x, rest) d.taken.rest_bytes d.on in
     let made : Cargo × List ℕ = (Try f.value d.value a.value b.value c.value, f.rest) in
@@ -157,7 +157,7 @@ cargo-again clock held (Try message port route only hop) rest fit =
     ∙ rw (
       route_format.again route (only_field only ++ (number 8 hop ++ (name_field port ++ (message_fields message ++ rest)))) (fit.0.0, p1.0),
       only_format.again only (number 8 hop ++ (name_field port ++ (message_fields message ++ rest))) p1.1,
-      (past_format clock).again hop (name_field port ++ (message_fields message ++ rest)) (past_fits clock hop held p2.1),
+      (up_to_clock_format clock).again hop (name_field port ++ (message_fields message ++ rest)) (up_to_clock_fits clock hop held p2.1),
       (name_format K.Port).again port (message_fields message ++ rest) (fit.0.1, p3.1),
       message_format.again message rest (fit.0.2, p4.1),
     ) refl

@@ -18,11 +18,11 @@ use Rattle.chorus_frame.specs.Numbers.{number}
 use Rattle.chorus_frame.specs.Laws.{AreBytes}
 use Rattle.chorus_frame.specs.Spelling.{name_field, message_fields, client_fields, pending_fields, clients_fields, record_fields}
 use Rattle.chorus_frame.specs.Reading.{capacity_at, messages_at, pending_at, is_new, client_at, entries_at, clients_at, record_at}
-use Rattle.chorus_frame.specs.Widths.{IsHeldMessage, IsHeldClient, IsHeldRecord}
+use Rattle.chorus_frame.specs.Held.{IsHeldMessage, IsHeldClient, IsHeldRecord}
 use Rattle.chorus_frame.proofs.Numbers.{ok_is}
 use Rattle.chorus_frame.proofs.Formats.{Taken, IsFormat, step, join, IsTested, tested_format, assoc2, assoc7, from_nat_le, both}
 use Rattle.chorus_frame.proofs.MessageFormats.{name_format, IsGoodMessage, message_format}
-use Rattle.chorus_frame.proofs.AnswerFormats.{past_format, past_fits}
+use Rattle.chorus_frame.proofs.AnswerFormats.{up_to_clock_format, up_to_clock_fits}
 
 -- ---- lists
 
@@ -233,8 +233,8 @@ record-takes clock bytes x rest are e =
     let a = step (name_format K.Port) _ bytes (x, rest) are e in
     let b = step (name_format K.Actor) _ a.rest (x, rest) a.taken.rest_bytes a.on in
     let c = step capacity_format _ b.rest (x, rest) b.taken.rest_bytes b.on in
-    let d = step (past_format clock) _ c.rest (x, rest) c.taken.rest_bytes c.on in
-    let f = step (past_format clock) _ d.rest (x, rest) d.taken.rest_bytes d.on in
+    let d = step (up_to_clock_format clock) _ c.rest (x, rest) c.taken.rest_bytes c.on in
+    let f = step (up_to_clock_format clock) _ d.rest (x, rest) d.taken.rest_bytes d.on in
     let g = step (pending_format c.value) _ f.rest (x, rest) f.taken.rest_bytes f.on in
     let h = step clients_format _ g.rest (x, rest) g.taken.rest_bytes g.on in
     let made : PortRecord × List ℕ = (record { ui = a.value; actor = b.value; capacity = c.value; hop = d.value; first = f.value; pending = g.value; clients = h.value }, h.rest) in
@@ -266,8 +266,8 @@ record-again clock held x rest fit =
       (name_format K.Port).again x.ui (name_field x.actor ++ capacity) (fit.0.0, p1.0),
       (name_format K.Actor).again x.actor capacity (fit.0.1, p1.1),
       capacity_format.again x.capacity hop (omega arith, p2.1),
-      (past_format clock).again x.hop first (past_fits clock x.hop held p3.1),
-      (past_format clock).again x.first pending (past_fits clock x.first held p4.1),
+      (up_to_clock_format clock).again x.hop first (up_to_clock_fits clock x.hop held p3.1),
+      (up_to_clock_format clock).again x.first pending (up_to_clock_fits clock x.first held p4.1),
       (pending_format x.capacity).again x.pending clients ((omega arith, p5.1), all_join IsHeldMessage has_ranges_of_message x.pending fit.0.2 p6.1),
       clients_format.again x.clients rest (fit.0.3, p7.1),
     ) refl

@@ -22,3 +22,8 @@ Gives (Err fault) read = Fails fault read
 abbrev pub Reads : {A : Type 0} → Result A DecodeFault → List ℕ → Result (A × List ℕ) Fault → Type 0
 Reads (Ok value) rest read = read ≡ Ok (value, rest)
 Reads (Err fault) rest read = Fails fault read
+
+-- the same of a call that leaves what it reads in a value of its caller
+abbrev pub Fills : {U A : Type 0} → Result U DecodeFault → A → List ℕ → Result (A × List ℕ) Fault → Type 0
+Fills (Ok done) value rest read = read ≡ Ok (value, rest)
+Fills (Err fault) value rest read = Fails fault read

@@ -1,10 +1,10 @@
 -- Bytes that are a frame, and the packet that they are.
-use Rattle.std.specs.Prelude.{◌≡◌, ℕ, List, Result, Ok, Err, IsTrue, is_ok}
+use Rattle.std.specs.Prelude.{◌≡◌, ℕ, List, IsTrue, is_ok}
+use Rattle.std.specs.Result.{result_unwrap_or}
 use Rattle.chorus_entry.specs.declared.answer.Answer.TheVariants.{NoMember}
 use Rattle.chorus_entry.specs.declared.packet.Packet.{Packet}
 use Rattle.chorus_entry.specs.declared.packet.Cargo.TheVariants.{Report}
 use Rattle.chorus_entry.specs.Ranges.{has_ranges}
-use Rattle.chorus_frame.specs.Fault.{Fault}
 use Rattle.chorus_frame.specs.Spelling.{frame}
 use Rattle.chorus_frame.specs.Reading.{packet_of}
 
@@ -12,13 +12,9 @@ use Rattle.chorus_frame.specs.Reading.{packet_of}
 abbrev pub no_packet : Packet
 no_packet = record { clock = 0; from = 0; cargo = Report (record { seat = 0; number = 0; copy = 0 }) NoMember }
 
-abbrev pub read_or : Packet → Result Packet Fault → Packet
-read_or packet (Ok read) = read
-read_or packet (Err fault) = packet
-
 -- the packet whose frame the bytes are
 abbrev pub packet_held : List ℕ → Packet
-packet_held bytes = read_or no_packet (packet_of bytes)
+packet_held bytes = result_unwrap_or (packet_of bytes) no_packet
 
 -- the bytes are the frame of a packet within the ranges
 pub record HoldsFrame (bytes : List ℕ) : Type 0 where

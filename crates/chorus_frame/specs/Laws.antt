@@ -5,7 +5,7 @@ use Rattle.chorus_entry.specs.Ranges.{has_ranges}
 use Rattle.chorus_frame.specs.Fault.{Short, Trailing}
 use Rattle.chorus_frame.specs.Spelling.{frame}
 use Rattle.chorus_frame.specs.Reading.{packet_at, packet_of}
-use Rattle.chorus_frame.specs.Widths.{IsHeld}
+use Rattle.chorus_frame.specs.Held.{IsHeld}
 
 abbrev pub AreBytes : List ℕ → Type 0
 AreBytes bytes = (i : ℕ) → slice_index bytes i < 256

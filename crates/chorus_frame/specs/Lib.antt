@@ -3,6 +3,6 @@ pub mod Frames
 pub mod Numbers
 pub mod Spelling
 pub mod Reading
-pub mod Widths
+pub mod Held
 pub mod Laws
 pub mod Calls

@@ -65,15 +65,15 @@ abbrev pub positive_at : List ℕ → Result (ℕ × List ℕ) Fault
 positive_at bytes = ranged_at 4 (nat_le 1) bytes
 
 -- a hop or a position, which is not above the clock of its packet
-abbrev pub past_at : ℕ → List ℕ → Result (ℕ × List ℕ) Fault
-past_at clock bytes = ranged_at 8 (λ n. nat_le n clock) bytes
+abbrev pub up_to_clock_at : ℕ → List ℕ → Result (ℕ × List ℕ) Fault
+up_to_clock_at clock bytes = ranged_at 8 (λ n. nat_le n clock) bytes
 
 unfoldable pub id_at : List ℕ → Result (MsgId × List ℕ) Fault
 id_at bytes = do
   seat ← number_at 4 bytes
-  call ← positive_at seat.1
-  copy ← ranged_at 2 (λ n. nat_le n MEMBERS_LIMIT) call.1
-  Ok (record { seat = seat.0; number = call.0; copy = copy.0 }, copy.1)
+  number ← positive_at seat.1
+  copy ← ranged_at 2 (λ n. nat_le n MEMBERS_LIMIT) number.1
+  Ok (record { seat = seat.0; number = number.0; copy = copy.0 }, copy.1)
 
 unfoldable pub request_at : List ℕ → Result (Tag × List ℕ) Fault
 request_at bytes = do
@@ -117,7 +117,7 @@ place_at bytes = ranged_at 2 is_place_number bytes
 
 unfoldable pub accepted_at : ℕ → List ℕ → Result (Answer × List ℕ) Fault
 accepted_at clock bytes = do
-  pos ← past_at clock bytes
+  pos ← up_to_clock_at clock bytes
   Ok (A.Accepted pos.0, pos.1)
 
 unfoldable pub full_at : List ℕ → Result (Answer × List ℕ) Fault
@@ -129,7 +129,7 @@ full_at bytes = do
 unfoldable pub located_at : ℕ → List ℕ → Result ((ℕ × ℕ) × List ℕ) Fault
 located_at clock bytes = do
   to ← place_at bytes
-  hop ← past_at clock to.1
+  hop ← up_to_clock_at clock to.1
   Ok ((to.0, hop.0), hop.1)
 
 unfoldable pub stale_at : ℕ → List ℕ → Result (Answer × List ℕ) Fault
@@ -139,7 +139,7 @@ stale_at clock bytes = do
 
 unfoldable pub early_at : ℕ → List ℕ → Result (Answer × List ℕ) Fault
 early_at clock bytes = do
-  hop ← past_at clock bytes
+  hop ← up_to_clock_at clock bytes
   Ok (A.Early hop.0, hop.1)
 
 unfoldable pub elsewhere_at : ℕ → List ℕ → Result (Answer × List ℕ) Fault
@@ -224,8 +224,8 @@ record_at clock bytes = do
   ui ← name_at K.Port bytes
   actor ← name_at K.Actor ui.1
   capacity ← capacity_at actor.1
-  hop ← past_at clock capacity.1
-  first ← past_at clock hop.1
+  hop ← up_to_clock_at clock capacity.1
+  first ← up_to_clock_at clock hop.1
   pending ← pending_at capacity.0 first.1
   clients ← clients_at pending.1
   Ok (record { ui = ui.0; actor = actor.0; capacity = capacity.0; hop = hop.0; first = first.0; pending = pending.0; clients = clients.0 }, clients.1)
@@ -251,7 +251,7 @@ unfoldable pub try_at : ℕ → List ℕ → Result (Cargo × List ℕ) Fault
 try_at clock bytes = do
   route ← route_at bytes
   only ← only_at route.1
-  hop ← past_at clock only.1
+  hop ← up_to_clock_at clock only.1
   port ← name_at K.Port hop.1
   message ← message_at port.1
   Ok (Try message.0 port.0 route.0 only.0 hop.0, message.1)

@@ -4,7 +4,7 @@ ghost use Rattle.std.specs.Prelude.{◌≡◌, ◌++◌, OnOk, OnErr, IsTrue, Ok
 ghost use Rattle.chorus_entry.specs.Ranges.{has_ranges};
 ghost use Rattle.chorus_frame.specs.Reading.{packet_of};
 ghost use Rattle.chorus_frame.specs.Spelling.{frame};
-ghost use Rattle.chorus_frame.specs.Widths.{IsHeld};
+ghost use Rattle.chorus_frame.specs.Held.{IsHeld};
 
 mod cargo;
 mod message;

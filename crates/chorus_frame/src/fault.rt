@@ -1,10 +1,13 @@
 //! Why bytes are no frame.
 
+ghost use Rattle.std.specs.Prelude.{◌≡◌};
+ghost use Rattle.chorus_frame.specs.declared.fault.DecodeFault.TheVariants.{Memory};
+
 use std::alloc::AllocError;
 use thiserror::Error;
 
 /// Why no packet was decoded: the first field, from the front, that could not be read.
-#[derive(Debug, Drop, Error)]
+#[derive(Clone, Copy, Debug, PartialEq, Eq, Error)]
 pub enum DecodeFault {
     /// The bytes end inside the field, or before it.
     #[error("the bytes end before the packet does")]
@@ -19,6 +22,14 @@ pub enum DecodeFault {
     #[error("bytes stand behind the packet")]
     Trailing,
     /// There was no memory for the packet.
-    #[error(transparent)]
-    Memory(#[from] AllocError),
+    #[error("out of memory")]
+    Memory(AllocError),
+}
+
+impl From<AllocError> for DecodeFault {
+    ghost from_gives = { λ x e. e ≡ Memory x };
+
+    fn from(error: AllocError) -> Self {
+        DecodeFault::Memory(error)
+    }
 }

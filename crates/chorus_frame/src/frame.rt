@@ -1,7 +1,8 @@
 //! Packets kept as their bytes.
 
-ghost use Rattle.std.specs.Prelude.{◌≡◌, IfOk, IsTrue};
+ghost use Rattle.std.specs.Prelude.{◌≡◌, IfOk, IsTrue, Ok};
 ghost use Rattle.chorus_entry.specs.Ranges.{has_ranges};
+ghost use Rattle.chorus_frame.specs.Reading.{packet_of};
 ghost use Rattle.chorus_frame.specs.Spelling.{frame};
 
 use crate::decoding::decode;
@@ -43,7 +44,8 @@ impl Frame {
 
     /// The packet.
     pub fn unpack(&self) -> Result<Packet, AllocError>
-        ensures { IfOk result (λ packet. packet ≡ self.now) }
+        ensures packet { IfOk result (λ packet. packet ≡ self.now) }
+        ensures ranges { IfOk result (λ packet. IsTrue (has_ranges packet)) }
     {
         match decode(*self.bytes.allocator(), &self.bytes) {
             Ok(packet) => Ok(packet),
@@ -56,6 +58,7 @@ impl Frame {
     pub fn bytes(&self) -> &[u8]
         ensures frame { result.now ≡ frame self.now }
         ensures ranges { IsTrue (has_ranges self.now) }
+        ensures read { packet_of result.now ≡ Ok self.now }
     {
         self.bytes.as_slice()
     }

@@ -20,44 +20,56 @@ fn begin(kind: u8) -> &'static str {
     }
 }
 
-/// Damaged ends of such frames, and the number of the fault.
-fn damage(at: u8) -> Option<(u8, &'static str, u8)> {
+/// Damaged ends of such frames, and the fault.
+fn damage(at: u8) -> Option<(u8, &'static str, DecodeFault)> {
     Some(match at {
         // A kind, tag, mode or code that may not stand there.
-        0 => (2, "ff", 2),
-        1 => (5, "03 0001 0000000000000001", 2),
-        2 => (2, "09", 2),
-        3 => (2, "0a 0001", 2),
-        4 => (4, "04", 2),
-        5 => (4, "02 0002030000000001 0000 00000003 00000007 0000 03", 2),
+        0 => (2, "ff", DecodeFault::Kind),
+        1 => (5, "03 0001 0000000000000001", DecodeFault::Kind),
+        2 => (2, "09", DecodeFault::Kind),
+        3 => (2, "0a 0001", DecodeFault::Kind),
+        4 => (4, "04", DecodeFault::Kind),
+        5 => (
+            4,
+            "02 0002030000000001 0000 00000003 00000007 0000 03",
+            DecodeFault::Kind,
+        ),
         // Out of range: a position, how many were chosen, a place, a port as route, site 17, a hop.
-        6 => (5, "01 0000000000000006", 3),
-        7 => (5, "0a 0021", 3),
-        8 => (2, "08 0041", 3),
-        9 => (1, "0001020000000001", 3),
-        10 => (1, "0000000000000000 0011", 3),
-        11 => (1, "0000000000000000 0010 000000000000000a", 3),
+        6 => (5, "01 0000000000000006", DecodeFault::Range),
+        7 => (5, "0a 0021", DecodeFault::Range),
+        8 => (2, "08 0041", DecodeFault::Range),
+        9 => (1, "0001020000000001", DecodeFault::Range),
+        10 => (1, "0000000000000000 0011", DecodeFault::Range),
+        11 => (
+            1,
+            "0000000000000000 0010 000000000000000a",
+            DecodeFault::Range,
+        ),
         // An id's number 0 though its copy is cut off; a body's length above 4,096, and one of 4,096 with a byte there.
-        12 => (4, "02 0002030000000001 0000 00000003 00000000", 3),
+        12 => (
+            4,
+            "02 0002030000000001 0000 00000003 00000000",
+            DecodeFault::Range,
+        ),
         13 => (
             4,
             "02 0002030000000001 0000 00000003 00000007 0000 00 1001",
-            3,
+            DecodeFault::Range,
         ),
         14 => (
             4,
             "02 0002030000000001 0000 00000003 00000007 0000 00 1000 68",
-            1,
+            DecodeFault::Short,
         ),
         // A site with mode 1, and none with mode 3.
-        15 => (4, "01 0002030000000001 0001", 3),
-        16 => (4, "03 0002030000000001 0000", 3),
+        15 => (4, "01 0002030000000001 0001", DecodeFault::Range),
+        16 => (4, "03 0002030000000001 0000", DecodeFault::Range),
         // A client's number 0, a client that is there already, also with its number cut off, and a byte too many.
-        17 => (3, "00000000 00000000", 3),
-        18 => (3, "00000005 00000002", 3),
-        19 => (3, "00000005", 3),
-        20 => (3, "00000000 00000007 00", 4),
-        21 => (5, "", 1),
+        17 => (3, "00000000 00000000", DecodeFault::Range),
+        18 => (3, "00000005 00000002", DecodeFault::Range),
+        19 => (3, "00000005", DecodeFault::Range),
+        20 => (3, "00000000 00000007 00", DecodeFault::Trailing),
+        21 => (5, "", DecodeFault::Short),
         _ => return None,
     })
 }
@@ -119,22 +131,19 @@ fn bytes_of(alloc: Global, kind: u8, end: &str) -> Result<Vec<u8>, AllocError> {
     Ok(bytes)
 }
 
-/// The number of the fault, and 0 for a packet.
-fn fault_of(alloc: Global, bytes: &[u8]) -> u8 {
-    match decode(alloc, bytes) {
-        Ok(_) => 0,
-        Err(DecodeFault::Short) => 1,
-        Err(DecodeFault::Kind) => 2,
-        Err(DecodeFault::Range) => 3,
-        Err(DecodeFault::Trailing) => 4,
-        Err(DecodeFault::Memory(_)) => 5,
-    }
+/// Why these bytes are no packet, where they are none.
+fn fault_of(alloc: Global, bytes: &[u8]) -> Option<DecodeFault> {
+    decode(alloc, bytes).err()
 }
 
 /// The packet of a frame. Each proper prefix of the frame is short, and the packet put into a frame has these bytes again.
 fn packet_in(rt: &impl Abort, alloc: Global, bytes: &[u8]) -> Result<Packet, Fail> {
     for len in 0..bytes.len() {
-        assert_eq!(rt; fault_of(alloc, &bytes[..len]), 1, "the first {len} bytes");
+        assert_eq!(rt;
+            fault_of(alloc, &bytes[..len]),
+            Some(DecodeFault::Short),
+            "the first {len} bytes"
+        );
     }
     let packet = decode(alloc, bytes)?;
     let frame = Frame::of(alloc, &packet)?;
@@ -165,11 +174,13 @@ fn report_frame_bytes(rt: HostRuntime) -> Result<(), Fail> {
     assert_eq!(rt; bytes.len(), 22);
     let packet = packet_in(&rt, alloc, &bytes)?;
     assert_eq!(rt; (packet.clock, packet.from), (5, 1));
-    assert_eq!(rt; fault_of(alloc, &bytes_of(alloc, 5, "ff")?), 2, "Kind");
+    assert_eq!(rt;
+        fault_of(alloc, &bytes_of(alloc, 5, "ff")?),
+        Some(DecodeFault::Kind)
+    );
     assert_eq!(rt;
         fault_of(alloc, &bytes_of(alloc, 5, "09 00")?),
-        4,
-        "Trailing"
+        Some(DecodeFault::Trailing)
     );
     Ok(())
 }
@@ -203,7 +214,7 @@ fn the_first_field_at_fault_is_named(rt: HostRuntime) -> Result<(), Fail> {
         if let Some((kind, end, fault)) = damage(at) {
             assert_eq!(rt;
                 fault_of(alloc, &bytes_of(alloc, kind, end)?),
-                fault,
+                Some(fault),
                 "{kind} {end}"
             );
         }

@@ -1,28 +1,12 @@
 //! Answers.
 
 ghost use Rattle.chorus_frame.specs.Calls.{Reads};
-ghost use Rattle.chorus_frame.specs.Reading.{place_at, accepted_at, full_at, located_at, stale_at, early_at, elsewhere_at, chosen_at, answer_of, answer_at, is_told_code, is_reported_code};
+ghost use Rattle.chorus_frame.specs.Reading.{accepted_at, full_at, located_at, stale_at, early_at, elsewhere_at, chosen_at, answer_of, answer_at, is_told_code, is_reported_code};
 
-use super::name::past_from;
+use super::name::{place_from, up_to_clock_from};
 use crate::fault::DecodeFault;
 use crate::reader::Reader;
 use chorus_entry::{Answer, MEMBERS_LIMIT, PENDING_LIMIT};
-use chorus_ui::MAX_SITES;
-
-/// How many places the largest layout has, whose sites have four places each.
-const MAX_PLACES: u16 = MAX_SITES * 4;
-
-/// The number of a place.
-#[tactic(auto, unfolding(crate::specs::Numbers::tested_at))]
-pub(super) fn place_from(reader: &mut Reader<'_>) -> Result<u16, DecodeFault>
-    ensures { Reads result reader.new (place_at reader.old) }
-{
-    let place = reader.u16()?;
-    if place == 0 || place > MAX_PLACES {
-        return Err(DecodeFault::Range);
-    }
-    Ok(place)
-}
 
 /// A place, and the hop by which a port went there.
 #[tactic(auto, unfolding(crate::specs::Reading::located_at))]
@@ -30,7 +14,7 @@ fn located_from(reader: &mut Reader<'_>, clock: u64) -> Result<(u16, u64), Decod
     ensures { Reads result reader.new (located_at clock reader.old) }
 {
     let to = place_from(reader)?;
-    let hop = past_from(reader, clock)?;
+    let hop = up_to_clock_from(reader, clock)?;
     Ok((to, hop))
 }
 
@@ -38,7 +22,7 @@ fn located_from(reader: &mut Reader<'_>, clock: u64) -> Result<(u16, u64), Decod
 fn accepted_from(reader: &mut Reader<'_>, clock: u64) -> Result<Answer, DecodeFault>
     ensures { Reads result reader.new (accepted_at clock reader.old) }
 {
-    let pos = past_from(reader, clock)?;
+    let pos = up_to_clock_from(reader, clock)?;
     Ok(Answer::Accepted { pos })
 }
 
@@ -65,7 +49,7 @@ fn stale_from(reader: &mut Reader<'_>, clock: u64) -> Result<Answer, DecodeFault
 fn early_from(reader: &mut Reader<'_>, clock: u64) -> Result<Answer, DecodeFault>
     ensures { Reads result reader.new (early_at clock reader.old) }
 {
-    let hop = past_from(reader, clock)?;
+    let hop = up_to_clock_from(reader, clock)?;
     Ok(Answer::Early { hop })
 }
 

@@ -3,9 +3,9 @@
 ghost use Rattle.chorus_frame.specs.Calls.{Reads};
 ghost use Rattle.chorus_frame.specs.Reading.{asked_at, try_at, verdict_at, transfer_at, ask_at, report_at, cargo_at, packet_at};
 
-use super::answer::{place_from, reported_from, told_from};
+use super::answer::{reported_from, told_from};
 use super::message::{id_from, message_from};
-use super::name::{name_from, only_from, past_from, route_from};
+use super::name::{name_from, only_from, place_from, route_from, up_to_clock_from};
 use super::record::record_from;
 use crate::fault::DecodeFault;
 use crate::reader::Reader;
@@ -38,7 +38,7 @@ fn try_from(alloc: Global, reader: &mut Reader<'_>, clock: u64) -> Result<Cargo,
 {
     let route = route_from(reader)?;
     let only = only_from(reader)?;
-    let hop = past_from(reader, clock)?;
+    let hop = up_to_clock_from(reader, clock)?;
     let port = name_from(reader, Kind::Port)?;
     let message = message_from(alloc, reader)?;
     Ok(Cargo::Try {

@@ -67,7 +67,7 @@ fn body_from(alloc: Global, reader: &mut Reader<'_>) -> Result<Body, DecodeFault
         return Err(DecodeFault::Range);
     }
     let bytes = reader.bytes(len)?;
-    Body::new(alloc, bytes).map_err(DecodeFault::Memory)
+    Ok(Body::new(alloc, bytes)?)
 }
 
 /// A message.

@@ -1,11 +1,11 @@
 //! Names and numbers within their ranges.
 
 ghost use Rattle.chorus_frame.specs.Calls.{Reads};
-ghost use Rattle.chorus_frame.specs.Reading.{name_at, route_at, only_at, positive_at, past_at};
+ghost use Rattle.chorus_frame.specs.Reading.{name_at, place_at, route_at, only_at, positive_at, up_to_clock_at};
 
 use crate::fault::DecodeFault;
 use crate::reader::Reader;
-use chorus_ui::{Kind, MAX_SITES, Ui};
+use chorus_ui::{Kind, MAX_PLACES, MAX_SITES, Ui};
 
 /// A name of this kind.
 #[tactic(auto, unfolding(crate::specs::Reading::name_at))]
@@ -16,6 +16,18 @@ pub(super) fn name_from(reader: &mut Reader<'_>, kind: Kind) -> Result<Ui, Decod
         Some(ui) if ui.kind() == kind => Ok(ui),
         _ => Err(DecodeFault::Range),
     }
+}
+
+/// The number of a place.
+#[tactic(auto, unfolding(crate::specs::Numbers::tested_at))]
+pub(super) fn place_from(reader: &mut Reader<'_>) -> Result<u16, DecodeFault>
+    ensures { Reads result reader.new (place_at reader.old) }
+{
+    let place = reader.u16()?;
+    if place == 0 || place > MAX_PLACES {
+        return Err(DecodeFault::Range);
+    }
+    Ok(place)
 }
 
 /// The group that a message went through, or 0 where there is none.
@@ -58,8 +70,8 @@ pub(super) fn positive_from(reader: &mut Reader<'_>) -> Result<u32, DecodeFault>
 
 /// A hop or a position, which is at most the clock of its packet.
 #[tactic(auto, unfolding(crate::specs::Numbers::tested_at))]
-pub(super) fn past_from(reader: &mut Reader<'_>, clock: u64) -> Result<u64, DecodeFault>
-    ensures { Reads result reader.new (past_at clock reader.old) }
+pub(super) fn up_to_clock_from(reader: &mut Reader<'_>, clock: u64) -> Result<u64, DecodeFault>
+    ensures { Reads result reader.new (up_to_clock_at clock reader.old) }
 {
     let number = reader.u64()?;
     if number > clock {

@@ -1,12 +1,12 @@
 //! The record of a port.
 
-ghost use Rattle.std.specs.Prelude.{◌≡◌, ◌≤◌, ◌+◌, [], length, IfOk, IsNone, MatchResult, Ok};
+ghost use Rattle.std.specs.Prelude.{◌≡◌, ◌≤◌, ◌+◌, [], length, IfOk, IsNone};
 ghost use Rattle.chorus_entry.specs.ClientTable.{number_of};
-ghost use Rattle.chorus_frame.specs.Calls.{Reads, Fails};
+ghost use Rattle.chorus_frame.specs.Calls.{Reads, Fills};
 ghost use Rattle.chorus_frame.specs.Reading.{capacity_at, messages_at, pending_at, client_at, entries_at, clients_at, record_at};
 
 use super::message::message_from;
-use super::name::{name_from, past_from, positive_from};
+use super::name::{name_from, positive_from, up_to_clock_from};
 use crate::fault::DecodeFault;
 use crate::reader::Reader;
 use chorus_entry::{CLIENTS_LIMIT, ClientTable, PENDING_LIMIT, Pending, PortRecord};
@@ -35,7 +35,7 @@ fn messages_from(
     pending: &mut Pending,
 ) -> Result<(), DecodeFault>
     requires { length pending.old + count ≤ PENDING_LIMIT }
-    ensures { MatchResult result (λ _. messages_at pending.old count reader.old ≡ Ok (pending.new, reader.new)) (λ fault. Fails fault (messages_at pending.old count reader.old)) }
+    ensures { Fills result pending.new reader.new (messages_at pending.old count reader.old) }
 {
     for _ in 0..count {
         let message = message_from(alloc, reader)?;
@@ -54,7 +54,7 @@ fn pending_from(
 ) -> Result<(), DecodeFault>
     requires empty { pending.old ≡ [] }
     requires most { capacity ≤ PENDING_LIMIT }
-    ensures { MatchResult result (λ _. pending_at capacity reader.old ≡ Ok (pending.new, reader.new)) (λ fault. Fails fault (pending_at capacity reader.old)) }
+    ensures { Fills result pending.new reader.new (pending_at capacity reader.old) }
 {
     let count = reader.u8()?;
     if count > capacity {
@@ -84,7 +84,7 @@ fn entries_from(
     clients: &mut ClientTable,
 ) -> Result<(), DecodeFault>
     requires { length clients.old + count ≤ CLIENTS_LIMIT }
-    ensures { MatchResult result (λ _. entries_at clients.old count reader.old ≡ Ok (clients.new, reader.new)) (λ fault. Fails fault (entries_at clients.old count reader.old)) }
+    ensures { Fills result clients.new reader.new (entries_at clients.old count reader.old) }
 {
     for _ in 0..count {
         let (client, number) = client_from(reader, clients)?;
@@ -97,7 +97,7 @@ fn entries_from(
 #[tactic(auto, unfolding(crate::specs::Reading::clients_at, crate::specs::Numbers::tested_at))]
 fn clients_from(reader: &mut Reader<'_>, clients: &mut ClientTable) -> Result<(), DecodeFault>
     requires { clients.old ≡ [] }
-    ensures { MatchResult result (λ _. clients_at reader.old ≡ Ok (clients.new, reader.new)) (λ fault. Fails fault (clients_at reader.old)) }
+    ensures { Fills result clients.new reader.new (clients_at reader.old) }
 {
     let count = reader.u8()?;
     if usize::from(count) > CLIENTS_LIMIT {
@@ -118,9 +118,9 @@ pub(super) fn record_from(
     let ui = name_from(reader, Kind::Port)?;
     let actor = name_from(reader, Kind::Actor)?;
     let capacity = capacity_from(reader)?;
-    let hop = past_from(reader, clock)?;
-    let first = past_from(reader, clock)?;
-    let mut port = PortRecord::with_room(alloc, ui, actor, capacity).map_err(DecodeFault::Memory)?;
+    let hop = up_to_clock_from(reader, clock)?;
+    let first = up_to_clock_from(reader, clock)?;
+    let mut port = PortRecord::with_room(alloc, ui, actor, capacity)?;
     port.hop = hop;
     port.first = first;
     pending_from(alloc, reader, capacity, &mut port.pending)?;

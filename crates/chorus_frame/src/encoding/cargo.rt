@@ -4,7 +4,7 @@ ghost use Rattle.std.specs.Prelude.{◌≡◌, ◌++◌, OnOk, OnErr, length, ta
 ghost use Rattle.std.specs.List.{AllByRecursion};
 ghost use Rattle.chorus_frame.specs.Spelling.{client_fields, pending_fields, clients_fields, record_fields, asked_fields, cargo_fields, kind_of, frame};
 ghost use Rattle.chorus_frame.specs.Numbers.{number};
-ghost use Rattle.chorus_frame.specs.Widths.{IsHeldMessage, IsHeldClient, IsHeldRecord, IsHeldDest, IsHeldCargo, IsHeld};
+ghost use Rattle.chorus_frame.specs.Held.{IsHeldMessage, IsHeldClient, IsHeldRecord, IsHeldDest, IsHeldCargo, IsHeld};
 
 use super::message::{push_answer, push_id, push_message};
 use super::number::{push_name, push_only, push_route, push_u8, push_u16, push_u32, push_u64};

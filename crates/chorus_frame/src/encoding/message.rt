@@ -3,7 +3,7 @@
 ghost use Rattle.std.specs.Prelude.{◌≡◌, ◌++◌, OnOk, OnErr, length, take};
 ghost use Rattle.chorus_frame.specs.Numbers.{number};
 ghost use Rattle.chorus_frame.specs.Spelling.{id_fields, tag_fields, body_fields, message_fields, answer_fields, located_fields};
-ghost use Rattle.chorus_frame.specs.Widths.{IsHeldId, IsHeldTag, IsHeldMessage};
+ghost use Rattle.chorus_frame.specs.Held.{IsHeldId, IsHeldTag, IsHeldMessage};
 
 use super::number::{push_name, push_u8, push_u16, push_u32, push_u64};
 use chorus_entry::{Answer, Body, Message, MsgId, Tag};

@@ -4,7 +4,7 @@ ghost use Rattle.std.specs.Prelude.{◌≡◌, ◌<◌, ◌^◌, ◌++◌, OnOk,
 ghost use Rattle.chorus_ui.specs.Name.{IsName};
 ghost use Rattle.chorus_frame.specs.Numbers.{number};
 ghost use Rattle.chorus_frame.specs.Spelling.{name_field, route_field, only_field};
-ghost use Rattle.chorus_frame.specs.Widths.{IsCount, IsHeldRoute};
+ghost use Rattle.chorus_frame.specs.Held.{IsCount, IsHeldRoute};
 
 use byteorder::{BigEndian, ByteOrder};
 use chorus_ui::Ui;

@@ -2,7 +2,7 @@ use Rattle.std.proofs.Common.{◌≡◌, Some, sym, ◌∙◌, arith, length}
 use Rattle.std.specs.List.{slice_get}
 use Rattle.chorus_frame.specs.Numbers.{number}
 use Rattle.chorus_frame.specs.Spelling.{client_fields}
-use Rattle.chorus_frame.specs.Widths.{IsHeldClient}
+use Rattle.chorus_frame.specs.Held.{IsHeldClient}
 use Rattle.chorus_frame.proofs.Written.{kept_after, on_err, got_none, written_more, held_more}
 use Rattle.chorus_frame.proofs.encoding.cargo.push_clients.Goals as goal
 

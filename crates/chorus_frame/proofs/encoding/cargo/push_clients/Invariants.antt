@@ -2,7 +2,7 @@ use Rattle.std.proofs.Common.{◌≡◌, ◌++◌, length, take}
 use Rattle.std.specs.List.{flat_map, AllByRecursion}
 use Rattle.chorus_frame.specs.Numbers.{number}
 use Rattle.chorus_frame.specs.Spelling.{client_fields}
-use Rattle.chorus_frame.specs.Widths.{IsHeldClient}
+use Rattle.chorus_frame.specs.Held.{IsHeldClient}
 use Rattle.chorus_frame.proofs.encoding.cargo.push_clients.Given as goal
 
 abbrev pub invariant-loop-at : goal.invariant-loop-at

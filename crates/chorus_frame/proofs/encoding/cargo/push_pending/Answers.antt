@@ -3,7 +3,7 @@ use Rattle.std.specs.List.{slice_get}
 use Rattle.std.specs.Option.{option_copied}
 use Rattle.chorus_frame.specs.Numbers.{number}
 use Rattle.chorus_frame.specs.Spelling.{message_fields}
-use Rattle.chorus_frame.specs.Widths.{IsHeldMessage}
+use Rattle.chorus_frame.specs.Held.{IsHeldMessage}
 use Rattle.chorus_frame.proofs.Written.{kept_after, on_err, got_none, written_more, held_more}
 use Rattle.chorus_frame.proofs.encoding.cargo.push_pending.Goals as goal
 

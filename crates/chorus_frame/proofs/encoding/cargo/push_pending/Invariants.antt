@@ -2,7 +2,7 @@ use Rattle.std.proofs.Common.{◌≡◌, ◌++◌, length, take}
 use Rattle.std.specs.List.{flat_map, AllByRecursion}
 use Rattle.chorus_frame.specs.Numbers.{number}
 use Rattle.chorus_frame.specs.Spelling.{message_fields}
-use Rattle.chorus_frame.specs.Widths.{IsHeldMessage}
+use Rattle.chorus_frame.specs.Held.{IsHeldMessage}
 use Rattle.chorus_frame.proofs.encoding.cargo.push_pending.Given as goal
 
 abbrev pub invariant-loop-at : goal.invariant-loop-at
