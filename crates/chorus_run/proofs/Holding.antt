@@ -13,7 +13,6 @@ use Rattle.chorus_entry.specs.declared.command.Command.{Command}
 use Rattle.chorus_entry.specs.Kinds.{names_actor}
 use Rattle.chorus_world.specs.Views.{on}
 use Rattle.chorus_world.specs.Ports.{Fate, fate, is_held}
-use Rattle.chorus_world.specs.Fates.{fate_at}
 use Rattle.chorus_world.specs.Steps.{is_legal}
 use Rattle.chorus_world.specs.AcceptedLaws.{accepted_by, accepted_from}
 use Rattle.chorus_world.proofs.OnceLaws.{stands_once}
@@ -88,8 +87,6 @@ stands-alone l past port position x legal stands = by (fate (on port past)) refl
         record {
           state = f;
           made = e;
-          what = fate_at position f;
-          is = refl;
           alone = λ other place s. stands_once l past other port place position x legal s stands;
         }
 

@@ -11,7 +11,6 @@ use Rattle.chorus_merge.specs.Merge.{merged}
 use Rattle.chorus_world.specs.Views.{on}
 use Rattle.chorus_world.specs.Places.{sent, unsettled}
 use Rattle.chorus_world.specs.Ports.{Fate, fate, is_held}
-use Rattle.chorus_world.specs.Fates.{MessageFate, fate_at}
 use Rattle.chorus_world.specs.Runs.{is_run}
 use Rattle.chorus_world.specs.Commands.{performs}
 use Rattle.chorus_world.specs.AcceptedLaws.{received, taken_by, accepted_by}
@@ -96,12 +95,10 @@ ReceivesInOrder closed =
     (newer past : List Entry) (port : Ui) → past_of closed ≡ newer ++ past →
     received (on port past) ≡ take (taken_by port past) (accepted_by port past)
 
--- a message that a port accepted at this position stands nowhere else, and this became of it there
+-- a message that a port accepted at this position stands at no other, of no port: so what became of it is its fate there
 pub record StandsAlone (past : List Entry) (port : Ui) (position : ℕ) (x : MsgId) : Type 0 where
   pub state : Fate
   pub made : fate (on port past) ≡ Some state
-  pub what : MessageFate
-  pub is : fate_at position state ≡ what
   pub alone : (other : Ui) (place : ℕ) → slice_get (accepted_by other past) place ≡ Some x → (other ≡ port) × (place ≡ position)
 
 -- at each moment of the merge each message that a port accepted stands alone
