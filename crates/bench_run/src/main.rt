@@ -1,7 +1,7 @@
 //! Commands per second of a replay, beside reading the same scenario alone.
 //!
 //! With no words it replays a short scenario and prints what came of it, which never varies. With the word `time` it replays
-//! one of 65,536 commands in 131,109 lines, and prints commands per second, the best of some rounds in which the two
+//! one of 65,536 commands in 131,108 lines, and prints commands per second, the best of some rounds in which the two
 //! measured things take turns.
 #![tactic(auto)]
 

@@ -20,7 +20,7 @@ placed port = record { place = 1; port = port }
 abbrev pub IsOfSites : Closed → Type 0
 IsOfSites closed = closed.origin ≡ Origin.Sites
 
--- the journal of the one place, no packet, and the ports of its table
+-- the journal of the one place, no packet, and the ports of its table, by closing sites
 pub record IsClosed (s : SitesState) (closed : Closed) : Type 0 where
   pub journals : journals_of closed ≡ reverse s.place.journal ∷ []
   pub rest : closed.rest.items ≡ []

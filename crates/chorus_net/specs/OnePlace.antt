@@ -58,7 +58,7 @@ abbrev pub record_of : Ui → List Entry → Option Fate → Option PortRecord
 record_of q past None = None
 record_of q past (Some f) = record_in q past f f.spot
 
--- the records of a table stand for the world of a past: that of each port that the world has held, and no other, each once
+-- the records of a table stand for the world of a past: that of each port that is held there, and no other, each once
 pub record StandsFor (past : List Entry) (ports : List PortRecord) : Type 0 where
   pub shown : (q : Ui) → find q ports ≡ record_of q past (fate (on q past))
   pub once : are_distinct ports ≡ true

@@ -29,7 +29,7 @@ pub(super) fn entry_in<R: Abort>(rt: &R, alloc: Global, line: &str) -> Entry {
     }
 }
 
-/// The post that the next words say.
+/// The post that the next words say. Its body is taken as it stands: no byte of it is escaped.
 fn post_in<R: Abort>(alloc: Global, words: &mut Words<'_, R>) -> Act {
     let id = words.read();
     let dest = dest_in(words);
