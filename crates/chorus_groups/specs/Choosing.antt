@@ -4,7 +4,7 @@ use Rattle.chorus_ui.specs.declared.ui.Ui.{Ui}
 use Rattle.chorus_entry.specs.declared.dest.Dest.{Dest}
 use Rattle.chorus_entry.specs.declared.dest.Dest.TheVariants.{Port, All, One, OneAt}
 use Rattle.chorus_entry.specs.Dest.{group_in}
-use Rattle.chorus_groups.specs.Ports.{index_of, wrapped, in_turn, first_of, listed}
+use Rattle.chorus_entry.specs.Members.{index_of, wrapped, round_from, first_of, listed}
 use Rattle.chorus_groups.specs.Groups.{Group, Table, members, rotation, with_change}
 
 -- a port with this newest site, which is 0 where it is located nowhere, is on the site s
@@ -29,9 +29,9 @@ members_for d t = members_of (group_in d) t
 abbrev pub choice : Table → Dest → List ℕ → List Ui
 choice t (Port q) located = []
 choice t (All g) located = members g t
-choice t (One g) located = listed (first_of (in_turn (rotation g t) (members g t)))
+choice t (One g) located = listed (first_of (round_from (rotation g t) (members g t)))
 choice t (OneAt g s) located =
-    listed (first_at s (in_turn (rotation g t) (members g t)) (in_turn (rotation g t) located))
+    listed (first_at s (round_from (rotation g t) (members g t)) (round_from (rotation g t) located))
 
 -- a choice of one member moves the rotation place behind it
 abbrev pub turned : List Ui → List Ui → ℕ → ℕ

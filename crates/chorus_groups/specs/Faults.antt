@@ -1,12 +1,12 @@
 -- When a port does not join or leave a group.
 use Rattle.std.specs.Prelude.{cond, nat_le, length, Option, Some, None, Result, Ok, Err}
 use Rattle.chorus_ui.specs.declared.ui.Ui.{Ui}
-use Rattle.chorus_entry.specs.declared.members.TheConstants.{MEMBERS_LIMIT}
+use Rattle.chorus_ui.specs.declared.limits.TheConstants.{MEMBERS_LIMIT}
 use Rattle.chorus_groups.specs.declared.fault.JoinFault as join
 use Rattle.chorus_groups.specs.declared.fault.JoinFault.TheVariants as join_fault
 use Rattle.chorus_groups.specs.declared.fault.LeaveFault as leave
 use Rattle.chorus_groups.specs.declared.fault.LeaveFault.TheVariants as leave_fault
-use Rattle.chorus_groups.specs.Ports.{is_member}
+use Rattle.chorus_entry.specs.Members.{is_member}
 use Rattle.chorus_groups.specs.Groups.{Group, Table, group_of, with_change, joined, left}
 
 -- done, unless there is a fault

@@ -2,8 +2,8 @@
 use Rattle.std.specs.Prelude.{ℕ, ◌+◌, ◌-◌, ◌≤◌, nat_lt, cond, List, [], ◌∷◌, ◌++◌, length, IsTrue, Option, Some, None}
 use Rattle.chorus_ui.specs.declared.ui.Ui.{Ui}
 use Rattle.chorus_ui.specs.Name.{same_ui}
-use Rattle.chorus_entry.specs.declared.members.TheConstants.{MEMBERS_LIMIT}
-use Rattle.chorus_groups.specs.Ports.{index_of, without, wrapped, are_distinct, IsPosition}
+use Rattle.chorus_ui.specs.declared.limits.TheConstants.{MEMBERS_LIMIT}
+use Rattle.chorus_entry.specs.Members.{index_of, without, wrapped, are_distinct, IsPosition}
 
 -- a group: its members in the order in which they joined, and the position of the one that is next in turn
 pub record Group : Type 0 where

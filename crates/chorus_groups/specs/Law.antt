@@ -3,7 +3,7 @@ use Rattle.std.specs.Prelude.{ℕ, zero, suc, ◌+◌, cond, List, [], ◌∷◌
 use Rattle.chorus_ui.specs.declared.ui.Ui.{Ui}
 use Rattle.chorus_ui.specs.Name.{same_ui}
 use Rattle.chorus_entry.specs.declared.dest.Dest.TheVariants.{One}
-use Rattle.chorus_groups.specs.Ports.{listed, wrapped}
+use Rattle.chorus_entry.specs.Members.{listed, wrapped}
 use Rattle.chorus_groups.specs.Groups.{Table}
 use Rattle.chorus_groups.specs.Choosing.{choice, after_choose}
 

@@ -2,8 +2,8 @@
 
 ghost use Rattle.std.specs.Prelude.{◌≡◌, ◌+◌, length, IfOk};
 ghost use Rattle.chorus_ui.specs.Name.{same_ui};
-ghost use Rattle.chorus_entry.specs.declared.members.TheConstants.{MEMBERS_LIMIT};
-ghost use Rattle.chorus_groups.specs.Ports.{first_of, in_turn};
+ghost use Rattle.chorus_ui.specs.declared.limits.TheConstants.{MEMBERS_LIMIT};
+ghost use Rattle.chorus_entry.specs.Members.{first_of, round_from};
 ghost use Rattle.chorus_groups.specs.Groups.{IsGroup, new_group, joined, left, turned_behind};
 ghost use Rattle.chorus_groups.specs.Faults.{unless, refuses_join, refuses_leave, after};
 ghost use Rattle.chorus_groups.specs.Choosing.{first_at};
@@ -25,7 +25,7 @@ pub(crate) struct Group {
 
 impl Model for Group {
     ghost use Rattle.std.specs.Prelude.{◌≡◌, length, vec_capacity};
-    ghost use Rattle.chorus_entry.specs.declared.members.TheConstants.{MEMBERS_LIMIT};
+    ghost use Rattle.chorus_ui.specs.declared.limits.TheConstants.{MEMBERS_LIMIT};
     ghost use Rattle.chorus_groups.specs.Groups.{Group, IsGroup};
 
     ghost Value = { Group };
@@ -95,7 +95,7 @@ impl Group {
     /// The member at the rotation place.
     #[tactic(auto, using(crate::proofs::PortLemmas::first_of_in_turn))]
     pub(crate) fn first(&self) -> Option<Ui>
-        ensures { result ≡ first_of (in_turn self.now.rotation self.now.members) }
+        ensures { result ≡ first_of (round_from self.now.rotation self.now.members) }
     {
         self.members.get(self.rotation).copied()
     }
@@ -104,7 +104,7 @@ impl Group {
     /// site of each.
     pub(crate) fn first_at(&self, site: u16, located: &[u16]) -> Option<Ui>
         requires { length located.now ≡ length self.now.members }
-        ensures { result ≡ first_at site (in_turn self.now.rotation self.now.members) (in_turn self.now.rotation located.now) }
+        ensures { result ≡ first_at site (round_from self.now.rotation self.now.members) (round_from self.now.rotation located.now) }
     {
         let at = self.rotation;
         let members = self.members.as_slice();

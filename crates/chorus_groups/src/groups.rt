@@ -3,8 +3,8 @@
 ghost use Rattle.std.specs.Prelude.{◌≡◌, ◌<◌, ◌≤◌, length, IfOk, OnOk, OnErr, IsSome, IsTrue, None, is_some};
 ghost use Rattle.std.specs.Option.{option_copied};
 ghost use Rattle.chorus_entry.specs.Dest.{group_in};
-ghost use Rattle.chorus_entry.specs.declared.members.TheConstants.{MEMBERS_LIMIT};
-ghost use Rattle.chorus_groups.specs.Ports.{are_distinct, first_of, in_turn, listed, IsPosition};
+ghost use Rattle.chorus_ui.specs.declared.limits.TheConstants.{MEMBERS_LIMIT};
+ghost use Rattle.chorus_entry.specs.Members.{are_distinct, first_of, round_from, listed, IsPosition};
 ghost use Rattle.chorus_groups.specs.Groups.{new_table, group_of, row_of, after_make, members, rotation, with_change};
 ghost use Rattle.chorus_groups.specs.Faults.{unless, join_fault_of, after_join, leave_fault_of, after_leave};
 ghost use Rattle.chorus_groups.specs.Choosing.{choice, turned_by, after_choose, first_at, members_for};
@@ -165,7 +165,7 @@ impl Groups {
 
     /// The member of the group at its rotation place.
     fn first(&self, group: Ui) -> Option<Ui>
-        ensures { result ≡ first_of (in_turn (rotation group self.now) (members group self.now)) }
+        ensures { result ≡ first_of (round_from (rotation group self.now) (members group self.now)) }
     {
         self.get(group)?.first()
     }
@@ -173,7 +173,7 @@ impl Groups {
     /// The first member of the group from its rotation place on, round the list, that is located on the site.
     fn first_at(&self, group: Ui, site: u16, located: &[u16]) -> Option<Ui>
         requires { length located.now ≡ length (members group self.now) }
-        ensures { result ≡ first_at site (in_turn (rotation group self.now) (members group self.now)) (in_turn (rotation group self.now) located.now) }
+        ensures { result ≡ first_at site (round_from (rotation group self.now) (members group self.now)) (round_from (rotation group self.now) located.now) }
     {
         self.get(group)?.first_at(site, located)
     }

@@ -1,7 +1,7 @@
 //! Lists of ports.
 
 ghost use Rattle.std.specs.Prelude.{◌≡◌, ◌-◌, ◌≤◌, nat_lt, cond, length};
-ghost use Rattle.chorus_groups.specs.Ports.{index_of, is_member, wrapped};
+ghost use Rattle.chorus_entry.specs.Members.{index_of, is_member, wrapped};
 ghost use Rattle.chorus_groups.specs.Choosing.{first_at};
 
 use chorus_ui::Ui;

@@ -2,7 +2,7 @@
 use Rattle.std.specs.Prelude.{ℕ, ◌+◌, ◌-◌, ◌*◌, nat_lt, Bool, ◌&&◌, if◌then◌else◌, Option, Some, None, List, slice_index_or}
 use Rattle.chorus_ui.specs.declared.kind.Kind.TheVariants.{Port}
 use Rattle.chorus_ui.specs.declared.layout.Layout.{Layout}
-use Rattle.chorus_ui.specs.declared.layout.TheConstants.{PORTS_PER_SITE}
+use Rattle.chorus_ui.specs.declared.limits.TheConstants.{PORTS_PER_SITE_LIMIT}
 use Rattle.chorus_ui.specs.declared.ui.Ui.{Ui}
 use Rattle.chorus_ui.specs.Kind.{same_kind}
 use Rattle.chorus_ui.specs.Layout.{can_make_port, creation_place}
@@ -19,7 +19,7 @@ is_listed layout q = same_kind q.kind Port && can_make_port layout q
 
 -- where its pair stands, counted from 0
 abbrev pub row_of : Ui → ℕ
-row_of q = (q.site - 1) * PORTS_PER_SITE + (q.number - 1)
+row_of q = (q.site - 1) * PORTS_PER_SITE_LIMIT + (q.number - 1)
 
 -- the pair that is kept of a port
 abbrev pub kept : Known → Ui → Option (ℕ × ℕ)

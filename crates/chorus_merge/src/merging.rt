@@ -1,7 +1,7 @@
 //! The merge, by halves of the list of journals.
 
 ghost use Rattle.std.specs.Prelude.{◌≡◌, IfOk};
-ghost use Rattle.chorus_merge.specs.Order.{comes_before};
+ghost use Rattle.chorus_entry.specs.Order.{comes_before};
 ghost use Rattle.chorus_merge.specs.Merge.{merged};
 ghost use Rattle.chorus_merge.specs.Steps.{journals_of, lent, merge_two};
 
