@@ -6,7 +6,7 @@ ghost use Rattle.chorus_ui.specs.declared.limits.TheConstants.{MEMBERS_LIMIT};
 ghost use Rattle.chorus_entry.specs.Members.{first_of, round_from};
 ghost use Rattle.chorus_groups.specs.Groups.{IsGroup, new_group, joined, left, turned_behind};
 ghost use Rattle.chorus_groups.specs.Faults.{unless, refuses_join, refuses_leave, after};
-ghost use Rattle.chorus_groups.specs.Choosing.{first_at};
+ghost use Rattle.chorus_groups.specs.Choosing.{first_round};
 
 use crate::fault::{JoinFault, LeaveFault};
 use crate::ports::{first_at, index_of, is_member, moved_back, wrapped};
@@ -32,7 +32,9 @@ impl Model for Group {
 
     ghost view = { λ g. record { ui = g.ui; members = g.members.items; rotation = g.rotation } };
 
-    ghost invariant = { λ g. (vec_capacity g.members ≡ MEMBERS_LIMIT) × IsGroup (record { ui = g.ui; members = g.members.items; rotation = g.rotation }) };
+    ghost invariant = { λ g.
+        let group : Group = record { ui = g.ui; members = g.members.items; rotation = g.rotation } in
+        (vec_capacity g.members ≡ MEMBERS_LIMIT) × IsGroup group };
 }
 
 impl Group {
@@ -104,7 +106,7 @@ impl Group {
     /// site of each.
     pub(crate) fn first_at(&self, site: u16, located: &[u16]) -> Option<Ui>
         requires { length located.now ≡ length self.now.members }
-        ensures { result ≡ first_at site (round_from self.now.rotation self.now.members) (round_from self.now.rotation located.now) }
+        ensures { result ≡ first_round self.now.rotation site self.now.members located.now }
     {
         let at = self.rotation;
         let members = self.members.as_slice();
