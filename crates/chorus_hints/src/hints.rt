@@ -27,7 +27,8 @@ impl Model for Hints {
 
     ghost view = { λ hints. record { layout = hints.layout; pairs = hints.pairs.items } };
 
-    ghost invariant = { λ hints. length hints.pairs.items ≡ hints.layout.sites * PORTS_PER_SITE_LIMIT };
+    ghost invariant = { λ hints.
+        length hints.pairs.items ≡ hints.layout.sites * PORTS_PER_SITE_LIMIT };
 }
 
 /// Where the pair of a port stands, counted from 0.

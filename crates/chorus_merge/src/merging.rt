@@ -57,7 +57,8 @@ fn merge_two<'a>(
     first: &[&'a Entry],
     second: &[&'a Entry],
 ) -> Result<Vec<&'a Entry>, AllocError>
-    ensures { IfOk result (λ entries. lent entries.items ≡ merge_two (lent first.now) (lent second.now)) }
+    ensures { IfOk result (λ entries.
+        lent entries.items ≡ merge_two (lent first.now) (lent second.now)) }
 {
     let mut entries = Vec::with_capacity(alloc, first.len() + second.len())?;
     let mut i = 0;

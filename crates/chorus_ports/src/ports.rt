@@ -34,9 +34,13 @@ impl Model for Ports {
 
     ghost Value = { Table };
 
-    ghost view = { λ ports. record { records = ports.records.items; spare = ports.most - length ports.records.items } };
+    ghost view = { λ ports. record {
+      records = ports.records.items;
+      spare = ports.most - length ports.records.items;
+    } };
 
-    ghost invariant = { λ ports. IsTable ports.records.items ports.most (vec_capacity ports.records) };
+    ghost invariant = { λ ports.
+        IsTable ports.records.items ports.most (vec_capacity ports.records) };
 }
 
 impl Ports {
