@@ -33,11 +33,15 @@ newest_of layout q (Some pair) = pair
 abbrev pub newest : Known → Ui → ℕ × ℕ
 newest known q = newest_of known.layout q (kept known q)
 
+-- the pair that is kept of each port
+abbrev pub Pairs : Type 0
+Pairs = Ui → Option (ℕ × ℕ)
+
 -- the hop of the kept pair, and 0 where nothing is kept
 abbrev pub hop_of : Option (ℕ × ℕ) → ℕ
 hop_of None = 0
 hop_of (Some pair) = pair.1
 
 -- a greater hop is kept, with its place, in place of the pair that was, and the pairs of the other ports stay
-abbrev pub learned : Ui → ℕ → ℕ → (Ui → Option (ℕ × ℕ)) → Ui → Option (ℕ × ℕ)
+abbrev pub learned : Ui → ℕ → ℕ → Pairs → Pairs
 learned port place hop pairs q = if nat_lt (hop_of (pairs port)) hop && same_ui port q then Some (place, hop) else pairs q
