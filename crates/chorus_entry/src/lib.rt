@@ -1,10 +1,11 @@
 //! What is said on every layer of chorus: messages, commands, the entries of a journal, the record of a port and the
 //! packets between places.
 //!
-//! The layers above rest on these types and on the words of `specs/`: what an act is (a command's own entry, a
-//! decision, a verdict), the answer that it gives, and the message, port and group that it names, each case by case.
-//! A record keeps its room wherever it goes, so that what a port does after it is made takes no memory. The texts,
-//! bytes and rules that go with the types stand in the layers above.
+//! The layers above rest on these types and on the words of `specs/`: the role of each act (`Act.antt`), and by it whether
+//! it answers a command, decides or settles, the answer that it gives, and the message, port and group that it names; the
+//! order of entries (`Order`), lists of members (`Members`), the clients that a port remembers (`Clients`), and the
+//! conditions of commands (`Command`). A record keeps its room wherever it goes, so that what a port does after it is made
+//! takes no memory. The texts, bytes and rules that go with the types stand in the layers above.
 //!
 //! Begin with `act`: the forty kinds of events. `entry` adds when, where and by whom.
 #![tactic(auto)]

@@ -30,7 +30,7 @@ fn merge_all<'a>(alloc: Global, journals: &'a [Vec<Entry>]) -> Result<Vec<&'a En
 {
     match journals {
         [] => Ok(Vec::new(alloc)),
-        [journal] => borrowed(alloc, journal),
+        [journal] => borrow_all(alloc, journal),
         _ => {
             let (front, back) = journals.split_at(journals.len() / 2);
             let front = merge_all(alloc, front)?;
@@ -40,7 +40,7 @@ fn merge_all<'a>(alloc: Global, journals: &'a [Vec<Entry>]) -> Result<Vec<&'a En
     }
 }
 
-fn borrowed(alloc: Global, journal: &[Entry]) -> Result<Vec<&Entry>, AllocError>
+fn borrow_all(alloc: Global, journal: &[Entry]) -> Result<Vec<&Entry>, AllocError>
     ensures { IfOk result (λ entries. lent entries.items ≡ journal.now) }
 {
     let mut entries = Vec::with_capacity(alloc, journal.len())?;

@@ -8,10 +8,10 @@ use Rattle.chorus_merge.proofs.merging.+merge_all.Goals as goal
 
 pub returns-in-len1 : goal.returns-in-len1
 returns-in-len1 t c =
-    let P : List Entry → Type 0 = λ ws. IfOk c.borrowed.result (λ entries. lent entries.items ≡ ws) in
+    let P : List Entry → Type 0 = λ ws. IfOk c.borrow_all.result (λ entries. lent entries.items ≡ ws) in
     subst P
     (c.deref.ensures.value ∙ merged_single c.args.journals.now c.journal-item.result (omega arith) (omega arith) c.journal-item.is)
-    c.borrowed.ensures
+    c.borrow_all.ensures
 
 pub returns-in_ok-back-in_default : goal.returns-in_ok-back-in_default
 returns-in_ok-back-in_default t c =

@@ -1,6 +1,6 @@
 use Rattle.std.proofs.Common.{◌≡◌, take}
 use Rattle.chorus_merge.specs.Steps.{lent}
-use Rattle.chorus_merge.proofs.merging.borrowed.Given as goal
+use Rattle.chorus_merge.proofs.merging.borrow_all.Given as goal
 
 abbrev pub invariant-loop-entry : goal.invariant-loop-entry
 invariant-loop-entry l = lent l.entries.items ≡ take l.entry-index l.journal
