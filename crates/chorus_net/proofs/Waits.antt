@@ -20,7 +20,7 @@ use Rattle.chorus_world.specs.Messages.{progress}
 use Rattle.chorus_world.specs.Posts.{Posted, post_of}
 use Rattle.chorus_world.specs.Places.{sent, find_sent, settles, is_settled, unsettled, first_for, is_first_as, is_first}
 use Rattle.chorus_world.specs.Seats.{posts, posts_after}
-use Rattle.chorus_world.proofs.SentLemmas.{find_sent_append}
+use Rattle.chorus_world.proofs.Messages.SentLemmas.{find_sent_append}
 use Rattle.chorus_net.proofs.Core.{entry, Calm, Fresh, fresh-settled, fresh-unposted, post_of-more}
 
 abbrev pub new_sent : MsgId → Ui → Sent

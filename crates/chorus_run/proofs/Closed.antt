@@ -12,7 +12,7 @@ use Rattle.chorus_merge.proofs.Folds.{merged_one}
 use Rattle.chorus_world.specs.Steps.{may, is_legal}
 use Rattle.chorus_world.specs.Runs.{is_run, may_run}
 use Rattle.chorus_world.specs.Commands.{performs}
-use Rattle.chorus_world.proofs.PortLaws.{receives_in_order}
+use Rattle.chorus_world.proofs.Ports.PortLaws.{receives_in_order}
 use Rattle.chorus_net.specs.declared.closed.Closed.{Closed}
 use Rattle.chorus_net.specs.Closing.{journals_of}
 use Rattle.chorus_net.specs.Sites.{actor_of, commands_of}

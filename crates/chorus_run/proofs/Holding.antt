@@ -15,7 +15,7 @@ use Rattle.chorus_world.specs.Views.{on}
 use Rattle.chorus_world.specs.Ports.{Fate, fate, is_held}
 use Rattle.chorus_world.specs.Steps.{is_legal}
 use Rattle.chorus_world.specs.AcceptedLaws.{accepted_by, accepted_from}
-use Rattle.chorus_world.proofs.OnceLaws.{stands_once}
+use Rattle.chorus_world.proofs.Messages.OnceLaws.{stands_once}
 use Rattle.chorus_calls.specs.Callers.{Seated}
 use Rattle.chorus_place.specs.State.{Turn}
 use Rattle.chorus_place.specs.Machine.{call}

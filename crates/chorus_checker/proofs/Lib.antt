@@ -1,0 +1,4 @@
+pub mod PortLemmas
+pub mod SeatLemmas
+pub mod StepLemmas
+pub mod TableLemmas
