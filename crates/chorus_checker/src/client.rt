@@ -1,7 +1,7 @@
 //! What a port keeps of the requests that it accepted.
 
-ghost use Rattle.std.specs.Prelude.{◌≡◌, ◌+◌, ◌^◌, ◌<◌, ◌≤◌, Some, reverse};
-ghost use Rattle.chorus_world.specs.Clients.{kept_with, kept_after, kept, clients_with, clients_after, clients, is_old, is_one_too_many, is_already, finds_clients_full};
+ghost use Rattle.std.specs.Prelude.{◌≡◌, ◌+◌, ◌^◌, ◌<◌, ◌≤◌, reverse};
+ghost use Rattle.chorus_world.specs.Clients.{kept_with, kept_after, kept, clients_with, clients, is_already, finds_clients_full};
 ghost use Rattle.chorus_world.specs.Views.{on};
 
 use crate::post::tag_of;
@@ -56,7 +56,7 @@ fn clients_with(kept: u32, tag: Tag, clients: usize) -> usize
 
 /// How many clients the port keeps something of.
 fn clients(entries: &[Entry], port: Ui) -> usize
-    ensures { result ≡ clients (reverse entries.now) (on port (reverse entries.now)) }
+    ensures { result ≡ clients (reverse entries.now) (line port entries.now) }
 {
     let mut clients = 0;
     for (i, entry) in entries.iter().enumerate() {
@@ -72,7 +72,7 @@ fn clients(entries: &[Entry], port: Ui) -> usize
 
 /// Whether the message is a request that the port accepted before, or one before such a one.
 pub(crate) fn is_already(entries: &[Entry], port: Ui, id: MsgId) -> bool
-    ensures { result ≡ is_already id (reverse entries.now) (on port (reverse entries.now)) }
+    ensures { result ≡ is_already id (reverse entries.now) (line port entries.now) }
 {
     match tag_of(entries, id) {
         Tag::Request { number, .. } => number <= kept(entries, entries, port, id.seat),
@@ -82,7 +82,7 @@ pub(crate) fn is_already(entries: &[Entry], port: Ui, id: MsgId) -> bool
 
 /// Whether the message is a request of a client that the port keeps nothing of, while it keeps 64 others.
 pub(crate) fn finds_clients_full(entries: &[Entry], port: Ui, id: MsgId) -> bool
-    ensures { result ≡ finds_clients_full id (reverse entries.now) (on port (reverse entries.now)) }
+    ensures { result ≡ finds_clients_full id (reverse entries.now) (line port entries.now) }
 {
     match tag_of(entries, id) {
         Tag::Request { .. } => {

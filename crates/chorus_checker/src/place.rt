@@ -2,9 +2,9 @@
 //! and the reply that was just taken there.
 
 ghost use Rattle.std.specs.Prelude.{◌≡◌, ◌+◌, ◌<◌, ◌≤◌, ◌∷◌, [], reverse, length};
-ghost use Rattle.chorus_entry.specs.Answer.{is_final};
 ghost use Rattle.chorus_world.specs.Views.{at};
-ghost use Rattle.chorus_world.specs.Places.{last_clock, ports_made, copies, sent_by, sent, find_sent, is_settling, settles, is_settled, unsettled, same_route, first_for, tried_after, is_tried, is_first, taught, is_sent_to, learned, farther, named_location, located, reply_taken_by, just_taken};
+ghost use Rattle.chorus_world.specs.Places.{last_clock, ports_made, copies, sent_by, sent, find_sent, is_settling, is_settled, same_route, tried_after, is_tried, is_first, taught, is_sent_to, learned, farther, named_location, located, reply_taken_by, just_taken};
+ghost use Rattle.chorus_checker.specs.Computing.{first_copy, first_sent, first_to, here, lesson};
 
 use crate::post::tag_of;
 use crate::view::{is_about, is_verdict};
@@ -14,7 +14,7 @@ use chorus_world::{Location, Sent, TakenReply};
 
 /// The clock of the last entry, or 0.
 pub(crate) fn last_clock(entries: &[Entry], place: u16) -> u64
-    ensures { result ≡ last_clock (at place (reverse entries.now)) }
+    ensures { result ≡ last_clock (here place entries.now) }
 {
     let mut clock = 0;
     for entry in entries.iter() {
@@ -27,7 +27,7 @@ pub(crate) fn last_clock(entries: &[Entry], place: u16) -> u64
 
 /// How many ports were made.
 pub(crate) fn ports_made(entries: &[Entry], place: u16) -> usize
-    ensures value { result ≡ ports_made (at place (reverse entries.now)) }
+    ensures value { result ≡ ports_made (here place entries.now) }
     ensures few { result ≤ length entries.now }
 {
     let mut made = 0;
@@ -94,7 +94,7 @@ fn sent_as(act: &Act, id: MsgId) -> Option<Sent>
 
 /// The message of this id that was sent from the place.
 pub(crate) fn find_sent(entries: &[Entry], place: u16, id: MsgId) -> Option<Sent>
-    ensures { result ≡ find_sent id (sent (at place (reverse entries.now))) }
+    ensures { result ≡ find_sent id (sent (here place entries.now)) }
 {
     let mut found = None;
     for entry in entries.iter() {
@@ -117,7 +117,7 @@ fn is_settling(act: &Act) -> bool
 
 /// Whether the message is settled at the place.
 fn is_settled(entries: &[Entry], place: u16, id: MsgId) -> bool
-    ensures { result ≡ is_settled id (at place (reverse entries.now)) }
+    ensures { result ≡ is_settled id (here place entries.now) }
 {
     let mut settled = false;
     for entry in entries.iter() {
@@ -147,7 +147,7 @@ fn first_one(
     port: Ui,
     route: &Option<Ui>,
 ) -> Option<MsgId>
-    ensures { result ≡ first_for port route.now (unsettled (at place (reverse entries.now)) (sent.now ∷ [])) }
+    ensures { result ≡ first_to port route.now (here place entries.now) (sent.now ∷ []) }
 {
     if sent.port == port && same_route(&sent.route, route) && !is_settled(entries, place, sent.id) {
         Some(sent.id)
@@ -167,7 +167,7 @@ fn first_copy(
     route: &Option<Ui>,
 ) -> Option<MsgId>
     requires { length members.now ≤ MEMBERS_LIMIT }
-    ensures { result ≡ first_for port route.now (unsettled (at place (reverse entries.now)) (copies post group 1 members.now)) }
+    ensures { result ≡ first_copy port route.now (here place entries.now) post group members.now }
 {
     let mut found = None;
     for (i, member) in members.iter().enumerate() {
@@ -183,7 +183,7 @@ fn first_copy(
 
 /// The first message that the act sends to the port by the route and that is not settled at the place.
 fn first_by(entries: &[Entry], place: u16, act: &Act, port: Ui, route: &Option<Ui>) -> Option<MsgId>
-    ensures { result ≡ first_for port route.now (unsettled (at place (reverse entries.now)) (sent_by act.now)) }
+    ensures { result ≡ first_to port route.now (here place entries.now) (sent_by act.now) }
 {
     match act {
         Act::Post {
@@ -206,7 +206,7 @@ fn first_by(entries: &[Entry], place: u16, act: &Act, port: Ui, route: &Option<U
 
 /// The first message that was sent from the place to the port by the route and is not settled there.
 fn first_for(entries: &[Entry], place: u16, port: Ui, route: &Option<Ui>) -> Option<MsgId>
-    ensures { result ≡ first_for port route.now (unsettled (at place (reverse entries.now)) (sent (at place (reverse entries.now)))) }
+    ensures { result ≡ first_sent port route.now (here place entries.now) }
 {
     let mut found = None;
     for entry in entries.iter() {
@@ -230,7 +230,7 @@ fn tried_after(act: &Act, id: MsgId, tried: bool) -> bool
 
 /// Whether a try of the message stands at the place that was not told yet.
 fn is_tried(entries: &[Entry], place: u16, id: MsgId) -> bool
-    ensures { result ≡ is_tried id (at place (reverse entries.now)) }
+    ensures { result ≡ is_tried id (here place entries.now) }
 {
     let mut tried = false;
     for entry in entries.iter() {
@@ -244,7 +244,7 @@ fn is_tried(entries: &[Entry], place: u16, id: MsgId) -> bool
 /// Whether the message is the next to go from the place to the port: it was sent there, it is the first unsettled one of
 /// its port and route, and it is not under way.
 pub(crate) fn is_first(entries: &[Entry], place: u16, id: MsgId, port: Ui) -> bool
-    ensures { result ≡ is_first id port (at place (reverse entries.now)) }
+    ensures { result ≡ is_first id port (here place entries.now) }
 {
     match find_sent(entries, place, id) {
         Some(sent) if sent.port == port => {
@@ -269,7 +269,7 @@ fn taught(answer: Answer) -> Option<Location>
 
 /// Whether the message was sent from the place to the port.
 fn is_sent_to(entries: &[Entry], place: u16, id: MsgId, port: Ui) -> bool
-    ensures { result ≡ is_sent_to port (find_sent id (sent (at place (reverse entries.now)))) }
+    ensures { result ≡ is_sent_to port (find_sent id (sent (here place entries.now))) }
 {
     match find_sent(entries, place, id) {
         Some(sent) => sent.port == port,
@@ -279,7 +279,7 @@ fn is_sent_to(entries: &[Entry], place: u16, id: MsgId, port: Ui) -> bool
 
 /// What the entry, behind `before`, teaches its place of where the port is.
 fn learned(before: &[Entry], entry: &Entry, port: Ui) -> Option<Location>
-    ensures { result ≡ learned port entry.now.place (at entry.now.place (reverse before.now)) entry.now.act }
+    ensures { result ≡ lesson port entry.now before.now }
 {
     match &entry.act {
         Act::Arrive { port: named, hop } if *named == port => Some(Location {
@@ -322,7 +322,7 @@ fn named_location(layout: Layout, port: Ui) -> Location
 
 /// Where the place locates the port.
 pub(crate) fn located(layout: Layout, entries: &[Entry], place: u16, port: Ui) -> Location
-    ensures { result ≡ located layout port (at place (reverse entries.now)) }
+    ensures { result ≡ located layout port (here place entries.now) }
 {
     let mut location = named_location(layout, port);
     for (i, entry) in entries.iter().enumerate() {
@@ -352,7 +352,7 @@ fn reply_taken_by(entries: &[Entry], entry: &Entry) -> Option<TakenReply>
 
 /// The reply that the last entry of the place took.
 pub(crate) fn just_taken(entries: &[Entry], place: u16) -> Option<TakenReply>
-    ensures { result ≡ just_taken (reverse entries.now) (at place (reverse entries.now)) }
+    ensures { result ≡ just_taken (reverse entries.now) (here place entries.now) }
 {
     let mut taken = None;
     for entry in entries.iter() {

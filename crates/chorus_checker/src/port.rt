@@ -1,10 +1,10 @@
 //! What became of a port, and what is asked of it.
 
-ghost use Rattle.std.specs.Prelude.{◌≡◌, ◌≤◌, ◌<◌, Some, IfOk, OnOk, OnErr, length};
+ghost use Rattle.std.specs.Prelude.{◌≡◌, ◌≤◌, IfOk, OnOk, OnErr, length};
 ghost use Rattle.std.specs.Option.{option_copied};
 ghost use Rattle.chorus_entry.specs.declared.record.pending.TheConstants.{PENDING_LIMIT};
-ghost use Rattle.chorus_checker.specs.Computing.{TakeFits};
-ghost use Rattle.chorus_world.specs.Ports.{new_port, arrived, changed, last_of, is_held, is_moving, is_ended, is_made, is_held_at, is_ended_at, is_coming, is_next_hop, waiting, has_room, is_full, is_first_waiting, is_empty, are_waiting};
+ghost use Rattle.chorus_checker.specs.Rows.{TakeFits};
+ghost use Rattle.chorus_world.specs.Ports.{new_port, arrived, changed, last_of, is_made, is_held_at, is_ended_at, is_coming, is_next_hop, waiting, has_room, is_full, is_first_waiting, is_empty, are_waiting};
 
 use chorus_entry::{Act, MsgId};
 use chorus_ui::Ui;
@@ -25,15 +25,14 @@ pub struct PortFate {
 }
 
 impl Model for PortFate {
-    ghost use Rattle.std.specs.Prelude.{◌≤◌, length};
-    ghost use Rattle.chorus_entry.specs.declared.record.pending.TheConstants.{PENDING_LIMIT};
-    ghost use Rattle.chorus_world.specs.Ports.{Fate};
+    ghost use Rattle.chorus_world.specs.Ports.{PortState};
+    ghost use Rattle.chorus_checker.specs.Fields.{port_state, PortFits};
 
-    ghost Value = { Fate };
+    ghost Value = { PortState };
 
-    ghost view = { λ f. record { capacity = f.capacity; accepted = f.accepted.items; taken = f.taken; path = f.path.items; spot = f.spot } };
+    ghost view = { λ f. port_state f.capacity f.accepted.items f.taken f.path.items f.spot };
 
-    ghost invariant = { λ f. (f.taken ≤ length f.accepted.items) × (1 ≤ f.capacity) × (f.capacity ≤ PENDING_LIMIT) };
+    ghost invariant = { λ f. PortFits f.capacity f.accepted.items f.taken };
 }
 
 impl PortFate {

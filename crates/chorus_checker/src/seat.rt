@@ -1,9 +1,8 @@
 //! What the entries of one caller say of its posts, its outstanding call and its hand.
 
 ghost use Rattle.std.specs.Prelude.{◌≡◌, ◌≤◌, Some, reverse, length};
-ghost use Rattle.chorus_world.specs.Views.{by, are_same};
-ghost use Rattle.chorus_checker.specs.Computing.{compared};
-ghost use Rattle.chorus_world.specs.Seats.{posts, stays_at, posts_stay, number_in, requests, call_with, ended, call_after, call, same_call, call_in, call_by, first_call, hand_with, hand_without, hand_after, hand};
+ghost use Rattle.chorus_checker.specs.Computing.{compared, call_to, is_call_again, mine, repeats};
+ghost use Rattle.chorus_world.specs.Seats.{posts, stays_at, posts_stay, number_in, requests, call_with, ended, call_after, call, call_by, hand_with, hand_without, hand_after, hand};
 
 use crate::post::tag_of;
 use chorus_entry::{Act, Dest, Entry, Hand, Message, Tag};
@@ -11,7 +10,7 @@ use chorus_ui::Ui;
 
 /// How many messages the caller posted.
 pub(crate) fn posts(entries: &[Entry], seat: u32) -> usize
-    ensures value { result ≡ posts (by seat (reverse entries.now)) }
+    ensures value { result ≡ posts (mine seat entries.now) }
     ensures few { result ≤ length entries.now }
 {
     let mut posts = 0;
@@ -35,7 +34,7 @@ fn stays_at(entry: &Entry, place: u16) -> bool
 
 /// Whether the caller posted at this place alone.
 pub(crate) fn posts_stay(entries: &[Entry], seat: u32, place: u16) -> bool
-    ensures { result ≡ posts_stay place (by seat (reverse entries.now)) }
+    ensures { result ≡ posts_stay place (mine seat entries.now) }
 {
     let mut stay = true;
     for entry in entries.iter() {
@@ -58,7 +57,7 @@ fn number_in(tag: Tag) -> u32
 
 /// The greatest request number that the caller posted, or 0.
 pub(crate) fn requests(entries: &[Entry], seat: u32) -> u32
-    ensures { result ≡ requests (by seat (reverse entries.now)) }
+    ensures { result ≡ requests (mine seat entries.now) }
 {
     let mut greatest = 0;
     for entry in entries.iter() {
@@ -104,7 +103,7 @@ fn call_after(act: &Act, call: Option<u32>) -> Option<u32>
 
 /// The number of the caller's outstanding call.
 pub(crate) fn outstanding(entries: &[Entry], seat: u32) -> Option<u32>
-    ensures { result ≡ call (by seat (reverse entries.now)) }
+    ensures { result ≡ call (mine seat entries.now) }
 {
     let mut call = None;
     for entry in entries.iter() {
@@ -117,7 +116,7 @@ pub(crate) fn outstanding(entries: &[Entry], seat: u32) -> Option<u32>
 
 /// Whether a post of the request `number` is this call: the same port, reply port and body.
 fn is_call(message: &Message, dest: &Dest, number: u32, port: Ui, back: Ui, body: &[u8]) -> bool
-    ensures { result ≡ are_same same_call (Some (record { port = port; back = back; body = body.now })) (call_in number message.now.tag dest.now message.now.body) }
+    ensures { result ≡ repeats (Some (call_to port back body.now)) number message.now dest.now }
 {
     match dest {
         Dest::Port(to) => match &message.tag {
@@ -135,7 +134,7 @@ fn is_call(message: &Message, dest: &Dest, number: u32, port: Ui, back: Ui, body
 
 /// Whether the message is the same call as the one of the request `number` that the act posts, where it posts one.
 fn compared(act: &Act, number: u32, message: &Message, dest: &Dest) -> Option<bool>
-    ensures { result ≡ compared (call_by number act.now) (call_in number message.now.tag dest.now message.now.body) }
+    ensures { result ≡ compared (call_by number act.now) number message.now dest.now }
 {
     match act {
         Act::Post {
@@ -167,7 +166,7 @@ pub(crate) fn is_call_again(
     message: &Message,
     dest: &Dest,
 ) -> bool
-    ensures { result ≡ are_same same_call (first_call number (by seat (reverse entries.now))) (call_in number message.now.tag dest.now message.now.body) }
+    ensures { result ≡ is_call_again entries.now seat number message.now dest.now }
 {
     let mut found = None;
     for entry in entries.iter() {
@@ -218,7 +217,7 @@ fn hand_after(entries: &[Entry], act: &Act, hand: Option<Hand>) -> Option<Hand>
 
 /// The request in the caller's hand: the last one that it took, where it posted no reply since.
 pub(crate) fn in_hand(entries: &[Entry], seat: u32) -> Option<Hand>
-    ensures { result ≡ hand (reverse entries.now) (by seat (reverse entries.now)) }
+    ensures { result ≡ hand (reverse entries.now) (mine seat entries.now) }
 {
     let mut hand = None;
     for entry in entries.iter() {

@@ -1,12 +1,13 @@
 //! The world of one holder per port: all entries so far, and which entry may come next.
 
-ghost use Rattle.std.specs.Prelude.{◌≡◌, ◌∷◌, Some, OnOk, OnErr, IfOk, IfErr, true};
+ghost use Rattle.std.specs.Prelude.{◌≡◌, Some, OnOk, OnErr, IfOk, IfErr, true};
 ghost use Rattle.std.specs.Option.{option_copied};
 ghost use Rattle.chorus_world.specs.Messages.{verdict};
 ghost use Rattle.chorus_world.specs.Ports.{fate};
 ghost use Rattle.chorus_checker.specs.Refusals.{IsRefusal};
-ghost use Rattle.chorus_world.specs.Steps.{opening, is_timely, act_follows, may, is_legal, next};
-ghost use Rattle.chorus_world.specs.Views.{on, views};
+ghost use Rattle.chorus_world.specs.Steps.{opening, may, is_legal, next};
+ghost use Rattle.chorus_world.specs.Views.{on};
+ghost use Rattle.chorus_checker.specs.Worlds.{is_next, is_on_time, with_entry};
 
 mod acts;
 mod groups;
@@ -34,18 +35,15 @@ pub struct World {
 }
 
 impl Model for World {
-    ghost use Rattle.std.specs.Prelude.{◌≡◌, reverse, true};
-    ghost use Rattle.chorus_ui.specs.declared.ui.Ui.{Ui};
-    ghost use Rattle.chorus_world.specs.Ports.{fate};
-    ghost use Rattle.chorus_world.specs.Steps.{State, is_legal};
-    ghost use Rattle.chorus_checker.specs.Computing.{fate_in};
-    ghost use Rattle.chorus_world.specs.Views.{on};
+    ghost use Rattle.std.specs.Prelude.{reverse};
+    ghost use Rattle.chorus_world.specs.Steps.{State};
+    ghost use Rattle.chorus_checker.specs.Worlds.{IsWorld};
 
     ghost Value = { State };
 
     ghost view = { λ w. record { layout = w.layout; past = reverse w.entries.items } };
 
-    ghost invariant = { λ w. ((q : Ui) → fate_in q w.ports.items ≡ fate (on q (reverse w.entries.items))) × (is_legal w.layout (reverse w.entries.items) ≡ true) };
+    ghost invariant = { λ w. IsWorld w.layout w.entries.items w.ports.items };
 }
 
 impl World {
@@ -78,7 +76,7 @@ impl World {
 
     /// Whether the entry's place is one of the layout, and its clock above the last clock there.
     fn is_timely(&self, entry: &Entry) -> bool
-        ensures { result ≡ is_timely self.now.layout (views self.now.past entry.now.place entry.now.seat entry.now.act) entry.now }
+        ensures { result ≡ is_on_time self.now entry.now }
     {
         self.layout.has_place(entry.place)
             && last_clock(self.entries.as_slice(), entry.place) < entry.clock
@@ -86,7 +84,7 @@ impl World {
 
     /// Whether the act may come next.
     fn act_follows(&self, entry: &Entry) -> Result<bool, AllocError>
-        ensures { IfOk result (λ b. b ≡ act_follows self.now.layout (views self.now.past entry.now.place entry.now.seat entry.now.act) entry.now.place entry.now.seat entry.now.act) }
+        ensures { IfOk result (λ b. b ≡ is_next self.now entry.now) }
     {
         let closes = matches!(entry.act, Act::Done { .. } | Act::Late { .. });
         let owed = just_taken(self.entries.as_slice(), entry.place).is_some();
@@ -100,7 +98,7 @@ impl World {
     /// Takes the entry, which may come next. An error leaves the world as it was.
     fn append(&mut self, entry: &Entry) -> Result<(), AllocError>
         requires { may self.old.layout self.old.past entry.now ≡ true }
-        ensures ok { OnOk result (self.new ≡ record { layout = self.old.layout; past = entry.now ∷ self.old.past }) }
+        ensures ok { OnOk result (self.new ≡ with_entry self.old entry.now) }
         ensures err { OnErr result (self.new ≡ self.old) }
     {
         let alloc = *self.entries.allocator();

@@ -15,7 +15,7 @@ use Rattle.chorus_entry.specs.MsgId.{same_id}
 use Rattle.chorus_entry.proofs.Same.{same_id-self}
 use Rattle.chorus_world.specs.declared.step.Due.TheVariants as dues
 use Rattle.chorus_world.specs.Views.{views, at, by, on, is_about, are_same}
-use Rattle.chorus_world.specs.Ports.{Fate, fate, is_held, is_held_at, last_of, is_made, has_room, is_full, waiting, is_first_waiting, is_empty}
+use Rattle.chorus_world.specs.Ports.{PortState, fate, is_held, is_held_at, last_of, is_made, has_room, is_full, waiting, is_first_waiting, is_empty}
 use Rattle.chorus_world.specs.Posts.{is_on_site}
 use Rattle.chorus_world.specs.Clients.{is_old, is_one_too_many, is_already, finds_clients_full, kept, clients}
 use Rattle.chorus_world.specs.Messages.{progress}
@@ -74,7 +74,7 @@ due-now l past s a x q w k about_is site place =
     ap (λ p. due_by_try 1 q p (due_at_home l v 1 x q)) idle
     ∙ (λ i. cond (go i && suit i) (dues.AtHome (where_is i).hop) dues.NotDue)
 
-pub held-here : (l : Layout) (past : List Entry) (q : Ui) (f : Fate) → Sound l past q f → is_held_at 1 (Some f) ≡ true
+pub held-here : (l : Layout) (past : List Entry) (q : Ui) (f : PortState) → Sound l past q f → is_held_at 1 (Some f) ≡ true
 held-here l past q f h = λ i. is_held (h.held i) && (last_of 0 (h.path i) == 1)
 
 enters : (l : Layout) (past : List Entry) (s : ℕ) (a : Act) (x : MsgId) (q : Ui) → Calm l past → IsWaiting past x q → message_of a ≡ Some x → has_site l q.site ≡ true → (creation_place l q == 1) ≡ true → is_held_at 1 (fate (views past 1 s a).port) ≡ true → may_enter l (views past 1 s a) 1 x q ≡ true
@@ -86,13 +86,13 @@ enters l past s a x q w k about_is site place held =
     let few : finds_clients_full x past v.port ≡ false = ap (λ t. is_one_too_many t (kept x.seat past v.port) (clients past v.port)) ((w.posts x).plain) in
     λ i. (met i && held i) && suit i && not (new i) && not (few i)
 
-pub may-accept : (l : Layout) (past : List Entry) (s : ℕ) (x : MsgId) (q : Ui) (n : ℕ) (f : Fate) → Calm l past → IsWaiting past x q → has_site l q.site ≡ true → (creation_place l q == 1) ≡ true → fate (on q past) ≡ Some f → Sound l past q f → waiting f < f.capacity → n ≡ length f.accepted → act_may l (views past 1 s (Act.Accept x q n)) 1 s (Act.Accept x q n) ≡ true
+pub may-accept : (l : Layout) (past : List Entry) (s : ℕ) (x : MsgId) (q : Ui) (n : ℕ) (f : PortState) → Calm l past → IsWaiting past x q → has_site l q.site ≡ true → (creation_place l q == 1) ≡ true → fate (on q past) ≡ Some f → Sound l past q f → waiting f < f.capacity → n ≡ length f.accepted → act_may l (views past 1 s (Act.Accept x q n)) 1 s (Act.Accept x q n) ≡ true
 may-accept l past s x q n f w k site place made sound lt e =
     let enter = enters l past s (Act.Accept x q n) x q w k refl site place (ap (is_held_at 1) made ∙ held-here l past q f sound) in
     let room : has_room n (Some f) ≡ true = and_from (nat_lt (waiting f) f.capacity) (n == length f.accepted) (lt-ltb (waiting f) f.capacity lt) (eq-eqb n (length f.accepted) e) in
     and_from (may_enter l (views past 1 s (Act.Accept x q n)) 1 x q) (has_room n (fate (on q past))) enter (ap (has_room n) made ∙ room)
 
-pub may-full : (l : Layout) (past : List Entry) (s : ℕ) (x : MsgId) (q : Ui) (n : ℕ) (f : Fate) → Calm l past → IsWaiting past x q → has_site l q.site ≡ true → (creation_place l q == 1) ≡ true → fate (on q past) ≡ Some f → Sound l past q f → waiting f ≡ f.capacity → n ≡ waiting f → act_may l (views past 1 s (Act.Full x q n)) 1 s (Act.Full x q n) ≡ true
+pub may-full : (l : Layout) (past : List Entry) (s : ℕ) (x : MsgId) (q : Ui) (n : ℕ) (f : PortState) → Calm l past → IsWaiting past x q → has_site l q.site ≡ true → (creation_place l q == 1) ≡ true → fate (on q past) ≡ Some f → Sound l past q f → waiting f ≡ f.capacity → n ≡ waiting f → act_may l (views past 1 s (Act.Full x q n)) 1 s (Act.Full x q n) ≡ true
 may-full l past s x q n f w k site place made sound full e =
     let enter = enters l past s (Act.Full x q n) x q w k refl site place (ap (is_held_at 1) made ∙ held-here l past q f sound) in
     let room : is_full n (Some f) ≡ true = and_from (waiting f == f.capacity) (n == waiting f) (eq-eqb (waiting f) f.capacity full) (eq-eqb n (waiting f) e) in
@@ -106,14 +106,14 @@ may-no_port l past s x q w k site place unmade =
 
 -- Receiving.
 
-pub may-take : (l : Layout) (past : List Entry) (s : ℕ) (q : Ui) (n : ℕ) (x : MsgId) (f : Fate) → fate (on q past) ≡ Some f → Sound l past q f → n ≡ f.taken → slice_get f.accepted n ≡ Some x → act_may l (views past 1 s (Act.Take q n x)) 1 s (Act.Take q n x) ≡ true
+pub may-take : (l : Layout) (past : List Entry) (s : ℕ) (q : Ui) (n : ℕ) (x : MsgId) (f : PortState) → fate (on q past) ≡ Some f → Sound l past q f → n ≡ f.taken → slice_get f.accepted n ≡ Some x → act_may l (views past 1 s (Act.Take q n x)) 1 s (Act.Take q n x) ≡ true
 may-take l past s q n x f made sound e first =
     let held : is_held_at 1 (fate (on q past)) ≡ true = ap (is_held_at 1) made ∙ held-here l past q f sound in
     let same : are_same same_id (Some x) (slice_get f.accepted n) ≡ true = ap (are_same same_id (Some x)) first ∙ same_id-self x in
     let waits : is_first_waiting n x (Some f) ≡ true = and_from (n == f.taken) (are_same same_id (Some x) (slice_get f.accepted n)) (eq-eqb n f.taken e) same in
     and_from (is_held_at 1 (fate (on q past))) (is_first_waiting n x (fate (on q past))) held (ap (is_first_waiting n x) made ∙ waits)
 
-pub may-empty : (l : Layout) (past : List Entry) (s : ℕ) (q : Ui) (f : Fate) → fate (on q past) ≡ Some f → Sound l past q f → f.taken ≡ length f.accepted → act_may l (views past 1 s (Act.Empty q)) 1 s (Act.Empty q) ≡ true
+pub may-empty : (l : Layout) (past : List Entry) (s : ℕ) (q : Ui) (f : PortState) → fate (on q past) ≡ Some f → Sound l past q f → f.taken ≡ length f.accepted → act_may l (views past 1 s (Act.Empty q)) 1 s (Act.Empty q) ≡ true
 may-empty l past s q f made sound e =
     let held : is_held_at 1 (fate (on q past)) ≡ true = ap (is_held_at 1) made ∙ held-here l past q f sound in
     and_from (is_held_at 1 (fate (on q past))) (is_empty (fate (on q past))) held (ap is_empty made ∙ eq-eqb f.taken (length f.accepted) e)

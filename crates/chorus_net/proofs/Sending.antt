@@ -20,7 +20,7 @@ use Rattle.chorus_entry.specs.Places.{place_for}
 use Rattle.chorus_entry.specs.Act.{is_command_entry}
 use Rattle.chorus_entry.proofs.Same.{same_id-self, same_body-self}
 use Rattle.chorus_world.specs.Views.{by, on}
-use Rattle.chorus_world.specs.Ports.{Fate, fate, waiting}
+use Rattle.chorus_world.specs.Ports.{PortState, fate, waiting}
 use Rattle.chorus_world.specs.Posts.{post_of}
 use Rattle.chorus_world.specs.Seats.{posts}
 use Rattle.chorus_ports.specs.declared.deciding.Accept.{Accept}
@@ -45,7 +45,7 @@ posted-append past [] x h k = (k, tt)
 posted-append past (y ∷ ys) x h k = (h.0, posted-append past ys x h.1 k)
 
 -- the record of a port that an actor holds
-abbrev shown : Ui → List Entry → Fate → Ui → PortRecord
+abbrev shown : Ui → List Entry → PortState → Ui → PortRecord
 shown q past g a =
     record {
       ui = q;
@@ -58,7 +58,7 @@ shown q past g a =
     }
 
 -- the record with the message behind those that wait
-abbrev behind : Ui → List Entry → Message → Fate → Ui → PortRecord
+abbrev behind : Ui → List Entry → Message → PortState → Ui → PortRecord
 behind q past m g a =
     record {
       ui = q;
@@ -99,10 +99,10 @@ module _ (l : Layout) (f : ℕ → Option Ui) (past : List Entry) (ports : List 
       } in
       says l f past ports now v a (new_sent m.id q ∷ []) [] shape w owes
 
-  count : (g : Fate) (a : Ui) → length (shown q past g a).pending ≡ waiting g
+  count : (g : PortState) (a : Ui) → length (shown q past g a).pending ≡ waiting g
   count g a = length-map (drop g.taken g.accepted) (λ y. as_posted y (post_of y past)) ∙ length-drop g.taken g.accepted
 
-  full : (g : Fate) (s : Sound l past q g) → fate (on q past) ≡ Some g → length (shown q past g s.holder).pending ≡ g.capacity → ((p : Ui) → find p now ≡ find p ports) → After (Act.Full m.id q (length (shown q past g s.holder).pending))
+  full : (g : PortState) (s : Sound l past q g) → fate (on q past) ≡ Some g → length (shown q past g s.holder).pending ≡ g.capacity → ((p : Ui) → find p now ≡ find p ports) → After (Act.Full m.id q (length (shown q past g s.holder).pending))
   full g s made most same =
       let n = length (shown q past g s.holder).pending in
       let a = Act.Full m.id q n in
@@ -118,13 +118,13 @@ module _ (l : Layout) (f : ℕ → Option Ui) (past : List Entry) (ports : List 
       } in
       says l f past ports now v a (new_sent m.id q ∷ []) [] shape w owes
 
-  accepted : (g : Fate) (s : Sound l past q g) → as_posted m.id (post_of m.id past) ≡ m → fate (on q past) ≡ Some g → length (shown q past g s.holder).pending ≢ g.capacity → ((p : Ui) → find p now ≡ cond (same_ui q p) (Some (behind q past m g s.holder)) (find p ports)) → After (Act.Accept m.id q (g.taken + length (shown q past g s.holder).pending))
+  accepted : (g : PortState) (s : Sound l past q g) → as_posted m.id (post_of m.id past) ≡ m → fate (on q past) ≡ Some g → length (shown q past g s.holder).pending ≢ g.capacity → ((p : Ui) → find p now ≡ cond (same_ui q p) (Some (behind q past m g s.holder)) (find p ports)) → After (Act.Accept m.id q (g.taken + length (shown q past g s.holder).pending))
   accepted g s same made room table =
       let x = m.id in
       let n = g.taken + length (shown q past g s.holder).pending in
       let a = Act.Accept x q n in
       let e = next_entry past v a in
-      let after : Fate = record g { accepted = g.accepted ++ x ∷ [] } in
+      let after : PortState = record g { accepted = g.accepted ++ x ∷ [] } in
       let word : MsgId → Message = λ y. as_posted y (post_of y past) in
       let word_now : MsgId → Message = λ y. as_posted y (post_of y (e ∷ past)) in
       let all = posted-append past g.accepted x s.posted posted in
@@ -231,7 +231,7 @@ module _ (l : Layout) (f : ℕ → Option Ui) (past : List Entry) (ports : List 
   abbrev answer : Bool → PortRecord → Accept
   answer b r = if b then accepts.Full (length r.pending) message else accepts.Accepted (r.first + length r.pending)
 
-  from-port : (g : Fate) (s : Sound l begun q g) (b : Bool) → (length (shown q begun g s.holder).pending == g.capacity) ≡ b → fate (on q begun) ≡ Some g → ((p : Ui) → find p (replace q (after_offer message) ports) ≡ cond (same_ui q p) (Some (answered (answer b (shown q begun g s.holder)) message (shown q begun g s.holder))) (find p ports)) → ((answered (answer b (shown q begun g s.holder)) message (shown q begun g s.holder) ≡ shown q begun g s.holder) → (p : Ui) → find p (replace q (after_offer message) ports) ≡ find p ports) → Goal (decision message.id q (answer b (shown q begun g s.holder)))
+  from-port : (g : PortState) (s : Sound l begun q g) (b : Bool) → (length (shown q begun g s.holder).pending == g.capacity) ≡ b → fate (on q begun) ≡ Some g → ((p : Ui) → find p (replace q (after_offer message) ports) ≡ cond (same_ui q p) (Some (answered (answer b (shown q begun g s.holder)) message (shown q begun g s.holder))) (find p ports)) → ((answered (answer b (shown q begun g s.holder)) message (shown q begun g s.holder) ≡ shown q begun g s.holder) → (p : Ui) → find p (replace q (after_offer message) ports) ≡ find p ports) → Goal (decision message.id q (answer b (shown q begun g s.holder)))
   from-port g s true h made table same =
       let n = length (shown q begun g s.holder).pending in
       done (Act.Full message.id q n) refl (full l f begun ports caller q message shape in-call waits-now is-posted kind site there g s made (eqb-true n g.capacity h) (same refl))

@@ -15,7 +15,7 @@ use Rattle.chorus_entry.specs.Places.{place_for}
 use Rattle.chorus_world.specs.declared.port.Spot.{Spot}
 use Rattle.chorus_world.specs.declared.port.Spot.TheVariants as spots
 use Rattle.chorus_world.specs.Views.{on}
-use Rattle.chorus_world.specs.Ports.{Fate, fate}
+use Rattle.chorus_world.specs.Ports.{PortState, fate}
 use Rattle.chorus_world.specs.Posts.{Posted, post_of}
 use Rattle.chorus_world.specs.Places.{sent, unsettled}
 use Rattle.chorus_world.specs.Runs.{is_run}
@@ -41,7 +41,7 @@ as_posted x None = record { id = x; tag = Tag.Plain; body = [] }
 as_posted x (Some m) = record m.message { id = x }
 
 -- the record of a port that is held, as the world tells it. No request was accepted so far, so no client is remembered
-abbrev pub record_in : Ui → List Entry → Fate → Spot → Option PortRecord
+abbrev pub record_in : Ui → List Entry → PortState → Spot → Option PortRecord
 record_in q past f (spots.Held a) =
     Some (record {
       ui = q;
@@ -54,7 +54,7 @@ record_in q past f (spots.Held a) =
     })
 record_in q past f _ = None
 
-abbrev pub record_of : Ui → List Entry → Option Fate → Option PortRecord
+abbrev pub record_of : Ui → List Entry → Option PortState → Option PortRecord
 record_of q past None = None
 record_of q past (Some f) = record_in q past f f.spot
 

@@ -12,7 +12,7 @@ use Rattle.chorus_entry.specs.declared.dest.Dest.{Dest}
 use Rattle.chorus_entry.specs.declared.command.Command.{Command}
 use Rattle.chorus_entry.specs.Kinds.{names_actor}
 use Rattle.chorus_world.specs.Views.{on}
-use Rattle.chorus_world.specs.Ports.{Fate, fate, is_held}
+use Rattle.chorus_world.specs.Ports.{PortState, fate, is_held}
 use Rattle.chorus_world.specs.Steps.{is_legal}
 use Rattle.chorus_world.specs.AcceptedLaws.{accepted_by, accepted_from}
 use Rattle.chorus_world.proofs.Messages.OnceLaws.{stands_once}
@@ -31,7 +31,7 @@ use Rattle.chorus_run.specs.Headline.{merge_of, past_of, callers_of, IsRun, Stan
 use Rattle.chorus_run.proofs.Ready.{order-ready}
 use Rattle.chorus_run.proofs.Closed.{journal_of, past-is, run-legal, legal-older}
 
-abbrev if_made_held : Option Fate → Bool
+abbrev if_made_held : Option PortState → Bool
 if_made_held None = true
 if_made_held (Some f) = is_held f.spot
 
@@ -49,7 +49,7 @@ held-older [] [] h = λ q. refl
 held-older [] (e ∷ past) h = h.0
 held-older (e ∷ newer) past h = held-older newer past h.1
 
-sound-held : (l : Layout) (past : List Entry) (q : Ui) (o : Option Fate) → IfSound l past q o → if_made_held o ≡ true
+sound-held : (l : Layout) (past : List Entry) (q : Ui) (o : Option PortState) → IfSound l past q o → if_made_held o ≡ true
 sound-held l past q None h = refl
 sound-held l past q (Some f) h = ap is_held h.held
 
@@ -81,7 +81,7 @@ held-after l (Act k c ∷ events) shape h =
 stands-alone : (l : Layout) (past : List Entry) (port : Ui) (position : ℕ) (x : MsgId) → is_legal l past ≡ true → slice_get (accepted_by port past) position ≡ Some x → StandsAlone past port position x
 stands-alone l past port position x legal stands = by (fate (on port past)) refl stands
   where
-    by : (o : Option Fate) → fate (on port past) ≡ o → slice_get (accepted_from o) position ≡ Some x → StandsAlone past port position x
+    by : (o : Option PortState) → fate (on port past) ≡ o → slice_get (accepted_from o) position ≡ Some x → StandsAlone past port position x
     by None e k = absurd (let lt : position < 0 = slice_get_within [] position x k in omega arith)
     by (Some f) e k =
         record {

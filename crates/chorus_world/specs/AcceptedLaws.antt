@@ -11,11 +11,11 @@ use Rattle.chorus_entry.specs.declared.act.Act.{Act}
 use Rattle.chorus_entry.specs.declared.act.Act.TheVariants.{Take, Delete}
 use Rattle.chorus_world.specs.Messages.{verdict, verdict_by}
 use Rattle.chorus_world.specs.Views.{on}
-use Rattle.chorus_world.specs.Ports.{Fate, fate}
+use Rattle.chorus_world.specs.Ports.{PortState, fate}
 use Rattle.chorus_world.specs.Fates.{MessageFate, fate_at}
 use Rattle.chorus_world.specs.Steps.{is_legal}
 
-abbrev pub accepted_from : Option Fate → List MsgId
+abbrev pub accepted_from : Option PortState → List MsgId
 accepted_from None = []
 accepted_from (Some f) = f.accepted
 
@@ -23,7 +23,7 @@ accepted_from (Some f) = f.accepted
 abbrev pub accepted_by : Ui → List Entry → List MsgId
 accepted_by q past = accepted_from (fate (on q past))
 
-abbrev pub taken_from : Option Fate → ℕ
+abbrev pub taken_from : Option PortState → ℕ
 taken_from None = 0
 taken_from (Some f) = f.taken
 
@@ -59,7 +59,7 @@ StandsOnce =
 pub record HasFate (x : MsgId) (past : List Entry) (what : MessageFate) : Type 0 where
   pub port : Ui
   pub position : ℕ
-  pub state : Fate
+  pub state : PortState
   pub made : fate (on port past) ≡ Some state
   pub stands : slice_get state.accepted position ≡ Some x
   pub is : fate_at position state ≡ what
@@ -90,7 +90,7 @@ ReceivesInOrder =
 -- no more messages wait in a port than it has room for, and that is room for 1 to 64
 abbrev pub KeepsToCapacity : Type 0
 KeepsToCapacity =
-    (l : Layout) (past : List Entry) (q : Ui) (f : Fate) → IsShape l → is_legal l past ≡ true → fate (on q past) ≡ Some f →
+    (l : Layout) (past : List Entry) (q : Ui) (f : PortState) → IsShape l → is_legal l past ≡ true → fate (on q past) ≡ Some f →
     (length f.accepted ≤ f.taken + f.capacity) × (1 ≤ f.capacity) × (f.capacity ≤ PENDING_LIMIT)
 
 -- the ids of a port's Delete entry are all that it accepted and that was not received

@@ -9,13 +9,13 @@ use Rattle.chorus_entry.specs.declared.id.MsgId.{MsgId}
 use Rattle.chorus_entry.specs.declared.act.Act.{Act}
 use Rattle.chorus_entry.specs.declared.act.Act.TheVariants.{Try}
 use Rattle.chorus_world.specs.Views.{at, on, about}
-use Rattle.chorus_world.specs.Ports.{Fate, fate}
+use Rattle.chorus_world.specs.Ports.{PortState, fate}
 use Rattle.chorus_world.specs.Places.{located, named_location}
 use Rattle.chorus_world.specs.Steps.{is_legal}
 
 -- the places of a port's hops 0, 1, ..: of a port that is not made the place alone that its name tells, which is its creation
 -- place where the layout has its site
-abbrev pub path_of : Layout → Ui → Option Fate → List ℕ
+abbrev pub path_of : Layout → Ui → Option PortState → List ℕ
 path_of l q None = (named_location l q).to ∷ []
 path_of l q (Some f) = f.path
 

@@ -3,8 +3,8 @@
 ghost use Rattle.std.specs.Prelude.{◌≡◌, IfOk};
 ghost use Rattle.chorus_entry.specs.declared.act.Act.TheVariants as Act;
 ghost use Rattle.chorus_world.specs.Groups.{members, is_group_place};
-ghost use Rattle.chorus_world.specs.Steps.{is_group_at, act_may};
-ghost use Rattle.chorus_world.specs.Views.{views, at};
+ghost use Rattle.chorus_world.specs.Views.{at};
+ghost use Rattle.chorus_checker.specs.Worlds.{is_group_in, may_do};
 
 use crate::group::{group_at, groups_made, is_group, is_group_here, is_member};
 use crate::world::World;
@@ -22,7 +22,7 @@ impl World {
 
     /// Whether the group is made, and the place is its own.
     fn is_group_at(&self, place: u16, group: Ui) -> bool
-        ensures { result ≡ is_group_at self.now.layout (views self.now.past place 0 (Act.GroupMake group)) place group }
+        ensures { result ≡ is_group_in self.now place group }
     {
         self.is_group_place(place, group) && is_group_here(self.entries.as_slice(), place, group)
     }
@@ -41,13 +41,13 @@ impl World {
     }
 
     pub(super) fn may_find_no_site(&self, place: u16, site: u16) -> bool
-        ensures { result ≡ act_may self.now.layout (views self.now.past place 0 (Act.NoSite site)) place 0 (Act.NoSite site) }
+        ensures { result ≡ may_do self.now place 0 (Act.NoSite site) }
     {
         !self.layout.has_site(site)
     }
 
     pub(super) fn may_make_group(&self, place: u16, group: Ui) -> bool
-        ensures { result ≡ act_may self.now.layout (views self.now.past place 0 (Act.GroupMake group)) place 0 (Act.GroupMake group) }
+        ensures { result ≡ may_do self.now place 0 (Act.GroupMake group) }
     {
         let made = groups_made(self.entries.as_slice(), place);
         self.is_group_place(place, group)
@@ -56,7 +56,7 @@ impl World {
     }
 
     pub(super) fn may_find_groups_full(&self, place: u16, site: u16) -> bool
-        ensures { result ≡ act_may self.now.layout (views self.now.past place 0 (Act.GroupsFull site)) place 0 (Act.GroupsFull site) }
+        ensures { result ≡ may_do self.now place 0 (Act.GroupsFull site) }
     {
         self.layout.has_site(site)
             && self.layout.first_place(site) == place
@@ -64,7 +64,7 @@ impl World {
     }
 
     pub(super) fn may_join(&self, place: u16, group: Ui, port: Ui) -> Result<bool, AllocError>
-        ensures { IfOk result (λ b. b ≡ act_may self.now.layout (views self.now.past place 0 (Act.Join group port)) place 0 (Act.Join group port)) }
+        ensures { IfOk result (λ b. b ≡ may_do self.now place 0 (Act.Join group port)) }
     {
         if !self.is_group_at(place, group) {
             return Ok(false);
@@ -74,7 +74,7 @@ impl World {
     }
 
     pub(super) fn may_find_there(&self, place: u16, group: Ui, port: Ui) -> Result<bool, AllocError>
-        ensures { IfOk result (λ b. b ≡ act_may self.now.layout (views self.now.past place 0 (Act.There group port)) place 0 (Act.There group port)) }
+        ensures { IfOk result (λ b. b ≡ may_do self.now place 0 (Act.There group port)) }
     {
         if !self.is_group_at(place, group) {
             return Ok(false);
@@ -84,7 +84,7 @@ impl World {
     }
 
     pub(super) fn may_leave(&self, place: u16, group: Ui, port: Ui) -> Result<bool, AllocError>
-        ensures { IfOk result (λ b. b ≡ act_may self.now.layout (views self.now.past place 0 (Act.Leave group port)) place 0 (Act.Leave group port)) }
+        ensures { IfOk result (λ b. b ≡ may_do self.now place 0 (Act.Leave group port)) }
     {
         self.may_find_there(place, group, port)
     }
@@ -95,7 +95,7 @@ impl World {
         group: Ui,
         port: Ui,
     ) -> Result<bool, AllocError>
-        ensures { IfOk result (λ b. b ≡ act_may self.now.layout (views self.now.past place 0 (Act.NotThere group port)) place 0 (Act.NotThere group port)) }
+        ensures { IfOk result (λ b. b ≡ may_do self.now place 0 (Act.NotThere group port)) }
     {
         if !self.is_group_at(place, group) {
             return Ok(false);
@@ -105,7 +105,7 @@ impl World {
     }
 
     pub(super) fn may_find_members_full(&self, place: u16, group: Ui) -> Result<bool, AllocError>
-        ensures { IfOk result (λ b. b ≡ act_may self.now.layout (views self.now.past place 0 (Act.MembersFull group)) place 0 (Act.MembersFull group)) }
+        ensures { IfOk result (λ b. b ≡ may_do self.now place 0 (Act.MembersFull group)) }
     {
         if !self.is_group_at(place, group) {
             return Ok(false);
@@ -115,7 +115,7 @@ impl World {
     }
 
     pub(super) fn may_find_no_group(&self, place: u16, group: Ui) -> bool
-        ensures { result ≡ act_may self.now.layout (views self.now.past place 0 (Act.NoGroup group)) place 0 (Act.NoGroup group) }
+        ensures { result ≡ may_do self.now place 0 (Act.NoGroup group) }
     {
         !is_group(self.entries.as_slice(), group)
     }

@@ -3,8 +3,9 @@
 ghost use Rattle.std.specs.Prelude.{◌≡◌, ◌==◌};
 ghost use Rattle.chorus_ui.specs.Layout.{has_actor};
 ghost use Rattle.chorus_entry.specs.declared.act.Act.TheVariants as Act;
-ghost use Rattle.chorus_world.specs.Steps.{is_home, is_full_of_ports, next_number, act_may};
-ghost use Rattle.chorus_world.specs.Views.{views, at};
+ghost use Rattle.chorus_world.specs.Steps.{is_home, is_full_of_ports};
+ghost use Rattle.chorus_world.specs.Views.{at};
+ghost use Rattle.chorus_checker.specs.Worlds.{may_do, next_in};
 
 use crate::group::site_of;
 use crate::place::ports_made;
@@ -38,7 +39,7 @@ impl World {
 
     /// The number of the next port that the place makes, which has not made its share.
     fn is_next_number(&self, place: u16, number: u64) -> bool
-        ensures { result ≡ (number == next_number self.now.layout place (at place self.now.past)) }
+        ensures { result ≡ (number == next_in self.now place) }
     {
         let made = ports_made(self.entries.as_slice(), place) as u64;
         let turns = u64::from(self.layout.turns());
@@ -47,7 +48,7 @@ impl World {
     }
 
     pub(super) fn may_make(&self, place: u16, port: Ui, actor: Ui, capacity: u8) -> bool
-        ensures { result ≡ act_may self.now.layout (views self.now.past place 0 (Act.Make port actor capacity)) place 0 (Act.Make port actor capacity) }
+        ensures { result ≡ may_do self.now place 0 (Act.Make port actor capacity) }
     {
         self.is_home(actor, place)
             && 1 <= capacity
@@ -58,31 +59,31 @@ impl World {
     }
 
     pub(super) fn may_find_ports_full(&self, place: u16, actor: Ui) -> bool
-        ensures { result ≡ act_may self.now.layout (views self.now.past place 0 (Act.MakeFull actor)) place 0 (Act.MakeFull actor) }
+        ensures { result ≡ may_do self.now place 0 (Act.MakeFull actor) }
     {
         self.is_home(actor, place) && self.is_full_of_ports(place)
     }
 
     pub(super) fn may_find_no_actor(&self, place: u16, actor: Ui) -> bool
-        ensures { result ≡ act_may self.now.layout (views self.now.past place 0 (Act.NoActor actor)) place 0 (Act.NoActor actor) }
+        ensures { result ≡ may_do self.now place 0 (Act.NoActor actor) }
     {
         !self.has_actor(actor)
     }
 
     pub(super) fn may_take(&self, place: u16, port: Ui, pos: u64, id: MsgId) -> bool
-        ensures { result ≡ act_may self.now.layout (views self.now.past place 0 (Act.Take port pos id)) place 0 (Act.Take port pos id) }
+        ensures { result ≡ may_do self.now place 0 (Act.Take port pos id) }
     {
         is_held_at(self.port(port), place) && is_first_waiting(self.port(port), pos, id)
     }
 
     pub(super) fn may_find_empty(&self, place: u16, port: Ui) -> bool
-        ensures { result ≡ act_may self.now.layout (views self.now.past place 0 (Act.Empty port)) place 0 (Act.Empty port) }
+        ensures { result ≡ may_do self.now place 0 (Act.Empty port) }
     {
         is_held_at(self.port(port), place) && is_empty(self.port(port))
     }
 
     pub(super) fn may_rehome(&self, place: u16, port: Ui, actor: Ui) -> bool
-        ensures { result ≡ act_may self.now.layout (views self.now.past place 0 (Act.Rehome port actor)) place 0 (Act.Rehome port actor) }
+        ensures { result ≡ may_do self.now place 0 (Act.Rehome port actor) }
     {
         is_held_at(self.port(port), place)
             && self.has_actor(actor)
@@ -90,7 +91,7 @@ impl World {
     }
 
     pub(super) fn may_depart(&self, place: u16, port: Ui, to: u16, actor: Ui, hop: u64) -> bool
-        ensures { result ≡ act_may self.now.layout (views self.now.past place 0 (Act.Depart port to actor hop)) place 0 (Act.Depart port to actor hop) }
+        ensures { result ≡ may_do self.now place 0 (Act.Depart port to actor hop) }
     {
         is_held_at(self.port(port), place)
             && self.has_actor(actor)
@@ -100,13 +101,13 @@ impl World {
     }
 
     pub(super) fn may_arrive(&self, place: u16, port: Ui, hop: u64) -> bool
-        ensures { result ≡ act_may self.now.layout (views self.now.past place 0 (Act.Arrive port hop)) place 0 (Act.Arrive port hop) }
+        ensures { result ≡ may_do self.now place 0 (Act.Arrive port hop) }
     {
         is_coming(self.port(port), place, hop)
     }
 
     pub(super) fn may_delete(&self, place: u16, port: Ui, discarded: &Ids) -> bool
-        ensures { result ≡ act_may self.now.layout (views self.now.past place 0 (Act.Delete port discarded.now)) place 0 (Act.Delete port discarded.now) }
+        ensures { result ≡ may_do self.now place 0 (Act.Delete port discarded.now) }
     {
         is_held_at(self.port(port), place) && are_waiting(self.port(port), discarded.ids())
     }

@@ -2,10 +2,10 @@
 
 ghost use Rattle.std.specs.Prelude.{◌≡◌, Some, is_none};
 ghost use Rattle.chorus_entry.specs.declared.act.Act.TheVariants as Act;
-ghost use Rattle.chorus_world.specs.Places.{just_taken};
-ghost use Rattle.chorus_world.specs.Seats.{call, same_hand, hand};
-ghost use Rattle.chorus_world.specs.Steps.{may_request, reply_to, may_tag, is_taken_by, ends_call, act_may};
-ghost use Rattle.chorus_world.specs.Views.{views, at, by, is_number, are_same};
+ghost use Rattle.chorus_world.specs.Seats.{call, hand};
+ghost use Rattle.chorus_world.specs.Steps.{ends_call};
+ghost use Rattle.chorus_world.specs.Views.{by, is_number};
+ghost use Rattle.chorus_checker.specs.Worlds.{may_do, may_reply_in, may_request_in, may_tag_in};
 
 use crate::place::just_taken;
 use crate::seat::{in_hand, is_call_again, outstanding, posts, posts_stay, requests};
@@ -23,7 +23,7 @@ impl World {
         message: &Message,
         dest: &Dest,
     ) -> bool
-        ensures { result ≡ may_request (views self.now.past place seat (Act.Post message.now dest.now)) number message.now dest.now }
+        ensures { result ≡ may_request_in self.now place seat number message.now dest.now }
     {
         let request = match (&message.tag, dest) {
             (Tag::Request { number: named, .. }, Dest::Port(_)) => *named == number,
@@ -39,7 +39,7 @@ impl World {
 
     /// Whether the message is the reply to the request in hand: it has this client and number, and goes to the reply port.
     fn may_reply(&self, seat: u32, client: u32, number: u32, dest: &Dest) -> bool
-        ensures { result ≡ are_same same_hand (hand self.now.past (by seat self.now.past)) (reply_to client number dest.now) }
+        ensures { result ≡ may_reply_in self.now seat client number dest.now }
     {
         match in_hand(self.entries.as_slice(), seat) {
             Some(hand) => match dest {
@@ -54,7 +54,7 @@ impl World {
 
     /// Whether the message may have its tag.
     fn may_tag(&self, place: u16, seat: u32, message: &Message, dest: &Dest) -> bool
-        ensures { result ≡ may_tag (views self.now.past place seat (Act.Post message.now dest.now)) message.now dest.now message.now.tag }
+        ensures { result ≡ may_tag_in self.now place seat message.now dest.now }
     {
         match &message.tag {
             Tag::Plain => true,
@@ -64,7 +64,7 @@ impl World {
     }
 
     pub(super) fn may_post(&self, place: u16, seat: u32, message: &Message, dest: &Dest) -> bool
-        ensures { result ≡ act_may self.now.layout (views self.now.past place seat (Act.Post message.now dest.now)) place seat (Act.Post message.now dest.now) }
+        ensures { result ≡ may_do self.now place seat (Act.Post message.now dest.now) }
     {
         let entries = self.entries.as_slice();
         message.id.seat == seat
@@ -105,7 +105,7 @@ impl World {
     }
 
     pub(super) fn may_be_done(&self, place: u16, seat: u32, number: u32) -> bool
-        ensures { result ≡ act_may self.now.layout (views self.now.past place seat (Act.Done number)) place seat (Act.Done number) }
+        ensures { result ≡ may_do self.now place seat (Act.Done number) }
     {
         match just_taken(self.entries.as_slice(), place) {
             Some(reply) => {
@@ -118,7 +118,7 @@ impl World {
     }
 
     pub(super) fn may_be_late(&self, place: u16, seat: u32, number: u32) -> bool
-        ensures { result ≡ act_may self.now.layout (views self.now.past place seat (Act.Late number)) place seat (Act.Late number) }
+        ensures { result ≡ may_do self.now place seat (Act.Late number) }
     {
         match just_taken(self.entries.as_slice(), place) {
             Some(reply) => {

@@ -1,14 +1,12 @@
 //! The way of a message to its port: trying, deciding and telling, and the choice of a group's members.
 
 ghost use Rattle.std.specs.Prelude.{◌≡◌, IfOk, unwrap_or};
-ghost use Rattle.chorus_ui.specs.declared.ui.Ui.{Ui};
 ghost use Rattle.chorus_entry.specs.declared.act.Act.TheVariants as Act;
 ghost use Rattle.chorus_world.specs.Posts.{is_on_site, post_of};
-ghost use Rattle.chorus_world.specs.Steps.{is_beyond, is_to_go, suits, due_at_home, due, is_due, meets, may_enter, is_early, is_elsewhere, may_choose_from, choice_from, is_asked_from, act_may};
-ghost use Rattle.chorus_world.specs.Places.{located, is_location};
-ghost use Rattle.chorus_world.specs.Views.{views, views_about, at};
+ghost use Rattle.chorus_world.specs.Steps.{is_beyond, is_to_go, suits, due_at_home, is_due, meets, may_enter, is_early, is_asked_from};
+ghost use Rattle.chorus_world.specs.Places.{is_location};
 ghost use Rattle.chorus_ui.specs.Layout.{group_place};
-ghost use Rattle.chorus_entry.specs.declared.id.MsgId.{MsgId};
+ghost use Rattle.chorus_checker.specs.Worlds.{choice_in, due_in, finds_elsewhere, located_in, may_choose_in, may_do, seen};
 
 use crate::client::{finds_clients_full, is_already};
 use crate::group::{choice, first_unchosen, site_of};
@@ -42,14 +40,14 @@ impl World {
 
     /// Whether the place is on the site that the message asks for, where it asks for one.
     fn suits(&self, place: u16, id: MsgId, port: Ui) -> bool
-        ensures { result ≡ suits self.now.layout (views_about self.now.past place id port) place id }
+        ensures { result ≡ suits self.now.layout (seen self.now place id port) place id }
     {
         self.is_on_site(site_asked(self.entries.as_slice(), id), place)
     }
 
     /// Whether the message is to be tried from the place, and its port is located at `to`.
     fn is_to_go(&self, place: u16, id: MsgId, port: Ui, to: u16) -> bool
-        ensures { result ≡ is_to_go self.now.layout (views_about self.now.past place id port) id port to }
+        ensures { result ≡ is_to_go self.now.layout (seen self.now place id port) id port to }
     {
         is_first(self.entries.as_slice(), place, id, port)
             && !self.is_beyond(port)
@@ -58,7 +56,7 @@ impl World {
 
     /// How the message is due at the place where it waits.
     fn due_at_home(&self, place: u16, id: MsgId, port: Ui) -> Due
-        ensures { result ≡ due_at_home self.now.layout (views_about self.now.past place id port) place id port }
+        ensures { result ≡ due_at_home self.now.layout (seen self.now place id port) place id port }
     {
         if self.is_to_go(place, id, port, place) && self.suits(place, id, port) {
             let hop = located(self.layout, self.entries.as_slice(), place, port).hop;
@@ -70,7 +68,7 @@ impl World {
 
     /// How the message is due at the place.
     fn due(&self, place: u16, id: MsgId, port: Ui) -> Due
-        ensures { result ≡ due self.now.layout (views_about self.now.past place id port) place id port }
+        ensures { result ≡ due_in self.now place id port }
     {
         let progress = progress_of(self.entries.as_slice(), id);
         match &progress {
@@ -86,7 +84,7 @@ impl World {
 
     /// Whether the message is due at the place.
     fn is_due(&self, place: u16, id: MsgId, port: Ui) -> bool
-        ensures { result ≡ is_due (due self.now.layout (views_about self.now.past place id port) place id port) }
+        ensures { result ≡ is_due (due_in self.now place id port) }
     {
         match self.due(place, id, port) {
             Due::NotDue => false,
@@ -96,14 +94,14 @@ impl World {
 
     /// Whether the message is due at the place, and its port is held there.
     fn meets(&self, place: u16, id: MsgId, port: Ui) -> bool
-        ensures { result ≡ meets self.now.layout (views_about self.now.past place id port) place id port }
+        ensures { result ≡ meets self.now.layout (seen self.now place id port) place id port }
     {
         self.is_due(place, id, port) && is_held_at(self.port(port), place)
     }
 
     /// Whether the message meets its port there, suits the site, and neither Already nor ClientsFull answers it.
     fn may_enter(&self, place: u16, id: MsgId, port: Ui) -> bool
-        ensures { result ≡ may_enter self.now.layout (views_about self.now.past place id port) place id port }
+        ensures { result ≡ may_enter self.now.layout (seen self.now place id port) place id port }
     {
         self.meets(place, id, port)
             && self.suits(place, id, port)
@@ -112,25 +110,25 @@ impl World {
     }
 
     pub(super) fn may_accept(&self, place: u16, id: MsgId, port: Ui, pos: u64) -> bool
-        ensures { result ≡ act_may self.now.layout (views self.now.past place 0 (Act.Accept id port pos)) place 0 (Act.Accept id port pos) }
+        ensures { result ≡ may_do self.now place 0 (Act.Accept id port pos) }
     {
         self.may_enter(place, id, port) && has_room(self.port(port), pos)
     }
 
     pub(super) fn may_find_full(&self, place: u16, id: MsgId, port: Ui, len: u8) -> bool
-        ensures { result ≡ act_may self.now.layout (views self.now.past place 0 (Act.Full id port len)) place 0 (Act.Full id port len) }
+        ensures { result ≡ may_do self.now place 0 (Act.Full id port len) }
     {
         self.may_enter(place, id, port) && is_full(self.port(port), len)
     }
 
     pub(super) fn may_find_already(&self, place: u16, id: MsgId, port: Ui) -> bool
-        ensures { result ≡ act_may self.now.layout (views self.now.past place 0 (Act.Already id port)) place 0 (Act.Already id port) }
+        ensures { result ≡ may_do self.now place 0 (Act.Already id port) }
     {
         self.meets(place, id, port) && is_already(self.entries.as_slice(), port, id)
     }
 
     pub(super) fn may_find_clients_full(&self, place: u16, id: MsgId, port: Ui) -> bool
-        ensures { result ≡ act_may self.now.layout (views self.now.past place 0 (Act.ClientsFull id port)) place 0 (Act.ClientsFull id port) }
+        ensures { result ≡ may_do self.now place 0 (Act.ClientsFull id port) }
     {
         self.meets(place, id, port) && finds_clients_full(self.entries.as_slice(), port, id)
     }
@@ -144,7 +142,7 @@ impl World {
         to: u16,
         hop: u64,
     ) -> bool
-        ensures { result ≡ act_may self.now.layout (views self.now.past place 0 (Act.Stale id port tried to hop)) place 0 (Act.Stale id port tried to hop) }
+        ensures { result ≡ may_do self.now place 0 (Act.Stale id port tried to hop) }
     {
         let due = match self.due(place, id, port) {
             Due::NotDue => false,
@@ -159,14 +157,14 @@ impl World {
 
     /// Whether the place locates the port at `to`, by this hop.
     fn is_located(&self, place: u16, port: Ui, to: u16, hop: u64) -> bool
-        ensures { result ≡ is_location to hop (located self.now.layout port (at place self.now.past)) }
+        ensures { result ≡ is_location to hop (located_in self.now place port) }
     {
         let location = located(self.layout, self.entries.as_slice(), place, port);
         location.to == to && location.hop == hop
     }
 
     pub(super) fn may_be_early(&self, place: u16, id: MsgId, port: Ui, hop: u64) -> bool
-        ensures { result ≡ act_may self.now.layout (views self.now.past place 0 (Act.Early id port hop)) place 0 (Act.Early id port hop) }
+        ensures { result ≡ may_do self.now place 0 (Act.Early id port hop) }
     {
         let location = located(self.layout, self.entries.as_slice(), place, port);
         let early = match self.due(place, id, port) {
@@ -179,7 +177,7 @@ impl World {
     }
 
     pub(super) fn may_find_no_port(&self, place: u16, id: MsgId, port: Ui) -> bool
-        ensures { result ≡ act_may self.now.layout (views self.now.past place 0 (Act.NoPort id port)) place 0 (Act.NoPort id port) }
+        ensures { result ≡ may_do self.now place 0 (Act.NoPort id port) }
     {
         let unmade = match self.due(place, id, port) {
             Due::NotDue => false,
@@ -190,7 +188,7 @@ impl World {
 
     /// Whether the place where the message waits, or was tried, finds the port elsewhere than on the site asked for.
     fn is_elsewhere(&self, place: u16, id: MsgId, port: Ui, to: u16, hop: u64) -> bool
-        ensures { result ≡ is_elsewhere self.now.layout (views_about self.now.past place id port) place id port to hop }
+        ensures { result ≡ finds_elsewhere self.now place id port to hop }
     {
         let off_site = !self.is_on_site(site_asked(self.entries.as_slice(), id), to);
         if off_site && self.is_to_go(place, id, port, to) {
@@ -212,7 +210,7 @@ impl World {
         to: u16,
         hop: u64,
     ) -> bool
-        ensures { result ≡ act_may self.now.layout (views self.now.past place 0 (Act.Elsewhere id port to hop)) place 0 (Act.Elsewhere id port to hop) }
+        ensures { result ≡ may_do self.now place 0 (Act.Elsewhere id port to hop) }
     {
         site_asked(self.entries.as_slice(), id).is_some()
             && self.is_located(place, port, to, hop)
@@ -220,13 +218,13 @@ impl World {
     }
 
     pub(super) fn may_find_gone(&self, place: u16, id: MsgId, port: Ui) -> bool
-        ensures { result ≡ act_may self.now.layout (views self.now.past place 0 (Act.Gone id port)) place 0 (Act.Gone id port) }
+        ensures { result ≡ may_do self.now place 0 (Act.Gone id port) }
     {
         self.is_due(place, id, port) && is_ended_at(self.port(port), place)
     }
 
     pub(super) fn may_try(&self, place: u16, id: MsgId, port: Ui, to: u16, hop: u64) -> bool
-        ensures { result ≡ act_may self.now.layout (views self.now.past place 0 (Act.Try id port to hop)) place 0 (Act.Try id port to hop) }
+        ensures { result ≡ may_do self.now place 0 (Act.Try id port to hop) }
     {
         self.is_to_go(place, id, port, to)
             && located(self.layout, self.entries.as_slice(), place, port).hop == hop
@@ -235,14 +233,14 @@ impl World {
     }
 
     pub(super) fn may_be_told(&self, place: u16, id: MsgId, answer: Answer) -> bool
-        ensures { result ≡ act_may self.now.layout (views self.now.past place 0 (Act.Told id answer)) place 0 (Act.Told id answer) }
+        ensures { result ≡ may_do self.now place 0 (Act.Told id answer) }
     {
         is_to_be_told(place, answer, progress_of(self.entries.as_slice(), id))
     }
 
     /// Whether the post to the group has its turn to be chosen for at the place, where it has this progress.
     fn may_choose_from(&self, place: u16, id: MsgId, group: Ui, progress: &Progress) -> bool
-        ensures { result ≡ may_choose_from self.now.layout (views self.now.past place 0 (Act.NoMember id group)) place id group progress.now }
+        ensures { result ≡ may_choose_in self.now place id group progress.now }
     {
         match progress {
             Progress::Asked { from, dest } => {
@@ -274,7 +272,7 @@ impl World {
 
     /// The members that are chosen for a post with this progress.
     fn choice_from(&self, place: u16, progress: &Progress) -> Result<Vec<Ui>, AllocError>
-        ensures { IfOk result (λ chosen. chosen.items ≡ choice_from self.now.layout (at place self.now.past) progress.now) }
+        ensures { IfOk result (λ chosen. chosen.items ≡ choice_in self.now place progress.now) }
     {
         let alloc = *self.entries.allocator();
         match progress {
@@ -292,7 +290,7 @@ impl World {
         group: Ui,
         members: &Members,
     ) -> Result<bool, AllocError>
-        ensures { IfOk result (λ b. b ≡ act_may self.now.layout (views self.now.past place 0 (Act.Choose id group members.now)) place 0 (Act.Choose id group members.now)) }
+        ensures { IfOk result (λ b. b ≡ may_do self.now place 0 (Act.Choose id group members.now)) }
     {
         let progress = progress_of(self.entries.as_slice(), id);
         let chosen = self.choice_from(place, &progress)?;
@@ -309,7 +307,7 @@ impl World {
         id: MsgId,
         group: Ui,
     ) -> Result<bool, AllocError>
-        ensures { IfOk result (λ b. b ≡ act_may self.now.layout (views self.now.past place 0 (Act.NoMember id group)) place 0 (Act.NoMember id group)) }
+        ensures { IfOk result (λ b. b ≡ may_do self.now place 0 (Act.NoMember id group)) }
     {
         let progress = progress_of(self.entries.as_slice(), id);
         let chosen = self.choice_from(place, &progress)?;
@@ -335,7 +333,7 @@ impl World {
     }
 
     pub(super) fn may_hear(&self, place: u16, id: MsgId, answer: Answer) -> bool
-        ensures { result ≡ act_may self.now.layout (views self.now.past place 0 (Act.Heard id answer)) place 0 (Act.Heard id answer) }
+        ensures { result ≡ may_do self.now place 0 (Act.Heard id answer) }
     {
         self.is_asked_from(place, id)
             && is_to_be_heard(answer, progress_of(self.entries.as_slice(), id))

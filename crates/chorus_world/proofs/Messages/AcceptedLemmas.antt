@@ -17,7 +17,7 @@ use Rattle.chorus_entry.proofs.Same.{same_id-self}
 use Rattle.chorus_world.specs.declared.place.Sent.{Sent}
 use Rattle.chorus_world.specs.declared.message.Progress.TheVariants.{Tried}
 use Rattle.chorus_world.specs.Views.{views, is_about, is_on, at, on, about}
-use Rattle.chorus_world.specs.Ports.{Fate, fate, fate_after}
+use Rattle.chorus_world.specs.Ports.{PortState, fate, fate_after}
 use Rattle.chorus_world.specs.Messages.{verdict, verdict_by}
 use Rattle.chorus_world.specs.Places.{is_settled}
 use Rattle.chorus_world.specs.Posts.{Posted, post_of}
@@ -42,7 +42,7 @@ get_push (z ∷ xs) y (suc i) x h =
     ]
 
 -- what stands in the accepted list now stood there before, or is accepted by the entry
-pub accepted_after : (a : Act) (p : ℕ) (o : Option Fate) (i : ℕ) (x : MsgId) → slice_get (accepted_from (fate_after p a o)) i ≡ Some x → (slice_get (accepted_from o) i ≡ Some x) ⊎ ((q : Ui) × (n : ℕ) × (a ≡ Accept x q n) × (i ≡ length (accepted_from o)))
+pub accepted_after : (a : Act) (p : ℕ) (o : Option PortState) (i : ℕ) (x : MsgId) → slice_get (accepted_from (fate_after p a o)) i ≡ Some x → (slice_get (accepted_from o) i ≡ Some x) ⊎ ((q : Ui) × (n : ℕ) × (a ≡ Accept x q n) × (i ≡ length (accepted_from o)))
 accepted_after (Make q b n) p o i x h = absurd (let lt : i < 0 = slice_get_within [] i x h in omega arith)
 accepted_after (Accept y q n) p (Some f) i x h =
     elim (get_push f.accepted y i x h) [

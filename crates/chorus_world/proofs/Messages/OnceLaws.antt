@@ -7,7 +7,7 @@ use Rattle.chorus_entry.specs.declared.entry.Entry.{Entry}
 use Rattle.chorus_entry.specs.declared.id.MsgId.{MsgId}
 use Rattle.chorus_entry.specs.declared.act.Act.TheVariants.{Accept}
 use Rattle.chorus_world.specs.Views.{on}
-use Rattle.chorus_world.specs.Ports.{Fate, fate}
+use Rattle.chorus_world.specs.Ports.{PortState, fate}
 use Rattle.chorus_world.specs.Fates.{MessageFate, fate_at}
 use Rattle.chorus_world.specs.AcceptedLaws.{accepted_by, accepted_from, StandsOnce, HasFate, HasOneFate, HasSomeFate}
 use Rattle.chorus_world.proofs.Steps.LegalLemmas.{legal_parts}
@@ -40,10 +40,10 @@ stands_once l (e ∷ past) q r i j x h a b =
       ]
     ]
 
-stands : (q : Ui) (past : List Entry) (f : Fate) (i : ℕ) (x : MsgId) → fate (on q past) ≡ Some f → slice_get f.accepted i ≡ Some x → slice_get (accepted_by q past) i ≡ Some x
+stands : (q : Ui) (past : List Entry) (f : PortState) (i : ℕ) (x : MsgId) → fate (on q past) ≡ Some f → slice_get f.accepted i ≡ Some x → slice_get (accepted_by q past) i ≡ Some x
 stands q past f i x m h = ap (λ z. slice_get (accepted_from z) i) m ∙ h
 
-same_state : (q r : Ui) (past : List Entry) (f g : Fate) → q ≡ r → fate (on q past) ≡ Some f → fate (on r past) ≡ Some g → f ≡ g
+same_state : (q r : Ui) (past : List Entry) (f g : PortState) → q ≡ r → fate (on q past) ≡ Some f → fate (on r past) ≡ Some g → f ≡ g
 same_state q r past f g e m n = let both : Some f ≡ Some g = sym m ∙ (ap (λ z. fate (on z past)) e ∙ n) in cc
 
 pub has_one_fate : HasOneFate
@@ -52,7 +52,7 @@ has_one_fate l past x a b h u v =
     let same = same_state u.port v.port past u.state v.state two.0 u.made v.made in
     sym u.is ∙ ((λ i. fate_at (two.1 i) (same i)) ∙ v.is)
 
-some_fate : (past : List Entry) (q : Ui) (i : ℕ) (x : MsgId) (o : Option Fate) → fate (on q past) ≡ o → slice_get (accepted_from o) i ≡ Some x → (what : MessageFate) × HasFate x past what
+some_fate : (past : List Entry) (q : Ui) (i : ℕ) (x : MsgId) (o : Option PortState) → fate (on q past) ≡ o → slice_get (accepted_from o) i ≡ Some x → (what : MessageFate) × HasFate x past what
 some_fate past q i x None e h = absurd (let lt : i < 0 = slice_get_within [] i x h in omega arith)
 some_fate past q i x (Some f) e h = (fate_at i f, record { port = q; position = i; state = f; made = e; stands = h; is = refl })
 

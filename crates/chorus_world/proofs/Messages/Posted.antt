@@ -22,7 +22,7 @@ use Rattle.chorus_world.specs.declared.message.Progress.TheVariants.{Idle, Asked
 use Rattle.chorus_world.specs.declared.step.Due.TheVariants.{NotDue, AtHome}
 use Rattle.chorus_world.specs.Views.{Views, views, at, by, on, about, is_at, is_by, is_on, is_about, are_same}
 use Rattle.chorus_world.specs.Posts.{Posted, post_of, posted_in, posted_by, source, site_asked, is_on_site}
-use Rattle.chorus_world.specs.Ports.{Fate, fate, fate_after, is_held_at, is_made, is_coming, is_ended_at, is_first_waiting, is_full, has_room}
+use Rattle.chorus_world.specs.Ports.{PortState, fate, fate_after, is_held_at, is_made, is_coming, is_ended_at, is_first_waiting, is_full, has_room}
 use Rattle.chorus_world.specs.Clients.{is_already, finds_clients_full}
 use Rattle.chorus_world.specs.Messages.{progress, is_to_be_told, is_to_be_heard}
 use Rattle.chorus_world.specs.Places.{located, is_location, sent, sent_by, sent_to, copies, find_sent, is_first}
@@ -192,7 +192,7 @@ abbrev pub EachPosted : List Entry → List MsgId → Type 0
 EachPosted past [] = Unit {0}
 EachPosted past (x ∷ xs) = IsPosted past x × EachPosted past xs
 
-abbrev pub AcceptedPosted : List Entry → Option Fate → Type 0
+abbrev pub AcceptedPosted : List Entry → Option PortState → Type 0
 AcceptedPosted past None = Unit {0}
 AcceptedPosted past (Some f) = EachPosted past f.accepted
 
@@ -208,7 +208,7 @@ each_at past (y ∷ xs) zero x h e = subst (IsPosted past) (some_is y x e) h.0
     some_is y x e = cc
 each_at past (y ∷ xs) (suc n) x h e = each_at past xs n x h.1 e
 
-accepted_after : (past : List Entry) (p : ℕ) (a : Act) (o : Option Fate) → IfPosted past (id_in a) → AcceptedPosted past o → AcceptedPosted past (fate_after p a o)
+accepted_after : (past : List Entry) (p : ℕ) (a : Act) (o : Option PortState) → IfPosted past (id_in a) → AcceptedPosted past o → AcceptedPosted past (fate_after p a o)
 accepted_after past p (Make q a c) o i h = tt
 accepted_after past p (Accept x q n) None i h = tt
 accepted_after past p (Accept x q n) (Some f) i h = each_push past f.accepted x h i
@@ -219,7 +219,7 @@ pub accepted_posted : (past : List Entry) (es : List Entry) → AllPosted past e
 accepted_posted past [] h = tt
 accepted_posted past (e ∷ es) h = accepted_after past e.place e.act (fate es) h.0 (accepted_posted past es h.1)
 
-taken_posted : (past : List Entry) (n : ℕ) (x : MsgId) (o : Option Fate) → AcceptedPosted past o → is_first_waiting n x o ≡ true → IsPosted past x
+taken_posted : (past : List Entry) (n : ℕ) (x : MsgId) (o : Option PortState) → AcceptedPosted past o → is_first_waiting n x o ≡ true → IsPosted past x
 taken_posted past n x None h e = absurd (false≢true e)
 taken_posted past n x (Some f) h e =
     each_at past f.accepted n x h (about_is x (slice_get f.accepted n) (and_parts (n == f.taken) (are_same same_id (Some x) (slice_get f.accepted n)) e).1)

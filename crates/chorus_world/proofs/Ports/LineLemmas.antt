@@ -17,7 +17,7 @@ use Rattle.chorus_entry.proofs.Same.{from_same_id, from_same_ids}
 use Rattle.chorus_world.specs.declared.port.Spot.{Spot}
 use Rattle.chorus_world.specs.declared.port.Spot.TheVariants.{Held, Moving, Ended}
 use Rattle.chorus_world.specs.Views.{Views, views, are_same, on}
-use Rattle.chorus_world.specs.Ports.{Fate, fate, fate_after, changed, new_port, arrived, waiting, is_held, is_moving, is_last, is_held_at, is_coming, has_room, is_full, is_first_waiting, is_empty, is_next_hop, are_waiting}
+use Rattle.chorus_world.specs.Ports.{PortState, fate, fate_after, changed, new_port, arrived, waiting, is_held, is_moving, is_last, is_held_at, is_coming, has_room, is_full, is_first_waiting, is_empty, is_next_hop, are_waiting}
 use Rattle.chorus_world.specs.Clients.{is_already, finds_clients_full}
 use Rattle.chorus_ui.specs.Layout.{has_actor, site_of, place_at}
 use Rattle.chorus_world.specs.Steps.{is_home, is_full_of_ports, next_number, act_may, due, is_due, suits, meets, may_enter}
@@ -29,7 +29,7 @@ abbrev pub Discards : Spot → Option (List MsgId) → List MsgId → Type 0
 Discards Ended d xs = d ≡ Some xs
 Discards _ d xs = d ≡ None
 
-pub record LineFacts (f : Fate) (ids : List MsgId) (d : Option (List MsgId)) : Type 0 where
+pub record LineFacts (f : PortState) (ids : List MsgId) (d : Option (List MsgId)) : Type 0 where
   pub received : ids ≡ take f.taken f.accepted
   pub within : f.taken ≤ length f.accepted
   pub room : length f.accepted ≤ f.taken + f.capacity
@@ -38,18 +38,18 @@ pub record LineFacts (f : Fate) (ids : List MsgId) (d : Option (List MsgId)) : T
   pub over : Discards f.spot d (drop f.taken f.accepted)
 
 -- a port that is not made has no entries, and of a made one the facts hold
-abbrev pub LineIs : Option Fate → List Entry → Type 0
+abbrev pub LineIs : Option PortState → List Entry → Type 0
 LineIs None port = port ≡ []
 LineIs (Some f) port = LineFacts f (received port) (discarded port)
 
 abbrev pub IsLine : List Entry → Type 0
 IsLine port = LineIs (fate port) port
 
-pub held_at : (p : ℕ) (o : Option Fate) → is_held_at p o ≡ true → (f : Fate) × (o ≡ Some f) × (is_held f.spot ≡ true)
+pub held_at : (p : ℕ) (o : Option PortState) → is_held_at p o ≡ true → (f : PortState) × (o ≡ Some f) × (is_held f.spot ≡ true)
 held_at p None h = absurd (false≢true h)
 held_at p (Some f) h = (f, refl, (and_parts (is_held f.spot) (is_last p f) h).0)
 
-pub coming : (p hop : ℕ) (o : Option Fate) → is_coming p hop o ≡ true → (f : Fate) × (o ≡ Some f) × (is_moving f.spot ≡ true)
+pub coming : (p hop : ℕ) (o : Option PortState) → is_coming p hop o ≡ true → (f : PortState) × (o ≡ Some f) × (is_moving f.spot ≡ true)
 coming p hop None h = absurd (false≢true h)
 coming p hop (Some f) h =
     (f, refl, (and_parts (is_moving f.spot) (is_last p f) (and_parts (is_moving f.spot && is_last p f) _ h).0).0)
@@ -75,7 +75,7 @@ arrived_discards (Held a) d xs h o = absurd (false≢true h)
 arrived_discards (Moving a) d xs h o = o
 arrived_discards Ended d xs h o = absurd (false≢true h)
 
-facts_at : (o : Option Fate) (port : List Entry) (f : Fate) → LineIs o port → o ≡ Some f → LineFacts f (received port) (discarded port)
+facts_at : (o : Option PortState) (port : List Entry) (f : PortState) → LineIs o port → o ≡ Some f → LineFacts f (received port) (discarded port)
 facts_at o port f i e = subst (λ z. LineIs z port) e i
 
 pub none_some : {A : Type 0} {P : Type 0} (t : A) → None ≡ Some t → P
@@ -89,7 +89,7 @@ take_next : (xs : List MsgId) (n : ℕ) (x : MsgId) → slice_get xs n ≡ Some 
 take_next xs n x at =
     take_more xs n x (slice_get_within xs n x at) ∙ ap (λ y. take n xs ++ y ∷ []) (get_or_from_slice_get xs n x x at)
 
-module _ (f : Fate) (ids : List MsgId) (d : Option (List MsgId)) (i : LineFacts f ids d) where
+module _ (f : PortState) (ids : List MsgId) (d : Option (List MsgId)) (i : LineFacts f ids d) where
   accepts : (x : MsgId) → is_held f.spot ≡ true → waiting f < f.capacity → LineFacts (record f { accepted = f.accepted ++ x ∷ [] }) ids d
   accepts x h lt =
       let n : length (f.accepted ++ x ∷ []) ≡ length f.accepted + 1 = length-append f.accepted (x ∷ []) in
@@ -127,7 +127,7 @@ pub id_is : (x : MsgId) (o : Option MsgId) → are_same same_id (Some x) o ≡ t
 id_is x None h = absurd (false≢true h)
 id_is x (Some y) h = ap (λ z. Some z) (sym (from_same_id x y h))
 
-first_parts : (n : ℕ) (x : MsgId) (f : Fate) → is_first_waiting n x (Some f) ≡ true → slice_get f.accepted f.taken ≡ Some x
+first_parts : (n : ℕ) (x : MsgId) (f : PortState) → is_first_waiting n x (Some f) ≡ true → slice_get f.accepted f.taken ≡ Some x
 first_parts n x f h =
     let two = and_parts (n == f.taken) (are_same same_id (Some x) (slice_get f.accepted n)) h in
     ap (slice_get f.accepted) (sym (eqb-true n f.taken two.0)) ∙ id_is x (slice_get f.accepted n) two.1
@@ -144,17 +144,17 @@ module _ (l : Layout) (p : ℕ) (v : Views) where
       (and_parts (meets l v p x q) (suits l v p x) one.0).0
 
 -- the line after an entry on it, where the port is made
-module _ (c p s : ℕ) (port : List Entry) (f : Fate) (e : fate port ≡ Some f) where
+module _ (c p s : ℕ) (port : List Entry) (f : PortState) (e : fate port ≡ Some f) where
   after : (a : Act) → fate_after p a (Some f) ≡ Some (changed a f) → LineFacts (changed a f) (received_after a (received port)) (discarded_after a (discarded port)) → IsLine (entry c p s a ∷ port)
   after a n i = subst (λ z. LineIs z (entry c p s a ∷ port)) (sym (ap (fate_after p a) e ∙ n)) i
 
 -- a Make is of a port that is not made
-abbrev pub MakesNew : Act → Option Fate → Type 0
+abbrev pub MakesNew : Act → Option PortState → Type 0
 MakesNew (Make q a n) o = o ≡ None
 MakesNew _ o = Unit {0}
 
 -- what the acts on the line of a port need of it
-abbrev pub Needs : ℕ → Act → Option Fate → Type 0
+abbrev pub Needs : ℕ → Act → Option PortState → Type 0
 Needs p (Make q a n) o = Unit {0}
 Needs p (Arrive q hop) o = is_coming p hop o ≡ true
 Needs p _ o = is_held_at p o ≡ true
@@ -235,7 +235,7 @@ module _ (l : Layout) (past : List Entry) (c p s : ℕ) where
       let few = and_parts (is_home l a p) (nat_le 1 n) some.0 in
       subst (λ z. IsLine (entry c p s (Make q a n) ∷ z)) (sym none) (made p a n (grind (arith, nat_tests)) (grind (arith, nat_tests)))
 
-  held_facts : (q : Ui) (a : Act) → is_held_at p (fate (on q past)) ≡ true → IsLine (on q past) → ((f : Fate) → is_held f.spot ≡ true → LineFacts f (received (on q past)) (discarded (on q past)) → fate (on q past) ≡ Some f → (fate_after p a (Some f) ≡ Some (changed a f)) × LineFacts (changed a f) (received_after a (received (on q past))) (discarded_after a (discarded (on q past)))) → IsLine (entry c p s a ∷ on q past)
+  held_facts : (q : Ui) (a : Act) → is_held_at p (fate (on q past)) ≡ true → IsLine (on q past) → ((f : PortState) → is_held f.spot ≡ true → LineFacts f (received (on q past)) (discarded (on q past)) → fate (on q past) ≡ Some f → (fate_after p a (Some f) ≡ Some (changed a f)) × LineFacts (changed a f) (received_after a (received (on q past))) (discarded_after a (discarded (on q past)))) → IsLine (entry c p s a ∷ on q past)
   held_facts q a h i k =
       let f = held_at p (fate (on q past)) h in
       let two = k f.0 f.2 (facts_at (fate (on q past)) (on q past) f.0 i f.1) f.1 in

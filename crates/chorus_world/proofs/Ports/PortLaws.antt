@@ -14,7 +14,7 @@ use Rattle.chorus_entry.specs.Act.{held_port_of}
 use Rattle.chorus_world.specs.declared.port.Spot.{Spot}
 use Rattle.chorus_world.specs.declared.port.Spot.TheVariants.{Held, Moving, Ended}
 use Rattle.chorus_world.specs.Views.{views, is_on, is_at, on, at}
-use Rattle.chorus_world.specs.Ports.{Fate, fate, fate_after, is_made, is_held, is_moving, is_held_at}
+use Rattle.chorus_world.specs.Ports.{PortState, fate, fate_after, is_made, is_held, is_moving, is_held_at}
 use Rattle.chorus_world.specs.Places.{ports_made, ports_after}
 use Rattle.chorus_world.specs.Steps.{act_may, is_legal, is_home, is_full_of_ports, next_number}
 use Rattle.chorus_world.specs.AcceptedLaws.{accepted_by, accepted_from, taken_from, received, discarded, AcceptedGrows, ReceivesInOrder, KeepsToCapacity, DiscardsTheRest, EndsWithDelete}
@@ -44,7 +44,7 @@ mul_grows m n t h = grind arith
 mul_more : (m t : ℕ) → (m + 1) * t ≡ m * t + t
 mul_more m t = grind arith
 
-made_before : (q : Ui) (p : ℕ) (a : Act) (o : Option Fate) → held_port_of a ≡ Some q → is_made (fate_after p a o) ≡ true → (is_made o ≡ true) ⊎ ((b : Ui) × (n : ℕ) × (a ≡ Make q b n))
+made_before : (q : Ui) (p : ℕ) (a : Act) (o : Option PortState) → held_port_of a ≡ Some q → is_made (fate_after p a o) ≡ true → (is_made o ≡ true) ⊎ ((b : Ui) × (n : ℕ) × (a ≡ Make q b n))
 made_before q p (Make r b n) o m h = let same : r ≡ q = cc in inr (b, n, ap (λ z. Make z b n) same)
 made_before q p _ (Some f) m h = inl refl
 made_before q p _ None m h = absurd (false≢true h)
@@ -77,7 +77,7 @@ given : (l : Layout) (past : List Entry) (p s : ℕ) (q a : Ui) (n : ℕ) → Is
 given l past p s q a n i h =
     let needs = make_needs l past p s q a n h in number_given l q a p (ports_made (at p past)) i needs.0 needs.1 needs.2
 
-unmade : (o : Option Fate) → (is_made o ≡ true → ⊥) → o ≡ None
+unmade : (o : Option PortState) → (is_made o ≡ true → ⊥) → o ≡ None
 unmade None h = refl
 unmade (Some f) h = absurd (h refl)
 
@@ -138,14 +138,14 @@ legal_line l (e ∷ past) q i h =
 
 -- The laws.
 
-line_facts : (l : Layout) (past : List Entry) (q : Ui) (f : Fate) → IsShape l → is_legal l past ≡ true → fate (on q past) ≡ Some f → LineFacts f (received (on q past)) (discarded (on q past))
+line_facts : (l : Layout) (past : List Entry) (q : Ui) (f : PortState) → IsShape l → is_legal l past ≡ true → fate (on q past) ≡ Some f → LineFacts f (received (on q past)) (discarded (on q past))
 line_facts l past q f i h e = subst (λ z. LineIs z (on q past)) e (legal_line l past q i h).0
 
 -- a port that is not made has no entries on its line
 pub unmade_is_empty : (l : Layout) (past : List Entry) (q : Ui) → IsShape l → is_legal l past ≡ true → fate (on q past) ≡ None → on q past ≡ []
 unmade_is_empty l past q i h e = subst (λ z. LineIs z (on q past)) e (legal_line l past q i h).0
 
-receives_case : (o : Option Fate) (port : List Entry) → LineIs o port → (received port ≡ take (taken_from o) (accepted_from o)) × (taken_from o ≤ length (accepted_from o))
+receives_case : (o : Option PortState) (port : List Entry) → LineIs o port → (received port ≡ take (taken_from o) (accepted_from o)) × (taken_from o ≤ length (accepted_from o))
 receives_case None port h = (ap received h, omega arith)
 receives_case (Some f) port h = (h.received, h.within)
 
@@ -161,7 +161,7 @@ discards_spot (Held a) d xs ys h e = none_some xs (sym h ∙ e)
 discards_spot (Moving a) d xs ys h e = none_some xs (sym h ∙ e)
 discards_spot Ended d xs ys h e = (refl, let both : Some xs ≡ Some ys = sym e ∙ h in cc)
 
-discards_case : (o : Option Fate) (port : List Entry) (xs : List MsgId) → LineIs o port → discarded port ≡ Some xs → accepted_from o ≡ received port ++ xs
+discards_case : (o : Option PortState) (port : List Entry) (xs : List MsgId) → LineIs o port → discarded port ≡ Some xs → accepted_from o ≡ received port ++ xs
 discards_case None port xs h e = none_some xs (ap discarded (sym h) ∙ e)
 discards_case (Some f) port xs h e =
     let over = discards_spot f.spot (discarded port) xs (drop f.taken f.accepted) h.over e in
@@ -170,7 +170,7 @@ discards_case (Some f) port xs h e =
 pub discards_the_rest : DiscardsTheRest
 discards_the_rest l past q xs i h e = discards_case (fate (on q past)) (on q past) xs (legal_line l past q i h).0 e
 
-accepts_more : (a : Act) (p : ℕ) (o : Option Fate) → MakesNew a o → (more : List MsgId) × (accepted_from (fate_after p a o) ≡ accepted_from o ++ more)
+accepts_more : (a : Act) (p : ℕ) (o : Option PortState) → MakesNew a o → (more : List MsgId) × (accepted_from (fate_after p a o) ≡ accepted_from o ++ more)
 accepts_more (Make q a n) p o new = ([], sym (ap (λ z. accepted_from z ++ []) new))
 accepts_more (Accept x q n) p (Some f) new = (x ∷ [], refl)
 accepts_more _ p (Some f) new = ([], sym (append-nil f.accepted))
@@ -195,21 +195,21 @@ accepted_grows l (e ∷ newer) past q i h =
     (old.0 ++ one.0, one.1 ∙ (ap (λ z. z ++ one.0) old.1 ∙ append_assoc (accepted_by q past) old.0 one.0))
 
 -- what stands on a line needs its port, and a deleted one is neither held nor on its way
-held_alive : (p : ℕ) (o : Option Fate) (f : Fate) → is_held_at p o ≡ true → o ≡ Some f → f.spot ≡ Ended → ⊥
+held_alive : (p : ℕ) (o : Option PortState) (f : PortState) → is_held_at p o ≡ true → o ≡ Some f → f.spot ≡ Ended → ⊥
 held_alive p o f h e d =
     let g = held_at p o h in
     let same : g.0 ≡ f = let both : Some g.0 ≡ Some f = sym g.1 ∙ e in cc in
-    false≢true (ap is_held (sym (ap (λ (z : Fate). z.spot) same ∙ d)) ∙ g.2)
+    false≢true (ap is_held (sym (ap (λ (z : PortState). z.spot) same ∙ d)) ∙ g.2)
 
-alive : (p : ℕ) (a : Act) (o : Option Fate) (f : Fate) → Needs p a o → MakesNew a o → o ≡ Some f → f.spot ≡ Ended → ⊥
+alive : (p : ℕ) (a : Act) (o : Option PortState) (f : PortState) → Needs p a o → MakesNew a o → o ≡ Some f → f.spot ≡ Ended → ⊥
 alive p (Make q b n) o f h new e d = none_some f (sym new ∙ e)
 alive p (Arrive q hop) o f h new e d =
     let g = coming p hop o h in
     let same : g.0 ≡ f = let both : Some g.0 ≡ Some f = sym g.1 ∙ e in cc in
-    false≢true (ap is_moving (sym (ap (λ (z : Fate). z.spot) same ∙ d)) ∙ g.2)
+    false≢true (ap is_moving (sym (ap (λ (z : PortState). z.spot) same ∙ d)) ∙ g.2)
 alive p _ o f h new e d = held_alive p o f h e d
 
-ended_spot : (o : Option Fate) (port : List Entry) (xs : List MsgId) → LineIs o port → discarded port ≡ Some xs → (f : Fate) × (o ≡ Some f) × (f.spot ≡ Ended)
+ended_spot : (o : Option PortState) (port : List Entry) (xs : List MsgId) → LineIs o port → discarded port ≡ Some xs → (f : PortState) × (o ≡ Some f) × (f.spot ≡ Ended)
 ended_spot None port xs h e = none_some xs (ap discarded (sym h) ∙ e)
 ended_spot (Some f) port xs h e =
     (f, refl, (discards_spot f.spot (discarded port) xs (drop f.taken f.accepted) h.over e).0)

@@ -20,7 +20,7 @@ use Rattle.chorus_world.specs.declared.place.Sent.{Sent}
 use Rattle.chorus_world.specs.declared.message.Progress.{Progress}
 use Rattle.chorus_world.specs.declared.message.Progress.TheVariants.{Decided}
 use Rattle.chorus_world.specs.Views.{views, at, on, is_at, is_on}
-use Rattle.chorus_world.specs.Ports.{Fate, fate, fate_after, last_of, is_held, is_moving, is_held_at, is_coming, is_next_hop, are_waiting, arrived}
+use Rattle.chorus_world.specs.Ports.{PortState, fate, fate_after, last_of, is_held, is_moving, is_held_at, is_coming, is_next_hop, are_waiting, arrived}
 use Rattle.chorus_world.specs.Messages.{is_to_be_told}
 use Rattle.chorus_world.specs.Places.{located, learned, farther, named_location, is_sent_to, find_sent, sent, taught}
 use Rattle.chorus_world.specs.Steps.{act_may, is_full_of_ports, next_number}
@@ -44,14 +44,14 @@ moving_spot (Held a) h = absurd (false≢true h)
 moving_spot (Moving a) h = (a, refl)
 moving_spot Ended h = absurd (false≢true h)
 
-pub held_fate : (p : ℕ) (o : Option Fate) → is_held_at p o ≡ true → (f : Fate) × (b : Ui) × (o ≡ Some f) × (f.spot ≡ Held b) × (last_of 0 f.path ≡ p)
+pub held_fate : (p : ℕ) (o : Option PortState) → is_held_at p o ≡ true → (f : PortState) × (b : Ui) × (o ≡ Some f) × (f.spot ≡ Held b) × (last_of 0 f.path ≡ p)
 held_fate p None h = absurd (false≢true h)
 held_fate p (Some f) h =
     let two = and_parts (is_held f.spot) (last_of 0 f.path == p) h in
     let s = held_spot f.spot two.0 in
     (f, s.0, refl, s.1, eqb-true (last_of 0 f.path) p two.1)
 
-pub coming_fate : (p hop : ℕ) (o : Option Fate) → is_coming p hop o ≡ true → (f : Fate) × (b : Ui) × (o ≡ Some f) × (f.spot ≡ Moving b) × (last_of 0 f.path ≡ p) × (hop ≡ length f.path - 1)
+pub coming_fate : (p hop : ℕ) (o : Option PortState) → is_coming p hop o ≡ true → (f : PortState) × (b : Ui) × (o ≡ Some f) × (f.spot ≡ Moving b) × (last_of 0 f.path ≡ p) × (hop ≡ length f.path - 1)
 coming_fate p hop None h = absurd (false≢true h)
 coming_fate p hop (Some f) h =
     let two = and_parts (is_moving f.spot && (last_of 0 f.path == p)) (hop == length f.path - 1) h in
@@ -60,12 +60,12 @@ coming_fate p hop (Some f) h =
     (f, s.0, refl, s.1, eqb-true (last_of 0 f.path) p one.1, eqb-true hop (length f.path - 1) two.1)
 
 -- the facts of a port whose fate is known
-facts_of : (l : Layout) (past : List Entry) (q : Ui) (f : Fate) (s : Spot) → PortFacts l past q → fate (on q past) ≡ Some f → f.spot ≡ s → Facts q (Some s) f.path (λ p. is_kept q (at p past)) (λ p. is_deleted q (at p past)) (λ p. located l q (at p past)) (next_at_home l q past)
+facts_of : (l : Layout) (past : List Entry) (q : Ui) (f : PortState) (s : Spot) → PortFacts l past q → fate (on q past) ≡ Some f → f.spot ≡ s → Facts q (Some s) f.path (λ p. is_kept q (at p past)) (λ p. is_deleted q (at p past)) (λ p. located l q (at p past)) (next_at_home l q past)
 facts_of l past q f s facts was spot =
     subst (λ z. Facts q (Some z) f.path (λ p. is_kept q (at p past)) (λ p. is_deleted q (at p past)) (λ p. located l q (at p past)) (next_at_home l q past)) spot
     (subst (λ o. Facts q (spot_in o) (path_of l q o) (λ p. is_kept q (at p past)) (λ p. is_deleted q (at p past)) (λ p. located l q (at p past)) (next_at_home l q past)) was facts)
 
-unmade_fate : (o : Option Fate) → is_some (spot_in o) ≡ false → o ≡ None
+unmade_fate : (o : Option PortState) → is_some (spot_in o) ≡ false → o ≡ None
 unmade_fate None h = refl
 unmade_fate (Some f) h = absurd (true≢false h)
 
@@ -255,19 +255,19 @@ known_other l past e q n p off k = ap (λ b. slice_get (path_of l q (fate (cond 
 known_on : (l : Layout) (past : List Entry) (e : Entry) (q : Ui) (n p : ℕ) → is_on (Some q) e ≡ true → slice_get (path_of l q (fate_after e.place e.act (fate (on q past)))) n ≡ Some p → Known l (e ∷ past) q n p
 known_on l past e q n p t k = ap (λ b. slice_get (path_of l q (fate (cond b (e ∷ on q past) (on q past)))) n) t ∙ k
 
-path_rehomed : (l : Layout) (q : Ui) (p : ℕ) (r a : Ui) (o : Option Fate) → path_of l q (fate_after p (Rehome r a) o) ≡ path_of l q o
+path_rehomed : (l : Layout) (q : Ui) (p : ℕ) (r a : Ui) (o : Option PortState) → path_of l q (fate_after p (Rehome r a) o) ≡ path_of l q o
 path_rehomed l q p r a None = refl
 path_rehomed l q p r a (Some f) = refl
 
-path_arrived : (l : Layout) (q : Ui) (p : ℕ) (r : Ui) (hop : ℕ) (o : Option Fate) → path_of l q (fate_after p (Arrive r hop) o) ≡ path_of l q o
+path_arrived : (l : Layout) (q : Ui) (p : ℕ) (r : Ui) (hop : ℕ) (o : Option PortState) → path_of l q (fate_after p (Arrive r hop) o) ≡ path_of l q o
 path_arrived l q p r hop None = refl
 path_arrived l q p r hop (Some f) = refl
 
-path_deleted : (l : Layout) (q : Ui) (p : ℕ) (r : Ui) (xs : List MsgId) (o : Option Fate) → path_of l q (fate_after p (Delete r xs) o) ≡ path_of l q o
+path_deleted : (l : Layout) (q : Ui) (p : ℕ) (r : Ui) (xs : List MsgId) (o : Option PortState) → path_of l q (fate_after p (Delete r xs) o) ≡ path_of l q o
 path_deleted l q p r xs None = refl
 path_deleted l q p r xs (Some f) = refl
 
-pub known_departed : (l : Layout) (q : Ui) (p : ℕ) (r : Ui) (to : ℕ) (a : Ui) (hop : ℕ) (o : Option Fate) (n z : ℕ) → slice_get (path_of l q o) n ≡ Some z → slice_get (path_of l q (fate_after p (Depart r to a hop) o)) n ≡ Some z
+pub known_departed : (l : Layout) (q : Ui) (p : ℕ) (r : Ui) (to : ℕ) (a : Ui) (hop : ℕ) (o : Option PortState) (n z : ℕ) → slice_get (path_of l q o) n ≡ Some z → slice_get (path_of l q (fate_after p (Depart r to a hop) o)) n ≡ Some z
 known_departed l q p r to a hop None n z h = h
 known_departed l q p r to a hop (Some f) n z h = known_push f.path to n z h
 

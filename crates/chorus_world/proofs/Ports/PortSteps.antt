@@ -12,7 +12,7 @@ use Rattle.chorus_entry.specs.declared.act.Act.{Act}
 use Rattle.chorus_entry.specs.declared.act.Act.TheVariants.{Make, Rehome, Depart, Arrive, Delete}
 use Rattle.chorus_world.specs.declared.port.Spot.{Spot}
 use Rattle.chorus_world.specs.Views.{at, on, is_at, is_on}
-use Rattle.chorus_world.specs.Ports.{Fate, fate, fate_after}
+use Rattle.chorus_world.specs.Ports.{PortState, fate, fate_after}
 use Rattle.chorus_world.specs.Places.{located, learned, farther, ports_made, ports_after}
 use Rattle.chorus_world.specs.Steps.{next_number}
 use Rattle.chorus_world.specs.LocationLaws.{path_of}
@@ -20,7 +20,7 @@ use Rattle.chorus_world.proofs.Steps.LegalLemmas.{entry, under, cond_same}
 use Rattle.chorus_world.proofs.Sorted.Local.{is_kept, kept_after, is_deleted, deleted_after}
 use Rattle.chorus_world.proofs.Ports.Whereabouts.{Facts, facts_same}
 
-abbrev pub spot_in : Option Fate → Option Spot
+abbrev pub spot_in : Option PortState → Option Spot
 spot_in None = None
 spot_in (Some f) = Some f.spot
 
@@ -94,7 +94,7 @@ is_still (Arrive q hop) = false
 is_still (Delete q xs) = false
 is_still _ = true
 
-pub spot_still : (p : ℕ) (a : Act) (o : Option Fate) → is_still a ≡ true → spot_in (fate_after p a o) ≡ spot_in o
+pub spot_still : (p : ℕ) (a : Act) (o : Option PortState) → is_still a ≡ true → spot_in (fate_after p a o) ≡ spot_in o
 spot_still p (Make q b c) o h = absurd (false≢true h)
 spot_still p (Rehome q b) o h = absurd (false≢true h)
 spot_still p (Depart q to b hop) o h = absurd (false≢true h)
@@ -103,7 +103,7 @@ spot_still p (Delete q xs) o h = absurd (false≢true h)
 spot_still p a None h = refl
 spot_still p a (Some f) h = refl
 
-pub path_still : (l : Layout) (q : Ui) (p : ℕ) (a : Act) (o : Option Fate) → is_still a ≡ true → path_of l q (fate_after p a o) ≡ path_of l q o
+pub path_still : (l : Layout) (q : Ui) (p : ℕ) (a : Act) (o : Option PortState) → is_still a ≡ true → path_of l q (fate_after p a o) ≡ path_of l q o
 path_still l q p (Make r b c) o h = absurd (false≢true h)
 path_still l q p (Rehome r b) o h = absurd (false≢true h)
 path_still l q p (Depart r to b hop) o h = absurd (false≢true h)

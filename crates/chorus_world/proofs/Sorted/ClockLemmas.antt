@@ -9,7 +9,7 @@ use Rattle.chorus_entry.specs.declared.act.Act.{Act}
 use Rattle.chorus_entry.specs.declared.act.Act.TheVariants.{Make, Accept, Full, Already, ClientsFull, Take, Empty, Rehome, Depart, Arrive, Delete}
 use Rattle.chorus_entry.specs.Act.{held_port_of}
 use Rattle.chorus_world.specs.Views.{views, is_at, is_on, at, on}
-use Rattle.chorus_world.specs.Ports.{Fate, fate, fate_after, is_held, is_moving, is_last, last_of, is_held_at, is_coming, arrived}
+use Rattle.chorus_world.specs.Ports.{PortState, fate, fate_after, is_held, is_moving, is_last, last_of, is_held_at, is_coming, arrived}
 use Rattle.chorus_world.specs.Places.{last_clock}
 use Rattle.chorus_world.specs.Steps.{may, is_timely, act_follows, is_legal}
 use Rattle.chorus_world.proofs.Steps.LegalLemmas.{legal_parts, on_is, skips, keeps}
@@ -63,18 +63,18 @@ clock_grows l e past p h =
     clock_case (is_at p e) e (at p past)
     (λ t. subst (λ z. last_clock (at z past) < e.clock) (eqb-true e.place p t) (legal_timely l e past h))
 
-last_is : (p r : ℕ) (f : Fate) → is_last p f ≡ true → is_last r f ≡ true → p ≡ r
+last_is : (p r : ℕ) (f : PortState) → is_last p f ≡ true → is_last r f ≡ true → p ≡ r
 last_is p r f h k = sym (eqb-true (last_of 0 f.path) p h) ∙ eqb-true (last_of 0 f.path) r k
 
-held_last : (p : ℕ) (f : Fate) → is_held_at p (Some f) ≡ true → is_last p f ≡ true
+held_last : (p : ℕ) (f : PortState) → is_held_at p (Some f) ≡ true → is_last p f ≡ true
 held_last p f h = (and_parts (is_held f.spot) (is_last p f) h).1
 
-coming_last : (p hop : ℕ) (f : Fate) → is_coming p hop (Some f) ≡ true → is_last p f ≡ true
+coming_last : (p hop : ℕ) (f : PortState) → is_coming p hop (Some f) ≡ true → is_last p f ≡ true
 coming_last p hop f h =
     (and_parts (is_moving f.spot) (is_last p f) (and_parts (is_moving f.spot && is_last p f) (hop == length f.path - 1) h).0).1
 
 -- where the port is held behind an entry of its line, it is held at the place of the entry
-held_here : (p r : ℕ) (a : Act) (q : Ui) (o : Option Fate) → held_port_of a ≡ Some q → Needs p a o → is_held_at r (fate_after p a o) ≡ true → p ≡ r
+held_here : (p r : ℕ) (a : Act) (q : Ui) (o : Option PortState) → held_port_of a ≡ Some q → Needs p a o → is_held_at r (fate_after p a o) ≡ true → p ≡ r
 held_here p r (Make q b n) z o m h k = eqb-true p r k
 held_here p r (Accept x q n) z (Some f) m h k = last_is p r f (held_last p f h) (and_parts (is_held f.spot) (is_last r f) k).1
 held_here p r (Full x q n) z (Some f) m h k = last_is p r f (held_last p f h) (held_last r f k)

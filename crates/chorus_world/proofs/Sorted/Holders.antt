@@ -15,7 +15,7 @@ use Rattle.chorus_entry.specs.declared.act.Act.TheVariants.{Make, Take, Empty, N
 use Rattle.chorus_world.specs.declared.port.Spot.{Spot}
 use Rattle.chorus_world.specs.declared.port.Spot.TheVariants.{Held, Moving, Ended}
 use Rattle.chorus_world.specs.Views.{views, at, by, on, is_at, is_on, are_same}
-use Rattle.chorus_world.specs.Ports.{Fate, fate, fate_after, last_of, is_held, is_last, is_held_at, is_coming, is_next_hop, are_waiting, arrived}
+use Rattle.chorus_world.specs.Ports.{PortState, fate, fate_after, last_of, is_held, is_last, is_held_at, is_coming, is_next_hop, are_waiting, arrived}
 use Rattle.chorus_world.specs.Places.{last_clock}
 use Rattle.chorus_world.specs.Steps.{act_may, may, is_legal}
 use Rattle.chorus_world.specs.Runs.{is_held_by, is_held_at_by, fits_caller, fits_callers, may_run, is_run}
@@ -181,7 +181,7 @@ holders_other l past q e n hh f =
     ∙ cond_same (is_at p e) (holder_after q (on q t) e.act (holder q (on q t) (at p past))) (holder q (on q t) (at p past)) (λ _. hh (on q t) (holder q (on q t) (at p past))))
 
 -- the facts of a port whose fate is known
-holders_of : (l : Layout) (past : List Entry) (q : Ui) (f : Fate) (s : Spot) → HolderFacts l past q → fate (on q past) ≡ Some f → f.spot ≡ s → Holding (Some s) f.path (λ n. departed_to n (on q past)) (λ t. Extends t past) (λ t p. holder q (on q t) (at p past))
+holders_of : (l : Layout) (past : List Entry) (q : Ui) (f : PortState) (s : Spot) → HolderFacts l past q → fate (on q past) ≡ Some f → f.spot ≡ s → Holding (Some s) f.path (λ n. departed_to n (on q past)) (λ t. Extends t past) (λ t p. holder q (on q t) (at p past))
 holders_of l past q f s facts was spot =
     holding_same facts (ap spot_in was ∙ ap (λ z. Some z) spot) (ap (path_of l q) was) (λ n. refl) (λ t x. x) (λ t p. refl)
 
@@ -318,7 +318,7 @@ held_by_case a (Held b) false k h e f = and_right (same_ui a b) false refl ∙ s
 held_by_case a (Moving b) last k h e f = sym (and_left k (are_same same_ui (Some a) h) e)
 held_by_case a Ended last k h e f = sym (and_left k (are_same same_ui (Some a) h) e)
 
-held_by_fate : (l : Layout) (q a : Ui) (p : ℕ) (o : Option Fate) (k : Bool) (h : Option Ui) → is_held_at p o ≡ k → ((b : Ui) → spot_in o ≡ Some (Held b) → last_of 0 (path_of l q o) ≡ p → h ≡ Some b) → is_held_at_by p a o ≡ (k && are_same same_ui (Some a) h)
+held_by_fate : (l : Layout) (q a : Ui) (p : ℕ) (o : Option PortState) (k : Bool) (h : Option Ui) → is_held_at p o ≡ k → ((b : Ui) → spot_in o ≡ Some (Held b) → last_of 0 (path_of l q o) ≡ p → h ≡ Some b) → is_held_at_by p a o ≡ (k && are_same same_ui (Some a) h)
 held_by_fate l q a p None k h e f = sym (and_left k (are_same same_ui (Some a) h) (sym e))
 held_by_fate l q a p (Some g) k h e f =
     held_by_case a g.spot (is_last p g) k h (sym e) (λ b s last. f b (ap (λ z. Some z) s) (eqb-true (last_of 0 g.path) p last))

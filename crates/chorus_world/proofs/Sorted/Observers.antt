@@ -28,7 +28,7 @@ use Rattle.chorus_world.specs.declared.message.Progress.{Progress}
 use Rattle.chorus_world.specs.declared.message.Progress.TheVariants.{Idle, Asked, Tried, Decided, Settled, Reported}
 use Rattle.chorus_world.specs.declared.step.Due.TheVariants.{NotDue, ByTry, AtHome}
 use Rattle.chorus_world.specs.Views.{Views, views, at, by, on, about, is_at, is_by, is_on, is_number, are_same, is_group, makes_group, finds_group}
-use Rattle.chorus_world.specs.Ports.{Fate, fate, last_of, is_made, is_held_at, is_ended_at, is_coming, has_room, is_full}
+use Rattle.chorus_world.specs.Ports.{PortState, fate, last_of, is_made, is_held_at, is_ended_at, is_coming, has_room, is_full}
 use Rattle.chorus_world.specs.Posts.{post_of, site_asked, is_on_site}
 use Rattle.chorus_world.specs.Clients.{is_already, finds_clients_full}
 use Rattle.chorus_world.specs.Messages.{progress, is_to_be_heard}
@@ -185,19 +185,19 @@ last_hop q s ps k d at' m f p hop h le =
 
 -- The same of the past.
 
-held_is : (l : Layout) (q : Ui) (p : ℕ) (o : Option Fate) → is_held_at p o ≡ (holds (spot_in o) && (last_of 0 (path_of l q o) == p))
+held_is : (l : Layout) (q : Ui) (p : ℕ) (o : Option PortState) → is_held_at p o ≡ (holds (spot_in o) && (last_of 0 (path_of l q o) == p))
 held_is l q p None = refl
 held_is l q p (Some f) = refl
 
-ended_is : (l : Layout) (q : Ui) (p : ℕ) (o : Option Fate) → is_ended_at p o ≡ (has_ended (spot_in o) && (last_of 0 (path_of l q o) == p))
+ended_is : (l : Layout) (q : Ui) (p : ℕ) (o : Option PortState) → is_ended_at p o ≡ (has_ended (spot_in o) && (last_of 0 (path_of l q o) == p))
 ended_is l q p None = refl
 ended_is l q p (Some f) = refl
 
-coming_is : (l : Layout) (q : Ui) (p hop : ℕ) (o : Option Fate) → is_coming p hop o ≡ (moves (spot_in o) && (last_of 0 (path_of l q o) == p) && (hop == length (path_of l q o) - 1))
+coming_is : (l : Layout) (q : Ui) (p hop : ℕ) (o : Option PortState) → is_coming p hop o ≡ (moves (spot_in o) && (last_of 0 (path_of l q o) == p) && (hop == length (path_of l q o) - 1))
 coming_is l q p hop None = refl
 coming_is l q p hop (Some f) = refl
 
-made_is : (o : Option Fate) → is_made o ≡ is_some (spot_in o)
+made_is : (o : Option PortState) → is_made o ≡ is_some (spot_in o)
 made_is None = refl
 made_is (Some f) = refl
 

@@ -2,7 +2,7 @@ use Rattle.std.proofs.Common.{◌≡◌, List, [], ◌∷◌, ◌++◌, reverse,
 use Rattle.chorus_entry.specs.declared.entry.Entry.{Entry}
 use Rattle.chorus_world.specs.Ports.{fate}
 use Rattle.chorus_world.specs.Steps.{State, may}
-use Rattle.chorus_checker.specs.Computing.{fate_in}
+use Rattle.chorus_checker.specs.Rows.{fate_in}
 use Rattle.chorus_world.specs.Views.{on}
 use Rattle.chorus_checker.proofs.StepLemmas.{make_fits, take_fits, fate_grows, legal_grows}
 use Rattle.chorus_checker.proofs.world.World.append.Goals as goal
