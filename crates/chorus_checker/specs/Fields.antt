@@ -1,7 +1,7 @@
 -- Fields: what the fields of a port stand for.
 use Rattle.std.specs.Prelude.{ℕ, ◌≤◌, List, length}
 use Rattle.chorus_entry.specs.declared.id.MsgId.{MsgId}
-use Rattle.chorus_entry.specs.declared.record.pending.TheConstants.{PENDING_LIMIT}
+use Rattle.chorus_ui.specs.declared.limits.TheConstants.{PENDING_LIMIT}
 use Rattle.chorus_world.specs.declared.port.Spot.{Spot}
 use Rattle.chorus_world.specs.Ports.{PortState}
 

@@ -13,7 +13,8 @@ use Rattle.chorus_world.specs.declared.place.Location.{Location}
 use Rattle.chorus_world.specs.declared.step.Due.{Due}
 use Rattle.chorus_checker.specs.declared.table.NamedPort.{NamedPort}
 use Rattle.chorus_checker.specs.Rows.{IsTableOf}
-use Rattle.chorus_world.specs.Views.{Views, at, by, views, views_about, are_same}
+use Rattle.chorus_world.specs.Views.{Views, at, by, views, views_about}
+use Rattle.chorus_entry.specs.Same.{are_same}
 use Rattle.chorus_world.specs.Places.{located}
 use Rattle.chorus_world.specs.Seats.{hand, same_hand}
 use Rattle.chorus_world.specs.Steps.{State, act_follows, act_may, choice_from, due, is_elsewhere, is_group_at, is_legal, is_timely, may_choose_from, may_request, may_tag, next_number, reply_to}

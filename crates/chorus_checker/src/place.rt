@@ -3,7 +3,8 @@
 
 ghost use Rattle.std.specs.Prelude.{◌≡◌, ◌+◌, ◌<◌, ◌≤◌, ◌∷◌, [], reverse, length};
 ghost use Rattle.chorus_world.specs.Views.{at};
-ghost use Rattle.chorus_world.specs.Places.{last_clock, ports_made, copies, sent_by, sent, find_sent, is_settling, is_settled, same_route, tried_after, is_tried, is_first, taught, is_sent_to, learned, farther, named_location, located, reply_taken_by, just_taken};
+ghost use Rattle.chorus_world.specs.Places.{last_clock, ports_made, copies, sent_by, sent, find_sent, is_settling, is_settled, tried_after, is_tried, is_first, taught, is_sent_to, learned, farther, named_location, located, reply_taken_by, just_taken};
+ghost use Rattle.chorus_entry.specs.Same.{same_route};
 ghost use Rattle.chorus_checker.specs.Computing.{first_copy, first_sent, first_to, here, lesson};
 
 use crate::post::tag_of;

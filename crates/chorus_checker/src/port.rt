@@ -2,7 +2,7 @@
 
 ghost use Rattle.std.specs.Prelude.{◌≡◌, ◌≤◌, IfOk, OnOk, OnErr, length};
 ghost use Rattle.std.specs.Option.{option_copied};
-ghost use Rattle.chorus_entry.specs.declared.record.pending.TheConstants.{PENDING_LIMIT};
+ghost use Rattle.chorus_ui.specs.declared.limits.TheConstants.{PENDING_LIMIT};
 ghost use Rattle.chorus_checker.specs.Rows.{TakeFits};
 ghost use Rattle.chorus_world.specs.Ports.{new_port, arrived, changed, last_of, is_made, is_held_at, is_ended_at, is_coming, is_next_hop, waiting, has_room, is_full, is_first_waiting, is_empty, are_waiting};
 

@@ -1,359 +1,267 @@
--- What an act is, which answer it gives, and which message, port, group and seat it names. Every word goes through all
--- forty acts, so that a further act has to be placed by hand in each.
+-- What an act is: the role that it plays, and by its role which answer it gives, and which message, port, group and seat
+-- it names. One table goes through all forty acts, so that a further act has to be placed by hand in it.
 use Rattle.std.specs.Prelude.{ℕ, Bool, true, false, Option, Some, None, length}
 use Rattle.std.specs.Option.{option_map}
 use Rattle.chorus_ui.specs.declared.ui.Ui.{Ui}
 use Rattle.chorus_entry.specs.declared.id.MsgId.{MsgId}
 use Rattle.chorus_entry.specs.declared.answer.Answer.{Answer}
 use Rattle.chorus_entry.specs.declared.answer.Answer.TheVariants as A
+use Rattle.chorus_entry.specs.declared.dest.Dest.{Dest}
 use Rattle.chorus_entry.specs.declared.act.Act.{Act}
 use Rattle.chorus_entry.specs.declared.act.Act.TheVariants.{Make, MakeFull, NoActor, NoSite, Post, Accept, Full, Already, ClientsFull, Stale, Early, NoPort, Elsewhere, NoMember, Choose, Try, Told, Heard, Take, Done, Late, Empty, NotHere, Rehome, Depart, Arrive, GroupMake, GroupsFull, Join, Leave, NoGroup, There, NotThere, MembersFull, Outstanding, NoCall, NoRequest, Cancel, Delete, Gone}
+use Rattle.chorus_entry.specs.Answer.{is_final}
 use Rattle.chorus_entry.specs.Dest.{port_in, group_in}
 
+-- What an act does, with what it names. The first six answer a command: they are the first entry that it appends.
+--   Alone names neither port nor group
+--   OnPort stands only where the port is held, or makes it
+--   OffPort finds that the port is not held
+--   OfGroup is about a group, and OfMember about a port as a member of one
+--   Posts posts a message
+--   DecidesHeld and DecidesAway give the answer of a place to a message for a port, which is held there, or is not
+--   FindsNone and Chooses say that there is no member for a post to a group, or how many are chosen
+--   Tries sends a message on to where its port is located
+--   Hears takes in what became of a message elsewhere
+--   Arrives brings the port
+--   Ends follows on the Take of a reply
+pub data Role : Type 0 where
+  Alone : Role
+  OnPort : (port : Ui) → Role
+  OffPort : (port : Ui) → Role
+  OfGroup : (group : Ui) → Role
+  OfMember : (group : Ui) (port : Ui) → Role
+  Posts : (id : MsgId) (dest : Dest) → Role
+  DecidesHeld : (id : MsgId) (port : Ui) (answer : Answer) → Role
+  DecidesAway : (id : MsgId) (port : Ui) (answer : Answer) → Role
+  FindsNone : (id : MsgId) (group : Ui) → Role
+  Chooses : (id : MsgId) (group : Ui) (count : ℕ) → Role
+  Tries : (id : MsgId) (port : Ui) → Role
+  Hears : (id : MsgId) → Role
+  Arrives : (port : Ui) → Role
+  Ends : Role
+
+abbrev pub role : Act → Role
+role (Make q a n) = OnPort q
+role (MakeFull a) = Alone
+role (NoActor a) = Alone
+role (NoSite s) = Alone
+role (Post m d) = Posts m.id d
+role (Accept x q n) = DecidesHeld x q (A.Accepted n)
+role (Full x q n) = DecidesHeld x q (A.Full n)
+role (Already x q) = DecidesHeld x q A.Already
+role (ClientsFull x q) = DecidesHeld x q A.ClientsFull
+role (Stale x q tried to hop) = DecidesAway x q (A.Stale to hop)
+role (Early x q hop) = DecidesAway x q (A.Early hop)
+role (NoPort x q) = DecidesAway x q A.NoPort
+role (Elsewhere x q to hop) = DecidesAway x q (A.Elsewhere to hop)
+role (NoMember x g) = FindsNone x g
+role (Choose x g qs) = Chooses x g (length qs)
+role (Try x q to hop) = Tries x q
+role (Told x r) = Hears x
+role (Heard x r) = Hears x
+role (Take q n x) = OnPort q
+role (Done n) = Ends
+role (Late n) = Ends
+role (Empty q) = OnPort q
+role (NotHere q) = OffPort q
+role (Rehome q a) = OnPort q
+role (Depart q to a hop) = OnPort q
+role (Arrive q hop) = Arrives q
+role (GroupMake g) = OfGroup g
+role (GroupsFull s) = Alone
+role (Join g q) = OfMember g q
+role (Leave g q) = OfMember g q
+role (NoGroup g) = OfGroup g
+role (There g q) = OfMember g q
+role (NotThere g q) = OfMember g q
+role (MembersFull g) = OfGroup g
+role (Outstanding n) = Alone
+role NoCall = Alone
+role NoRequest = Alone
+role (Cancel n) = Alone
+role (Delete q xs) = OnPort q
+role (Gone x q) = DecidesAway x q A.Gone
+
 -- the act answers a command: it is the first entry that the command appends
+abbrev answers_command : Role → Bool
+answers_command Alone = true
+answers_command (OnPort q) = true
+answers_command (OffPort q) = true
+answers_command (OfGroup g) = true
+answers_command (OfMember g q) = true
+answers_command (Posts x d) = true
+answers_command (DecidesHeld x q r) = false
+answers_command (DecidesAway x q r) = false
+answers_command (FindsNone x g) = false
+answers_command (Chooses x g n) = false
+answers_command (Tries x q) = false
+answers_command (Hears x) = false
+answers_command (Arrives q) = false
+answers_command Ends = false
+
 abbrev pub is_command_entry : Act → Bool
-is_command_entry (Make q a n) = true
-is_command_entry (MakeFull a) = true
-is_command_entry (NoActor a) = true
-is_command_entry (NoSite s) = true
-is_command_entry (Post m d) = true
-is_command_entry (Accept x q n) = false
-is_command_entry (Full x q n) = false
-is_command_entry (Already x q) = false
-is_command_entry (ClientsFull x q) = false
-is_command_entry (Stale x q h p n) = false
-is_command_entry (Early x q n) = false
-is_command_entry (NoPort x q) = false
-is_command_entry (Elsewhere x q p n) = false
-is_command_entry (NoMember x g) = false
-is_command_entry (Choose x g qs) = false
-is_command_entry (Try x q p n) = false
-is_command_entry (Told x r) = false
-is_command_entry (Heard x r) = false
-is_command_entry (Take q n x) = true
-is_command_entry (Done n) = false
-is_command_entry (Late n) = false
-is_command_entry (Empty q) = true
-is_command_entry (NotHere q) = true
-is_command_entry (Rehome q a) = true
-is_command_entry (Depart q p a n) = true
-is_command_entry (Arrive q n) = false
-is_command_entry (GroupMake g) = true
-is_command_entry (GroupsFull s) = true
-is_command_entry (Join g q) = true
-is_command_entry (Leave g q) = true
-is_command_entry (NoGroup g) = true
-is_command_entry (There g q) = true
-is_command_entry (NotThere g q) = true
-is_command_entry (MembersFull g) = true
-is_command_entry (Outstanding n) = true
-is_command_entry NoCall = true
-is_command_entry NoRequest = true
-is_command_entry (Cancel n) = true
-is_command_entry (Delete q xs) = true
-is_command_entry (Gone x q) = false
+is_command_entry act = answers_command (role act)
 
 -- a place decides on a message for a port
+abbrev decides : Role → Bool
+decides Alone = false
+decides (OnPort q) = false
+decides (OffPort q) = false
+decides (OfGroup g) = false
+decides (OfMember g q) = false
+decides (Posts x d) = false
+decides (DecidesHeld x q r) = true
+decides (DecidesAway x q r) = true
+decides (FindsNone x g) = false
+decides (Chooses x g n) = false
+decides (Tries x q) = false
+decides (Hears x) = false
+decides (Arrives q) = false
+decides Ends = false
+
 abbrev pub is_decision : Act → Bool
-is_decision (Make q a n) = false
-is_decision (MakeFull a) = false
-is_decision (NoActor a) = false
-is_decision (NoSite s) = false
-is_decision (Post m d) = false
-is_decision (Accept x q n) = true
-is_decision (Full x q n) = true
-is_decision (Already x q) = true
-is_decision (ClientsFull x q) = true
-is_decision (Stale x q h p n) = true
-is_decision (Early x q n) = true
-is_decision (NoPort x q) = true
-is_decision (Elsewhere x q p n) = true
-is_decision (NoMember x g) = false
-is_decision (Choose x g qs) = false
-is_decision (Try x q p n) = false
-is_decision (Told x r) = false
-is_decision (Heard x r) = false
-is_decision (Take q n x) = false
-is_decision (Done n) = false
-is_decision (Late n) = false
-is_decision (Empty q) = false
-is_decision (NotHere q) = false
-is_decision (Rehome q a) = false
-is_decision (Depart q p a n) = false
-is_decision (Arrive q n) = false
-is_decision (GroupMake g) = false
-is_decision (GroupsFull s) = false
-is_decision (Join g q) = false
-is_decision (Leave g q) = false
-is_decision (NoGroup g) = false
-is_decision (There g q) = false
-is_decision (NotThere g q) = false
-is_decision (MembersFull g) = false
-is_decision (Outstanding n) = false
-is_decision NoCall = false
-is_decision NoRequest = false
-is_decision (Cancel n) = false
-is_decision (Delete q xs) = false
-is_decision (Gone x q) = true
+is_decision act = decides (role act)
 
 -- the act settles its message: a decision other than Stale, or that there is nobody to choose
+abbrev settles : Role → Bool
+settles Alone = false
+settles (OnPort q) = false
+settles (OffPort q) = false
+settles (OfGroup g) = false
+settles (OfMember g q) = false
+settles (Posts x d) = false
+settles (DecidesHeld x q r) = is_final r
+settles (DecidesAway x q r) = is_final r
+settles (FindsNone x g) = true
+settles (Chooses x g n) = false
+settles (Tries x q) = false
+settles (Hears x) = false
+settles (Arrives q) = false
+settles Ends = false
+
 abbrev pub is_verdict : Act → Bool
-is_verdict (Make q a n) = false
-is_verdict (MakeFull a) = false
-is_verdict (NoActor a) = false
-is_verdict (NoSite s) = false
-is_verdict (Post m d) = false
-is_verdict (Accept x q n) = true
-is_verdict (Full x q n) = true
-is_verdict (Already x q) = true
-is_verdict (ClientsFull x q) = true
-is_verdict (Stale x q h p n) = false
-is_verdict (Early x q n) = true
-is_verdict (NoPort x q) = true
-is_verdict (Elsewhere x q p n) = true
-is_verdict (NoMember x g) = true
-is_verdict (Choose x g qs) = false
-is_verdict (Try x q p n) = false
-is_verdict (Told x r) = false
-is_verdict (Heard x r) = false
-is_verdict (Take q n x) = false
-is_verdict (Done n) = false
-is_verdict (Late n) = false
-is_verdict (Empty q) = false
-is_verdict (NotHere q) = false
-is_verdict (Rehome q a) = false
-is_verdict (Depart q p a n) = false
-is_verdict (Arrive q n) = false
-is_verdict (GroupMake g) = false
-is_verdict (GroupsFull s) = false
-is_verdict (Join g q) = false
-is_verdict (Leave g q) = false
-is_verdict (NoGroup g) = false
-is_verdict (There g q) = false
-is_verdict (NotThere g q) = false
-is_verdict (MembersFull g) = false
-is_verdict (Outstanding n) = false
-is_verdict NoCall = false
-is_verdict NoRequest = false
-is_verdict (Cancel n) = false
-is_verdict (Delete q xs) = false
-is_verdict (Gone x q) = true
+is_verdict act = settles (role act)
 
 -- the answer that a decision or a choice of members gives
+abbrev answer_in : Role → Option Answer
+answer_in Alone = None
+answer_in (OnPort q) = None
+answer_in (OffPort q) = None
+answer_in (OfGroup g) = None
+answer_in (OfMember g q) = None
+answer_in (Posts x d) = None
+answer_in (DecidesHeld x q r) = Some r
+answer_in (DecidesAway x q r) = Some r
+answer_in (FindsNone x g) = Some A.NoMember
+answer_in (Chooses x g n) = Some (A.Chosen n)
+answer_in (Tries x q) = None
+answer_in (Hears x) = None
+answer_in (Arrives q) = None
+answer_in Ends = None
+
 abbrev pub answer_of : Act → Option Answer
-answer_of (Make q a n) = None
-answer_of (MakeFull a) = None
-answer_of (NoActor a) = None
-answer_of (NoSite s) = None
-answer_of (Post m d) = None
-answer_of (Accept x q n) = Some (A.Accepted n)
-answer_of (Full x q n) = Some (A.Full n)
-answer_of (Already x q) = Some A.Already
-answer_of (ClientsFull x q) = Some A.ClientsFull
-answer_of (Stale x q h p n) = Some (A.Stale p n)
-answer_of (Early x q n) = Some (A.Early n)
-answer_of (NoPort x q) = Some A.NoPort
-answer_of (Elsewhere x q p n) = Some (A.Elsewhere p n)
-answer_of (NoMember x g) = Some A.NoMember
-answer_of (Choose x g qs) = Some (A.Chosen (length qs))
-answer_of (Try x q p n) = None
-answer_of (Told x r) = None
-answer_of (Heard x r) = None
-answer_of (Take q n x) = None
-answer_of (Done n) = None
-answer_of (Late n) = None
-answer_of (Empty q) = None
-answer_of (NotHere q) = None
-answer_of (Rehome q a) = None
-answer_of (Depart q p a n) = None
-answer_of (Arrive q n) = None
-answer_of (GroupMake g) = None
-answer_of (GroupsFull s) = None
-answer_of (Join g q) = None
-answer_of (Leave g q) = None
-answer_of (NoGroup g) = None
-answer_of (There g q) = None
-answer_of (NotThere g q) = None
-answer_of (MembersFull g) = None
-answer_of (Outstanding n) = None
-answer_of NoCall = None
-answer_of NoRequest = None
-answer_of (Cancel n) = None
-answer_of (Delete q xs) = None
-answer_of (Gone x q) = Some A.Gone
+answer_of act = answer_in (role act)
 
 -- the message that an act is about. A Take is about its port
+abbrev message_in : Role → Option MsgId
+message_in Alone = None
+message_in (OnPort q) = None
+message_in (OffPort q) = None
+message_in (OfGroup g) = None
+message_in (OfMember g q) = None
+message_in (Posts x d) = Some x
+message_in (DecidesHeld x q r) = Some x
+message_in (DecidesAway x q r) = Some x
+message_in (FindsNone x g) = Some x
+message_in (Chooses x g n) = Some x
+message_in (Tries x q) = Some x
+message_in (Hears x) = Some x
+message_in (Arrives q) = None
+message_in Ends = None
+
 abbrev pub message_of : Act → Option MsgId
-message_of (Make q a n) = None
-message_of (MakeFull a) = None
-message_of (NoActor a) = None
-message_of (NoSite s) = None
-message_of (Post m d) = Some m.id
-message_of (Accept x q n) = Some x
-message_of (Full x q n) = Some x
-message_of (Already x q) = Some x
-message_of (ClientsFull x q) = Some x
-message_of (Stale x q h p n) = Some x
-message_of (Early x q n) = Some x
-message_of (NoPort x q) = Some x
-message_of (Elsewhere x q p n) = Some x
-message_of (NoMember x g) = Some x
-message_of (Choose x g qs) = Some x
-message_of (Try x q p n) = Some x
-message_of (Told x r) = Some x
-message_of (Heard x r) = Some x
-message_of (Take q n x) = None
-message_of (Done n) = None
-message_of (Late n) = None
-message_of (Empty q) = None
-message_of (NotHere q) = None
-message_of (Rehome q a) = None
-message_of (Depart q p a n) = None
-message_of (Arrive q n) = None
-message_of (GroupMake g) = None
-message_of (GroupsFull s) = None
-message_of (Join g q) = None
-message_of (Leave g q) = None
-message_of (NoGroup g) = None
-message_of (There g q) = None
-message_of (NotThere g q) = None
-message_of (MembersFull g) = None
-message_of (Outstanding n) = None
-message_of NoCall = None
-message_of NoRequest = None
-message_of (Cancel n) = None
-message_of (Delete q xs) = None
-message_of (Gone x q) = Some x
+message_of act = message_in (role act)
 
 -- the seat that posted the message which an act is about
 abbrev pub seat_of : Act → Option ℕ
 seat_of act = option_map (λ x. x.seat) (message_of act)
 
 -- the port that an act names; of a post, the one that it goes to
+abbrev port_named : Role → Option Ui
+port_named Alone = None
+port_named (OnPort q) = Some q
+port_named (OffPort q) = Some q
+port_named (OfGroup g) = None
+port_named (OfMember g q) = Some q
+port_named (Posts x d) = port_in d
+port_named (DecidesHeld x q r) = Some q
+port_named (DecidesAway x q r) = Some q
+port_named (FindsNone x g) = None
+port_named (Chooses x g n) = None
+port_named (Tries x q) = Some q
+port_named (Hears x) = None
+port_named (Arrives q) = Some q
+port_named Ends = None
+
 abbrev pub port_of : Act → Option Ui
-port_of (Make q a n) = Some q
-port_of (MakeFull a) = None
-port_of (NoActor a) = None
-port_of (NoSite s) = None
-port_of (Post m d) = port_in d
-port_of (Accept x q n) = Some q
-port_of (Full x q n) = Some q
-port_of (Already x q) = Some q
-port_of (ClientsFull x q) = Some q
-port_of (Stale x q h p n) = Some q
-port_of (Early x q n) = Some q
-port_of (NoPort x q) = Some q
-port_of (Elsewhere x q p n) = Some q
-port_of (NoMember x g) = None
-port_of (Choose x g qs) = None
-port_of (Try x q p n) = Some q
-port_of (Told x r) = None
-port_of (Heard x r) = None
-port_of (Take q n x) = Some q
-port_of (Done n) = None
-port_of (Late n) = None
-port_of (Empty q) = Some q
-port_of (NotHere q) = Some q
-port_of (Rehome q a) = Some q
-port_of (Depart q p a n) = Some q
-port_of (Arrive q n) = Some q
-port_of (GroupMake g) = None
-port_of (GroupsFull s) = None
-port_of (Join g q) = Some q
-port_of (Leave g q) = Some q
-port_of (NoGroup g) = None
-port_of (There g q) = Some q
-port_of (NotThere g q) = Some q
-port_of (MembersFull g) = None
-port_of (Outstanding n) = None
-port_of NoCall = None
-port_of NoRequest = None
-port_of (Cancel n) = None
-port_of (Delete q xs) = Some q
-port_of (Gone x q) = Some q
+port_of act = port_named (role act)
 
 -- the port of an act that stands only where this port is held, or comes to be held
+abbrev port_held : Role → Option Ui
+port_held Alone = None
+port_held (OnPort q) = Some q
+port_held (OffPort q) = None
+port_held (OfGroup g) = None
+port_held (OfMember g q) = None
+port_held (Posts x d) = None
+port_held (DecidesHeld x q r) = Some q
+port_held (DecidesAway x q r) = None
+port_held (FindsNone x g) = None
+port_held (Chooses x g n) = None
+port_held (Tries x q) = None
+port_held (Hears x) = None
+port_held (Arrives q) = Some q
+port_held Ends = None
+
 abbrev pub held_port_of : Act → Option Ui
-held_port_of (Make q a n) = Some q
-held_port_of (MakeFull a) = None
-held_port_of (NoActor a) = None
-held_port_of (NoSite s) = None
-held_port_of (Post m d) = None
-held_port_of (Accept x q n) = Some q
-held_port_of (Full x q n) = Some q
-held_port_of (Already x q) = Some q
-held_port_of (ClientsFull x q) = Some q
-held_port_of (Stale x q h p n) = None
-held_port_of (Early x q n) = None
-held_port_of (NoPort x q) = None
-held_port_of (Elsewhere x q p n) = None
-held_port_of (NoMember x g) = None
-held_port_of (Choose x g qs) = None
-held_port_of (Try x q p n) = None
-held_port_of (Told x r) = None
-held_port_of (Heard x r) = None
-held_port_of (Take q n x) = Some q
-held_port_of (Done n) = None
-held_port_of (Late n) = None
-held_port_of (Empty q) = Some q
-held_port_of (NotHere q) = None
-held_port_of (Rehome q a) = Some q
-held_port_of (Depart q p a n) = Some q
-held_port_of (Arrive q n) = Some q
-held_port_of (GroupMake g) = None
-held_port_of (GroupsFull s) = None
-held_port_of (Join g q) = None
-held_port_of (Leave g q) = None
-held_port_of (NoGroup g) = None
-held_port_of (There g q) = None
-held_port_of (NotThere g q) = None
-held_port_of (MembersFull g) = None
-held_port_of (Outstanding n) = None
-held_port_of NoCall = None
-held_port_of NoRequest = None
-held_port_of (Cancel n) = None
-held_port_of (Delete q xs) = Some q
-held_port_of (Gone x q) = None
+held_port_of act = port_held (role act)
+
+-- the port that an act reads: the one that it needs held, makes or brings, or the one that it finds away
+abbrev port_read : Role → Option Ui
+port_read Alone = None
+port_read (OnPort q) = Some q
+port_read (OffPort q) = None
+port_read (OfGroup g) = None
+port_read (OfMember g q) = None
+port_read (Posts x d) = None
+port_read (DecidesHeld x q r) = Some q
+port_read (DecidesAway x q r) = Some q
+port_read (FindsNone x g) = None
+port_read (Chooses x g n) = None
+port_read (Tries x q) = None
+port_read (Hears x) = None
+port_read (Arrives q) = Some q
+port_read Ends = None
+
+abbrev pub port_read_by : Act → Option Ui
+port_read_by act = port_read (role act)
 
 -- the group that an act names; of a post, the one that it goes to
+abbrev group_named : Role → Option Ui
+group_named Alone = None
+group_named (OnPort q) = None
+group_named (OffPort q) = None
+group_named (OfGroup g) = Some g
+group_named (OfMember g q) = Some g
+group_named (Posts x d) = group_in d
+group_named (DecidesHeld x q r) = None
+group_named (DecidesAway x q r) = None
+group_named (FindsNone x g) = Some g
+group_named (Chooses x g n) = Some g
+group_named (Tries x q) = None
+group_named (Hears x) = None
+group_named (Arrives q) = None
+group_named Ends = None
+
 abbrev pub group_of : Act → Option Ui
-group_of (Make q a n) = None
-group_of (MakeFull a) = None
-group_of (NoActor a) = None
-group_of (NoSite s) = None
-group_of (Post m d) = group_in d
-group_of (Accept x q n) = None
-group_of (Full x q n) = None
-group_of (Already x q) = None
-group_of (ClientsFull x q) = None
-group_of (Stale x q h p n) = None
-group_of (Early x q n) = None
-group_of (NoPort x q) = None
-group_of (Elsewhere x q p n) = None
-group_of (NoMember x g) = Some g
-group_of (Choose x g qs) = Some g
-group_of (Try x q p n) = None
-group_of (Told x r) = None
-group_of (Heard x r) = None
-group_of (Take q n x) = None
-group_of (Done n) = None
-group_of (Late n) = None
-group_of (Empty q) = None
-group_of (NotHere q) = None
-group_of (Rehome q a) = None
-group_of (Depart q p a n) = None
-group_of (Arrive q n) = None
-group_of (GroupMake g) = Some g
-group_of (GroupsFull s) = None
-group_of (Join g q) = Some g
-group_of (Leave g q) = Some g
-group_of (NoGroup g) = Some g
-group_of (There g q) = Some g
-group_of (NotThere g q) = Some g
-group_of (MembersFull g) = Some g
-group_of (Outstanding n) = None
-group_of NoCall = None
-group_of NoRequest = None
-group_of (Cancel n) = None
-group_of (Delete q xs) = None
-group_of (Gone x q) = None
+group_of act = group_named (role act)

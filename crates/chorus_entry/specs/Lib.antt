@@ -1,6 +1,7 @@
 pub mod Act
 pub mod Answer
 pub mod Body
+pub mod Clients
 pub mod ClientTable
 pub mod Command
 pub mod Dest
@@ -9,7 +10,9 @@ pub mod Kinds
 pub mod Members
 pub mod Message
 pub mod MsgId
+pub mod Order
+pub mod Places
 pub mod PortRecord
 pub mod Ranges
+pub mod Same
 pub mod Tag
-pub mod Places

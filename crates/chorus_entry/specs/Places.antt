@@ -1,5 +1,5 @@
 -- The place at which a command is carried out.
-use Rattle.std.specs.Prelude.{ℕ, cond, Option, Some, None, unwrap_or}
+use Rattle.std.specs.Prelude.{ℕ, if◌then◌else◌, Option, Some, None, unwrap_or}
 use Rattle.chorus_ui.specs.declared.ui.Ui.{Ui}
 use Rattle.chorus_ui.specs.declared.layout.Layout.{Layout}
 use Rattle.chorus_ui.specs.Layout.{has_site, first_place, place_at, home, group_place}
@@ -13,7 +13,7 @@ place_named l a (Make actor capacity) = home l actor
 place_named l a (Take port) = Some (place_at l a.site port)
 place_named l a (Move port actor) = Some (place_at l a.site port)
 place_named l a (Delete port) = Some (place_at l a.site port)
-place_named l a (GroupMake site) = cond (has_site l site) (Some (first_place l site)) None
+place_named l a (GroupMake site) = if has_site l site then Some (first_place l site) else None
 place_named l a (Join group port) = group_place l group
 place_named l a (Leave group port) = group_place l group
 place_named l a (Send dest body) = None

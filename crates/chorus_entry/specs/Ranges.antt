@@ -2,11 +2,7 @@
 use Rattle.std.specs.Prelude.{ℕ, Bool, true, false, ◌&&◌, nat_le, Option, Some, None, List, length}
 use Rattle.std.specs.List.{list_all}
 use Rattle.chorus_ui.specs.declared.ui.Ui.{Ui}
-use Rattle.chorus_ui.specs.declared.layout.TheConstants.{MAX_SITES, MAX_PLACES}
-use Rattle.chorus_entry.specs.declared.body.TheConstants.{BODY_LIMIT}
-use Rattle.chorus_entry.specs.declared.members.TheConstants.{MEMBERS_LIMIT}
-use Rattle.chorus_entry.specs.declared.record.clients.TheConstants.{CLIENTS_LIMIT}
-use Rattle.chorus_entry.specs.declared.record.pending.TheConstants.{PENDING_LIMIT}
+use Rattle.chorus_ui.specs.declared.limits.TheConstants.{SITES_LIMIT, PLACES_LIMIT, MEMBERS_LIMIT, PENDING_LIMIT, CLIENTS_LIMIT, BODY_LIMIT}
 use Rattle.chorus_entry.specs.declared.id.MsgId.{MsgId}
 use Rattle.chorus_entry.specs.declared.tag.Tag.{Tag}
 use Rattle.chorus_entry.specs.declared.tag.Tag.TheVariants.{Plain, Request, Reply}
@@ -29,11 +25,11 @@ is_from low high n = nat_le low n && nat_le n high
 
 -- the number of a place in the largest layout
 abbrev pub is_place_number : ℕ → Bool
-is_place_number = is_from 1 MAX_PLACES
+is_place_number = is_from 1 PLACES_LIMIT
 
 -- the number of a site in the largest layout
 abbrev pub is_site_number : ℕ → Bool
-is_site_number = is_from 1 MAX_SITES
+is_site_number = is_from 1 SITES_LIMIT
 
 abbrev pub has_range_of_id : MsgId → Bool
 has_range_of_id id = nat_le 1 id.number && nat_le id.copy MEMBERS_LIMIT

@@ -1,13 +1,10 @@
 //! The bytes of a message.
 
 ghost use Rattle.std.specs.Prelude.{◌≡◌, ℕ, ◌≤◌, List, length, IfOk};
-ghost use Rattle.chorus_entry.specs.declared.body.TheConstants.{BODY_LIMIT};
+ghost use Rattle.chorus_ui.specs.declared.limits.TheConstants.{BODY_LIMIT};
 
 use std::alloc::{AllocError, Global};
 use std::marker::Model;
-
-/// The most bytes that a message carries.
-pub const BODY_LIMIT: usize = 4096;
 
 /// The bytes of a message, a contiguous string of at most 4,096, which nothing changes once it is made.
 #[derive(Debug, Drop)]

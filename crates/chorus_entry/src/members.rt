@@ -2,14 +2,11 @@
 
 ghost use Rattle.std.specs.Prelude.{◌≡◌, ◌≤◌, List, length, IfOk};
 ghost use Rattle.chorus_ui.specs.declared.ui.Ui.{Ui};
-ghost use Rattle.chorus_entry.specs.declared.members.TheConstants.{MEMBERS_LIMIT};
+ghost use Rattle.chorus_ui.specs.declared.limits.TheConstants.{MEMBERS_LIMIT};
 
 use chorus_ui::Ui;
 use std::alloc::{AllocError, Global};
 use std::marker::Model;
-
-/// The most members that a group has.
-pub const MEMBERS_LIMIT: usize = 32;
 
 /// The members of a group that a post was turned into copies for, in order: at most 32.
 #[derive(Debug, Drop)]

@@ -2,14 +2,14 @@
 
 ghost use Rattle.std.specs.Prelude.{◌≡◌, ◌≤◌, IfOk};
 ghost use Rattle.chorus_entry.specs.PortRecord.{new_record};
-ghost use Rattle.chorus_entry.specs.declared.record.pending.TheConstants.{PENDING_LIMIT};
+ghost use Rattle.chorus_ui.specs.declared.limits.TheConstants.{PENDING_LIMIT};
 
 mod clients;
 mod pending;
 
 use chorus_ui::Ui;
-pub use clients::{CLIENTS_LIMIT, ClientTable};
-pub use pending::{PENDING_LIMIT, Pending};
+pub use clients::ClientTable;
+pub use pending::Pending;
 use std::alloc::{AllocError, Global};
 
 /// All that the place which holds a port knows of it. It is moved with the port and never copied, so each port has one.

@@ -5,7 +5,7 @@ use Rattle.std.proofs.lemmas.Bool.{and_parts, false≢true, eqb-true, eqb-false}
 use Rattle.std.proofs.lemmas.Option.{slice_get_past}
 use Rattle.chorus_ui.specs.declared.ui.Ui.{Ui}
 use Rattle.chorus_ui.specs.declared.layout.Layout.{Layout}
-use Rattle.chorus_ui.specs.Layout.{IsShape, has_site, has_actor, creation_place}
+use Rattle.chorus_ui.specs.Layout.{IsLayout, has_site, has_actor, creation_place}
 use Rattle.chorus_entry.specs.declared.entry.Entry.{Entry}
 use Rattle.chorus_entry.specs.declared.dest.Dest.{Dest}
 use Rattle.chorus_entry.specs.declared.command.Command.{Command}
@@ -107,7 +107,7 @@ holds-entered l events s actor w =
 
 -- A command.
 
-calls : (l : Layout) (f : ℕ → Option Ui) (past : List Entry) (ports : List PortRecord) (v : Seated) (command : Command) → IsShape l → InCall l f past ports v [] → may_give l (Some v.actor) command ≡ true → IsDone l f past v command (call command (turn l past ports v))
+calls : (l : Layout) (f : ℕ → Option Ui) (past : List Entry) (ports : List PortRecord) (v : Seated) (command : Command) → IsLayout l → InCall l f past ports v [] → may_give l (Some v.actor) command ≡ true → IsDone l f past v command (call command (turn l past ports v))
 calls l f past ports v (Command.Make actor n) shape w h =
     let outer = and_parts (is_capacity n && names_actor actor && (place_for l v.actor (Command.Make actor n) == 1)) true h in
     let one = and_parts (is_capacity n && names_actor actor) (place_for l v.actor (Command.Make actor n) == 1) outer.0 in
@@ -216,7 +216,7 @@ module _ (l : Layout) (events : List Event) (s : SitesState) (k : ℕ) (v : Seat
         performed = performed-later;
       }
 
-holds-acted : (l : Layout) (events : List Event) (s : SitesState) (k : ℕ) (command : Command) → IsShape l → Holds l events s → may_give l (actor_of s k) command ≡ true → Holds l (Act k command ∷ events) (acted k command s)
+holds-acted : (l : Layout) (events : List Event) (s : SitesState) (k : ℕ) (command : Command) → IsLayout l → Holds l events s → may_give l (actor_of s k) command ≡ true → Holds l (Act k command ∷ events) (acted k command s)
 holds-acted l events s k command shape w h = go (slice_get s.callers k) refl h
   where
     go : (o : Option Seated) → slice_get s.callers k ≡ o → may_give l (option_map (λ (z : Seated). z.actor) o) command ≡ true → Holds l (Act k command ∷ events) (acted_by k o command s)
@@ -235,7 +235,7 @@ holds-acted l events s k command shape w h = go (slice_get s.callers k) refl h
         (calls l (actor_of s) s.place.journal s.place.ports v command shape in_call give) in
         holds-put l events s k v command (call command (record { place = s.place; caller = v })) w e done
 
-pub holds : (l : Layout) (events : List Event) → IsShape l → are_ready l events ≡ true → Holds l events (after l events)
+pub holds : (l : Layout) (events : List Event) → IsLayout l → are_ready l events ≡ true → Holds l events (after l events)
 holds l [] shape h = holds-first l
 holds l (Enter actor ∷ events) shape h =
     let rest = (and_parts (names_actor actor && has_actor l actor) (are_ready l events) h).1 in

@@ -8,7 +8,8 @@ use Rattle.chorus_entry.specs.declared.entry.Entry.{Entry}
 use Rattle.chorus_entry.specs.declared.id.MsgId.{MsgId}
 use Rattle.chorus_entry.specs.declared.record.PortRecord.{PortRecord}
 use Rattle.chorus_entry.specs.Act.{held_port_of}
-use Rattle.chorus_world.specs.Views.{on, is_on, are_same}
+use Rattle.chorus_world.specs.Views.{on, is_on}
+use Rattle.chorus_entry.specs.Same.{are_same}
 use Rattle.chorus_world.specs.Ports.{PortState, fate, fate_after}
 use Rattle.chorus_ports.specs.Table.{find, replace}
 use Rattle.chorus_ports.proofs.Tables.{KeepsName, find-replace}

@@ -5,7 +5,7 @@ use Rattle.std.proofs.lemmas.Bool.{and_from, or_left}
 use Rattle.chorus_ui.specs.declared.ui.Ui.{Ui}
 use Rattle.chorus_ui.specs.declared.kind.Kind.TheVariants as kinds
 use Rattle.chorus_ui.specs.declared.layout.Layout.{Layout}
-use Rattle.chorus_ui.specs.Layout.{IsShape, has_site, has_place, creation_place, places}
+use Rattle.chorus_ui.specs.Layout.{IsLayout, has_site, has_place, creation_place, places}
 use Rattle.chorus_entry.specs.declared.entry.Entry.{Entry}
 use Rattle.chorus_entry.specs.declared.id.MsgId.{MsgId}
 use Rattle.chorus_entry.specs.declared.act.Act.{Act}
@@ -14,7 +14,8 @@ use Rattle.chorus_entry.specs.Kinds.{has_kinds}
 use Rattle.chorus_entry.specs.MsgId.{same_id}
 use Rattle.chorus_entry.proofs.Same.{same_id-self}
 use Rattle.chorus_world.specs.declared.step.Due.TheVariants as dues
-use Rattle.chorus_world.specs.Views.{views, at, by, on, is_about, are_same}
+use Rattle.chorus_world.specs.Views.{views, at, by, on, is_about}
+use Rattle.chorus_entry.specs.Same.{are_same}
 use Rattle.chorus_world.specs.Ports.{PortState, fate, is_held, is_held_at, last_of, is_made, has_room, is_full, waiting, is_first_waiting, is_empty}
 use Rattle.chorus_world.specs.Posts.{is_on_site}
 use Rattle.chorus_world.specs.Clients.{is_old, is_one_too_many, is_already, finds_clients_full, kept, clients}
@@ -26,13 +27,13 @@ use Rattle.chorus_net.proofs.Core.{entry, Calm}
 use Rattle.chorus_net.proofs.Shown.{Sound}
 use Rattle.chorus_net.proofs.Waits.{IsWaiting, waits-first, new_post}
 
-has-place-1 : (l : Layout) → IsShape l → has_place l 1 ≡ true
+has-place-1 : (l : Layout) → IsLayout l → has_place l 1 ≡ true
 has-place-1 l h =
     let one : 0 < l.sites * l.turns = mul-pos {m = l.sites} {n = l.turns} h.sites_from_one h.turns_from_one in
     le-leb 1 (places l) one
 
 -- an entry is next if its act may be, and its clock is later
-pub may-next : (l : Layout) (past : List Entry) (c s : ℕ) (a : Act) → IsShape l → Calm l past → last_clock past < c → has_kinds a ≡ true → act_may l (views past 1 s a) 1 s a ≡ true → may l past (entry c s a) ≡ true
+pub may-next : (l : Layout) (past : List Entry) (c s : ℕ) (a : Act) → IsLayout l → Calm l past → last_clock past < c → has_kinds a ≡ true → act_may l (views past 1 s a) 1 s a ≡ true → may l past (entry c s a) ≡ true
 may-next l past c s a shape w later kinds h =
     let place = has-place-1 l shape in
     let clock : nat_lt (last_clock (at 1 past)) c ≡ true = ap (λ z. nat_lt (last_clock z) c) w.here ∙ lt-ltb (last_clock past) c later in

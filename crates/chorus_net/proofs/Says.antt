@@ -3,7 +3,7 @@ use Rattle.std.proofs.Common.{ℕ, ◌≡◌, ◌==◌, ◌+◌, ◌<◌, ◌≤
 use Rattle.std.proofs.lemmas.Bool.{and_from, eqb-true}
 use Rattle.chorus_ui.specs.declared.ui.Ui.{Ui}
 use Rattle.chorus_ui.specs.declared.layout.Layout.{Layout}
-use Rattle.chorus_ui.specs.Layout.{IsShape}
+use Rattle.chorus_ui.specs.Layout.{IsLayout}
 use Rattle.chorus_entry.specs.declared.entry.Entry.{Entry}
 use Rattle.chorus_entry.specs.declared.id.MsgId.{MsgId}
 use Rattle.chorus_entry.specs.declared.act.Act.{Act}
@@ -60,7 +60,7 @@ pub record Owes (l : Layout) (past : List Entry) (now : List PortRecord) (v : Se
   pub table : PortsStand l (next_entry past v a ∷ past) now
   pub waits : unsettled (next_entry past v a ∷ past) (sent (next_entry past v a ∷ past)) ≡ rest
 
-pub says : (l : Layout) (f : ℕ → Option Ui) (past : List Entry) (ports now : List PortRecord) (v : Seated) (a : Act) (old later : List Sent) → IsShape l → InCall l f past ports v old → Owes l past now v a later → InCall l f (next_entry past v a ∷ past) now (after_act past v a) later
+pub says : (l : Layout) (f : ℕ → Option Ui) (past : List Entry) (ports now : List PortRecord) (v : Seated) (a : Act) (old later : List Sent) → IsLayout l → InCall l f past ports v old → Owes l past now v a later → InCall l f (next_entry past v a ∷ past) now (after_act past v a) later
 says l f past ports now v a old later shape w o =
     let e = next_entry past v a in
     let s = v.seat in

@@ -4,7 +4,7 @@ use Rattle.std.proofs.lemmas.Bool.{eqb-true, eqb-false}
 use Rattle.std.proofs.lemmas.List.{length-map, map-append, drop-append-le}
 use Rattle.chorus_ui.specs.declared.ui.Ui.{Ui}
 use Rattle.chorus_ui.specs.declared.layout.Layout.{Layout}
-use Rattle.chorus_ui.specs.Layout.{IsShape, has_site, creation_place}
+use Rattle.chorus_ui.specs.Layout.{IsLayout, has_site, creation_place}
 use Rattle.chorus_ui.specs.Name.{same_ui}
 use Rattle.chorus_ui.proofs.Names.{same_ui-self}
 use Rattle.chorus_entry.specs.declared.entry.Entry.{Entry}
@@ -71,7 +71,7 @@ behind q past m g a =
     }
 
 -- Behind the post: the verdict of the message that waits.
-module _ (l : Layout) (f : ℕ → Option Ui) (past : List Entry) (ports : List PortRecord) (v : Seated) (q : Ui) (m : Message) (shape : IsShape l) (w : InCall l f past ports v (new_sent m.id q ∷ [])) (waits : IsWaiting past m.id q) (posted : is_some (post_of m.id past) ≡ true) (kind : names_port q ≡ true) (site : has_site l q.site ≡ true) (place : (creation_place l q == 1) ≡ true) where
+module _ (l : Layout) (f : ℕ → Option Ui) (past : List Entry) (ports : List PortRecord) (v : Seated) (q : Ui) (m : Message) (shape : IsLayout l) (w : InCall l f past ports v (new_sent m.id q ∷ [])) (waits : IsWaiting past m.id q) (posted : is_some (post_of m.id past) ≡ true) (kind : names_port q ≡ true) (site : has_site l q.site ≡ true) (place : (creation_place l q == 1) ≡ true) where
   abbrev now : List PortRecord
   now = replace q (after_offer m) ports
 
@@ -169,7 +169,7 @@ module _ (l : Layout) (f : ℕ → Option Ui) (past : List Entry) (ports : List 
       says l f past ports now v a (new_sent x q ∷ []) [] shape w owes
 
 -- The whole command.
-module _ (l : Layout) (f : ℕ → Option Ui) (past : List Entry) (ports : List PortRecord) (v : Seated) (q : Ui) (body : List ℕ) (shape : IsShape l) (w : InCall l f past ports v []) (kind : names_port q ≡ true) (site : has_site l q.site ≡ true) (there : (creation_place l q == 1) ≡ true) (place : (place_for l v.actor (Command.Send (Dest.Port q) body) == 1) ≡ true) where
+module _ (l : Layout) (f : ℕ → Option Ui) (past : List Entry) (ports : List PortRecord) (v : Seated) (q : Ui) (body : List ℕ) (shape : IsLayout l) (w : InCall l f past ports v []) (kind : names_port q ≡ true) (site : has_site l q.site ≡ true) (there : (creation_place l q == 1) ≡ true) (place : (place_for l v.actor (Command.Send (Dest.Port q) body) == 1) ≡ true) where
   abbrev message : Message
   message = record { id = new_id v.seat v.posts; tag = Tag.Plain; body = body }
 

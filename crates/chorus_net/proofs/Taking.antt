@@ -2,7 +2,7 @@
 use Rattle.std.proofs.Common.{ℕ, ◌≡◌, ◌==◌, ◌+◌, ◌-◌, ◌⊎◌, inl, inr, Bool, true, false, ◌&&◌, not, cond, if◌then◌else◌, List, [], ◌∷◌, length, drop, map, Option, Some, None, refl, sym, ◌∙◌, ap, subst, arith, length-drop}
 use Rattle.chorus_ui.specs.declared.ui.Ui.{Ui}
 use Rattle.chorus_ui.specs.declared.layout.Layout.{Layout}
-use Rattle.chorus_ui.specs.Layout.{IsShape}
+use Rattle.chorus_ui.specs.Layout.{IsLayout}
 use Rattle.chorus_ui.specs.Name.{same_ui}
 use Rattle.chorus_ui.proofs.Names.{same_ui-self, from_same_ui}
 use Rattle.chorus_entry.specs.declared.entry.Entry.{Entry}
@@ -47,7 +47,7 @@ not-held-by l past q a f s made h =
     let other : is_held_by a f.spot ≡ false = ap (is_held_by a) s.held ∙ differs_back s.holder a h in
     ap (is_held_at_by 1 a) made ∙ (λ i. other i && (last_of 0 (s.path i) == 1))
 
-module _ (l : Layout) (f : ℕ → Option Ui) (past : List Entry) (ports : List PortRecord) (v : Seated) (q : Ui) (shape : IsShape l) (w : InCall l f past ports v []) (kind : names_port q ≡ true) (place : (place_for l v.actor (Command.Take q) == 1) ≡ true) where
+module _ (l : Layout) (f : ℕ → Option Ui) (past : List Entry) (ports : List PortRecord) (v : Seated) (q : Ui) (shape : IsLayout l) (w : InCall l f past ports v []) (kind : names_port q ≡ true) (place : (place_for l v.actor (Command.Take q) == 1) ≡ true) where
   abbrev now : List PortRecord
   now = replace q (after_take v.actor) ports
 

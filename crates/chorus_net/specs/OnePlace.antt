@@ -2,7 +2,7 @@
 use Rattle.std.specs.Prelude.{ℕ, ◌≡◌, ◌-◌, ◌==◌, Bool, true, false, ◌&&◌, List, [], ◌∷◌, length, map, drop, Option, Some, None}
 use Rattle.chorus_ui.specs.declared.ui.Ui.{Ui}
 use Rattle.chorus_ui.specs.declared.layout.Layout.{Layout}
-use Rattle.chorus_ui.specs.Layout.{IsShape, has_actor}
+use Rattle.chorus_ui.specs.Layout.{IsLayout, has_actor}
 use Rattle.chorus_entry.specs.declared.entry.Entry.{Entry}
 use Rattle.chorus_entry.specs.declared.id.MsgId.{MsgId}
 use Rattle.chorus_entry.specs.declared.tag.Tag.{Tag}
@@ -65,21 +65,21 @@ pub record StandsFor (past : List Entry) (ports : List PortRecord) : Type 0 wher
 
 -- the journal is a run for the callers
 abbrev pub Runs : Type 0
-Runs = (l : Layout) (events : List Event) → IsShape l → are_ready l events ≡ true →
+Runs = (l : Layout) (events : List Event) → IsLayout l → are_ready l events ≡ true →
     is_run l (actor_of (after l events)) (after l events).place.journal ≡ true
 
 -- it performs the commands of each seat
 abbrev pub Performs : Type 0
-Performs = (l : Layout) (events : List Event) (k : ℕ) (a : Ui) → IsShape l → are_ready l events ≡ true →
+Performs = (l : Layout) (events : List Event) (k : ℕ) (a : Ui) → IsLayout l → are_ready l events ≡ true →
     actor_of (after l events) k ≡ Some a →
     performs l k a (after l events).place.journal (commands_of k events) ≡ true
 
 -- the table stands for the world of it
 abbrev pub TablesStand : Type 0
-TablesStand = (l : Layout) (events : List Event) → IsShape l → are_ready l events ≡ true →
+TablesStand = (l : Layout) (events : List Event) → IsLayout l → are_ready l events ≡ true →
     StandsFor (after l events).place.journal (after l events).place.ports
 
 -- and each message that was sent has its verdict
 abbrev pub IsQuiet : Type 0
-IsQuiet = (l : Layout) (events : List Event) → IsShape l → are_ready l events ≡ true →
+IsQuiet = (l : Layout) (events : List Event) → IsLayout l → are_ready l events ≡ true →
     unsettled (after l events).place.journal (sent (after l events).place.journal) ≡ []

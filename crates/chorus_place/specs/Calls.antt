@@ -2,7 +2,7 @@
 use Rattle.std.specs.Prelude.{ℕ, ◌≡◌, ◌+◌, ◌≤◌, ◌/◌, ◌<◌, Bool, true, false, List, length, Some, is_some}
 use Rattle.chorus_ui.specs.declared.ui.Ui.{Ui}
 use Rattle.chorus_ui.specs.declared.layout.Layout.{Layout}
-use Rattle.chorus_ui.specs.declared.layout.TheConstants.{PORTS_PER_SITE}
+use Rattle.chorus_ui.specs.declared.limits.TheConstants.{PORTS_PER_SITE_LIMIT}
 use Rattle.chorus_ui.specs.Layout.{has_place}
 use Rattle.chorus_entry.specs.declared.entry.Entry.{Entry}
 use Rattle.chorus_entry.specs.declared.command.Command.{Command}
@@ -27,7 +27,7 @@ pub record Place : Type 0 where
 pub record IsKept (l : Layout) (p : ℕ) (past : List Entry) (made : ℕ) (ports : List PortRecord) (spare : ℕ) : Type 0 where
   pub place : has_place l p ≡ true
   pub count : made ≡ ports_made past
-  pub room : spare + made ≡ PORTS_PER_SITE / l.turns
+  pub room : spare + made ≡ PORTS_PER_SITE_LIMIT / l.turns
   pub names : (q : Ui) → is_some (find q ports) ≡ true → q.number < next_number l p past
   pub positions : (q : Ui) (port : PortRecord) → find q ports ≡ Some port → port.first + length port.pending ≤ last_clock past
 

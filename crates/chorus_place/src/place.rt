@@ -18,7 +18,7 @@ use crate::turn::{
 use chorus_calls::Caller;
 use chorus_entry::{Act, Body, Command, Entry};
 use chorus_ports::Ports;
-use chorus_ui::{Layout, PORTS_PER_SITE, Ui};
+use chorus_ui::{Layout, PORTS_PER_SITE_LIMIT, Ui};
 use std::alloc::{AllocError, Global};
 use std::marker::Model;
 
@@ -49,7 +49,7 @@ impl Place {
         requires { has_place layout number ≡ true }
         ensures { IfOk result (λ place. place.state ≡ started layout number) }
     {
-        let most = PORTS_PER_SITE / u64::from(layout.turns());
+        let most = PORTS_PER_SITE_LIMIT / u64::from(layout.turns());
         Ok(Place {
             layout,
             number,
@@ -190,7 +190,7 @@ impl Place {
     fn has_made_all(&self) -> bool
         ensures { result ≡ is_full_of_ports self.now.state.layout self.now.state.journal }
     {
-        u64::from(self.made) == PORTS_PER_SITE / u64::from(self.layout.turns())
+        u64::from(self.made) == PORTS_PER_SITE_LIMIT / u64::from(self.layout.turns())
     }
 
     /// Posts a message to a port whose creation place this is, and decides on it.

@@ -4,7 +4,7 @@ use Rattle.std.proofs.lemmas.Bool.{and_parts}
 use Rattle.std.proofs.lemmas.List.{reverse-reverse}
 use Rattle.chorus_ui.specs.declared.ui.Ui.{Ui}
 use Rattle.chorus_ui.specs.declared.layout.Layout.{Layout}
-use Rattle.chorus_ui.specs.Layout.{IsShape}
+use Rattle.chorus_ui.specs.Layout.{IsLayout}
 use Rattle.chorus_entry.specs.declared.entry.Entry.{Entry}
 use Rattle.chorus_entry.specs.declared.command.Command.{Command}
 use Rattle.chorus_merge.specs.Merge.{merged}
@@ -54,7 +54,7 @@ legal-older l (e ∷ newer) past h = legal-older l newer past (and_parts (may l 
 
 -- What the events say of the journal, said of the merge.
 
-pub run-of : (c : Scene) (closed : Closed) → IsShape c.layout → are_ready c.layout (reverse (order c)) ≡ true
+pub run-of : (c : Scene) (closed : Closed) → IsLayout c.layout → are_ready c.layout (reverse (order c)) ≡ true
     → ((k : ℕ) → actor_of (replayed c) k ≡ callers_of c k) → merge_of closed ≡ journal_of c → IsRun c closed
 run-of c closed shape ready actors h =
     let run = (holds c.layout (reverse (order c)) shape ready).world.run in
@@ -64,7 +64,7 @@ run-of c closed shape ready actors h =
 some : (a b : Ui) → Some a ≡ Some b → a ≡ b
 some a b h = cc
 
-pub performs-of : (c : Scene) (closed : Closed) → IsShape c.layout → are_ready c.layout (reverse (order c)) ≡ true
+pub performs-of : (c : Scene) (closed : Closed) → IsLayout c.layout → are_ready c.layout (reverse (order c)) ≡ true
     → ((k : ℕ) → actor_of (replayed c) k ≡ callers_of c k)
     → ((k : ℕ) (commands : List Command) → commands_by c k ≡ Some commands → commands_of k (reverse (order c)) ≡ reverse commands)
     → merge_of closed ≡ journal_of c → Performs c closed
@@ -74,7 +74,7 @@ performs-of c closed shape ready actors given h =
     ∙ (ap (performs c.layout k actor (replayed c).place.journal) (sym (given k commands by))
     ∙ (holds c.layout (reverse (order c)) shape ready).performed k actor (λ b e. some b actor (sym e ∙ (actors k ∙ caller))))
 
-pub receives-of : (c : Scene) (closed : Closed) → IsShape c.layout → IsRun c closed → ReceivesInOrder closed
+pub receives-of : (c : Scene) (closed : Closed) → IsLayout c.layout → IsRun c closed → ReceivesInOrder closed
 receives-of c closed shape run =
     λ newer past port e.
     let legal = run-legal c.layout (callers_of c) (past_of closed) run in
@@ -82,11 +82,11 @@ receives-of c closed shape run =
 
 -- The headline of a scenario that keeps its limits and is built.
 
-pub runs : (c : Scene) (closed : Closed) → IsShape c.layout → Keeps c → scene_is_built c ≡ true → merge_of closed ≡ journal_of c → IsRun c closed
+pub runs : (c : Scene) (closed : Closed) → IsLayout c.layout → Keeps c → scene_is_built c ≡ true → merge_of closed ≡ journal_of c → IsRun c closed
 runs c closed shape keeps built h = run-of c closed shape (order-ready c keeps built) (callers-given c) h
 
-pub performs-all : (c : Scene) (closed : Closed) → IsShape c.layout → Keeps c → scene_is_built c ≡ true → merge_of closed ≡ journal_of c → Performs c closed
+pub performs-all : (c : Scene) (closed : Closed) → IsLayout c.layout → Keeps c → scene_is_built c ≡ true → merge_of closed ≡ journal_of c → Performs c closed
 performs-all c closed shape keeps built h = performs-of c closed shape (order-ready c keeps built) (callers-given c) (commands-given c keeps) h
 
-pub receives-in-order : (c : Scene) (closed : Closed) → IsShape c.layout → Keeps c → scene_is_built c ≡ true → merge_of closed ≡ journal_of c → ReceivesInOrder closed
+pub receives-in-order : (c : Scene) (closed : Closed) → IsLayout c.layout → Keeps c → scene_is_built c ≡ true → merge_of closed ≡ journal_of c → ReceivesInOrder closed
 receives-in-order c closed shape keeps built h = receives-of c closed shape (runs c closed shape keeps built h)

@@ -5,7 +5,7 @@ use Rattle.std.proofs.lemmas.Bool.{and_parts}
 use Rattle.std.proofs.lemmas.Option.{slice_get_within}
 use Rattle.chorus_ui.specs.declared.ui.Ui.{Ui}
 use Rattle.chorus_ui.specs.declared.layout.Layout.{Layout}
-use Rattle.chorus_ui.specs.Layout.{IsShape, has_actor}
+use Rattle.chorus_ui.specs.Layout.{IsLayout, has_actor}
 use Rattle.chorus_entry.specs.declared.entry.Entry.{Entry}
 use Rattle.chorus_entry.specs.declared.id.MsgId.{MsgId}
 use Rattle.chorus_entry.specs.declared.dest.Dest.{Dest}
@@ -66,7 +66,7 @@ acted-held : (k : ℕ) (o : Option Seated) (c : Command) (s : SitesState) → Ar
 acted-held k None c s now before h = h
 acted-held k (Some v) c s now before h = call-held c (record { place = s.place; caller = v }) now before h
 
-held-after : (l : Layout) (events : List Event) → IsShape l → are_ready l events ≡ true → AreHeldThroughout (after l events).place.journal
+held-after : (l : Layout) (events : List Event) → IsLayout l → are_ready l events ≡ true → AreHeldThroughout (after l events).place.journal
 held-after l [] shape h = tt
 held-after l (Enter actor ∷ events) shape h =
     held-after l events shape (and_parts (names_actor actor && has_actor l actor) (are_ready l events) h).1
@@ -90,7 +90,7 @@ stands-alone l past port position x legal stands = by (fate (on port past)) refl
           alone = λ other place s. stands_once l past other port place position x legal s stands;
         }
 
-pub has-one-holder : (c : Scene) (closed : Closed) → IsShape c.layout → IsRun c closed → HasOneHolder closed
+pub has-one-holder : (c : Scene) (closed : Closed) → IsLayout c.layout → IsRun c closed → HasOneHolder closed
 has-one-holder c closed shape run =
     λ newer past port position x e stands.
     let legal = run-legal c.layout (callers_of c) (past_of closed) run in
@@ -98,7 +98,7 @@ has-one-holder c closed shape run =
 
 -- Each port is held.
 
-pub holds-all-ports : (c : Scene) (closed : Closed) → IsShape c.layout → Keeps c → scene_is_built c ≡ true → merge_of closed ≡ journal_of c → HoldsAllPorts closed
+pub holds-all-ports : (c : Scene) (closed : Closed) → IsLayout c.layout → Keeps c → scene_is_built c ≡ true → merge_of closed ≡ journal_of c → HoldsAllPorts closed
 holds-all-ports c closed shape keeps built h =
     λ newer past port state e made.
     let throughout = held-after c.layout (reverse (order c)) shape (order-ready c keeps built) in

@@ -2,7 +2,7 @@
 
 ghost use Rattle.std.specs.Prelude.{◌≡◌, ◌<◌, ◌++◌, reverse, IfSome, OnOk, true};
 ghost use Rattle.chorus_scene.specs.Limits.{Keeps};
-ghost use Rattle.chorus_ui.specs.Layout.{IsShape};
+ghost use Rattle.chorus_ui.specs.Layout.{IsLayout};
 ghost use Rattle.chorus_place.specs.Calls.{is_post};
 ghost use Rattle.chorus_place.specs.declared.fault.TheConstants.{WORN};
 ghost use Rattle.chorus_net.specs.Sites.{acted, actor_of, posts_of, compared, after};
@@ -28,7 +28,7 @@ pub(crate) fn perform(
     requires layout { scenario.now.layout ≡ sites.old.place.layout }
     requires built { scene_is_built scenario.now ≡ true }
     requires keeps { Keeps scenario.now }
-    requires shape { IsShape scenario.now.layout }
+    requires shape { IsLayout scenario.now.layout }
     ensures { OnOk result (sites.new ≡ replayed scenario.now) }
 {
     let calls = calls(alloc, scenario)?;
@@ -48,7 +48,7 @@ fn set_up(sites: &mut Sites, scenario: &Scenario) -> Result<(), AllocError>
     requires layout { scenario.now.layout ≡ sites.old.place.layout }
     requires built { scene_is_built scenario.now ≡ true }
     requires keeps { Keeps scenario.now }
-    requires shape { IsShape scenario.now.layout }
+    requires shape { IsLayout scenario.now.layout }
     ensures { OnOk result (sites.new ≡ after scenario.now.layout (reverse (in_setup scenario.now))) }
 {
     for line in scenario.setup() {
@@ -73,7 +73,7 @@ fn enter(sites: &mut Sites, scenario: &Scenario) -> Result<(), AllocError>
     requires now { sites.old ≡ after scenario.now.layout (reverse (in_setup scenario.now)) }
     requires built { scene_is_built scenario.now ≡ true }
     requires keeps { Keeps scenario.now }
-    requires shape { IsShape scenario.now.layout }
+    requires shape { IsLayout scenario.now.layout }
     ensures { OnOk result (sites.new ≡ after scenario.now.layout (reverse (in_setup scenario.now ++ entering scenario.now))) }
 {
     for script in scenario.scripts() {

@@ -1,28 +1,28 @@
 -- The places of a layout, and where a name stands among them.
 use Rattle.std.specs.Prelude.{◌≢◌, ℕ, ◌≤◌, ◌+◌, ◌-◌, ◌*◌, ◌/◌, ◌%◌, Bool, ◌&&◌, ◌||◌, ◌==◌, nat_le, Option, Some, None, if◌then◌else◌}
 use Rattle.chorus_ui.specs.Name.{Name}
-use Rattle.chorus_ui.specs.declared.layout.TheConstants.{MAX_SITES, ACTORS_PER_SITE, PORTS_PER_SITE}
+use Rattle.chorus_ui.specs.declared.limits.TheConstants.{SITES_LIMIT, PLACES_PER_SITE_LIMIT, ACTORS_PER_SITE_LIMIT, PORTS_PER_SITE_LIMIT}
 
--- how many sites there are, and how many places each of them has
+-- how many sites there are, and how many places per site: `turns`
 pub record Shape : Type 0 where
   pub sites : ℕ
   pub turns : ℕ
 
 -- 1 to 16 sites of 1, 2 or 4 places
-pub record IsShape (l : Shape) : Type 0 where
+pub record IsLayout (l : Shape) : Type 0 where
   pub sites_from_one : 1 ≤ l.sites
-  pub sites_to_max : l.sites ≤ MAX_SITES
+  pub sites_to_max : l.sites ≤ SITES_LIMIT
   pub turns_from_one : 1 ≤ l.turns
-  pub turns_to_four : l.turns ≤ 4
+  pub turns_to_four : l.turns ≤ PLACES_PER_SITE_LIMIT
   pub turns_not_three : l.turns ≢ 3
 
 -- the same, as a test
-abbrev pub is_shape : Shape → Bool
-is_shape l = nat_le 1 l.sites && nat_le l.sites MAX_SITES && ((l.turns == 1) || (l.turns == 2) || (l.turns == 4))
+abbrev pub is_layout : Shape → Bool
+is_layout l = nat_le 1 l.sites && nat_le l.sites SITES_LIMIT && ((l.turns == 1) || (l.turns == 2) || (l.turns == PLACES_PER_SITE_LIMIT))
 
 -- the layout of these numbers
 abbrev pub new_layout : ℕ → ℕ → Option Shape
-new_layout s t = let l : Shape = record { sites = s; turns = t } in if is_shape l then Some l else None
+new_layout s t = let l : Shape = record { sites = s; turns = t } in if is_layout l then Some l else None
 
 -- places are numbered from 1 to this
 abbrev pub places : Shape → ℕ
@@ -48,11 +48,11 @@ site_of l place = (place - 1) / l.turns + 1
 
 -- the eight actors of each site are there from the start
 abbrev pub has_actor : Shape → Name → Bool
-has_actor l u = has_site l u.site && nat_le 1 u.number && nat_le u.number ACTORS_PER_SITE
+has_actor l u = has_site l u.site && nat_le 1 u.number && nat_le u.number ACTORS_PER_SITE_LIMIT
 
 -- a site makes at most 32 ports
 abbrev pub can_make_port : Shape → Name → Bool
-can_make_port l u = has_site l u.site && nat_le 1 u.number && nat_le u.number PORTS_PER_SITE
+can_make_port l u = has_site l u.site && nat_le 1 u.number && nat_le u.number PORTS_PER_SITE_LIMIT
 
 -- where a thing of this name stands on the site that made it
 abbrev pub creation_place : Shape → Name → ℕ

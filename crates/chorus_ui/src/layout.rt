@@ -1,28 +1,17 @@
 //! The places of a layout.
 
 ghost use Rattle.std.specs.Prelude.{◌≡◌, ◌≤◌, IsTrue, IfSome};
+ghost use Rattle.chorus_ui.specs.declared.limits.TheConstants.{PLACES_LIMIT};
 
 use crate::kind::Kind;
+use crate::limits::{
+    ACTORS_PER_SITE_LIMIT, PLACES_PER_SITE_LIMIT, PORTS_PER_SITE_LIMIT, SITES_LIMIT,
+};
 use crate::ui::Ui;
 use std::marker::Model;
 
-/// The most sites of a layout.
-pub const MAX_SITES: u16 = 16;
-
-/// The most places of a layout: four on each of its sites.
-pub const MAX_PLACES: u16 = MAX_SITES * 4;
-
-/// The actors of each site, numbered from 1. They are there from the start.
-pub const ACTORS_PER_SITE: u64 = 8;
-
-/// The most ports that a site makes.
-pub const PORTS_PER_SITE: u64 = 32;
-
-/// The most groups that a site makes.
-pub const GROUPS_PER_SITE: u64 = 4;
-
-/// How many sites there are, from 1 to 16, and how many places each of them has: 1, 2 or 4, its turns. Places
-/// are numbered from 1, those of site 1 first. Places and turns are this project's own.
+/// How many sites there are, from 1 to 16, and how many places per site: 1, 2 or 4. Places are numbered from 1, those of
+/// site 1 first. Places are this project's own.
 #[derive(Clone, Copy, Debug)]
 pub struct Layout {
     sites: u16,
@@ -30,25 +19,25 @@ pub struct Layout {
 }
 
 impl Model for Layout {
-    ghost use Rattle.chorus_ui.specs.Layout.{Shape, IsShape};
+    ghost use Rattle.chorus_ui.specs.Layout.{Shape, IsLayout};
 
     ghost Value = { Shape };
 
     ghost view = { λ l. record { sites = l.sites; turns = l.turns } };
 
-    ghost invariant = { λ l. IsShape (record { sites = l.sites; turns = l.turns }) };
+    ghost invariant = { λ l. IsLayout (record { sites = l.sites; turns = l.turns }) };
 
     ghost inverse = { λ shape. record { sites = shape.sites; turns = shape.turns } };
 }
 
 impl Layout {
-    ghost use Rattle.chorus_ui.specs.Layout.{IsShape, new_layout, places, has_site, has_place, can_make_port, first_place, place_at, site_of, home, group_place};
+    ghost use Rattle.chorus_ui.specs.Layout.{IsLayout, new_layout, places, has_site, has_place, can_make_port, first_place, place_at, site_of, home, group_place};
 
-    /// The layout of these numbers. None exactly outside 1 to 16 sites and 1, 2 or 4 turns.
+    /// The layout of these numbers. None exactly outside 1 to 16 sites and 1, 2 or 4 places per site.
     pub fn new(sites: u16, turns: u16) -> Option<Layout>
         ensures { result ≡ new_layout sites turns }
     {
-        if 1 <= sites && sites <= MAX_SITES && matches!(turns, 1 | 2 | 4) {
+        if 1 <= sites && sites <= SITES_LIMIT && matches!(turns, 1 | 2 | PLACES_PER_SITE_LIMIT) {
             Some(Layout { sites, turns })
         } else {
             None
@@ -58,15 +47,15 @@ impl Layout {
     /// The number of sites, from 1 to 16.
     pub fn sites(&self) -> u16
         ensures value { result ≡ self.now.sites }
-        ensures shape { IsShape self.now }
+        ensures layout { IsLayout self.now }
     {
         self.sites
     }
 
-    /// The number of places of each site: 1, 2 or 4.
+    /// The number of places per site: 1, 2 or 4.
     pub fn turns(&self) -> u16
         ensures value { result ≡ self.now.turns }
-        ensures shape { IsShape self.now }
+        ensures layout { IsLayout self.now }
     {
         self.turns
     }
@@ -74,7 +63,7 @@ impl Layout {
     /// The number of places, from 1 to 64.
     pub fn places(&self) -> u16
         ensures value { result ≡ places self.now }
-        ensures bounds { (1 ≤ result) × (result ≤ 64) }
+        ensures bounds { (1 ≤ result) × (result ≤ PLACES_LIMIT) }
     {
         self.sites * self.turns
     }
@@ -98,7 +87,7 @@ impl Layout {
         requires { port.kind ≡ Kind.Port }
         ensures { result ≡ can_make_port self.now port }
     {
-        self.has_site(port.site()) && port.number() <= PORTS_PER_SITE
+        self.has_site(port.site()) && port.number() <= PORTS_PER_SITE_LIMIT
     }
 
     /// The first place of a site, where its groups stand.
@@ -131,7 +120,7 @@ impl Layout {
         ensures in_layout { IfSome result (λ place. IsTrue (has_place self.now place)) }
     {
         let site = actor.site();
-        if self.has_site(site) && actor.number() <= ACTORS_PER_SITE {
+        if self.has_site(site) && actor.number() <= ACTORS_PER_SITE_LIMIT {
             Some(self.place_at(site, actor))
         } else {
             None

@@ -6,19 +6,24 @@
 //! on this: a name has exactly one text and exactly one number of 64 bits, and the places of a layout are given
 //! by the short formulas of `specs/Layout.antt`.
 //!
-//! Begin with `ui`; `kind` has the three kinds, `layout` the places, and `decimal` the numbers in texts, which
-//! the readers and printers of the crates above share.
+//! Begin with `ui`; `kind` has the three kinds, `layout` the places, `limits` what a nucleus has at most, and `decimal`
+//! the numbers in texts, which the readers and printers of the crates above share.
 
 #![tactic(auto)]
 
 mod decimal;
 mod kind;
 mod layout;
+mod limits;
 #[cfg(test)]
 mod tests;
 mod ui;
 
 pub use decimal::{is_decimal, parse_decimal, push_decimal};
 pub use kind::Kind;
-pub use layout::{ACTORS_PER_SITE, GROUPS_PER_SITE, Layout, MAX_PLACES, MAX_SITES, PORTS_PER_SITE};
+pub use layout::Layout;
+pub use limits::{
+    ACTORS_PER_SITE_LIMIT, BODY_LIMIT, CLIENTS_LIMIT, CLOCK_LIMIT, GROUPS_PER_SITE_LIMIT, LINK_LIMIT, MEMBERS_LIMIT,
+    PENDING_LIMIT, PLACES_LIMIT, PLACES_PER_SITE_LIMIT, PORTS_PER_SITE_LIMIT, SEATS_LIMIT, SITES_LIMIT,
+};
 pub use ui::Ui;

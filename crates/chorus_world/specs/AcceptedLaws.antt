@@ -2,8 +2,8 @@
 use Rattle.std.specs.Prelude.{ℕ, ◌≡◌, ◌≤◌, ◌+◌, true, List, [], ◌∷◌, ◌++◌, length, take, Option, Some, None, slice_get}
 use Rattle.chorus_ui.specs.declared.ui.Ui.{Ui}
 use Rattle.chorus_ui.specs.declared.layout.Layout.{Layout}
-use Rattle.chorus_ui.specs.Layout.{IsShape}
-use Rattle.chorus_entry.specs.declared.record.pending.TheConstants.{PENDING_LIMIT}
+use Rattle.chorus_ui.specs.Layout.{IsLayout}
+use Rattle.chorus_ui.specs.declared.limits.TheConstants.{PENDING_LIMIT}
 use Rattle.chorus_entry.specs.declared.entry.Entry.{Entry}
 use Rattle.chorus_entry.specs.declared.id.MsgId.{MsgId}
 use Rattle.chorus_entry.specs.declared.answer.Answer.{Answer}
@@ -78,31 +78,31 @@ HasSomeFate =
 -- what a port accepted stays where it is, whatever comes after: only more is put behind it
 abbrev pub AcceptedGrows : Type 0
 AcceptedGrows =
-    (l : Layout) (newer past : List Entry) (q : Ui) → IsShape l → is_legal l (newer ++ past) ≡ true →
+    (l : Layout) (newer past : List Entry) (q : Ui) → IsLayout l → is_legal l (newer ++ past) ≡ true →
     (more : List MsgId) × (accepted_by q (newer ++ past) ≡ accepted_by q past ++ more)
 
 -- the ids of a port's Take entries are the first ones that it accepted, as many as were received
 abbrev pub ReceivesInOrder : Type 0
 ReceivesInOrder =
-    (l : Layout) (past : List Entry) (q : Ui) → IsShape l → is_legal l past ≡ true →
+    (l : Layout) (past : List Entry) (q : Ui) → IsLayout l → is_legal l past ≡ true →
     (received (on q past) ≡ take (taken_by q past) (accepted_by q past)) × (taken_by q past ≤ length (accepted_by q past))
 
 -- no more messages wait in a port than it has room for, and that is room for 1 to 64
 abbrev pub KeepsToCapacity : Type 0
 KeepsToCapacity =
-    (l : Layout) (past : List Entry) (q : Ui) (f : PortState) → IsShape l → is_legal l past ≡ true → fate (on q past) ≡ Some f →
+    (l : Layout) (past : List Entry) (q : Ui) (f : PortState) → IsLayout l → is_legal l past ≡ true → fate (on q past) ≡ Some f →
     (length f.accepted ≤ f.taken + f.capacity) × (1 ≤ f.capacity) × (f.capacity ≤ PENDING_LIMIT)
 
 -- the ids of a port's Delete entry are all that it accepted and that was not received
 abbrev pub DiscardsTheRest : Type 0
 DiscardsTheRest =
-    (l : Layout) (past : List Entry) (q : Ui) (xs : List MsgId) → IsShape l → is_legal l past ≡ true → discarded (on q past) ≡ Some xs →
+    (l : Layout) (past : List Entry) (q : Ui) (xs : List MsgId) → IsLayout l → is_legal l past ≡ true → discarded (on q past) ≡ Some xs →
     accepted_by q past ≡ received (on q past) ++ xs
 
 -- after its Delete entry nothing becomes of a port any more
 abbrev pub EndsWithDelete : Type 0
 EndsWithDelete =
-    (l : Layout) (newer past : List Entry) (q : Ui) (xs : List MsgId) → IsShape l → is_legal l (newer ++ past) ≡ true →
+    (l : Layout) (newer past : List Entry) (q : Ui) (xs : List MsgId) → IsLayout l → is_legal l (newer ++ past) ≡ true →
     discarded (on q past) ≡ Some xs → on q (newer ++ past) ≡ on q past
 
 -- a verdict of a message is the first verdict of it

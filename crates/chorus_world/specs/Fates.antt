@@ -1,5 +1,5 @@
 -- Fates: what became of each message that a port accepted.
-use Rattle.std.specs.Prelude.{ℕ, nat_lt, cond}
+use Rattle.std.specs.Prelude.{ℕ, nat_lt, if◌then◌else◌}
 use Rattle.chorus_world.specs.declared.port.Spot.{Spot}
 use Rattle.chorus_world.specs.declared.port.Spot.TheVariants.{Held, Moving, Ended}
 use Rattle.chorus_world.specs.Ports.{PortState}
@@ -18,4 +18,4 @@ fate_left Ended = Discarded
 
 -- the fate of the message that a port accepted at position i
 abbrev pub fate_at : ℕ → PortState → MessageFate
-fate_at i f = cond (nat_lt i f.taken) Received (fate_left f.spot)
+fate_at i f = if nat_lt i f.taken then Received else fate_left f.spot

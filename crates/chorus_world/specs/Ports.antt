@@ -9,7 +9,7 @@ use Rattle.chorus_entry.specs.Ids.{same_ids}
 use Rattle.chorus_world.specs.declared.port.Spot.{Spot}
 use Rattle.chorus_world.specs.declared.port.Spot.TheVariants.{Held, Moving, Ended}
 use Rattle.chorus_entry.specs.MsgId.{same_id}
-use Rattle.chorus_world.specs.Views.{are_same}
+use Rattle.chorus_entry.specs.Same.{are_same}
 
 -- what became of a port: how many messages may wait in it, the ids that it accepted, in order, how many of these were
 -- received, the places of its hops 0, 1, .., and whether it is held, by which actor, moving, to which actor, or deleted

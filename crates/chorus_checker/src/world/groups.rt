@@ -9,7 +9,7 @@ ghost use Rattle.chorus_checker.specs.Worlds.{is_group_in, may_do};
 use crate::group::{group_at, groups_made, is_group, is_group_here, is_member};
 use crate::world::World;
 use chorus_entry::MEMBERS_LIMIT;
-use chorus_ui::{GROUPS_PER_SITE, Ui};
+use chorus_ui::{GROUPS_PER_SITE_LIMIT, Ui};
 use std::alloc::AllocError;
 
 impl World {
@@ -51,7 +51,7 @@ impl World {
     {
         let made = groups_made(self.entries.as_slice(), place);
         self.is_group_place(place, group)
-            && group.number() <= GROUPS_PER_SITE
+            && group.number() <= GROUPS_PER_SITE_LIMIT
             && group.number() as usize - 1 == made
     }
 
@@ -60,7 +60,7 @@ impl World {
     {
         self.layout.has_site(site)
             && self.layout.first_place(site) == place
-            && groups_made(self.entries.as_slice(), place) == GROUPS_PER_SITE as usize
+            && groups_made(self.entries.as_slice(), place) == GROUPS_PER_SITE_LIMIT as usize
     }
 
     pub(super) fn may_join(&self, place: u16, group: Ui, port: Ui) -> Result<bool, AllocError>

@@ -12,14 +12,14 @@ use crate::place::ports_made;
 use crate::port::{are_waiting, is_coming, is_empty, is_first_waiting, is_held_at, is_next_hop};
 use crate::world::World;
 use chorus_entry::{Ids, MsgId, PENDING_LIMIT};
-use chorus_ui::{ACTORS_PER_SITE, PORTS_PER_SITE, Ui};
+use chorus_ui::{ACTORS_PER_SITE_LIMIT, PORTS_PER_SITE_LIMIT, Ui};
 
 impl World {
     /// Whether the actor is one of the layout.
     fn has_actor(&self, actor: Ui) -> bool
         ensures { result ≡ has_actor self.now.layout actor }
     {
-        self.layout.has_site(actor.site()) && actor.number() <= ACTORS_PER_SITE
+        self.layout.has_site(actor.site()) && actor.number() <= ACTORS_PER_SITE_LIMIT
     }
 
     /// Whether the actor is one of the layout, and the place its home place.
@@ -34,7 +34,7 @@ impl World {
         ensures { result ≡ is_full_of_ports self.now.layout (at place self.now.past) }
     {
         let made = ports_made(self.entries.as_slice(), place) as u64;
-        PORTS_PER_SITE / u64::from(self.layout.turns()) <= made
+        PORTS_PER_SITE_LIMIT / u64::from(self.layout.turns()) <= made
     }
 
     /// The number of the next port that the place makes, which has not made its share.

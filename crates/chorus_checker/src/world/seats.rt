@@ -4,7 +4,8 @@ ghost use Rattle.std.specs.Prelude.{◌≡◌, Some, is_none};
 ghost use Rattle.chorus_entry.specs.declared.act.Act.TheVariants as Act;
 ghost use Rattle.chorus_world.specs.Seats.{call, hand};
 ghost use Rattle.chorus_world.specs.Steps.{ends_call};
-ghost use Rattle.chorus_world.specs.Views.{by, is_number};
+ghost use Rattle.chorus_world.specs.Views.{by};
+ghost use Rattle.chorus_entry.specs.Same.{is_number};
 ghost use Rattle.chorus_checker.specs.Worlds.{may_do, may_reply_in, may_request_in, may_tag_in};
 
 use crate::place::just_taken;

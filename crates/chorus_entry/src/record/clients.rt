@@ -2,13 +2,11 @@
 
 ghost use Rattle.std.specs.Prelude.{◌≡◌, ◌==◌, ℕ, ◌<◌, ◌≤◌, List, [], ◌∷◌, ◌++◌, length, slice_get, IfOk, IsTrue, IsSome, IsNone, vec_capacity};
 ghost use Rattle.chorus_entry.specs.ClientTable.{number_of, with_number, are_distinct};
-ghost use Rattle.chorus_entry.specs.declared.record.clients.TheConstants.{CLIENTS_LIMIT};
+ghost use Rattle.chorus_ui.specs.declared.limits.TheConstants.{CLIENTS_LIMIT};
 
+use chorus_ui::CLIENTS_LIMIT;
 use std::alloc::{AllocError, Global};
 use std::marker::Model;
-
-/// The most clients that a port remembers.
-pub const CLIENTS_LIMIT: usize = 64;
 
 /// The clients whose requests a port accepted, each once, with the greatest number that it accepted from the client: what
 /// keeps a repeated request from being accepted again. It has room for 64 from the start.

@@ -4,15 +4,13 @@ ghost use Rattle.std.specs.Prelude.{◌≡◌, ◌==◌, ◌<◌, ◌≤◌, Lis
 ghost use Rattle.std.specs.Option.{option_copied};
 ghost use Rattle.std.specs.VecDeque.{deque_capacity};
 ghost use Rattle.chorus_entry.specs.declared.message.Message.{Message};
-ghost use Rattle.chorus_entry.specs.declared.record.pending.TheConstants.{PENDING_LIMIT};
+ghost use Rattle.chorus_ui.specs.declared.limits.TheConstants.{PENDING_LIMIT};
 
 use crate::message::Message;
+use chorus_ui::PENDING_LIMIT;
 use std::alloc::{AllocError, Global};
 use std::collections::VecDeque;
 use std::marker::Model;
-
-/// The most messages that wait in a port, whatever its capacity.
-pub const PENDING_LIMIT: usize = 64;
 
 /// The messages that wait in a port, in the order in which they were accepted. It has room for 64 from the start.
 ///

@@ -19,10 +19,13 @@ use Rattle.chorus_entry.specs.Dest.{group_in}
 use Rattle.chorus_entry.specs.MsgId.{same_id}
 use Rattle.chorus_entry.proofs.Same.{same_id-self}
 use Rattle.chorus_world.specs.declared.place.Sent.{Sent}
-use Rattle.chorus_world.specs.Views.{views, at, about, is_at, is_about, is_number}
+use Rattle.chorus_world.specs.Views.{views, at, about, is_about}
+use Rattle.chorus_entry.specs.Order.{is_at}
+use Rattle.chorus_entry.specs.Same.{is_number}
 use Rattle.chorus_world.specs.Places.{find_sent, sent_by}
 use Rattle.chorus_world.specs.Posts.{source}
-use Rattle.chorus_world.specs.Groups.{members, members_after, without, index_of, choice, listed, first_of, in_turn, is_at_site, rotation, is_chosen, chooses, is_group_place}
+use Rattle.chorus_world.specs.Groups.{members, members_after, choice, in_turn, is_at_site, rotation, is_chosen, chooses, is_group_place}
+use Rattle.chorus_entry.specs.Members.{without, index_of, listed, first_of}
 use Rattle.chorus_world.specs.Steps.{act_may, is_legal}
 use Rattle.chorus_world.specs.AcceptedLaws.{accepted_by}
 use Rattle.chorus_world.specs.SenderLaws.{route_of}

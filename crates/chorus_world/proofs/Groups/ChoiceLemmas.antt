@@ -15,7 +15,9 @@ use Rattle.chorus_entry.specs.Dest.{group_in}
 use Rattle.chorus_entry.specs.MsgId.{same_id}
 use Rattle.chorus_entry.proofs.Same.{from_same_id, same_id-self}
 use Rattle.chorus_world.specs.declared.place.Sent.{Sent}
-use Rattle.chorus_world.specs.Views.{views, are_same, is_at, is_by, at, by}
+use Rattle.chorus_world.specs.Views.{views, is_by, at, by}
+use Rattle.chorus_entry.specs.Same.{are_same}
+use Rattle.chorus_entry.specs.Order.{is_at}
 use Rattle.chorus_world.specs.Places.{sent_by, find_sent, copies}
 use Rattle.chorus_world.specs.Posts.{Posted, posted_by, posted_in, post_of, source}
 use Rattle.chorus_world.specs.Groups.{posts_to, post_to, chooses, is_chosen, first_unchosen}

@@ -20,7 +20,8 @@ use Rattle.chorus_world.specs.Views.{views, at, about, is_about}
 use Rattle.chorus_world.specs.Ports.{fate, has_room}
 use Rattle.chorus_world.specs.Places.{copies, find_sent}
 use Rattle.chorus_world.specs.Posts.{Posted, post_of, is_on_site}
-use Rattle.chorus_world.specs.Groups.{choice, listed, first_of, in_turn, is_at_site, is_chosen, chooses}
+use Rattle.chorus_world.specs.Groups.{choice, in_turn, is_at_site, is_chosen, chooses}
+use Rattle.chorus_entry.specs.Members.{listed, first_of}
 use Rattle.chorus_world.specs.Steps.{act_may, may_enter, is_legal}
 use Rattle.chorus_world.specs.AcceptedLaws.{accepted_by}
 use Rattle.chorus_world.specs.GroupLaws.{is_functional, copies_by, copies_of, HasOneCopy, IsAcceptedOnce, IsAcceptedOnSite}

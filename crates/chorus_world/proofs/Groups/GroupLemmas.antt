@@ -5,7 +5,8 @@ use Rattle.chorus_ui.specs.declared.ui.Ui.{Ui}
 use Rattle.chorus_ui.specs.Name.{same_ui}
 use Rattle.chorus_entry.specs.declared.entry.Entry.{Entry}
 use Rattle.chorus_entry.specs.declared.id.MsgId.{MsgId}
-use Rattle.chorus_world.specs.Groups.{index_of, is_member, first_of, first_unchosen, is_chosen}
+use Rattle.chorus_world.specs.Groups.{first_unchosen, is_chosen}
+use Rattle.chorus_entry.specs.Members.{index_of, is_member, first_of}
 
 index_cases : (b c d : Bool) (n : ℕ) → cond b 0 (cond c n (cond d n (n + 1)) + 1) ≡ cond (b || c) (cond b 0 (n + 1)) (cond d (cond b 0 (n + 1)) (cond b 0 (n + 1) + 1))
 index_cases true c d n = refl

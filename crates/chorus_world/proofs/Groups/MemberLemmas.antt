@@ -14,13 +14,13 @@ use Rattle.chorus_entry.specs.declared.dest.Dest.TheVariants.{Port, All, One, On
 use Rattle.chorus_entry.specs.declared.act.Act.{Act}
 use Rattle.chorus_entry.specs.declared.act.Act.TheVariants.{Choose, Join, Leave}
 use Rattle.chorus_entry.specs.MsgId.{same_id}
-use Rattle.chorus_entry.specs.Members.{same_uis}
+use Rattle.chorus_entry.specs.Members.{same_uis, is_member, without, index_of, first_of, listed}
 use Rattle.chorus_entry.proofs.Same.{from_same_uis}
 use Rattle.chorus_world.specs.declared.place.Sent.{Sent}
 use Rattle.chorus_world.specs.Views.{views, at, about, is_group}
 use Rattle.chorus_world.specs.Messages.{progress}
 use Rattle.chorus_world.specs.Places.{copies, find_sent}
-use Rattle.chorus_world.specs.Groups.{is_group_place, members, members_after, is_member, without, index_of, choice, in_turn, first_of, listed, is_at_site}
+use Rattle.chorus_world.specs.Groups.{is_group_place, members, members_after, choice, in_turn, is_at_site}
 use Rattle.chorus_world.specs.Steps.{act_may, is_legal, is_group_at, may_choose_from, choice_from}
 use Rattle.chorus_world.proofs.Steps.LegalLemmas.{legal_parts}
 use Rattle.chorus_world.proofs.Ports.LineLemmas.{none_some}

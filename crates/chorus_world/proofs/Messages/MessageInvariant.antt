@@ -23,7 +23,8 @@ use Rattle.chorus_entry.proofs.Same.{same_id-self, from_same_answer}
 use Rattle.chorus_world.specs.declared.place.Sent.{Sent}
 use Rattle.chorus_world.specs.declared.message.Progress.{Progress}
 use Rattle.chorus_world.specs.declared.message.Progress.TheVariants.{Idle, Asked, Tried, Decided, Settled, Reported}
-use Rattle.chorus_world.specs.Views.{views, are_same, is_about, is_by, at, by, about}
+use Rattle.chorus_world.specs.Views.{views, is_about, is_by, at, by, about}
+use Rattle.chorus_entry.specs.Same.{are_same}
 use Rattle.chorus_world.specs.Messages.{progress, progress_after, settled, decided, is_to_be_told, is_to_be_heard, verdict, verdict_by}
 use Rattle.chorus_world.specs.Places.{sent_by, copies, find_sent, settles, is_settled, tried_after, is_tried}
 use Rattle.chorus_world.specs.Posts.{Posted, posted_by, posted_in, post_of, source}

@@ -7,7 +7,7 @@ use Rattle.std.proofs.lemmas.Bool.{eqb-true, eq-eqb, cases_Bool, false≢true, a
 use Rattle.chorus_ui.specs.declared.ui.Ui.{Ui}
 use Rattle.chorus_ui.specs.declared.layout.Layout.{Layout}
 use Rattle.chorus_ui.specs.Name.{same_ui}
-use Rattle.chorus_ui.specs.Layout.{IsShape}
+use Rattle.chorus_ui.specs.Layout.{IsLayout}
 use Rattle.chorus_ui.proofs.Names.{from_same_ui}
 use Rattle.chorus_entry.specs.declared.entry.Entry.{Entry}
 use Rattle.chorus_entry.specs.declared.id.MsgId.{MsgId}
@@ -26,7 +26,9 @@ use Rattle.chorus_world.specs.declared.place.Location.{Location}
 use Rattle.chorus_world.specs.declared.place.Sent.{Sent}
 use Rattle.chorus_world.specs.declared.message.Progress.{Progress}
 use Rattle.chorus_world.specs.declared.message.Progress.TheVariants.{Idle, Asked, Tried, Decided, Settled, Reported}
-use Rattle.chorus_world.specs.Views.{views, at, on, about, is_at, is_about, are_same}
+use Rattle.chorus_world.specs.Views.{views, at, on, about, is_about}
+use Rattle.chorus_entry.specs.Order.{is_at}
+use Rattle.chorus_entry.specs.Same.{are_same}
 use Rattle.chorus_world.specs.Ports.{fate}
 use Rattle.chorus_world.specs.Messages.{progress, progress_after, posted, decided, settled, told}
 use Rattle.chorus_world.specs.Posts.{is_on_site, site_asked}
@@ -201,10 +203,10 @@ on_message l past x c p s (NoPort y r) i grow h t f = decided_fits l (entry c p 
 on_message l past x c p s (Gone y r) i grow h t f = decided_fits l (entry c p s (Gone y r) ∷ past) x p r A.Gone (progress (about x past)) tt f
 on_message l past x c p s _ i grow h t f = absurd (false≢true t)
 
-messages_step : (l : Layout) (past : List Entry) (x : MsgId) (c p s : ℕ) (a : Act) → IsShape l → Inv l past → act_may l (views past p s a) p s a ≡ true → Fits l (entry c p s a ∷ past) x (progress (about x (entry c p s a ∷ past)))
-messages_step l past x c p s a shape i h =
+messages_step : (l : Layout) (past : List Entry) (x : MsgId) (c p s : ℕ) (a : Act) → IsLayout l → Inv l past → act_may l (views past p s a) p s a ≡ true → Fits l (entry c p s a ∷ past) x (progress (about x (entry c p s a ∷ past)))
+messages_step l past x c p s a layout i h =
     let e = entry c p s a in
-    let grow : (q : Ui) (n z : ℕ) → Known l past q n z → Known l (e ∷ past) q n z = λ q. known_step l past q c p s a shape (i.ports q) h in
+    let grow : (q : Ui) (n z : ℕ) → Known l past q n z → Known l (e ∷ past) q n z = λ q. known_step l past q c p s a layout (i.ports q) h in
     let old : Fits l (e ∷ past) x (progress (about x past)) = fits_grows l past e grow x (progress (about x past)) (i.messages x) in
     elim (cases_Bool (is_about (Some x) e)) [
       | inl t ↦ subst (λ es. Fits l (e ∷ past) x (progress es)) (sym (keeps (is_about (Some x)) e past t)) (on_message l past x c p s a i grow h t old)
@@ -239,20 +241,20 @@ inv_none l =
       messages = λ x. tt;
     }
 
-inv_more : (l : Layout) (past : List Entry) (e : Entry) → IsShape l → Inv l past → may l past e ≡ true → Inv l (e ∷ past)
-inv_more l past e shape i h =
+inv_more : (l : Layout) (past : List Entry) (e : Entry) → IsLayout l → Inv l past → may l past e ≡ true → Inv l (e ∷ past)
+inv_more l past e layout i h =
     let act = may_act l past e h in
     record {
-      ports = λ q. ports_step l past q e.clock e.place e.seat e.act shape (i.ports q) (told_known l past e.place e.seat e.act i act) act;
-      messages = λ x. messages_step l past x e.clock e.place e.seat e.act shape i act;
+      ports = λ q. ports_step l past q e.clock e.place e.seat e.act layout (i.ports q) (told_known l past e.place e.seat e.act i act) act;
+      messages = λ x. messages_step l past x e.clock e.place e.seat e.act layout i act;
     }
 
-pub legal_inv : (l : Layout) (past : List Entry) → IsShape l → is_legal l past ≡ true → Inv l past
-legal_inv l [] shape h = inv_none l
-legal_inv l (e ∷ past) shape h =
+pub legal_inv : (l : Layout) (past : List Entry) → IsLayout l → is_legal l past ≡ true → Inv l past
+legal_inv l [] layout h = inv_none l
+legal_inv l (e ∷ past) layout h =
     let two = and_parts (may l past e) (is_legal l past) h in
-    inv_more l past e shape (legal_inv l past shape two.1) two.0
+    inv_more l past e layout (legal_inv l past layout two.1) two.0
 
 -- the law on locations
 pub locates : LocatesOnPath
-locates l past p q shape h = ((legal_inv l past shape h).ports q).located p
+locates l past p q layout h = ((legal_inv l past layout h).ports q).located p

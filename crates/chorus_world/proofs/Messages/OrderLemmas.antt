@@ -8,7 +8,8 @@ use Rattle.chorus_entry.specs.declared.id.MsgId.{MsgId}
 use Rattle.chorus_entry.specs.MsgId.{same_id}
 use Rattle.chorus_entry.proofs.Same.{from_same_id, same_id-self}
 use Rattle.chorus_world.specs.declared.place.Sent.{Sent}
-use Rattle.chorus_world.specs.Places.{find_sent, is_settled, unsettled, same_route, first_for}
+use Rattle.chorus_world.specs.Places.{find_sent, is_settled, unsettled, first_for}
+use Rattle.chorus_entry.specs.Same.{same_route}
 use Rattle.chorus_world.specs.Groups.{is_chosen, first_unchosen}
 use Rattle.chorus_world.proofs.Ports.LineLemmas.{none_some}
 use Rattle.chorus_world.proofs.Messages.SendingLemmas.{prior, cond_none, cond_some, some_is}

@@ -19,7 +19,8 @@ use Rattle.chorus_entry.proofs.Same.{from_same_id}
 use Rattle.chorus_world.specs.declared.place.Sent.{Sent}
 use Rattle.chorus_world.specs.declared.message.Progress.{Progress}
 use Rattle.chorus_world.specs.declared.message.Progress.TheVariants.{Idle, Asked, Tried, Decided, Settled, Reported}
-use Rattle.chorus_world.specs.Views.{Views, views, are_same, is_by, at, by, about}
+use Rattle.chorus_world.specs.Views.{Views, views, is_by, at, by, about}
+use Rattle.chorus_entry.specs.Same.{are_same}
 use Rattle.chorus_world.specs.Messages.{progress}
 use Rattle.chorus_world.specs.Places.{copies, find_sent}
 use Rattle.chorus_world.specs.Posts.{Posted, posted_by, posted_in, post_of, source, tag_of, tag_from}

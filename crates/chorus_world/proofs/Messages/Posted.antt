@@ -20,7 +20,9 @@ use Rattle.chorus_world.specs.declared.place.Sent.{Sent}
 use Rattle.chorus_world.specs.declared.message.Progress.{Progress}
 use Rattle.chorus_world.specs.declared.message.Progress.TheVariants.{Idle, Asked, Tried, Decided, Settled, Reported}
 use Rattle.chorus_world.specs.declared.step.Due.TheVariants.{NotDue, AtHome}
-use Rattle.chorus_world.specs.Views.{Views, views, at, by, on, about, is_at, is_by, is_on, is_about, are_same}
+use Rattle.chorus_world.specs.Views.{Views, views, at, by, on, about, is_by, is_on, is_about}
+use Rattle.chorus_entry.specs.Order.{is_at}
+use Rattle.chorus_entry.specs.Same.{are_same}
 use Rattle.chorus_world.specs.Posts.{Posted, post_of, posted_in, posted_by, source, site_asked, is_on_site}
 use Rattle.chorus_world.specs.Ports.{PortState, fate, fate_after, is_held_at, is_made, is_coming, is_ended_at, is_first_waiting, is_full, has_room}
 use Rattle.chorus_world.specs.Clients.{is_already, finds_clients_full}

@@ -13,8 +13,10 @@ use Rattle.chorus_entry.specs.Act.{message_of}
 use Rattle.chorus_entry.specs.MsgId.{same_id}
 use Rattle.chorus_entry.proofs.Same.{same_id-self}
 use Rattle.chorus_world.specs.declared.place.Sent.{Sent}
-use Rattle.chorus_world.specs.Views.{are_same, is_at, at}
-use Rattle.chorus_world.specs.Places.{sent, sent_by, find_sent, settles, is_settling, is_settled, unsettled, same_route, first_for, tried_after, is_tried, is_first, is_first_as}
+use Rattle.chorus_world.specs.Views.{at}
+use Rattle.chorus_entry.specs.Same.{are_same, same_route}
+use Rattle.chorus_entry.specs.Order.{is_at}
+use Rattle.chorus_world.specs.Places.{sent, sent_by, find_sent, settles, is_settling, is_settled, unsettled, first_for, tried_after, is_tried, is_first, is_first_as}
 use Rattle.chorus_world.proofs.Messages.SentLemmas.{find_sent_append}
 use Rattle.chorus_world.proofs.Steps.LegalLemmas.{keeps, under, cond_same}
 use Rattle.chorus_world.proofs.Ports.LineLemmas.{none_some, id_is}

@@ -9,7 +9,8 @@ use Rattle.chorus_entry.specs.declared.entry.Entry.{Entry}
 use Rattle.chorus_entry.specs.declared.id.MsgId.{MsgId}
 use Rattle.chorus_entry.specs.MsgId.{same_id}
 use Rattle.chorus_world.specs.declared.place.Sent.{Sent}
-use Rattle.chorus_world.specs.Places.{copies, find_sent, first_for, unsettled, is_settled, same_route}
+use Rattle.chorus_world.specs.Places.{copies, find_sent, first_for, unsettled, is_settled}
+use Rattle.chorus_entry.specs.Same.{same_route}
 
 or-cond : {A : Type 0} (b : Bool) (x : A) (o m : Option A) → cond b (Some x) (option_or o m) ≡ option_or (cond b (Some x) o) m
 or-cond true x o m = refl

@@ -5,7 +5,7 @@ use Rattle.std.proofs.lemmas.Option.{slice_get_within}
 use Rattle.chorus_ui.specs.declared.ui.Ui.{Ui}
 use Rattle.chorus_ui.specs.declared.layout.Layout.{Layout}
 use Rattle.chorus_ui.specs.Name.{same_ui}
-use Rattle.chorus_ui.specs.Layout.{IsShape}
+use Rattle.chorus_ui.specs.Layout.{IsLayout}
 use Rattle.chorus_ui.proofs.Names.{from_same_ui, same_ui-self}
 use Rattle.chorus_entry.specs.declared.entry.Entry.{Entry}
 use Rattle.chorus_entry.specs.declared.id.MsgId.{MsgId}
@@ -22,7 +22,8 @@ use Rattle.chorus_world.specs.declared.place.Sent.{Sent}
 use Rattle.chorus_world.specs.declared.message.Progress.{Progress}
 use Rattle.chorus_world.specs.declared.message.Progress.TheVariants.{Idle, Asked, Tried, Decided, Settled, Reported}
 use Rattle.chorus_world.specs.declared.step.Due.TheVariants.{ByTry}
-use Rattle.chorus_world.specs.Views.{Views, views, at, by, on, about, is_at, is_about}
+use Rattle.chorus_world.specs.Views.{Views, views, at, by, on, about, is_about}
+use Rattle.chorus_entry.specs.Order.{is_at}
 use Rattle.chorus_world.specs.Ports.{fate, last_of, is_held_at}
 use Rattle.chorus_world.specs.Posts.{is_on_site, site_asked}
 use Rattle.chorus_world.specs.Messages.{progress, progress_after, posted, decided, settled, told}
@@ -94,20 +95,20 @@ bound_grows l past e x n (Decided from by' q a) h = h
 bound_grows l past e x n (Settled a) h = h
 bound_grows l past e x n Reported h = h
 
-path_grows : (l : Layout) (past : List Entry) (c p s : ℕ) (a : Act) (q : Ui) → IsShape l → PortFacts l past q → act_may l (views past p s a) p s a ≡ true → length (path_of l q (fate (on q past))) ≤ length (path_of l q (fate (on q (entry c p s a ∷ past))))
-path_grows l past c p s a q shape f h =
+path_grows : (l : Layout) (past : List Entry) (c p s : ℕ) (a : Act) (q : Ui) → IsLayout l → PortFacts l past q → act_may l (views past p s a) p s a ≡ true → length (path_of l q (fate (on q past))) ≤ length (path_of l q (fate (on q (entry c p s a ∷ past))))
+path_grows l past c p s a q layout f h =
     let ps = path_of l q (fate (on q past)) in
     let qs = path_of l q (fate (on q (entry c p s a ∷ past))) in
     let pos = f.some in
     let old : Known l past q (length ps - 1) (last_of 0 ps) = at_last 0 ps (length ps - 1) (omega arith) in
-    let lt : length ps - 1 < length qs = slice_get_within qs (length ps - 1) (last_of 0 ps) (known_step l past q c p s a shape f h (length ps - 1) (last_of 0 ps) old) in
+    let lt : length ps - 1 < length qs = slice_get_within qs (length ps - 1) (last_of 0 ps) (known_step l past q c p s a layout f h (length ps - 1) (last_of 0 ps) old) in
     omega arith
 
-within_grows : (l : Layout) (past : List Entry) (e : Entry) (x : MsgId) (n : ℕ) → IsShape l → ((q : Ui) → PortFacts l past q) → act_may l (views past e.place e.seat e.act) e.place e.seat e.act ≡ true → Within l past x n → Within l (e ∷ past) x n
+within_grows : (l : Layout) (past : List Entry) (e : Entry) (x : MsgId) (n : ℕ) → IsLayout l → ((q : Ui) → PortFacts l past q) → act_may l (views past e.place e.seat e.act) e.place e.seat e.act ≡ true → Within l past x n → Within l (e ∷ past) x n
 unfolding Within
-within_grows l past e x n shape f act (inl z) = inl z
-within_grows l past e x n shape f act (inr h) =
-    let le = path_grows l past e.clock e.place e.seat e.act (h.1).port shape (f (h.1).port) act in
+within_grows l past e x n layout f act (inl z) = inl z
+within_grows l past e x n layout f act (inr h) =
+    let le = path_grows l past e.clock e.place e.seat e.act (h.1).port layout (f (h.1).port) act in
     let old = h.3 in
     inr (h.0, h.1, sent_stays x h.0 past e h.1 h.2, omega arith)
 
@@ -206,27 +207,27 @@ home_grows : (l : Layout) (past : List Entry) (e : Entry) (x : MsgId) (n : ℕ) 
 home_grows l past e x n b i = bound_grows l past e x n Idle (subst (λ s. Bound l past x n s) i b)
 
 -- an entry about the message
-on_bound : (l : Layout) (past : List Entry) (x : MsgId) (c p s : ℕ) (a : Act) → IsShape l → is_legal l past ≡ true → MessageFacts x past → Counts l past x → act_may l (views past p s a) p s a ≡ true → is_about (Some x) (entry c p s a) ≡ true → Bound l (entry c p s a ∷ past) x (tries_after a (tries (about x past))) (progress_after p a (progress (about x past)))
-on_bound l past x c p s (Post m d) shape legal f k h t =
+on_bound : (l : Layout) (past : List Entry) (x : MsgId) (c p s : ℕ) (a : Act) → IsLayout l → is_legal l past ≡ true → MessageFacts x past → Counts l past x → act_may l (views past p s a) p s a ≡ true → is_about (Some x) (entry c p s a) ≡ true → Bound l (entry c p s a ∷ past) x (tries_after a (tries (about x past))) (progress_after p a (progress (about x past)))
+on_bound l past x c p s (Post m d) layout legal f k h t =
     let needs = post_needs l past p s m d h in
     let is_x : x ≡ m.id = from_same_id x m.id t in
     let number : m.id.number ≡ posts (by m.id.seat past) + 1 = needs.number ∙ ap (λ z. posts (by z past) + 1) (sym needs.seat) in
     let lt : posts (by m.id.seat past) < m.id.number = omega arith in
     let fresh = (f.fresh (subst (λ (z : MsgId). posts (by z.seat past) < z.number) (sym is_x) lt)).about in
     posted_bound l (entry c p s (Post m d) ∷ past) x p (tries (about x past)) d (ap tries fresh)
-on_bound l past x c p s (Choose y g qs) shape legal f k h t = tt
-on_bound l past x c p s (NoMember y g) shape legal f k h t = tt
-on_bound l past x c p s (Heard y b) shape legal f k h t = tt
-on_bound l past x c p s (Told y b) shape legal f k h t =
+on_bound l past x c p s (Choose y g qs) layout legal f k h t = tt
+on_bound l past x c p s (NoMember y g) layout legal f k h t = tt
+on_bound l past x c p s (Heard y b) layout legal f k h t = tt
+on_bound l past x c p s (Told y b) layout legal f k h t =
     let same : x ≡ y = from_same_id x y t in
     let d = to_be_told p b (progress (about y past)) h in
     let is : progress (about x past) ≡ Decided p d.0 d.1 b = ap (λ z. progress (about z past)) same ∙ d.2 in
-    let fits : Fits l past x (Decided p d.0 d.1 b) = subst (Fits l past x) is ((legal_inv l past shape legal).messages x) in
+    let fits : Fits l past x (Decided p d.0 d.1 b) = subst (Fits l past x) is ((legal_inv l past layout legal).messages x) in
     let old : BoundBy (tries (about x past)) b = subst (λ z. Bound l past x (tries (about x past)) z) is k.bound in
     subst (λ z. Bound l (entry c p s (Told y b) ∷ past) x (tries (about x past)) (told b z)) (sym is)
     (subst (λ z. Bound l (entry c p s (Told z b) ∷ past) x (tries (about x past)) (settled b)) same
     (told_bound l past c p s x b (tries (about x past)) d.0 d.1 old fits.1))
-on_bound l past x c p s (Try y r to hop) shape legal f k h t =
+on_bound l past x c p s (Try y r to hop) layout legal f k h t =
     let same : x ≡ y = from_same_id x y t in
     let three = and_parts _ (is_on_site l (site_asked y past) to) h in
     let two = and_parts _ (not (to == p)) three.0 in
@@ -237,7 +238,7 @@ on_bound l past x c p s (Try y r to hop) shape legal f k h t =
     let far : (located l r (at p past)).hop ≡ hop = eqb-true (located l r (at p past)).hop hop one.1 in
     let le : tries (about x past) ≤ (located l r (at p past)).hop = before_try l past x r p (tries (about x past)) f first (subst (λ z. Bound l past x (tries (about x past)) z) idle k.bound) in
     omega arith
-on_bound l past x c p s (Stale y r tried to hop) shape legal f k h t =
+on_bound l past x c p s (Stale y r tried to hop) layout legal f k h t =
     let e = entry c p s (Stale y r tried to hop) in
     let v = views past p s (Stale y r tried to hop) in
     let n = tries (about x past) in
@@ -256,23 +257,23 @@ on_bound l past x c p s (Stale y r tried to hop) shape legal f k h t =
     omega arith)
     (home_grows l past e x n k.bound)
     (due_or_idle x r p past f is_due)
-on_bound l past x c p s (Accept y r n) shape legal f k h t = final_decides l (entry c p s (Accept y r n) ∷ past) past x p r (A.Accepted n) (tries (about x past)) refl f (subst (λ z. IsDue z r p past) (sym (from_same_id x y t)) (due_accept l past p s y r n h))
-on_bound l past x c p s (Full y r n) shape legal f k h t = final_decides l (entry c p s (Full y r n) ∷ past) past x p r (A.Full n) (tries (about x past)) refl f (subst (λ z. IsDue z r p past) (sym (from_same_id x y t)) (due_full l past p s y r n h))
-on_bound l past x c p s (Already y r) shape legal f k h t = final_decides l (entry c p s (Already y r) ∷ past) past x p r A.Already (tries (about x past)) refl f (subst (λ z. IsDue z r p past) (sym (from_same_id x y t)) (due_already l past p s y r h))
-on_bound l past x c p s (ClientsFull y r) shape legal f k h t = final_decides l (entry c p s (ClientsFull y r) ∷ past) past x p r A.ClientsFull (tries (about x past)) refl f (subst (λ z. IsDue z r p past) (sym (from_same_id x y t)) (due_clients_full l past p s y r h))
-on_bound l past x c p s (Early y r hop) shape legal f k h t = final_decides l (entry c p s (Early y r hop) ∷ past) past x p r (A.Early hop) (tries (about x past)) refl f (subst (λ z. IsDue z r p past) (sym (from_same_id x y t)) (due_early l past p s y r hop h))
-on_bound l past x c p s (NoPort y r) shape legal f k h t = final_decides l (entry c p s (NoPort y r) ∷ past) past x p r A.NoPort (tries (about x past)) refl f (subst (λ z. IsDue z r p past) (sym (from_same_id x y t)) (due_no_port l past p s y r h))
-on_bound l past x c p s (Elsewhere y r to hop) shape legal f k h t = final_decides l (entry c p s (Elsewhere y r to hop) ∷ past) past x p r (A.Elsewhere to hop) (tries (about x past)) refl f (subst (λ z. IsDue z r p past) (sym (from_same_id x y t)) (due_elsewhere l past p s y r to hop h))
-on_bound l past x c p s (Gone y r) shape legal f k h t = final_decides l (entry c p s (Gone y r) ∷ past) past x p r A.Gone (tries (about x past)) refl f (subst (λ z. IsDue z r p past) (sym (from_same_id x y t)) (due_gone l past p s y r h))
-on_bound l past x c p s _ shape legal f k h t = absurd (false≢true t)
+on_bound l past x c p s (Accept y r n) layout legal f k h t = final_decides l (entry c p s (Accept y r n) ∷ past) past x p r (A.Accepted n) (tries (about x past)) refl f (subst (λ z. IsDue z r p past) (sym (from_same_id x y t)) (due_accept l past p s y r n h))
+on_bound l past x c p s (Full y r n) layout legal f k h t = final_decides l (entry c p s (Full y r n) ∷ past) past x p r (A.Full n) (tries (about x past)) refl f (subst (λ z. IsDue z r p past) (sym (from_same_id x y t)) (due_full l past p s y r n h))
+on_bound l past x c p s (Already y r) layout legal f k h t = final_decides l (entry c p s (Already y r) ∷ past) past x p r A.Already (tries (about x past)) refl f (subst (λ z. IsDue z r p past) (sym (from_same_id x y t)) (due_already l past p s y r h))
+on_bound l past x c p s (ClientsFull y r) layout legal f k h t = final_decides l (entry c p s (ClientsFull y r) ∷ past) past x p r A.ClientsFull (tries (about x past)) refl f (subst (λ z. IsDue z r p past) (sym (from_same_id x y t)) (due_clients_full l past p s y r h))
+on_bound l past x c p s (Early y r hop) layout legal f k h t = final_decides l (entry c p s (Early y r hop) ∷ past) past x p r (A.Early hop) (tries (about x past)) refl f (subst (λ z. IsDue z r p past) (sym (from_same_id x y t)) (due_early l past p s y r hop h))
+on_bound l past x c p s (NoPort y r) layout legal f k h t = final_decides l (entry c p s (NoPort y r) ∷ past) past x p r A.NoPort (tries (about x past)) refl f (subst (λ z. IsDue z r p past) (sym (from_same_id x y t)) (due_no_port l past p s y r h))
+on_bound l past x c p s (Elsewhere y r to hop) layout legal f k h t = final_decides l (entry c p s (Elsewhere y r to hop) ∷ past) past x p r (A.Elsewhere to hop) (tries (about x past)) refl f (subst (λ z. IsDue z r p past) (sym (from_same_id x y t)) (due_elsewhere l past p s y r to hop h))
+on_bound l past x c p s (Gone y r) layout legal f k h t = final_decides l (entry c p s (Gone y r) ∷ past) past x p r A.Gone (tries (about x past)) refl f (subst (λ z. IsDue z r p past) (sym (from_same_id x y t)) (due_gone l past p s y r h))
+on_bound l past x c p s _ layout legal f k h t = absurd (false≢true t)
 
 -- one more try is still within the path
-on_within : (l : Layout) (past : List Entry) (x : MsgId) (c p s : ℕ) (a : Act) → IsShape l → is_legal l past ≡ true → MessageFacts x past → Counts l past x → act_may l (views past p s a) p s a ≡ true → is_about (Some x) (entry c p s a) ≡ true → Within l (entry c p s a ∷ past) x (tries_after a (tries (about x past)))
+on_within : (l : Layout) (past : List Entry) (x : MsgId) (c p s : ℕ) (a : Act) → IsLayout l → is_legal l past ≡ true → MessageFacts x past → Counts l past x → act_may l (views past p s a) p s a ≡ true → is_about (Some x) (entry c p s a) ≡ true → Within l (entry c p s a ∷ past) x (tries_after a (tries (about x past)))
 unfolding Within
-on_within l past x c p s (Try y r to hop) shape legal f k h t =
+on_within l past x c p s (Try y r to hop) layout legal f k h t =
     let e = entry c p s (Try y r to hop) in
     let same : x ≡ y = from_same_id x y t in
-    let ports = (legal_inv l past shape legal).ports in
+    let ports = (legal_inv l past layout legal).ports in
     let three = and_parts _ (is_on_site l (site_asked y past) to) h in
     let two = and_parts _ (not (to == p)) three.0 in
     let one = and_parts (is_to_go l (views past p s (Try y r to hop)) y r to) ((located l r (at p past)).hop == hop) two.0 in
@@ -281,28 +282,28 @@ on_within l past x c p s (Try y r to hop) shape legal f k h t =
     let idle = (first_is_idle x r p past f first).0 in
     let far : (located l r (at p past)).hop ≡ hop = eqb-true (located l r (at p past)).hop hop one.1 in
     let le : tries (about x past) ≤ (located l r (at p past)).hop = before_try l past x r p (tries (about x past)) f first (subst (λ z. Bound l past x (tries (about x past)) z) idle k.bound) in
-    let known = known_step l past r c p s (Try y r to hop) shape (ports r) h hop to (located_known l past r p to hop (ports r) go.2 far) in
+    let known = known_step l past r c p s (Try y r to hop) layout (ports r) h hop to (located_known l past r p to hop (ports r) go.2 far) in
     let lt : hop < length (path_of l r (fate (on r (e ∷ past)))) = slice_get_within (path_of l r (fate (on r (e ∷ past)))) hop to known in
     let more : tries (about x past) + 1 ≤ length (path_of l r (fate (on r (e ∷ past)))) = omega arith in
     inr (p, first.message, sent_stays x p past e first.message first.is, subst (λ z. tries (about x past) + 1 ≤ length (path_of l z (fate (on z (e ∷ past))))) (sym first.port) more)
-on_within l past x c p s a shape legal f k h t =
-    within_grows l past (entry c p s a) x (tries (about x past)) shape ((legal_inv l past shape legal).ports) h k.within
+on_within l past x c p s a layout legal f k h t =
+    within_grows l past (entry c p s a) x (tries (about x past)) layout ((legal_inv l past layout legal).ports) h k.within
 
-counts_more : (l : Layout) (past : List Entry) (e : Entry) (x : MsgId) → IsShape l → is_legal l past ≡ true → act_may l (views past e.place e.seat e.act) e.place e.seat e.act ≡ true → Counts l past x → Counts l (e ∷ past) x
-counts_more l past e x shape legal act k =
+counts_more : (l : Layout) (past : List Entry) (e : Entry) (x : MsgId) → IsLayout l → is_legal l past ≡ true → act_may l (views past e.place e.seat e.act) e.place e.seat e.act ≡ true → Counts l past x → Counts l (e ∷ past) x
+counts_more l past e x layout legal act k =
     let f = legal_messages l past legal x in
     elim (cases_Bool (is_about (Some x) e)) [
       | inl t ↦ (
           let view = keeps (is_about (Some x)) e past t in
           record {
-            bound = subst (λ es. Bound l (e ∷ past) x (tries es) (progress es)) (sym view) (on_bound l past x e.clock e.place e.seat e.act shape legal f k act t);
-            within = subst (λ es. Within l (e ∷ past) x (tries es)) (sym view) (on_within l past x e.clock e.place e.seat e.act shape legal f k act t);
+            bound = subst (λ es. Bound l (e ∷ past) x (tries es) (progress es)) (sym view) (on_bound l past x e.clock e.place e.seat e.act layout legal f k act t);
+            within = subst (λ es. Within l (e ∷ past) x (tries es)) (sym view) (on_within l past x e.clock e.place e.seat e.act layout legal f k act t);
           })
       | inr n ↦ (
           let view = skips (is_about (Some x)) e past n in
           record {
             bound = subst (λ es. Bound l (e ∷ past) x (tries es) (progress es)) (sym view) (bound_grows l past e x (tries (about x past)) (progress (about x past)) k.bound);
-            within = subst (λ es. Within l (e ∷ past) x (tries es)) (sym view) (within_grows l past e x (tries (about x past)) shape ((legal_inv l past shape legal).ports) act k.within);
+            within = subst (λ es. Within l (e ∷ past) x (tries es)) (sym view) (within_grows l past e x (tries (about x past)) layout ((legal_inv l past layout legal).ports) act k.within);
           })
     ]
 
@@ -310,11 +311,11 @@ counts_none : (l : Layout) (x : MsgId) → Counts l [] x
 unfolding AtMostLocated Within
 counts_none l x = record { bound = inl refl; within = inl refl }
 
-legal_counts : (l : Layout) (past : List Entry) (x : MsgId) → IsShape l → is_legal l past ≡ true → Counts l past x
-legal_counts l [] x shape h = counts_none l x
-legal_counts l (e ∷ past) x shape h =
+legal_counts : (l : Layout) (past : List Entry) (x : MsgId) → IsLayout l → is_legal l past ≡ true → Counts l past x
+legal_counts l [] x layout h = counts_none l x
+legal_counts l (e ∷ past) x layout h =
     let two = and_parts (may l past e) (is_legal l past) h in
-    counts_more l past e x shape two.1 (may_act l past e two.0) (legal_counts l past x shape two.1)
+    counts_more l past e x layout two.1 (may_act l past e two.0) (legal_counts l past x layout two.1)
 
 -- Each try is for the port to which the message was sent.
 
@@ -358,5 +359,5 @@ within_path l past x q n f i (inr h) =
 
 -- the law on tries
 pub tries_within : TriesWithinPath
-tries_within l past x q shape h i =
-    within_path l past x q (tries (about x past)) (legal_messages l past h x) (tried_for l past x q h i) (legal_counts l past x shape h).within
+tries_within l past x q layout h i =
+    within_path l past x q (tries (about x past)) (legal_messages l past h x) (tried_for l past x q h i) (legal_counts l past x layout h).within

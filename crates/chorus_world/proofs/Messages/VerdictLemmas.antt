@@ -11,7 +11,8 @@ use Rattle.chorus_entry.specs.declared.act.Act.{Act}
 use Rattle.chorus_entry.specs.declared.act.Act.TheVariants.{Accept, Full, Already, ClientsFull, Stale, Early, NoPort, Elsewhere, NoMember, Gone}
 use Rattle.chorus_entry.specs.Act.{message_of, port_of, answer_of, is_verdict, is_decision}
 use Rattle.chorus_entry.specs.MsgId.{same_id}
-use Rattle.chorus_world.specs.Views.{views, are_same, is_about, about}
+use Rattle.chorus_world.specs.Views.{views, is_about, about}
+use Rattle.chorus_entry.specs.Same.{are_same}
 use Rattle.chorus_world.specs.Messages.{verdict, verdict_by}
 use Rattle.chorus_world.specs.Steps.{act_may}
 use Rattle.chorus_world.specs.AcceptedLaws.{HasOneVerdict}

@@ -5,7 +5,7 @@ use Rattle.std.proofs.lemmas.List.{take-append-drop, append-nil, append_assoc}
 use Rattle.std.proofs.lemmas.Nat.{mod-mul-add}
 use Rattle.chorus_ui.specs.declared.ui.Ui.{Ui}
 use Rattle.chorus_ui.specs.declared.layout.Layout.{Layout}
-use Rattle.chorus_ui.specs.Layout.{IsShape, has_actor, place_at, creation_place, first_place}
+use Rattle.chorus_ui.specs.Layout.{IsLayout, has_actor, place_at, creation_place, first_place}
 use Rattle.chorus_entry.specs.declared.entry.Entry.{Entry}
 use Rattle.chorus_entry.specs.declared.id.MsgId.{MsgId}
 use Rattle.chorus_entry.specs.declared.act.Act.{Act}
@@ -13,7 +13,8 @@ use Rattle.chorus_entry.specs.declared.act.Act.TheVariants.{Make, Accept, Arrive
 use Rattle.chorus_entry.specs.Act.{held_port_of}
 use Rattle.chorus_world.specs.declared.port.Spot.{Spot}
 use Rattle.chorus_world.specs.declared.port.Spot.TheVariants.{Held, Moving, Ended}
-use Rattle.chorus_world.specs.Views.{views, is_on, is_at, on, at}
+use Rattle.chorus_world.specs.Views.{views, is_on, on, at}
+use Rattle.chorus_entry.specs.Order.{is_at}
 use Rattle.chorus_world.specs.Ports.{PortState, fate, fate_after, is_made, is_held, is_moving, is_held_at}
 use Rattle.chorus_world.specs.Places.{ports_made, ports_after}
 use Rattle.chorus_world.specs.Steps.{act_may, is_legal, is_home, is_full_of_ports, next_number}
@@ -50,7 +51,7 @@ made_before q p _ (Some f) m h = inl refl
 made_before q p _ None m h = absurd (false≢true h)
 
 -- the number that a Make gives
-number_given : (l : Layout) (q a : Ui) (p m : ℕ) → IsShape l → place_at l a.site a ≡ p → q.site ≡ a.site → q.number ≡ m * l.turns + (p - 1) % l.turns + 1 → (creation_place l q ≡ p) × (q.number ≤ (m + 1) * l.turns) × (m * l.turns < q.number)
+number_given : (l : Layout) (q a : Ui) (p m : ℕ) → IsLayout l → place_at l a.site a ≡ p → q.site ≡ a.site → q.number ≡ m * l.turns + (p - 1) % l.turns + 1 → (creation_place l q ≡ p) × (q.number ≤ (m + 1) * l.turns) × (m * l.turns < q.number)
 number_given l q a p m i home site number =
     let t = l.turns in
     let k = (a.number - 1) % t in
@@ -73,7 +74,7 @@ make_needs l past p s q a n h =
     let home = and_parts (has_actor l a) (place_at l a.site a == p) one.0 in
     (eqb-true (place_at l a.site a) p home.1, eqb-true q.site a.site four.1, eqb-true q.number (next_number l p here) five.1)
 
-given : (l : Layout) (past : List Entry) (p s : ℕ) (q a : Ui) (n : ℕ) → IsShape l → act_may l (views past p s (Make q a n)) p s (Make q a n) ≡ true → (creation_place l q ≡ p) × (q.number ≤ (ports_made (at p past) + 1) * l.turns) × (ports_made (at p past) * l.turns < q.number)
+given : (l : Layout) (past : List Entry) (p s : ℕ) (q a : Ui) (n : ℕ) → IsLayout l → act_may l (views past p s (Make q a n)) p s (Make q a n) ≡ true → (creation_place l q ≡ p) × (q.number ≤ (ports_made (at p past) + 1) * l.turns) × (ports_made (at p past) * l.turns < q.number)
 given l past p s q a n i h =
     let needs = make_needs l past p s q a n h in number_given l q a p (ports_made (at p past)) i needs.0 needs.1 needs.2
 
@@ -82,7 +83,7 @@ unmade None h = refl
 unmade (Some f) h = absurd (h refl)
 
 -- a Make is of a port that is not made
-makes_new : (l : Layout) (past : List Entry) (p s : ℕ) (a : Act) (q : Ui) → IsShape l → IsNumbered l q past → held_port_of a ≡ Some q → act_may l (views past p s a) p s a ≡ true → MakesNew a (fate (on q past))
+makes_new : (l : Layout) (past : List Entry) (p s : ℕ) (a : Act) (q : Ui) → IsLayout l → IsNumbered l q past → held_port_of a ≡ Some q → act_may l (views past p s a) p s a ≡ true → MakesNew a (fate (on q past))
 makes_new l past p s (Make r a n) q i k m h =
     let same : r ≡ q = cc in
     let g = given l past p s r a n i h in
@@ -101,7 +102,7 @@ numbered_more l past e q n h =
     let le = mul_grows (ports_made (at p past)) (ports_made (at p (e ∷ past))) l.turns (ports_grow e past p) in
     omega arith
 
-numbered_step : (l : Layout) (past : List Entry) (c p s : ℕ) (a : Act) (q : Ui) → IsShape l → IsNumbered l q past → act_may l (views past p s a) p s a ≡ true → held_port_of a ≡ Some q → is_made (fate_after p a (fate (on q past))) ≡ true → q.number ≤ ports_made (at (creation_place l q) (entry c p s a ∷ past)) * l.turns
+numbered_step : (l : Layout) (past : List Entry) (c p s : ℕ) (a : Act) (q : Ui) → IsLayout l → IsNumbered l q past → act_may l (views past p s a) p s a ≡ true → held_port_of a ≡ Some q → is_made (fate_after p a (fate (on q past))) ≡ true → q.number ≤ ports_made (at (creation_place l q) (entry c p s a ∷ past)) * l.turns
 numbered_step l past c p s a q i k h m made =
     elim (made_before q p a (fate (on q past)) m made) [
       | inl old ↦ numbered_more l past (entry c p s a) q q.number (k old)
@@ -117,7 +118,7 @@ numbered_step l past c p s a q i k h m made =
     ]
 
 -- every legal past has, of each port, a line of which the facts hold, and its number
-pub legal_line : (l : Layout) (past : List Entry) (q : Ui) → IsShape l → is_legal l past ≡ true → IsLine (on q past) × IsNumbered l q past
+pub legal_line : (l : Layout) (past : List Entry) (q : Ui) → IsLayout l → is_legal l past ≡ true → IsLine (on q past) × IsNumbered l q past
 legal_line l [] q i h = (refl, λ m. absurd (false≢true m))
 legal_line l (e ∷ past) q i h =
     let two = legal_parts l e past h in
@@ -138,11 +139,11 @@ legal_line l (e ∷ past) q i h =
 
 -- The laws.
 
-line_facts : (l : Layout) (past : List Entry) (q : Ui) (f : PortState) → IsShape l → is_legal l past ≡ true → fate (on q past) ≡ Some f → LineFacts f (received (on q past)) (discarded (on q past))
+line_facts : (l : Layout) (past : List Entry) (q : Ui) (f : PortState) → IsLayout l → is_legal l past ≡ true → fate (on q past) ≡ Some f → LineFacts f (received (on q past)) (discarded (on q past))
 line_facts l past q f i h e = subst (λ z. LineIs z (on q past)) e (legal_line l past q i h).0
 
 -- a port that is not made has no entries on its line
-pub unmade_is_empty : (l : Layout) (past : List Entry) (q : Ui) → IsShape l → is_legal l past ≡ true → fate (on q past) ≡ None → on q past ≡ []
+pub unmade_is_empty : (l : Layout) (past : List Entry) (q : Ui) → IsLayout l → is_legal l past ≡ true → fate (on q past) ≡ None → on q past ≡ []
 unmade_is_empty l past q i h e = subst (λ z. LineIs z (on q past)) e (legal_line l past q i h).0
 
 receives_case : (o : Option PortState) (port : List Entry) → LineIs o port → (received port ≡ take (taken_from o) (accepted_from o)) × (taken_from o ≤ length (accepted_from o))
@@ -176,7 +177,7 @@ accepts_more (Accept x q n) p (Some f) new = (x ∷ [], refl)
 accepts_more _ p (Some f) new = ([], sym (append-nil f.accepted))
 accepts_more _ p None new = ([], refl)
 
-grows_by_one : (l : Layout) (past : List Entry) (e : Entry) (q : Ui) → IsShape l → is_legal l (e ∷ past) ≡ true → (more : List MsgId) × (accepted_by q (e ∷ past) ≡ accepted_by q past ++ more)
+grows_by_one : (l : Layout) (past : List Entry) (e : Entry) (q : Ui) → IsLayout l → is_legal l (e ∷ past) ≡ true → (more : List MsgId) × (accepted_by q (e ∷ past) ≡ accepted_by q past ++ more)
 grows_by_one l past e q i h =
     let two = legal_parts l e past h in
     elim (cases_Bool (is_on (Some q) e)) [
@@ -215,7 +216,7 @@ ended_spot (Some f) port xs h e =
     (f, refl, (discards_spot f.spot (discarded port) xs (drop f.taken f.accepted) h.over e).0)
 
 -- no entry comes behind the Delete of a port
-ends_line : (l : Layout) (past : List Entry) (e : Entry) (q : Ui) (xs : List MsgId) → IsShape l → is_legal l (e ∷ past) ≡ true → discarded (on q past) ≡ Some xs → is_on (Some q) e ≡ true → ⊥
+ends_line : (l : Layout) (past : List Entry) (e : Entry) (q : Ui) (xs : List MsgId) → IsLayout l → is_legal l (e ∷ past) ≡ true → discarded (on q past) ≡ Some xs → is_on (Some q) e ≡ true → ⊥
 ends_line l past e q xs i h d t =
     let two = legal_parts l e past h in
     let m = on_is q (held_port_of e.act) t in

@@ -4,7 +4,7 @@ use Rattle.std.specs.List.{slice_get}
 use Rattle.std.proofs.lemmas.Bool.{eqb-true, false≢true, true≢false, and_parts, false_from_ne_true}
 use Rattle.chorus_ui.specs.declared.ui.Ui.{Ui}
 use Rattle.chorus_ui.specs.declared.layout.Layout.{Layout}
-use Rattle.chorus_ui.specs.Layout.{IsShape, has_site, has_actor, place_at, creation_place, site_of}
+use Rattle.chorus_ui.specs.Layout.{IsLayout, has_site, has_actor, place_at, creation_place, site_of}
 use Rattle.chorus_ui.proofs.Names.{from_same_ui}
 use Rattle.chorus_entry.specs.declared.entry.Entry.{Entry}
 use Rattle.chorus_entry.specs.declared.id.MsgId.{MsgId}
@@ -19,14 +19,15 @@ use Rattle.chorus_world.specs.declared.place.Location.{Location}
 use Rattle.chorus_world.specs.declared.place.Sent.{Sent}
 use Rattle.chorus_world.specs.declared.message.Progress.{Progress}
 use Rattle.chorus_world.specs.declared.message.Progress.TheVariants.{Decided}
-use Rattle.chorus_world.specs.Views.{views, at, on, is_at, is_on}
+use Rattle.chorus_world.specs.Views.{views, at, on, is_on}
+use Rattle.chorus_entry.specs.Order.{is_at}
 use Rattle.chorus_world.specs.Ports.{PortState, fate, fate_after, last_of, is_held, is_moving, is_held_at, is_coming, is_next_hop, are_waiting, arrived}
 use Rattle.chorus_world.specs.Messages.{is_to_be_told}
-use Rattle.chorus_world.specs.Places.{located, learned, farther, named_location, is_sent_to, find_sent, sent, taught}
+use Rattle.chorus_world.specs.Places.{is_deleted, located, learned, farther, named_location, is_sent_to, find_sent, sent, taught}
 use Rattle.chorus_world.specs.Steps.{act_may, is_full_of_ports, next_number}
 use Rattle.chorus_world.specs.LocationLaws.{path_of}
 use Rattle.chorus_world.proofs.Steps.LegalLemmas.{entry, under, cond_idem, cond_same}
-use Rattle.chorus_world.proofs.Sorted.Local.{is_kept, is_deleted}
+use Rattle.chorus_world.proofs.Sorted.Local.{is_kept}
 use Rattle.chorus_world.proofs.Ports.Whereabouts.{Facts, facts_same, facts_learn, facts_make, facts_rehome, facts_depart, facts_arrive, facts_delete, known_push}
 use Rattle.chorus_world.proofs.Ports.PortSteps.{PortFacts, Known, spot_in, next_at_home, still, moved, other, number_made, number_grows, made_at, path_still, same_or_not}
 
@@ -70,8 +71,8 @@ unmade_fate None h = refl
 unmade_fate (Some f) h = absurd (true≢false h)
 
 -- a port that may be made was not made, and its name tells the place
-pub make_new : (l : Layout) (past : List Entry) (p s : ℕ) (q a : Ui) (n : ℕ) → IsShape l → PortFacts l past q → act_may l (views past p s (Make q a n)) p s (Make q a n) ≡ true → (fate (on q past) ≡ None) × (creation_place l q ≡ p) × ((named_location l q).to ≡ p) × (q.number ≡ next_number l p (at p past))
-make_new l past p s q a n shape f h =
+pub make_new : (l : Layout) (past : List Entry) (p s : ℕ) (q a : Ui) (n : ℕ) → IsLayout l → PortFacts l past q → act_may l (views past p s (Make q a n)) p s (Make q a n) ≡ true → (fate (on q past) ≡ None) × (creation_place l q ≡ p) × ((named_location l q).to ≡ p) × (q.number ≡ next_number l p (at p past))
+make_new l past p s q a n layout f h =
     let five = and_parts _ (q.number == next_number l p (at p past)) h in
     let four = and_parts _ (q.site == a.site) five.0 in
     let three = and_parts _ (not (is_full_of_ports l (at p past))) four.0 in
@@ -80,23 +81,23 @@ make_new l past p s q a n shape f h =
     let home = and_parts (has_actor l a) (place_at l a.site a == p) one.0 in
     let site : q.site ≡ a.site = eqb-true q.site a.site four.1 in
     let number : q.number ≡ next_number l p (at p past) = eqb-true q.number (next_number l p (at p past)) five.1 in
-    let there : creation_place l q ≡ p = made_at l a q p _ shape (eqb-true (place_at l a.site a) p home.1) site number in
+    let there : creation_place l q ≡ p = made_at l a q p _ layout (eqb-true (place_at l a.site a) p home.1) site number in
     let has : has_site l a.site ≡ true = (and_parts (has_site l a.site) (nat_le 1 a.number) (and_parts _ _ home.0).0).0 in
     let named : (named_location l q).to ≡ p = ap (λ b. cond b (creation_place l q) 0) (ap (has_site l) site ∙ has) ∙ there in
     let new : is_some (spot_in (fate (on q past))) ≡ false = false_from_ne_true (is_some (spot_in (fate (on q past)))) (λ m. let lt : q.number < next_number l p (at p past) = subst (λ z. q.number < next_number l z (at z past)) there (f.made m) in omega arith) in
     (unmade_fate (fate (on q past)) new, there, named, number)
 
-port_make : (l : Layout) (past : List Entry) (q : Ui) (c p s : ℕ) (r a : Ui) (n : ℕ) → IsShape l → PortFacts l past q → act_may l (views past p s (Make r a n)) p s (Make r a n) ≡ true → PortFacts l (entry c p s (Make r a n) ∷ past) q
-port_make l past q c p s r a n shape f h =
+port_make : (l : Layout) (past : List Entry) (q : Ui) (c p s : ℕ) (r a : Ui) (n : ℕ) → IsLayout l → PortFacts l past q → act_may l (views past p s (Make r a n)) p s (Make r a n) ≡ true → PortFacts l (entry c p s (Make r a n) ∷ past) q
+port_make l past q c p s r a n layout f h =
     let e = entry c p s (Make r a n) in
     same_or_not q r (PortFacts l (e ∷ past) q)
     (λ is_r t back.
-    let new = make_new l past p s q a n shape f (subst (λ z. act_may l (views past p s (Make z a n)) p s (Make z a n) ≡ true) (sym is_r) h) in
+    let new = make_new l past p s q a n layout f (subst (λ z. act_may l (views past p s (Make z a n)) p s (Make z a n) ≡ true) (sym is_r) h) in
     moved l past q e t
     (facts_same
     (facts_make p a (next_at_home l q (e ∷ past))
     (subst (λ o. Facts q (spot_in o) (path_of l q o) (λ z. is_kept q (at z past)) (λ z. is_deleted q (at z past)) (λ z. located l q (at z past)) (next_at_home l q past)) new.0 f)
-    new.2 (number_made l past c p s r a n q shape new.1 new.3))
+    new.2 (number_made l past c p s r a n q layout new.1 new.3))
     refl (ap (λ z. z ∷ []) new.2)
     (λ x. ap (λ b. cond (p == x) (b || is_kept q (at x past)) (is_kept q (at x past))) back)
     (λ x. cond_idem (p == x) (is_deleted q (at x past)))
@@ -230,15 +231,15 @@ port_told l past q c p s x a r f g to =
     (number_grows l q e past)
 
 -- each entry that may come next keeps the facts of each port
-pub ports_step : (l : Layout) (past : List Entry) (q : Ui) (c p s : ℕ) (a : Act) → IsShape l → PortFacts l past q → ((x : MsgId) (b : Answer) → a ≡ Told x b → (r : Ui) × (Teaches l past r (taught b) × IsSentTo past p x r)) → act_may l (views past p s a) p s a ≡ true → PortFacts l (entry c p s a ∷ past) q
-ports_step l past q c p s (Make r a n) shape f g h = port_make l past q c p s r a n shape f h
-ports_step l past q c p s (Rehome r a) shape f g h = port_rehome l past q c p s r a f h
-ports_step l past q c p s (Depart r to a hop) shape f g h = port_depart l past q c p s r to a hop f h
-ports_step l past q c p s (Arrive r hop) shape f g h = port_arrive l past q c p s r hop f h
-ports_step l past q c p s (Delete r xs) shape f g h = port_delete l past q c p s r xs f h
-ports_step l past q c p s (Told x b) shape f g h =
+pub ports_step : (l : Layout) (past : List Entry) (q : Ui) (c p s : ℕ) (a : Act) → IsLayout l → PortFacts l past q → ((x : MsgId) (b : Answer) → a ≡ Told x b → (r : Ui) × (Teaches l past r (taught b) × IsSentTo past p x r)) → act_may l (views past p s a) p s a ≡ true → PortFacts l (entry c p s a ∷ past) q
+ports_step l past q c p s (Make r a n) layout f g h = port_make l past q c p s r a n layout f h
+ports_step l past q c p s (Rehome r a) layout f g h = port_rehome l past q c p s r a f h
+ports_step l past q c p s (Depart r to a hop) layout f g h = port_depart l past q c p s r to a hop f h
+ports_step l past q c p s (Arrive r hop) layout f g h = port_arrive l past q c p s r hop f h
+ports_step l past q c p s (Delete r xs) layout f g h = port_delete l past q c p s r xs f h
+ports_step l past q c p s (Told x b) layout f g h =
     let t = g x b refl in port_told l past q c p s x b t.0 f t.1.0 t.1.1
-ports_step l past q c p s a shape f g h = still l past q (entry c p s a) refl (λ here. refl) f
+ports_step l past q c p s a layout f g h = still l past q (entry c p s a) refl (λ here. refl) f
 
 -- Where a port was with some hop, it was whatever follows.
 
@@ -271,22 +272,22 @@ pub known_departed : (l : Layout) (q : Ui) (p : ℕ) (r : Ui) (to : ℕ) (a : Ui
 known_departed l q p r to a hop None n z h = h
 known_departed l q p r to a hop (Some f) n z h = known_push f.path to n z h
 
-pub known_step : (l : Layout) (past : List Entry) (q : Ui) (c p s : ℕ) (a : Act) → IsShape l → PortFacts l past q → act_may l (views past p s a) p s a ≡ true → (n z : ℕ) → Known l past q n z → Known l (entry c p s a ∷ past) q n z
-known_step l past q c p s (Make r a m) shape f h n z k =
+pub known_step : (l : Layout) (past : List Entry) (q : Ui) (c p s : ℕ) (a : Act) → IsLayout l → PortFacts l past q → act_may l (views past p s a) p s a ≡ true → (n z : ℕ) → Known l past q n z → Known l (entry c p s a ∷ past) q n z
+known_step l past q c p s (Make r a m) layout f h n z k =
     let e = entry c p s (Make r a m) in
     same_or_not q r (Known l (e ∷ past) q n z)
     (λ is_r t back.
-    let new = make_new l past p s q a m shape f (subst (λ z. act_may l (views past p s (Make z a m)) p s (Make z a m) ≡ true) (sym is_r) h) in
+    let new = make_new l past p s q a m layout f (subst (λ z. act_may l (views past p s (Make z a m)) p s (Make z a m) ≡ true) (sym is_r) h) in
     known_on l past e q n z t
     (ap (λ y. slice_get (y ∷ []) n) (sym new.2) ∙ (ap (λ o. slice_get (path_of l q o) n) (sym new.0) ∙ k)))
     (λ off back. known_other l past e q n z off k)
-known_step l past q c p s (Depart r to a hop) shape f h n z k =
+known_step l past q c p s (Depart r to a hop) layout f h n z k =
     let e = entry c p s (Depart r to a hop) in
     same_or_not q r (Known l (e ∷ past) q n z)
     (λ is_r t back. known_on l past e q n z t (known_departed l q p r to a hop (fate (on q past)) n z k))
     (λ off back. known_other l past e q n z off k)
-known_step l past q c p s (Rehome r a) shape f h n z k = known_same l past (entry c p s (Rehome r a)) q n z (path_rehomed l q p r a (fate (on q past))) k
-known_step l past q c p s (Arrive r hop) shape f h n z k = known_same l past (entry c p s (Arrive r hop)) q n z (path_arrived l q p r hop (fate (on q past))) k
-known_step l past q c p s (Delete r xs) shape f h n z k = known_same l past (entry c p s (Delete r xs)) q n z (path_deleted l q p r xs (fate (on q past))) k
-known_step l past q c p s a shape f h n z k =
+known_step l past q c p s (Rehome r a) layout f h n z k = known_same l past (entry c p s (Rehome r a)) q n z (path_rehomed l q p r a (fate (on q past))) k
+known_step l past q c p s (Arrive r hop) layout f h n z k = known_same l past (entry c p s (Arrive r hop)) q n z (path_arrived l q p r hop (fate (on q past))) k
+known_step l past q c p s (Delete r xs) layout f h n z k = known_same l past (entry c p s (Delete r xs)) q n z (path_deleted l q p r xs (fate (on q past))) k
+known_step l past q c p s a layout f h n z k =
     known_same l past (entry c p s a) q n z (path_still l q p a (fate (on q past)) refl) k

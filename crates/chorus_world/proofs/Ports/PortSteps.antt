@@ -5,19 +5,20 @@ use Rattle.std.proofs.lemmas.Bool.{eq-eqb, cases_Bool, false≢true, true≢fals
 use Rattle.chorus_ui.specs.declared.ui.Ui.{Ui}
 use Rattle.chorus_ui.specs.declared.layout.Layout.{Layout}
 use Rattle.chorus_ui.specs.Name.{same_ui}
-use Rattle.chorus_ui.specs.Layout.{IsShape, place_at, creation_place}
+use Rattle.chorus_ui.specs.Layout.{IsLayout, place_at, creation_place}
 use Rattle.chorus_ui.proofs.Names.{from_same_ui, same_ui-self}
 use Rattle.chorus_entry.specs.declared.entry.Entry.{Entry}
 use Rattle.chorus_entry.specs.declared.act.Act.{Act}
 use Rattle.chorus_entry.specs.declared.act.Act.TheVariants.{Make, Rehome, Depart, Arrive, Delete}
 use Rattle.chorus_world.specs.declared.port.Spot.{Spot}
-use Rattle.chorus_world.specs.Views.{at, on, is_at, is_on}
+use Rattle.chorus_world.specs.Views.{at, on, is_on}
+use Rattle.chorus_entry.specs.Order.{is_at}
 use Rattle.chorus_world.specs.Ports.{PortState, fate, fate_after}
-use Rattle.chorus_world.specs.Places.{located, learned, farther, ports_made, ports_after}
+use Rattle.chorus_world.specs.Places.{is_deleted, located, learned, farther, ports_made, ports_after}
 use Rattle.chorus_world.specs.Steps.{next_number}
 use Rattle.chorus_world.specs.LocationLaws.{path_of}
 use Rattle.chorus_world.proofs.Steps.LegalLemmas.{entry, under, cond_same}
-use Rattle.chorus_world.proofs.Sorted.Local.{is_kept, kept_after, is_deleted, deleted_after}
+use Rattle.chorus_world.proofs.Sorted.Local.{is_kept, kept_after, deleted_after}
 use Rattle.chorus_world.proofs.Ports.Whereabouts.{Facts, facts_same}
 
 abbrev pub spot_in : Option PortState → Option Spot
@@ -53,11 +54,11 @@ place_again (suc (suc (suc (suc zero)))) u v n p a b c e = omega arith
 place_again (suc (suc (suc (suc (suc t))))) u v n p a b c e = absurd (omega arith)
 
 -- a port is made at the place where its name puts it
-pub made_at : (l : Layout) (a r : Ui) (p n : ℕ) → IsShape l → place_at l a.site a ≡ p → r.site ≡ a.site → r.number ≡ n * l.turns + (p - 1) % l.turns + 1 → creation_place l r ≡ p
-made_at l a r p n shape home site number =
+pub made_at : (l : Layout) (a r : Ui) (p n : ℕ) → IsLayout l → place_at l a.site a ≡ p → r.site ≡ a.site → r.number ≡ n * l.turns + (p - 1) % l.turns + 1 → creation_place l r ≡ p
+made_at l a r p n layout home site number =
     ap (λ z. (z - 1) * l.turns + 1 + (r.number - 1) % l.turns) site
     ∙ (ap (λ z. (a.site - 1) * l.turns + 1 + (z - 1) % l.turns) number
-    ∙ place_again l.turns (a.site - 1) (a.number - 1) n p shape.turns_from_one shape.turns_to_four shape.turns_not_three (sym home))
+    ∙ place_again l.turns (a.site - 1) (a.number - 1) n p layout.turns_from_one layout.turns_to_four layout.turns_not_three (sym home))
 
 ports_after_grows : (a : Act) (n : ℕ) → n ≤ ports_after a n
 ports_after_grows (Make q b c) n = omega arith
@@ -77,11 +78,11 @@ number_grows l q e past =
     next_grows (ports_made (at (creation_place l q) past)) (ports_made (at (creation_place l q) (e ∷ past))) l.turns ((creation_place l q - 1) % l.turns) (ports_grow e past (creation_place l q))
 
 -- the number of a port that is made is below the next one
-pub number_made : (l : Layout) (past : List Entry) (c p s : ℕ) (r a : Ui) (n : ℕ) (q : Ui) → IsShape l → creation_place l q ≡ p → q.number ≡ next_number l p (at p past) → q.number < next_at_home l q (entry c p s (Make r a n) ∷ past)
-number_made l past c p s r a n q shape home number =
+pub number_made : (l : Layout) (past : List Entry) (c p s : ℕ) (r a : Ui) (n : ℕ) (q : Ui) → IsLayout l → creation_place l q ≡ p → q.number ≡ next_number l p (at p past) → q.number < next_at_home l q (entry c p s (Make r a n) ∷ past)
+number_made l past c p s r a n q layout home number =
     let e = entry c p s (Make r a n) in
     let one : next_number l p (at p (e ∷ past)) ≡ next_number l p (e ∷ at p past) = ap (λ b. next_number l p (cond b (e ∷ at p past) (at p past))) (eq-eqb p p refl) in
-    let lt : next_number l p (at p past) < next_number l p (e ∷ at p past) = next_more (ports_made (at p past)) l.turns ((p - 1) % l.turns) shape.turns_from_one in
+    let lt : next_number l p (at p past) < next_number l p (e ∷ at p past) = next_more (ports_made (at p past)) l.turns ((p - 1) % l.turns) layout.turns_from_one in
     subst (λ z. q.number < next_number l z (at z (e ∷ past))) (sym home) (subst (λ z. q.number < z) (sym one) (omega arith))
 
 -- Entries that do not move a port.

@@ -19,7 +19,8 @@ use Rattle.chorus_entry.specs.Body.{same_body}
 use Rattle.chorus_entry.specs.Dest.{group_in}
 use Rattle.chorus_entry.specs.MsgId.{same_id}
 use Rattle.chorus_world.specs.declared.place.Sent.{Sent}
-use Rattle.chorus_world.specs.Views.{views, are_same, is_number, is_by, by}
+use Rattle.chorus_world.specs.Views.{views, is_by, by}
+use Rattle.chorus_entry.specs.Same.{are_same, is_number}
 use Rattle.chorus_world.specs.Places.{sent_by, find_sent}
 use Rattle.chorus_world.specs.Posts.{Posted, posted_by, posted_in, post_of, source}
 use Rattle.chorus_world.specs.Seats.{Call, same_call, call, call_in, call_by, first_call, number_in, posts, posts_stay, requests, requests_after}

@@ -1,22 +1,24 @@
 -- A port accepts the requests of each client in the order of their numbers, and each request is accepted at most once.
-use Rattle.std.proofs.Common.{ℕ, ◌≡◌, ◌<◌, ◌≤◌, ◌==◌, Bool, true, false, cond, max, nat_le, List, [], ◌∷◌, Some, refl, sym, ◌∙◌, ap, subst, arith, inl, inr}
+use Rattle.std.proofs.Common.{ℕ, ◌≡◌, ◌<◌, true, false, List, [], ◌∷◌, Option, Some, None, refl, sym, ◌∙◌, ap, subst, arith, inl, inr}
 use Rattle.std.specs.List.{slice_get}
-use Rattle.std.proofs.lemmas.Bool.{eq-eqb, and_parts, cases_lt}
+use Rattle.std.proofs.lemmas.Bool.{and_parts, cases_lt, false≢true}
 use Rattle.std.proofs.lemmas.Bool.Decides.{nat_tests}
 use Rattle.std.proofs.lemmas.Option.{slice_get_within}
 use Rattle.chorus_ui.specs.declared.ui.Ui.{Ui}
 use Rattle.chorus_ui.specs.declared.layout.Layout.{Layout}
 use Rattle.chorus_entry.specs.declared.entry.Entry.{Entry}
 use Rattle.chorus_entry.specs.declared.id.MsgId.{MsgId}
-use Rattle.chorus_entry.specs.declared.tag.Tag.{Tag}
-use Rattle.chorus_entry.specs.declared.tag.Tag.TheVariants.{Plain, Request, Reply}
+use Rattle.chorus_entry.specs.declared.tag.Tag.TheVariants.{Request}
 use Rattle.chorus_entry.specs.declared.act.Act.{Act}
 use Rattle.chorus_entry.specs.declared.act.Act.TheVariants.{Accept}
 use Rattle.chorus_world.specs.Views.{views, by, on}
 use Rattle.chorus_world.specs.Ports.{fate, has_room}
 use Rattle.chorus_world.specs.Posts.{Posted, post_of, tag_of, tag_from}
 use Rattle.chorus_world.specs.Seats.{Call, first_call}
-use Rattle.chorus_world.specs.Clients.{kept, kept_after, kept_with, is_old}
+use Rattle.chorus_entry.specs.ClientTable.{number_of}
+use Rattle.chorus_entry.specs.Clients.{is_reached, is_repeated, remembered}
+use Rattle.chorus_entry.proofs.Clients.{reached-now, reached-later}
+use Rattle.chorus_world.specs.Clients.{clients_after, clients_kept}
 use Rattle.chorus_world.specs.Steps.{act_may, may_enter, is_legal}
 use Rattle.chorus_world.specs.AcceptedLaws.{accepted_by, accepted_from}
 use Rattle.chorus_world.specs.RequestLaws.{RequestsRise, RequestsOnce}
@@ -27,40 +29,29 @@ use Rattle.chorus_world.proofs.Messages.PostLemmas.{post_stays}
 use Rattle.chorus_world.proofs.Messages.AcceptedLemmas.{accepted_after, accepted_before, accepted_belongs, accepted_posted, accept_waits, waiting_posted}
 use Rattle.chorus_world.proofs.Seats.CallLemmas.{request_goes, direct_port}
 
--- what a port keeps of a client only grows
-with_grows : (c d : ℕ) (g : Tag) (k : ℕ) → k ≤ kept_with c d g k
-with_grows c d Plain k = omega arith
-with_grows c d (Request n b) k = choice (d == c)
-  where
-    choice : (b : Bool) → k ≤ cond b (max n k) k
-    choice true = omega arith
-    choice false = omega arith
-with_grows c d (Reply e n) k = omega arith
+-- what a port remembers of a client only grows
+stays : (past : List Entry) (a : Act) (c n : ℕ) (table : List (ℕ × ℕ)) → is_reached n (number_of table c) ≡ true → is_reached n (number_of (clients_after past a table) c) ≡ true
+stays past (Accept x q p) c n table h = reached-later x.seat (tag_of x past) table c n h
+stays past _ c n table h = h
 
-kept_grows : (c : ℕ) (past : List Entry) (a : Act) (k : ℕ) → k ≤ kept_after c past a k
-kept_grows c past (Accept x q n) k = with_grows c x.seat (tag_of x past) k
-kept_grows c past _ k = omega arith
+accepted_now : (past : List Entry) (x : MsgId) (n : ℕ) (b : Ui) (table : List (ℕ × ℕ)) → tag_of x past ≡ Request n b → is_reached n (number_of (remembered x.seat (tag_of x past) table) x.seat) ≡ true
+accepted_now past x n b table h =
+    ap (λ g. is_reached n (number_of (remembered x.seat g table) x.seat)) h ∙ reached-now x.seat n b table
 
-kept_now : (past : List Entry) (x : MsgId) (q : Ui) (p k n : ℕ) (b : Ui) → tag_of x past ≡ Request n b → n ≤ kept_after x.seat past (Accept x q p) k
-kept_now past x q p k n b h =
-    let one : kept_with x.seat x.seat (tag_of x past) k ≡ max n k =
-    ap (λ g. kept_with x.seat x.seat g k) h ∙ ap (λ z. cond z (max n k) k) (eq-eqb x.seat x.seat refl) in
-    omega (arith, one)
-
--- no accepted request of the client has a greater number than is kept
-kept_bounds : (past port : List Entry) (i : ℕ) (x : MsgId) (n : ℕ) (b : Ui) → slice_get (accepted_from (fate port)) i ≡ Some x → tag_of x past ≡ Request n b → n ≤ kept x.seat past port
+-- no accepted request of the client has a greater number than is remembered
+kept_bounds : (past port : List Entry) (i : ℕ) (x : MsgId) (n : ℕ) (b : Ui) → slice_get (accepted_from (fate port)) i ≡ Some x → tag_of x past ≡ Request n b → is_reached n (number_of (clients_kept past port) x.seat) ≡ true
 kept_bounds past [] i x n b k h = absurd (let lt : i < 0 = slice_get_within [] i x k in omega arith)
 kept_bounds past (e ∷ port) i x n b k h =
     elim (accepted_after e.act e.place (fate port) i x k) [
-      | inl old ↦ (
-          let le = kept_bounds past port i x n b old h in
-          let more = kept_grows x.seat past e.act (kept x.seat past port) in
-          omega (arith, le, more))
-      | inr new ↦ subst (λ a. n ≤ kept_after x.seat past a (kept x.seat past port)) (sym new.2) (kept_now past x new.0 new.1 (kept x.seat past port) n b h)
+      | inl old ↦ stays past e.act x.seat n (clients_kept past port) (kept_bounds past port i x n b old h)
+      | inr new ↦ (
+          let now = accepted_now past x n b (clients_kept past port) h in
+          subst (λ a. is_reached n (number_of (clients_after past a (clients_kept past port)) x.seat) ≡ true) (sym new.2) now)
     ]
 
-not_old : (g : Tag) (n k : ℕ) (b : Ui) → g ≡ Request n b → is_old g k ≡ false → k < n
-not_old g n k b e h = let f : nat_le n k ≡ false = ap (λ z. is_old z k) (sym e) ∙ h in grind (arith, nat_tests)
+not_reached : (n m : ℕ) (o : Option ℕ) → is_reached n o ≡ true → is_reached m o ≡ false → n < m
+not_reached n m None h k = absurd (false≢true h)
+not_reached n m (Some kept) h k = grind (arith, nat_tests, h, k)
 
 same_tag : (x : MsgId) (past : List Entry) (e : Entry) (d : Posted) → post_of x past ≡ Some d → tag_of x (e ∷ past) ≡ tag_of x past
 same_tag x past e d h = ap tag_from (post_stays x past e d h ∙ sym h)
@@ -74,9 +65,10 @@ request_now l past e q i x y p n m b c a h old s tx u =
     let v = views past e.place e.seat (Accept y q p) in
     let may : act_may l v e.place e.seat (Accept y q p) ≡ true = subst (λ z. act_may l (views past e.place e.seat z) e.place e.seat z ≡ true) a two.0 in
     let fresh = (enters l past e.place y q v refl refl (and_parts (may_enter l v e.place y q) (has_room p (fate v.port)) may).0).2 in
-    let above : kept y.seat past (on q past) < m = not_old (tag_of y past) m (kept y.seat past (on q past)) c ty fresh in
-    let below : n ≤ kept y.seat past (on q past) = subst (λ z. n ≤ kept z past (on q past)) s (kept_bounds past (on q past) i x n b old tx) in
-    omega (arith, above, below)
+    let table = clients_kept past (on q past) in
+    let above : is_reached m (number_of table y.seat) ≡ false = ap (λ g. is_repeated y.seat g table) (sym ty) ∙ fresh in
+    let below : is_reached n (number_of table y.seat) ≡ true = subst (λ z. is_reached n (number_of table z) ≡ true) s (kept_bounds past (on q past) i x n b old tx) in
+    not_reached n m (number_of table y.seat) below above
 
 pub requests_rise : RequestsRise
 requests_rise l [] q i j x y n m b c h lt a k s t u = absurd (let z : i < 0 = slice_get_within [] i x a in omega arith)

@@ -22,7 +22,8 @@ use Rattle.chorus_entry.proofs.Same.{from_same_id, same_id-self}
 use Rattle.chorus_world.specs.declared.place.Sent.{Sent}
 use Rattle.chorus_world.specs.Views.{views, at, by, about}
 use Rattle.chorus_world.specs.Messages.{verdict}
-use Rattle.chorus_world.specs.Places.{sent, sent_by, find_sent, same_route}
+use Rattle.chorus_world.specs.Places.{sent, sent_by, find_sent}
+use Rattle.chorus_entry.specs.Same.{same_route}
 use Rattle.chorus_world.specs.Posts.{Posted, post_of, source}
 use Rattle.chorus_world.specs.Groups.{posts_to, is_chosen, first_unchosen, is_choosing_place}
 use Rattle.chorus_world.specs.Seats.{posts}

@@ -12,9 +12,12 @@ use Rattle.chorus_entry.specs.declared.act.Act.{Act}
 use Rattle.chorus_entry.specs.declared.act.Act.TheVariants.{Post, Accept, Take}
 use Rattle.chorus_entry.specs.MsgId.{same_id}
 use Rattle.chorus_entry.proofs.Same.{from_same_id}
-use Rattle.chorus_world.specs.Views.{at, by, is_at, is_by, are_same}
+use Rattle.chorus_world.specs.Views.{at, by, is_by}
+use Rattle.chorus_entry.specs.Order.{is_at}
+use Rattle.chorus_entry.specs.Same.{are_same}
 use Rattle.chorus_world.specs.Posts.{Posted, post_of, posted_in, posted_by, source, tag_of, tag_from, site_asked, site_from}
-use Rattle.chorus_world.specs.Clients.{kept, kept_after, kept_with, clients, clients_after, clients_with, is_already, finds_clients_full, is_old, is_one_too_many}
+use Rattle.chorus_entry.specs.Clients.{is_one_too_many, is_repeated, remembered}
+use Rattle.chorus_world.specs.Clients.{clients_after, clients_kept, is_already, finds_clients_full}
 use Rattle.chorus_world.specs.Places.{just_taken, reply_taken_by, reply_taken}
 use Rattle.chorus_world.specs.Groups.{posts_to, post_to, is_next_to, first_unchosen, is_chosen}
 use Rattle.chorus_world.specs.Seats.{hand, hand_after, hand_with}
@@ -66,40 +69,27 @@ tag_agrees table past x ext p = ap tag_from (post_agrees table past x ext p)
 pub site_agrees : (table past : List Entry) (x : MsgId) → Extends table past → IsPosted past x → site_asked x table ≡ site_asked x past
 site_agrees table past x ext p = ap site_from (post_agrees table past x ext p)
 
--- What a port keeps of requests.
+-- What a port remembers of requests.
 
-kept_act : (c : ℕ) (table past : List Entry) (a : Act) (k j : ℕ) → Extends table past → IfPosted past (id_in a) → k ≡ j → kept_after c table a k ≡ kept_after c past a j
-kept_act c table past (Accept x q n) k j ext p e =
-    ap (λ z. kept_with c x.seat z k) (tag_agrees table past x ext p) ∙ ap (λ z. kept_with c x.seat (tag_of x past) z) e
-kept_act c table past _ k j ext p e = e
+clients_act : (table past : List Entry) (a : Act) (m n : List (ℕ × ℕ)) → Extends table past → IfPosted past (id_in a) → m ≡ n → clients_after table a m ≡ clients_after past a n
+clients_act table past (Accept x q i) m n ext p e =
+    ap (λ z. remembered x.seat z m) (tag_agrees table past x ext p) ∙ ap (λ z. remembered x.seat (tag_of x past) z) e
+clients_act table past _ m n ext p e = e
 
-pub kept_agrees : (c : ℕ) (table past port : List Entry) → Extends table past → AllPosted past port → kept c table port ≡ kept c past port
-kept_agrees c table past [] ext p = refl
-kept_agrees c table past (e ∷ port) ext p =
-    kept_act c table past e.act (kept c table port) (kept c past port) ext p.0 (kept_agrees c table past port ext p.1)
-
-clients_act : (table past port : List Entry) (a : Act) (m n : ℕ) → Extends table past → IfPosted past (id_in a) → AllPosted past port → m ≡ n → clients_after table port a m ≡ clients_after past port a n
-clients_act table past port (Accept x q i) m n ext p all e =
-    ap (λ z. clients_with z (tag_of x table) m) (kept_agrees x.seat table past port ext all)
-    ∙ (ap (λ z. clients_with (kept x.seat past port) z m) (tag_agrees table past x ext p)
-    ∙ ap (λ z. clients_with (kept x.seat past port) (tag_of x past) z) e)
-clients_act table past port _ m n ext p all e = e
-
-pub clients_agrees : (table past port : List Entry) → Extends table past → AllPosted past port → clients table port ≡ clients past port
-clients_agrees table past [] ext p = refl
-clients_agrees table past (e ∷ port) ext p =
-    clients_act table past port e.act (clients table port) (clients past port) ext p.0 p.1 (clients_agrees table past port ext p.1)
+pub clients_agree : (table past port : List Entry) → Extends table past → AllPosted past port → clients_kept table port ≡ clients_kept past port
+clients_agree table past [] ext p = refl
+clients_agree table past (e ∷ port) ext p =
+    clients_act table past e.act (clients_kept table port) (clients_kept past port) ext p.0 (clients_agree table past port ext p.1)
 
 pub already_agrees : (table past port : List Entry) (x : MsgId) → Extends table past → IsPosted past x → AllPosted past port → is_already x table port ≡ is_already x past port
 already_agrees table past port x ext p all =
-    ap (λ z. is_old z (kept x.seat table port)) (tag_agrees table past x ext p)
-    ∙ ap (λ z. is_old (tag_of x past) z) (kept_agrees x.seat table past port ext all)
+    ap (λ z. is_repeated x.seat z (clients_kept table port)) (tag_agrees table past x ext p)
+    ∙ ap (λ z. is_repeated x.seat (tag_of x past) z) (clients_agree table past port ext all)
 
 pub clients_full_agrees : (table past port : List Entry) (x : MsgId) → Extends table past → IsPosted past x → AllPosted past port → finds_clients_full x table port ≡ finds_clients_full x past port
 clients_full_agrees table past port x ext p all =
-    ap (λ z. is_one_too_many z (kept x.seat table port) (clients table port)) (tag_agrees table past x ext p)
-    ∙ (ap (λ z. is_one_too_many (tag_of x past) z (clients table port)) (kept_agrees x.seat table past port ext all)
-    ∙ ap (λ z. is_one_too_many (tag_of x past) (kept x.seat past port) z) (clients_agrees table past port ext all))
+    ap (λ z. is_one_too_many x.seat z (clients_kept table port)) (tag_agrees table past x ext p)
+    ∙ ap (λ z. is_one_too_many x.seat (tag_of x past) z) (clients_agree table past port ext all)
 
 -- What a seat has in hand, and what was just taken.
 

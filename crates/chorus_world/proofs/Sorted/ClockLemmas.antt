@@ -6,15 +6,16 @@ use Rattle.chorus_ui.specs.declared.layout.Layout.{Layout}
 use Rattle.chorus_ui.specs.Layout.{has_place}
 use Rattle.chorus_entry.specs.declared.entry.Entry.{Entry}
 use Rattle.chorus_entry.specs.declared.act.Act.{Act}
-use Rattle.chorus_entry.specs.declared.act.Act.TheVariants.{Make, Accept, Full, Already, ClientsFull, Take, Empty, Rehome, Depart, Arrive, Delete}
-use Rattle.chorus_entry.specs.Act.{held_port_of}
-use Rattle.chorus_world.specs.Views.{views, is_at, is_on, at, on}
+use Rattle.chorus_entry.specs.declared.act.Act.TheVariants.{Make, Accept, Full, Already, ClientsFull, Take, Empty, Rehome, Depart, Arrive, Delete, Post, Told, Choose, NoMember, Try, Heard, Stale, Early, NoPort, Elsewhere, Gone}
+use Rattle.chorus_entry.specs.Act.{held_port_of, message_of}
+use Rattle.chorus_world.specs.Views.{views, is_on, at, on, about, is_about}
+use Rattle.chorus_entry.specs.Order.{is_at}
 use Rattle.chorus_world.specs.Ports.{PortState, fate, fate_after, is_held, is_moving, is_last, last_of, is_held_at, is_coming, arrived}
-use Rattle.chorus_world.specs.Places.{last_clock}
-use Rattle.chorus_world.specs.Steps.{may, is_timely, act_follows, is_legal}
-use Rattle.chorus_world.proofs.Steps.LegalLemmas.{legal_parts, on_is, skips, keeps}
-use Rattle.chorus_world.proofs.Ports.LineLemmas.{Needs, needs, none_some}
-use Rattle.chorus_world.proofs.Messages.SendingLemmas.{at_same}
+use Rattle.chorus_world.specs.Places.{last_clock, sent, sent_by, find_sent}
+use Rattle.chorus_world.specs.Steps.{may, is_timely, act_follows, is_legal, act_may}
+use Rattle.chorus_world.proofs.Steps.LegalLemmas.{legal_parts, on_is, skips, keeps, entry}
+use Rattle.chorus_world.proofs.Ports.LineLemmas.{Needs, needs, none_some, id_is}
+use Rattle.chorus_world.proofs.Messages.SendingLemmas.{at_same, sent_as, first_here, some_is, sent_stays, sent_before}
 use Rattle.std.specs.Option.{option_or}
 use Rattle.chorus_ui.specs.Name.{same_ui}
 use Rattle.chorus_ui.proofs.Names.{same_ui-self}
@@ -22,21 +23,14 @@ use Rattle.chorus_entry.specs.declared.id.MsgId.{MsgId}
 use Rattle.chorus_entry.specs.declared.answer.Answer.{Answer}
 use Rattle.chorus_entry.specs.declared.answer.Answer.TheVariants as A
 use Rattle.chorus_entry.specs.declared.dest.Dest.TheVariants.{Port, All, One, OneAt}
-use Rattle.chorus_entry.specs.declared.act.Act.TheVariants.{Post, Told, Choose, NoMember, Try, Heard, Stale, Early, NoPort, Elsewhere, Gone}
-use Rattle.chorus_entry.specs.Act.{message_of}
 use Rattle.chorus_entry.specs.MsgId.{same_id}
 use Rattle.chorus_entry.proofs.Same.{same_id-self}
 use Rattle.chorus_world.specs.declared.place.Sent.{Sent}
 use Rattle.chorus_world.specs.declared.message.Progress.TheVariants.{Idle, Tried, Decided}
-use Rattle.chorus_world.specs.Views.{about, is_about, are_same}
+use Rattle.chorus_entry.specs.Same.{are_same}
 use Rattle.chorus_world.specs.Messages.{progress, progress_after, decided}
-use Rattle.chorus_world.specs.Places.{sent, sent_by, find_sent}
 use Rattle.chorus_world.specs.Groups.{is_chosen}
-use Rattle.chorus_world.specs.Steps.{act_may}
 use Rattle.chorus_world.proofs.Messages.SentLemmas.{find_sent_append}
-use Rattle.chorus_world.proofs.Steps.LegalLemmas.{entry}
-use Rattle.chorus_world.proofs.Ports.LineLemmas.{id_is}
-use Rattle.chorus_world.proofs.Messages.SendingLemmas.{sent_as, first_here, some_is, sent_stays, sent_before}
 use Rattle.chorus_world.proofs.Messages.StageLemmas.{Stage, MessageFacts}
 use Rattle.chorus_world.proofs.Messages.DueLemmas.{IsDue}
 use Rattle.chorus_world.proofs.Messages.PostLemmas.{asked_facts, copy_found}

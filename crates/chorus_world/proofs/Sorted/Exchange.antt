@@ -12,8 +12,10 @@ use Rattle.chorus_entry.specs.declared.id.MsgId.{MsgId}
 use Rattle.chorus_entry.specs.Act.{message_of, held_port_of}
 use Rattle.chorus_entry.specs.MsgId.{same_id}
 use Rattle.chorus_entry.proofs.Same.{from_same_id, same_id-self}
-use Rattle.chorus_world.specs.Views.{at, by, about, on, is_at, is_by, is_about, is_on, are_same}
-use Rattle.chorus_world.specs.Order.{comes_before, IsRising, IsCausal, insert, sort}
+use Rattle.chorus_world.specs.Views.{at, by, about, on, is_by, is_about, is_on}
+use Rattle.chorus_entry.specs.Order.{is_at, comes_before, IsRising}
+use Rattle.chorus_entry.specs.Same.{are_same}
+use Rattle.chorus_world.specs.Order.{IsCausal, insert, sort}
 use Rattle.chorus_world.specs.SortingLaws.{KeepsViews, SortsInOrder}
 use Rattle.chorus_world.proofs.Steps.LegalLemmas.{skips, keeps}
 

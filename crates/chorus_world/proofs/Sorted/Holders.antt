@@ -7,14 +7,16 @@ use Rattle.std.proofs.lemmas.List.Elements.{All-head, All-tail}
 use Rattle.chorus_ui.specs.declared.ui.Ui.{Ui}
 use Rattle.chorus_ui.specs.declared.layout.Layout.{Layout}
 use Rattle.chorus_ui.specs.Name.{same_ui}
-use Rattle.chorus_ui.specs.Layout.{IsShape, has_actor, place_at, site_of}
+use Rattle.chorus_ui.specs.Layout.{IsLayout, has_actor, place_at, site_of}
 use Rattle.chorus_entry.specs.declared.entry.Entry.{Entry}
 use Rattle.chorus_entry.specs.declared.id.MsgId.{MsgId}
 use Rattle.chorus_entry.specs.declared.act.Act.{Act}
 use Rattle.chorus_entry.specs.declared.act.Act.TheVariants.{Make, Take, Empty, NotHere, Rehome, Depart, Arrive, Delete}
 use Rattle.chorus_world.specs.declared.port.Spot.{Spot}
 use Rattle.chorus_world.specs.declared.port.Spot.TheVariants.{Held, Moving, Ended}
-use Rattle.chorus_world.specs.Views.{views, at, by, on, is_at, is_on, are_same}
+use Rattle.chorus_world.specs.Views.{views, at, by, on, is_on}
+use Rattle.chorus_entry.specs.Order.{is_at}
+use Rattle.chorus_entry.specs.Same.{are_same}
 use Rattle.chorus_world.specs.Ports.{PortState, fate, fate_after, last_of, is_held, is_last, is_held_at, is_coming, is_next_hop, are_waiting, arrived}
 use Rattle.chorus_world.specs.Places.{last_clock}
 use Rattle.chorus_world.specs.Steps.{act_may, may, is_legal}
@@ -185,12 +187,12 @@ holders_of : (l : Layout) (past : List Entry) (q : Ui) (f : PortState) (s : Spot
 holders_of l past q f s facts was spot =
     holding_same facts (ap spot_in was ∙ ap (λ z. Some z) spot) (ap (path_of l q) was) (λ n. refl) (λ t x. x) (λ t p. refl)
 
-holders_make : (l : Layout) (past : List Entry) (q : Ui) (c p s : ℕ) (r a : Ui) (n : ℕ) → IsShape l → PortFacts l past q → HolderFacts l past q → act_may l (views past p s (Make r a n)) p s (Make r a n) ≡ true → HolderFacts l (entry c p s (Make r a n) ∷ past) q
-holders_make l past q c p s r a n shape ports f h =
+holders_make : (l : Layout) (past : List Entry) (q : Ui) (c p s : ℕ) (r a : Ui) (n : ℕ) → IsLayout l → PortFacts l past q → HolderFacts l past q → act_may l (views past p s (Make r a n)) p s (Make r a n) ≡ true → HolderFacts l (entry c p s (Make r a n) ∷ past) q
+holders_make l past q c p s r a n layout ports f h =
     let e = entry c p s (Make r a n) in
     same_or_not q r (HolderFacts l (e ∷ past) q)
     (λ is_r t back.
-    let new = make_new l past p s q a n shape ports (subst (λ z. act_may l (views past p s (Make z a n)) p s (Make z a n) ≡ true) (sym is_r) h) in
+    let new = make_new l past p s q a n layout ports (subst (λ z. act_may l (views past p s (Make z a n)) p s (Make z a n) ≡ true) (sym is_r) h) in
     holders_moved l past q e t
     (holding_same
     (holding_taken {F = λ t. Extends t (e ∷ past)} p a f (ap (λ o. last_of 0 (path_of l q o)) new.0 ∙ new.2))
@@ -283,27 +285,27 @@ holders_delete l past q c p s r xs f h =
     (λ t x. cond_idem (p == x) (holder q (on q t) (at x past)))))
     (λ off back. holders_other l past q e off (λ line o. refl) f)
 
-holders_step : (l : Layout) (past : List Entry) (q : Ui) (c p s : ℕ) (a : Act) → IsShape l → PortFacts l past q → HolderFacts l past q → act_may l (views past p s a) p s a ≡ true → HolderFacts l (entry c p s a ∷ past) q
-holders_step l past q c p s (Make r a n) shape ports f h = holders_make l past q c p s r a n shape ports f h
-holders_step l past q c p s (Rehome r a) shape ports f h = holders_rehome l past q c p s r a f h
-holders_step l past q c p s (Depart r to a hop) shape ports f h = holders_depart l past q c p s r to a hop f h
-holders_step l past q c p s (Arrive r hop) shape ports f h = holders_arrive l past q c p s r hop f h
-holders_step l past q c p s (Delete r xs) shape ports f h = holders_delete l past q c p s r xs f h
-holders_step l past q c p s a shape ports f h = holders_still l past q (entry c p s a) refl f
+holders_step : (l : Layout) (past : List Entry) (q : Ui) (c p s : ℕ) (a : Act) → IsLayout l → PortFacts l past q → HolderFacts l past q → act_may l (views past p s a) p s a ≡ true → HolderFacts l (entry c p s a ∷ past) q
+holders_step l past q c p s (Make r a n) layout ports f h = holders_make l past q c p s r a n layout ports f h
+holders_step l past q c p s (Rehome r a) layout ports f h = holders_rehome l past q c p s r a f h
+holders_step l past q c p s (Depart r to a hop) layout ports f h = holders_depart l past q c p s r to a hop f h
+holders_step l past q c p s (Arrive r hop) layout ports f h = holders_arrive l past q c p s r hop f h
+holders_step l past q c p s (Delete r xs) layout ports f h = holders_delete l past q c p s r xs f h
+holders_step l past q c p s a layout ports f h = holders_still l past q (entry c p s a) refl f
 
 none_some : {A : Type 0} (a : A) → None ≡ Some a → ⊥
 none_some a h = cc
 
-legal_holders : (l : Layout) (past : List Entry) (q : Ui) → IsShape l → is_legal l past ≡ true → HolderFacts l past q
-legal_holders l [] q shape h =
+legal_holders : (l : Layout) (past : List Entry) (q : Ui) → IsLayout l → is_legal l past ≡ true → HolderFacts l past q
+legal_holders l [] q layout h =
     record {
       held = λ t p b x y z. absurd (none_some (Held b) y);
       moving = λ b y. absurd (none_some (Moving b) y);
       beyond = λ hop le. refl;
     }
-legal_holders l (e ∷ past) q shape h =
+legal_holders l (e ∷ past) q layout h =
     let two = and_parts (may l past e) (is_legal l past) h in
-    holders_step l past q e.clock e.place e.seat e.act shape ((legal_inv l past shape two.1).ports q) (legal_holders l past q shape two.1) (may_act l past e two.0)
+    holders_step l past q e.clock e.place e.seat e.act layout ((legal_inv l past layout two.1).ports q) (legal_holders l past q layout two.1) (may_act l past e two.0)
 
 -- Whether the actor holds the port here.
 
@@ -327,10 +329,10 @@ held_by_fate l q a p (Some g) k h e f =
 abbrev is_holder_here : List Entry → List Entry → Ui → Ui → Bool
 is_holder_here table here q a = is_kept q here && are_same same_ui (Some a) (holder q (on q table) here)
 
-holder_here : (l : Layout) (table past : List Entry) (p : ℕ) (q a : Ui) → IsShape l → is_legal l past ≡ true → Extends table past → is_held_at_by p a (fate (on q past)) ≡ is_holder_here table (at p past) q a
-holder_here l table past p q a shape h ext =
-    let f = legal_holders l past q shape h in
-    held_by_fate l q a p (fate (on q past)) (is_kept q (at p past)) (holder q (on q table) (at p past)) (held_here l past q p ((legal_inv l past shape h).ports q))
+holder_here : (l : Layout) (table past : List Entry) (p : ℕ) (q a : Ui) → IsLayout l → is_legal l past ≡ true → Extends table past → is_held_at_by p a (fate (on q past)) ≡ is_holder_here table (at p past) q a
+holder_here l table past p q a layout h ext =
+    let f = legal_holders l past q layout h in
+    held_by_fate l q a p (fate (on q past)) (is_kept q (at p past)) (holder q (on q table) (at p past)) (held_here l past q p ((legal_inv l past layout h).ports q))
     (λ b s last. f.held table p b ext s last)
 
 -- Runs.
@@ -348,23 +350,23 @@ abbrev fit_here : List Entry → Chains → ℕ → Option Ui → Act → Bool
 fit_here table c p None act = false
 fit_here table c p (Some a) act = fits_here table c p a act
 
-fits_same : (l : Layout) (table past : List Entry) (c p s : ℕ) (a : Ui) (act : Act) → IsShape l → is_legal l past ≡ true → Extends table past → fits_caller past p a act ≡ fits_here table (chains past (entry c p s act)) p a act
-fits_same l table past c p s a (NotHere q) shape h ext = ap not (holder_here l table past p q a shape h ext)
-fits_same l table past c p s a _ shape h ext = refl
+fits_same : (l : Layout) (table past : List Entry) (c p s : ℕ) (a : Ui) (act : Act) → IsLayout l → is_legal l past ≡ true → Extends table past → fits_caller past p a act ≡ fits_here table (chains past (entry c p s act)) p a act
+fits_same l table past c p s a (NotHere q) layout h ext = ap not (holder_here l table past p q a layout h ext)
+fits_same l table past c p s a _ layout h ext = refl
 
-fit_same : (l : Layout) (table past : List Entry) (c p s : ℕ) (o : Option Ui) (act : Act) → IsShape l → is_legal l past ≡ true → Extends table past → fits_callers past p o act ≡ fit_here table (chains past (entry c p s act)) p o act
-fit_same l table past c p s None act shape h ext = refl
-fit_same l table past c p s (Some a) act shape h ext = fits_same l table past c p s a act shape h ext
+fit_same : (l : Layout) (table past : List Entry) (c p s : ℕ) (o : Option Ui) (act : Act) → IsLayout l → is_legal l past ≡ true → Extends table past → fits_callers past p o act ≡ fit_here table (chains past (entry c p s act)) p o act
+fit_same l table past c p s None act layout h ext = refl
+fit_same l table past c p s (Some a) act layout h ext = fits_same l table past c p s a act layout h ext
 
 -- an entry of a run, as far as its own place, seat, message and held port tell
 abbrev run_finds : Layout → (ℕ → Option Ui) → List Entry → Chains → Entry → Bool
 run_finds l callers table c e =
     may_find l table c e && (nat_lt (last_clock c.mine) e.clock && fit_here table c e.place (callers e.seat) e.act)
 
-run_same : (l : Layout) (callers : ℕ → Option Ui) (table past : List Entry) (e : Entry) → IsShape l → is_legal l past ≡ true → Extends table past → LooksAtHome l e.place e.act → (may l past e && may_run callers past e) ≡ run_finds l callers table (chains past e) e
-run_same l callers table past e shape h ext home =
-    ap (λ b. b && may_run callers past e) (may_same l table past e (legal_laws l past shape h) ext home)
-    ∙ ap (λ b. may_find l table (chains past e) e && (nat_lt (last_clock (by e.seat past)) e.clock && b)) (fit_same l table past e.clock e.place e.seat (callers e.seat) e.act shape h ext)
+run_same : (l : Layout) (callers : ℕ → Option Ui) (table past : List Entry) (e : Entry) → IsLayout l → is_legal l past ≡ true → Extends table past → LooksAtHome l e.place e.act → (may l past e && may_run callers past e) ≡ run_finds l callers table (chains past e) e
+run_same l callers table past e layout h ext home =
+    ap (λ b. b && may_run callers past e) (may_same l table past e (legal_laws l past layout h) ext home)
+    ∙ ap (λ b. may_find l table (chains past e) e && (nat_lt (last_clock (by e.seat past)) e.clock && b)) (fit_same l table past e.clock e.place e.seat (callers e.seat) e.act layout h ext)
 
 run_is_legal : (l : Layout) (callers : ℕ → Option Ui) (past : List Entry) → is_run l callers past ≡ true → is_legal l past ≡ true
 run_is_legal l callers [] h = refl
@@ -372,29 +374,29 @@ run_is_legal l callers (e ∷ past) h =
     let two = and_parts (may l past e && may_run callers past e) (is_run l callers past) h in
     and_from (may l past e) (is_legal l past) (and_parts (may l past e) (may_run callers past e) two.0).0 (run_is_legal l callers past two.1)
 
-run_to_here : (l : Layout) (callers : ℕ → Option Ui) (table past : List Entry) → IsShape l → Extends table past → AllLookAtHome l past → is_run l callers past ≡ true → all_find (run_finds l callers table) past ≡ true
-run_to_here l callers table [] shape ext home h = refl
-run_to_here l callers table (e ∷ past) shape ext home h =
+run_to_here : (l : Layout) (callers : ℕ → Option Ui) (table past : List Entry) → IsLayout l → Extends table past → AllLookAtHome l past → is_run l callers past ≡ true → all_find (run_finds l callers table) past ≡ true
+run_to_here l callers table [] layout ext home h = refl
+run_to_here l callers table (e ∷ past) layout ext home h =
     let two = and_parts (may l past e && may_run callers past e) (is_run l callers past) h in
     let before = extends_before table past e ext in
     let looks : (f : Entry) → Type 0 = λ f. LooksAtHome l f.place f.act in
     and_from (run_finds l callers table (chains past e) e) (all_find (run_finds l callers table) past)
-    (sym (run_same l callers table past e shape (run_is_legal l callers past two.1) before (All-head looks e past home)) ∙ two.0)
-    (run_to_here l callers table past shape before (All-tail looks e past home) two.1)
+    (sym (run_same l callers table past e layout (run_is_legal l callers past two.1) before (All-head looks e past home)) ∙ two.0)
+    (run_to_here l callers table past layout before (All-tail looks e past home) two.1)
 
-run_from_here : (l : Layout) (callers : ℕ → Option Ui) (table past : List Entry) → IsShape l → Extends table past → AllLookAtHome l past → all_find (run_finds l callers table) past ≡ true → is_run l callers past ≡ true
-run_from_here l callers table [] shape ext home h = refl
-run_from_here l callers table (e ∷ past) shape ext home h =
+run_from_here : (l : Layout) (callers : ℕ → Option Ui) (table past : List Entry) → IsLayout l → Extends table past → AllLookAtHome l past → all_find (run_finds l callers table) past ≡ true → is_run l callers past ≡ true
+run_from_here l callers table [] layout ext home h = refl
+run_from_here l callers table (e ∷ past) layout ext home h =
     let two = and_parts (run_finds l callers table (chains past e) e) (all_find (run_finds l callers table) past) h in
     let before = extends_before table past e ext in
     let looks : (f : Entry) → Type 0 = λ f. LooksAtHome l f.place f.act in
-    let back = run_from_here l callers table past shape before (All-tail looks e past home) two.1 in
+    let back = run_from_here l callers table past layout before (All-tail looks e past home) two.1 in
     and_from (may l past e && may_run callers past e) (is_run l callers past)
-    (run_same l callers table past e shape (run_is_legal l callers past back) before (All-head looks e past home) ∙ two.0) back
+    (run_same l callers table past e layout (run_is_legal l callers past back) before (All-head looks e past home) ∙ two.0) back
 
 -- the sorted list is a run
 pub sorts_runs : SortsRuns
-sorts_runs l callers past shape causal home h =
+sorts_runs l callers past layout causal home h =
     let w = chained past causal in
-    run_from_here l callers past (sort past) shape (extends_sort past w) (all_sort (λ e. LooksAtHome l e.place e.act) past home)
-    (all_find_sort (run_finds l callers past) past w (run_to_here l callers past past shape (extends_self past) home h))
+    run_from_here l callers past (sort past) layout (extends_sort past w) (all_sort (λ e. LooksAtHome l e.place e.act) past home)
+    (all_find_sort (run_finds l callers past) past w (run_to_here l callers past past layout (extends_self past) home h))

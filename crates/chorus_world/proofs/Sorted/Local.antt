@@ -12,7 +12,7 @@ use Rattle.chorus_entry.specs.Act.{message_of, held_port_of}
 use Rattle.chorus_entry.specs.Kinds.{has_kinds}
 use Rattle.chorus_world.specs.Views.{Views, at, by, is_about, is_on, finds_group}
 use Rattle.chorus_world.specs.Posts.{site_asked, is_on_site}
-use Rattle.chorus_world.specs.Places.{is_first, located, is_location, just_taken}
+use Rattle.chorus_world.specs.Places.{deletes, is_deleted, is_first, located, is_location, just_taken}
 use Rattle.chorus_world.specs.Steps.{act_may, is_timely, may_stand_behind, due, is_due, is_due_with, is_tried_with, is_early, is_beyond, is_to_go}
 
 -- the port is held here, as far as this place knows by itself
@@ -27,14 +27,9 @@ abbrev pub is_kept : Ui → List Entry → Bool
 is_kept q [] = false
 is_kept q (e ∷ here) = kept_after q e.act (is_kept q here)
 
--- the port was deleted here
+-- the port was deleted here, after an act
 abbrev pub deleted_after : Ui → Act → Bool → Bool
-deleted_after q (Delete r xs) b = same_ui r q || b
-deleted_after q _ b = b
-
-abbrev pub is_deleted : Ui → List Entry → Bool
-is_deleted q [] = false
-is_deleted q (e ∷ here) = deleted_after q e.act (is_deleted q here)
+deleted_after q a b = deletes q a || b
 
 -- what an entry reads where `table`, the whole list of which the past is a part, stands for what was posted
 abbrev pub local_views : List Entry → List Entry → ℕ → ℕ → Act → Views

@@ -11,7 +11,7 @@ use Rattle.chorus_entry.specs.declared.act.Act.TheVariants.{NoGroup}
 use Rattle.chorus_entry.specs.declared.command.Command.{Command}
 use Rattle.chorus_entry.specs.declared.command.Command.TheVariants as C
 use Rattle.chorus_entry.specs.Places.{place_for}
-use Rattle.chorus_world.specs.Views.{is_number}
+use Rattle.chorus_entry.specs.Same.{is_number}
 use Rattle.chorus_world.specs.Groups.{is_group_place}
 use Rattle.chorus_world.specs.Commands.{act_answers}
 use Rattle.chorus_world.specs.SortingLaws.{LooksAtHome, AnswersLookAtHome}

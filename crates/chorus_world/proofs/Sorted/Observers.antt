@@ -8,7 +8,7 @@ use Rattle.std.proofs.lemmas.Option.{slice_get_within}
 use Rattle.chorus_ui.specs.declared.ui.Ui.{Ui}
 use Rattle.chorus_ui.specs.declared.layout.Layout.{Layout}
 use Rattle.chorus_ui.specs.Name.{same_ui}
-use Rattle.chorus_ui.specs.Layout.{IsShape, has_site, first_place, group_place}
+use Rattle.chorus_ui.specs.Layout.{IsLayout, has_site, first_place, group_place}
 use Rattle.chorus_ui.proofs.Names.{from_same_ui}
 use Rattle.chorus_entry.specs.declared.entry.Entry.{Entry}
 use Rattle.chorus_entry.specs.declared.id.MsgId.{MsgId}
@@ -27,12 +27,14 @@ use Rattle.chorus_world.specs.declared.place.Location.{Location}
 use Rattle.chorus_world.specs.declared.message.Progress.{Progress}
 use Rattle.chorus_world.specs.declared.message.Progress.TheVariants.{Idle, Asked, Tried, Decided, Settled, Reported}
 use Rattle.chorus_world.specs.declared.step.Due.TheVariants.{NotDue, ByTry, AtHome}
-use Rattle.chorus_world.specs.Views.{Views, views, at, by, on, about, is_at, is_by, is_on, is_number, are_same, is_group, makes_group, finds_group}
+use Rattle.chorus_world.specs.Views.{Views, views, at, by, on, about, is_by, is_on, is_group, makes_group, finds_group}
+use Rattle.chorus_entry.specs.Order.{is_at}
+use Rattle.chorus_entry.specs.Same.{is_number, are_same}
 use Rattle.chorus_world.specs.Ports.{PortState, fate, last_of, is_made, is_held_at, is_ended_at, is_coming, has_room, is_full}
 use Rattle.chorus_world.specs.Posts.{post_of, site_asked, is_on_site}
 use Rattle.chorus_world.specs.Clients.{is_already, finds_clients_full}
 use Rattle.chorus_world.specs.Messages.{progress, is_to_be_heard}
-use Rattle.chorus_world.specs.Places.{located, is_location, is_first, just_taken}
+use Rattle.chorus_world.specs.Places.{is_deleted, located, is_location, is_first, just_taken}
 use Rattle.chorus_world.specs.Groups.{is_group_place, is_choosing_place, is_next_to}
 use Rattle.chorus_world.specs.Seats.{posts, posts_stay, call, same_hand}
 use Rattle.chorus_world.specs.Steps.{act_may, may, is_timely, may_stand_behind, is_legal, is_to_go, is_beyond, suits, due, due_by_try, is_due, is_due_with, is_tried_with, is_early, meets, may_enter, is_elsewhere, is_asked_from, may_tag, reply_to, may_choose_from, choice_from, is_taken_by, ends_call}
@@ -40,7 +42,7 @@ use Rattle.chorus_world.specs.Order.{sort}
 use Rattle.chorus_world.specs.SortingLaws.{LooksAtHome, AllLookAtHome, SortsLegally}
 use Rattle.chorus_world.specs.LocationLaws.{path_of}
 use Rattle.chorus_world.proofs.Steps.LegalLemmas.{under, cond_idem}
-use Rattle.chorus_world.proofs.Sorted.Local.{local_views, is_kept, is_deleted, act_may_here, may_here}
+use Rattle.chorus_world.proofs.Sorted.Local.{local_views, is_kept, act_may_here, may_here}
 use Rattle.chorus_world.proofs.Ports.Whereabouts.{Facts, holds, moves, has_ended, at_last}
 use Rattle.chorus_world.proofs.Ports.PortSteps.{PortFacts, Known, spot_in}
 use Rattle.chorus_world.proofs.Messages.MessageSteps.{Inv, Fits, may_act, legal_inv, location_known, located_known}
@@ -116,14 +118,14 @@ pub record Laws (l : Layout) (past : List Entry) : Type 0 where
   pub posted : AllPosted past past
   pub groups : AllGroups l past
 
-pub legal_laws : (l : Layout) (past : List Entry) → IsShape l → is_legal l past ≡ true → Laws l past
-legal_laws l [] shape h = record { inv = legal_inv l [] shape h; posted = tt; groups = tt }
-legal_laws l (e ∷ past) shape h =
+pub legal_laws : (l : Layout) (past : List Entry) → IsLayout l → is_legal l past ≡ true → Laws l past
+legal_laws l [] layout h = record { inv = legal_inv l [] layout h; posted = tt; groups = tt }
+legal_laws l (e ∷ past) layout h =
     let two = and_parts (may l past e) (is_legal l past) h in
-    let before = legal_laws l past shape two.1 in
+    let before = legal_laws l past layout two.1 in
     let act = may_act l past e two.0 in
     record {
-      inv = legal_inv l (e ∷ past) shape h;
+      inv = legal_inv l (e ∷ past) layout h;
       posted = posted_more l past e before.posted act;
       groups = (group_now l past e.place e.seat e.act act, before.groups);
     }
@@ -450,29 +452,29 @@ widened table c a =
 abbrev pub may_find : Layout → List Entry → Chains → Entry → Bool
 may_find l table c e = may_here l (widened table c e.act) e
 
-pub to_here : (l : Layout) (table past : List Entry) → IsShape l → Extends table past → AllLookAtHome l past → is_legal l past ≡ true → all_find (may_find l table) past ≡ true
-to_here l table [] shape ext home h = refl
-to_here l table (e ∷ past) shape ext home h =
+pub to_here : (l : Layout) (table past : List Entry) → IsLayout l → Extends table past → AllLookAtHome l past → is_legal l past ≡ true → all_find (may_find l table) past ≡ true
+to_here l table [] layout ext home h = refl
+to_here l table (e ∷ past) layout ext home h =
     let two = and_parts (may l past e) (is_legal l past) h in
     let before = extends_before table past e ext in
     let looks : (f : Entry) → Type 0 = λ f. LooksAtHome l f.place f.act in
     and_from (may_find l table (chains past e) e) (all_find (may_find l table) past)
-    (sym (may_same l table past e (legal_laws l past shape two.1) before (All-head looks e past home)) ∙ two.0)
-    (to_here l table past shape before (All-tail looks e past home) two.1)
+    (sym (may_same l table past e (legal_laws l past layout two.1) before (All-head looks e past home)) ∙ two.0)
+    (to_here l table past layout before (All-tail looks e past home) two.1)
 
-pub from_here : (l : Layout) (table past : List Entry) → IsShape l → Extends table past → AllLookAtHome l past → all_find (may_find l table) past ≡ true → is_legal l past ≡ true
-from_here l table [] shape ext home h = refl
-from_here l table (e ∷ past) shape ext home h =
+pub from_here : (l : Layout) (table past : List Entry) → IsLayout l → Extends table past → AllLookAtHome l past → all_find (may_find l table) past ≡ true → is_legal l past ≡ true
+from_here l table [] layout ext home h = refl
+from_here l table (e ∷ past) layout ext home h =
     let two = and_parts (may_find l table (chains past e) e) (all_find (may_find l table) past) h in
     let before = extends_before table past e ext in
     let looks : (f : Entry) → Type 0 = λ f. LooksAtHome l f.place f.act in
-    let back = from_here l table past shape before (All-tail looks e past home) two.1 in
+    let back = from_here l table past layout before (All-tail looks e past home) two.1 in
     and_from (may l past e) (is_legal l past)
-    (may_same l table past e (legal_laws l past shape back) before (All-head looks e past home) ∙ two.0) back
+    (may_same l table past e (legal_laws l past layout back) before (All-head looks e past home) ∙ two.0) back
 
 -- the sorted list is legal
 pub sorts_legally : SortsLegally
-sorts_legally l past shape causal home h =
+sorts_legally l past layout causal home h =
     let w = chained past causal in
-    from_here l past (sort past) shape (extends_sort past w) (all_sort (λ e. LooksAtHome l e.place e.act) past home)
-    (all_find_sort (may_find l past) past w (to_here l past past shape (extends_self past) home h))
+    from_here l past (sort past) layout (extends_sort past w) (all_sort (λ e. LooksAtHome l e.place e.act) past home)
+    (all_find_sort (may_find l past) past w (to_here l past past layout (extends_self past) home h))

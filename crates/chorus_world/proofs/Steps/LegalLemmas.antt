@@ -9,7 +9,8 @@ use Rattle.chorus_ui.proofs.Names.{from_same_ui}
 use Rattle.chorus_entry.specs.declared.entry.Entry.{Entry}
 use Rattle.chorus_entry.specs.declared.act.Act.{Act}
 use Rattle.chorus_entry.specs.Kinds.{has_kinds}
-use Rattle.chorus_world.specs.Views.{views, are_same}
+use Rattle.chorus_world.specs.Views.{views}
+use Rattle.chorus_entry.specs.Same.{are_same}
 use Rattle.chorus_world.specs.Places.{just_taken}
 use Rattle.chorus_world.specs.Steps.{act_may, act_follows, may, is_timely, is_legal, may_stand_behind}
 
