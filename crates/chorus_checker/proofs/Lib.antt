@@ -1,3 +1,4 @@
+pub mod ClientLemmas
 pub mod PortLemmas
 pub mod SeatLemmas
 pub mod StepLemmas

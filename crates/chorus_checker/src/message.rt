@@ -5,7 +5,7 @@ ghost use Rattle.chorus_entry.specs.Act.{port_of, answer_of};
 ghost use Rattle.chorus_world.specs.Messages.{settled, posted, decided, decided_by, told, progress_after, progress, is_to_be_told, is_to_be_heard, verdict_by, verdict};
 ghost use Rattle.chorus_world.specs.Views.{about};
 
-use crate::view::{answer_of, is_about, is_verdict, port_of};
+use crate::view::is_about;
 use chorus_entry::{Act, Answer, Dest, Entry, MsgId};
 use chorus_ui::Ui;
 use chorus_world::Progress;
@@ -71,8 +71,8 @@ fn told(answer: Answer, progress: Progress) -> Progress
 fn decided_by(place: u16, act: &Act, progress: Progress) -> Progress
     ensures { result ≡ decided_by place (port_of act.now) (answer_of act.now) progress }
 {
-    match port_of(act) {
-        Some(port) => match answer_of(act) {
+    match act.port() {
+        Some(port) => match act.answer() {
             Some(answer) => decided(place, port, answer, progress),
             None => progress,
         },
@@ -147,8 +147,8 @@ pub(crate) fn is_to_be_heard(answer: Answer, progress: Progress) -> bool
 fn verdict_by(entry: &Entry, id: MsgId) -> Option<Answer>
     ensures { result ≡ verdict_by id entry.now.act }
 {
-    if is_verdict(&entry.act) && is_about(entry, id) {
-        answer_of(&entry.act)
+    if entry.act.is_verdict() && is_about(entry, id) {
+        entry.act.answer()
     } else {
         None
     }

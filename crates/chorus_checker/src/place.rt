@@ -8,7 +8,7 @@ ghost use Rattle.chorus_entry.specs.Same.{same_route};
 ghost use Rattle.chorus_checker.specs.Computing.{first_copy, first_sent, first_to, here, lesson};
 
 use crate::post::tag_of;
-use crate::view::{is_about, is_verdict};
+use crate::view::is_about;
 use chorus_entry::{Act, Answer, Dest, Entry, MEMBERS_LIMIT, MsgId, Tag};
 use chorus_ui::{Layout, Ui};
 use chorus_world::{Location, Sent, TakenReply};
@@ -112,7 +112,7 @@ fn is_settling(act: &Act) -> bool
 {
     match act {
         Act::Told { answer, .. } => !matches!(answer, Answer::Stale { .. }),
-        _ => is_verdict(act),
+        _ => act.is_verdict(),
     }
 }
 

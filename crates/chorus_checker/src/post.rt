@@ -1,12 +1,10 @@
 //! What was posted under an id, and for whom: read from the entries so far, the oldest first.
 
 ghost use Rattle.std.specs.Prelude.{◌≡◌, reverse};
-ghost use Rattle.chorus_entry.specs.Dest.{site_in, group_in};
 ghost use Rattle.chorus_checker.specs.Computing.{in_brief};
 ghost use Rattle.chorus_world.specs.Posts.{posted_by, post_of, tag_of, site_asked};
 
 use chorus_entry::{Act, Dest, Entry, MsgId, Tag};
-use chorus_ui::Ui;
 
 /// A post without its body: where it was made, what it is, and where it goes.
 #[derive(Clone, Copy, Debug)]
@@ -63,27 +61,7 @@ pub(crate) fn site_asked(entries: &[Entry], id: MsgId) -> Option<u16>
     ensures { result ≡ site_asked id (reverse entries.now) }
 {
     match post_of(entries, id) {
-        Some(post) => site_in(post.dest),
+        Some(post) => post.dest.site(),
         None => None,
-    }
-}
-
-/// The site that is demanded, where it is functional at a site.
-fn site_in(dest: Dest) -> Option<u16>
-    ensures { result ≡ site_in dest }
-{
-    match dest {
-        Dest::OneAt(_, site) => Some(site),
-        _ => None,
-    }
-}
-
-/// The group that is posted to.
-pub(crate) fn group_in(dest: Dest) -> Option<Ui>
-    ensures { result ≡ group_in dest }
-{
-    match dest {
-        Dest::Port(_) => None,
-        Dest::All(group) | Dest::One(group) | Dest::OneAt(group, _) => Some(group),
     }
 }

@@ -19,7 +19,7 @@ use crate::fault::WorldFault;
 use crate::message::verdict_of;
 use crate::place::{just_taken, last_clock};
 use crate::port::PortFate;
-use crate::rule::{act_number, has_kinds};
+use crate::rule::act_number;
 use crate::table::{NamedPort, fate_in, follow};
 use chorus_entry::{Act, Answer, Entry, MsgId};
 use chorus_ui::{Layout, Ui};
@@ -88,7 +88,7 @@ impl World {
     {
         let closes = matches!(entry.act, Act::Done { .. } | Act::Late { .. });
         let owed = just_taken(self.entries.as_slice(), entry.place).is_some();
-        if has_kinds(&entry.act) && (closes || !owed) {
+        if entry.act.has_kinds() && (closes || !owed) {
             self.act_may(entry)
         } else {
             Ok(false)

@@ -2,6 +2,8 @@
 
 ghost use Rattle.std.specs.Prelude.{◌≡◌, IfOk};
 
+mod names;
+
 use crate::answer::Answer;
 use crate::dest::Dest;
 use crate::id::MsgId;

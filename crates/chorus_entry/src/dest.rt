@@ -1,5 +1,8 @@
 //! Where a message is posted to.
 
+ghost use Rattle.std.specs.Prelude.{◌≡◌};
+ghost use Rattle.chorus_entry.specs.Dest.{port_in, group_in, site_in};
+
 use chorus_ui::Ui;
 
 /// Where a message is posted to.
@@ -13,4 +16,36 @@ pub enum Dest {
     One(Ui),
     /// One member of a group that is on the given site, 1 to 16.
     OneAt(Ui, u16),
+}
+
+impl Dest {
+    /// The port, where it is posted to a port.
+    pub fn port(&self) -> Option<Ui>
+        ensures { result ≡ port_in self.now }
+    {
+        match self {
+            Dest::Port(port) => Some(*port),
+            _ => None,
+        }
+    }
+
+    /// The group, where it is posted to a group.
+    pub fn group(&self) -> Option<Ui>
+        ensures { result ≡ group_in self.now }
+    {
+        match self {
+            Dest::All(group) | Dest::One(group) | Dest::OneAt(group, _) => Some(*group),
+            Dest::Port(_) => None,
+        }
+    }
+
+    /// The site that is demanded, where one member at a site is.
+    pub fn site(&self) -> Option<u16>
+        ensures { result ≡ site_in self.now }
+    {
+        match self {
+            Dest::OneAt(_, site) => Some(*site),
+            _ => None,
+        }
+    }
 }

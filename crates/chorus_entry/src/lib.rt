@@ -18,6 +18,7 @@ mod entry;
 mod hand;
 mod id;
 mod ids;
+mod kinds;
 mod members;
 mod message;
 mod packet;

@@ -18,7 +18,8 @@ use Rattle.chorus_world.specs.Views.{views, at, by, on, is_about}
 use Rattle.chorus_entry.specs.Same.{are_same}
 use Rattle.chorus_world.specs.Ports.{PortState, fate, is_held, is_held_at, last_of, is_made, has_room, is_full, waiting, is_first_waiting, is_empty}
 use Rattle.chorus_world.specs.Posts.{is_on_site}
-use Rattle.chorus_world.specs.Clients.{is_old, is_one_too_many, is_already, finds_clients_full, kept, clients}
+use Rattle.chorus_entry.specs.Clients.{is_one_too_many, is_repeated}
+use Rattle.chorus_world.specs.Clients.{clients_kept, is_already, finds_clients_full}
 use Rattle.chorus_world.specs.Messages.{progress}
 use Rattle.chorus_world.specs.Places.{last_clock, is_first, located, named_location, just_taken}
 use Rattle.chorus_world.specs.Seats.{posts}
@@ -34,8 +35,8 @@ has-place-1 l h =
 
 -- an entry is next if its act may be, and its clock is later
 pub may-next : (l : Layout) (past : List Entry) (c s : ℕ) (a : Act) → IsLayout l → Calm l past → last_clock past < c → has_kinds a ≡ true → act_may l (views past 1 s a) 1 s a ≡ true → may l past (entry c s a) ≡ true
-may-next l past c s a shape w later kinds h =
-    let place = has-place-1 l shape in
+may-next l past c s a layout w later kinds h =
+    let place = has-place-1 l layout in
     let clock : nat_lt (last_clock (at 1 past)) c ≡ true = ap (λ z. nat_lt (last_clock z) c) w.here ∙ lt-ltb (last_clock past) c later in
     let behind : may_stand_behind (just_taken past (at 1 past)) a ≡ true = ap (λ z. may_stand_behind z a) (ap (just_taken past) w.here ∙ w.rests) in
     λ i. (place i && clock i) && ((kinds i && behind i) && h i)
@@ -83,8 +84,8 @@ enters l past s a x q w k about_is site place held =
     let v = views past 1 s a in
     let met : is_due (due l v 1 x q) ≡ true = ap is_due (due-now l past s a x q w k about_is site place) in
     let suit : suits l v 1 x ≡ true = ap (λ o. is_on_site l o 1) ((w.posts x).nowhere) in
-    let new : is_already x past v.port ≡ false = ap (λ t. is_old t (kept x.seat past v.port)) ((w.posts x).plain) in
-    let few : finds_clients_full x past v.port ≡ false = ap (λ t. is_one_too_many t (kept x.seat past v.port) (clients past v.port)) ((w.posts x).plain) in
+    let new : is_already x past v.port ≡ false = ap (λ t. is_repeated x.seat t (clients_kept past v.port)) ((w.posts x).plain) in
+    let few : finds_clients_full x past v.port ≡ false = ap (λ t. is_one_too_many x.seat t (clients_kept past v.port)) ((w.posts x).plain) in
     λ i. (met i && held i) && suit i && not (new i) && not (few i)
 
 pub may-accept : (l : Layout) (past : List Entry) (s : ℕ) (x : MsgId) (q : Ui) (n : ℕ) (f : PortState) → Calm l past → IsWaiting past x q → has_site l q.site ≡ true → (creation_place l q == 1) ≡ true → fate (on q past) ≡ Some f → Sound l past q f → waiting f < f.capacity → n ≡ length f.accepted → act_may l (views past 1 s (Act.Accept x q n)) 1 s (Act.Accept x q n) ≡ true

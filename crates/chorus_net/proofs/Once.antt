@@ -53,11 +53,11 @@ acted-once l s k (Some v) c layout number w h =
     (called-once l s.place.journal s.place.ports v c w h)
 
 pub once : (l : Layout) (events : List Event) → IsLayout l → are_ready l events ≡ true → AreOnce (after l events).place.ports
-once l [] shape ready = refl
-once l (Enter actor ∷ events) shape ready =
-    once l events shape (and_parts (names_actor actor && has_actor l actor) (are_ready l events) ready).1
-once l (Acts k c ∷ events) shape ready =
+once l [] layout ready = refl
+once l (Enter actor ∷ events) layout ready =
+    once l events layout (and_parts (names_actor actor && has_actor l actor) (are_ready l events) ready).1
+once l (Acts k c ∷ events) layout ready =
     let s = after l events in
     let rest = (and_parts (may_give l (actor_of s k) c) (are_ready l events) ready).1 in
-    let w = holds l events shape rest in
-    acted-once l s k (slice_get s.callers k) c w.layout w.number w.world.table (once l events shape rest)
+    let w = holds l events layout rest in
+    acted-once l s k (slice_get s.callers k) c w.layout w.number w.world.table (once l events layout rest)

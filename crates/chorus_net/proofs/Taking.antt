@@ -47,7 +47,7 @@ not-held-by l past q a f s made h =
     let other : is_held_by a f.spot ≡ false = ap (is_held_by a) s.held ∙ differs_back s.holder a h in
     ap (is_held_at_by 1 a) made ∙ (λ i. other i && (last_of 0 (s.path i) == 1))
 
-module _ (l : Layout) (f : ℕ → Option Ui) (past : List Entry) (ports : List PortRecord) (v : Seated) (q : Ui) (shape : IsLayout l) (w : InCall l f past ports v []) (kind : names_port q ≡ true) (place : (place_for l v.actor (Command.Take q) == 1) ≡ true) where
+module _ (l : Layout) (f : ℕ → Option Ui) (past : List Entry) (ports : List PortRecord) (v : Seated) (q : Ui) (layout : IsLayout l) (w : InCall l f past ports v []) (kind : names_port q ≡ true) (place : (place_for l v.actor (Command.Take q) == 1) ≡ true) where
   abbrev now : List PortRecord
   now = replace q (after_take v.actor) ports
 
@@ -70,7 +70,7 @@ module _ (l : Layout) (f : ℕ → Option Ui) (past : List Entry) (ports : List 
       record {
         layout = refl;
         number = refl;
-        in_call = says l f past ports now v a [] [] shape w owes;
+        in_call = says l f past ports now v a [] [] layout w owes;
         seat = refl;
         actor = refl;
         performed = performs-own l past v (Command.Take q) (next_clock past v) a refl (λ i. place-one l v (Command.Take q) place i && same_ui-self q i);
@@ -92,7 +92,7 @@ module _ (l : Layout) (f : ℕ → Option Ui) (past : List Entry) (ports : List 
       record {
         layout = refl;
         number = refl;
-        in_call = says l f past ports now v a [] [] shape w owes;
+        in_call = says l f past ports now v a [] [] layout w owes;
         seat = refl;
         actor = refl;
         performed = performs-own l past v (Command.Take q) (next_clock past v) a refl (λ i. place-one l v (Command.Take q) place i && same_ui-self q i);
@@ -151,7 +151,7 @@ module _ (l : Layout) (f : ℕ → Option Ui) (past : List Entry) (ports : List 
       record {
         layout = refl;
         number = refl;
-        in_call = says l f past ports now v a [] [] shape w owes;
+        in_call = says l f past ports now v a [] [] layout w owes;
         seat = refl;
         actor = refl;
         performed = performs-own l past v (Command.Take q) (next_clock past v) a refl (λ i. place-one l v (Command.Take q) place i && same_ui-self q i);

@@ -9,7 +9,7 @@ use Rattle.chorus_entry.specs.declared.tag.Tag.{Tag}
 use Rattle.chorus_entry.specs.declared.message.Message.{Message}
 use Rattle.chorus_entry.specs.declared.command.Command.{Command}
 use Rattle.chorus_entry.specs.declared.record.PortRecord.{PortRecord}
-use Rattle.chorus_entry.specs.Command.{meets_conditions, has_kinds_in_command}
+use Rattle.chorus_entry.specs.Command.{meets_conditions}
 use Rattle.chorus_entry.specs.Kinds.{names_actor}
 use Rattle.chorus_entry.specs.Places.{place_for}
 use Rattle.chorus_world.specs.declared.port.Spot.{Spot}
@@ -27,7 +27,7 @@ use Rattle.chorus_net.specs.Sites.{Event, Enter, Act, after, actor_of, commands_
 -- the command is one that a caller in this actor may give: it meets its conditions, place 1 carries it out and has it so far
 abbrev pub may_give : Layout → Option Ui → Command → Bool
 may_give l None c = false
-may_give l (Some a) c = meets_conditions c && has_kinds_in_command c && (place_for l a c == 1) && is_built l 1 c
+may_give l (Some a) c = meets_conditions c && (place_for l a c == 1) && is_built l 1 c
 
 -- each seat is entered in an actor of the layout, and each command is one that its seat may give
 abbrev pub are_ready : Layout → List Event → Bool

@@ -7,7 +7,7 @@ use Rattle.chorus_ui.specs.Layout.{has_place}
 use Rattle.chorus_entry.specs.declared.entry.Entry.{Entry}
 use Rattle.chorus_entry.specs.declared.command.Command.{Command}
 use Rattle.chorus_entry.specs.declared.record.PortRecord.{PortRecord}
-use Rattle.chorus_entry.specs.Command.{meets_conditions, has_kinds_in_command}
+use Rattle.chorus_entry.specs.Command.{meets_conditions}
 use Rattle.chorus_entry.specs.Places.{place_for}
 use Rattle.chorus_world.specs.Places.{last_clock, ports_made}
 use Rattle.chorus_world.specs.Steps.{next_number}
@@ -35,14 +35,6 @@ pub record IsKept (l : Layout) (p : ℕ) (past : List Entry) (made : ℕ) (ports
 abbrev pub turn : Place → Seated → Turn
 turn place caller = record { place = place.state; caller = caller }
 
--- the command posts a message
-abbrev pub is_post : Command → Bool
-is_post (Command.Send dest body) = true
-is_post (Command.Call port back body) = true
-is_post Command.Retry = true
-is_post (Command.Reply body) = true
-is_post _ = false
-
 abbrev pub is_take : Command → Bool
 is_take (Command.Take port) = true
 is_take _ = false
@@ -50,7 +42,6 @@ is_take _ = false
 -- the conditions of a call: the command meets its own, it is to be carried out here, and the place has it so far
 pub record MayCall (place : PlaceState) (caller : Seated) (c : Command) : Type 0 where
   pub conditions : meets_conditions c ≡ true
-  pub kinds : has_kinds_in_command c ≡ true
   pub here : place_for place.layout caller.actor c ≡ place.number
   pub built : is_built place.layout place.number c ≡ true
 

@@ -67,14 +67,14 @@ acted-held k None c s now before h = h
 acted-held k (Some v) c s now before h = call-held c (record { place = s.place; caller = v }) now before h
 
 held-after : (l : Layout) (events : List Event) → IsLayout l → are_ready l events ≡ true → AreHeldThroughout (after l events).place.journal
-held-after l [] shape h = tt
-held-after l (Enter actor ∷ events) shape h =
-    held-after l events shape (and_parts (names_actor actor && has_actor l actor) (are_ready l events) h).1
-held-after l (Act k c ∷ events) shape h =
+held-after l [] layout h = tt
+held-after l (Enter actor ∷ events) layout h =
+    held-after l events layout (and_parts (names_actor actor && has_actor l actor) (are_ready l events) h).1
+held-after l (Act k c ∷ events) layout h =
     let s = after l events in
     let ready = (and_parts (may_give l (actor_of s k) c) (are_ready l events) h).1 in
-    let now = held-now l (Act k c ∷ events) (after l (Act k c ∷ events)) (holds l (Act k c ∷ events) shape h) in
-    acted-held k (slice_get s.callers k) c s now (held-now l events s (holds l events shape ready)) (held-after l events shape ready)
+    let now = held-now l (Act k c ∷ events) (after l (Act k c ∷ events)) (holds l (Act k c ∷ events) layout h) in
+    acted-held k (slice_get s.callers k) c s now (held-now l events s (holds l events layout ready)) (held-after l events layout ready)
 
 -- Each accepted message stands alone.
 
@@ -91,7 +91,7 @@ stands-alone l past port position x legal stands = by (fate (on port past)) refl
         }
 
 pub has-one-holder : (c : Scene) (closed : Closed) → IsLayout c.layout → IsRun c closed → HasOneHolder closed
-has-one-holder c closed shape run =
+has-one-holder c closed layout run =
     λ newer past port position x e stands.
     let legal = run-legal c.layout (callers_of c) (past_of closed) run in
     stands-alone c.layout past port position x (legal-older c.layout newer past (ap (is_legal c.layout) (sym e) ∙ legal)) stands
@@ -99,8 +99,8 @@ has-one-holder c closed shape run =
 -- Each port is held.
 
 pub holds-all-ports : (c : Scene) (closed : Closed) → IsLayout c.layout → Keeps c → scene_is_built c ≡ true → merge_of closed ≡ journal_of c → HoldsAllPorts closed
-holds-all-ports c closed shape keeps built h =
+holds-all-ports c closed layout keeps built h =
     λ newer past port state e made.
-    let throughout = held-after c.layout (reverse (order c)) shape (order-ready c keeps built) in
+    let throughout = held-after c.layout (reverse (order c)) layout (order-ready c keeps built) in
     let held = held-older newer past (subst AreHeldThroughout (sym (past-is c closed h) ∙ e) throughout) in
     sym (ap if_made_held made) ∙ held port

@@ -15,8 +15,8 @@ use Rattle.chorus_ui.specs.declared.limits.TheConstants.{PORTS_PER_SITE_LIMIT}
 use Rattle.chorus_entry.specs.declared.command.Command.{Command}
 use Rattle.chorus_entry.specs.Command.{is_capacity}
 use Rattle.chorus_place.specs.Machine.{is_built}
-use Rattle.chorus_place.specs.declared.fault.TheConstants.{WORN}
-use Rattle.chorus_net.specs.declared.sites.TheConstants.{SEATS_LIMIT}
+use Rattle.chorus_ui.specs.declared.limits.TheConstants.{CLOCK_LIMIT}
+use Rattle.chorus_ui.specs.declared.limits.TheConstants.{SEATS_LIMIT}
 use Rattle.chorus_net.specs.Sites.{Event, Enter, Act, after, posts_of, compared}
 use Rattle.chorus_scene.specs.declared.scenario.SetupLine.{SetupLine}
 use Rattle.chorus_scene.specs.declared.scenario.SetupLine.TheVariants as setups
@@ -225,7 +225,7 @@ so-far c done rest keeps built e =
     let turned = length-reverse done in
     omega arith
 
-pub clock-fits : (c : Scene) (done rest : List Event) (k : ℕ) → Keeps c → scene_is_built c ≡ true → order c ≡ done ++ rest → compared k (after c.layout (reverse done)) < WORN
+pub clock-fits : (c : Scene) (done rest : List Event) (k : ℕ) → Keeps c → scene_is_built c ≡ true → order c ≡ done ++ rest → compared k (after c.layout (reverse done)) < CLOCK_LIMIT
 clock-fits c done rest k keeps built e =
     let few = so-far c done rest keeps built e in
     let clock = compared-within c.layout (reverse done) k in

@@ -30,12 +30,12 @@ ports-closed : (c : Scene) (closed : Closed) → IsClosed (replayed c) closed �
 ports-closed c closed is = ap (map (λ (p : Placed). p.port)) is.ports ∙ taken-back (replayed c).place.ports
 
 pub stands-for-merge : (c : Scene) (closed : Closed) → IsLayout c.layout → Keeps c → scene_is_built c ≡ true → IsClosed (replayed c) closed → StandsForMerge closed
-stands-for-merge c closed shape keeps built is =
+stands-for-merge c closed layout keeps built is =
     let ports = (replayed c).place.ports in
     let events = reverse (order c) in
     let ready = order-ready c keeps built in
     let stands : StandsFor (replayed c).place.journal ports =
-    record { shown = (holds c.layout events shape ready).world.table.shown; once = once c.layout events shape ready } in
+    record { shown = (holds c.layout events layout ready).world.table.shown; once = once c.layout events layout ready } in
     let IsFirst : Placed → Type 0 = λ p. p.place ≡ 1 in
     record {
       ports = subst₂ StandsFor (sym (past-closed c closed is)) (sym (ports-closed c closed is)) stands;
@@ -43,10 +43,10 @@ stands-for-merge c closed shape keeps built is =
     }
 
 pub is-quiet : (c : Scene) (closed : Closed) → IsLayout c.layout → Keeps c → scene_is_built c ≡ true → IsClosed (replayed c) closed → IsQuiet closed
-is-quiet c closed shape keeps built is =
+is-quiet c closed layout keeps built is =
     record {
       rest = is.rest;
       settled =
           ap (λ (past : List Entry). unsettled past (sent past)) (past-closed c closed is)
-          ∙ (holds c.layout (reverse (order c)) shape (order-ready c keeps built)).world.waits;
+          ∙ (holds c.layout (reverse (order c)) layout (order-ready c keeps built)).world.waits;
     }

@@ -16,7 +16,7 @@ use chorus_ui::Layout;
 pub(crate) fn is_built(scenario: &Scenario) -> bool
     ensures value { result ≡ scene_is_built scenario.now }
     ensures keeps { Keeps scenario.now }
-    ensures shape { IsLayout scenario.now.layout }
+    ensures layout { IsLayout scenario.now.layout }
 {
     let layout = scenario.layout();
     let turns = layout.turns();

@@ -13,7 +13,7 @@ use crate::group::{choice, first_unchosen, site_of};
 use crate::message::{is_to_be_heard, is_to_be_told, progress_of};
 use crate::place::{is_first, located};
 use crate::port::{has_room, is_coming, is_ended_at, is_full, is_held_at, is_made};
-use crate::post::{group_in, post_of, site_asked};
+use crate::post::{post_of, site_asked};
 use crate::world::World;
 use chorus_entry::{Answer, Members, MsgId};
 use chorus_ui::Ui;
@@ -244,7 +244,7 @@ impl World {
     {
         match progress {
             Progress::Asked { from, dest } => {
-                let named = match group_in(*dest) {
+                let named = match dest.group() {
                     Some(named) => group == named,
                     None => false,
                 };
@@ -321,7 +321,7 @@ impl World {
         match post_of(self.entries.as_slice(), id) {
             Some(post) => {
                 post.place == place
-                    && match group_in(post.dest) {
+                    && match post.dest.group() {
                         Some(group) => {
                             self.layout.has_site(group.site()) && !self.is_group_place(place, group)
                         }
