@@ -1,5 +1,5 @@
 -- The calls of one caller, as contracts see them.
-use Rattle.std.specs.Prelude.{◌≡◌, ℕ, ◌+◌, ◌==◌, Bool, false, List, Option, Some, None, IfSome, Result, Ok, Err, cond}
+use Rattle.std.specs.Prelude.{◌≡◌, ℕ, ◌+◌, ◌==◌, Bool, false, List, Option, Some, None, IfSome, Result, Ok, Err, if◌then◌else◌}
 use Rattle.chorus_ui.specs.declared.ui.Ui.{Ui}
 use Rattle.chorus_calls.specs.declared.client.Outstanding.{Outstanding}
 use Rattle.chorus_calls.specs.declared.client.Settle.{Settle}
@@ -53,11 +53,11 @@ abbrev pub is_outstanding : ℕ → Calling → Bool
 is_outstanding n c = has_number n c.outstanding
 
 abbrev pub answer_to : Calling → ℕ → Settle
-answer_to c n = cond (is_outstanding n c) Done Late
+answer_to c n = if is_outstanding n c then Done else Late
 
 -- nothing is outstanding
 abbrev pub after_cancel : Calling → Calling
 after_cancel c = record c { outstanding = None }
 
 abbrev pub after_settle : Calling → ℕ → Calling
-after_settle c n = cond (is_outstanding n c) (after_cancel c) c
+after_settle c n = if is_outstanding n c then after_cancel c else c

@@ -1,5 +1,5 @@
 -- What happens to a client, one event after another.
-use Rattle.std.specs.Prelude.{ℕ, ◌+◌, ◌==◌, Bool, ◌&&◌, true, false, List, [], ◌∷◌, Result, Ok, Err, cond}
+use Rattle.std.specs.Prelude.{ℕ, ◌+◌, ◌==◌, Bool, ◌&&◌, true, false, List, [], ◌∷◌, Result, Ok, Err, if◌then◌else◌}
 use Rattle.chorus_ui.specs.declared.ui.Ui.{Ui}
 use Rattle.chorus_calls.specs.declared.client.Outstanding.{Outstanding}
 use Rattle.chorus_calls.specs.declared.client.Settle.{Settle}
@@ -47,9 +47,9 @@ settles n Cancel c = false
 -- how often the number was given
 abbrev pub times_given : ℕ → List Event → ℕ
 times_given n [] = 0
-times_given n (event ∷ past) = cond (gives n event (client_after past)) 1 0 + times_given n past
+times_given n (event ∷ past) = (if gives n event (client_after past) then 1 else 0) + times_given n past
 
 -- how often it was settled
 abbrev pub times_settled : ℕ → List Event → ℕ
 times_settled n [] = 0
-times_settled n (event ∷ past) = cond (settles n event (client_after past)) 1 0 + times_settled n past
+times_settled n (event ∷ past) = (if settles n event (client_after past) then 1 else 0) + times_settled n past

@@ -26,7 +26,14 @@ impl Model for Caller {
 
     ghost Value = { Seated };
 
-    ghost view = { λ c. record { seat = c.seat; actor = c.actor; last = c.last; posts = c.posts; client = c.client; hand = c.hand } };
+    ghost view = { λ c. record {
+      seat = c.seat;
+      actor = c.actor;
+      last = c.last;
+      posts = c.posts;
+      client = c.client;
+      hand = c.hand;
+    } };
 
     ghost invariant = { λ c. IsNumbered c.hand };
 }

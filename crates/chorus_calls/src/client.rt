@@ -65,7 +65,8 @@ impl Model for Client {
 
     ghost view = { λ c. record { outstanding = option_map kept c.outstanding; given = c.given } };
 
-    ghost invariant = { λ c. IsLatest (record { outstanding = option_map kept c.outstanding; given = c.given }) };
+    ghost invariant = { λ c.
+        IsLatest (record { outstanding = option_map kept c.outstanding; given = c.given }) };
 }
 
 impl Client {

@@ -9,5 +9,6 @@ pub fn settled_at_most_once()
     // No number is given twice.
     ensures given { (number : ℕ) (events : List Event) → times_given number events ≤ 1 }
     // A number is settled at most as often as it was given.
-    ensures settled { (number : ℕ) (events : List Event) → times_settled number events ≤ times_given number events }
+    ensures settled { (number : ℕ) (events : List Event) →
+        times_settled number events ≤ times_given number events }
 {}

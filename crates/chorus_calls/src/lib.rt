@@ -12,8 +12,6 @@
 mod caller;
 mod client;
 mod law;
-#[cfg(test)]
-mod tests;
 
 pub use caller::Caller;
 pub use client::{Again, Client, Outstanding, Settle};

@@ -24,8 +24,6 @@ mod message;
 mod packet;
 mod record;
 mod tag;
-#[cfg(test)]
-mod tests;
 
 pub use act::Act;
 pub use answer::Answer;

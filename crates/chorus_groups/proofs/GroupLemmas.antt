@@ -3,9 +3,9 @@ use Rattle.std.proofs.Common.{◌≡◌, ◌<◌, ◌≤◌, false, [], ◌∷�
 use Rattle.std.proofs.lemmas.Bool.Decides.{nat_tests}
 use Rattle.std.proofs.lemmas.List.Edits.{length-remove}
 use Rattle.chorus_ui.specs.declared.ui.Ui.{Ui}
-use Rattle.chorus_entry.specs.declared.members.TheConstants.{MEMBERS_LIMIT}
+use Rattle.chorus_ui.specs.declared.limits.TheConstants.{MEMBERS_LIMIT}
 use Rattle.chorus_groups.specs.declared.fault.LeaveFault.TheVariants.{NotThere}
-use Rattle.chorus_groups.specs.Ports.{index_of, is_member, without}
+use Rattle.chorus_entry.specs.Members.{index_of, is_member, without}
 use Rattle.chorus_groups.specs.Groups.{Group, IsGroup, joined, left, turned_behind}
 use Rattle.chorus_groups.specs.Faults.{refuses_leave}
 use Rattle.chorus_groups.proofs.PortLemmas.{wrapped-position, is_member-index, distinct-append, distinct-remove}

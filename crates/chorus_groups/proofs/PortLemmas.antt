@@ -6,7 +6,7 @@ use Rattle.std.proofs.lemmas.Bool.Decides.{nat_tests}
 use Rattle.std.proofs.lemmas.Grind.{common_steps}
 use Rattle.chorus_ui.specs.declared.ui.Ui.{Ui}
 use Rattle.chorus_ui.specs.Name.{same_ui}
-use Rattle.chorus_groups.specs.Ports.{index_of, is_member, are_distinct, wrapped, IsPosition, first_of, in_turn}
+use Rattle.chorus_entry.specs.Members.{index_of, is_member, are_distinct, wrapped, IsPosition, first_of, round_from}
 use Rattle.chorus_groups.specs.Choosing.{is_on, first_at}
 
 pub wrapped-position : (n i : ℕ) → IsPosition (wrapped n i) n
@@ -43,7 +43,7 @@ first_of-drop (q ∷ qs) rs zero h = refl
 first_of-drop (q ∷ qs) rs (suc i) h = grind (arith, first_of-drop qs rs i)
 
 -- the first from a position on is the one there
-pub first_of_in_turn : (qs : List Ui) (i : ℕ) → IsPosition i (length qs) → first_of (in_turn i qs) ≡ slice_get qs i
+pub first_of_in_turn : (qs : List Ui) (i : ℕ) → IsPosition i (length qs) → first_of (round_from i qs) ≡ slice_get qs i
 first_of_in_turn [] i h = grind (arith, common_steps)
 first_of_in_turn (q ∷ qs) i h = first_of-drop (q ∷ qs) (take i (q ∷ qs)) i (omega arith)
 
@@ -59,8 +59,8 @@ first_at-append s (q ∷ qs) rs [] ms e = grind arith
 first_at-append s (q ∷ qs) rs (n ∷ ns) ms e =
     ap (λ o. cond (is_on s n) (Some q) o) (first_at-append s qs rs ns ms (omega arith)) ∙ at_case s n q (first_at s qs ns) (first_at s rs ms)
 
-pub first_at-in_turn : (s i : ℕ) (qs : List Ui) (ns : List ℕ) → length ns ≡ length qs →
-    first_at s (in_turn i qs) (in_turn i ns) ≡ option_or (first_at s (drop i qs) (drop i ns)) (first_at s (take i qs) (take i ns))
-first_at-in_turn s i qs ns e =
+pub first_at-round_from : (s i : ℕ) (qs : List Ui) (ns : List ℕ) → length ns ≡ length qs →
+    first_at s (round_from i qs) (round_from i ns) ≡ option_or (first_at s (drop i qs) (drop i ns)) (first_at s (take i qs) (take i ns))
+first_at-round_from s i qs ns e =
     first_at-append s (drop i qs) (take i qs) (drop i ns) (take i ns)
     (length-drop i ns ∙ ap (λ n. n - i) e ∙ sym (length-drop i qs))

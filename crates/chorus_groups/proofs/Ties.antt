@@ -5,9 +5,9 @@ use Rattle.std.specs.Option.{option_or}
 use Rattle.std.proofs.lemmas.List.{map-append, drop-map, take-map}
 use Rattle.chorus_ui.specs.declared.ui.Ui.{Ui}
 use Rattle.chorus_ui.specs.Name.{same_ui}
-use Rattle.chorus_groups.specs.Ports.{IsPosition, in_turn}
+use Rattle.chorus_entry.specs.Members.{IsPosition, round_from, turned}
 use Rattle.chorus_groups.specs.Groups.{Group, group_of, new_group}
-use Rattle.chorus_groups.specs.Choosing.{is_on, first_at, turned}
+use Rattle.chorus_groups.specs.Choosing.{is_on, first_at}
 
 made_case : (b c : Bool) (x y : Group) (o p : Option Group) → p ≡ option_or o (cond c (Some y) None) → cond b (Some x) p ≡ option_or (cond b (Some x) o) (cond c (Some y) None)
 made_case true c x y o p e = refl
@@ -37,7 +37,7 @@ pub first_at-map : (s : ℕ) (newest : Ui → ℕ) (qs : List Ui) → first_at s
 first_at-map s newest [] = refl
 first_at-map s newest (q ∷ qs) = find_case (is_on s (newest q)) q _ _ (first_at-map s newest qs)
 
-pub in_turn-map : {A B : Type 0} (f : A → B) (i : ℕ) (xs : List A) → in_turn i (map f xs) ≡ map f (in_turn i xs)
-in_turn-map f i xs =
+pub round_from-map : {A B : Type 0} (f : A → B) (i : ℕ) (xs : List A) → round_from i (map f xs) ≡ map f (round_from i xs)
+round_from-map f i xs =
     ap (λ ys. ys ++ take i (map f xs)) (drop-map f i xs) ∙ ap (λ ys. map f (drop i xs) ++ ys) (take-map f i xs)
     ∙ sym (map-append f (drop i xs) (take i xs))

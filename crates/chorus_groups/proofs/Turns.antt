@@ -1,6 +1,5 @@
 -- Functional choices, one after another, choose the members in turn.
-use Rattle.std.proofs.Common.{ℕ, zero, suc, ◌≡◌, ◌+◌, ◌-◌, ◌≤◌, Bool, true, false, cond, List, [], ◌∷◌, ◌++◌, length, take, drop, Option, Some, None, slice_get, slice_index_or, refl, sym, ◌∙◌, ap, subst, arith}
-use Rattle.std.proofs.Common.{zero-add, add-one}
+use Rattle.std.proofs.Common.{ℕ, zero, suc, ◌≡◌, ◌+◌, ◌-◌, ◌≤◌, Bool, true, false, cond, List, [], ◌∷◌, ◌++◌, length, take, drop, Option, Some, None, slice_get, slice_index_or, refl, sym, ◌∙◌, ap, subst, arith, zero-add, add-one}
 use Rattle.std.proofs.Math.ListN.{drop_of_length-le}
 use Rattle.std.specs.Option.{option_map}
 use Rattle.std.proofs.lemmas.Bool.Decides.{nat_tests}
@@ -10,9 +9,9 @@ use Rattle.chorus_ui.specs.declared.ui.Ui.{Ui}
 use Rattle.chorus_ui.specs.Name.{same_ui}
 use Rattle.chorus_ui.proofs.Names.{from_same_ui, same_ui-self}
 use Rattle.chorus_entry.specs.declared.dest.Dest.TheVariants.{One}
-use Rattle.chorus_groups.specs.Ports.{index_of, is_member, are_distinct, wrapped, IsPosition, first_of, in_turn, listed}
+use Rattle.chorus_entry.specs.Members.{index_of, is_member, are_distinct, wrapped, IsPosition, first_of, round_from, listed, turned}
 use Rattle.chorus_groups.specs.Groups.{Group, Table, group_of, changed, members, members_in, rotation, rotation_in}
-use Rattle.chorus_groups.specs.Choosing.{choice, turned, turned_by, after_choose}
+use Rattle.chorus_groups.specs.Choosing.{choice, turned_by, after_choose}
 use Rattle.chorus_groups.specs.Law.{chosen_of, times, around}
 use Rattle.chorus_groups.proofs.PortLemmas.{first_of_in_turn, wrapped-position}
 
@@ -78,7 +77,7 @@ members_turned : (chosen : List Ui) (o : Option Group) → members_in (option_ma
 members_turned chosen None = refl
 members_turned chosen (Some x) = refl
 
-rotation_turned : (o : Option Group) → let chosen = listed (first_of (in_turn (rotation_in o) (members_in o))) in
+rotation_turned : (o : Option Group) → let chosen = listed (first_of (round_from (rotation_in o) (members_in o))) in
     rotation_in (option_map (turned_by chosen) o) ≡ turned (members_in o) chosen (rotation_in o)
 rotation_turned None = grind (arith, common_steps)
 rotation_turned (Some x) = refl
@@ -98,7 +97,7 @@ moved g t d p =
       members_stay = ap members_in look ∙ members_turned chosen (group_of g t.groups);
       rotation_moves =
           ap rotation_in look ∙ rotation_turned (group_of g t.groups)
-          ∙ turned_at (members g t) (rotation g t) (first_of (in_turn (rotation g t) (members g t))) d p (sym (first_of_in_turn (members g t) (rotation g t) p));
+          ∙ turned_at (members g t) (rotation g t) (first_of (round_from (rotation g t) (members g t))) d p (sym (first_of_in_turn (members g t) (rotation g t) p));
     }
 
 stays : (g h : Ui) (t : Table) → same_ui h g ≡ false → group_of g (after_choose t (One h) []).groups ≡ group_of g t.groups
@@ -182,7 +181,7 @@ before_end qs (suc n) i le =
     ∙ sym (take_listed qs i n)
 
 -- once round
-pub round : (qs : List Ui) (i : ℕ) → IsPosition i (length qs) → around (length qs) i qs ≡ in_turn i qs
+pub round : (qs : List Ui) (i : ℕ) → IsPosition i (length qs) → around (length qs) i qs ≡ round_from i qs
 round qs i p =
     let here : wrapped (length qs) i ≡ i = grind (arith, nat_tests) in
     let first : wrapped (length qs) 0 ≡ 0 = grind (arith, nat_tests) in
@@ -193,6 +192,6 @@ round qs i p =
     ∙ ap (λ rs. drop i qs ++ rs) (before_end qs i 0 (omega arith))
 
 pub round_of : (g : Ui) (hs : List Ui) (t : Table) → are_distinct (members g t) ≡ true → IsPosition (rotation g t) (length (members g t)) →
-    times g hs ≡ length (members g t) → chosen_of g hs t ≡ in_turn (rotation g t) (members g t)
+    times g hs ≡ length (members g t) → chosen_of g hs t ≡ round_from (rotation g t) (members g t)
 round_of g hs t d p n =
     turns g hs t d p ∙ ap (λ k. around k (rotation g t) (members g t)) n ∙ round (members g t) (rotation g t) p

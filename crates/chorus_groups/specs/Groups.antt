@@ -1,9 +1,9 @@
 -- Groups, as contracts see them.
-use Rattle.std.specs.Prelude.{ℕ, ◌+◌, ◌-◌, ◌≤◌, nat_lt, cond, List, [], ◌∷◌, ◌++◌, length, IsTrue, Option, Some, None}
+use Rattle.std.specs.Prelude.{ℕ, ◌+◌, ◌-◌, ◌≤◌, if◌then◌else◌, List, [], ◌∷◌, ◌++◌, length, IsTrue, Option, Some, None}
 use Rattle.chorus_ui.specs.declared.ui.Ui.{Ui}
 use Rattle.chorus_ui.specs.Name.{same_ui}
-use Rattle.chorus_entry.specs.declared.members.TheConstants.{MEMBERS_LIMIT}
-use Rattle.chorus_groups.specs.Ports.{index_of, without, wrapped, are_distinct, IsPosition}
+use Rattle.chorus_ui.specs.declared.limits.TheConstants.{MEMBERS_LIMIT}
+use Rattle.chorus_entry.specs.Members.{index_of, without, wrapped, are_distinct, IsPosition, turned_back}
 
 -- a group: its members in the order in which they joined, and the position of the one that is next in turn
 pub record Group : Type 0 where
@@ -31,17 +31,17 @@ new_table most = record { groups = []; spare = most }
 -- the group of this name, where it is made
 abbrev pub group_of : Ui → List Group → Option Group
 group_of g [] = None
-group_of g (x ∷ xs) = cond (same_ui x.ui g) (Some x) (group_of g xs)
+group_of g (x ∷ xs) = if same_ui x.ui g then Some x else group_of g xs
 
 -- where it stands among them, counted from 0: their number where it is not made
 abbrev pub row_of : Ui → List Group → ℕ
 row_of g [] = 0
-row_of g (x ∷ xs) = cond (same_ui x.ui g) 0 (row_of g xs + 1)
+row_of g (x ∷ xs) = if same_ui x.ui g then 0 else row_of g xs + 1
 
 -- the groups with this one changed, where it is made
 abbrev pub changed : Ui → (Group → Group) → List Group → List Group
 changed g f [] = []
-changed g f (x ∷ xs) = cond (same_ui x.ui g) (f x ∷ xs) (x ∷ changed g f xs)
+changed g f (x ∷ xs) = if same_ui x.ui g then f x ∷ xs else x ∷ changed g f xs
 
 abbrev pub with_change : Ui → (Group → Group) → Table → Table
 with_change g f t = record t { groups = changed g f t.groups }
@@ -68,10 +68,6 @@ rotation g t = rotation_in (group_of g t.groups)
 -- a port joins as the last member
 abbrev pub joined : Ui → Group → Group
 joined q x = record x { members = x.members ++ q ∷ [] }
-
--- where a member before it leaves, the rotation place moves one back
-abbrev pub turned_back : List Ui → Ui → ℕ → ℕ
-turned_back qs q i = wrapped (length (without q qs)) (cond (nat_lt (index_of q qs) i) (i - 1) i)
 
 abbrev pub left : Ui → Group → Group
 left q x = record x { members = without q x.members; rotation = turned_back x.members q x.rotation }

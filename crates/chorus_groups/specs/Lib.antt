@@ -1,4 +1,3 @@
-pub mod Ports
 pub mod Groups
 pub mod Faults
 pub mod Choosing

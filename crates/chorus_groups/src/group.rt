@@ -2,11 +2,11 @@
 
 ghost use Rattle.std.specs.Prelude.{◌≡◌, ◌+◌, length, IfOk};
 ghost use Rattle.chorus_ui.specs.Name.{same_ui};
-ghost use Rattle.chorus_entry.specs.declared.members.TheConstants.{MEMBERS_LIMIT};
-ghost use Rattle.chorus_groups.specs.Ports.{first_of, in_turn};
+ghost use Rattle.chorus_ui.specs.declared.limits.TheConstants.{MEMBERS_LIMIT};
+ghost use Rattle.chorus_entry.specs.Members.{first_of, round_from};
 ghost use Rattle.chorus_groups.specs.Groups.{IsGroup, new_group, joined, left, turned_behind};
 ghost use Rattle.chorus_groups.specs.Faults.{unless, refuses_join, refuses_leave, after};
-ghost use Rattle.chorus_groups.specs.Choosing.{first_at};
+ghost use Rattle.chorus_groups.specs.Choosing.{first_round};
 
 use crate::fault::{JoinFault, LeaveFault};
 use crate::ports::{first_at, index_of, is_member, moved_back, wrapped};
@@ -25,14 +25,16 @@ pub(crate) struct Group {
 
 impl Model for Group {
     ghost use Rattle.std.specs.Prelude.{◌≡◌, length, vec_capacity};
-    ghost use Rattle.chorus_entry.specs.declared.members.TheConstants.{MEMBERS_LIMIT};
+    ghost use Rattle.chorus_ui.specs.declared.limits.TheConstants.{MEMBERS_LIMIT};
     ghost use Rattle.chorus_groups.specs.Groups.{Group, IsGroup};
 
     ghost Value = { Group };
 
     ghost view = { λ g. record { ui = g.ui; members = g.members.items; rotation = g.rotation } };
 
-    ghost invariant = { λ g. (vec_capacity g.members ≡ MEMBERS_LIMIT) × IsGroup (record { ui = g.ui; members = g.members.items; rotation = g.rotation }) };
+    ghost invariant = { λ g.
+        let group : Group = record { ui = g.ui; members = g.members.items; rotation = g.rotation } in
+        (vec_capacity g.members ≡ MEMBERS_LIMIT) × IsGroup group };
 }
 
 impl Group {
@@ -95,7 +97,7 @@ impl Group {
     /// The member at the rotation place.
     #[tactic(auto, using(crate::proofs::PortLemmas::first_of_in_turn))]
     pub(crate) fn first(&self) -> Option<Ui>
-        ensures { result ≡ first_of (in_turn self.now.rotation self.now.members) }
+        ensures { result ≡ first_of (round_from self.now.rotation self.now.members) }
     {
         self.members.get(self.rotation).copied()
     }
@@ -104,7 +106,7 @@ impl Group {
     /// site of each.
     pub(crate) fn first_at(&self, site: u16, located: &[u16]) -> Option<Ui>
         requires { length located.now ≡ length self.now.members }
-        ensures { result ≡ first_at site (in_turn self.now.rotation self.now.members) (in_turn self.now.rotation located.now) }
+        ensures { result ≡ first_round self.now.rotation site self.now.members located.now }
     {
         let at = self.rotation;
         let members = self.members.as_slice();

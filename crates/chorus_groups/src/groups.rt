@@ -3,11 +3,11 @@
 ghost use Rattle.std.specs.Prelude.{◌≡◌, ◌<◌, ◌≤◌, length, IfOk, OnOk, OnErr, IsSome, IsTrue, None, is_some};
 ghost use Rattle.std.specs.Option.{option_copied};
 ghost use Rattle.chorus_entry.specs.Dest.{group_in};
-ghost use Rattle.chorus_entry.specs.declared.members.TheConstants.{MEMBERS_LIMIT};
-ghost use Rattle.chorus_groups.specs.Ports.{are_distinct, first_of, in_turn, listed, IsPosition};
-ghost use Rattle.chorus_groups.specs.Groups.{new_table, group_of, row_of, after_make, members, rotation, with_change};
+ghost use Rattle.chorus_ui.specs.declared.limits.TheConstants.{MEMBERS_LIMIT};
+ghost use Rattle.chorus_entry.specs.Members.{are_distinct, first_of, round_from, listed, IsPosition};
+ghost use Rattle.chorus_groups.specs.Groups.{new_table, group_of, row_of, after_make, members, rotation};
 ghost use Rattle.chorus_groups.specs.Faults.{unless, join_fault_of, after_join, leave_fault_of, after_leave};
-ghost use Rattle.chorus_groups.specs.Choosing.{choice, turned_by, after_choose, first_at, members_for};
+ghost use Rattle.chorus_groups.specs.Choosing.{choice, after_choose, after_one, first_round, members_for};
 ghost use Rattle.chorus_groups.specs.Made.{made_of};
 
 use crate::choice::Choice;
@@ -32,7 +32,8 @@ impl Model for Groups {
 
     ghost Value = { Table };
 
-    ghost view = { λ g. record { groups = g.groups.items; spare = vec_capacity g.groups - vec_len g.groups } };
+    ghost view = { λ g.
+        record { groups = g.groups.items; spare = vec_capacity g.groups - vec_len g.groups } };
 }
 
 /// Where the group of this name stands, counted from 0: the number of groups where it is not made.
@@ -137,7 +138,8 @@ impl Groups {
     ) -> Result<Choice, AllocError>
         requires group { IsSome (group_in dest.now) }
         requires located { length located.now ≡ length (members_for dest.now self.old) }
-        ensures value { IfOk result (λ given. given ≡ made_of (choice self.old dest.now located.now)) }
+        ensures value { IfOk result (λ given.
+            given ≡ made_of (choice self.old dest.now located.now)) }
         ensures after { OnOk result (self.new ≡ after_choose self.old dest.now located.now) }
         ensures err { OnErr result (self.new ≡ self.old) }
     {
@@ -165,7 +167,8 @@ impl Groups {
 
     /// The member of the group at its rotation place.
     fn first(&self, group: Ui) -> Option<Ui>
-        ensures { result ≡ first_of (in_turn (rotation group self.now) (members group self.now)) }
+        ensures { result ≡
+            first_of (round_from (rotation group self.now) (members group self.now)) }
     {
         self.get(group)?.first()
     }
@@ -173,7 +176,7 @@ impl Groups {
     /// The first member of the group from its rotation place on, round the list, that is located on the site.
     fn first_at(&self, group: Ui, site: u16, located: &[u16]) -> Option<Ui>
         requires { length located.now ≡ length (members group self.now) }
-        ensures { result ≡ first_at site (in_turn (rotation group self.now) (members group self.now)) (in_turn (rotation group self.now) located.now) }
+        ensures { result ≡ first_round (rotation group self.now) site (members group self.now) located.now }
     {
         self.get(group)?.first_at(site, located)
     }
@@ -186,7 +189,7 @@ impl Groups {
         chosen: Option<Ui>,
     ) -> Result<Choice, AllocError>
         ensures value { IfOk result (λ given. given ≡ made_of (listed chosen)) }
-        ensures after { OnOk result (self.new ≡ with_change group (turned_by (listed chosen)) self.old) }
+        ensures after { OnOk result (self.new ≡ after_one group chosen self.old) }
         ensures err { OnErr result (self.new ≡ self.old) }
     {
         let Some(port) = chosen else {

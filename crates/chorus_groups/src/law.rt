@@ -2,7 +2,7 @@
 
 ghost use Rattle.std.specs.Prelude.{◌≡◌, List, length, IsTrue};
 ghost use Rattle.chorus_ui.specs.declared.ui.Ui.{Ui};
-ghost use Rattle.chorus_groups.specs.Ports.{are_distinct, IsPosition, in_turn};
+ghost use Rattle.chorus_entry.specs.Members.{are_distinct, IsPosition, round_from};
 ghost use Rattle.chorus_groups.specs.Groups.{Table, members, rotation};
 ghost use Rattle.chorus_groups.specs.Law.{chosen_of, times, around};
 
@@ -17,5 +17,5 @@ pub fn chosen_in_turn()
     ensures round { (group : Ui) (choices : List Ui) (table : Table) →
         IsTrue (are_distinct (members group table)) → IsPosition (rotation group table) (length (members group table)) →
         times group choices ≡ length (members group table) →
-        chosen_of group choices table ≡ in_turn (rotation group table) (members group table) }
+        chosen_of group choices table ≡ round_from (rotation group table) (members group table) }
 {}

@@ -15,8 +15,6 @@ mod group;
 mod groups;
 mod law;
 mod ports;
-#[cfg(test)]
-mod tests;
 
 pub use choice::Choice;
 pub use fault::{JoinFault, LeaveFault};

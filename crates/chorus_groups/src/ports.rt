@@ -1,12 +1,12 @@
 //! Lists of ports.
 
-ghost use Rattle.std.specs.Prelude.{◌≡◌, ◌-◌, ◌≤◌, nat_lt, cond, length};
-ghost use Rattle.chorus_groups.specs.Ports.{index_of, is_member, wrapped};
+ghost use Rattle.std.specs.Prelude.{◌≡◌, ◌-◌, ◌≤◌, nat_lt, if◌then◌else◌, length};
+ghost use Rattle.chorus_entry.specs.Members.{index_of, is_member, wrapped};
 ghost use Rattle.chorus_groups.specs.Choosing.{first_at};
 
 use chorus_ui::Ui;
 
-/// The place of the port in the list, counted from 0: the length where it is not in it.
+/// The position of the port in the list, counted from 0: the length where it is not in it.
 pub(crate) fn index_of(ports: &[Ui], port: Ui) -> usize
     ensures value { result ≡ index_of port ports.now }
     ensures within { result ≤ length ports.now }
@@ -35,7 +35,7 @@ pub(crate) fn wrapped(len: usize, at: usize) -> usize
 
 /// The position when the item at `gone` has left the list: one back where it was before it.
 pub(crate) fn moved_back(position: usize, gone: usize) -> usize
-    ensures { result ≡ cond (nat_lt gone position) (position - 1) position }
+    ensures { result ≡ if nat_lt gone position then position - 1 else position }
 {
     if gone < position {
         position - 1

@@ -2,7 +2,7 @@
 use Rattle.std.specs.Prelude.{ℕ, ◌+◌, ◌-◌, ◌*◌, nat_lt, Bool, ◌&&◌, if◌then◌else◌, Option, Some, None, List, slice_index_or}
 use Rattle.chorus_ui.specs.declared.kind.Kind.TheVariants.{Port}
 use Rattle.chorus_ui.specs.declared.layout.Layout.{Layout}
-use Rattle.chorus_ui.specs.declared.layout.TheConstants.{PORTS_PER_SITE}
+use Rattle.chorus_ui.specs.declared.limits.TheConstants.{PORTS_PER_SITE_LIMIT}
 use Rattle.chorus_ui.specs.declared.ui.Ui.{Ui}
 use Rattle.chorus_ui.specs.Kind.{same_kind}
 use Rattle.chorus_ui.specs.Layout.{can_make_port, creation_place}
@@ -19,7 +19,7 @@ is_listed layout q = same_kind q.kind Port && can_make_port layout q
 
 -- where its pair stands, counted from 0
 abbrev pub row_of : Ui → ℕ
-row_of q = (q.site - 1) * PORTS_PER_SITE + (q.number - 1)
+row_of q = (q.site - 1) * PORTS_PER_SITE_LIMIT + (q.number - 1)
 
 -- the pair that is kept of a port
 abbrev pub kept : Known → Ui → Option (ℕ × ℕ)
@@ -33,11 +33,15 @@ newest_of layout q (Some pair) = pair
 abbrev pub newest : Known → Ui → ℕ × ℕ
 newest known q = newest_of known.layout q (kept known q)
 
+-- the pair that is kept of each port
+abbrev pub Pairs : Type 0
+Pairs = Ui → Option (ℕ × ℕ)
+
 -- the hop of the kept pair, and 0 where nothing is kept
 abbrev pub hop_of : Option (ℕ × ℕ) → ℕ
 hop_of None = 0
 hop_of (Some pair) = pair.1
 
 -- a greater hop is kept, with its place, in place of the pair that was, and the pairs of the other ports stay
-abbrev pub learned : Ui → ℕ → ℕ → (Ui → Option (ℕ × ℕ)) → Ui → Option (ℕ × ℕ)
+abbrev pub learned : Ui → ℕ → ℕ → Pairs → Pairs
 learned port place hop pairs q = if nat_lt (hop_of (pairs port)) hop && same_ui port q then Some (place, hop) else pairs q

@@ -6,7 +6,7 @@ ghost use Rattle.chorus_ui.specs.declared.kind.Kind.TheVariants.{Port};
 ghost use Rattle.chorus_ui.specs.Layout.{has_site, can_make_port};
 ghost use Rattle.chorus_hints.specs.Known.{row_of, kept, newest, hop_of, learned};
 
-use chorus_ui::{Kind, Layout, PORTS_PER_SITE, Ui};
+use chorus_ui::{Kind, Layout, PORTS_PER_SITE_LIMIT, Ui};
 use std::alloc::{AllocError, Global};
 use std::marker::Model;
 
@@ -20,14 +20,15 @@ pub struct Hints {
 
 impl Model for Hints {
     ghost use Rattle.std.specs.Prelude.{◌≡◌, ◌*◌, length};
-    ghost use Rattle.chorus_ui.specs.declared.layout.TheConstants.{PORTS_PER_SITE};
+    ghost use Rattle.chorus_ui.specs.declared.limits.TheConstants.{PORTS_PER_SITE_LIMIT};
     ghost use Rattle.chorus_hints.specs.Known.{Known};
 
     ghost Value = { Known };
 
     ghost view = { λ hints. record { layout = hints.layout; pairs = hints.pairs.items } };
 
-    ghost invariant = { λ hints. length hints.pairs.items ≡ hints.layout.sites * PORTS_PER_SITE };
+    ghost invariant = { λ hints.
+        length hints.pairs.items ≡ hints.layout.sites * PORTS_PER_SITE_LIMIT };
 }
 
 /// Where the pair of a port stands, counted from 0.
@@ -35,7 +36,7 @@ fn row_of(port: Ui) -> usize
     ensures { result ≡ row_of port }
 {
     let site = usize::from(port.site() - 1);
-    site * PORTS_PER_SITE as usize + (port.number() - 1) as usize
+    site * PORTS_PER_SITE_LIMIT as usize + (port.number() - 1) as usize
 }
 
 impl Hints {
@@ -44,7 +45,7 @@ impl Hints {
         ensures layout { IfOk result (λ hints. hints.layout ≡ layout) }
         ensures nothing { IfOk result (λ hints. (q : Ui) → kept hints q ≡ None) }
     {
-        let ports = usize::from(layout.sites()) * PORTS_PER_SITE as usize;
+        let ports = usize::from(layout.sites()) * PORTS_PER_SITE_LIMIT as usize;
         let pairs = vec![in alloc; None; ports]?;
         Ok(Hints { layout, pairs })
     }

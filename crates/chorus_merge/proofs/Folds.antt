@@ -4,7 +4,7 @@ use Rattle.std.specs.Prelude.{option_to_list, slice_get}
 use Rattle.std.specs.Global.{Vec}
 use Rattle.std.proofs.lemmas.List.{map-append, take-append-drop}
 use Rattle.chorus_entry.specs.declared.entry.Entry.{Entry}
-use Rattle.chorus_merge.specs.Order.{comes_before}
+use Rattle.chorus_entry.specs.Order.{comes_before}
 use Rattle.chorus_merge.specs.Merge.{leads, least_head, without_least_head, taken, all_entries, merged}
 use Rattle.chorus_merge.specs.Steps.{put_in, merge_by, merge_two, journals_of}
 use Rattle.chorus_merge.proofs.Order.{comes_before-levelled}

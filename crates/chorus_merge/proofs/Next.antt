@@ -5,7 +5,8 @@ use Rattle.std.proofs.lemmas.Bool.{cases_Bool, cases_eq, cond_both, eqb-true, ne
 use Rattle.std.proofs.lemmas.List.{append-nil}
 use Rattle.std.proofs.lemmas.List.Elements.{All-nil, All-cons, All-head, All-tail, All-append, All-weaker, filter-append}
 use Rattle.chorus_entry.specs.declared.entry.Entry.{Entry}
-use Rattle.chorus_merge.specs.Order.{comes_before, IsInOrder, IsRising, is_at, put}
+use Rattle.chorus_merge.specs.Order.{put, ClocksRise}
+use Rattle.chorus_entry.specs.Order.{comes_before, IsInOrder, is_at}
 use Rattle.chorus_merge.specs.Merge.{all_entries, merged}
 use Rattle.chorus_merge.specs.Laws.{ShareNoPlace, PutsNextEntry}
 use Rattle.chorus_merge.proofs.Order.{comes_before-true, comes_before-false, comes_before-from}
@@ -115,33 +116,33 @@ module _ (xs : List Entry) (e : Entry) (back : List (List Entry)) where
 
   record Before (front : List (List Entry)) : Type 0 where
     share : ShareNoPlace (less front)
-    rising : All IsRising (less front)
+    rising : All ClocksRise (less front)
     past : All (Past e) (all_entries (less front))
     behind : All (λ (f : Entry). e.place ≢ f.place) (all_entries back)
 
   abbrev ApartFrom : List Entry → Entry → Type 0
   ApartFrom ys x = All (λ (f : Entry). x.place ≢ f.place) ys
 
-  rising_front : (ys : List Entry) → IsRising (ys ++ e ∷ []) → IsRising ys
+  rising_front : (ys : List Entry) → ClocksRise (ys ++ e ∷ []) → ClocksRise ys
   rising_front [] h = tt
   rising_front (y ∷ ys) h =
       ((All-append_parts (λ (f : Entry). y.clock < f.clock) ys (e ∷ []) h.0).0, rising_front ys h.1)
 
-  below_last : (ys : List Entry) → IsRising (ys ++ e ∷ []) → All (λ (f : Entry). f.clock < e.clock) ys
+  below_last : (ys : List Entry) → ClocksRise (ys ++ e ∷ []) → All (λ (f : Entry). f.clock < e.clock) ys
   below_last [] h = All-nil (λ (f : Entry). f.clock < e.clock)
   below_last (y ∷ ys) h =
       All-cons (λ (f : Entry). f.clock < e.clock) y ys
       (All-head (λ (f : Entry). y.clock < f.clock) e [] (All-append_parts (λ (f : Entry). y.clock < f.clock) ys (e ∷ []) h.0).1)
       (below_last ys h.1)
 
-  before : (front : List (List Entry)) → ShareNoPlace (more front) → All IsRising (more front) → Before front
+  before : (front : List (List Entry)) → ShareNoPlace (more front) → All ClocksRise (more front) → Before front
   before [] s r =
       let parts = All-append_parts (ApartFrom (all_entries back)) xs (e ∷ []) s.0 in
       let apart = All-head (ApartFrom (all_entries back)) e [] parts.1 in
-      let rising = All-head IsRising (xs ++ e ∷ []) back r in
+      let rising = All-head ClocksRise (xs ++ e ∷ []) back r in
       record {
         share = (parts.0, s.1);
-        rising = All-cons IsRising xs back (rising_front xs rising) (All-tail IsRising (xs ++ e ∷ []) back r);
+        rising = All-cons ClocksRise xs back (rising_front xs rising) (All-tail ClocksRise (xs ++ e ∷ []) back r);
         past =
             All-append (Past e) xs (all_entries back)
             (All-weaker (λ (f : Entry). f.clock < e.clock) (Past e) (λ f lt _. lt) xs (below_last xs rising))
@@ -149,14 +150,14 @@ module _ (xs : List Entry) (e : Entry) (back : List (List Entry)) where
         behind = apart;
       }
   before (js ∷ front) s r =
-      let ih = before front s.1 (All-tail IsRising js (more front) r) in
+      let ih = before front s.1 (All-tail ClocksRise js (more front) r) in
       record {
         share = (
           All-weaker (ApartFrom (all_entries (more front))) (ApartFrom (all_entries (less front)))
               (λ x h. (All-less (λ (f : Entry). x.place ≢ f.place) front h).0) js s.0,
           ih.share,
         );
-        rising = All-cons IsRising js (less front) (All-head IsRising js (more front) r) ih.rising;
+        rising = All-cons ClocksRise js (less front) (All-head ClocksRise js (more front) r) ih.rising;
         past =
             All-append (Past e) js (all_entries (less front))
             (All-weaker (ApartFrom (all_entries (more front))) (Past e)
@@ -177,7 +178,7 @@ module _ (xs : List Entry) (e : Entry) (back : List (List Entry)) where
       ∙ sym (filter-append (is_at place) known (all_entries back ++ e ∷ []))
       ∙ ap (filter (is_at place)) (sym (append_assoc known (all_entries back) (e ∷ [])) ∙ ap (λ ws. ws ++ e ∷ []) (sym (all-less front)))
 
-  next : (front : List (List Entry)) → ShareNoPlace (more front) → All IsRising (more front) → merged (more front) ≡ put e (merged (less front))
+  next : (front : List (List Entry)) → ShareNoPlace (more front) → All ClocksRise (more front) → merged (more front) ≡ put e (merged (less front))
   next front s r =
       let b = before front s r in
       let order = is_sorted (less front) b.share b.rising in

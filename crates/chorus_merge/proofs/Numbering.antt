@@ -4,7 +4,7 @@ use Rattle.std.specs.List.{All, filter}
 use Rattle.std.proofs.lemmas.Bool.{ne_eqb, eq-eqb}
 use Rattle.std.proofs.lemmas.List.Elements.{All-nil, All-map, All-weaker}
 use Rattle.chorus_entry.specs.declared.entry.Entry.{Entry}
-use Rattle.chorus_merge.specs.Order.{comes_before}
+use Rattle.chorus_entry.specs.Order.{comes_before}
 use Rattle.chorus_merge.specs.Steps.{merge_by}
 use Rattle.chorus_merge.specs.Laws.{Numbered, KeepsJournals}
 use Rattle.chorus_merge.proofs.Folds.{folded, merged_is}

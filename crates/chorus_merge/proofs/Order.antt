@@ -2,7 +2,7 @@
 use Rattle.std.proofs.Common.{◌≡◌, ◌<◌, ◌≤◌, Bool, true, false, ◌&&◌, eqb, ltb, inl, inr, arith}
 use Rattle.std.proofs.lemmas.Bool.{and_parts, and_cases, or_cases, or_parts, eqb-true, eqb-false, ltb-true, ltb-false, cases_Bool}
 use Rattle.chorus_entry.specs.declared.entry.Entry.{Entry}
-use Rattle.chorus_merge.specs.Order.{comes_before}
+use Rattle.chorus_entry.specs.Order.{comes_before}
 
 pub comes_before-true : (e f : Entry) → comes_before e f ≡ true → (e.clock ≤ f.clock) × (e.clock ≡ f.clock → e.place < f.place)
 comes_before-true e f h =

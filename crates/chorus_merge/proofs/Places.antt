@@ -5,7 +5,8 @@ use Rattle.std.proofs.lemmas.Bool.{cases_Bool, eqb-true, eq-eqb, ne_eqb}
 use Rattle.std.proofs.lemmas.List.{append-nil}
 use Rattle.std.proofs.lemmas.List.Elements.{All-nil, All-cons, All-head, All-tail, All-append, All-weaker, filter-append}
 use Rattle.chorus_entry.specs.declared.entry.Entry.{Entry}
-use Rattle.chorus_merge.specs.Order.{comes_before, AreApart, is_at}
+use Rattle.chorus_merge.specs.Order.{AreApart}
+use Rattle.chorus_entry.specs.Order.{comes_before, is_at}
 use Rattle.chorus_merge.specs.Merge.{all_entries}
 use Rattle.chorus_merge.specs.Laws.{ShareNoPlace, KeepsPlaces, AreOfPlaces, GivesJournalsBack}
 use Rattle.chorus_merge.proofs.Folds.{folded, merged_is}

@@ -4,7 +4,8 @@ use Rattle.std.specs.List.{All, filter}
 use Rattle.std.proofs.lemmas.Bool.{cases_eq, cond_both, eq-eqb, ne_eqb}
 use Rattle.std.proofs.lemmas.List.Elements.{All-nil, All-cons, All-head, All-tail, All-weaker, All-filter}
 use Rattle.chorus_entry.specs.declared.entry.Entry.{Entry}
-use Rattle.chorus_merge.specs.Order.{comes_before, IsInOrder, IsRising, AreApart, is_at}
+use Rattle.chorus_merge.specs.Order.{AreApart, ClocksRise}
+use Rattle.chorus_entry.specs.Order.{comes_before, IsInOrder, is_at}
 use Rattle.chorus_merge.specs.Merge.{all_entries, merged}
 use Rattle.chorus_merge.specs.Steps.{put_in, merge_by}
 use Rattle.chorus_merge.specs.Laws.{ShareNoPlace, IsSortedMerge, IsOnlyOne}
@@ -53,17 +54,17 @@ in_order-merge [] ys h o a = o
 in_order-merge (x ∷ xs) ys h o a = in_order-cons x xs h.0 (λ zs p q. in_order-merge xs zs h.1 p q) ys o a
 
 -- where clocks rise, a list is in order
-in_order-rising : (xs : List Entry) → IsRising xs → IsInOrder xs
+in_order-rising : (xs : List Entry) → ClocksRise xs → IsInOrder xs
 in_order-rising [] h = tt
 in_order-rising (x ∷ xs) h = (
   All-weaker (λ (f : Entry). x.clock < f.clock) (After x) (λ f lt. comes_before-from x f (omega arith) (λ same. absurd (omega arith))) xs h.0,
   in_order-rising xs h.1,
 )
 
-pub in_order-folded : (js : List (List Entry)) → ShareNoPlace js → All IsRising js → IsInOrder (folded js)
+pub in_order-folded : (js : List (List Entry)) → ShareNoPlace js → All ClocksRise js → IsInOrder (folded js)
 in_order-folded [] s r = tt
 in_order-folded (xs ∷ js) s r =
-    in_order-merge xs (folded js) (in_order-rising xs (All-head IsRising xs js r)) (in_order-folded js s.1 (All-tail IsRising xs js r))
+    in_order-merge xs (folded js) (in_order-rising xs (All-head ClocksRise xs js r)) (in_order-folded js s.1 (All-tail ClocksRise xs js r))
     (All-weaker (λ (e : Entry). All (λ (f : Entry). e.place ≢ f.place) (all_entries js)) (λ (e : Entry). All (λ (f : Entry). e.place ≢ f.place) (folded js))
     (λ e h. All-folded (λ f. e.place ≢ f.place) js h) xs s.0)
 

@@ -2,7 +2,8 @@
 use Rattle.std.specs.Prelude.{ℕ, suc, ◌≡◌, ◌==◌, List, [], ◌∷◌, ◌++◌, map}
 use Rattle.std.specs.List.{All, filter, slice_index_or}
 use Rattle.chorus_entry.specs.declared.entry.Entry.{Entry}
-use Rattle.chorus_merge.specs.Order.{IsInOrder, IsRising, AreApart, is_at, put}
+use Rattle.chorus_merge.specs.Order.{AreApart, put, ClocksRise}
+use Rattle.chorus_entry.specs.Order.{IsInOrder, is_at}
 use Rattle.chorus_merge.specs.Merge.{all_entries, merged}
 
 -- an entry with the number of the journal that it came from, counted from 0
@@ -45,12 +46,12 @@ GivesJournalsBack =
 
 -- where clocks rise along each journal and no two share a place, the merge is sorted by clock and place
 abbrev pub IsSortedMerge : Type 0
-IsSortedMerge = (journals : List (List Entry)) → ShareNoPlace journals → All IsRising journals → IsInOrder (merged journals)
+IsSortedMerge = (journals : List (List Entry)) → ShareNoPlace journals → All ClocksRise journals → IsInOrder (merged journals)
 
 -- and it is the one sorted list in which the entries of each place stand as in its journal
 abbrev pub IsOnlyOne : Type 0
 IsOnlyOne =
-    (journals : List (List Entry)) (entries : List Entry) → ShareNoPlace journals → All IsRising journals → IsInOrder entries →
+    (journals : List (List Entry)) (entries : List Entry) → ShareNoPlace journals → All ClocksRise journals → IsInOrder entries →
     ((place : ℕ) → filter (is_at place) entries ≡ filter (is_at place) (all_entries journals)) →
     entries ≡ merged journals
 
@@ -59,4 +60,4 @@ abbrev pub PutsNextEntry : Type 0
 PutsNextEntry =
     (front : List (List Entry)) (journal : List Entry) (e : Entry) (back : List (List Entry)) →
     let more = front ++ ((journal ++ e ∷ []) ∷ back) in
-    ShareNoPlace more → All IsRising more → merged more ≡ put e (merged (front ++ (journal ∷ back)))
+    ShareNoPlace more → All ClocksRise more → merged more ≡ put e (merged (front ++ (journal ∷ back)))

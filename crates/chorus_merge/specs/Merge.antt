@@ -1,7 +1,7 @@
 -- The merge: again and again the least head, of several such the one of the earliest journal.
 use Rattle.std.specs.Prelude.{ℕ, zero, suc, Bool, true, not, if◌then◌else◌, Option, Some, None, option_to_list, List, [], ◌∷◌, ◌++◌, length}
 use Rattle.chorus_entry.specs.declared.entry.Entry.{Entry}
-use Rattle.chorus_merge.specs.Order.{comes_before}
+use Rattle.chorus_entry.specs.Order.{comes_before}
 
 -- e, the head of a journal, is taken before the least head of the journals behind: that one does not come before e
 abbrev pub leads : Entry → Option Entry → Bool

@@ -3,7 +3,7 @@ use Rattle.std.specs.Prelude.{Bool, if◌then◌else◌, List, [], ◌∷◌, ma
 use Rattle.std.specs.Borrow.{Bor}
 use Rattle.std.specs.Global.{Vec}
 use Rattle.chorus_entry.specs.declared.entry.Entry.{Entry}
-use Rattle.chorus_merge.specs.Order.{comes_before}
+use Rattle.chorus_entry.specs.Order.{comes_before}
 
 -- the journals as lists
 abbrev pub journals_of : List (Vec Entry) → List (List Entry)

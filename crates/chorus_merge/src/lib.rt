@@ -10,8 +10,6 @@
 
 mod laws;
 mod merging;
-#[cfg(test)]
-mod tests;
 
 pub use laws::{
     merge_is_the_sorted_list, merge_keeps_journals, merge_keeps_places, merge_puts_the_next_entry,

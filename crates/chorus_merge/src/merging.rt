@@ -1,7 +1,7 @@
 //! The merge, by halves of the list of journals.
 
 ghost use Rattle.std.specs.Prelude.{◌≡◌, IfOk};
-ghost use Rattle.chorus_merge.specs.Order.{comes_before};
+ghost use Rattle.chorus_entry.specs.Order.{comes_before};
 ghost use Rattle.chorus_merge.specs.Merge.{merged};
 ghost use Rattle.chorus_merge.specs.Steps.{journals_of, lent, merge_two};
 
@@ -57,7 +57,8 @@ fn merge_two<'a>(
     first: &[&'a Entry],
     second: &[&'a Entry],
 ) -> Result<Vec<&'a Entry>, AllocError>
-    ensures { IfOk result (λ entries. lent entries.items ≡ merge_two (lent first.now) (lent second.now)) }
+    ensures { IfOk result (λ entries.
+        lent entries.items ≡ merge_two (lent first.now) (lent second.now)) }
 {
     let mut entries = Vec::with_capacity(alloc, first.len() + second.len())?;
     let mut i = 0;

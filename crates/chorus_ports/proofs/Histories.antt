@@ -14,10 +14,11 @@ use Rattle.chorus_entry.specs.ClientTable.{number_of}
 use Rattle.chorus_ports.specs.declared.deciding.Accept.{Accept}
 use Rattle.chorus_ports.specs.declared.deciding.Accept.TheVariants.{Accepted, Already, ClientsFull, Full}
 use Rattle.chorus_ports.specs.declared.taking.Taken.TheVariants as T
-use Rattle.chorus_ports.specs.Deciding.{is_reached, is_repeated, is_one_too_many, is_full, answer_to, with_client, remembered, enqueued, answered}
+use Rattle.chorus_ports.specs.Deciding.{is_full, answer_to, enqueued, answered}
+use Rattle.chorus_entry.specs.Clients.{is_reached, is_repeated, is_one_too_many, raised, with_client, remembered}
 use Rattle.chorus_ports.specs.Taking.{first_at, passed}
 use Rattle.chorus_ports.specs.History.{Event, Offer, Take, Rehome, Migrate, History, accepted_by, taken_by, happens, run, history, has_request, is_request}
-use Rattle.chorus_ports.proofs.Clients.{number_of-with_client}
+use Rattle.chorus_entry.proofs.Clients.{number_of-with_client}
 
 -- what every event keeps: the last says that a request whose number is not reached was not accepted
 pub record Holds (h : History) : Type 0 where
@@ -35,6 +36,11 @@ count_by-last p ms m =
 above : (o : Option ℕ) (low high : ℕ) → is_reached low o ≡ false → low < high → is_reached high o ≡ false
 above None low high h lt = refl
 above (Some kept) low high h lt = grind (arith, nat_tests)
+
+-- a number that is not reached once k is remembered is above k
+below : (k number : ℕ) (o : Option ℕ) → nat_le number (raised k o) ≡ false → k < number
+below k number None h = grind (arith, nat_tests, h)
+below k number (Some kept) h = grind (arith, nat_tests, h)
 
 -- what the count of one client and number becomes with one more that was accepted, which may be its own
 record Counts (client number n : ℕ) (own : Bool) (after : List (ℕ × ℕ)) : Type 0 where
@@ -55,22 +61,21 @@ counts client number seat (Request k back) clients n new le on = by (seat == cli
     none_yet : (seat == client) ≡ true → (k == number) ≡ true → n ≡ 0
     none_yet s t = on (ap (λ j. is_reached j (number_of clients client)) (sym (eqb-true k number t)) ∙ same_client s)
 
-    kept : (s : Bool) → (seat == client) ≡ s → is_reached number (number_of (with_client clients seat k) client) ≡ false → is_reached number (cond s (Some k) (number_of clients client)) ≡ false
+    kept : (s : Bool) → (seat == client) ≡ s → is_reached number (number_of (with_client clients seat k) client) ≡ false → is_reached number (cond s (Some (raised k (number_of clients seat))) (number_of clients client)) ≡ false
     kept s es h =
-        sym (ap (is_reached number) (number_of-with_client clients seat k client ∙ ap (λ b. cond b (Some k) (number_of clients client)) es)) ∙ h
+        sym (ap (is_reached number) (number_of-with_client clients seat k client ∙ ap (λ b. cond b (Some (raised k (number_of clients seat))) (number_of clients client)) es)) ∙ h
 
     by : (s t : Bool) → (seat == client) ≡ s → (k == number) ≡ t → Counts client number n (s && t) (with_client clients seat k)
     by true true es et =
         record {
           once = let e = none_yet es et in omega (arith, e);
-          fresh = λ h. let r : nat_le number k ≡ false = kept true es h in absurd (grind (arith, nat_tests, r, eqb-true k number et));
+          fresh = λ h. let lt = below k number (number_of clients seat) (kept true es h) in absurd (omega (arith, lt, eqb-true k number et));
         }
     by true false es et =
         record {
           once = omega arith;
           fresh = λ h.
-              let r : nat_le number k ≡ false = kept true es h in
-              let lt : k < number = grind (arith, nat_tests, r) in
+              let lt = below k number (number_of clients seat) (kept true es h) in
               let e = on (above (number_of clients client) k number (same_client es) lt) in
               omega (arith, e);
         }

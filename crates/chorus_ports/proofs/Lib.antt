@@ -1,4 +1,3 @@
-pub mod Clients
 pub mod Histories
 pub mod Records
 pub mod Rows

@@ -1,19 +1,20 @@
 -- What an offer, a take and a change of holder leave of a port: its name, its capacity, its hop and the limits.
-use Rattle.std.proofs.Common.{◌≡◌, ℕ, ◌+◌, ◌-◌, ◌^◌, ◌<◌, ◌≤◌, Bool, true, false, ◌&&◌, not, nat_le, if◌then◌else◌, is_some, List, [], ◌∷◌, ◌++◌, length, refl, ap, arith, length-append}
+use Rattle.std.proofs.Common.{◌≡◌, ℕ, ◌+◌, ◌-◌, ◌^◌, ◌<◌, ◌≤◌, Bool, true, false, ◌&&◌, not, nat_le, if◌then◌else◌, cond, is_some, List, [], ◌∷◌, length, refl, ap, arith, length-append}
 use Rattle.std.proofs.lemmas.Bool.Decides.{nat_tests}
-use Rattle.std.proofs.lemmas.List.{length-map}
 use Rattle.chorus_ui.specs.declared.ui.Ui.{Ui}
 use Rattle.chorus_ui.specs.Name.{same_ui}
 use Rattle.chorus_entry.specs.declared.message.Message.{Message}
 use Rattle.chorus_entry.specs.declared.tag.Tag.{Tag}
 use Rattle.chorus_entry.specs.declared.tag.Tag.TheVariants.{Plain, Request, Reply}
 use Rattle.chorus_entry.specs.declared.record.PortRecord.{PortRecord}
-use Rattle.chorus_entry.specs.declared.record.clients.TheConstants.{CLIENTS_LIMIT}
-use Rattle.chorus_entry.specs.ClientTable.{number_of, with_number}
+use Rattle.chorus_ui.specs.declared.limits.TheConstants.{CLIENTS_LIMIT}
+use Rattle.chorus_entry.specs.ClientTable.{number_of}
+use Rattle.chorus_entry.proofs.Clients.{length-with_client}
 use Rattle.chorus_ports.specs.declared.deciding.Accept.{Accept}
 use Rattle.chorus_ports.specs.declared.deciding.Accept.TheVariants.{Accepted, Already, ClientsFull, Full}
 use Rattle.chorus_ports.specs.Limits.{IsWithinLimits}
-use Rattle.chorus_ports.specs.Deciding.{is_repeated, is_one_too_many, is_full, answer_to, with_client, remembered, enqueued, answered, after_offer}
+use Rattle.chorus_ports.specs.Deciding.{is_full, answer_to, enqueued, answered, after_offer}
+use Rattle.chorus_entry.specs.Clients.{is_repeated, is_one_too_many, with_client, remembered}
 use Rattle.chorus_ports.specs.Taking.{passed, after_take, rehomed}
 
 -- the two records are of one port of one hop, with one capacity
@@ -46,16 +47,17 @@ after_take-same_port actor port = by (same_ui port.actor actor)
     by false = same_port-self port
 
 -- a client more is remembered only where there is room
-length-with_client : (clients : List (ℕ × ℕ)) (client number : ℕ) → (not (is_some (number_of clients client)) && nat_le CLIENTS_LIMIT (length clients)) ≡ false → length clients ≤ CLIENTS_LIMIT → length (with_client clients client number) ≤ CLIENTS_LIMIT
-length-with_client clients client number room within = by (is_some (number_of clients client)) room
+room-with_client : (clients : List (ℕ × ℕ)) (client number : ℕ) → (not (is_some (number_of clients client)) && nat_le CLIENTS_LIMIT (length clients)) ≡ false → length clients ≤ CLIENTS_LIMIT → length (with_client clients client number) ≤ CLIENTS_LIMIT
+room-with_client clients client number room within =
+    rw (length-with_client clients client number) (by (is_some (number_of clients client)) room)
   where
-    by : (b : Bool) → (not b && nat_le CLIENTS_LIMIT (length clients)) ≡ false → length (if b then with_number clients client number else clients ++ (client, number) ∷ []) ≤ CLIENTS_LIMIT
-    by true room = rw length-map within
-    by false room = rw length-append (grind (arith, nat_tests))
+    by : (b : Bool) → (not b && nat_le CLIENTS_LIMIT (length clients)) ≡ false → length clients + cond b 0 1 ≤ CLIENTS_LIMIT
+    by true room = omega (arith, within)
+    by false room = grind (arith, nat_tests)
 
 length-remembered : (client : ℕ) (tag : Tag) (clients : List (ℕ × ℕ)) → is_one_too_many client tag clients ≡ false → length clients ≤ CLIENTS_LIMIT → length (remembered client tag clients) ≤ CLIENTS_LIMIT
 length-remembered client Plain clients room within = within
-length-remembered client (Request number back) clients room within = length-with_client clients client number room within
+length-remembered client (Request number back) clients room within = room-with_client clients client number room within
 length-remembered client (Reply of number) clients room within = within
 
 limits-enqueued : (m : Message) (port : PortRecord) → IsWithinLimits port → port.first + length port.pending < 2 ^ 64 - 1 → is_one_too_many m.id.seat m.tag port.clients ≡ false → is_full port ≡ false → IsWithinLimits (enqueued m port)

@@ -1,30 +1,10 @@
 -- Deciding on a message at a place that holds its port: the answer, and what the port keeps after it.
-use Rattle.std.specs.Prelude.{ℕ, ◌+◌, nat_le, ◌==◌, Bool, false, ◌&&◌, not, if◌then◌else◌, Option, Some, None, is_some, List, [], ◌∷◌, ◌++◌, length}
+use Rattle.std.specs.Prelude.{◌+◌, ◌==◌, Bool, if◌then◌else◌, [], ◌∷◌, ◌++◌, length}
 use Rattle.chorus_entry.specs.declared.message.Message.{Message}
-use Rattle.chorus_entry.specs.declared.tag.Tag.{Tag}
-use Rattle.chorus_entry.specs.declared.tag.Tag.TheVariants.{Plain, Request, Reply}
 use Rattle.chorus_entry.specs.declared.record.PortRecord.{PortRecord}
-use Rattle.chorus_entry.specs.declared.record.clients.TheConstants.{CLIENTS_LIMIT}
-use Rattle.chorus_entry.specs.ClientTable.{number_of, with_number}
+use Rattle.chorus_entry.specs.Clients.{is_repeated, is_one_too_many, remembered}
 use Rattle.chorus_ports.specs.declared.deciding.Accept.{Accept}
 use Rattle.chorus_ports.specs.declared.deciding.Accept.TheVariants.{Accepted, Already, ClientsFull, Full}
-
--- the number is not above the one that is kept
-abbrev pub is_reached : ℕ → Option ℕ → Bool
-is_reached number None = false
-is_reached number (Some kept) = nat_le number kept
-
--- it is a request, its client is remembered, and the kept number is not below its own
-abbrev pub is_repeated : ℕ → Tag → List (ℕ × ℕ) → Bool
-is_repeated client Plain clients = false
-is_repeated client (Request number back) clients = is_reached number (number_of clients client)
-is_repeated client (Reply of number) clients = false
-
--- it is a request, its client is not remembered, and 64 clients are
-abbrev pub is_one_too_many : ℕ → Tag → List (ℕ × ℕ) → Bool
-is_one_too_many client Plain clients = false
-is_one_too_many client (Request number back) clients = not (is_some (number_of clients client)) && nat_le CLIENTS_LIMIT (length clients)
-is_one_too_many client (Reply of number) clients = false
 
 -- as many messages wait as may
 abbrev pub is_full : PortRecord → Bool
@@ -38,17 +18,6 @@ answer_to m port =
     else if is_one_too_many m.id.seat m.tag port.clients then ClientsFull m
     else if is_full port then Full (length port.pending) m
     else Accepted (port.first + length port.pending)
-
--- a client with the number of its request: in place of the earlier one, or last where the client is new
-abbrev pub with_client : List (ℕ × ℕ) → ℕ → ℕ → List (ℕ × ℕ)
-with_client clients client number =
-    if is_some (number_of clients client) then with_number clients client number else clients ++ (client, number) ∷ []
-
--- of what was accepted, a request alone is remembered
-abbrev pub remembered : ℕ → Tag → List (ℕ × ℕ) → List (ℕ × ℕ)
-remembered client Plain clients = clients
-remembered client (Request number back) clients = with_client clients client number
-remembered client (Reply of number) clients = clients
 
 -- the port with the message behind those that wait
 abbrev pub enqueued : Message → PortRecord → PortRecord

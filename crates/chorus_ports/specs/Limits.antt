@@ -1,8 +1,7 @@
 -- The limits that each record of a table keeps.
 use Rattle.std.specs.Prelude.{◌≡◌, ℕ, ◌+◌, ◌-◌, ◌^◌, ◌<◌, ◌≤◌, true, List, [], ◌∷◌, length}
 use Rattle.chorus_entry.specs.declared.record.PortRecord.{PortRecord}
-use Rattle.chorus_entry.specs.declared.record.clients.TheConstants.{CLIENTS_LIMIT}
-use Rattle.chorus_entry.specs.declared.record.pending.TheConstants.{PENDING_LIMIT}
+use Rattle.chorus_ui.specs.declared.limits.TheConstants.{CLIENTS_LIMIT, PENDING_LIMIT}
 use Rattle.chorus_ports.specs.Table.{are_distinct}
 
 -- its capacity is 1 to 64, no more messages wait than that, at most 64 clients are remembered, and the position of its
@@ -14,7 +13,11 @@ pub record IsWithinLimits (port : PortRecord) : Type 0 where
   pub clients_in_limit : length port.clients ≤ CLIENTS_LIMIT
   pub positions_in_64_bits : port.first + length port.pending ≤ 2 ^ 64 - 1
 
--- each of them does
+-- a message more has a position of 64 bits
+abbrev pub HasPositionLeft : PortRecord → Type 0
+HasPositionLeft port = port.first + length port.pending < 2 ^ 64 - 1
+
+-- each record keeps its limits
 abbrev pub AreWithinLimits : List PortRecord → Type 0
 AreWithinLimits [] = Unit {0}
 AreWithinLimits (r ∷ rs) = IsWithinLimits r × AreWithinLimits rs

@@ -1,8 +1,9 @@
 //! Deciding on a message at a port that is held.
 
 ghost use Rattle.std.specs.Prelude.{◌≡◌, ◌+◌, ◌-◌, ◌^◌, ◌<◌, false, length};
-ghost use Rattle.chorus_ports.specs.Limits.{IsWithinLimits};
-ghost use Rattle.chorus_ports.specs.Deciding.{is_repeated, is_one_too_many, remembered, answer_to, after_offer};
+ghost use Rattle.chorus_ports.specs.Limits.{IsWithinLimits, HasPositionLeft};
+ghost use Rattle.chorus_ports.specs.Deciding.{answer_to, after_offer};
+ghost use Rattle.chorus_entry.specs.Clients.{is_repeated, is_one_too_many, remembered};
 
 use chorus_entry::{CLIENTS_LIMIT, ClientTable, Message, PortRecord, Tag};
 
@@ -51,10 +52,9 @@ fn remember(clients: &mut ClientTable, message: &Message)
 {
     if let Tag::Request { number, .. } = &message.tag {
         let client = message.id.seat;
-        if clients.number_of(client).is_some() {
-            clients.set(client, *number);
-        } else {
-            clients.push(client, *number);
+        match clients.number_of(client) {
+            Some(kept) => clients.set(client, (*number).max(kept)),
+            None => clients.push(client, *number),
         }
     }
 }
@@ -62,7 +62,7 @@ fn remember(clients: &mut ClientTable, message: &Message)
 /// Decides on the message, and enqueues it where it is accepted. Takes no memory.
 pub(crate) fn offer(port: &mut PortRecord, message: Message) -> Accept
     requires limits { IsWithinLimits port.old }
-    requires positions { port.old.first + length port.old.pending < 2 ^ 64 - 1 }
+    requires positions { HasPositionLeft port.old }
     ensures answer { result ≡ answer_to message port.old }
     ensures after { port.new ≡ after_offer message port.old }
 {

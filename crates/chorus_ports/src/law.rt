@@ -21,7 +21,8 @@ pub fn a_port_keeps_order_and_accepts_once()
     ensures counted { (ui actor : Ui) (capacity : ℕ) (events : List Event) →
         let h = history ui actor capacity events in h.port.first ≡ length h.taken }
     // What is accepted next has the position that counts what was accepted before it.
-    ensures positions { (ui actor : Ui) (capacity : ℕ) (events : List Event) (message : Message) (pos : ℕ) →
+    ensures positions { (ui actor : Ui) (capacity : ℕ) (events : List Event)
+        (message : Message) (pos : ℕ) →
         let h = history ui actor capacity events in answer_to message h.port ≡ Accepted pos → pos ≡ length h.accepted }
     // No request number of a client is accepted twice.
     ensures once { (ui actor : Ui) (capacity : ℕ) (events : List Event) (client number : ℕ) →

@@ -13,8 +13,6 @@ mod law;
 mod ports;
 mod row;
 mod taking;
-#[cfg(test)]
-mod tests;
 
 pub use deciding::Accept;
 pub use law::a_port_keeps_order_and_accepts_once;

@@ -1,11 +1,11 @@
 //! The table of the ports that a place holds.
 
-ghost use Rattle.std.specs.Prelude.{◌≡◌, ◌==◌, ◌+◌, ◌-◌, ◌^◌, ◌<◌, ◌≤◌, true, drop, length, slice_get, IsSome, IsNone, IfSome, IfOk, OnOk, OnErr, MatchOption};
+ghost use Rattle.std.specs.Prelude.{◌≡◌, ◌==◌, ◌+◌, ◌-◌, ◌^◌, ◌<◌, ◌≤◌, true, drop, length, slice_get, IsSome, IsNone, IfSome, IfOk, OnOk, OnErr};
 ghost use Rattle.std.specs.Option.{option_copied};
 ghost use Rattle.chorus_entry.specs.PortRecord.{new_record};
-ghost use Rattle.chorus_entry.specs.declared.record.pending.TheConstants.{PENDING_LIMIT};
-ghost use Rattle.chorus_ports.specs.Table.{empty_table, find, replace, without, are_distinct, added};
-ghost use Rattle.chorus_ports.specs.Limits.{IsWithinLimits, AreWithinLimits};
+ghost use Rattle.chorus_ui.specs.declared.limits.TheConstants.{PENDING_LIMIT};
+ghost use Rattle.chorus_ports.specs.Table.{empty_table, find, changed, without, are_distinct, added, GivesRoomBack};
+ghost use Rattle.chorus_ports.specs.Limits.{IsWithinLimits, AreWithinLimits, HasPositionLeft};
 ghost use Rattle.chorus_ports.specs.Deciding.{answer_to, after_offer};
 ghost use Rattle.chorus_ports.specs.Taking.{taken, after_take, rehomed};
 
@@ -34,9 +34,13 @@ impl Model for Ports {
 
     ghost Value = { Table };
 
-    ghost view = { λ ports. record { records = ports.records.items; spare = ports.most - length ports.records.items } };
+    ghost view = { λ ports. record {
+      records = ports.records.items;
+      spare = ports.most - length ports.records.items;
+    } };
 
-    ghost invariant = { λ ports. IsTable ports.records.items ports.most (vec_capacity ports.records) };
+    ghost invariant = { λ ports.
+        IsTable ports.records.items ports.most (vec_capacity ports.records) };
 }
 
 impl Ports {
@@ -104,9 +108,10 @@ impl Ports {
     /// last, a known one with the new number. A refusal changes nothing and hands the message back. Takes no memory.
     pub fn accept(&mut self, ui: Ui, message: Message) -> Accept
         requires held { IsSome (find ui self.old.records) }
-        requires positions { IfSome (find ui self.old.records) (λ port. port.first + length port.pending < 2 ^ 64 - 1) }
-        ensures answer { IfSome (find ui self.old.records) (λ port. result ≡ answer_to message port) }
-        ensures after { self.new ≡ record self.old { records = replace ui (after_offer message) self.old.records } }
+        requires positions { IfSome (find ui self.old.records) HasPositionLeft }
+        ensures answer { IfSome (find ui self.old.records) (λ port.
+            result ≡ answer_to message port) }
+        ensures after { self.new ≡ changed ui (after_offer message) self.old }
     {
         let row = row_of(&self.records, ui);
         offer(&mut self.records[row], message)
@@ -116,7 +121,7 @@ impl Ports {
     /// else `Empty` exactly where nothing waits. Both change nothing. Takes no memory.
     pub fn take(&mut self, ui: Ui, actor: Ui) -> Taken
         ensures value { result ≡ taken actor (find ui self.old.records) }
-        ensures after { self.new ≡ record self.old { records = replace ui (after_take actor) self.old.records } }
+        ensures after { self.new ≡ changed ui (after_take actor) self.old }
     {
         let row = row_of(&self.records, ui);
         if row == self.records.len() {
@@ -128,7 +133,7 @@ impl Ports {
     /// Gives the port, which is held, to another actor, and changes nothing else. Takes no memory.
     pub fn rehome(&mut self, ui: Ui, actor: Ui)
         requires { IsSome (find ui self.old.records) }
-        ensures { self.new ≡ record self.old { records = replace ui (rehomed actor) self.old.records } }
+        ensures { self.new ≡ changed ui (rehomed actor) self.old }
     {
         let row = row_of(&self.records, ui);
         let port = &mut self.records[row];
@@ -143,7 +148,7 @@ impl Ports {
         ensures records { self.new.records ≡ without ui self.old.records }
         // Each port has one record, so this one is gone.
         ensures distinct { are_distinct self.old.records ≡ true }
-        ensures spare { MatchOption result (self.new.spare ≡ self.old.spare) (λ _. self.new.spare ≡ self.old.spare + 1) }
+        ensures spare { GivesRoomBack result self.old self.new }
     {
         let row = row_of(&self.records, ui);
         if row == self.records.len() {
@@ -169,7 +174,7 @@ impl Ports {
         ensures rest { self.new.records ≡ drop 1 self.old.records }
         // Each port has one record, so this one is gone.
         ensures distinct { are_distinct self.old.records ≡ true }
-        ensures spare { MatchOption result (self.new.spare ≡ self.old.spare) (λ _. self.new.spare ≡ self.old.spare + 1) }
+        ensures spare { GivesRoomBack result self.old self.new }
     {
         if self.records.is_empty() {
             return None;

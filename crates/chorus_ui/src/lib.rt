@@ -15,8 +15,6 @@ mod decimal;
 mod kind;
 mod layout;
 mod limits;
-#[cfg(test)]
-mod tests;
 mod ui;
 
 pub use decimal::{is_decimal, parse_decimal, push_decimal};

@@ -20,7 +20,8 @@ impl Model for ClientTable {
 
     ghost view = { λ table. table.entries.items };
 
-    ghost invariant = { λ table. IsTrue (are_distinct table.entries.items) × (vec_capacity table.entries ≡ CLIENTS_LIMIT) };
+    ghost invariant = { λ table.
+        IsTrue (are_distinct table.entries.items) × (vec_capacity table.entries ≡ CLIENTS_LIMIT) };
 }
 
 impl ClientTable {

@@ -1,5 +1,5 @@
 use Rattle.std.proofs.Common.{◌≡◌, ◌+◌, drop}
-use Rattle.chorus_groups.specs.Ports.{index_of}
+use Rattle.chorus_entry.specs.Members.{index_of}
 use Rattle.chorus_groups.proofs.ports.index_of.Given as goal
 
 abbrev pub invariant-loop-i : goal.invariant-loop-i

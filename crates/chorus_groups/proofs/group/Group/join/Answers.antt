@@ -1,6 +1,6 @@
 use Rattle.std.proofs.Common.{◌≡◌, ◌∙◌, sym, ap, subst, false, length, ◌<◌, arith}
-use Rattle.chorus_entry.specs.declared.members.TheConstants.{MEMBERS_LIMIT}
-use Rattle.chorus_groups.specs.Ports.{is_member}
+use Rattle.chorus_ui.specs.declared.limits.TheConstants.{MEMBERS_LIMIT}
+use Rattle.chorus_entry.specs.Members.{is_member}
 use Rattle.chorus_groups.specs.Groups.{Group, IsGroup}
 use Rattle.chorus_groups.proofs.GroupLemmas.{joined_is_group}
 use Rattle.chorus_groups.proofs.group.Group.join.Goals as goal

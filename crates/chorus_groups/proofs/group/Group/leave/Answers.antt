@@ -1,6 +1,6 @@
 use Rattle.std.proofs.Common.{◌≡◌, ◌∙◌, sym, ap, subst, length, ◌<◌, arith}
 use Rattle.std.proofs.lemmas.Grind.{common_steps}
-use Rattle.chorus_groups.specs.Ports.{index_of}
+use Rattle.chorus_entry.specs.Members.{index_of}
 use Rattle.chorus_groups.specs.Groups.{Group, IsGroup, left}
 use Rattle.chorus_groups.proofs.GroupLemmas.{left_is_group}
 use Rattle.chorus_groups.proofs.group.Group.leave.Goals as goal

@@ -1,5 +1,5 @@
 use Rattle.std.proofs.Common.{◌≡◌, ◌∙◌, sym, ap, refl, length, ◌<◌, slice_set, arith, None, [], ◌∷◌}
-use Rattle.chorus_groups.specs.Ports.{listed}
+use Rattle.chorus_entry.specs.Members.{listed}
 use Rattle.chorus_groups.specs.Groups.{Table, row_of, group_of, with_change}
 use Rattle.chorus_groups.specs.Choosing.{turned_by}
 use Rattle.chorus_groups.specs.contracts.groups.Groups.{the_view}

@@ -1,7 +1,9 @@
+//! A port that decides, is taken from and moves.
+
 ghost use Rattle.chorus_ports.specs.Limits.{IsWithinLimits};
 
-use crate::*;
 use chorus_entry::{Body, Message, MsgId, PENDING_LIMIT, PortRecord, Tag};
+use chorus_ports::{Accept, Ports, Taken};
 use chorus_ui::{Kind, Ui};
 use std::alloc::{AllocError, Global};
 use std::test::Fail;

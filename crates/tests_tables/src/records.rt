@@ -1,4 +1,9 @@
-use crate::*;
+//! Copies of entries, and the record of a port.
+
+use chorus_entry::{
+    Act, Answer, Body, CLIENTS_LIMIT, Dest, Entry, Ids, Members, Message, MsgId, PENDING_LIMIT,
+    PortRecord, Tag,
+};
 use chorus_ui::{Kind, Ui};
 use std::alloc::{AllocError, Global};
 use std::process::Abort;
@@ -58,6 +63,38 @@ fn copies_are_the_same(rt: HostRuntime) -> Result<(), Fail> {
     assert_copied(&rt, Act::Choose { id, group, members })?;
     assert_copied(&rt, Act::Delete { port, discarded })?;
     assert_copied(&rt, Act::NoCall)
+}
+
+#[test]
+fn acts_name_what_they_are_about(rt: HostRuntime) -> Result<(), Fail> {
+    let port = Ui::new(1, Kind::Port, 1).ok_or("a port")?;
+    let group = Ui::new(2, Kind::Group, 1).ok_or("a group")?;
+    let id = MsgId {
+        seat: 3,
+        number: 7,
+        copy: 0,
+    };
+    let stale = Act::Stale {
+        id,
+        port,
+        tried: 1,
+        to: 2,
+        hop: 4,
+    };
+    assert_eq!(rt; (stale.message(), stale.port()), (Some(id), Some(port)));
+    assert!(rt; stale.held_port().is_none() && !stale.is_verdict() && stale.has_kinds());
+    assert_eq!(rt; stale.answer(), Some(Answer::Stale { to: 2, hop: 4 }));
+    let accept = Act::Accept { id, port, pos: 5 };
+    assert!(rt; accept.held_port() == Some(port) && accept.is_verdict());
+    let joined = Act::Join {
+        group: port,
+        port: group,
+    };
+    assert!(rt; joined.message().is_none() && joined.answer().is_none() && !joined.has_kinds());
+    let dest = Dest::OneAt(group, 2);
+    assert_eq!(rt; (dest.group(), dest.site()), (Some(group), Some(2)));
+    assert!(rt; dest.port().is_none());
+    Ok(())
 }
 
 #[test]

@@ -1,4 +1,6 @@
-use crate::{Kind, Layout, Ui, is_decimal, parse_decimal, push_decimal};
+//! Names, decimals and the places of a layout.
+
+use chorus_ui::{Kind, Layout, Ui, is_decimal, parse_decimal, push_decimal};
 use std::test::Fail;
 
 fn named(text: &[u8]) -> Result<Ui, Fail> {

@@ -3,7 +3,7 @@ ghost use Rattle.std.specs.Prelude.{◌≡◌};
 ghost use Rattle.chorus_calls.specs.Clients.{answer_to, after_settle};
 ghost use Rattle.chorus_calls.specs.Callers.{with_client};
 
-use crate::{Caller, Client, Outstanding, Settle};
+use chorus_calls::{Caller, Client, Outstanding, Settle};
 use chorus_entry::{Body, Hand};
 use chorus_ui::{Kind, Ui};
 use std::process::Abort;

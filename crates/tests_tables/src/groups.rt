@@ -1,9 +1,7 @@
 //! Groups whose members come and go, and the members that posts choose.
-ghost use Rattle.std.specs.Prelude.{◌≡◌};
-ghost use Rattle.chorus_entry.specs.Dest.{group_in};
 
-use crate::{Choice, Groups, JoinFault, LeaveFault};
 use chorus_entry::{Dest, MEMBERS_LIMIT};
+use chorus_groups::{Choice, Groups, JoinFault, LeaveFault};
 use chorus_ui::{Kind, Ui};
 use std::alloc::{AllocError, Global};
 use std::process::Abort;
@@ -15,16 +13,6 @@ fn port(rt: &impl Abort, number: u64) -> Ui {
 
 fn group(rt: &impl Abort, number: u64) -> Ui {
     Ui::new(1, Kind::Group, number).expect(rt, "a group")
-}
-
-/// The group that is posted to, where it is posted to one.
-fn group_in(dest: Dest) -> Option<Ui>
-    ensures { result ≡ group_in dest }
-{
-    match dest {
-        Dest::Port(_) => None,
-        Dest::All(group) | Dest::One(group) | Dest::OneAt(group, _) => Some(group),
-    }
 }
 
 /// A group with these members, in order.
@@ -49,7 +37,7 @@ fn assert_chosen(
     located: &[u16],
     chosen: &[u64],
 ) -> Result<(), AllocError> {
-    let named = group_in(dest).expect(rt, "a group");
+    let named = dest.group().expect(rt, "a group");
     assert_eq!(rt;
         located.len(),
         groups.members(named).len(),

@@ -1,5 +1,7 @@
-use crate::merge;
+//! Merges of journals.
+
 use chorus_entry::{Act, Entry};
+use chorus_merge::merge;
 use std::alloc::{AllocError, Global};
 use std::test::Fail;
 
