@@ -5,13 +5,14 @@ use Rattle.std.proofs.lemmas.Bool.{and_parts, false≢true, eqb-true, eqb-false}
 use Rattle.std.proofs.lemmas.Option.{slice_get_past}
 use Rattle.chorus_ui.specs.declared.ui.Ui.{Ui}
 use Rattle.chorus_ui.specs.declared.layout.Layout.{Layout}
-use Rattle.chorus_ui.specs.Layout.{IsShape, has_site, has_actor, creation_place}
+use Rattle.chorus_ui.specs.Layout.{IsLayout, has_site, has_actor, creation_place}
 use Rattle.chorus_entry.specs.declared.entry.Entry.{Entry}
 use Rattle.chorus_entry.specs.declared.dest.Dest.{Dest}
 use Rattle.chorus_entry.specs.declared.command.Command.{Command}
 use Rattle.chorus_entry.specs.declared.record.PortRecord.{PortRecord}
-use Rattle.chorus_entry.specs.Command.{meets_conditions, has_kinds_in_command, is_capacity}
-use Rattle.chorus_entry.specs.Kinds.{names_actor}
+use Rattle.chorus_ui.specs.declared.limits.TheConstants.{PENDING_LIMIT}
+use Rattle.chorus_entry.specs.Command.{meets_conditions, is_capacity}
+use Rattle.chorus_entry.specs.Kinds.{names_actor, names_port}
 use Rattle.chorus_entry.specs.Places.{place_for}
 use Rattle.chorus_world.specs.Views.{by}
 use Rattle.chorus_world.specs.Places.{last_clock}
@@ -107,27 +108,26 @@ holds-entered l events s actor w =
 
 -- A command.
 
-calls : (l : Layout) (f : ℕ → Option Ui) (past : List Entry) (ports : List PortRecord) (v : Seated) (command : Command) → IsShape l → InCall l f past ports v [] → may_give l (Some v.actor) command ≡ true → IsDone l f past v command (call command (turn l past ports v))
-calls l f past ports v (Command.Make actor n) shape w h =
-    let outer = and_parts (is_capacity n && names_actor actor && (place_for l v.actor (Command.Make actor n) == 1)) true h in
-    let one = and_parts (is_capacity n && names_actor actor) (place_for l v.actor (Command.Make actor n) == 1) outer.0 in
-    let two = and_parts (is_capacity n) (names_actor actor) one.0 in
-    let three = and_parts (nat_le 1 n) (nat_le n 64) two.0 in
-    making l f past ports v actor n shape w two.1 one.1 three.0 three.1
-calls l f past ports v (Command.Send (Dest.Port q) body) shape w h =
+calls : (l : Layout) (f : ℕ → Option Ui) (past : List Entry) (ports : List PortRecord) (v : Seated) (command : Command) → IsLayout l → InCall l f past ports v [] → may_give l (Some v.actor) command ≡ true → IsDone l f past v command (call command (turn l past ports v))
+calls l f past ports v (Command.Make actor n) layout w h =
+    let outer = and_parts (names_actor actor && is_capacity n && (place_for l v.actor (Command.Make actor n) == 1)) true h in
+    let one = and_parts (names_actor actor && is_capacity n) (place_for l v.actor (Command.Make actor n) == 1) outer.0 in
+    let two = and_parts (names_actor actor) (is_capacity n) one.0 in
+    let three = and_parts (nat_le 1 n) (nat_le n PENDING_LIMIT) two.1 in
+    making l f past ports v actor n layout w two.0 one.1 three.0 three.1
+calls l f past ports v (Command.Send (Dest.Port q) body) layout w h =
     let c = Command.Send (Dest.Port q) body in
-    let outer = and_parts (meets_conditions c && has_kinds_in_command c && (place_for l v.actor c == 1)) (has_site l q.site && (creation_place l q == 1)) h in
-    let one = and_parts (meets_conditions c && has_kinds_in_command c) (place_for l v.actor c == 1) outer.0 in
-    let two = and_parts (meets_conditions c) (has_kinds_in_command c) one.0 in
+    let outer = and_parts (meets_conditions c && (place_for l v.actor c == 1)) (has_site l q.site && (creation_place l q == 1)) h in
+    let one = and_parts (meets_conditions c) (place_for l v.actor c == 1) outer.0 in
+    let two = and_parts (names_port q) true one.0 in
     let there = and_parts (has_site l q.site) (creation_place l q == 1) outer.1 in
-    sending l f past ports v q body shape w two.1 there.0 there.1 one.1
-calls l f past ports v (Command.Take q) shape w h =
+    sending l f past ports v q body layout w two.0 there.0 there.1 one.1
+calls l f past ports v (Command.Take q) layout w h =
     let c = Command.Take q in
-    let outer = and_parts (meets_conditions c && has_kinds_in_command c && (place_for l v.actor c == 1)) true h in
-    let one = and_parts (meets_conditions c && has_kinds_in_command c) (place_for l v.actor c == 1) outer.0 in
-    let two = and_parts (meets_conditions c) (has_kinds_in_command c) one.0 in
-    taking l f past ports v q shape w two.1 one.1
-calls l f past ports v c shape w h = absurd (false≢true (and_parts (meets_conditions c && has_kinds_in_command c && (place_for l v.actor c == 1)) (is_built l 1 c) h).1)
+    let outer = and_parts (meets_conditions c && (place_for l v.actor c == 1)) true h in
+    let one = and_parts (meets_conditions c) (place_for l v.actor c == 1) outer.0 in
+    taking l f past ports v q layout w one.0 one.1
+calls l f past ports v c layout w h = absurd (false≢true (and_parts (meets_conditions c && (place_for l v.actor c == 1)) (is_built l 1 c) h).1)
 
 pub place-is : (l : Layout) (p : PlaceState) → p.layout ≡ l → p.number ≡ 1 → (let q : PlaceState = record { layout = l; number = 1; journal = p.journal; ports = p.ports } in p ≡ q)
 place-is l p e n = λ i. record { layout = e i; number = n i; journal = p.journal; ports = p.ports }
@@ -216,8 +216,8 @@ module _ (l : Layout) (events : List Event) (s : SitesState) (k : ℕ) (v : Seat
         performed = performed-later;
       }
 
-holds-acted : (l : Layout) (events : List Event) (s : SitesState) (k : ℕ) (command : Command) → IsShape l → Holds l events s → may_give l (actor_of s k) command ≡ true → Holds l (Act k command ∷ events) (acted k command s)
-holds-acted l events s k command shape w h = go (slice_get s.callers k) refl h
+holds-acted : (l : Layout) (events : List Event) (s : SitesState) (k : ℕ) (command : Command) → IsLayout l → Holds l events s → may_give l (actor_of s k) command ≡ true → Holds l (Act k command ∷ events) (acted k command s)
+holds-acted l events s k command layout w h = go (slice_get s.callers k) refl h
   where
     go : (o : Option Seated) → slice_get s.callers k ≡ o → may_give l (option_map (λ (z : Seated). z.actor) o) command ≡ true → Holds l (Act k command ∷ events) (acted_by k o command s)
     go None e give = absurd (false≢true give)
@@ -232,14 +232,14 @@ holds-acted l events s k command shape w h = go (slice_get s.callers k) refl h
         } in
         let done : IsDone l (actor_of s) s.place.journal v command (call command (record { place = s.place; caller = v })) =
         subst (λ p. IsDone l (actor_of s) s.place.journal v command (call command (record { place = p; caller = v }))) (sym (place-is l s.place w.layout w.number))
-        (calls l (actor_of s) s.place.journal s.place.ports v command shape in_call give) in
+        (calls l (actor_of s) s.place.journal s.place.ports v command layout in_call give) in
         holds-put l events s k v command (call command (record { place = s.place; caller = v })) w e done
 
-pub holds : (l : Layout) (events : List Event) → IsShape l → are_ready l events ≡ true → Holds l events (after l events)
-holds l [] shape h = holds-first l
-holds l (Enter actor ∷ events) shape h =
+pub holds : (l : Layout) (events : List Event) → IsLayout l → are_ready l events ≡ true → Holds l events (after l events)
+holds l [] layout h = holds-first l
+holds l (Enter actor ∷ events) layout h =
     let rest = (and_parts (names_actor actor && has_actor l actor) (are_ready l events) h).1 in
-    holds-entered l events (after l events) actor (holds l events shape rest)
-holds l (Act k command ∷ events) shape h =
+    holds-entered l events (after l events) actor (holds l events layout rest)
+holds l (Act k command ∷ events) layout h =
     let parts = and_parts (may_give l (actor_of (after l events) k) command) (are_ready l events) h in
-    holds-acted l events (after l events) k command shape (holds l events shape parts.1) parts.0
+    holds-acted l events (after l events) k command layout (holds l events layout parts.1) parts.0

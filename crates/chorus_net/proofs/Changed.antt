@@ -8,8 +8,9 @@ use Rattle.chorus_entry.specs.declared.entry.Entry.{Entry}
 use Rattle.chorus_entry.specs.declared.id.MsgId.{MsgId}
 use Rattle.chorus_entry.specs.declared.record.PortRecord.{PortRecord}
 use Rattle.chorus_entry.specs.Act.{held_port_of}
-use Rattle.chorus_world.specs.Views.{on, is_on, are_same}
-use Rattle.chorus_world.specs.Ports.{Fate, fate, fate_after}
+use Rattle.chorus_world.specs.Views.{on, is_on}
+use Rattle.chorus_entry.specs.Same.{are_same}
+use Rattle.chorus_world.specs.Ports.{PortState, fate, fate_after}
 use Rattle.chorus_ports.specs.Table.{find, replace}
 use Rattle.chorus_ports.proofs.Tables.{KeepsName, find-replace}
 use Rattle.chorus_net.proofs.Shown.{fate-more}
@@ -31,7 +32,7 @@ table-same ports q h r keeps found same p = table-one ports q h r keeps found p 
     by false e = refl
 
 -- an entry on the line of one port changes the fate of that port
-pub fates-one : (e : Entry) (past : List Entry) (q : Ui) (f g : Fate) → held_port_of e.act ≡ Some q → fate (on q past) ≡ Some f → fate_after e.place e.act (Some f) ≡ Some g → (p : Ui) → fate (on p (e ∷ past)) ≡ cond (same_ui p q) (Some g) (fate (on p past))
+pub fates-one : (e : Entry) (past : List Entry) (q : Ui) (f g : PortState) → held_port_of e.act ≡ Some q → fate (on q past) ≡ Some f → fate_after e.place e.act (Some f) ≡ Some g → (p : Ui) → fate (on p (e ∷ past)) ≡ cond (same_ui p q) (Some g) (fate (on p past))
 fates-one e past q f g line made now p =
     fate-more (is_on (Some p) e) e (on p past)
     ∙ (ap (λ o. cond (are_same same_ui (Some p) o) (fate_after e.place e.act (fate (on p past))) (fate (on p past))) line ∙ by (same_ui p q) refl)

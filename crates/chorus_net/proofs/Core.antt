@@ -13,12 +13,13 @@ use Rattle.chorus_entry.specs.Dest.{port_in, site_in}
 use Rattle.chorus_entry.specs.MsgId.{same_id}
 use Rattle.chorus_entry.specs.Act.{message_of}
 use Rattle.chorus_entry.proofs.Same.{from_same_id, same_id-self}
-use Rattle.chorus_world.specs.Views.{at, by, about, is_about, is_by, are_same}
+use Rattle.chorus_world.specs.Views.{at, by, about, is_about, is_by}
+use Rattle.chorus_entry.specs.Same.{are_same}
 use Rattle.chorus_world.specs.Posts.{Posted, posted_by, posted_in, source, post_of, tag_from, site_from}
 use Rattle.chorus_world.specs.Places.{sent, sent_by, sent_to, find_sent, is_settling, is_settled, tried_after, is_tried, learned, farther, named_location, located, reply_taken, reply_taken_by, just_taken}
 use Rattle.chorus_world.specs.Seats.{posts, posts_after, posts_stay, stays_at}
 use Rattle.chorus_world.specs.Commands.{is_plain}
-use Rattle.chorus_world.proofs.SentLemmas.{find_sent_append}
+use Rattle.chorus_world.proofs.Messages.SentLemmas.{find_sent_append}
 
 -- an entry of place 1
 abbrev pub entry : ℕ → ℕ → Act → Entry

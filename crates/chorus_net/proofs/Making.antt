@@ -3,7 +3,7 @@ use Rattle.std.proofs.Common.{ℕ, ◌≡◌, ◌==◌, nat_le, ◌+◌, ◌*◌
 use Rattle.chorus_ui.specs.declared.ui.Ui.{Ui}
 use Rattle.chorus_ui.specs.declared.kind.Kind.TheVariants as kinds
 use Rattle.chorus_ui.specs.declared.layout.Layout.{Layout}
-use Rattle.chorus_ui.specs.Layout.{IsShape, has_actor, creation_place, place_at}
+use Rattle.chorus_ui.specs.Layout.{IsLayout, has_actor, creation_place, place_at}
 use Rattle.chorus_ui.proofs.Names.{same_ui-self}
 use Rattle.chorus_entry.specs.declared.entry.Entry.{Entry}
 use Rattle.chorus_entry.specs.declared.act.Act.{Act}
@@ -37,14 +37,14 @@ next-absent l past ports actor w = by (port-cases l past ports (next l past acto
     by (inr h) = absurd (let less = h.is_sound.named in omega (arith, less))
 
 -- and the one behind it is later
-next-rises : (l : Layout) (past : List Entry) (e : Entry) → IsShape l → ports_made (e ∷ past) ≡ ports_made past + 1 → next_number l 1 past < next_number l 1 (e ∷ past)
-next-rises l past e shape made =
-    let some = shape.turns_from_one in
+next-rises : (l : Layout) (past : List Entry) (e : Entry) → IsLayout l → ports_made (e ∷ past) ≡ ports_made past + 1 → next_number l 1 past < next_number l 1 (e ∷ past)
+next-rises l past e layout made =
+    let some = layout.turns_from_one in
     let times : ports_made (e ∷ past) * l.turns ≡ ports_made past * l.turns + 1 * l.turns = ap (λ n. n * l.turns) made ∙ add-mul (ports_made past) 1 l.turns in
     let one : 1 * l.turns ≡ l.turns = one-mul l.turns in
     omega (arith, some, times, one)
 
-module _ (l : Layout) (f : ℕ → Option Ui) (past : List Entry) (ports : List PortRecord) (v : Seated) (actor : Ui) (n : ℕ) (shape : IsShape l) (w : InCall l f past ports v []) (kind : names_actor actor ≡ true) (place : (place_for l v.actor (Command.Make actor n) == 1) ≡ true) where
+module _ (l : Layout) (f : ℕ → Option Ui) (past : List Entry) (ports : List PortRecord) (v : Seated) (actor : Ui) (n : ℕ) (layout : IsLayout l) (w : InCall l f past ports v []) (kind : names_actor actor ≡ true) (place : (place_for l v.actor (Command.Make actor n) == 1) ≡ true) where
   abbrev Goal : Act → Type 0
   Goal a = IsDone l f past v (Command.Make actor n) (say a (with_made a ports) (turn l past ports v))
 
@@ -64,7 +64,7 @@ module _ (l : Layout) (f : ℕ → Option Ui) (past : List Entry) (ports : List 
       record {
         layout = refl;
         number = refl;
-        in_call = says l f past ports ports v a [] [] shape w owes;
+        in_call = says l f past ports ports v a [] [] layout w owes;
         seat = refl;
         actor = refl;
         performed = performs-own l past v (Command.Make actor n) (next_clock past v) a refl (λ i. place-one l v (Command.Make actor n) place i && same_ui-self actor i);
@@ -92,7 +92,7 @@ module _ (l : Layout) (f : ℕ → Option Ui) (past : List Entry) (ports : List 
       record {
         layout = refl;
         number = refl;
-        in_call = says l f past ports ports v a [] [] shape w owes;
+        in_call = says l f past ports ports v a [] [] layout w owes;
         seat = refl;
         actor = refl;
         performed = performs-own l past v (Command.Make actor n) (next_clock past v) a refl (λ i. place-one l v (Command.Make actor n) place i && same_ui-self actor i);
@@ -116,7 +116,7 @@ module _ (l : Layout) (f : ℕ → Option Ui) (past : List Entry) (ports : List 
           path = refl;
           room = omega arith;
           order = omega arith;
-          named = next-rises l past e shape refl;
+          named = next-rises l past e layout refl;
           posted = tt;
         };
       } in
@@ -133,7 +133,7 @@ module _ (l : Layout) (f : ℕ → Option Ui) (past : List Entry) (ports : List 
       record {
         layout = refl;
         number = refl;
-        in_call = says l f past ports now v a [] [] shape w owes;
+        in_call = says l f past ports now v a [] [] layout w owes;
         seat = refl;
         actor = refl;
         performed = performs-own l past v (Command.Make actor n) (next_clock past v) a refl (λ i. place-one l v (Command.Make actor n) place i && (same_ui-self actor i && eq-eqb n n refl i));

@@ -5,7 +5,7 @@ use Rattle.std.proofs.lemmas.Bool.{and_from, or_left}
 use Rattle.chorus_ui.specs.declared.ui.Ui.{Ui}
 use Rattle.chorus_ui.specs.declared.kind.Kind.TheVariants as kinds
 use Rattle.chorus_ui.specs.declared.layout.Layout.{Layout}
-use Rattle.chorus_ui.specs.Layout.{IsShape, has_site, has_place, creation_place, places}
+use Rattle.chorus_ui.specs.Layout.{IsLayout, has_site, has_place, creation_place, places}
 use Rattle.chorus_entry.specs.declared.entry.Entry.{Entry}
 use Rattle.chorus_entry.specs.declared.id.MsgId.{MsgId}
 use Rattle.chorus_entry.specs.declared.act.Act.{Act}
@@ -14,10 +14,12 @@ use Rattle.chorus_entry.specs.Kinds.{has_kinds}
 use Rattle.chorus_entry.specs.MsgId.{same_id}
 use Rattle.chorus_entry.proofs.Same.{same_id-self}
 use Rattle.chorus_world.specs.declared.step.Due.TheVariants as dues
-use Rattle.chorus_world.specs.Views.{views, at, by, on, is_about, are_same}
-use Rattle.chorus_world.specs.Ports.{Fate, fate, is_held, is_held_at, last_of, is_made, has_room, is_full, waiting, is_first_waiting, is_empty}
+use Rattle.chorus_world.specs.Views.{views, at, by, on, is_about}
+use Rattle.chorus_entry.specs.Same.{are_same}
+use Rattle.chorus_world.specs.Ports.{PortState, fate, is_held, is_held_at, last_of, is_made, has_room, is_full, waiting, is_first_waiting, is_empty}
 use Rattle.chorus_world.specs.Posts.{is_on_site}
-use Rattle.chorus_world.specs.Clients.{is_old, is_one_too_many, is_already, finds_clients_full, kept, clients}
+use Rattle.chorus_entry.specs.Clients.{is_one_too_many, is_repeated}
+use Rattle.chorus_world.specs.Clients.{clients_kept, is_already, finds_clients_full}
 use Rattle.chorus_world.specs.Messages.{progress}
 use Rattle.chorus_world.specs.Places.{last_clock, is_first, located, named_location, just_taken}
 use Rattle.chorus_world.specs.Seats.{posts}
@@ -26,15 +28,15 @@ use Rattle.chorus_net.proofs.Core.{entry, Calm}
 use Rattle.chorus_net.proofs.Shown.{Sound}
 use Rattle.chorus_net.proofs.Waits.{IsWaiting, waits-first, new_post}
 
-has-place-1 : (l : Layout) → IsShape l → has_place l 1 ≡ true
+has-place-1 : (l : Layout) → IsLayout l → has_place l 1 ≡ true
 has-place-1 l h =
     let one : 0 < l.sites * l.turns = mul-pos {m = l.sites} {n = l.turns} h.sites_from_one h.turns_from_one in
     le-leb 1 (places l) one
 
 -- an entry is next if its act may be, and its clock is later
-pub may-next : (l : Layout) (past : List Entry) (c s : ℕ) (a : Act) → IsShape l → Calm l past → last_clock past < c → has_kinds a ≡ true → act_may l (views past 1 s a) 1 s a ≡ true → may l past (entry c s a) ≡ true
-may-next l past c s a shape w later kinds h =
-    let place = has-place-1 l shape in
+pub may-next : (l : Layout) (past : List Entry) (c s : ℕ) (a : Act) → IsLayout l → Calm l past → last_clock past < c → has_kinds a ≡ true → act_may l (views past 1 s a) 1 s a ≡ true → may l past (entry c s a) ≡ true
+may-next l past c s a layout w later kinds h =
+    let place = has-place-1 l layout in
     let clock : nat_lt (last_clock (at 1 past)) c ≡ true = ap (λ z. nat_lt (last_clock z) c) w.here ∙ lt-ltb (last_clock past) c later in
     let behind : may_stand_behind (just_taken past (at 1 past)) a ≡ true = ap (λ z. may_stand_behind z a) (ap (just_taken past) w.here ∙ w.rests) in
     λ i. (place i && clock i) && ((kinds i && behind i) && h i)
@@ -74,7 +76,7 @@ due-now l past s a x q w k about_is site place =
     ap (λ p. due_by_try 1 q p (due_at_home l v 1 x q)) idle
     ∙ (λ i. cond (go i && suit i) (dues.AtHome (where_is i).hop) dues.NotDue)
 
-pub held-here : (l : Layout) (past : List Entry) (q : Ui) (f : Fate) → Sound l past q f → is_held_at 1 (Some f) ≡ true
+pub held-here : (l : Layout) (past : List Entry) (q : Ui) (f : PortState) → Sound l past q f → is_held_at 1 (Some f) ≡ true
 held-here l past q f h = λ i. is_held (h.held i) && (last_of 0 (h.path i) == 1)
 
 enters : (l : Layout) (past : List Entry) (s : ℕ) (a : Act) (x : MsgId) (q : Ui) → Calm l past → IsWaiting past x q → message_of a ≡ Some x → has_site l q.site ≡ true → (creation_place l q == 1) ≡ true → is_held_at 1 (fate (views past 1 s a).port) ≡ true → may_enter l (views past 1 s a) 1 x q ≡ true
@@ -82,17 +84,17 @@ enters l past s a x q w k about_is site place held =
     let v = views past 1 s a in
     let met : is_due (due l v 1 x q) ≡ true = ap is_due (due-now l past s a x q w k about_is site place) in
     let suit : suits l v 1 x ≡ true = ap (λ o. is_on_site l o 1) ((w.posts x).nowhere) in
-    let new : is_already x past v.port ≡ false = ap (λ t. is_old t (kept x.seat past v.port)) ((w.posts x).plain) in
-    let few : finds_clients_full x past v.port ≡ false = ap (λ t. is_one_too_many t (kept x.seat past v.port) (clients past v.port)) ((w.posts x).plain) in
+    let new : is_already x past v.port ≡ false = ap (λ t. is_repeated x.seat t (clients_kept past v.port)) ((w.posts x).plain) in
+    let few : finds_clients_full x past v.port ≡ false = ap (λ t. is_one_too_many x.seat t (clients_kept past v.port)) ((w.posts x).plain) in
     λ i. (met i && held i) && suit i && not (new i) && not (few i)
 
-pub may-accept : (l : Layout) (past : List Entry) (s : ℕ) (x : MsgId) (q : Ui) (n : ℕ) (f : Fate) → Calm l past → IsWaiting past x q → has_site l q.site ≡ true → (creation_place l q == 1) ≡ true → fate (on q past) ≡ Some f → Sound l past q f → waiting f < f.capacity → n ≡ length f.accepted → act_may l (views past 1 s (Act.Accept x q n)) 1 s (Act.Accept x q n) ≡ true
+pub may-accept : (l : Layout) (past : List Entry) (s : ℕ) (x : MsgId) (q : Ui) (n : ℕ) (f : PortState) → Calm l past → IsWaiting past x q → has_site l q.site ≡ true → (creation_place l q == 1) ≡ true → fate (on q past) ≡ Some f → Sound l past q f → waiting f < f.capacity → n ≡ length f.accepted → act_may l (views past 1 s (Act.Accept x q n)) 1 s (Act.Accept x q n) ≡ true
 may-accept l past s x q n f w k site place made sound lt e =
     let enter = enters l past s (Act.Accept x q n) x q w k refl site place (ap (is_held_at 1) made ∙ held-here l past q f sound) in
     let room : has_room n (Some f) ≡ true = and_from (nat_lt (waiting f) f.capacity) (n == length f.accepted) (lt-ltb (waiting f) f.capacity lt) (eq-eqb n (length f.accepted) e) in
     and_from (may_enter l (views past 1 s (Act.Accept x q n)) 1 x q) (has_room n (fate (on q past))) enter (ap (has_room n) made ∙ room)
 
-pub may-full : (l : Layout) (past : List Entry) (s : ℕ) (x : MsgId) (q : Ui) (n : ℕ) (f : Fate) → Calm l past → IsWaiting past x q → has_site l q.site ≡ true → (creation_place l q == 1) ≡ true → fate (on q past) ≡ Some f → Sound l past q f → waiting f ≡ f.capacity → n ≡ waiting f → act_may l (views past 1 s (Act.Full x q n)) 1 s (Act.Full x q n) ≡ true
+pub may-full : (l : Layout) (past : List Entry) (s : ℕ) (x : MsgId) (q : Ui) (n : ℕ) (f : PortState) → Calm l past → IsWaiting past x q → has_site l q.site ≡ true → (creation_place l q == 1) ≡ true → fate (on q past) ≡ Some f → Sound l past q f → waiting f ≡ f.capacity → n ≡ waiting f → act_may l (views past 1 s (Act.Full x q n)) 1 s (Act.Full x q n) ≡ true
 may-full l past s x q n f w k site place made sound full e =
     let enter = enters l past s (Act.Full x q n) x q w k refl site place (ap (is_held_at 1) made ∙ held-here l past q f sound) in
     let room : is_full n (Some f) ≡ true = and_from (waiting f == f.capacity) (n == waiting f) (eq-eqb (waiting f) f.capacity full) (eq-eqb n (waiting f) e) in
@@ -106,14 +108,14 @@ may-no_port l past s x q w k site place unmade =
 
 -- Receiving.
 
-pub may-take : (l : Layout) (past : List Entry) (s : ℕ) (q : Ui) (n : ℕ) (x : MsgId) (f : Fate) → fate (on q past) ≡ Some f → Sound l past q f → n ≡ f.taken → slice_get f.accepted n ≡ Some x → act_may l (views past 1 s (Act.Take q n x)) 1 s (Act.Take q n x) ≡ true
+pub may-take : (l : Layout) (past : List Entry) (s : ℕ) (q : Ui) (n : ℕ) (x : MsgId) (f : PortState) → fate (on q past) ≡ Some f → Sound l past q f → n ≡ f.taken → slice_get f.accepted n ≡ Some x → act_may l (views past 1 s (Act.Take q n x)) 1 s (Act.Take q n x) ≡ true
 may-take l past s q n x f made sound e first =
     let held : is_held_at 1 (fate (on q past)) ≡ true = ap (is_held_at 1) made ∙ held-here l past q f sound in
     let same : are_same same_id (Some x) (slice_get f.accepted n) ≡ true = ap (are_same same_id (Some x)) first ∙ same_id-self x in
     let waits : is_first_waiting n x (Some f) ≡ true = and_from (n == f.taken) (are_same same_id (Some x) (slice_get f.accepted n)) (eq-eqb n f.taken e) same in
     and_from (is_held_at 1 (fate (on q past))) (is_first_waiting n x (fate (on q past))) held (ap (is_first_waiting n x) made ∙ waits)
 
-pub may-empty : (l : Layout) (past : List Entry) (s : ℕ) (q : Ui) (f : Fate) → fate (on q past) ≡ Some f → Sound l past q f → f.taken ≡ length f.accepted → act_may l (views past 1 s (Act.Empty q)) 1 s (Act.Empty q) ≡ true
+pub may-empty : (l : Layout) (past : List Entry) (s : ℕ) (q : Ui) (f : PortState) → fate (on q past) ≡ Some f → Sound l past q f → f.taken ≡ length f.accepted → act_may l (views past 1 s (Act.Empty q)) 1 s (Act.Empty q) ≡ true
 may-empty l past s q f made sound e =
     let held : is_held_at 1 (fate (on q past)) ≡ true = ap (is_held_at 1) made ∙ held-here l past q f sound in
     and_from (is_held_at 1 (fate (on q past))) (is_empty (fate (on q past))) held (ap is_empty made ∙ eq-eqb f.taken (length f.accepted) e)

@@ -3,7 +3,7 @@ use Rattle.std.proofs.Common.{ℕ, ◌≡◌, Bool, true, false, ◌&&◌, not, 
 use Rattle.std.proofs.lemmas.Bool.{and_parts}
 use Rattle.chorus_ui.specs.declared.ui.Ui.{Ui}
 use Rattle.chorus_ui.specs.declared.layout.Layout.{Layout}
-use Rattle.chorus_ui.specs.Layout.{IsShape, has_actor}
+use Rattle.chorus_ui.specs.Layout.{IsLayout, has_actor}
 use Rattle.chorus_entry.specs.declared.entry.Entry.{Entry}
 use Rattle.chorus_entry.specs.declared.tag.Tag.{Tag}
 use Rattle.chorus_entry.specs.declared.dest.Dest.{Dest}
@@ -52,12 +52,12 @@ acted-once l s k (Some v) c layout number w h =
     subst (λ (p : PlaceState). AreOnce (call c (record { place = p; caller = v })).place.ports) (sym (place-is l s.place layout number))
     (called-once l s.place.journal s.place.ports v c w h)
 
-pub once : (l : Layout) (events : List Event) → IsShape l → are_ready l events ≡ true → AreOnce (after l events).place.ports
-once l [] shape ready = refl
-once l (Enter actor ∷ events) shape ready =
-    once l events shape (and_parts (names_actor actor && has_actor l actor) (are_ready l events) ready).1
-once l (Acts k c ∷ events) shape ready =
+pub once : (l : Layout) (events : List Event) → IsLayout l → are_ready l events ≡ true → AreOnce (after l events).place.ports
+once l [] layout ready = refl
+once l (Enter actor ∷ events) layout ready =
+    once l events layout (and_parts (names_actor actor && has_actor l actor) (are_ready l events) ready).1
+once l (Acts k c ∷ events) layout ready =
     let s = after l events in
     let rest = (and_parts (may_give l (actor_of s k) c) (are_ready l events) ready).1 in
-    let w = holds l events shape rest in
-    acted-once l s k (slice_get s.callers k) c w.layout w.number w.world.table (once l events shape rest)
+    let w = holds l events layout rest in
+    acted-once l s k (slice_get s.callers k) c w.layout w.number w.world.table (once l events layout rest)

@@ -3,7 +3,7 @@ use Rattle.std.proofs.Common.{ℕ, ◌≡◌, ◌==◌, ◌+◌, ◌<◌, ◌≤
 use Rattle.std.proofs.lemmas.Bool.{and_from, eqb-true}
 use Rattle.chorus_ui.specs.declared.ui.Ui.{Ui}
 use Rattle.chorus_ui.specs.declared.layout.Layout.{Layout}
-use Rattle.chorus_ui.specs.Layout.{IsShape}
+use Rattle.chorus_ui.specs.Layout.{IsLayout}
 use Rattle.chorus_entry.specs.declared.entry.Entry.{Entry}
 use Rattle.chorus_entry.specs.declared.id.MsgId.{MsgId}
 use Rattle.chorus_entry.specs.declared.act.Act.{Act}
@@ -60,11 +60,11 @@ pub record Owes (l : Layout) (past : List Entry) (now : List PortRecord) (v : Se
   pub table : PortsStand l (next_entry past v a ∷ past) now
   pub waits : unsettled (next_entry past v a ∷ past) (sent (next_entry past v a ∷ past)) ≡ rest
 
-pub says : (l : Layout) (f : ℕ → Option Ui) (past : List Entry) (ports now : List PortRecord) (v : Seated) (a : Act) (old later : List Sent) → IsShape l → InCall l f past ports v old → Owes l past now v a later → InCall l f (next_entry past v a ∷ past) now (after_act past v a) later
-says l f past ports now v a old later shape w o =
+pub says : (l : Layout) (f : ℕ → Option Ui) (past : List Entry) (ports now : List PortRecord) (v : Seated) (a : Act) (old later : List Sent) → IsLayout l → InCall l f past ports v old → Owes l past now v a later → InCall l f (next_entry past v a ∷ past) now (after_act past v a) later
+says l f past ports now v a old later layout w o =
     let e = next_entry past v a in
     let s = v.seat in
-    let next = may-next l past (next_clock past v) s a shape w.world.calm (omega arith) o.kinds o.may in
+    let next = may-next l past (next_clock past v) s a layout w.world.calm (omega arith) o.kinds o.may in
     let mine : last_clock (by s past) < next_clock past v = (let le = w.clock in omega (arith, le)) in
     let above : nat_lt (last_clock (by s past)) (next_clock past v) ≡ true = lt-ltb (last_clock (by s past)) (next_clock past v) mine in
     let fits : fits_callers past 1 (f s) a ≡ true = ap (λ z. fits_callers past 1 z a) w.seated ∙ o.fits in

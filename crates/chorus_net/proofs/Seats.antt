@@ -5,7 +5,7 @@ use Rattle.std.proofs.lemmas.Option.{slice_get_within}
 use Rattle.std.specs.Option.{option_map}
 use Rattle.chorus_ui.specs.declared.layout.Layout.{Layout}
 use Rattle.chorus_entry.specs.declared.command.Command.{Command}
-use Rattle.chorus_entry.specs.Command.{meets_conditions, has_kinds_in_command}
+use Rattle.chorus_entry.specs.Command.{meets_conditions}
 use Rattle.chorus_entry.specs.Places.{place_for}
 use Rattle.chorus_calls.specs.Callers.{Seated}
 use Rattle.chorus_place.specs.declared.reply.Reply.{Reply}
@@ -26,19 +26,16 @@ given s l k c h = by (slice_get s.callers k) refl h
 pub may_call : (s : SitesState) (k : ℕ) (c : Command) (x : Seated) → s.place.number ≡ 1 → slice_get s.callers k ≡ Some x
     → may_give s.place.layout (actor_of s k) c ≡ true → MayCall s.place x c
 may_call s k c x first found h =
-    record { conditions = ab.0; kinds = ab.1; here = eqb-true _ _ abc.1 ∙ sym first; built = subst (λ p. is_built s.place.layout p c ≡ true) (sym first) abcd.1 }
+    record { conditions = ab.0; here = eqb-true _ _ ab.1 ∙ sym first; built = subst (λ p. is_built s.place.layout p c ≡ true) (sym first) abc.1 }
   where
     may : may_give s.place.layout (Some x.actor) c ≡ true
     may = sym (ap (λ o. may_give s.place.layout (option_map (λ (y : Seated). y.actor) o) c) found) ∙ h
 
-    abcd : ((meets_conditions c && has_kinds_in_command c && (place_for s.place.layout x.actor c == 1)) ≡ true) × (is_built s.place.layout 1 c ≡ true)
-    abcd = and_parts (meets_conditions c && has_kinds_in_command c && (place_for s.place.layout x.actor c == 1)) (is_built s.place.layout 1 c) may
+    abc : ((meets_conditions c && (place_for s.place.layout x.actor c == 1)) ≡ true) × (is_built s.place.layout 1 c ≡ true)
+    abc = and_parts (meets_conditions c && (place_for s.place.layout x.actor c == 1)) (is_built s.place.layout 1 c) may
 
-    abc : ((meets_conditions c && has_kinds_in_command c) ≡ true) × ((place_for s.place.layout x.actor c == 1) ≡ true)
-    abc = and_parts (meets_conditions c && has_kinds_in_command c) (place_for s.place.layout x.actor c == 1) abcd.0
-
-    ab : (meets_conditions c ≡ true) × (has_kinds_in_command c ≡ true)
-    ab = and_parts (meets_conditions c) (has_kinds_in_command c) abc.0
+    ab : (meets_conditions c ≡ true) × ((place_for s.place.layout x.actor c == 1) ≡ true)
+    ab = and_parts (meets_conditions c) (place_for s.place.layout x.actor c == 1) abc.0
 
 -- what the machine did at the place is what the command does on the sites
 pub acted-called : (s : SitesState) (k : ℕ) (c : Command) (x after : Seated) (place : PlaceState) → slice_get s.callers k ≡ Some x

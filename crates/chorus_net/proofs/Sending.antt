@@ -4,7 +4,7 @@ use Rattle.std.proofs.lemmas.Bool.{eqb-true, eqb-false}
 use Rattle.std.proofs.lemmas.List.{length-map, map-append, drop-append-le}
 use Rattle.chorus_ui.specs.declared.ui.Ui.{Ui}
 use Rattle.chorus_ui.specs.declared.layout.Layout.{Layout}
-use Rattle.chorus_ui.specs.Layout.{IsShape, has_site, creation_place}
+use Rattle.chorus_ui.specs.Layout.{IsLayout, has_site, creation_place}
 use Rattle.chorus_ui.specs.Name.{same_ui}
 use Rattle.chorus_ui.proofs.Names.{same_ui-self}
 use Rattle.chorus_entry.specs.declared.entry.Entry.{Entry}
@@ -20,7 +20,7 @@ use Rattle.chorus_entry.specs.Places.{place_for}
 use Rattle.chorus_entry.specs.Act.{is_command_entry}
 use Rattle.chorus_entry.proofs.Same.{same_id-self, same_body-self}
 use Rattle.chorus_world.specs.Views.{by, on}
-use Rattle.chorus_world.specs.Ports.{Fate, fate, waiting}
+use Rattle.chorus_world.specs.Ports.{PortState, fate, waiting}
 use Rattle.chorus_world.specs.Posts.{post_of}
 use Rattle.chorus_world.specs.Seats.{posts}
 use Rattle.chorus_ports.specs.declared.deciding.Accept.{Accept}
@@ -45,7 +45,7 @@ posted-append past [] x h k = (k, tt)
 posted-append past (y ∷ ys) x h k = (h.0, posted-append past ys x h.1 k)
 
 -- the record of a port that an actor holds
-abbrev shown : Ui → List Entry → Fate → Ui → PortRecord
+abbrev shown : Ui → List Entry → PortState → Ui → PortRecord
 shown q past g a =
     record {
       ui = q;
@@ -58,7 +58,7 @@ shown q past g a =
     }
 
 -- the record with the message behind those that wait
-abbrev behind : Ui → List Entry → Message → Fate → Ui → PortRecord
+abbrev behind : Ui → List Entry → Message → PortState → Ui → PortRecord
 behind q past m g a =
     record {
       ui = q;
@@ -71,7 +71,7 @@ behind q past m g a =
     }
 
 -- Behind the post: the verdict of the message that waits.
-module _ (l : Layout) (f : ℕ → Option Ui) (past : List Entry) (ports : List PortRecord) (v : Seated) (q : Ui) (m : Message) (shape : IsShape l) (w : InCall l f past ports v (new_sent m.id q ∷ [])) (waits : IsWaiting past m.id q) (posted : is_some (post_of m.id past) ≡ true) (kind : names_port q ≡ true) (site : has_site l q.site ≡ true) (place : (creation_place l q == 1) ≡ true) where
+module _ (l : Layout) (f : ℕ → Option Ui) (past : List Entry) (ports : List PortRecord) (v : Seated) (q : Ui) (m : Message) (layout : IsLayout l) (w : InCall l f past ports v (new_sent m.id q ∷ [])) (waits : IsWaiting past m.id q) (posted : is_some (post_of m.id past) ≡ true) (kind : names_port q ≡ true) (site : has_site l q.site ≡ true) (place : (creation_place l q == 1) ≡ true) where
   abbrev now : List PortRecord
   now = replace q (after_offer m) ports
 
@@ -97,12 +97,12 @@ module _ (l : Layout) (f : ℕ → Option Ui) (past : List Entry) (ports : List 
         table = still-stands l (next_entry past v a) past ports now w.world.table refl (λ p. ap (find p) (replace-absent q (after_offer m) ports absent));
         waits = none-left (next_clock past v) v.seat a past m.id q (same_id-self m.id) waits;
       } in
-      says l f past ports now v a (new_sent m.id q ∷ []) [] shape w owes
+      says l f past ports now v a (new_sent m.id q ∷ []) [] layout w owes
 
-  count : (g : Fate) (a : Ui) → length (shown q past g a).pending ≡ waiting g
+  count : (g : PortState) (a : Ui) → length (shown q past g a).pending ≡ waiting g
   count g a = length-map (drop g.taken g.accepted) (λ y. as_posted y (post_of y past)) ∙ length-drop g.taken g.accepted
 
-  full : (g : Fate) (s : Sound l past q g) → fate (on q past) ≡ Some g → length (shown q past g s.holder).pending ≡ g.capacity → ((p : Ui) → find p now ≡ find p ports) → After (Act.Full m.id q (length (shown q past g s.holder).pending))
+  full : (g : PortState) (s : Sound l past q g) → fate (on q past) ≡ Some g → length (shown q past g s.holder).pending ≡ g.capacity → ((p : Ui) → find p now ≡ find p ports) → After (Act.Full m.id q (length (shown q past g s.holder).pending))
   full g s made most same =
       let n = length (shown q past g s.holder).pending in
       let a = Act.Full m.id q n in
@@ -116,15 +116,15 @@ module _ (l : Layout) (f : ℕ → Option Ui) (past : List Entry) (ports : List 
         table = still-stands l (next_entry past v a) past ports now w.world.table refl same;
         waits = none-left (next_clock past v) v.seat a past m.id q (same_id-self m.id) waits;
       } in
-      says l f past ports now v a (new_sent m.id q ∷ []) [] shape w owes
+      says l f past ports now v a (new_sent m.id q ∷ []) [] layout w owes
 
-  accepted : (g : Fate) (s : Sound l past q g) → as_posted m.id (post_of m.id past) ≡ m → fate (on q past) ≡ Some g → length (shown q past g s.holder).pending ≢ g.capacity → ((p : Ui) → find p now ≡ cond (same_ui q p) (Some (behind q past m g s.holder)) (find p ports)) → After (Act.Accept m.id q (g.taken + length (shown q past g s.holder).pending))
+  accepted : (g : PortState) (s : Sound l past q g) → as_posted m.id (post_of m.id past) ≡ m → fate (on q past) ≡ Some g → length (shown q past g s.holder).pending ≢ g.capacity → ((p : Ui) → find p now ≡ cond (same_ui q p) (Some (behind q past m g s.holder)) (find p ports)) → After (Act.Accept m.id q (g.taken + length (shown q past g s.holder).pending))
   accepted g s same made room table =
       let x = m.id in
       let n = g.taken + length (shown q past g s.holder).pending in
       let a = Act.Accept x q n in
       let e = next_entry past v a in
-      let after : Fate = record g { accepted = g.accepted ++ x ∷ [] } in
+      let after : PortState = record g { accepted = g.accepted ++ x ∷ [] } in
       let word : MsgId → Message = λ y. as_posted y (post_of y past) in
       let word_now : MsgId → Message = λ y. as_posted y (post_of y (e ∷ past)) in
       let all = posted-append past g.accepted x s.posted posted in
@@ -166,10 +166,10 @@ module _ (l : Layout) (f : ℕ → Option Ui) (past : List Entry) (ports : List 
         table = changed-stands l e past ports now q after (behind q past m g s.holder) w.world.table changes;
         waits = none-left (next_clock past v) v.seat a past x q (same_id-self x) waits;
       } in
-      says l f past ports now v a (new_sent x q ∷ []) [] shape w owes
+      says l f past ports now v a (new_sent x q ∷ []) [] layout w owes
 
 -- The whole command.
-module _ (l : Layout) (f : ℕ → Option Ui) (past : List Entry) (ports : List PortRecord) (v : Seated) (q : Ui) (body : List ℕ) (shape : IsShape l) (w : InCall l f past ports v []) (kind : names_port q ≡ true) (site : has_site l q.site ≡ true) (there : (creation_place l q == 1) ≡ true) (place : (place_for l v.actor (Command.Send (Dest.Port q) body) == 1) ≡ true) where
+module _ (l : Layout) (f : ℕ → Option Ui) (past : List Entry) (ports : List PortRecord) (v : Seated) (q : Ui) (body : List ℕ) (layout : IsLayout l) (w : InCall l f past ports v []) (kind : names_port q ≡ true) (site : has_site l q.site ≡ true) (there : (creation_place l q == 1) ≡ true) (place : (place_for l v.actor (Command.Send (Dest.Port q) body) == 1) ≡ true) where
   abbrev message : Message
   message = record { id = new_id v.seat v.posts; tag = Tag.Plain; body = body }
 
@@ -206,7 +206,7 @@ module _ (l : Layout) (f : ℕ → Option Ui) (past : List Entry) (ports : List 
         table = still-stands l (next_entry past v post_act) past ports ports w.world.table refl (λ p. refl);
         waits = waits-now.alone;
       } in
-      says l f past ports ports v post_act [] (new_sent (new_id v.seat v.posts) q ∷ []) shape w owes
+      says l f past ports ports v post_act [] (new_sent (new_id v.seat v.posts) q ∷ []) layout w owes
 
   performed : Performed l past v (Command.Send (Dest.Port q) body) begun
   performed = performs-own l past v (Command.Send (Dest.Port q) body) (next_clock past v) post_act refl (λ i. place-one l v (Command.Send (Dest.Port q) body) place i && (same_ui-self q i && same_body-self body i))
@@ -231,13 +231,13 @@ module _ (l : Layout) (f : ℕ → Option Ui) (past : List Entry) (ports : List 
   abbrev answer : Bool → PortRecord → Accept
   answer b r = if b then accepts.Full (length r.pending) message else accepts.Accepted (r.first + length r.pending)
 
-  from-port : (g : Fate) (s : Sound l begun q g) (b : Bool) → (length (shown q begun g s.holder).pending == g.capacity) ≡ b → fate (on q begun) ≡ Some g → ((p : Ui) → find p (replace q (after_offer message) ports) ≡ cond (same_ui q p) (Some (answered (answer b (shown q begun g s.holder)) message (shown q begun g s.holder))) (find p ports)) → ((answered (answer b (shown q begun g s.holder)) message (shown q begun g s.holder) ≡ shown q begun g s.holder) → (p : Ui) → find p (replace q (after_offer message) ports) ≡ find p ports) → Goal (decision message.id q (answer b (shown q begun g s.holder)))
+  from-port : (g : PortState) (s : Sound l begun q g) (b : Bool) → (length (shown q begun g s.holder).pending == g.capacity) ≡ b → fate (on q begun) ≡ Some g → ((p : Ui) → find p (replace q (after_offer message) ports) ≡ cond (same_ui q p) (Some (answered (answer b (shown q begun g s.holder)) message (shown q begun g s.holder))) (find p ports)) → ((answered (answer b (shown q begun g s.holder)) message (shown q begun g s.holder) ≡ shown q begun g s.holder) → (p : Ui) → find p (replace q (after_offer message) ports) ≡ find p ports) → Goal (decision message.id q (answer b (shown q begun g s.holder)))
   from-port g s true h made table same =
       let n = length (shown q begun g s.holder).pending in
-      done (Act.Full message.id q n) refl (full l f begun ports caller q message shape in-call waits-now is-posted kind site there g s made (eqb-true n g.capacity h) (same refl))
+      done (Act.Full message.id q n) refl (full l f begun ports caller q message layout in-call waits-now is-posted kind site there g s made (eqb-true n g.capacity h) (same refl))
   from-port g s false h made table same =
       let n = length (shown q begun g s.holder).pending in
-      done (Act.Accept message.id q (g.taken + n)) refl (accepted l f begun ports caller q message shape in-call waits-now is-posted kind site there g s (ap (as_posted message.id) posted-now) made (eqb-false n g.capacity h) table)
+      done (Act.Accept message.id q (g.taken + n)) refl (accepted l f begun ports caller q message layout in-call waits-now is-posted kind site there g s (ap (as_posted message.id) posted-now) made (eqb-false n g.capacity h) table)
 
   pub sending : IsDone l f past v (Command.Send (Dest.Port q) body) (send q body (turn l past ports v))
   sending = go (port-cases l begun ports q in-call.world.table)
@@ -245,7 +245,7 @@ module _ (l : Layout) (f : ℕ → Option Ui) (past : List Entry) (ports : List 
       go : HasNoPort begun ports q ⊎ HasPort l begun ports q → Goal (decision_at message q (find q ports))
       go (inl h) =
           subst (λ o. Goal (decision_at message q o)) (sym h.absent)
-          (done (Act.NoPort message.id q) refl (no-port l f begun ports caller q message shape in-call waits-now is-posted kind site there h.unmade h.absent))
+          (done (Act.NoPort message.id q) refl (no-port l f begun ports caller q message layout in-call waits-now is-posted kind site there h.unmade h.absent))
       go (inr h) =
           let g = h.fate_of in
           let s = h.is_sound in

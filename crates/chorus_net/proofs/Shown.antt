@@ -12,7 +12,7 @@ use Rattle.chorus_entry.specs.declared.record.PortRecord.{PortRecord}
 use Rattle.chorus_world.specs.declared.port.Spot.{Spot}
 use Rattle.chorus_world.specs.declared.port.Spot.TheVariants as spots
 use Rattle.chorus_world.specs.Views.{on, is_on}
-use Rattle.chorus_world.specs.Ports.{Fate, fate, fate_after}
+use Rattle.chorus_world.specs.Ports.{PortState, fate, fate_after}
 use Rattle.chorus_world.specs.Posts.{post_of}
 use Rattle.chorus_world.specs.Places.{ports_made, ports_after}
 use Rattle.chorus_world.specs.Steps.{next_number}
@@ -27,7 +27,7 @@ ArePosted past [] = Unit {0}
 ArePosted past (x ∷ xs) = (is_some (post_of x past) ≡ true) × ArePosted past xs
 
 -- a port that was made is held at place 1, its name is an earlier one, and it has no more messages than it may
-pub record Sound (l : Layout) (past : List Entry) (q : Ui) (f : Fate) : Type 0 where
+pub record Sound (l : Layout) (past : List Entry) (q : Ui) (f : PortState) : Type 0 where
   pub holder : Ui
   pub held : f.spot ≡ spots.Held holder
   pub path : f.path ≡ 1 ∷ []
@@ -36,7 +36,7 @@ pub record Sound (l : Layout) (past : List Entry) (q : Ui) (f : Fate) : Type 0 w
   pub named : q.number < next_number l 1 past
   pub posted : ArePosted past f.accepted
 
-abbrev pub IfSound : Layout → List Entry → Ui → Option Fate → Type 0
+abbrev pub IfSound : Layout → List Entry → Ui → Option PortState → Type 0
 IfSound l past q None = Unit {0}
 IfSound l past q (Some f) = Sound l past q f
 
@@ -47,7 +47,7 @@ pub record PortsStand (l : Layout) (past : List Entry) (ports : List PortRecord)
 
 -- a port that the table has
 pub record HasPort (l : Layout) (past : List Entry) (ports : List PortRecord) (q : Ui) : Type 0 where
-  pub fate_of : Fate
+  pub fate_of : PortState
   pub made : fate (on q past) ≡ Some fate_of
   pub is_sound : Sound l past q fate_of
   pub found : find q ports ≡ record_in q past fate_of (spots.Held is_sound.holder)
@@ -60,7 +60,7 @@ pub record HasNoPort (past : List Entry) (ports : List PortRecord) (q : Ui) : Ty
 pub port-cases : (l : Layout) (past : List Entry) (ports : List PortRecord) (q : Ui) → PortsStand l past ports → HasNoPort past ports q ⊎ HasPort l past ports q
 port-cases l past ports q w = by (fate (on q past)) refl (w.shown q) (w.sound q)
   where
-    by : (o : Option Fate) → fate (on q past) ≡ o → find q ports ≡ record_of q past o → IfSound l past q o → HasNoPort past ports q ⊎ HasPort l past ports q
+    by : (o : Option PortState) → fate (on q past) ≡ o → find q ports ≡ record_of q past o → IfSound l past q o → HasNoPort past ports q ⊎ HasPort l past ports q
     by None e h s = inl (record { unmade = e; absent = h })
     by (Some f) e h s = inr (record { fate_of = f; made = e; is_sound = s; found = h ∙ ap (record_in q past f) s.held })
 
@@ -76,13 +76,13 @@ pending-stays e past (suc n) [] h = refl
 pending-stays e past zero (x ∷ xs) h = ap₂ (λ m ms. m ∷ ms) (ap (as_posted x) (post_of-stays x e past h.0)) (pending-stays e past zero xs h.1)
 pending-stays e past (suc n) (x ∷ xs) h = pending-stays e past n xs h.1
 
-record_in-stays : (q : Ui) (e : Entry) (past : List Entry) (f : Fate) (spot : Spot) → ArePosted past f.accepted → record_in q (e ∷ past) f spot ≡ record_in q past f spot
+record_in-stays : (q : Ui) (e : Entry) (past : List Entry) (f : PortState) (spot : Spot) → ArePosted past f.accepted → record_in q (e ∷ past) f spot ≡ record_in q past f spot
 record_in-stays q e past f (spots.Held a) h =
     ap (λ ms. Some (record { ui = q; actor = a; capacity = f.capacity; hop = length f.path - 1; first = f.taken; pending = ms; clients = [] })) (pending-stays e past f.taken f.accepted h)
 record_in-stays q e past f (spots.Moving a) h = refl
 record_in-stays q e past f spots.Ended h = refl
 
-record_of-stays : (l : Layout) (q : Ui) (e : Entry) (past : List Entry) (o : Option Fate) → IfSound l past q o → record_of q (e ∷ past) o ≡ record_of q past o
+record_of-stays : (l : Layout) (q : Ui) (e : Entry) (past : List Entry) (o : Option PortState) → IfSound l past q o → record_of q (e ∷ past) o ≡ record_of q past o
 record_of-stays l q e past None h = refl
 record_of-stays l q e past (Some f) h = record_in-stays q e past f f.spot h.posted
 
@@ -98,7 +98,7 @@ next-grows l e past =
     let grow = times-grow (ports_made past) (ports_made (e ∷ past)) l.turns (made-after e.act (ports_made past)) in
     omega (arith, grow)
 
-sound-more : (l : Layout) (q : Ui) (e : Entry) (past : List Entry) (o : Option Fate) → IfSound l past q o → IfSound l (e ∷ past) q o
+sound-more : (l : Layout) (q : Ui) (e : Entry) (past : List Entry) (o : Option PortState) → IfSound l past q o → IfSound l (e ∷ past) q o
 sound-more l q e past None h = tt
 sound-more l q e past (Some f) h =
     let grow = next-grows l e past in
@@ -124,7 +124,7 @@ is_still (Act.Accept x q n) = false
 is_still (Act.Take q n x) = false
 is_still a = is_core a
 
-still-fate : (p : ℕ) (a : Act) (o : Option Fate) → is_still a ≡ true → fate_after p a o ≡ o
+still-fate : (p : ℕ) (a : Act) (o : Option PortState) → is_still a ≡ true → fate_after p a o ≡ o
 still-fate p (Act.Make q b c) o h = absurd (false≢true h)
 still-fate p a None h = refl
 still-fate p (Act.Accept x q n) (Some f) h = absurd (false≢true h)
@@ -161,13 +161,13 @@ still-stands l e past ports now w h k =
     }
 
 -- an entry that changes the port q to the fate g
-pub record Changes (l : Layout) (e : Entry) (past : List Entry) (ports now : List PortRecord) (q : Ui) (g : Fate) (r : PortRecord) : Type 0 where
+pub record Changes (l : Layout) (e : Entry) (past : List Entry) (ports now : List PortRecord) (q : Ui) (g : PortState) (r : PortRecord) : Type 0 where
   pub table : (p : Ui) → find p now ≡ cond (same_ui q p) (Some r) (find p ports)
   pub fates : (p : Ui) → fate (on p (e ∷ past)) ≡ cond (same_ui p q) (Some g) (fate (on p past))
   pub shows : Some r ≡ record_of q (e ∷ past) (Some g)
   pub remains : Sound l (e ∷ past) q g
 
-changed-shown : (l : Layout) (e : Entry) (past : List Entry) (ports now : List PortRecord) (q : Ui) (g : Fate) (r : PortRecord) → PortsStand l past ports → Changes l e past ports now q g r → (p : Ui) (b : Bool) → same_ui p q ≡ b → find p now ≡ record_of p (e ∷ past) (fate (on p (e ∷ past)))
+changed-shown : (l : Layout) (e : Entry) (past : List Entry) (ports now : List PortRecord) (q : Ui) (g : PortState) (r : PortRecord) → PortsStand l past ports → Changes l e past ports now q g r → (p : Ui) (b : Bool) → same_ui p q ≡ b → find p now ≡ record_of p (e ∷ past) (fate (on p (e ∷ past)))
 changed-shown l e past ports now q g r w h p true s =
     let same : p ≡ q = from_same_ui p q s in
     subst (λ z. find z now ≡ record_of z (e ∷ past) (fate (on z (e ∷ past)))) (sym same)
@@ -177,7 +177,7 @@ changed-shown l e past ports now q g r w h p false s =
     same-stands l p e past ports now w (h.fates p ∙ ap (λ b. cond b (Some g) (fate (on p past))) s)
     (h.table p ∙ ap (λ b. cond b (Some r) (find p ports)) (differs_back p q s))
 
-changed-sound : (l : Layout) (e : Entry) (past : List Entry) (ports now : List PortRecord) (q : Ui) (g : Fate) (r : PortRecord) → PortsStand l past ports → Changes l e past ports now q g r → (p : Ui) (b : Bool) → same_ui p q ≡ b → IfSound l (e ∷ past) p (fate (on p (e ∷ past)))
+changed-sound : (l : Layout) (e : Entry) (past : List Entry) (ports now : List PortRecord) (q : Ui) (g : PortState) (r : PortRecord) → PortsStand l past ports → Changes l e past ports now q g r → (p : Ui) (b : Bool) → same_ui p q ≡ b → IfSound l (e ∷ past) p (fate (on p (e ∷ past)))
 changed-sound l e past ports now q g r w h p true s =
     let same : p ≡ q = from_same_ui p q s in
     subst (λ z. IfSound l (e ∷ past) z (fate (on z (e ∷ past)))) (sym same)
@@ -185,7 +185,7 @@ changed-sound l e past ports now q g r w h p true s =
 changed-sound l e past ports now q g r w h p false s =
     same-sound l p e past ports w (h.fates p ∙ ap (λ b. cond b (Some g) (fate (on p past))) s)
 
-pub changed-stands : (l : Layout) (e : Entry) (past : List Entry) (ports now : List PortRecord) (q : Ui) (g : Fate) (r : PortRecord) → PortsStand l past ports → Changes l e past ports now q g r → PortsStand l (e ∷ past) now
+pub changed-stands : (l : Layout) (e : Entry) (past : List Entry) (ports now : List PortRecord) (q : Ui) (g : PortState) (r : PortRecord) → PortsStand l past ports → Changes l e past ports now q g r → PortsStand l (e ∷ past) now
 changed-stands l e past ports now q g r w h =
     record {
       shown = λ p. changed-shown l e past ports now q g r w h p (same_ui p q) refl;

@@ -2,7 +2,7 @@
 use Rattle.std.proofs.Common.{ℕ, ◌≡◌, ◌==◌, ◌+◌, ◌-◌, ◌⊎◌, inl, inr, Bool, true, false, ◌&&◌, not, cond, if◌then◌else◌, List, [], ◌∷◌, length, drop, map, Option, Some, None, refl, sym, ◌∙◌, ap, subst, arith, length-drop}
 use Rattle.chorus_ui.specs.declared.ui.Ui.{Ui}
 use Rattle.chorus_ui.specs.declared.layout.Layout.{Layout}
-use Rattle.chorus_ui.specs.Layout.{IsShape}
+use Rattle.chorus_ui.specs.Layout.{IsLayout}
 use Rattle.chorus_ui.specs.Name.{same_ui}
 use Rattle.chorus_ui.proofs.Names.{same_ui-self, from_same_ui}
 use Rattle.chorus_entry.specs.declared.entry.Entry.{Entry}
@@ -14,7 +14,7 @@ use Rattle.chorus_entry.specs.declared.record.PortRecord.{PortRecord}
 use Rattle.chorus_entry.specs.Kinds.{names_port}
 use Rattle.chorus_entry.specs.Places.{place_for}
 use Rattle.chorus_world.specs.Views.{on}
-use Rattle.chorus_world.specs.Ports.{Fate, fate, last_of}
+use Rattle.chorus_world.specs.Ports.{PortState, fate, last_of}
 use Rattle.chorus_world.specs.Posts.{Posted, post_of}
 use Rattle.chorus_world.specs.Runs.{is_held_by, is_held_at_by}
 use Rattle.chorus_ports.specs.declared.taking.Taken.{Taken}
@@ -37,17 +37,17 @@ posted-id x None = refl
 posted-id x (Some m) = refl
 
 -- whether an actor holds a port
-held-by : (l : Layout) (past : List Entry) (q a : Ui) (f : Fate) (s : Sound l past q f) → fate (on q past) ≡ Some f → same_ui s.holder a ≡ true → is_held_at_by 1 a (fate (on q past)) ≡ true
+held-by : (l : Layout) (past : List Entry) (q a : Ui) (f : PortState) (s : Sound l past q f) → fate (on q past) ≡ Some f → same_ui s.holder a ≡ true → is_held_at_by 1 a (fate (on q past)) ≡ true
 held-by l past q a f s made h =
     let same : is_held_by a f.spot ≡ true = ap (is_held_by a) s.held ∙ (ap (same_ui a) (from_same_ui s.holder a h) ∙ same_ui-self a) in
     ap (is_held_at_by 1 a) made ∙ (λ i. same i && (last_of 0 (s.path i) == 1))
 
-not-held-by : (l : Layout) (past : List Entry) (q a : Ui) (f : Fate) (s : Sound l past q f) → fate (on q past) ≡ Some f → same_ui s.holder a ≡ false → is_held_at_by 1 a (fate (on q past)) ≡ false
+not-held-by : (l : Layout) (past : List Entry) (q a : Ui) (f : PortState) (s : Sound l past q f) → fate (on q past) ≡ Some f → same_ui s.holder a ≡ false → is_held_at_by 1 a (fate (on q past)) ≡ false
 not-held-by l past q a f s made h =
     let other : is_held_by a f.spot ≡ false = ap (is_held_by a) s.held ∙ differs_back s.holder a h in
     ap (is_held_at_by 1 a) made ∙ (λ i. other i && (last_of 0 (s.path i) == 1))
 
-module _ (l : Layout) (f : ℕ → Option Ui) (past : List Entry) (ports : List PortRecord) (v : Seated) (q : Ui) (shape : IsShape l) (w : InCall l f past ports v []) (kind : names_port q ≡ true) (place : (place_for l v.actor (Command.Take q) == 1) ≡ true) where
+module _ (l : Layout) (f : ℕ → Option Ui) (past : List Entry) (ports : List PortRecord) (v : Seated) (q : Ui) (layout : IsLayout l) (w : InCall l f past ports v []) (kind : names_port q ≡ true) (place : (place_for l v.actor (Command.Take q) == 1) ≡ true) where
   abbrev now : List PortRecord
   now = replace q (after_take v.actor) ports
 
@@ -70,13 +70,13 @@ module _ (l : Layout) (f : ℕ → Option Ui) (past : List Entry) (ports : List 
       record {
         layout = refl;
         number = refl;
-        in_call = says l f past ports now v a [] [] shape w owes;
+        in_call = says l f past ports now v a [] [] layout w owes;
         seat = refl;
         actor = refl;
         performed = performs-own l past v (Command.Take q) (next_clock past v) a refl (λ i. place-one l v (Command.Take q) place i && same_ui-self q i);
       }
 
-  empty : (g : Fate) (s : Sound l past q g) → fate (on q past) ≡ Some g → same_ui s.holder v.actor ≡ true → g.taken ≡ length g.accepted → ((p : Ui) → find p now ≡ find p ports) → Goal takes.Empty
+  empty : (g : PortState) (s : Sound l past q g) → fate (on q past) ≡ Some g → same_ui s.holder v.actor ≡ true → g.taken ≡ length g.accepted → ((p : Ui) → find p now ≡ find p ports) → Goal takes.Empty
   empty g s made h none same =
       let a = Act.Empty q in
       let owes : Owes l past now v a [] =
@@ -92,14 +92,14 @@ module _ (l : Layout) (f : ℕ → Option Ui) (past : List Entry) (ports : List 
       record {
         layout = refl;
         number = refl;
-        in_call = says l f past ports now v a [] [] shape w owes;
+        in_call = says l f past ports now v a [] [] layout w owes;
         seat = refl;
         actor = refl;
         performed = performs-own l past v (Command.Take q) (next_clock past v) a refl (λ i. place-one l v (Command.Take q) place i && same_ui-self q i);
       }
 
   -- the record behind its first message
-  abbrev behind : Fate → Ui → List MsgId → PortRecord
+  abbrev behind : PortState → Ui → List MsgId → PortRecord
   behind g a ys =
       record {
         ui = q;
@@ -111,11 +111,11 @@ module _ (l : Layout) (f : ℕ → Option Ui) (past : List Entry) (ports : List 
         clients = [];
       }
 
-  received : (g : Fate) (s : Sound l past q g) (x : MsgId) (ys : List MsgId) → fate (on q past) ≡ Some g → same_ui s.holder v.actor ≡ true → drop g.taken g.accepted ≡ x ∷ ys → ((p : Ui) → find p now ≡ cond (same_ui q p) (Some (behind g s.holder ys)) (find p ports)) → (m : Message) → m.id ≡ x → Goal (takes.Message g.taken m)
+  received : (g : PortState) (s : Sound l past q g) (x : MsgId) (ys : List MsgId) → fate (on q past) ≡ Some g → same_ui s.holder v.actor ≡ true → drop g.taken g.accepted ≡ x ∷ ys → ((p : Ui) → find p now ≡ cond (same_ui q p) (Some (behind g s.holder ys)) (find p ports)) → (m : Message) → m.id ≡ x → Goal (takes.Message g.taken m)
   received g s x ys made h waits table m id_is =
       let a = Act.Take q g.taken m.id in
       let e = next_entry past v a in
-      let after : Fate = record g { taken = g.taken + 1 } in
+      let after : PortState = record g { taken = g.taken + 1 } in
       let shows : Some (behind g s.holder ys) ≡ record_of q (e ∷ past) (Some after) =
       ap (λ ms. Some (record { ui = q; actor = s.holder; capacity = g.capacity; hop = length g.path - 1; first = g.taken + 1; pending = ms; clients = [] }))
       (ap (map (λ y. as_posted y (post_of y past))) (sym (drop-tail g.taken g.accepted x ys waits)) ∙ sym (pending-stays e past (g.taken + 1) g.accepted s.posted))
@@ -151,13 +151,13 @@ module _ (l : Layout) (f : ℕ → Option Ui) (past : List Entry) (ports : List 
       record {
         layout = refl;
         number = refl;
-        in_call = says l f past ports now v a [] [] shape w owes;
+        in_call = says l f past ports now v a [] [] layout w owes;
         seat = refl;
         actor = refl;
         performed = performs-own l past v (Command.Take q) (next_clock past v) a refl (λ i. place-one l v (Command.Take q) place i && same_ui-self q i);
       }
 
-  abbrev shown : Fate → Ui → List MsgId → PortRecord
+  abbrev shown : PortState → Ui → List MsgId → PortRecord
   shown g a xs =
       record {
         ui = q;
@@ -169,7 +169,7 @@ module _ (l : Layout) (f : ℕ → Option Ui) (past : List Entry) (ports : List 
         clients = [];
       }
 
-  from-port : (g : Fate) (s : Sound l past q g) (b : Bool) (xs : List MsgId) → fate (on q past) ≡ Some g → same_ui s.holder v.actor ≡ b → drop g.taken g.accepted ≡ xs → ((p : Ui) → find p now ≡ cond (same_ui q p) (Some (if b then passed (shown g s.holder xs).pending (shown g s.holder xs) else shown g s.holder xs)) (find p ports)) → (((if b then passed (shown g s.holder xs).pending (shown g s.holder xs) else shown g s.holder xs) ≡ shown g s.holder xs) → (p : Ui) → find p now ≡ find p ports) → Goal (if b then first_at g.taken (shown g s.holder xs).pending else takes.NotHere)
+  from-port : (g : PortState) (s : Sound l past q g) (b : Bool) (xs : List MsgId) → fate (on q past) ≡ Some g → same_ui s.holder v.actor ≡ b → drop g.taken g.accepted ≡ xs → ((p : Ui) → find p now ≡ cond (same_ui q p) (Some (if b then passed (shown g s.holder xs).pending (shown g s.holder xs) else shown g s.holder xs)) (find p ports)) → (((if b then passed (shown g s.holder xs).pending (shown g s.holder xs) else shown g s.holder xs) ≡ shown g s.holder xs) → (p : Ui) → find p now ≡ find p ports) → Goal (if b then first_at g.taken (shown g s.holder xs).pending else takes.NotHere)
   from-port g s false xs made h waits table same = not-here (not-held-by l past q v.actor g s made h) (same refl)
   from-port g s true [] made h waits table same =
       let count = length-drop g.taken g.accepted in

@@ -15,12 +15,13 @@ use Rattle.chorus_entry.specs.MsgId.{same_id}
 use Rattle.chorus_entry.proofs.Same.{same_id-self, from_same_id}
 use Rattle.chorus_world.specs.declared.place.Sent.{Sent}
 use Rattle.chorus_world.specs.declared.message.Progress.{Progress}
-use Rattle.chorus_world.specs.Views.{by, about, are_same}
+use Rattle.chorus_world.specs.Views.{by, about}
+use Rattle.chorus_entry.specs.Same.{are_same}
 use Rattle.chorus_world.specs.Messages.{progress}
 use Rattle.chorus_world.specs.Posts.{Posted, post_of}
 use Rattle.chorus_world.specs.Places.{sent, find_sent, settles, is_settled, unsettled, first_for, is_first_as, is_first}
 use Rattle.chorus_world.specs.Seats.{posts, posts_after}
-use Rattle.chorus_world.proofs.SentLemmas.{find_sent_append}
+use Rattle.chorus_world.proofs.Messages.SentLemmas.{find_sent_append}
 use Rattle.chorus_net.proofs.Core.{entry, Calm, Fresh, fresh-settled, fresh-unposted, post_of-more}
 
 abbrev pub new_sent : MsgId → Ui → Sent

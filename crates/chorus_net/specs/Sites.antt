@@ -10,7 +10,7 @@ use Rattle.chorus_calls.specs.Callers.{Seated, new_caller}
 use Rattle.chorus_place.specs.State.{PlaceState, Turn, started}
 use Rattle.chorus_place.specs.declared.reply.Reply.{Reply}
 use Rattle.chorus_place.specs.Machine.{call, reply}
-use Rattle.chorus_net.specs.declared.sites.TheConstants.{SEATS_LIMIT}
+use Rattle.chorus_ui.specs.declared.limits.TheConstants.{SEATS_LIMIT}
 
 -- the place, and the caller of each seat given, from seat 0 on
 pub record SitesState : Type 0 where

@@ -17,4 +17,4 @@ mod tests;
 pub use closed::{Closed, Placed};
 pub use fault::EnterFault;
 pub use laws::one_place_runs;
-pub use sites::{SEATS_LIMIT, Sites};
+pub use sites::Sites;

@@ -3,8 +3,8 @@
 ghost use Rattle.std.specs.Prelude.{◌≡◌, ℕ, ◌<◌, ◌≤◌, ◌↔◌, true, false, length, IfOk, OnOk, OnErr, IfErr, IsErrOf, Some, IfSome};
 ghost use Rattle.chorus_ui.specs.Layout.{has_actor};
 ghost use Rattle.chorus_entry.specs.Kinds.{names_actor};
-ghost use Rattle.chorus_place.specs.Calls.{is_post};
-ghost use Rattle.chorus_place.specs.declared.fault.TheConstants.{WORN};
+ghost use Rattle.chorus_entry.specs.Command.{is_post};
+ghost use Rattle.chorus_ui.specs.declared.limits.TheConstants.{CLOCK_LIMIT, SEATS_LIMIT};
 ghost use Rattle.chorus_net.specs.Sites.{opening, entered, acted, replied, actor_of, posts_of, compared};
 ghost use Rattle.chorus_net.specs.OnePlace.{may_give};
 ghost use Rattle.chorus_net.specs.Closing.{IsClosed};
@@ -14,12 +14,9 @@ use crate::fault::EnterFault;
 use chorus_calls::Caller;
 use chorus_entry::Command;
 use chorus_place::{Place, PlaceFault, Reply};
-use chorus_ui::{Kind, Layout, Ui};
+use chorus_ui::{Kind, Layout, SEATS_LIMIT, Ui};
 use std::alloc::{AllocError, Global};
 use std::marker::Model;
-
-/// The most seats that are given, the first one included.
-pub const SEATS_LIMIT: u32 = 1_048_576;
 
 /// The sites of a layout on one thread, and their callers. So far they have place 1 alone, and perform what it does.
 #[derive(Debug, Drop)]
@@ -115,7 +112,7 @@ impl Sites {
         requires posts { is_post command ≡ true → IfSome (posts_of self.old seat) (λ posts. posts < u32.MAX) }
         ensures ok { OnOk result (self.new ≡ acted seat command self.old) }
         ensures reply { IfOk result (λ reply. Some reply ≡ replied seat command self.old) }
-        ensures worn { (clock : ℕ) → IsErrOf result (PlaceFault.Worn clock) ↔ ((WORN ≤ compared seat self.old) × (clock ≡ compared seat self.old)) }
+        ensures worn { (clock : ℕ) → IsErrOf result (PlaceFault.Worn clock) ↔ ((CLOCK_LIMIT ≤ compared seat self.old) × (clock ≡ compared seat self.old)) }
         ensures refused { OnErr result (self.new ≡ self.old) }
     {
         let caller = &mut self.callers[seat as usize];

@@ -1,9 +1,9 @@
 //! Seats, what they are told, and what closing gives.
 
-use crate::{EnterFault, SEATS_LIMIT, Sites};
+use crate::{EnterFault, Sites};
 use chorus_entry::{Body, Command, Dest, Message, MsgId, Tag};
 use chorus_place::Reply;
-use chorus_ui::{Kind, Layout, Ui};
+use chorus_ui::{Kind, Layout, SEATS_LIMIT, Ui};
 use std::test::Fail;
 
 #[test]

@@ -2,12 +2,12 @@
 use Rattle.std.specs.Prelude.{ℕ, ◌≡◌, ◌+◌, ◌≤◌, ◌/◌, ◌<◌, Bool, true, false, List, length, Some, is_some}
 use Rattle.chorus_ui.specs.declared.ui.Ui.{Ui}
 use Rattle.chorus_ui.specs.declared.layout.Layout.{Layout}
-use Rattle.chorus_ui.specs.declared.layout.TheConstants.{PORTS_PER_SITE}
+use Rattle.chorus_ui.specs.declared.limits.TheConstants.{PORTS_PER_SITE_LIMIT}
 use Rattle.chorus_ui.specs.Layout.{has_place}
 use Rattle.chorus_entry.specs.declared.entry.Entry.{Entry}
 use Rattle.chorus_entry.specs.declared.command.Command.{Command}
 use Rattle.chorus_entry.specs.declared.record.PortRecord.{PortRecord}
-use Rattle.chorus_entry.specs.Command.{meets_conditions, has_kinds_in_command}
+use Rattle.chorus_entry.specs.Command.{meets_conditions}
 use Rattle.chorus_entry.specs.Places.{place_for}
 use Rattle.chorus_world.specs.Places.{last_clock, ports_made}
 use Rattle.chorus_world.specs.Steps.{next_number}
@@ -27,21 +27,13 @@ pub record Place : Type 0 where
 pub record IsKept (l : Layout) (p : ℕ) (past : List Entry) (made : ℕ) (ports : List PortRecord) (spare : ℕ) : Type 0 where
   pub place : has_place l p ≡ true
   pub count : made ≡ ports_made past
-  pub room : spare + made ≡ PORTS_PER_SITE / l.turns
+  pub room : spare + made ≡ PORTS_PER_SITE_LIMIT / l.turns
   pub names : (q : Ui) → is_some (find q ports) ≡ true → q.number < next_number l p past
   pub positions : (q : Ui) (port : PortRecord) → find q ports ≡ Some port → port.first + length port.pending ≤ last_clock past
 
 -- the place with the caller in whose call it is
 abbrev pub turn : Place → Seated → Turn
 turn place caller = record { place = place.state; caller = caller }
-
--- the command posts a message
-abbrev pub is_post : Command → Bool
-is_post (Command.Send dest body) = true
-is_post (Command.Call port back body) = true
-is_post Command.Retry = true
-is_post (Command.Reply body) = true
-is_post _ = false
 
 abbrev pub is_take : Command → Bool
 is_take (Command.Take port) = true
@@ -50,7 +42,6 @@ is_take _ = false
 -- the conditions of a call: the command meets its own, it is to be carried out here, and the place has it so far
 pub record MayCall (place : PlaceState) (caller : Seated) (c : Command) : Type 0 where
   pub conditions : meets_conditions c ≡ true
-  pub kinds : has_kinds_in_command c ≡ true
   pub here : place_for place.layout caller.actor c ≡ place.number
   pub built : is_built place.layout place.number c ≡ true
 

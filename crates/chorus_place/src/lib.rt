@@ -15,6 +15,6 @@ mod reply;
 mod tests;
 mod turn;
 
-pub use fault::{PlaceFault, WORN};
+pub use fault::PlaceFault;
 pub use place::Place;
 pub use reply::Reply;

@@ -6,10 +6,11 @@ ghost use Rattle.chorus_entry.specs.declared.dest.Dest.TheVariants as Dest;
 ghost use Rattle.chorus_world.specs.Places.{last_clock};
 ghost use Rattle.chorus_world.specs.Steps.{is_full_of_ports};
 ghost use Rattle.chorus_place.specs.State.{started, greatest};
-ghost use Rattle.chorus_place.specs.Calls.{turn, is_post, is_take, MayCall, Called};
-ghost use Rattle.chorus_place.specs.declared.fault.TheConstants.{WORN};
+ghost use Rattle.chorus_entry.specs.Command.{is_post};
+ghost use Rattle.chorus_place.specs.Calls.{turn, is_take, MayCall, Called};
+ghost use Rattle.chorus_ui.specs.declared.limits.TheConstants.{CLOCK_LIMIT};
 
-use crate::fault::{PlaceFault, WORN};
+use crate::fault::PlaceFault;
 use crate::journal::Journal;
 use crate::reply::Reply;
 use crate::turn::{
@@ -18,7 +19,7 @@ use crate::turn::{
 use chorus_calls::Caller;
 use chorus_entry::{Act, Body, Command, Entry};
 use chorus_ports::Ports;
-use chorus_ui::{Layout, PORTS_PER_SITE, Ui};
+use chorus_ui::{CLOCK_LIMIT, Layout, PORTS_PER_SITE_LIMIT, Ui};
 use std::alloc::{AllocError, Global};
 use std::marker::Model;
 
@@ -49,7 +50,7 @@ impl Place {
         requires { has_place layout number ≡ true }
         ensures { IfOk result (λ place. place.state ≡ started layout number) }
     {
-        let most = PORTS_PER_SITE / u64::from(layout.turns());
+        let most = PORTS_PER_SITE_LIMIT / u64::from(layout.turns());
         Ok(Place {
             layout,
             number,
@@ -129,13 +130,13 @@ impl Place {
         requires may { MayCall self.old.state caller.old command }
         requires posts { is_post command ≡ true → caller.old.posts < u32.MAX }
         ensures called { IfOk result (λ r. Called self.old self.new caller.old caller.new command r) }
-        ensures worn { (clock : ℕ) → IsErrOf result (PlaceFault.Worn clock) ↔ ((WORN ≤ greatest (turn self.old caller.old)) × (clock ≡ greatest (turn self.old caller.old))) }
+        ensures worn { (clock : ℕ) → IsErrOf result (PlaceFault.Worn clock) ↔ ((CLOCK_LIMIT ≤ greatest (turn self.old caller.old)) × (clock ≡ greatest (turn self.old caller.old))) }
         ensures refused { OnErr result ((self.new.state ≡ self.old.state) × (caller.new ≡ caller.old)) }
         ensures room { OnErr result (self.old.spare ≤ self.new.spare) }
-        ensures takes_no_memory { is_take command ≡ true → 2 ≤ self.old.spare → greatest (turn self.old caller.old) < WORN → IsOk result }
+        ensures takes_no_memory { is_take command ≡ true → 2 ≤ self.old.spare → greatest (turn self.old caller.old) < CLOCK_LIMIT → IsOk result }
     {
         let clock = self.journal.clock().max(caller.last());
-        if clock >= WORN {
+        if clock >= CLOCK_LIMIT {
             return Err(PlaceFault::Worn { clock });
         }
         match command {
@@ -149,7 +150,7 @@ impl Place {
     /// Makes a port of the actor, whose home place this is where the layout has it.
     fn make(&mut self, caller: &mut Caller, actor: Ui, capacity: u8) -> Result<Reply, AllocError>
         requires may { MayCall self.old.state caller.old (Command.Make actor capacity) }
-        requires clock { greatest (turn self.old caller.old) < WORN }
+        requires clock { greatest (turn self.old caller.old) < CLOCK_LIMIT }
         ensures called { IfOk result (λ r. Called self.old self.new caller.old caller.new (Command.Make actor capacity) r) }
         ensures refused { OnErr result ((self.new.state ≡ self.old.state) × (caller.new ≡ caller.old)) }
         ensures room { OnErr result (self.old.spare ≤ self.new.spare) }
@@ -190,13 +191,13 @@ impl Place {
     fn has_made_all(&self) -> bool
         ensures { result ≡ is_full_of_ports self.now.state.layout self.now.state.journal }
     {
-        u64::from(self.made) == PORTS_PER_SITE / u64::from(self.layout.turns())
+        u64::from(self.made) == PORTS_PER_SITE_LIMIT / u64::from(self.layout.turns())
     }
 
     /// Posts a message to a port whose creation place this is, and decides on it.
     fn send(&mut self, caller: &mut Caller, port: Ui, body: Body) -> Result<Reply, AllocError>
         requires posts { caller.old.posts < u32.MAX }
-        requires clock { greatest (turn self.old caller.old) < WORN }
+        requires clock { greatest (turn self.old caller.old) < CLOCK_LIMIT }
         ensures called { IfOk result (λ r. Called self.old self.new caller.old caller.new (Command.Send (Dest.Port port) body) r) }
         ensures refused { OnErr result ((self.new.state ≡ self.old.state) × (caller.new ≡ caller.old)) }
         ensures room { OnErr result (self.old.spare ≤ self.new.spare) }
@@ -229,7 +230,7 @@ impl Place {
 
     /// Takes the first message that waits in the port, for the caller's actor.
     fn take(&mut self, caller: &mut Caller, port: Ui) -> Result<Reply, AllocError>
-        requires clock { greatest (turn self.old caller.old) < WORN }
+        requires clock { greatest (turn self.old caller.old) < CLOCK_LIMIT }
         ensures called { IfOk result (λ r. Called self.old self.new caller.old caller.new (Command.Take port) r) }
         ensures refused { OnErr result ((self.new.state ≡ self.old.state) × (caller.new ≡ caller.old)) }
         ensures room { OnErr result (self.old.spare ≤ self.new.spare) }

@@ -7,7 +7,7 @@ ghost use Rattle.chorus_world.specs.Places.{last_clock};
 ghost use Rattle.chorus_calls.specs.Callers.{after_tick, after_post};
 ghost use Rattle.chorus_place.specs.Machine.{next_message, decision, verdict_reply, take_act, take_reply};
 ghost use Rattle.chorus_place.specs.Turns.{next_clock, after_entry, number_behind};
-ghost use Rattle.chorus_place.specs.declared.fault.TheConstants.{WORN};
+ghost use Rattle.chorus_ui.specs.declared.limits.TheConstants.{CLOCK_LIMIT};
 
 use crate::journal::Journal;
 use crate::reply::Reply;
@@ -19,7 +19,7 @@ use chorus_ui::{Kind, Layout, Ui};
 /// Appends the caller's next entry at this place: its clock is above that of the place and of the caller, and becomes theirs.
 pub(crate) fn say(journal: &mut Journal, place: u16, caller: &mut Caller, act: Act)
     requires room { 1 ≤ journal.old.spare }
-    requires clock { max (last_clock journal.old.past) caller.old.last ≤ WORN }
+    requires clock { max (last_clock journal.old.past) caller.old.last ≤ CLOCK_LIMIT }
     ensures journal { journal.new ≡ after_entry place act caller.old journal.old }
     ensures caller { caller.new ≡ after_tick caller.old (next_clock journal.old caller.old) }
 {
@@ -43,7 +43,7 @@ pub(crate) fn post(
     port: Ui,
 )
     requires room { 1 ≤ journal.old.spare }
-    requires clock { max (last_clock journal.old.past) caller.old.last ≤ WORN }
+    requires clock { max (last_clock journal.old.past) caller.old.last ≤ CLOCK_LIMIT }
     requires posts { caller.old.posts < u32.MAX }
     ensures journal { journal.new ≡ after_entry place (Act.Post message (Dest.Port port)) caller.old journal.old }
     ensures caller { caller.new ≡ after_post (after_tick caller.old (next_clock journal.old caller.old)) }

@@ -4,7 +4,7 @@ use Rattle.std.proofs.lemmas.Bool.{and_parts}
 use Rattle.std.proofs.lemmas.List.{reverse-reverse}
 use Rattle.chorus_ui.specs.declared.ui.Ui.{Ui}
 use Rattle.chorus_ui.specs.declared.layout.Layout.{Layout}
-use Rattle.chorus_ui.specs.Layout.{IsShape}
+use Rattle.chorus_ui.specs.Layout.{IsLayout}
 use Rattle.chorus_entry.specs.declared.entry.Entry.{Entry}
 use Rattle.chorus_entry.specs.declared.command.Command.{Command}
 use Rattle.chorus_merge.specs.Merge.{merged}
@@ -12,7 +12,7 @@ use Rattle.chorus_merge.proofs.Folds.{merged_one}
 use Rattle.chorus_world.specs.Steps.{may, is_legal}
 use Rattle.chorus_world.specs.Runs.{is_run, may_run}
 use Rattle.chorus_world.specs.Commands.{performs}
-use Rattle.chorus_world.proofs.PortLaws.{receives_in_order}
+use Rattle.chorus_world.proofs.Ports.PortLaws.{receives_in_order}
 use Rattle.chorus_net.specs.declared.closed.Closed.{Closed}
 use Rattle.chorus_net.specs.Closing.{journals_of}
 use Rattle.chorus_net.specs.Sites.{actor_of, commands_of}
@@ -54,39 +54,39 @@ legal-older l (e ∷ newer) past h = legal-older l newer past (and_parts (may l 
 
 -- What the events say of the journal, said of the merge.
 
-pub run-of : (c : Scene) (closed : Closed) → IsShape c.layout → are_ready c.layout (reverse (order c)) ≡ true
+pub run-of : (c : Scene) (closed : Closed) → IsLayout c.layout → are_ready c.layout (reverse (order c)) ≡ true
     → ((k : ℕ) → actor_of (replayed c) k ≡ callers_of c k) → merge_of closed ≡ journal_of c → IsRun c closed
-run-of c closed shape ready actors h =
-    let run = (holds c.layout (reverse (order c)) shape ready).world.run in
+run-of c closed layout ready actors h =
+    let run = (holds c.layout (reverse (order c)) layout ready).world.run in
     ap (is_run c.layout (callers_of c)) (past-is c closed h)
     ∙ run-more c.layout (actor_of (replayed c)) (callers_of c) (λ k a e. sym (actors k) ∙ e) (replayed c).place.journal run
 
 some : (a b : Ui) → Some a ≡ Some b → a ≡ b
 some a b h = cc
 
-pub performs-of : (c : Scene) (closed : Closed) → IsShape c.layout → are_ready c.layout (reverse (order c)) ≡ true
+pub performs-of : (c : Scene) (closed : Closed) → IsLayout c.layout → are_ready c.layout (reverse (order c)) ≡ true
     → ((k : ℕ) → actor_of (replayed c) k ≡ callers_of c k)
     → ((k : ℕ) (commands : List Command) → commands_by c k ≡ Some commands → commands_of k (reverse (order c)) ≡ reverse commands)
     → merge_of closed ≡ journal_of c → Performs c closed
-performs-of c closed shape ready actors given h =
+performs-of c closed layout ready actors given h =
     λ k actor commands caller by.
     ap (λ past. performs c.layout k actor past (reverse commands)) (past-is c closed h)
     ∙ (ap (performs c.layout k actor (replayed c).place.journal) (sym (given k commands by))
-    ∙ (holds c.layout (reverse (order c)) shape ready).performed k actor (λ b e. some b actor (sym e ∙ (actors k ∙ caller))))
+    ∙ (holds c.layout (reverse (order c)) layout ready).performed k actor (λ b e. some b actor (sym e ∙ (actors k ∙ caller))))
 
-pub receives-of : (c : Scene) (closed : Closed) → IsShape c.layout → IsRun c closed → ReceivesInOrder closed
-receives-of c closed shape run =
+pub receives-of : (c : Scene) (closed : Closed) → IsLayout c.layout → IsRun c closed → ReceivesInOrder closed
+receives-of c closed layout run =
     λ newer past port e.
     let legal = run-legal c.layout (callers_of c) (past_of closed) run in
-    (receives_in_order c.layout past port shape (legal-older c.layout newer past (ap (is_legal c.layout) (sym e) ∙ legal))).0
+    (receives_in_order c.layout past port layout (legal-older c.layout newer past (ap (is_legal c.layout) (sym e) ∙ legal))).0
 
 -- The headline of a scenario that keeps its limits and is built.
 
-pub runs : (c : Scene) (closed : Closed) → IsShape c.layout → Keeps c → scene_is_built c ≡ true → merge_of closed ≡ journal_of c → IsRun c closed
-runs c closed shape keeps built h = run-of c closed shape (order-ready c keeps built) (callers-given c) h
+pub runs : (c : Scene) (closed : Closed) → IsLayout c.layout → Keeps c → scene_is_built c ≡ true → merge_of closed ≡ journal_of c → IsRun c closed
+runs c closed layout keeps built h = run-of c closed layout (order-ready c keeps built) (callers-given c) h
 
-pub performs-all : (c : Scene) (closed : Closed) → IsShape c.layout → Keeps c → scene_is_built c ≡ true → merge_of closed ≡ journal_of c → Performs c closed
-performs-all c closed shape keeps built h = performs-of c closed shape (order-ready c keeps built) (callers-given c) (commands-given c keeps) h
+pub performs-all : (c : Scene) (closed : Closed) → IsLayout c.layout → Keeps c → scene_is_built c ≡ true → merge_of closed ≡ journal_of c → Performs c closed
+performs-all c closed layout keeps built h = performs-of c closed layout (order-ready c keeps built) (callers-given c) (commands-given c keeps) h
 
-pub receives-in-order : (c : Scene) (closed : Closed) → IsShape c.layout → Keeps c → scene_is_built c ≡ true → merge_of closed ≡ journal_of c → ReceivesInOrder closed
-receives-in-order c closed shape keeps built h = receives-of c closed shape (runs c closed shape keeps built h)
+pub receives-in-order : (c : Scene) (closed : Closed) → IsLayout c.layout → Keeps c → scene_is_built c ≡ true → merge_of closed ≡ journal_of c → ReceivesInOrder closed
+receives-in-order c closed layout keeps built h = receives-of c closed layout (runs c closed layout keeps built h)

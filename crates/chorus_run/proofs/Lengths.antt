@@ -11,12 +11,12 @@ use Rattle.chorus_ui.specs.declared.kind.Kind.TheVariants as kinds
 use Rattle.chorus_ui.specs.Kind.{same_kind}
 use Rattle.chorus_ui.specs.Name.{Name}
 use Rattle.chorus_ui.specs.Layout.{Shape}
-use Rattle.chorus_ui.specs.declared.layout.TheConstants.{PORTS_PER_SITE}
+use Rattle.chorus_ui.specs.declared.limits.TheConstants.{PORTS_PER_SITE_LIMIT}
 use Rattle.chorus_entry.specs.declared.command.Command.{Command}
 use Rattle.chorus_entry.specs.Command.{is_capacity}
 use Rattle.chorus_place.specs.Machine.{is_built}
-use Rattle.chorus_place.specs.declared.fault.TheConstants.{WORN}
-use Rattle.chorus_net.specs.declared.sites.TheConstants.{SEATS_LIMIT}
+use Rattle.chorus_ui.specs.declared.limits.TheConstants.{CLOCK_LIMIT}
+use Rattle.chorus_ui.specs.declared.limits.TheConstants.{SEATS_LIMIT}
 use Rattle.chorus_net.specs.Sites.{Event, Enter, Act, after, posts_of, compared}
 use Rattle.chorus_scene.specs.declared.scenario.SetupLine.{SetupLine}
 use Rattle.chorus_scene.specs.declared.scenario.SetupLine.TheVariants as setups
@@ -68,7 +68,7 @@ made-more l made [] line = refl
 made-more l made (first ∷ before) line = made-more l (made ++ makes l made first) before line
 
 setup-few : (l : Shape) (n : ℕ) (before lines : List SetupLine) → n ≡ 1 → l.turns ≡ 1 → setup_keeps l n before lines ≡ true → list_all (is_built l 1) (map setup_command lines) ≡ true
-    → list_all is_first (made_after l [] before) ≡ true → length (made_after l [] before) ≡ length before → length before ≤ PORTS_PER_SITE → length before + length lines ≤ PORTS_PER_SITE
+    → list_all is_first (made_after l [] before) ≡ true → length (made_after l [] before) ≡ length before → length before ≤ PORTS_PER_SITE_LIMIT → length before + length lines ≤ PORTS_PER_SITE_LIMIT
 setup-few l n before [] one turns keeps built all as_many few = omega arith
 setup-few l n before (setups.Port actor capacity ∷ lines) one turns keeps built all as_many few =
     let line = setups.Port actor capacity in
@@ -76,20 +76,20 @@ setup-few l n before (setups.Port actor capacity ∷ lines) one turns keeps buil
     let new = next_port l actor made in
     let k = and_parts (setup_line_keeps l n before line) (setup_keeps l n (before ++ line ∷ []) lines) keeps in
     let b = and_parts true (list_all (is_built l 1) (map setup_command lines)) built in
-    let outer = and_parts (is_capacity capacity && is_actor_of l n actor) (nat_le new.number PORTS_PER_SITE) k.0 in
+    let outer = and_parts (is_capacity capacity && is_actor_of l n actor) (nat_le new.number PORTS_PER_SITE_LIMIT) k.0 in
     let of = of-one l n actor one (and_parts (is_capacity capacity) (is_actor_of l n actor) outer.0).1 in
-    let low = leb-true new.number PORTS_PER_SITE outer.1 in
+    let low = leb-true new.number PORTS_PER_SITE_LIMIT outer.1 in
     let number = number-is l actor made turns of.site all in
     let now = made-more l [] before line in
     let first : is_first new ≡ true = eq-eqb actor.site 1 of.site in
     let all_now : list_all is_first (made_after l [] (before ++ line ∷ [])) ≡ true = ap (list_all is_first) now ∙ (list_all-append is_first made (new ∷ []) ∙ and_from (list_all is_first made) (is_first new && true) all (and_from (is_first new) true first refl)) in
     let pushed = length_push before line in
     let as_many_now : length (made_after l [] (before ++ line ∷ [])) ≡ length (before ++ line ∷ []) = ap length now ∙ (length_push made new ∙ (ap (λ m. m + 1) as_many ∙ sym pushed)) in
-    let few_now : length (before ++ line ∷ []) ≤ PORTS_PER_SITE = omega arith in
+    let few_now : length (before ++ line ∷ []) ≤ PORTS_PER_SITE_LIMIT = omega arith in
     let rest = setup-few l n (before ++ line ∷ []) lines one turns k.1 b.1 all_now as_many_now few_now in
     next (length before) (length (before ++ line ∷ [])) (length lines) pushed rest
   where
-    next : (m k n : ℕ) → k ≡ m + 1 → k + n ≤ PORTS_PER_SITE → m + suc n ≤ PORTS_PER_SITE
+    next : (m k n : ℕ) → k ≡ m + 1 → k + n ≤ PORTS_PER_SITE_LIMIT → m + suc n ≤ PORTS_PER_SITE_LIMIT
     next m k n e h = omega arith
 setup-few l n before (setups.Group site ∷ lines) one turns keeps built all as_many few = absurd (false≢true (and_parts false (list_all (is_built l 1) (map setup_command lines)) built).0)
 setup-few l n before (setups.Member group port ∷ lines) one turns keeps built all as_many few = absurd (false≢true (and_parts false (list_all (is_built l 1) (map setup_command lines)) built).0)
@@ -198,7 +198,7 @@ all-left l version n k (script ∷ scripts) keeps =
 -- All of it.
 
 abbrev pub EVENTS_LIMIT : ℕ
-EVENTS_LIMIT = PORTS_PER_SITE + SCRIPTS_LIMIT + COMMANDS_LIMIT * SCRIPTS_LIMIT
+EVENTS_LIMIT = PORTS_PER_SITE_LIMIT + SCRIPTS_LIMIT + COMMANDS_LIMIT * SCRIPTS_LIMIT
 
 pub order-length : (c : Scene) → Keeps c → scene_is_built c ≡ true → length (order c) ≤ EVENTS_LIMIT
 order-length c keeps built =
@@ -225,7 +225,7 @@ so-far c done rest keeps built e =
     let turned = length-reverse done in
     omega arith
 
-pub clock-fits : (c : Scene) (done rest : List Event) (k : ℕ) → Keeps c → scene_is_built c ≡ true → order c ≡ done ++ rest → compared k (after c.layout (reverse done)) < WORN
+pub clock-fits : (c : Scene) (done rest : List Event) (k : ℕ) → Keeps c → scene_is_built c ≡ true → order c ≡ done ++ rest → compared k (after c.layout (reverse done)) < CLOCK_LIMIT
 clock-fits c done rest k keeps built e =
     let few = so-far c done rest keeps built e in
     let clock = compared-within c.layout (reverse done) k in

@@ -4,14 +4,14 @@ use Rattle.std.proofs.lemmas.List.{reverse-append, length-map}
 use Rattle.std.specs.Option.{option_map}
 use Rattle.std.proofs.lemmas.Option.{slice_get_within, get_or_from_slice_get, slice_get-map}
 use Rattle.chorus_ui.specs.declared.ui.Ui.{Ui}
-use Rattle.chorus_ui.specs.Layout.{IsShape, has_actor}
+use Rattle.chorus_ui.specs.Layout.{IsLayout, has_actor}
 use Rattle.chorus_entry.specs.Kinds.{names_actor}
 use Rattle.chorus_entry.specs.declared.command.Command.{Command}
-use Rattle.chorus_place.specs.declared.fault.TheConstants.{WORN}
+use Rattle.chorus_ui.specs.declared.limits.TheConstants.{CLOCK_LIMIT}
 use Rattle.chorus_scene.specs.declared.scenario.SetupLine.{SetupLine}
 use Rattle.chorus_scene.specs.Scene.{Scene, Script}
 use Rattle.chorus_scene.specs.Limits.{Keeps}
-use Rattle.chorus_net.specs.declared.sites.TheConstants.{SEATS_LIMIT}
+use Rattle.chorus_ui.specs.declared.limits.TheConstants.{SEATS_LIMIT}
 use Rattle.chorus_net.specs.Sites.{SitesState, Event, Enter, Act, happened, entered, acted, after, actor_of, posts_of, compared}
 use Rattle.chorus_net.specs.OnePlace.{may_give}
 use Rattle.chorus_net.proofs.AfterEvents.{holds}
@@ -28,30 +28,30 @@ pub record IsNext (c : Scene) (s : SitesState) (event : Event) : Type 0 where
   pub whole : order c ≡ front ++ event ∷ rest
   pub now : s ≡ after c.layout (reverse front)
 
-layout-is : (c : Scene) (done rest : List Event) → IsShape c.layout → Keeps c → scene_is_built c ≡ true → order c ≡ done ++ rest → (after c.layout (reverse done)).place.layout ≡ c.layout
-layout-is c done rest shape keeps built e = (holds c.layout (reverse done) shape (ready-so_far c done rest keeps built e)).layout
+layout-is : (c : Scene) (done rest : List Event) → IsLayout c.layout → Keeps c → scene_is_built c ≡ true → order c ≡ done ++ rest → (after c.layout (reverse done)).place.layout ≡ c.layout
+layout-is c done rest layout keeps built e = (holds c.layout (reverse done) layout (ready-so_far c done rest keeps built e)).layout
 
 -- What a command that is next meets.
 
-pub next-may : (c : Scene) (s : SitesState) (k : ℕ) (command : Command) → IsShape c.layout → Keeps c → scene_is_built c ≡ true → IsNext c s (Act k command)
+pub next-may : (c : Scene) (s : SitesState) (k : ℕ) (command : Command) → IsLayout c.layout → Keeps c → scene_is_built c ≡ true → IsNext c s (Act k command)
     → may_give s.place.layout (actor_of s k) command ≡ true
-next-may c s k command shape keeps built n =
-    let here = layout-is c n.front (Act k command ∷ n.rest) shape keeps built n.whole in
+next-may c s k command layout keeps built n =
+    let here = layout-is c n.front (Act k command ∷ n.rest) layout keeps built n.whole in
     subst (λ (t : SitesState). may_give t.place.layout (actor_of t k) command ≡ true) (sym n.now)
     (subst (λ l. may_give l (actor_of (after c.layout (reverse n.front)) k) command ≡ true) (sym here) (may-next c n.front k command n.rest keeps built n.whole))
 
 pub next-posts : (c : Scene) (s : SitesState) (k : ℕ) (e : Event) → Keeps c → scene_is_built c ≡ true → IsNext c s e → IfSome (posts_of s k) (λ posts. posts < 4294967295)
 next-posts c s k e keeps built n = subst (λ (t : SitesState). IfSome (posts_of t k) (λ posts. posts < 4294967295)) (sym n.now) (posts-fit c n.front (e ∷ n.rest) k keeps built n.whole)
 
-pub next-clock : (c : Scene) (s : SitesState) (k : ℕ) (e : Event) → Keeps c → scene_is_built c ≡ true → IsNext c s e → compared k s < WORN
-next-clock c s k e keeps built n = subst (λ (t : SitesState). compared k t < WORN) (sym n.now) (clock-fits c n.front (e ∷ n.rest) k keeps built n.whole)
+pub next-clock : (c : Scene) (s : SitesState) (k : ℕ) (e : Event) → Keeps c → scene_is_built c ≡ true → IsNext c s e → compared k s < CLOCK_LIMIT
+next-clock c s k e keeps built n = subst (λ (t : SitesState). compared k t < CLOCK_LIMIT) (sym n.now) (clock-fits c n.front (e ∷ n.rest) k keeps built n.whole)
 
 pub next-kind : (c : Scene) (s : SitesState) (actor : Ui) → Keeps c → scene_is_built c ≡ true → IsNext c s (Enter actor) → names_actor actor ≡ true
 next-kind c s actor keeps built n = (enter-next c n.front actor n.rest keeps built n.whole).0
 
-pub next-actor : (c : Scene) (s : SitesState) (actor : Ui) → IsShape c.layout → Keeps c → scene_is_built c ≡ true → IsNext c s (Enter actor) → has_actor s.place.layout actor ≡ true
-next-actor c s actor shape keeps built n =
-    let here = layout-is c n.front (Enter actor ∷ n.rest) shape keeps built n.whole in
+pub next-actor : (c : Scene) (s : SitesState) (actor : Ui) → IsLayout c.layout → Keeps c → scene_is_built c ≡ true → IsNext c s (Enter actor) → has_actor s.place.layout actor ≡ true
+next-actor c s actor layout keeps built n =
+    let here = layout-is c n.front (Enter actor ∷ n.rest) layout keeps built n.whole in
     subst (λ (t : SitesState). has_actor t.place.layout actor ≡ true) (sym n.now)
     (subst (λ l. has_actor l actor ≡ true) (sym here) (enter-next c n.front actor n.rest keeps built n.whole).1)
 

@@ -7,7 +7,7 @@ use Rattle.std.proofs.lemmas.List.{reverse-append}
 use Rattle.std.proofs.lemmas.Option.{slice_get-map, slice_get-get_or}
 use Rattle.chorus_ui.specs.declared.ui.Ui.{Ui}
 use Rattle.chorus_ui.specs.declared.layout.Layout.{Layout}
-use Rattle.chorus_ui.specs.declared.layout.TheConstants.{PORTS_PER_SITE}
+use Rattle.chorus_ui.specs.declared.limits.TheConstants.{PORTS_PER_SITE_LIMIT}
 use Rattle.chorus_ui.specs.Layout.{has_actor, place_at, creation_place}
 use Rattle.chorus_entry.specs.declared.dest.Dest.{Dest}
 use Rattle.chorus_entry.specs.declared.command.Command.{Command}
@@ -184,7 +184,7 @@ setup-fine l n before (setups.Port actor capacity ∷ lines) one turns keeps bui
     let c = Command.Make actor capacity in
     let k = and_parts (setup_line_keeps l n before line) (setup_keeps l n (before ++ line ∷ []) lines) keeps in
     let b = and_parts true (list_all (is_built l 1) (map setup_command lines)) built in
-    let numbered = nat_le (next_port l actor (made_after l [] before)).number PORTS_PER_SITE in
+    let numbered = nat_le (next_port l actor (made_after l [] before)).number PORTS_PER_SITE_LIMIT in
     let outer = and_parts (is_capacity capacity && is_actor_of l n actor) numbered k.0 in
     let inner = and_parts (is_capacity capacity) (is_actor_of l n actor) outer.0 in
     let of = of-one l n actor one inner.1 in

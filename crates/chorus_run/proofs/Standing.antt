@@ -1,7 +1,7 @@
 -- What is handed out stands for the world of the merge, and nothing is under way.
 use Rattle.std.proofs.Common.{◌≡◌, true, List, [], ◌∷◌, map, reverse, All, refl, sym, ◌∙◌, ap, subst, subst₂}
 use Rattle.std.proofs.lemmas.List.Elements.{All-map}
-use Rattle.chorus_ui.specs.Layout.{IsShape}
+use Rattle.chorus_ui.specs.Layout.{IsLayout}
 use Rattle.chorus_entry.specs.declared.entry.Entry.{Entry}
 use Rattle.chorus_entry.specs.declared.record.PortRecord.{PortRecord}
 use Rattle.chorus_world.specs.Places.{sent, unsettled}
@@ -29,24 +29,24 @@ past-closed c closed is = past-is c closed (merge-is c closed is.journals)
 ports-closed : (c : Scene) (closed : Closed) → IsClosed (replayed c) closed → ports_of closed ≡ (replayed c).place.ports
 ports-closed c closed is = ap (map (λ (p : Placed). p.port)) is.ports ∙ taken-back (replayed c).place.ports
 
-pub stands-for-merge : (c : Scene) (closed : Closed) → IsShape c.layout → Keeps c → scene_is_built c ≡ true → IsClosed (replayed c) closed → StandsForMerge closed
-stands-for-merge c closed shape keeps built is =
+pub stands-for-merge : (c : Scene) (closed : Closed) → IsLayout c.layout → Keeps c → scene_is_built c ≡ true → IsClosed (replayed c) closed → StandsForMerge closed
+stands-for-merge c closed layout keeps built is =
     let ports = (replayed c).place.ports in
     let events = reverse (order c) in
     let ready = order-ready c keeps built in
     let stands : StandsFor (replayed c).place.journal ports =
-    record { shown = (holds c.layout events shape ready).world.table.shown; once = once c.layout events shape ready } in
+    record { shown = (holds c.layout events layout ready).world.table.shown; once = once c.layout events layout ready } in
     let IsFirst : Placed → Type 0 = λ p. p.place ≡ 1 in
     record {
       ports = subst₂ StandsFor (sym (past-closed c closed is)) (sym (ports-closed c closed is)) stands;
       places = subst (All IsFirst) (sym is.ports) (All-map IsFirst placed ports (λ k d lt. refl));
     }
 
-pub is-quiet : (c : Scene) (closed : Closed) → IsShape c.layout → Keeps c → scene_is_built c ≡ true → IsClosed (replayed c) closed → IsQuiet closed
-is-quiet c closed shape keeps built is =
+pub is-quiet : (c : Scene) (closed : Closed) → IsLayout c.layout → Keeps c → scene_is_built c ≡ true → IsClosed (replayed c) closed → IsQuiet closed
+is-quiet c closed layout keeps built is =
     record {
       rest = is.rest;
       settled =
           ap (λ (past : List Entry). unsettled past (sent past)) (past-closed c closed is)
-          ∙ (holds c.layout (reverse (order c)) shape (order-ready c keeps built)).world.waits;
+          ∙ (holds c.layout (reverse (order c)) layout (order-ready c keeps built)).world.waits;
     }

@@ -10,7 +10,7 @@ use Rattle.chorus_entry.specs.declared.record.PortRecord.{PortRecord}
 use Rattle.chorus_merge.specs.Merge.{merged}
 use Rattle.chorus_world.specs.Views.{on}
 use Rattle.chorus_world.specs.Places.{sent, unsettled}
-use Rattle.chorus_world.specs.Ports.{Fate, fate, is_held}
+use Rattle.chorus_world.specs.Ports.{PortState, fate, is_held}
 use Rattle.chorus_world.specs.Runs.{is_run}
 use Rattle.chorus_world.specs.Commands.{performs}
 use Rattle.chorus_world.specs.AcceptedLaws.{received, taken_by, accepted_by}
@@ -97,7 +97,7 @@ ReceivesInOrder closed =
 
 -- a message that a port accepted at this position stands at no other, of no port: so what became of it is its fate there
 pub record StandsAlone (past : List Entry) (port : Ui) (position : ℕ) (x : MsgId) : Type 0 where
-  pub state : Fate
+  pub state : PortState
   pub made : fate (on port past) ≡ Some state
   pub alone : (other : Ui) (place : ℕ) → slice_get (accepted_by other past) place ≡ Some x → (other ≡ port) × (place ≡ position)
 
@@ -111,7 +111,7 @@ HasOneHolder closed =
 -- it accepted was received or is queued
 abbrev pub HoldsAllPorts : Closed → Type 0
 HoldsAllPorts closed =
-    (newer past : List Entry) (port : Ui) (state : Fate) → past_of closed ≡ newer ++ past →
+    (newer past : List Entry) (port : Ui) (state : PortState) → past_of closed ≡ newer ++ past →
     fate (on port past) ≡ Some state → is_held state.spot ≡ true
 
 -- In the real tables.

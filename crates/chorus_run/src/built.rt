@@ -2,7 +2,7 @@
 
 ghost use Rattle.std.specs.Prelude.{◌≡◌, ◌&&◌, map};
 ghost use Rattle.std.specs.List.{list_all};
-ghost use Rattle.chorus_ui.specs.Layout.{IsShape};
+ghost use Rattle.chorus_ui.specs.Layout.{IsLayout};
 ghost use Rattle.chorus_scene.specs.Limits.{Keeps};
 ghost use Rattle.chorus_place.specs.Machine.{is_built};
 ghost use Rattle.chorus_run.specs.Order.{setup_command, setup_commands, script_is_built, scene_is_built};
@@ -16,7 +16,7 @@ use chorus_ui::Layout;
 pub(crate) fn is_built(scenario: &Scenario) -> bool
     ensures value { result ≡ scene_is_built scenario.now }
     ensures keeps { Keeps scenario.now }
-    ensures shape { IsShape scenario.now.layout }
+    ensures layout { IsLayout scenario.now.layout }
 {
     let layout = scenario.layout();
     let turns = layout.turns();

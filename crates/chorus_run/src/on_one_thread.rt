@@ -2,7 +2,7 @@
 
 ghost use Rattle.std.specs.Prelude.{◌≡◌, ◌≢◌, ◌↔◌, ◌⊎◌, ℕ, IfOk, IfErr, IsErrOf, IfSome, IsSome, IsNone, Some, None, Ok, Err, true};
 ghost use Rattle.chorus_io.specs.Count.{Rose};
-ghost use Rattle.chorus_ui.specs.Layout.{IsShape};
+ghost use Rattle.chorus_ui.specs.Layout.{IsLayout};
 ghost use Rattle.chorus_scene.specs.Scene.{Scene};
 ghost use Rattle.chorus_scene.specs.Limits.{Keeps};
 ghost use Rattle.chorus_net.specs.Closing.{IsClosed, IsOfSites};
@@ -82,7 +82,7 @@ fn read_scenario<S: Source>(
     source: &mut S,
     layout: Layout,
 ) -> Result<Scenario, Status>
-    ensures ok { IfOk result (λ c. (c.layout ≡ layout) × (scene_is_built c ≡ true) × Keeps c × IsShape c.layout) }
+    ensures ok { IfOk result (λ c. (c.layout ≡ layout) × (scene_is_built c ≡ true) × Keeps c × IsLayout c.layout) }
     ensures accepted { IfOk result (λ c. IsSome (S.left source.old) → Gives layout (S.left source.old) (Ok c)) }
     ensures refused { (line reason : ℕ) → IsErrOf result (Status.Scenario line reason) → IsSome (S.left source.old) → Gives layout (S.left source.old) (Err (line, reason)) }
     ensures err { IfErr result GivesUp }
@@ -118,7 +118,7 @@ fn play(
     requires layout { scenario.now.layout ≡ layout_of sites }
     requires built { scene_is_built scenario.now ≡ true }
     requires keeps { Keeps scenario.now }
-    requires shape { IsShape scenario.now.layout }
+    requires layout { IsLayout scenario.now.layout }
     ensures text { IfOk result (λ played. played.1.items ≡ text_of (Some played.0)) }
     ensures closed { IfOk result (λ played. IsClosed (replayed scenario.now) played.0) }
 {

@@ -2,9 +2,9 @@
 
 ghost use Rattle.std.specs.Prelude.{◌≡◌, ◌<◌, ◌++◌, reverse, IfSome, OnOk, true};
 ghost use Rattle.chorus_scene.specs.Limits.{Keeps};
-ghost use Rattle.chorus_ui.specs.Layout.{IsShape};
-ghost use Rattle.chorus_place.specs.Calls.{is_post};
-ghost use Rattle.chorus_place.specs.declared.fault.TheConstants.{WORN};
+ghost use Rattle.chorus_ui.specs.Layout.{IsLayout};
+ghost use Rattle.chorus_entry.specs.Command.{is_post};
+ghost use Rattle.chorus_ui.specs.declared.limits.TheConstants.{CLOCK_LIMIT};
 ghost use Rattle.chorus_net.specs.Sites.{acted, actor_of, posts_of, compared, after};
 ghost use Rattle.chorus_net.specs.OnePlace.{may_give};
 ghost use Rattle.chorus_run.specs.Order.{scene_is_built, setup_command, in_setup, entering, replayed};
@@ -28,7 +28,7 @@ pub(crate) fn perform(
     requires layout { scenario.now.layout ≡ sites.old.place.layout }
     requires built { scene_is_built scenario.now ≡ true }
     requires keeps { Keeps scenario.now }
-    requires shape { IsShape scenario.now.layout }
+    requires layout { IsLayout scenario.now.layout }
     ensures { OnOk result (sites.new ≡ replayed scenario.now) }
 {
     let calls = calls(alloc, scenario)?;
@@ -48,7 +48,7 @@ fn set_up(sites: &mut Sites, scenario: &Scenario) -> Result<(), AllocError>
     requires layout { scenario.now.layout ≡ sites.old.place.layout }
     requires built { scene_is_built scenario.now ≡ true }
     requires keeps { Keeps scenario.now }
-    requires shape { IsShape scenario.now.layout }
+    requires layout { IsLayout scenario.now.layout }
     ensures { OnOk result (sites.new ≡ after scenario.now.layout (reverse (in_setup scenario.now))) }
 {
     for line in scenario.setup() {
@@ -73,7 +73,7 @@ fn enter(sites: &mut Sites, scenario: &Scenario) -> Result<(), AllocError>
     requires now { sites.old ≡ after scenario.now.layout (reverse (in_setup scenario.now)) }
     requires built { scene_is_built scenario.now ≡ true }
     requires keeps { Keeps scenario.now }
-    requires shape { IsShape scenario.now.layout }
+    requires layout { IsLayout scenario.now.layout }
     ensures { OnOk result (sites.new ≡ after scenario.now.layout (reverse (in_setup scenario.now ++ entering scenario.now))) }
 {
     for script in scenario.scripts() {
@@ -91,7 +91,7 @@ fn enter(sites: &mut Sites, scenario: &Scenario) -> Result<(), AllocError>
 fn act(sites: &mut Sites, seat: u32, command: Command) -> Result<(), AllocError>
     requires may { may_give sites.old.place.layout (actor_of sites.old seat) command ≡ true }
     requires posts { is_post command ≡ true → IfSome (posts_of sites.old seat) (λ posts. posts < u32.MAX) }
-    requires clock { compared seat sites.old < WORN }
+    requires clock { compared seat sites.old < CLOCK_LIMIT }
     ensures { OnOk result (sites.new ≡ acted seat command sites.old) }
 {
     match sites.act(seat, command) {

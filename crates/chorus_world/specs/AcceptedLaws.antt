@@ -2,8 +2,8 @@
 use Rattle.std.specs.Prelude.{ℕ, ◌≡◌, ◌≤◌, ◌+◌, true, List, [], ◌∷◌, ◌++◌, length, take, Option, Some, None, slice_get}
 use Rattle.chorus_ui.specs.declared.ui.Ui.{Ui}
 use Rattle.chorus_ui.specs.declared.layout.Layout.{Layout}
-use Rattle.chorus_ui.specs.Layout.{IsShape}
-use Rattle.chorus_entry.specs.declared.record.pending.TheConstants.{PENDING_LIMIT}
+use Rattle.chorus_ui.specs.Layout.{IsLayout}
+use Rattle.chorus_ui.specs.declared.limits.TheConstants.{PENDING_LIMIT}
 use Rattle.chorus_entry.specs.declared.entry.Entry.{Entry}
 use Rattle.chorus_entry.specs.declared.id.MsgId.{MsgId}
 use Rattle.chorus_entry.specs.declared.answer.Answer.{Answer}
@@ -11,11 +11,11 @@ use Rattle.chorus_entry.specs.declared.act.Act.{Act}
 use Rattle.chorus_entry.specs.declared.act.Act.TheVariants.{Take, Delete}
 use Rattle.chorus_world.specs.Messages.{verdict, verdict_by}
 use Rattle.chorus_world.specs.Views.{on}
-use Rattle.chorus_world.specs.Ports.{Fate, fate}
+use Rattle.chorus_world.specs.Ports.{PortState, fate}
 use Rattle.chorus_world.specs.Fates.{MessageFate, fate_at}
 use Rattle.chorus_world.specs.Steps.{is_legal}
 
-abbrev pub accepted_from : Option Fate → List MsgId
+abbrev pub accepted_from : Option PortState → List MsgId
 accepted_from None = []
 accepted_from (Some f) = f.accepted
 
@@ -23,7 +23,7 @@ accepted_from (Some f) = f.accepted
 abbrev pub accepted_by : Ui → List Entry → List MsgId
 accepted_by q past = accepted_from (fate (on q past))
 
-abbrev pub taken_from : Option Fate → ℕ
+abbrev pub taken_from : Option PortState → ℕ
 taken_from None = 0
 taken_from (Some f) = f.taken
 
@@ -59,7 +59,7 @@ StandsOnce =
 pub record HasFate (x : MsgId) (past : List Entry) (what : MessageFate) : Type 0 where
   pub port : Ui
   pub position : ℕ
-  pub state : Fate
+  pub state : PortState
   pub made : fate (on port past) ≡ Some state
   pub stands : slice_get state.accepted position ≡ Some x
   pub is : fate_at position state ≡ what
@@ -78,31 +78,31 @@ HasSomeFate =
 -- what a port accepted stays where it is, whatever comes after: only more is put behind it
 abbrev pub AcceptedGrows : Type 0
 AcceptedGrows =
-    (l : Layout) (newer past : List Entry) (q : Ui) → IsShape l → is_legal l (newer ++ past) ≡ true →
+    (l : Layout) (newer past : List Entry) (q : Ui) → IsLayout l → is_legal l (newer ++ past) ≡ true →
     (more : List MsgId) × (accepted_by q (newer ++ past) ≡ accepted_by q past ++ more)
 
 -- the ids of a port's Take entries are the first ones that it accepted, as many as were received
 abbrev pub ReceivesInOrder : Type 0
 ReceivesInOrder =
-    (l : Layout) (past : List Entry) (q : Ui) → IsShape l → is_legal l past ≡ true →
+    (l : Layout) (past : List Entry) (q : Ui) → IsLayout l → is_legal l past ≡ true →
     (received (on q past) ≡ take (taken_by q past) (accepted_by q past)) × (taken_by q past ≤ length (accepted_by q past))
 
 -- no more messages wait in a port than it has room for, and that is room for 1 to 64
 abbrev pub KeepsToCapacity : Type 0
 KeepsToCapacity =
-    (l : Layout) (past : List Entry) (q : Ui) (f : Fate) → IsShape l → is_legal l past ≡ true → fate (on q past) ≡ Some f →
+    (l : Layout) (past : List Entry) (q : Ui) (f : PortState) → IsLayout l → is_legal l past ≡ true → fate (on q past) ≡ Some f →
     (length f.accepted ≤ f.taken + f.capacity) × (1 ≤ f.capacity) × (f.capacity ≤ PENDING_LIMIT)
 
 -- the ids of a port's Delete entry are all that it accepted and that was not received
 abbrev pub DiscardsTheRest : Type 0
 DiscardsTheRest =
-    (l : Layout) (past : List Entry) (q : Ui) (xs : List MsgId) → IsShape l → is_legal l past ≡ true → discarded (on q past) ≡ Some xs →
+    (l : Layout) (past : List Entry) (q : Ui) (xs : List MsgId) → IsLayout l → is_legal l past ≡ true → discarded (on q past) ≡ Some xs →
     accepted_by q past ≡ received (on q past) ++ xs
 
 -- after its Delete entry nothing becomes of a port any more
 abbrev pub EndsWithDelete : Type 0
 EndsWithDelete =
-    (l : Layout) (newer past : List Entry) (q : Ui) (xs : List MsgId) → IsShape l → is_legal l (newer ++ past) ≡ true →
+    (l : Layout) (newer past : List Entry) (q : Ui) (xs : List MsgId) → IsLayout l → is_legal l (newer ++ past) ≡ true →
     discarded (on q past) ≡ Some xs → on q (newer ++ past) ≡ on q past
 
 -- a verdict of a message is the first verdict of it

@@ -1,5 +1,5 @@
 -- Commands: which entry answers a command, and which lists perform a script of commands.
-use Rattle.std.specs.Prelude.{ℕ, ◌==◌, Bool, true, false, ◌&&◌, not, cond, List, [], ◌∷◌, is_none}
+use Rattle.std.specs.Prelude.{ℕ, ◌==◌, Bool, true, false, ◌&&◌, not, if◌then◌else◌, List, [], ◌∷◌, is_none}
 use Rattle.chorus_ui.specs.declared.ui.Ui.{Ui}
 use Rattle.chorus_ui.specs.declared.layout.Layout.{Layout}
 use Rattle.chorus_ui.specs.Name.{same_ui}
@@ -12,9 +12,11 @@ use Rattle.chorus_entry.specs.declared.command.Command.{Command}
 use Rattle.chorus_entry.specs.declared.act.Act.{Act}
 use Rattle.chorus_entry.specs.Act.{is_command_entry}
 use Rattle.chorus_entry.specs.Places.{place_for}
-use Rattle.chorus_world.specs.Views.{at, by, on, is_by, is_number}
+use Rattle.chorus_world.specs.Views.{at, by, on, is_by}
+use Rattle.chorus_entry.specs.Same.{is_number}
 use Rattle.chorus_world.specs.Ports.{fate}
-use Rattle.chorus_world.specs.Groups.{members, is_member}
+use Rattle.chorus_world.specs.Groups.{members}
+use Rattle.chorus_entry.specs.Members.{is_member}
 use Rattle.chorus_world.specs.Seats.{call, first_call}
 use Rattle.chorus_world.specs.Runs.{is_held_at_by}
 
@@ -137,4 +139,4 @@ performs l s a [] [] = true
 performs l s a [] (c ∷ cs) = false
 performs l s a (e ∷ past) [] = not (is_own_of s e) && performs l s a past []
 performs l s a (e ∷ past) (c ∷ cs) =
-    cond (is_own_of s e) (answers l past a c e && performs l s a past cs) (performs l s a past (c ∷ cs))
+    if is_own_of s e then answers l past a c e && performs l s a past cs else performs l s a past (c ∷ cs)

@@ -1,8 +1,8 @@
 -- Fates: what became of each message that a port accepted.
-use Rattle.std.specs.Prelude.{ℕ, nat_lt, cond}
+use Rattle.std.specs.Prelude.{ℕ, nat_lt, if◌then◌else◌}
 use Rattle.chorus_world.specs.declared.port.Spot.{Spot}
 use Rattle.chorus_world.specs.declared.port.Spot.TheVariants.{Held, Moving, Ended}
-use Rattle.chorus_world.specs.Ports.{Fate}
+use Rattle.chorus_world.specs.Ports.{PortState}
 
 pub data MessageFate : Type 0 where
   Received : MessageFate
@@ -17,5 +17,5 @@ fate_left (Moving a) = UnderWay
 fate_left Ended = Discarded
 
 -- the fate of the message that a port accepted at position i
-abbrev pub fate_at : ℕ → Fate → MessageFate
-fate_at i f = cond (nat_lt i f.taken) Received (fate_left f.spot)
+abbrev pub fate_at : ℕ → PortState → MessageFate
+fate_at i f = if nat_lt i f.taken then Received else fate_left f.spot

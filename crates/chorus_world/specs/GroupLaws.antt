@@ -1,5 +1,5 @@
 -- The laws of posts to groups: what a functional post reaches, and the order of a group's posts at its members.
-use Rattle.std.specs.Prelude.{ℕ, ◌≡◌, ◌<◌, ◌≤◌, Bool, true, false, cond, List, [], ◌∷◌, ◌++◌, length, Some, slice_get}
+use Rattle.std.specs.Prelude.{ℕ, ◌≡◌, ◌<◌, ◌≤◌, Bool, true, false, if◌then◌else◌, List, [], ◌∷◌, ◌++◌, length, Some, slice_get}
 use Rattle.chorus_ui.specs.declared.ui.Ui.{Ui}
 use Rattle.chorus_ui.specs.declared.layout.Layout.{Layout}
 use Rattle.chorus_ui.specs.Name.{same_ui}
@@ -26,7 +26,7 @@ is_functional _ = false
 
 -- the copies that the Choose entries of the post x make
 abbrev pub copies_by : MsgId → Act → List Sent
-copies_by x (Choose y g qs) = cond (same_id y x) (copies y g 1 qs) []
+copies_by x (Choose y g qs) = if same_id y x then copies y g 1 qs else []
 copies_by x _ = []
 
 abbrev pub copies_of : MsgId → List Entry → List Sent
@@ -55,7 +55,7 @@ IsAcceptedOnSite =
 
 -- the posts of the Choose entries of a group, in order
 abbrev pub choice_by : Ui → Act → List MsgId
-choice_by g (Choose x h qs) = cond (same_ui h g) (x ∷ []) []
+choice_by g (Choose x h qs) = if same_ui h g then x ∷ [] else []
 choice_by g _ = []
 
 abbrev pub choices_of : Ui → List Entry → List MsgId

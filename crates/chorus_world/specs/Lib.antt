@@ -7,12 +7,9 @@ pub mod Places
 pub mod Groups
 pub mod Seats
 pub mod Steps
-pub mod Rules
 pub mod Runs
 pub mod Commands
 pub mod Fates
-pub mod Computing
-pub mod Refusals
 pub mod AcceptedLaws
 pub mod RequestLaws
 pub mod SenderLaws

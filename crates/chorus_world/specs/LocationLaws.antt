@@ -3,26 +3,26 @@ use Rattle.std.specs.Prelude.{ℕ, ◌≡◌, ◌≤◌, ◌+◌, Bool, true, fa
 use Rattle.chorus_ui.specs.declared.ui.Ui.{Ui}
 use Rattle.chorus_ui.specs.declared.layout.Layout.{Layout}
 use Rattle.chorus_ui.specs.Name.{same_ui}
-use Rattle.chorus_ui.specs.Layout.{IsShape}
+use Rattle.chorus_ui.specs.Layout.{IsLayout}
 use Rattle.chorus_entry.specs.declared.entry.Entry.{Entry}
 use Rattle.chorus_entry.specs.declared.id.MsgId.{MsgId}
 use Rattle.chorus_entry.specs.declared.act.Act.{Act}
 use Rattle.chorus_entry.specs.declared.act.Act.TheVariants.{Try}
 use Rattle.chorus_world.specs.Views.{at, on, about}
-use Rattle.chorus_world.specs.Ports.{Fate, fate}
+use Rattle.chorus_world.specs.Ports.{PortState, fate}
 use Rattle.chorus_world.specs.Places.{located, named_location}
 use Rattle.chorus_world.specs.Steps.{is_legal}
 
 -- the places of a port's hops 0, 1, ..: of a port that is not made the place alone that its name tells, which is its creation
 -- place where the layout has its site
-abbrev pub path_of : Layout → Ui → Option Fate → List ℕ
+abbrev pub path_of : Layout → Ui → Option PortState → List ℕ
 path_of l q None = (named_location l q).to ∷ []
 path_of l q (Some f) = f.path
 
 -- in a legal past each place locates a port at a place of the port's path, with that place's hop
 abbrev pub LocatesOnPath : Type 0
 LocatesOnPath =
-    (l : Layout) (past : List Entry) (p : ℕ) (q : Ui) → IsShape l → is_legal l past ≡ true →
+    (l : Layout) (past : List Entry) (p : ℕ) (q : Ui) → IsLayout l → is_legal l past ≡ true →
     slice_get (path_of l q (fate (on q past))) (located l q (at p past)).hop ≡ Some (located l q (at p past)).to
 
 -- how many tries stand among these entries
@@ -47,5 +47,5 @@ is_tried_for q (e ∷ message) = is_try_for q e.act || is_tried_for q message
 -- at most h + 1 times
 abbrev pub TriesWithinPath : Type 0
 TriesWithinPath =
-    (l : Layout) (past : List Entry) (x : MsgId) (q : Ui) → IsShape l → is_legal l past ≡ true → is_tried_for q (about x past) ≡ true →
+    (l : Layout) (past : List Entry) (x : MsgId) (q : Ui) → IsLayout l → is_legal l past ≡ true → is_tried_for q (about x past) ≡ true →
     tries (about x past) ≤ length (path_of l q (fate (on q past)))

@@ -1,5 +1,5 @@
 -- Messages: what the entries about one message say of it.
-use Rattle.std.specs.Prelude.{ℕ, ◌==◌, Bool, false, ◌&&◌, cond, List, [], ◌∷◌, length, Option, Some, None}
+use Rattle.std.specs.Prelude.{ℕ, ◌==◌, Bool, false, ◌&&◌, if◌then◌else◌, List, [], ◌∷◌, length, Option, Some, None}
 use Rattle.std.specs.Option.{option_or}
 use Rattle.chorus_ui.specs.declared.ui.Ui.{Ui}
 use Rattle.chorus_ui.specs.Name.{same_ui}
@@ -7,7 +7,7 @@ use Rattle.chorus_entry.specs.declared.entry.Entry.{Entry}
 use Rattle.chorus_entry.specs.declared.id.MsgId.{MsgId}
 use Rattle.chorus_entry.specs.Act.{port_of, answer_of, message_of, is_verdict}
 use Rattle.chorus_entry.specs.MsgId.{same_id}
-use Rattle.chorus_world.specs.Views.{are_same}
+use Rattle.chorus_entry.specs.Same.{are_same}
 use Rattle.chorus_entry.specs.Answer.{same_answer, is_final}
 use Rattle.chorus_entry.specs.declared.dest.Dest.{Dest}
 use Rattle.chorus_entry.specs.declared.dest.Dest.TheVariants.{Port}
@@ -20,7 +20,7 @@ use Rattle.chorus_entry.specs.declared.act.Act.TheVariants.{Post, NoMember, Choo
 
 -- settled, unless the answer is Stale
 abbrev pub settled : Answer → Progress
-settled a = cond (is_final a) (Settled a) Idle
+settled a = if is_final a then Settled a else Idle
 
 abbrev pub posted : ℕ → Dest → Progress
 posted p (Port q) = Idle
@@ -28,7 +28,7 @@ posted p d = Asked p d
 
 -- decided where it was tried, or where it waits
 abbrev pub decided : ℕ → Ui → Answer → Progress → Progress
-decided p q a (Tried from r to hop) = cond ((to == p) && same_ui r q) (Decided from p r a) Idle
+decided p q a (Tried from r to hop) = if (to == p) && same_ui r q then Decided from p r a else Idle
 decided p q a Idle = settled a
 decided p q a s = s
 
@@ -65,7 +65,7 @@ is_to_be_heard a _ = false
 
 -- the answer of the verdict of the message x
 abbrev pub verdict_by : MsgId → Act → Option Answer
-verdict_by x act = cond (is_verdict act && are_same same_id (Some x) (message_of act)) (answer_of act) None
+verdict_by x act = if is_verdict act && are_same same_id (Some x) (message_of act) then answer_of act else None
 
 abbrev pub verdict : MsgId → List Entry → Option Answer
 verdict x [] = None

@@ -1,20 +1,11 @@
 -- The order by clock and place: in which lists it goes with what each entry reads, and how a list is sorted by it. A list
 -- is a past, the newest entry first.
-use Rattle.std.specs.Prelude.{ℕ, ◌≡◌, ◌==◌, nat_lt, Bool, true, ◌&&◌, ◌||◌, cond, List, [], ◌∷◌}
-use Rattle.std.specs.List.{All}
+use Rattle.std.specs.Prelude.{ℕ, if◌then◌else◌, List, [], ◌∷◌}
 use Rattle.chorus_ui.specs.declared.ui.Ui.{Ui}
 use Rattle.chorus_entry.specs.declared.entry.Entry.{Entry}
 use Rattle.chorus_entry.specs.declared.id.MsgId.{MsgId}
+use Rattle.chorus_entry.specs.Order.{IsRising, comes_before}
 use Rattle.chorus_world.specs.Views.{at, by, about, on}
-
--- e comes before f: by clock, of equal clocks by place
-abbrev pub comes_before : Entry → Entry → Bool
-comes_before e f = nat_lt e.clock f.clock || ((e.clock == f.clock) && nat_lt e.place f.place)
-
--- clock and place rise: each entry comes after all older ones
-abbrev pub IsRising : List Entry → Type 0
-IsRising [] = Unit {0}
-IsRising (e ∷ past) = All (λ (f : Entry). comes_before f e ≡ true) past × IsRising past
 
 -- clock and place rise along each place, each seat, each message and the line of each port
 pub record IsCausal (past : List Entry) : Type 0 where
@@ -26,7 +17,7 @@ pub record IsCausal (past : List Entry) : Type 0 where
 -- the list with e put in as older than the newest entries, as far as it comes before them; without any, it is the newest
 abbrev pub insert : Entry → List Entry → List Entry
 insert e [] = e ∷ []
-insert e (f ∷ past) = cond (comes_before e f) (f ∷ insert e past) (e ∷ f ∷ past)
+insert e (f ∷ past) = if comes_before e f then f ∷ insert e past else e ∷ f ∷ past
 
 -- the list in the order by clock and place; of entries that have both the same the older one stays the older
 abbrev pub sort : List Entry → List Entry

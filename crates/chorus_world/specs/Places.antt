@@ -1,5 +1,5 @@
 -- Places: what the entries of one place say.
-use Rattle.std.specs.Prelude.{ℕ, ◌+◌, ◌==◌, nat_lt, Bool, true, false, ◌&&◌, ◌||◌, not, cond, List, [], ◌∷◌, ◌++◌, Option, Some, None}
+use Rattle.std.specs.Prelude.{ℕ, ◌+◌, ◌==◌, nat_lt, Bool, false, ◌&&◌, ◌||◌, not, if◌then◌else◌, List, [], ◌∷◌, ◌++◌, Option, Some, None}
 use Rattle.std.specs.List.{filter}
 use Rattle.chorus_ui.specs.declared.ui.Ui.{Ui}
 use Rattle.chorus_ui.specs.declared.layout.Layout.{Layout}
@@ -14,14 +14,14 @@ use Rattle.chorus_entry.specs.declared.answer.Answer.TheVariants as A
 use Rattle.chorus_entry.specs.declared.tag.Tag.{Tag}
 use Rattle.chorus_entry.specs.declared.tag.Tag.TheVariants.{Reply}
 use Rattle.chorus_entry.specs.declared.act.Act.{Act}
-use Rattle.chorus_entry.specs.declared.act.Act.TheVariants.{Make, Post, Choose, Try, Told, Take, Depart, Arrive}
+use Rattle.chorus_entry.specs.declared.act.Act.TheVariants.{Make, Post, Choose, Try, Told, Heard, Take, Depart, Arrive, Delete}
 use Rattle.chorus_entry.specs.Answer.{is_final}
 use Rattle.chorus_entry.specs.Act.{is_verdict, message_of}
 use Rattle.chorus_entry.specs.MsgId.{same_id}
 use Rattle.chorus_world.specs.declared.place.Sent.{Sent}
 use Rattle.chorus_world.specs.declared.place.Location.{Location}
 use Rattle.chorus_world.specs.declared.place.TakenReply.{TakenReply}
-use Rattle.chorus_world.specs.Views.{are_same}
+use Rattle.chorus_entry.specs.Same.{are_same, same_route}
 use Rattle.chorus_world.specs.Posts.{tag_of}
 
 -- the clock of the last entry
@@ -37,6 +37,33 @@ ports_after _ n = n
 abbrev pub ports_made : List Entry → ℕ
 ports_made [] = 0
 ports_made (e ∷ here) = ports_after e.act (ports_made here)
+
+-- the port was made here
+abbrev pub makes : Ui → Act → Bool
+makes q (Make r a c) = same_ui r q
+makes q _ = false
+
+abbrev pub is_made_here : Ui → List Entry → Bool
+is_made_here q [] = false
+is_made_here q (e ∷ here) = makes q e.act || is_made_here q here
+
+-- the port was deleted here
+abbrev pub deletes : Ui → Act → Bool
+deletes q (Delete r xs) = same_ui r q
+deletes q _ = false
+
+abbrev pub is_deleted : Ui → List Entry → Bool
+is_deleted q [] = false
+is_deleted q (e ∷ here) = deletes q e.act || is_deleted q here
+
+-- the place heard of the message x
+abbrev pub hears : MsgId → Act → Bool
+hears x (Heard y a) = same_id y x
+hears x _ = false
+
+abbrev pub is_heard : MsgId → List Entry → Bool
+is_heard x [] = false
+is_heard x (e ∷ here) = hears x e.act || is_heard x here
 
 -- the copies of the post x to the group g, numbered from n on, one for each member
 abbrev pub copies : MsgId → Ui → ℕ → List Ui → List Sent
@@ -60,7 +87,7 @@ sent (e ∷ here) = sent here ++ sent_by e.act
 -- the message of this id among them
 abbrev pub find_sent : MsgId → List Sent → Option Sent
 find_sent x [] = None
-find_sent x (m ∷ ms) = cond (same_id m.id x) (Some m) (find_sent x ms)
+find_sent x (m ∷ ms) = if same_id m.id x then Some m else find_sent x ms
 
 -- the act settles its message: it is a verdict, or tells one
 abbrev pub is_settling : Act → Bool
@@ -78,16 +105,10 @@ is_settled x (e ∷ here) = settles x e.act || is_settled x here
 abbrev pub unsettled : List Entry → List Sent → List Sent
 unsettled here ms = filter (λ m. not (is_settled m.id here)) ms
 
--- both are direct, or both go through one group
-abbrev pub same_route : Option Ui → Option Ui → Bool
-same_route None None = true
-same_route (Some g) (Some h) = same_ui g h
-same_route _ _ = false
-
 -- the first of the messages that goes to the port by the route
 abbrev pub first_for : Ui → Option Ui → List Sent → Option MsgId
 first_for q r [] = None
-first_for q r (m ∷ ms) = cond (same_ui m.port q && same_route m.route r) (Some m.id) (first_for q r ms)
+first_for q r (m ∷ ms) = if same_ui m.port q && same_route m.route r then Some m.id else first_for q r ms
 
 -- a try of the message x stands here that was not told yet
 abbrev pub tried_after : MsgId → Act → Bool → Bool
@@ -121,20 +142,20 @@ is_sent_to q (Some m) = same_ui m.port q
 
 -- what an act at the place p, behind the entries `here`, teaches of the port q
 abbrev pub learned : Ui → ℕ → List Entry → Act → Option Location
-learned q p here (Arrive r hop) = cond (same_ui r q) (Some (record { to = p; hop = hop })) None
-learned q p here (Depart r to a hop) = cond (same_ui r q) (Some (record { to = to; hop = hop })) None
-learned q p here (Told x a) = cond (is_sent_to q (find_sent x (sent here))) (taught a) None
+learned q p here (Arrive r hop) = if same_ui r q then Some (record { to = p; hop = hop }) else None
+learned q p here (Depart r to a hop) = if same_ui r q then Some (record { to = to; hop = hop }) else None
+learned q p here (Told x a) = if is_sent_to q (find_sent x (sent here)) then taught a else None
 learned q p here _ = None
 
 -- the farther of the two, the first where they are as far
 abbrev pub farther : Location → Option Location → Location
 farther l None = l
-farther l (Some m) = cond (nat_lt l.hop m.hop) m l
+farther l (Some m) = if nat_lt l.hop m.hop then m else l
 
 -- where a port is as far as its name tells: at its creation place with hop 0, and at no place, which is 0, where the layout
 -- has no such site
 abbrev pub named_location : Layout → Ui → Location
-named_location l q = record { to = cond (has_site l q.site) (creation_place l q) 0; hop = 0 }
+named_location l q = record { to = if has_site l q.site then creation_place l q else 0; hop = 0 }
 
 -- where the port is, as far as this place knows: the location with the greatest hop, the first of them
 abbrev pub located : Layout → Ui → List Entry → Location

@@ -1,5 +1,5 @@
 -- Posts: what was posted under an id, and for whom. The first Post of an id settles it for ever.
-use Rattle.std.specs.Prelude.{ℕ, ◌==◌, Bool, true, cond, List, [], ◌∷◌, Option, Some, None}
+use Rattle.std.specs.Prelude.{ℕ, ◌==◌, Bool, true, if◌then◌else◌, List, [], ◌∷◌, Option, Some, None}
 use Rattle.std.specs.Option.{option_or}
 use Rattle.chorus_ui.specs.declared.layout.Layout.{Layout}
 use Rattle.chorus_ui.specs.Layout.{site_of}
@@ -22,7 +22,7 @@ pub record Posted : Type 0 where
   pub dest : Dest
 
 abbrev pub posted_by : MsgId → ℕ → Act → Option Posted
-posted_by x p (Post m d) = cond (same_id m.id x) (Some (record { place = p; message = m; dest = d })) None
+posted_by x p (Post m d) = if same_id m.id x then Some (record { place = p; message = m; dest = d }) else None
 posted_by x p _ = None
 
 abbrev pub posted_in : MsgId → List Entry → Option Posted
@@ -36,6 +36,11 @@ source x = record x { copy = 0 }
 -- that post, among the entries of its seat
 abbrev pub post_of : MsgId → List Entry → Option Posted
 post_of x past = posted_in (source x) (by x.seat past)
+
+-- the message x as it was posted; plain and empty where it was not
+abbrev pub as_posted : MsgId → Option Posted → Message
+as_posted x None = record { id = x; tag = Plain; body = [] }
+as_posted x (Some m) = record m.message { id = x }
 
 abbrev pub tag_from : Option Posted → Tag
 tag_from None = Plain

@@ -9,7 +9,7 @@ use Rattle.chorus_entry.specs.declared.act.Act.TheVariants.{Take, Empty, NotHere
 use Rattle.chorus_world.specs.declared.port.Spot.{Spot}
 use Rattle.chorus_world.specs.declared.port.Spot.TheVariants.{Held}
 use Rattle.chorus_world.specs.Views.{by, on}
-use Rattle.chorus_world.specs.Ports.{Fate, fate, is_last}
+use Rattle.chorus_world.specs.Ports.{PortState, fate, is_last}
 use Rattle.chorus_world.specs.Places.{last_clock}
 use Rattle.chorus_world.specs.Steps.{may}
 
@@ -18,7 +18,7 @@ is_held_by a (Held b) = same_ui a b
 is_held_by a _ = false
 
 -- the port is held at the place p by the actor
-abbrev pub is_held_at_by : ℕ → Ui → Option Fate → Bool
+abbrev pub is_held_at_by : ℕ → Ui → Option PortState → Bool
 is_held_at_by p a None = false
 is_held_at_by p a (Some f) = is_held_by a f.spot && is_last p f
 

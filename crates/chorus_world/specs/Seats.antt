@@ -1,5 +1,5 @@
 -- Seats: what the entries of one caller say of its posts, its outstanding call and its hand.
-use Rattle.std.specs.Prelude.{ℕ, ◌+◌, ◌==◌, max, Bool, true, ◌&&◌, cond, List, [], ◌∷◌, Option, Some, None}
+use Rattle.std.specs.Prelude.{ℕ, ◌+◌, ◌==◌, max, Bool, true, ◌&&◌, if◌then◌else◌, List, [], ◌∷◌, Option, Some, None}
 use Rattle.std.specs.Option.{option_or}
 use Rattle.chorus_ui.specs.declared.ui.Ui.{Ui}
 use Rattle.chorus_ui.specs.Name.{same_ui}
@@ -53,7 +53,7 @@ call_with _ c = c
 
 abbrev pub ended : ℕ → Option ℕ → Option ℕ
 ended n None = None
-ended n (Some m) = cond (m == n) None (Some m)
+ended n (Some m) = if m == n then None else Some m
 
 abbrev pub call_after : Act → Option ℕ → Option ℕ
 call_after (Post m d) c = call_with m.tag c
@@ -75,7 +75,7 @@ abbrev pub same_call : Call → Call → Bool
 same_call a b = same_ui a.port b.port && same_ui a.back b.back && same_body a.body b.body
 
 abbrev pub call_in : ℕ → Tag → Dest → List ℕ → Option Call
-call_in n (Request k back) (Port q) body = cond (k == n) (Some (record { port = q; back = back; body = body })) None
+call_in n (Request k back) (Port q) body = if k == n then Some (record { port = q; back = back; body = body }) else None
 call_in n _ _ body = None
 
 abbrev pub call_by : ℕ → Act → Option Call

@@ -3,7 +3,7 @@ use Rattle.std.specs.Prelude.{ℕ, ◌≡◌, ◌⊎◌, true, false, List, Opti
 use Rattle.std.specs.List.{All}
 use Rattle.chorus_ui.specs.declared.ui.Ui.{Ui}
 use Rattle.chorus_ui.specs.declared.layout.Layout.{Layout}
-use Rattle.chorus_ui.specs.Layout.{IsShape, has_site}
+use Rattle.chorus_ui.specs.Layout.{IsLayout, has_site}
 use Rattle.chorus_entry.specs.declared.entry.Entry.{Entry}
 use Rattle.chorus_entry.specs.declared.id.MsgId.{MsgId}
 use Rattle.chorus_entry.specs.declared.act.Act.{Act}
@@ -14,7 +14,8 @@ use Rattle.chorus_world.specs.Groups.{is_group_place}
 use Rattle.chorus_world.specs.Steps.{is_legal}
 use Rattle.chorus_world.specs.Runs.{is_run}
 use Rattle.chorus_world.specs.Commands.{answers}
-use Rattle.chorus_world.specs.Order.{IsRising, IsCausal, sort}
+use Rattle.chorus_world.specs.Order.{IsCausal, sort}
+use Rattle.chorus_entry.specs.Order.{IsRising}
 
 -- a NoGroup stands at the group's place, or the layout has no such site
 abbrev pub LooksAtHome : Layout → ℕ → Act → Type 0
@@ -27,13 +28,13 @@ AllLookAtHome l past = All (λ (e : Entry). LooksAtHome l e.place e.act) past
 -- a legal list along whose views clock and place rise is legal when it is sorted
 abbrev pub SortsLegally : Type 0
 SortsLegally =
-    (l : Layout) (past : List Entry) → IsShape l → IsCausal past → AllLookAtHome l past → is_legal l past ≡ true →
+    (l : Layout) (past : List Entry) → IsLayout l → IsCausal past → AllLookAtHome l past → is_legal l past ≡ true →
     is_legal l (sort past) ≡ true
 
 -- and a run for the same callers where it was one
 abbrev pub SortsRuns : Type 0
 SortsRuns =
-    (l : Layout) (callers : ℕ → Option Ui) (past : List Entry) → IsShape l → IsCausal past → AllLookAtHome l past →
+    (l : Layout) (callers : ℕ → Option Ui) (past : List Entry) → IsLayout l → IsCausal past → AllLookAtHome l past →
     is_run l callers past ≡ true → is_run l callers (sort past) ≡ true
 
 -- each view of the sorted list is the view as it was

@@ -1,9 +1,9 @@
 -- Steps: which entry may come next, and what a legal list is.
-use Rattle.std.specs.Prelude.{ℕ, ◌+◌, ◌-◌, ◌*◌, ◌/◌, ◌%◌, ◌==◌, nat_lt, nat_le, Bool, true, false, ◌&&◌, ◌||◌, not, cond, List, [], ◌∷◌, length, Option, Some, None, is_some, is_none}
+use Rattle.std.specs.Prelude.{ℕ, ◌+◌, ◌-◌, ◌*◌, ◌/◌, ◌%◌, ◌==◌, nat_lt, nat_le, Bool, true, false, ◌&&◌, ◌||◌, not, if◌then◌else◌, List, [], ◌∷◌, length, Option, Some, None, is_some, is_none}
 use Rattle.chorus_ui.specs.declared.ui.Ui.{Ui}
 use Rattle.chorus_ui.specs.declared.layout.Layout.{Layout}
 use Rattle.chorus_ui.specs.Name.{same_ui}
-use Rattle.chorus_ui.specs.declared.layout.TheConstants.{PORTS_PER_SITE, GROUPS_PER_SITE}
+use Rattle.chorus_ui.specs.declared.limits.TheConstants.{PORTS_PER_SITE_LIMIT, GROUPS_PER_SITE_LIMIT, PENDING_LIMIT, MEMBERS_LIMIT}
 use Rattle.chorus_ui.specs.Layout.{has_site, has_place, has_actor, place_at, first_place, site_of, group_place}
 use Rattle.chorus_entry.specs.declared.entry.Entry.{Entry}
 use Rattle.chorus_entry.specs.declared.id.MsgId.{MsgId}
@@ -14,12 +14,11 @@ use Rattle.chorus_entry.specs.declared.tag.Tag.TheVariants.{Plain, Request, Repl
 use Rattle.chorus_entry.specs.declared.answer.Answer.{Answer}
 use Rattle.chorus_entry.specs.declared.act.Act.{Act}
 use Rattle.chorus_entry.specs.declared.act.Act.TheVariants.{Make, MakeFull, NoActor, NoSite, Post, Accept, Full, Already, ClientsFull, Stale, Early, NoPort, Elsewhere, NoMember, Choose, Try, Told, Heard, Take, Done, Late, Empty, NotHere, Rehome, Depart, Arrive, GroupMake, GroupsFull, Join, Leave, NoGroup, There, NotThere, MembersFull, Outstanding, NoCall, NoRequest, Cancel, Delete, Gone}
-use Rattle.chorus_entry.specs.declared.record.pending.TheConstants.{PENDING_LIMIT}
-use Rattle.chorus_entry.specs.declared.members.TheConstants.{MEMBERS_LIMIT}
 use Rattle.chorus_entry.specs.Dest.{group_in}
-use Rattle.chorus_entry.specs.Members.{same_uis}
+use Rattle.chorus_entry.specs.Members.{same_uis, is_member}
 use Rattle.chorus_entry.specs.Kinds.{has_kinds}
-use Rattle.chorus_world.specs.Views.{Views, views, is_group, is_number, are_same}
+use Rattle.chorus_world.specs.Views.{Views, views, is_group}
+use Rattle.chorus_entry.specs.Same.{is_number, are_same}
 use Rattle.chorus_world.specs.Ports.{fate, is_made, is_held_at, is_ended_at, is_coming, is_next_hop, has_room, is_full, is_first_waiting, is_empty, are_waiting}
 use Rattle.chorus_world.specs.Posts.{Posted, post_of, site_asked, is_on_site}
 use Rattle.chorus_world.specs.Clients.{is_already, finds_clients_full}
@@ -32,7 +31,7 @@ use Rattle.chorus_world.specs.declared.step.Due.{Due}
 use Rattle.chorus_world.specs.declared.step.Due.TheVariants.{NotDue, ByTry, AtHome}
 use Rattle.chorus_world.specs.Messages.{progress, is_to_be_told, is_to_be_heard}
 use Rattle.chorus_world.specs.Places.{last_clock, ports_made, is_first, located, is_location, just_taken}
-use Rattle.chorus_world.specs.Groups.{groups_made, members, is_member, choice, is_next_to, is_group_place, is_choosing_place}
+use Rattle.chorus_world.specs.Groups.{groups_made, members, choice, is_next_to, is_group_place, is_choosing_place}
 use Rattle.chorus_world.specs.Seats.{posts, posts_stay, requests, call, same_call, call_in, first_call, same_hand, hand}
 
 -- The place of ports and actors.
@@ -43,7 +42,7 @@ is_home l a p = has_actor l a && (place_at l a.site a == p)
 
 -- a place makes its share of the ports of a site
 abbrev pub is_full_of_ports : Layout → List Entry → Bool
-is_full_of_ports l here = nat_le (PORTS_PER_SITE / l.turns) (ports_made here)
+is_full_of_ports l here = nat_le (PORTS_PER_SITE_LIMIT / l.turns) (ports_made here)
 
 -- the number of the next port that p makes: the least one that is not made and whose place is p
 abbrev pub next_number : Layout → ℕ → List Entry → ℕ
@@ -71,10 +70,10 @@ is_to_go l v x q to = is_first x q v.here && not (is_beyond l q) && ((located l 
 -- x is due at the place p: with the hop of its latest try, where that was to p and is not decided; or with the hop by
 -- which its port is located here, where it is to be tried from here
 abbrev pub due_at_home : Layout → Views → ℕ → MsgId → Ui → Due
-due_at_home l v p x q = cond (is_to_go l v x q p && suits l v p x) (AtHome (located l q v.here).hop) NotDue
+due_at_home l v p x q = if is_to_go l v x q p && suits l v p x then AtHome (located l q v.here).hop else NotDue
 
 abbrev pub due_by_try : ℕ → Ui → Progress → Due → Due
-due_by_try p q (Tried from r to hop) d = cond ((to == p) && same_ui r q) (ByTry hop) d
+due_by_try p q (Tried from r to hop) d = if (to == p) && same_ui r q then ByTry hop else d
 due_by_try p q _ d = d
 
 abbrev pub due : Layout → Views → ℕ → MsgId → Ui → Due
@@ -255,10 +254,10 @@ may_delete v p xs = is_held_at p (fate v.port) && are_waiting xs (fate v.port)
 
 abbrev pub may_make_group : Layout → Views → ℕ → Ui → Bool
 may_make_group l v p g =
-    is_group_place l g p && (g.number == groups_made v.here + 1) && nat_le g.number GROUPS_PER_SITE
+    is_group_place l g p && (g.number == groups_made v.here + 1) && nat_le g.number GROUPS_PER_SITE_LIMIT
 
 abbrev pub may_find_groups_full : Layout → Views → ℕ → ℕ → Bool
-may_find_groups_full l v p s = has_site l s && (first_place l s == p) && (groups_made v.here == GROUPS_PER_SITE)
+may_find_groups_full l v p s = has_site l s && (first_place l s == p) && (groups_made v.here == GROUPS_PER_SITE_LIMIT)
 
 -- the group is made, and p is its place
 abbrev pub is_group_at : Layout → Views → ℕ → Ui → Bool
@@ -354,7 +353,7 @@ opening l = record { layout = l; past = [] }
 
 -- the world after the entry, or nothing
 abbrev pub next : State → Entry → Option State
-next w e = cond (may w.layout w.past e) (Some (record { layout = w.layout; past = e ∷ w.past })) None
+next w e = if may w.layout w.past e then Some (record { layout = w.layout; past = e ∷ w.past }) else None
 
 -- each entry could come next when it came
 abbrev pub is_legal : Layout → List Entry → Bool

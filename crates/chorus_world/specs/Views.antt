@@ -1,39 +1,18 @@
 -- What of the past an entry can read: the entries of its place, of its seat, about its message, and on the line of its
 -- port, which are those that stand only where the port is held or comes to be held. A past is the list of all entries so
 -- far, the newest first.
-use Rattle.std.specs.Prelude.{ℕ, Bool, false, ◌||◌, List, [], ◌∷◌, Option, Some, None, ◌==◌}
+use Rattle.std.specs.Prelude.{ℕ, Bool, false, ◌||◌, List, [], ◌∷◌, Option, Some, ◌==◌}
 use Rattle.std.specs.List.{filter}
 use Rattle.chorus_ui.specs.declared.ui.Ui.{Ui}
 use Rattle.chorus_ui.specs.Name.{same_ui}
 use Rattle.chorus_entry.specs.declared.entry.Entry.{Entry}
 use Rattle.chorus_entry.specs.declared.id.MsgId.{MsgId}
 use Rattle.chorus_entry.specs.declared.act.Act.{Act}
-use Rattle.chorus_entry.specs.declared.act.Act.TheVariants.{Stale, Early, NoPort, Elsewhere, GroupMake, NoGroup, Gone}
-use Rattle.chorus_entry.specs.Act.{message_of, held_port_of}
+use Rattle.chorus_entry.specs.declared.act.Act.TheVariants.{GroupMake, NoGroup, Gone}
+use Rattle.chorus_entry.specs.Act.{message_of, held_port_of, port_read_by}
 use Rattle.chorus_entry.specs.MsgId.{same_id}
-
--- both are there, and the same
-abbrev pub are_same : {A : Type 0} → (A → A → Bool) → Option A → Option A → Bool
-are_same same None b = false
-are_same same (Some a) None = false
-are_same same (Some a) (Some b) = same a b
-
--- the number is there, and is n
-abbrev pub is_number : ℕ → Option ℕ → Bool
-is_number n None = false
-is_number n (Some m) = m == n
-
--- the port that an act reads: the one that it needs held, makes or brings, or the one that it finds away
-abbrev pub port_read_by : Act → Option Ui
-port_read_by (Stale x q tried to hop) = Some q
-port_read_by (Early x q hop) = Some q
-port_read_by (NoPort x q) = Some q
-port_read_by (Elsewhere x q to hop) = Some q
-port_read_by (Gone x q) = Some q
-port_read_by a = held_port_of a
-
-abbrev pub is_at : ℕ → Entry → Bool
-is_at p e = e.place == p
+use Rattle.chorus_entry.specs.Same.{are_same}
+use Rattle.chorus_entry.specs.Order.{is_at}
 
 abbrev pub is_by : ℕ → Entry → Bool
 is_by s e = e.seat == s

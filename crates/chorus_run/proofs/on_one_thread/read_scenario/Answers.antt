@@ -31,7 +31,7 @@ returns-then-not-is_built-clause-refused g c line reason is some =
 pub returns-clause-ok : goal.returns-clause-ok
 returns-clause-ok g c =
     let holds = c.if-not-is_built.false in
-    ((printed_again c.args.layout c.deref.result.now c.in-Ok-read.scenario c.in-Ok-read.ensures).0, sym c.is_built.ensures.value ∙ grind (arith, holds), c.is_built.ensures.keeps, c.is_built.ensures.shape)
+    ((printed_again c.args.layout c.deref.result.now c.in-Ok-read.scenario c.in-Ok-read.ensures).0, sym c.is_built.ensures.value ∙ grind (arith, holds), c.is_built.ensures.keeps, c.is_built.ensures.layout)
 
 pub returns-clause-accepted : goal.returns-clause-accepted
 returns-clause-accepted g c some =

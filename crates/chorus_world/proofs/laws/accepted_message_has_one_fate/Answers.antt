@@ -1,4 +1,4 @@
-use Rattle.chorus_world.proofs.OnceLaws.{stands_once, has_one_fate, has_some_fate}
+use Rattle.chorus_world.proofs.Messages.OnceLaws.{stands_once, has_one_fate, has_some_fate}
 use Rattle.chorus_world.proofs.laws.accepted_message_has_one_fate.Goals as goal
 
 pub returns : goal.returns

@@ -1,4 +1,4 @@
-use Rattle.chorus_world.proofs.PortLaws.{discards_the_rest, ends_with_delete}
+use Rattle.chorus_world.proofs.Ports.PortLaws.{discards_the_rest, ends_with_delete}
 use Rattle.chorus_world.proofs.laws.deleted_port_discards_the_rest.Goals as goal
 
 pub returns : goal.returns

@@ -1,4 +1,4 @@
-use Rattle.chorus_world.proofs.VerdictLemmas.{has_one_verdict}
+use Rattle.chorus_world.proofs.Messages.VerdictLemmas.{has_one_verdict}
 use Rattle.chorus_world.proofs.laws.message_has_one_verdict.Goals as goal
 
 pub returns : goal.returns

@@ -1,4 +1,4 @@
-use Rattle.chorus_world.proofs.RequestLaws.{requests_rise, requests_once}
+use Rattle.chorus_world.proofs.Seats.RequestLaws.{requests_rise, requests_once}
 use Rattle.chorus_world.proofs.laws.request_is_accepted_once.Goals as goal
 
 pub returns : goal.returns

@@ -1,4 +1,4 @@
-use Rattle.chorus_world.proofs.MessageSteps.{locates}
+use Rattle.chorus_world.proofs.Messages.MessageSteps.{locates}
 use Rattle.chorus_world.proofs.sorting.locates_on_path.Goals as goal
 
 pub returns : goal.returns

@@ -1,5 +1,5 @@
-use Rattle.chorus_world.proofs.Observers.{sorts_legally}
-use Rattle.chorus_world.proofs.Holders.{sorts_runs}
+use Rattle.chorus_world.proofs.Sorted.Observers.{sorts_legally}
+use Rattle.chorus_world.proofs.Sorted.Holders.{sorts_runs}
 use Rattle.chorus_world.proofs.sorting.sorting_is_legal.Goals as goal
 
 pub returns : goal.returns

@@ -3,7 +3,7 @@ use Rattle.std.specs.Option.{option_map}
 use Rattle.std.proofs.lemmas.Option.{slice_get_read}
 use Rattle.chorus_world.specs.Places.{last_clock}
 use Rattle.chorus_calls.specs.Callers.{Seated}
-use Rattle.chorus_place.specs.declared.fault.TheConstants.{WORN}
+use Rattle.chorus_ui.specs.declared.limits.TheConstants.{CLOCK_LIMIT}
 use Rattle.chorus_place.specs.declared.fault.PlaceFault.TheVariants as fault
 use Rattle.chorus_net.specs.Sites.{SitesState, acted, replied, actor_of, posts_of, compared, last_of}
 use Rattle.chorus_net.specs.OnePlace.{may_give}
@@ -42,4 +42,4 @@ returns-clause-worn c clock =
     let may = subst (λ (s : SitesState). may_give s.place.layout (actor_of s c.args.seat) c.args.command ≡ true) (sym c.self.view_is) c.requires.may in
     let found = slice_get_read _ _ _ _ refl (given (record { place = c.self.inside.place.state; callers = c.self.inside.callers.items }) _ c.args.seat c.args.command may) c.index_mut-caller.ensures.value in
     let same = ap (compared c.args.seat) (sym c.self.view_is) ∙ ap (λ o. max (last_clock c.self.inside.place.state.journal) (last_of o)) found in
-    subst (λ n. IsErrOf c.act.result (fault.Worn clock) ↔ ((WORN ≤ n) × (clock ≡ n))) (sym same) (c.act.ensures.worn clock)
+    subst (λ n. IsErrOf c.act.result (fault.Worn clock) ↔ ((CLOCK_LIMIT ≤ n) × (clock ≡ n))) (sym same) (c.act.ensures.worn clock)

@@ -1,0 +1,5 @@
+pub mod GroupLemmas
+pub mod MemberLemmas
+pub mod ChoiceLemmas
+pub mod FunctionalLaws
+pub mod BroadcastLaws

@@ -1,0 +1,13 @@
+pub mod SentLemmas
+pub mod SendingLemmas
+pub mod StageLemmas
+pub mod DueLemmas
+pub mod PostLemmas
+pub mod MessageInvariant
+pub mod AcceptedLemmas
+pub mod VerdictLemmas
+pub mod OnceLaws
+pub mod OrderLemmas
+pub mod MessageSteps
+pub mod Posted
+pub mod Tries

@@ -1,0 +1,5 @@
+pub mod LineLemmas
+pub mod PortLaws
+pub mod Whereabouts
+pub mod PortSteps
+pub mod PortMoves

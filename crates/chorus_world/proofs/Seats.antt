@@ -1,0 +1,3 @@
+pub mod SenderLaws
+pub mod CallLemmas
+pub mod RequestLaws

@@ -1,0 +1,138 @@
+//! Calls and replies, and ports that are deleted.
+
+use super::{follow, named, replay};
+use chorus_world::Spot;
+use std::test::Fail;
+
+#[test]
+fn call_and_reply_on_one_site(rt: HostRuntime) {
+    let journal = "
+        1 1 0 make 1.p.1 1.a.1 4
+        ! 35: 2 1 1 outstanding 1
+        ! 38: 2 1 1 cancel 1
+        2 1 1 post 1:1:0 port 1.p.1 request 1 1.p.1 =q
+        ! 36: 3 1 1 no-call
+        ! 8: 3 1 1 already 1:1:0 1.p.1
+        ! 9: 3 1 1 clients-full 1:1:0 1.p.1
+        3 1 1 accept 1:1:0 1.p.1 0
+        4 1 1 outstanding 1
+        5 1 1 take 1.p.1 0 1:1:0
+        ! 37: 6 1 1 no-request
+        6 1 1 post 1:2:0 port 1.p.1 reply 1 1 =s
+        7 1 1 accept 1:2:0 1.p.1 1
+        8 1 1 take 1.p.1 1 1:2:0
+        ! 35: 9 1 1 outstanding 1
+        ! 23: 9 1 2 not-here 1.p.1
+        ! 20: 9 1 1 done 2
+        ! 21: 9 1 1 late 1
+        9 1 1 done 1
+        10 1 1 no-call
+        11 1 1 no-request
+    ";
+    replay(&rt, rt.alloc(), 1, 1, journal);
+}
+
+#[test]
+fn retry_across_a_move_is_accepted_once(rt: HostRuntime) {
+    let journal = "
+        1 1 0 make 1.p.1 1.a.1 4
+        2 2 0 make 2.p.1 2.a.1 4
+        3 2 1 post 1:1:0 port 1.p.1 request 1 2.p.1 =q
+        4 2 1 try 1:1:0 1.p.1 1 0
+        5 1 0 accept 1:1:0 1.p.1 0
+        6 1 2 depart 1.p.1 3 3.a.1 1
+        6 2 0 told 1:1:0 accepted 0
+        ! 5: 7 2 1 post 1:2:0 port 1.p.1 request 1 2.p.1 =r
+        7 2 1 post 1:2:0 port 1.p.1 request 1 2.p.1 =q
+        7 3 0 arrive 1.p.1 1
+        8 2 1 try 1:2:0 1.p.1 1 0
+        9 1 0 stale 1:2:0 1.p.1 0 3 1
+        10 2 0 told 1:2:0 stale 3 1
+        11 2 0 try 1:2:0 1.p.1 3 1
+        ! 6: 12 3 0 accept 1:2:0 1.p.1 1
+        12 3 0 already 1:2:0 1.p.1
+        13 2 0 told 1:2:0 already
+        13 3 3 take 1.p.1 0 1:1:0
+        14 2 1 cancel 1
+        14 3 3 post 3:1:0 port 2.p.1 reply 1 1 =ans
+        15 2 1 post 1:3:0 port 1.p.1 request 2 2.p.1 =r
+        15 3 3 try 3:1:0 2.p.1 2 0
+        16 2 1 try 1:3:0 1.p.1 3 1
+        17 3 0 accept 1:3:0 1.p.1 1
+        18 2 0 accept 3:1:0 2.p.1 0
+        19 3 0 told 3:1:0 accepted 0
+        20 2 0 told 1:3:0 accepted 1
+        21 2 1 take 2.p.1 0 3:1:0
+        ! 20: 22 2 1 done 1
+        22 2 1 late 1
+    ";
+    replay(&rt, rt.alloc(), 3, 1, journal);
+}
+
+#[test]
+fn at_most_once_table_fills(rt: HostRuntime) -> Result<(), Fail> {
+    let alloc = rt.alloc();
+    let mut world = replay(&rt, alloc, 1, 1, "1 1 0 make 1.p.1 1.a.1 64");
+    for at in 0..64u32 {
+        let client = at + 1;
+        let clock = 2 * client;
+        let next = clock + 1;
+        let journal = format!(in alloc;
+            "{clock} 1 {client} post {client}:1:0 port 1.p.1 request 1 1.p.1 =q
+             {next} 1 {client} accept {client}:1:0 1.p.1 {at}"
+        )?;
+        follow(&rt, alloc, &mut world, journal.as_str());
+    }
+    let journal = "
+        130 1 64 post 64:2:0 port 1.p.1 request 1 1.p.1 =q
+        131 1 64 already 64:2:0 1.p.1
+        132 1 65 post 65:1:0 port 1.p.1 request 1 1.p.1 =q
+        133 1 65 clients-full 65:1:0 1.p.1
+        134 1 1 cancel 1
+        135 1 1 post 1:2:0 port 1.p.1 request 2 1.p.1 =q
+        136 1 1 full 1:2:0 1.p.1 64
+    ";
+    follow(&rt, alloc, &mut world, journal);
+    Ok(())
+}
+
+#[test]
+fn delete_discards(rt: HostRuntime) {
+    let journal = "
+        1 1 0 make 1.p.1 1.a.1 2
+        2 1 1 post 1:1:0 port 1.p.1 plain =a
+        3 1 1 accept 1:1:0 1.p.1 0
+        4 1 1 post 1:2:0 port 1.p.1 plain =b
+        5 1 1 accept 1:2:0 1.p.1 1
+        6 1 1 take 1.p.1 0 1:1:0
+        ! 39: 7 1 1 delete 1.p.1 1:1:0
+        7 1 1 delete 1.p.1 1:2:0
+        8 1 1 post 1:3:0 port 1.p.1 plain =c
+        9 1 1 gone 1:3:0 1.p.1
+        10 1 1 not-here 1.p.1
+    ";
+    let world = replay(&rt, rt.alloc(), 1, 1, journal);
+    match world.port(named(&rt, "1.p.1")) {
+        Some(fate) => assert!(rt; fate.spot() == Spot::Ended),
+        None => assert!(rt; false, "the port is made"),
+    }
+}
+
+#[test]
+fn delete_after_a_move(rt: HostRuntime) {
+    let journal = "
+        1 1 0 make 1.p.1 1.a.1 4
+        2 1 2 depart 1.p.1 2 2.a.1 1
+        2 3 1 post 1:1:0 port 1.p.1 plain =x
+        3 2 0 arrive 1.p.1 1
+        3 3 1 try 1:1:0 1.p.1 1 0
+        4 1 0 stale 1:1:0 1.p.1 0 2 1
+        4 2 3 delete 1.p.1
+        5 3 0 told 1:1:0 stale 2 1
+        6 3 0 try 1:1:0 1.p.1 2 1
+        ! 12: 7 2 0 no-port 1:1:0 1.p.1
+        7 2 0 gone 1:1:0 1.p.1
+        8 3 0 told 1:1:0 gone
+    ";
+    replay(&rt, rt.alloc(), 3, 1, journal);
+}
