@@ -1,3 +1,15 @@
 pub mod Sites
 pub mod OnePlace
 pub mod Closing
+pub mod Packets
+pub mod Network
+pub mod Left
+pub mod Records
+pub mod UnderWay
+pub mod Stands
+pub mod Ready
+pub mod Holdings
+pub mod Quiet
+pub mod Schedules
+pub mod History
+pub mod Tasks
