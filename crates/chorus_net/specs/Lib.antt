@@ -13,3 +13,7 @@ pub mod Quiet
 pub mod Schedules
 pub mod History
 pub mod Tasks
+pub mod Always
+pub mod Accepting
+pub mod Promises
+pub mod Answering
