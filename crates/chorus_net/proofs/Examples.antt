@@ -1,11 +1,13 @@
 -- Worked examples: the journals were written by another program, from the rules alone.
-mod Names
-mod Sending
-mod Moving
-mod Groups
-mod Reports
-mod Calls
-mod Deleting
-mod Turns
-mod Refusals
-mod Clients
+pub mod Names
+pub mod Sending
+pub mod Moving
+pub mod Groups
+pub mod Reports
+pub mod Calls
+pub mod Deleting
+pub mod Turns
+pub mod Refusals
+pub mod Clients
+pub mod Views
+pub mod Standing
