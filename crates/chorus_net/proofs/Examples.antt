@@ -11,3 +11,5 @@ pub mod Refusals
 pub mod Clients
 pub mod Views
 pub mod Standing
+pub mod Packets
+pub mod Ended

@@ -150,7 +150,8 @@ pub retry_across_a_move_is_accepted_once-holds : placed retry_across_a_move_is_a
     ∷ []
 retry_across_a_move_is_accepted_once-holds = refl
 
--- the client is a seat: a reply that another seat of its actor takes is late, though a call of that number is outstanding there too; a later request takes the place of the one in hand
+-- the client is a seat: a reply that another seat of its actor takes is late, though a call of that number is outstanding there
+-- too; a later request takes the place of the one in hand
 abbrev another_seat_takes_the_reply-events : List Event
 another_seat_takes_the_reply-events =
     Enter (actor 1 1) 0

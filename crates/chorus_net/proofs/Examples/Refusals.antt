@@ -75,7 +75,8 @@ pub refused_at_once-rest : refused_at_once.packets ≡
     ∷ []
 refused_at_once-rest = refl
 
--- a port of another actor is not here, whoever the next one would be; the holder is told of the actor; and a port that is elsewhere is not here
+-- a port of another actor is not here, whoever the next one would be; the holder is told of the actor; and a port that is
+-- elsewhere is not here
 abbrev refused_by_the_holder-events : List Event
 refused_by_the_holder-events =
     Enter (actor 1 1) 0

@@ -155,7 +155,8 @@ no_member_is_reported-says = refl
 pub no_member_is_reported-rest : no_member_is_reported.packets ≡ []
 no_member_is_reported-rest = refl
 
--- a copy is told Stale while a direct message to the same port is under way from the same place; the second copy goes behind the first
+-- a copy is told Stale while a direct message to the same port is under way from the same place; the second copy goes behind the
+-- first
 abbrev stale_copy_beside_a_direct_message-events : List Event
 stale_copy_beside_a_direct_message-events =
     Enter (actor 1 1) 0

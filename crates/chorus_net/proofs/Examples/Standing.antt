@@ -1,4 +1,5 @@
--- A state in the middle: a request waits in a port that is moving; of a broadcast one copy is tried and one has its verdict; a further post is asked for; a Stale is under way, and a message waits behind it. What the past says of it is what it has.
+-- A state in the middle: a request waits in a port that is moving; of a broadcast one copy is tried and one has its verdict; a
+-- further post is asked for; a Stale is under way, and a message waits behind it. What the past says of it is what it has.
 use Rattle.std.proofs.Common.{◌≡◌, List, [], ◌∷◌, refl}
 use Rattle.chorus_entry.specs.declared.tag.Tag.{Tag}
 use Rattle.chorus_entry.specs.declared.dest.Dest.{Dest}

@@ -120,7 +120,8 @@ group_at_the_first_place-says = refl
 pub group_at_the_first_place-rest : group_at_the_first_place.packets ≡ []
 group_at_the_first_place-rest = refl
 
--- places 2 and 6 make the second ports of their sites, and then the sixth; a port goes to the place of its number on the other site
+-- places 2 and 6 make the second ports of their sites, and then the sixth; a port goes to the place of its number on the other
+-- site
 abbrev four_turns_per_site-events : List Event
 four_turns_per_site-events =
     Enter (actor 1 1) 0
