@@ -13,3 +13,4 @@ pub mod Views
 pub mod Standing
 pub mod Packets
 pub mod Ended
+pub mod Deciding

@@ -1,6 +1,6 @@
 -- The order in which ports accept, and how often, said of one past. A past has its newest entry first.
 -- q and r are ports, x and y are ids, i and j are their positions among what the ports accepted, g is a group, e an entry.
-use Rattle.std.specs.Prelude.{ℕ, ◌≡◌, ◌<◌, true, List, [], ◌∷◌, ◌++◌, Some, slice_get}
+use Rattle.std.specs.Prelude.{ℕ, ◌≡◌, ◌<◌, true, List, ◌∷◌, ◌++◌, Some, slice_get}
 use Rattle.chorus_ui.specs.declared.ui.Ui.{Ui}
 use Rattle.chorus_ui.specs.declared.layout.Layout.{Layout}
 use Rattle.chorus_ui.specs.Layout.{site_of}

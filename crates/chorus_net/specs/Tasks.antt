@@ -9,7 +9,6 @@ use Rattle.chorus_place.specs.PlaceState.{Outgoing}
 use Rattle.chorus_net.specs.Network.{Event, schedule, round, rounds, served, drained}
 use Rattle.chorus_net.specs.Schedules.{command_in, may_happen, may_be, OfSchedules}
 use Rattle.chorus_net.specs.Left.{packets_left, merged_past}
-use Rattle.chorus_net.specs.Stands.{actor_of}
 use Rattle.chorus_net.specs.Quiet.{IsQuiet}
 
 pub data Task : Type 0 where

@@ -201,3 +201,45 @@ another_seat_takes_the_reply-says = refl
 
 pub another_seat_takes_the_reply-rest : another_seat_takes_the_reply.packets ≡ []
 another_seat_takes_the_reply-rest = refl
+
+-- a request that found the port full is accepted when it is sent again
+abbrev refused_request_is_not_remembered-events : List Event
+refused_request_is_not_remembered-events =
+    Enter (actor 1 1) 0
+    ∷ Acts 0 (Command.Make (actor 1 1) 1)
+    ∷ Acts 0 (Command.Send (Dest.Port (port 1 1)) (120 ∷ []))
+    ∷ Acts 0 (Command.Call (port 1 1) (port 1 1) (113 ∷ []))
+    ∷ Acts 0 (Command.Take (port 1 1))
+    ∷ Acts 0 Command.Retry
+    ∷ Acts 0 Command.Retry
+    ∷ []
+
+abbrev pub refused_request_is_not_remembered : NetState
+refused_request_is_not_remembered = ran 1 1 refused_request_is_not_remembered-events
+
+pub refused_request_is_not_remembered-replies : replies 1 1 refused_request_is_not_remembered-events ≡
+    (Reply.Made (port 1 1))
+    ∷ (Reply.Accepted (msg 0 1 0) 0)
+    ∷ (Reply.Full (msg 0 2 0) 1)
+    ∷ (Reply.Taken 0 (mess (msg 0 1 0) Tag.Plain (120 ∷ [])) None)
+    ∷ (Reply.Accepted (msg 0 3 0) 1)
+    ∷ (Reply.Already (msg 0 4 0))
+    ∷ []
+refused_request_is_not_remembered-replies = refl
+
+pub refused_request_is_not_remembered-says : merge refused_request_is_not_remembered ≡
+    entry 1 1 0 (Act.Make (port 1 1) (actor 1 1) 1)
+    ∷ entry 2 1 0 (Act.Post (mess (msg 0 1 0) Tag.Plain (120 ∷ [])) (Dest.Port (port 1 1)))
+    ∷ entry 3 1 0 (Act.Accept (msg 0 1 0) (port 1 1) 0)
+    ∷ entry 4 1 0 (Act.Post (mess (msg 0 2 0) (Tag.Request 1 (port 1 1)) (113 ∷ [])) (Dest.Port (port 1 1)))
+    ∷ entry 5 1 0 (Act.Full (msg 0 2 0) (port 1 1) 1)
+    ∷ entry 6 1 0 (Act.Take (port 1 1) 0 (msg 0 1 0))
+    ∷ entry 7 1 0 (Act.Post (mess (msg 0 3 0) (Tag.Request 1 (port 1 1)) (113 ∷ [])) (Dest.Port (port 1 1)))
+    ∷ entry 8 1 0 (Act.Accept (msg 0 3 0) (port 1 1) 1)
+    ∷ entry 9 1 0 (Act.Post (mess (msg 0 4 0) (Tag.Request 1 (port 1 1)) (113 ∷ [])) (Dest.Port (port 1 1)))
+    ∷ entry 10 1 0 (Act.Already (msg 0 4 0) (port 1 1))
+    ∷ []
+refused_request_is_not_remembered-says = refl
+
+pub refused_request_is_not_remembered-rest : refused_request_is_not_remembered.packets ≡ []
+refused_request_is_not_remembered-rest = refl

@@ -144,6 +144,7 @@ ports_are_made_to_the_limit-events =
     ∷ Enter (actor 1 2) 8
     ∷ Acts 1 (Command.Delete (port 1 2))
     ∷ Acts 0 (Command.Make (actor 1 2) 1)
+    ∷ Acts 1 (Command.Make (actor 1 9) 1)
     ∷ Acts 0 (Command.Make (actor 1 3) 64)
     ∷ []
 
@@ -161,6 +162,7 @@ pub ports_are_made_to_the_limit-replies : replies 1 4 ports_are_made_to_the_limi
     ∷ (Reply.Made (port 1 30))
     ∷ (Reply.Deleted 0)
     ∷ Reply.MakeFull
+    ∷ Reply.NoActor
     ∷ (Reply.Made (port 1 3))
     ∷ []
 ports_are_made_to_the_limit-replies = refl
@@ -176,6 +178,7 @@ pub ports_are_made_to_the_limit-says : merge ports_are_made_to_the_limit ≡
     ∷ entry 8 2 0 (Act.Make (port 1 30) (actor 1 2) 1)
     ∷ entry 9 2 1 (Act.Delete (port 1 2) [])
     ∷ entry 10 2 0 (Act.MakeFull (actor 1 2))
+    ∷ entry 11 2 1 (Act.NoActor (actor 1 9))
     ∷ entry 11 3 0 (Act.Make (port 1 3) (actor 1 3) 64)
     ∷ []
 ports_are_made_to_the_limit-says = refl
