@@ -3,6 +3,7 @@ pub mod OnePlace
 pub mod Closing
 pub mod Packets
 pub mod Network
+pub mod Calls
 pub mod Left
 pub mod Records
 pub mod UnderWay
