@@ -13,3 +13,4 @@ pub mod Once
 pub mod Example
 pub mod Rows
 pub mod Seats
+mod Examples

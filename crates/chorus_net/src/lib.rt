@@ -8,6 +8,7 @@
 #![tactic(auto)]
 
 mod closed;
+mod delivery;
 mod fault;
 mod laws;
 mod sites;
@@ -15,6 +16,7 @@ mod sites;
 mod tests;
 
 pub use closed::{Closed, Placed};
+pub use delivery::{Delivered, Quiet};
 pub use fault::EnterFault;
 pub use laws::one_place_runs;
 pub use sites::Sites;

@@ -9,6 +9,7 @@
 
 mod fault;
 mod journal;
+mod outcome;
 mod place;
 mod reply;
 #[cfg(test)]
@@ -16,5 +17,6 @@ mod tests;
 mod turn;
 
 pub use fault::PlaceFault;
+pub use outcome::Outcome;
 pub use place::Place;
 pub use reply::Reply;
