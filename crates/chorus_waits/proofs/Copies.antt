@@ -1,11 +1,11 @@
 -- What a change of the map does to each message that may be heard of.
-use Rattle.std.proofs.Common.{◌≡◌, ◌≢◌, ℕ, ◌<◌, ◌==◌, zero, suc, Bool, true, false, ◌&&◌, ◌||◌, not, cond, Option, Some, None, IsSome, is_some, List, [], ◌∷◌, length, get_or, set, refl, sym, ◌∙◌, ap, subst, eqb-true, eq-eqb, true≢false, get_or-set_same, get_or-set_other}
+use Rattle.std.proofs.Common.{◌≡◌, ℕ, ◌<◌, ◌==◌, zero, suc, Bool, true, false, ◌&&◌, ◌||◌, not, cond, Some, IsSome, is_some, List, [], ◌∷◌, length, get_or, set, refl, sym, ◌∙◌, ap, subst, eqb-true, eq-eqb, true≢false, get_or-set_same, get_or-set_other}
 use Rattle.std.specs.Map.{lookup}
 use Rattle.chorus_entry.specs.declared.id.MsgId.{MsgId}
 use Rattle.chorus_entry.specs.MsgId.{same_id}
 use Rattle.chorus_waits.specs.declared.unheard.Post.{Post}
 use Rattle.chorus_waits.specs.declared.unheard.Copies.{Copies}
-use Rattle.chorus_waits.specs.Unheard.{same_post, post_of, is_of, is_open, is_unheard}
+use Rattle.chorus_waits.specs.Unheard.{same_post, post_of, is_open, is_unheard}
 
 -- each of them is true
 abbrev pub are_all : List Bool → Bool

@@ -1,5 +1,5 @@
 -- Keys that are one have one row.
-use Rattle.std.proofs.Common.{◌≡◌, true, Bool, cond, Some, unwrap_or, List, [], ◌∷◌, refl, ap, ◌∙◌, rules}
+use Rattle.std.proofs.Common.{◌≡◌, true, cond, Some, unwrap_or, List, [], ◌∷◌, refl, ap, ◌∙◌, rules}
 use Rattle.std.specs.Cmp.{IsTotalOrder, IsEquivalence, eq_by_cmp_equiv, then_total, on_total}
 use Rattle.std.specs.Cmp.Lexicographic.{options_total}
 use Rattle.chorus_ui.specs.Name.{name_cmp}

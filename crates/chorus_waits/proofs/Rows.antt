@@ -3,8 +3,8 @@ use Rattle.std.proofs.Common.{◌≡◌, ℕ, Bool, true, false, cond, Option, S
 use Rattle.std.specs.Map.{lookup}
 use Rattle.chorus_waits.specs.declared.wait.Key.{Key}
 use Rattle.chorus_waits.specs.declared.wait.Wait.{Wait}
-use Rattle.chorus_waits.specs.Queues.{Queue, Row, row, queue, empty_queue, empty_row, passed, same_key}
-use Rattle.chorus_waits.proofs.Keys.{same_row}
+use Rattle.chorus_waits.specs.Queues.{Queue, Row, row, empty_queue, empty_row, passed, same_key}
+use Rattle.chorus_waits.proofs.Keys.{same_row, same_key-refl}
 
 -- the map n has the row w at k, and what the map m has elsewhere
 abbrev pub Puts : List (Key × Row) → List (Key × Row) → Key → Row → Type 0
@@ -62,6 +62,10 @@ relates R m n k w v h found r same q = by (same_key k q) refl (h q)
     by : (b : Bool) → same_key k q ≡ b → row n q ≡ cond b w (row m q) → R (row m q) (row n q)
     by true s e = subst (R (row m q)) (sym e) (subst (λ x. R x w) (sym (sym (same_row m k q s) ∙ found)) r)
     by false s e = subst (R (row m q)) (sym e) (same (row m q))
+
+-- the row at k is w
+pub here : (m n : List (Key × Row)) (k : Key) (w : Row) → Puts m n k w → row n k ≡ w
+here m n k w h = h k ∙ ap (λ b. cond b w (row m k)) (same_key-refl k)
 
 -- the rows of the other keys stay
 pub others : {A : Type 0} (g : Row → A) (m n : List (Key × Row)) (k : Key) (w : Row) → Puts m n k w

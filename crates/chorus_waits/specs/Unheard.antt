@@ -1,7 +1,8 @@
 -- What a place may still hear of its posts to groups of other places.
-use Rattle.std.specs.Prelude.{ℕ, Bool, false, true, ◌&&◌, ◌==◌, List, Option, Some, None, slice_index_or}
+use Rattle.std.specs.Prelude.{ℕ, Bool, false, true, ◌&&◌, ◌||◌, not, ◌==◌, List, Option, Some, None, slice_index_or}
 use Rattle.std.specs.Map.{lookup}
 use Rattle.chorus_entry.specs.declared.id.MsgId.{MsgId}
+use Rattle.chorus_entry.specs.MsgId.{same_id}
 use Rattle.chorus_waits.specs.declared.unheard.Post.{Post}
 use Rattle.chorus_waits.specs.declared.unheard.Copies.{Copies}
 
@@ -24,3 +25,11 @@ is_open copy (Some copies) = slice_index_or copies.open copy true
 -- the place may still hear of the message: it is a copy of a post that was asked for, and was not heard of
 abbrev pub is_unheard : List (Post × Copies) → MsgId → Bool
 is_unheard posts x = is_open x.copy (lookup (same_post (post_of x)) posts)
+
+-- what may be heard of once this post was asked for, with each of its copies
+abbrev pub asked : ℕ → ℕ → (MsgId → Bool) → MsgId → Bool
+asked seat number unheard x = is_of seat number x || unheard x
+
+-- what may be heard of once this message was heard of
+abbrev pub heard : MsgId → (MsgId → Bool) → MsgId → Bool
+heard id unheard x = not (same_id id x) && unheard x

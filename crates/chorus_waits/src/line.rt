@@ -1,6 +1,6 @@
 //! The messages that wait for one port and route.
 
-ghost use Rattle.std.specs.Prelude.{◌≡◌, ◌-◌, ◌^◌, ◌<◌, ◌≤◌, [], length, slice_get, IfOk, OnOk};
+ghost use Rattle.std.specs.Prelude.{◌≡◌, ◌-◌, ◌^◌, ◌<◌, ◌≤◌, length, slice_get, IfOk, OnOk};
 ghost use Rattle.std.specs.Option.{option_copied};
 ghost use Rattle.chorus_waits.specs.Queues.{empty_queue, with_last, passed, at};
 
@@ -23,7 +23,10 @@ impl Model for Line {
 
     ghost Value = { Row };
 
-    ghost view = { λ l. record { queue = record { tried = l.tried; waits = l.waits.items }; room = deque_capacity l.waits - deque_len l.waits } };
+    ghost view = { λ l. record {
+      queue = record { tried = l.tried; waits = l.waits.items };
+      room = deque_capacity l.waits - deque_len l.waits;
+    } };
 }
 
 impl Line {
@@ -74,7 +77,8 @@ impl Line {
     /// Puts one behind them, in the room that is there.
     pub(crate) fn push(&mut self, wait: Wait)
         requires { 0 < self.old.room }
-        ensures { self.new ≡ record { queue = with_last wait self.old.queue; room = self.old.room - 1 } }
+        ensures queue { self.new.queue ≡ with_last wait self.old.queue }
+        ensures room { self.new.room ≡ self.old.room - 1 }
     {
         self.waits.push_back_reserved(wait);
     }

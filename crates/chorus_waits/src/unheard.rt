@@ -1,10 +1,9 @@
 //! What a place may still hear of its posts to groups of other places.
 
-ghost use Rattle.std.specs.Prelude.{◌≡◌, ◌<◌, ◌≤◌, ◌==◌, ℕ, true, false, ◌&&◌, ◌||◌, not, length, slice_index_or, slice_set, OnOk, OnErr};
+ghost use Rattle.std.specs.Prelude.{◌≡◌, ◌<◌, ◌≤◌, ℕ, true, false, length, slice_index_or, slice_set, OnOk, OnErr};
 ghost use Rattle.chorus_entry.specs.declared.id.MsgId.{MsgId};
 ghost use Rattle.chorus_entry.specs.declared.members.TheConstants.{MEMBERS_LIMIT};
-ghost use Rattle.chorus_entry.specs.MsgId.{same_id};
-ghost use Rattle.chorus_waits.specs.Unheard.{is_unheard, is_of};
+ghost use Rattle.chorus_waits.specs.Unheard.{is_unheard, asked, heard};
 
 use chorus_entry::{MEMBERS_LIMIT, MsgId};
 use std::alloc::{AllocError, Global};
@@ -92,7 +91,8 @@ impl Unheard {
     /// Notes a post that another place is asked to choose for: of itself and of each copy the place may hear. An error changes
     /// nothing.
     pub fn ask(&mut self, seat: u32, number: u32) -> Result<(), AllocError>
-        ensures ok { OnOk result ((x : MsgId) → is_unheard self.new x ≡ is_of seat number x || is_unheard self.old x) }
+        ensures ok { OnOk result ((x : MsgId) →
+            is_unheard self.new x ≡ asked seat number (is_unheard self.old) x) }
         ensures err { OnErr result ((x : MsgId) → is_unheard self.new x ≡ is_unheard self.old x) }
     {
         self.posts
@@ -113,7 +113,7 @@ impl Unheard {
     /// Notes that this message was heard of. Takes no memory.
     pub fn hear(&mut self, id: MsgId)
         requires { id.copy ≤ MEMBERS_LIMIT }
-        ensures { (x : MsgId) → is_unheard self.new x ≡ not (same_id id x) && is_unheard self.old x }
+        ensures { (x : MsgId) → is_unheard self.new x ≡ heard id (is_unheard self.old) x }
     {
         let Some(copies) = self.posts.get_mut(&post_of(id)) else {
             return;

@@ -106,7 +106,8 @@ impl Waits {
     /// Puts a message behind them, in the room that is there. Takes no memory.
     pub fn push(&mut self, key: &Key, wait: Wait)
         requires { 0 < room self.old key.now }
-        ensures queues { (k : Key) → queue self.new k ≡ changed key.now (with_last wait) (queue self.old) k }
+        ensures queues { (k : Key) →
+            queue self.new k ≡ changed key.now (with_last wait) (queue self.old) k }
         ensures rooms { (k : Key) → room self.new k ≡ changed key.now less_one (room self.old) k }
     {
         let Some(line) = self.lines.get_mut(key) else {
@@ -147,6 +148,7 @@ impl Waits {
     /// Gives back the room of a key where nothing waits. Changes no queue. Takes no memory.
     pub fn release(&mut self, key: &Key)
         ensures queues { (k : Key) → queue self.new k ≡ queue self.old k }
+        ensures released { queue self.old key.now ≡ empty_queue → room self.new key.now ≡ 0 }
         ensures rooms { (k : Key) → same_key key.now k ≡ false → room self.new k ≡ room self.old k }
     {
         if self.tried(key).is_none() && self.len(key) == 0 {

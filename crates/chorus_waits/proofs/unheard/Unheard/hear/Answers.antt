@@ -1,4 +1,4 @@
-use Rattle.std.proofs.Common.{◌<◌, length, ◌&&◌, not, ap, sym, ◌∙◌, arith}
+use Rattle.std.proofs.Common.{◌&&◌, not, ap, sym, ◌∙◌}
 use Rattle.std.specs.Option.{option_copied_mut}
 use Rattle.chorus_entry.specs.MsgId.{same_id}
 use Rattle.chorus_waits.specs.Unheard.{is_unheard}

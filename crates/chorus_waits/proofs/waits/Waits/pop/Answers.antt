@@ -1,6 +1,6 @@
 use Rattle.std.proofs.Common.{ap, sym, ◌∙◌}
 use Rattle.std.specs.Option.{option_copied_mut}
-use Rattle.chorus_waits.specs.Queues.{Row, row, empty_row, passed}
+use Rattle.chorus_waits.specs.Queues.{row, empty_row, passed}
 use Rattle.chorus_waits.proofs.Rows.{written, taken_out, twice, seen, also, changes, others, emptied, found_row}
 use Rattle.chorus_waits.proofs.waits.Waits.pop.Goals as goal
 use Rattle.chorus_waits.proofs.waits.Waits.pop.Goals.{in-Some-1, in-None-1}

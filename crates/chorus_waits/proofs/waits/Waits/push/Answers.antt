@@ -1,4 +1,4 @@
-use Rattle.std.proofs.Common.{ap, sym, ◌∙◌, ◌<◌, subst, ℕ}
+use Rattle.std.proofs.Common.{ap, sym, ◌∙◌, ◌<◌, subst}
 use Rattle.std.specs.Option.{option_copied_mut}
 use Rattle.chorus_waits.specs.Queues.{Row, row, with_last, less_one}
 use Rattle.chorus_waits.proofs.Rows.{written, seen, changes, found_row}
@@ -18,7 +18,7 @@ returns-clause-queues c =
     (written _ _ c.args.key.now _ _ (λ s. ((c.get_mut.follows.holds c.push.new.self).3 s).0) found) in
     changes (λ r. r.queue) (with_last c.args.wait) _ _ c.args.key.now c.push.new.self c.in-Some.line.now puts
     (sym (ap (λ rows. row rows c.args.key.now) c.self.view_is) ∙ found_row _ c.args.key.now _ found)
-    (ap (λ r. r.queue) c.push.ensures)
+    c.push.ensures.queue
 
 pub returns-clause-rooms : goal.returns-clause-rooms
 returns-clause-rooms c =
@@ -27,4 +27,4 @@ returns-clause-rooms c =
     (written _ _ c.args.key.now _ _ (λ s. ((c.get_mut.follows.holds c.push.new.self).3 s).0) found) in
     changes (λ r. r.room) less_one _ _ c.args.key.now c.push.new.self c.in-Some.line.now puts
     (sym (ap (λ rows. row rows c.args.key.now) c.self.view_is) ∙ found_row _ c.args.key.now _ found)
-    (ap (λ r. r.room) c.push.ensures)
+    c.push.ensures.room

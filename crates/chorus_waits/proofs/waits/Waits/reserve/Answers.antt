@@ -1,7 +1,6 @@
 use Rattle.std.proofs.Common.{◌≡◌, ◌≤◌, refl, ap, sym, ◌∙◌, arith}
 use Rattle.std.specs.Option.{option_copied_mut}
-use Rattle.std.specs.Map.{lookup}
-use Rattle.chorus_waits.specs.Queues.{Row, row, same_key}
+use Rattle.chorus_waits.specs.Queues.{row}
 use Rattle.chorus_waits.proofs.Rows.{put, written, seen, relates, found_row}
 use Rattle.chorus_waits.proofs.waits.Waits.reserve.Goals as goal
 

@@ -1,6 +1,6 @@
 use Rattle.std.proofs.Common.{◌≡◌, refl, ap, sym, ◌∙◌}
 use Rattle.std.specs.Option.{option_copied_mut}
-use Rattle.chorus_waits.specs.Queues.{Row, row, at}
+use Rattle.chorus_waits.specs.Queues.{row, at}
 use Rattle.chorus_waits.proofs.Rows.{written, seen, changes, relates, found_row}
 use Rattle.chorus_waits.proofs.waits.Waits.set_tried.Goals as goal
 
