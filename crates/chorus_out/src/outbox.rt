@@ -46,7 +46,8 @@ impl Model for Outbox {
       puts = o.puts;
     } };
 
-    ghost invariant = { λ o. IsOutbox (packet_at o.packets.entries) o.spans.items o.puts o.waiting };
+    ghost invariant = { λ o.
+        IsOutbox (packet_at o.packets.entries) o.spans.items o.puts o.waiting };
 }
 
 /// Where the first span stands that has a packet, counted from 0: their number where none has.
