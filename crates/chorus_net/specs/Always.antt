@@ -5,7 +5,7 @@ use Rattle.chorus_ui.specs.declared.ui.Ui.{Ui}
 use Rattle.chorus_entry.specs.declared.entry.Entry.{Entry}
 use Rattle.chorus_entry.specs.declared.id.MsgId.{MsgId}
 use Rattle.chorus_world.specs.Views.{on}
-use Rattle.chorus_world.specs.Ports.{Fate, fate}
+use Rattle.chorus_world.specs.Ports.{PortState, fate}
 use Rattle.chorus_world.specs.Fates.{MessageFate, fate_at}
 use Rattle.chorus_world.specs.AcceptedLaws.{accepted_by, taken_by, received}
 
@@ -19,7 +19,7 @@ ReceivesInOrder past = (q : Ui) → received (on q past) ≡ take (taken_by q pa
 
 -- the message at this position of this port has this fate, and stands nowhere else
 pub record HasOneFate (past : List Entry) (q : Ui) (i : ℕ) (x : MsgId) (what : MessageFate) : Type 0 where
-  pub state : Fate
+  pub state : PortState
   pub made : fate (on q past) ≡ Some state
   pub is : fate_at i state ≡ what
   pub alone : (r : Ui) (j : ℕ) → slice_get (accepted_by r past) j ≡ Some x → (r ≡ q) × (j ≡ i)

@@ -3,11 +3,11 @@
 use Rattle.std.specs.Prelude.{ℕ, ◌≡◌, ◌<◌, true, List, Option, Some, None, slice_get}
 use Rattle.chorus_ui.specs.declared.ui.Ui.{Ui}
 use Rattle.chorus_ui.specs.declared.layout.Layout.{Layout}
-use Rattle.chorus_ui.specs.Layout.{IsShape, has_actor, place_at}
+use Rattle.chorus_ui.specs.Layout.{IsLayout, has_actor, place_at}
 use Rattle.chorus_entry.specs.declared.entry.Entry.{Entry}
 use Rattle.chorus_entry.specs.declared.act.Act.{Act}
 use Rattle.chorus_entry.specs.declared.command.Command.{Command}
-use Rattle.chorus_entry.specs.Command.{meets_conditions, has_kinds_in_command}
+use Rattle.chorus_entry.specs.Command.{meets_conditions}
 use Rattle.chorus_entry.specs.Kinds.{names_actor}
 use Rattle.chorus_entry.specs.Places.{place_for}
 use Rattle.chorus_world.specs.Views.{at, by}
@@ -43,8 +43,8 @@ pub record IsOnly (l : Layout) (callers : ℕ → Option Ui) (past : List Entry)
 abbrev pub OneActAnswers : Type 0
 OneActAnswers =
     (l : Layout) (callers : ℕ → Option Ui) (past : List Entry) (seat : ℕ) (actor : Ui) (command : Command) (clock : ℕ) →
-    IsShape l → is_run l callers past ≡ true → AreAtHome l callers past → callers seat ≡ Some actor →
-    meets_conditions command ≡ true → has_kinds_in_command command ≡ true →
+    IsLayout l → is_run l callers past ≡ true → AreAtHome l callers past → callers seat ≡ Some actor →
+    meets_conditions command ≡ true →
     just_taken past (at (place_for l actor command) past) ≡ None →
     last_clock (at (place_for l actor command) past) < clock → last_clock (by seat past) < clock →
     (act : Act) × IsOnly l callers past seat actor command clock act
@@ -53,7 +53,7 @@ OneActAnswers =
 abbrev pub OwnActAnswers : Type 0
 OwnActAnswers =
     (n : NetState) (past : List Entry) (seat : ℕ) (caller : Seated) (command : Command) (clock : ℕ) →
-    IsShape n.layout → Stands n past → IsReady n past → slice_get n.callers seat ≡ Some caller →
-    meets_conditions command ≡ true → has_kinds_in_command command ≡ true →
+    IsLayout n.layout → Stands n past → IsReady n past → slice_get n.callers seat ≡ Some caller →
+    meets_conditions command ≡ true →
     last_clock (at (place_for n.layout caller.actor command) past) < clock → caller.last < clock →
     IsOnly n.layout (actor_of n) past seat caller.actor command clock (own command (turn_for command caller n))

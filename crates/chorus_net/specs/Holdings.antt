@@ -15,7 +15,7 @@ use Rattle.chorus_entry.specs.declared.record.PortRecord.{PortRecord}
 use Rattle.chorus_world.specs.declared.port.Spot.{Spot}
 use Rattle.chorus_world.specs.declared.port.Spot.TheVariants as spots
 use Rattle.chorus_world.specs.Views.{on}
-use Rattle.chorus_world.specs.Ports.{Fate, fate, last_of}
+use Rattle.chorus_world.specs.Ports.{PortState, fate, last_of}
 use Rattle.chorus_place.specs.PlaceState.{PlaceState, Outgoing}
 use Rattle.chorus_net.specs.declared.closed.Placed.{Placed}
 use Rattle.chorus_net.specs.Network.{NetState}
@@ -36,13 +36,13 @@ holds q holding = same_ui (record_in holding).ui q
 
 -- what the past tells of a port: it is at the last place of its path, or on its way there from the place before, with the record
 -- that the past tells; nothing where it is not made or was deleted
-abbrev pub told_in : List Entry → Ui → Fate → Spot → List Holding
+abbrev pub told_in : List Entry → Ui → PortState → Spot → List Holding
 told_in past q f (spots.Held actor) = At (last_of 0 f.path) (record_for past (on q past) q actor f) ∷ []
 told_in past q f (spots.Moving actor) =
     OnTheWay (before_last 0 0 f.path) (last_of 0 f.path) (record_for past (on q past) q actor f) ∷ []
 told_in past q f spots.Ended = []
 
-abbrev pub told_of : List Entry → Ui → Option Fate → List Holding
+abbrev pub told_of : List Entry → Ui → Option PortState → List Holding
 told_of past q None = []
 told_of past q (Some f) = told_in past q f f.spot
 

@@ -12,7 +12,7 @@ use Rattle.chorus_entry.specs.declared.packet.Packet.{Packet}
 use Rattle.chorus_entry.specs.declared.packet.Cargo.{Cargo}
 use Rattle.chorus_entry.specs.MsgId.{same_id}
 use Rattle.chorus_world.specs.Views.{at, on}
-use Rattle.chorus_world.specs.Ports.{Fate, fate}
+use Rattle.chorus_world.specs.Ports.{PortState, fate}
 use Rattle.chorus_world.specs.Posts.{Posted, post_of}
 use Rattle.chorus_world.specs.Runs.{is_run}
 use Rattle.chorus_world.specs.Commands.{performs}
@@ -65,7 +65,7 @@ carries_over x (Cargo.Verdict y q route answer) = same_id y x
 carries_over x _ = false
 
 -- how often a port departed
-abbrev pub hops_from : Option Fate → ℕ
+abbrev pub hops_from : Option PortState → ℕ
 hops_from None = 0
 hops_from (Some f) = length f.path - 1
 

@@ -12,12 +12,12 @@ use Rattle.chorus_entry.specs.declared.packet.Packet.{Packet}
 use Rattle.chorus_world.specs.declared.message.Progress.TheVariants.{Asked}
 use Rattle.chorus_world.specs.Views.{at, about, on, views}
 use Rattle.chorus_world.specs.Messages.{progress}
-use Rattle.chorus_world.specs.Ports.{Fate, fate, is_moving}
+use Rattle.chorus_world.specs.Ports.{PortState, fate, is_moving}
 use Rattle.chorus_world.specs.Places.{sent, unsettled, just_taken}
 use Rattle.chorus_world.specs.Steps.{may_hear}
 
 -- the port is made, and on its way
-abbrev pub is_moving_port : Option Fate → Bool
+abbrev pub is_moving_port : Option PortState → Bool
 is_moving_port None = false
 is_moving_port (Some f) = is_moving f.spot
 

@@ -5,10 +5,9 @@ use Rattle.chorus_ui.specs.declared.ui.Ui.{Ui}
 use Rattle.chorus_entry.specs.declared.entry.Entry.{Entry}
 use Rattle.chorus_world.specs.Views.{at}
 use Rattle.chorus_world.specs.Places.{just_taken}
-use Rattle.chorus_world.specs.Groups.{posts_to, is_choosing_place}
+use Rattle.chorus_world.specs.Groups.{posts_to, is_choosing_place, unchosen}
 use Rattle.chorus_waits.specs.declared.wait.Key.{Key}
 use Rattle.chorus_net.specs.Network.{NetState, place}
-use Rattle.chorus_net.specs.UnderWay.{unchosen}
 
 pub record IsReady (n : NetState) (past : List Entry) : Type 0 where
   -- where the first message of a port and route is not under way, none waits

@@ -1,6 +1,9 @@
 -- What the past says of the record of a port, of the messages that wait at a place, of what it may still hear, and of a caller.
 -- x is an id, q a port, p the number of a place, k a port and route, m a message as it was sent or posted, f what became of a
 -- port, l a layout. A past has its newest entry first.
+use Rattle.chorus_world.specs.Clients.{clients_after, clients_kept}
+use Rattle.chorus_world.specs.Posts.{as_posted, Posted, post_of, tag_of, site_asked}
+use Rattle.chorus_world.specs.Places.{hears, is_heard, sent, unsettled}
 use Rattle.std.specs.Prelude.{ℕ, ◌-◌, ◌==◌, Bool, false, ◌&&◌, ◌||◌, not, if◌then◌else◌, List, [], ◌∷◌, map, length, drop, Option, Some, None}
 use Rattle.std.specs.List.{filter}
 use Rattle.chorus_ui.specs.declared.ui.Ui.{Ui}
@@ -17,24 +20,18 @@ use Rattle.chorus_world.specs.declared.port.Spot.{Spot}
 use Rattle.chorus_world.specs.declared.port.Spot.TheVariants as spots
 use Rattle.chorus_world.specs.declared.place.Sent.{Sent}
 use Rattle.chorus_world.specs.Views.{at, about, on}
-use Rattle.chorus_world.specs.Ports.{Fate, fate, last_of}
-use Rattle.chorus_world.specs.Posts.{Posted, post_of, tag_of, site_asked}
+use Rattle.chorus_world.specs.Ports.{PortState, fate, last_of}
 use Rattle.chorus_world.specs.declared.message.Progress.{Progress}
 use Rattle.chorus_world.specs.declared.message.Progress.TheVariants as stages
 use Rattle.chorus_world.specs.Messages.{progress}
-use Rattle.chorus_world.specs.Places.{sent, unsettled, same_route}
+use Rattle.chorus_entry.specs.Same.{same_route}
 use Rattle.chorus_world.specs.Steps.{is_asked_from}
 use Rattle.chorus_world.specs.Seats as seats
-use Rattle.chorus_ports.specs.Deciding.{remembered}
+use Rattle.chorus_entry.specs.Clients.{remembered}
 use Rattle.chorus_calls.specs.Clients as clients
 use Rattle.chorus_waits.specs.declared.wait.Key.{Key}
 use Rattle.chorus_waits.specs.declared.wait.Wait.{Wait}
 use Rattle.chorus_waits.specs.Queues.{Queue}
-
--- the message x as it was posted
-abbrev pub as_posted : MsgId → Option Posted → Message
-as_posted x None = record { id = x; tag = Tag.Plain; body = [] }
-as_posted x (Some m) = record m.message { id = x }
 
 abbrev pub message : List Entry → MsgId → Message
 message past x = as_posted x (post_of x past)
@@ -49,17 +46,8 @@ home past x = home_from (post_of x past)
 
 -- Records. `line` are the entries on the port's line.
 
--- the clients that a port remembers
-abbrev pub clients_after : List Entry → Act → List (ℕ × ℕ) → List (ℕ × ℕ)
-clients_after past (Act.Accept x q position) table = remembered x.seat (tag_of x past) table
-clients_after past _ table = table
-
-abbrev pub clients_kept : List Entry → List Entry → List (ℕ × ℕ)
-clients_kept past [] = []
-clients_kept past (e ∷ line) = clients_after past e.act (clients_kept past line)
-
 -- the record of a port in the hands of an actor, or on its way to one
-abbrev pub record_for : List Entry → List Entry → Ui → Ui → Fate → PortRecord
+abbrev pub record_for : List Entry → List Entry → Ui → Ui → PortState → PortRecord
 record_for past line q actor f =
     record {
       ui = q;
@@ -72,11 +60,11 @@ record_for past line q actor f =
     }
 
 -- the record of the port at the place p, where it is held there
-abbrev pub record_held : List Entry → List Entry → Ui → ℕ → Fate → Spot → Option PortRecord
+abbrev pub record_held : List Entry → List Entry → Ui → ℕ → PortState → Spot → Option PortRecord
 record_held past line q p f (spots.Held actor) = if last_of 0 f.path == p then Some (record_for past line q actor f) else None
 record_held past line q p f _ = None
 
-abbrev pub record_here : List Entry → List Entry → Ui → ℕ → Option Fate → Option PortRecord
+abbrev pub record_here : List Entry → List Entry → Ui → ℕ → Option PortState → Option PortRecord
 record_here past line q p None = None
 record_here past line q p (Some f) = record_held past line q p f f.spot
 
@@ -122,14 +110,6 @@ abbrev pub queue_at : List Entry → ℕ → Key → Queue
 queue_at past p k = queue_of past (sent_for past p k)
 
 -- Reports.
-
-abbrev pub hears : MsgId → Act → Bool
-hears x (Act.Heard y answer) = same_id y x
-hears x _ = false
-
-abbrev pub is_heard : MsgId → List Entry → Bool
-is_heard x [] = false
-is_heard x (e ∷ here) = hears x e.act || is_heard x here
 
 -- the place p posted x, or the post of which x is a copy, to a group of another place, and did not hear of x
 abbrev pub is_unheard : Layout → List Entry → ℕ → MsgId → Bool

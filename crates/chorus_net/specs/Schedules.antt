@@ -1,29 +1,14 @@
 -- Which schedules callers may make, and what a schedule is of.
 -- l is a layout, n a network, a and b are numbers of places, es are events, the latest first.
+use Rattle.chorus_entry.specs.Command.{is_post, has_body_in_limit, meets_conditions}
 use Rattle.std.specs.Prelude.{ℕ, ◌-◌, ◌^◌, ◌==◌, ◌≡◌, nat_lt, nat_le, Bool, true, false, ◌&&◌, ◌||◌, not, if◌then◌else◌, List, [], ◌∷◌, length, Option, Some, None, is_some, slice_get}
 use Rattle.chorus_ui.specs.declared.layout.Layout.{Layout}
-use Rattle.chorus_ui.specs.Layout.{IsShape, has_actor, has_place}
+use Rattle.chorus_ui.specs.Layout.{IsLayout, has_actor, has_place}
 use Rattle.chorus_entry.specs.declared.command.Command.{Command}
-use Rattle.chorus_entry.specs.declared.body.TheConstants.{BODY_LIMIT}
-use Rattle.chorus_entry.specs.Command.{meets_conditions, has_kinds_in_command}
+use Rattle.chorus_ui.specs.declared.limits.TheConstants.{BODY_LIMIT}
 use Rattle.chorus_entry.specs.Kinds.{names_actor}
 use Rattle.chorus_calls.specs.Callers.{Seated}
 use Rattle.chorus_net.specs.Network.{NetState, Event, Enter, Act, Deliver, schedule}
-
--- the body of a command is within its limit
-abbrev pub has_body_in_limit : Command → Bool
-has_body_in_limit (Command.Send d body) = nat_le (length body) BODY_LIMIT
-has_body_in_limit (Command.Call q back body) = nat_le (length body) BODY_LIMIT
-has_body_in_limit (Command.Reply body) = nat_le (length body) BODY_LIMIT
-has_body_in_limit _ = true
-
--- the command posts a message
-abbrev pub is_post : Command → Bool
-is_post (Command.Send d body) = true
-is_post (Command.Call q back body) = true
-is_post Command.Retry = true
-is_post (Command.Reply body) = true
-is_post _ = false
 
 -- a caller that posts has posted fewer than 2^32 - 1 messages
 abbrev pub has_number_left : Seated → Command → Bool
@@ -33,7 +18,7 @@ has_number_left caller command = not (is_post command) || nat_lt caller.posts (2
 abbrev pub may_give : Option Seated → Command → Bool
 may_give None command = false
 may_give (Some caller) command =
-    meets_conditions command && has_kinds_in_command command && has_body_in_limit command && has_number_left caller command
+    meets_conditions command && has_body_in_limit command && has_number_left caller command
 
 -- a caller comes in an actor of the layout; a packet is worked off by somebody who came, between two places of the layout
 abbrev pub may_happen : Event → NetState → Bool
@@ -59,4 +44,4 @@ commands_of seat (e ∷ es) = command_in seat e (commands_of seat es)
 
 -- what each schedule of each layout leaves has the property
 abbrev pub OfSchedules : (Layout → List Event → NetState → Type 0) → Type 0
-OfSchedules P = (l : Layout) (es : List Event) → IsShape l → may_be l es ≡ true → P l es (schedule l es)
+OfSchedules P = (l : Layout) (es : List Event) → IsLayout l → may_be l es ≡ true → P l es (schedule l es)

@@ -12,7 +12,7 @@ use Rattle.chorus_entry.specs.declared.id.MsgId.{MsgId}
 use Rattle.chorus_entry.specs.Kinds.{names_actor}
 use Rattle.chorus_world.specs.Views.{at, by}
 use Rattle.chorus_world.specs.Places.{last_clock, located}
-use Rattle.chorus_world.specs.Groups.{posts_to}
+use Rattle.chorus_world.specs.Groups.{posts_to, unchosen}
 use Rattle.chorus_world.specs.Seats.{posts, posts_stay, requests, hand}
 use Rattle.chorus_world.specs.Runs.{is_run}
 use Rattle.chorus_world.specs.Order.{IsCausal}
@@ -24,7 +24,7 @@ use Rattle.chorus_place.specs.PlaceState.{PlaceState, newest}
 use Rattle.chorus_net.specs.Packets.{AreByLink}
 use Rattle.chorus_net.specs.Network.{NetState, place, place_numbers}
 use Rattle.chorus_net.specs.Records.{record_at, queue_at, is_unheard, outstanding}
-use Rattle.chorus_net.specs.UnderWay.{is_of, is_with, far_place, under_way, transfer, asked_for, unchosen}
+use Rattle.chorus_net.specs.UnderWay.{is_of, is_with, far_place, under_way, transfer, asked_for}
 
 -- the actor of each seat
 abbrev pub actor_of : NetState → ℕ → Option Ui

@@ -3,7 +3,7 @@
 use Rattle.std.specs.Prelude.{ℕ, ◌≡◌, ◌==◌, true, false, List, [], ◌∷◌, ◌++◌, is_some, slice_get}
 use Rattle.std.specs.List.{All}
 use Rattle.chorus_ui.specs.declared.layout.Layout.{Layout}
-use Rattle.chorus_ui.specs.Layout.{IsShape, has_place}
+use Rattle.chorus_ui.specs.Layout.{IsLayout, has_place}
 use Rattle.chorus_entry.specs.declared.command.Command.{Command}
 use Rattle.chorus_place.specs.PlaceState.{Outgoing}
 use Rattle.chorus_net.specs.Network.{Event, schedule, round, rounds, served, drained}
@@ -46,7 +46,7 @@ MayAll l (Drain seat ∷ ts) = ((es : List Event) → CarryOut l ts es → is_so
 -- then there are events that carry out the tasks, and that may be
 abbrev pub TasksCarriedOut : Type 0
 TasksCarriedOut =
-    (l : Layout) (ts : List Task) → IsShape l → MayAll l ts → (es : List Event) × (CarryOut l ts es × (may_be l es ≡ true))
+    (l : Layout) (ts : List Task) → IsLayout l → MayAll l ts → (es : List Event) × (CarryOut l ts es × (may_be l es ≡ true))
 
 -- some number of rounds leaves no packet
 abbrev pub DrainsEnd : Type 0
@@ -65,11 +65,11 @@ PacketsLieBetween = OfSchedules (λ l es n. All (IsBetweenPlaces l) n.packets)
 -- so a drain leaves no packet
 abbrev pub DrainsLeaveNothing : Type 0
 DrainsLeaveNothing =
-    (l : Layout) (seat : ℕ) (older es : List Event) → IsShape l → may_be l es ≡ true →
+    (l : Layout) (seat : ℕ) (older es : List Event) → IsLayout l → may_be l es ≡ true →
     is_some (slice_get (schedule l es).callers seat) ≡ true → IsDrain l seat older es → (schedule l es).packets ≡ []
 
 -- and after a last drain nothing is left to be done
 abbrev pub DrainsRest : Type 0
 DrainsRest =
-    (l : Layout) (seat : ℕ) (ts : List Task) (es : List Event) → IsShape l → may_be l es ≡ true → CarryOut l (Drain seat ∷ ts) es →
+    (l : Layout) (seat : ℕ) (ts : List Task) (es : List Event) → IsLayout l → may_be l es ≡ true → CarryOut l (Drain seat ∷ ts) es →
     is_some (slice_get (schedule l es).callers seat) ≡ true → IsQuiet l (merged_past (schedule l es)) (packets_left (schedule l es))

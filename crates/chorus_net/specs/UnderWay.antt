@@ -19,9 +19,10 @@ use Rattle.chorus_world.specs.declared.message.Progress.TheVariants as stages
 use Rattle.chorus_world.specs.declared.place.Sent.{Sent}
 use Rattle.chorus_world.specs.declared.port.Spot.{Spot}
 use Rattle.chorus_world.specs.declared.port.Spot.TheVariants as spots
-use Rattle.chorus_world.specs.Views.{at, about, on, are_same}
+use Rattle.chorus_world.specs.Views.{at, about, on}
+use Rattle.chorus_entry.specs.Same.{are_same}
 use Rattle.chorus_world.specs.Messages.{progress}
-use Rattle.chorus_world.specs.Ports.{Fate, fate, last_of}
+use Rattle.chorus_world.specs.Ports.{PortState, fate, last_of}
 use Rattle.chorus_world.specs.Posts.{Posted, post_of, site_asked}
 use Rattle.chorus_world.specs.Places.{last_clock, sent, find_sent}
 use Rattle.chorus_world.specs.Groups.{is_chosen}
@@ -106,12 +107,12 @@ abbrev pub before_last : ℕ → ℕ → List ℕ → ℕ
 before_last p q [] = p
 before_last p q (r ∷ rs) = before_last q r rs
 
-abbrev pub transfer_in : List Entry → List Entry → Ui → Fate → Spot → List Outgoing
+abbrev pub transfer_in : List Entry → List Entry → Ui → PortState → Spot → List Outgoing
 transfer_in past line q f (spots.Moving actor) =
     packet (before_last 0 0 f.path) (last_of 0 f.path) (last_clock line) (Cargo.Transfer (record_for past line q actor f)) ∷ []
 transfer_in past line q f _ = []
 
-abbrev pub transfer_of : List Entry → List Entry → Ui → Option Fate → List Outgoing
+abbrev pub transfer_of : List Entry → List Entry → Ui → Option PortState → List Outgoing
 transfer_of past line q None = []
 transfer_of past line q (Some f) = transfer_in past line q f f.spot
 
@@ -136,6 +137,3 @@ asked_by g o = asked_in g o.packet.cargo
 abbrev pub asked_for : Ui → ℕ → ℕ → List Outgoing → List MsgId
 asked_for g a b os = flat_map (asked_by g) (filter (is_link a b) os)
 
--- those of the posts that have no choice at the group's place, whose entries are `there`
-abbrev pub unchosen : List Entry → List MsgId → List MsgId
-unchosen there xs = filter (λ (x : MsgId). not (is_chosen x there)) xs

@@ -9,7 +9,8 @@ use Rattle.chorus_entry.specs.declared.act.Act.{Act}
 use Rattle.chorus_entry.specs.declared.answer.Answer.TheVariants as A
 use Rattle.chorus_entry.specs.Dest.{site_in}
 use Rattle.chorus_entry.specs.Message.{as_copy}
-use Rattle.chorus_world.specs.Groups.{members, in_turn, first_of, listed}
+use Rattle.chorus_world.specs.Groups.{members, in_turn}
+use Rattle.chorus_entry.specs.Members.{first_of, listed}
 use Rattle.chorus_waits.specs.declared.wait.Key.{Key}
 use Rattle.chorus_waits.specs.declared.wait.Wait.{Wait}
 use Rattle.chorus_waits.specs.Queues.{Queue, changed, with_last}

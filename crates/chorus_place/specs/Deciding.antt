@@ -1,5 +1,6 @@
 -- Deciding on a message at a place, where it was tried with a hop.
 -- m is a message, x its id, q its port, s the place; `only` is the site that the message demands, if it demands one.
+use Rattle.chorus_world.specs.Places.{deletes, is_deleted}
 use Rattle.std.specs.Prelude.{ℕ, ◌==◌, nat_lt, Bool, false, ◌||◌, if◌then◌else◌, List, [], ◌∷◌, Option, Some, None}
 use Rattle.chorus_ui.specs.declared.ui.Ui.{Ui}
 use Rattle.chorus_ui.specs.Name.{same_ui}
@@ -23,15 +24,6 @@ answer_in (accepts.Accepted pos) = A.Accepted pos
 answer_in (accepts.Already m) = A.Already
 answer_in (accepts.ClientsFull m) = A.ClientsFull
 answer_in (accepts.Full len m) = A.Full len
-
--- the port was deleted here
-abbrev pub deletes : Ui → Act → Bool
-deletes q (Act.Delete r xs) = same_ui r q
-deletes q _ = false
-
-abbrev pub is_deleted : Ui → List Entry → Bool
-is_deleted q [] = false
-is_deleted q (e ∷ here) = deletes q e.act || is_deleted q here
 
 -- the port is known to be at another place by a later hop than the one tried: the message is stale, and settled where it
 -- demands a site

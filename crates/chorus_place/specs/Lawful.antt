@@ -1,5 +1,6 @@
 -- Lawful packets: those that a place works off. No schedule brings another one.
 -- l is a layout, p a place's number, q a port, x an id, s the place that the packet is handed to.
+use Rattle.chorus_world.specs.Places.{makes, is_made_here}
 use Rattle.std.specs.Prelude.{ℕ, ◌+◌, ◌==◌, nat_le, Bool, true, false, ◌&&◌, ◌||◌, not, List, [], ◌∷◌, length, Option, Some, None, is_none}
 use Rattle.chorus_ui.specs.declared.ui.Ui.{Ui}
 use Rattle.chorus_ui.specs.Name.{same_ui}
@@ -16,7 +17,7 @@ use Rattle.chorus_entry.specs.declared.record.PortRecord.{PortRecord}
 use Rattle.chorus_entry.specs.Dest.{group_in}
 use Rattle.chorus_entry.specs.MsgId.{same_id}
 use Rattle.chorus_entry.specs.Ranges.{has_ranges}
-use Rattle.chorus_world.specs.Views.{is_number}
+use Rattle.chorus_entry.specs.Same.{is_number}
 use Rattle.chorus_world.specs.Groups.{is_group_place}
 use Rattle.chorus_ports.specs.Table.{find}
 use Rattle.chorus_waits.specs.declared.wait.Wait.{Wait}
@@ -43,15 +44,6 @@ abbrev pub may_teach : Layout → Ui → Answer → Bool
 may_teach l q (A.Stale to hop) = can_make_port l q && nat_le 1 hop
 may_teach l q (A.Elsewhere to hop) = can_make_port l q && nat_le 1 hop
 may_teach l q _ = true
-
--- the port was made here
-abbrev pub makes : Ui → Act → Bool
-makes q (Act.Make r actor capacity) = same_ui r q
-makes q _ = false
-
-abbrev pub is_made_here : Ui → List Entry → Bool
-is_made_here q [] = false
-is_made_here q (e ∷ here) = makes q e.act || is_made_here q here
 
 -- the port may be held here: this is its place on this site, it is not held here, and it was made here if anywhere; its
 -- actor is one of this site; it moved at least once; and no position of its messages is above the packet's clock

@@ -11,7 +11,7 @@ use Rattle.chorus_entry.specs.declared.answer.Answer.TheVariants as A
 use Rattle.chorus_entry.specs.Act.{is_verdict, answer_of, message_of}
 use Rattle.chorus_entry.specs.Answer.{is_final}
 use Rattle.chorus_entry.specs.MsgId.{same_id}
-use Rattle.chorus_world.specs.Views.{are_same}
+use Rattle.chorus_entry.specs.Same.{are_same}
 use Rattle.chorus_world.specs.Posts.{Posted, post_of, source}
 use Rattle.chorus_place.specs.declared.outcome.Outcome.{Outcome}
 

@@ -5,17 +5,17 @@ use Rattle.chorus_ui.specs.declared.kind.Kind.TheVariants as kinds
 use Rattle.chorus_ui.specs.declared.ui.Ui.{Ui}
 use Rattle.chorus_ui.specs.Name.{same_ui}
 use Rattle.chorus_ui.specs.Layout.{has_site, has_actor, place_at, site_of}
-use Rattle.chorus_ui.specs.declared.layout.TheConstants.{GROUPS_PER_SITE}
+use Rattle.chorus_ui.specs.declared.limits.TheConstants.{GROUPS_PER_SITE_LIMIT, MEMBERS_LIMIT}
 use Rattle.chorus_entry.specs.declared.hand.Hand.{Hand}
 use Rattle.chorus_entry.specs.declared.tag.Tag.{Tag}
 use Rattle.chorus_entry.specs.declared.dest.Dest.{Dest}
 use Rattle.chorus_entry.specs.declared.message.Message.{Message}
 use Rattle.chorus_entry.specs.declared.command.Command.{Command}
 use Rattle.chorus_entry.specs.declared.act.Act.{Act}
-use Rattle.chorus_entry.specs.declared.members.TheConstants.{MEMBERS_LIMIT}
 use Rattle.chorus_entry.specs.declared.record.PortRecord.{PortRecord}
 use Rattle.chorus_world.specs.Views.{is_group}
-use Rattle.chorus_world.specs.Groups.{groups_made, members, is_member}
+use Rattle.chorus_world.specs.Groups.{groups_made, members}
+use Rattle.chorus_entry.specs.Members.{is_member}
 use Rattle.chorus_world.specs.Steps.{next_number, is_full_of_ports}
 use Rattle.chorus_ports.specs.declared.taking.Taken.{Taken}
 use Rattle.chorus_ports.specs.declared.taking.Taken.TheVariants as takes
@@ -44,7 +44,7 @@ next_group s site = record { site = site; kind = kinds.Group; number = groups_ma
 abbrev pub group_act : ℕ → PlaceState → Act
 group_act site s =
     if not (has_site s.layout site) then Act.NoSite site
-    else if nat_le GROUPS_PER_SITE (groups_made s.journal) then Act.GroupsFull site
+    else if nat_le GROUPS_PER_SITE_LIMIT (groups_made s.journal) then Act.GroupsFull site
     else Act.GroupMake (next_group s site)
 
 -- Joining and leaving.

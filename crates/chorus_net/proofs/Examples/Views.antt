@@ -11,7 +11,7 @@ use Rattle.chorus_entry.specs.declared.record.PortRecord.{PortRecord}
 use Rattle.chorus_world.specs.declared.place.Location.{Location}
 use Rattle.chorus_world.specs.Views.{at, by}
 use Rattle.chorus_world.specs.Places.{located}
-use Rattle.chorus_world.specs.Groups.{posts_to}
+use Rattle.chorus_world.specs.Groups.{posts_to, unchosen}
 use Rattle.chorus_world.specs.Seats as seats
 use Rattle.chorus_ports.specs.Table.{find}
 use Rattle.chorus_calls.specs.Clients as clients
@@ -23,7 +23,7 @@ use Rattle.chorus_place.specs.PlaceState.{PlaceState, Outgoing, newest}
 use Rattle.chorus_place.specs.Lawful.{is_lawful}
 use Rattle.chorus_net.specs.Network.{NetState, place}
 use Rattle.chorus_net.specs.Records.{record_at, queue_at, is_unheard, outstanding}
-use Rattle.chorus_net.specs.UnderWay.{is_of, is_with, under_way, transfer, asked_for, unchosen}
+use Rattle.chorus_net.specs.UnderWay.{is_of, is_with, under_way, transfer, asked_for}
 use Rattle.chorus_net.specs.Holdings.{Holding, holds}
 
 abbrev pub key : Ui → Option Ui → Key
