@@ -1,13 +1,12 @@
-mod counts;
-mod refused;
+// Texts that are read and printed, and the first rows of those that are refused.
 
-use crate::{ReadFault, print, read};
+use chorus_scene::{ReadFault, print, read};
 use chorus_ui::Layout;
 use std::alloc::{AllocError, Global};
 use std::test::*;
 
 /// The line and the reason of the fault; None where the text is read.
-fn fault(alloc: Global, text: &[u8], layout: Layout) -> Option<(u32, u8)> {
+pub(crate) fn fault(alloc: Global, text: &[u8], layout: Layout) -> Option<(u32, u8)> {
     match read(alloc, text, layout) {
         Ok(_) => None,
         Err(ReadFault::Scene(fault)) => Some((fault.line, fault.reason)),
@@ -25,7 +24,7 @@ fn prints_as(alloc: Global, text: &[u8], layout: Layout, want: &[u8]) -> bool {
 }
 
 /// A text that has `;` for each LF.
-fn lines(alloc: Global, text: &[u8]) -> Result<Vec<u8>, AllocError> {
+pub(crate) fn lines(alloc: Global, text: &[u8]) -> Result<Vec<u8>, AllocError> {
     let mut lines = Vec::new(alloc);
     for c in text {
         lines.push(if *c == b';' { b'\n' } else { *c })?;
@@ -57,7 +56,12 @@ fn sixty_five_sends(alloc: Global) -> Result<Vec<u8>, AllocError> {
 }
 
 /// A text that ends with this many bytes of one kind.
-fn ending_in(alloc: Global, front: &[u8], byte: u8, count: usize) -> Result<Vec<u8>, AllocError> {
+pub(crate) fn ending_in(
+    alloc: Global,
+    front: &[u8],
+    byte: u8,
+    count: usize,
+) -> Result<Vec<u8>, AllocError> {
     let mut text = Vec::from_slice(alloc, front)?;
     for _ in 0..count {
         text.push(byte)?;

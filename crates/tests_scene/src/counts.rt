@@ -1,6 +1,6 @@
 // The last that is taken and the first that is not, of all that is counted.
 
-use super::{ending_in, fault};
+use crate::texts::{ending_in, fault};
 use chorus_ui::{Layout, push_decimal};
 use std::alloc::{AllocError, Global};
 use std::test::*;

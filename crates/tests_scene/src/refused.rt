@@ -1,6 +1,6 @@
 // Texts that are refused, each worked out by hand from the grammar: `;` stands for the end of a line.
 
-use super::{fault, lines};
+use crate::texts::{fault, lines};
 use chorus_ui::Layout;
 use std::alloc::{AllocError, Global};
 use std::test::*;
