@@ -1,8 +1,6 @@
 //! Faults in mid-stream, limits, and sinks that take a part at a time.
-use super::*;
+use chorus_io::*;
 use std::test::Fail;
-
-mod above;
 
 const DIGITS: &[u8] = b"0123456789";
 

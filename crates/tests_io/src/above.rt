@@ -1,11 +1,11 @@
 //! What a layer above proves from the contracts here: generic in a source and a sink, and at a source that never fails.
 ghost use Rattle.std.specs.Prelude.{◌≡◌, ◌≢◌, ◌++◌, [], OnOk, IfSome, IsErrOf, Err};
 ghost use Rattle.std.specs.Io.KnownBytes.{Appends};
-ghost use Rattle.chorus_io.specs.declared.tests.above.Stop.TheVariants.{WriteFault};
+ghost use Rattle.tests_io.specs.declared.above.Stop.TheVariants.{WriteFault};
 ghost use Rattle.chorus_io.specs.Count.{Rose};
 ghost use Rattle.chorus_io.specs.Bytes.{AppendsPrefix};
 
-use crate::{Failed, MemSink, MemSource, ReadAll, Sink, Source, read_all, write_all};
+use chorus_io::{Failed, MemSink, MemSource, ReadAll, Sink, Source, read_all, write_all};
 use std::alloc::Global;
 use std::test::Fail;
 
@@ -36,8 +36,10 @@ fn copy<S: Source, K: Sink>(
     ensures prefix { IfSome (S.left source.old) (λ input.
         AppendsPrefix (K.held sink.old) (K.held sink.new) (heading.now ++ input)) }
     ensures untouched { IsErrOf result Stop.Input → sink.new ≡ sink.old }
-    ensures read_fault { IsErrOf result Stop.ReadFault → Rose (S.faults source.old) (S.faults source.new) }
-    ensures write_fault { IsErrOf result Stop.WriteFault → Rose (K.faults sink.old) (K.faults sink.new) }
+    ensures read_fault { IsErrOf result Stop.ReadFault →
+        Rose (S.faults source.old) (S.faults source.new) }
+    ensures write_fault { IsErrOf result Stop.WriteFault →
+        Rose (K.faults sink.old) (K.faults sink.new) }
 {
     let input = match read_all(alloc, source, 100) {
         Ok(input) => input,
