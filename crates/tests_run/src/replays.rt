@@ -2,9 +2,9 @@
 
 ghost use Rattle.std.specs.Prelude.{◌≤◌};
 
-use crate::{Finished, words};
 use chorus_io::{MemSink, MemSource};
 use chorus_net::Sites;
+use chorus_run::{Finished, words};
 use chorus_show::Status;
 use chorus_ui::Layout;
 use std::alloc::Global;
