@@ -1,7 +1,7 @@
 //! Frames that were worked out by hand, and what is wrong with damaged ones.
 
-use crate::*;
 use chorus_entry::{Answer, Cargo, Dest, MsgId, Packet, Tag};
+use chorus_frame::*;
 use chorus_ui::{Kind, Ui};
 use std::alloc::{AllocError, Global};
 use std::process::Abort;
