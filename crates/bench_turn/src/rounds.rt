@@ -89,11 +89,14 @@ fn at_once<R: Threads + Sync>(
     let ((mut keeper, second), (third, fourth)) = join(
         rt,
         move || -> (Pass<()>, Pass<()>)
-            requires { IsSync R.row × IsPassOf turns.now keeper × ((known keeper).keeper ≡ true) × IsPassOf turns.now second × (4 ≤ places turns.now) }
-            ensures { IsPassOf turns.entry.now result.0 × ((known result.0).keeper ≡ true) × IsPassOf turns.entry.now result.1 }
+            requires { IsSync R.row × IsPassOf turns.now keeper × ((known keeper).keeper ≡ true)
+                × IsPassOf turns.now second × (4 ≤ places turns.now) }
+            ensures { IsPassOf turns.entry.now result.0 × ((known result.0).keeper ≡ true)
+                × IsPassOf turns.entry.now result.1 }
         { two_at_once(rt, turns, (keeper, 1), (second, 2), count) },
         move || -> (Pass<()>, Pass<()>)
-            requires { IsSync R.row × IsPassOf turns.now third × IsPassOf turns.now fourth × (4 ≤ places turns.now) }
+            requires { IsSync R.row × IsPassOf turns.now third × IsPassOf turns.now fourth
+                × (4 ≤ places turns.now) }
             ensures { IsPassOf turns.entry.now result.0 × IsPassOf turns.entry.now result.1 }
         { two_at_once(rt, turns, (third, 3), (fourth, 4), count) },
     );
@@ -121,11 +124,14 @@ fn two_at_once<R: Threads + Sync>(
         rt,
         move || -> Pass<()>
             requires { IsPassOf turns.now first × (1 ≤ place) × (place ≤ places turns.now) }
-            ensures { IsPassOf turns.entry.now result × ((known result).keeper ≡ (known first).keeper) }
+            ensures { IsPassOf turns.entry.now result
+                × ((known result).keeper ≡ (known first).keeper) }
         { turns_at(turns, first, place, count) },
         move || -> Pass<()>
-            requires { IsPassOf turns.now second × (1 ≤ next_place) × (next_place ≤ places turns.now) }
-            ensures { IsPassOf turns.entry.now result × ((known result).keeper ≡ (known second).keeper) }
+            requires { IsPassOf turns.now second × (1 ≤ next_place)
+                × (next_place ≤ places turns.now) }
+            ensures { IsPassOf turns.entry.now result
+                × ((known result).keeper ≡ (known second).keeper) }
         { turns_at(turns, second, next_place, count) },
     )
 }

@@ -28,7 +28,7 @@ pub fn decode(alloc: Global, bytes: &[u8]) -> Result<Packet, DecodeFault>
     whole(alloc, bytes)
 }
 
-/// The packet that all of the bytes are. It stands apart from `decode` so that what it ensures is at hand for the ranges.
+/// The packet that all of the bytes are. It stands apart from `decode` so that its clauses are at hand for the ranges.
 #[tactic(auto, unfolding(crate::specs::Reading::packet_of))]
 fn whole(alloc: Global, bytes: &[u8]) -> Result<Packet, DecodeFault>
     ensures { Gives result (packet_of bytes.now) }

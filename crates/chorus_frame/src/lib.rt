@@ -17,8 +17,6 @@ mod fault;
 mod frame;
 mod laws;
 mod reader;
-#[cfg(test)]
-mod tests;
 
 pub use decoding::decode;
 pub use encoding::encode;

@@ -41,7 +41,9 @@ impl<'a> Reader<'a> {
     /// The next `count` bytes.
     #[tactic(auto, unfolding(crate::specs::Numbers::bytes_at))]
     pub(crate) fn bytes(&mut self, count: usize) -> Result<&'a [u8], DecodeFault>
-        ensures reads { MatchResult result (λ bytes. bytes_at count self.old ≡ Ok (bytes.now, self.new)) (λ fault. Fails fault (bytes_at count self.old)) }
+        ensures reads { MatchResult result
+            (λ bytes. bytes_at count self.old ≡ Ok (bytes.now, self.new))
+            (λ fault. Fails fault (bytes_at count self.old)) }
         ensures len { IfOk result (λ bytes. length bytes.now ≡ count) }
     {
         if self.rest.len() < count {

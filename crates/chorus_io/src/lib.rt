@@ -6,7 +6,7 @@
 //! those in memory tell all, the standard streams nothing.
 //!
 //! Begin with [`Source`] and [`Sink`]. `proofs/Callers.antt` has the lemmas for a text that is written in pieces, and
-//! `src/tests/above.rt` a caller that cites them. All rules here are this project's own.
+//! the crate `tests_io` a caller that cites them. All rules here are this project's own.
 #![tactic(auto)]
 
 mod count;
@@ -18,8 +18,6 @@ mod reading;
 mod sink;
 mod source;
 mod standard;
-#[cfg(test)]
-mod tests;
 mod writing;
 
 pub use failed::Failed;

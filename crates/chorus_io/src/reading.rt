@@ -50,9 +50,11 @@ pub fn read_all<S: Source>(alloc: Global, source: &mut S, limit: usize) -> Resul
     ensures within { IfOk result (λ v. vec_len v ≤ limit) }
     ensures given { ReadsUpTo (S.left source.old) (S.left source.new) limit result }
 
-    ensures fault { IsErrOf result ReadAll.Fault → Rose (S.faults source.old) (S.faults source.new) }
+    ensures fault { IsErrOf result ReadAll.Fault →
+        Rose (S.faults source.old) (S.faults source.new) }
     ensures never_falls { S.faults source.old ≤ S.faults source.new }
-    ensures reliable { S.reliable source.old → S.reliable source.new × (S.faults source.new ≡ S.faults source.old) }
+    ensures reliable { S.reliable source.old →
+        S.reliable source.new × (S.faults source.new ≡ S.faults source.old) }
 {
     let mut bytes = Vec::new(alloc);
     let mut chunk = [0u8; CHUNK];

@@ -25,7 +25,8 @@ pub trait Source {
 
         ensures failed { OnErr result (Rose (faults self.old) (faults self.new)) }
         ensures never_falls { faults self.old ≤ faults self.new }
-        ensures reliable { reliable self.old → reliable self.new × (faults self.new ≡ faults self.old) };
+        ensures reliable { reliable self.old →
+            reliable self.new × (faults self.new ≡ faults self.old) };
 
     /// How many faults there were. The count never falls, and stays at 2^64 - 1.
     fn faults(&self) -> u64

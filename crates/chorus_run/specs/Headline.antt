@@ -1,5 +1,5 @@
 -- What a replay promises: what was read, and what the journals that it hands out are.
-use Rattle.std.specs.Prelude.{ℕ, ◌≡◌, ◌+◌, ◌≤◌, ◌⊎◌, true, cond, List, [], ◌∷◌, ◌++◌, All, length, map, take, reverse, Option, Some, None, IfSome, Result, Ok, Err, slice_get}
+use Rattle.std.specs.Prelude.{ℕ, ◌≡◌, ◌+◌, ◌≤◌, ◌⊎◌, true, if◌then◌else◌, List, [], ◌∷◌, ◌++◌, All, length, map, take, reverse, Option, Some, None, IfSome, Result, Ok, Err, slice_get}
 use Rattle.std.specs.Io.KnownBytes.{Consumes, IsAtEnd}
 use Rattle.chorus_ui.specs.declared.ui.Ui.{Ui}
 use Rattle.chorus_ui.specs.declared.layout.Layout.{Layout}
@@ -36,7 +36,7 @@ bytes_read input = take (TEXT_LIMIT + 1) input
 
 -- an accepted scenario that is not built yet is refused with line 0 and reason 0
 abbrev pub unless_unbuilt : Result Scene (ℕ × ℕ) → Result Scene (ℕ × ℕ)
-unless_unbuilt (Ok c) = cond (scene_is_built c) (Ok c) (Err (0, 0))
+unless_unbuilt (Ok c) = if scene_is_built c then Ok c else Err (0, 0)
 unless_unbuilt (Err fault) = Err fault
 
 -- what the grammar makes of an input: its scenario, or the line and the reason of the refusal

@@ -26,14 +26,16 @@ pub(crate) fn is_built(scenario: &Scenario) -> bool
 
 /// Whether place 1 has all commands of the scenario so far: those of the setup and those of the scripts.
 fn has_ports_alone(scenario: &Scenario) -> bool
-    ensures { result ≡ list_all (is_built scenario.now.layout 1) (setup_commands scenario.now) && list_all (script_is_built scenario.now) scenario.now.scripts }
+    ensures { result ≡ list_all (is_built scenario.now.layout 1) (setup_commands scenario.now)
+        && list_all (script_is_built scenario.now) scenario.now.scripts }
 {
     setup_is_built(scenario.setup()) && scripts_are_built(scenario.layout(), scenario.scripts())
 }
 
 /// Whether a place has all commands of the setup so far: whether each line makes a port.
 fn setup_is_built(setup: &[SetupLine]) -> bool
-    ensures { (layout : Layout) → result ≡ list_all (is_built layout 1) (map setup_command setup.now) }
+    ensures { (layout : Layout) →
+        result ≡ list_all (is_built layout 1) (map setup_command setup.now) }
 {
     setup
         .iter()
@@ -42,7 +44,8 @@ fn setup_is_built(setup: &[SetupLine]) -> bool
 
 /// Whether place 1 has all commands of the scripts so far.
 fn scripts_are_built(layout: Layout, scripts: &[Script]) -> bool
-    ensures { result ≡ list_all (λ (script : Script). list_all (is_built layout 1) script.commands) scripts.now }
+    ensures { result
+        ≡ list_all (λ (script : Script). list_all (is_built layout 1) script.commands) scripts.now }
 {
     scripts
         .iter()

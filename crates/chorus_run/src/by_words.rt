@@ -28,22 +28,33 @@ pub fn words<S: Source, K: Sink>(
     requires { AreJustStarted sites }
 
     // Why it ended. Want of memory is the one free answer.
-    ensures usage { (result.status ≡ Status.Usage) ↔ (map (λ word. word.now) words.now ≢ codes "replay" ∷ []) }
-    ensures untouched { result.status ≡ Status.Usage → (source.new ≡ source.old) × (sink.new ≡ sink.old) }
+    ensures usage { (result.status ≡ Status.Usage)
+        ↔ (map (λ word. word.now) words.now ≢ codes "replay" ∷ []) }
+    ensures untouched { result.status ≡ Status.Usage →
+        (source.new ≡ source.old) × (sink.new ≡ sink.old) }
     ensures worn { (clock : ℕ) → result.status ≢ Status.Worn clock }
-    ensures scenario { (line reason : ℕ) → result.status ≡ Status.Scenario line reason → IsSome (S.left source.old) → Gives (layout_of sites) (S.left source.old) (Err (line, reason)) }
-    ensures accepted { IsSome result.closed → IsSome (S.left source.old) → (c : Scene) × Gives (layout_of sites) (S.left source.old) (Ok c) }
-    ensures read_fault { result.status ≡ Status.ReadFault → Rose (S.faults source.old) (S.faults source.new) }
+    ensures scenario { (line reason : ℕ) → result.status ≡ Status.Scenario line reason →
+        IsSome (S.left source.old) →
+        Gives (layout_of sites) (S.left source.old) (Err (line, reason)) }
+    ensures accepted { IsSome result.closed → IsSome (S.left source.old) →
+        (c : Scene) × Gives (layout_of sites) (S.left source.old) (Ok c) }
+    ensures read_fault { result.status ≡ Status.ReadFault →
+        Rose (S.faults source.old) (S.faults source.new) }
     ensures reliable { S.reliable source.old → S.faults source.new ≡ S.faults source.old }
-    ensures write_fault { result.status ≡ Status.WriteFault → Rose (K.faults sink.old) (K.faults sink.new) }
-    ensures read { result.status ≢ Status.Usage → result.status ≢ Status.ReadFault → result.status ≢ Status.Memory → IsRead (S.left source.old) (S.left source.new) }
+    ensures write_fault { result.status ≡ Status.WriteFault →
+        Rose (K.faults sink.old) (K.faults sink.new) }
+    ensures read { result.status ≢ Status.Usage → result.status ≢ Status.ReadFault →
+        result.status ≢ Status.Memory → IsRead (S.left source.old) (S.left source.new) }
     ensures reads_at_most { ReadsNoFurther (S.left source.old) (S.left source.new) }
-    ensures closed { IsSome result.closed ↔ (result.status ≡ Status.Done) ⊎ (result.status ≡ Status.WriteFault) }
+    ensures closed { IsSome result.closed ↔ (result.status ≡ Status.Done)
+        ⊎ (result.status ≡ Status.WriteFault) }
 
     // What it did, where it handed out what it closed.
     ensures unwritten { IsNone result.closed → sink.new ≡ sink.old }
-    ensures prints { Writes result.status (K.held sink.old) (K.held sink.new) (text_of result.closed) }
-    ensures ordered { OfScene (layout_of sites) (S.left source.old) result.closed (λ c. IsClosed (replayed c)) }
+    ensures prints { Writes result.status (K.held sink.old) (K.held sink.new)
+        (text_of result.closed) }
+    ensures ordered { OfScene (layout_of sites) (S.left source.old) result.closed
+        (λ c. IsClosed (replayed c)) }
     ensures run { OfScene (layout_of sites) (S.left source.old) result.closed IsRun }
     ensures performs { OfScene (layout_of sites) (S.left source.old) result.closed Performs }
     ensures receives { IfSome result.closed ReceivesInOrder }

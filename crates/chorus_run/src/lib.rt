@@ -17,8 +17,6 @@ mod finished;
 mod on_one_thread;
 mod order;
 mod performing;
-#[cfg(test)]
-mod tests;
 
 pub use by_words::words;
 pub use finished::Finished;

@@ -37,19 +37,28 @@ pub fn replay<S: Source, K: Sink>(
     // Why it ended. Want of memory is the one free answer.
     ensures usage { result.status ≢ Status.Usage }
     ensures worn { (clock : ℕ) → result.status ≢ Status.Worn clock }
-    ensures scenario { (line reason : ℕ) → result.status ≡ Status.Scenario line reason → IsSome (S.left source.old) → Gives (layout_of sites) (S.left source.old) (Err (line, reason)) }
-    ensures accepted { IsSome result.closed → IsSome (S.left source.old) → (c : Scene) × Gives (layout_of sites) (S.left source.old) (Ok c) }
-    ensures read_fault { result.status ≡ Status.ReadFault → Rose (S.faults source.old) (S.faults source.new) }
+    ensures scenario { (line reason : ℕ) → result.status ≡ Status.Scenario line reason →
+        IsSome (S.left source.old) →
+        Gives (layout_of sites) (S.left source.old) (Err (line, reason)) }
+    ensures accepted { IsSome result.closed → IsSome (S.left source.old) →
+        (c : Scene) × Gives (layout_of sites) (S.left source.old) (Ok c) }
+    ensures read_fault { result.status ≡ Status.ReadFault →
+        Rose (S.faults source.old) (S.faults source.new) }
     ensures reliable { S.reliable source.old → S.faults source.new ≡ S.faults source.old }
-    ensures write_fault { result.status ≡ Status.WriteFault → Rose (K.faults sink.old) (K.faults sink.new) }
-    ensures read { result.status ≢ Status.ReadFault → result.status ≢ Status.Memory → IsRead (S.left source.old) (S.left source.new) }
+    ensures write_fault { result.status ≡ Status.WriteFault →
+        Rose (K.faults sink.old) (K.faults sink.new) }
+    ensures read { result.status ≢ Status.ReadFault → result.status ≢ Status.Memory →
+        IsRead (S.left source.old) (S.left source.new) }
     ensures reads_at_most { ReadsNoFurther (S.left source.old) (S.left source.new) }
-    ensures closed { IsSome result.closed ↔ (result.status ≡ Status.Done) ⊎ (result.status ≡ Status.WriteFault) }
+    ensures closed { IsSome result.closed ↔ (result.status ≡ Status.Done)
+        ⊎ (result.status ≡ Status.WriteFault) }
 
     // What it did, where it handed out what it closed.
     ensures unwritten { IsNone result.closed → sink.new ≡ sink.old }
-    ensures prints { Writes result.status (K.held sink.old) (K.held sink.new) (text_of result.closed) }
-    ensures ordered { OfScene (layout_of sites) (S.left source.old) result.closed (λ c. IsClosed (replayed c)) }
+    ensures prints { Writes result.status (K.held sink.old) (K.held sink.new)
+        (text_of result.closed) }
+    ensures ordered { OfScene (layout_of sites) (S.left source.old) result.closed
+        (λ c. IsClosed (replayed c)) }
     ensures run { OfScene (layout_of sites) (S.left source.old) result.closed IsRun }
     ensures performs { OfScene (layout_of sites) (S.left source.old) result.closed Performs }
     ensures receives { IfSome result.closed ReceivesInOrder }
@@ -82,14 +91,19 @@ fn read_scenario<S: Source>(
     source: &mut S,
     layout: Layout,
 ) -> Result<Scenario, Status>
-    ensures ok { IfOk result (λ c. (c.layout ≡ layout) × (scene_is_built c ≡ true) × Keeps c × IsLayout c.layout) }
-    ensures accepted { IfOk result (λ c. IsSome (S.left source.old) → Gives layout (S.left source.old) (Ok c)) }
-    ensures refused { (line reason : ℕ) → IsErrOf result (Status.Scenario line reason) → IsSome (S.left source.old) → Gives layout (S.left source.old) (Err (line, reason)) }
+    ensures ok { IfOk result
+        (λ c. (c.layout ≡ layout) × (scene_is_built c ≡ true) × Keeps c × IsLayout c.layout) }
+    ensures accepted { IfOk result
+        (λ c. IsSome (S.left source.old) → Gives layout (S.left source.old) (Ok c)) }
+    ensures refused { (line reason : ℕ) → IsErrOf result (Status.Scenario line reason) →
+        IsSome (S.left source.old) → Gives layout (S.left source.old) (Err (line, reason)) }
     ensures err { IfErr result GivesUp }
-    ensures read_fault { IsErrOf result Status.ReadFault → Rose (S.faults source.old) (S.faults source.new) }
+    ensures read_fault { IsErrOf result Status.ReadFault →
+        Rose (S.faults source.old) (S.faults source.new) }
     ensures reliable { S.reliable source.old → S.faults source.new ≡ S.faults source.old }
     ensures reads_at_most { ReadsNoFurther (S.left source.old) (S.left source.new) }
-    ensures read { ¬ (IsErrOf result Status.ReadFault) → ¬ (IsErrOf result Status.Memory) → IsRead (S.left source.old) (S.left source.new) }
+    ensures read { ¬ (IsErrOf result Status.ReadFault) → ¬ (IsErrOf result Status.Memory) →
+        IsRead (S.left source.old) (S.left source.new) }
 {
     let text = match read_all(alloc, source, TEXT_LIMIT) {
         Ok(text) => text,

@@ -21,7 +21,10 @@ pub(crate) struct Call<'a> {
 /// script.
 pub(crate) fn calls<'a>(alloc: Global, scenario: &'a Scenario) -> Result<Vec<Call<'a>>, AllocError>
     requires { Keeps scenario.now }
-    ensures { IfOk result (λ calls. events_of calls.items ≡ in_schedule scenario.now.scripts [] scenario.now.schedule ++ left_from scenario.now.schedule 1 scenario.now.scripts) }
+    ensures { IfOk result
+        (λ calls. events_of calls.items
+        ≡ in_schedule scenario.now.scripts [] scenario.now.schedule
+        ++ left_from scenario.now.schedule 1 scenario.now.scripts) }
 {
     let (mut calls, next) = scheduled(alloc, scenario)?;
     push_left(scenario, &next, &mut calls)?;
@@ -34,8 +37,11 @@ fn scheduled<'a>(
     scenario: &'a Scenario,
 ) -> Result<(Vec<Call<'a>>, Vec<usize>), AllocError>
     requires { Keeps scenario.now }
-    ensures calls { IfOk result (λ done. events_of done.0.items ≡ in_schedule scenario.now.scripts [] scenario.now.schedule) }
-    ensures next { IfOk result (λ done. AreNext scenario.now.scripts scenario.now.schedule done.1.items) }
+    ensures calls { IfOk result
+        (λ done. events_of done.0.items
+        ≡ in_schedule scenario.now.scripts [] scenario.now.schedule) }
+    ensures next { IfOk result
+        (λ done. AreNext scenario.now.scripts scenario.now.schedule done.1.items) }
 {
     let scripts = scenario.scripts();
     let mut calls = Vec::new(alloc);
@@ -62,7 +68,9 @@ fn push_left<'a>(
 ) -> Result<(), AllocError>
     requires keeps { Keeps scenario.now }
     requires next { AreNext scenario.now.scripts scenario.now.schedule next.now }
-    ensures { OnOk result (events_of calls.new.items ≡ events_of calls.old.items ++ left_from scenario.now.schedule 1 scenario.now.scripts) }
+    ensures { OnOk result
+        (events_of calls.new.items
+        ≡ events_of calls.old.items ++ left_from scenario.now.schedule 1 scenario.now.scripts) }
 {
     for (index, script) in scenario.scripts().iter().enumerate() {
         let left = &script.commands()[next[index]..];
@@ -77,7 +85,8 @@ fn push_all<'a>(
     commands: &'a [Command],
     calls: &mut Vec<Call<'a>>,
 ) -> Result<(), AllocError>
-    ensures { OnOk result (events_of calls.new.items ≡ events_of calls.old.items ++ map (Act seat) commands.now) }
+    ensures { OnOk result
+        (events_of calls.new.items ≡ events_of calls.old.items ++ map (Act seat) commands.now) }
 {
     for command in commands {
         calls.push(Call { seat, command })?;

@@ -49,7 +49,8 @@ fn set_up(sites: &mut Sites, scenario: &Scenario) -> Result<(), AllocError>
     requires built { scene_is_built scenario.now ≡ true }
     requires keeps { Keeps scenario.now }
     requires layout { IsLayout scenario.now.layout }
-    ensures { OnOk result (sites.new ≡ after scenario.now.layout (reverse (in_setup scenario.now))) }
+    ensures { OnOk result
+        (sites.new ≡ after scenario.now.layout (reverse (in_setup scenario.now))) }
 {
     for line in scenario.setup() {
         act(sites, 0, setup_command(line))?;
@@ -74,7 +75,9 @@ fn enter(sites: &mut Sites, scenario: &Scenario) -> Result<(), AllocError>
     requires built { scene_is_built scenario.now ≡ true }
     requires keeps { Keeps scenario.now }
     requires layout { IsLayout scenario.now.layout }
-    ensures { OnOk result (sites.new ≡ after scenario.now.layout (reverse (in_setup scenario.now ++ entering scenario.now))) }
+    ensures { OnOk result
+        (sites.new
+        ≡ after scenario.now.layout (reverse (in_setup scenario.now ++ entering scenario.now))) }
 {
     for script in scenario.scripts() {
         match sites.enter(script.actor()) {
@@ -90,7 +93,8 @@ fn enter(sites: &mut Sites, scenario: &Scenario) -> Result<(), AllocError>
 /// Performs a command of the seat, where no clock is worn.
 fn act(sites: &mut Sites, seat: u32, command: Command) -> Result<(), AllocError>
     requires may { may_give sites.old.place.layout (actor_of sites.old seat) command ≡ true }
-    requires posts { is_post command ≡ true → IfSome (posts_of sites.old seat) (λ posts. posts < u32.MAX) }
+    requires posts { is_post command ≡ true →
+        IfSome (posts_of sites.old seat) (λ posts. posts < u32.MAX) }
     requires clock { compared seat sites.old < CLOCK_LIMIT }
     ensures { OnOk result (sites.new ≡ acted seat command sites.old) }
 {

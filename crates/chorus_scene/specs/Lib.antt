@@ -8,3 +8,4 @@ pub mod Limits
 pub mod Laws
 pub mod Print
 pub mod Reader
+pub mod Telling

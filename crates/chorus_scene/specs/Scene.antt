@@ -19,3 +19,14 @@ pub record Scene : Type 0 where
   pub setup : List SetupLine
   pub scripts : List Script
   pub schedule : List Step
+
+-- the scenario of these parts
+abbrev pub scene_with : Shape → ℕ → ℕ → List SetupLine → List Script → List Step → Scene
+scene_with layout version sites setup scripts schedule = record {
+  layout = layout;
+  version = version;
+  sites = sites;
+  setup = setup;
+  scripts = scripts;
+  schedule = schedule;
+}

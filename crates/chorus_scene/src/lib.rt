@@ -21,8 +21,6 @@ mod reader;
 mod reading;
 mod scenario;
 mod setup;
-#[cfg(test)]
-mod tests;
 mod text;
 mod word;
 

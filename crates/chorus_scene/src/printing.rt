@@ -41,7 +41,9 @@ fn push_scenario(scenario: &Scenario, out: &mut Vec<u8>) -> Result<(), AllocErro
 }
 
 fn push_head(version: u8, sites: u16, out: &mut Vec<u8>) -> Result<(), AllocError>
-    ensures { OnOk result (out.new.items ≡ out.old.items ++ all_ended (version_text version ∷ sites_text sites ∷ [])) }
+    ensures { OnOk result
+        (out.new.items
+        ≡ out.old.items ++ all_ended (version_text version ∷ sites_text sites ∷ [])) }
 {
     push_numbered(b"chorus", u64::from(version), out)?;
     end_line(out)?;
@@ -52,7 +54,8 @@ fn push_head(version: u8, sites: u16, out: &mut Vec<u8>) -> Result<(), AllocErro
 /// Appends the lines of a setup, where these are the names that they begin with.
 fn push_setup(lines: &[SetupLine], names: &[Ui], out: &mut Vec<u8>) -> Result<(), AllocError>
     requires { length names.now ≡ length lines.now }
-    ensures { OnOk result (out.new.items ≡ out.old.items ++ all_ended (said_texts names.now lines.now)) }
+    ensures { OnOk result
+        (out.new.items ≡ out.old.items ++ all_ended (said_texts names.now lines.now)) }
 {
     for (at, line) in lines.iter().enumerate() {
         push_setup_line(names[at], line, out)?;
@@ -75,7 +78,8 @@ fn push_setup_line(name: Ui, line: &SetupLine, out: &mut Vec<u8>) -> Result<(), 
 }
 
 fn push_scripts(scripts: &[Script], out: &mut Vec<u8>) -> Result<(), AllocError>
-    ensures { OnOk result (out.new.items ≡ out.old.items ++ all_ended (flat_map script_texts scripts.now)) }
+    ensures { OnOk result
+        (out.new.items ≡ out.old.items ++ all_ended (flat_map script_texts scripts.now)) }
 {
     for script in scripts {
         push_script(script, out)?;
@@ -128,7 +132,8 @@ fn push_command(command: &Command, out: &mut Vec<u8>) -> Result<(), AllocError>
 
 /// Appends the word and the fields of a send, before its body.
 fn push_dest(dest: &Dest, out: &mut Vec<u8>) -> Result<(), AllocError>
-    ensures { OnOk result ((body : List ℕ) → out.new.items ++ 32 ∷ body ≡ out.old.items ++ dest_text dest.now body) }
+    ensures { OnOk result
+        ((body : List ℕ) → out.new.items ++ 32 ∷ body ≡ out.old.items ++ dest_text dest.now body) }
 {
     match dest {
         Dest::Port(port) => push_named(b"send", *port, out),
@@ -142,7 +147,8 @@ fn push_dest(dest: &Dest, out: &mut Vec<u8>) -> Result<(), AllocError>
 }
 
 fn push_schedule(steps: &[Step], out: &mut Vec<u8>) -> Result<(), AllocError>
-    ensures { OnOk result (out.new.items ≡ out.old.items ++ all_ended (codes "schedule" ∷ map step_text steps.now)) }
+    ensures { OnOk result
+        (out.new.items ≡ out.old.items ++ all_ended (codes "schedule" ∷ map step_text steps.now)) }
 {
     out.extend_from_slice(b"schedule\n")?;
     for step in steps {
@@ -167,7 +173,8 @@ fn push_step(step: Step, out: &mut Vec<u8>) -> Result<(), AllocError>
 
 /// Appends a word and a name.
 fn push_named(word: &[u8], name: Ui, out: &mut Vec<u8>) -> Result<(), AllocError>
-    ensures { OnOk result (out.new.items ≡ out.old.items ++ (word.now ++ behind (name_text name ∷ []))) }
+    ensures { OnOk result
+        (out.new.items ≡ out.old.items ++ (word.now ++ behind (name_text name ∷ []))) }
 {
     out.extend_from_slice(word)?;
     push_name(name, out)
@@ -175,7 +182,9 @@ fn push_named(word: &[u8], name: Ui, out: &mut Vec<u8>) -> Result<(), AllocError
 
 /// Appends a word and two names.
 fn push_two_named(word: &[u8], first: Ui, second: Ui, out: &mut Vec<u8>) -> Result<(), AllocError>
-    ensures { OnOk result (out.new.items ≡ out.old.items ++ (word.now ++ behind (name_text first ∷ name_text second ∷ []))) }
+    ensures { OnOk result
+        (out.new.items
+        ≡ out.old.items ++ (word.now ++ behind (name_text first ∷ name_text second ∷ []))) }
 {
     out.extend_from_slice(word)?;
     push_name(first, out)?;
@@ -184,7 +193,8 @@ fn push_two_named(word: &[u8], first: Ui, second: Ui, out: &mut Vec<u8>) -> Resu
 
 /// Appends a word and a number.
 fn push_numbered(word: &[u8], number: u64, out: &mut Vec<u8>) -> Result<(), AllocError>
-    ensures { OnOk result (out.new.items ≡ out.old.items ++ (word.now ++ behind (decimal number ∷ []))) }
+    ensures { OnOk result
+        (out.new.items ≡ out.old.items ++ (word.now ++ behind (decimal number ∷ []))) }
 {
     out.extend_from_slice(word)?;
     push_number(number, out)

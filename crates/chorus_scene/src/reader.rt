@@ -103,7 +103,8 @@ impl Reader {
     fn head_line(&mut self, bytes: &[u8]) -> Result<(), Stop>
         requires stands { Stands self.old }
         requires head { self.old.section ≡ Section.Head }
-        ensures gives { Gives (state_of self.new) result (then_after (state_of self.old) (judge_head bytes.now)) }
+        ensures gives { Gives (state_of self.new) result
+            (then_after (state_of self.old) (judge_head bytes.now)) }
         ensures stands { OnOk result (Stands self.new) }
     {
         if bytes == b"chorus 1".as_slice() {
@@ -121,7 +122,8 @@ impl Reader {
     fn word_line(&mut self, alloc: Global, word: Word, rest: Option<&[u8]>) -> Result<(), Stop>
         requires stands { Stands self.old }
         requires may { may_stand self.old.section word ≡ true }
-        ensures gives { Gives (state_of self.new) result (read_with self.old word (option_copied rest.entry)) }
+        ensures gives { Gives (state_of self.new) result
+            (read_with self.old word (option_copied rest.entry)) }
         ensures stands { OnOk result (Stands self.new) }
     {
         match word {
@@ -143,7 +145,8 @@ impl Reader {
     fn sites_line(&mut self, rest: Option<&[u8]>) -> Result<(), Stop>
         requires stands { Stands self.old }
         requires may { may_stand self.old.section Word.Sites ≡ true }
-        ensures gives { Gives (state_of self.new) result (read_with self.old Word.Sites (option_copied rest.entry)) }
+        ensures gives { Gives (state_of self.new) result
+            (read_with self.old Word.Sites (option_copied rest.entry)) }
         ensures stands { OnOk result (Stands self.new) }
     {
         let Some(sites) = one(rest) else {
@@ -168,7 +171,8 @@ impl Reader {
     fn script_line(&mut self, alloc: Global, rest: Option<&[u8]>) -> Result<(), Stop>
         requires stands { Stands self.old }
         requires may { may_stand self.old.section Word.Script ≡ true }
-        ensures gives { Gives (state_of self.new) result (read_with self.old Word.Script (option_copied rest.entry)) }
+        ensures gives { Gives (state_of self.new) result
+            (read_with self.old Word.Script (option_copied rest.entry)) }
         ensures stands { OnOk result (Stands self.new) }
     {
         let Some(actor) = one(rest) else {
@@ -190,7 +194,8 @@ impl Reader {
         requires stands { Stands self.old }
         requires may { may_stand self.old.section Word.Script ≡ true }
         requires room { length self.old.scripts.items < SCRIPTS_LIMIT }
-        ensures ok { OnOk result (state_of self.new ≡ after (state_of self.old) (ScriptLine actor)) }
+        ensures ok { OnOk result
+            (state_of self.new ≡ after (state_of self.old) (ScriptLine actor)) }
         ensures stands { OnOk result (Stands self.new) }
         ensures memory { IfErr result IsMemory }
     {
@@ -203,7 +208,8 @@ impl Reader {
     fn schedule_line(&mut self, rest: Option<&[u8]>) -> Result<(), Stop>
         requires stands { Stands self.old }
         requires may { may_stand self.old.section Word.Schedule ≡ true }
-        ensures gives { Gives (state_of self.new) result (read_with self.old Word.Schedule (option_copied rest.entry)) }
+        ensures gives { Gives (state_of self.new) result
+            (read_with self.old Word.Schedule (option_copied rest.entry)) }
         ensures stands { OnOk result (Stands self.new) }
     {
         if !none(rest) {
@@ -216,7 +222,8 @@ impl Reader {
     fn end_line(&mut self, rest: Option<&[u8]>) -> Result<(), Stop>
         requires stands { Stands self.old }
         requires may { may_stand self.old.section Word.End ≡ true }
-        ensures gives { Gives (state_of self.new) result (read_with self.old Word.End (option_copied rest.entry)) }
+        ensures gives { Gives (state_of self.new) result
+            (read_with self.old Word.End (option_copied rest.entry)) }
         ensures stands { OnOk result (Stands self.new) }
     {
         if !none(rest) {

@@ -96,19 +96,23 @@ pub struct Scenario {
 
 impl Model for Scenario {
     ghost use Rattle.std.specs.Prelude.{◌≡◌, []};
-    ghost use Rattle.chorus_scene.specs.Scene.{Scene};
+    ghost use Rattle.chorus_scene.specs.Scene.{Scene, scene_with};
     ghost use Rattle.chorus_scene.specs.Making.{names_said};
     ghost use Rattle.chorus_scene.specs.Print.{IsReadAgain};
     ghost use Rattle.chorus_scene.specs.Limits.{Keeps};
 
     ghost Value = { Scene };
 
-    ghost view = { λ s. record { layout = s.layout; version = s.version; sites = s.sites; setup = s.setup.items; scripts = s.scripts.items; schedule = s.schedule.items } };
+    ghost view = { λ s.
+        scene_with s.layout s.version s.sites s.setup.items s.scripts.items s.schedule.items };
 
-    ghost invariant = { λ s. (s.names.items ≡ names_said s.layout [] s.setup.items) × IsReadAgain (record { layout = s.layout; version = s.version; sites = s.sites; setup = s.setup.items; scripts = s.scripts.items; schedule = s.schedule.items }) × Keeps (record { layout = s.layout; version = s.version; sites = s.sites; setup = s.setup.items; scripts = s.scripts.items; schedule = s.schedule.items }) };
+    ghost invariant = { λ s. (s.names.items ≡ names_said s.layout [] s.setup.items)
+        × IsReadAgain (scene_with s.layout s.version s.sites s.setup.items s.scripts.items s.schedule.items)
+        × Keeps (scene_with s.layout s.version s.sites s.setup.items s.scripts.items s.schedule.items) };
 }
 
 impl Scenario {
+    ghost use Rattle.chorus_scene.specs.Scene.{scene_with};
     ghost use Rattle.chorus_scene.specs.Making.{names_said};
     ghost use Rattle.chorus_scene.specs.Print.{IsReadAgain};
     ghost use Rattle.chorus_scene.specs.Limits.{Keeps};
@@ -177,9 +181,12 @@ impl Scenario {
         schedule: Vec<Step>,
     ) -> Scenario
         requires tables { IsSetup layout setup }
-        requires again { IsReadAgain (record { layout = layout; version = version; sites = sites; setup = setup.lines.items; scripts = scripts.items; schedule = schedule.items }) }
-        requires keeps { Keeps (record { layout = layout; version = version; sites = sites; setup = setup.lines.items; scripts = scripts.items; schedule = schedule.items }) }
-        ensures { result ≡ record { layout = layout; version = version; sites = sites; setup = setup.lines.items; scripts = scripts.items; schedule = schedule.items } }
+        requires again { IsReadAgain
+            (scene_with layout version sites setup.lines.items scripts.items schedule.items) }
+        requires keeps { Keeps
+            (scene_with layout version sites setup.lines.items scripts.items schedule.items) }
+        ensures { result
+            ≡ scene_with layout version sites setup.lines.items scripts.items schedule.items }
     {
         Scenario {
             layout,

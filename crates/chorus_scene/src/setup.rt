@@ -149,8 +149,10 @@ impl Setup {
         requires kind { is_actor ui.kind ≡ false }
         requires given { ui ≡ next_name layout ui.kind ui.site number (made_by layout self.old) }
         requires room { ui.number ≤ most_number ui.kind }
-        requires makes { (made : List Name) → makes layout made line ≡ next_name layout ui.kind ui.site number made ∷ [] }
-        requires says { (made : List Name) → name_said layout made line ≡ next_name layout ui.kind ui.site number made }
+        requires makes { (made : List Name) →
+            makes layout made line ≡ next_name layout ui.kind ui.site number made ∷ [] }
+        requires says { (made : List Name) →
+            name_said layout made line ≡ next_name layout ui.kind ui.site number made }
         requires joins { (group : Name) → members_of group (line ∷ []) ≡ [] }
         ensures ok { OnOk result (self.new.lines.items ≡ self.old.lines.items ++ line ∷ []) }
         ensures tables { OnOk result (IsSetup layout self.new) }
@@ -172,7 +174,8 @@ impl Setup {
         requires tables { IsSetup layout self.old }
         requires kind { group.kind ≡ Kind.Group }
         requires made { is_among group (made_by layout self.old) ≡ true }
-        ensures ok { OnOk result (self.new.lines.items ≡ self.old.lines.items ++ SetupLine.Member group port ∷ []) }
+        ensures ok { OnOk result
+            (self.new.lines.items ≡ self.old.lines.items ++ SetupLine.Member group port ∷ []) }
         ensures tables { OnOk result (IsSetup layout self.new) }
     {
         self.lines.push(SetupLine::Member { group, port })?;

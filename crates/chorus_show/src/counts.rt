@@ -42,7 +42,8 @@ impl Counts {
     /// Counts one more entry.
     pub(crate) fn add(&mut self, entry: &Entry)
         requires { (later : List Entry) × AreCounts self.old later × (length later < 2 ^ 63) }
-        ensures { (later : List Entry) → AreCounts self.old later → AreCounts self.new (entry.now ∷ later) }
+        ensures { (later : List Entry) → AreCounts self.old later →
+            AreCounts self.new (entry.now ∷ later) }
     {
         let act = &entry.act;
         self.posted += u64::from(is_post(act));

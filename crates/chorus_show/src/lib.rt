@@ -17,8 +17,6 @@ mod phrases;
 mod queues;
 mod status;
 mod summary;
-#[cfg(test)]
-mod tests;
 
 pub use journal::{entry_line, journal_text};
 pub use law::a_line_has_one_entry;

@@ -32,7 +32,8 @@ pub(crate) fn push_with_two<A: Field, B: Field>(
     b: &B,
     out: &mut Vec<u8>,
 ) -> Result<(), AllocError>
-    ensures { OnOk result (out.new.items ≡ out.old.items ++ phrase word.now (A.text a.now ∷ B.text b.now ∷ [])) }
+    ensures { OnOk result
+        (out.new.items ≡ out.old.items ++ phrase word.now (A.text a.now ∷ B.text b.now ∷ [])) }
 {
     push_with_one(word, a, out)?;
     push_field(b, out)
@@ -46,7 +47,9 @@ pub(crate) fn push_with_three<A: Field, B: Field, C: Field>(
     c: &C,
     out: &mut Vec<u8>,
 ) -> Result<(), AllocError>
-    ensures { OnOk result (out.new.items ≡ out.old.items ++ phrase word.now (A.text a.now ∷ B.text b.now ∷ C.text c.now ∷ [])) }
+    ensures { OnOk result
+        (out.new.items
+        ≡ out.old.items ++ phrase word.now (A.text a.now ∷ B.text b.now ∷ C.text c.now ∷ [])) }
 {
     push_with_two(word, a, b, out)?;
     push_field(c, out)
@@ -61,7 +64,10 @@ pub(crate) fn push_with_four<A: Field, B: Field, C: Field, D: Field>(
     d: &D,
     out: &mut Vec<u8>,
 ) -> Result<(), AllocError>
-    ensures { OnOk result (out.new.items ≡ out.old.items ++ phrase word.now (A.text a.now ∷ B.text b.now ∷ C.text c.now ∷ D.text d.now ∷ [])) }
+    ensures { OnOk result
+        (out.new.items
+        ≡ out.old.items
+        ++ phrase word.now (A.text a.now ∷ B.text b.now ∷ C.text c.now ∷ D.text d.now ∷ [])) }
 {
     push_with_three(word, a, b, c, out)?;
     push_field(d, out)
@@ -91,7 +97,8 @@ pub(crate) fn push_count<N: Field>(
     number: &N,
     out: &mut Vec<u8>,
 ) -> Result<(), AllocError>
-    ensures { OnOk result (out.new.items ≡ out.old.items ++ (phrase word.now (N.text number.now ∷ []) ++ 10 ∷ [])) }
+    ensures { OnOk result
+        (out.new.items ≡ out.old.items ++ (phrase word.now (N.text number.now ∷ []) ++ 10 ∷ [])) }
 {
     push_with_one(word, number, out)?;
     out.push(b'\n')?;

@@ -91,7 +91,9 @@ impl Queues {
     /// Puts one more entry before those that were seen.
     pub(crate) fn add(&mut self, entry: &Entry) -> Result<(), AllocError>
         requires { (later : List Entry) × AreQueues self.old later × (length later < 2 ^ 63) }
-        ensures { OnOk result ((later : List Entry) → AreQueues self.old later → AreQueues self.new (entry.now ∷ later)) }
+        ensures { OnOk result
+            ((later : List Entry) → AreQueues self.old later →
+            AreQueues self.new (entry.now ∷ later)) }
     {
         let Some((port, news)) = news_of(&entry.act) else {
             return Ok(());

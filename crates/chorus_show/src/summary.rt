@@ -34,7 +34,9 @@ pub fn summary_text(entries: &[Entry], out: &mut Vec<u8>) -> Result<(), AllocErr
 
 /// Appends the text of a summary with these numbers. After an error a part of it may stand there.
 fn push_summary(counts: &Counts, queues: &Queues, out: &mut Vec<u8>) -> Result<(), AllocError>
-    ensures { OnOk result ((entries : List Entry) → AreCounts counts.now entries → AreQueues queues.now entries → out.new.items ≡ out.old.items ++ summary_text entries) }
+    ensures { OnOk result
+        ((entries : List Entry) → AreCounts counts.now entries → AreQueues queues.now entries →
+        out.new.items ≡ out.old.items ++ summary_text entries) }
 {
     push_word("summary\n", out)?;
     push_message_lines(counts, queues, out)?;
@@ -45,7 +47,9 @@ fn push_summary(counts: &Counts, queues: &Queues, out: &mut Vec<u8>) -> Result<(
 }
 
 fn push_message_lines(counts: &Counts, queues: &Queues, out: &mut Vec<u8>) -> Result<(), AllocError>
-    ensures { OnOk result ((entries : List Entry) → AreCounts counts.now entries → AreQueues queues.now entries → out.new.items ≡ out.old.items ++ message_lines entries) }
+    ensures { OnOk result
+        ((entries : List Entry) → AreCounts counts.now entries → AreQueues queues.now entries →
+        out.new.items ≡ out.old.items ++ message_lines entries) }
 {
     push_count("posted", &counts.posted, out)?;
     push_count("accepted", &counts.accepted, out)?;
@@ -56,7 +60,9 @@ fn push_message_lines(counts: &Counts, queues: &Queues, out: &mut Vec<u8>) -> Re
 }
 
 fn push_discarded_line(counts: &Counts, out: &mut Vec<u8>) -> Result<(), AllocError>
-    ensures { OnOk result ((entries : List Entry) → AreCounts counts.now entries → out.new.items ≡ out.old.items ++ discarded_line entries) }
+    ensures { OnOk result
+        ((entries : List Entry) → AreCounts counts.now entries →
+        out.new.items ≡ out.old.items ++ discarded_line entries) }
 {
     if counts.deletes == 0 {
         return Ok(());
@@ -66,7 +72,9 @@ fn push_discarded_line(counts: &Counts, out: &mut Vec<u8>) -> Result<(), AllocEr
 }
 
 fn push_other_lines(counts: &Counts, out: &mut Vec<u8>) -> Result<(), AllocError>
-    ensures { OnOk result ((entries : List Entry) → AreCounts counts.now entries → out.new.items ≡ out.old.items ++ other_lines entries) }
+    ensures { OnOk result
+        ((entries : List Entry) → AreCounts counts.now entries →
+        out.new.items ≡ out.old.items ++ other_lines entries) }
 {
     push_count("refused", &counts.refused, out)?;
     push_count("stale", &counts.stale, out)?;

@@ -1,6 +1,7 @@
 -- How wide a window may be.
 use Rattle.std.specs.Prelude.{ℕ, ◌≤◌}
+use Rattle.chorus_transport.specs.declared.window.TheConstants.{WIDEST}
 
--- from 1 to 64 chunks
+-- from one chunk to the widest
 abbrev pub IsWindow : ℕ → Type 0
-IsWindow window = (1 ≤ window) × (window ≤ 64)
+IsWindow window = (1 ≤ window) × (window ≤ WIDEST)

@@ -16,8 +16,6 @@ mod line;
 mod places;
 mod receiver;
 mod sender;
-#[cfg(test)]
-mod tests;
 mod window;
 
 pub use chunk::Chunk;

@@ -30,7 +30,8 @@ pub(crate) fn filled(places: &Places, from: usize) -> usize
 
 /// Adds empty places until there are `len`, unless there are.
 pub(crate) fn widen(places: &mut Places, len: usize) -> Result<(), AllocError>
-    ensures ok { OnOk result (places.new.items ≡ places.old.items ++ replicate (len - length places.old.items) None) }
+    ensures ok { OnOk result
+        (places.new.items ≡ places.old.items ++ replicate (len - length places.old.items) None) }
     ensures err { OnErr result (places.new.items ≡ places.old.items) }
 {
     let missing = len.saturating_sub(places.len());

@@ -37,7 +37,8 @@ impl Model for Receiver {
 
     ghost Value = { Receiving };
 
-    ghost view = { λ r. record { delivered = r.delivered; ahead = padded r.window r.places.items } };
+    ghost view = { λ r.
+        record { delivered = r.delivered; ahead = padded r.window r.places.items } };
 
     ghost invariant = { λ r. IsInOrder r.window r.delivered r.ready r.places.items };
 }

@@ -87,7 +87,8 @@ impl Sender {
     pub fn put(&mut self, chunk: Chunk) -> Result<(), (Chunk, PutFault)>
         requires { next_number self.old < 2 ^ 64 - 1 }
         ensures ok { OnOk result (self.new ≡ after_put self.old chunk) }
-        ensures cause { MatchResult result (λ _. IsTrue (has_room self.old)) (λ refusal. Refuses self.old refusal.1) }
+        ensures cause { MatchResult result (λ _. IsTrue (has_room self.old))
+            (λ refusal. Refuses self.old refusal.1) }
         ensures err { IfErr result (λ refusal. (refusal.0 ≡ chunk) × (self.new ≡ self.old)) }
     {
         if self.kept.len() == self.window as usize {
@@ -106,7 +107,8 @@ impl Sender {
     /// A copy of the chunk of that number; `None` exactly outside `base` to `next - 1`.
     pub fn emit(&self, alloc: Global, number: u64) -> Result<Option<Chunk>, AllocError>
         ensures copy { IfOk result (λ chunk. chunk ≡ emitted self.now number) }
-        ensures range { IfOk result (λ chunk. IsSome chunk ↔ ((self.now.base ≤ number) × (number < next_number self.now))) }
+        ensures range { IfOk result
+            (λ chunk. IsSome chunk ↔ ((self.now.base ≤ number) × (number < next_number self.now))) }
     {
         if number < self.base {
             return Ok(None);

@@ -96,7 +96,8 @@ pub(super) fn push_answer(answer: &Answer, out: &mut Vec<u8>) -> Result<(), Allo
 
 /// Appends the code of an answer, a place, and the hop by which a port went there.
 fn push_located(code: u8, to: u16, hop: u64, out: &mut Vec<u8>) -> Result<(), AllocError>
-    ensures ok { OnOk result (out.new.items ≡ out.old.items ++ (number 1 code ++ located_fields to hop)) }
+    ensures ok { OnOk result
+        (out.new.items ≡ out.old.items ++ (number 1 code ++ located_fields to hop)) }
     ensures err { OnErr result (take (length out.old.items) out.new.items ≡ out.old.items) }
 {
     push_u8(code, out)?;

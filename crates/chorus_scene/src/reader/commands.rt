@@ -4,6 +4,7 @@ ghost use Rattle.std.specs.Prelude.{◌≡◌, ◌<◌, true, length, OnOk, IfEr
 ghost use Rattle.std.specs.Option.{option_copied};
 ghost use Rattle.chorus_scene.specs.Grammar.{after, last_is_full, most_bytes};
 ghost use Rattle.chorus_scene.specs.Line.{may_stand, target_kind, dest_of, CommandLine};
+ghost use Rattle.chorus_scene.specs.Telling.{TellsAs};
 ghost use Rattle.chorus_scene.specs.Reader.{Gives, Tells, Stands, IsMemory, is_early, read_with, command_with, state_of, scene_of};
 
 use crate::body::{begins_a_body, body_in, body_len};
@@ -26,7 +27,8 @@ impl Reader {
     ) -> Result<(), Stop>
         requires stands { Stands self.old }
         requires may { may_stand self.old.section (Word.Command verb) ≡ true }
-        ensures gives { Gives (state_of self.new) result (read_with self.old (Word.Command verb) (option_copied rest.entry)) }
+        ensures gives { Gives (state_of self.new) result
+            (read_with self.old (Word.Command verb) (option_copied rest.entry)) }
         ensures stands { OnOk result (Stands self.new) }
     {
         let command = self.command(alloc, verb, rest)?;
@@ -37,7 +39,8 @@ impl Reader {
         requires stands { Stands self.old }
         requires some { 0 < length self.old.scripts.items }
         requires early { is_early self.old.section ≡ true }
-        ensures ok { OnOk result (state_of self.new ≡ after (state_of self.old) (CommandLine command)) }
+        ensures ok { OnOk result
+            (state_of self.new ≡ after (state_of self.old) (CommandLine command)) }
         ensures stands { OnOk result (Stands self.new) }
         ensures memory { IfErr result IsMemory }
     {
@@ -56,22 +59,105 @@ impl Reader {
             Verb::Send(target) => self.send(alloc, target, rest),
             Verb::At => self.at(alloc, rest),
             Verb::Call => self.call(alloc, rest),
-            Verb::Retry => self.retry(rest),
-            Verb::Cancel => self.cancel(rest),
             Verb::Reply => self.reply(alloc, rest),
-            Verb::Take => self.take(rest),
             Verb::Move => self.move_port(rest),
-            Verb::Delete => self.delete(rest),
             Verb::NewPort => self.new_port(rest),
             Verb::NewGroup => self.new_group(rest),
-            Verb::Join => self.join(rest),
-            Verb::Leave => self.leave(rest),
+            Verb::Retry => {
+                self.nothing(rest)?;
+                Ok(Command::Retry)
+            }
+            Verb::Cancel => {
+                self.nothing(rest)?;
+                Ok(Command::Cancel)
+            }
+            Verb::Take => {
+                let port = self.port(rest)?;
+                Ok(Command::Take { port })
+            }
+            Verb::Delete => {
+                let port = self.port(rest)?;
+                Ok(Command::Delete { port })
+            }
+            Verb::Join => {
+                let (group, port) = self.group_and_port(rest)?;
+                Ok(Command::Join { group, port })
+            }
+            Verb::Leave => {
+                let (group, port) = self.group_and_port(rest)?;
+                Ok(Command::Leave { group, port })
+            }
         }
+    }
+
+    /// Nothing stands behind the word, as at `retry` and `cancel`.
+    fn nothing(&self, rest: Option<&[u8]>) -> Result<(), Stop>
+        requires some { 0 < length self.now.scripts.items }
+        ensures retry { TellsAs (λ _. Command.Retry) result
+            (command_with self.now Verb.Retry (option_copied rest.entry)) }
+        ensures cancel { TellsAs (λ _. Command.Cancel) result
+            (command_with self.now Verb.Cancel (option_copied rest.entry)) }
+    {
+        if !none(rest) {
+            return Err(Stop::Fault(Reason::Word));
+        }
+        if self.last_is_full() {
+            return Err(Stop::Fault(Reason::Limit));
+        }
+        Ok(())
+    }
+
+    /// One port, as at `take` and `delete`.
+    fn port(&self, rest: Option<&[u8]>) -> Result<Ui, Stop>
+        requires some { 0 < length self.now.scripts.items }
+        ensures take { TellsAs Command.Take result
+            (command_with self.now Verb.Take (option_copied rest.entry)) }
+        ensures delete { TellsAs Command.Delete result
+            (command_with self.now Verb.Delete (option_copied rest.entry)) }
+    {
+        let Some(port) = one(rest) else {
+            return Err(Stop::Fault(Reason::Word));
+        };
+        let Some(port) = name_in(Kind::Port, port) else {
+            return Err(Stop::Fault(Reason::Number));
+        };
+        if self.last_is_full() {
+            return Err(Stop::Fault(Reason::Limit));
+        }
+        if self.is_far(port) {
+            return Err(Stop::Fault(Reason::Unknown));
+        }
+        Ok(port)
+    }
+
+    /// A group and a port, as at `join` and `leave`.
+    fn group_and_port(&self, rest: Option<&[u8]>) -> Result<(Ui, Ui), Stop>
+        requires some { 0 < length self.now.scripts.items }
+        ensures join { TellsAs (λ names. Command.Join names.0 names.1) result
+            (command_with self.now Verb.Join (option_copied rest.entry)) }
+        ensures leave { TellsAs (λ names. Command.Leave names.0 names.1) result
+            (command_with self.now Verb.Leave (option_copied rest.entry)) }
+    {
+        let Some((group, port)) = two(rest) else {
+            return Err(Stop::Fault(Reason::Word));
+        };
+        let (Some(group), Some(port)) = (name_in(Kind::Group, group), name_in(Kind::Port, port))
+        else {
+            return Err(Stop::Fault(Reason::Number));
+        };
+        if self.last_is_full() {
+            return Err(Stop::Fault(Reason::Limit));
+        }
+        if self.is_far(group) || self.is_far(port) {
+            return Err(Stop::Fault(Reason::Unknown));
+        }
+        Ok((group, port))
     }
 
     fn send(&self, alloc: Global, target: Target, rest: Option<&[u8]>) -> Result<Command, Stop>
         requires some { 0 < length self.now.scripts.items }
-        ensures { Tells result (command_with self.now (Verb.Send target) (option_copied rest.entry)) }
+        ensures { Tells result
+            (command_with self.now (Verb.Send target) (option_copied rest.entry)) }
     {
         let Some((name, body)) = one_and_body(rest) else {
             return Err(Stop::Fault(Reason::Word));
@@ -152,32 +238,6 @@ impl Reader {
         Ok(Command::Call { port, back, body })
     }
 
-    fn retry(&self, rest: Option<&[u8]>) -> Result<Command, Stop>
-        requires some { 0 < length self.now.scripts.items }
-        ensures { Tells result (command_with self.now Verb.Retry (option_copied rest.entry)) }
-    {
-        if !none(rest) {
-            return Err(Stop::Fault(Reason::Word));
-        }
-        if self.last_is_full() {
-            return Err(Stop::Fault(Reason::Limit));
-        }
-        Ok(Command::Retry)
-    }
-
-    fn cancel(&self, rest: Option<&[u8]>) -> Result<Command, Stop>
-        requires some { 0 < length self.now.scripts.items }
-        ensures { Tells result (command_with self.now Verb.Cancel (option_copied rest.entry)) }
-    {
-        if !none(rest) {
-            return Err(Stop::Fault(Reason::Word));
-        }
-        if self.last_is_full() {
-            return Err(Stop::Fault(Reason::Limit));
-        }
-        Ok(Command::Cancel)
-    }
-
     fn reply(&self, alloc: Global, rest: Option<&[u8]>) -> Result<Command, Stop>
         requires some { 0 < length self.now.scripts.items }
         ensures { Tells result (command_with self.now Verb.Reply (option_copied rest.entry)) }
@@ -198,25 +258,6 @@ impl Reader {
         Ok(Command::Reply { body })
     }
 
-    fn take(&self, rest: Option<&[u8]>) -> Result<Command, Stop>
-        requires some { 0 < length self.now.scripts.items }
-        ensures { Tells result (command_with self.now Verb.Take (option_copied rest.entry)) }
-    {
-        let Some(port) = one(rest) else {
-            return Err(Stop::Fault(Reason::Word));
-        };
-        let Some(port) = name_in(Kind::Port, port) else {
-            return Err(Stop::Fault(Reason::Number));
-        };
-        if self.last_is_full() {
-            return Err(Stop::Fault(Reason::Limit));
-        }
-        if self.is_far(port) {
-            return Err(Stop::Fault(Reason::Unknown));
-        }
-        Ok(Command::Take { port })
-    }
-
     fn move_port(&self, rest: Option<&[u8]>) -> Result<Command, Stop>
         requires some { 0 < length self.now.scripts.items }
         ensures { Tells result (command_with self.now Verb.Move (option_copied rest.entry)) }
@@ -235,25 +276,6 @@ impl Reader {
             return Err(Stop::Fault(Reason::Unknown));
         }
         Ok(Command::Move { port, actor })
-    }
-
-    fn delete(&self, rest: Option<&[u8]>) -> Result<Command, Stop>
-        requires some { 0 < length self.now.scripts.items }
-        ensures { Tells result (command_with self.now Verb.Delete (option_copied rest.entry)) }
-    {
-        let Some(port) = one(rest) else {
-            return Err(Stop::Fault(Reason::Word));
-        };
-        let Some(port) = name_in(Kind::Port, port) else {
-            return Err(Stop::Fault(Reason::Number));
-        };
-        if self.last_is_full() {
-            return Err(Stop::Fault(Reason::Limit));
-        }
-        if self.is_far(port) {
-            return Err(Stop::Fault(Reason::Unknown));
-        }
-        Ok(Command::Delete { port })
     }
 
     fn new_port(&self, rest: Option<&[u8]>) -> Result<Command, Stop>
@@ -296,46 +318,6 @@ impl Reader {
             return Err(Stop::Fault(Reason::Unknown));
         }
         Ok(Command::GroupMake { site: site as u16 })
-    }
-
-    fn join(&self, rest: Option<&[u8]>) -> Result<Command, Stop>
-        requires some { 0 < length self.now.scripts.items }
-        ensures { Tells result (command_with self.now Verb.Join (option_copied rest.entry)) }
-    {
-        let Some((group, port)) = two(rest) else {
-            return Err(Stop::Fault(Reason::Word));
-        };
-        let (Some(group), Some(port)) = (name_in(Kind::Group, group), name_in(Kind::Port, port))
-        else {
-            return Err(Stop::Fault(Reason::Number));
-        };
-        if self.last_is_full() {
-            return Err(Stop::Fault(Reason::Limit));
-        }
-        if self.is_far(group) || self.is_far(port) {
-            return Err(Stop::Fault(Reason::Unknown));
-        }
-        Ok(Command::Join { group, port })
-    }
-
-    fn leave(&self, rest: Option<&[u8]>) -> Result<Command, Stop>
-        requires some { 0 < length self.now.scripts.items }
-        ensures { Tells result (command_with self.now Verb.Leave (option_copied rest.entry)) }
-    {
-        let Some((group, port)) = two(rest) else {
-            return Err(Stop::Fault(Reason::Word));
-        };
-        let (Some(group), Some(port)) = (name_in(Kind::Group, group), name_in(Kind::Port, port))
-        else {
-            return Err(Stop::Fault(Reason::Number));
-        };
-        if self.last_is_full() {
-            return Err(Stop::Fault(Reason::Limit));
-        }
-        if self.is_far(group) || self.is_far(port) {
-            return Err(Stop::Fault(Reason::Unknown));
-        }
-        Ok(Command::Leave { group, port })
     }
 
     /// Whether the last script has as many commands as it may have.

@@ -22,7 +22,8 @@ impl Reader {
     pub(crate) fn port_line(&mut self, rest: Option<&[u8]>) -> Result<(), Stop>
         requires stands { Stands self.old }
         requires may { may_stand self.old.section Word.Port ≡ true }
-        ensures gives { Gives (state_of self.new) result (read_with self.old Word.Port (option_copied rest.entry)) }
+        ensures gives { Gives (state_of self.new) result
+            (read_with self.old Word.Port (option_copied rest.entry)) }
         ensures stands { OnOk result (Stands self.new) }
     {
         let Some((port, actor, capacity)) = three(rest) else {
@@ -54,7 +55,8 @@ impl Reader {
     pub(crate) fn group_line(&mut self, rest: Option<&[u8]>) -> Result<(), Stop>
         requires stands { Stands self.old }
         requires may { may_stand self.old.section Word.Group ≡ true }
-        ensures gives { Gives (state_of self.new) result (read_with self.old Word.Group (option_copied rest.entry)) }
+        ensures gives { Gives (state_of self.new) result
+            (read_with self.old Word.Group (option_copied rest.entry)) }
         ensures stands { OnOk result (Stands self.new) }
     {
         let Some(group) = one(rest) else {
@@ -79,7 +81,8 @@ impl Reader {
     pub(crate) fn member_line(&mut self, rest: Option<&[u8]>) -> Result<(), Stop>
         requires stands { Stands self.old }
         requires may { may_stand self.old.section Word.Member ≡ true }
-        ensures gives { Gives (state_of self.new) result (read_with self.old Word.Member (option_copied rest.entry)) }
+        ensures gives { Gives (state_of self.new) result
+            (read_with self.old Word.Member (option_copied rest.entry)) }
         ensures stands { OnOk result (Stands self.new) }
     {
         let Some((group, port)) = two(rest) else {
@@ -119,8 +122,12 @@ impl Reader {
         requires number { 1 ≤ number }
         requires kind { is_actor ui.kind ≡ false }
         requires room { ui.number ≤ most_number ui.kind }
-        requires makes { (made : List Name) → makes self.old.layout made line ≡ next_name self.old.layout ui.kind site number made ∷ [] }
-        requires says { (made : List Name) → name_said self.old.layout made line ≡ next_name self.old.layout ui.kind site number made }
+        requires makes { (made : List Name) →
+            makes self.old.layout made line
+            ≡ next_name self.old.layout ui.kind site number made ∷ [] }
+        requires says { (made : List Name) →
+            name_said self.old.layout made line
+            ≡ next_name self.old.layout ui.kind site number made }
         requires joins { (group : Name) → members_of group (line ∷ []) ≡ [] }
         ensures gives { Gives (state_of self.new) result
             (unless (not (same_ui ui (next_name self.old.layout ui.kind site number (made (scene_of self.old))))) Reason.Order (Ok (with_setup (state_of self.old) line))) }
@@ -140,7 +147,8 @@ impl Reader {
         requires section { self.old.section ≡ Section.Setup }
         requires kind { group.kind ≡ Kind.Group }
         requires known { is_known (scene_of self.old) group ≡ true }
-        ensures ok { OnOk result (state_of self.new ≡ with_setup (state_of self.old) (SetupLine.Member group port)) }
+        ensures ok { OnOk result
+            (state_of self.new ≡ with_setup (state_of self.old) (SetupLine.Member group port)) }
         ensures stands { OnOk result (Stands self.new) }
         ensures memory { IfErr result IsMemory }
     {

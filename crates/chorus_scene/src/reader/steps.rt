@@ -19,7 +19,8 @@ impl Reader {
     pub(crate) fn step_line(&mut self, rest: Option<&[u8]>) -> Result<(), Stop>
         requires stands { Stands self.old }
         requires may { may_stand self.old.section Word.Step ≡ true }
-        ensures gives { Gives (state_of self.new) result (read_with self.old Word.Step (option_copied rest.entry)) }
+        ensures gives { Gives (state_of self.new) result
+            (read_with self.old Word.Step (option_copied rest.entry)) }
         ensures stands { OnOk result (Stands self.new) }
     {
         let Some(script) = one(rest) else {
@@ -40,7 +41,8 @@ impl Reader {
     pub(crate) fn deliver_line(&mut self, rest: Option<&[u8]>) -> Result<(), Stop>
         requires stands { Stands self.old }
         requires may { may_stand self.old.section Word.Deliver ≡ true }
-        ensures gives { Gives (state_of self.new) result (read_with self.old Word.Deliver (option_copied rest.entry)) }
+        ensures gives { Gives (state_of self.new) result
+            (read_with self.old Word.Deliver (option_copied rest.entry)) }
         ensures stands { OnOk result (Stands self.new) }
     {
         let Some((from, to)) = two(rest) else {
@@ -64,7 +66,8 @@ impl Reader {
     pub(crate) fn drain_line(&mut self, rest: Option<&[u8]>) -> Result<(), Stop>
         requires stands { Stands self.old }
         requires may { may_stand self.old.section Word.Drain ≡ true }
-        ensures gives { Gives (state_of self.new) result (read_with self.old Word.Drain (option_copied rest.entry)) }
+        ensures gives { Gives (state_of self.new) result
+            (read_with self.old Word.Drain (option_copied rest.entry)) }
         ensures stands { OnOk result (Stands self.new) }
     {
         if !none(rest) {
@@ -92,7 +95,8 @@ impl Reader {
         requires stands { Stands self.old }
         requires script { (1 ≤ script) × (script ≤ length self.old.scripts.items) }
         requires room { length self.old.schedule.items < STEPS_LIMIT }
-        ensures ok { OnOk result (state_of self.new ≡ after (state_of self.old) (StepLine (Step.Step script))) }
+        ensures ok { OnOk result
+            (state_of self.new ≡ after (state_of self.old) (StepLine (Step.Step script))) }
         ensures stands { OnOk result (Stands self.new) }
         ensures memory { IfErr result IsMemory }
     {

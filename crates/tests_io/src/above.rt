@@ -1,0 +1,86 @@
+//! What a layer above proves from the contracts here: generic in a source and a sink, and at a source that never fails.
+ghost use Rattle.std.specs.Prelude.{◌≡◌, ◌≢◌, ◌++◌, [], OnOk, IfSome, IsErrOf, Err};
+ghost use Rattle.std.specs.Io.KnownBytes.{Appends};
+ghost use Rattle.tests_io.specs.declared.above.Stop.TheVariants.{WriteFault};
+ghost use Rattle.chorus_io.specs.Count.{Rose};
+ghost use Rattle.chorus_io.specs.Bytes.{AppendsPrefix};
+
+use chorus_io::{Failed, MemSink, MemSource, ReadAll, Sink, Source, read_all, write_all};
+use std::alloc::Global;
+use std::test::Fail;
+
+#[derive(Clone, Copy, Debug, PartialEq, Eq)]
+enum Stop {
+    Input,
+    ReadFault,
+    WriteFault,
+}
+
+impl From<Failed> for Stop {
+    ghost from_gives = { λ _ e. e ≡ WriteFault };
+
+    fn from(_: Failed) -> Self {
+        Stop::WriteFault
+    }
+}
+
+/// Writes a heading and then the whole input.
+fn copy<S: Source, K: Sink>(
+    alloc: Global,
+    source: &mut S,
+    sink: &mut K,
+    heading: &[u8],
+) -> Result<(), Stop>
+    ensures done { OnOk result (IfSome (S.left source.old) (λ input.
+        Appends (K.held sink.old) (K.held sink.new) (heading.now ++ input))) }
+    ensures prefix { IfSome (S.left source.old) (λ input.
+        AppendsPrefix (K.held sink.old) (K.held sink.new) (heading.now ++ input)) }
+    ensures untouched { IsErrOf result Stop.Input → sink.new ≡ sink.old }
+    ensures read_fault { IsErrOf result Stop.ReadFault →
+        Rose (S.faults source.old) (S.faults source.new) }
+    ensures write_fault { IsErrOf result Stop.WriteFault →
+        Rose (K.faults sink.old) (K.faults sink.new) }
+{
+    let input = match read_all(alloc, source, 100) {
+        Ok(input) => input,
+        Err(ReadAll::Fault) => return Err(Stop::ReadFault),
+        Err(_) => return Err(Stop::Input),
+    };
+    write_all(sink, heading)?;
+    write_all(sink, &input)?;
+    Ok(())
+}
+
+/// The whole input of a source of which no read is listed.
+fn read_reliable(alloc: Global, source: &mut MemSource) -> Result<Vec<u8>, ReadAll>
+    requires unlisted { source.old.plan.failing ≡ [] }
+    requires no_fault_yet { source.old.plan.faults ≡ 0 }
+    ensures no_fault { result ≢ Err ReadAll.Fault }
+    ensures still { source.new.plan.faults ≡ 0 }
+{
+    read_all(alloc, source, 100)
+}
+
+#[test]
+fn copies_until_the_sink_fails(rt: HostRuntime) -> Result<(), Fail> {
+    for (failing, result, held) in [
+        (9, Ok(()), b"#0123456789".as_slice()),
+        (3, Err(Stop::WriteFault), b"#01234".as_slice()),
+        (1, Err(Stop::WriteFault), b"".as_slice()),
+    ] {
+        let input = b"0123456789".to_vec(rt.alloc())?;
+        let mut source = MemSource::new(input, Vec::new(rt.alloc()));
+        let mut sink = MemSink::new(rt.alloc(), 5, [failing].to_vec(rt.alloc())?);
+        assert_eq!(rt; copy(rt.alloc(), &mut source, &mut sink, b"#"), result);
+        assert_eq!(rt; sink.bytes(), held);
+    }
+    Ok(())
+}
+
+#[test]
+fn reads_a_reliable_source(rt: HostRuntime) -> Result<(), Fail> {
+    let mut source = MemSource::new(b"0123".to_vec(rt.alloc())?, Vec::new(rt.alloc()));
+    let input = read_reliable(rt.alloc(), &mut source)?;
+    assert_eq!(rt; input.as_slice(), b"0123".as_slice());
+    Ok(())
+}

@@ -1,0 +1,397 @@
+//! What scenarios print, and how texts, sources and sinks end a run.
+
+ghost use Rattle.std.specs.Prelude.{◌≤◌};
+
+use chorus_io::{MemSink, MemSource};
+use chorus_net::Sites;
+use chorus_run::{Finished, words};
+use chorus_show::Status;
+use chorus_ui::Layout;
+use std::alloc::Global;
+use std::fmt::Write;
+use std::process::Abort;
+use std::test::Fail;
+
+const NOTHING: &str = "chorus 1\nsites 1\nscript 1.a.1\nschedule\nend";
+
+const PRINTS_NOTHING: &str =
+    "journal 0\nsummary\nposted 0\naccepted 0\ntaken 0\nqueued 0\nmoving 0\nrefused 0\nstale 0\ndeparts 0\nend\n";
+
+const TAKEN_THEN_EMPTY: &str =
+    "chorus 1\nsites 1\nport 1.p.1 1.a.1 1\nscript 1.a.1\nsend 1.p.1 =a\nsend 1.p.1 =b\ntake 1.p.1\ntake 1.p.1\ntake 1.p.1\nschedule\nend\n";
+
+const PRINTS_TAKEN_THEN_EMPTY: &str = "\
+journal 8
+1 1 0 make 1.p.1 1.a.1 1
+2 1 1 post 1:1:0 port 1.p.1 plain =a
+3 1 1 accept 1:1:0 1.p.1 0
+4 1 1 post 1:2:0 port 1.p.1 plain =b
+5 1 1 full 1:2:0 1.p.1 1
+6 1 1 take 1.p.1 0 1:1:0
+7 1 1 empty 1.p.1
+8 1 1 empty 1.p.1
+summary
+posted 2
+accepted 1
+taken 1
+queued 0
+moving 0
+refused 1
+stale 0
+departs 0
+end
+";
+
+const NO_PORT: &str =
+    "chorus 1\nsites 1\nport 1.p.1 1.a.1 2\nscript 1.a.1\nsend 1.p.9 =x\nsend 1.p.1 =y\nschedule\nend";
+
+const PRINTS_NO_PORT: &str = "\
+journal 5
+1 1 0 make 1.p.1 1.a.1 2
+2 1 1 post 1:1:0 port 1.p.9 plain =x
+3 1 1 no-port 1:1:0 1.p.9
+4 1 1 post 1:2:0 port 1.p.1 plain =y
+5 1 1 accept 1:2:0 1.p.1 0
+summary
+posted 2
+accepted 1
+taken 0
+queued 1
+moving 0
+refused 1
+stale 0
+departs 0
+end
+";
+
+const PERCENT: &str =
+    "chorus 1\nsites 1\nport 1.p.1 1.a.1 1\nscript 1.a.1\nsend 1.p.1 =100%\nschedule\nend";
+
+const PRINTS_PERCENT: &str = "\
+journal 3
+1 1 0 make 1.p.1 1.a.1 1
+2 1 1 post 1:1:0 port 1.p.1 plain =100%25
+3 1 1 accept 1:1:0 1.p.1 0
+summary
+posted 1
+accepted 1
+taken 0
+queued 1
+moving 0
+refused 0
+stale 0
+departs 0
+end
+";
+
+/// Three scripts of two actors, whose steps the schedule interleaves; the commands that it leaves come script by script.
+const INTERLEAVED: &str = "\
+chorus 2
+sites 1
+port 1.p.1 1.a.1 2
+script 1.a.1
+send 1.p.2 =a
+newport 1.a.2 1
+take 1.p.1
+take 1.p.1
+script 1.a.2
+take 1.p.2
+send 1.p.1 =b
+script 1.a.2
+send 1.p.2 =c
+take 1.p.2
+take 1.p.1
+schedule
+step 1
+step 3
+step 1
+drain
+step 2
+step 3
+step 2
+step 1
+end
+";
+
+const PRINTS_INTERLEAVED: &str = "\
+journal 13
+1 1 0 make 1.p.1 1.a.1 2
+2 1 1 post 1:1:0 port 1.p.2 plain =a
+3 1 1 no-port 1:1:0 1.p.2
+4 1 3 post 3:1:0 port 1.p.2 plain =c
+5 1 3 no-port 3:1:0 1.p.2
+6 1 1 make 1.p.2 1.a.2 1
+7 1 2 empty 1.p.2
+8 1 3 empty 1.p.2
+9 1 2 post 2:1:0 port 1.p.1 plain =b
+10 1 2 accept 2:1:0 1.p.1 0
+11 1 1 take 1.p.1 0 2:1:0
+12 1 1 empty 1.p.1
+13 1 3 not-here 1.p.1
+summary
+posted 3
+accepted 1
+taken 1
+queued 0
+moving 0
+refused 2
+stale 0
+departs 0
+end
+";
+
+/// Runs `replay` on the text, with reads and writes that fail as listed and writes of at most `most` bytes.
+fn run(
+    alloc: Global,
+    text: &[u8],
+    reads: &[u64],
+    most: usize,
+    writes: &[u64],
+) -> Result<(Finished, MemSink), Fail>
+    requires { 1 ≤ most }
+{
+    let bytes = Vec::from_slice(alloc, text)?;
+    let mut source = MemSource::new(bytes, Vec::from_slice(alloc, reads)?);
+    let mut sink = MemSink::new(alloc, most, Vec::from_slice(alloc, writes)?);
+    let layout = Layout::new(16, 1).ok_or("a layout")?;
+    let sites = Sites::start(alloc, layout)?;
+    let finished = words(alloc, &["replay"], &mut source, &mut sink, sites);
+    Ok((finished, sink))
+}
+
+/// Asserts that the text is replayed and this is printed, whatever a write takes.
+fn assert_prints(rt: &impl Abort, alloc: Global, text: &str, printed: &str) -> Result<(), Fail> {
+    for most in [1, 64, 4096] {
+        let (finished, sink) = run(alloc, text.as_bytes(), &[], most, &[])?;
+        assert_eq!(rt; finished.status, Status::Done, "{text}");
+        assert_eq!(rt; sink.bytes(), printed.as_bytes(), "{text}");
+        assert!(rt; finished.closed.is_some(), "{text}");
+    }
+    Ok(())
+}
+
+#[test]
+fn empty_scenario(rt: HostRuntime) -> Result<(), Fail> {
+    assert_prints(&rt, rt.alloc(), NOTHING, PRINTS_NOTHING)
+}
+
+#[test]
+fn full_then_taken_then_empty(rt: HostRuntime) -> Result<(), Fail> {
+    assert_prints(&rt, rt.alloc(), TAKEN_THEN_EMPTY, PRINTS_TAKEN_THEN_EMPTY)
+}
+
+#[test]
+fn no_port(rt: HostRuntime) -> Result<(), Fail> {
+    assert_prints(&rt, rt.alloc(), NO_PORT, PRINTS_NO_PORT)
+}
+
+#[test]
+fn percent_is_escaped(rt: HostRuntime) -> Result<(), Fail> {
+    assert_prints(&rt, rt.alloc(), PERCENT, PRINTS_PERCENT)
+}
+
+#[test]
+fn scripts_are_interleaved(rt: HostRuntime) -> Result<(), Fail> {
+    assert_prints(&rt, rt.alloc(), INTERLEAVED, PRINTS_INTERLEAVED)
+}
+
+#[test]
+fn scenarios_print_these_lines(rt: HostRuntime) -> Result<(), Fail> {
+    for (name, text, line) in [
+        (
+            "binary_bodies",
+            "chorus 2\nsites 1\nport 1.p.1 1.a.1 1\nscript 1.a.1\nsend 1.p.1 x00ff\nschedule\nend",
+            "\n2 1 1 post 1:1:0 port 1.p.1 plain =%00%ff\n",
+        ),
+        (
+            "a port that another actor holds",
+            "chorus 1\nsites 1\nport 1.p.1 1.a.1 1\nscript 1.a.2\ntake 1.p.1\ntake 1.p.2\nschedule\nend",
+            "\n2 1 1 not-here 1.p.1\n3 1 1 not-here 1.p.2\nsummary\n",
+        ),
+    ] {
+        let (finished, sink) = run(rt.alloc(), text.as_bytes(), &[], 4096, &[])?;
+        assert_eq!(rt; finished.status, Status::Done, "{name}");
+        let printed = String::from_utf8(Vec::from_slice(rt.alloc(), sink.bytes())?)?;
+        assert!(rt; printed.as_str().contains(line), "{name}");
+    }
+    Ok(())
+}
+
+#[test]
+fn fills_to_capacity(rt: HostRuntime) -> Result<(), Fail> {
+    let body = String::from_utf8(Vec::from_slice(rt.alloc(), &[b'b'; 240])?)?;
+    let mut text = String::from_str(
+        rt.alloc(),
+        "chorus 1\nsites 1\nport 1.p.1 1.a.1 64\nscript 1.a.1\n",
+    )?;
+    for _ in 0..65 {
+        writeln!(text, "send 1.p.1 ={body}")?;
+    }
+    text.push_str("schedule\nend\n")?;
+    let (finished, sink) = run(rt.alloc(), text.as_bytes(), &[], 4096, &[])?;
+    assert_eq!(rt; finished.status, Status::Done);
+    let printed = String::from_utf8(Vec::from_slice(rt.alloc(), sink.bytes())?)?;
+    for pos in 0..64_u64 {
+        let clock = 2 * pos + 3;
+        let number = pos + 1;
+        let line = format!(in rt.alloc(); "\n{clock} 1 1 accept 1:{number}:0 1.p.1 {pos}\n")?;
+        assert!(rt; printed.as_str().contains(line.as_str()), "{line}");
+    }
+    let end =
+        "\n131 1 1 full 1:65:0 1.p.1 64\nsummary\nposted 65\naccepted 64\ntaken 0\nqueued 64\nmoving 0\nrefused 1\nstale 0\ndeparts 0\nend\n";
+    assert!(rt; printed.as_str().ends_with(end));
+    Ok(())
+}
+
+/// Asserts that the text is refused with this line and reason, and nothing is written or closed.
+fn assert_refused(
+    rt: &impl Abort,
+    alloc: Global,
+    text: &str,
+    line: u32,
+    reason: u8,
+) -> Result<(), Fail> {
+    let (finished, sink) = run(alloc, text.as_bytes(), &[], 4096, &[])?;
+    assert_eq!(rt;
+        finished.status,
+        Status::Scenario { line, reason },
+        "{text}"
+    );
+    assert_eq!(rt; sink.bytes().len(), 0, "{text}");
+    assert!(rt; finished.closed.is_none(), "{text}");
+    Ok(())
+}
+
+#[test]
+fn limits_are_refused_with_line_and_reason(rt: HostRuntime) -> Result<(), Fail> {
+    let body = String::from_utf8(Vec::from_slice(rt.alloc(), &[b'b'; 241])?)?;
+    let long = format!(in rt.alloc();
+        "chorus 1\nsites 1\nscript 1.a.1\nsend 1.p.1 ={body}\nschedule\nend"
+    )?;
+    for (text, line) in [
+        (long.as_str(), 4),
+        ("chorus 1\nsites 1\nport 1.p.1 1.a.1 0\nschedule\nend", 3),
+        ("chorus 1\nsites 1\nport 1.p.1 1.a.1 65\nschedule\nend", 3),
+    ] {
+        assert_refused(&rt, rt.alloc(), text, line, 6)?;
+    }
+    Ok(())
+}
+
+#[test]
+fn unfinished_and_unknown_texts(rt: HostRuntime) -> Result<(), Fail> {
+    for (text, line, reason) in [
+        ("chorus 1\nsites 1\nschedule\n", 4, 9),
+        ("chorus 1\nsites 2\nscript 3.a.1\nschedule\nend", 3, 4),
+        (
+            "chorus 1\nsites 1\nscript 1.a.1\nschedule\nstep 1\nend",
+            5,
+            10,
+        ),
+        ("", 1, 9),
+    ] {
+        assert_refused(&rt, rt.alloc(), text, line, reason)?;
+    }
+    Ok(())
+}
+
+#[test]
+fn what_is_not_built_yet_is_refused(rt: HostRuntime) -> Result<(), Fail> {
+    for text in [
+        "chorus 1\nsites 2\nscript 1.a.1\nschedule\nend",
+        "chorus 1\nsites 1\ngroup 1.g.1\nschedule\nend",
+        "chorus 1\nsites 1\nscript 1.a.1\nretry\nschedule\nend",
+        "chorus 1\nsites 1\nscript 1.a.1\none 1.g.1 =x\nschedule\nend",
+        "chorus 1\nsites 1\nscript 1.a.1\nmove 1.p.1 1.a.2\nschedule\nend",
+    ] {
+        assert_refused(&rt, rt.alloc(), text, 0, 0)?;
+    }
+    Ok(())
+}
+
+#[test]
+fn sites_of_two_places_are_refused(rt: HostRuntime) -> Result<(), Fail> {
+    let alloc = rt.alloc();
+    let text = Vec::from_slice(alloc, NOTHING.as_bytes())?;
+    let mut source = MemSource::new(text, Vec::new(alloc));
+    let mut sink = MemSink::new(alloc, 4096, Vec::new(alloc));
+    let layout = Layout::new(16, 2).ok_or("a layout")?;
+    let sites = Sites::start(alloc, layout)?;
+    let finished = words(alloc, &["replay"], &mut source, &mut sink, sites);
+    let unbuilt = Status::Scenario { line: 0, reason: 0 };
+    assert_eq!(rt; finished.status, unbuilt);
+    assert_eq!(rt; sink.bytes().len(), 0);
+    assert!(rt; finished.closed.is_none());
+    Ok(())
+}
+
+#[test]
+fn long_texts_are_refused(rt: HostRuntime) -> Result<(), Fail> {
+    for (len, line, reason) in [(4_194_304, 4_194_305, 9), (4_194_305, 0, 6)] {
+        let text = vec![in rt.alloc(); b'\n'; len]?;
+        let (finished, _) = run(rt.alloc(), &text, &[], 4096, &[])?;
+        assert_eq!(rt; finished.status, Status::Scenario { line, reason }, "{len}");
+    }
+    Ok(())
+}
+
+#[test]
+fn short_sink_fails_midway(rt: HostRuntime) -> Result<(), Fail> {
+    let (finished, sink) = run(rt.alloc(), TAKEN_THEN_EMPTY.as_bytes(), &[], 5, &[2])?;
+    assert_eq!(rt; finished.status, Status::WriteFault);
+    assert_eq!(rt; sink.bytes(), b"journ".as_slice());
+    assert!(rt; finished.closed.is_some());
+    Ok(())
+}
+
+#[test]
+fn faults_of_source_and_sink(rt: HostRuntime) -> Result<(), Fail> {
+    for call in [1, 2] {
+        let (finished, sink) = run(rt.alloc(), TAKEN_THEN_EMPTY.as_bytes(), &[call], 4096, &[])?;
+        assert_eq!(rt; finished.status, Status::ReadFault, "at {call}");
+        assert_eq!(rt; sink.bytes().len(), 0, "at {call}");
+    }
+    let (finished, sink) = run(
+        rt.alloc(),
+        TAKEN_THEN_EMPTY.as_bytes(),
+        &[1_000_000],
+        4096,
+        &[],
+    )?;
+    assert_eq!(rt; finished.status, Status::Done);
+    assert_eq!(rt; sink.bytes(), PRINTS_TAKEN_THEN_EMPTY.as_bytes());
+    for call in 1..98_u64 {
+        let (finished, sink) = run(rt.alloc(), NOTHING.as_bytes(), &[], 1, &[call])?;
+        let most = PRINTS_NOTHING.len() as u64;
+        let status = if call <= most {
+            Status::WriteFault
+        } else {
+            Status::Done
+        };
+        assert_eq!(rt; finished.status, status, "at {call}");
+        assert_eq!(rt; sink.bytes().len() as u64, most.min(call - 1), "at {call}");
+    }
+    Ok(())
+}
+
+/// How `words` ends on an empty source, and how many bytes it wrote.
+fn status_of(alloc: Global, said: &[&str]) -> Result<(Status, usize), Fail> {
+    let mut source = MemSource::new(Vec::new(alloc), Vec::new(alloc));
+    let mut sink = MemSink::new(alloc, 64, Vec::new(alloc));
+    let layout = Layout::new(16, 1).ok_or("a layout")?;
+    let sites = Sites::start(alloc, layout)?;
+    let finished = words(alloc, said, &mut source, &mut sink, sites);
+    Ok((finished.status, sink.bytes().len()))
+}
+
+#[test]
+fn other_words_are_usage(rt: HostRuntime) -> Result<(), Fail> {
+    let alloc = rt.alloc();
+    assert_eq!(rt; status_of(alloc, &[])?, (Status::Usage, 0));
+    assert_eq!(rt; status_of(alloc, &["replay", "x"])?, (Status::Usage, 0));
+    assert_eq!(rt; status_of(alloc, &["--help"])?, (Status::Usage, 0));
+    assert_eq!(rt; status_of(alloc, &["run"])?, (Status::Usage, 0));
+    let empty = Status::Scenario { line: 1, reason: 9 };
+    assert_eq!(rt; status_of(alloc, &["replay"])?, (empty, 0));
+    Ok(())
+}
