@@ -7,13 +7,9 @@ use Rattle.byteorder.specs.Numbers.{big_from-append}
 use Rattle.chorus_ui.specs.declared.ui.Ui.{Ui}
 use Rattle.chorus_ui.specs.declared.kind.Kind.{Kind}
 use Rattle.chorus_ui.specs.declared.kind.Kind.TheVariants as K
-use Rattle.chorus_ui.specs.declared.layout.TheConstants.{MAX_SITES}
+use Rattle.chorus_ui.specs.declared.limits.TheConstants.{SITES_LIMIT, BODY_LIMIT, MEMBERS_LIMIT, CLIENTS_LIMIT, PENDING_LIMIT}
 use Rattle.chorus_ui.specs.Kind.{same_kind}
 use Rattle.chorus_ui.specs.Bits.{name_of_bits}
-use Rattle.chorus_entry.specs.declared.body.TheConstants.{BODY_LIMIT}
-use Rattle.chorus_entry.specs.declared.members.TheConstants.{MEMBERS_LIMIT}
-use Rattle.chorus_entry.specs.declared.record.clients.TheConstants.{CLIENTS_LIMIT}
-use Rattle.chorus_entry.specs.declared.record.pending.TheConstants.{PENDING_LIMIT}
 use Rattle.chorus_entry.specs.declared.id.MsgId.{MsgId}
 use Rattle.chorus_entry.specs.declared.tag.Tag.{Tag}
 use Rattle.chorus_entry.specs.declared.message.Message.{Message}
@@ -116,7 +112,7 @@ route_stays bytes more =
 only_stays : (bytes more : List ℕ) → Stays (Option ℕ) (only_at bytes) (only_at (bytes ++ more)) more
 unfolding only_at
 only_stays bytes more =
-    bind _ (tested_stays 2 (λ n. nat_le n MAX_SITES) Range bytes more) (λ n rest. ok_stays _ rest more)
+    bind _ (tested_stays 2 (λ n. nat_le n SITES_LIMIT) Range bytes more) (λ n rest. ok_stays _ rest more)
 
 positive_stays : (bytes more : List ℕ) → Stays ℕ (tested_at 4 (nat_le 1) Range bytes) (tested_at 4 (nat_le 1) Range (bytes ++ more)) more
 positive_stays bytes more = tested_stays 4 (nat_le 1) Range bytes more

@@ -5,14 +5,12 @@ use Rattle.std.proofs.lemmas.Bool.Decides.{nat_tests}
 use Rattle.chorus_ui.specs.declared.ui.Ui.{Ui}
 use Rattle.chorus_ui.specs.declared.kind.Kind.{Kind}
 use Rattle.chorus_ui.specs.declared.kind.Kind.TheVariants as K
-use Rattle.chorus_ui.specs.declared.layout.TheConstants.{MAX_SITES}
+use Rattle.chorus_ui.specs.declared.limits.TheConstants.{SITES_LIMIT, BODY_LIMIT, MEMBERS_LIMIT}
 use Rattle.chorus_ui.specs.Kind.{same_kind, kind_number, kind_with_number}
 use Rattle.chorus_ui.specs.Name.{IsName, is_name, name_of_parts}
 use Rattle.chorus_ui.specs.Bits.{name_bits, name_of_bits, site_bits, kind_bits, number_bits}
 use Rattle.chorus_ui.proofs.Names.{from_is_name}
 use Rattle.chorus_ui.proofs.Bits.{name_of_bits-name_bits}
-use Rattle.chorus_entry.specs.declared.body.TheConstants.{BODY_LIMIT}
-use Rattle.chorus_entry.specs.declared.members.TheConstants.{MEMBERS_LIMIT}
 use Rattle.chorus_entry.specs.declared.id.MsgId.{MsgId}
 use Rattle.chorus_entry.specs.declared.tag.Tag.{Tag}
 use Rattle.chorus_entry.specs.declared.tag.Tag.TheVariants.{Plain, Request, Reply}
@@ -131,27 +129,27 @@ route_format = record { takes = route-takes; again = route-again }
 abbrev only_of : ℕ → Option ℕ
 only_of n = if n == 0 then None else Some n
 
-only-is : (b : Bool) (n : ℕ) → (n == 0) ≡ b → nat_le n MAX_SITES ≡ true → (number 2 n ≡ only_field (cond b None (Some n))) × (is_demanded_site (cond b None (Some n)) ≡ true)
+only-is : (b : Bool) (n : ℕ) → (n == 0) ≡ b → nat_le n SITES_LIMIT ≡ true → (number 2 n ≡ only_field (cond b None (Some n))) × (is_demanded_site (cond b None (Some n)) ≡ true)
 only-is true n is top = (ap (number 2) (eqb-true n 0 is), refl)
 only-is false n is top = (refl, grind (arith, nat_tests))
 
 only-takes : (bytes : List ℕ) (x : Option ℕ) (rest : List ℕ) → AreBytes bytes → only_at bytes ≡ Ok (x, rest) → Taken bytes (only_field x) rest × (is_demanded_site x ≡ true)
 unfolding only_at
 only-takes bytes x rest are e =
-    let s = step (tested_format 2 (λ n. nat_le n MAX_SITES) Range) (λ n. Ok (only_of n.0, n.1)) bytes (x, rest) are e in
+    let s = step (tested_format 2 (λ n. nat_le n SITES_LIMIT) Range) (λ n. Ok (only_of n.0, n.1)) bytes (x, rest) are e in
     let t = only-is (s.value == 0) s.value refl s.fit.1 in
     let made : Option ℕ × List ℕ = (only_of s.value, s.rest) in
     subst (λ (p : Option ℕ × List ℕ). Taken bytes (only_field p.0) p.1 × (is_demanded_site p.0 ≡ true)) (ok_is made (x, rest) s.on) (subst (λ (text : List ℕ). Taken bytes text s.rest) t.0 s.taken, t.1)
 
 only-again : (x : Option ℕ) (rest : List ℕ) → is_demanded_site x ≡ true → only_at (only_field x ++ rest) ≡ Ok (x, rest)
 unfolding only_at
-only-again None rest fit = rw ((tested_format 2 (λ n. nat_le n MAX_SITES) Range).again 0 rest (omega arith, refl)) refl
+only-again None rest fit = rw ((tested_format 2 (λ n. nat_le n SITES_LIMIT) Range).again 0 rest (omega arith, refl)) refl
 only-again (Some n) rest fit =
-    let p = and_parts (nat_le 1 n) (nat_le n MAX_SITES) fit in
+    let p = and_parts (nat_le 1 n) (nat_le n SITES_LIMIT) fit in
     let low = from_nat_le 1 n p.0 in
-    let high = from_nat_le n MAX_SITES p.1 in
+    let high = from_nat_le n SITES_LIMIT p.1 in
     let other : (n == 0) ≡ false = ne_eqb n 0 (λ e. absurd (omega arith)) in
-    rw ((tested_format 2 (λ n. nat_le n MAX_SITES) Range).again n rest (omega arith, p.1), other) refl
+    rw ((tested_format 2 (λ n. nat_le n SITES_LIMIT) Range).again n rest (omega arith, p.1), other) refl
 
 pub only_format : IsFormat (Option ℕ) (λ x. is_demanded_site x ≡ true) only_field only_at
 only_format = record { takes = only-takes; again = only-again }

@@ -4,7 +4,7 @@ use Rattle.std.proofs.lemmas.Bool.{and_parts, eqb-true, ne_eqb}
 use Rattle.std.proofs.lemmas.List.{append-nil, nil_from_length}
 use Rattle.chorus_ui.specs.declared.ui.Ui.{Ui}
 use Rattle.chorus_ui.specs.declared.kind.Kind.TheVariants as K
-use Rattle.chorus_ui.specs.declared.layout.TheConstants.{MAX_SITES}
+use Rattle.chorus_ui.specs.declared.limits.TheConstants.{SITES_LIMIT}
 use Rattle.chorus_ui.specs.Name.{IsName}
 use Rattle.chorus_entry.specs.declared.dest.Dest.{Dest}
 use Rattle.chorus_entry.specs.declared.dest.Dest.TheVariants as D
@@ -72,8 +72,8 @@ asked-again (D.All group) rest fit = asked-parts 1 group 0 rest refl (omega arit
 asked-again (D.One group) rest fit = asked-parts 2 group 0 rest refl (omega arith) fit.0 fit.1 refl (omega arith)
 asked-again (D.OneAt group site) rest fit =
     let p = and_parts (names_group group) (is_site_number site) fit.1 in
-    let q = and_parts (nat_le 1 site) (nat_le site MAX_SITES) p.1 in
-    let high = from_nat_le site MAX_SITES q.1 in
+    let q = and_parts (nat_le 1 site) (nat_le site SITES_LIMIT) p.1 in
+    let high = from_nat_le site SITES_LIMIT q.1 in
     asked-parts 3 group site rest refl (omega arith) fit.0 p.0 p.1 (omega arith)
 
 asked_format : IsFormat Dest IsGoodAsked asked_fields asked_at

@@ -5,8 +5,7 @@ use Rattle.std.proofs.lemmas.Bool.{and_parts, eqb-true, eq-eqb}
 use Rattle.std.proofs.lemmas.List.{append-nil}
 use Rattle.std.proofs.lemmas.List.Concat.{flat_map-cons}
 use Rattle.chorus_ui.specs.declared.kind.Kind.TheVariants as K
-use Rattle.chorus_entry.specs.declared.record.clients.TheConstants.{CLIENTS_LIMIT}
-use Rattle.chorus_entry.specs.declared.record.pending.TheConstants.{PENDING_LIMIT}
+use Rattle.chorus_ui.specs.declared.limits.TheConstants.{CLIENTS_LIMIT, PENDING_LIMIT}
 use Rattle.chorus_entry.specs.declared.message.Message.{Message}
 use Rattle.chorus_entry.specs.declared.record.PortRecord.{PortRecord}
 use Rattle.chorus_entry.specs.ClientTable.{number_of, are_distinct}

@@ -3,13 +3,9 @@ use Rattle.std.specs.Prelude.{ℕ, zero, suc, Bool, not, ◌||◌, nat_le, ◌==
 use Rattle.chorus_ui.specs.declared.ui.Ui.{Ui}
 use Rattle.chorus_ui.specs.declared.kind.Kind.{Kind}
 use Rattle.chorus_ui.specs.declared.kind.Kind.TheVariants as K
-use Rattle.chorus_ui.specs.declared.layout.TheConstants.{MAX_SITES}
+use Rattle.chorus_ui.specs.declared.limits.TheConstants.{SITES_LIMIT, BODY_LIMIT, MEMBERS_LIMIT, CLIENTS_LIMIT, PENDING_LIMIT}
 use Rattle.chorus_ui.specs.Kind.{same_kind}
 use Rattle.chorus_ui.specs.Bits.{name_of_bits}
-use Rattle.chorus_entry.specs.declared.body.TheConstants.{BODY_LIMIT}
-use Rattle.chorus_entry.specs.declared.members.TheConstants.{MEMBERS_LIMIT}
-use Rattle.chorus_entry.specs.declared.record.clients.TheConstants.{CLIENTS_LIMIT}
-use Rattle.chorus_entry.specs.declared.record.pending.TheConstants.{PENDING_LIMIT}
 use Rattle.chorus_entry.specs.declared.id.MsgId.{MsgId}
 use Rattle.chorus_entry.specs.declared.tag.Tag.{Tag}
 use Rattle.chorus_entry.specs.declared.tag.Tag.TheVariants.{Plain, Request, Reply}
@@ -57,7 +53,7 @@ route_at bytes = do
 -- a site, or 0 where none is demanded
 unfoldable pub only_at : List ℕ → Result (Option ℕ × List ℕ) Fault
 only_at bytes = do
-  n ← ranged_at 2 (λ n. nat_le n MAX_SITES) bytes
+  n ← ranged_at 2 (λ n. nat_le n SITES_LIMIT) bytes
   Ok ((if n.0 == 0 then None else Some n.0), n.1)
 
 -- a number from 1

@@ -136,4 +136,3 @@ asked_by g o = asked_in g o.packet.cargo
 -- the posts to the group that packets from a to b ask for, in order
 abbrev pub asked_for : Ui → ℕ → ℕ → List Outgoing → List MsgId
 asked_for g a b os = flat_map (asked_by g) (filter (is_link a b) os)
-

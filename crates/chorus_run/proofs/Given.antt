@@ -5,7 +5,7 @@ use Rattle.std.proofs.lemmas.Bool.{and_parts, eqb-true, eq-eqb, ne_eqb, ltb-true
 use Rattle.std.proofs.lemmas.List.{reverse-append, take_more}
 use Rattle.std.proofs.lemmas.List.Sums.{sum_by-append}
 use Rattle.std.proofs.lemmas.Option.{slice_get-map, slice_get-get_or, get_or_from_slice_get}
-use Rattle.chorus_ui.specs.Layout.{Shape}
+use Rattle.chorus_ui.specs.declared.layout.Layout.{Layout}
 use Rattle.chorus_entry.specs.declared.command.Command.{Command}
 use Rattle.chorus_net.specs.Sites.{Event, Enter, Act, commands_of}
 use Rattle.chorus_scene.specs.declared.scenario.Step as step
@@ -81,7 +81,7 @@ count-more p before s b e =
     plus : (n : ℕ) → 0 + n ≡ n
     plus n = omega arith
 
-module _ (l : Shape) (n : ℕ) (scripts : List Script) where
+module _ (l : Layout) (n : ℕ) (scripts : List Script) where
   -- no step is one of seat 0
   none-performed : (before : List step.Step) (s : step.Step) → step_keeps l n scripts before s ≡ true → commands_of 0 (performed scripts before s) ≡ []
   none-performed before (steps.Step k) h =

@@ -9,14 +9,12 @@ use Rattle.std.proofs.lemmas.List.Sums.{sum_by-cons}
 use Rattle.std.proofs.lemmas.Option.{slice_get-get_or}
 use Rattle.chorus_ui.specs.declared.kind.Kind.TheVariants as kinds
 use Rattle.chorus_ui.specs.Kind.{same_kind}
-use Rattle.chorus_ui.specs.Name.{Name}
-use Rattle.chorus_ui.specs.Layout.{Shape}
-use Rattle.chorus_ui.specs.declared.limits.TheConstants.{PORTS_PER_SITE_LIMIT}
+use Rattle.chorus_ui.specs.declared.ui.Ui.{Ui}
+use Rattle.chorus_ui.specs.declared.layout.Layout.{Layout}
+use Rattle.chorus_ui.specs.declared.limits.TheConstants.{PORTS_PER_SITE_LIMIT, CLOCK_LIMIT, SEATS_LIMIT}
 use Rattle.chorus_entry.specs.declared.command.Command.{Command}
 use Rattle.chorus_entry.specs.Command.{is_capacity}
 use Rattle.chorus_place.specs.Machine.{is_built}
-use Rattle.chorus_ui.specs.declared.limits.TheConstants.{CLOCK_LIMIT}
-use Rattle.chorus_ui.specs.declared.limits.TheConstants.{SEATS_LIMIT}
 use Rattle.chorus_net.specs.Sites.{Event, Enter, Act, after, posts_of, compared}
 use Rattle.chorus_scene.specs.declared.scenario.SetupLine.{SetupLine}
 use Rattle.chorus_scene.specs.declared.scenario.SetupLine.TheVariants as setups
@@ -34,10 +32,10 @@ use Rattle.chorus_run.proofs.Bounds.{compared-within, posts-after, seats-within}
 
 -- The setup makes the ports of one place, and those are few.
 
-abbrev is_first : Name → Bool
+abbrev is_first : Ui → Bool
 is_first u = same_kind u.kind kinds.Port && (u.site == 1)
 
-shares : (l : Shape) (site number : ℕ) (u : Name) → l.turns ≡ 1 → site ≡ 1 → is_first u ≡ true → shares_place l kinds.Port site number u ≡ true
+shares : (l : Layout) (site number : ℕ) (u : Ui) → l.turns ≡ 1 → site ≡ 1 → is_first u ≡ true → shares_place l kinds.Port site number u ≡ true
 shares l site number u turns one h =
     (λ i. same_kind u.kind kinds.Port && (u.site == one i) && ((u.number - 1) % turns i == (number - 1) % turns i))
     ∙ and_from (is_first u) ((u.number - 1) % 1 == (number - 1) % 1) h (eq-eqb ((u.number - 1) % 1) ((number - 1) % 1) (both u.number number))
@@ -45,7 +43,7 @@ shares l site number u turns one h =
     both : (m n : ℕ) → (m - 1) % 1 ≡ (n - 1) % 1
     both m n = omega arith
 
-count-all : (p q : Name → Bool) (xs : List Name) → ((u : Name) → q u ≡ true → p u ≡ true) → list_all q xs ≡ true → count_by p xs ≡ length xs
+count-all : (p q : Ui → Bool) (xs : List Ui) → ((u : Ui) → q u ≡ true → p u ≡ true) → list_all q xs ≡ true → count_by p xs ≡ length xs
 count-all p q [] f all = refl
 count-all p q (x ∷ xs) f all =
     let parts = and_parts (q x) (list_all q xs) all in
@@ -55,7 +53,7 @@ count-all p q (x ∷ xs) f all =
     up : (n : ℕ) → 1 + n ≡ suc n
     up n = omega arith
 
-number-is : (l : Shape) (actor : Name) (made : List Name) → l.turns ≡ 1 → actor.site ≡ 1 → list_all is_first made ≡ true → (next_port l actor made).number ≡ 1 + length made
+number-is : (l : Layout) (actor : Ui) (made : List Ui) → l.turns ≡ 1 → actor.site ≡ 1 → list_all is_first made ≡ true → (next_port l actor made).number ≡ 1 + length made
 number-is l actor made turns site all =
     let count = count-all (shares_place l kinds.Port actor.site actor.number) is_first made (λ u h. shares l actor.site actor.number u turns site h) all in
     (λ i. 1 + (actor.number - 1) % turns i + turns i * count i) ∙ plain actor.number (length made)
@@ -63,11 +61,11 @@ number-is l actor made turns site all =
     plain : (m n : ℕ) → 1 + (m - 1) % 1 + 1 * n ≡ 1 + n
     plain m n = omega arith
 
-made-more : (l : Shape) (made : List Name) (before : List SetupLine) (line : SetupLine) → made_after l made (before ++ line ∷ []) ≡ made_after l made before ++ makes l (made_after l made before) line
+made-more : (l : Layout) (made : List Ui) (before : List SetupLine) (line : SetupLine) → made_after l made (before ++ line ∷ []) ≡ made_after l made before ++ makes l (made_after l made before) line
 made-more l made [] line = refl
 made-more l made (first ∷ before) line = made-more l (made ++ makes l made first) before line
 
-setup-few : (l : Shape) (n : ℕ) (before lines : List SetupLine) → n ≡ 1 → l.turns ≡ 1 → setup_keeps l n before lines ≡ true → list_all (is_built l 1) (map setup_command lines) ≡ true
+setup-few : (l : Layout) (n : ℕ) (before lines : List SetupLine) → n ≡ 1 → l.turns ≡ 1 → setup_keeps l n before lines ≡ true → list_all (is_built l 1) (map setup_command lines) ≡ true
     → list_all is_first (made_after l [] before) ≡ true → length (made_after l [] before) ≡ length before → length before ≤ PORTS_PER_SITE_LIMIT → length before + length lines ≤ PORTS_PER_SITE_LIMIT
 setup-few l n before [] one turns keeps built all as_many few = omega arith
 setup-few l n before (setups.Port actor capacity ∷ lines) one turns keeps built all as_many few =
@@ -146,7 +144,7 @@ one-at-most : (k : ℕ) (o : Option Command) → length (option_to_list (option_
 one-at-most k None = omega arith
 one-at-most k (Some c) = omega arith
 
-module _ (l : Shape) (n : ℕ) (scripts : List Script) where
+module _ (l : Layout) (n : ℕ) (scripts : List Script) where
   none-left : (before : List step.Step) (s : step.Step) → ((m : ℕ) → is_step m s ≡ false) → 0 + length (left_from (before ++ s ∷ []) 1 scripts) ≤ length (left_from before 1 scripts)
   none-left before s none =
       let same = ap length (left-same before (before ++ s ∷ []) 1 scripts (λ m h. count-other before s m (none m))) in
@@ -181,7 +179,7 @@ module _ (l : Shape) (n : ℕ) (scripts : List Script) where
       omega arith
 
 -- before any step all commands are left
-all-left : (l : Shape) (version n k : ℕ) (scripts : List Script) → list_all (script_keeps l version n) scripts ≡ true → length (left_from [] k scripts) ≤ COMMANDS_LIMIT * length scripts
+all-left : (l : Layout) (version n k : ℕ) (scripts : List Script) → list_all (script_keeps l version n) scripts ≡ true → length (left_from [] k scripts) ≤ COMMANDS_LIMIT * length scripts
 all-left l version n k [] keeps = omega arith
 all-left l version n k (script ∷ scripts) keeps =
     let parts = and_parts (script_keeps l version n script) (list_all (script_keeps l version n) scripts) keeps in

@@ -5,7 +5,6 @@ use Rattle.std.proofs.lemmas.Bool.{and_parts, eq-eqb, eqb-true, leb-true, ltb-tr
 use Rattle.std.proofs.lemmas.List.{map-append, reverse-append, take_more, drop_more}
 use Rattle.std.proofs.lemmas.Option.{slice_get-get_or}
 use Rattle.chorus_ui.specs.declared.layout.Layout.{Layout}
-use Rattle.chorus_ui.specs.Layout.{Shape}
 use Rattle.chorus_entry.specs.declared.command.Command.{Command}
 use Rattle.chorus_net.specs.Sites.{Event, Enter, Act, after, happened}
 use Rattle.chorus_scene.specs.declared.scenario.SetupLine.{SetupLine}
@@ -44,7 +43,7 @@ schedule-more scripts schedule i d lt =
     ∙ (schedule-append scripts [] (take i schedule) (s ∷ [])
     ∙ ap (λ z. in_schedule scripts [] (take i schedule) ++ z) (append-nil (performed scripts (take i schedule) s)))
 
-keeps-append : (l : Shape) (n : ℕ) (scripts : List Script) (before xs ys : List step.Step) → schedule_keeps l n scripts before (xs ++ ys) ≡ true → schedule_keeps l n scripts (before ++ xs) ys ≡ true
+keeps-append : (l : Layout) (n : ℕ) (scripts : List Script) (before xs ys : List step.Step) → schedule_keeps l n scripts before (xs ++ ys) ≡ true → schedule_keeps l n scripts (before ++ xs) ys ≡ true
 keeps-append l n scripts before [] ys keeps = ap (λ z. schedule_keeps l n scripts z ys) (append-nil before) ∙ keeps
 keeps-append l n scripts before (s ∷ xs) ys keeps =
     let parts = and_parts (step_keeps l n scripts before s) (schedule_keeps l n scripts (before ++ s ∷ []) (xs ++ ys)) keeps in
@@ -81,7 +80,7 @@ step-performs scripts before k d f =
     ap (λ o. option_to_list (option_map (Act k) o)) (slice_get-get_or (script_at k scripts).commands (count_by (is_step k) before) d f.left)
 
 -- no script has more steps than commands
-pub steps-within : (l : Shape) (n : ℕ) (scripts : List Script) (k : ℕ) (before rest : List step.Step) → schedule_keeps l n scripts before rest ≡ true
+pub steps-within : (l : Layout) (n : ℕ) (scripts : List Script) (k : ℕ) (before rest : List step.Step) → schedule_keeps l n scripts before rest ≡ true
     → count_by (is_step k) before ≤ length (script_at k scripts).commands → count_by (is_step k) (before ++ rest) ≤ length (script_at k scripts).commands
 steps-within l n scripts k before [] keeps few = subst (λ z. count_by (is_step k) z ≤ length (script_at k scripts).commands) (sym (append-nil before)) few
 steps-within l n scripts k before (s ∷ rest) keeps few =

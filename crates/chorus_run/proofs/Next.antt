@@ -7,11 +7,10 @@ use Rattle.chorus_ui.specs.declared.ui.Ui.{Ui}
 use Rattle.chorus_ui.specs.Layout.{IsLayout, has_actor}
 use Rattle.chorus_entry.specs.Kinds.{names_actor}
 use Rattle.chorus_entry.specs.declared.command.Command.{Command}
-use Rattle.chorus_ui.specs.declared.limits.TheConstants.{CLOCK_LIMIT}
+use Rattle.chorus_ui.specs.declared.limits.TheConstants.{CLOCK_LIMIT, SEATS_LIMIT}
 use Rattle.chorus_scene.specs.declared.scenario.SetupLine.{SetupLine}
 use Rattle.chorus_scene.specs.Scene.{Scene, Script}
 use Rattle.chorus_scene.specs.Limits.{Keeps}
-use Rattle.chorus_ui.specs.declared.limits.TheConstants.{SEATS_LIMIT}
 use Rattle.chorus_net.specs.Sites.{SitesState, Event, Enter, Act, happened, entered, acted, after, actor_of, posts_of, compared}
 use Rattle.chorus_net.specs.OnePlace.{may_give}
 use Rattle.chorus_net.proofs.AfterEvents.{holds}

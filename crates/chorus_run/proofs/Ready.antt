@@ -12,7 +12,7 @@ use Rattle.chorus_ui.specs.Layout.{has_actor, place_at, creation_place}
 use Rattle.chorus_entry.specs.declared.dest.Dest.{Dest}
 use Rattle.chorus_entry.specs.declared.command.Command.{Command}
 use Rattle.chorus_entry.specs.Kinds.{names_actor}
-use Rattle.chorus_entry.specs.Command.{is_capacity, meets_conditions, has_kinds_in_command}
+use Rattle.chorus_entry.specs.Command.{is_capacity, meets_conditions}
 use Rattle.chorus_entry.specs.Places.{place_for}
 use Rattle.chorus_place.specs.Machine.{is_built}
 use Rattle.chorus_net.specs.Sites.{Event, Enter, Act, after, actor_of, first_actor}
@@ -135,11 +135,11 @@ place-one l n a (Command.Send (Dest.Port q) body) one turns site h built = at-on
 place-one l n a (Command.Take q) one turns site h built = at-one l a.site q site turns
 place-one l n a c one turns site h built = absurd (false≢true built)
 
-gives : (l : Layout) (n : ℕ) (a : Ui) (c : Command) → n ≡ 1 → l.turns ≡ 1 → a.site ≡ 1 → meets_conditions c ≡ true → has_kinds_in_command c ≡ true → command_is_of l n c ≡ true → is_built l 1 c ≡ true → may_give l (Some a) c ≡ true
-gives l n a c one turns site meets kinds of built =
+gives : (l : Layout) (n : ℕ) (a : Ui) (c : Command) → n ≡ 1 → l.turns ≡ 1 → a.site ≡ 1 → meets_conditions c ≡ true → command_is_of l n c ≡ true → is_built l 1 c ≡ true → may_give l (Some a) c ≡ true
+gives l n a c one turns site meets of built =
     let here = eq-eqb (place_for l a c) 1 (place-one l n a c one turns site of built) in
-    and_from (meets_conditions c && has_kinds_in_command c && (place_for l a c == 1)) (is_built l 1 c)
-    (and_from (meets_conditions c && has_kinds_in_command c) (place_for l a c == 1) (and_from (meets_conditions c) (has_kinds_in_command c) meets kinds) here)
+    and_from (meets_conditions c && (place_for l a c == 1)) (is_built l 1 c)
+    (and_from (meets_conditions c) (place_for l a c == 1) meets here)
     built
 
 -- The commands of a script.
@@ -148,11 +148,10 @@ command-may : (l : Layout) (version n : ℕ) (a : Ui) (c : Command) → n ≡ 1 
 command-may l version n a c one turns site keeps built =
     let bytes = nat_le (length (bytes_sent c)) (most_bytes version) in
     let of = command_is_of l n c in
-    let four = and_parts (meets_conditions c && has_kinds_in_command c && of && bytes) (is_of_version version c) keeps in
-    let three = and_parts (meets_conditions c && has_kinds_in_command c && of) bytes four.0 in
-    let two = and_parts (meets_conditions c && has_kinds_in_command c) of three.0 in
-    let first = and_parts (meets_conditions c) (has_kinds_in_command c) two.0 in
-    gives l n a c one turns site first.0 first.1 two.1 built
+    let four = and_parts (meets_conditions c && of && bytes) (is_of_version version c) keeps in
+    let three = and_parts (meets_conditions c && of) bytes four.0 in
+    let two = and_parts (meets_conditions c) of three.0 in
+    gives l n a c one turns site two.0 two.1 built
 
 commands-may : (l : Layout) (version n : ℕ) (a : Ui) (cs : List Command) → n ≡ 1 → l.turns ≡ 1 → a.site ≡ 1 → list_all (command_keeps l version n) cs ≡ true → list_all (is_built l 1) cs ≡ true → list_all (may_give l (Some a)) cs ≡ true
 commands-may l version n a [] one turns site keeps built = refl

@@ -6,7 +6,7 @@ use Rattle.std.proofs.lemmas.Grind.{get_or-set_at}
 use Rattle.std.proofs.lemmas.List.{take_more, map-append, length-set, length-take-le, length-drop, take_all, get_or_read, get_or-set_other}
 use Rattle.std.proofs.lemmas.List.Sums.{sum_by-append}
 use Rattle.std.proofs.lemmas.Option.{slice_get-get_or}
-use Rattle.chorus_ui.specs.Layout.{Shape}
+use Rattle.chorus_ui.specs.declared.layout.Layout.{Layout}
 use Rattle.chorus_entry.specs.declared.command.Command.{Command}
 use Rattle.chorus_net.specs.Sites.{Event, Act}
 use Rattle.chorus_scene.specs.declared.scenario.Step as step
@@ -55,7 +55,7 @@ pub record HasNext (scripts : List Script) (before : List step.Step) (k : ℕ) :
   pub high : k ≤ length scripts
   pub left : count_by (is_step k) before < length (script_at k scripts).commands
 
-step-has : (l : Shape) (n : ℕ) (scripts : List Script) (before : List step.Step) (k : ℕ) → step_keeps l n scripts before (steps.Step k) ≡ true → HasNext scripts before k
+step-has : (l : Layout) (n : ℕ) (scripts : List Script) (before : List step.Step) (k : ℕ) → step_keeps l n scripts before (steps.Step k) ≡ true → HasNext scripts before k
 step-has l n scripts before k h =
     let m = count_by (is_step k) before in
     let len = length (script_at k scripts).commands in
@@ -63,7 +63,7 @@ step-has l n scripts before k h =
     let inner = and_parts (nat_le 1 k) (nat_le k (length scripts)) outer.0 in
     record { low = leb-true 1 k inner.0; high = leb-true k (length scripts) inner.1; left = ltb-true m len outer.1 }
 
-keeps-at : (l : Shape) (n : ℕ) (scripts : List Script) (before rest : List step.Step) (i : ℕ) (d : step.Step) → i < length rest → schedule_keeps l n scripts before rest ≡ true
+keeps-at : (l : Layout) (n : ℕ) (scripts : List Script) (before rest : List step.Step) (i : ℕ) (d : step.Step) → i < length rest → schedule_keeps l n scripts before rest ≡ true
     → step_keeps l n scripts (before ++ take i rest) (get_or rest i d) ≡ true
 keeps-at l n scripts before [] i d lt h = absurd (omega (arith, lt))
 keeps-at l n scripts before (s ∷ rest) zero d lt h =
@@ -93,7 +93,7 @@ performs-next scripts before k d has =
 
 -- No script has more steps than commands.
 
-module _ (l : Shape) (n : ℕ) (scripts : List Script) (k : ℕ) where
+module _ (l : Layout) (n : ℕ) (scripts : List Script) (k : ℕ) where
   abbrev Within : List step.Step → Type 0
   Within before = count_by (is_step k) before ≤ length (script_at k scripts).commands
 

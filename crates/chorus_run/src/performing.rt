@@ -28,7 +28,7 @@ pub(crate) fn perform(
     requires layout { scenario.now.layout ≡ sites.old.place.layout }
     requires built { scene_is_built scenario.now ≡ true }
     requires keeps { Keeps scenario.now }
-    requires layout { IsLayout scenario.now.layout }
+    requires sites { IsLayout scenario.now.layout }
     ensures { OnOk result (sites.new ≡ replayed scenario.now) }
 {
     let calls = calls(alloc, scenario)?;
@@ -48,7 +48,7 @@ fn set_up(sites: &mut Sites, scenario: &Scenario) -> Result<(), AllocError>
     requires layout { scenario.now.layout ≡ sites.old.place.layout }
     requires built { scene_is_built scenario.now ≡ true }
     requires keeps { Keeps scenario.now }
-    requires layout { IsLayout scenario.now.layout }
+    requires sites { IsLayout scenario.now.layout }
     ensures { OnOk result
         (sites.new ≡ after scenario.now.layout (reverse (in_setup scenario.now))) }
 {
@@ -74,7 +74,7 @@ fn enter(sites: &mut Sites, scenario: &Scenario) -> Result<(), AllocError>
     requires now { sites.old ≡ after scenario.now.layout (reverse (in_setup scenario.now)) }
     requires built { scene_is_built scenario.now ≡ true }
     requires keeps { Keeps scenario.now }
-    requires layout { IsLayout scenario.now.layout }
+    requires sites { IsLayout scenario.now.layout }
     ensures { OnOk result
         (sites.new
         ≡ after scenario.now.layout (reverse (in_setup scenario.now ++ entering scenario.now))) }

@@ -4,7 +4,7 @@ use Rattle.std.specs.Prelude.{codes, nat_lt, nat_le, ◌==◌, decimal, unwrap_o
 use Rattle.std.proofs.lemmas.Bool.Decides.{nat_tests}
 use Rattle.chorus_ui.specs.declared.kind.Kind.{Kind}
 use Rattle.chorus_ui.specs.declared.kind.Kind.TheVariants as kinds
-use Rattle.chorus_ui.specs.Name.{Name}
+use Rattle.chorus_ui.specs.declared.ui.Ui.{Ui}
 use Rattle.chorus_ui.specs.Text.{name_text}
 use Rattle.chorus_entry.specs.declared.dest.Dest.TheVariants as dests
 use Rattle.chorus_entry.specs.declared.command.Command.{Command}
@@ -301,15 +301,15 @@ module _ (c : Scene) (x : Line) where
   bare_is w y same text = let e : y ≡ x = cc in sym (ap text_of e) ∙ text
 
   -- a command with one name
-  named_is : (verb : Verb) (make : Name → Command) (k : Kind) (a : List ℕ) → option_map CommandLine (option_map make (name_in k a)) ≡ Some x → ((u : Name) → command_text (make u) ≡ verb_text verb ++ behind (name_text u ∷ [])) → text_of x ≡ verb_text verb ++ behind (a ∷ [])
+  named_is : (verb : Verb) (make : Ui → Command) (k : Kind) (a : List ℕ) → option_map CommandLine (option_map make (name_in k a)) ≡ Some x → ((u : Ui) → command_text (make u) ≡ verb_text verb ++ behind (name_text u ∷ [])) → text_of x ≡ verb_text verb ++ behind (a ∷ [])
   named_is verb make k a h text =
       let p = inv_map CommandLine (option_map make (name_in k a)) x h in
       let q = inv_map make (name_in k a) p.0 p.1 in
       sym (ap text_of p.2) ∙ sym (ap command_text q.2) ∙ text q.0 ∙ same_one (verb_text verb) (name_text q.0) a (spelled_name k a q.0 q.1)
 
   -- a command with two names
-  two_named_is : (verb : Verb) (make : Name → Name → Command) (j k : Kind) (a b : List ℕ) → option_map CommandLine (with_two make (name_in j a) (name_in k b)) ≡ Some x
-      → ((u v : Name) → command_text (make u v) ≡ verb_text verb ++ behind (name_text u ∷ name_text v ∷ [])) → text_of x ≡ verb_text verb ++ behind (a ∷ b ∷ [])
+  two_named_is : (verb : Verb) (make : Ui → Ui → Command) (j k : Kind) (a b : List ℕ) → option_map CommandLine (with_two make (name_in j a) (name_in k b)) ≡ Some x
+      → ((u v : Ui) → command_text (make u v) ≡ verb_text verb ++ behind (name_text u ∷ name_text v ∷ [])) → text_of x ≡ verb_text verb ++ behind (a ∷ b ∷ [])
   two_named_is verb make j k a b h text =
       let p = inv_map CommandLine (with_two make (name_in j a) (name_in k b)) x h in
       let q = inv_two make (name_in j a) (name_in k b) p.0 p.1 in
@@ -343,14 +343,14 @@ module _ (c : Scene) (x : Line) where
         short = omega (arith, b.short, length-append (reprint t) [], length-append t []);
       }
 
-  sent : (target : Target) (u : Name) (body : List ℕ) → command_text (commands.Send (dest_of target u) body) ≡ verb_text (verbs.Send target) ++ behind (name_text u ∷ body_text body ∷ [])
+  sent : (target : Target) (u : Ui) (body : List ℕ) → command_text (commands.Send (dest_of target u) body) ≡ verb_text (verbs.Send target) ++ behind (name_text u ∷ body_text body ∷ [])
   sent targets.Port u body = refl
   sent targets.All u body = refl
   sent targets.One u body = refl
 
   send_again : (target : Target) (a t : List ℕ) → Passes c (words.Command (verbs.Send target)) (a ∷ t ∷ []) x → each_byte is_plain (behind (a ∷ t ∷ [])) ≡ true → Again c (words.Command (verbs.Send target)) (a ∷ t ∷ []) x
   send_again target a t p plain =
-      let make : Name → List ℕ → Command = λ name body. commands.Send (dest_of target name) body in
+      let make : Ui → List ℕ → Command = λ name body. commands.Send (dest_of target name) body in
       let r = inv_map CommandLine (with_two make (name_in (target_kind target) a) (body_in t)) x p.line in
       let q = inv_two make (name_in (target_kind target) a) (body_in t) r.0 r.1 in
       let f = field_parts a (t ∷ []) plain in
@@ -385,7 +385,7 @@ module _ (c : Scene) (x : Line) where
 
   at_again : (a b t : List ℕ) → Passes c (words.Command verbs.At) (a ∷ b ∷ t ∷ []) x → each_byte is_plain (behind (a ∷ b ∷ t ∷ [])) ≡ true → Again c (words.Command verbs.At) (a ∷ b ∷ t ∷ []) x
   at_again a b t p plain =
-      let make : Name → ℕ → List ℕ → Command = λ group site body. commands.Send (dests.OneAt group site) body in
+      let make : Ui → ℕ → List ℕ → Command = λ group site body. commands.Send (dests.OneAt group site) body in
       let r = inv_map CommandLine (with_three make (name_in kinds.Group a) (number_in b) (body_in t)) x p.line in
       let q = inv_three make (name_in kinds.Group a) (number_in b) (body_in t) r.0 r.1 in
       let small = not_huge q.1 (or_first (is_huge q.1) (nat_lt (most_bytes c.version) (length q.2)) (ap (command_is_beyond c.version) q.6 ∙ beyond_of r.0 r.2 p.judged)) in

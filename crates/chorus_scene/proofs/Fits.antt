@@ -5,8 +5,9 @@ use Rattle.std.proofs.lemmas.Bool.Decides.{nat_tests}
 use Rattle.chorus_ui.specs.declared.kind.Kind.{Kind}
 use Rattle.chorus_ui.specs.declared.kind.Kind.TheVariants as kinds
 use Rattle.chorus_ui.specs.Kind.{same_kind}
-use Rattle.chorus_ui.specs.Name.{Name, IsName, same_ui}
-use Rattle.chorus_ui.specs.Layout.{Shape}
+use Rattle.chorus_ui.specs.Name.{IsName, same_ui}
+use Rattle.chorus_ui.specs.declared.ui.Ui.{Ui}
+use Rattle.chorus_ui.specs.declared.layout.Layout.{Layout}
 use Rattle.chorus_ui.specs.Text.{parse_name}
 use Rattle.chorus_ui.proofs.Names.{from_same_ui}
 use Rattle.chorus_ui.proofs.Texts.{parse_name_named}
@@ -14,7 +15,7 @@ use Rattle.chorus_entry.specs.declared.dest.Dest.TheVariants as dests
 use Rattle.chorus_entry.specs.declared.command.Command.{Command}
 use Rattle.chorus_entry.specs.declared.command.Command.TheVariants as commands
 use Rattle.chorus_entry.specs.Kinds.{has_kinds_in_dest}
-use Rattle.chorus_entry.specs.Command.{is_capacity, meets_conditions, demands_a_site, has_kinds_in_command}
+use Rattle.chorus_entry.specs.Command.{is_capacity, meets_conditions, demands_a_site}
 use Rattle.chorus_scene.specs.declared.scenario.SetupLine.TheVariants as setups
 use Rattle.chorus_scene.specs.declared.scenario.Step.TheVariants as steps
 use Rattle.chorus_scene.specs.declared.word.Target.{Target}
@@ -70,7 +71,7 @@ clear c x judged =
     record { limit = h0.0; unknown = h1.0; twice = h2.0; order = h3.0; schedule = h4.0 }
 
 -- the sites are counted
-pub record Counted (l : Shape) (version n : ℕ) : Type 0 where
+pub record Counted (l : Layout) (version n : ℕ) : Type 0 where
   pub from_one : 1 ≤ n
   pub of_layout : n ≤ l.sites
   pub of_version : n ≤ most_sites version
@@ -104,18 +105,18 @@ so_not : (b : Bool) → b ≡ false → not b ≡ true
 so_not true h = absurd cc
 so_not false h = refl
 
-of_kind_by : (kind : Kind) (b : Bool) (v u : Name) → same_kind v.kind kind ≡ b → cond b (Some v) None ≡ Some u → (same_kind u.kind kind ≡ true) × (◌≡◌ {A = Option Name} (Some v) (Some u))
-of_kind_by kind true v u e h = let same : v ≡ u = cc in (subst (λ (w : Name). same_kind w.kind kind ≡ true) same e, h)
+of_kind_by : (kind : Kind) (b : Bool) (v u : Ui) → same_kind v.kind kind ≡ b → cond b (Some v) None ≡ Some u → (same_kind u.kind kind ≡ true) × (◌≡◌ {A = Option Ui} (Some v) (Some u))
+of_kind_by kind true v u e h = let same : v ≡ u = cc in (subst (λ (w : Ui). same_kind w.kind kind ≡ true) same e, h)
 of_kind_by kind false v u e h = absurd cc
 
-of_kind : (kind : Kind) (o : Option Name) (u : Name) → if_of_kind kind o ≡ Some u → (same_kind u.kind kind ≡ true) × (o ≡ Some u)
+of_kind : (kind : Kind) (o : Option Ui) (u : Ui) → if_of_kind kind o ≡ Some u → (same_kind u.kind kind ≡ true) × (o ≡ Some u)
 of_kind kind None u h = absurd cc
 of_kind kind (Some v) u h = of_kind_by kind (same_kind v.kind kind) v u refl h
 
-named : (kind : Kind) (text : List ℕ) (u : Name) → name_in kind text ≡ Some u → (same_kind u.kind kind ≡ true) × IsName u
+named : (kind : Kind) (text : List ℕ) (u : Ui) → name_in kind text ≡ Some u → (same_kind u.kind kind ≡ true) × IsName u
 named kind text u h =
     let p = of_kind kind (parse_name text) u h in
-    (p.0, subst (λ (o : Option Name). IfSome o IsName) p.1 (parse_name_named text))
+    (p.0, subst (λ (o : Option Ui). IfSome o IsName) p.1 (parse_name_named text))
 
 -- numbers
 near : (n site : ℕ) → nat_lt n site ≡ false → 1 ≤ site → is_site n site ≡ true
@@ -159,10 +160,10 @@ delivered : (a b n : ℕ) → (((a == 0) || nat_lt n a) || ((b == 0) || nat_lt n
 delivered a b n h = grind (arith, nat_tests)
 
 module _ (c : Scene) where
-  site_of : (kind : Kind) (text : List ℕ) (u : Name) → name_in kind text ≡ Some u → is_far c u ≡ false → is_site c.sites u.site ≡ true
+  site_of : (kind : Kind) (text : List ℕ) (u : Ui) → name_in kind text ≡ Some u → is_far c u ≡ false → is_site c.sites u.site ≡ true
   site_of kind text u name far = near c.sites u.site far (named kind text u name).1.site_from_one
 
-  actor_of : (text : List ℕ) (actor : Name) → name_in kinds.Actor text ≡ Some actor → is_no_actor c actor ≡ false → IsCounted c → is_actor_of c.layout c.sites actor ≡ true
+  actor_of : (text : List ℕ) (actor : Ui) → name_in kinds.Actor text ≡ Some actor → is_no_actor c actor ≡ false → IsCounted c → is_actor_of c.layout c.sites actor ≡ true
   actor_of text actor name there_is sites =
       let far = or_first (is_far c actor) (nat_lt 8 actor.number) there_is in
       let few = or_second (is_far c actor) (nat_lt 8 actor.number) there_is in
@@ -171,15 +172,15 @@ module _ (c : Scene) where
       and_join _ _ (and_join _ _ p.0 (there c.layout.sites actor.site actor.number c.sites near sites.of_layout p.1.number_from_one few)) near
 
   -- a command that is of the sites, with what else it keeps
-  command_by : (command : Command) → meets_conditions command ≡ true → has_kinds_in_command command ≡ true → command_is_of c.layout c.sites command ≡ true → nat_lt (most_bytes c.version) (length (bytes_sent command)) ≡ false → is_of_version c.version command ≡ true → command_keeps c.layout c.version c.sites command ≡ true
-  command_by command meets kinds of short version =
-      and_join _ _ (and_join _ _ (and_join _ _ (and_join _ _ meets kinds) of) (at_most (length (bytes_sent command)) (most_bytes c.version) short)) version
+  command_by : (command : Command) → meets_conditions command ≡ true → command_is_of c.layout c.sites command ≡ true → nat_lt (most_bytes c.version) (length (bytes_sent command)) ≡ false → is_of_version c.version command ≡ true → command_keeps c.layout c.version c.sites command ≡ true
+  command_by command meets of short version =
+      and_join _ _ (and_join _ _ (and_join _ _ meets of) (at_most (length (bytes_sent command)) (most_bytes c.version) short)) version
 
   no_bytes : nat_lt (most_bytes c.version) 0 ≡ false
   no_bytes = grind (arith, nat_tests)
 
   module _ (sites : IsCounted c) where
-    dest_by : (target : Target) (text : List ℕ) (u : Name) → name_in (target_kind target) text ≡ Some u → dest_is_unknown c (dest_of target u) ≡ false
+    dest_by : (target : Target) (text : List ℕ) (u : Ui) → name_in (target_kind target) text ≡ Some u → dest_is_unknown c (dest_of target u) ≡ false
         → (has_kinds_in_dest (dest_of target u) ≡ true) × (demands_a_site (dest_of target u) ≡ true) × (dest_is_of c.sites (dest_of target u) ≡ true)
     dest_by targets.Port text u name far = ((named kinds.Port text u name).0, refl, site_of kinds.Port text u name far)
     dest_by targets.All text u name far = ((named kinds.Group text u name).0, refl, site_of kinds.Group text u name far)
@@ -188,68 +189,68 @@ module _ (c : Scene) where
     -- the commands, by their verbs
     verb_fits : (verb : Verb) (fs : List (List ℕ)) (command : Command) → command_of verb fs ≡ Some command → CommandFits c verb command
     verb_fits (verbs.Send target) fs command h =
-        let make : Name → List ℕ → Command = λ name body. commands.Send (dest_of target name) body in
+        let make : Ui → List ℕ → Command = λ name body. commands.Send (dest_of target name) body in
         let q = inv_two make (name_in (target_kind target) (field 0 fs)) (body_in (field 1 fs)) command h in
         subst (CommandFits c (verbs.Send target)) q.4
         (λ beyond unknown two.
         let d = dest_by target (field 0 fs) q.0 q.2 unknown in
-        command_by (make q.0 q.1) (and_join _ _ d.0 d.1) d.0 d.2 (or_second (dest_is_huge (dest_of target q.0)) (nat_lt (most_bytes c.version) (length q.1)) beyond) refl)
+        command_by (make q.0 q.1) (and_join _ _ d.0 d.1) d.2 (or_second (dest_is_huge (dest_of target q.0)) (nat_lt (most_bytes c.version) (length q.1)) beyond) refl)
     verb_fits verbs.At fs command h =
-        let make : Name → ℕ → List ℕ → Command = λ group site body. commands.Send (dests.OneAt group site) body in
+        let make : Ui → ℕ → List ℕ → Command = λ group site body. commands.Send (dests.OneAt group site) body in
         let q = inv_three make (name_in kinds.Group (field 0 fs)) (number_in (field 1 fs)) (body_in (field 2 fs)) command h in
         subst (CommandFits c verbs.At) q.6
         (λ beyond unknown two.
         let kind = (named kinds.Group (field 0 fs) q.0 q.3).0 in
         let site = one_of c.sites q.1 (or_second (is_far c q.0) (is_no_site c q.1) unknown) in
         let group = site_of kinds.Group (field 0 fs) q.0 q.3 (or_first (is_far c q.0) (is_no_site c q.1) unknown) in
-        command_by (make q.0 q.1 q.2) (and_join _ _ kind (demanded c.version c.sites q.1 site sites.of_version)) kind (and_join _ _ group site) (or_second (is_huge q.1) (nat_lt (most_bytes c.version) (length q.2)) beyond) refl)
+        command_by (make q.0 q.1 q.2) (and_join _ _ kind (demanded c.version c.sites q.1 site sites.of_version)) (and_join _ _ group site) (or_second (is_huge q.1) (nat_lt (most_bytes c.version) (length q.2)) beyond) refl)
     verb_fits verbs.Call fs command h =
         let q = inv_three commands.Call (name_in kinds.Port (field 0 fs)) (name_in kinds.Port (field 1 fs)) (body_in (field 2 fs)) command h in
         subst (CommandFits c verbs.Call) q.6
         (λ beyond unknown two.
-        command_by (commands.Call q.0 q.1 q.2) refl (and_join _ _ (named kinds.Port (field 0 fs) q.0 q.3).0 (named kinds.Port (field 1 fs) q.1 q.4).0)
+        command_by (commands.Call q.0 q.1 q.2) (and_join _ _ (named kinds.Port (field 0 fs) q.0 q.3).0 (named kinds.Port (field 1 fs) q.1 q.4).0)
         (and_join _ _ (site_of kinds.Port (field 0 fs) q.0 q.3 (or_first (is_far c q.0) (is_far c q.1) unknown)) (site_of kinds.Port (field 1 fs) q.1 q.4 (or_second (is_far c q.0) (is_far c q.1) unknown))) beyond refl)
-    verb_fits verbs.Retry fs command h = let same : commands.Retry ≡ command = cc in subst (CommandFits c verbs.Retry) same (λ beyond unknown two. command_by commands.Retry refl refl refl no_bytes refl)
-    verb_fits verbs.Cancel fs command h = let same : commands.Cancel ≡ command = cc in subst (CommandFits c verbs.Cancel) same (λ beyond unknown two. command_by commands.Cancel refl refl refl no_bytes refl)
+    verb_fits verbs.Retry fs command h = let same : commands.Retry ≡ command = cc in subst (CommandFits c verbs.Retry) same (λ beyond unknown two. command_by commands.Retry refl refl no_bytes refl)
+    verb_fits verbs.Cancel fs command h = let same : commands.Cancel ≡ command = cc in subst (CommandFits c verbs.Cancel) same (λ beyond unknown two. command_by commands.Cancel refl refl no_bytes refl)
     verb_fits verbs.Reply fs command h =
         let q = inv_map commands.Reply (body_in (field 0 fs)) command h in
-        subst (CommandFits c verbs.Reply) q.2 (λ beyond unknown two. command_by (commands.Reply q.0) refl refl refl beyond refl)
+        subst (CommandFits c verbs.Reply) q.2 (λ beyond unknown two. command_by (commands.Reply q.0) refl refl beyond refl)
     verb_fits verbs.Take fs command h =
         let q = inv_map commands.Take (name_in kinds.Port (field 0 fs)) command h in
         subst (CommandFits c verbs.Take) q.2
-        (λ beyond unknown two. command_by (commands.Take q.0) refl (named kinds.Port (field 0 fs) q.0 q.1).0 (site_of kinds.Port (field 0 fs) q.0 q.1 unknown) no_bytes refl)
+        (λ beyond unknown two. command_by (commands.Take q.0) (named kinds.Port (field 0 fs) q.0 q.1).0 (site_of kinds.Port (field 0 fs) q.0 q.1 unknown) no_bytes refl)
     verb_fits verbs.Move fs command h =
         let q = inv_two commands.Move (name_in kinds.Port (field 0 fs)) (name_in kinds.Actor (field 1 fs)) command h in
         subst (CommandFits c verbs.Move) q.4
         (λ beyond unknown two.
-        command_by (commands.Move q.0 q.1) refl (and_join _ _ (named kinds.Port (field 0 fs) q.0 q.2).0 (named kinds.Actor (field 1 fs) q.1 q.3).0)
+        command_by (commands.Move q.0 q.1) (and_join _ _ (named kinds.Port (field 0 fs) q.0 q.2).0 (named kinds.Actor (field 1 fs) q.1 q.3).0)
         (and_join _ _ (site_of kinds.Port (field 0 fs) q.0 q.2 (or_first (is_far c q.0) (is_no_actor c q.1) unknown)) (actor_of (field 1 fs) q.1 q.3 (or_second (is_far c q.0) (is_no_actor c q.1) unknown) sites)) no_bytes refl)
     verb_fits verbs.Delete fs command h =
         let q = inv_map commands.Delete (name_in kinds.Port (field 0 fs)) command h in
         subst (CommandFits c verbs.Delete) q.2
-        (λ beyond unknown two. command_by (commands.Delete q.0) refl (named kinds.Port (field 0 fs) q.0 q.1).0 (site_of kinds.Port (field 0 fs) q.0 q.1 unknown) no_bytes (two refl))
+        (λ beyond unknown two. command_by (commands.Delete q.0) (named kinds.Port (field 0 fs) q.0 q.1).0 (site_of kinds.Port (field 0 fs) q.0 q.1 unknown) no_bytes (two refl))
     verb_fits verbs.NewPort fs command h =
         let q = inv_two commands.Make (name_in kinds.Actor (field 0 fs)) (number_in (field 1 fs)) command h in
         subst (CommandFits c verbs.NewPort) q.4
-        (λ beyond unknown two. command_by (commands.Make q.0 q.1) (room q.1 beyond) (named kinds.Actor (field 0 fs) q.0 q.2).0 (actor_of (field 0 fs) q.0 q.2 unknown sites) no_bytes refl)
+        (λ beyond unknown two. command_by (commands.Make q.0 q.1) (and_join _ _ (named kinds.Actor (field 0 fs) q.0 q.2).0 (room q.1 beyond)) (actor_of (field 0 fs) q.0 q.2 unknown sites) no_bytes refl)
     verb_fits verbs.NewGroup fs command h =
         let q = inv_map commands.GroupMake (number_in (field 0 fs)) command h in
         subst (CommandFits c verbs.NewGroup) q.2
-        (λ beyond unknown two. command_by (commands.GroupMake q.0) refl refl (one_of c.sites q.0 unknown) no_bytes refl)
+        (λ beyond unknown two. command_by (commands.GroupMake q.0) refl (one_of c.sites q.0 unknown) no_bytes refl)
     verb_fits verbs.Join fs command h =
         let q = inv_two commands.Join (name_in kinds.Group (field 0 fs)) (name_in kinds.Port (field 1 fs)) command h in
         subst (CommandFits c verbs.Join) q.4
         (λ beyond unknown two.
-        command_by (commands.Join q.0 q.1) refl (and_join _ _ (named kinds.Group (field 0 fs) q.0 q.2).0 (named kinds.Port (field 1 fs) q.1 q.3).0)
+        command_by (commands.Join q.0 q.1) (and_join _ _ (named kinds.Group (field 0 fs) q.0 q.2).0 (named kinds.Port (field 1 fs) q.1 q.3).0)
         (and_join _ _ (site_of kinds.Group (field 0 fs) q.0 q.2 (or_first (is_far c q.0) (is_far c q.1) unknown)) (site_of kinds.Port (field 1 fs) q.1 q.3 (or_second (is_far c q.0) (is_far c q.1) unknown))) no_bytes refl)
     verb_fits verbs.Leave fs command h =
         let q = inv_two commands.Leave (name_in kinds.Group (field 0 fs)) (name_in kinds.Port (field 1 fs)) command h in
         subst (CommandFits c verbs.Leave) q.4
         (λ beyond unknown two.
-        command_by (commands.Leave q.0 q.1) refl (and_join _ _ (named kinds.Group (field 0 fs) q.0 q.2).0 (named kinds.Port (field 1 fs) q.1 q.3).0)
+        command_by (commands.Leave q.0 q.1) (and_join _ _ (named kinds.Group (field 0 fs) q.0 q.2).0 (named kinds.Port (field 1 fs) q.1 q.3).0)
         (and_join _ _ (site_of kinds.Group (field 0 fs) q.0 q.2 (or_first (is_far c q.0) (is_far c q.1) unknown)) (site_of kinds.Port (field 1 fs) q.1 q.3 (or_second (is_far c q.0) (is_far c q.1) unknown))) no_bytes refl)
 
-  known_of : (kind : Kind) (text : List ℕ) (u : Name) → name_in kind text ≡ Some u → not (is_known c u) ≡ false → (is_site c.sites u.site ≡ true) × (is_among u (made c) ≡ true)
+  known_of : (kind : Kind) (text : List ℕ) (u : Ui) → name_in kind text ≡ Some u → not (is_known c u) ≡ false → (is_site c.sites u.site ≡ true) × (is_among u (made c) ≡ true)
   known_of kind text u name known =
       let p = both (not (is_far c u)) (is_among u (made c)) (not_so (is_known c u) known) in
       (site_of kind text u name (un_not (is_far c u) p.0), p.1)
@@ -263,12 +264,12 @@ module _ (c : Scene) where
       let p = inv_three PortLine (name_in kinds.Port (field 0 fs)) (name_in kinds.Actor (field 1 fs)) (number_in (field 2 fs)) x h in
       subst (λ y. Clear c y → Fits c y) p.6 (λ k sites.
       let given = from_same_ui p.0 (next_port c.layout p.1 (made c)) (not_so (same_ui p.0 (next_port c.layout p.1 (made c))) k.order) in
-      and_join _ _ (and_join _ _ (room p.2 (or_first (is_no_capacity p.2) (nat_lt 32 p.0.number) k.limit)) (actor_of (field 1 fs) p.1 p.4 (or_second (is_far c p.0) (is_no_actor c p.1) k.unknown) sites)) (subst (λ (u : Name). nat_le u.number 32 ≡ true) given (at_most p.0.number 32 (or_second (is_no_capacity p.2) (nat_lt 32 p.0.number) k.limit))))
+      and_join _ _ (and_join _ _ (room p.2 (or_first (is_no_capacity p.2) (nat_lt 32 p.0.number) k.limit)) (actor_of (field 1 fs) p.1 p.4 (or_second (is_far c p.0) (is_no_actor c p.1) k.unknown) sites)) (subst (λ (u : Ui). nat_le u.number 32 ≡ true) given (at_most p.0.number 32 (or_second (is_no_capacity p.2) (nat_lt 32 p.0.number) k.limit))))
   line_fits words.Group fs x h two =
       let p = inv_map GroupLine (name_in kinds.Group (field 0 fs)) x h in
       subst (λ y. Clear c y → Fits c y) p.2 (λ k sites.
       let given = from_same_ui p.0 (next_group c.layout p.0.site (made c)) (not_so (same_ui p.0 (next_group c.layout p.0.site (made c))) k.order) in
-      and_join _ _ (site_of kinds.Group (field 0 fs) p.0 p.1 k.unknown) (subst (λ (u : Name). nat_le u.number 4 ≡ true) given (at_most p.0.number 4 k.limit)))
+      and_join _ _ (site_of kinds.Group (field 0 fs) p.0 p.1 k.unknown) (subst (λ (u : Ui). nat_le u.number 4 ≡ true) given (at_most p.0.number 4 k.limit)))
   line_fits words.Member fs x h two =
       let p = inv_two MemberLine (name_in kinds.Group (field 0 fs)) (name_in kinds.Port (field 1 fs)) x h in
       subst (λ y. Clear c y → Fits c y) p.4 (λ k sites.

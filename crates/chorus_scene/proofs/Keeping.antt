@@ -2,7 +2,7 @@
 use Rattle.std.proofs.Common.{◌≡◌, ℕ, zero, suc, ◌<◌, Bool, true, List, [], ◌∷◌, ◌++◌, length, get_or, sym, arith, subst, append_assoc}
 use Rattle.std.specs.List.{list_all}
 use Rattle.std.proofs.lemmas.List.{append-nil}
-use Rattle.chorus_ui.specs.Layout.{Shape}
+use Rattle.chorus_ui.specs.declared.layout.Layout.{Layout}
 use Rattle.chorus_scene.specs.declared.scenario.SetupLine.{SetupLine}
 use Rattle.chorus_scene.specs.declared.scenario.Step as step
 use Rattle.chorus_scene.specs.Scene.{Script}
@@ -14,7 +14,7 @@ all_at p [] i d h lt = absurd (omega arith)
 all_at p (y ∷ ys) zero d h lt = (both (p y) (list_all p ys) h).0
 all_at p (y ∷ ys) (suc i) d h lt = all_at p ys i d (both (p y) (list_all p ys) h).1 (omega arith)
 
-module _ (l : Shape) (n : ℕ) where
+module _ (l : Layout) (n : ℕ) where
   -- what is left keeps the limits too
   pub setup_behind : (before front rest : List SetupLine) → setup_keeps l n before (front ++ rest) ≡ true → setup_keeps l n (before ++ front) rest ≡ true
   setup_behind before [] rest h = subst (λ xs. setup_keeps l n xs rest ≡ true) (sym (append-nil before)) h

@@ -4,7 +4,7 @@ use Rattle.std.specs.Prelude.{nat_le}
 use Rattle.std.specs.List.{list_all}
 use Rattle.std.proofs.lemmas.Bool.Decides.{nat_tests}
 use Rattle.std.proofs.lemmas.List.{append-nil}
-use Rattle.chorus_ui.specs.Layout.{Shape}
+use Rattle.chorus_ui.specs.declared.layout.Layout.{Layout}
 use Rattle.chorus_entry.specs.declared.command.Command.{Command}
 use Rattle.chorus_scene.specs.declared.scenario.SetupLine.{SetupLine}
 use Rattle.chorus_scene.specs.declared.scenario.SetupLine.TheVariants as setups
@@ -33,7 +33,7 @@ all_set p [] i x h k = h
 all_set p (y ∷ ys) zero x h k = and_join _ _ k (both (p y) (list_all p ys) h).1
 all_set p (y ∷ ys) (suc i) x h k = let q = both (p y) (list_all p ys) h in and_join _ _ q.0 (all_set p ys i x q.1 k)
 
-module _ (l : Shape) (n : ℕ) where
+module _ (l : Layout) (n : ℕ) where
   setup_more : (before lines : List SetupLine) (line : SetupLine) → setup_keeps l n before lines ≡ true → setup_line_keeps l n (before ++ lines) line ≡ true → setup_keeps l n before (lines ++ line ∷ []) ≡ true
   setup_more before [] line h k = and_join _ _ (subst (λ xs. setup_line_keeps l n xs line ≡ true) (append-nil before) k) refl
   setup_more before (first ∷ lines) line h k =
@@ -53,13 +53,13 @@ so_few : (n m : ℕ) → n ≤ m → nat_le n m ≡ true
 so_few n m h = grind (arith, nat_tests)
 
 -- a command more in the last script
-script_more : (l : Shape) (version n : ℕ) (command : Command) (s : Script) → script_keeps l version n s ≡ true → command_keeps l version n command ≡ true → length s.commands < 4096 → script_keeps l version n (with_command command s) ≡ true
+script_more : (l : Layout) (version n : ℕ) (command : Command) (s : Script) → script_keeps l version n s ≡ true → command_keeps l version n command ≡ true → length s.commands < 4096 → script_keeps l version n (with_command command s) ≡ true
 script_more l version n command s h k lt =
     let p = both (is_actor_of l n s.actor && nat_le (length s.commands) 4096) (list_all (command_keeps l version n) s.commands) h in
     let q = both (is_actor_of l n s.actor) (nat_le (length s.commands) 4096) p.0 in
     and_join _ _ (and_join _ _ q.0 (so_few (length (s.commands ++ command ∷ [])) 4096 (omega (arith, length-append s.commands (command ∷ []))))) (all_more (command_keeps l version n) s.commands command p.1 k)
 
-last_more : (l : Shape) (version n : ℕ) (command : Command) (scripts : List Script) → 0 < length scripts → list_all (script_keeps l version n) scripts ≡ true → command_keeps l version n command ≡ true → length (last_script scripts).commands < 4096
+last_more : (l : Layout) (version n : ℕ) (command : Command) (scripts : List Script) → 0 < length scripts → list_all (script_keeps l version n) scripts ≡ true → command_keeps l version n command ≡ true → length (last_script scripts).commands < 4096
     → list_all (script_keeps l version n) (set scripts (length scripts - 1) (with_command command (last_script scripts))) ≡ true
 last_more l version n command scripts some h k lt =
     all_set (script_keeps l version n) scripts (length scripts - 1) (with_command command (last_script scripts)) h
@@ -88,13 +88,13 @@ bound_early : (s : State) → (s.section ≡ sections.Setup) ⊎ (s.section ≡ 
 bound_early s (inl e) w = bound_at sections.Setup s e w
 bound_early s (inr e) w = bound_at sections.Scripts s e w
 
-no_setup : (l : Shape) (n : ℕ) (lines : List SetupLine) → lines ≡ [] → setup_keeps l n [] lines ≡ true
+no_setup : (l : Layout) (n : ℕ) (lines : List SetupLine) → lines ≡ [] → setup_keeps l n [] lines ≡ true
 no_setup l n lines e = rw e refl
 
-no_scripts : (l : Shape) (version n : ℕ) (scripts : List Script) → scripts ≡ [] → list_all (script_keeps l version n) scripts ≡ true
+no_scripts : (l : Layout) (version n : ℕ) (scripts : List Script) → scripts ≡ [] → list_all (script_keeps l version n) scripts ≡ true
 no_scripts l version n scripts e = rw e refl
 
-no_steps : (l : Shape) (n : ℕ) (scripts : List Script) (schedule : List step.Step) → schedule ≡ [] → schedule_keeps l n scripts [] schedule ≡ true
+no_steps : (l : Layout) (n : ℕ) (scripts : List Script) (schedule : List step.Step) → schedule ≡ [] → schedule_keeps l n scripts [] schedule ≡ true
 no_steps l n scripts schedule e = rw e refl
 
 -- a line more

@@ -7,7 +7,7 @@ use Rattle.std.proofs.lemmas.Fmt.{decimal_digit}
 use Rattle.std.proofs.lemmas.Bool.Decides.{nat_tests}
 use Rattle.std.proofs.lemmas.Slice.Eq.{bytes_eq-Decides}
 use Rattle.chorus_ui.specs.Name.{same_ui}
-use Rattle.chorus_ui.specs.Layout.{Shape}
+use Rattle.chorus_ui.specs.declared.layout.Layout.{Layout}
 use Rattle.chorus_ui.proofs.Names.{from_same_ui}
 use Rattle.chorus_entry.specs.declared.command.Command.{Command}
 use Rattle.chorus_scene.specs.declared.scenario.Step.TheVariants as steps
@@ -345,7 +345,7 @@ lines_more (first ∷ ls) line h e =
     rw (p.0, r) refl
 
 -- the lines that a scenario so far is printed as say that scenario, and are no longer than those that were read
-pub record Prints (l : Shape) (s : State) (room : ℕ) : Type 0 where
+pub record Prints (l : Layout) (s : State) (room : ℕ) : Type 0 where
   pub layout : s.scene.layout ≡ l
   pub tidy : Tidy s
   pub pass : Pass (opening l) (texts_in s.section s.scene) s
@@ -364,7 +364,7 @@ layout_stays s ScheduleLine = refl
 layout_stays s (StepLine step) = refl
 layout_stays s EndLine = refl
 
-one_more : (l : Shape) (s u : State) (room : ℕ) (line : List ℕ) → Prints l s room → (s ≡ u) ⊎ Said s line u → Prints l u (room + (length line + 1))
+one_more : (l : Layout) (s u : State) (room : ℕ) (line : List ℕ) → Prints l s room → (s ≡ u) ⊎ Said s line u → Prints l u (room + (length line + 1))
 one_more l s u room line h (inl e) = subst (λ v. Prints l v (room + (length line + 1))) e (record { layout = h.layout; tidy = h.tidy; pass = h.pass; each = h.each; short = omega (arith, h.short) })
 one_more l s u room line h (inr d) =
     let g = grows s d.line d.stays.0 in
@@ -376,7 +376,7 @@ one_more l s u room line h (inr d) =
       short = subst (λ ls. total ls ≤ room + (length line + 1)) (sym g) (omega (arith, h.short, d.short, total-append (texts_in s.section s.scene) (text_of d.line ∷ [])));
     })
 
-prints : (l : Shape) (s t : State) (room : ℕ) (lines : List (List ℕ)) → Prints l s room → Pass s lines t → Prints l t (room + total lines)
+prints : (l : Layout) (s t : State) (room : ℕ) (lines : List (List ℕ)) → Prints l s room → Pass s lines t → Prints l t (room + total lines)
 prints l s t room [] h e = subst (λ v. Prints l v (room + 0)) e (record { layout = h.layout; tidy = h.tidy; pass = h.pass; each = h.each; short = omega (arith, h.short) })
 prints l s t room (line ∷ lines) h e =
     let more = prints l e.0 t (room + (length line + 1)) lines (one_more l s e.0 room line h (line_said s e.0 line (is_skipped line) (is_text line) refl refl h.tidy e.1)) e.2 in
@@ -403,7 +403,7 @@ inv_read : (b : Bool) (r : Result Scene (ℕ × ℕ)) (c : Scene) → cond b (Er
 inv_read true r c h = absurd cc
 inv_read false r c h = (refl, h)
 
-pub inv_text : (l : Shape) (text : List ℕ) (c : Scene) → read_scene l text ≡ Ok c → (ltb 4194304 (length text) ≡ false) × (judge 1 (opening l) (lines text) ≡ Ok c)
+pub inv_text : (l : Layout) (text : List ℕ) (c : Scene) → read_scene l text ≡ Ok c → (ltb 4194304 (length text) ≡ false) × (judge 1 (opening l) (lines text) ≡ Ok c)
 unfolding read_scene
 inv_text l text c h = inv_read (ltb 4194304 (length text)) (judge 1 (opening l) (lines text)) c h
 
@@ -434,4 +434,4 @@ printed_again l text c h =
     let less : length (printed c) ≤ length text = omega (arith, short, long, all) in
     let kept : c.layout ≡ l = ap (λ (d : Scene). d.layout) (sym p.3) ∙ q.layout in
     let again : read_scene l (printed c) ≡ Ok c = accepted l (printed c) t (omega (arith, less, within (length text) i.0)) pass p.2 ∙ ap Ok p.3 in
-    (kept, less, subst (λ (k : Shape). read_scene k (printed c) ≡ Ok c) (sym kept) again)
+    (kept, less, subst (λ (k : Layout). read_scene k (printed c) ≡ Ok c) (sym kept) again)

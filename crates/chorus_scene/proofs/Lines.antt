@@ -1,7 +1,7 @@
 -- The first line of a text, and the lines behind it.
 use Rattle.std.proofs.Common.{◌≡◌, ℕ, ◌+◌, ◌<◌, ◌≤◌, Bool, true, false, cond, eqb, ltb, List, [], ◌∷◌, length, Option, Some, None, Result, Ok, Err, refl, sym, ap, ◌∙◌, arith, subst}
 use Rattle.std.specs.Prelude.{unwrap_or}
-use Rattle.chorus_ui.specs.Layout.{Shape}
+use Rattle.chorus_ui.specs.declared.layout.Layout.{Layout}
 use Rattle.chorus_scene.specs.declared.fault.Stop.{Stop}
 use Rattle.chorus_scene.specs.declared.fault.Stop.TheVariants as stops
 use Rattle.chorus_scene.specs.Reader.{Fails, fault_at}
@@ -81,10 +81,10 @@ not_ended sections.Scripts h = refl
 not_ended sections.Schedule h = refl
 
 -- what reading a text that is not too long judges
-pub read_is : (l : Shape) (text : List ℕ) → length text ≤ 4194304 → read_scene l text ≡ judge 1 (opening l) (lines text)
+pub read_is : (l : Layout) (text : List ℕ) → length text ≤ 4194304 → read_scene l text ≡ judge 1 (opening l) (lines text)
 unfolding read_scene
 read_is l text h = let t : ltb 4194304 (length text) ≡ false = grind (arith, nat_tests) in rw t refl
 
-pub too_long : (l : Shape) (text : List ℕ) → 4194304 < length text → read_scene l text ≡ Err (0, 6)
+pub too_long : (l : Layout) (text : List ℕ) → 4194304 < length text → read_scene l text ≡ Err (0, 6)
 unfolding read_scene
 too_long l text h = let t : ltb 4194304 (length text) ≡ true = grind (arith, nat_tests) in rw t refl

@@ -1,7 +1,7 @@
 -- Lines that fail no test are judged one after the other.
 use Rattle.std.proofs.Common.{◌≡◌, ℕ, ◌+◌, ◌≤◌, List, [], ◌∷◌, ◌++◌, length, Result, Ok, Err, refl, sym, ap, ◌∙◌, arith, cond}
 use Rattle.std.proofs.lemmas.List.{append-nil}
-use Rattle.chorus_ui.specs.Layout.{Shape}
+use Rattle.chorus_ui.specs.declared.layout.Layout.{Layout}
 use Rattle.chorus_scene.specs.Scene.{Scene}
 use Rattle.chorus_scene.specs.Text.{lines}
 use Rattle.chorus_scene.specs.Grammar.{State, opening, judge, read_scene, reason_number, is_ended}
@@ -18,7 +18,7 @@ unfolding judge
 first_fault l text front line rest s reason small e pass fails =
     read_is l text small ∙ ap (judge 1 (opening l)) e ∙ passed 1 (opening l) s front (line ∷ rest) pass ∙ rw fails (ap (λ n. Err (n, reason_number reason)) (omega arith))
 
-all : (l : Shape) (text : List ℕ) (s : State) → length text ≤ 4194304 → Pass (opening l) (lines text) s → read_scene l text ≡ cond (is_ended s.section) (Ok s.scene) (Err (length (lines text) + 1, 9))
+all : (l : Layout) (text : List ℕ) (s : State) → length text ≤ 4194304 → Pass (opening l) (lines text) s → read_scene l text ≡ cond (is_ended s.section) (Ok s.scene) (Err (length (lines text) + 1, 9))
 unfolding judge
 all l text s small pass =
     read_is l text small ∙ ap (judge 1 (opening l)) (sym (append-nil (lines text))) ∙ passed 1 (opening l) s (lines text) [] pass

@@ -5,8 +5,8 @@ use Rattle.std.specs.List.{flat_map}
 use Rattle.std.proofs.Math.Seq.{take-suc}
 use Rattle.std.proofs.lemmas.List.{append-nil, map_push}
 use Rattle.std.proofs.lemmas.Grind.{common_steps, flat_map-append}
-use Rattle.chorus_ui.specs.Name.{Name}
-use Rattle.chorus_ui.specs.Layout.{Shape}
+use Rattle.chorus_ui.specs.declared.ui.Ui.{Ui}
+use Rattle.chorus_ui.specs.declared.layout.Layout.{Layout}
 use Rattle.chorus_entry.specs.declared.command.Command.{Command}
 use Rattle.chorus_scene.specs.declared.scenario.SetupLine.{SetupLine}
 use Rattle.chorus_scene.specs.Scene.{Scene}
@@ -27,7 +27,7 @@ commands_on start out first xs i x lt is so_far =
     ∙ append_assoc start (all_ended (first ∷ map command_text (take i xs))) (command_text x ++ 10 ∷ [])
     ∙ ap (λ t. start ++ t) (sym (ended_more (first ∷ map command_text (take i xs)) (command_text x)) ∙ ap (λ ts. all_ended (first ∷ ts)) (sym texts))
 
-pub setup_on : (out : List ℕ) (total : List ℕ) (names : List Name) (lines : List SetupLine) (i : ℕ) (line : SetupLine) (n : Name) → i < length names → i < length lines → line ≡ get_or lines i line → n ≡ get_or names i n
+pub setup_on : (out : List ℕ) (total : List ℕ) (names : List Ui) (lines : List SetupLine) (i : ℕ) (line : SetupLine) (n : Ui) → i < length names → i < length lines → line ≡ get_or lines i line → n ≡ get_or names i n
     → out ++ all_ended (said_texts (drop i names) (drop i lines)) ≡ total → ((out ++ said_text n line) ++ 10 ∷ []) ++ all_ended (said_texts (drop (i + 1) names) (drop (i + 1) lines)) ≡ total
 setup_on out total names lines i line n a b line-is name-is so_far =
     let d : drop i lines ≡ line ∷ drop (i + 1) lines = rw (add-one i) (drop-cons lines i line b) ∙ ap (λ x. x ∷ drop (i + 1) lines) (sym line-is) in
@@ -37,17 +37,17 @@ setup_on out total names lines i line n a b line-is name-is so_far =
     ∙ ap (λ t. out ++ t) (sym (append_assoc (said_text n line) (10 ∷ []) rest))
     ∙ ap (λ ns. out ++ all_ended (said_texts ns (line ∷ drop (i + 1) lines))) (sym e) ∙ ap (λ ls. out ++ all_ended (said_texts (drop i names) ls)) (sym d) ∙ so_far
 
-pub setup_end : (out : List ℕ) (total : List ℕ) (names : List Name) (lines : List SetupLine) (i : ℕ) → length names ≤ i → out ++ all_ended (said_texts (drop i names) (drop i lines)) ≡ total → out ≡ total
+pub setup_end : (out : List ℕ) (total : List ℕ) (names : List Ui) (lines : List SetupLine) (i : ℕ) → length names ≤ i → out ++ all_ended (said_texts (drop i names) (drop i lines)) ≡ total → out ≡ total
 setup_end out total names lines i le so_far =
     let d : drop i names ≡ [] = grind (arith, common_steps) in
     sym (append-nil out) ∙ ap (λ ns. out ++ all_ended (said_texts ns (drop i lines))) (sym d) ∙ so_far
 
 -- the names of a setup are as many as its lines, and say its texts
-pub length-names_said : (l : Shape) (made : List Name) (lines : List SetupLine) → length (names_said l made lines) ≡ length lines
+pub length-names_said : (l : Layout) (made : List Ui) (lines : List SetupLine) → length (names_said l made lines) ≡ length lines
 length-names_said l made [] = refl
 length-names_said l made (line ∷ lines) = let h = length-names_said l (made ++ makes l made line) lines in omega arith
 
-texts_said : (l : Shape) (made : List Name) (lines : List SetupLine) → said_texts (names_said l made lines) lines ≡ setup_texts l made lines
+texts_said : (l : Layout) (made : List Ui) (lines : List SetupLine) → said_texts (names_said l made lines) lines ≡ setup_texts l made lines
 texts_said l made [] = refl
 texts_said l made (line ∷ lines) = ap (λ ts. said_text (name_said l made line) line ∷ ts) (texts_said l (made ++ makes l made line) lines)
 
@@ -63,7 +63,7 @@ regroup : (s v u c d e : List ℕ) → ((((s ++ v) ++ u) ++ c) ++ d) ++ e ≡ s 
 regroup s v u c d e = simp append_assoc
 
 -- the text of a scenario, part by part
-pub printed_parts : (c : Scene) (start out : List ℕ) (names : List Name) → names ≡ names_said c.layout [] c.setup
+pub printed_parts : (c : Scene) (start out : List ℕ) (names : List Ui) → names ≡ names_said c.layout [] c.setup
     → out ≡ (((start ++ all_ended (version_text c.version ∷ sites_text c.sites ∷ [])) ++ all_ended (said_texts names c.setup)) ++ all_ended (flat_map script_texts c.scripts)) ++ all_ended (codes "schedule" ∷ map step_text c.schedule)
     → out ++ codes "end" ≡ start ++ printed c
 printed_parts c start out names is parts =

@@ -3,8 +3,8 @@ use Rattle.std.proofs.Common.{◌≡◌, ℕ, zero, suc, ◌+◌, ◌-◌, ◌<�
 use Rattle.std.specs.Prelude.{codes}
 use Rattle.std.specs.List.{flat_map}
 use Rattle.std.proofs.lemmas.List.{map_push, append-nil}
-use Rattle.chorus_ui.specs.Name.{Name}
-use Rattle.chorus_ui.specs.Layout.{Shape}
+use Rattle.chorus_ui.specs.declared.ui.Ui.{Ui}
+use Rattle.chorus_ui.specs.declared.layout.Layout.{Layout}
 use Rattle.chorus_entry.specs.declared.command.Command.{Command}
 use Rattle.chorus_scene.specs.declared.word.Section.{Section}
 use Rattle.chorus_scene.specs.declared.word.Section.TheVariants as sections
@@ -25,7 +25,7 @@ texts_in sections.Scripts c = before_schedule c
 texts_in sections.Schedule c = before_schedule c ++ codes "schedule" ∷ map step_text c.schedule
 texts_in sections.Ended c = scene_texts c
 
-setup_more : (l : Shape) (made : List Name) (lines : List SetupLine) (line : SetupLine) → setup_texts l made (lines ++ line ∷ []) ≡ setup_texts l made lines ++ setup_text l (made_after l made lines) line ∷ []
+setup_more : (l : Layout) (made : List Ui) (lines : List SetupLine) (line : SetupLine) → setup_texts l made (lines ++ line ∷ []) ≡ setup_texts l made lines ++ setup_text l (made_after l made lines) line ∷ []
 setup_more l made [] line = refl
 setup_more l made (first ∷ lines) line = ap (λ rest. setup_text l made first ∷ rest) (setup_more l (made ++ makes l made first) lines line)
 

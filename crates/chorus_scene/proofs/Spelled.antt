@@ -4,7 +4,7 @@ use Rattle.std.proofs.lemmas.Bool.Decides.{nat_tests}
 use Rattle.std.proofs.lemmas.List.{append-nil}
 use Rattle.chorus_ui.specs.declared.kind.Kind.{Kind}
 use Rattle.chorus_ui.specs.Kind.{same_kind}
-use Rattle.chorus_ui.specs.Name.{Name}
+use Rattle.chorus_ui.specs.declared.ui.Ui.{Ui}
 use Rattle.chorus_ui.specs.Text.{name_text, parse_name}
 use Rattle.chorus_ui.proofs.Texts.{parse_name_some}
 use Rattle.chorus_scene.specs.Text.{cut, fields, lines, in_front, each_byte}
@@ -137,14 +137,14 @@ length_joined line [] = omega arith
 length_joined line (second ∷ ls) = let h = length_joined second ls in let e = length-append line (10 ∷ joined (second ∷ ls)) in omega arith
 
 -- names
-kind_by : (b : Bool) (v u : Name) → cond b (Some v) None ≡ Some u → v ≡ u
+kind_by : (b : Bool) (v u : Ui) → cond b (Some v) None ≡ Some u → v ≡ u
 kind_by true v u h = cc
 kind_by false v u h = absurd cc
 
-inv_kind : (k : Kind) (o : Option Name) (u : Name) → if_of_kind k o ≡ Some u → o ≡ Some u
+inv_kind : (k : Kind) (o : Option Ui) (u : Ui) → if_of_kind k o ≡ Some u → o ≡ Some u
 inv_kind k None u h = absurd cc
 inv_kind k (Some v) u h = ap Some (kind_by (same_kind v.kind k) v u h)
 
 -- a name is spelled in one way
-pub spelled_name : (k : Kind) (text : List ℕ) (u : Name) → name_in k text ≡ Some u → name_text u ≡ text
-spelled_name k text u h = subst (λ (o : Option Name). IfSome o (λ v. name_text v ≡ text)) (inv_kind k (parse_name text) u h) (parse_name_some text)
+pub spelled_name : (k : Kind) (text : List ℕ) (u : Ui) → name_in k text ≡ Some u → name_text u ≡ text
+spelled_name k text u h = subst (λ (o : Option Ui). IfSome o (λ v. name_text v ≡ text)) (inv_kind k (parse_name text) u h) (parse_name_some text)

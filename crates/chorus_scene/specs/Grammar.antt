@@ -2,8 +2,9 @@
 use Rattle.std.specs.Prelude.{◌≡◌, ℕ, ◌+◌, ◌*◌, ◌-◌, ◌^◌, Bool, true, false, not, ◌&&◌, ◌||◌, List, [], ◌∷◌, ◌++◌, length, Option, Some, None, Result, Ok, Err, nat_lt, nat_le, ◌==◌, if◌then◌else◌, codes, slice_index_or, slice_set, count_by}
 use Rattle.std.specs.Str.{bytes_eq}
 use Rattle.chorus_ui.specs.declared.kind.Kind.TheVariants as kinds
-use Rattle.chorus_ui.specs.Name.{Name, same_ui}
-use Rattle.chorus_ui.specs.Layout.{Shape}
+use Rattle.chorus_ui.specs.Name.{same_ui}
+use Rattle.chorus_ui.specs.declared.ui.Ui.{Ui}
+use Rattle.chorus_ui.specs.declared.layout.Layout.{Layout}
 use Rattle.chorus_entry.specs.declared.dest.Dest.{Dest}
 use Rattle.chorus_entry.specs.declared.dest.Dest.TheVariants as dests
 use Rattle.chorus_entry.specs.declared.command.Command.{Command}
@@ -17,10 +18,7 @@ use Rattle.chorus_scene.specs.declared.word.Section.{Section}
 use Rattle.chorus_scene.specs.declared.word.Section.TheVariants as sections
 use Rattle.chorus_scene.specs.declared.word.Reason.{Reason}
 use Rattle.chorus_scene.specs.declared.word.Reason.TheVariants as reasons
-use Rattle.chorus_ui.specs.declared.layout.TheConstants.{MAX_SITES, ACTORS_PER_SITE, PORTS_PER_SITE, GROUPS_PER_SITE}
-use Rattle.chorus_entry.specs.declared.body.TheConstants.{BODY_LIMIT}
-use Rattle.chorus_entry.specs.declared.members.TheConstants.{MEMBERS_LIMIT}
-use Rattle.chorus_entry.specs.declared.record.pending.TheConstants.{PENDING_LIMIT}
+use Rattle.chorus_ui.specs.declared.limits.TheConstants.{SITES_LIMIT, ACTORS_PER_SITE_LIMIT, PORTS_PER_SITE_LIMIT, GROUPS_PER_SITE_LIMIT, BODY_LIMIT, MEMBERS_LIMIT, PENDING_LIMIT}
 use Rattle.chorus_scene.specs.declared.limits.TheConstants.{TEXT_LIMIT, VERSION_ONE_SITES, VERSION_ONE_BODY, SCRIPTS_LIMIT, COMMANDS_LIMIT, STEPS_LIMIT}
 use Rattle.chorus_scene.specs.declared.fault.ReadFault.{ReadFault}
 use Rattle.chorus_scene.specs.declared.fault.ReadFault.TheVariants as faults
@@ -34,11 +32,11 @@ pub record State : Type 0 where
   pub section : Section
   pub scene : Scene
 
-abbrev pub opening : Shape → State
+abbrev pub opening : Layout → State
 opening l = record { section = sections.Head; scene = record { layout = l; version = 0; sites = 0; setup = []; scripts = []; schedule = [] } }
 
 -- the names that the setup lines so far have made
-abbrev pub made : Scene → List Name
+abbrev pub made : Scene → List Ui
 made c = made_after c.layout [] c.setup
 
 abbrev pub no_script : Script
@@ -56,7 +54,7 @@ is_step k (steps.Step n) = n == k
 is_step k _ = false
 
 abbrev pub most_sites : ℕ → ℕ
-most_sites version = if version == 1 then VERSION_ONE_SITES else MAX_SITES
+most_sites version = if version == 1 then VERSION_ONE_SITES else SITES_LIMIT
 
 abbrev pub most_bytes : ℕ → ℕ
 most_bytes version = if version == 1 then VERSION_ONE_BODY else BODY_LIMIT
@@ -93,8 +91,8 @@ last_is_full c = nat_le COMMANDS_LIMIT (length (last_script c.scripts).commands)
 -- test 7: a number or a count is beyond its limit
 abbrev pub is_beyond : Scene → Line → Bool
 is_beyond c (SitesLine n) = (n == 0) || nat_lt c.layout.sites n || nat_lt (most_sites c.version) n
-is_beyond c (PortLine u actor capacity) = is_no_capacity capacity || nat_lt PORTS_PER_SITE u.number
-is_beyond c (GroupLine u) = nat_lt GROUPS_PER_SITE u.number
+is_beyond c (PortLine u actor capacity) = is_no_capacity capacity || nat_lt PORTS_PER_SITE_LIMIT u.number
+is_beyond c (GroupLine u) = nat_lt GROUPS_PER_SITE_LIMIT u.number
 is_beyond c (MemberLine group port) = nat_le MEMBERS_LIMIT (length (members_of group c.setup))
 is_beyond c (ScriptLine actor) = nat_le SCRIPTS_LIMIT (length c.scripts)
 is_beyond c (CommandLine command) = last_is_full c || command_is_beyond c.version command
@@ -102,17 +100,17 @@ is_beyond c (StepLine step) = nat_le STEPS_LIMIT (length c.schedule) || step_is_
 is_beyond c _ = false
 
 -- on a site above the last
-abbrev pub is_far : Scene → Name → Bool
+abbrev pub is_far : Scene → Ui → Bool
 is_far c u = nat_lt c.sites u.site
 
-abbrev pub is_no_actor : Scene → Name → Bool
-is_no_actor c actor = is_far c actor || nat_lt ACTORS_PER_SITE actor.number
+abbrev pub is_no_actor : Scene → Ui → Bool
+is_no_actor c actor = is_far c actor || nat_lt ACTORS_PER_SITE_LIMIT actor.number
 
 abbrev pub is_no_site : Scene → ℕ → Bool
 is_no_site c site = (site == 0) || nat_lt c.sites site
 
 -- its site is one of the scenario's, and an earlier line made it
-abbrev pub is_known : Scene → Name → Bool
+abbrev pub is_known : Scene → Ui → Bool
 is_known c u = not (is_far c u) && is_among u (made c)
 
 abbrev pub dest_is_unknown : Scene → Dest → Bool
@@ -274,7 +272,7 @@ judge n s [] = if is_ended s.section then Ok s.scene else Err (n, reason_number 
 judge n s (line ∷ lines) = or_at n (next s line) (λ t. judge (n + 1) t lines)
 
 -- the scenario that a text says for a layout, or the line and the reason of its fault
-unfoldable pub read_scene : Shape → List ℕ → Result Scene (ℕ × ℕ)
+unfoldable pub read_scene : Layout → List ℕ → Result Scene (ℕ × ℕ)
 read_scene l text = if nat_lt TEXT_LIMIT (length text) then Err (0, reason_number reasons.Limit) else judge 1 (opening l) (lines text)
 
 -- what reading returned is what the definition says, unless memory ran out

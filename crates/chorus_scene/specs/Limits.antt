@@ -1,16 +1,16 @@
 -- The limits that a scenario keeps, whatever text said it.
 use Rattle.std.specs.Prelude.{◌≡◌, ℕ, ◌≤◌, ◌*◌, Bool, true, not, ◌&&◌, List, [], ◌∷◌, ◌++◌, length, Ok, nat_lt, nat_le, ◌==◌, count_by}
 use Rattle.std.specs.List.{list_all}
-use Rattle.chorus_ui.specs.Name.{Name}
-use Rattle.chorus_ui.specs.Layout.{Shape, has_actor}
-use Rattle.chorus_ui.specs.declared.layout.TheConstants.{PORTS_PER_SITE, GROUPS_PER_SITE}
-use Rattle.chorus_entry.specs.declared.members.TheConstants.{MEMBERS_LIMIT}
+use Rattle.chorus_ui.specs.declared.ui.Ui.{Ui}
+use Rattle.chorus_ui.specs.Layout.{has_actor}
+use Rattle.chorus_ui.specs.declared.layout.Layout.{Layout}
+use Rattle.chorus_ui.specs.declared.limits.TheConstants.{PORTS_PER_SITE_LIMIT, GROUPS_PER_SITE_LIMIT, MEMBERS_LIMIT}
 use Rattle.chorus_entry.specs.declared.dest.Dest.{Dest}
 use Rattle.chorus_entry.specs.declared.dest.Dest.TheVariants as dests
 use Rattle.chorus_entry.specs.declared.command.Command.{Command}
 use Rattle.chorus_entry.specs.declared.command.Command.TheVariants as commands
 use Rattle.chorus_entry.specs.Kinds.{names_actor, names_port, names_group}
-use Rattle.chorus_entry.specs.Command.{is_capacity, meets_conditions, has_kinds_in_command}
+use Rattle.chorus_entry.specs.Command.{is_capacity, meets_conditions}
 use Rattle.chorus_scene.specs.declared.scenario.SetupLine.{SetupLine}
 use Rattle.chorus_scene.specs.declared.scenario.SetupLine.TheVariants as setups
 use Rattle.chorus_scene.specs.declared.scenario.Step as step
@@ -25,11 +25,11 @@ abbrev pub is_site : ℕ → ℕ → Bool
 is_site n site = nat_le 1 site && nat_le site n
 
 -- an actor that the layout has, on one of n sites
-abbrev pub is_actor_of : Shape → ℕ → Name → Bool
+abbrev pub is_actor_of : Layout → ℕ → Ui → Bool
 is_actor_of l n actor = names_actor actor && has_actor l actor && is_site n actor.site
 
 -- one of the places of n sites
-abbrev pub is_place_of : Shape → ℕ → ℕ → Bool
+abbrev pub is_place_of : Layout → ℕ → ℕ → Bool
 is_place_of l n place = nat_le 1 place && nat_le place (n * l.turns)
 
 -- the destination's name is of one of n sites, and so is the site that it demands
@@ -40,7 +40,7 @@ dest_is_of n (dests.One group) = is_site n group.site
 dest_is_of n (dests.OneAt group site) = is_site n group.site && is_site n site
 
 -- what the command names is of one of n sites, and its actor is the layout's
-abbrev pub command_is_of : Shape → ℕ → Command → Bool
+abbrev pub command_is_of : Layout → ℕ → Command → Bool
 command_is_of l n (commands.Make actor capacity) = is_actor_of l n actor
 command_is_of l n (commands.Send dest body) = dest_is_of n dest
 command_is_of l n (commands.Call port back body) = is_site n port.site && is_site n back.site
@@ -66,38 +66,38 @@ abbrev pub is_of_version : ℕ → Command → Bool
 is_of_version version (commands.Delete port) = version == 2
 is_of_version version _ = true
 
-abbrev pub command_keeps : Shape → ℕ → ℕ → Command → Bool
+abbrev pub command_keeps : Layout → ℕ → ℕ → Command → Bool
 command_keeps l version n command =
-    meets_conditions command && has_kinds_in_command command && command_is_of l n command
+    meets_conditions command && command_is_of l n command
     && nat_le (length (bytes_sent command)) (most_bytes version) && is_of_version version command
 
-abbrev pub script_keeps : Shape → ℕ → ℕ → Script → Bool
+abbrev pub script_keeps : Layout → ℕ → ℕ → Script → Bool
 script_keeps l version n script =
     is_actor_of l n script.actor && nat_le (length script.commands) COMMANDS_LIMIT && list_all (command_keeps l version n) script.commands
 
 -- a line of the setup, where these lines stand before it
-abbrev pub setup_line_keeps : Shape → ℕ → List SetupLine → SetupLine → Bool
+abbrev pub setup_line_keeps : Layout → ℕ → List SetupLine → SetupLine → Bool
 setup_line_keeps l n before (setups.Port actor capacity) =
-    is_capacity capacity && is_actor_of l n actor && nat_le (next_port l actor (made_after l [] before)).number PORTS_PER_SITE
+    is_capacity capacity && is_actor_of l n actor && nat_le (next_port l actor (made_after l [] before)).number PORTS_PER_SITE_LIMIT
 setup_line_keeps l n before (setups.Group site) =
-    is_site n site && nat_le (next_group l site (made_after l [] before)).number GROUPS_PER_SITE
+    is_site n site && nat_le (next_group l site (made_after l [] before)).number GROUPS_PER_SITE_LIMIT
 setup_line_keeps l n before (setups.Member group port) =
     names_group group && names_port port && is_site n group.site && is_site n port.site
     && is_among group (made_after l [] before) && is_among port (made_after l [] before)
     && nat_lt (length (members_of group before)) MEMBERS_LIMIT && not (is_among port (members_of group before))
 
-abbrev pub setup_keeps : Shape → ℕ → List SetupLine → List SetupLine → Bool
+abbrev pub setup_keeps : Layout → ℕ → List SetupLine → List SetupLine → Bool
 setup_keeps l n before [] = true
 setup_keeps l n before (line ∷ lines) = setup_line_keeps l n before line && setup_keeps l n (before ++ line ∷ []) lines
 
 -- a step, where these steps stand before it: its script has a command left, and its two places differ
-abbrev pub step_keeps : Shape → ℕ → List Script → List step.Step → step.Step → Bool
+abbrev pub step_keeps : Layout → ℕ → List Script → List step.Step → step.Step → Bool
 step_keeps l n scripts before (steps.Step k) =
     nat_le 1 k && nat_le k (length scripts) && nat_lt (count_by (is_step k) before) (length (script_at k scripts).commands)
 step_keeps l n scripts before (steps.Deliver from to) = is_place_of l n from && is_place_of l n to && not (from == to)
 step_keeps l n scripts before steps.Drain = true
 
-abbrev pub schedule_keeps : Shape → ℕ → List Script → List step.Step → List step.Step → Bool
+abbrev pub schedule_keeps : Layout → ℕ → List Script → List step.Step → List step.Step → Bool
 schedule_keeps l n scripts before [] = true
 schedule_keeps l n scripts before (step ∷ rest) = step_keeps l n scripts before step && schedule_keeps l n scripts (before ++ step ∷ []) rest
 
@@ -116,4 +116,4 @@ pub record Keeps (c : Scene) : Type 0 where
 
 -- a scenario that was read keeps them
 abbrev pub ReadKeeps : Type 0
-ReadKeeps = (l : Shape) (text : List ℕ) (c : Scene) → read_scene l text ≡ Ok c → Keeps c
+ReadKeeps = (l : Layout) (text : List ℕ) (c : Scene) → read_scene l text ≡ Ok c → Keeps c

@@ -4,7 +4,7 @@ use Rattle.std.specs.Str.{bytes_eq}
 use Rattle.chorus_ui.specs.declared.kind.Kind.{Kind}
 use Rattle.chorus_ui.specs.declared.kind.Kind.TheVariants as kinds
 use Rattle.chorus_ui.specs.Kind.{same_kind}
-use Rattle.chorus_ui.specs.Name.{Name}
+use Rattle.chorus_ui.specs.declared.ui.Ui.{Ui}
 use Rattle.chorus_ui.specs.Text.{parse_name}
 use Rattle.chorus_entry.specs.declared.dest.Dest.{Dest}
 use Rattle.chorus_entry.specs.declared.dest.Dest.TheVariants as dests
@@ -133,10 +133,10 @@ is_misshapen version w fields =
 pub data Line : Type 0 where
   VersionLine : ℕ → Line
   SitesLine : ℕ → Line
-  PortLine : Name → Name → ℕ → Line
-  GroupLine : Name → Line
-  MemberLine : Name → Name → Line
-  ScriptLine : Name → Line
+  PortLine : Ui → Ui → ℕ → Line
+  GroupLine : Ui → Line
+  MemberLine : Ui → Ui → Line
+  ScriptLine : Ui → Line
   CommandLine : Command → Line
   ScheduleLine : Line
   StepLine : step.Step → Line
@@ -154,12 +154,12 @@ with_three f (Some a) None c = None
 with_three f None b c = None
 
 -- it, where it is of this kind
-abbrev pub if_of_kind : Kind → Option Name → Option Name
+abbrev pub if_of_kind : Kind → Option Ui → Option Ui
 if_of_kind kind None = None
 if_of_kind kind (Some u) = if same_kind u.kind kind then Some u else None
 
 -- the name of this kind that is spelled so
-abbrev pub name_in : Kind → List ℕ → Option Name
+abbrev pub name_in : Kind → List ℕ → Option Ui
 name_in kind text = if_of_kind kind (parse_name text)
 
 abbrev pub target_kind : Target → Kind
@@ -167,7 +167,7 @@ target_kind targets.Port = kinds.Port
 target_kind targets.All = kinds.Group
 target_kind targets.One = kinds.Group
 
-abbrev pub dest_of : Target → Name → Dest
+abbrev pub dest_of : Target → Ui → Dest
 dest_of targets.Port port = dests.Port port
 dest_of targets.All group = dests.All group
 dest_of targets.One group = dests.One group

@@ -1,9 +1,9 @@
 -- The one text of a scenario.
 use Rattle.std.specs.Prelude.{◌≡◌, ℕ, List, [], ◌∷◌, ◌++◌, map, Ok, codes, decimal}
 use Rattle.std.specs.List.{flat_map}
-use Rattle.chorus_ui.specs.Name.{Name}
+use Rattle.chorus_ui.specs.declared.ui.Ui.{Ui}
 use Rattle.chorus_ui.specs.Text.{name_text}
-use Rattle.chorus_ui.specs.Layout.{Shape}
+use Rattle.chorus_ui.specs.declared.layout.Layout.{Layout}
 use Rattle.chorus_entry.specs.declared.dest.Dest.{Dest}
 use Rattle.chorus_entry.specs.declared.dest.Dest.TheVariants as dests
 use Rattle.chorus_entry.specs.declared.command.Command.{Command}
@@ -49,29 +49,29 @@ version_text v = codes "chorus" ++ behind (decimal v ∷ [])
 abbrev pub sites_text : ℕ → List ℕ
 sites_text n = codes "sites" ++ behind (decimal n ∷ [])
 
-abbrev pub port_text : Name → Name → ℕ → List ℕ
+abbrev pub port_text : Ui → Ui → ℕ → List ℕ
 port_text u actor capacity = codes "port" ++ behind (name_text u ∷ name_text actor ∷ decimal capacity ∷ [])
 
-abbrev pub group_text : Name → List ℕ
+abbrev pub group_text : Ui → List ℕ
 group_text u = codes "group" ++ behind (name_text u ∷ [])
 
-abbrev pub member_text : Name → Name → List ℕ
+abbrev pub member_text : Ui → Ui → List ℕ
 member_text group port = codes "member" ++ behind (name_text group ∷ name_text port ∷ [])
 
-abbrev pub actor_text : Name → List ℕ
+abbrev pub actor_text : Ui → List ℕ
 actor_text actor = codes "script" ++ behind (name_text actor ∷ [])
 
 -- a line of the setup that begins with this name
-abbrev pub said_text : Name → SetupLine → List ℕ
+abbrev pub said_text : Ui → SetupLine → List ℕ
 said_text name (setups.Port actor capacity) = port_text name actor capacity
 said_text name (setups.Group site) = group_text name
 said_text name (setups.Member group port) = member_text name port
 
 -- the line that makes something says the name that the making gives, where these were made before
-abbrev pub setup_text : Shape → List Name → SetupLine → List ℕ
+abbrev pub setup_text : Layout → List Ui → SetupLine → List ℕ
 setup_text l made line = said_text (name_said l made line) line
 
-abbrev pub setup_texts : Shape → List Name → List SetupLine → List (List ℕ)
+abbrev pub setup_texts : Layout → List Ui → List SetupLine → List (List ℕ)
 setup_texts l made [] = []
 setup_texts l made (line ∷ lines) = setup_text l made line ∷ setup_texts l (made ++ makes l made line) lines
 
@@ -126,7 +126,7 @@ abbrev pub all_ended : List (List ℕ) → List ℕ
 all_ended lines = flat_map ended lines
 
 -- the lines of a setup, where these are the names that they begin with
-abbrev pub said_texts : List Name → List SetupLine → List (List ℕ)
+abbrev pub said_texts : List Ui → List SetupLine → List (List ℕ)
 said_texts [] lines = []
 said_texts (name ∷ names) [] = []
 said_texts (name ∷ names) (line ∷ lines) = said_text name line ∷ said_texts names lines

@@ -3,8 +3,8 @@ use Rattle.std.specs.Prelude.{◌≡◌, ℕ, ◌+◌, ◌-◌, ◌*◌, ◌≤�
 use Rattle.chorus_ui.specs.declared.kind.Kind.{Kind}
 use Rattle.chorus_ui.specs.declared.kind.Kind.TheVariants as kinds
 use Rattle.chorus_ui.specs.Kind.{same_kind}
-use Rattle.chorus_ui.specs.Name.{Name}
-use Rattle.chorus_ui.specs.Layout.{Shape}
+use Rattle.chorus_ui.specs.declared.ui.Ui.{Ui}
+use Rattle.chorus_ui.specs.declared.layout.Layout.{Layout}
 use Rattle.chorus_entry.specs.declared.command.Command.{Command}
 use Rattle.chorus_scene.specs.declared.word.Word.{Word}
 use Rattle.chorus_scene.specs.declared.word.Word.TheVariants as words
@@ -18,7 +18,7 @@ use Rattle.chorus_scene.specs.declared.fault.Stop.{Stop}
 use Rattle.chorus_scene.specs.declared.fault.Stop.TheVariants as stops
 use Rattle.chorus_scene.specs.declared.fault.ReadFault.{ReadFault}
 use Rattle.chorus_scene.specs.declared.fault.ReadFault.TheVariants as faults
-use Rattle.chorus_ui.specs.declared.layout.TheConstants.{MAX_SITES, PORTS_PER_SITE, GROUPS_PER_SITE}
+use Rattle.chorus_ui.specs.declared.limits.TheConstants.{SITES_LIMIT, PORTS_PER_SITE_LIMIT, GROUPS_PER_SITE_LIMIT}
 use Rattle.chorus_scene.specs.declared.limits.TheConstants.{SCRIPTS_LIMIT}
 use Rattle.chorus_scene.specs.declared.setup.TheConstants.{PORT_COUNTS, COUNTS, LISTS}
 use Rattle.chorus_scene.specs.Text.{fields}
@@ -28,7 +28,7 @@ use Rattle.chorus_scene.specs.Line.{Line, CommandLine, cuts}
 use Rattle.chorus_scene.specs.Grammar.{State, judge_fields, then_after, is_step, reason_number}
 
 -- where the table of a setup counts what one place has given: four places for each site, ports and then groups
-abbrev pub count_at : Shape → Kind → ℕ → ℕ → ℕ
+abbrev pub count_at : Layout → Kind → ℕ → ℕ → ℕ
 count_at l kinds.Group site number = PORT_COUNTS + (site - 1) * 4 + (number - 1) % stride l kinds.Group
 count_at l kind site number = (site - 1) * 4 + (number - 1) % stride l kind
 
@@ -38,33 +38,33 @@ is_actor kinds.Port = false
 is_actor kinds.Group = false
 
 -- a group that has a list of members: four groups a site
-abbrev pub is_listed : Name → Bool
-is_listed g = same_kind g.kind kinds.Group && nat_le 1 g.site && nat_le g.site MAX_SITES && nat_le 1 g.number && nat_le g.number GROUPS_PER_SITE
+abbrev pub is_listed : Ui → Bool
+is_listed g = same_kind g.kind kinds.Group && nat_le 1 g.site && nat_le g.site SITES_LIMIT && nat_le 1 g.number && nat_le g.number GROUPS_PER_SITE_LIMIT
 
-abbrev pub list_number : Name → ℕ
+abbrev pub list_number : Ui → ℕ
 list_number g = (g.site - 1) * 4 + (g.number - 1)
 
-abbrev pub listed : Setup → Name → List Name
+abbrev pub listed : Setup → Ui → List Ui
 listed s g = slice_index_or (map (λ v. v.items) s.members.items) (list_number g) []
 
 -- the most that a site makes
 abbrev pub most_number : Kind → ℕ
-most_number kinds.Group = GROUPS_PER_SITE
-most_number _ = PORTS_PER_SITE
+most_number kinds.Group = GROUPS_PER_SITE_LIMIT
+most_number _ = PORTS_PER_SITE_LIMIT
 
 -- what the setup lines of a setup have made
-abbrev pub made_by : Shape → Setup → List Name
+abbrev pub made_by : Layout → Setup → List Ui
 made_by l s = made_after l [] s.lines.items
 
 -- the tables of a setup are those of its lines
-pub record IsSetup (l : Shape) (s : Setup) : Type 0 where
+pub record IsSetup (l : Layout) (s : Setup) : Type 0 where
   pub names : s.names.items ≡ names_said l [] s.lines.items
   pub counts_len : length s.counts ≡ COUNTS
-  pub counts : (kind : Kind) (site number : ℕ) → is_actor kind ≡ false → 1 ≤ site → site ≤ MAX_SITES → slice_index s.counts (count_at l kind site number) ≡ count_by (shares_place l kind site number) (made_by l s)
+  pub counts : (kind : Kind) (site number : ℕ) → is_actor kind ≡ false → 1 ≤ site → site ≤ SITES_LIMIT → slice_index s.counts (count_at l kind site number) ≡ count_by (shares_place l kind site number) (made_by l s)
   pub lists : length s.members.items ≡ LISTS
-  pub members : (g : Name) → is_listed g ≡ true → listed s g ≡ members_of g s.lines.items
-  pub strangers : (g : Name) → is_listed g ≡ false → members_of g s.lines.items ≡ []
-  pub groups : (g : Name) → same_kind g.kind kinds.Group ≡ true → is_among g (made_by l s) ≡ true → is_listed g ≡ true
+  pub members : (g : Ui) → is_listed g ≡ true → listed s g ≡ members_of g s.lines.items
+  pub strangers : (g : Ui) → is_listed g ≡ false → members_of g s.lines.items ≡ []
+  pub groups : (g : Ui) → same_kind g.kind kinds.Group ≡ true → is_among g (made_by l s) ≡ true → is_listed g ≡ true
 
 abbrev pub scene_of : Reader → Scene
 scene_of r = record { layout = r.layout; version = r.version; sites = r.sites; setup = r.setup.lines.items; scripts = r.scripts.items; schedule = r.schedule.items }
@@ -110,7 +110,7 @@ is_in_scripts _ = false
 -- the tables and counts of a reader are those of the lines so far
 pub record Stands (r : Reader) : Type 0 where
   pub tables : IsSetup r.layout r.setup
-  pub sites : r.sites ≤ MAX_SITES
+  pub sites : r.sites ≤ SITES_LIMIT
   pub used_len : length r.used.items ≡ length r.scripts.items
   pub used : (k : ℕ) → k < length r.scripts.items → slice_index r.used.items k ≡ count_by (is_step (k + 1)) r.schedule.items
   pub early : is_early r.section ≡ true → r.schedule.items ≡ []

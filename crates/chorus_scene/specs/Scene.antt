@@ -1,19 +1,19 @@
 -- What a scenario says.
 use Rattle.std.specs.Prelude.{ℕ, List}
-use Rattle.chorus_ui.specs.Name.{Name}
-use Rattle.chorus_ui.specs.Layout.{Shape}
+use Rattle.chorus_ui.specs.declared.ui.Ui.{Ui}
+use Rattle.chorus_ui.specs.declared.layout.Layout.{Layout}
 use Rattle.chorus_entry.specs.declared.command.Command.{Command}
 use Rattle.chorus_scene.specs.declared.scenario.SetupLine.{SetupLine}
 use Rattle.chorus_scene.specs.declared.scenario.Step.{Step}
 
 -- the commands of one caller, in their order
 pub record Script : Type 0 where
-  pub actor : Name
+  pub actor : Ui
   pub commands : List Command
 
 -- a scenario, with the layout for which it was read
 pub record Scene : Type 0 where
-  pub layout : Shape
+  pub layout : Layout
   pub version : ℕ
   pub sites : ℕ
   pub setup : List SetupLine
@@ -21,7 +21,7 @@ pub record Scene : Type 0 where
   pub schedule : List Step
 
 -- the scenario of these parts
-abbrev pub scene_with : Shape → ℕ → ℕ → List SetupLine → List Script → List Step → Scene
+abbrev pub scene_with : Layout → ℕ → ℕ → List SetupLine → List Script → List Step → Scene
 scene_with layout version sites setup scripts schedule = record {
   layout = layout;
   version = version;

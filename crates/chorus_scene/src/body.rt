@@ -4,7 +4,7 @@ ghost use Rattle.std.specs.Prelude.{◌≡◌, ◌≤◌, ◌<◌, ◌*◌, opti
 ghost use Rattle.std.specs.Option.{ForSome};
 ghost use Rattle.chorus_scene.specs.Text.{each_byte};
 ghost use Rattle.chorus_scene.specs.Body.{body_in, bytes_of_hex, pairs, is_hex, is_hex_text, hex_value, begins_a_body};
-ghost use Rattle.chorus_entry.specs.declared.body.TheConstants.{BODY_LIMIT};
+ghost use Rattle.chorus_ui.specs.declared.limits.TheConstants.{BODY_LIMIT};
 
 use chorus_entry::{BODY_LIMIT, Body};
 use std::alloc::{AllocError, Global};

@@ -20,7 +20,7 @@ use crate::scenario::{Scenario, Script, Step};
 use crate::setup::Setup;
 use crate::text::{cut, is_skipped, is_text, number_in};
 use crate::word::{Reason, Section, Word, may_stand, word_of};
-use chorus_ui::{ACTORS_PER_SITE, Kind, Layout, MAX_SITES, Ui};
+use chorus_ui::{ACTORS_PER_SITE_LIMIT, Kind, Layout, SITES_LIMIT, Ui};
 use std::alloc::{AllocError, Global};
 
 /// What the lines so far have said, with counts for the tests.
@@ -158,7 +158,7 @@ impl Reader {
         let most = if self.version == 1 {
             VERSION_ONE_SITES
         } else {
-            MAX_SITES
+            SITES_LIMIT
         };
         if sites == 0 || u128::from(self.layout.sites()) < sites || u128::from(most) < sites {
             return Err(Stop::Fault(Reason::Limit));
@@ -244,7 +244,7 @@ impl Reader {
     fn is_no_actor(&self, actor: Ui) -> bool
         ensures { result ≡ is_no_actor (scene_of self.now) actor }
     {
-        self.is_far(actor) || ACTORS_PER_SITE < actor.number()
+        self.is_far(actor) || ACTORS_PER_SITE_LIMIT < actor.number()
     }
 }
 

@@ -2,8 +2,7 @@
 
 ghost use Rattle.std.specs.Prelude.{◌≡◌, ◌<◌, ◌∷◌, length};
 ghost use Rattle.chorus_scene.specs.Text.{lines};
-ghost use Rattle.chorus_scene.specs.Grammar.{read_scene};
-ghost use Rattle.chorus_scene.specs.Grammar.{Reads};
+ghost use Rattle.chorus_scene.specs.Grammar.{read_scene, Reads};
 
 use crate::fault::{ReadFault, SceneFault, TOO_LONG, fault_at, reason_number};
 use crate::limits::TEXT_LIMIT;

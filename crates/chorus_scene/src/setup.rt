@@ -1,15 +1,16 @@
 //! The setup lines that were read, with tables of what they made.
 
 ghost use Rattle.std.specs.Prelude.{◌≡◌, ◌+◌, ◌<◌, ◌≤◌, List, [], ◌∷◌, ◌++◌, true, false, OnOk, IfOk};
-ghost use Rattle.chorus_ui.specs.declared.layout.TheConstants.{MAX_SITES};
-ghost use Rattle.chorus_ui.specs.Name.{Name};
-ghost use Rattle.chorus_ui.specs.Layout.{Shape, IsShape};
+ghost use Rattle.chorus_ui.specs.declared.limits.TheConstants.{SITES_LIMIT};
+ghost use Rattle.chorus_ui.specs.declared.ui.Ui.{Ui};
+ghost use Rattle.chorus_ui.specs.Layout.{IsLayout};
+ghost use Rattle.chorus_ui.specs.declared.layout.Layout.{Layout};
 ghost use Rattle.chorus_scene.specs.declared.setup.TheConstants.{COUNTS, LISTS};
 ghost use Rattle.chorus_scene.specs.Making.{stride, next_name, makes, name_said, is_among, members_of};
 ghost use Rattle.chorus_scene.specs.Reader.{count_at, is_actor, is_listed, list_number, most_number, made_by, IsSetup};
 
 use crate::scenario::SetupLine;
-use chorus_ui::{GROUPS_PER_SITE, Kind, Layout, MAX_SITES, Ui};
+use chorus_ui::{GROUPS_PER_SITE_LIMIT, Kind, Layout, SITES_LIMIT, Ui};
 use std::alloc::{AllocError, Global};
 
 /// The counts of ports: one for each place that a layout may have, four on each of 16 sites.
@@ -38,7 +39,7 @@ fn stride(layout: Layout, kind: Kind) -> u64
     ensures value { result ≡ stride layout kind }
     ensures some { 1 ≤ result }
     ensures few { result ≤ 4 }
-    ensures shape { IsShape layout }
+    ensures shape { IsLayout layout }
 {
     let turns = u64::from(layout.turns());
     match kind {
@@ -49,11 +50,11 @@ fn stride(layout: Layout, kind: Kind) -> u64
 
 /// Where the count stands of the place that gives this number.
 fn count_at(layout: Layout, kind: Kind, site: u16, number: u64) -> usize
-    requires site { (1 ≤ site) × (site ≤ MAX_SITES) }
+    requires site { (1 ≤ site) × (site ≤ SITES_LIMIT) }
     requires number { 1 ≤ number }
     ensures value { result ≡ count_at layout kind site number }
     ensures small { result < COUNTS }
-    ensures shape { IsShape layout }
+    ensures shape { IsLayout layout }
 {
     let row = (site as usize - 1) * 4 + ((number - 1) % stride(layout, kind)) as usize;
     match kind {
@@ -68,7 +69,7 @@ fn is_listed(group: Ui) -> bool
     ensures { result ≡ is_listed group }
 {
     let (site, number) = (group.site(), group.number());
-    1 <= site && site <= MAX_SITES && 1 <= number && number <= GROUPS_PER_SITE
+    1 <= site && site <= SITES_LIMIT && 1 <= number && number <= GROUPS_PER_SITE_LIMIT
 }
 
 /// Where the list of the group's members stands.
@@ -84,7 +85,7 @@ impl Setup {
     /// No lines.
     pub(crate) fn start(alloc: Global) -> Result<Setup, AllocError>
         ensures lines { IfOk result (λ s. s.lines.items ≡ []) }
-        ensures tables { IfOk result (λ s. (l : Shape) → IsSetup l s) }
+        ensures tables { IfOk result (λ s. (l : Layout) → IsSetup l s) }
     {
         let mut members = Vec::new(alloc);
         for _at in 0..LISTS {
@@ -101,7 +102,7 @@ impl Setup {
     /// Whether a line made this port or group.
     pub(crate) fn has_made(&self, layout: Layout, ui: Ui) -> bool
         requires tables { IsSetup layout self.now }
-        requires site { ui.site ≤ MAX_SITES }
+        requires site { ui.site ≤ SITES_LIMIT }
         requires kind { is_actor ui.kind ≡ false }
         ensures { result ≡ is_among ui (made_by layout self.now) }
     {
@@ -112,7 +113,7 @@ impl Setup {
     /// The number that the place of this number gives next.
     pub(crate) fn next_number(&self, layout: Layout, kind: Kind, site: u16, number: u64) -> u64
         requires tables { IsSetup layout self.now }
-        requires site { (1 ≤ site) × (site ≤ MAX_SITES) }
+        requires site { (1 ≤ site) × (site ≤ SITES_LIMIT) }
         requires number { 1 ≤ number }
         requires kind { is_actor kind ≡ false }
         ensures { result ≡ (next_name layout kind site number (made_by layout self.now)).number }
@@ -124,7 +125,7 @@ impl Setup {
 
     /// The members of a group, in the order in which they joined.
     pub(crate) fn members(&self, group: Ui) -> &[Ui]
-        requires tables { (l : Shape) × IsSetup l self.now }
+        requires tables { (l : Layout) × IsSetup l self.now }
         requires kind { group.kind ≡ Kind.Group }
         ensures { result.now ≡ members_of group self.now.lines.items }
     {
@@ -144,16 +145,16 @@ impl Setup {
         number: u64,
     ) -> Result<(), AllocError>
         requires tables { IsSetup layout self.old }
-        requires site { ui.site ≤ MAX_SITES }
+        requires site { ui.site ≤ SITES_LIMIT }
         requires number { 1 ≤ number }
         requires kind { is_actor ui.kind ≡ false }
         requires given { ui ≡ next_name layout ui.kind ui.site number (made_by layout self.old) }
         requires room { ui.number ≤ most_number ui.kind }
-        requires makes { (made : List Name) →
+        requires makes { (made : List Ui) →
             makes layout made line ≡ next_name layout ui.kind ui.site number made ∷ [] }
-        requires says { (made : List Name) →
+        requires says { (made : List Ui) →
             name_said layout made line ≡ next_name layout ui.kind ui.site number made }
-        requires joins { (group : Name) → members_of group (line ∷ []) ≡ [] }
+        requires joins { (group : Ui) → members_of group (line ∷ []) ≡ [] }
         ensures ok { OnOk result (self.new.lines.items ≡ self.old.lines.items ++ line ∷ []) }
         ensures tables { OnOk result (IsSetup layout self.new) }
     {

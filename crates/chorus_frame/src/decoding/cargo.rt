@@ -10,7 +10,7 @@ use super::record::record_from;
 use crate::fault::DecodeFault;
 use crate::reader::Reader;
 use chorus_entry::{Cargo, Dest, Packet};
-use chorus_ui::{Kind, MAX_SITES};
+use chorus_ui::{Kind, SITES_LIMIT};
 use std::alloc::Global;
 
 /// The mode of a post to a group, the group, and the site that the post demands or 0.
@@ -27,7 +27,7 @@ fn asked_from(reader: &mut Reader<'_>) -> Result<Dest, DecodeFault>
     match (mode, site) {
         (1, 0) => Ok(Dest::All(group)),
         (2, 0) => Ok(Dest::One(group)),
-        (3, 1..=MAX_SITES) => Ok(Dest::OneAt(group, site)),
+        (3, 1..=SITES_LIMIT) => Ok(Dest::OneAt(group, site)),
         _ => Err(DecodeFault::Range),
     }
 }

@@ -5,7 +5,7 @@ ghost use Rattle.chorus_frame.specs.Reading.{name_at, place_at, route_at, only_a
 
 use crate::fault::DecodeFault;
 use crate::reader::Reader;
-use chorus_ui::{Kind, MAX_PLACES, MAX_SITES, Ui};
+use chorus_ui::{Kind, PLACES_LIMIT, SITES_LIMIT, Ui};
 
 /// A name of this kind.
 #[tactic(auto, unfolding(crate::specs::Reading::name_at))]
@@ -24,7 +24,7 @@ pub(super) fn place_from(reader: &mut Reader<'_>) -> Result<u16, DecodeFault>
     ensures { Reads result reader.new (place_at reader.old) }
 {
     let place = reader.u16()?;
-    if place == 0 || place > MAX_PLACES {
+    if place == 0 || place > PLACES_LIMIT {
         return Err(DecodeFault::Range);
     }
     Ok(place)
@@ -52,7 +52,7 @@ pub(super) fn only_from(reader: &mut Reader<'_>) -> Result<Option<u16>, DecodeFa
 {
     match reader.u16()? {
         0 => Ok(None),
-        site if site <= MAX_SITES => Ok(Some(site)),
+        site if site <= SITES_LIMIT => Ok(Some(site)),
         _ => Err(DecodeFault::Range),
     }
 }

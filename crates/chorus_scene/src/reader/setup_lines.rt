@@ -2,8 +2,9 @@
 
 ghost use Rattle.std.specs.Prelude.{◌≡◌, ◌≤◌, List, [], ◌∷◌, true, false, not, OnOk, IfErr};
 ghost use Rattle.std.specs.Option.{option_copied};
-ghost use Rattle.chorus_ui.specs.declared.layout.TheConstants.{MAX_SITES};
-ghost use Rattle.chorus_ui.specs.Name.{Name, same_ui};
+ghost use Rattle.chorus_ui.specs.declared.limits.TheConstants.{SITES_LIMIT};
+ghost use Rattle.chorus_ui.specs.Name.{same_ui};
+ghost use Rattle.chorus_ui.specs.declared.ui.Ui.{Ui};
 ghost use Rattle.chorus_scene.specs.Making.{makes, name_said, next_name, members_of};
 ghost use Rattle.chorus_scene.specs.Grammar.{is_known, made, unless, with_setup};
 ghost use Rattle.chorus_scene.specs.Line.{may_stand};
@@ -16,7 +17,7 @@ use crate::scenario::SetupLine;
 use crate::text::number_in;
 use crate::word::{Reason, Section, Word};
 use chorus_entry::{MEMBERS_LIMIT, PENDING_LIMIT};
-use chorus_ui::{GROUPS_PER_SITE, Kind, PORTS_PER_SITE, Ui};
+use chorus_ui::{GROUPS_PER_SITE_LIMIT, Kind, PORTS_PER_SITE_LIMIT, Ui};
 
 impl Reader {
     pub(crate) fn port_line(&mut self, rest: Option<&[u8]>) -> Result<(), Stop>
@@ -36,7 +37,10 @@ impl Reader {
         ) else {
             return Err(Stop::Fault(Reason::Number));
         };
-        if capacity == 0 || (PENDING_LIMIT as u128) < capacity || PORTS_PER_SITE < port.number() {
+        if capacity == 0
+            || (PENDING_LIMIT as u128) < capacity
+            || PORTS_PER_SITE_LIMIT < port.number()
+        {
             return Err(Stop::Fault(Reason::Limit));
         }
         if self.is_far(port) || self.is_no_actor(actor) {
@@ -65,7 +69,7 @@ impl Reader {
         let Some(group) = name_in(Kind::Group, group) else {
             return Err(Stop::Fault(Reason::Number));
         };
-        if GROUPS_PER_SITE < group.number() {
+        if GROUPS_PER_SITE_LIMIT < group.number() {
             return Err(Stop::Fault(Reason::Limit));
         }
         if self.is_far(group) {
@@ -118,17 +122,17 @@ impl Reader {
     fn make(&mut self, ui: Ui, line: SetupLine, site: u16, number: u64) -> Result<(), Stop>
         requires stands { Stands self.old }
         requires section { self.old.section ≡ Section.Setup }
-        requires site { (1 ≤ site) × (site ≤ MAX_SITES) }
+        requires site { (1 ≤ site) × (site ≤ SITES_LIMIT) }
         requires number { 1 ≤ number }
         requires kind { is_actor ui.kind ≡ false }
         requires room { ui.number ≤ most_number ui.kind }
-        requires makes { (made : List Name) →
+        requires makes { (made : List Ui) →
             makes self.old.layout made line
             ≡ next_name self.old.layout ui.kind site number made ∷ [] }
-        requires says { (made : List Name) →
+        requires says { (made : List Ui) →
             name_said self.old.layout made line
             ≡ next_name self.old.layout ui.kind site number made }
-        requires joins { (group : Name) → members_of group (line ∷ []) ≡ [] }
+        requires joins { (group : Ui) → members_of group (line ∷ []) ≡ [] }
         ensures gives { Gives (state_of self.new) result
             (unless (not (same_ui ui (next_name self.old.layout ui.kind site number (made (scene_of self.old))))) Reason.Order (Ok (with_setup (state_of self.old) line))) }
         ensures stands { OnOk result (Stands self.new) }

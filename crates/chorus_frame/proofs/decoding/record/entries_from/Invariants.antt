@@ -1,5 +1,5 @@
 use Rattle.std.proofs.Common.{◌≡◌, ◌-◌, ◌+◌, ◌≤◌, length}
-use Rattle.chorus_entry.specs.declared.record.clients.TheConstants.{CLIENTS_LIMIT}
+use Rattle.chorus_ui.specs.declared.limits.TheConstants.{CLIENTS_LIMIT}
 use Rattle.chorus_frame.specs.Reading.{entries_at}
 use Rattle.chorus_frame.proofs.decoding.record.entries_from.Given as goal
 

@@ -1,5 +1,5 @@
 use Rattle.std.proofs.Common.{◌≡◌, ◌-◌, ◌+◌, ◌≤◌, length}
-use Rattle.chorus_entry.specs.declared.record.pending.TheConstants.{PENDING_LIMIT}
+use Rattle.chorus_ui.specs.declared.limits.TheConstants.{PENDING_LIMIT}
 use Rattle.chorus_frame.specs.Reading.{messages_at}
 use Rattle.chorus_frame.proofs.decoding.record.messages_from.Given as goal
 

@@ -1,5 +1,5 @@
 use Rattle.std.proofs.Common.{ℕ, sym, ap, ◌∙◌}
-use Rattle.chorus_ui.specs.Name.{Name}
+use Rattle.chorus_ui.specs.declared.ui.Ui.{Ui}
 use Rattle.chorus_scene.specs.Making.{next_name}
 use Rattle.chorus_scene.specs.Reader.{made_by}
 use Rattle.chorus_scene.proofs.reader.Reader.make.Goals as goal
@@ -9,7 +9,7 @@ push_making-requires-clause-given c =
     let u = c.args.ui in
     let r = c.args.self.now in
     let made = made_by r.layout r.setup in
-    let mk : ℕ → Name = λ n. record { site = u.site; kind = u.kind; number = n } in
+    let mk : ℕ → Ui = λ n. record { site = u.site; kind = u.kind; number = n } in
     let site = sym c.if-site.false ∙ c.site.ensures.value in
     ap mk (sym c.number.ensures.value ∙ c.if-number-next.false ∙ c.next_number-next.ensures
     ∙ ap (λ k. (next_name r.layout k c.args.site c.args.number made).number) c.kind.ensures

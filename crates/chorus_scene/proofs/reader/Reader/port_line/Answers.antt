@@ -14,6 +14,6 @@ returns-clause-gives c =
     let there = sym c.is_no_actor.ensures ∙ c.if-is_no_actor.false in
     let new = sym c.has_made.ensures ∙ c.if-has_made.false in
     let e = port_read s c.in-Some.port.now c.in-Some.actor.now c.in-Some.capacity.now n.port n.actor n.capacity n.port.kind c.site.result c.number-2.result c.in-Some.ensures.1 n.ensures.value n.ensures'.value n.ensures''
-    c.if-capacity-eq0.false c.if-capacity.false (omega (arith, c.number.ensures.value, c.if-number-gt-PORTS_PER_SITE.false)) near there new n.ensures.kind c.site.ensures.value c.number-2.ensures.value in
+    c.if-capacity-eq0.false c.if-capacity.false (omega (arith, c.number.ensures.value, c.if-number-gt-PORTS_PER_SITE_LIMIT.false)) near there new n.ensures.kind c.site.ensures.value c.number-2.ensures.value in
     let f = ap (λ fs. then_after s (judge_fields (scene_of r) words.Port fs)) (sym c.in-Some.ensures.0) in
     subst (λ j. Gives (state_of c.make.new.self) c.make.result j) (e ∙ f) c.make.ensures.gives

@@ -1,5 +1,5 @@
 use Rattle.std.proofs.Common.{◌≤◌, refl, sym, ap, subst, ◌∙◌, ◌∷◌, [], ◌++◌}
-use Rattle.chorus_ui.specs.Name.{Name}
+use Rattle.chorus_ui.specs.declared.ui.Ui.{Ui}
 use Rattle.chorus_scene.specs.Reader.{count_at, made_by, most_number}
 use Rattle.chorus_scene.proofs.Tables.{making_tables}
 use Rattle.chorus_scene.proofs.setup.Setup.push_making.Goals as goal
@@ -11,4 +11,4 @@ returns-clause-tables c =
     let s = c.args.self.now in
     let at = c.count_at-at.ensures.value ∙ ap (λ k. count_at c.args.layout k c.site.result c.args.number) c.kind.ensures ∙ ap (λ n. count_at c.args.layout u.kind n c.args.number) c.site.ensures.value in
     making_tables c.args.layout s _ c.count_at-at.ensures.shape r.tables c.args.line c.in_ok-push.ensures.items u.kind u.site c.args.number r.kind c.site.ensures.name.site_from_one r.site r.makes r.joins
-    c.count_at-at.result at (ap (λ n. s.names.items ++ n ∷ []) (sym r.given) ∙ sym c.in_ok-push-2.ensures.items) (r.says (made_by c.args.layout s)) refl refl (subst (λ (n : Name). n.number ≤ most_number u.kind) r.given r.room) c.count_at-at.ensures.small
+    c.count_at-at.result at (ap (λ n. s.names.items ++ n ∷ []) (sym r.given) ∙ sym c.in_ok-push-2.ensures.items) (r.says (made_by c.args.layout s)) refl refl (subst (λ (n : Ui). n.number ≤ most_number u.kind) r.given r.room) c.count_at-at.ensures.small

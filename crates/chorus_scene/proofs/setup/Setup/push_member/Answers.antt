@@ -1,7 +1,7 @@
 use Rattle.std.proofs.Common.{◌≡◌, ◌<◌, refl, map, sym, ap, ◌∙◌, length, length-set, [], ◌∷◌, ◌++◌, get_or, set, List, arith}
 use Rattle.std.proofs.lemmas.List.{map-set, get_or-map}
 use Rattle.std.specs.Global.{Vec}
-use Rattle.chorus_ui.specs.Name.{Name}
+use Rattle.chorus_ui.specs.declared.ui.Ui.{Ui}
 use Rattle.chorus_scene.proofs.Tables.{member_tables}
 use Rattle.chorus_scene.proofs.setup.Setup.push_member.Goals as goal
 
@@ -9,7 +9,7 @@ pub returns-clause-tables : goal.returns-clause-tables
 returns-clause-tables c =
     let r = c.requires in
     let s = c.args.self.now in
-    let f : Vec Name → List Name = λ x. x.items in
+    let f : Vec Ui → List Ui = λ x. x.items in
     let i = c.list_number.result in
     let x = c.index_mut.result.now in
     let lt : i < length s.members.items = omega (arith, r.tables.lists, c.list_number.ensures.small) in
