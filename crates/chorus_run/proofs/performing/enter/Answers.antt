@@ -7,7 +7,7 @@ pub unreachable-requires : goal.unreachable-requires
 unreachable-requires c =
     let read = slice_get_read _ _ _ _ refl c.loop-script-test.true c.script-item.is in
     let next = script-next c.args.scenario.now _ _ _ _ _ c.scripts-script-items.ensures read c.actor.ensures c.loop-script.invariant in
-    let there = next-actor _ _ _ c.requires.layout c.requires.keeps c.requires.built next in
+    let there = next-actor _ _ _ c.requires.sites c.requires.keeps c.requires.built next in
     let missing = c.in-Err-NoActor.ensures.no_actor.0 (ap Err c.in-Err-NoActor.field-0-is) in
     absurd (cc)
 

@@ -11,7 +11,7 @@ act-requires c =
     let calls = ap events_of c.deref-call-items.ensures.value ∙ c.in_ok-calls.ensures in
     let next = call-next scene _ _ _ _ _ _ calls read refl c.in_ok-copied.ensures c.loop-call.invariant in
     record {
-      may = next-may scene _ _ _ c.requires.layout c.requires.keeps c.requires.built next;
+      may = next-may scene _ _ _ c.requires.sites c.requires.keeps c.requires.built next;
       posts = λ h. next-posts scene _ _ _ c.requires.keeps c.requires.built next;
       clock = next-clock scene _ _ _ c.requires.keeps c.requires.built next;
     }

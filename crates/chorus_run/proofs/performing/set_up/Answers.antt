@@ -9,7 +9,7 @@ act-requires c =
     let read = slice_get_read _ _ _ _ refl c.loop-line-test.true c.line-item.is in
     let next = setup-next scene _ _ _ _ _ c.setup-line-items.ensures read c.setup_command.ensures c.loop-line.invariant in
     record {
-      may = next-may scene _ 0 _ c.requires.layout c.requires.keeps c.requires.built next;
+      may = next-may scene _ 0 _ c.requires.sites c.requires.keeps c.requires.built next;
       posts = λ h. next-posts scene _ 0 _ c.requires.keeps c.requires.built next;
       clock = next-clock scene _ 0 _ c.requires.keeps c.requires.built next;
     }
