@@ -18,8 +18,6 @@ mod rule;
 mod seats;
 mod start;
 mod steps;
-#[cfg(test)]
-mod tests;
 mod turns;
 mod view;
 

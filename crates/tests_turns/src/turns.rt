@@ -3,10 +3,10 @@ ghost use Rattle.std.specs.List.{All};
 ghost use Rattle.std.specs.Coded.{Coded-set};
 ghost use Rattle.atomic_table.specs.Seated.{table_id_coded};
 ghost use Rattle.chorus_turn.specs.Journals.{GrowsBy};
-ghost use Rattle.chorus_turn.specs.Passes.{known, places, table_of, IsPassOf};
+ghost use Rattle.chorus_turn.specs.Passes.{known, places, table_of, IsPassOf, IsPlaceOf};
 
-use crate::{Busy, Job, Kept, NoSeat, Pass, PassesOut, Turns};
 use chorus_entry::{Act, Entry};
+use chorus_turn::{Busy, Job, Kept, NoSeat, Pass, PassesOut, SEATS_LIMIT, Turns};
 use std::alloc::Global;
 use std::cell::Cell;
 use std::test::Fail;
@@ -145,7 +145,7 @@ fn turns_refuse_the_second_caller(rt: HostRuntime) -> Result<(), Fail> {
 }
 
 fn add_at(turns: &Turns<Log>, mut pass: Pass<u64>, place: u16, clock: u64) -> (bool, Pass<u64>)
-    requires { IsPassOf turns.now pass × (1 ≤ place) × (place ≤ places turns.now) }
+    requires { IsPassOf turns.now pass × IsPlaceOf turns.now place }
     ensures { IsPassOf turns.now result.1 × ((known result.1).keeper ≡ (known pass).keeper) }
 {
     let added = turns.with(&mut pass, place, &mut Add { clock }).is_ok();
@@ -166,7 +166,8 @@ fn two_passes_in_two_threads(rt: HostRuntime) -> Result<(), Fail> {
     let ((one, mut first), (two, second)) = join(
         &rt,
         move || -> (bool, Pass<u64>)
-            requires { IsPassOf shared.now first × ((known first).keeper ≡ true) × (2 ≤ places shared.now) }
+            requires first { IsPassOf shared.now first × ((known first).keeper ≡ true) }
+            requires places { 2 ≤ places shared.now }
             ensures { IsPassOf shared.entry.now result.1 × ((known result.1).keeper ≡ true) }
         { add_at(shared, first, 1, 1) },
         move || -> (bool, Pass<u64>)
@@ -192,13 +193,13 @@ fn every_number_is_drawn_once(rt: HostRuntime) -> Result<(), Fail> {
     let Ok((turns, mut first)) = Turns::start(alloc, states) else {
         panic!(rt; "no memory")
     };
-    for number in 1..1_048_576 {
+    for number in 1..SEATS_LIMIT {
         let Ok(pass) = turns.admit(&mut first) else {
             panic!(rt; "no number is left")
         };
         assert!(rt; pass.seat() == number && !pass.keeper() && pass.made() == 0);
     }
     let full = turns.admit(&mut first).err();
-    assert!(rt; full == Some(NoSeat { made: 1_048_576 }) && first.made() == 1_048_576);
+    assert!(rt; full == Some(NoSeat { made: SEATS_LIMIT }) && first.made() == SEATS_LIMIT);
     Ok(())
 }
