@@ -1,9 +1,8 @@
 //! Reads from a board, while its writer publishes.
-ghost use Rattle.std.specs.Prelude.{◌≡◌, [], IsTrue, All, IfSome};
+ghost use Rattle.std.specs.Prelude.{◌≡◌, All, IfSome};
 ghost use Rattle.std.specs.Thread.{IsSync};
-ghost use Rattle.chorus_ui.specs.declared.kind.Kind.TheVariants.{Port};
-ghost use Rattle.chorus_ui.specs.Layout.{can_make_port};
-ghost use Rattle.chorus_board.specs.Boards.{entries_published, entries_begun, book_of, layout_of, layout_read, IsNewBoard, IsNewIn};
+ghost use Rattle.chorus_board.specs.Boards.{book_of, layout_of, layout_read, IsNewBoard, IsNewIn};
+ghost use Rattle.bench_board.specs.Watched.{IsWatched};
 
 use crate::readers::Readers;
 use chorus_board::{Board, BoardReader};
@@ -23,7 +22,7 @@ pub fn from_board<R: Threads + Wait + Sync>(
     readers: Readers,
     count: u64,
 ) -> Result<u64, AllocError>
-    requires { (port.kind ≡ Port) × IsTrue (can_make_port layout port) }
+    requires { IsWatched layout port }
 {
     let (mut board, mut all) = Board::start(alloc, rt, layout)?;
     let first = next_reader(&board, layout, &mut all);
@@ -67,23 +66,23 @@ fn by_one<R: Threads + Wait + Sync>(
     reader: BoardReader,
     count: u64,
 ) -> u64
-    requires port { (port.kind ≡ Port) × IsTrue (can_make_port (layout_of board.old) port) }
+    requires port { IsWatched (layout_of board.old) port }
     requires new { IsNewBoard (layout_of board.old) board.old }
-    requires reader { layout_read reader ≡ layout_of board.old }
+    requires reader { IsWatched (layout_read reader) port }
 {
     let done = AtomicBool::new(false);
     let seen = &done;
     let (answered, ()) = join(
         rt,
         move || -> u64
-            requires { (port.kind ≡ Port) × IsTrue (can_make_port (layout_read reader) port) }
+            requires { IsWatched (layout_read reader) port }
         {
             let answered = read_many(reader, port, count);
             seen.store(true, Ordering::SeqCst);
             answered
         },
         move ||
-            requires port { (port.kind ≡ Port) × IsTrue (can_make_port (layout_of board.now) port) }
+            requires port { IsWatched (layout_of board.now) port }
             requires new { IsNewBoard (layout_of board.now) board.now }
         { publish_until(rt, board, port, seen) },
     );
@@ -98,34 +97,34 @@ fn by_four<R: Threads + Wait + Sync>(
     other: (BoardReader, BoardReader),
     count: u64,
 ) -> u64
-    requires port { (port.kind ≡ Port) × IsTrue (can_make_port (layout_of board.old) port) }
+    requires port { IsWatched (layout_of board.old) port }
     requires new { IsNewBoard (layout_of board.old) board.old }
-    requires one { (layout_read one.0 ≡ layout_of board.old) × (layout_read one.1 ≡ layout_of board.old) }
-    requires other { (layout_read other.0 ≡ layout_of board.old) × (layout_read other.1 ≡ layout_of board.old) }
+    requires one { IsWatched (layout_read one.0) port × IsWatched (layout_read one.1) port }
+    requires other { IsWatched (layout_read other.0) port × IsWatched (layout_read other.1) port }
 {
     let done = AtomicBool::new(false);
     let seen = &done;
     let (answered, ()) = join(
         rt,
         move || -> u64
-            requires port { port.kind ≡ Port }
-            requires one { IsTrue (can_make_port (layout_read one.0) port) × IsTrue (can_make_port (layout_read one.1) port) }
-            requires other { IsTrue (can_make_port (layout_read other.0) port) × IsTrue (can_make_port (layout_read other.1) port) }
+            requires rt { IsSync R.row }
+            requires one { IsWatched (layout_read one.0) port × IsWatched (layout_read one.1) port }
+            requires other { IsWatched (layout_read other.0) port × IsWatched (layout_read other.1) port }
         {
             let (first, second) = join(
                 rt,
                 move || -> u64
-                    requires { (port.kind ≡ Port) × IsTrue (can_make_port (layout_read one.0) port) × IsTrue (can_make_port (layout_read one.1) port) }
+                    requires { IsWatched (layout_read one.0) port × IsWatched (layout_read one.1) port }
                 { by_two(rt, port, one, count) },
                 move || -> u64
-                    requires { (port.kind ≡ Port) × IsTrue (can_make_port (layout_read other.0) port) × IsTrue (can_make_port (layout_read other.1) port) }
+                    requires { IsWatched (layout_read other.0) port × IsWatched (layout_read other.1) port }
                 { by_two(rt, port, other, count) },
             );
             seen.store(true, Ordering::SeqCst);
             first.saturating_add(second)
         },
         move ||
-            requires port { (port.kind ≡ Port) × IsTrue (can_make_port (layout_of board.now) port) }
+            requires port { IsWatched (layout_of board.now) port }
             requires new { IsNewBoard (layout_of board.now) board.now }
         { publish_until(rt, board, port, seen) },
     );
@@ -133,23 +132,23 @@ fn by_four<R: Threads + Wait + Sync>(
 }
 
 fn by_two<R: Threads + Sync>(rt: &R, port: Ui, readers: (BoardReader, BoardReader), count: u64) -> u64
-    requires { (port.kind ≡ Port) × IsTrue (can_make_port (layout_read readers.0) port) × IsTrue (can_make_port (layout_read readers.1) port) }
+    requires { IsWatched (layout_read readers.0) port × IsWatched (layout_read readers.1) port }
 {
     let (one, other) = readers;
     let (first, second) = join(
         rt,
         move || -> u64
-            requires { (port.kind ≡ Port) × IsTrue (can_make_port (layout_read one) port) }
+            requires { IsWatched (layout_read one) port }
         { read_many(one, port, count) },
         move || -> u64
-            requires { (port.kind ≡ Port) × IsTrue (can_make_port (layout_read other) port) }
+            requires { IsWatched (layout_read other) port }
         { read_many(other, port, count) },
     );
     first.saturating_add(second)
 }
 
 fn read_many(mut reader: BoardReader, port: Ui, count: u64) -> u64
-    requires { (port.kind ≡ Port) × IsTrue (can_make_port (layout_read reader) port) }
+    requires { IsWatched (layout_read reader) port }
 {
     let mut answered: u64 = 0;
     for _ in 0..count {
@@ -162,7 +161,7 @@ fn read_many(mut reader: BoardReader, port: Ui, count: u64) -> u64
 
 // Publishes the creation place of a port again and again, for no entries, until the readers are done.
 fn publish_until<R: Wait>(rt: &R, board: &mut Board, port: Ui, done: &AtomicBool)
-    requires port { (port.kind ≡ Port) × IsTrue (can_make_port (layout_of board.old) port) }
+    requires port { IsWatched (layout_of board.old) port }
     requires new { IsNewBoard (layout_of board.old) board.old }
 {
     for _ in rt.forever() {

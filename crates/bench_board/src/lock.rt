@@ -1,8 +1,9 @@
 //! Reads from the same table behind a lock, while a writer writes to it.
-ghost use Rattle.std.specs.Prelude.{◌≡◌, IsTrue};
+ghost use Rattle.std.specs.Prelude.{◌≡◌, true};
 ghost use Rattle.std.specs.Thread.{IsSync};
 ghost use Rattle.chorus_ui.specs.declared.kind.Kind.TheVariants.{Port};
-ghost use Rattle.chorus_ui.specs.Layout.{can_make_port};
+ghost use Rattle.chorus_ui.specs.Layout.{has_site, has_place, can_make_port};
+ghost use Rattle.bench_board.specs.Watched.{IsWatched};
 
 use crate::readers::Readers;
 use chorus_hints::Hints;
@@ -18,7 +19,9 @@ struct Watched {
     hints: Hints,
     port: Ui,
     ghost kind: { port.kind ≡ Port },
-    ghost listed: { IsTrue (can_make_port hints.layout port) },
+    ghost site: { has_site hints.layout port.site ≡ true },
+    ghost listed: { can_make_port hints.layout port ≡ true },
+    ghost here: { has_place hints.layout 1 ≡ true },
 }
 
 impl Watched {
@@ -40,7 +43,7 @@ pub fn from_lock<R: Threads + Wait + Sync>(
     readers: Readers,
     count: u64,
 ) -> Result<u64, AllocError>
-    requires { (port.kind ≡ Port) × IsTrue (can_make_port layout port) }
+    requires { IsWatched layout port }
 {
     let hints = Hints::with_room(alloc, layout)?;
     let lock = RwLock::new(Watched { hints, port });

@@ -3,9 +3,8 @@
 //! With no words it reads a few in each way and prints how many were answered, which never varies. With the word `time` it
 //! prints reads per second: of each way the best of some rounds, in which the board and the lock take turns.
 #![tactic(auto)]
-ghost use Rattle.std.specs.Prelude.{◌≡◌, IsTrue};
-ghost use Rattle.chorus_ui.specs.declared.kind.Kind.TheVariants.{Port};
-ghost use Rattle.chorus_ui.specs.Layout.{can_make_port};
+
+ghost use Rattle.bench_board.specs.Watched.{IsWatched};
 
 mod board;
 mod lock;
@@ -34,19 +33,35 @@ fn main(rt: HostRuntime) -> io::Result<()> {
     let (Some(layout), Some(port)) = (Layout::new(2, 1), Ui::new(1, Kind::Port, 1)) else {
         return Ok(());
     };
-    if port.kind() != Kind::Port || !layout.can_make_port(port) {
-        return Ok(());
+    if port.kind() == Kind::Port
+        && layout.has_site(port.site())
+        && layout.can_make_port(port)
+        && layout.has_place(1)
+    {
+        return measure(&rt, rt.alloc(), layout, port, timed);
     }
+    Ok(())
+}
+
+fn measure<R: Threads + Wait + Sync + Clock + Print>(
+    rt: &R,
+    alloc: Global,
+    layout: Layout,
+    port: Ui,
+    timed: bool,
+) -> io::Result<()>
+    requires { IsWatched layout port }
+{
     for readers in [Readers::One, Readers::Four] {
         if timed {
-            let (board, lock) = best_rates(&rt, rt.alloc(), layout, port, readers)?;
+            let (board, lock) = best_rates(rt, alloc, layout, port, readers)?;
             let ratio = board / lock;
             println!(rt;
                 "{readers}: board {board:.0} reads/s, lock {lock:.0} reads/s, ratio {ratio:.2}"
             )?;
         } else {
-            let board = from_board(&rt, rt.alloc(), layout, port, readers, FEW)?;
-            let lock = from_lock(&rt, rt.alloc(), layout, port, readers, FEW)?;
+            let board = from_board(rt, alloc, layout, port, readers, FEW)?;
+            let lock = from_lock(rt, alloc, layout, port, readers, FEW)?;
             println!(rt; "{readers}: board {board} reads, lock {lock} reads")?;
         }
     }
@@ -60,7 +75,7 @@ fn best_rates<R: Threads + Wait + Sync + Clock>(
     port: Ui,
     readers: Readers,
 ) -> io::Result<(f64, f64)>
-    requires { (port.kind ≡ Port) × IsTrue (can_make_port layout port) }
+    requires { IsWatched layout port }
 {
     let mut board: f64 = 0.0;
     let mut lock: f64 = 0.0;

@@ -45,13 +45,14 @@ impl Board {
     ghost use Rattle.std.specs.Prelude.{◌≡◌, length, IsTrue, OnOk, OnErr};
     ghost use mathlib.Core.List.{IsPrefix};
     ghost use Rattle.chorus_ui.specs.declared.kind.Kind.TheVariants.{Port};
-    ghost use Rattle.chorus_ui.specs.Layout.{can_make_port};
+    ghost use Rattle.chorus_ui.specs.Layout.{has_place, can_make_port};
     ghost use Rattle.chorus_board.specs.Located.{IsOfOnePlace};
     ghost use Rattle.chorus_board.specs.Boards.{entries_seen, entries_published, entries_begun, entries_heard, layout_of, shown, LocatesAfter, IsReaderOf, IsSameBoard};
 
     /// Publishes that the port is at the place, by that hop. The publish stands for the entries that `X` names: `upto` of
     /// them, of one place, which begin with those of the publish before, and after which each port is located where the
-    /// board then has it. The layout can make the port.
+    /// board then has it. The layout can make the port, and the place is one
+    /// of its places.
     ///
     /// It waits for readers that are inside. For want of memory nothing is shown; that list was begun all the same, so the next
     /// one begins with it.
@@ -65,6 +66,7 @@ impl Board {
     ) -> Result<(), AllocError>
         requires port { ui.kind ≡ Port }
         requires in_layout { IsTrue (can_make_port (layout_of self.old) ui) }
+        requires place { IsTrue (has_place (layout_of self.old) place) }
         requires longer { IsPrefix (entries_begun self.old) X.entries }
         requires count { upto ≡ length X.entries }
         requires one_place { IsOfOnePlace X.entries }

@@ -36,7 +36,11 @@ impl Absorb<Publish> for Table {
 
     fn absorb_first(&mut self, operation: &Publish, _other: &Table) -> Result<(), AllocError> {
         let ui = operation.ui;
-        if ui.kind() == Kind::Port && self.hints.layout().can_make_port(ui) {
+        let layout = self.hints.layout();
+        if ui.kind() == Kind::Port
+            && layout.can_make_port(ui)
+            && layout.has_place(operation.place)
+        {
             self.hints.learn(ui, operation.place, operation.hop);
         }
         self.upto = operation.upto;

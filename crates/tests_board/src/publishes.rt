@@ -1,6 +1,6 @@
 ghost use Rattle.std.specs.Prelude.{◌≡◌, [], IsTrue, OnOk, All, IfSome};
 ghost use Rattle.chorus_ui.specs.declared.kind.Kind.TheVariants.{Port};
-ghost use Rattle.chorus_ui.specs.Layout.{has_site, can_make_port};
+ghost use Rattle.chorus_ui.specs.Layout.{has_site, has_place, can_make_port};
 ghost use Rattle.chorus_board.specs.Boards.{entries_published, entries_begun, book_of, layout_of, layout_read, IsSameBoard, IsNewBoard, IsNewIn};
 ghost use Rattle.tests_board.specs.Moves.{departure};
 
@@ -21,6 +21,7 @@ pub(crate) fn publish_departure<R: Wait>(
 ) -> Result<(), AllocError>
     requires new { IsNewBoard (layout_of board.old) board.old }
     requires port { (port.kind ≡ Port) × IsTrue (can_make_port (layout_of board.old) port) }
+    requires place { IsTrue (has_place (layout_of board.old) place) }
     ensures board { IsSameBoard board.old board.new }
     ensures published { OnOk result (entries_published board.new ≡ departure port place hop) }
 {
@@ -68,7 +69,7 @@ fn answers<R: Wait>(
         board.end(rt);
         return None;
     };
-    let done = if port.kind() == Kind::Port && layout.can_make_port(port) {
+    let done = if port.kind() == Kind::Port && layout.can_make_port(port) && layout.has_place(2) {
         publish_departure(rt, &mut board, port, 2, 1).is_ok()
     } else {
         false

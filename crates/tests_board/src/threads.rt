@@ -1,6 +1,6 @@
-ghost use Rattle.std.specs.Prelude.{◌≡◌, IsTrue};
+ghost use Rattle.std.specs.Prelude.{◌≡◌, ◌≤◌, IsTrue};
 ghost use Rattle.chorus_ui.specs.declared.kind.Kind.TheVariants.{Port};
-ghost use Rattle.chorus_ui.specs.Layout.{has_site, can_make_port};
+ghost use Rattle.chorus_ui.specs.Layout.{has_site, can_make_port, places};
 ghost use Rattle.chorus_board.specs.Boards.{layout_of, layout_read, IsNewBoard};
 
 use crate::publishes::next_reader;
@@ -18,6 +18,7 @@ const LAST: u64 = 2_000;
 fn publish_departures<R: Wait>(rt: &R, board: &mut Board, port: Ui) -> bool
     requires new { IsNewBoard (layout_of board.old) board.old }
     requires port { (port.kind ≡ Port) × IsTrue (can_make_port (layout_of board.old) port) }
+    requires places { 2 ≤ places (layout_of board.old) }
 {
     for count in 0..LAST {
         let hop = count + 1;
@@ -63,7 +64,7 @@ fn a_reader_in_another_thread_never_goes_back(rt: HostRuntime) -> Result<(), Fai
     };
     let mut rises = false;
     let mut done = false;
-    if port.kind() == Kind::Port && layout.can_make_port(port) {
+    if port.kind() == Kind::Port && layout.can_make_port(port) && layout.places() >= 2 {
         (rises, done) = join(
             &rt,
             move || -> bool
@@ -72,6 +73,7 @@ fn a_reader_in_another_thread_never_goes_back(rt: HostRuntime) -> Result<(), Fai
             || -> bool
                 requires new { IsNewBoard (layout_of board) board }
                 requires port { (port.kind ≡ Port) × IsTrue (can_make_port (layout_of board) port) }
+                requires places { 2 ≤ places (layout_of board) }
             { publish_departures(&rt, &mut board, port) },
         );
     }
