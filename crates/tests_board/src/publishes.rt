@@ -29,7 +29,11 @@ pub(crate) fn publish_departure<R: Wait>(
 }
 
 // The next reader.
-pub(crate) fn next_reader(board: &Board, layout: Layout, readers: &mut Vec<BoardReader>) -> Option<BoardReader>
+pub(crate) fn next_reader(
+    board: &Board,
+    layout: Layout,
+    readers: &mut Vec<BoardReader>,
+) -> Option<BoardReader>
     requires { All (IsNewIn (book_of board.now) layout) readers.old.items }
     ensures one { IfSome result (IsNewIn (book_of board.now) layout) }
     ensures rest { All (IsNewIn (book_of board.now) layout) readers.new.items }

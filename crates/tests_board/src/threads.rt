@@ -23,7 +23,10 @@ fn publish_departures<R: Wait>(rt: &R, board: &mut Board, port: Ui) -> bool
     for count in 0..LAST {
         let hop = count + 1;
         let place = (hop % 2) as u16 + 1;
-        if board.publish::<Brand, R>(rt, port, place, hop, hop).is_err() {
+        if board
+            .publish::<Brand, R>(rt, port, place, hop, hop)
+            .is_err()
+        {
             return false;
         }
     }
