@@ -1,5 +1,5 @@
 -- What a place knows of where ports are: for each port that its layout can make, the pair of place and hop that is kept.
-use Rattle.std.specs.Prelude.{ℕ, ◌+◌, ◌-◌, ◌*◌, nat_lt, Bool, ◌&&◌, if◌then◌else◌, Option, Some, None, List, slice_index_or}
+use Rattle.std.specs.Prelude.{ℕ, ◌+◌, ◌-◌, ◌*◌, nat_lt, Bool, ◌&&◌, if◌then◌else◌, Option, Some, None, List, replicate, slice_index_or, slice_set}
 use Rattle.chorus_ui.specs.declared.kind.Kind.TheVariants.{Port}
 use Rattle.chorus_ui.specs.declared.layout.Layout.{Layout}
 use Rattle.chorus_ui.specs.declared.limits.TheConstants.{PORTS_PER_SITE_LIMIT}
@@ -45,3 +45,14 @@ hop_of (Some pair) = pair.1
 -- a greater hop is kept, with its place, in place of the pair that was, and the pairs of the other ports stay
 abbrev pub learned : Ui → ℕ → ℕ → Pairs → Pairs
 learned port place hop pairs q = if nat_lt (hop_of (pairs port)) hop && same_ui port q then Some (place, hop) else pairs q
+
+-- nothing is kept, and there is room for each port that the layout can make
+abbrev pub nothing_known : Layout → Known
+nothing_known layout = record { layout = layout; pairs = replicate (layout.sites * PORTS_PER_SITE) None }
+
+-- the same, as one value: the pair of the port is put where it stands
+abbrev pub known_after : Known → Ui → ℕ → ℕ → Known
+known_after known port place hop =
+    if nat_lt (hop_of (kept known port)) hop
+    then record known { pairs = slice_set known.pairs (row_of port) (Some (place, hop)) }
+    else known

@@ -4,7 +4,7 @@ ghost use Rattle.std.specs.Prelude.{◌≡◌, nat_lt, IsTrue, IfOk};
 ghost use Rattle.chorus_ui.specs.declared.ui.Ui.{Ui};
 ghost use Rattle.chorus_ui.specs.declared.kind.Kind.TheVariants.{Port};
 ghost use Rattle.chorus_ui.specs.Layout.{has_site, can_make_port};
-ghost use Rattle.chorus_hints.specs.Known.{row_of, kept, newest, hop_of, learned};
+ghost use Rattle.chorus_hints.specs.Known.{row_of, kept, newest, hop_of, learned, nothing_known, known_after};
 
 use chorus_ui::{Kind, Layout, PORTS_PER_SITE_LIMIT, Ui};
 use std::alloc::{AllocError, Global};
@@ -42,6 +42,7 @@ fn row_of(port: Ui) -> usize
 impl Hints {
     /// Nothing is kept, and there is room for each port that the layout can make.
     pub fn with_room(alloc: Global, layout: Layout) -> Result<Hints, AllocError>
+        ensures value { IfOk result (λ hints. hints ≡ nothing_known layout) }
         ensures layout { IfOk result (λ hints. hints.layout ≡ layout) }
         ensures nothing { IfOk result (λ hints. (q : Ui) → kept hints q ≡ None) }
     {
@@ -50,12 +51,20 @@ impl Hints {
         Ok(Hints { layout, pairs })
     }
 
+    /// The layout whose ports these are.
+    pub fn layout(&self) -> Layout
+        ensures { result ≡ self.now.layout }
+    {
+        self.layout
+    }
+
     /// Keeps the place, where its hop is greater than that of the kept pair, or than 0 where none is kept; and answers whether.
     /// The port is one that the layout can make. Takes no memory.
     pub fn learn(&mut self, ui: Ui, place: u16, hop: u64) -> bool
         requires port { ui.kind ≡ Port }
         requires in_layout { IsTrue (can_make_port self.old.layout ui) }
         ensures answer { result ≡ nat_lt (hop_of (kept self.old ui)) hop }
+        ensures value { self.new ≡ known_after self.old ui place hop }
         ensures pairs { (q : Ui) → kept self.new q ≡ learned ui place hop (kept self.old) q }
         ensures layout { self.new.layout ≡ self.old.layout }
     {
@@ -84,5 +93,15 @@ impl Hints {
         } else {
             made
         }
+    }
+
+    /// Keeps what the other one keeps, of the same layout. Takes no memory.
+    pub fn copy_from(&mut self, other: &Hints)
+        requires { other.now.layout ≡ self.old.layout }
+        ensures { self.new ≡ other.now }
+    {
+        self.pairs
+            .as_mut_slice()
+            .copy_from_slice(other.pairs.as_slice());
     }
 }

@@ -5,7 +5,7 @@ use lib.ListN.{get_elem?}
 use Rattle.crossbeam_queue.specs.Fifo.{Pushes, Pops, Forks, Merges, Learns}
 use Rattle.crossbeam_queue.proofs.Lists.{at_set}
 use Rattle.chorus_link.specs.declared.rule.Log.{Log}
-use Rattle.chorus_link.specs.Rule.{log, Knows, Linked, putting, getting, joined, finished, PutThen, GotThen, WasPut, WasGot}
+use Rattle.chorus_link.specs.Rule.{log, Knows, Linked, sender_log, receiver_log, both_log, spent_log, PutThen, GotThen, WasPut, WasGot}
 use Rattle.chorus_link.proofs.Beginnings.{starts_whole, starts_longer}
 use Rattle.chorus_link.proofs.Views.{AllViews, all_set, all_more, all_one}
 
@@ -121,25 +121,25 @@ module _ {P : Type 0} where
         whole = λ writes. sym (mine.putter writes).1;
       }
 
-  pub forks : (pass : ℕ) (v : Log P) → v.puts ≡ true → v.gets ≡ true → Forks Linked pass v (putting v) (getting v)
+  pub forks : (pass : ℕ) (v : Log P) → v.puts ≡ true → v.gets ≡ true → Forks Linked pass v (sender_log v) (receiver_log v)
   forks pass v writes reads items views h at =
       let mine = h.known pass v at in
-      let both : List (Log P) = set views pass (putting v) in
+      let both : List (Log P) = set views pass (sender_log v) in
       let next : ℕ = length both in
-      let sender : Knows h.writer next h.put h.got pass (putting v) = record {
+      let sender : Knows h.writer next h.put h.got pass (sender_log v) = record {
         was_put = mine.was_put;
         was_got = mine.was_got;
         putter = λ _. mine.putter writes;
         getter = λ no. absurd (true≢false (sym no));
       } in
-      let receiver : Knows h.writer next h.put h.got next (getting v) = record {
+      let receiver : Knows h.writer next h.put h.got next (receiver_log v) = record {
         was_put = mine.was_put;
         was_got = mine.was_got;
         putter = λ no. absurd (true≢false (sym no));
         getter = λ _. (refl, (mine.getter reads).1);
       } in
       let before : AllViews (Knows h.writer next h.put h.got) both =
-      all_set (Knows h.writer next h.put h.got) views pass (putting v) sender
+      all_set (Knows h.writer next h.put h.got) views pass (sender_log v) sender
       (λ j u other e. new_getter (h.known j u e) (λ is. other (is ∙ sym (mine.getter reads).0)) next) in
       record {
         writer = h.writer;
@@ -147,29 +147,29 @@ module _ {P : Type 0} where
         put = h.put;
         got = h.got;
         in_order = h.in_order;
-        known = all_more (Knows h.writer next h.put h.got) both (getting v) before receiver;
+        known = all_more (Knows h.writer next h.put h.got) both (receiver_log v) before receiver;
       }
 
-  pub merges : (pass : ℕ) (v : Log P) (other : ℕ) (u : Log P) → v.puts ≡ true → u.gets ≡ true → Merges Linked pass v other u (joined v u) finished
+  pub merges : (pass : ℕ) (v : Log P) (other : ℕ) (u : Log P) → v.puts ≡ true → u.gets ≡ true → Merges Linked pass v other u (both_log v u) spent_log
   merges pass v other u writes reads items views h at apart at_other =
       let mine = h.known pass v at in
-      let one : List (Log P) = set views pass (joined v u) in
-      let was : get_elem? views other ≡ some u = ⊎_elim (λ here. absurd (apart here.0)) (λ there. there.1) (at_set views pass other (joined v u) u at_other) in
+      let one : List (Log P) = set views pass (both_log v u) in
+      let was : get_elem? views other ≡ some u = ⊎_elim (λ here. absurd (apart here.0)) (λ there. there.1) (at_set views pass other (both_log v u) u at_other) in
       let theirs = h.known other u was in
-      let whole : Knows h.writer pass h.put h.got pass (joined v u) = record {
+      let whole : Knows h.writer pass h.put h.got pass (both_log v u) = record {
         was_put = mine.was_put;
         was_got = theirs.was_got;
         putter = λ _. mine.putter writes;
         getter = λ _. (refl, (theirs.getter reads).1);
       } in
-      let spent : Knows h.writer pass h.put h.got other finished = record {
+      let spent : Knows h.writer pass h.put h.got other spent_log = record {
         was_put = (h.put, refl);
         was_got = (h.got, refl);
         putter = λ no. absurd (true≢false (sym no));
         getter = λ no. absurd (true≢false (sym no));
       } in
       let Rest : ℕ → Log P → Type 0 = λ j y. j ≢ other → Knows h.writer pass h.put h.got j y in
-      let rest : AllViews Rest one = all_set Rest views pass (joined v u) (λ _. whole)
+      let rest : AllViews Rest one = all_set Rest views pass (both_log v u) (λ _. whole)
       (λ j y _ e not_other. new_getter (h.known j y e) (λ is. not_other (is ∙ sym (theirs.getter reads).0)) pass) in
       record {
         writer = h.writer;
@@ -177,7 +177,7 @@ module _ {P : Type 0} where
         put = h.put;
         got = h.got;
         in_order = h.in_order;
-        known = all_set (Knows h.writer pass h.put h.got) one other finished spent (λ j y not_other e. rest j y e not_other);
+        known = all_set (Knows h.writer pass h.put h.got) one other spent_log spent (λ j y not_other e. rest j y e not_other);
       }
 
 -- what a step owes, of each kind but the push, which no search finds

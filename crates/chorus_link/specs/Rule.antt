@@ -28,18 +28,18 @@ module _ {P : Type 0} where
     pub known : (pass : ℕ) (v : Log P) → get_elem? views pass ≡ some v → Knows writer reader put got pass v
 
   -- the split that makes the two ends
-  abbrev pub putting : Log P → Log P
-  putting v = log true false v.put v.got
+  abbrev pub sender_log : Log P → Log P
+  sender_log v = log true false v.put v.got
 
-  abbrev pub getting : Log P → Log P
-  getting v = log false true v.put v.got
+  abbrev pub receiver_log : Log P → Log P
+  receiver_log v = log false true v.put v.got
 
   -- the join of the two ends
-  abbrev pub joined : Log P → Log P → Log P
-  joined v w = log true true v.put w.got
+  abbrev pub both_log : Log P → Log P → Log P
+  both_log v w = log true true v.put w.got
 
-  abbrev pub finished : Log P
-  finished = log false false [] []
+  abbrev pub spent_log : Log P
+  spent_log = log false false [] []
 
   -- a push: x was put last, and what the pass knows to be got may be more
   pub record PutThen (v : Log P) (x : P) (w : Log P) : Type 0 where

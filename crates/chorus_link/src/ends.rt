@@ -14,8 +14,8 @@ pub(crate) type Line<P> = Arc<RuledArrayQueue<P, Log<P>, InOrder>, Global>;
 
 /// The end of a link that puts packets.
 ///
-/// A contract sees which link it is of, its `room`, all that was `put`, as much of what was got as this end knows, and the
-/// count of its `fulls`.
+/// A contract sees which link it is of, its `room`, all packets that were put (`packets_put`), as much of what was got as
+/// this end knows (`known_got`), and the count of its `fulls`.
 #[derive(Drop)]
 pub struct SendEnd<P> {
     pub(crate) queue: Line<P>,
@@ -27,8 +27,8 @@ pub struct SendEnd<P> {
 
 /// The end of a link that gets packets.
 ///
-/// A contract sees which link it is of, all that was `got`, as much of what was put as this end knows, and the count of its
-/// `empties`.
+/// A contract sees which link it is of, all packets that were got (`packets_got`), as much of what was put as this end
+/// knows (`known_put`), and the count of its `empties`.
 #[derive(Drop)]
 pub struct RecvEnd<P> {
     pub(crate) queue: Line<P>,
@@ -41,7 +41,7 @@ pub struct RecvEnd<P> {
 impl<P: Drop> SendEnd<P> {
     ghost use Rattle.std.specs.Prelude.{◌≡◌, ◌+◌, [], ◌∷◌, ◌++◌, OnOk, OnErr, IfErr, MatchResult};
     ghost use Rattle.chorus_link.specs.Lists.{StartsWith};
-    ghost use Rattle.chorus_link.specs.Ends.{put, known_got, fulls_of, send_link, room, WasFull};
+    ghost use Rattle.chorus_link.specs.Ends.{packets_put, known_got, fulls_of, send_link, room, PutsNothing, WasFull};
 
     /// Puts a packet behind all that was put, in one operation of the queue.
     ///
@@ -49,12 +49,13 @@ impl<P: Drop> SendEnd<P> {
     /// finds the count at 2^64 - 1 tries again until there is room, so the count stands still there. Takes no memory.
     pub fn push<R: Wait>(&mut self, rt: &R, packet: P) -> Result<(), P>
         ensures link { (send_link self.new ≡ send_link self.old) × (room self.new ≡ room self.old) }
-        ensures moved { OnOk result (put self.new ≡ put self.old ++ packet ∷ []) }
+        ensures moved { OnOk result (packets_put self.new ≡ packets_put self.old ++ packet ∷ []) }
         ensures learned { OnOk result (StartsWith (known_got self.new) (known_got self.old)) }
         ensures back { IfErr result (λ x. x ≡ packet) }
-        ensures unmoved { OnErr result ((put self.new ≡ put self.old) × (known_got self.new ≡ known_got self.old)) }
-        ensures counted { MatchResult result (λ _. fulls_of self.new ≡ fulls_of self.old) (λ _. fulls_of self.new ≡ fulls_of self.old + 1) }
-        ensures full { OnErr result (WasFull (room self.old) (put self.old) (known_got self.old)) }
+        ensures unmoved { OnErr result (PutsNothing self.old self.new) }
+        ensures counted { MatchResult result (λ _. fulls_of self.new ≡ fulls_of self.old)
+            (λ _. fulls_of self.new ≡ fulls_of self.old + 1) }
+        ensures full { OnErr result (WasFull (room self.old) (packets_put self.old) (known_got self.old)) }
     {
         let mut packet = packet;
         for _ in rt.forever() {
@@ -83,7 +84,7 @@ impl<P: Drop> SendEnd<P> {
 impl<P: Drop> RecvEnd<P> {
     ghost use Rattle.std.specs.Prelude.{◌≡◌, ◌+◌, [], ◌∷◌, ◌++◌, OnSome, IfSome, IfNone, MatchOption};
     ghost use Rattle.chorus_link.specs.Lists.{StartsWith};
-    ghost use Rattle.chorus_link.specs.Ends.{got, known_put, empties_of, recv_link, WasEmpty};
+    ghost use Rattle.chorus_link.specs.Ends.{packets_got, known_put, empties_of, recv_link, GetsNothing, WasEmpty};
 
     /// Gets the first packet that was put and not got, in one operation of the queue.
     ///
@@ -92,12 +93,13 @@ impl<P: Drop> RecvEnd<P> {
     #[tactic(auto, using(crate::proofs::Steps::steps))]
     pub fn pop<R: Wait>(&mut self, rt: &R) -> Option<P>
         ensures link { recv_link self.new ≡ recv_link self.old }
-        ensures moved { IfSome result (λ x. got self.new ≡ got self.old ++ x ∷ []) }
+        ensures moved { IfSome result (λ x. packets_got self.new ≡ packets_got self.old ++ x ∷ []) }
         ensures learned { OnSome result (StartsWith (known_put self.new) (known_put self.old)) }
-        ensures within { OnSome result (StartsWith (known_put self.new) (got self.new)) }
-        ensures unmoved { IfNone result ((got self.new ≡ got self.old) × (known_put self.new ≡ known_put self.old)) }
-        ensures counted { MatchOption result (empties_of self.new ≡ empties_of self.old + 1) (λ _. empties_of self.new ≡ empties_of self.old) }
-        ensures empty { IfNone result (WasEmpty (got self.old) (known_put self.old)) }
+        ensures within { OnSome result (StartsWith (known_put self.new) (packets_got self.new)) }
+        ensures unmoved { IfNone result (GetsNothing self.old self.new) }
+        ensures counted { MatchOption result (empties_of self.new ≡ empties_of self.old + 1)
+            (λ _. empties_of self.new ≡ empties_of self.old) }
+        ensures empty { IfNone result (WasEmpty (packets_got self.old) (known_put self.old)) }
     {
         for _ in rt.forever() {
             match self.queue.pop_as::<Gets, R>(rt, &mut self.pass) {

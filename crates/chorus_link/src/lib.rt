@@ -10,11 +10,13 @@
 //! was got followed by the rest. A push hands its packet back only where the queue was full at a step of the call, and a pop
 //! gives none only where it was empty; each end counts these refusals. Nothing is said of waiting or of progress.
 //!
-//! Begin with `specs/Rule.antt`, the rule that every step keeps, and `specs/Ends.antt`, the words of the contracts.
+//! Begin with `specs/Rule.antt`, the rule that every step keeps, and `specs/Ends.antt`, the words of the contracts. A state
+//! that keeps ends says by their [`LinkName`]s which links they are of.
 #![tactic(auto)]
 
 mod ends;
 mod lifecycle;
+mod name;
 mod rest;
 mod rule;
 #[cfg(test)]
@@ -22,4 +24,5 @@ mod tests;
 
 pub use ends::{RecvEnd, SendEnd};
 pub use lifecycle::{link, settle};
+pub use name::{LinkName, names_tell_links};
 pub use rest::Rest;

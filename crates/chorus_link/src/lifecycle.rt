@@ -1,6 +1,7 @@
 //! How a link begins, and how it ends.
-ghost use Rattle.std.specs.Prelude.{◌≡◌, ◌<◌, [], ◌++◌, IfOk};
-ghost use Rattle.chorus_link.specs.Ends.{put, got, known_got, known_put, fulls_of, empties_of, send_link, recv_link, room, left};
+ghost use Rattle.std.specs.Prelude.{◌≡◌, ◌<◌, ◌++◌, IfOk};
+ghost use Rattle.chorus_link.specs.Ends.{packets_put, packets_got, packets_left, fulls_of, empties_of};
+ghost use Rattle.chorus_link.specs.Ends.{send_link, recv_link, room, AreNew};
 
 use crate::ends::{RecvEnd, SendEnd};
 use crate::rest::Rest;
@@ -14,7 +15,7 @@ use std::sync::Arc;
 pub fn link<P: Drop>(alloc: Global, capacity: usize) -> Result<(SendEnd<P>, RecvEnd<P>), AllocError>
     requires { 0 < capacity }
     ensures one_link { IfOk result (λ r. (send_link r.0 ≡ recv_link r.1) × (room r.0 ≡ capacity)) }
-    ensures empty { IfOk result (λ r. (put r.0 ≡ []) × (got r.1 ≡ []) × (known_got r.0 ≡ []) × (known_put r.1 ≡ [])) }
+    ensures empty { IfOk result (λ r. AreNew r.0 r.1) }
     ensures counts { IfOk result (λ r. (fulls_of r.0 ≡ 0) × (empties_of r.1 ≡ 0)) }
 {
     let (queue, mut pass) = RuledArrayQueue::ruled(alloc, capacity)?;
@@ -38,7 +39,7 @@ pub fn link<P: Drop>(alloc: Global, capacity: usize) -> Result<(SendEnd<P>, Recv
 #[tactic(auto, using(crate::proofs::Steps::steps))]
 pub fn settle<P: Drop>(send: SendEnd<P>, recv: RecvEnd<P>) -> Rest<P>
     requires { send_link send ≡ recv_link recv }
-    ensures { put send ≡ got recv ++ left result }
+    ensures { packets_put send ≡ packets_got recv ++ packets_left result }
 {
     let SendEnd {
         queue,

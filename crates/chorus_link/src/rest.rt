@@ -9,8 +9,8 @@ use crate::rule::{Gets, Log};
 use crossbeam_queue::Pass;
 use std::sync::Wait;
 
-/// The packets that were put and not got. A contract sees them as the list `left`; those that are never asked for are dropped
-/// with it.
+/// The packets that were put and not got. A contract sees them as the list `packets_left`; those that are never asked for
+/// are dropped with it.
 #[derive(Drop)]
 pub struct Rest<P> {
     pub(crate) queue: Line<P>,
@@ -22,13 +22,13 @@ pub struct Rest<P> {
 
 impl<P: Drop> Rest<P> {
     ghost use Rattle.std.specs.Prelude.{◌≡◌, [], ◌∷◌, IfSome, IfNone};
-    ghost use Rattle.chorus_link.specs.Ends.{left};
+    ghost use Rattle.chorus_link.specs.Ends.{packets_left};
 
     /// The next packet that is left, in order; None exactly where none is left. Takes no memory.
     #[tactic(auto, using(crate::proofs::Steps::steps))]
     pub fn next<R: Wait>(&mut self, rt: &R) -> Option<P>
-        ensures first { IfSome result (λ x. left self.old ≡ x ∷ left self.new) }
-        ensures none { IfNone result ((left self.old ≡ []) × (left self.new ≡ [])) }
+        ensures first { IfSome result (λ x. packets_left self.old ≡ x ∷ packets_left self.new) }
+        ensures none { IfNone result ((packets_left self.old ≡ []) × (packets_left self.new ≡ [])) }
     {
         self.queue.pop_as::<Gets, R>(rt, &mut self.pass)
     }

@@ -1,6 +1,6 @@
 //! The rule of a link and what each step tells, for proofs alone: no value of these types is made.
 ghost use Rattle.std.specs.Prelude.{true};
-ghost use Rattle.chorus_link.specs.Rule.{log, Linked, putting, getting, joined, finished, PutThen, GotThen, WasPut, WasGot};
+ghost use Rattle.chorus_link.specs.Rule.{log, Linked, sender_log, receiver_log, both_log, spent_log, PutThen, GotThen, WasPut, WasGot};
 
 use crossbeam_queue::protocol::{Join, Lesson, Outcome, Protocol, Split};
 use std::collections::LinkedList;
@@ -28,15 +28,15 @@ impl<P> Protocol<P, Log<P>> for InOrder {
 pub struct Ends;
 
 impl<P> Split<Log<P>> for Ends {
-    ghost left = { putting };
+    ghost left = { sender_log };
 
-    ghost right = { getting };
+    ghost right = { receiver_log };
 }
 
 impl<P> Join<Log<P>> for Ends {
-    ghost both = { joined };
+    ghost both = { both_log };
 
-    ghost spent = { finished };
+    ghost spent = { spent_log };
 }
 
 /// A packet is put, or the queue is full.

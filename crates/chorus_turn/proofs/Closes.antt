@@ -17,7 +17,8 @@ use Rattle.chorus_turn.specs.Rule.{claims, Turned, IsAtRest}
 use Rattle.chorus_turn.specs.Calls.{IsMarkAt, Finished}
 use Rattle.chorus_turn.proofs.Counts.{total-alone, times-none}
 use Rattle.chorus_turn.proofs.Parts.{seats_below, times_contains}
-use Rattle.chorus_turn.proofs.Rows.{somes, length-somes, somes_same, slice_get_inside, somes_of_all}
+use Rattle.chorus_turn.specs.Lists.{somes}
+use Rattle.chorus_turn.proofs.Rows.{length-somes, somes_same, slice_get_inside, somes_of_all}
 use Rattle.chorus_turn.proofs.Takes.{shows}
 use Rattle.chorus_turn.proofs.Views.{times_claims, length-claims, holder_apart, alone}
 

@@ -12,7 +12,7 @@ use Rattle.chorus_turn.specs.declared.knowledge.Placed.{Placed}
 use Rattle.chorus_turn.specs.declared.knowledge.Note.{Note}
 use Rattle.chorus_turn.specs.declared.view.View.{View}
 use Rattle.chorus_turn.specs.Lists.{StartsWith, list_at, list_put, times}
-use Rattle.chorus_turn.specs.Journals.{IsBy, placed}
+use Rattle.chorus_turn.specs.Journals.{IsBy, with_place}
 use Rattle.chorus_turn.specs.Knowing.{seats_of}
 use Rattle.chorus_turn.specs.Rule.{claims, Grasp, IsNumbered, Turned, given_view, give_then}
 use Rattle.chorus_turn.proofs.Counts.{one_within, one-same}
@@ -73,7 +73,7 @@ module _ {S R : Type 0} (journal : S → List (Remarked R) → Type 0) (marked :
               sees = seen_after (k + 1) v.knows.seen (v.took ++ news) log now (λ i. grows i (list_at i v.knows.seen) (mine.sees i));
               saw = λ i. grows i (list_at i v.former) (mine.saw i);
               heard = λ i. grows i (list_at i v.heard) (mine.heard i);
-              own = ap (λ l. l ++ placed (k + 1) news) mine.own ∙ sym (work_here h (k + 1) news r.work);
+              own = ap (λ l. l ++ with_place (k + 1) news) mine.own ∙ sym (work_here h (k + 1) news r.work);
               noted = notes_apart h (λ (n : Note R). n.mine ≡ r.work n.seat) (λ (n : Note R). n.mine ≡ work n.seat) v.knows.notes own_once.1 (λ n apart e. e ∙ sym (same_work n.seat apart)) mine.noted;
               unused = λ q there. same_work q (λ e. let z = own_once.0 in let t = ap (λ (n : ℕ). times n v.drawn) e in omega arith) ∙ mine.unused q there;
               counts = λ e. mine.counts e ∙ sym first;

@@ -14,7 +14,8 @@ use Rattle.chorus_turn.specs.declared.view.View.{View}
 use Rattle.chorus_turn.specs.Rule.{Grasp, IsNumbered, Turned, first_view}
 use Rattle.chorus_turn.proofs.Fronts.{starts_empty}
 use Rattle.chorus_turn.proofs.Numbers.{numbered_first}
-use Rattle.chorus_turn.proofs.Rows.{somes, length-somes, somes_each}
+use Rattle.chorus_turn.specs.Lists.{somes}
+use Rattle.chorus_turn.proofs.Rows.{length-somes, somes_each}
 
 module _ {R : Type 0} (ws : List ℕ) (first : get_or ws 0 0 ≡ 1) where
   first_grasp : Grasp {R = R} (λ _. []) (λ _. []) ws first_view

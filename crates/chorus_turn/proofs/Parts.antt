@@ -10,7 +10,7 @@ use Rattle.chorus_turn.specs.declared.knowledge.Remarked.{Remarked}
 use Rattle.chorus_turn.specs.declared.knowledge.Placed.{Placed}
 use Rattle.chorus_turn.specs.declared.knowledge.Note.{Note}
 use Rattle.chorus_turn.specs.Lists.{times}
-use Rattle.chorus_turn.specs.Journals.{GrowsBy, entries_of, by_seat, IsBy, placed, at_place}
+use Rattle.chorus_turn.specs.Journals.{GrowsBy, entries_of, by_seat, IsBy, with_place, at_place}
 use Rattle.chorus_turn.specs.Knowing.{seats_of}
 use Rattle.chorus_turn.proofs.Counts.{one-same, one-other}
 
@@ -32,13 +32,13 @@ module _ {R : Type 0} where
   abbrev kept_at : Bool → Remarked R → List (Placed R) → ℕ → List (Remarked R)
   kept_at b e ms p = map (λ (m : Placed R). m.remarked) (cond b (record { place = p; remarked = e } ∷ ms) ms)
 
-  pub at_place-placed : (p : ℕ) (es : List (Remarked R)) → at_place p (placed p es) ≡ es
-  at_place-placed p [] = refl
-  at_place-placed p (e ∷ es) = ap (λ b. kept_at b e (filter (λ (m : Placed R). eqb m.place p) (placed p es)) p) (eq-eqb p p refl) ∙ ap (λ l. e ∷ l) (at_place-placed p es)
+  pub at_place-with_place : (p : ℕ) (es : List (Remarked R)) → at_place p (with_place p es) ≡ es
+  at_place-with_place p [] = refl
+  at_place-with_place p (e ∷ es) = ap (λ b. kept_at b e (filter (λ (m : Placed R). eqb m.place p) (with_place p es)) p) (eq-eqb p p refl) ∙ ap (λ l. e ∷ l) (at_place-with_place p es)
 
-  pub at_place-elsewhere : (p q : ℕ) (es : List (Remarked R)) → p ≢ q → at_place q (placed p es) ≡ []
+  pub at_place-elsewhere : (p q : ℕ) (es : List (Remarked R)) → p ≢ q → at_place q (with_place p es) ≡ []
   at_place-elsewhere p q [] apart = refl
-  at_place-elsewhere p q (e ∷ es) apart = ap (λ b. kept_at b e (filter (λ (m : Placed R). eqb m.place q) (placed p es)) p) (ne_eqb p q apart) ∙ at_place-elsewhere p q es apart
+  at_place-elsewhere p q (e ∷ es) apart = ap (λ b. kept_at b e (filter (λ (m : Placed R). eqb m.place q) (with_place p es)) p) (ne_eqb p q apart) ∙ at_place-elsewhere p q es apart
 
   pub length-seats_of : (ns : List (Note R)) → length (seats_of ns) ≡ length ns
   length-seats_of ns = length-map ns (λ (n : Note R). n.seat)

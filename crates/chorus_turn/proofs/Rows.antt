@@ -6,9 +6,7 @@ use mathlib.Core.Option.{some, some-injective, some-ne-none}
 use lib.ListN.{get_elem?}
 use Rattle.std.specs.List.{All}
 use Rattle.std.specs.Prelude.{Option, Some, None, slice_get}
-
-abbrev pub somes : {S : Type 0} → List S → List (Option S)
-somes xs = map (λ x. Some x) xs
+use Rattle.chorus_turn.specs.Lists.{somes}
 
 module _ {S : Type 0} where
   pub length-somes : (xs : List S) → length (somes xs) ≡ length xs

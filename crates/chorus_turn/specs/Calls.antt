@@ -11,6 +11,18 @@ use Rattle.chorus_turn.specs.Knowing.{limit, seats_of, after_turn, after_refusal
 abbrev pub IsMarkAt : {S M : Type 0} → (S → M) → List S → ℕ → M → Type 0
 IsMarkAt {S} mark handed place m = (y : S) × (slice_get handed (place - 1) ≡ Some y) × (m ≡ mark y)
 
+-- the state has that mark
+abbrev pub IsMarked : {S M : Type 0} → (S → M) → List S → ℕ → S → Type 0
+IsMarked mark handed place x = IsMarkAt mark handed place (mark x)
+
+-- what is accepted of a mark is so of that of the place
+abbrev pub AcceptsAt : {S M : Type 0} → (S → M) → List S → ℕ → (M → Type 0) → Type 0
+AcceptsAt {S} {M} mark handed place accepted = (m : M) → IsMarkAt mark handed place m → accepted m
+
+-- fewer passes have ended than the keeper v has made
+abbrev pub AreOut : {R : Type 0} → Knowledge R → ℕ → ℕ → Type 0
+AreOut v made ended = (made ≡ v.made) × (ended ≡ length v.notes) × (ended + 1 < made)
+
 module _ {S M R : Type 0} (entries : S → List Entry) (fits : S → List (Remarked R) → Type 0) (mark : S → M) (handed : List S) where
   -- the job ran on the state of the place, and a pass that knew v knows w
   pub record Worked (did : S → S → Type 0) (notes : List (Remarked R) → Type 0) (place : ℕ) (v w : Knowledge R) : Type 0 where

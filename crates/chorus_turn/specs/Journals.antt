@@ -23,14 +23,20 @@ module _ {R : Type 0} where
   IsBy seat log = All (λ (r : Remarked R). r.entry.seat ≡ seat) log
 
   -- the entries, as made at this place
-  abbrev pub placed : ℕ → List (Remarked R) → List (Placed R)
-  placed place log = map (λ (r : Remarked R). record { place = place; remarked = r }) log
+  abbrev pub with_place : ℕ → List (Remarked R) → List (Placed R)
+  with_place place log = map (λ (r : Remarked R). record { place = place; remarked = r }) log
 
   -- of what was made, the entries of one place
   abbrev pub at_place : ℕ → List (Placed R) → List (Remarked R)
-  at_place place made = map (λ (m : Placed R). m.remarked) (filter (λ (m : Placed R). m.place == place) made)
+  at_place place made =
+      map (λ (m : Placed R). m.remarked) (filter (λ (m : Placed R). m.place == place) made)
 
-module _ {S R : Type 0} where
+module _ {S R : Type 0} (entries : S → List Entry) (fits : S → List (Remarked R) → Type 0) where
   -- the state has these entries, and the remarks fit them
-  abbrev pub IsJournal : (S → List Entry) → (S → List (Remarked R) → Type 0) → S → List (Remarked R) → Type 0
-  IsJournal entries fits state log = (entries_of log ≡ entries state) × fits state log
+  abbrev pub IsJournal : S → List (Remarked R) → Type 0
+  IsJournal state log = (entries_of log ≡ entries state) × fits state log
+
+  -- each journal of the old state is, with news of which `notes` holds behind it, a journal of the new one
+  abbrev pub GoesOn : (List (Remarked R) → Type 0) → S → S → Type 0
+  GoesOn notes old new =
+      (log : List (Remarked R)) → IsJournal old log → (news : List (Remarked R)) × IsJournal new (log ++ news) × notes news

@@ -1,5 +1,5 @@
 -- Lists, and rows of lists of which each is empty beyond the end.
-use Rattle.std.specs.Prelude.{◌≡◌, ℕ, zero, suc, ◌+◌, ◌==◌, Bool, true, false, cond, List, [], ◌∷◌, ◌++◌}
+use Rattle.std.specs.Prelude.{◌≡◌, ℕ, zero, suc, ◌+◌, ◌==◌, Bool, true, false, if◌then◌else◌, Option, Some, List, [], ◌∷◌, ◌++◌, map}
 
 module _ {A : Type 0} where
   -- the list begins with the front
@@ -26,13 +26,25 @@ module _ {A : Type 0} where
   is_longer (x ∷ xs) (y ∷ ys) = is_longer xs ys
 
   abbrev pub longer : List A → List A → List A
-  longer xs ys = cond (is_longer ys xs) ys xs
+  longer xs ys = if is_longer ys xs then ys else xs
 
   -- at each k the longer list
   abbrev pub all_longer : List (List A) → List (List A) → List (List A)
   all_longer [] ys = ys
   all_longer (x ∷ xs) [] = x ∷ xs
   all_longer (x ∷ xs) (y ∷ ys) = longer x y ∷ all_longer xs ys
+
+  -- at each k the list of the row begins with the list of either front
+  abbrev pub StartsWithBoth : List (List A) → List (List A) → List (List A) → Type 0
+  StartsWithBoth row first second =
+      (k : ℕ) → StartsWith (list_at k row) (list_at k first) × StartsWith (list_at k row) (list_at k second)
+
+  -- slots that are all full
+  abbrev pub somes : List A → List (Option A)
+  somes xs = map (λ x. Some x) xs
+
+  abbrev pub AreFull : List (Option A) → Type 0
+  AreFull slots = (xs : List A) × (slots ≡ somes xs)
 
   abbrev pub first_or : A → List A → A
   first_or d [] = d

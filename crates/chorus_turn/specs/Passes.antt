@@ -1,5 +1,5 @@
 -- What a clause says of passes and places.
-use Rattle.std.specs.Prelude.{◌≡◌, ℕ, List, length}
+use Rattle.std.specs.Prelude.{◌≡◌, ℕ, ◌+◌, ◌≤◌, List, length}
 use Rattle.atomic_table.specs.Seated.{TableId}
 use Rattle.chorus_turn.specs.declared.knowledge.Knowledge.{Knowledge}
 use Rattle.chorus_turn.specs.declared.turns.Turns.{Turns}
@@ -28,6 +28,9 @@ module _ {S M R : Type 0} where
   abbrev pub places : Turns S M R → ℕ
   places turns = length (handed turns)
 
+  abbrev pub IsPlaceOf : Turns S M R → ℕ → Type 0
+  IsPlaceOf turns place = (1 ≤ place) × (place ≤ places turns)
+
   -- the pass is one of these places
   abbrev pub IsPassOf : Turns S M R → Pass R → Type 0
   IsPassOf turns pass = pass.badge.table_id ≡ table_of turns
@@ -35,3 +38,8 @@ module _ {S M R : Type 0} where
   -- these places were closed by the pass
   abbrev pub IsSpentOf : Turns S M R → Spent R → Type 0
   IsSpentOf turns spent = spent.badge.table_id ≡ table_of turns
+
+  -- these places were closed by this pass, and all others had ended in it
+  abbrev pub IsLeftOf : Turns S M R → Pass R → Spent R → Type 0
+  IsLeftOf turns pass spent = IsSpentOf turns spent × (known_at_close spent ≡ known pass)
+      × ((known pass).made ≤ length (known pass).notes + 1)

@@ -10,9 +10,9 @@ use Rattle.chorus_turn.specs.declared.knowledge.Placed.{Placed}
 use Rattle.chorus_turn.specs.declared.knowledge.Note.{Note}
 use Rattle.chorus_turn.specs.declared.knowledge.Knowledge.{Knowledge}
 use Rattle.chorus_turn.specs.declared.view.View.{View}
-use Rattle.chorus_turn.specs.Lists.{StartsWith, list_at, all_longer, first_or, total, one, times}
+use Rattle.chorus_turn.specs.Lists.{StartsWith, StartsWithBoth, list_at, all_longer, first_or, total, one, times}
 use Rattle.chorus_turn.specs.Journals.{by_seat, IsBy, at_place}
-use Rattle.chorus_turn.specs.Knowing.{limit, seats_of, opening_knowledge, after_draw, newcomer, after_refusal, after_turn, joined, Shows}
+use Rattle.chorus_turn.specs.Knowing.{limit, seats_of, opening_knowledge, after_draw, newcomer, after_refusal, after_turn, after_retirement, Shows}
 
 -- what a view claims while it is live
 abbrev pub if_live : Bool → List ℕ → List ℕ
@@ -89,7 +89,7 @@ module _ {R : Type 0} where
   admitted_view v = view_with record (newcomer v.knows) { seat = first_or 0 v.drawn }
 
   abbrev pub joined_view : View R → View R → View R
-  joined_view v w = record v { knows = joined v.knows w.knows; former = v.knows.seen; heard = w.knows.seen }
+  joined_view v w = record v { knows = after_retirement v.knows w.knows; former = v.knows.seen; heard = w.knows.seen }
 
   abbrev pub settled_view : View R → View R
   settled_view v = record v { former = []; heard = [] }
@@ -119,12 +119,21 @@ module _ {S R : Type 0} where
   -- how many notes there are at most, and that what is seen begins with what each of the two passes had seen
   abbrev pub count_then : Step (Option S) → Seated S R → ℕ → Seated S R → Type 0
   count_then st m r m' = (m' ≡ (settled_view m.0, m.1)) × (length m.0.knows.notes + 1 ≤ limit)
-      × (m.0.knows.seen ≡ all_longer m.0.former m.0.heard → (p : ℕ) → StartsWith (list_at p m.0.knows.seen) (list_at p m.0.former) × StartsWith (list_at p m.0.knows.seen) (list_at p m.0.heard))
+      × (m.0.knows.seen ≡ all_longer m.0.former m.0.heard → StartsWithBoth m.0.knows.seen m.0.former m.0.heard)
 
 module _ {S R : Type 0} (journal : S → List (Remarked R) → Type 0) (notes : List (Remarked R) → Type 0) where
-  -- the journal with which the place is given back
+  -- the place is given back: its state has the journal that was found, and then new entries of the pass
+  abbrev pub GivesBack : ℕ → Seated S R → Seated S R → Type 0
+  GivesBack p m m' = (x : S) → m.1 ≡ (p - 1, Some x) ∷ [] → (news : List (Remarked R)) × IsBy m.0.knows.seat news
+      × journal x (m.0.took ++ news) × notes news × (m' ≡ (given_view p news m.0, []))
+
+  -- the pass holds a state that it may give back
+  abbrev pub HasToGive : (ℕ → S → Type 0) → ℕ → Seated S R → Type 0
+  HasToGive marked p m = (x : S) × (news : List (Remarked R)) × (m.1 ≡ (p - 1, Some x) ∷ []) × IsBy m.0.knows.seat news
+      × journal x (m.0.took ++ news) × notes news × marked p x
+
   abbrev pub give_then : Step (Option S) → Seated S R → ℕ → Seated S R → Type 0
-  give_then st m r m' = (x : S) → m.1 ≡ (st.word - 1, Some x) ∷ [] → (news : List (Remarked R)) × IsBy m.0.knows.seat news × journal x (m.0.took ++ news) × notes news × (m' ≡ (given_view st.word news m.0, []))
+  give_then st m r m' = GivesBack st.word m m'
 
 module _ {S R : Type 0} (journal : S → List (Remarked R) → Type 0) (marked : ℕ → S → Type 0) where
   -- Word 0 counts the numbers drawn. The word of a place is 0 where its state is at home, and else the holder's number and 1.
@@ -141,11 +150,13 @@ module _ {S R : Type 0} (journal : S → List (Remarked R) → Type 0) (marked :
 
   -- the place was free, and the seat holds its state
   abbrev pub TakesOver : ℕ → View R → Seated S R → Type 0
-  TakesOver p v m = (x : S) × (found : List (Remarked R)) × (m ≡ (holding_view p found v, (p - 1, Some x) ∷ [])) × journal x found × marked p x × Shows p v.knows found
+  TakesOver p v m = (x : S) × (found : List (Remarked R)) × (m ≡ (holding_view p found v, (p - 1, Some x) ∷ []))
+      × journal x found × marked p x × Shows p v.knows found
 
   -- another pass held the place
   abbrev pub Misses : ℕ → View R → ℕ → Seated S R → Type 0
-  Misses p v by m = (m ≡ (refused_view p by v, [])) × (by < limit) × (by ≢ v.knows.seat) × (v.knows.keeper ≡ true → length v.knows.notes + 1 ≢ v.knows.made)
+  Misses p v by m = (m ≡ (refused_view p by v, [])) × (by < limit) × (by ≢ v.knows.seat)
+      × (v.knows.keeper ≡ true → length v.knows.notes + 1 ≢ v.knows.made)
 
   abbrev pub take_then : Step (Option S) → Seated S R → ℕ → Seated S R → Type 0
   take_then st m r m' = (r ≡ 0 → TakesOver st.word m.0 m') × (r ≢ 0 → Misses st.word m.0 (r - 1) m')

@@ -1,7 +1,8 @@
 //! How the places are taken apart.
-ghost use Rattle.std.specs.Prelude.{◌≡◌, ◌+◌, ◌<◌, ◌≤◌, true, List, length, map, IfOk, IfErr, Some};
+ghost use Rattle.std.specs.Prelude.{◌≡◌, ◌≤◌, true, IfOk, IfErr};
 ghost use Rattle.std.specs.Slots.{slots_items, slots_len, IsFull};
 ghost use Rattle.std.specs.Vec.{vec_len, vec_capacity};
+ghost use Rattle.chorus_turn.specs.Lists.{somes, AreFull};
 
 use crate::job::Kept;
 use crate::pass::Pass;
@@ -28,9 +29,9 @@ pub struct Spent<R> {
 
 // Takes the state out of each slot.
 fn unload<S>(closed: Closed<Option<S>, Global>, states: &mut Vec<S>)
-    requires full { IsFull closed.slots × ((xs : List S) × (slots_items closed.slots ≡ map (λ x. Some x) xs)) }
+    requires full { IsFull closed.slots × AreFull (slots_items closed.slots) }
     requires room { (slots_len closed.slots ≤ vec_capacity states.old) × (vec_len states.old ≡ 0) }
-    ensures { map (λ x. Some x) states.new.items ≡ slots_items closed.slots }
+    ensures { somes states.new.items ≡ slots_items closed.slots }
 {
     let mut closed = closed;
     let mut i = 0;
@@ -48,8 +49,8 @@ fn unload<S>(closed: Closed<Option<S>, Global>, states: &mut Vec<S>)
 }
 
 impl<S: Kept> Turns<S> {
-    ghost use Rattle.chorus_turn.specs.Passes.{known, known_at_close, handed, IsPassOf, IsSpentOf};
-    ghost use Rattle.chorus_turn.specs.Calls.{Finished};
+    ghost use Rattle.chorus_turn.specs.Passes.{known, handed, IsPassOf, IsLeftOf};
+    ghost use Rattle.chorus_turn.specs.Calls.{AreOut, Finished};
 
     /// Ends the places, once every other pass was retired into the keeper, and gives the states in their order.
     ///
@@ -61,8 +62,10 @@ impl<S: Kept> Turns<S> {
     ) -> Result<(Vec<S>, Spent<S::Remark>), (Turns<S>, Pass<S::Remark>, PassesOut)>
         requires pass { IsPassOf self pass }
         requires keeper { (known pass).keeper ≡ true }
-        ensures ok { IfOk result (λ c. Finished S.entries S.fits S.mark (handed self) c.0.items (known pass) × IsSpentOf self c.1 × (known_at_close c.1 ≡ known pass) × ((known pass).made ≤ length (known pass).notes + 1)) }
-        ensures out { IfErr result (λ e. (e.0 ≡ self) × (e.1 ≡ pass) × (e.2.made ≡ (known pass).made) × (e.2.ended ≡ length (known pass).notes) × (e.2.ended + 1 < e.2.made)) }
+        ensures ok { IfOk result (λ c. IsLeftOf self pass c.1
+            × Finished S.entries S.fits S.mark (handed self) c.0.items (known pass)) }
+        ensures out { IfErr result (λ e. (e.0 ≡ self) × (e.1 ≡ pass)
+            × AreOut (known pass) e.2.made e.2.ended) }
     {
         if pass.ended + 1 < pass.made {
             let out = PassesOut {

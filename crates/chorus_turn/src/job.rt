@@ -1,8 +1,8 @@
 //! What a state and a job owe to the turns that are taken on them.
-ghost use Rattle.std.specs.Prelude.{◌≡◌, ℕ, ◌++◌, List};
+ghost use Rattle.std.specs.Prelude.{◌≡◌, ℕ, List};
 ghost use Rattle.chorus_entry.specs.declared.entry.Entry.{Entry};
 ghost use Rattle.chorus_turn.specs.declared.knowledge.Remarked.{Remarked};
-ghost use Rattle.chorus_turn.specs.Journals.{GrowsBy, IsJournal};
+ghost use Rattle.chorus_turn.specs.Journals.{GrowsBy, GoesOn};
 
 /// A state with a journal. Entries with fitting remarks, one for each, are a journal of the state.
 pub trait Kept {
@@ -25,8 +25,8 @@ pub trait Kept {
 pub trait Job<S: Kept> {
     type Out;
 
-    // The job may run on a state with this mark.
-    ghost accepts: { Self → S.Mark → Type 0 } = { λ _ _. Unit {0} };
+    // The job may run on a state with this mark, as the pass with this number.
+    ghost accepts: { Self → S.Mark → ℕ → Type 0 } = { λ _ _ _. Unit {0} };
 
     // What one run did: of the job, the state and the seat before, and of the job, the state and the answer after.
     ghost ran: { Self → S → ℕ → Self → S → Self.Out → Type 0 };
@@ -36,9 +36,9 @@ pub trait Job<S: Kept> {
 
     /// Runs once, as the pass with this number. What it adds to the journal are entries of this seat.
     fn run(&mut self, state: &mut S, seat: u32) -> Self::Out
-        requires { accepts self.old (S.mark state.old) }
+        requires { accepts self.old (S.mark state.old) seat }
         ensures done { ran self.old state.old seat self.new state.new result }
         ensures mark { S.mark state.new ≡ S.mark state.old }
         ensures entries { GrowsBy seat (S.entries state.old) (S.entries state.new) }
-        ensures remarks { (log : List (Remarked S.Remark)) → IsJournal S.entries S.fits state.old log → (news : List (Remarked S.Remark)) × IsJournal S.entries S.fits state.new (log ++ news) × notes self.old self.new news };
+        ensures remarks { GoesOn S.entries S.fits (notes self.old self.new) state.old state.new };
 }

@@ -18,14 +18,12 @@ mod rule;
 mod seats;
 mod start;
 mod steps;
-#[cfg(test)]
-mod tests;
 mod turns;
 mod view;
 
 pub use close::{PassesOut, Spent};
 pub use job::{Job, Kept};
-pub use knowledge::{Knowledge, Note, Placed, Remarked};
+pub use knowledge::{Knowledge, Note, Placed, Remarked, SEATS_LIMIT};
 pub use pass::Pass;
 pub use seats::NoSeat;
 pub use turns::{Busy, Turns};

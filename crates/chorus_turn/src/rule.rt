@@ -2,7 +2,7 @@
 ghost use Rattle.std.specs.Prelude.{List, []};
 ghost use Rattle.chorus_turn.specs.declared.knowledge.Remarked.{Remarked};
 ghost use Rattle.chorus_turn.specs.Journals.{IsJournal};
-ghost use Rattle.chorus_turn.specs.Calls.{IsMarkAt};
+ghost use Rattle.chorus_turn.specs.Calls.{IsMarked};
 ghost use Rattle.chorus_turn.specs.Rule.{Turned, first_view, spent_view, take_then, give_then, draw_then, count_then, left_view, admitted_view, joined_view, closing_view};
 
 use crate::job::Kept;
@@ -15,7 +15,7 @@ use std::snapshot::Snapshot;
 pub struct InTurn;
 
 impl<S: Kept> TableRule<Option<S>, View<S::Remark>, Snapshot<Vec<S>>> for InTurn {
-    ghost holds = { λ key. Turned (IsJournal S.entries S.fits) (λ place x. IsMarkAt S.mark key.value.items place (S.mark x)) };
+    ghost holds = { λ key. Turned (IsJournal S.entries S.fits) (IsMarked S.mark key.value.items) };
 
     ghost first = { λ _. first_view };
 }
@@ -35,7 +35,7 @@ pub struct Take<X> {
 }
 
 impl<S: Kept, X: Origin<S>> Play<Option<S>, View<S::Remark>> for Take<X> {
-    ghost then = { take_then (IsJournal S.entries S.fits) (λ place x. IsMarkAt S.mark X.origin place (S.mark x)) };
+    ghost then = { take_then (IsJournal S.entries S.fits) (IsMarked S.mark X.origin) };
 }
 
 /// What the job notes beside the new entries. The proof of a call picks it too.

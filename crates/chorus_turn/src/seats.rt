@@ -1,9 +1,10 @@
 //! How passes come and go.
-ghost use Rattle.std.specs.Prelude.{◌≡◌, ◌≢◌, ℕ, ◌+◌, true, cond, IfOk, IfErr, IsOk, ◌↔◌};
-ghost use Rattle.chorus_turn.specs.Lists.{StartsWith};
-ghost use Rattle.chorus_turn.specs.Knowing.{limit, seen_at, after_draw, newcomer, joined};
+ghost use Rattle.std.specs.Prelude.{◌≡◌, ◌≢◌, true, IfOk, IfErr, IsOk, ◌↔◌};
+ghost use Rattle.chorus_turn.specs.Lists.{StartsWithBoth};
+ghost use Rattle.chorus_turn.specs.Knowing.{limit, after_draw, newcomer, after_retirement, Inherits, IsSameKeeper};
 
 use crate::job::Kept;
+use crate::knowledge::SEATS_LIMIT;
 use crate::pass::Pass;
 use crate::turns::Turns;
 use atomic_table::Badge;
@@ -27,13 +28,15 @@ impl<S: Kept> Turns<S> {
         requires pass { IsPassOf self.now pass.old }
         requires keeper { (known pass.old).keeper ≡ true }
         ensures pass { IsPassOf self.now pass.new }
-        ensures standing { ((known pass.new).seat ≡ (known pass.old).seat) × ((known pass.new).notes ≡ (known pass.old).notes) × ((known pass.new).keeper ≡ true) }
-        ensures ok { IfOk result (λ p. IsPassOf self.now p × (known p ≡ newcomer (known pass.old)) × (known pass.new ≡ after_draw (known pass.old))) }
-        ensures full { IfErr result (λ n. (n.made ≡ limit) × (n.made ≡ (known pass.old).made) × (known pass.new ≡ known pass.old)) }
+        ensures standing { IsSameKeeper (known pass.old) (known pass.new) }
+        ensures ok { IfOk result (λ p. IsPassOf self.now p × (known p ≡ newcomer (known pass.old))
+            × (known pass.new ≡ after_draw (known pass.old))) }
+        ensures full { IfErr result (λ n. (n.made ≡ limit) × (n.made ≡ (known pass.old).made)
+            × (known pass.new ≡ known pass.old)) }
         ensures room { IsOk result ↔ ((known pass.old).made ≢ limit) }
     {
         let number = pass.made;
-        if number == 1_048_576 {
+        if number == SEATS_LIMIT {
             return Err(NoSeat { made: number });
         }
         let mut seat = mem::replace(&mut pass.badge, Badge::blank()).into_seat::<Option<S>>();
@@ -54,9 +57,9 @@ impl<S: Kept> Turns<S> {
         requires pass { IsPassOf self.now pass }
         requires into { IsPassOf self.now into.old }
         ensures into { IsPassOf self.now into.new }
-        ensures standing { ((known into.new).seat ≡ (known into.old).seat) × ((known into.new).keeper ≡ cond (known pass).keeper true (known into.old).keeper) × ((known into.new).made ≡ cond (known pass).keeper (known pass).made (known into.old).made) }
-        ensures knows { known into.new ≡ joined (known into.old) (known pass) }
-        ensures sees { (p : ℕ) → StartsWith (seen_at p (known into.new)) (seen_at p (known into.old)) × StartsWith (seen_at p (known into.new)) (seen_at p (known pass)) }
+        ensures standing { Inherits (known into.old) (known pass) (known into.new) }
+        ensures knows { known into.new ≡ after_retirement (known into.old) (known pass) }
+        ensures sees { StartsWithBoth (known into.new).seen (known into.old).seen (known pass).seen }
     {
         let Pass {
             badge,

@@ -1,7 +1,8 @@
 //! How the places are made.
-ghost use Rattle.std.specs.Prelude.{◌≡◌, ℕ, ◌+◌, ◌≤◌, true, List, [], length, slice_index, map, IfOk, IfErr, Some};
+ghost use Rattle.std.specs.Prelude.{◌≡◌, ℕ, ◌+◌, ◌≤◌, true, [], length, slice_index, IfOk, IfErr};
 ghost use Rattle.std.specs.List.{All};
 ghost use Rattle.std.specs.Vec.{vec_len, vec_capacity};
+ghost use Rattle.chorus_turn.specs.Lists.{somes, AreFull};
 ghost use Rattle.chorus_turn.specs.Knowing.{opening_knowledge};
 
 use crate::job::Kept;
@@ -15,7 +16,7 @@ use std::snapshot::Snapshot;
 // Puts the states into the slots, in order.
 fn wrap<S>(states: &mut Vec<S>, slots: &mut Vec<Option<S>>)
     requires { (slots.old.items ≡ []) × (vec_len states.old ≤ vec_capacity slots.old) }
-    ensures slots { slots.new.items ≡ map (λ x. Some x) states.old.items }
+    ensures slots { slots.new.items ≡ somes states.old.items }
     ensures states { (vec_len states.new ≡ 0) × (vec_capacity states.new ≡ vec_capacity states.old) }
 {
     states.reverse();
@@ -29,9 +30,9 @@ fn wrap<S>(states: &mut Vec<S>, slots: &mut Vec<Option<S>>)
 
 // Takes them out again.
 fn unwrap<S>(mut slots: Vec<Option<S>>, states: &mut Vec<S>)
-    requires full { (xs : List S) × (slots.items ≡ map (λ x. Some x) xs) }
+    requires full { AreFull slots.items }
     requires room { (vec_len states.old ≡ 0) × (vec_len slots ≤ vec_capacity states.old) }
-    ensures { slots.items ≡ map (λ x. Some x) states.new.items }
+    ensures { slots.items ≡ somes states.new.items }
 {
     slots.reverse();
     while let Some(slot) = slots.pop() {
@@ -48,7 +49,8 @@ fn unwrap<S>(mut slots: Vec<Option<S>>, states: &mut Vec<S>)
 
 // The first word counts the numbers drawn, and each other one is a place's.
 fn first_words(alloc: Global, places: usize) -> Result<Vec<u64>, AllocError>
-    ensures { IfOk result (λ w. (length w.items ≡ places + 1) × (slice_index w.items 0 ≡ 1) × ((k : ℕ) → slice_index w.items (k + 1) ≡ 0)) }
+    ensures { IfOk result (λ w. (length w.items ≡ places + 1) × (slice_index w.items 0 ≡ 1)
+        × ((k : ℕ) → slice_index w.items (k + 1) ≡ 0)) }
 {
     let Some(count) = places.checked_add(1) else {
         return Err(AllocError);
@@ -72,7 +74,8 @@ impl<S: Kept> Turns<S> {
     ) -> Result<(Turns<S>, Pass<S::Remark>), (Vec<S>, AllocError)>
         requires some { 1 ≤ vec_len states }
         requires fresh { All (λ (x : S). IsJournal S.entries S.fits x []) states.items }
-        ensures ok { IfOk result (λ t. (handed t.0 ≡ states.items) × IsPassOf t.0 t.1 × (known t.1 ≡ opening_knowledge)) }
+        ensures ok { IfOk result (λ t. (handed t.0 ≡ states.items) × IsPassOf t.0 t.1
+            × (known t.1 ≡ opening_knowledge)) }
         ensures err { IfErr result (λ e. e.0.items ≡ states.items) }
     {
         let count = states.len();

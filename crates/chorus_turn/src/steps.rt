@@ -2,12 +2,11 @@
 //!
 //! The word of a place is 0 where it is free, and else the number of the pass that holds it and 1. Word 0 counts the
 //! numbers drawn. The slot of place p is p - 1.
-ghost use Rattle.std.specs.Prelude.{◌≡◌, ◌≢◌, ℕ, ◌+◌, ◌-◌, ◌<◌, ◌≤◌, true, List, [], ◌∷◌, ◌++◌, length, Some, None};
-ghost use Rattle.chorus_turn.specs.declared.knowledge.Remarked.{Remarked};
-ghost use Rattle.chorus_turn.specs.Lists.{StartsWith, list_at};
-ghost use Rattle.chorus_turn.specs.Journals.{IsBy, IsJournal};
+ghost use Rattle.std.specs.Prelude.{◌≡◌, ◌≢◌, ◌+◌, ◌-◌, ◌<◌, ◌≤◌, true, [], ◌∷◌, length, Some, None};
+ghost use Rattle.chorus_turn.specs.Lists.{StartsWithBoth};
+ghost use Rattle.chorus_turn.specs.Journals.{IsJournal};
 ghost use Rattle.chorus_turn.specs.Knowing.{limit};
-ghost use Rattle.chorus_turn.specs.Rule.{IsAtRest, TakesOver, Misses, given_view, drawn_view, left_view, admitted_view, joined_view, settled_view, closing_view};
+ghost use Rattle.chorus_turn.specs.Rule.{IsAtRest, TakesOver, Misses, HasToGive, GivesBack, drawn_view, left_view, admitted_view, joined_view, settled_view, closing_view};
 
 use crate::job::Kept;
 use crate::rule::{Admit, Count, Draw, Give, Leave, Noting, Origin, Retire, Take};
@@ -15,8 +14,8 @@ use crate::turns::{Held, Turns};
 use std::snapshot::Snapshot;
 
 impl<S: Kept> Turns<S> {
-    ghost use Rattle.chorus_turn.specs.Passes.{handed, places, table_of};
-    ghost use Rattle.chorus_turn.specs.Calls.{IsMarkAt};
+    ghost use Rattle.chorus_turn.specs.Passes.{handed, table_of, IsPlaceOf};
+    ghost use Rattle.chorus_turn.specs.Calls.{IsMarked};
 
     // The one try of a call. It gives the word that it found.
     pub(crate) fn take<X: Origin<S>>(
@@ -26,11 +25,15 @@ impl<S: Kept> Turns<S> {
         own: u64,
     ) -> u64
         requires origin { X.origin ≡ handed self.now }
-        requires table { (seat.old.table_id ≡ table_of self.now) × (1 ≤ place) × (place ≤ places self.now) }
-        requires seat { (seat.old.me.1 ≡ []) × IsAtRest seat.old.me.0 × (own ≡ seat.old.me.0.knows.seat + 1) }
+        requires table { seat.old.table_id ≡ table_of self.now }
+        requires place { IsPlaceOf self.now place }
+        requires seat { (seat.old.me.1 ≡ []) × IsAtRest seat.old.me.0 }
+        requires number { own ≡ seat.old.me.0.knows.seat + 1 }
         ensures table { seat.new.table_id ≡ seat.old.table_id }
-        ensures free { result ≡ 0 → TakesOver (IsJournal S.entries S.fits) (λ p x. IsMarkAt S.mark (handed self.now) p (S.mark x)) place seat.old.me.0 seat.new.me }
-        ensures held { result ≢ 0 → Misses (IsJournal S.entries S.fits) (λ p x. IsMarkAt S.mark (handed self.now) p (S.mark x)) place seat.old.me.0 (result - 1) seat.new.me }
+        ensures free { result ≡ 0 → TakesOver (IsJournal S.entries S.fits)
+            (IsMarked S.mark (handed self.now)) place seat.old.me.0 seat.new.me }
+        ensures held { result ≢ 0 → Misses (IsJournal S.entries S.fits)
+            (IsMarked S.mark (handed self.now)) place seat.old.me.0 (result - 1) seat.new.me }
     {
         self.table
             .shared
@@ -42,7 +45,8 @@ impl<S: Kept> Turns<S> {
         requires table { seat.old.table_id ≡ table_of self.now }
         requires full { (x : S) × (seat.old.me.1 ≡ (slot, Some x) ∷ []) }
         ensures table { seat.new.table_id ≡ seat.old.table_id }
-        ensures lifted { (seat.old.me.1 ≡ (slot, Some result) ∷ []) × (seat.new.me ≡ (seat.old.me.0, (slot, None) ∷ [])) }
+        ensures lifted { (seat.old.me.1 ≡ (slot, Some result) ∷ [])
+            × (seat.new.me ≡ (seat.old.me.0, (slot, None) ∷ [])) }
     {
         match self.table.shared.exchange(seat, slot, None) {
             Some(state) => state,
@@ -71,11 +75,13 @@ impl<S: Kept> Turns<S> {
         _before: &Snapshot<J>,
         _job: &J,
     )
-        requires table { (seat.old.table_id ≡ table_of self.now) × (1 ≤ place) × (place ≤ places self.now) }
+        requires table { seat.old.table_id ≡ table_of self.now }
+        requires place { IsPlaceOf self.now place }
         requires seat { (seat.old.me.0.live ≡ true) × (seat.old.me.0.holding ≡ place) }
-        requires state { (x : S) × (news : List (Remarked S.Remark)) × (seat.old.me.1 ≡ (place - 1, Some x) ∷ []) × IsBy seat.old.me.0.knows.seat news × IsJournal S.entries S.fits x (seat.old.me.0.took ++ news) × X.notes news × IsMarkAt S.mark (handed self.now) place (S.mark x) }
+        requires state { HasToGive (IsJournal S.entries S.fits) X.notes
+            (IsMarked S.mark (handed self.now)) place seat.old.me }
         ensures table { seat.new.table_id ≡ seat.old.table_id }
-        ensures given { (x : S) → seat.old.me.1 ≡ (place - 1, Some x) ∷ [] → (news : List (Remarked S.Remark)) × IsBy seat.old.me.0.knows.seat news × IsJournal S.entries S.fits x (seat.old.me.0.took ++ news) × X.notes news × (seat.new.me ≡ (given_view place news seat.old.me.0, [])) }
+        ensures given { GivesBack (IsJournal S.entries S.fits) X.notes place seat.old.me seat.new.me }
     {
         self.table.shared.store::<Give<X>>(seat, place, 0)
     }
@@ -83,9 +89,11 @@ impl<S: Kept> Turns<S> {
     // The keeper's next number, which goes to a new seat.
     pub(crate) fn draw(&self, seat: &mut Held<S, S::Remark>, made: u32) -> Held<S, S::Remark>
         requires table { seat.old.table_id ≡ table_of self.now }
-        requires seat { (seat.old.me.1 ≡ []) × IsAtRest seat.old.me.0 × (seat.old.me.0.knows.keeper ≡ true) }
+        requires seat { (seat.old.me.1 ≡ []) × IsAtRest seat.old.me.0 }
+        requires keeper { seat.old.me.0.knows.keeper ≡ true }
         requires made { (seat.old.me.0.knows.made ≡ made) × (made < limit) }
-        ensures table { (seat.new.table_id ≡ seat.old.table_id) × (result.table_id ≡ seat.old.table_id) }
+        ensures table { seat.new.table_id ≡ seat.old.table_id }
+        ensures same { result.table_id ≡ seat.old.table_id }
         ensures keeper { seat.new.me ≡ (left_view (drawn_view seat.old.me.0), []) }
         ensures new { result.me ≡ (admitted_view (drawn_view seat.old.me.0), []) }
     {
@@ -101,7 +109,8 @@ impl<S: Kept> Turns<S> {
         ensures table { seat.new.table_id ≡ seat.old.table_id }
         ensures joined { seat.new.me ≡ (settled_view (joined_view seat.old.me.0 other.me.0), []) }
         ensures few { length seat.new.me.0.knows.notes + 1 ≤ limit }
-        ensures sees { (p : ℕ) → StartsWith (list_at p seat.new.me.0.knows.seen) (list_at p seat.old.me.0.knows.seen) × StartsWith (list_at p seat.new.me.0.knows.seen) (list_at p other.me.0.knows.seen) }
+        ensures sees { StartsWithBoth seat.new.me.0.knows.seen seat.old.me.0.knows.seen
+            other.me.0.knows.seen }
     {
         self.table.shared.join_seat::<Retire>(seat, other);
         self.table.shared.load::<Count>(seat, 0);
@@ -110,7 +119,9 @@ impl<S: Kept> Turns<S> {
     // A seat for what is left of the pass that closes the places.
     pub(crate) fn leave(&self, seat: &mut Held<S, S::Remark>) -> Held<S, S::Remark>
         requires { seat.old.table_id ≡ table_of self.now }
-        ensures { (seat.new.table_id ≡ seat.old.table_id) × (seat.new.id ≡ seat.old.id) × (seat.new.me ≡ seat.old.me) × (result.table_id ≡ seat.old.table_id) × (result.me ≡ (closing_view seat.old.me.0, [])) }
+        ensures { (seat.new.table_id ≡ seat.old.table_id) × (seat.new.id ≡ seat.old.id)
+            × (seat.new.me ≡ seat.old.me) × (result.table_id ≡ seat.old.table_id)
+            × (result.me ≡ (closing_view seat.old.me.0, [])) }
     {
         self.table.shared.split_seat::<Leave>(seat)
     }

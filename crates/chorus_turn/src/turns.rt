@@ -1,5 +1,5 @@
 //! The places, and a turn at one of them.
-ghost use Rattle.std.specs.Prelude.{◌≡◌, ◌+◌, ◌≤◌, [], length, IfOk, IfErr};
+ghost use Rattle.std.specs.Prelude.{◌≡◌, ◌+◌, [], length, IfOk, IfErr};
 
 use crate::job::{Job, Kept};
 use crate::pass::Pass;
@@ -34,8 +34,9 @@ pub struct Busy {
 
 impl<S: Kept> Turns<S> {
     ghost use Rattle.chorus_turn.specs.Rule.{IsAtRest};
-    ghost use Rattle.chorus_turn.specs.Passes.{known, handed, places, table_of, IsPassOf};
-    ghost use Rattle.chorus_turn.specs.Calls.{IsMarkAt, Worked, FoundBusy};
+    ghost use Rattle.chorus_turn.specs.Knowing.{IsSamePass};
+    ghost use Rattle.chorus_turn.specs.Passes.{known, handed, places, table_of, IsPassOf, IsPlaceOf};
+    ghost use Rattle.chorus_turn.specs.Calls.{AcceptsAt, Worked, FoundBusy};
 
     /// The number of places.
     pub fn places(&self) -> usize
@@ -52,12 +53,18 @@ impl<S: Kept> Turns<S> {
         number: u32,
         job: &mut J,
     ) -> Result<J::Out, Busy>
-        requires table { (seat.old.table_id ≡ table_of self.now) × (1 ≤ place) × (place ≤ places self.now) }
-        requires seat { (seat.old.me.1 ≡ []) × IsAtRest seat.old.me.0 × (seat.old.me.0.knows.seat ≡ number) }
-        requires job { (m : S.Mark) → IsMarkAt S.mark (handed self.now) place m → J.accepts job.old m }
-        ensures table { (seat.new.table_id ≡ seat.old.table_id) × (seat.new.me.1 ≡ []) × IsAtRest seat.new.me.0 }
-        ensures ok { IfOk result (λ out. Worked S.entries S.fits S.mark (handed self.now) (λ x y. J.ran job.old x number job.new y out) (J.notes job.old job.new) place seat.old.me.0.knows seat.new.me.0.knows) }
-        ensures busy { IfErr result (λ b. FoundBusy place b.by seat.old.me.0.knows seat.new.me.0.knows × (job.new ≡ job.old)) }
+        requires table { seat.old.table_id ≡ table_of self.now }
+        requires place { IsPlaceOf self.now place }
+        requires seat { (seat.old.me.1 ≡ []) × IsAtRest seat.old.me.0 }
+        requires number { seat.old.me.0.knows.seat ≡ number }
+        requires job { AcceptsAt S.mark (handed self.now) place (λ m. J.accepts job.old m number) }
+        ensures table { seat.new.table_id ≡ seat.old.table_id }
+        ensures seat { (seat.new.me.1 ≡ []) × IsAtRest seat.new.me.0 }
+        ensures ok { IfOk result (λ out. Worked S.entries S.fits S.mark (handed self.now)
+            (λ x y. J.ran job.old x number job.new y out) (J.notes job.old job.new)
+            place seat.old.me.0.knows seat.new.me.0.knows) }
+        ensures busy { IfErr result (λ b.
+            FoundBusy place b.by seat.old.me.0.knows seat.new.me.0.knows × (job.new ≡ job.old)) }
     {
         let found = self.take::<Brand>(seat, place, number as u64 + 1);
         if found != 0 {
@@ -85,12 +92,16 @@ impl<S: Kept> Turns<S> {
         job: &mut J,
     ) -> Result<J::Out, Busy>
         requires pass { IsPassOf self.now pass.old }
-        requires place { (1 ≤ place) × (place ≤ places self.now) }
-        requires job { (m : S.Mark) → IsMarkAt S.mark (handed self.now) place m → J.accepts job.old m }
+        requires place { IsPlaceOf self.now place }
+        requires job { AcceptsAt S.mark (handed self.now) place
+            (λ m. J.accepts job.old m (known pass.old).seat) }
         ensures pass { IsPassOf self.now pass.new }
-        ensures standing { ((known pass.new).seat ≡ (known pass.old).seat) × ((known pass.new).notes ≡ (known pass.old).notes) × ((known pass.new).keeper ≡ (known pass.old).keeper) × ((known pass.new).made ≡ (known pass.old).made) }
-        ensures ok { IfOk result (λ out. Worked S.entries S.fits S.mark (handed self.now) (λ x y. J.ran job.old x (known pass.old).seat job.new y out) (J.notes job.old job.new) place (known pass.old) (known pass.new)) }
-        ensures busy { IfErr result (λ b. FoundBusy place b.by (known pass.old) (known pass.new) × (job.new ≡ job.old)) }
+        ensures standing { IsSamePass (known pass.old) (known pass.new) }
+        ensures ok { IfOk result (λ out. Worked S.entries S.fits S.mark (handed self.now)
+            (λ x y. J.ran job.old x (known pass.old).seat job.new y out) (J.notes job.old job.new)
+            place (known pass.old) (known pass.new)) }
+        ensures busy { IfErr result (λ b.
+            FoundBusy place b.by (known pass.old) (known pass.new) × (job.new ≡ job.old)) }
     {
         let mut seat = mem::replace(&mut pass.badge, Badge::blank()).into_seat::<Option<S>>();
         let worked = self.work(&mut seat, place as usize, pass.seat, job);

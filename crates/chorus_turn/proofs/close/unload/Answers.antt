@@ -5,7 +5,8 @@ use native.Mathlib.Decide.{ℕ_discrete}
 use lib.ListN.{get_elem?}
 use Rattle.std.specs.Prelude.{Some}
 use Rattle.std.specs.Slots.{slots_items, slots_filled}
-use Rattle.chorus_turn.proofs.Rows.{somes, somes_full, off_front}
+use Rattle.chorus_turn.specs.Lists.{somes}
+use Rattle.chorus_turn.proofs.Rows.{somes_full, off_front}
 use Rattle.chorus_turn.proofs.close.unload.Goals as goal
 
 set_false : (l : List Bool) (i : ℕ) → get_or (set l i false) i false ≡ false

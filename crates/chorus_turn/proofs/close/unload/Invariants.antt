@@ -2,7 +2,7 @@ use Rattle.std.proofs.Common.{◌≡◌, ℕ, ◌-◌, ◌<◌, ◌≤◌, false
 use Rattle.std.specs.Slots.{slots_items, slots_filled, slots_len}
 use Rattle.std.specs.Slots.Ownership.{Filled}
 use Rattle.std.specs.Vec.{vec_len, vec_capacity}
-use Rattle.chorus_turn.proofs.Rows.{somes}
+use Rattle.chorus_turn.specs.Lists.{somes}
 use Rattle.chorus_turn.proofs.close.unload.Given as goal
 
 abbrev pub invariant-loop-i : goal.invariant-loop-i

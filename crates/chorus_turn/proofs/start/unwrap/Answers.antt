@@ -1,6 +1,7 @@
 use Rattle.std.proofs.Common.{rules, ◌≡◌, [], ◌++◌, ◌∷◌, ap, ◌∙◌, reverse}
 use Rattle.std.specs.Prelude.{Some}
-use Rattle.chorus_turn.proofs.Rows.{somes, off_end_full, off_end_rest, off_end_moves}
+use Rattle.chorus_turn.specs.Lists.{somes}
+use Rattle.chorus_turn.proofs.Rows.{off_end_full, off_end_rest, off_end_moves}
 use Rattle.chorus_turn.proofs.start.unwrap.Goals as goal
 
 pub loop-slot-preserved : goal.loop-slot-preserved

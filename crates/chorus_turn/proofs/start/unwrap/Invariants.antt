@@ -1,6 +1,6 @@
 use Rattle.std.proofs.Common.{◌≡◌, ◌+◌, ◌≤◌, ◌++◌, reverse, List}
 use Rattle.std.specs.Vec.{vec_len, vec_capacity}
-use Rattle.chorus_turn.proofs.Rows.{somes}
+use Rattle.chorus_turn.specs.Lists.{somes}
 use Rattle.chorus_turn.proofs.start.unwrap.Given as goal
 
 abbrev pub invariant-loop-slot : goal.invariant-loop-slot

@@ -1,6 +1,6 @@
 use Rattle.std.proofs.Common.{◌≡◌, ◌+◌, ◌≤◌, ◌++◌, reverse}
 use Rattle.std.specs.Vec.{vec_len, vec_capacity}
-use Rattle.chorus_turn.proofs.Rows.{somes}
+use Rattle.chorus_turn.specs.Lists.{somes}
 use Rattle.chorus_turn.proofs.start.wrap.Given as goal
 
 abbrev pub invariant-loop-state : goal.invariant-loop-state

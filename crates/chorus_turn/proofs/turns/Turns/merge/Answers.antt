@@ -2,7 +2,7 @@ use Rattle.std.proofs.Common.{rules, ◌≡◌, ℕ, List, length, ap, ◌∙◌
 use Rattle.chorus_turn.specs.declared.knowledge.Remarked.{Remarked}
 use Rattle.chorus_turn.specs.Lists.{StartsWith, list_at, all_longer}
 use Rattle.chorus_turn.specs.Journals.{IsJournal}
-use Rattle.chorus_turn.specs.Calls.{IsMarkAt}
+use Rattle.chorus_turn.specs.Calls.{IsMarked}
 use Rattle.chorus_turn.proofs.Draws.{counts}
 use Rattle.chorus_turn.proofs.Joins.{joins}
 use Rattle.chorus_turn.proofs.turns.Turns.merge.Goals as goal
@@ -13,14 +13,14 @@ join_seat-requires g c = let p = c.requires.seat in let q = c.requires.other in 
   c.requires.table.1,
   q.0,
   search rules,
-  joins (IsJournal g.S.Kept.entries g.S.Kept.fits) (λ n x. IsMarkAt g.S.Kept.mark c.args.self.now.table.shared.key.value.items n (g.S.Kept.mark x)) _ _ _ _ p.1 q.1,
+  joins (IsJournal g.S.Kept.entries g.S.Kept.fits) (IsMarked g.S.Kept.mark c.args.self.now.table.shared.key.value.items) _ _ _ _ p.1 q.1,
 )
 
 pub load-requires : goal.load-requires
 load-requires g c = let p = c.requires.seat in let m = c.join_seat.ensures.2 in (
   search rules,
   search rules,
-  counts (IsJournal g.S.Kept.entries g.S.Kept.fits) (λ n x. IsMarkAt g.S.Kept.mark c.args.self.now.table.shared.key.value.items n (g.S.Kept.mark x)) _ _ _ (ap (λ x. x.1) m ∙ p.0)
+  counts (IsJournal g.S.Kept.entries g.S.Kept.fits) (IsMarked g.S.Kept.mark c.args.self.now.table.shared.key.value.items) _ _ _ (ap (λ x. x.1) m ∙ p.0)
       (ap (λ x. x.0.live) m ∙ p.1.0, ap (λ x. x.0.holding) m ∙ p.1.1, ap (λ x. length x.0.drawn) m ∙ p.1.2),
 )
 

@@ -3,16 +3,16 @@ use mathlib.Core.Option.{none}
 use prog.Atomic.{either}
 use Rattle.atomic_table.specs.Table.{step, Allows}
 use Rattle.chorus_turn.specs.Journals.{IsJournal}
-use Rattle.chorus_turn.specs.Calls.{IsMarkAt}
+use Rattle.chorus_turn.specs.Calls.{IsMarked}
 use Rattle.chorus_turn.specs.Rule.{Turned, take_then}
 use Rattle.chorus_turn.proofs.Takes.{takes_at}
 use Rattle.chorus_turn.proofs.turns.Turns.take.Goals as goal
 
 pub compare_exchange-requires : goal.compare_exchange-requires
-compare_exchange-requires g c = let q = c.requires.table in let p = c.requires.seat in let handed : List g.row.S.Denot = c.args.self.now.table.shared.key.value.items in let slots : ℕ = c.args.self.now.table.shared.table_id.slots in let size = c.args.self.now.handed in
+compare_exchange-requires g c = let handed : List g.row.S.Denot = c.args.self.now.table.shared.key.value.items in let slots : ℕ = c.args.self.now.table.shared.table_id.slots in let size = c.args.self.now.handed in
     let journal = IsJournal g.S.Kept.entries g.S.Kept.fits in (
-      q.0,
+      c.requires.table,
       search rules,
-      subst (λ (o : List g.row.S.Denot). Allows (Turned journal (λ n x. IsMarkAt g.S.Kept.mark handed n (g.S.Kept.mark x))) slots c.args.seat.now.id c.args.seat.now.me c.args.place (λ n. either (eqb n 0) c.args.own n) (take_then journal (λ n x. IsMarkAt g.S.Kept.mark o n (g.S.Kept.mark x)) (step slots c.args.place 0 c.args.own none) c.args.seat.now.me))
-          (sym c.requires.origin) (takes_at journal (λ n x. IsMarkAt g.S.Kept.mark handed n (g.S.Kept.mark x)) slots _ _ _ _ p.0 p.1 p.2 q.1 (omega arith)),
+      subst (λ (o : List g.row.S.Denot). Allows (Turned journal (IsMarked g.S.Kept.mark handed)) slots c.args.seat.now.id c.args.seat.now.me c.args.place (λ n. either (eqb n 0) c.args.own n) (take_then journal (IsMarked g.S.Kept.mark o) (step slots c.args.place 0 c.args.own none) c.args.seat.now.me))
+          (sym c.requires.origin) (takes_at journal (IsMarked g.S.Kept.mark handed) slots _ _ _ _ c.requires.seat.0 c.requires.seat.1 c.requires.number c.requires.place.0 (omega (arith, c.requires.place.1))),
     )

@@ -9,7 +9,7 @@ use Rattle.chorus_turn.proofs.turns.Turns.work.Goals as goal
 pub run-out-requires : goal.run-out-requires
 run-out-requires g c = let t = c.take-found.ensures.free c.if-found-ne0.false in
     let same : t.0 ≡ c.lift-state.result = ap (held_value t.0) (sym (ap (λ x. x.1) t.2) ∙ c.lift-state.ensures.lifted.0) in
-    subst (λ (x : g.row.S.Denot). g.J.Job.accepts c.args.job.now (g.S.Kept.mark x)) same (c.requires.job (g.S.Kept.mark t.0) t.4)
+    subst (λ (x : g.row.S.Denot). g.J.Job.accepts c.args.job.now (g.S.Kept.mark x) c.args.number) same (c.requires.job (g.S.Kept.mark t.0) t.4)
 
 pub give-requires-clause-state : goal.give-requires-clause-state
 give-requires-clause-state g c = let t = c.take-found.ensures.free c.if-found-ne0.false in let lifted = c.lift-state.ensures.lifted in let mark = t.4 in let run = c.run-out.ensures in
@@ -17,7 +17,7 @@ give-requires-clause-state g c = let t = c.take-found.ensures.free c.if-found-ne
     let before = subst (λ (x : g.row.S.Denot). IsJournal g.S.Kept.entries g.S.Kept.fits x t.1) same t.3 in
     let more = run.remarks t.1 before in
     let now : c.lower.new.seat.me.0 ≡ holding_view c.args.place t.1 c.args.seat.now.me.0 = ap (λ x. x.0) c.lower.ensures.lowered ∙ ap (λ x. x.0) lifted.1 ∙ ap (λ x. x.0) t.2 in
-    let number : c.lower.new.seat.me.0.knows.seat ≡ c.args.number = ap (λ x. x.knows.seat) now ∙ c.requires.seat.2 in (
+    let number : c.lower.new.seat.me.0.knows.seat ≡ c.args.number = ap (λ x. x.knows.seat) now ∙ c.requires.number in (
       c.run-out.new.state,
       more.0,
       ap (λ x. x.1) c.lower.ensures.lowered,

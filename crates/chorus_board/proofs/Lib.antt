@@ -1,0 +1,5 @@
+mod Fronts
+mod Extends
+mod Rules
+pub mod Publishes
+pub mod Whereabouts

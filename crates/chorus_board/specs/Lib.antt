@@ -1,0 +1,7 @@
+pub mod Located
+pub mod Law
+pub mod Ids
+pub mod Table
+pub mod Rule
+pub mod Writers
+pub mod Boards

@@ -1,0 +1,30 @@
+-- Where a port is after the entries of one place, the oldest first.
+use Rattle.std.specs.Prelude.{◌≡◌, ℕ, if◌then◌else◌, true, Option, Some, None, List, reverse, slice_get}
+use Rattle.chorus_ui.specs.declared.kind.Kind.TheVariants.{Port}
+use Rattle.chorus_ui.specs.declared.ui.Ui.{Ui}
+use Rattle.chorus_ui.specs.declared.layout.Layout.{Layout}
+use Rattle.chorus_ui.specs.Layout.{has_site}
+use Rattle.chorus_ui.specs.Name.{same_ui}
+use Rattle.chorus_entry.specs.declared.entry.Entry.{Entry}
+use Rattle.chorus_world.specs.declared.place.Location.{Location}
+use Rattle.chorus_world.specs.Places.{located}
+
+-- the location of the step relation, which has the newest entry first
+unfoldable pub located_after : Layout → List Entry → Ui → Location
+located_after layout entries q = located layout q (reverse entries)
+
+-- the place and the hop
+abbrev pub pair_of : Location → ℕ × ℕ
+pair_of location = (location.to, location.hop)
+
+-- a port whose site is in the layout
+abbrev pub IsPortIn : Layout → Ui → Type 0
+IsPortIn layout q = (q.kind ≡ Port) × (has_site layout q.site ≡ true)
+
+-- what a publish of the port `ui` tells of the port q
+abbrev pub told_of : Ui → Ui → ℕ → ℕ → Option Location
+told_of q ui place hop = if same_ui ui q then Some (record { to = place; hop = hop }) else None
+
+abbrev pub IsOfOnePlace : List Entry → Type 0
+IsOfOnePlace entries =
+    (i j : ℕ) (d e : Entry) → slice_get entries i ≡ Some d → slice_get entries j ≡ Some e → d.place ≡ e.place

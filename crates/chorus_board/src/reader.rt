@@ -1,0 +1,119 @@
+//! What reads a board.
+ghost use Rattle.std.specs.Prelude.{◌≡◌, true, length, IfSome};
+ghost use Rattle.left_right.specs.Sides.{view};
+ghost use Rattle.chorus_board.specs.Ids.{board_props};
+ghost use Rattle.chorus_board.specs.Rule.{book_known, layout_known};
+ghost use Rattle.chorus_board.specs.Located.{IsOfOnePlace};
+ghost use Rattle.chorus_board.specs.Table.{Exact, IsRoomy, Fine};
+ghost use mathlib.Core.List.{IsPrefix};
+
+use crate::rule::{Sees, TableReader};
+use crate::table::Table;
+use chorus_ui::Ui;
+
+/// A reader of one board. It keeps the table that it saw last. Without a handle, or where a read is refused, it answers from
+/// that table.
+#[derive(Drop)]
+pub struct BoardReader {
+    pub(crate) handle: Option<TableReader>,
+    pub(crate) kept: Table,
+    ghost exact: { Exact kept.hints kept.seen.log } by { Prim.hlevel board_props },
+    ghost long: { kept.upto ≡ length kept.seen.log },
+    ghost roomy: { IsRoomy kept.hints },
+    ghost one_place: { IsOfOnePlace kept.seen.log } by { Prim.hlevel board_props },
+    ghost tied: { IfSome handle (λ r. ((view r.place).knows ≡ true)
+        × (book_known (view r.place) ≡ kept.seen.book)
+        × (layout_known (view r.place) ≡ kept.hints.layout)) } by { Prim.hlevel board_props },
+}
+
+/// Where a port is: a place, the hop by which it came there, and how many entries of the board's place tell so.
+#[derive(Clone, Copy, Debug, PartialEq, Eq)]
+pub struct Located {
+    /// The place, from 1.
+    pub place: u16,
+    /// The hop, from 0, which is the port's making.
+    pub hop: u64,
+    /// How many entries the publish stands for.
+    pub upto: u64,
+}
+
+impl BoardReader {
+    ghost use Rattle.std.specs.Prelude.{◌≡◌, length, IsTrue};
+    ghost use mathlib.Core.List.{IsPrefix};
+    ghost use Rattle.chorus_ui.specs.declared.kind.Kind.TheVariants.{Port};
+    ghost use Rattle.chorus_ui.specs.Layout.{has_site};
+    ghost use Rattle.chorus_board.specs.Located.{located_after, pair_of, IsOfOnePlace};
+    ghost use Rattle.chorus_board.specs.Boards.{entries_seen, layout_read, pair_told, IsWithoutHandle, IsSameReader};
+
+    /// Where the port is located after some entries, which begin with all that this reader had seen. The port's site is in
+    /// the layout.
+    ///
+    /// It takes no turn, no memory and no wait. Where the reader has no handle, or its read is refused, the answer is from
+    /// the table that it keeps. What it read is let go before this returns.
+    pub fn newest(&mut self, ui: Ui) -> Located
+        requires port { ui.kind ≡ Port }
+        requires in_layout { IsTrue (has_site (layout_read self.old) ui.site) }
+        ensures reader { IsSameReader self.old self.new }
+        ensures begins { IsPrefix (entries_seen self.old) (entries_seen self.new) }
+        ensures one_place { IsOfOnePlace (entries_seen self.new) }
+        ensures unread { IsWithoutHandle self.old → self.new ≡ self.old }
+        ensures located { pair_told result
+            ≡ pair_of (located_after (layout_read self.old) (entries_seen self.new) ui) }
+        ensures upto { result.upto ≡ length (entries_seen self.new) }
+    {
+        self.refresh();
+        let (place, hop) = self.kept.hints.newest(ui);
+        Located {
+            place,
+            hop,
+            upto: self.kept.upto,
+        }
+    }
+
+    // Reads the board, if the read is not refused.
+    fn refresh(&mut self)
+        ensures reader { IsSameReader self.old self.new }
+        ensures begins { IsPrefix (entries_seen self.old) (entries_seen self.new) }
+        ensures unread { IsWithoutHandle self.old → self.new ≡ self.old }
+    {
+        let Some(handle) = self.handle.take() else {
+            return;
+        };
+        match handle.enter_as::<Sees>() {
+            Ok(reading) => {
+                take_in(&mut self.kept, reading.get());
+                self.handle = Some(reading.leave());
+            }
+            Err(handle) => self.handle = Some(handle),
+        }
+    }
+}
+
+// The longer of the two tables.
+pub(crate) fn take_in(kept: &mut Table, newer: &Table)
+    requires book { newer.now.seen.book ≡ kept.old.seen.book }
+    requires layout { newer.now.hints.layout ≡ kept.old.hints.layout }
+    requires fine { Fine newer.now × Fine kept.old }
+    ensures book { kept.new.seen.book ≡ kept.old.seen.book }
+    ensures layout { kept.new.hints.layout ≡ kept.old.hints.layout }
+    ensures fine { Fine kept.new }
+    ensures begins { IsPrefix kept.old.seen.log kept.new.seen.log }
+    ensures newer { IsPrefix newer.now.seen.log kept.new.seen.log }
+{
+    let mut both = kept.seen.again();
+    both.learn(&newer.seen);
+    if newer.upto < kept.upto {
+        return;
+    }
+    put_down(kept, newer);
+}
+
+// The table becomes the other one.
+pub(crate) fn put_down(kept: &mut Table, newer: &Table)
+    requires { newer.now.hints.layout ≡ kept.old.hints.layout }
+    ensures { kept.new ≡ newer.now }
+{
+    kept.hints.copy_from(&newer.hints);
+    kept.upto = newer.upto;
+    kept.seen = newer.seen.again();
+}

@@ -1,0 +1,50 @@
+//! What readers read: where each port is, and for how many entries that stands.
+use crate::history::Witness;
+use chorus_hints::Hints;
+use chorus_ui::{Kind, Ui};
+use left_right::Absorb;
+use std::alloc::AllocError;
+
+/// The locations, the number of entries for which they stand, and these entries, which have no bytes.
+#[derive(Drop)]
+pub struct Table {
+    pub hints: Hints,
+    pub upto: u64,
+    pub seen: Witness,
+}
+
+/// A location that is published, and the entries for which the publish stands.
+#[derive(Drop)]
+pub struct Publish {
+    pub ui: Ui,
+    pub place: u16,
+    pub hop: u64,
+    pub upto: u64,
+    pub seen: Witness,
+}
+
+impl Absorb<Publish> for Table {
+    ghost use Rattle.chorus_board.specs.Table.{applied_to};
+
+    type State = Table;
+
+    ghost state = { λ table. table };
+
+    ghost applied = { applied_to };
+
+    ghost never_fails = { Unit {0} };
+
+    fn absorb_first(&mut self, operation: &Publish, _other: &Table) -> Result<(), AllocError> {
+        let ui = operation.ui;
+        let layout = self.hints.layout();
+        if ui.kind() == Kind::Port
+            && layout.can_make_port(ui)
+            && layout.has_place(operation.place)
+        {
+            self.hints.learn(ui, operation.place, operation.hop);
+        }
+        self.upto = operation.upto;
+        self.seen = operation.seen.again();
+        Ok(())
+    }
+}

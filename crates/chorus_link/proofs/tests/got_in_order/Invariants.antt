@@ -1,6 +1,0 @@
-use Rattle.std.proofs.Common.{◌≡◌}
-use Rattle.chorus_link.specs.Ends.{recv_link}
-use Rattle.chorus_link.proofs.tests.got_in_order.Given as goal
-
-abbrev pub invariant-loop : goal.invariant-loop
-invariant-loop g l = recv_link l.recv ≡ recv_link l.fn.recv

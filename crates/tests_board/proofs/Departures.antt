@@ -1,0 +1,44 @@
+-- What the publishes of the tests owe.
+use Rattle.std.proofs.Common.{◌≡◌, ℕ, zero, suc, ◌+◌, ◌%◌, Bool, true, false, List, [], ◌∷◌, ◌++◌, length, reverse, rules, refl, ap, sym, ◌∙◌, arith, length-append}
+use Rattle.std.proofs.lemmas.List.Elements.{All-append}
+use Rattle.std.specs.List.{All}
+use Rattle.chorus_ui.specs.declared.layout.Layout.{Layout}
+use Rattle.chorus_ui.specs.declared.ui.Ui.{Ui}
+use Rattle.chorus_ui.specs.Name.{same_ui}
+use Rattle.chorus_entry.specs.declared.act.Act.TheVariants.{Depart}
+use Rattle.chorus_entry.specs.declared.entry.Entry.{Entry}
+use Rattle.chorus_world.specs.Places.{farther, learned}
+use Rattle.chorus_board.specs.Located.{located_after, told_of, IsOfOnePlace}
+use Rattle.chorus_board.proofs.Whereabouts.{located_more, of_one_place}
+use Rattle.tests_board.specs.Moves.{entry_of, departure, departures}
+
+pub departure_located : (l : Layout) (port : Ui) (place hop : ℕ) (q : Ui) → farther (located_after l [] q) (told_of q port place hop) ≡ located_after l (departure port place hop) q
+unfolding located_after
+departure_located l port place hop q = refl
+
+pub departure_of_one_place : (port : Ui) (place hop : ℕ) → IsOfOnePlace (departure port place hop)
+departure_of_one_place port place hop = of_one_place 1 (departure port place hop) (search rules)
+
+abbrev next_entry : Ui → ℕ → Entry
+next_entry port n = entry_of (n + 1) (Depart port ((n + 1) % 2 + 1) port (n + 1))
+
+pub next_departures : (port : Ui) (n : ℕ) → departures port (n + 1) ≡ departures port n ++ next_entry port n ∷ []
+unfolding departures
+next_departures port n = let e : n + 1 ≡ suc n = omega arith in ap (departures port) e
+
+pub length_departures : (port : Ui) (n : ℕ) → length (departures port n) ≡ n
+unfolding departures
+length_departures port zero = refl
+length_departures port (suc n) = let more = length_departures port n in let all = length-append (departures port n) (next_entry port n ∷ []) in omega (arith, all, more)
+
+all_here : (port : Ui) (n : ℕ) → All (λ (e : Entry). e.place ≡ 1) (departures port n)
+unfolding departures
+all_here port zero = tt
+all_here port (suc n) = All-append (λ (e : Entry). e.place ≡ 1) (departures port n) (next_entry port n ∷ []) (all_here port n) (refl, tt)
+
+pub departures_of_one_place : (port : Ui) (n : ℕ) → IsOfOnePlace (departures port n)
+departures_of_one_place port n = of_one_place 1 (departures port n) (all_here port n)
+
+pub departures_located : (l : Layout) (port : Ui) (n : ℕ) (q : Ui) → farther (located_after l (departures port n) q) (told_of q port ((n + 1) % 2 + 1) (n + 1)) ≡ located_after l (departures port (n + 1)) q
+departures_located l port n q =
+    sym (located_more l (departures port n) (next_entry port n) q) ∙ ap (λ log. located_after l log q) (sym (next_departures port n))
