@@ -3,7 +3,7 @@ use Rattle.std.proofs.Common.{◌≡◌, ℕ, ◌*◌, nat_lt, Bool, true, false
 use Rattle.std.proofs.lemmas.Bool.{and_from}
 use Rattle.chorus_ui.specs.declared.kind.Kind.TheVariants.{Port}
 use Rattle.chorus_ui.specs.declared.layout.Layout.{Layout}
-use Rattle.chorus_ui.specs.declared.layout.TheConstants.{PORTS_PER_SITE}
+use Rattle.chorus_ui.specs.declared.limits.TheConstants.{PORTS_PER_SITE_LIMIT}
 use Rattle.chorus_ui.specs.declared.ui.Ui.{Ui}
 use Rattle.chorus_ui.specs.Kind.{same_kind}
 use Rattle.chorus_ui.specs.Layout.{has_site, has_place, can_make_port, creation_place}
@@ -91,7 +91,7 @@ module _ (shown : Table) (o : Publish) (fine : Fine shown) (kind : o.ui.kind ≡
     (
       subst (λ (k : Known). Exact k o.seen.log) (sym is_told) exact_next,
       count,
-      subst IsRoomy (sym is_told) (length-known_after known o.ui o.place o.hop ∙ fine.2 ∙ ap (λ (l : Layout). l.sites * PORTS_PER_SITE) (sym same_layout)),
+      subst IsRoomy (sym is_told) (length-known_after known o.ui o.place o.hop ∙ fine.2 ∙ ap (λ (l : Layout). l.sites * PORTS_PER_SITE_LIMIT) (sym same_layout)),
       one_place,
     ),
     book,

@@ -2,7 +2,7 @@
 use Rattle.std.specs.Prelude.{ℕ, ◌≡◌, ◌*◌, ◌&&◌, if◌then◌else◌, List, length}
 use Rattle.chorus_ui.specs.declared.ui.Ui.{Ui}
 use Rattle.chorus_ui.specs.declared.layout.Layout.{Layout}
-use Rattle.chorus_ui.specs.declared.layout.TheConstants.{PORTS_PER_SITE}
+use Rattle.chorus_ui.specs.declared.limits.TheConstants.{PORTS_PER_SITE_LIMIT}
 use Rattle.chorus_ui.specs.Layout.{has_place}
 use Rattle.chorus_entry.specs.declared.entry.Entry.{Entry}
 use Rattle.chorus_hints.specs.Known.{Known, is_listed, newest, nothing_known, known_after}
@@ -24,7 +24,7 @@ Exact known log = (q : Ui) → IsPortIn known.layout q → newest known q ≡ pa
 
 -- there is a row for each port that the layout can make
 abbrev pub IsRoomy : Known → Type 0
-IsRoomy known = length known.pairs ≡ known.layout.sites * PORTS_PER_SITE
+IsRoomy known = length known.pairs ≡ known.layout.sites * PORTS_PER_SITE_LIMIT
 
 -- the table stands for all that it has seen
 abbrev pub Fine : Table → Type 0

@@ -5,7 +5,7 @@ use Rattle.std.proofs.lemmas.Bool.Decides.{nat_tests}
 use Rattle.std.proofs.lemmas.List.{length-replicate, get_or-replicate, length-set, get_or-set_same, get_or-set_other}
 use Rattle.chorus_ui.specs.declared.kind.Kind.TheVariants.{Port}
 use Rattle.chorus_ui.specs.declared.layout.Layout.{Layout}
-use Rattle.chorus_ui.specs.declared.layout.TheConstants.{PORTS_PER_SITE}
+use Rattle.chorus_ui.specs.declared.limits.TheConstants.{PORTS_PER_SITE_LIMIT}
 use Rattle.chorus_ui.specs.declared.ui.Ui.{Ui}
 use Rattle.chorus_ui.specs.Kind.{same_kind}
 use Rattle.chorus_ui.specs.Layout.{has_site, can_make_port}
@@ -22,7 +22,7 @@ pub record Listed (layout : Layout) (q : Ui) : Type 0 where
   pub site_from_one : 1 ≤ q.site
   pub site_to_last : q.site ≤ layout.sites
   pub number_from_one : 1 ≤ q.number
-  pub number_to_last : q.number ≤ PORTS_PER_SITE
+  pub number_to_last : q.number ≤ PORTS_PER_SITE_LIMIT
 
 pub from_is_listed : (layout : Layout) (q : Ui) → is_listed layout q ≡ true → Listed layout q
 from_is_listed layout q h =
@@ -37,7 +37,7 @@ from_is_listed layout q h =
     }
 
 -- each listed port has a row of its own
-row_inside : (layout : Layout) (q : Ui) → Listed layout q → row_of q < layout.sites * PORTS_PER_SITE
+row_inside : (layout : Layout) (q : Ui) → Listed layout q → row_of q < layout.sites * PORTS_PER_SITE_LIMIT
 row_inside layout q l =
     let a = l.site_from_one in let b = l.site_to_last in let c = l.number_from_one in let d = l.number_to_last in
     omega (arith, a, b, c, d)
@@ -54,12 +54,12 @@ rows_apart layout q r l m same =
 pub kept-nothing_known : (layout : Layout) (q : Ui) → kept (nothing_known layout) q ≡ None
 kept-nothing_known layout q = by (is_listed layout q) refl
   where
-    by : (b : Bool) → is_listed layout q ≡ b → (if b then get_or {A = Pair} (replicate (layout.sites * PORTS_PER_SITE) None) (row_of q) None else None) ≡ None
-    by true e = get_or-replicate {A = Pair} (layout.sites * PORTS_PER_SITE) (row_of q) None None (row_inside layout q (from_is_listed layout q e))
+    by : (b : Bool) → is_listed layout q ≡ b → (if b then get_or {A = Pair} (replicate (layout.sites * PORTS_PER_SITE_LIMIT) None) (row_of q) None else None) ≡ None
+    by true e = get_or-replicate {A = Pair} (layout.sites * PORTS_PER_SITE_LIMIT) (row_of q) None None (row_inside layout q (from_is_listed layout q e))
     by false e = refl
 
-pub length-nothing_known : (layout : Layout) → length (nothing_known layout).pairs ≡ layout.sites * PORTS_PER_SITE
-length-nothing_known layout = length-replicate {A = Pair} (layout.sites * PORTS_PER_SITE) None
+pub length-nothing_known : (layout : Layout) → length (nothing_known layout).pairs ≡ layout.sites * PORTS_PER_SITE_LIMIT
+length-nothing_known layout = length-replicate {A = Pair} (layout.sites * PORTS_PER_SITE_LIMIT) None
 
 pub layout-known_after : (known : Known) (port : Ui) (place hop : ℕ) → (known_after known port place hop).layout ≡ known.layout
 layout-known_after known port place hop = by (nat_lt (hop_of (kept known port)) hop)
@@ -76,7 +76,7 @@ length-known_after known port place hop = by (nat_lt (hop_of (kept known port)) 
     by false = refl
 
 -- a pair that is put at the row of a listed port is that of this port alone
-put_at : (known : Known) (port : Ui) (place hop : ℕ) → is_listed known.layout port ≡ true → length known.pairs ≡ known.layout.sites * PORTS_PER_SITE
+put_at : (known : Known) (port : Ui) (place hop : ℕ) → is_listed known.layout port ≡ true → length known.pairs ≡ known.layout.sites * PORTS_PER_SITE_LIMIT
     → (q : Ui) → kept (record known { pairs = set known.pairs (row_of port) (Some (place, hop)) }) q ≡ (if same_ui port q then Some (place, hop) else kept known q)
 put_at known port place hop listed long q = by (is_listed known.layout q) (same_ui port q) refl refl
   where
@@ -100,7 +100,7 @@ put_at known port place hop listed long q = by (is_listed known.layout q) (same_
     by false true eb es = let same : port ≡ q = from_same_ui port q es in let differ : true ≡ false = sym listed ∙ (ap (is_listed known.layout) same ∙ eb) in absurd cc
     by false false eb es = refl
 
-pub kept-known_after : (known : Known) (port : Ui) (place hop : ℕ) → is_listed known.layout port ≡ true → length known.pairs ≡ known.layout.sites * PORTS_PER_SITE
+pub kept-known_after : (known : Known) (port : Ui) (place hop : ℕ) → is_listed known.layout port ≡ true → length known.pairs ≡ known.layout.sites * PORTS_PER_SITE_LIMIT
     → (q : Ui) → kept (known_after known port place hop) q ≡ learned port place hop (kept known) q
 kept-known_after known port place hop listed long q = by (nat_lt (hop_of (kept known port)) hop)
   where

@@ -48,7 +48,7 @@ learned port place hop pairs q = if nat_lt (hop_of (pairs port)) hop && same_ui 
 
 -- nothing is kept, and there is room for each port that the layout can make
 abbrev pub nothing_known : Layout → Known
-nothing_known layout = record { layout = layout; pairs = replicate (layout.sites * PORTS_PER_SITE) None }
+nothing_known layout = record { layout = layout; pairs = replicate (layout.sites * PORTS_PER_SITE_LIMIT) None }
 
 -- the same, as one value: the pair of the port is put where it stands
 abbrev pub known_after : Known → Ui → ℕ → ℕ → Known

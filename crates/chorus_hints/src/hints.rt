@@ -1,9 +1,9 @@
 //! The pairs of place and hop that are kept.
 
-ghost use Rattle.std.specs.Prelude.{◌≡◌, nat_lt, IsTrue, IfOk};
+ghost use Rattle.std.specs.Prelude.{◌≡◌, nat_lt, IsTrue, IsNone, IfOk};
 ghost use Rattle.chorus_ui.specs.declared.ui.Ui.{Ui};
 ghost use Rattle.chorus_ui.specs.declared.kind.Kind.TheVariants.{Port};
-ghost use Rattle.chorus_ui.specs.Layout.{has_site, can_make_port};
+ghost use Rattle.chorus_ui.specs.Layout.{has_site, has_place, can_make_port};
 ghost use Rattle.chorus_hints.specs.Known.{row_of, kept, newest, hop_of, learned, nothing_known, known_after};
 
 use chorus_ui::{Kind, Layout, PORTS_PER_SITE_LIMIT, Ui};
@@ -80,12 +80,13 @@ impl Hints {
         farther
     }
 
-    /// The kept pair of place and hop, and where none is kept the creation place with hop 0. The port's site is in the
-    /// layout. Takes no memory.
+    /// The kept pair of place and hop, and where none is kept the creation place with hop 0, which is a place of the layout. The
+    /// port's site is in the layout. Takes no memory.
     pub fn newest(&self, ui: Ui) -> (u16, u64)
         requires port { ui.kind ≡ Port }
         requires in_layout { IsTrue (has_site self.now.layout ui.site) }
-        ensures { result ≡ newest self.now ui }
+        ensures value { result ≡ newest self.now ui }
+        ensures made { IsNone (kept self.now ui) → IsTrue (has_place self.now.layout result.0) }
     {
         let made = (self.layout.place_at(ui.site(), ui), 0);
         if self.layout.can_make_port(ui) {
