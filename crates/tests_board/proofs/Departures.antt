@@ -19,8 +19,12 @@ departure_located l port place hop q = refl
 pub departure_of_one_place : (port : Ui) (place hop : ℕ) → IsOfOnePlace (departure port place hop)
 departure_of_one_place port place hop = of_one_place 1 (departure port place hop) (search rules)
 
-abbrev next_entry : Ui → ℕ → Entry
+abbrev pub next_entry : Ui → ℕ → Entry
 next_entry port n = entry_of (n + 1) (Depart port ((n + 1) % 2 + 1) port (n + 1))
+
+pub no_departures : (port : Ui) → departures port 0 ≡ []
+unfolding departures
+no_departures port = refl
 
 pub next_departures : (port : Ui) (n : ℕ) → departures port (n + 1) ≡ departures port n ++ next_entry port n ∷ []
 unfolding departures
@@ -31,10 +35,14 @@ unfolding departures
 length_departures port zero = refl
 length_departures port (suc n) = let more = length_departures port n in let all = length-append (departures port n) (next_entry port n ∷ []) in omega (arith, all, more)
 
+one_here : (e : Entry) → e.place ≡ 1 → All (λ (x : Entry). x.place ≡ 1) (e ∷ [])
+one_here e here zero d inside = here
+one_here e here (suc k) d inside = absurd (omega (arith, inside))
+
 all_here : (port : Ui) (n : ℕ) → All (λ (e : Entry). e.place ≡ 1) (departures port n)
 unfolding departures
-all_here port zero = tt
-all_here port (suc n) = All-append (λ (e : Entry). e.place ≡ 1) (departures port n) (next_entry port n ∷ []) (all_here port n) (refl, tt)
+all_here port zero = λ k d inside. absurd (omega (arith, inside))
+all_here port (suc n) = All-append (λ (e : Entry). e.place ≡ 1) (departures port n) (next_entry port n ∷ []) (all_here port n) (one_here (next_entry port n) refl)
 
 pub departures_of_one_place : (port : Ui) (n : ℕ) → IsOfOnePlace (departures port n)
 departures_of_one_place port n = of_one_place 1 (departures port n) (all_here port n)

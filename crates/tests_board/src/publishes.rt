@@ -1,7 +1,7 @@
 ghost use Rattle.std.specs.Prelude.{◌≡◌, [], IsTrue, OnOk, All, IfSome};
 ghost use Rattle.chorus_ui.specs.declared.kind.Kind.TheVariants.{Port};
 ghost use Rattle.chorus_ui.specs.Layout.{has_site, has_place, can_make_port};
-ghost use Rattle.chorus_board.specs.Boards.{entries_published, entries_begun, book_of, layout_of, layout_read, IsSameBoard, IsNewBoard, IsNewIn};
+ghost use Rattle.chorus_board.specs.Boards.{entries_published, entries_begun, book_of, layout_of, layout_read, IsSameBoard, IsSameReader, IsNewBoard, IsNewIn};
 ghost use Rattle.tests_board.specs.Moves.{departure};
 
 use chorus_board::{Board, BoardReader, Located, READERS_PER_BOARD};
@@ -44,7 +44,7 @@ pub(crate) fn next_reader(
 // Where the reader has a port of the layout's.
 pub(crate) fn newest(reader: &mut BoardReader, layout: Layout, port: Ui) -> Option<(u16, u64, u64)>
     requires { layout_read reader.old ≡ layout }
-    ensures { layout_read reader.new ≡ layout }
+    ensures { IsSameReader reader.old reader.new }
 {
     if port.kind() == Kind::Port && layout.has_site(port.site()) {
         let Located { place, hop, upto } = reader.newest(port);

@@ -2,14 +2,14 @@ use Rattle.std.proofs.Common.{[], ◌++◌, ap, ◌∙◌}
 use Rattle.chorus_world.specs.Places.{farther}
 use Rattle.chorus_board.specs.Boards.{layout_of}
 use Rattle.chorus_board.specs.Located.{located_after, told_of}
-use Rattle.chorus_board.proofs.Whereabouts.{nothing_told, of_one_place}
+use Rattle.chorus_board.proofs.Whereabouts.{nothing_told}
 use Rattle.bench_board.proofs.board.publish_until.Goals as goal
 
 pub publish-requires-clause-longer : goal.publish-requires-clause-longer
 publish-requires-clause-longer g c = ([], ap (λ log. log ++ []) c.loop.invariant.1)
 
 pub publish-requires-clause-one_place : goal.publish-requires-clause-one_place
-publish-requires-clause-one_place g c = of_one_place 1 [] tt
+publish-requires-clause-one_place g c i j d e at_i at_j = absurd cc
 
 pub publish-requires-clause-located : goal.publish-requires-clause-located
 publish-requires-clause-located g c q here =
