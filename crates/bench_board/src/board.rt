@@ -46,11 +46,7 @@ pub fn from_board<R: Threads + Wait + Sync>(
 }
 
 // The next reader.
-fn next_reader(
-    board: &Board,
-    layout: Layout,
-    readers: &mut Vec<BoardReader>,
-) -> Option<BoardReader>
+fn next_reader(board: &Board, layout: Layout, readers: &mut Vec<BoardReader>) -> Option<BoardReader>
     requires { All (IsNewIn (book_of board.now) layout) readers.old.items }
     ensures one { IfSome result (λ r. layout_read r ≡ layout) }
     ensures rest { All (IsNewIn (book_of board.now) layout) readers.new.items }
@@ -131,7 +127,12 @@ fn by_four<R: Threads + Wait + Sync>(
     answered
 }
 
-fn by_two<R: Threads + Sync>(rt: &R, port: Ui, readers: (BoardReader, BoardReader), count: u64) -> u64
+fn by_two<R: Threads + Sync>(
+    rt: &R,
+    port: Ui,
+    readers: (BoardReader, BoardReader),
+    count: u64,
+) -> u64
     requires { IsWatched (layout_read readers.0) port × IsWatched (layout_read readers.1) port }
 {
     let (one, other) = readers;

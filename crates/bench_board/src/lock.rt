@@ -68,11 +68,7 @@ pub fn from_lock<R: Threads + Wait + Sync>(
 }
 
 fn by_four<R: Threads + Wait + Sync>(rt: &R, table: &RwLock<Watched>, count: u64) -> u64 {
-    let (first, second) = join(
-        rt,
-        || by_two(rt, table, count),
-        || by_two(rt, table, count),
-    );
+    let (first, second) = join(rt, || by_two(rt, table, count), || by_two(rt, table, count));
     first.saturating_add(second)
 }
 
