@@ -573,6 +573,7 @@ early_by_the_hop_that_is_known-events =
     ∷ Deliver 0 3 2
     ∷ Deliver 0 3 2
     ∷ Deliver 0 4 2
+    ∷ Acts 1 (Command.Send (Dest.Port (port 1 1)) (100 ∷ []))
     ∷ Deliver 0 1 2
     ∷ Deliver 0 2 4
     ∷ Deliver 0 2 3
@@ -590,6 +591,7 @@ pub early_by_the_hop_that_is_known-replies : replies 4 1 early_by_the_hop_that_i
     ∷ (Reply.Departed 4)
     ∷ (Reply.Posted (msg 2 1 0))
     ∷ (Reply.Posted (msg 1 1 0))
+    ∷ (Reply.Early (msg 1 2 0) 4)
     ∷ []
 early_by_the_hop_that_is_known-replies = refl
 
@@ -619,9 +621,11 @@ pub early_by_the_hop_that_is_known-says : merge early_by_the_hop_that_is_known �
     ∷ entry 17 2 0 (Act.Told (msg 1 1 0) (A.Stale 2 4))
     ∷ entry 18 2 0 (Act.Early (msg 1 1 0) (port 1 1) 4)
     ∷ entry 19 2 0 (Act.Early (msg 3 1 0) (port 1 1) 4)
-    ∷ entry 20 2 0 (Act.Arrive (port 1 1) 4)
-    ∷ entry 21 4 0 (Act.Told (msg 3 1 0) (A.Early 4))
-    ∷ entry 22 3 0 (Act.Told (msg 2 1 0) (A.Early 4))
+    ∷ entry 20 2 1 (Act.Post (mess (msg 1 2 0) Tag.Plain (100 ∷ [])) (Dest.Port (port 1 1)))
+    ∷ entry 21 2 1 (Act.Early (msg 1 2 0) (port 1 1) 4)
+    ∷ entry 22 2 0 (Act.Arrive (port 1 1) 4)
+    ∷ entry 23 4 0 (Act.Told (msg 3 1 0) (A.Early 4))
+    ∷ entry 24 3 0 (Act.Told (msg 2 1 0) (A.Early 4))
     ∷ []
 early_by_the_hop_that_is_known-says = refl
 
