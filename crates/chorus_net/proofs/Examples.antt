@@ -2,6 +2,7 @@
 pub mod Names
 pub mod Sending
 pub mod Moving
+pub mod Locations
 pub mod Groups
 pub mod Reports
 pub mod Calls

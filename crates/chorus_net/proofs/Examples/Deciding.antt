@@ -1,10 +1,9 @@
 -- A place that does not hold a port answers by the hops that were tried and that it knows.
-use Rattle.std.proofs.Common.{◌≡◌, [], ◌∷◌, refl}
+use Rattle.std.proofs.Common.{◌≡◌, refl}
 use Rattle.chorus_entry.specs.declared.answer.Answer.TheVariants as A
 use Rattle.std.specs.Prelude.{ℕ, Some, None}
 use Rattle.chorus_world.specs.declared.place.Location.{Location}
 use Rattle.chorus_place.specs.Deciding.{answer_away}
-use Rattle.chorus_net.proofs.Examples.Names.{port}
 
 abbrev known_at : ℕ → ℕ → Location
 known_at to hop = record { to = to; hop = hop }

@@ -6,7 +6,7 @@ use Rattle.chorus_entry.specs.declared.answer.Answer.TheVariants as A
 use Rattle.chorus_entry.specs.declared.command.Command.{Command}
 use Rattle.chorus_net.specs.Network.{NetState, place, Enter, Act as Acts, Deliver, after, round, rounds, served, drained, delivery}
 use Rattle.chorus_net.specs.Left.{placed}
-use Rattle.std.specs.Prelude.{ℕ, length, map, Some, None}
+use Rattle.std.specs.Prelude.{ℕ, length, map}
 use Rattle.chorus_entry.specs.declared.id.MsgId.{MsgId}
 use Rattle.chorus_place.specs.declared.outcome.Outcome.{Outcome}
 use Rattle.chorus_place.specs.Outcomes.{outcome}
