@@ -11,6 +11,7 @@ use Rattle.chorus_entry.specs.declared.packet.Cargo.{Cargo}
 use Rattle.chorus_entry.specs.declared.record.PortRecord.{PortRecord}
 use Rattle.chorus_world.specs.declared.place.Location.{Location}
 use Rattle.chorus_world.specs.Places.{last_clock, named_location}
+use Rattle.chorus_hints.specs.Known.{Pairs}
 use Rattle.chorus_calls.specs.Callers.{Seated, after_tick}
 use Rattle.chorus_waits.specs.declared.wait.Key.{Key}
 use Rattle.chorus_waits.specs.Queues.{Queue, empty_queue}
@@ -23,7 +24,7 @@ pub record PlaceState : Type 0 where
   pub number : ℕ
   pub journal : List Entry
   pub ports : List PortRecord
-  pub known : Ui → Option (ℕ × ℕ)
+  pub known : Pairs
   pub waiting : Key → Queue
   pub unheard : MsgId → Bool
 
@@ -65,7 +66,7 @@ pub record Turn : Type 0 where
 pub record Change : Type 0 where
   pub caller : Seated
   pub ports : List PortRecord
-  pub known : Ui → Option (ℕ × ℕ)
+  pub known : Pairs
   pub waiting : Key → Queue
   pub unheard : MsgId → Bool
   pub loads : List (ℕ × Cargo)

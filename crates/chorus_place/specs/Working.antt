@@ -13,7 +13,7 @@ use Rattle.chorus_entry.specs.declared.packet.Cargo.{Cargo}
 use Rattle.chorus_entry.specs.declared.record.PortRecord.{PortRecord}
 use Rattle.chorus_world.specs.declared.place.Location.{Location}
 use Rattle.chorus_world.specs.Places.{taught}
-use Rattle.chorus_hints.specs.Known.{learned}
+use Rattle.chorus_hints.specs.Known.{Pairs, learned}
 use Rattle.chorus_waits.specs.declared.wait.Key.{Key}
 use Rattle.chorus_waits.specs.declared.wait.Wait.{Wait}
 use Rattle.chorus_waits.specs.Queues.{Queue, changed, passed, at}
@@ -34,7 +34,7 @@ answers_try from m q route tried answer t =
 -- A Verdict: the message that is under way is told what was decided.
 
 -- Stale and Elsewhere teach a location of the port
-abbrev pub taught_of : Ui → Option Location → (Ui → Option (ℕ × ℕ)) → Ui → Option (ℕ × ℕ)
+abbrev pub taught_of : Ui → Option Location → Pairs → Pairs
 taught_of q None known = known
 taught_of q (Some located) known = learned q located.to located.hop known
 
