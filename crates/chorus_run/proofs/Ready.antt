@@ -188,7 +188,7 @@ setup-fine l n before (setups.Port actor capacity ∷ lines) one turns keeps bui
     let inner = and_parts (is_capacity capacity) (is_actor_of l n actor) outer.0 in
     let of = of-one l n actor one inner.1 in
     and_from (may_give l (Some first_actor) c) (list_all (may_give l (Some first_actor)) (map setup_command lines))
-    (gives l n first_actor c one turns refl inner.0 of.kind inner.1 refl)
+    (gives l n first_actor c one turns refl (and_from (names_actor actor) (is_capacity capacity) of.kind inner.0) inner.1 refl)
     (setup-fine l n (before ++ line ∷ []) lines one turns k.1 b.1)
 setup-fine l n before (setups.Group site ∷ lines) one turns keeps built = absurd (false≢true (and_parts false (list_all (is_built l 1) (map setup_command lines)) built).0)
 setup-fine l n before (setups.Member group port ∷ lines) one turns keeps built = absurd (false≢true (and_parts false (list_all (is_built l 1) (map setup_command lines)) built).0)

@@ -132,7 +132,7 @@ fn play(
     requires layout { scenario.now.layout ≡ layout_of sites }
     requires built { scene_is_built scenario.now ≡ true }
     requires keeps { Keeps scenario.now }
-    requires layout { IsLayout scenario.now.layout }
+    requires sites { IsLayout scenario.now.layout }
     ensures text { IfOk result (λ played. played.1.items ≡ text_of (Some played.0)) }
     ensures closed { IfOk result (λ played. IsClosed (replayed scenario.now) played.0) }
 {
