@@ -2,7 +2,7 @@
 ghost use Rattle.std.specs.Prelude.{◌≡◌, All, IfSome};
 ghost use Rattle.std.specs.Thread.{IsSync};
 ghost use Rattle.chorus_board.specs.Boards.{book_of, layout_of, layout_read, IsNewBoard, IsNewIn};
-ghost use Rattle.bench_board.specs.Watched.{IsWatched};
+ghost use Rattle.bench_board.specs.Watched.{IsWatched, AreWatched};
 
 use crate::readers::Readers;
 use chorus_board::{Board, BoardReader};
@@ -95,8 +95,8 @@ fn by_four<R: Threads + Wait + Sync>(
 ) -> u64
     requires port { IsWatched (layout_of board.old) port }
     requires new { IsNewBoard (layout_of board.old) board.old }
-    requires one { IsWatched (layout_read one.0) port × IsWatched (layout_read one.1) port }
-    requires other { IsWatched (layout_read other.0) port × IsWatched (layout_read other.1) port }
+    requires one { AreWatched (layout_read one.0) (layout_read one.1) port }
+    requires other { AreWatched (layout_read other.0) (layout_read other.1) port }
 {
     let done = AtomicBool::new(false);
     let seen = &done;
@@ -104,16 +104,16 @@ fn by_four<R: Threads + Wait + Sync>(
         rt,
         move || -> u64
             requires rt { IsSync R.row }
-            requires one { IsWatched (layout_read one.0) port × IsWatched (layout_read one.1) port }
-            requires other { IsWatched (layout_read other.0) port × IsWatched (layout_read other.1) port }
+            requires one { AreWatched (layout_read one.0) (layout_read one.1) port }
+            requires other { AreWatched (layout_read other.0) (layout_read other.1) port }
         {
             let (first, second) = join(
                 rt,
                 move || -> u64
-                    requires { IsWatched (layout_read one.0) port × IsWatched (layout_read one.1) port }
+                    requires { AreWatched (layout_read one.0) (layout_read one.1) port }
                 { by_two(rt, port, one, count) },
                 move || -> u64
-                    requires { IsWatched (layout_read other.0) port × IsWatched (layout_read other.1) port }
+                    requires { AreWatched (layout_read other.0) (layout_read other.1) port }
                 { by_two(rt, port, other, count) },
             );
             seen.store(true, Ordering::SeqCst);
@@ -133,7 +133,7 @@ fn by_two<R: Threads + Sync>(
     readers: (BoardReader, BoardReader),
     count: u64,
 ) -> u64
-    requires { IsWatched (layout_read readers.0) port × IsWatched (layout_read readers.1) port }
+    requires { AreWatched (layout_read readers.0) (layout_read readers.1) port }
 {
     let (one, other) = readers;
     let (first, second) = join(

@@ -81,11 +81,15 @@ fn best_rates<R: Threads + Wait + Sync + Clock>(
     let mut lock: f64 = 0.0;
     for _ in 0..ROUNDS {
         let start = Instant::now(rt)?;
-        let reads = from_board(rt, alloc, layout, port, readers, MANY)?;
-        board = board.max(reads as f64 / start.elapsed(rt)?.as_secs_f64());
+        let _ = from_board(rt, alloc, layout, port, readers, MANY)?;
+        board = board.max(rate_since(rt, start)?);
         let start = Instant::now(rt)?;
-        let reads = from_lock(rt, alloc, layout, port, readers, MANY)?;
-        lock = lock.max(reads as f64 / start.elapsed(rt)?.as_secs_f64());
+        let _ = from_lock(rt, alloc, layout, port, readers, MANY)?;
+        lock = lock.max(rate_since(rt, start)?);
     }
     Ok((board, lock))
+}
+
+fn rate_since<R: Clock>(rt: &R, start: Instant) -> io::Result<f64> {
+    Ok(MANY as f64 / start.elapsed(rt)?.as_secs_f64())
 }

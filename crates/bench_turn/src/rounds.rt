@@ -1,7 +1,7 @@
 //! One round of turns at four places, by one pass or by four at once.
 ghost use Rattle.std.specs.Prelude.{◌≡◌, ◌≤◌, true, IfSome};
 ghost use Rattle.std.specs.Thread.{IsSync};
-ghost use Rattle.chorus_turn.specs.Passes.{known, places, IsPassOf};
+ghost use Rattle.chorus_turn.specs.Passes.{known, places, IsPassOf, IsPlaceOf};
 
 use crate::counter::{Count, Counter};
 use chorus_turn::{Pass, Turns};
@@ -54,7 +54,7 @@ impl Callers {
 
 // All turns of one pass at one place.
 fn turns_at(turns: &Turns<Counter>, mut pass: Pass<()>, place: u16, count: u32) -> Pass<()>
-    requires { IsPassOf turns.now pass × (1 ≤ place) × (place ≤ places turns.now) }
+    requires { IsPassOf turns.now pass × IsPlaceOf turns.now place }
     ensures { IsPassOf turns.now result × ((known result).keeper ≡ (known pass).keeper) }
 {
     for _ in 0..count {
@@ -89,14 +89,16 @@ fn at_once<R: Threads + Sync>(
     let ((mut keeper, second), (third, fourth)) = join(
         rt,
         move || -> (Pass<()>, Pass<()>)
-            requires { IsSync R.row × IsPassOf turns.now keeper × ((known keeper).keeper ≡ true)
-                × IsPassOf turns.now second × (4 ≤ places turns.now) }
-            ensures { IsPassOf turns.entry.now result.0 × ((known result.0).keeper ≡ true)
-                × IsPassOf turns.entry.now result.1 }
+            requires rt { IsSync R.row }
+            requires keeper { IsPassOf turns.now keeper × ((known keeper).keeper ≡ true) }
+            requires second { IsPassOf turns.now second × (4 ≤ places turns.now) }
+            ensures keeper { IsPassOf turns.entry.now result.0 × ((known result.0).keeper ≡ true) }
+            ensures second { IsPassOf turns.entry.now result.1 }
         { two_at_once(rt, turns, (keeper, 1), (second, 2), count) },
         move || -> (Pass<()>, Pass<()>)
-            requires { IsSync R.row × IsPassOf turns.now third × IsPassOf turns.now fourth
-                × (4 ≤ places turns.now) }
+            requires rt { IsSync R.row }
+            requires passes { IsPassOf turns.now third × IsPassOf turns.now fourth }
+            requires places { 4 ≤ places turns.now }
             ensures { IsPassOf turns.entry.now result.0 × IsPassOf turns.entry.now result.1 }
         { two_at_once(rt, turns, (third, 3), (fourth, 4), count) },
     );
@@ -113,8 +115,8 @@ fn two_at_once<R: Threads + Sync>(
     two: (Pass<()>, u16),
     count: u32,
 ) -> (Pass<()>, Pass<()>)
-    requires one { IsPassOf turns.now one.0 × (1 ≤ one.1) × (one.1 ≤ places turns.now) }
-    requires two { IsPassOf turns.now two.0 × (1 ≤ two.1) × (two.1 ≤ places turns.now) }
+    requires one { IsPassOf turns.now one.0 × IsPlaceOf turns.now one.1 }
+    requires two { IsPassOf turns.now two.0 × IsPlaceOf turns.now two.1 }
     ensures one { IsPassOf turns.now result.0 × ((known result.0).keeper ≡ (known one.0).keeper) }
     ensures two { IsPassOf turns.now result.1 × ((known result.1).keeper ≡ (known two.0).keeper) }
 {
@@ -123,15 +125,14 @@ fn two_at_once<R: Threads + Sync>(
     join(
         rt,
         move || -> Pass<()>
-            requires { IsPassOf turns.now first × (1 ≤ place) × (place ≤ places turns.now) }
-            ensures { IsPassOf turns.entry.now result
-                × ((known result).keeper ≡ (known first).keeper) }
+            requires { IsPassOf turns.now first × IsPlaceOf turns.now place }
+            ensures pass { IsPassOf turns.entry.now result }
+            ensures keeper { (known result).keeper ≡ (known first).keeper }
         { turns_at(turns, first, place, count) },
         move || -> Pass<()>
-            requires { IsPassOf turns.now second × (1 ≤ next_place)
-                × (next_place ≤ places turns.now) }
-            ensures { IsPassOf turns.entry.now result
-                × ((known result).keeper ≡ (known second).keeper) }
+            requires { IsPassOf turns.now second × IsPlaceOf turns.now next_place }
+            ensures pass { IsPassOf turns.entry.now result }
+            ensures keeper { (known result).keeper ≡ (known second).keeper }
         { turns_at(turns, second, next_place, count) },
     )
 }

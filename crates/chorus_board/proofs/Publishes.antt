@@ -6,7 +6,7 @@ use Rattle.chorus_ui.specs.declared.layout.Layout.{Layout}
 use Rattle.chorus_ui.specs.declared.limits.TheConstants.{PORTS_PER_SITE_LIMIT}
 use Rattle.chorus_ui.specs.declared.ui.Ui.{Ui}
 use Rattle.chorus_ui.specs.Kind.{same_kind}
-use Rattle.chorus_ui.specs.Layout.{has_site, has_place, can_make_port, creation_place}
+use Rattle.chorus_ui.specs.Layout.{has_site, can_make_port, creation_place}
 use Rattle.chorus_ui.specs.Name.{same_ui}
 use Rattle.chorus_ui.proofs.Names.{same_kind-self}
 use Rattle.chorus_entry.specs.declared.entry.Entry.{Entry}
@@ -52,7 +52,7 @@ told_pair at q ui place hop = by (same_ui ui q) (nat_lt at.hop hop) refl
     by false b e = refl
 
 module _ (shown : Table) (o : Publish) (fine : Fine shown) (kind : o.ui.kind ≡ Port) (can : can_make_port shown.hints.layout o.ui ≡ true)
-    (there : has_place shown.hints.layout o.place ≡ true) (count : o.upto ≡ length o.seen.log) (one_place : IsOfOnePlace o.seen.log)
+    (count : o.upto ≡ length o.seen.log) (one_place : IsOfOnePlace o.seen.log)
     (located : (q : Ui) → IsPortIn shown.hints.layout q → farther (located_after shown.hints.layout shown.seen.log q) (told_of q o.ui o.place o.hop) ≡ located_after shown.hints.layout o.seen.log q) where
   abbrev known : Known
   known = shown.hints
@@ -64,7 +64,7 @@ module _ (shown : Table) (o : Publish) (fine : Fine shown) (kind : o.ui.kind ≡
   listed = and_from (same_kind o.ui.kind Port) (can_make_port known.layout o.ui) (ap (λ k. same_kind k Port) kind) can
 
   is_told : told known o ≡ next
-  is_told = ap (λ (b : Bool). if b then next else known) (and_from (is_listed known.layout o.ui) (has_place known.layout o.place) listed there)
+  is_told = ap (λ (b : Bool). if b then next else known) listed
 
   same_layout : next.layout ≡ known.layout
   same_layout = layout-known_after known o.ui o.place o.hop

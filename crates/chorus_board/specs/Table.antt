@@ -1,19 +1,18 @@
 -- What a table says, and what a publish makes of it.
-use Rattle.std.specs.Prelude.{ℕ, ◌≡◌, ◌*◌, ◌&&◌, if◌then◌else◌, List, length}
+use Rattle.std.specs.Prelude.{ℕ, ◌≡◌, ◌*◌, if◌then◌else◌, List, length}
 use Rattle.chorus_ui.specs.declared.ui.Ui.{Ui}
 use Rattle.chorus_ui.specs.declared.layout.Layout.{Layout}
 use Rattle.chorus_ui.specs.declared.limits.TheConstants.{PORTS_PER_SITE_LIMIT}
-use Rattle.chorus_ui.specs.Layout.{has_place}
 use Rattle.chorus_entry.specs.declared.entry.Entry.{Entry}
 use Rattle.chorus_hints.specs.Known.{Known, is_listed, newest, nothing_known, known_after}
 use Rattle.chorus_board.specs.declared.table.Table.{Table}
 use Rattle.chorus_board.specs.declared.table.Publish.{Publish}
 use Rattle.chorus_board.specs.Located.{located_after, pair_of, IsPortIn, IsOfOnePlace}
 
--- what is known after the publish, of a port that the layout can make at a place of the layout
+-- what is known after the publish, of a port that the layout can make
 abbrev pub told : Known → Publish → Known
 told known o =
-    if is_listed known.layout o.ui && has_place known.layout o.place then known_after known o.ui o.place o.hop else known
+    if is_listed known.layout o.ui then known_after known o.ui o.place o.hop else known
 
 abbrev pub applied_to : Table → Publish → Table
 applied_to table o = record { hints = told table.hints o; upto = o.upto; seen = o.seen }

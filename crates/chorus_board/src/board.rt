@@ -33,26 +33,28 @@ pub struct Board {
     ghost here: { writer.desk.shown.value.seen.book ≡ front.book } by { Prim.hlevel board_props },
     ghost knows: { ((view writer.desk.place).knows ≡ true)
         × (book_known (view writer.desk.place) ≡ front.book)
-        × (layout_known (view writer.desk.place) ≡ writer.desk.shown.value.hints.layout) } by { Prim.hlevel board_props },
+        × (layout_known (view writer.desk.place)
+        ≡ writer.desk.shown.value.hints.layout) } by { Prim.hlevel board_props },
     ghost none_pending: { length (drop writer.behind writer.log.items) ≡ 0 },
-    ghost exact: { Exact writer.desk.shown.value.hints writer.desk.shown.value.seen.log } by { Prim.hlevel board_props },
+    ghost exact: { Exact writer.desk.shown.value.hints
+        writer.desk.shown.value.seen.log } by { Prim.hlevel board_props },
     ghost long: { writer.desk.shown.value.upto ≡ length writer.desk.shown.value.seen.log },
     ghost roomy: { IsRoomy writer.desk.shown.value.hints },
-    ghost one_place: { IsOfOnePlace writer.desk.shown.value.seen.log } by { Prim.hlevel board_props },
+    ghost one_place: { IsOfOnePlace
+        writer.desk.shown.value.seen.log } by { Prim.hlevel board_props },
 }
 
 impl Board {
     ghost use Rattle.std.specs.Prelude.{◌≡◌, length, IsTrue, OnOk, OnErr};
     ghost use mathlib.Core.List.{IsPrefix};
     ghost use Rattle.chorus_ui.specs.declared.kind.Kind.TheVariants.{Port};
-    ghost use Rattle.chorus_ui.specs.Layout.{has_place, can_make_port};
+    ghost use Rattle.chorus_ui.specs.Layout.{can_make_port};
     ghost use Rattle.chorus_board.specs.Located.{IsOfOnePlace};
     ghost use Rattle.chorus_board.specs.Boards.{entries_seen, entries_published, entries_begun, entries_heard, layout_of, shown, LocatesAfter, IsReaderOf, IsSameBoard};
 
     /// Publishes that the port is at the place, by that hop. The publish stands for the entries that `X` names: `upto` of
     /// them, of one place, which begin with those of the publish before, and after which each port is located where the
-    /// board then has it. The layout can make the port, and the place is one
-    /// of its places.
+    /// board then has it. The layout can make the port.
     ///
     /// It waits for readers that are inside. For want of memory nothing is shown; that list was begun all the same, so the next
     /// one begins with it.
@@ -66,7 +68,6 @@ impl Board {
     ) -> Result<(), AllocError>
         requires port { ui.kind ≡ Port }
         requires in_layout { IsTrue (can_make_port (layout_of self.old) ui) }
-        requires place { IsTrue (has_place (layout_of self.old) place) }
         requires longer { IsPrefix (entries_begun self.old) X.entries }
         requires count { upto ≡ length X.entries }
         requires one_place { IsOfOnePlace X.entries }
@@ -75,7 +76,8 @@ impl Board {
         ensures begun { entries_begun self.new ≡ X.entries }
         ensures published { OnOk result (entries_published self.new ≡ X.entries) }
         ensures unshown { OnErr result (shown self.new ≡ shown self.old) }
-        ensures heard { OnOk result (IsPrefix (entries_heard self.old) (entries_published self.new)) }
+        ensures heard { OnOk result
+            (IsPrefix (entries_heard self.old) (entries_published self.new)) }
         ensures still_heard { entries_heard self.new ≡ entries_heard self.old }
     {
         bring_to::<X, R>(rt, &self.head, &mut self.front, self.reached, upto);
@@ -155,7 +157,8 @@ fn show_in<R: Wait>(writer: &mut TableWriter, rt: &R) -> Result<(), AllocError>
         rt,
         |writer, rt|
             requires { IsReady writer.desk.shown.value (drop writer.behind writer.log.items) }
-            ensures { IsShown (after_all writer.desk.shown.value (drop writer.behind writer.log.items))
+            ensures { IsShown
+                (after_all writer.desk.shown.value (drop writer.behind writer.log.items))
                 result.0.desk.shown.value (drop result.0.behind result.0.log.items)
                 (view result.0.desk.place) × IsOk result.1 }
         { show(writer, rt) },

@@ -89,7 +89,7 @@ impl BoardReader {
     }
 }
 
-// The longer of the two tables.
+// The longer of the two tables. Where both stand for as many entries nothing is copied.
 pub(crate) fn take_in(kept: &mut Table, newer: &Table)
     requires book { newer.now.seen.book ≡ kept.old.seen.book }
     requires layout { newer.now.hints.layout ≡ kept.old.hints.layout }
@@ -102,7 +102,7 @@ pub(crate) fn take_in(kept: &mut Table, newer: &Table)
 {
     let mut both = kept.seen.again();
     both.learn(&newer.seen);
-    if newer.upto < kept.upto {
+    if newer.upto <= kept.upto {
         return;
     }
     put_down(kept, newer);

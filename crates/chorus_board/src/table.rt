@@ -36,11 +36,7 @@ impl Absorb<Publish> for Table {
 
     fn absorb_first(&mut self, operation: &Publish, _other: &Table) -> Result<(), AllocError> {
         let ui = operation.ui;
-        let layout = self.hints.layout();
-        if ui.kind() == Kind::Port
-            && layout.can_make_port(ui)
-            && layout.has_place(operation.place)
-        {
+        if ui.kind() == Kind::Port && self.hints.layout().can_make_port(ui) {
             self.hints.learn(ui, operation.place, operation.hop);
         }
         self.upto = operation.upto;

@@ -55,7 +55,8 @@ impl<P: Drop> SendEnd<P> {
         ensures unmoved { OnErr result (PutsNothing self.old self.new) }
         ensures counted { MatchResult result (λ _. fulls_of self.new ≡ fulls_of self.old)
             (λ _. fulls_of self.new ≡ fulls_of self.old + 1) }
-        ensures full { OnErr result (WasFull (room self.old) (packets_put self.old) (known_got self.old)) }
+        ensures full { OnErr result
+            (WasFull (room self.old) (packets_put self.old) (known_got self.old)) }
     {
         let mut packet = packet;
         for _ in rt.forever() {

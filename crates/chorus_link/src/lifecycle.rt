@@ -1,6 +1,7 @@
 //! How a link begins, and how it ends.
 ghost use Rattle.std.specs.Prelude.{◌≡◌, ◌<◌, ◌++◌, IfOk};
-ghost use Rattle.chorus_link.specs.Ends.{packets_put, packets_got, packets_left, fulls_of, empties_of, send_link, recv_link, room, AreNew};
+ghost use Rattle.chorus_link.specs.Ends.{packets_put, packets_got, packets_left, fulls_of, empties_of};
+ghost use Rattle.chorus_link.specs.Ends.{send_link, recv_link, room, AreNew};
 
 use crate::ends::{RecvEnd, SendEnd};
 use crate::rest::Rest;

@@ -10,13 +10,14 @@ use Rattle.atomic_table.specs.Table.{State, Final, Seen}
 use Rattle.chorus_entry.specs.declared.entry.Entry.{Entry}
 use Rattle.chorus_turn.specs.declared.knowledge.Remarked.{Remarked}
 use Rattle.chorus_turn.specs.declared.view.View.{View}
-use Rattle.chorus_turn.specs.Lists.{times, somes}
+use Rattle.chorus_turn.specs.Lists.{times}
 use Rattle.chorus_turn.specs.Journals.{IsJournal, at_place}
 use Rattle.chorus_turn.specs.Knowing.{seats_of}
 use Rattle.chorus_turn.specs.Rule.{claims, Turned, IsAtRest}
 use Rattle.chorus_turn.specs.Calls.{IsMarkAt, Finished}
 use Rattle.chorus_turn.proofs.Counts.{total-alone, times-none}
 use Rattle.chorus_turn.proofs.Parts.{seats_below, times_contains}
+use Rattle.chorus_turn.specs.Lists.{somes}
 use Rattle.chorus_turn.proofs.Rows.{length-somes, somes_same, slice_get_inside, somes_of_all}
 use Rattle.chorus_turn.proofs.Takes.{shows}
 use Rattle.chorus_turn.proofs.Views.{times_claims, length-claims, holder_apart, alone}

@@ -1,10 +1,10 @@
 -- What a caller knows, and how each call changes it.
 use Rattle.std.specs.Prelude.{◌≡◌, ℕ, ◌+◌, true, false, if◌then◌else◌, List, [], ◌∷◌, ◌++◌, map}
 use Rattle.std.specs.List.{All}
+use Rattle.chorus_ui.specs.declared.limits.TheConstants.{SEATS_LIMIT}
 use Rattle.chorus_turn.specs.declared.knowledge.Remarked.{Remarked}
 use Rattle.chorus_turn.specs.declared.knowledge.Note.{Note}
 use Rattle.chorus_turn.specs.declared.knowledge.Knowledge.{Knowledge}
-use Rattle.chorus_turn.specs.declared.knowledge.TheConstants.{SEATS_LIMIT}
 use Rattle.chorus_turn.specs.Lists.{StartsWith, list_at, list_put, all_longer}
 use Rattle.chorus_turn.specs.Journals.{by_seat, with_place, at_place}
 

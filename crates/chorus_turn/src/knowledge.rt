@@ -2,9 +2,6 @@
 use chorus_entry::Entry;
 use std::collections::LinkedList;
 
-/// The most numbers that may be drawn, that of the opening pass included.
-pub const SEATS_LIMIT: u32 = 1_048_576;
-
 /// An entry of a journal with its remark, of the type that the state's `Kept` names.
 pub struct Remarked<R> {
     pub entry: Entry,

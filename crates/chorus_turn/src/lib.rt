@@ -23,7 +23,7 @@ mod view;
 
 pub use close::{PassesOut, Spent};
 pub use job::{Job, Kept};
-pub use knowledge::{Knowledge, Note, Placed, Remarked, SEATS_LIMIT};
+pub use knowledge::{Knowledge, Note, Placed, Remarked};
 pub use pass::Pass;
 pub use seats::NoSeat;
 pub use turns::{Busy, Turns};

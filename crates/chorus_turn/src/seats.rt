@@ -4,10 +4,10 @@ ghost use Rattle.chorus_turn.specs.Lists.{StartsWithBoth};
 ghost use Rattle.chorus_turn.specs.Knowing.{limit, after_draw, newcomer, after_retirement, Inherits, IsSameKeeper};
 
 use crate::job::Kept;
-use crate::knowledge::SEATS_LIMIT;
 use crate::pass::Pass;
 use crate::turns::Turns;
 use atomic_table::Badge;
+use chorus_ui::SEATS_LIMIT;
 use std::mem;
 use thiserror::Error;
 
@@ -59,7 +59,8 @@ impl<S: Kept> Turns<S> {
         ensures into { IsPassOf self.now into.new }
         ensures standing { Inherits (known into.old) (known pass) (known into.new) }
         ensures knows { known into.new ≡ after_retirement (known into.old) (known pass) }
-        ensures sees { StartsWithBoth (known into.new).seen (known into.old).seen (known pass).seen }
+        ensures sees { StartsWithBoth (known into.new).seen
+            (known into.old).seen (known pass).seen }
     {
         let Pass {
             badge,

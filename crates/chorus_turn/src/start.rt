@@ -17,7 +17,8 @@ use std::snapshot::Snapshot;
 fn wrap<S>(states: &mut Vec<S>, slots: &mut Vec<Option<S>>)
     requires { (slots.old.items ≡ []) × (vec_len states.old ≤ vec_capacity slots.old) }
     ensures slots { slots.new.items ≡ somes states.old.items }
-    ensures states { (vec_len states.new ≡ 0) × (vec_capacity states.new ≡ vec_capacity states.old) }
+    ensures states { (vec_len states.new ≡ 0)
+        × (vec_capacity states.new ≡ vec_capacity states.old) }
 {
     states.reverse();
     while let Some(state) = states.pop() {

@@ -81,7 +81,8 @@ impl<S: Kept> Turns<S> {
         requires state { HasToGive (IsJournal S.entries S.fits) X.notes
             (IsMarked S.mark (handed self.now)) place seat.old.me }
         ensures table { seat.new.table_id ≡ seat.old.table_id }
-        ensures given { GivesBack (IsJournal S.entries S.fits) X.notes place seat.old.me seat.new.me }
+        ensures given { GivesBack (IsJournal S.entries S.fits) X.notes place
+            seat.old.me seat.new.me }
     {
         self.table.shared.store::<Give<X>>(seat, place, 0)
     }
@@ -103,7 +104,8 @@ impl<S: Kept> Turns<S> {
 
     // The other seat ends in this one.
     pub(crate) fn merge(&self, seat: &mut Held<S, S::Remark>, other: Held<S, S::Remark>)
-        requires table { (seat.old.table_id ≡ table_of self.now) × (other.table_id ≡ table_of self.now) }
+        requires table { (seat.old.table_id ≡ table_of self.now)
+            × (other.table_id ≡ table_of self.now) }
         requires seat { (seat.old.me.1 ≡ []) × IsAtRest seat.old.me.0 }
         requires other { (other.me.1 ≡ []) × IsAtRest other.me.0 }
         ensures table { seat.new.table_id ≡ seat.old.table_id }

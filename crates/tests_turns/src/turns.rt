@@ -6,7 +6,8 @@ ghost use Rattle.chorus_turn.specs.Journals.{GrowsBy};
 ghost use Rattle.chorus_turn.specs.Passes.{known, places, table_of, IsPassOf, IsPlaceOf};
 
 use chorus_entry::{Act, Entry};
-use chorus_turn::{Busy, Job, Kept, NoSeat, Pass, PassesOut, SEATS_LIMIT, Turns};
+use chorus_turn::{Busy, Job, Kept, NoSeat, Pass, PassesOut, Turns};
+use chorus_ui::SEATS_LIMIT;
 use std::alloc::Global;
 use std::cell::Cell;
 use std::test::Fail;
@@ -80,7 +81,8 @@ struct Inside<'a> {
     other: Pass<u64>,
     refused: Option<Busy>,
     elsewhere: bool,
-    ghost mine: { IsPassOf turns.now other } by { Coded-set table_id_coded other.badge.table_id (table_of turns.now) },
+    ghost mine: { IsPassOf turns.now other } by { Coded-set table_id_coded
+        other.badge.table_id (table_of turns.now) },
     ghost two: { 2 ≤ places turns.now },
 }
 
