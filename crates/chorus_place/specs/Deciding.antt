@@ -1,10 +1,8 @@
 -- Deciding on a message at a place, where it was tried with a hop.
 -- m is a message, x its id, q its port, s the place; `only` is the site that the message demands, if it demands one.
-use Rattle.chorus_world.specs.Places.{deletes, is_deleted}
-use Rattle.std.specs.Prelude.{ℕ, ◌==◌, nat_lt, Bool, false, ◌||◌, if◌then◌else◌, List, [], ◌∷◌, Option, Some, None}
+use Rattle.chorus_world.specs.Places.{is_deleted}
+use Rattle.std.specs.Prelude.{ℕ, ◌==◌, nat_lt, if◌then◌else◌, List, Option, Some, None}
 use Rattle.chorus_ui.specs.declared.ui.Ui.{Ui}
-use Rattle.chorus_ui.specs.Name.{same_ui}
-use Rattle.chorus_entry.specs.declared.entry.Entry.{Entry}
 use Rattle.chorus_entry.specs.declared.id.MsgId.{MsgId}
 use Rattle.chorus_entry.specs.declared.message.Message.{Message}
 use Rattle.chorus_entry.specs.declared.act.Act.{Act}

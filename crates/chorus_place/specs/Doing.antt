@@ -1,6 +1,6 @@
 -- What a command's own entry brings with it: what changes, what is put, and what follows.
 -- m is a message, d its destination, q a port, g a group, x an id, s the place, t the turn, c the caller.
-use Rattle.std.specs.Prelude.{ℕ, ◌==◌, ◌&&◌, ◌||◌, if◌then◌else◌, List, [], ◌∷◌, ◌++◌, Option, Some, None, unwrap_or}
+use Rattle.std.specs.Prelude.{ℕ, ◌==◌, ◌&&◌, if◌then◌else◌, List, [], ◌∷◌, ◌++◌, Option, Some, None, unwrap_or}
 use Rattle.chorus_ui.specs.declared.ui.Ui.{Ui}
 use Rattle.chorus_ui.specs.Layout.{group_place}
 use Rattle.chorus_entry.specs.declared.id.MsgId.{MsgId}
@@ -11,8 +11,6 @@ use Rattle.chorus_entry.specs.declared.act.Act.{Act}
 use Rattle.chorus_entry.specs.declared.packet.Cargo.{Cargo}
 use Rattle.chorus_entry.specs.declared.record.PortRecord.{PortRecord}
 use Rattle.chorus_entry.specs.PortRecord.{new_record}
-use Rattle.chorus_entry.specs.MsgId.{same_id}
-use Rattle.chorus_world.specs.Posts.{source}
 use Rattle.chorus_ports.specs.Table.{find, replace, without}
 use Rattle.chorus_ports.specs.Taking.{after_take, rehomed}
 use Rattle.chorus_ports.specs.History.{migrated}
@@ -22,6 +20,7 @@ use Rattle.chorus_hints.specs.Known.{learned}
 use Rattle.chorus_waits.specs.declared.wait.Key.{Key}
 use Rattle.chorus_waits.specs.declared.wait.Wait.{Wait}
 use Rattle.chorus_waits.specs.Queues.{changed, with_last}
+use Rattle.chorus_waits.specs.Unheard.{asked}
 use Rattle.chorus_place.specs.PlaceState.{PlaceState, Turn, unchanged, say, note}
 use Rattle.chorus_place.specs.Trying.{go}
 use Rattle.chorus_place.specs.Choosing.{chooses}
@@ -72,7 +71,7 @@ abbrev pub asks : Message → Dest → ℕ → Turn → Turn
 asks m d to t =
     say (Act.Post m d) (record (unchanged t) {
       caller = poster m d t.caller;
-      unheard = λ x. same_id (source x) m.id || t.place.unheard x;
+      unheard = asked m.id.seat m.id.number t.place.unheard;
       loads = (to, Cargo.Ask m d) ∷ [];
     }) t
 

@@ -1,14 +1,11 @@
 -- Lawful packets: those that a place works off. No schedule brings another one.
 -- l is a layout, p a place's number, q a port, x an id, s the place that the packet is handed to.
-use Rattle.chorus_world.specs.Places.{makes, is_made_here}
+use Rattle.chorus_world.specs.Places.{is_made_here}
 use Rattle.std.specs.Prelude.{ℕ, ◌+◌, ◌==◌, nat_le, Bool, true, false, ◌&&◌, ◌||◌, not, List, [], ◌∷◌, length, Option, Some, None, is_none}
 use Rattle.chorus_ui.specs.declared.ui.Ui.{Ui}
-use Rattle.chorus_ui.specs.Name.{same_ui}
 use Rattle.chorus_ui.specs.declared.layout.Layout.{Layout}
 use Rattle.chorus_ui.specs.Layout.{has_site, has_place, has_actor, can_make_port, creation_place, place_at, site_of}
-use Rattle.chorus_entry.specs.declared.entry.Entry.{Entry}
 use Rattle.chorus_entry.specs.declared.id.MsgId.{MsgId}
-use Rattle.chorus_entry.specs.declared.act.Act.{Act}
 use Rattle.chorus_entry.specs.declared.answer.Answer.{Answer}
 use Rattle.chorus_entry.specs.declared.answer.Answer.TheVariants as A
 use Rattle.chorus_entry.specs.declared.packet.Packet.{Packet}

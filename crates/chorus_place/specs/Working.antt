@@ -1,7 +1,7 @@
 -- What a packet brings: the entry that a place appends for it, what goes with that, and what follows.
 -- m is a message, x its id, d its destination, q a port, k a port and route, p a place's number, t the turn; `from` is the
 -- place that the packet came from.
-use Rattle.std.specs.Prelude.{ℕ, ◌&&◌, not, List, [], ◌∷◌, ◌++◌, Option, Some, None}
+use Rattle.std.specs.Prelude.{ℕ, List, [], ◌∷◌, ◌++◌, Option, Some, None}
 use Rattle.chorus_ui.specs.declared.ui.Ui.{Ui}
 use Rattle.chorus_entry.specs.declared.id.MsgId.{MsgId}
 use Rattle.chorus_entry.specs.declared.dest.Dest.{Dest}
@@ -11,13 +11,13 @@ use Rattle.chorus_entry.specs.declared.answer.Answer.{Answer}
 use Rattle.chorus_entry.specs.declared.answer.Answer.TheVariants as A
 use Rattle.chorus_entry.specs.declared.packet.Cargo.{Cargo}
 use Rattle.chorus_entry.specs.declared.record.PortRecord.{PortRecord}
-use Rattle.chorus_entry.specs.MsgId.{same_id}
 use Rattle.chorus_world.specs.declared.place.Location.{Location}
 use Rattle.chorus_world.specs.Places.{taught}
 use Rattle.chorus_hints.specs.Known.{learned}
 use Rattle.chorus_waits.specs.declared.wait.Key.{Key}
 use Rattle.chorus_waits.specs.declared.wait.Wait.{Wait}
 use Rattle.chorus_waits.specs.Queues.{Queue, changed, passed, at}
+use Rattle.chorus_waits.specs.Unheard.{heard}
 use Rattle.chorus_place.specs.PlaceState.{Turn, unchanged, say}
 use Rattle.chorus_place.specs.Deciding.{decide, decision, records_after}
 use Rattle.chorus_place.specs.Trying.{report, go}
@@ -75,7 +75,7 @@ answers_ask from m (Dest.OneAt g site) t = chooses m (Dest.OneAt g site) g from 
 -- A Report is heard, and heard once.
 abbrev pub hears : MsgId → Answer → Turn → Turn
 hears x answer t =
-    say (Act.Heard x answer) (record (unchanged t) { unheard = λ y. not (same_id y x) && t.place.unheard y }) t
+    say (Act.Heard x answer) (record (unchanged t) { unheard = heard x t.place.unheard }) t
 
 abbrev pub opens : ℕ → Cargo → Turn → Turn
 opens from (Cargo.Try m q route only tried) t = answers_try from m q route tried (decide m q only tried t.place) t
