@@ -1,20 +1,17 @@
 -- What the past says of the record of a port, of the messages that wait at a place, of what it may still hear, and of a caller.
 -- x is an id, q a port, p the number of a place, k a port and route, m a message as it was sent or posted, f what became of a
 -- port, l a layout. A past has its newest entry first.
-use Rattle.chorus_world.specs.Clients.{clients_after, clients_kept}
-use Rattle.chorus_world.specs.Posts.{as_posted, Posted, post_of, tag_of, site_asked}
-use Rattle.chorus_world.specs.Places.{hears, is_heard, sent, unsettled}
-use Rattle.std.specs.Prelude.{ℕ, ◌-◌, ◌==◌, Bool, false, ◌&&◌, ◌||◌, not, if◌then◌else◌, List, [], ◌∷◌, map, length, drop, Option, Some, None}
+use Rattle.chorus_world.specs.Clients.{clients_kept}
+use Rattle.chorus_world.specs.Posts.{as_posted, Posted, post_of, site_asked}
+use Rattle.chorus_world.specs.Places.{is_heard, sent, unsettled}
+use Rattle.std.specs.Prelude.{ℕ, ◌-◌, ◌==◌, Bool, ◌&&◌, not, if◌then◌else◌, List, [], ◌∷◌, map, length, drop, Option, Some, None}
 use Rattle.std.specs.List.{filter}
 use Rattle.chorus_ui.specs.declared.ui.Ui.{Ui}
 use Rattle.chorus_ui.specs.Name.{same_ui}
 use Rattle.chorus_ui.specs.declared.layout.Layout.{Layout}
-use Rattle.chorus_entry.specs.MsgId.{same_id}
 use Rattle.chorus_entry.specs.declared.entry.Entry.{Entry}
 use Rattle.chorus_entry.specs.declared.id.MsgId.{MsgId}
-use Rattle.chorus_entry.specs.declared.tag.Tag.{Tag}
 use Rattle.chorus_entry.specs.declared.message.Message.{Message}
-use Rattle.chorus_entry.specs.declared.act.Act.{Act}
 use Rattle.chorus_entry.specs.declared.record.PortRecord.{PortRecord}
 use Rattle.chorus_world.specs.declared.port.Spot.{Spot}
 use Rattle.chorus_world.specs.declared.port.Spot.TheVariants as spots
@@ -27,7 +24,6 @@ use Rattle.chorus_world.specs.Messages.{progress}
 use Rattle.chorus_entry.specs.Same.{same_route}
 use Rattle.chorus_world.specs.Steps.{is_asked_from}
 use Rattle.chorus_world.specs.Seats as seats
-use Rattle.chorus_entry.specs.Clients.{remembered}
 use Rattle.chorus_calls.specs.Clients as clients
 use Rattle.chorus_waits.specs.declared.wait.Key.{Key}
 use Rattle.chorus_waits.specs.declared.wait.Wait.{Wait}

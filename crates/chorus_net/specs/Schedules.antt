@@ -1,11 +1,10 @@
 -- Which schedules callers may make, and what a schedule is of.
 -- l is a layout, n a network, a and b are numbers of places, es are events, the latest first.
 use Rattle.chorus_entry.specs.Command.{is_post, has_body_in_limit, meets_conditions}
-use Rattle.std.specs.Prelude.{ℕ, ◌-◌, ◌^◌, ◌==◌, ◌≡◌, nat_lt, nat_le, Bool, true, false, ◌&&◌, ◌||◌, not, if◌then◌else◌, List, [], ◌∷◌, length, Option, Some, None, is_some, slice_get}
+use Rattle.std.specs.Prelude.{ℕ, ◌-◌, ◌^◌, ◌==◌, ◌≡◌, nat_lt, Bool, true, false, ◌&&◌, ◌||◌, not, if◌then◌else◌, List, [], ◌∷◌, Option, Some, None, is_some, slice_get}
 use Rattle.chorus_ui.specs.declared.layout.Layout.{Layout}
 use Rattle.chorus_ui.specs.Layout.{IsLayout, has_actor, has_place}
 use Rattle.chorus_entry.specs.declared.command.Command.{Command}
-use Rattle.chorus_ui.specs.declared.limits.TheConstants.{BODY_LIMIT}
 use Rattle.chorus_entry.specs.Kinds.{names_actor}
 use Rattle.chorus_calls.specs.Callers.{Seated}
 use Rattle.chorus_net.specs.Network.{NetState, Event, Enter, Act, Deliver, schedule}

@@ -1,7 +1,7 @@
 -- What the past says of the packets that are under way: of each message, of each port, and of the posts to each group.
 -- x is an id, m a message or a post, d a destination, q a port, g a group, p, a and b are numbers of places, f is what became of
 -- a port, l a layout, o a packet with the place that it goes to. A past has its newest entry first.
-use Rattle.std.specs.Prelude.{ℕ, ◌==◌, Bool, false, not, if◌then◌else◌, List, [], ◌∷◌, Option, Some, None}
+use Rattle.std.specs.Prelude.{ℕ, ◌==◌, Bool, false, if◌then◌else◌, List, [], ◌∷◌, Option, Some, None}
 use Rattle.std.specs.List.{filter, flat_map}
 use Rattle.chorus_ui.specs.declared.ui.Ui.{Ui}
 use Rattle.chorus_ui.specs.Name.{same_ui}
@@ -25,7 +25,6 @@ use Rattle.chorus_world.specs.Messages.{progress}
 use Rattle.chorus_world.specs.Ports.{PortState, fate, last_of}
 use Rattle.chorus_world.specs.Posts.{Posted, post_of, site_asked}
 use Rattle.chorus_world.specs.Places.{last_clock, sent, find_sent}
-use Rattle.chorus_world.specs.Groups.{is_chosen}
 use Rattle.chorus_place.specs.PlaceState.{Outgoing}
 use Rattle.chorus_net.specs.Packets.{is_link}
 use Rattle.chorus_net.specs.Records.{message, record_for}

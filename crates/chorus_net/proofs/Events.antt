@@ -1,0 +1,4 @@
+pub mod Entering
+pub mod EachEvent
+pub mod HavePlaces
+pub mod Cases

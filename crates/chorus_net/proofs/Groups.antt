@@ -1,0 +1,5 @@
+pub mod GroupFacts
+pub mod GroupCommands
+pub mod Choosing
+pub mod Asking
+pub mod GroupPosting

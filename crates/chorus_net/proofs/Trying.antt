@@ -1,0 +1,4 @@
+pub mod Waiting
+pub mod Verdicts
+pub mod Going
+pub mod Deciding
