@@ -1,4 +1,4 @@
 pub mod Waiting
 pub mod Verdicts
-pub mod Going
 pub mod Deciding
+pub mod Going

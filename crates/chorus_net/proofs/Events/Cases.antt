@@ -2,22 +2,26 @@
 use Rattle.std.proofs.Common.{ℕ, ◌≡◌, ◌==◌, Bool, true, false, cond, List, [], ◌∷◌, Some, None, refl, sym, ◌∙◌, ap, subst}
 use Rattle.std.proofs.lemmas.Bool.{and_parts, eqb-true}
 use Rattle.chorus_ui.specs.declared.ui.Ui.{Ui}
+use Rattle.chorus_entry.specs.declared.entry.Entry.{Entry}
 use Rattle.chorus_entry.specs.declared.dest.Dest.{Dest}
 use Rattle.chorus_entry.specs.declared.dest.Dest.TheVariants as dests
 use Rattle.chorus_entry.specs.declared.message.Message.{Message}
+use Rattle.chorus_entry.specs.declared.command.Command.{Command}
 use Rattle.chorus_entry.specs.declared.command.Command.TheVariants as commands
 use Rattle.chorus_entry.specs.declared.packet.Packet.{Packet}
 use Rattle.chorus_entry.specs.declared.packet.Cargo.{Cargo}
 use Rattle.chorus_entry.specs.declared.packet.Cargo.TheVariants as cargos
 use Rattle.chorus_entry.specs.Dest.{group_in}
-use Rattle.chorus_place.specs.PlaceState.{Outgoing}
+use Rattle.chorus_place.specs.PlaceState.{Turn, Outgoing}
 use Rattle.chorus_place.specs.Choosing.{chooses}
 use Rattle.chorus_place.specs.Working.{opens}
-use Rattle.chorus_place.proofs.Machine.Ready.{acts-ready, works-ready}
+use Rattle.chorus_place.specs.PlaceMachine.{act, work}
+use Rattle.chorus_place.proofs.Machine.Ready.{ReadyHere}
 use Rattle.chorus_net.specs.Packets.{is_link, first_on, rest_on}
 use Rattle.chorus_net.proofs.Standing.Leading.{LeadsOn}
-use Rattle.chorus_net.proofs.Events.EachEvent.{CommandsStand, PacketsStand, EventsStand, events-stand}
-use Rattle.chorus_net.proofs.Events.HavePlaces.{have-places}
+use Rattle.chorus_net.proofs.Standing.Given.{IsGiven, Comes}
+use Rattle.chorus_net.specs.Schedules.{has_number_left}
+use Rattle.chorus_net.specs.Network.{NetState}
 use Rattle.chorus_net.proofs.Ports.Making.{make-stands}
 use Rattle.chorus_net.proofs.Groups.GroupPosting.{all-stands, one-stands, one-at-stands}
 use Rattle.chorus_net.proofs.Groups.GroupCommands.{group-make-stands, join-stands, leave-stands}
@@ -39,7 +43,7 @@ first-from a b (u ∷ us) k h = go (is_link a b u) refl h (first-from a b us k)
         ap (λ (z : Packet). z.from) (sym same) ∙ eqb-true u.packet.from a (and_parts (u.packet.from == a) (u.to == b) e).0
     go false e f ih = ih f
 
-pub commands-stand : CommandsStand
+pub commands-stand : (n : NetState) (us : List Outgoing) (past : List Entry) (t : Turn) (c : Command) → t.puts ≡ [] → IsGiven n us past t c → ReadyHere t → has_number_left t.caller c ≡ true → LeadsOn n us past (act c t)
 commands-stand n us past t (commands.Make actor capacity) none i ready left = make-stands n us past t actor capacity i
 commands-stand n us past t (commands.Send (dests.Port q) body) none i ready left = send-stands n us past t q body i
 commands-stand n us past t (commands.Send (dests.All g) body) none i ready left = all-stands n us past t ready body g i
@@ -56,7 +60,7 @@ commands-stand n us past t (commands.Join g q) none i ready left = join-stands n
 commands-stand n us past t (commands.Leave g q) none i ready left = leave-stands n us past t g q i
 commands-stand n us past t (commands.Delete q) none i ready left = delete-given n us past t q i
 
-pub packets-stand : PacketsStand
+pub packets-stand : (n : NetState) (us : List Outgoing) (past : List Entry) (t : Turn) (a : ℕ) (k : Packet) → Comes n us past t a k → (a == t.place.number) ≡ false → LeadsOn n (rest_on a t.place.number us) past (work k t)
 packets-stand n us past t a k i apart = by k.cargo refl
   where
     asked : (m : Message) (d : Dest) (g : Ui) → group_in d ≡ Some g → k.cargo ≡ cargos.Ask m d → LeadsOn n (rest_on a t.place.number us) past (chooses m d g k.from t)
@@ -72,6 +76,3 @@ packets-stand n us past t a k i apart = by k.cargo refl
     by (cargos.Ask m (dests.One g)) e = asked m (dests.One g) g refl e
     by (cargos.Ask m (dests.OneAt g s)) e = asked m (dests.OneAt g s) g refl e
     by (cargos.Report x v) e = report-stands n us past t a k i x v e
-
-pub all-events-stand : EventsStand
-all-events-stand = events-stand commands-stand packets-stand have-places acts-ready works-ready

@@ -1,4 +1,4 @@
--- The place of a command is one of the layout.
+-- A command's place is one of the layout.
 use Rattle.std.proofs.Common.{ℕ, ◌≡◌, nat_le, Bool, true, false, ◌&&◌, if◌then◌else◌, cond, Some, None, unwrap_or, refl}
 use Rattle.std.proofs.lemmas.Bool.{and_parts}
 use Rattle.chorus_ui.specs.declared.ui.Ui.{Ui}
@@ -9,7 +9,6 @@ use Rattle.chorus_entry.specs.declared.command.Command.{Command}
 use Rattle.chorus_entry.specs.declared.command.Command.TheVariants as commands
 use Rattle.chorus_entry.specs.Places.{place_for}
 use Rattle.chorus_net.proofs.Places.Sites.{place-inside, first-inside}
-use Rattle.chorus_net.proofs.Events.EachEvent.{CommandsHavePlaces}
 
 module _ (l : Layout) (a : Ui) (shape : IsLayout l) (has : has_actor l a ≡ true) where
   site : has_site l a.site ≡ true
@@ -32,19 +31,16 @@ module _ (l : Layout) (a : Ui) (shape : IsLayout l) (has : has_actor l a ≡ tru
       (and_parts (has_site l actor.site) (nat_le 1 actor.number) (and_parts (has_site l actor.site && nat_le 1 actor.number) (nat_le actor.number ACTORS_PER_SITE_LIMIT) h).0).0
   at-home actor false h = home
 
-  go : (c : Command) → has_place l (place_for l a c) ≡ true
-  go (commands.Make actor capacity) = at-home actor (has_actor l actor) refl
-  go (commands.Take q) = place-inside l a.site q shape site
-  go (commands.Move q actor) = place-inside l a.site q shape site
-  go (commands.Delete q) = place-inside l a.site q shape site
-  go (commands.GroupMake s) = at-site s (has_site l s) refl
-  go (commands.Join g q) = at-group g (has_site l g.site) refl
-  go (commands.Leave g q) = at-group g (has_site l g.site) refl
-  go (commands.Send d body) = home
-  go (commands.Call q back body) = home
-  go commands.Retry = home
-  go commands.Cancel = home
-  go (commands.Reply body) = home
-
-pub have-places : CommandsHavePlaces
-have-places l a c shape h = go l a shape h c
+  pub have-places : (c : Command) → has_place l (place_for l a c) ≡ true
+  have-places (commands.Make actor capacity) = at-home actor (has_actor l actor) refl
+  have-places (commands.Take q) = place-inside l a.site q shape site
+  have-places (commands.Move q actor) = place-inside l a.site q shape site
+  have-places (commands.Delete q) = place-inside l a.site q shape site
+  have-places (commands.GroupMake s) = at-site s (has_site l s) refl
+  have-places (commands.Join g q) = at-group g (has_site l g.site) refl
+  have-places (commands.Leave g q) = at-group g (has_site l g.site) refl
+  have-places (commands.Send d body) = home
+  have-places (commands.Call q back body) = home
+  have-places commands.Retry = home
+  have-places commands.Cancel = home
+  have-places (commands.Reply body) = home

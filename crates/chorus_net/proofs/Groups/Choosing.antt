@@ -65,7 +65,6 @@ use Rattle.chorus_net.proofs.Standing.Saying.{legal-now}
 use Rattle.chorus_net.proofs.Standing.Onward.{stay, step, then}
 use Rattle.chorus_net.proofs.Standing.Leading.{Calm, LeadsOn, behind-calm, rests-behind}
 use Rattle.chorus_net.proofs.Trying.Going.{go-stands}
-use Rattle.chorus_net.proofs.Trying.Deciding.{decides-at-home}
 use Rattle.chorus_world.proofs.Seats.CallFacts.{posted-kinds}
 use Rattle.chorus_world.proofs.Groups.GroupNames.{choice-named}
 use Rattle.chorus_world.proofs.Messages.Growing.{post-grows}
@@ -254,7 +253,7 @@ module _ (n : NetState) (us : List Outgoing) (past : List Entry) (t : Turn) (w :
 pub all-go-stands : (n : NetState) (us : List Outgoing) (g : Ui) (qs : List Ui) (past : List Entry) (t : Turn) → Calm n us past t → LeadsOn n us past (all_go g qs t)
 all-go-stands n us g [] past t i = stay (λ now. Calm n us now t) past i
 all-go-stands n us g (q ∷ qs) past t i =
-    then (λ now. Calm n us now (go (by_group g q) t)) (λ now. Calm n us now (all_go g (q ∷ qs) t)) past (go-stands decides-at-home n us (by_group g q) past t i)
+    then (λ now. Calm n us now (go (by_group g q) t)) (λ now. Calm n us now (all_go g (q ∷ qs) t)) past (go-stands n us (by_group g q) past t i)
     (λ now c. all-go-stands n us g qs now (go (by_group g q) t) c)
 
 -- members are chosen for the post, or there are none: `later` are the packets that the turn leaves, and `lift` is the step by

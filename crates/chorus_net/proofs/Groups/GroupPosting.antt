@@ -45,7 +45,6 @@ use Rattle.chorus_world.proofs.Sorted.Local.{local_views}
 use Rattle.chorus_world.proofs.Steps.LegalLemmas.{skips, keeps}
 use Rattle.chorus_world.proofs.Messages.SendingLemmas.{at_same, same_id_sym, sent_as}
 use Rattle.chorus_entry.specs.Command.{demands_a_site}
-use Rattle.chorus_entry.specs.Kinds.{has_kinds_in_dest}
 use Rattle.chorus_waits.specs.Unheard as unheards
 use Rattle.chorus_place.specs.PlaceState.{Turn, Outgoing, next_clock, next_entry, packed, unchanged, say}
 use Rattle.chorus_place.specs.Doing.{poster, choosing_place, chooses_own, asks, posts_to_group}

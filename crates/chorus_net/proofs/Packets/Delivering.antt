@@ -63,7 +63,7 @@ use Rattle.chorus_net.proofs.Standing.Steps.{Stood, facts, laws, legal-with, por
 use Rattle.chorus_net.proofs.Links.Abouts.{IsAbout, moves-put, packets-at, packets-about}
 use Rattle.chorus_net.proofs.Trying.Verdicts.{decides, decision-progress, about-try}
 use Rattle.chorus_net.proofs.Trying.Going.{go-stands}
-use Rattle.chorus_net.proofs.Trying.Deciding.{IsDueHere, reads, decide-fits, decides-at-home}
+use Rattle.chorus_net.proofs.Trying.Deciding.{IsDueHere, reads, decide-fits}
 use Rattle.chorus_world.proofs.Messages.StageFacts.{StageFacts, keeps-stages}
 use Rattle.chorus_world.proofs.Messages.Firsts.{going_to, going-first, first-is-head}
 use Rattle.chorus_net.proofs.Links.Reports.{reports-from, report-moves, report-view}
@@ -238,7 +238,7 @@ module _ (n : NetState) (us : List Outgoing) (past : List Entry) (t : Turn) (fro
       }) in
       let calm : Calm n rest (en ∷ past) (say act change t) = record { stood = stood; rests = rests-behind past t act refl } in
       then (λ z. Calm n rest z (say act change t)) (λ z. Calm n rest z (hears_verdict x key a t)) past (step (λ z. Calm n rest z (say act change t)) en past calm)
-      (λ z c. go-stands decides-at-home n rest key z (say act change t) c)
+      (λ z c. go-stands n rest key z (say act change t) c)
     where
       found-id : (x : MsgId) (ms : List Sent) (m : Sent) → find_sent x ms ≡ Some m → m.id ≡ x
       found-id x [] m h = absurd (let bad : None ≡ Some m = h in cc)

@@ -43,7 +43,6 @@ use Rattle.chorus_net.proofs.Links.Abouts.{moves-none, packets-about}
 use Rattle.chorus_net.proofs.Standing.Onward.{step, then}
 use Rattle.chorus_net.proofs.Standing.Leading.{Calm, LeadsOn, behind-calm, rests-behind}
 use Rattle.chorus_net.proofs.Trying.Going.{go-stands}
-use Rattle.chorus_net.proofs.Trying.Deciding.{decides-at-home}
 use Rattle.chorus_net.proofs.Tables.Keys.{for-other}
 use Rattle.chorus_net.proofs.Tables.Queues.{with_all, queue-sends, queue-stays}
 use Rattle.chorus_net.proofs.Tables.TablesSay.{known-still, unheard-posted, waiting-changed}
@@ -176,4 +175,4 @@ module _ (n : NetState) (us : List Outgoing) (past : List Entry) (t : Turn) (i :
       let u = say a (change q) t in
       let calm = posted-calm q home kinds tag caller in
       then (λ now. Calm n us now u) (λ now. Calm n us now (posts_direct m q t)) past (step (λ now. Calm n us now u) (next_entry a t) past calm)
-      (λ now c. go-stands decides-at-home n us (direct q) now u c)
+      (λ now c. go-stands n us (direct q) now u c)

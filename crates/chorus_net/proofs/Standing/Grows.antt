@@ -21,11 +21,10 @@ use Rattle.chorus_world.specs.Messages.{progress}
 use Rattle.chorus_world.specs.Places.{last_clock}
 use Rattle.chorus_world.specs.Seats.{hand}
 use Rattle.chorus_world.proofs.Messages.Posted.{IsPosted, AllPosted, EachPosted, AcceptedPosted, accepted_posted, busy_posted, is_idle}
-use Rattle.chorus_world.proofs.Sorted.Agreement.{hand_agrees}
+use Rattle.chorus_world.proofs.Sorted.Agreement.{hand_agrees, clients_agree}
 use Rattle.chorus_world.proofs.Messages.Growing.{goes-on, post-grows}
 use Rattle.chorus_world.proofs.Messages.SendingLemmas.{sent_as, sent_stays}
 use Rattle.chorus_world.proofs.Messages.StageLemmas.{Stage, MessageFacts}
-use Rattle.chorus_world.proofs.Sorted.Agreement.{clients_agree}
 use Rattle.chorus_waits.specs.declared.wait.Wait.{Wait}
 use Rattle.chorus_place.specs.PlaceState.{Outgoing}
 use Rattle.chorus_net.specs.Records.{message, home_from, record_for, record_held, record_here, record_by, as_wait}

@@ -33,16 +33,43 @@ use Rattle.chorus_entry.specs.Clients.{is_repeated, is_one_too_many, remembered}
 use Rattle.chorus_ports.specs.Deciding as ports
 use Rattle.chorus_ports.specs.Table.{find}
 use Rattle.chorus_place.specs.PlaceState.{Turn, Outgoing, next_entry, newest}
-use Rattle.chorus_place.specs.Deciding.{answer_in, answer_moved, answer_away, answer_of, decide, decision}
+use Rattle.chorus_place.specs.Deciding.{answer_in, answer_moved, answer_away, answer_of, decide, decision, records_after}
 use Rattle.chorus_net.specs.Network.{NetState}
 use Rattle.chorus_net.specs.Records.{message, record_by, record_here, record_held, record_for}
 use Rattle.chorus_net.proofs.Standing.Grows.{message-grows, record-grows}
-use Rattle.chorus_net.proofs.Standing.Families.{Here}
-use Rattle.chorus_net.proofs.Standing.Steps.{Stood, laws}
-use Rattle.chorus_net.proofs.Trying.Verdicts.{Fits}
-use Rattle.chorus_net.proofs.Trying.Going.{IsAway, away-fits, DecidesAtHome}
+use Rattle.chorus_net.proofs.Standing.Families.{Here, transfer-other}
+use Rattle.chorus_net.proofs.Standing.Steps.{Stood, laws, ports-still}
+use Rattle.chorus_net.proofs.Trying.Verdicts.{Fits, is_decision_answer}
 use Rattle.chorus_net.proofs.Ports.HeldPorts.{StaysHeld, here-now, held-now, line-clock, facts-now, replaced, left-alone}
 use Rattle.chorus_world.proofs.Messages.Growing.{goes-on}
+use Rattle.chorus_entry.specs.Same.{are_same}
+use Rattle.chorus_ui.specs.Name.{same_ui}
+use Rattle.chorus_waits.specs.declared.wait.Key.{Key}
+use Rattle.chorus_waits.specs.declared.wait.Wait.{Wait}
+use Rattle.chorus_net.specs.Packets.{put_all}
+use Rattle.chorus_net.proofs.Standing.Says.{known_clock, PortsSay}
+use Rattle.chorus_net.proofs.Standing.StillCallers.{no-port-clock}
+use Rattle.chorus_net.proofs.Trying.Waiting.{GoesFirst}
+use Rattle.chorus_net.proofs.Standing.Leading.{Calm}
+
+-- an answer that stands on the line of no port
+pub record IsAway (a : Answer) : Type 0 where
+  pub answers : is_decision_answer a ≡ true
+  pub port : (x : MsgId) (q : Ui) (h : ℕ) → held_port_of (decision x q h a) ≡ None
+  pub records : (m : Message) (q : Ui) (t : Turn) → records_after a m q t.place.ports ≡ t.place.ports
+
+pub away-fits : (n : NetState) (us : List Outgoing) (past : List Entry) (t : Turn) → Stood n us past t → (m : Message) (q : Ui) (h : ℕ) (a : Answer) → IsAway a
+    → act_may_here t.place.layout (local_views past past t.place.number t.caller.seat (decision m.id q h a)) t.place.number t.caller.seat (decision m.id q h a) ≡ true → Fits n us past t m q h a
+away-fits n us past t w m q h a away may =
+    let act = decision m.id q h a in
+    let e = next_entry act t in
+    record {
+      answers = away.answers;
+      may = may;
+      clock = no-port-clock past (held_port_of act) (known_clock t) (away.port m.id q h);
+      ports = subst (PortsSay past e) (sym (away.records m q t)) (ports-still n us past t w act (away.port m.id q h));
+      transfers = λ r. transfer-other t.place.layout past e (laws n us past t w).posted r (ap (are_same same_ui (Some r)) (away.port m.id q h));
+    }
 
 -- what the place reads when it decides on the message x for the port q
 abbrev pub reads : List Entry → Turn → MsgId → Ui → Views
@@ -368,8 +395,11 @@ module _ (n : NetState) (us : List Outgoing) (past : List Entry) (t : Turn) (w :
           ap (λ b. is_final (cond (is_deleted q t.place.journal) answers.Gone (cond b (cond (far.to == t.place.number) (answers.Early far.hop) (answer_moved only far)) (cond (h == 0) answers.NoPort (answers.Early h))))) not-less
           ∙ final (is_deleted q t.place.journal) (h == 0)
 
--- a message that waits here, and is located here
-pub decides-at-home : DecidesAtHome
+-- a message that waits here, and is located here, is decided for good, and the answer fits
+pub decides-at-home :
+    (n : NetState) (us : List Outgoing) (past : List Entry) (t : Turn) → Calm n us past t → (k : Key) (v : Wait) → GoesFirst past t.place.number k v (known_clock t) (put_all t.puts us) → (there : Location)
+    → located t.place.layout k.port (at t.place.number past) ≡ there → is_beyond t.place.layout k.port ≡ false → is_on_site t.place.layout v.only there.to ≡ true → (there.to == t.place.number) ≡ true
+    → (is_final (decide v.message k.port v.only there.hop t.place) ≡ true) × Fits n us past t v.message k.port there.hop (decide v.message k.port v.only there.hop t.place)
 decides-at-home n us past t i k v g there loc near site here =
     let l = t.place.layout in
     let p = t.place.number in

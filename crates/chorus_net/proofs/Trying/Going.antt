@@ -1,65 +1,31 @@
 -- The messages that wait go, as far as they are decided here.
-use Rattle.std.proofs.Common.{ℕ, ◌≡◌, ◌==◌, Bool, true, false, ◌&&◌, not, cond, List, [], ◌∷◌, Option, Some, None, is_some, refl, sym, ◌∙◌, ap, subst, eq-eqb}
+use Rattle.std.proofs.Common.{ℕ, ◌≡◌, ◌==◌, Bool, true, false, ◌&&◌, not, cond, List, [], ◌∷◌, Option, Some, None, is_some, refl, sym, ◌∙◌, ap, eq-eqb}
 use Rattle.std.proofs.lemmas.Bool.{and_from, true≢false, or_left, or_right}
-use Rattle.chorus_ui.specs.declared.ui.Ui.{Ui}
 use Rattle.chorus_ui.specs.declared.layout.Layout.{Layout}
 use Rattle.chorus_entry.specs.declared.entry.Entry.{Entry}
 use Rattle.chorus_entry.specs.declared.id.MsgId.{MsgId}
-use Rattle.chorus_entry.specs.declared.message.Message.{Message}
 use Rattle.chorus_entry.specs.declared.answer.Answer.{Answer}
 use Rattle.chorus_entry.specs.declared.answer.Answer.TheVariants as answers
-use Rattle.chorus_entry.specs.Act.{held_port_of}
-use Rattle.chorus_entry.specs.Answer.{is_final}
 use Rattle.chorus_world.specs.declared.place.Location.{Location}
 use Rattle.chorus_world.specs.Views.{at}
-use Rattle.chorus_entry.specs.Same.{are_same}
-use Rattle.chorus_ui.specs.Name.{same_ui}
 use Rattle.chorus_world.specs.Places.{located, is_first, is_location}
 use Rattle.chorus_world.specs.Posts.{site_asked, is_on_site}
 use Rattle.chorus_world.specs.Steps.{is_beyond, is_to_go}
-use Rattle.chorus_world.proofs.Sorted.Local.{local_views, act_may_here}
+use Rattle.chorus_world.proofs.Sorted.Local.{local_views}
 use Rattle.chorus_waits.specs.declared.wait.Key.{Key}
 use Rattle.chorus_waits.specs.declared.wait.Wait.{Wait}
-use Rattle.chorus_place.specs.PlaceState.{PlaceState, Turn, Outgoing, next_entry, newest}
-use Rattle.chorus_place.specs.Deciding.{decide, decision, records_after}
+use Rattle.chorus_place.specs.PlaceState.{PlaceState, Turn, Outgoing, newest}
+use Rattle.chorus_place.specs.Deciding.{decide, decision}
 use Rattle.chorus_place.specs.Trying.{settles_here, verdict_here, tries, goes_on, goes_unless, go}
 use Rattle.chorus_place.proofs.Machine.Queues.{wait_for, settled-passes}
 use Rattle.chorus_net.specs.Packets.{put_all}
 use Rattle.chorus_net.specs.Network.{NetState}
-use Rattle.chorus_net.proofs.Standing.Says.{known_clock, PortsSay}
-use Rattle.chorus_net.proofs.Standing.StillCallers.{no-port-clock}
-use Rattle.chorus_net.proofs.Standing.Families.{transfer-other}
-use Rattle.chorus_net.proofs.Standing.Steps.{Stood, laws, ports-still}
+use Rattle.chorus_net.proofs.Standing.Says.{known_clock}
 use Rattle.chorus_net.proofs.Trying.Waiting.{GoesFirst, goes-first-now}
 use Rattle.chorus_net.proofs.Standing.Onward.{stay, then}
 use Rattle.chorus_net.proofs.Standing.Leading.{Calm, LeadsOn}
-use Rattle.chorus_net.proofs.Trying.Verdicts.{Fits, is_decision_answer, tries-at-stands, settles-here-stands}
-
--- an answer that stands on the line of no port
-pub record IsAway (a : Answer) : Type 0 where
-  pub answers : is_decision_answer a ≡ true
-  pub port : (x : MsgId) (q : Ui) (h : ℕ) → held_port_of (decision x q h a) ≡ None
-  pub records : (m : Message) (q : Ui) (t : Turn) → records_after a m q t.place.ports ≡ t.place.ports
-
-pub away-fits : (n : NetState) (us : List Outgoing) (past : List Entry) (t : Turn) → Stood n us past t → (m : Message) (q : Ui) (h : ℕ) (a : Answer) → IsAway a
-    → act_may_here t.place.layout (local_views past past t.place.number t.caller.seat (decision m.id q h a)) t.place.number t.caller.seat (decision m.id q h a) ≡ true → Fits n us past t m q h a
-away-fits n us past t w m q h a away may =
-    let act = decision m.id q h a in
-    let e = next_entry act t in
-    record {
-      answers = away.answers;
-      may = may;
-      clock = no-port-clock past (held_port_of act) (known_clock t) (away.port m.id q h);
-      ports = subst (PortsSay past e) (sym (away.records m q t)) (ports-still n us past t w act (away.port m.id q h));
-      transfers = λ r. transfer-other t.place.layout past e (laws n us past t w).posted r (ap (are_same same_ui (Some r)) (away.port m.id q h));
-    }
-
--- a message that is located here is decided for good, and the answer fits
-abbrev pub DecidesAtHome : Type 0
-DecidesAtHome =
-    (n : NetState) (us : List Outgoing) (past : List Entry) (t : Turn) → Calm n us past t → (k : Key) (v : Wait) → GoesFirst past t.place.number k v (known_clock t) (put_all t.puts us) → (there : Location)
-    → located t.place.layout k.port (at t.place.number past) ≡ there → is_beyond t.place.layout k.port ≡ false → is_on_site t.place.layout v.only there.to ≡ true → (there.to == t.place.number) ≡ true
-    → (is_final (decide v.message k.port v.only there.hop t.place) ≡ true) × Fits n us past t v.message k.port there.hop (decide v.message k.port v.only there.hop t.place)
+use Rattle.chorus_net.proofs.Trying.Deciding.{away-fits, decides-at-home}
+use Rattle.chorus_net.proofs.Trying.Verdicts.{tries-at-stands, settles-here-stands}
 
 -- what the first message has here, where the layout has the port's site
 abbrev near-verdict : Key → Wait → Location → PlaceState → Option Answer
@@ -69,7 +35,7 @@ abbrev on-site-verdict : Key → Wait → Location → PlaceState → Option Ans
 on-site-verdict k v there s =
     cond (not (is_on_site s.layout v.only there.to)) (Some (answers.Elsewhere there.to there.hop)) (near-verdict k v there s)
 
-module _ (decides : DecidesAtHome) (n : NetState) (us : List Outgoing) where
+module _ (n : NetState) (us : List Outgoing) where
   -- what a turn leads on to from where the network stands
   abbrev Goes : Key → List Wait → (Turn → Turn) → Type 0
   Goes k vs on = (past : List Entry) (u : Turn) → wait_for k vs u → Calm n us past u → LeadsOn n us past (on u)
@@ -86,7 +52,7 @@ module _ (decides : DecidesAtHome) (n : NetState) (us : List Outgoing) where
 
       by : (b : Bool) → (there.to == t.place.number) ≡ b → LeadsOn n us past (tries k v there on (cond b (Some a) None) t)
       by true e =
-          let d = decides n us past t i k v g there loc near site e in
+          let d = decides-at-home n us past t i k v g there loc near site e in
           onward k vs on next past (settles_here k v there.hop a t) (settled-passes k v vs there.hop a t q) (settles-here-stands n us past t i k v g there.hop a d.0 d.1)
       by false e = tries-at-stands n us past t i k v g there loc near site e
 
