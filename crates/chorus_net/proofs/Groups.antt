@@ -1,4 +1,3 @@
-pub mod GroupFacts
 pub mod GroupCommands
 pub mod Choosing
 pub mod Asking

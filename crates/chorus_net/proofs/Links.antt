@@ -1,5 +1,4 @@
 pub mod LinkViews
-pub mod Ordered
 pub mod PacketViews
 pub mod Abouts
 pub mod UnderWays

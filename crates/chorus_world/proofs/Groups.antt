@@ -5,3 +5,4 @@ pub mod FunctionalLaws
 pub mod BroadcastLaws
 pub mod GroupBounds
 pub mod GroupNames
+pub mod GroupFacts

@@ -38,7 +38,7 @@ use Rattle.chorus_net.specs.Network.{NetState}
 use Rattle.chorus_net.specs.Records.{message}
 use Rattle.chorus_net.specs.UnderWay.{packet, carries, moves, route, other_place, far_place, asked_as, asked_in, asked_by, asked_for, reported_as, reported_to, under_way_as, is_of, is_with}
 use Rattle.chorus_net.proofs.Links.LinkViews.{view-head, view-other}
-use Rattle.chorus_net.proofs.Links.Ordered.{rest-order}
+use Rattle.chorus_net.proofs.Links.LinkViews.{rest-order}
 use Rattle.chorus_net.proofs.Standing.InTurn.{ArePackets}
 use Rattle.chorus_net.proofs.Standing.Says.{known_clock}
 use Rattle.chorus_net.proofs.Standing.Saying.{legal-now}
@@ -49,7 +49,7 @@ use Rattle.chorus_net.proofs.Links.UnderWays.{Seen, seen}
 use Rattle.chorus_net.proofs.Standing.Leading.{LeadsOn}
 use Rattle.chorus_net.proofs.Standing.Given.{Comes}
 use Rattle.chorus_net.proofs.Packets.Receiving.{takes-says, packets-now}
-use Rattle.chorus_net.proofs.Groups.GroupFacts.{IsPostTo, listed, unchosen-other, unchosen-first, first-of-unchosen, not-listed}
+use Rattle.chorus_world.proofs.Groups.GroupFacts.{IsPostTo, listed, unchosen-other, unchosen-first, first-of-unchosen, not-listed}
 use Rattle.chorus_net.proofs.Groups.Choosing.{AreAsked, ToChoose, chooses-stand}
 
 -- What an Ask says.

@@ -68,7 +68,7 @@ use Rattle.chorus_net.proofs.Standing.Onward.{step, then}
 use Rattle.chorus_net.proofs.Links.Abouts.{moves-none}
 use Rattle.chorus_net.proofs.Standing.Given.{IsGiven}
 use Rattle.chorus_net.proofs.Packets.Reporting.{asking}
-use Rattle.chorus_net.proofs.Groups.GroupFacts.{IsPostTo, unchosen-other, first-of-unchosen, not-listed}
+use Rattle.chorus_world.proofs.Groups.GroupFacts.{IsPostTo, unchosen-other, first-of-unchosen, not-listed}
 use Rattle.chorus_net.proofs.Groups.Choosing.{AreAsked, ToChoose, chooses-stand}
 use Rattle.chorus_net.proofs.Links.PacketViews.{put-asks}
 use Rattle.chorus_net.proofs.Standing.Leading.{Calm, LeadsOn, leads-one, behind-calm, rests-behind}

@@ -16,7 +16,7 @@ use Rattle.chorus_net.specs.Packets.{AreByLink, put, put_all, first_on, rest_on}
 use Rattle.chorus_net.specs.Network.{NetState}
 use Rattle.chorus_net.specs.UnderWay.{carries, moves, asked_for, is_of, is_with, under_way_as, transfer}
 use Rattle.chorus_net.proofs.Links.LinkViews.{put-out, put-order}
-use Rattle.chorus_net.proofs.Links.Ordered.{rest-order}
+use Rattle.chorus_net.proofs.Links.LinkViews.{rest-order}
 use Rattle.chorus_net.proofs.Standing.InTurn.{ArePackets}
 use Rattle.chorus_net.proofs.Links.PacketViews.{put-asks, rest-asks, is_ask, no-ask, of-other, with-other}
 use Rattle.chorus_net.proofs.Standing.StillCallers.{asks_or_chooses, asks-still}

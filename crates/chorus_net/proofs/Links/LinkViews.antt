@@ -159,3 +159,21 @@ pub view-other : (v : Outgoing → Bool) (a b : ℕ) (us : List Outgoing) (k : P
     → ((w : Outgoing) → is_link a b w ≡ true → w.packet ≡ k → v w ≡ false) → first_on a b us ≡ Some k → filter v (rest_on a b us) ≡ filter v us
 view-other v a b [] k m h = absurd (cc)
 view-other v a b (u ∷ us) k m h = other-at v a b u us k (is_link a b u) refl m h (view-other v a b us k m)
+
+-- The packets stand by their pairs of places without the first of a pair.
+
+rest-behind : (x : Outgoing) (a b : ℕ) (us : List Outgoing) → AreNotBefore x us → AreNotBefore x (rest_on a b us)
+rest-behind x a b [] h = h
+rest-behind x a b (u ∷ us) h = by (is_link a b u) (rest-behind x a b us h.1)
+  where
+    by : (c : Bool) → AreNotBefore x (rest_on a b us) → AreNotBefore x (cond c us (u ∷ rest_on a b us))
+    by true ih = h.1
+    by false ih = (h.0, ih)
+
+pub rest-order : (a b : ℕ) (us : List Outgoing) → AreByLink us → AreByLink (rest_on a b us)
+rest-order a b [] h = h
+rest-order a b (u ∷ us) h = by (is_link a b u) (rest-order a b us h.1)
+  where
+    by : (c : Bool) → AreByLink (rest_on a b us) → AreByLink (cond c us (u ∷ rest_on a b us))
+    by true ih = h.1
+    by false ih = (rest-behind u a b us h.0, ih)

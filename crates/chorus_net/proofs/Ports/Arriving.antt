@@ -1,24 +1,19 @@
 -- A port arrives with its Transfer.
-use Rattle.std.proofs.Common.{ℕ, ◌≡◌, ◌≤◌, ◌⊎◌, inl, inr, ◌==◌, ◌-◌, Bool, true, false, ◌&&◌, cond, List, [], ◌∷◌, ◌++◌, length, Option, Some, None, refl, sym, ◌∙◌, ap, subst, arith, eq-eqb}
+use Rattle.std.proofs.Common.{ℕ, ◌≡◌, ◌≤◌, ◌⊎◌, inl, inr, ◌==◌, ◌-◌, true, ◌&&◌, cond, List, [], ◌∷◌, ◌++◌, length, Option, Some, None, refl, sym, ◌∙◌, ap, subst, arith, eq-eqb}
 use Rattle.std.proofs.lemmas.Bool.{and_from, and_parts, eqb-true}
 use Rattle.chorus_ui.specs.declared.ui.Ui.{Ui}
 use Rattle.chorus_ui.proofs.Names.{same_ui-self, from_same_ui}
 use Rattle.chorus_ui.specs.declared.layout.Layout.{Layout}
 use Rattle.chorus_entry.specs.declared.entry.Entry.{Entry}
-use Rattle.chorus_entry.specs.declared.act.Act.{Act}
 use Rattle.chorus_entry.specs.declared.act.Act.TheVariants as acts
 use Rattle.chorus_entry.specs.declared.packet.Packet.{Packet}
 use Rattle.chorus_entry.specs.declared.packet.Cargo.TheVariants as cargos
 use Rattle.chorus_entry.specs.declared.record.PortRecord.{PortRecord}
-use Rattle.chorus_entry.specs.Act.{held_port_of}
-use Rattle.chorus_entry.specs.Kinds.{has_kinds, names_port, names_actor}
 use Rattle.chorus_world.specs.declared.port.Spot.{Spot}
 use Rattle.chorus_world.specs.declared.port.Spot.TheVariants.{Held, Moving, Ended}
 use Rattle.chorus_world.specs.Views.{at, on, is_on}
 use Rattle.chorus_world.specs.Ports.{PortState, fate, fate_after, arrived, last_of, is_moving, is_last, is_coming}
 use Rattle.chorus_world.specs.Places.{last_clock}
-use Rattle.chorus_world.specs.Steps.{is_legal}
-use Rattle.chorus_world.proofs.Steps.LegalLemmas.{on_is}
 use Rattle.chorus_world.proofs.Messages.Posted.{AcceptedPosted, accepted_posted, filtered}
 use Rattle.chorus_ports.specs.Table.{find}
 use Rattle.chorus_ports.proofs.Tables.{find-last, are_distinct-last}
@@ -28,7 +23,7 @@ use Rattle.chorus_net.specs.Packets.{put_all, rest_on}
 use Rattle.chorus_net.specs.Network.{NetState}
 use Rattle.chorus_net.specs.Records.{record_for}
 use Rattle.chorus_net.specs.UnderWay.{packet, moves, carries, before_last, transfer_by, transfer_of, transfer_in}
-use Rattle.chorus_net.proofs.Links.Ordered.{rest-order}
+use Rattle.chorus_net.proofs.Links.LinkViews.{rest-order}
 use Rattle.chorus_net.proofs.Standing.InTurn.{ArePackets}
 use Rattle.chorus_net.proofs.Standing.Says.{known_clock, MaySay}
 use Rattle.chorus_net.proofs.Standing.Saying.{legal-now}
@@ -40,33 +35,10 @@ use Rattle.chorus_net.proofs.Standing.Steps.{Stood, facts, laws, legal-with}
 use Rattle.chorus_net.proofs.Tables.TablesSay.{unheard-still, waiting-still}
 use Rattle.chorus_net.proofs.Tables.Learning.{known-arrives}
 use Rattle.chorus_hints.specs.Known.{learned}
-use Rattle.chorus_world.proofs.Messages.SentFacts.{legal-kinds}
+use Rattle.chorus_world.proofs.Ports.PortNames.{line-named}
 use Rattle.chorus_net.proofs.Standing.Leading.{LeadsOn, leads-one, behind-calm}
 use Rattle.chorus_net.proofs.Standing.Given.{Comes}
 use Rattle.chorus_net.proofs.Packets.Receiving.{takes-says, packets-now}
-
--- a fact of legal lists: a port with a line has the name of a port
-kinds-name : (a : Act) (q : Ui) → held_port_of a ≡ Some q → has_kinds a ≡ true → names_port q ≡ true
-kinds-name (acts.Make r b n) q m h = let same : r ≡ q = cc in subst (λ z. names_port z ≡ true) same (and_parts (names_port r) (names_actor b) h).0
-kinds-name (acts.Accept x r n) q m h = let same : r ≡ q = cc in subst (λ z. names_port z ≡ true) same h
-kinds-name (acts.Full x r n) q m h = let same : r ≡ q = cc in subst (λ z. names_port z ≡ true) same h
-kinds-name (acts.Already x r) q m h = let same : r ≡ q = cc in subst (λ z. names_port z ≡ true) same h
-kinds-name (acts.ClientsFull x r) q m h = let same : r ≡ q = cc in subst (λ z. names_port z ≡ true) same h
-kinds-name (acts.Take r n x) q m h = let same : r ≡ q = cc in subst (λ z. names_port z ≡ true) same h
-kinds-name (acts.Empty r) q m h = let same : r ≡ q = cc in subst (λ z. names_port z ≡ true) same h
-kinds-name (acts.Rehome r b) q m h = let same : r ≡ q = cc in subst (λ z. names_port z ≡ true) same (and_parts (names_port r) (names_actor b) h).0
-kinds-name (acts.Depart r to b hop) q m h = let same : r ≡ q = cc in subst (λ z. names_port z ≡ true) same (and_parts (names_port r) (names_actor b) h).0
-kinds-name (acts.Arrive r hop) q m h = let same : r ≡ q = cc in subst (λ z. names_port z ≡ true) same h
-kinds-name (acts.Delete r xs) q m h = let same : r ≡ q = cc in subst (λ z. names_port z ≡ true) same h
-kinds-name a q m h = absurd (cc)
-
-pub line-named : (l : Layout) (past : List Entry) (q : Ui) (f : PortState) → is_legal l past ≡ true → fate (on q past) ≡ Some f → names_port q ≡ true
-line-named l [] q f h e = absurd (cc)
-line-named l (k ∷ past) q f h e = go (is_on (Some q) k) refl e (λ g. line-named l past q g (legal-kinds l k past h).1)
-  where
-    go : (b : Bool) → is_on (Some q) k ≡ b → fate (cond b (k ∷ on q past) (on q past)) ≡ Some f → ((g : PortState) → fate (on q past) ≡ Some g → names_port q ≡ true) → names_port q ≡ true
-    go false t i ih = ih f i
-    go true t i ih = kinds-name k.act q (on_is q (held_port_of k.act) t) (legal-kinds l k past h).0
 
 -- the port that a Transfer brings
 record Brings (past : List Entry) (q : Ui) (o : Outgoing) : Type 0 where

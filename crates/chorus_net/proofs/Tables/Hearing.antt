@@ -1,5 +1,4 @@
--- The row for what a place may hear of: a Heard takes one message out, a post that is asked for brings in all its copies, and the
--- other entries leave it.
+-- What a place may hear of: a Heard takes one message out, and a post that is asked for brings in all its copies.
 use Rattle.chorus_world.specs.Places.{hears, is_heard}
 use Rattle.std.proofs.Common.{ℕ, ◌≡◌, ◌==◌, ◌||◌, ◌&&◌, Bool, true, false, not, cond, List, ◌∷◌, Option, Some, None, refl, sym, ◌∙◌, ap}
 use Rattle.std.specs.List.{filter}
@@ -48,15 +47,6 @@ post-stays x e past h = by (e.seat == x.seat)
 after : (l : Layout) (past : List Entry) (p : ℕ) (e : Entry) (x : MsgId) → (e.place == p) ≡ true
     → is_unheard l (e ∷ past) p x ≡ (is_asked_from l p (post_of x (e ∷ past)) && not (hears x e.act || is_heard x (at p past)))
 after l past p e x place = ap (λ b. is_asked_from l p (post_of x (e ∷ past)) && not (is_heard x (cond b (e ∷ at p past) (at p past)))) place
-
-pub unheard-stays : (l : Layout) (past : List Entry) (p : ℕ) (e : Entry) (f : MsgId → Bool) → (e.place == p) ≡ true
-    → ((x : MsgId) → posted_by (source x) e.place e.act ≡ None) → ((x : MsgId) → hears x e.act ≡ false)
-    → IsUnheard l past p f → IsUnheard l (e ∷ past) p f
-unheard-stays l past p e f place posts silent h x =
-    h x
-    ∙ sym (ap (λ o. is_asked_from l p o && not (is_heard x (at p past))) (post-stays x e past (posts x)))
-    ∙ sym (ap (λ b. is_asked_from l p (post_of x (e ∷ past)) && not (b || is_heard x (at p past))) (silent x))
-    ∙ sym (after l past p e x place)
 
 pub unheard-heard : (l : Layout) (past : List Entry) (p : ℕ) (e : Entry) (f : MsgId → Bool) (y : MsgId) (a : Answer) → (e.place == p) ≡ true
     → e.act ≡ acts.Heard y a → IsUnheard l past p f → IsUnheard l (e ∷ past) p (heard y f)
