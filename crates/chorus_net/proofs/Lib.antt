@@ -14,3 +14,13 @@ pub mod Example
 pub mod Rows
 pub mod Seats
 mod Examples
+pub mod Events
+pub mod Groups
+pub mod Links
+pub mod Packets
+pub mod Places
+pub mod Ports
+pub mod Posts
+pub mod Standing
+pub mod Tables
+pub mod Trying

@@ -4,7 +4,8 @@
 //! the machine of a place; and [`one_place_runs`]: whatever happens on the sites, the journal is a run of the one-holder world
 //! for their callers, which performs the commands of each, and the table of ports stands for its world.
 //!
-//! Begin with `sites`. So far the sites have one place.
+//! Begin with `sites`. So far the sites have one place. For all places [`network_refines_world`] has the law: the network of
+//! place machines refines that world.
 #![tactic(auto)]
 
 mod closed;
@@ -18,5 +19,5 @@ mod tests;
 pub use closed::{Closed, Placed};
 pub use delivery::{Delivered, Quiet};
 pub use fault::EnterFault;
-pub use laws::one_place_runs;
+pub use laws::{network_refines_world, one_place_runs};
 pub use sites::Sites;

@@ -3,3 +3,6 @@ pub mod MemberLemmas
 pub mod ChoiceLemmas
 pub mod FunctionalLaws
 pub mod BroadcastLaws
+pub mod GroupBounds
+pub mod GroupNames
+pub mod GroupFacts
