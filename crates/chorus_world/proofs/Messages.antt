@@ -16,3 +16,4 @@ pub mod StageFacts
 pub mod Untried
 pub mod Firsts
 pub mod Growing
+pub mod Ways
