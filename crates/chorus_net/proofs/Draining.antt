@@ -9,3 +9,4 @@ pub mod Drains
 pub mod Emptied
 pub mod Ending
 pub mod Drained
+pub mod Stopped

@@ -2,4 +2,7 @@ pub mod Rests
 pub mod Laws
 pub mod Accepted
 pub mod Puts
+pub mod Carrying
+pub mod Few
 pub mod Promised
+pub mod AllPromises

@@ -17,3 +17,4 @@ pub mod Untried
 pub mod Firsts
 pub mod Growing
 pub mod Ways
+pub mod DirectTries

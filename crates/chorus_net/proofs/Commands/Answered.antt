@@ -25,7 +25,7 @@ use Rattle.chorus_net.proofs.Places.Layouts.{schedule-keeps}
 use Rattle.chorus_net.proofs.Commands.Answer.{answer_for}
 use Rattle.chorus_net.specs.History.{history}
 use Rattle.chorus_net.proofs.Events.InOrder.{in-order}
-use Rattle.chorus_net.proofs.Holdings.Shows.{place-number}
+use Rattle.chorus_net.proofs.Standing.Turning.{number-is}
 use Rattle.chorus_net.proofs.Events.Said.{said_with, act-goes, said-act}
 use Rattle.chorus_net.proofs.Commands.OnlyAnswer.{Fitting, only-answer}
 use Rattle.chorus_net.proofs.Commands.OwnAnswers.{own-answers}
@@ -74,7 +74,7 @@ module _ (l : Layout) (shape : IsLayout l) (es : List Event) (j : ℕ) (c : Comm
       let n = schedule l es in
       let t = turn_for c caller n in
       same-entry (next_clock t) t.place.number (place_for l caller.actor c) caller.seat j (own c t)
-      (place-number n.layout (place_for n.layout caller.actor c) n.places ∙ ap (λ (m : Layout). place_for m caller.actor c) (schedule-keeps l es).layout)
+      (number-is n.layout (place_for n.layout caller.actor c) n.places ∙ ap (λ (m : Layout). place_for m caller.actor c) (schedule-keeps l es).layout)
       (((in-order l es shape older_may).0.callers j caller h).seat)
 
   -- its own act may come next, and answers

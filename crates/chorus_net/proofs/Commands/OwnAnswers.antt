@@ -45,7 +45,7 @@ use Rattle.chorus_place.specs.Own.{own, next_port, make_act, next_group, group_a
 use Rattle.chorus_net.specs.Network.{NetState, place, turn_for}
 use Rattle.chorus_net.specs.Records.{record_for, record_held, record_here, record_at, as_called, outstanding_as, outstanding}
 use Rattle.chorus_net.specs.Stands.{Stands}
-use Rattle.chorus_net.proofs.Holdings.Shows.{place-number}
+use Rattle.chorus_net.proofs.Standing.Turning.{number-is}
 
 either : (P : Act → Bool) (b : Bool) (x y : Act) → P x ≡ true → P y ≡ true → P (cond b x y) ≡ true
 either P true x y h k = h
@@ -194,11 +194,11 @@ module _ (n : NetState) (past : List Entry) (s : Stands n past) (k : ℕ) (calle
   act-own (Command.Take q) = take-own q (taken caller.actor (find q (turn_for (Command.Take q) caller n).place.ports))
   act-own (Command.Move q actor) =
       let p = place_for n.layout caller.actor (Command.Move q actor) in
-      move-own past q actor caller.actor (place p n).number (place p n) (find q (place p n).ports) (s.ports p q ∙ ap (record_at past q) (sym (place-number n.layout p n.places)))
+      move-own past q actor caller.actor (place p n).number (place p n) (find q (place p n).ports) (s.ports p q ∙ ap (record_at past q) (sym (number-is n.layout p n.places)))
   act-own (Command.GroupMake site) = group-own site (turn_for (Command.GroupMake site) caller n).place
   act-own (Command.Join g q) =
       let p = place_for n.layout caller.actor (Command.Join g q) in
-      ap (λ es. join_answers (is_member q (members g es)) g q (join_act g q (place p n))) (ap (λ (i : ℕ). at i past) (place-number n.layout p n.places) ∙ sym (s.journal p))
+      ap (λ es. join_answers (is_member q (members g es)) g q (join_act g q (place p n))) (ap (λ (i : ℕ). at i past) (number-is n.layout p n.places) ∙ sym (s.journal p))
       ∙ join-own g q (place p n)
   act-own (Command.Leave g q) = leave-own g q (turn_for (Command.Leave g q) caller n).place
   act-own (Command.Delete q) = delete-own q (held_by caller.actor (find q (turn_for (Command.Delete q) caller n).place.ports))
@@ -207,4 +207,4 @@ module _ (n : NetState) (past : List Entry) (s : Stands n past) (k : ℕ) (calle
   own-answers c =
       let p = place_for n.layout caller.actor c in
       and_from ((turn_for c caller n).place.number == p) (act_answers past (turn_for c caller n).place.number caller.seat caller.actor c (own c (turn_for c caller n)))
-      (eq-eqb (place p n).number p (place-number n.layout p n.places)) (act-own c)
+      (eq-eqb (place p n).number p (number-is n.layout p n.places)) (act-own c)

@@ -12,7 +12,7 @@ use Rattle.chorus_net.specs.Packets.{is_link, is_link_before, put, put_all, firs
 use Rattle.chorus_net.specs.Network.{NetState, place, place_in, with_place, works_off}
 use Rattle.chorus_net.proofs.Places.PlacesStay.{stands_in}
 use Rattle.chorus_net.proofs.Draining.Mass.{weight, packets_mass, place_mass, places_mass, mass}
-use Rattle.chorus_net.proofs.Holdings.Shows.{place-number}
+use Rattle.chorus_net.proofs.Standing.Turning.{number-is}
 use Rattle.chorus_net.proofs.Draining.Masses.{AreApart}
 use Rattle.chorus_net.proofs.Draining.Working.{IsWithin, IsFrontFor, work-lower}
 
@@ -50,7 +50,7 @@ pub delivery-lower : (b : ℕ) (ks : List Key) → AreApart ks → (k x y : ℕ)
 delivery-lower b ks apart k x y caller q n found here within front =
     let t = begun_by (place y n) caller q in
     let u = work q t in
-    let number : y ≡ u.place.number = sym ((work-stays q t).number ∙ place-number n.layout y n.places) in
+    let number : y ≡ u.place.number = sym ((work-stays q t).number ∙ number-is n.layout y n.places) in
     let less = work-lower b ks apart t within q front in
     let rest = rest-mass b x y n.packets q found in
     let puts = put-all-mass b u.puts (rest_on x y n.packets) in

@@ -6,7 +6,6 @@ use Rattle.std.proofs.lemmas.Bool.{cases_Bool, eqb-true, eq-eqb, ne_eqb, and_par
 use Rattle.std.proofs.lemmas.List.Elements.{filter-append}
 use Rattle.std.proofs.lemmas.List.{append-nil}
 use Rattle.chorus_ui.specs.declared.ui.Ui.{Ui}
-use Rattle.chorus_ui.specs.declared.layout.Layout.{Layout}
 use Rattle.chorus_ui.specs.Layout as layout
 use Rattle.chorus_ui.specs.Name.{same_ui}
 use Rattle.chorus_ui.proofs.Names.{from_same_ui}
@@ -25,7 +24,8 @@ use Rattle.chorus_world.specs.SortingLaws.{SortsViews}
 use Rattle.chorus_entry.specs.Clients.{remembered}
 use Rattle.chorus_ports.specs.Table.{find, are_distinct}
 use Rattle.chorus_place.specs.PlaceState.{PlaceState, Outgoing}
-use Rattle.chorus_net.specs.Network.{NetState, numbers, place, place_in}
+use Rattle.chorus_net.proofs.Standing.Turning.{number-is}
+use Rattle.chorus_net.specs.Network.{NetState, numbers, place}
 use Rattle.chorus_net.specs.Records.{message, record_for, record_held, record_here, record_at}
 use Rattle.chorus_net.specs.UnderWay.{moves, is_with, before_last, transfer_in, transfer_of, transfer}
 use Rattle.chorus_net.specs.Stands.{Stands}
@@ -93,14 +93,6 @@ filter-at q p (r ∷ rs) = go (same_ui r.ui q) (filter-at q p rs)
     go true ih = ap (λ ys. At p r ∷ ys) ih
     go false ih = ih
 
-pub place-number : (l : Layout) (p : ℕ) (rs : List PlaceState) → (place_in l p rs).number ≡ p
-place-number l p [] = refl
-place-number l p (r ∷ rs) = go (r.number == p) refl (place-number l p rs)
-  where
-    go : (b : Bool) → (r.number == p) ≡ b → (place_in l p rs).number ≡ p → (cond b r (place_in l p rs)).number ≡ p
-    go true e ih = eqb-true r.number p e
-    go false e ih = ih
-
 -- Transfers.
 
 moved-filter : (q : Ui) (os : List Outgoing) → filter (holds q) (flat_map moved_by os) ≡ flat_map moved_by (filter (is_with q) os)
@@ -128,7 +120,7 @@ module _ (n : NetState) (past : List Entry) (s : Stands n past) where
       ap (filter (holds q)) (flat-join held_at n.places ∙ ap join (map-places held_at n.layout n.places (layout.places n.layout) 1 s.places.numbers))
       ∙ filter-join (holds q) (λ k. held_at (place k n)) (numbers (layout.places n.layout) 1)
       ∙ ap join (map-from (λ k. filter (holds q) (held_at (place k n))) (λ k. one_at k (record_at past q k)) (layout.places n.layout) 1 (λ k le.
-      ap (λ i. filter (holds q) (map (At i) (place k n).ports)) (place-number n.layout k n.places)
+      ap (λ i. filter (holds q) (map (At i) (place k n).ports)) (number-is n.layout k n.places)
       ∙ filter-at q k (place k n).ports
       ∙ ap (map (At k)) (find-filter q (place k n).ports (s.once k) ∙ ap option_to_list (s.ports k q))))
 
