@@ -16,3 +16,5 @@ pub mod StageFacts
 pub mod Untried
 pub mod Firsts
 pub mod Growing
+pub mod Ways
+pub mod DirectTries

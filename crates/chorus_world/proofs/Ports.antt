@@ -4,3 +4,5 @@ pub mod Whereabouts
 pub mod PortSteps
 pub mod PortMoves
 pub mod PortNames
+pub mod Paths
+pub mod Sites
