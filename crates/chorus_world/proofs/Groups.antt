@@ -3,3 +3,5 @@ pub mod MemberLemmas
 pub mod ChoiceLemmas
 pub mod FunctionalLaws
 pub mod BroadcastLaws
+pub mod GroupBounds
+pub mod GroupNames

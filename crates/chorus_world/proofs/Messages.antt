@@ -11,3 +11,8 @@ pub mod OrderLemmas
 pub mod MessageSteps
 pub mod Posted
 pub mod Tries
+pub mod SentFacts
+pub mod StageFacts
+pub mod Untried
+pub mod Firsts
+pub mod Growing

@@ -1,3 +1,5 @@
 pub mod SenderLaws
 pub mod CallLemmas
 pub mod RequestLaws
+pub mod CallBounds
+pub mod CallFacts

@@ -5,3 +5,4 @@ pub mod Observers
 pub mod Holders
 pub mod ClockLemmas
 pub mod LookingHome
+pub mod Causal

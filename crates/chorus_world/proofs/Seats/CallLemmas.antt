@@ -35,7 +35,7 @@ use Rattle.chorus_world.proofs.Seats.SenderLaws.{direct_act}
 
 -- The first post of a request number.
 
-call_is : (n : ℕ) (g : Tag) (d : Dest) (body : List ℕ) (c : Call) → call_in n g d body ≡ Some c → (g ≡ Request n c.back) × (d ≡ Port c.port)
+pub call_is : (n : ℕ) (g : Tag) (d : Dest) (body : List ℕ) (c : Call) → call_in n g d body ≡ Some c → (g ≡ Request n c.back) × (d ≡ Port c.port)
 call_is n (Request k back) (Port q) body c h =
     elim (cond_some (k == n) (record { port = q; back = back; body = body }) c None h) [
       | inl this ↦ (
@@ -60,7 +60,7 @@ call_bounds n (Post m d) k c h =
 call_bounds n _ k c h = none_some c h
 
 -- no number above the greatest was posted
-first_bounds : (n : ℕ) (mine : List Entry) (c : Call) → first_call n mine ≡ Some c → n ≤ requests mine
+pub first_bounds : (n : ℕ) (mine : List Entry) (c : Call) → first_call n mine ≡ Some c → n ≤ requests mine
 first_bounds n [] c h = none_some c h
 first_bounds n (e ∷ mine) c h =
     elim (from_or (first_call n mine) (call_by n e.act) c h) [
