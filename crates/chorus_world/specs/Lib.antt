@@ -9,6 +9,9 @@ pub mod Seats
 pub mod Steps
 pub mod Runs
 pub mod Commands
+pub mod Always
+pub mod Answer
+pub mod Answering
 pub mod Fates
 pub mod AcceptedLaws
 pub mod RequestLaws

@@ -368,7 +368,7 @@ run_same l callers table past e layout h ext home =
     ap (λ b. b && may_run callers past e) (may_same l table past e (legal_laws l past layout h) ext home)
     ∙ ap (λ b. may_find l table (chains past e) e && (nat_lt (last_clock (by e.seat past)) e.clock && b)) (fit_same l table past e.clock e.place e.seat (callers e.seat) e.act layout h ext)
 
-run_is_legal : (l : Layout) (callers : ℕ → Option Ui) (past : List Entry) → is_run l callers past ≡ true → is_legal l past ≡ true
+pub run_is_legal : (l : Layout) (callers : ℕ → Option Ui) (past : List Entry) → is_run l callers past ≡ true → is_legal l past ≡ true
 run_is_legal l callers [] h = refl
 run_is_legal l callers (e ∷ past) h =
     let two = and_parts (may l past e && may_run callers past e) (is_run l callers past) h in
