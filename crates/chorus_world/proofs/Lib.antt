@@ -5,3 +5,4 @@ pub mod Groups
 pub mod Seats
 pub mod Sorted
 pub mod Moments
+pub mod Examples

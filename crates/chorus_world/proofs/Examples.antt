@@ -1,0 +1,4 @@
+-- Examples, each computed: what always holds of a past and where it does not, what laws alone read, which acts answer a
+-- command, and the limits.
+pub mod Names
+pub mod Moments
