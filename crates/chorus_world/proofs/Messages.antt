@@ -16,3 +16,6 @@ pub mod StageFacts
 pub mod Untried
 pub mod Firsts
 pub mod Growing
+pub mod Decided
+pub mod Told
+pub mod WasSent

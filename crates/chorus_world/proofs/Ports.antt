@@ -3,3 +3,4 @@ pub mod PortLaws
 pub mod Whereabouts
 pub mod PortSteps
 pub mod PortMoves
+pub mod ByFate

@@ -1,5 +1,5 @@
 -- The laws of what ports accept. They speak of every legal past, and so of each past on the way to it.
-use Rattle.std.specs.Prelude.{ℕ, ◌≡◌, ◌≤◌, ◌+◌, true, List, [], ◌∷◌, ◌++◌, length, take, Option, Some, None, slice_get}
+use Rattle.std.specs.Prelude.{ℕ, ◌≡◌, ◌≤◌, ◌+◌, ◌-◌, true, List, [], ◌∷◌, ◌++◌, length, take, Option, Some, None, slice_get}
 use Rattle.chorus_ui.specs.declared.ui.Ui.{Ui}
 use Rattle.chorus_ui.specs.declared.layout.Layout.{Layout}
 use Rattle.chorus_ui.specs.Layout.{IsLayout}
@@ -13,6 +13,7 @@ use Rattle.chorus_world.specs.Messages.{verdict, verdict_by}
 use Rattle.chorus_world.specs.Views.{on}
 use Rattle.chorus_world.specs.Ports.{PortState, fate}
 use Rattle.chorus_world.specs.Fates.{MessageFate, fate_at}
+use Rattle.chorus_world.specs.Fates.MessageFate.{Received, Discarded}
 use Rattle.chorus_world.specs.Steps.{is_legal}
 
 abbrev pub accepted_from : Option PortState → List MsgId
@@ -81,6 +82,20 @@ KeepsToCapacity past =
 abbrev pub DiscardsTheRest : List Entry → Type 0
 DiscardsTheRest past =
     (q : Ui) (xs : List MsgId) → discarded (on q past) ≡ Some xs → accepted_by q past ≡ received (on q past) ++ xs
+
+-- the ids of a port's Take entries are those whose fate is that they were received
+abbrev pub ReceivedByFate : List Entry → Type 0
+ReceivedByFate past =
+    (q : Ui) (i : ℕ) (x : MsgId) (f : PortState) → fate (on q past) ≡ Some f → slice_get f.accepted i ≡ Some x →
+    (fate_at i f ≡ Received → slice_get (received (on q past)) i ≡ Some x)
+    × (slice_get (received (on q past)) i ≡ Some x → fate_at i f ≡ Received)
+
+-- and those of its Delete entry are those whose fate is that they were discarded
+abbrev pub DiscardedByFate : List Entry → Type 0
+DiscardedByFate past =
+    (q : Ui) (i : ℕ) (x : MsgId) (f : PortState) → fate (on q past) ≡ Some f → slice_get f.accepted i ≡ Some x →
+    (fate_at i f ≡ Discarded → (xs : List MsgId) × (discarded (on q past) ≡ Some xs) × (slice_get xs (i - f.taken) ≡ Some x))
+    × ((xs : List MsgId) → discarded (on q past) ≡ Some xs → f.taken ≤ i → fate_at i f ≡ Discarded)
 
 -- after its Delete entry nothing becomes of a port any more
 abbrev pub EndsWithDelete : Type 0

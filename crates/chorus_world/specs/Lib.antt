@@ -18,5 +18,7 @@ pub mod RequestLaws
 pub mod SenderLaws
 pub mod GroupLaws
 pub mod LocationLaws
+pub mod DecisionLaws
+pub mod SentLaws
 pub mod Order
 pub mod SortingLaws

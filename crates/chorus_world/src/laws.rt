@@ -1,8 +1,10 @@
 //! The laws of the world. They speak of the definitions alone, over every legal list of entries, and make no call.
 
-ghost use Rattle.chorus_world.specs.Always.{LayoutAlways, LegalAlways, LegalEntries, RunAlways, RunsAreLegal};
+ghost use Rattle.chorus_world.specs.Always.{LayoutAlways, LayoutEntries, LegalAlways, LegalEntries, RunAlways, RunsAreLegal};
 ghost use Rattle.chorus_world.specs.Answering.{OneActAnswers, OneActAtMost};
-ghost use Rattle.chorus_world.specs.AcceptedLaws.{AcceptedGrows, DiscardsTheRest, EndsWithDelete, HasOneVerdict, KeepsEachMessage, KeepsToCapacity, ReceivesInOrder};
+ghost use Rattle.chorus_world.specs.AcceptedLaws.{AcceptedGrows, DiscardedByFate, DiscardsTheRest, EndsWithDelete, HasOneVerdict, KeepsEachMessage, KeepsToCapacity, ReceivedByFate, ReceivesInOrder};
+ghost use Rattle.chorus_world.specs.DecisionLaws.{AcceptsWithRoom, ElsewhereNamesPath, FullWithoutRoom, HearsTheEnd, MeetsWhereHeld, StaleNamesLater, TellsTheVerdict};
+ghost use Rattle.chorus_world.specs.SentLaws.{AcceptsWhatWasSent};
 ghost use Rattle.chorus_world.specs.RequestLaws.{AcceptsRequestsOnce, RequestsRise};
 ghost use Rattle.chorus_world.specs.SenderLaws.{KeepsSenderOrder};
 ghost use Rattle.chorus_world.specs.GroupLaws.{AcceptsOnSite, HasOneCopy, IsChosenOnce, KeepsChoiceOrder, ReachesOneMember};
@@ -50,6 +52,41 @@ pub fn port_gives_out_in_order()
 pub fn deleted_port_discards_the_rest()
     ensures rest { LayoutAlways DiscardsTheRest }
     ensures end { EndsWithDelete }
+{}
+
+/// The ids of a port's Take entries are those that were received by their fate, and those of its Delete entry are those that
+/// were discarded.
+pub fn entries_tell_each_fate()
+    ensures received { LayoutAlways ReceivedByFate }
+    ensures discarded { LayoutAlways DiscardedByFate }
+{}
+
+/// What a port accepted was posted: to that port, or to a group whose choice made a copy for it.
+pub fn port_accepts_what_was_sent()
+    ensures { LegalAlways AcceptsWhatWasSent }
+{}
+
+/// Only the place that holds a port accepts for it, or answers that it is full, that it had the request already or that it
+/// keeps no more clients. It accepts where fewer messages wait than the port has room for, and answers Full where as many do.
+pub fn only_the_holder_accepts()
+    ensures held { LegalEntries (λ l. MeetsWhereHeld) }
+    ensures room { LegalEntries (λ l. AcceptsWithRoom) }
+    ensures full { LegalEntries (λ l. FullWithoutRoom) }
+{}
+
+/// A Stale stands only where the port is not held, and names another place that the port came to by a later hop than the
+/// message was tried with. An Elsewhere names a place of the port's path: one off the site that was asked for, or another one
+/// by a later hop.
+pub fn stale_names_a_later_place()
+    ensures stale { LayoutEntries StaleNamesLater }
+    ensures elsewhere { LayoutEntries ElsewhereNamesPath }
+{}
+
+/// What a place is told of a message, unless it is Stale, is the message's verdict; what it hears is the verdict, or how many
+/// copies a choice made.
+pub fn told_is_the_verdict()
+    ensures told { LegalEntries (λ l. TellsTheVerdict) }
+    ensures heard { LegalEntries (λ l. HearsTheEnd) }
 {}
 
 /// A message has at most one verdict.

@@ -1,5 +1,5 @@
 -- What always holds of a past: a past of which it holds, and some of which it does not.
-use Rattle.std.proofs.Common.{ℕ, ◌≡◌, true, List, [], ◌∷◌, take, Some, refl, sym, ◌∙◌, ap, arith}
+use Rattle.std.proofs.Common.{◌≡◌, true, List, [], ◌∷◌, take, Some, refl, ◌∙◌, ap, arith}
 use Rattle.chorus_ui.specs.declared.ui.Ui.{Ui}
 use Rattle.chorus_ui.specs.Layout.{IsLayout}
 use Rattle.chorus_entry.specs.declared.entry.Entry.{Entry}
@@ -9,7 +9,6 @@ use Rattle.chorus_entry.specs.declared.dest.Dest.{Dest}
 use Rattle.chorus_entry.specs.declared.act.Act.{Act}
 use Rattle.chorus_world.specs.declared.port.Spot.{Spot}
 use Rattle.chorus_world.specs.Views.{on}
-use Rattle.chorus_world.specs.Ports.{PortState, fate}
 use Rattle.chorus_world.specs.Fates.{MessageFate, fate_at}
 use Rattle.chorus_world.specs.Steps.{is_legal}
 use Rattle.chorus_world.specs.Always.{Always}

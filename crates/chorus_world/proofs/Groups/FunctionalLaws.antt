@@ -52,12 +52,12 @@ one_member l past p s x g qs needs h f =
     let is = (choose_members l past p s x g qs needs h).0 in
     subst (λ z. length z ≤ 1) (sym is) (one_chosen l needs.dest (at p past) f)
 
-copies_length : (x : MsgId) (g : Ui) (n : ℕ) (qs : List Ui) → length (copies x g n qs) ≡ length qs
+pub copies_length : (x : MsgId) (g : Ui) (n : ℕ) (qs : List Ui) → length (copies x g n qs) ≡ length qs
 copies_length x g n [] = refl
 copies_length x g n (q ∷ qs) = ap (λ k. suc k) (copies_length x g (n + 1) qs)
 
 -- an act makes no copy of x, or is its Choose
-copies_case : (x : MsgId) (a : Act) → (copies_by x a ≡ []) ⊎ ((g : Ui) × (qs : List Ui) × (a ≡ Choose x g qs))
+pub copies_case : (x : MsgId) (a : Act) → (copies_by x a ≡ []) ⊎ ((g : Ui) × (qs : List Ui) × (a ≡ Choose x g qs))
 copies_case x (Choose y g qs) =
     elim (cases_Bool (same_id y x)) [
       | inl t ↦ inr (g, qs, ap (λ z. Choose z g qs) (from_same_id y x t))
@@ -66,7 +66,7 @@ copies_case x (Choose y g qs) =
 copies_case x _ = inl refl
 
 -- a post without a Choose has no copy
-no_copies : (x : MsgId) (past : List Entry) → is_chosen x (about x past) ≡ false → copies_of x past ≡ []
+pub no_copies : (x : MsgId) (past : List Entry) → is_chosen x (about x past) ≡ false → copies_of x past ≡ []
 no_copies x [] h = refl
 no_copies x (e ∷ past) h =
     let old = no_copies x past (unchosen_before x past e h) in

@@ -140,7 +140,7 @@ legal_line l (e ∷ past) q i h =
 
 -- The laws.
 
-line_facts : (l : Layout) (past : List Entry) (q : Ui) (f : PortState) → IsLayout l → is_legal l past ≡ true → fate (on q past) ≡ Some f → LineFacts f (received (on q past)) (discarded (on q past))
+pub line_facts : (l : Layout) (past : List Entry) (q : Ui) (f : PortState) → IsLayout l → is_legal l past ≡ true → fate (on q past) ≡ Some f → LineFacts f (received (on q past)) (discarded (on q past))
 line_facts l past q f i h e = subst (λ z. LineIs z (on q past)) e (legal_line l past q i h).0
 
 -- a port that is not made has no entries on its line
@@ -158,7 +158,7 @@ pub keeps_to_capacity : (l : Layout) (past : List Entry) → IsLayout l → is_l
 keeps_to_capacity l past i h q f e =
     let facts = line_facts l past q f i h e in (facts.within, facts.room, facts.some, facts.few)
 
-discards_spot : (s : Spot) (d : Option (List MsgId)) (xs ys : List MsgId) → Discards s d ys → d ≡ Some xs → (s ≡ Ended) × (xs ≡ ys)
+pub discards_spot : (s : Spot) (d : Option (List MsgId)) (xs ys : List MsgId) → Discards s d ys → d ≡ Some xs → (s ≡ Ended) × (xs ≡ ys)
 discards_spot (Held a) d xs ys h e = none_some xs (sym h ∙ e)
 discards_spot (Moving a) d xs ys h e = none_some xs (sym h ∙ e)
 discards_spot Ended d xs ys h e = (refl, let both : Some xs ≡ Some ys = sym e ∙ h in cc)

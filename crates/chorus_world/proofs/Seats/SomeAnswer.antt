@@ -1,5 +1,5 @@
 -- In a run some act answers each command as the next entry: the one that the views tell.
-use Rattle.std.proofs.Common.{ℕ, zero, suc, ◌≡◌, ◌<◌, ◌≤◌, ◌+◌, ◌-◌, ◌*◌, ◌%◌, Bool, true, false, ◌==◌, nat_le, nat_lt, ◌&&◌, ◌||◌, not, cond, List, [], ◌∷◌, length, drop, Option, Some, None, is_none, is_some, refl, sym, ◌∙◌, ap, subst, inl, inr, arith}
+use Rattle.std.proofs.Common.{ℕ, ◌≡◌, ◌<◌, ◌≤◌, ◌+◌, ◌-◌, ◌*◌, ◌%◌, Bool, true, false, ◌==◌, nat_le, nat_lt, ◌&&◌, ◌||◌, not, cond, List, length, drop, Option, Some, None, is_none, is_some, refl, sym, ◌∙◌, ap, subst, inl, inr, arith}
 use Rattle.std.specs.Prelude.{slice_get, unwrap_or}
 use Rattle.std.proofs.lemmas.Bool.{eq-eqb, false≢true, and_parts, and_from, or_left, or_right, not-false, leb-true, leb-false, le-leb, lt-ltb}
 use Rattle.std.proofs.lemmas.Nat.{mod_below}
@@ -21,7 +21,7 @@ use Rattle.chorus_entry.specs.declared.dest.Dest.TheVariants as dests
 use Rattle.chorus_entry.specs.declared.message.Message.{Message}
 use Rattle.chorus_entry.specs.declared.command.Command.{Command}
 use Rattle.chorus_entry.specs.declared.act.Act.{Act}
-use Rattle.chorus_entry.specs.declared.act.Act.TheVariants.{Make, MakeFull, NoActor, NoSite, Post, Take, Empty, NotHere, Rehome, Depart, GroupMake, GroupsFull, Join, Leave, NoGroup, There, NotThere, MembersFull, Outstanding, NoCall, NoRequest, Cancel, Delete}
+use Rattle.chorus_entry.specs.declared.act.Act.TheVariants.{Make, MakeFull, NoActor, NoSite, NotHere, Rehome, Depart, GroupMake, GroupsFull, Join, Leave, NoGroup, There, NotThere, MembersFull}
 use Rattle.chorus_entry.specs.Body.{same_body}
 use Rattle.chorus_entry.specs.Command.{is_capacity, demands_a_site, meets_conditions}
 use Rattle.chorus_entry.specs.Dest.{same_dest}
@@ -29,7 +29,7 @@ use Rattle.chorus_entry.specs.MsgId.{same_id}
 use Rattle.chorus_entry.specs.Members.{is_member}
 use Rattle.chorus_entry.specs.Places.{place_for}
 use Rattle.chorus_entry.specs.Same.{is_number, are_same}
-use Rattle.chorus_entry.specs.Kinds.{has_kinds, has_kinds_in_dest, names_actor, names_port, names_group}
+use Rattle.chorus_entry.specs.Kinds.{has_kinds_in_dest, names_actor, names_port, names_group}
 use Rattle.chorus_entry.proofs.Same.{same_id-self, same_dest-self, same_body-self, same_ids-self}
 use Rattle.chorus_world.specs.declared.port.Spot.{Spot}
 use Rattle.chorus_world.specs.declared.port.Spot.TheVariants.{Held, Moving, Ended}
@@ -37,9 +37,9 @@ use Rattle.chorus_world.specs.Views.{views, at, by, on, is_group}
 use Rattle.chorus_world.specs.Ports.{PortState, fate, is_last, is_held, is_held_at, is_first_waiting, is_empty, are_waiting, is_next_hop}
 use Rattle.chorus_world.specs.Groups.{groups_made, members, is_group_place}
 use Rattle.chorus_world.specs.Seats.{Call, posts, posts_stay, requests, call, first_call, call_in, same_call, hand, same_hand}
-use Rattle.chorus_world.specs.Steps.{act_may, is_home, is_full_of_ports, is_group_at, is_legal, may_tag, next_number, reply_to}
-use Rattle.chorus_world.specs.Runs.{is_held_by, is_held_at_by, fits_caller}
-use Rattle.chorus_world.specs.Answer.{make_for, group_for, join_for, leave_for, take_first, take_from, delete_from, hops, move_from, where_held, next_post, call_for, retry_as, retry_for, cancel_for, reply_for, answer_at}
+use Rattle.chorus_world.specs.Steps.{act_may, is_home, is_full_of_ports, is_legal, may_tag, next_number}
+use Rattle.chorus_world.specs.Runs.{is_held_by, is_held_at_by}
+use Rattle.chorus_world.specs.Answer.{group_for, join_for, leave_for, take_first, take_from, delete_from, hops, move_from, next_post, call_for, retry_as, retry_for, cancel_for, reply_for, answer_at}
 use Rattle.chorus_world.proofs.Ports.PortLaws.{keeps_to_capacity}
 use Rattle.chorus_world.proofs.Groups.GroupBounds.{group-place, groups-few, members-few}
 use Rattle.chorus_world.proofs.Seats.CallBounds.{outstanding-posted}
