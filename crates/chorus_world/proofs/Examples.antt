@@ -2,3 +2,6 @@
 -- command, and the limits.
 pub mod Names
 pub mod Moments
+pub mod Words
+pub mod Commands
+pub mod Limits

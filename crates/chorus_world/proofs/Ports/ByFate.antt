@@ -1,9 +1,8 @@
 -- The ids of Take entries are those that were received by their fate, and those of a Delete entry those that were discarded.
-use Rattle.std.proofs.Common.{ℕ, zero, suc, ◌≡◌, ◌<◌, ◌≤◌, ◌-◌, Bool, true, false, nat_lt, cond, List, [], ◌∷◌, length, take, drop, Option, Some, None, refl, sym, ◌∙◌, ap, subst, inl, inr, arith}
+use Rattle.std.proofs.Common.{ℕ, zero, suc, ◌≡◌, ◌<◌, ◌≤◌, ◌-◌, Bool, true, false, nat_lt, cond, List, [], ◌∷◌, length, take, drop, Option, Some, refl, sym, ◌∙◌, ap, subst, arith}
 use Rattle.std.specs.Prelude.{slice_get}
-use Rattle.std.proofs.lemmas.Bool.{cases_lt, lt-ltb, ltb-true, ltb-false, false≢true}
+use Rattle.std.proofs.lemmas.Bool.{lt-ltb, ltb-true, ltb-false}
 use Rattle.std.proofs.lemmas.Option.{slice_get_within}
-use Rattle.chorus_ui.specs.declared.ui.Ui.{Ui}
 use Rattle.chorus_ui.specs.declared.layout.Layout.{Layout}
 use Rattle.chorus_ui.specs.Layout.{IsLayout}
 use Rattle.chorus_entry.specs.declared.entry.Entry.{Entry}
@@ -11,12 +10,12 @@ use Rattle.chorus_entry.specs.declared.id.MsgId.{MsgId}
 use Rattle.chorus_world.specs.declared.port.Spot.{Spot}
 use Rattle.chorus_world.specs.declared.port.Spot.TheVariants.{Held, Moving, Ended}
 use Rattle.chorus_world.specs.Views.{on}
-use Rattle.chorus_world.specs.Ports.{PortState, fate}
-use Rattle.chorus_world.specs.Fates.{MessageFate, fate_at, fate_left}
-use Rattle.chorus_world.specs.Fates.MessageFate.{Received, Queued, UnderWay, Discarded}
-use Rattle.chorus_world.specs.AcceptedLaws.{DiscardedByFate, ReceivedByFate, discarded, received}
+use Rattle.chorus_world.specs.Ports.{PortState}
+use Rattle.chorus_world.specs.Fates.{fate_at, fate_left}
+use Rattle.chorus_world.specs.Fates.MessageFate.{Received, Discarded}
+use Rattle.chorus_world.specs.AcceptedLaws.{DiscardedByFate, ReceivedByFate, discarded}
 use Rattle.chorus_world.specs.Steps.{is_legal}
-use Rattle.chorus_world.proofs.Ports.LineLemmas.{Discards, none_some}
+use Rattle.chorus_world.proofs.Ports.LineLemmas.{Discards}
 use Rattle.chorus_world.proofs.Ports.PortLaws.{discards_spot, line_facts}
 
 take-get : {X : Type 0} → (xs : List X) (n i : ℕ) → i < n → slice_get (take n xs) i ≡ slice_get xs i
