@@ -11,10 +11,11 @@ use Rattle.chorus_entry.specs.declared.act.Act.{Act}
 use Rattle.chorus_entry.specs.declared.act.Act.TheVariants.{Accept, Full, Already, ClientsFull, Stale, Elsewhere, Told, Heard}
 use Rattle.chorus_entry.specs.Answer.{is_final}
 use Rattle.chorus_world.specs.declared.message.Progress.TheVariants.{Tried}
-use Rattle.chorus_world.specs.Views.{on, about}
+use Rattle.chorus_world.specs.Views.{at, on, about}
 use Rattle.chorus_world.specs.Ports.{PortState, fate, is_held_at, waiting}
 use Rattle.chorus_world.specs.Posts.{site_asked}
 use Rattle.chorus_world.specs.Messages.{progress, verdict}
+use Rattle.chorus_world.specs.Places.{located}
 use Rattle.chorus_world.specs.LocationLaws.{path_of}
 use Rattle.chorus_world.specs.GroupLaws.{copies_of}
 
@@ -42,12 +43,13 @@ FullWithoutRoom past e =
     (x : MsgId) (q : Ui) (n : ℕ) → e.act ≡ Full x q n →
     (f : PortState) × (fate (on q past) ≡ Some f) × (waiting f ≡ f.capacity) × (n ≡ f.capacity)
 
--- a Stale stands only where the port is not held, and names another place, which is on the port's path at a later hop than
--- the message was tried with
+-- a Stale stands only where the port is not held, and names where its place locates the port: another place, which is on the
+-- port's path at a later hop than the message was tried with
 abbrev pub StaleNamesLater : Layout → List Entry → Entry → Type 0
 StaleNamesLater l past e =
     (x : MsgId) (q : Ui) (tried to hop : ℕ) → e.act ≡ Stale x q tried to hop →
     (is_held_at e.place (fate (on q past)) ≡ false) × (tried < hop) × (to ≢ e.place)
+    × (located l q (at e.place past) ≡ record { to = to; hop = hop })
     × (slice_get (path_of l q (fate (on q past))) hop ≡ Some to)
 
 -- x was tried for the port q at this place with an earlier hop, the port is not held here, and the place `to` is another one
@@ -59,12 +61,13 @@ pub record IsPassed (past : List Entry) (e : Entry) (x : MsgId) (q : Ui) (to hop
   pub away : is_held_at e.place (fate (on q past)) ≡ false
   pub elsewhere : to ≢ e.place
 
--- an Elsewhere stands only for a message that asks for a site, and names a place on the port's path, with its hop: one that is
--- not on the site, or another one by a later hop than the message was tried with
+-- an Elsewhere stands only for a message that asks for a site, and names where its place locates the port, which is on the
+-- port's path at that hop: a place that is not on the site, or another one by a later hop than the message was tried with
 abbrev pub ElsewhereNamesPath : Layout → List Entry → Entry → Type 0
 ElsewhereNamesPath l past e =
     (x : MsgId) (q : Ui) (to hop : ℕ) → e.act ≡ Elsewhere x q to hop →
-    (site : ℕ) × (site_asked x past ≡ Some site) × (slice_get (path_of l q (fate (on q past))) hop ≡ Some to)
+    (site : ℕ) × (site_asked x past ≡ Some site) × (located l q (at e.place past) ≡ record { to = to; hop = hop })
+    × (slice_get (path_of l q (fate (on q past))) hop ≡ Some to)
     × ((site_of l to ≢ site) ⊎ IsPassed past e x q to hop)
 
 -- a Told other than Stale says the verdict of its message

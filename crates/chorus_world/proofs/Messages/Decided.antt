@@ -13,6 +13,7 @@ use Rattle.chorus_entry.specs.declared.act.Act.{Act}
 use Rattle.chorus_entry.specs.declared.act.Act.TheVariants.{Accept, Full, Already, ClientsFull, Stale, Elsewhere}
 use Rattle.chorus_world.specs.declared.message.Progress.{Progress}
 use Rattle.chorus_world.specs.declared.message.Progress.TheVariants.{Idle, Asked, Tried, Decided, Settled, Reported}
+use Rattle.chorus_world.specs.declared.place.Location.{Location}
 use Rattle.chorus_world.specs.declared.step.Due.TheVariants.{NotDue, ByTry, AtHome}
 use Rattle.chorus_world.specs.Views.{Views, views, at, about, on}
 use Rattle.chorus_world.specs.Ports.{PortState, fate, has_room, is_full, is_held_at, waiting}
@@ -82,7 +83,13 @@ full_without_room l past e h x q n is =
 differs : (m n : ℕ) → not (m == n) ≡ true → m ≢ n
 differs m n h e = false≢true (sym (not-true (m == n) h) ∙ eq-eqb m n e)
 
--- a location that a place names is on the port's path
+-- a location that a place names is its own
+names : (to hop : ℕ) (here : Location) → is_location to hop here ≡ true → here ≡ record { to = to; hop = hop }
+names to hop here is =
+    let two = and_parts (here.to == to) (here.hop == hop) is in
+    λ i. record { to = eqb-true here.to to two.0 i; hop = eqb-true here.hop hop two.1 i }
+
+-- and on the port's path
 on_path : (l : Layout) (past : List Entry) (p to hop : ℕ) (q : Ui) → IsLayout l → is_legal l past ≡ true → is_location to hop (located l q (at p past)) ≡ true → slice_get (path_of l q (fate (on q past))) hop ≡ Some to
 on_path l past p to hop q layout h is =
     let here = located l q (at p past) in
@@ -104,6 +111,7 @@ stale_names_later l past e layout h x q tried to hop is =
       not-true (is_held_at p (fate (on q past))) one.1,
       ltb-true tried hop three.1,
       differs to p four.1,
+      names to hop (located l q (at p past)) two.1,
       on_path l past p to hop q layout (legal_parts l e past h).1 two.1,
     )
 
@@ -153,6 +161,7 @@ elsewhere_names_path l past e layout h x q to hop is =
     let away = not (is_held_at p (fate v.port)) in (
       site.0,
       site.1,
+      names to hop (located l q (at p past)) one.1,
       on_path l past p to hop q layout (legal_parts l e past h).1 one.1,
       elim (or_cases go (t && away && not (to == p)) two.1) [
         | inl a ↦ inl (off-site l (site_asked x past) site.0 to site.1 (and_parts (is_to_go l v x q to) (not (is_on_site l (site_asked x v.all) to)) a).1)
