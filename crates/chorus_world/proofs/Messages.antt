@@ -18,3 +18,6 @@ pub mod Firsts
 pub mod Growing
 pub mod Ways
 pub mod DirectTries
+pub mod Decided
+pub mod Told
+pub mod WasSent

@@ -6,3 +6,4 @@ pub mod PortMoves
 pub mod PortNames
 pub mod Paths
 pub mod Sites
+pub mod ByFate
