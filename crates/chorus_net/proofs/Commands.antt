@@ -1,5 +1,3 @@
-pub mod Answer
 pub mod OwnAnswers
-pub mod OnlyAnswer
 pub mod Answered
 pub mod Performing

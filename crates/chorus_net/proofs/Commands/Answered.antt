@@ -1,4 +1,4 @@
--- At most one act answers a command, the one that the views tell; and in every schedule the own act of the place machine is it.
+-- In every schedule the own act of the place machine is the one act that answers the command.
 use Rattle.std.proofs.Common.{ℕ, ◌≡◌, true, ◌&&◌, nat_lt, List, [], ◌∷◌, ◌++◌, Option, Some, slice_get, refl, sym, ◌∙◌, ap, subst, append_assoc}
 use Rattle.std.proofs.lemmas.Bool.{and_parts}
 use Rattle.chorus_ui.specs.declared.ui.Ui.{Ui}
@@ -20,40 +20,16 @@ use Rattle.chorus_place.specs.Own.{own}
 use Rattle.chorus_net.specs.Network.{Act as Acts, Event, turn_for, schedule}
 use Rattle.chorus_net.specs.Stands.{actor_of}
 use Rattle.chorus_net.specs.Schedules.{may_be}
-use Rattle.chorus_net.specs.Answering.{Fits}
+use Rattle.chorus_world.specs.Answering.{Fits}
 use Rattle.chorus_net.proofs.Places.Layouts.{schedule-keeps}
-use Rattle.chorus_net.proofs.Commands.Answer.{answer_for}
+use Rattle.chorus_world.specs.Answer.{answer_for}
 use Rattle.chorus_net.specs.History.{history}
 use Rattle.chorus_net.proofs.Events.InOrder.{in-order}
 use Rattle.chorus_net.proofs.Standing.Turning.{number-is}
 use Rattle.chorus_net.proofs.Events.Said.{said_with, act-goes, said-act}
-use Rattle.chorus_net.proofs.Commands.OnlyAnswer.{Fitting, only-answer}
+use Rattle.chorus_world.proofs.Seats.Answered.{one-at-most}
 use Rattle.chorus_net.proofs.Commands.OwnAnswers.{own-answers}
 use Rattle.chorus_net.proofs.Commands.Performing.{actor_in, given-actors}
-
-fitting : (l : Layout) (callers : ℕ → Option Ui) (past : List Entry) (k : ℕ) (a : Ui) (c : Command) (clock : ℕ) (x : Act) → callers k ≡ Some a → Fits l callers past k a c clock x → Fitting l past (place_for l a c) k a c x
-fitting l callers past k a c clock x who f =
-    let p = place_for l a c in
-    let e : Entry = record { clock = clock; place = p; seat = k; act = x } in
-    let v = views past p k x in
-    let follows = (and_parts (is_timely l v e) (act_follows l v p k x) f.comes_next).1 in
-    let acts = and_parts (has_kinds x && may_stand_behind (just_taken past (at p past)) x) (act_may l v p k x) follows in
-    let runs = (and_parts (nat_lt (last_clock (by k past)) clock) (fits_callers past p (callers k) x) f.runs).1 in
-    record {
-      kinds = (and_parts (has_kinds x) (may_stand_behind (just_taken past (at p past)) x) acts.0).0;
-      may = acts.1;
-      fits = ap (λ o. fits_callers past p o x) (sym who) ∙ runs;
-      answers = (and_parts _ (act_answers past p k a c x) f.answers).1;
-    }
-
--- in any past, and at any clock
-pub answer-is : (l : Layout) (callers : ℕ → Option Ui) (past : List Entry) (k : ℕ) (a : Ui) (c : Command) (clock : ℕ) (x : Act) → callers k ≡ Some a → Fits l callers past k a c clock x → x ≡ answer_for l past k a c
-answer-is l callers past k a c clock x who f =
-    only-answer l past (place_for l a c) k a c x (fitting l callers past k a c clock x who f)
-
-pub answers-once : (l : Layout) (callers : ℕ → Option Ui) (past : List Entry) (k : ℕ) (a : Ui) (c : Command) (clock : ℕ) (x y : Act) → callers k ≡ Some a → Fits l callers past k a c clock x → Fits l callers past k a c clock y → x ≡ y
-answers-once l callers past k a c clock x y who f g =
-    answer-is l callers past k a c clock x who f ∙ sym (answer-is l callers past k a c clock y who g)
 
 run-older : (l : Layout) (callers : ℕ → Option Ui) (newer older : List Entry) → is_run l callers (newer ++ older) ≡ true → is_run l callers older ≡ true
 run-older l callers [] older h = h
@@ -100,5 +76,5 @@ module _ (l : Layout) (shape : IsLayout l) (es : List Event) (j : ℕ) (c : Comm
   -- so it is the one act that the views tell
   pub own-is-answer : own c (turn_for c caller (schedule l es)) ≡ answer_for l (history l es) j caller.actor c
   own-is-answer =
-      answer-is l (actor_of (schedule l (Acts j c ∷ es))) (history l es) j caller.actor c (next_clock (turn_for c caller (schedule l es))) (own c (turn_for c caller (schedule l es)))
+      one-at-most l (actor_of (schedule l (Acts j c ∷ es))) (history l es) j caller.actor c (next_clock (turn_for c caller (schedule l es))) (own c (turn_for c caller (schedule l es)))
       (given-actors j c (schedule l es) (slice_get (schedule l es).callers j) j refl ∙ ap (λ (o : Option Seated). actor_in o) h) own-fits

@@ -17,7 +17,8 @@ use Rattle.chorus_net.specs.Left.{placed, packets_left, merged_past}
 use Rattle.chorus_net.specs.Holdings.{StandsFor, holdings_left}
 use Rattle.chorus_net.specs.Quiet.{IsQuiet}
 use Rattle.chorus_net.specs.History.{history}
-use Rattle.chorus_net.specs.Always.{Always, ReceivesInOrder, KeepsEachMessage}
+use Rattle.chorus_world.specs.Always.{Always}
+use Rattle.chorus_world.specs.AcceptedLaws.{ReceivesInOrder, KeepsEachMessage}
 use Rattle.chorus_net.specs.Promises.{Runs, KeepsJournals, Performs, TablesStand, ClosesSo, Rests}
 use Rattle.chorus_net.proofs.Merge.Journals.{merge-is, merge-run, merge-journal}
 use Rattle.chorus_net.proofs.Merge.Performs.{performs-sort}
@@ -26,7 +27,7 @@ use Rattle.chorus_net.proofs.Commands.Performing.{performs-history}
 use Rattle.chorus_net.proofs.Holdings.Shows.{shows-merge}
 use Rattle.chorus_net.proofs.Holdings.Closed.{left-stands}
 use Rattle.chorus_net.proofs.Promises.Rests.{rests-merge}
-use Rattle.chorus_net.proofs.Promises.Laws.{run-receives, run-keeps}
+use Rattle.chorus_world.proofs.Moments.{run-receives, run-keeps}
 
 module _ (l : Layout) (es : List Event) (shape : IsLayout l) (may : may_be l es ≡ true) where
   -- the network, and the past that it stands for
@@ -78,4 +79,4 @@ module _ (l : Layout) (es : List Event) (shape : IsLayout l) (may : may_be l es 
   receives-at = run-receives l (actor_of n) (merged_past n) shape runs-at
 
   pub fates-at : Always KeepsEachMessage (merged_past (schedule l es))
-  fates-at = run-keeps l (actor_of n) (merged_past n) runs-at
+  fates-at = run-keeps l (actor_of n) (merged_past n) shape runs-at
