@@ -1,6 +1,5 @@
 //! The laws of the network. They speak of the definitions alone and make no call.
 
-ghost use Rattle.chorus_net.specs.Answering.{OneActAnswers, OwnActAnswers};
 ghost use Rattle.chorus_net.specs.History.{EventsStand, SchedulesStandInOrder};
 ghost use Rattle.chorus_net.specs.Promises.{CarriesFew, ClosesSo, KeepsJournals, Performs, Rests, Runs, TablesStand};
 ghost use Rattle.chorus_net.specs.Schedules.{OfSchedules};
