@@ -24,3 +24,8 @@ pub mod Posts
 pub mod Standing
 pub mod Tables
 pub mod Trying
+pub mod Merge
+pub mod Commands
+pub mod Holdings
+pub mod Draining
+pub mod Promises

@@ -10,3 +10,4 @@ pub mod Onward
 pub mod Leading
 pub mod Turning
 pub mod Given
+pub mod CallerList

@@ -14,7 +14,5 @@ pub mod Quiet
 pub mod Schedules
 pub mod History
 pub mod Tasks
-pub mod Always
-pub mod Accepting
 pub mod Promises
 pub mod Answering

@@ -16,6 +16,11 @@ use Rattle.chorus_world.specs.Ports.{PortState, fate}
 use Rattle.chorus_world.specs.Posts.{Posted, post_of}
 use Rattle.chorus_world.specs.Runs.{is_run}
 use Rattle.chorus_world.specs.Commands.{performs}
+use Rattle.chorus_world.specs.Always.{Always, EachEntry}
+use Rattle.chorus_world.specs.AcceptedLaws.{ReceivesInOrder, KeepsEachMessage}
+use Rattle.chorus_world.specs.SenderLaws.{KeepsSenderOrder}
+use Rattle.chorus_world.specs.RequestLaws.{AcceptsRequestsOnce}
+use Rattle.chorus_world.specs.GroupLaws.{ReachesOneMember, AcceptsOnSite, KeepsChoiceOrder}
 use Rattle.chorus_place.specs.PlaceState.{Outgoing}
 use Rattle.chorus_place.specs.Lawful.{is_lawful}
 use Rattle.chorus_net.specs.Packets.{first_on}
@@ -26,8 +31,6 @@ use Rattle.chorus_net.specs.Holdings.{StandsFor, holdings_in, holdings_left}
 use Rattle.chorus_net.specs.Quiet.{IsQuiet}
 use Rattle.chorus_net.specs.Schedules.{commands_of, OfSchedules}
 use Rattle.chorus_net.specs.History.{all_put}
-use Rattle.chorus_net.specs.Always.{Always, ReceivesInOrder, KeepsEachMessage}
-use Rattle.chorus_net.specs.Accepting.{KeepsSenderOrder, AcceptsRequestsOnce, ReachesOneMember, AcceptsOnSite, KeepsChoiceOrder}
 
 -- the merge is a run for the callers
 abbrev pub Runs : Layout → List Event → NetState → Type 0
@@ -92,7 +95,7 @@ pub record Promises (l : Layout) (es : List Event) (n : NetState) : Type 0 where
   pub sender_order : KeepsSenderOrder (merged_past n)
   pub once : AcceptsRequestsOnce (merged_past n)
   pub one_member : ReachesOneMember (merged_past n)
-  pub on_site : AcceptsOnSite l (merged_past n)
+  pub on_site : EachEntry (AcceptsOnSite l) (merged_past n)
   pub choice_order : KeepsChoiceOrder (merged_past n)
   pub few_packets : CarriesFew l es n
 

@@ -12,6 +12,7 @@ mod closed;
 mod delivery;
 mod fault;
 mod laws;
+mod network;
 mod sites;
 #[cfg(test)]
 mod tests;
@@ -19,5 +20,6 @@ mod tests;
 pub use closed::{Closed, Placed};
 pub use delivery::{Delivered, Quiet};
 pub use fault::EnterFault;
-pub use laws::{network_refines_world, one_place_runs};
+pub use laws::one_place_runs;
+pub use network::{drains_leave_nothing_to_do, network_refines_world};
 pub use sites::Sites;

@@ -6,3 +6,4 @@ pub mod BroadcastLaws
 pub mod GroupBounds
 pub mod GroupNames
 pub mod GroupFacts
+pub mod Members

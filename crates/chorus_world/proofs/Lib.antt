@@ -4,3 +4,5 @@ pub mod Messages
 pub mod Groups
 pub mod Seats
 pub mod Sorted
+pub mod Moments
+pub mod Examples

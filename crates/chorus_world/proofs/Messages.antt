@@ -16,3 +16,8 @@ pub mod StageFacts
 pub mod Untried
 pub mod Firsts
 pub mod Growing
+pub mod Ways
+pub mod DirectTries
+pub mod Decided
+pub mod Told
+pub mod WasSent

@@ -3,3 +3,6 @@ pub mod CallLemmas
 pub mod RequestLaws
 pub mod CallBounds
 pub mod CallFacts
+pub mod OnlyAnswer
+pub mod SomeAnswer
+pub mod Answered

@@ -1,5 +1,5 @@
 -- The laws of what ports accept. They speak of every legal past, and so of each past on the way to it.
-use Rattle.std.specs.Prelude.{ℕ, ◌≡◌, ◌≤◌, ◌+◌, true, List, [], ◌∷◌, ◌++◌, length, take, Option, Some, None, slice_get}
+use Rattle.std.specs.Prelude.{ℕ, ◌≡◌, ◌≤◌, ◌+◌, ◌-◌, true, List, [], ◌∷◌, ◌++◌, length, take, Option, Some, None, slice_get}
 use Rattle.chorus_ui.specs.declared.ui.Ui.{Ui}
 use Rattle.chorus_ui.specs.declared.layout.Layout.{Layout}
 use Rattle.chorus_ui.specs.Layout.{IsLayout}
@@ -13,6 +13,7 @@ use Rattle.chorus_world.specs.Messages.{verdict, verdict_by}
 use Rattle.chorus_world.specs.Views.{on}
 use Rattle.chorus_world.specs.Ports.{PortState, fate}
 use Rattle.chorus_world.specs.Fates.{MessageFate, fate_at}
+use Rattle.chorus_world.specs.Fates.MessageFate.{Received, Discarded}
 use Rattle.chorus_world.specs.Steps.{is_legal}
 
 abbrev pub accepted_from : Option PortState → List MsgId
@@ -49,31 +50,17 @@ abbrev pub discarded : List Entry → Option (List MsgId)
 discarded [] = None
 discarded (e ∷ port) = discarded_after e.act (discarded port)
 
--- each accepted id stands at one position of one port
-abbrev pub StandsOnce : Type 0
-StandsOnce =
-    (l : Layout) (past : List Entry) (q r : Ui) (i j : ℕ) (x : MsgId) → is_legal l past ≡ true →
-    slice_get (accepted_by q past) i ≡ Some x → slice_get (accepted_by r past) j ≡ Some x → (q ≡ r) × (i ≡ j)
-
--- the message x was accepted, and this became of it
-pub record HasFate (x : MsgId) (past : List Entry) (what : MessageFate) : Type 0 where
-  pub port : Ui
-  pub position : ℕ
+-- The message at this position of this port has this fate, and stands nowhere else.
+pub record HasOneFate (past : List Entry) (q : Ui) (i : ℕ) (x : MsgId) (what : MessageFate) : Type 0 where
   pub state : PortState
-  pub made : fate (on port past) ≡ Some state
-  pub stands : slice_get state.accepted position ≡ Some x
-  pub is : fate_at position state ≡ what
+  pub made : fate (on q past) ≡ Some state
+  pub is : fate_at i state ≡ what
+  pub alone : (r : Ui) (j : ℕ) → slice_get (accepted_by r past) j ≡ Some x → (r ≡ q) × (j ≡ i)
 
--- so each accepted message has at most one fate
-abbrev pub HasOneFate : Type 0
-HasOneFate =
-    (l : Layout) (past : List Entry) (x : MsgId) (a b : MessageFate) → is_legal l past ≡ true → HasFate x past a → HasFate x past b → a ≡ b
-
--- and it has one
-abbrev pub HasSomeFate : Type 0
-HasSomeFate =
-    (l : Layout) (past : List Entry) (q : Ui) (i : ℕ) (x : MsgId) → is_legal l past ≡ true → slice_get (accepted_by q past) i ≡ Some x →
-    (what : MessageFate) × HasFate x past what
+-- each accepted message has one fate, and stands at one position of one port
+abbrev pub KeepsEachMessage : List Entry → Type 0
+KeepsEachMessage past =
+    (q : Ui) (i : ℕ) (x : MsgId) → slice_get (accepted_by q past) i ≡ Some x → (what : MessageFate) × HasOneFate past q i x what
 
 -- what a port accepted stays where it is, whatever comes after: only more is put behind it
 abbrev pub AcceptedGrows : Type 0
@@ -81,23 +68,34 @@ AcceptedGrows =
     (l : Layout) (newer past : List Entry) (q : Ui) → IsLayout l → is_legal l (newer ++ past) ≡ true →
     (more : List MsgId) × (accepted_by q (newer ++ past) ≡ accepted_by q past ++ more)
 
--- the ids of a port's Take entries are the first ones that it accepted, as many as were received
-abbrev pub ReceivesInOrder : Type 0
-ReceivesInOrder =
-    (l : Layout) (past : List Entry) (q : Ui) → IsLayout l → is_legal l past ≡ true →
-    (received (on q past) ≡ take (taken_by q past) (accepted_by q past)) × (taken_by q past ≤ length (accepted_by q past))
+-- each port gives out what it accepted, in order, and nothing else: the ids of its Take entries are the first that it accepted
+abbrev pub ReceivesInOrder : List Entry → Type 0
+ReceivesInOrder past = (q : Ui) → received (on q past) ≡ take (taken_by q past) (accepted_by q past)
 
--- no more messages wait in a port than it has room for, and that is room for 1 to 64
-abbrev pub KeepsToCapacity : Type 0
-KeepsToCapacity =
-    (l : Layout) (past : List Entry) (q : Ui) (f : PortState) → IsLayout l → is_legal l past ≡ true → fate (on q past) ≡ Some f →
-    (length f.accepted ≤ f.taken + f.capacity) × (1 ≤ f.capacity) × (f.capacity ≤ PENDING_LIMIT)
+-- no more was received than was accepted, no more messages wait in a port than it has room for, and that is room for 1 to 64
+abbrev pub KeepsToCapacity : List Entry → Type 0
+KeepsToCapacity past =
+    (q : Ui) (f : PortState) → fate (on q past) ≡ Some f →
+    (f.taken ≤ length f.accepted) × (length f.accepted ≤ f.taken + f.capacity) × (1 ≤ f.capacity) × (f.capacity ≤ PENDING_LIMIT)
 
 -- the ids of a port's Delete entry are all that it accepted and that was not received
-abbrev pub DiscardsTheRest : Type 0
-DiscardsTheRest =
-    (l : Layout) (past : List Entry) (q : Ui) (xs : List MsgId) → IsLayout l → is_legal l past ≡ true → discarded (on q past) ≡ Some xs →
-    accepted_by q past ≡ received (on q past) ++ xs
+abbrev pub DiscardsTheRest : List Entry → Type 0
+DiscardsTheRest past =
+    (q : Ui) (xs : List MsgId) → discarded (on q past) ≡ Some xs → accepted_by q past ≡ received (on q past) ++ xs
+
+-- the ids of a port's Take entries are those whose fate is that they were received
+abbrev pub ReceivedByFate : List Entry → Type 0
+ReceivedByFate past =
+    (q : Ui) (i : ℕ) (x : MsgId) (f : PortState) → fate (on q past) ≡ Some f → slice_get f.accepted i ≡ Some x →
+    (fate_at i f ≡ Received → slice_get (received (on q past)) i ≡ Some x)
+    × (slice_get (received (on q past)) i ≡ Some x → fate_at i f ≡ Received)
+
+-- and those of its Delete entry are those whose fate is that they were discarded
+abbrev pub DiscardedByFate : List Entry → Type 0
+DiscardedByFate past =
+    (q : Ui) (i : ℕ) (x : MsgId) (f : PortState) → fate (on q past) ≡ Some f → slice_get f.accepted i ≡ Some x →
+    (fate_at i f ≡ Discarded → (xs : List MsgId) × (discarded (on q past) ≡ Some xs) × (slice_get xs (i - f.taken) ≡ Some x))
+    × ((xs : List MsgId) → discarded (on q past) ≡ Some xs → f.taken ≤ i → fate_at i f ≡ Discarded)
 
 -- after its Delete entry nothing becomes of a port any more
 abbrev pub EndsWithDelete : Type 0

@@ -14,7 +14,6 @@ use Rattle.chorus_entry.specs.MsgId.{same_id}
 use Rattle.chorus_world.specs.declared.place.Sent.{Sent}
 use Rattle.chorus_world.specs.Places.{copies}
 use Rattle.chorus_world.specs.Posts.{Posted, post_of, source, site_asked}
-use Rattle.chorus_world.specs.Steps.{is_legal}
 use Rattle.chorus_world.specs.AcceptedLaws.{accepted_by}
 use Rattle.chorus_world.specs.SenderLaws.{route_of}
 
@@ -34,24 +33,21 @@ copies_of x [] = []
 copies_of x (e ∷ past) = copies_of x past ++ copies_by x e.act
 
 -- a functional post has at most one copy
-abbrev pub HasOneCopy : Type 0
-HasOneCopy =
-    (l : Layout) (past : List Entry) (x : MsgId) (post : Posted) → is_legal l past ≡ true → post_of x past ≡ Some post →
-    is_functional post.dest ≡ true → length (copies_of x past) ≤ 1
+abbrev pub HasOneCopy : List Entry → Type 0
+HasOneCopy past =
+    (x : MsgId) (post : Posted) → post_of x past ≡ Some post → is_functional post.dest ≡ true → length (copies_of x past) ≤ 1
 
 -- it is accepted at most once: two accepted messages of one functional post are one message at one position of one port
-abbrev pub IsAcceptedOnce : Type 0
-IsAcceptedOnce =
-    (l : Layout) (past : List Entry) (q r : Ui) (i j : ℕ) (x y : MsgId) (post : Posted) → is_legal l past ≡ true →
-    post_of x past ≡ Some post → is_functional post.dest ≡ true → source x ≡ source y →
-    slice_get (accepted_by q past) i ≡ Some x → slice_get (accepted_by r past) j ≡ Some y →
+abbrev pub ReachesOneMember : List Entry → Type 0
+ReachesOneMember past =
+    (q r : Ui) (i j : ℕ) (x y : MsgId) (post : Posted) → post_of x past ≡ Some post → is_functional post.dest ≡ true →
+    source x ≡ source y → slice_get (accepted_by q past) i ≡ Some x → slice_get (accepted_by r past) j ≡ Some y →
     (x ≡ y) × (q ≡ r) × (i ≡ j)
 
 -- and one that asks for a site is accepted only by a place on that site
-abbrev pub IsAcceptedOnSite : Type 0
-IsAcceptedOnSite =
-    (l : Layout) (past : List Entry) (e : Entry) (x : MsgId) (port : Ui) (position site : ℕ) → is_legal l (e ∷ past) ≡ true →
-    e.act ≡ Accept x port position → site_asked x past ≡ Some site → site_of l e.place ≡ site
+abbrev pub AcceptsOnSite : Layout → List Entry → Entry → Type 0
+AcceptsOnSite l past e =
+    (x : MsgId) (q : Ui) (position site : ℕ) → e.act ≡ Accept x q position → site_asked x past ≡ Some site → site_of l e.place ≡ site
 
 -- the posts of the Choose entries of a group, in order
 abbrev pub choice_by : Ui → Act → List MsgId
@@ -63,10 +59,10 @@ choices_of g [] = []
 choices_of g (e ∷ past) = choices_of g past ++ choice_by g e.act
 
 -- each post has at most one Choose, of one group
-abbrev pub IsChosenOnce : Type 0
-IsChosenOnce =
-    (l : Layout) (past : List Entry) (g h : Ui) (i j : ℕ) (x : MsgId) → is_legal l past ≡ true →
-    slice_get (choices_of g past) i ≡ Some x → slice_get (choices_of h past) j ≡ Some x → (g ≡ h) × (i ≡ j)
+abbrev pub IsChosenOnce : List Entry → Type 0
+IsChosenOnce past =
+    (g h : Ui) (i j : ℕ) (x : MsgId) → slice_get (choices_of g past) i ≡ Some x → slice_get (choices_of h past) j ≡ Some x →
+    (g ≡ h) × (i ≡ j)
 
 -- x stands in the list before y
 pub record StandsBefore (x y : MsgId) (xs : List MsgId) : Type 0 where
@@ -77,8 +73,8 @@ pub record StandsBefore (x y : MsgId) (xs : List MsgId) : Type 0 where
   pub is_second : slice_get xs second ≡ Some y
 
 -- the copies of a group's posts stand in each port in the order of their Choose entries
-abbrev pub KeepsChoiceOrder : Type 0
-KeepsChoiceOrder =
-    (l : Layout) (past : List Entry) (port : Ui) (i j : ℕ) (x y : MsgId) (group : Ui) → is_legal l past ≡ true →
-    i < j → slice_get (accepted_by port past) i ≡ Some x → slice_get (accepted_by port past) j ≡ Some y →
-    route_of x past ≡ Some group → route_of y past ≡ Some group → StandsBefore (source x) (source y) (choices_of group past)
+abbrev pub KeepsChoiceOrder : List Entry → Type 0
+KeepsChoiceOrder past =
+    (q : Ui) (i j : ℕ) (x y : MsgId) (g : Ui) → i < j → slice_get (accepted_by q past) i ≡ Some x →
+    slice_get (accepted_by q past) j ≡ Some y → route_of x past ≡ Some g → route_of y past ≡ Some g →
+    StandsBefore (source x) (source y) (choices_of g past)

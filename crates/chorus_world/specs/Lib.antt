@@ -9,11 +9,16 @@ pub mod Seats
 pub mod Steps
 pub mod Runs
 pub mod Commands
+pub mod Always
+pub mod Answer
+pub mod Answering
 pub mod Fates
 pub mod AcceptedLaws
 pub mod RequestLaws
 pub mod SenderLaws
 pub mod GroupLaws
 pub mod LocationLaws
+pub mod DecisionLaws
+pub mod SentLaws
 pub mod Order
 pub mod SortingLaws

@@ -1,5 +1,5 @@
 -- The laws on locations: where a place locates a port, there the port was; so a message is tried a limited number of times.
-use Rattle.std.specs.Prelude.{ℕ, ◌≡◌, ◌≤◌, ◌+◌, Bool, true, false, ◌||◌, List, [], ◌∷◌, length, Option, Some, None, slice_get}
+use Rattle.std.specs.Prelude.{ℕ, ◌≡◌, ◌<◌, ◌≤◌, ◌+◌, Bool, true, false, ◌||◌, List, [], ◌∷◌, length, Option, Some, None, slice_get}
 use Rattle.chorus_ui.specs.declared.ui.Ui.{Ui}
 use Rattle.chorus_ui.specs.declared.layout.Layout.{Layout}
 use Rattle.chorus_ui.specs.Name.{same_ui}
@@ -24,6 +24,12 @@ abbrev pub LocatesOnPath : Type 0
 LocatesOnPath =
     (l : Layout) (past : List Entry) (p : ℕ) (q : Ui) → IsLayout l → is_legal l past ≡ true →
     slice_get (path_of l q (fate (on q past))) (located l q (at p past)).hop ≡ Some (located l q (at p past)).to
+
+-- and a place that the port has left, by a hop that is not its last, locates it by a later hop than that one
+abbrev pub KnowsWhatLeft : Type 0
+KnowsWhatLeft =
+    (l : Layout) (past : List Entry) (p : ℕ) (q : Ui) (hop : ℕ) → IsLayout l → is_legal l past ≡ true → slice_get (path_of l q (fate (on q past))) hop ≡ Some p →
+    hop + 1 < length (path_of l q (fate (on q past))) → hop < (located l q (at p past)).hop
 
 -- how many tries stand among these entries
 abbrev pub tries_after : Act → ℕ → ℕ

@@ -1,12 +1,10 @@
--- The law of the order in which a port accepts what one caller sends.
-use Rattle.std.specs.Prelude.{ℕ, ◌≡◌, ◌<◌, true, List, Option, Some, None, slice_get}
+-- The order in which a port accepts what one caller sends, said of one past.
+use Rattle.std.specs.Prelude.{ℕ, ◌≡◌, ◌<◌, List, Option, Some, None, slice_get}
 use Rattle.chorus_ui.specs.declared.ui.Ui.{Ui}
-use Rattle.chorus_ui.specs.declared.layout.Layout.{Layout}
 use Rattle.chorus_entry.specs.declared.entry.Entry.{Entry}
 use Rattle.chorus_entry.specs.declared.id.MsgId.{MsgId}
 use Rattle.chorus_entry.specs.Dest.{group_in}
 use Rattle.chorus_world.specs.Posts.{Posted, post_of}
-use Rattle.chorus_world.specs.Steps.{is_legal}
 use Rattle.chorus_world.specs.AcceptedLaws.{accepted_by}
 
 abbrev pub route_from : Option Posted → Option Ui
@@ -18,8 +16,7 @@ abbrev pub route_of : MsgId → List Entry → Option Ui
 route_of x past = route_from (post_of x past)
 
 -- a port accepts the messages of one caller that came by one route in the order in which they were posted
-abbrev pub KeepsSenderOrder : Type 0
-KeepsSenderOrder =
-    (l : Layout) (past : List Entry) (port : Ui) (i j : ℕ) (x y : MsgId) → is_legal l past ≡ true →
-    i < j → slice_get (accepted_by port past) i ≡ Some x → slice_get (accepted_by port past) j ≡ Some y →
+abbrev pub KeepsSenderOrder : List Entry → Type 0
+KeepsSenderOrder past =
+    (q : Ui) (i j : ℕ) (x y : MsgId) → i < j → slice_get (accepted_by q past) i ≡ Some x → slice_get (accepted_by q past) j ≡ Some y →
     x.seat ≡ y.seat → route_of x past ≡ route_of y past → x.number < y.number

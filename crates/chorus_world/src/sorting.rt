@@ -1,11 +1,13 @@
 //! Laws of legal lists: where ports were, and what sorting keeps. They speak of the definitions alone, and make no call.
 
-ghost use Rattle.chorus_world.specs.LocationLaws.{LocatesOnPath, TriesWithinPath};
+ghost use Rattle.chorus_world.specs.LocationLaws.{KnowsWhatLeft, LocatesOnPath, TriesWithinPath};
 ghost use Rattle.chorus_world.specs.SortingLaws.{AnswersLookAtHome, KeepsViews, SortsInOrder, SortsLegally, SortsRuns};
 
-/// A place locates a port only where the port was, with the hop that it had there.
+/// A place locates a port only where the port was, with the hop that it had there; and a place that the port has left locates
+/// it by a later hop than the one that it had there.
 pub fn locates_on_path()
-    ensures { LocatesOnPath }
+    ensures path { LocatesOnPath }
+    ensures ahead { KnowsWhatLeft }
 {}
 
 /// A message is tried at most as many times as its port's path has places: with h hops of the port so far, at most h + 1 times.

@@ -8,7 +8,7 @@ use Rattle.chorus_ui.specs.Layout.{IsLayout, has_site, has_actor, has_place, pla
 use Rattle.chorus_entry.specs.declared.command.Command.{Command}
 use Rattle.chorus_entry.specs.declared.command.Command.TheVariants as commands
 use Rattle.chorus_entry.specs.Places.{place_for}
-use Rattle.chorus_net.proofs.Places.Sites.{place-inside, first-inside}
+use Rattle.chorus_world.proofs.Ports.Sites.{place-inside, first-inside}
 
 module _ (l : Layout) (a : Ui) (shape : IsLayout l) (has : has_actor l a ≡ true) where
   site : has_site l a.site ≡ true

@@ -1,8 +1,8 @@
 -- A turn begins where the network stands for a past, and leaves one that stands for a longer one.
 use Rattle.std.proofs.Common.{ℕ, zero, suc, ◌≡◌, ◌+◌, ◌<◌, ◌≤◌, ◌==◌, nat_le, max, Bool, true, false, cond, List, [], ◌∷◌, map, Option, Some, None, refl, sym, ◌∙◌, ap, subst, arith, eq-eqb, leb-true}
-use Rattle.std.specs.Prelude.{slice_get, slice_set}
+use Rattle.std.specs.Prelude.{slice_get}
 use Rattle.std.specs.Option.{option_map}
-use Rattle.std.proofs.lemmas.Bool.{and_parts, eqb-true, false≢true}
+use Rattle.std.proofs.lemmas.Bool.{and_parts, eqb-true, false≢true, eqb-false}
 use Rattle.chorus_ui.specs.declared.ui.Ui.{Ui}
 use Rattle.chorus_ui.specs.declared.layout.Layout.{Layout}
 use Rattle.chorus_ui.specs.Layout as layout
@@ -15,6 +15,7 @@ use Rattle.chorus_calls.specs.Callers.{Seated, after_tick}
 use Rattle.chorus_place.specs.PlaceState.{PlaceState, Outgoing, Turn}
 use Rattle.chorus_place.specs.PlaceMachine.{begun}
 use Rattle.chorus_net.specs.Packets.{put_all}
+use Rattle.chorus_net.proofs.Standing.CallerList.{get-replaced, get-other}
 use Rattle.chorus_net.specs.Network.{NetState, numbers, place_numbers, place_in, place, ended}
 use Rattle.chorus_net.specs.Stands.{AreOf, IsCaller, Stands, actor_of}
 use Rattle.chorus_net.proofs.Places.PlacesStay.{with-numbers, with-layouts, place-other, place-same, stands_in}
@@ -61,24 +62,6 @@ stands-there n p h k =
     let low = leb-true 1 p two.0 in
     let high = leb-true p (layout.places n.layout) two.1 in
     stands-from (layout.places n.layout) 1 p n.places h.numbers low (omega (arith, high))
-
--- Callers by seat.
-
-set-same : (cs : List Seated) (k : ℕ) (c d : Seated) → slice_get cs k ≡ Some d → slice_get (slice_set cs k c) k ≡ Some c
-set-same [] k c d h = absurd (cc)
-set-same (x ∷ cs) zero c d h = refl
-set-same (x ∷ cs) (suc k) c d h = set-same cs k c d h
-
-set-other : (cs : List Seated) (k j : ℕ) (c : Seated) → (k == j) ≡ false → slice_get (slice_set cs k c) j ≡ slice_get cs j
-set-other [] k j c h = refl
-set-other (x ∷ cs) zero zero c h = absurd (false≢true (sym h))
-set-other (x ∷ cs) zero (suc j) c h = refl
-set-other (x ∷ cs) (suc k) zero c h = refl
-set-other (x ∷ cs) (suc k) (suc j) c h = set-other cs k j c (by (k == j) refl)
-  where
-    by : (b : Bool) → (k == j) ≡ b → b ≡ false
-    by false e = refl
-    by true e = absurd (false≢true (sym h ∙ eq-eqb (suc k) (suc j) (ap suc (eqb-true k j e))))
 
 pub actor-some : (n : NetState) (k : ℕ) (a : Ui) → actor_of n k ≡ Some a → (c : Seated) × (slice_get n.callers k ≡ Some c)
 actor-some n k a h = by (slice_get n.callers k) h
@@ -151,29 +134,29 @@ module _ (n : NetState) (us : List Outgoing) (past : List Entry) (t : Turn) (w :
   place-now p = subst (λ z. IsPlace z past p (place p last)) (sym w.layout) (place-is p (t.place.number == p) refl)
 
   actors : (j : ℕ) (b : Bool) → (t.caller.seat == j) ≡ b → actor_of last j ≡ actor_of n j
-  actors j false e = ap (option_map (λ (c : Seated). c.actor)) (set-other n.callers t.caller.seat j t.caller e)
+  actors j false e = ap (option_map (λ (c : Seated). c.actor)) (get-other n.callers t.caller.seat j t.caller (eqb-false t.caller.seat j e))
   actors j true e =
       let same : t.caller.seat ≡ j = eqb-true t.caller.seat j e in
       let one = actor-some n t.caller.seat t.caller.actor w.seated in
       subst (λ z. actor_of last z ≡ actor_of n z) same
-      (ap (option_map (λ (c : Seated). c.actor)) (set-same n.callers t.caller.seat t.caller one.0 one.1) ∙ sym w.seated)
+      (ap (option_map (λ (c : Seated). c.actor)) (get-replaced n.callers t.caller.seat one.0 t.caller one.1) ∙ sym w.seated)
 
   caller-is : (j : ℕ) (c : Seated) (b : Bool) → (t.caller.seat == j) ≡ b → slice_get last.callers j ≡ Some c → IsCaller t.place.layout past (by j past) j c
-  caller-is j c false e h = w.callers j c e (sym (set-other n.callers t.caller.seat j t.caller e) ∙ h)
+  caller-is j c false e h = w.callers j c e (sym (get-other n.callers t.caller.seat j t.caller (eqb-false t.caller.seat j e)) ∙ h)
   caller-is j c true e h =
       let same : t.caller.seat ≡ j = eqb-true t.caller.seat j e in
       let one = actor-some n t.caller.seat t.caller.actor w.seated in
-      let here : slice_get last.callers t.caller.seat ≡ Some t.caller = set-same n.callers t.caller.seat t.caller one.0 one.1 in
+      let here : slice_get last.callers t.caller.seat ≡ Some t.caller = get-replaced n.callers t.caller.seat one.0 t.caller one.1 in
       let found : slice_get last.callers t.caller.seat ≡ Some c = ap (slice_get last.callers) same ∙ h in
       let is : t.caller ≡ c = cc in
       subst (λ z. IsCaller t.place.layout past (by z past) z c) same (subst (IsCaller t.place.layout past (by t.caller.seat past) t.caller.seat) is w.caller)
 
   stranger-is : (j : ℕ) (b : Bool) → (t.caller.seat == j) ≡ b → slice_get last.callers j ≡ None → by j past ≡ []
-  stranger-is j false e h = w.strangers j (sym (set-other n.callers t.caller.seat j t.caller e) ∙ h)
+  stranger-is j false e h = w.strangers j (sym (get-other n.callers t.caller.seat j t.caller (eqb-false t.caller.seat j e)) ∙ h)
   stranger-is j true e h =
       let same : t.caller.seat ≡ j = eqb-true t.caller.seat j e in
       let one = actor-some n t.caller.seat t.caller.actor w.seated in
-      let here : slice_get last.callers t.caller.seat ≡ Some t.caller = set-same n.callers t.caller.seat t.caller one.0 one.1 in
+      let here : slice_get last.callers t.caller.seat ≡ Some t.caller = get-replaced n.callers t.caller.seat one.0 t.caller one.1 in
       let none : slice_get last.callers t.caller.seat ≡ None = ap (slice_get last.callers) same ∙ h in
       absurd (cc)
 

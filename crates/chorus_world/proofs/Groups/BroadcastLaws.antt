@@ -29,7 +29,7 @@ use Rattle.chorus_entry.specs.Members.{without, index_of, listed, first_of}
 use Rattle.chorus_world.specs.Steps.{act_may, is_legal}
 use Rattle.chorus_world.specs.AcceptedLaws.{accepted_by}
 use Rattle.chorus_world.specs.SenderLaws.{route_of}
-use Rattle.chorus_world.specs.GroupLaws.{choice_by, choices_of, IsChosenOnce, StandsBefore, KeepsChoiceOrder}
+use Rattle.chorus_world.specs.GroupLaws.{choice_by, choices_of, StandsBefore}
 use Rattle.chorus_world.proofs.Steps.LegalLemmas.{legal_parts, skips, keeps}
 use Rattle.chorus_world.proofs.Ports.LineLemmas.{none_some}
 use Rattle.chorus_world.proofs.Messages.SendingLemmas.{sent_as, some_is, sent_before}
@@ -176,7 +176,7 @@ choose_open l past e x g qs h a =
 same_choice : (x : MsgId) (g h : Ui) (qs rs : List Ui) → Choose x g qs ≡ Choose x h rs → g ≡ h
 same_choice x g h qs rs e = cc
 
-pub is_chosen_once : IsChosenOnce
+pub is_chosen_once : (l : Layout) (past : List Entry) (g h : Ui) (i j : ℕ) (x : MsgId) → is_legal l past ≡ true → slice_get (choices_of g past) i ≡ Some x → slice_get (choices_of h past) j ≡ Some x → (g ≡ h) × (i ≡ j)
 is_chosen_once l [] g k i j x h a b = absurd (let lt : i < 0 = slice_get_within [] i x a in omega arith)
 is_chosen_once l (e ∷ past) g k i j x h a b =
     elim (choices_before g past e i x a) [
@@ -249,7 +249,7 @@ choice_order_now l past e q i x y n g h a old r s =
     let first = accepted_first past q x y b w place (rx ∙ sym ry) in
     sent_in_order l Follows (λ past e z x r f g u. stands_grows g past e (source z) (source x) (f g u)) (begins l) past w.place y x w.message b.message two.1 w.is first (b.port ∙ sym w.port) (rx ∙ sym ry) g ry
 
-pub keeps_choice_order : KeepsChoiceOrder
+pub keeps_choice_order : (l : Layout) (past : List Entry) (port : Ui) (i j : ℕ) (x y : MsgId) (group : Ui) → is_legal l past ≡ true → i < j → slice_get (accepted_by port past) i ≡ Some x → slice_get (accepted_by port past) j ≡ Some y → route_of x past ≡ Some group → route_of y past ≡ Some group → StandsBefore (source x) (source y) (choices_of group past)
 keeps_choice_order l [] q i j x y g h lt a k r s = absurd (let z : i < 0 = slice_get_within [] i x a in omega arith)
 keeps_choice_order l (e ∷ past) q i j x y g h lt a k r s =
     let two = legal_parts l e past h in

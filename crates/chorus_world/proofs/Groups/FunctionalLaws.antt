@@ -19,12 +19,12 @@ use Rattle.chorus_world.specs.declared.place.Sent.{Sent}
 use Rattle.chorus_world.specs.Views.{views, at, about, is_about}
 use Rattle.chorus_world.specs.Ports.{fate, has_room}
 use Rattle.chorus_world.specs.Places.{copies, find_sent}
-use Rattle.chorus_world.specs.Posts.{Posted, post_of, is_on_site}
+use Rattle.chorus_world.specs.Posts.{source, site_asked, Posted, post_of, is_on_site}
 use Rattle.chorus_world.specs.Groups.{choice, in_turn, is_at_site, is_chosen, chooses}
 use Rattle.chorus_entry.specs.Members.{listed, first_of}
 use Rattle.chorus_world.specs.Steps.{act_may, may_enter, is_legal}
 use Rattle.chorus_world.specs.AcceptedLaws.{accepted_by}
-use Rattle.chorus_world.specs.GroupLaws.{is_functional, copies_by, copies_of, HasOneCopy, IsAcceptedOnce, IsAcceptedOnSite}
+use Rattle.chorus_world.specs.GroupLaws.{is_functional, copies_by, copies_of}
 use Rattle.chorus_world.proofs.Steps.LegalLemmas.{legal_parts, keeps}
 use Rattle.chorus_world.proofs.Ports.LineLemmas.{none_some}
 use Rattle.chorus_world.proofs.Messages.SendingLemmas.{sent_as, cond_some, some_is, sent_before}
@@ -52,12 +52,12 @@ one_member l past p s x g qs needs h f =
     let is = (choose_members l past p s x g qs needs h).0 in
     subst (λ z. length z ≤ 1) (sym is) (one_chosen l needs.dest (at p past) f)
 
-copies_length : (x : MsgId) (g : Ui) (n : ℕ) (qs : List Ui) → length (copies x g n qs) ≡ length qs
+pub copies_length : (x : MsgId) (g : Ui) (n : ℕ) (qs : List Ui) → length (copies x g n qs) ≡ length qs
 copies_length x g n [] = refl
 copies_length x g n (q ∷ qs) = ap (λ k. suc k) (copies_length x g (n + 1) qs)
 
 -- an act makes no copy of x, or is its Choose
-copies_case : (x : MsgId) (a : Act) → (copies_by x a ≡ []) ⊎ ((g : Ui) × (qs : List Ui) × (a ≡ Choose x g qs))
+pub copies_case : (x : MsgId) (a : Act) → (copies_by x a ≡ []) ⊎ ((g : Ui) × (qs : List Ui) × (a ≡ Choose x g qs))
 copies_case x (Choose y g qs) =
     elim (cases_Bool (same_id y x)) [
       | inl t ↦ inr (g, qs, ap (λ z. Choose z g qs) (from_same_id y x t))
@@ -66,7 +66,7 @@ copies_case x (Choose y g qs) =
 copies_case x _ = inl refl
 
 -- a post without a Choose has no copy
-no_copies : (x : MsgId) (past : List Entry) → is_chosen x (about x past) ≡ false → copies_of x past ≡ []
+pub no_copies : (x : MsgId) (past : List Entry) → is_chosen x (about x past) ≡ false → copies_of x past ≡ []
 no_copies x [] h = refl
 no_copies x (e ∷ past) h =
     let old = no_copies x past (unchosen_before x past e h) in
@@ -112,7 +112,7 @@ few_copies l (e ∷ past) x h =
           ))
     ]
 
-pub has_one_copy : HasOneCopy
+pub has_one_copy : (l : Layout) (past : List Entry) (x : MsgId) (post : Posted) → is_legal l past ≡ true → post_of x past ≡ Some post → is_functional post.dest ≡ true → length (copies_of x past) ≤ 1
 has_one_copy l past x d h e f =
     elim (few_copies l past x h) [
       | inl none ↦ subst (λ z. length z ≤ 1) (sym none) (omega arith)
@@ -165,7 +165,7 @@ accepted_copy l past q i x d h e f k =
     let route : b.message.route ≡ Some g.0 = o.route ∙ (ap (λ (z : Posted). group_in z.dest) same ∙ g.1) in
     functional_copy l past b.place x b.message g.0 d h b.is route e f
 
-pub is_accepted_once : IsAcceptedOnce
+pub is_accepted_once : (l : Layout) (past : List Entry) (q r : Ui) (i j : ℕ) (x y : MsgId) (post : Posted) → is_legal l past ≡ true → post_of x past ≡ Some post → is_functional post.dest ≡ true → source x ≡ source y → slice_get (accepted_by q past) i ≡ Some x → slice_get (accepted_by r past) j ≡ Some y → (x ≡ y) × (q ≡ r) × (i ≡ j)
 is_accepted_once l past q r i j x y d h e f s a b =
     let seat : x.seat ≡ y.seat = ap (λ (z : MsgId). z.seat) s in
     let number : x.number ≡ y.number = ap (λ (z : MsgId). z.number) s in
@@ -175,7 +175,7 @@ is_accepted_once l past q r i j x y d h e f s a b =
     let two = stands_once l past q r i j x h a (b ∙ ap (λ z. Some z) (sym same)) in
     (same, two.0, two.1)
 
-pub is_accepted_on_site : IsAcceptedOnSite
+pub is_accepted_on_site : (l : Layout) (past : List Entry) (e : Entry) (x : MsgId) (port : Ui) (position site : ℕ) → is_legal l (e ∷ past) ≡ true → e.act ≡ Accept x port position → site_asked x past ≡ Some site → site_of l e.place ≡ site
 is_accepted_on_site l past e x q n s h a k =
     let p = e.place in
     let v = views past p e.seat (Accept x q n) in

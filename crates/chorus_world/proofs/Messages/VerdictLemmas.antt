@@ -69,7 +69,7 @@ verdict_open l past p s a x f h m v =
           (asked_facts x past needs.from needs.dest f needs.asked).0)
     ]
 
-verdict_other : (x : MsgId) (a : Act) → are_same same_id (Some x) (message_of a) ≡ false → verdict_by x a ≡ None
+pub verdict_other : (x : MsgId) (a : Act) → are_same same_id (Some x) (message_of a) ≡ false → verdict_by x a ≡ None
 verdict_other x a h =
     ap (λ b. cond b (answer_of a) None) (ap (λ b. is_verdict a && b) h ∙ and_false (is_verdict a))
 

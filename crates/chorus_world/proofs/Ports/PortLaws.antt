@@ -6,6 +6,7 @@ use Rattle.std.proofs.lemmas.Nat.{mod-mul-add}
 use Rattle.chorus_ui.specs.declared.ui.Ui.{Ui}
 use Rattle.chorus_ui.specs.declared.layout.Layout.{Layout}
 use Rattle.chorus_ui.specs.Layout.{IsLayout, has_actor, place_at, creation_place, first_place}
+use Rattle.chorus_ui.specs.declared.limits.TheConstants.{PENDING_LIMIT}
 use Rattle.chorus_entry.specs.declared.entry.Entry.{Entry}
 use Rattle.chorus_entry.specs.declared.id.MsgId.{MsgId}
 use Rattle.chorus_entry.specs.declared.act.Act.{Act}
@@ -18,7 +19,7 @@ use Rattle.chorus_entry.specs.Order.{is_at}
 use Rattle.chorus_world.specs.Ports.{PortState, fate, fate_after, is_made, is_held, is_moving, is_held_at}
 use Rattle.chorus_world.specs.Places.{ports_made, ports_after}
 use Rattle.chorus_world.specs.Steps.{act_may, is_legal, is_home, is_full_of_ports, next_number}
-use Rattle.chorus_world.specs.AcceptedLaws.{accepted_by, accepted_from, taken_from, received, discarded, AcceptedGrows, ReceivesInOrder, KeepsToCapacity, DiscardsTheRest, EndsWithDelete}
+use Rattle.chorus_world.specs.AcceptedLaws.{accepted_by, accepted_from, taken_by, taken_from, received, discarded, AcceptedGrows, EndsWithDelete}
 use Rattle.chorus_world.proofs.Steps.LegalLemmas.{entry, legal_parts, on_is, skips, keeps, under}
 use Rattle.chorus_world.proofs.Ports.LineLemmas.{Discards, Needs, needs, held_at, coming, LineFacts, LineIs, IsLine, MakesNew, step_line, none_some}
 
@@ -139,7 +140,7 @@ legal_line l (e ∷ past) q i h =
 
 -- The laws.
 
-line_facts : (l : Layout) (past : List Entry) (q : Ui) (f : PortState) → IsLayout l → is_legal l past ≡ true → fate (on q past) ≡ Some f → LineFacts f (received (on q past)) (discarded (on q past))
+pub line_facts : (l : Layout) (past : List Entry) (q : Ui) (f : PortState) → IsLayout l → is_legal l past ≡ true → fate (on q past) ≡ Some f → LineFacts f (received (on q past)) (discarded (on q past))
 line_facts l past q f i h e = subst (λ z. LineIs z (on q past)) e (legal_line l past q i h).0
 
 -- a port that is not made has no entries on its line
@@ -150,14 +151,14 @@ receives_case : (o : Option PortState) (port : List Entry) → LineIs o port →
 receives_case None port h = (ap received h, omega arith)
 receives_case (Some f) port h = (h.received, h.within)
 
-pub receives_in_order : ReceivesInOrder
+pub receives_in_order : (l : Layout) (past : List Entry) (q : Ui) → IsLayout l → is_legal l past ≡ true → (received (on q past) ≡ take (taken_by q past) (accepted_by q past)) × (taken_by q past ≤ length (accepted_by q past))
 receives_in_order l past q i h = receives_case (fate (on q past)) (on q past) (legal_line l past q i h).0
 
-pub keeps_to_capacity : KeepsToCapacity
-keeps_to_capacity l past q f i h e =
-    let facts = line_facts l past q f i h e in (facts.room, facts.some, facts.few)
+pub keeps_to_capacity : (l : Layout) (past : List Entry) → IsLayout l → is_legal l past ≡ true → (q : Ui) (f : PortState) → fate (on q past) ≡ Some f → (f.taken ≤ length f.accepted) × (length f.accepted ≤ f.taken + f.capacity) × (1 ≤ f.capacity) × (f.capacity ≤ PENDING_LIMIT)
+keeps_to_capacity l past i h q f e =
+    let facts = line_facts l past q f i h e in (facts.within, facts.room, facts.some, facts.few)
 
-discards_spot : (s : Spot) (d : Option (List MsgId)) (xs ys : List MsgId) → Discards s d ys → d ≡ Some xs → (s ≡ Ended) × (xs ≡ ys)
+pub discards_spot : (s : Spot) (d : Option (List MsgId)) (xs ys : List MsgId) → Discards s d ys → d ≡ Some xs → (s ≡ Ended) × (xs ≡ ys)
 discards_spot (Held a) d xs ys h e = none_some xs (sym h ∙ e)
 discards_spot (Moving a) d xs ys h e = none_some xs (sym h ∙ e)
 discards_spot Ended d xs ys h e = (refl, let both : Some xs ≡ Some ys = sym e ∙ h in cc)
@@ -168,7 +169,7 @@ discards_case (Some f) port xs h e =
     let over = discards_spot f.spot (discarded port) xs (drop f.taken f.accepted) h.over e in
     sym (ap (λ ys. ys ++ xs) h.received ∙ (ap (λ ys. take f.taken f.accepted ++ ys) over.1 ∙ take-append-drop f.taken f.accepted))
 
-pub discards_the_rest : DiscardsTheRest
+pub discards_the_rest : (l : Layout) (past : List Entry) (q : Ui) (xs : List MsgId) → IsLayout l → is_legal l past ≡ true → discarded (on q past) ≡ Some xs → accepted_by q past ≡ received (on q past) ++ xs
 discards_the_rest l past q xs i h e = discards_case (fate (on q past)) (on q past) xs (legal_line l past q i h).0 e
 
 accepts_more : (a : Act) (p : ℕ) (o : Option PortState) → MakesNew a o → (more : List MsgId) × (accepted_from (fate_after p a o) ≡ accepted_from o ++ more)

@@ -21,7 +21,6 @@ use Rattle.chorus_entry.proofs.Clients.{reached-now, reached-later}
 use Rattle.chorus_world.specs.Clients.{clients_after, clients_kept}
 use Rattle.chorus_world.specs.Steps.{act_may, may_enter, is_legal}
 use Rattle.chorus_world.specs.AcceptedLaws.{accepted_by, accepted_from}
-use Rattle.chorus_world.specs.RequestLaws.{RequestsRise, RequestsOnce}
 use Rattle.chorus_world.proofs.Steps.LegalLemmas.{legal_parts}
 use Rattle.chorus_world.proofs.Messages.SendingLemmas.{some_is}
 use Rattle.chorus_world.proofs.Messages.DueLemmas.{enters}
@@ -70,7 +69,7 @@ request_now l past e q i x y p n m b c a h old s tx u =
     let below : is_reached n (number_of table y.seat) ≡ true = subst (λ z. is_reached n (number_of table z) ≡ true) s (kept_bounds past (on q past) i x n b old tx) in
     not_reached n m (number_of table y.seat) below above
 
-pub requests_rise : RequestsRise
+pub requests_rise : (l : Layout) (past : List Entry) (q : Ui) (i j : ℕ) (x y : MsgId) (n m : ℕ) (b c : Ui) → is_legal l past ≡ true → i < j → slice_get (accepted_by q past) i ≡ Some x → slice_get (accepted_by q past) j ≡ Some y → x.seat ≡ y.seat → tag_of x past ≡ Request n b → tag_of y past ≡ Request m c → n < m
 requests_rise l [] q i j x y n m b c h lt a k s t u = absurd (let z : i < 0 = slice_get_within [] i x a in omega arith)
 requests_rise l (e ∷ past) q i j x y n m b c h lt a k s t u =
     let two = legal_parts l e past h in
@@ -109,7 +108,7 @@ port_called l past q i x n b h a t =
     let k = accepted_belongs l past q i x h a in
     (f.0, f.1, sym k.port ∙ direct_port l past k.place x k.message d.0 f.0.port h k.is d.1 f.2)
 
-pub requests_once : RequestsOnce
+pub requests_once : (l : Layout) (past : List Entry) (q r : Ui) (i j : ℕ) (x y : MsgId) (n : ℕ) (b c : Ui) → is_legal l past ≡ true → slice_get (accepted_by q past) i ≡ Some x → slice_get (accepted_by r past) j ≡ Some y → x.seat ≡ y.seat → tag_of x past ≡ Request n b → tag_of y past ≡ Request n c → (q ≡ r) × (i ≡ j)
 requests_once l past q r i j x y n b c h a k s t u =
     let f = port_called l past q i x n b h a t in
     let g = port_called l past r j y n c h k u in

@@ -29,7 +29,7 @@ use Rattle.chorus_world.specs.Groups.{posts_to, is_chosen, first_unchosen, is_ch
 use Rattle.chorus_world.specs.Seats.{posts}
 use Rattle.chorus_world.specs.Steps.{act_may, is_legal}
 use Rattle.chorus_world.specs.AcceptedLaws.{accepted_by}
-use Rattle.chorus_world.specs.SenderLaws.{route_of, route_from, KeepsSenderOrder}
+use Rattle.chorus_world.specs.SenderLaws.{route_of, route_from}
 use Rattle.chorus_world.proofs.Messages.SentLemmas.{find_sent_append}
 use Rattle.chorus_world.proofs.Steps.LegalLemmas.{legal_parts}
 use Rattle.chorus_world.proofs.Ports.LineLemmas.{none_some, id_is}
@@ -246,7 +246,7 @@ order_now l past e q i x y n h a old s r =
     let first = accepted_first past q x y b w place route in
     numbers_in_order l past w.place y x w.message b.message two.1 w.is first (b.port ∙ sym w.port) route s
 
-pub keeps_sender_order : KeepsSenderOrder
+pub keeps_sender_order : (l : Layout) (past : List Entry) (q : Ui) (i j : ℕ) (x y : MsgId) → is_legal l past ≡ true → i < j → slice_get (accepted_by q past) i ≡ Some x → slice_get (accepted_by q past) j ≡ Some y → x.seat ≡ y.seat → route_of x past ≡ route_of y past → x.number < y.number
 keeps_sender_order l [] q i j x y h lt a k s r = absurd (let z : i < 0 = slice_get_within [] i x a in omega arith)
 keeps_sender_order l (e ∷ past) q i j x y h lt a k s r =
     let two = legal_parts l e past h in

@@ -326,10 +326,10 @@ held_by_fate l q a p (Some g) k h e f =
     held_by_case a g.spot (is_last p g) k h (sym e) (λ b s last. f b (ap (λ z. Some z) s) (eqb-true (last_of 0 g.path) p last))
 
 -- a place tells by itself whether the actor holds the port there
-abbrev is_holder_here : List Entry → List Entry → Ui → Ui → Bool
+abbrev pub is_holder_here : List Entry → List Entry → Ui → Ui → Bool
 is_holder_here table here q a = is_kept q here && are_same same_ui (Some a) (holder q (on q table) here)
 
-holder_here : (l : Layout) (table past : List Entry) (p : ℕ) (q a : Ui) → IsLayout l → is_legal l past ≡ true → Extends table past → is_held_at_by p a (fate (on q past)) ≡ is_holder_here table (at p past) q a
+pub holder_here : (l : Layout) (table past : List Entry) (p : ℕ) (q a : Ui) → IsLayout l → is_legal l past ≡ true → Extends table past → is_held_at_by p a (fate (on q past)) ≡ is_holder_here table (at p past) q a
 holder_here l table past p q a layout h ext =
     let f = legal_holders l past q layout h in
     held_by_fate l q a p (fate (on q past)) (is_kept q (at p past)) (holder q (on q table) (at p past)) (held_here l past q p ((legal_inv l past layout h).ports q))
@@ -368,7 +368,7 @@ run_same l callers table past e layout h ext home =
     ap (λ b. b && may_run callers past e) (may_same l table past e (legal_laws l past layout h) ext home)
     ∙ ap (λ b. may_find l table (chains past e) e && (nat_lt (last_clock (by e.seat past)) e.clock && b)) (fit_same l table past e.clock e.place e.seat (callers e.seat) e.act layout h ext)
 
-run_is_legal : (l : Layout) (callers : ℕ → Option Ui) (past : List Entry) → is_run l callers past ≡ true → is_legal l past ≡ true
+pub run_is_legal : (l : Layout) (callers : ℕ → Option Ui) (past : List Entry) → is_run l callers past ≡ true → is_legal l past ≡ true
 run_is_legal l callers [] h = refl
 run_is_legal l callers (e ∷ past) h =
     let two = and_parts (may l past e && may_run callers past e) (is_run l callers past) h in

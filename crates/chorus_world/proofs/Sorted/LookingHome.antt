@@ -17,7 +17,7 @@ use Rattle.chorus_world.specs.Commands.{act_answers}
 use Rattle.chorus_world.specs.SortingLaws.{LooksAtHome, AnswersLookAtHome}
 
 -- the group's place, or the place where a command stands that has none
-at_group : (l : Layout) (g : Ui) (p other : ℕ) → p ≡ unwrap_or (group_place l g) other → (is_group_place l g p ≡ true) ⊎ (has_site l g.site ≡ false)
+pub at_group : (l : Layout) (g : Ui) (p other : ℕ) → p ≡ unwrap_or (group_place l g) other → (is_group_place l g p ≡ true) ⊎ (has_site l g.site ≡ false)
 at_group l g p other e =
     elim (cases_Bool (has_site l g.site)) [
       | inl t ↦ (

@@ -103,7 +103,7 @@ no_group l g (e ∷ es) h k =
       | inr f ↦ ap (λ b. b || is_group g es) f ∙ no_group l g es h.1 k
     ]
 
-group_looked_for : (l : Layout) (g : Ui) (p : ℕ) (past : List Entry) → AllGroups l past → (is_group_place l g p ≡ true) ⊎ (has_site l g.site ≡ false) → is_group g past ≡ is_group g (at p past)
+pub group_looked_for : (l : Layout) (g : Ui) (p : ℕ) (past : List Entry) → AllGroups l past → (is_group_place l g p ≡ true) ⊎ (has_site l g.site ≡ false) → is_group g past ≡ is_group g (at p past)
 group_looked_for l g p past h (inl k) = group_here l g p past h k
 group_looked_for l g p past h (inr k) = no_group l g past h k ∙ sym (no_group l g (at p past) (groups_filter l (is_at p) past h) k)
 

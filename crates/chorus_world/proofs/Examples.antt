@@ -1,0 +1,7 @@
+-- Examples, each computed: what always holds of a past and where it does not, what laws alone read, which acts answer a
+-- command, and the limits.
+pub mod Names
+pub mod Moments
+pub mod Words
+pub mod Commands
+pub mod Limits
