@@ -4,13 +4,15 @@
 //! the machine of a place; and [`one_place_runs`]: whatever happens on the sites, the journal is a run of the one-holder world
 //! for their callers, which performs the commands of each, and the table of ports stands for its world.
 //!
-//! Begin with `sites`. So far the sites have one place.
+//! Begin with `sites`. So far the sites have one place. For all places [`network_refines_world`] has the law: the network of
+//! place machines refines that world.
 #![tactic(auto)]
 
 mod closed;
 mod delivery;
 mod fault;
 mod laws;
+mod network;
 mod sites;
 #[cfg(test)]
 mod tests;
@@ -19,4 +21,5 @@ pub use closed::{Closed, Placed};
 pub use delivery::{Delivered, Quiet};
 pub use fault::EnterFault;
 pub use laws::one_place_runs;
+pub use network::{drains_leave_nothing_to_do, network_refines_world};
 pub use sites::Sites;

@@ -1,3 +1,4 @@
 pub mod Kept
 pub mod Tries
 pub mod Asked
+pub mod Machine

@@ -5,3 +5,5 @@ pub mod FunctionalLaws
 pub mod BroadcastLaws
 pub mod GroupBounds
 pub mod GroupNames
+pub mod GroupFacts
+pub mod Members

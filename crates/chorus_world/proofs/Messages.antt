@@ -19,3 +19,5 @@ pub mod Growing
 pub mod Decided
 pub mod Told
 pub mod WasSent
+pub mod Ways
+pub mod DirectTries

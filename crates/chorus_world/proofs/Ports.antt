@@ -4,3 +4,6 @@ pub mod Whereabouts
 pub mod PortSteps
 pub mod PortMoves
 pub mod ByFate
+pub mod PortNames
+pub mod Paths
+pub mod Sites

@@ -326,10 +326,10 @@ held_by_fate l q a p (Some g) k h e f =
     held_by_case a g.spot (is_last p g) k h (sym e) (λ b s last. f b (ap (λ z. Some z) s) (eqb-true (last_of 0 g.path) p last))
 
 -- a place tells by itself whether the actor holds the port there
-abbrev is_holder_here : List Entry → List Entry → Ui → Ui → Bool
+abbrev pub is_holder_here : List Entry → List Entry → Ui → Ui → Bool
 is_holder_here table here q a = is_kept q here && are_same same_ui (Some a) (holder q (on q table) here)
 
-holder_here : (l : Layout) (table past : List Entry) (p : ℕ) (q a : Ui) → IsLayout l → is_legal l past ≡ true → Extends table past → is_held_at_by p a (fate (on q past)) ≡ is_holder_here table (at p past) q a
+pub holder_here : (l : Layout) (table past : List Entry) (p : ℕ) (q a : Ui) → IsLayout l → is_legal l past ≡ true → Extends table past → is_held_at_by p a (fate (on q past)) ≡ is_holder_here table (at p past) q a
 holder_here l table past p q a layout h ext =
     let f = legal_holders l past q layout h in
     held_by_fate l q a p (fate (on q past)) (is_kept q (at p past)) (holder q (on q table) (at p past)) (held_here l past q p ((legal_inv l past layout h).ports q))

@@ -1,0 +1,3 @@
+pub mod OwnAnswers
+pub mod Answered
+pub mod Performing

@@ -1,0 +1,12 @@
+pub mod Mass
+pub mod Masses
+pub mod Working
+pub mod Lowering
+pub mod Routes
+pub mod Fronts
+pub mod Bounds
+pub mod Drains
+pub mod Emptied
+pub mod Ending
+pub mod Drained
+pub mod Stopped

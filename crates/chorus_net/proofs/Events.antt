@@ -1,0 +1,6 @@
+pub mod Entering
+pub mod HavePlaces
+pub mod Cases
+pub mod EachEvent
+pub mod Said
+pub mod InOrder

@@ -1,0 +1,4 @@
+pub mod GroupCommands
+pub mod Choosing
+pub mod Asking
+pub mod GroupPosting

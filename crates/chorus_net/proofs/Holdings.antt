@@ -1,0 +1,4 @@
+pub mod Shows
+pub mod Packets
+pub mod Closed
+pub mod Passing

@@ -1,0 +1,13 @@
+pub mod Grows
+pub mod InTurn
+pub mod Says
+pub mod Callers
+pub mod StillCallers
+pub mod Families
+pub mod Saying
+pub mod Steps
+pub mod Onward
+pub mod Leading
+pub mod Turning
+pub mod Given
+pub mod CallerList

@@ -1,0 +1,4 @@
+pub mod Waiting
+pub mod Verdicts
+pub mod Deciding
+pub mod Going

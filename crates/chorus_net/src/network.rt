@@ -1,0 +1,46 @@
+//! The laws of the network. They speak of the definitions alone and make no call.
+
+ghost use Rattle.chorus_net.specs.Answering.{OwnActAnswers};
+ghost use Rattle.chorus_net.specs.History.{EventsStand, SchedulesStandInOrder};
+ghost use Rattle.chorus_net.specs.Promises.{CarriesFew, ClosesSo, KeepsJournals, Performs, Rests, Runs, TablesStand};
+ghost use Rattle.chorus_net.specs.Schedules.{OfSchedules};
+ghost use Rattle.chorus_net.specs.Tasks.{CarriedOutOnce, DrainsEnd, DrainsLeaveNothing, DrainsRest, FrontsPerformed, TasksCarriedOut};
+
+/// A network of places refines the world in which each port has one holder.
+///
+/// Where a network stands for a past of that world and is ready, any event that may happen puts new entries in front of the
+/// past, and the network stands for that past and is ready again: a caller comes, gives a command, or works off the packet
+/// that is first from one place to another. So after any events, in any order, the network stands for the entries of all its
+/// places in the order in which they came: they are a run of the world for the callers, and each place's journal, records,
+/// locations, waiting messages and callers, and the packets under way, are what that run says.
+///
+/// The journals are merged by clock and place, and nothing else is needed for that. The merge is a run too, its parts are the
+/// journals, it performs the commands of each caller in their order, and the records held and the port moves under way stand
+/// for the ports of it, also when the network is closed. Where no packet is left, nothing is left to be done. And a direct
+/// post to a port is carried by at most twice as many packets as its port made hops, and two.
+pub fn network_refines_world()
+    ensures events { EventsStand }
+    ensures stands { SchedulesStandInOrder }
+    ensures runs { OfSchedules (Runs) }
+    ensures journals { OfSchedules (KeepsJournals) }
+    ensures performs { OfSchedules (Performs) }
+    ensures tables { OfSchedules (TablesStand) }
+    ensures left { OfSchedules (ClosesSo) }
+    ensures quiet { OfSchedules (Rests) }
+    ensures few_packets { OfSchedules (CarriesFew) }
+{}
+
+/// A task is an event, or a drain of a caller: whole rounds in which it works off packets, so many that one more would serve
+/// nothing.
+///
+/// The events that carry out a list of tasks exist, and whatever number of rounds they take for the drains, they leave one and
+/// the same network. A drain ends and leaves no packet, so after a last drain nothing is left to be done. Where only a front
+/// of the tasks was carried out, and of a drain behind them some deliveries, the merge performs the commands of that front.
+pub fn drains_leave_nothing_to_do()
+    ensures events { TasksCarriedOut }
+    ensures once { CarriedOutOnce }
+    ensures ends { DrainsEnd }
+    ensures empty { DrainsLeaveNothing }
+    ensures rests { DrainsRest }
+    ensures front { FrontsPerformed }
+{}

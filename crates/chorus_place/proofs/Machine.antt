@@ -1,0 +1,6 @@
+pub mod Keys
+pub mod Queues
+pub mod Follows
+pub mod Chains
+pub mod Stays
+pub mod Ready
