@@ -29,7 +29,8 @@ use Rattle.chorus_net.proofs.Says.{Stands, InCall, turn, IsDone}
 use Rattle.chorus_net.proofs.Making.{making}
 use Rattle.chorus_net.proofs.Taking.{taking}
 use Rattle.chorus_net.proofs.Sending.{sending}
-use Rattle.chorus_net.proofs.Seating.{get-more, get-last, get-replaced, get-other, run-more, run-ungiven}
+use Rattle.chorus_net.proofs.Standing.CallerList.{get-more, get-replaced, get-other}
+use Rattle.chorus_net.proofs.Seating.{get-last, run-more, run-ungiven}
 
 -- a caller counts what its seat posted, and its clock is not behind
 pub record IsSeat (past : List Entry) (k : ℕ) (v : Seated) : Type 0 where

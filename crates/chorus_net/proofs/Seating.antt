@@ -1,5 +1,5 @@
 -- The callers by their seats, and the runs of more callers.
-use Rattle.std.proofs.Common.{ℕ, zero, suc, ◌≡◌, ◌≢◌, ◌==◌, ◌⊎◌, inl, inr, nat_lt, Bool, true, false, ◌&&◌, cond, List, [], ◌∷◌, ◌++◌, length, Option, Some, None, slice_get, slice_set, refl, sym, ◌∙◌, ap}
+use Rattle.std.proofs.Common.{ℕ, zero, suc, ◌≡◌, ◌==◌, ◌⊎◌, inl, inr, nat_lt, Bool, true, false, ◌&&◌, cond, List, [], ◌∷◌, ◌++◌, length, Option, Some, None, slice_get, refl, sym, ◌∙◌, ap}
 use Rattle.std.proofs.lemmas.Bool.{and_parts, false≢true, eqb-true}
 use Rattle.chorus_ui.specs.declared.ui.Ui.{Ui}
 use Rattle.chorus_ui.specs.declared.layout.Layout.{Layout}
@@ -11,12 +11,7 @@ use Rattle.chorus_world.specs.Steps.{may}
 use Rattle.chorus_world.specs.Runs.{is_run, may_run, fits_callers}
 use Rattle.chorus_calls.specs.Callers.{Seated}
 
--- A list with one more at its end, and with one replaced.
-
-pub get-more : (xs ys : List Seated) (k : ℕ) (x : Seated) → slice_get xs k ≡ Some x → slice_get (xs ++ ys) k ≡ Some x
-get-more [] ys k x h = cc
-get-more (y ∷ xs) ys zero x h = h
-get-more (y ∷ xs) ys (suc k) x h = get-more xs ys k x h
+-- A list with one more at its end.
 
 pub get-last : (xs : List Seated) (z : Seated) (k : ℕ) (x : Seated) → slice_get (xs ++ z ∷ []) k ≡ Some x → (slice_get xs k ≡ Some x) ⊎ ((k ≡ length xs) × (z ≡ x))
 get-last [] z zero x h = inr (refl, cc)
@@ -27,18 +22,6 @@ get-last (y ∷ xs) z (suc k) x h = go (get-last xs z k x h)
     go : (slice_get xs k ≡ Some x) ⊎ ((k ≡ length xs) × (z ≡ x)) → (slice_get xs k ≡ Some x) ⊎ ((suc k ≡ length (y ∷ xs)) × (z ≡ x))
     go (inl e) = inl e
     go (inr e) = inr (ap suc e.0, e.1)
-
-pub get-replaced : (xs : List Seated) (k : ℕ) (x y : Seated) → slice_get xs k ≡ Some x → slice_get (slice_set xs k y) k ≡ Some y
-get-replaced [] k x y h = cc
-get-replaced (z ∷ xs) zero x y h = refl
-get-replaced (z ∷ xs) (suc k) x y h = get-replaced xs k x y h
-
-pub get-other : (xs : List Seated) (k j : ℕ) (y : Seated) → k ≢ j → slice_get (slice_set xs k y) j ≡ slice_get xs j
-get-other [] k j y n = refl
-get-other (z ∷ xs) zero zero y n = absurd (n refl)
-get-other (z ∷ xs) zero (suc j) y n = refl
-get-other (z ∷ xs) (suc k) zero y n = refl
-get-other (z ∷ xs) (suc k) (suc j) y n = get-other xs k j y (λ e. n (ap suc e))
 
 -- More callers.
 

@@ -1,6 +1,5 @@
 //! The laws of the network. They speak of the definitions alone and make no call.
 
-ghost use Rattle.chorus_net.specs.Answering.{OwnActAnswers};
 ghost use Rattle.chorus_net.specs.History.{EventsStand, SchedulesStandInOrder};
 ghost use Rattle.chorus_net.specs.Promises.{CarriesFew, ClosesSo, KeepsJournals, Performs, Rests, Runs, TablesStand};
 ghost use Rattle.chorus_net.specs.Schedules.{OfSchedules};
@@ -14,10 +13,10 @@ ghost use Rattle.chorus_net.specs.Tasks.{CarriedOutOnce, DrainsEnd, DrainsLeaveN
 /// places in the order in which they came: they are a run of the world for the callers, and each place's journal, records,
 /// locations, waiting messages and callers, and the packets under way, are what that run says.
 ///
-/// The journals are merged by clock and place, and nothing else is needed for that. The merge is a run too, its parts are the
-/// journals, it performs the commands of each caller in their order, and the records held and the port moves under way stand
-/// for the ports of it, also when the network is closed. Where no packet is left, nothing is left to be done. And a direct
-/// post to a port is carried by at most twice as many packets as its port made hops, and two.
+/// The journals are merged by clock and place alone. The merge is a run too, its parts are the journals, it performs the
+/// commands of each caller in their order, and the records held and the port moves under way stand for the ports of it, also
+/// when the network is closed. Where no packet is left, nothing is left to be done. And a direct post to a port is carried by
+/// at most 2 (h + 1) packets that try it or tell its verdict, where h is how often its port departed.
 pub fn network_refines_world()
     ensures events { EventsStand }
     ensures stands { SchedulesStandInOrder }

@@ -1,19 +1,15 @@
 -- In every schedule the own act of the place machine is the one act that answers its command.
-use Rattle.std.proofs.Common.{ℕ, ◌≡◌, true, ◌&&◌, nat_lt, List, [], ◌∷◌, ◌++◌, Option, Some, slice_get, refl, sym, ◌∙◌, ap, subst, append_assoc}
+use Rattle.std.proofs.Common.{ℕ, ◌≡◌, true, ◌&&◌, List, [], ◌∷◌, ◌++◌, Option, Some, slice_get, refl, sym, ◌∙◌, ap, subst, append_assoc}
 use Rattle.std.proofs.lemmas.Bool.{and_parts}
-use Rattle.chorus_ui.specs.declared.ui.Ui.{Ui}
 use Rattle.chorus_ui.specs.declared.layout.Layout.{Layout}
 use Rattle.chorus_ui.specs.Layout.{IsLayout}
 use Rattle.chorus_entry.specs.declared.entry.Entry.{Entry}
 use Rattle.chorus_entry.specs.declared.act.Act.{Act}
 use Rattle.chorus_entry.specs.declared.command.Command.{Command}
-use Rattle.chorus_entry.specs.Kinds.{has_kinds}
 use Rattle.chorus_entry.specs.Places.{place_for}
-use Rattle.chorus_world.specs.Views.{views, at, by}
-use Rattle.chorus_world.specs.Places.{last_clock, just_taken}
-use Rattle.chorus_world.specs.Steps.{act_may, act_follows, may, may_stand_behind, is_timely}
-use Rattle.chorus_world.specs.Runs.{fits_callers, may_run, is_run}
-use Rattle.chorus_world.specs.Commands.{act_answers, answers}
+use Rattle.chorus_world.specs.Steps.{may}
+use Rattle.chorus_world.specs.Runs.{may_run, is_run}
+use Rattle.chorus_world.specs.Commands.{answers}
 use Rattle.chorus_calls.specs.Callers.{Seated}
 use Rattle.chorus_place.specs.PlaceState.{next_clock, next_entry}
 use Rattle.chorus_place.specs.Own.{own}

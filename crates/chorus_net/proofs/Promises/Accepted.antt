@@ -1,5 +1,5 @@
 -- In a legal past, ports accept in order, and each message once: the laws of what ports accept, said of one past.
-use Rattle.std.proofs.Common.{◌≡◌, true, List, ◌∷◌, sym, ◌∙◌, ap}
+use Rattle.std.proofs.Common.{◌≡◌, true, List}
 use Rattle.chorus_ui.specs.declared.layout.Layout.{Layout}
 use Rattle.chorus_entry.specs.declared.entry.Entry.{Entry}
 use Rattle.chorus_world.specs.Steps.{is_legal}
