@@ -1,5 +1,5 @@
 -- Entries of which what the laws say of entries fails, each in a past that is not legal.
-use Rattle.std.proofs.Common.{ℕ, ◌≡◌, Bool, true, false, List, [], ◌∷◌, ◌++◌, Option, Some, None, refl, sym, ◌∙◌, ap, inl, inr, arith}
+use Rattle.std.proofs.Common.{◌≡◌, true, false, List, [], ◌∷◌, ◌++◌, Some, None, refl, sym, ◌∙◌, ap, inl, inr, arith}
 use Rattle.std.proofs.lemmas.Bool.{false≢true}
 use Rattle.chorus_ui.specs.declared.ui.Ui.{Ui}
 use Rattle.chorus_entry.specs.declared.answer.Answer.{Answer}
@@ -9,12 +9,11 @@ use Rattle.chorus_entry.specs.declared.id.MsgId.{MsgId}
 use Rattle.chorus_entry.specs.declared.message.Message.{Message}
 use Rattle.chorus_entry.specs.declared.act.Act.{Act}
 use Rattle.chorus_world.specs.declared.port.Spot.{Spot}
-use Rattle.chorus_world.specs.Views.{on}
-use Rattle.chorus_world.specs.Ports.{PortState, fate, waiting}
+use Rattle.chorus_world.specs.Ports.{PortState}
 use Rattle.chorus_world.specs.Always.{EachEntry}
 use Rattle.chorus_world.specs.DecisionLaws.{FullWithoutRoom, MeetsWhereHeld, StaleNamesLater, TellsTheVerdict}
 use Rattle.chorus_world.specs.SentLaws.{AcceptsWhatWasSent}
-use Rattle.chorus_world.proofs.Examples.Names.{actor, away, first, group, now, port, two_sites}
+use Rattle.chorus_world.proofs.Examples.Names.{actor, away, first, now, port, two_sites}
 
 abbrev made : List Entry
 made = now 1 (Act.Make port actor 2) ∷ []
