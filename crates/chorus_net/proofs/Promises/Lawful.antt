@@ -421,7 +421,9 @@ module _ (n : NetState) (past : List Entry) (shape : IsLayout n.layout) (s : Sta
     taken-some = subst (λ o. taken_from o ≤ length (accepted_from o)) made (receives_in_order n.layout past q shape legal).1
 
     capacity : (length f.accepted ≤ f.taken + f.capacity) × (1 ≤ f.capacity) × (f.capacity ≤ 64)
-    capacity = keeps_to_capacity n.layout past q f shape legal made
+    capacity =
+        let kept = keeps_to_capacity n.layout past shape legal q f made in
+        (kept.1, kept.2, kept.3)
 
     waits : length (map (message past) (drop f.taken f.accepted)) ≡ length f.accepted - f.taken
     waits = length-map (drop f.taken f.accepted) (message past) ∙ length-drop f.taken f.accepted

@@ -362,9 +362,9 @@ module _ (l : Layout) (past : List Entry) (e : Entry) (shape : IsLayout l) (lega
     message-fits (Full y q n) is h this =
         let v = views past e.place e.seat (Full y q n) in
         let full = full-is n (fate (on q past)) (and_parts (may_enter l v e.place y q) (is_full n (fate (on q past))) h).1 in
-        let cap = keeps_to_capacity l past q full.0 shape before full.1 in
-        let low = cap.1 in
-        let high = cap.2 in
+        let cap = keeps_to_capacity l past shape before q full.0 full.1 in
+        let low = cap.2 in
+        let high = cap.3 in
         let len = full.2 in
         plain (Full y q n) q (A.Full n) (λ z. refl) (due-now (Full y q n) q refl this refl h) (and_from (nat_le 1 n) (nat_le n 64) (le-leb 1 n (omega (arith, low, len))) (le-leb n 64 (omega (arith, high, len)))) tt refl tt
     message-fits (Already y q) is h this = plain (Already y q) q A.Already (λ z. refl) (due-now (Already y q) q refl this refl h) refl tt refl tt
