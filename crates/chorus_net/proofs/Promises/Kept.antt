@@ -32,12 +32,10 @@ use Rattle.chorus_world.proofs.Messages.VerdictLemmas.{decision_due}
 use Rattle.chorus_world.proofs.Messages.Posted.{IsPosted, filtered}
 use Rattle.chorus_world.proofs.Messages.PostLemmas.{post_stays}
 use Rattle.chorus_world.proofs.Sorted.Observers.{legal_laws}
-use Rattle.chorus_ports.specs.Deciding as ports
-use Rattle.chorus_entry.specs.Clients.{with_client, remembered}
+use Rattle.chorus_entry.specs.Clients.{with_client, remembered, is_one_too_many, raised}
 use Rattle.chorus_world.proofs.Ports.MadePorts.{causal-older}
 use Rattle.chorus_world.proofs.Messages.Ranged.{all-fit, due-ranged}
 use Rattle.chorus_net.proofs.Standing.Grows.{clients-grow}
-use Rattle.trial_law.proofs.ClientFacts.{keeps-clients}
 use Rattle.chorus_net.proofs.Promises.Posts.{PostsFit, post-fits}
 
 -- What was accepted.
@@ -146,11 +144,16 @@ some-pushed c n (k ∷ ks) le h =
 with-fits : (c n : ℕ) (ks : List (ℕ × ℕ)) → 1 ≤ n → not (is_some (number_of ks c)) && nat_le CLIENTS_LIMIT (length ks) ≡ false → TableFits ks → TableFits (with_client ks c n)
 with-fits c n ks le room f = go (is_some (number_of ks c)) refl
   where
-    go : (b : Bool) → is_some (number_of ks c) ≡ b → TableFits (if b then with_number ks c n else ks ++ (c, n) ∷ [])
+    high : (o : Option ℕ) → 1 ≤ raised n o
+    high None = le
+    high (Some k) = omega (arith, le)
+
+    go : (b : Bool) → is_some (number_of ks c) ≡ b → TableFits (if b then with_number ks c (raised n (number_of ks c)) else ks ++ (c, n) ∷ [])
     go true t =
-        let same : length (with_number ks c n) ≡ length ks = length-map ks (renumbered c n) in
+        let m = raised n (number_of ks c) in
+        let same : length (with_number ks c m) ≡ length ks = length-map ks (renumbered c m) in
         let few = f.few in
-        record { few = omega (arith, same, few); distinct = distinct-still c n ks ∙ f.distinct; some = some-renumbered c n ks le f.some }
+        record { few = omega (arith, same, few); distinct = distinct-still c m ks ∙ f.distinct; some = some-renumbered c m ks (high (number_of ks c)) f.some }
     go false t =
         let more = length_push ks (c, n) in
         let open_still : nat_le 64 (length ks) ≡ false = sym (ap (λ b. not b && nat_le 64 (length ks)) t) ∙ room in
@@ -189,7 +192,7 @@ module _ (l : Layout) (past : List Entry) (e : Entry) (q : Ui) (shape : IsLayout
           let fits = post-fits x past posted.0 all posted.1 in
           let tag_fits = (and_parts (has_range_of_tag (posted.0).message.tag) (nat_le (length (posted.0).message.body) 4096) (and_parts (has_range_of_tag (posted.0).message.tag && nat_le (length (posted.0).message.body) 4096) (demands_a_site (posted.0).dest) fits).0).0 in
           let some = leb-true 1 k (ap has_range_of_tag (sym was ∙ ap tag_from posted.1) ∙ tag_fits) in
-          let room : ports.is_one_too_many x.seat (tags.Request k back) (clients_kept past (on q past)) ≡ false = ap (λ g. ports.is_one_too_many x.seat g (clients_kept past (on q past))) (sym was) ∙ (keeps-clients l past q x shape before posted).too_many ∙ full in
+          let room : is_one_too_many x.seat (tags.Request k back) (clients_kept past (on q past)) ≡ false = ap (λ g. is_one_too_many x.seat g (clients_kept past (on q past))) (sym was) ∙ full in
           subst (λ z. TableFits (remembered x.seat z (clients_kept past (on q past)))) (sym t) (with-fits x.seat k (clients_kept past (on q past)) some room old)
   table-step a is = old
 

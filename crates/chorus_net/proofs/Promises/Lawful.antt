@@ -73,13 +73,12 @@ use Rattle.chorus_net.specs.Records.{message, record_for, record_held, record_he
 use Rattle.chorus_net.specs.UnderWay.{carries, moves, is_with, other_place, far_place, route_in, route, transfer_in, transfer_of, transfer}
 use Rattle.chorus_net.specs.Stands.{Stands, actor_of}
 use Rattle.chorus_net.proofs.Standing.Grows.{message-id}
-use Rattle.chorus_net.proofs.Standing.Turning.{layout-is}
+use Rattle.chorus_net.proofs.Standing.Turning.{layout-is, number-is}
 use Rattle.chorus_net.proofs.Links.UnderWays.{Seen, SeesTry, sees-try}
 use Rattle.chorus_net.proofs.Groups.Asking.{SeesAsk, sees-ask}
 use Rattle.chorus_net.proofs.Packets.Reporting.{SeesReport, sees-report, asking}
-use Rattle.chorus_net.proofs.Ports.Arriving.{line-named}
+use Rattle.chorus_world.proofs.Ports.PortNames.{line-named}
 use Rattle.chorus_net.specs.Tasks.{IsBetweenPlaces}
-use Rattle.chorus_net.proofs.Holdings.Shows.{place-number as number-at}
 use Rattle.chorus_net.proofs.Holdings.Packets.{IsIn, IsOn, first-is-on, in-view, moving-to}
 use Rattle.chorus_net.proofs.Holdings.Passing.{packets-between}
 use Rattle.chorus_net.proofs.Draining.Fronts.{legal-past, seen-here, IsTold, is-told, told-queue}
@@ -217,7 +216,7 @@ module _ (n : NetState) (past : List Entry) (shape : IsLayout n.layout) (s : Sta
   layout_at = layout-is n b s.places
 
   number_at : (place b n).number ≡ b
-  number_at = number-at n.layout b n.places
+  number_at = number-is n.layout b n.places
 
   legal : is_legal n.layout past ≡ true
   legal = legal-past n past shape s

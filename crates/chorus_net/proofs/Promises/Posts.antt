@@ -45,7 +45,7 @@ use Rattle.chorus_place.specs.PlaceState.{PlaceState, Turn, next_entry}
 use Rattle.chorus_place.specs.Own.{own, next_port, next_group, take_act, move_act, delete_act, held_by, call_act, retry_act, cancel_act, reply_act, next_message}
 use Rattle.chorus_place.specs.PlaceMachine.{begun_by, act, work}
 use Rattle.chorus_net.specs.Packets.{first_on}
-use Rattle.chorus_net.specs.Network.{NetState, Event, Enter, Act, Deliver, place, turn_for, schedule}
+use Rattle.chorus_net.specs.Network.{NetState, Event, Enter, Act as Acts, Deliver, place, turn_for, schedule}
 use Rattle.chorus_net.specs.Records.{as_called, outstanding_as, outstanding}
 use Rattle.chorus_net.specs.Stands.{Stands}
 use Rattle.chorus_net.specs.Schedules.{has_number_left, may_give, may_happen, may_be}
@@ -265,10 +265,9 @@ module _ (l : Layout) (shape : IsLayout l) where
   given-fits es k c (Some caller) may e gives all =
       let n = schedule l es in
       let t = turn_for c caller n in
-      let three = and_parts (meets_conditions c && has_kinds_in_command c && has_body_in_limit c) (has_number_left caller c) gives in
-      let two = and_parts (meets_conditions c && has_kinds_in_command c) (has_body_in_limit c) three.0 in
-      let one = and_parts (meets_conditions c) (has_kinds_in_command c) two.0 in
-      let own_fits = own-post-fits n (history l es) (in-order l es shape may).0 all k caller e c one.0 two.1 in
+      let both = and_parts (meets_conditions c && has_body_in_limit c) (has_number_left caller c) gives in
+      let one = and_parts (meets_conditions c) (has_body_in_limit c) both.0 in
+      let own_fits = own-post-fits n (history l es) (in-order l es shape may).0 all k caller e c one.0 one.1 in
       let g = act-goes c t in
       subst (All PostsFit) (sym (said-act c t))
       (All-append PostsFit g.newer (next_entry (own c t) t ∷ []) (follow-fits g.newer g.follow) (All-cons PostsFit (next_entry (own c t) t) [] own_fits (All-nil PostsFit)))
@@ -286,10 +285,10 @@ module _ (l : Layout) (shape : IsLayout l) where
   pub history-fits : (es : List Event) → may_be l es ≡ true → All PostsFit (history l es)
   history-fits [] may = All-nil PostsFit
   history-fits (Enter actor last ∷ es) may = history-fits es (and_parts (may_happen (Enter actor last) (schedule l es)) (may_be l es) may).1
-  history-fits (Act k c ∷ es) may =
-      let two = and_parts (may_happen (Act k c) (schedule l es)) (may_be l es) may in
+  history-fits (Acts k c ∷ es) may =
+      let two = and_parts (may_happen (Acts k c) (schedule l es)) (may_be l es) may in
       let old = history-fits es two.1 in
-      All-append PostsFit (said_by (Act k c) (schedule l es)) (history l es) (given-fits es k c (slice_get (schedule l es).callers k) two.1 refl two.0 old) old
+      All-append PostsFit (said_by (Acts k c) (schedule l es)) (history l es) (given-fits es k c (slice_get (schedule l es).callers k) two.1 refl two.0 old) old
   history-fits (Deliver k a b ∷ es) may =
       let two = and_parts (may_happen (Deliver k a b) (schedule l es)) (may_be l es) may in
       All-append PostsFit (said_by (Deliver k a b) (schedule l es)) (history l es) (delivered-fits a b (slice_get (schedule l es).callers k) (schedule l es)) (history-fits es two.1)
