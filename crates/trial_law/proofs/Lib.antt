@@ -1,0 +1,15 @@
+pub mod Grows
+pub mod InTurn
+pub mod Says
+pub mod Keys
+pub mod Queues
+pub mod Tables
+pub mod Callers
+pub mod StillCallers
+pub mod Families
+pub mod PacketViews
+pub mod Saying
+pub mod Steps
+pub mod Turning
+pub mod Entering
+pub mod Abouts
