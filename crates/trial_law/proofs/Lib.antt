@@ -13,3 +13,10 @@ pub mod Steps
 pub mod Turning
 pub mod Entering
 pub mod Abouts
+pub mod HeldPorts
+pub mod Onward
+pub mod Waiting
+pub mod Reports
+pub mod UnderWays
+pub mod Trying
+pub mod Going

@@ -123,21 +123,18 @@ module _ (l : Layout) (past : List Entry) (e : Entry) (k : Key) (all : AllPosted
       ap (filter (is_left e.act))
       (keeps-all (λ (m : Sent). not (is_settled m.id here)) (sent_by e.act)
       (each-map (λ (m : Sent). is_settled m.id here ≡ false) (λ (m : Sent). not (is_settled m.id here) ≡ true) (λ m h. ap not h) (sent_by e.act)
-      (sent-fresh l past p e.seat (λ x. legal_messages l past before x) e.act (legal_parts l e past legal).0)))
+      (sent-fresh l past e.clock p e.seat (λ x. legal_messages l past before x) e.act (legal_parts l e past legal).0)))
       ∙ none e.act
     where
-      none : (a : Act) → filter (is_left a) (sent_by a) ≡ sent_by a
-      none a = by-act a
-
       same : (a : Act) (ms : List Sent) → is_settling a ≡ false → filter (is_left a) ms ≡ ms
       same a [] h = refl
       same a (m ∷ ms) h =
           ap (λ b. cond (not (b && are_same same_id (Some m.id) (message_of a))) (m ∷ filter (is_left a) ms) (filter (is_left a) ms)) h ∙ ap (λ ns. m ∷ ns) (same a ms h)
 
-      by-act : (a : Act) → filter (is_left a) (sent_by a) ≡ sent_by a
-      by-act (Act.Post m d) = same (Act.Post m d) (sent_by (Act.Post m d)) refl
-      by-act (Act.Choose x g qs) = same (Act.Choose x g qs) (sent_by (Act.Choose x g qs)) refl
-      by-act a = refl
+      none : (a : Act) → filter (is_left a) (sent_by a) ≡ sent_by a
+      none (Act.Post m d) = same (Act.Post m d) (sent_by (Act.Post m d)) refl
+      none (Act.Choose x g qs) = same (Act.Choose x g qs) (sent_by (Act.Choose x g qs)) refl
+      none a = refl
 
   sent-after : sent_for (e ∷ past) e.place k ≡ filter (is_left e.act) (sent_for past e.place k) ++ filter (is_for k) (sent_by e.act)
   sent-after =

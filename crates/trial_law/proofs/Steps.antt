@@ -1,5 +1,5 @@
 -- An entry of a turn, with the packets of the whole network: those that the turn left in it, and those that it put.
-use Rattle.std.proofs.Common.{◌≡◌, true, false, List, [], ◌∷◌, ◌++◌, map, None, refl, sym, subst}
+use Rattle.std.proofs.Common.{◌≡◌, true, false, List, [], ◌∷◌, ◌++◌, map, Some, None, refl, sym, ap, subst}
 use Rattle.chorus_entry.specs.declared.entry.Entry.{Entry}
 use Rattle.chorus_entry.specs.declared.id.MsgId.{MsgId}
 use Rattle.chorus_entry.specs.declared.act.Act.{Act}
@@ -69,10 +69,6 @@ module _ (n : NetState) (us : List Outgoing) (past : List Entry) (t : Turn) (w :
   -- the past is legal with an entry that may be said
   pub legal-with : (a : Act) → MaySay past t a → is_legal t.place.layout (next_entry a t ∷ past) ≡ true
   legal-with = legal-next n now past t w
-
-  -- where a place locates ports
-  pub known-here : IsKnown t.place.layout t.place.known (at t.place.number past)
-  known-here = w.here.known
 
   -- the tables of the place, where the act teaches, sends and posts nothing, is not heard, and is about no message that waits here
   pub tables-still : (a : Act) → MaySay past t a → teaches a ≡ false → sent_by a ≡ [] → posts_or_hears a ≡ false

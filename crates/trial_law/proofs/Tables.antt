@@ -109,17 +109,17 @@ unheard-posted l past e f m d act none =
 -- another place
 pub unheard-elsewhere : (l : Layout) (past : List Entry) (e : Entry) (p : ℕ) (f : MsgId → Bool) → (e.place == p) ≡ false → IsUnheard l past p f → IsUnheard l (e ∷ past) p f
 unheard-elsewhere l past e p f away =
-    unheard-keeps l past e p f (λ x. ap (is_heard x) (skips (is_at p) e past away)) (λ x d k. other d e.act k)
+    unheard-keeps l past e p f (λ x. ap (is_heard x) (skips (is_at p) e past away)) (λ x d k. other x d e.act k)
   where
-    other : {x : MsgId} (d : Posted) (a : Act) → posted_by (source x) e.place a ≡ Some d → is_asked_from l p (Some d) ≡ false
-    other {x} d (acts.Post m g) k = go (same_id m.id (source x)) k
+    other : (x : MsgId) (d : Posted) (a : Act) → posted_by (source x) e.place a ≡ Some d → is_asked_from l p (Some d) ≡ false
+    other x d (acts.Post m g) k = go (same_id m.id (source x)) k
       where
         go : (b : Bool) → cond b (Some (record { place = e.place; message = m; dest = g })) None ≡ Some d → is_asked_from l p (Some d) ≡ false
         go true h =
             let same : record { place = e.place; message = m; dest = g } ≡ d = cc in
             ap (λ (z : Posted). is_asked_from l p (Some z)) (sym same) ∙ ap (λ b. b && is_asking_place l p (group_in g)) away
         go false h = (let bad : None ≡ Some d = h in absurd (cc))
-    other {x} d a k = (let bad : None ≡ Some d = k in absurd (cc))
+    other x d a k = (let bad : None ≡ Some d = k in absurd (cc))
 
 -- What waits.
 

@@ -158,7 +158,7 @@ pub ids-apart : (l : Layout) (q : Ui) (r : Option Ui) (p : ℕ) (past : List Ent
 ids-apart l q r p past legal =
     filter-apart (goes_for q r) (unsettled (at p past) (sent (at p past))) (filter-apart (λ (m : Sent). not (is_settled m.id (at p past))) (sent (at p past)) (sent-apart l past p legal))
 
-goes-parts : (q : Ui) (r : Option Ui) (m : Sent) → goes_for q r m ≡ true → (m.port ≡ q) × (m.route ≡ r)
+pub goes-parts : (q : Ui) (r : Option Ui) (m : Sent) → goes_for q r m ≡ true → (m.port ≡ q) × (m.route ≡ r)
 goes-parts q r m h =
     let two = and_parts (same_ui m.port q) (same_route m.route r) h in (from_same_ui m.port q two.0, route-is m.route r two.1)
 
