@@ -31,7 +31,8 @@ use Rattle.trial_law.proofs.Families.{transfer-other}
 use Rattle.trial_law.proofs.Steps.{Stood, laws, ports-still}
 use Rattle.trial_law.proofs.Waiting.{GoesFirst, goes-first-now}
 use Rattle.trial_law.proofs.Onward.{stay, then}
-use Rattle.trial_law.proofs.Trying.{Calm, LeadsOn, Fits, is_decision_answer, tries-at-stands, settles-here-stands}
+use Rattle.trial_law.proofs.Leading.{Calm, LeadsOn}
+use Rattle.trial_law.proofs.Trying.{Fits, is_decision_answer, tries-at-stands, settles-here-stands}
 
 -- an answer that stands on the line of no port
 pub record IsAway (a : Answer) : Type 0 where

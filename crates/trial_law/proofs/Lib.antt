@@ -20,3 +20,8 @@ pub mod Reports
 pub mod UnderWays
 pub mod Trying
 pub mod Going
+pub mod Leading
+pub mod Given
+pub mod Deciding
+pub mod ClientFacts
+pub mod Events

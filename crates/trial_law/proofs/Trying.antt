@@ -27,7 +27,6 @@ use Rattle.chorus_world.specs.Runs.{fits_caller}
 use Rattle.chorus_world.specs.Steps.{is_beyond, is_to_go, may_stand_behind}
 use Rattle.chorus_world.specs.SortingLaws.{LooksAtHome}
 use Rattle.chorus_world.proofs.Local.{local_views, act_may_here}
-use Rattle.chorus_world.proofs.SendingLemmas.{at_same}
 use Rattle.chorus_waits.specs.declared.line.Key.{Key}
 use Rattle.chorus_waits.specs.declared.line.Wait.{Wait}
 use Rattle.chorus_waits.specs.Lines.{changed, passed}
@@ -47,26 +46,11 @@ use Rattle.trial_law.proofs.StillCallers.{caller-still, no-port-clock, moves_cal
 use Rattle.trial_law.proofs.Tables.{teaches, posts_or_hears, known-still, unheard-still}
 use Rattle.trial_law.proofs.Steps.{Stood, says, ports-still}
 use Rattle.trial_law.proofs.Abouts.{IsAbout, moves-none, moves-put, packets-at, packets-about}
-use Rattle.trial_law.proofs.Onward.{Onward, step}
+use Rattle.trial_law.proofs.Onward.{step}
+use Rattle.trial_law.proofs.Leading.{Calm, LeadsOn, rests-behind, behind-calm}
 use Rattle.trial_law.proofs.Waiting.{GoesFirst, waiting-passes, waiting-tells}
 use Rattle.trial_law.proofs.Reports.{reports-from, report-moves, report-view}
 use Rattle.trial_world_facts.proofs.Growing.{post-grows}
-
--- the network stands, and no reply was just taken at the place
-pub record Calm (n : NetState) (us : List Outgoing) (past : List Entry) (t : Turn) : Type 0 where
-  pub stood : Stood n us past t
-  pub rests : just_taken past (at t.place.number past) ≡ None
-
--- with new entries in front of the past
-abbrev pub LeadsOn : NetState → List Outgoing → List Entry → Turn → Type 0
-LeadsOn n us past t = Onward (λ now. Calm n us now t) past
-
--- behind an act that takes nothing no reply was just taken
-pub rests-behind : (past : List Entry) (t : Turn) (a : Act) → reply_taken_by (next_entry a t ∷ past) t.caller.seat a ≡ None → just_taken (next_entry a t ∷ past) (at t.place.number (next_entry a t ∷ past)) ≡ None
-rests-behind past t a h = ap (just_taken (next_entry a t ∷ past)) (at_same t.place.number (next_entry a t) past refl) ∙ h
-
-pub behind-calm : (past : List Entry) (p : ℕ) (a : Act) → just_taken past (at p past) ≡ None → may_stand_behind (just_taken past (at p past)) a ≡ true
-behind-calm past p a h = ap (λ o. may_stand_behind o a) h
 
 pub about-try : (m : Message) (q : Ui) (r : Option Ui) (only : Option ℕ) (hop : ℕ) → IsAbout m.id (cargos.Try m q r only hop)
 about-try m q r only hop = record { this = same_id-self m.id; others = λ z n. n; plain = refl; still = λ f. refl }
