@@ -10,7 +10,7 @@ use Rattle.chorus_ui.specs.declared.kind.Kind.TheVariants.{Actor, Port, Group}
 use Rattle.chorus_ui.specs.declared.ui.Ui.{Ui}
 use Rattle.chorus_ui.specs.Kind.{kind_number}
 use Rattle.chorus_ui.specs.Name.{name_cmp, same_ui}
-use Rattle.chorus_ui.proofs.Names.{from_same_ui}
+use Rattle.chorus_ui.proofs.Names.{from_same_ui, same_ui-self}
 use Rattle.chorus_world.specs.declared.place.Sent.{Sent}
 use Rattle.chorus_world.specs.Places.{same_route}
 use Rattle.chorus_waits.specs.declared.line.Key.{Key}
@@ -76,3 +76,7 @@ for-other k j m h n = go (is_for j m) refl
     go true e =
         let same : k ≡ j = key-of k m h ∙ sym (key-of j m e) in
         absurd (true≢false (sym (same_key-refl k) ∙ (ap (same_key k) same ∙ n)))
+
+pub same_route-self : (r : Option Ui) → same_route r r ≡ true
+same_route-self None = refl
+same_route-self (Some g) = same_ui-self g

@@ -25,3 +25,5 @@ pub mod Given
 pub mod Deciding
 pub mod ClientFacts
 pub mod Events
+pub mod Receiving
+pub mod Delivering
