@@ -29,7 +29,8 @@ use Rattle.chorus_waits.specs.Lines.{Queue, changed, same_key}
 use Rattle.trial_net.specs.Records.{is_for, hears, is_heard, is_unheard, queue_at}
 use Rattle.trial_net.proofs.Learning.{IsKnown, known-stays}
 use Rattle.trial_net.proofs.Hearing.{IsUnheard}
-use Rattle.trial_law.proofs.Keys.{same_key-is, for-other}
+use Rattle.trial_law.proofs.Keys.{for-other}
+use Rattle.trial_place.proofs.Keys.{same_key-is}
 use Rattle.trial_law.proofs.Queues.{queue-stays}
 
 -- the act teaches where a port is
