@@ -27,3 +27,4 @@ pub mod ClientFacts
 pub mod Events
 pub mod Receiving
 pub mod Delivering
+pub mod HavePlaces

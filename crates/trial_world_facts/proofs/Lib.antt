@@ -6,3 +6,4 @@ pub mod SentFacts
 pub mod StageFacts
 pub mod Untried
 pub mod Firsts
+pub mod Sites
