@@ -28,3 +28,6 @@ pub mod Events
 pub mod Receiving
 pub mod Delivering
 pub mod HavePlaces
+pub mod Home
+pub mod Posting
+pub mod CallerCommands

@@ -7,3 +7,4 @@ pub mod StageFacts
 pub mod Untried
 pub mod Firsts
 pub mod Sites
+pub mod CallFacts
