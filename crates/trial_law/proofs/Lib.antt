@@ -31,3 +31,5 @@ pub mod HavePlaces
 pub mod Home
 pub mod Posting
 pub mod CallerCommands
+pub mod GroupFacts
+pub mod Choosing

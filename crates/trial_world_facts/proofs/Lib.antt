@@ -8,3 +8,4 @@ pub mod Untried
 pub mod Firsts
 pub mod Sites
 pub mod CallFacts
+pub mod GroupNames
