@@ -27,3 +27,6 @@ pub mod ClientFacts
 pub mod Events
 pub mod Receiving
 pub mod Delivering
+pub mod Making
+pub mod Commands
+pub mod HavePlaces
