@@ -30,3 +30,6 @@ pub mod Delivering
 pub mod Making
 pub mod Commands
 pub mod HavePlaces
+pub mod PortCommands
+pub mod Taking
+pub mod AtPorts
