@@ -33,3 +33,4 @@ pub mod HavePlaces
 pub mod PortCommands
 pub mod Taking
 pub mod AtPorts
+pub mod Arriving
