@@ -34,3 +34,4 @@ pub mod PortCommands
 pub mod Taking
 pub mod AtPorts
 pub mod Arriving
+pub mod Reporting
