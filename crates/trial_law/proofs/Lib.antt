@@ -35,3 +35,8 @@ pub mod Taking
 pub mod AtPorts
 pub mod Arriving
 pub mod Reporting
+pub mod Home
+pub mod Posting
+pub mod CallerCommands
+pub mod GroupFacts
+pub mod Choosing

@@ -6,3 +6,6 @@ pub mod SentFacts
 pub mod StageFacts
 pub mod Untried
 pub mod Firsts
+pub mod Sites
+pub mod CallFacts
+pub mod GroupNames
