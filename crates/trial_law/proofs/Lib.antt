@@ -27,7 +27,14 @@ pub mod ClientFacts
 pub mod Events
 pub mod Receiving
 pub mod Delivering
+pub mod Making
+pub mod Commands
 pub mod HavePlaces
+pub mod PortCommands
+pub mod Taking
+pub mod AtPorts
+pub mod Arriving
+pub mod Reporting
 pub mod Home
 pub mod Posting
 pub mod CallerCommands
