@@ -155,6 +155,10 @@ module _  (n : NetState) (us : List Outgoing) (past : List Entry) (t : Turn) (fr
   far : far_place t.place.layout from (group_in d) ≡ Some t.place.number
   far = ap (λ z. far_place t.place.layout z (group_in d)) (sym sender) ∙ (sees.far ∙ ap (λ z. Some z) s.to)
 
+  -- it goes to a group
+  pub asks-group : group_in d ≡ None → ⊥
+  asks-group none = let bad : None ≡ Some t.place.number = sym (ap (far_place l from) none) ∙ far in cc
+
   under : Stage m.id past (Asked from d)
   under = subst (Stage m.id past) stage (facts n us past t w m.id).stage
 

@@ -41,3 +41,4 @@ pub mod CallerCommands
 pub mod GroupFacts
 pub mod Choosing
 pub mod Asking
+pub mod Cases
