@@ -118,7 +118,7 @@ posts-same f b past e h = go (is_at b e)
     go true = ap (λ xs. posts_to f (at b past) ++ xs) h ∙ append-nil (posts_to f (at b past))
     go false = refl
 
-module _  (n : NetState) (us : List Outgoing) (past : List Entry) (t : Turn) (from : ℕ) (k : Packet) (i : Comes n us past t from k) (m : Message) (d : Dest) (c : k.cargo ≡ cargos.Ask m d) where
+module _ (n : NetState) (us : List Outgoing) (past : List Entry) (t : Turn) (from : ℕ) (k : Packet) (i : Comes n us past t from k) (m : Message) (d : Dest) (c : k.cargo ≡ cargos.Ask m d) where
   abbrev w : Stood n us past t
   w = i.calm.stood
 
