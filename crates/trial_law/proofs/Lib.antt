@@ -42,3 +42,4 @@ pub mod GroupFacts
 pub mod Choosing
 pub mod Asking
 pub mod Cases
+pub mod GroupPosting
