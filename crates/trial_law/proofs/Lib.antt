@@ -40,3 +40,4 @@ pub mod Posting
 pub mod CallerCommands
 pub mod GroupFacts
 pub mod Choosing
+pub mod GroupPosting

@@ -88,7 +88,7 @@ sees-report l past x c (Settled a) o v h e = go (post_of x past) refl h
 sees-report l past x c Reported o v h e = absurd (cc)
 
 -- a place asks elsewhere for a post where its far place is there
-asking : (l : Layout) (home p : ℕ) (g : Option Ui) → far_place l home g ≡ Some p → is_asking_place l home g ≡ true
+pub asking : (l : Layout) (home p : ℕ) (g : Option Ui) → far_place l home g ≡ Some p → is_asking_place l home g ≡ true
 asking l home p None h = absurd (cc)
 asking l home p (Some g) h = by (group_place l g) h
   where
