@@ -68,8 +68,8 @@ module _ (n : NetState) (us : List Outgoing) (past : List Entry) (t : Turn) wher
     there h k =
         let a = acts.There g q in
         notes-on n us past t w rests a refl refl refl refl refl refl refl (λ now. refl) kinds
-              (and_from (is_group_at t.place.layout (local_views past past p t.caller.seat a) p g) (is_member q (members g (at p past)))
-              (is-here h) (ap (λ v. is_member q (members g v)) (sym w.here.journal) ∙ k)) refl tt
+        (and_from (is_group_at t.place.layout (local_views past past p t.caller.seat a) p g) (is_member q (members g (at p past)))
+        (is-here h) (ap (λ v. is_member q (members g v)) (sym w.here.journal) ∙ k)) refl tt
 
     members-full : is_group g t.place.journal ≡ true → nat_le MEMBERS_LIMIT (length (members g t.place.journal)) ≡ true → Goal (acts.MembersFull g)
     members-full h k =
@@ -78,8 +78,8 @@ module _ (n : NetState) (us : List Outgoing) (past : List Entry) (t : Turn) wher
         let least = leb-true MEMBERS_LIMIT (length (members g (at p past))) (ap (λ v. nat_le MEMBERS_LIMIT (length (members g v))) (sym w.here.journal) ∙ k) in
         let same : length (members g (at p past)) ≡ MEMBERS_LIMIT = omega (arith, most, least) in
         notes-on n us past t w rests a refl refl refl refl refl refl refl (λ now. refl) names-group
-              (and_from (is_group_at t.place.layout (local_views past past p t.caller.seat a) p g) (length (members g (at p past)) == MEMBERS_LIMIT)
-              (is-here h) (eq-eqb (length (members g (at p past))) MEMBERS_LIMIT same)) refl tt
+        (and_from (is_group_at t.place.layout (local_views past past p t.caller.seat a) p g) (length (members g (at p past)) == MEMBERS_LIMIT)
+        (is-here h) (eq-eqb (length (members g (at p past))) MEMBERS_LIMIT same)) refl tt
 
     joins : is_group g t.place.journal ≡ true → is_member q (members g t.place.journal) ≡ false → nat_le MEMBERS_LIMIT (length (members g t.place.journal)) ≡ false → Goal (acts.Join g q)
     joins h k room =
@@ -87,10 +87,10 @@ module _ (n : NetState) (us : List Outgoing) (past : List Entry) (t : Turn) wher
         let v = local_views past past p t.caller.seat a in
         let less : length (members g (at p past)) < MEMBERS_LIMIT = not-le MEMBERS_LIMIT (length (members g (at p past))) (ap (λ z. nat_le MEMBERS_LIMIT (length (members g z))) (sym w.here.journal) ∙ room) in
         notes-on n us past t w rests a refl refl refl refl refl refl refl (λ now. refl) kinds
-              (and_from (is_group_at t.place.layout v p g && not (is_member q (members g (at p past)))) (nat_lt (length (members g (at p past))) MEMBERS_LIMIT)
-              (and_from (is_group_at t.place.layout v p g) (not (is_member q (members g (at p past))))
-              (is-here h) (ap (λ z. not (is_member q (members g z))) (sym w.here.journal) ∙ ap not k))
-              (lt-ltb (length (members g (at p past))) MEMBERS_LIMIT less)) refl tt
+        (and_from (is_group_at t.place.layout v p g && not (is_member q (members g (at p past)))) (nat_lt (length (members g (at p past))) MEMBERS_LIMIT)
+        (and_from (is_group_at t.place.layout v p g) (not (is_member q (members g (at p past))))
+        (is-here h) (ap (λ z. not (is_member q (members g z))) (sym w.here.journal) ∙ ap not k))
+        (lt-ltb (length (members g (at p past))) MEMBERS_LIMIT less)) refl tt
 
     joins-or-not : LeadsOn n us past (act (commands.Join g q) t)
     joins-or-not = by (is_group g t.place.journal) (is_member q (members g t.place.journal)) (nat_le MEMBERS_LIMIT (length (members g t.place.journal))) refl refl refl
@@ -162,7 +162,7 @@ module _ (n : NetState) (us : List Outgoing) (past : List Entry) (t : Turn) wher
         let room = not-le GROUPS_PER_SITE (groups_made t.place.journal) k in
         let few : g.number ≤ GROUPS_PER_SITE = omega (arith, room) in
         let here : is_group_place t.place.layout g p ≡ true =
-            ap (λ b. is_number p (if b then Some (first_place t.place.layout site) else None)) h ∙ eq-eqb (first_place t.place.layout site) p (at-first h) in
+        ap (λ b. is_number p (if b then Some (first_place t.place.layout site) else None)) h ∙ eq-eqb (first_place t.place.layout site) p (at-first h) in
         notes-on n us past t v i.rests a refl refl refl refl refl refl refl (λ now. refl) refl
         (and_from (is_group_place t.place.layout g p && (g.number == groups_made (at p past) + 1)) (nat_le g.number GROUPS_PER_SITE)
         (and_from (is_group_place t.place.layout g p) (g.number == groups_made (at p past) + 1) here (eq-eqb g.number (groups_made (at p past) + 1) number))

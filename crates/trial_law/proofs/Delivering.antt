@@ -79,7 +79,7 @@ use Rattle.trial_world_facts.proofs.Growing.{post-grows}
 pub about-verdict : (x : MsgId) (q : Ui) (r : Option Ui) (a : Answer) → IsAbout x (cargos.Verdict x q r a)
 about-verdict x q r a = record { this = same_id-self x; others = λ z n. n; plain = refl; still = λ f. refl }
 
-module _ (keeps_clients : KeepsClients)  (n : NetState) (us : List Outgoing) (past : List Entry) (t : Turn) (from : ℕ) (k : Packet) (i : Comes n us past t from k) where
+module _ (keeps_clients : KeepsClients) (n : NetState) (us : List Outgoing) (past : List Entry) (t : Turn) (from : ℕ) (k : Packet) (i : Comes n us past t from k) where
   abbrev w : Stood n us past t
   w = i.calm.stood
 
@@ -153,24 +153,24 @@ module _ (keeps_clients : KeepsClients)  (n : NetState) (us : List Outgoing) (pa
       let apart : (j : Sent) → sent_as j.id p past ≡ Some j → is_about (Some j.id) en ≡ false =
       (λ j found. sent-elsewhere x k.from under.1.message under.1.is stages.1.1 act dec.message j found (is_about (Some j.id) en) refl) in
       step (λ z. Calm n rest z (answers_try k.from m q r h a t)) en past
-        (record {
-          stood = takes-says n us rest past t act (record (unchanged t) { ports = records_after a m q t.place.ports; loads = (k.from, cargos.Verdict x q r a) ∷ [] }) i.none w
-              (record {
-                may = says-may;
-                caller = caller-still past t act dec.caller w.caller;
-                ports = f.ports;
-                tables = record {
-                  known = known-still l t.place.known en (at p past) dec.teaches w.here.known;
-                  waiting = waiting-still l past en t.place.waiting (laws n us past t w).posted (legal-with n us past t w act says-may) w.here.waiting dec.sends apart;
-                  unheard = unheard-still l past en t.place.unheard dec.posts w.here.unheard;
-                };
-                packets = packets-at n us past t w x act (put v rest) dec.message dec.asks moved
-                    (λ u. moved.ports u ∙ (w.packets.transfers u ∙ sym (f.transfers u)))
-                    (put-in (is_of x) v rest (same_id-self x) s.rest
-                    ∙ sym (ap (under_way_as l (en ∷ past) x (next_clock t)) now ∙ ap (λ z. packet p k.from (next_clock t) (cargos.Verdict x q z a) ∷ []) route-is));
-              });
-          rests = rests-behind past t act (dec.takes (en ∷ past) t.caller.seat);
-        })
+      (record {
+        stood = takes-says n us rest past t act (record (unchanged t) { ports = records_after a m q t.place.ports; loads = (k.from, cargos.Verdict x q r a) ∷ [] }) i.none w
+            (record {
+              may = says-may;
+              caller = caller-still past t act dec.caller w.caller;
+              ports = f.ports;
+              tables = record {
+                known = known-still l t.place.known en (at p past) dec.teaches w.here.known;
+                waiting = waiting-still l past en t.place.waiting (laws n us past t w).posted (legal-with n us past t w act says-may) w.here.waiting dec.sends apart;
+                unheard = unheard-still l past en t.place.unheard dec.posts w.here.unheard;
+              };
+              packets = packets-at n us past t w x act (put v rest) dec.message dec.asks moved
+                  (λ u. moved.ports u ∙ (w.packets.transfers u ∙ sym (f.transfers u)))
+                  (put-in (is_of x) v rest (same_id-self x) s.rest
+                  ∙ sym (ap (under_way_as l (en ∷ past) x (next_clock t)) now ∙ ap (λ z. packet p k.from (next_clock t) (cargos.Verdict x q z a) ∷ []) route-is));
+            });
+        rests = rests-behind past t act (dec.takes (en ∷ past) t.caller.seat);
+      })
 
   -- a Verdict
   pub verdict-stands : (x : MsgId) (q : Ui) (r : Option Ui) (a : Answer) → k.cargo ≡ cargos.Verdict x q r a → LeadsOn n (rest_on from t.place.number us) past (hears_verdict x (record { port = q; route = r }) a t)

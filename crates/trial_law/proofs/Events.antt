@@ -37,7 +37,7 @@ use Rattle.trial_law.proofs.Given.{IsGiven, Comes}
 -- What is owed: each command, each packet, and that a command's place is one of the layout.
 abbrev pub CommandsStand : Type 0
 CommandsStand =
-    (n : NetState) (us : List Outgoing) (past : List Entry) (t : Turn) (c : Command) → t.puts ≡ [] → IsGiven n us past t c → has_number_left t.caller c ≡ true → LeadsOn n us past (act c t)
+    (n : NetState) (us : List Outgoing) (past : List Entry) (t : Turn) (c : Command) → t.puts ≡ [] → IsGiven n us past t c → ReadyHere t → has_number_left t.caller c ≡ true → LeadsOn n us past (act c t)
 
 abbrev pub PacketsStand : Type 0
 PacketsStand =
@@ -141,7 +141,7 @@ module _ (commands : CommandsStand) (packets : PacketsStand) (have_places : Comm
         kinds = one.1;
       } in
       turned n n.packets (act c t) k past w r ((act-stays c t).seat ∙ is.seat)
-      (commands n n.packets past t c refl given three.1) (acts_ready c t (ready-now n past p caller w r))
+      (commands n n.packets past t c refl given (ready-now n past p caller w r) three.1) (acts_ready c t (ready-now n past p caller w r))
 
   worked-stands : (n : NetState) (past : List Entry) (k a b : ℕ) (caller : Seated) (o : Option Packet) → IsShape n.layout → Stands n past → IsReady n past → slice_get n.callers k ≡ Some caller → has_place n.layout b ≡ true → (a == b) ≡ false
       → first_on a b n.packets ≡ o → Stays (works_off k a b caller o n) past

@@ -41,3 +41,5 @@ pub mod CallerCommands
 pub mod GroupFacts
 pub mod Choosing
 pub mod GroupPosting
+pub mod Asking
+pub mod Cases

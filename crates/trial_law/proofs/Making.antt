@@ -89,15 +89,15 @@ module _ (n : NetState) (us : List Outgoing) (past : List Entry) (t : Turn) (act
       let ports = t.place.ports ++ r ∷ [] in
       let shows : r ≡ record_for (e ∷ past) (e ∷ line) q actor g = ap (λ v. record r { clients = clients_kept (e ∷ past) v }) (sym empty) in
       let may : MaySay past t a =
-          record {
-            kinds = i.kinds;
-            behind = behind-calm past p a i.rests;
-            may = fits-here;
-            fits = refl;
-            looks = tt;
-            message = no-message-clock past None (known_clock t) refl;
-            port = omega (arith, zero-is);
-          } in
+      record {
+        kinds = i.kinds;
+        behind = behind-calm past p a i.rests;
+        may = fits-here;
+        fits = refl;
+        looks = tt;
+        message = no-message-clock past None (known_clock t) refl;
+        port = omega (arith, zero-is);
+      } in
       leads-one n us past t (with_ports a ports t) a
       (says n us past t w a (record (unchanged t) { ports = ports })
       (record {

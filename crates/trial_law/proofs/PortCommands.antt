@@ -146,8 +146,8 @@ module _ (n : NetState) (us : List Outgoing) (past : List Entry) (t : Turn) (w :
       let is : rehomed actor r ≡ record_for (e ∷ past) (e ∷ line) q actor g = ap (rehomed actor) (old-record e) in
       let s = replaced n us past t w q r found e actor g (rehomed actor) (λ k. refl) refl refl refl refl z.place is in
       let may =
-          port-may a refl refl (and_from (names_port q) (names_actor actor) named kind)
-          (and_from (is_held_at p (fate line) && has_actor l actor) (actor.site == site_of l p) (and_from (is_held_at p (fate line)) (has_actor l actor) held-it there) site) held-by-caller tt in
+      port-may a refl refl (and_from (names_port q) (names_actor actor) named kind)
+      (and_from (is_held_at p (fate line) && has_actor l actor) (actor.site == site_of l p) (and_from (is_held_at p (fate line)) (has_actor l actor) held-it there) site) held-by-caller tt in
       says n us past t w a (record (unchanged t) { ports = replace q (rehomed actor) t.place.ports })
       (record {
         may = may;
@@ -238,11 +238,11 @@ module _ (n : NetState) (us : List Outgoing) (past : List Entry) (t : Turn) (w :
       let loads-are : transfer to actor hop (find q t.place.ports) ≡ (to, cargos.Transfer (migrated hop actor r)) ∷ [] = ap (transfer to actor hop) found in
       let name : r.ui ≡ q = name-now n us past t w q r found in
       let may =
-          port-may a refl refl (and_from (names_port q) (names_actor actor) named kind)
-            (and_from (is_held_at p (fate line) && has_actor l actor && not (actor.site == site_of l p) && (to == place_at l actor.site q)) (is_next_hop hop (fate line))
-            (and_from (is_held_at p (fate line) && has_actor l actor && not (actor.site == site_of l p)) (to == place_at l actor.site q)
-            (and_from (is_held_at p (fate line) && has_actor l actor) (not (actor.site == site_of l p)) (and_from (is_held_at p (fate line)) (has_actor l actor) held-it there) (ap not site)) (eq-eqb to (place_at l actor.site q) to-is))
-            (ap (is_next_hop hop) z.fate_is ∙ eq-eqb hop (length f.path) hop-is)) held-by-caller tt in
+      port-may a refl refl (and_from (names_port q) (names_actor actor) named kind)
+      (and_from (is_held_at p (fate line) && has_actor l actor && not (actor.site == site_of l p) && (to == place_at l actor.site q)) (is_next_hop hop (fate line))
+      (and_from (is_held_at p (fate line) && has_actor l actor && not (actor.site == site_of l p)) (to == place_at l actor.site q)
+      (and_from (is_held_at p (fate line) && has_actor l actor) (not (actor.site == site_of l p)) (and_from (is_held_at p (fate line)) (has_actor l actor) held-it there) (ap not site)) (eq-eqb to (place_at l actor.site q) to-is))
+      (ap (is_next_hop hop) z.fate_is ∙ eq-eqb hop (length f.path) hop-is)) held-by-caller tt in
       says n us past t w a (record (unchanged t) { ports = ports; known = learned q to hop t.place.known; loads = transfer to actor hop (find q t.place.ports) })
       (record {
         may = may;

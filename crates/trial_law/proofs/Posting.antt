@@ -181,4 +181,3 @@ module _ (n : NetState) (us : List Outgoing) (past : List Entry) (t : Turn) (i :
       let calm = posted-calm q home kinds tag caller in
       then (λ now. Calm n us now u) (λ now. Calm n us now (posts_direct m q t)) past (step (λ now. Calm n us now u) (next_entry a t) past calm)
       (λ now c. go-stands decides-here n us (direct q) now u c)
-

@@ -131,24 +131,24 @@ module _ (n : NetState) (us : List Outgoing) (past : List Entry) (t : Turn) (fro
       let y = sees-report l past x (last_clock (about x past)) (progress (about x past)) o a s.under cargo in
       let home : y.post.place ≡ p = y.home ∙ s.to in
       let asked : is_asked_from l p (post_of x past) ≡ true =
-          ap (is_asked_from l p) y.posted
-          ∙ and_from (y.post.place == p) (is_asking_place l p (group_in y.post.dest)) (eq-eqb y.post.place p home)
-          (ap (λ z. is_asking_place l z (group_in y.post.dest)) (sym home) ∙ asking l y.post.place o.packet.from (group_in y.post.dest) y.far) in
+      ap (is_asked_from l p) y.posted
+      ∙ and_from (y.post.place == p) (is_asking_place l p (group_in y.post.dest)) (eq-eqb y.post.place p home)
+      (ap (λ z. is_asking_place l z (group_in y.post.dest)) (sym home) ∙ asking l y.post.place o.packet.from (group_in y.post.dest) y.far) in
       let to-be : is_to_be_heard a (progress (about x past)) ≡ true = ap (is_to_be_heard a) y.stage ∙ same_answer-self a in
       let act = acts.Heard x a in
       let en = next_entry act t in
       let clock : last_clock (about x past) ≤ known_clock t =
-          (let c = y.clock_is in let c2 = ap (λ (z : Packet). z.clock) s.is in let c3 = i.clock in omega (arith, c, c2, c3)) in
+      (let c = y.clock_is in let c2 = ap (λ (z : Packet). z.clock) s.is in let c3 = i.clock in omega (arith, c, c2, c3)) in
       let may : MaySay past t act =
-          record {
-            kinds = refl;
-            behind = behind-calm past p act i.calm.rests;
-            may = and_from (is_asked_from l p (post_of x past)) (is_to_be_heard a (progress (about x past))) asked to-be;
-            fits = refl;
-            looks = tt;
-            message = clock;
-            port = no-port-clock past None (known_clock t) refl;
-          } in
+      record {
+        kinds = refl;
+        behind = behind-calm past p act i.calm.rests;
+        may = and_from (is_asked_from l p (post_of x past)) (is_to_be_heard a (progress (about x past))) asked to-be;
+        fits = refl;
+        looks = tt;
+        message = clock;
+        port = no-port-clock past None (known_clock t) refl;
+      } in
       leads-one n rest past t (hears x a t) act
       (takes-says n us rest past t act (record (unchanged t) { unheard = λ z. not (same_id z x) && t.place.unheard z }) i.none w
       (record {

@@ -145,8 +145,8 @@ module _ (n : NetState) (us : List Outgoing) (past : List Entry) (t : Turn) (w :
       let s = replaced n us past t w q r found e r.actor g (after_take t.caller.actor) (keeps-name t.caller.actor) refl refl refl h.spot h.place is in
       let view = by t.caller.seat past in
       let may =
-          port-may n us past t w q r found mine rests named a refl refl named
-          (and_from (is_held_at p (fate line)) (is_first_waiting r.first x (fate line)) (held-it n us past t w q r found mine rests named) waits) (held-by-caller n us past t w q r found mine rests named) tt in (
+      port-may n us past t w q r found mine rests named a refl refl named
+      (and_from (is_held_at p (fate line)) (is_first_waiting r.first x (fate line)) (held-it n us past t w q r found mine rests named) waits) (held-by-caller n us past t w q r found mine rests named) tt in (
         says n us past t w a (record (unchanged t) { caller = holding x m.tag t.caller; ports = replace q (after_take t.caller.actor) t.place.ports })
             (record {
               may = may;

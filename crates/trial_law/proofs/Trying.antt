@@ -175,23 +175,23 @@ module _ (n : NetState) (us : List Outgoing) (past : List Entry) (t : Turn) (i :
         port = no-port-clock past None (known_clock t) refl;
       } in
       step (λ now. Calm n us now (tries_at k v there t)) e past
-        (record {
-          stood = says n us past t w a (record (unchanged t) { waiting = changed k (lines.at (Some there.to)) t.place.waiting; loads = (there.to, cargos.Try v.message k.port k.route v.only there.hop) ∷ [] })
-              (record {
-                may = says-may;
-                caller = caller-still past t a refl w.caller;
-                ports = ports-still n us past t w a refl;
-                tables = record {
-                  known = known-still l t.place.known e (at p past) refl w.here.known;
-                  waiting = waiting-tells n us past t w a says-may refl k g.head g.rest g.heads (ap (λ z. Some z) (sym g.id)) refl (Some there.to) refl;
-                  unheard = unheard-still l past e t.place.unheard refl w.here.unheard;
-                };
-                packets = packets-about n us past t w x a (put o os) refl refl refl
-                    (moves-put x os os o (about-try v.message k.port k.route v.only there.hop) (moves-none x os w.packets.order))
-                    (put-it ∙ ap (λ z. z ∷ []) (sym same));
-              });
-          rests = rests-behind past t a refl;
-        })
+      (record {
+        stood = says n us past t w a (record (unchanged t) { waiting = changed k (lines.at (Some there.to)) t.place.waiting; loads = (there.to, cargos.Try v.message k.port k.route v.only there.hop) ∷ [] })
+            (record {
+              may = says-may;
+              caller = caller-still past t a refl w.caller;
+              ports = ports-still n us past t w a refl;
+              tables = record {
+                known = known-still l t.place.known e (at p past) refl w.here.known;
+                waiting = waiting-tells n us past t w a says-may refl k g.head g.rest g.heads (ap (λ z. Some z) (sym g.id)) refl (Some there.to) refl;
+                unheard = unheard-still l past e t.place.unheard refl w.here.unheard;
+              };
+              packets = packets-about n us past t w x a (put o os) refl refl refl
+                  (moves-put x os os o (about-try v.message k.port k.route v.only there.hop) (moves-none x os w.packets.order))
+                  (put-it ∙ ap (λ z. z ∷ []) (sym same));
+            });
+        rests = rests-behind past t a refl;
+      })
 
   -- it has its verdict here
   pub settles-here-stands : (h : ℕ) (a : Answer) → is_final a ≡ true → Fits n us past t v.message k.port h a → LeadsOn n us past (settles_here k v h a t)
@@ -224,23 +224,23 @@ module _ (n : NetState) (us : List Outgoing) (past : List Entry) (t : Turn) (i :
         port = f.clock;
       } in
       step (λ now. Calm n us now (settles_here k v h a t)) e past
-        (record {
-          stood = says n us past t w act (record (unchanged t) { ports = records_after a v.message q t.place.ports; waiting = changed k passed t.place.waiting; loads = loads })
-              (record {
-                may = says-may;
-                caller = caller-still past t act d.caller w.caller;
-                ports = f.ports;
-                tables = record {
-                  known = known-still l t.place.known e (at p past) d.teaches w.here.known;
-                  waiting = waiting-passes n us past t w act says-may d.sends k g.head g.rest g.heads (d.message ∙ ap (λ z. Some z) (sym g.id)) (settling a x q h f.answers final);
-                  unheard = unheard-still l past e t.place.unheard d.posts w.here.unheard;
-                };
-                packets = packets-at n us past t w x act new d.message d.asks moved
-                    (λ r. moved.ports r ∙ (w.packets.transfers r ∙ sym (f.transfers r)))
-                    (report-view x a t v.home os final g.packets ∙ sym shown);
-              });
-          rests = rests-behind past t act (d.takes (e ∷ past) t.caller.seat);
-        })
+      (record {
+        stood = says n us past t w act (record (unchanged t) { ports = records_after a v.message q t.place.ports; waiting = changed k passed t.place.waiting; loads = loads })
+            (record {
+              may = says-may;
+              caller = caller-still past t act d.caller w.caller;
+              ports = f.ports;
+              tables = record {
+                known = known-still l t.place.known e (at p past) d.teaches w.here.known;
+                waiting = waiting-passes n us past t w act says-may d.sends k g.head g.rest g.heads (d.message ∙ ap (λ z. Some z) (sym g.id)) (settling a x q h f.answers final);
+                unheard = unheard-still l past e t.place.unheard d.posts w.here.unheard;
+              };
+              packets = packets-at n us past t w x act new d.message d.asks moved
+                  (λ r. moved.ports r ∙ (w.packets.transfers r ∙ sym (f.transfers r)))
+                  (report-view x a t v.home os final g.packets ∙ sym shown);
+            });
+        rests = rests-behind past t act (d.takes (e ∷ past) t.caller.seat);
+      })
     where
       ap-clock : {o : Option MsgId} → o ≡ Some v.message.id → last_clock (about v.message.id past) ≤ known_clock t → last_clock (filter (is_about o) past) ≤ known_clock t
       ap-clock m c = subst (λ z. last_clock (filter (is_about z) past) ≤ known_clock t) (sym m) c
