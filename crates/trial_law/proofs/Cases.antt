@@ -24,6 +24,7 @@ use Rattle.trial_law.proofs.ClientFacts.{keeps-clients}
 use Rattle.trial_law.proofs.Events.{CommandsStand, PacketsStand, EventsStand, events-stand}
 use Rattle.trial_law.proofs.HavePlaces.{have-places}
 use Rattle.trial_law.proofs.Making.{make-stands}
+use Rattle.trial_law.proofs.GroupPosting.{all-stands, one-stands, one-at-stands}
 use Rattle.trial_law.proofs.Commands.{group-make-stands, join-stands, leave-stands}
 use Rattle.trial_law.proofs.CallerCommands.{send-stands, call-stands, retry-stands, reply-stands, cancel-stands}
 use Rattle.trial_law.proofs.AtPorts.{take-given, move-given, delete-given}
@@ -43,28 +44,22 @@ first-from a b (u ∷ us) k h = go (is_link a b u) refl h (first-from a b us k)
         ap (λ (z : Packet). z.from) (sym same) ∙ eqb-true u.packet.from a (and_parts (u.packet.from == a) (u.to == b) e).0
     go false e f ih = ih f
 
--- a post to a group
-abbrev pub GroupPostsStand : Type 0
-GroupPostsStand =
-    (n : NetState) (us : List Outgoing) (past : List Entry) (t : Turn) (d : Dest) (g : Ui) (body : List ℕ) → group_in d ≡ Some g → IsGiven n us past t (commands.Send d body) → ReadyHere t →
-    LeadsOn n us past (act (commands.Send d body) t)
-
-pub commands-stand : GroupPostsStand → CommandsStand
-commands-stand group n us past t (commands.Make actor capacity) none i ready left = make-stands n us past t actor capacity i
-commands-stand group n us past t (commands.Send (dests.Port q) body) none i ready left = send-stands n us past t q body i
-commands-stand group n us past t (commands.Send (dests.All g) body) none i ready left = group n us past t (dests.All g) g body refl i ready
-commands-stand group n us past t (commands.Send (dests.One g) body) none i ready left = group n us past t (dests.One g) g body refl i ready
-commands-stand group n us past t (commands.Send (dests.OneAt g s) body) none i ready left = group n us past t (dests.OneAt g s) g body refl i ready
-commands-stand group n us past t (commands.Call q back body) none i ready left = call-stands n us past t q back body i
-commands-stand group n us past t commands.Retry none i ready left = retry-stands n us past t i
-commands-stand group n us past t commands.Cancel none i ready left = cancel-stands n us past t i
-commands-stand group n us past t (commands.Reply body) none i ready left = reply-stands n us past t body i
-commands-stand group n us past t (commands.Take q) none i ready left = take-given n us past t q i
-commands-stand group n us past t (commands.Move q actor) none i ready left = move-given n us past t q actor i
-commands-stand group n us past t (commands.GroupMake s) none i ready left = group-make-stands n us past t s i
-commands-stand group n us past t (commands.Join g q) none i ready left = join-stands n us past t g q i
-commands-stand group n us past t (commands.Leave g q) none i ready left = leave-stands n us past t g q i
-commands-stand group n us past t (commands.Delete q) none i ready left = delete-given n us past t q i
+pub commands-stand : CommandsStand
+commands-stand n us past t (commands.Make actor capacity) none i ready left = make-stands n us past t actor capacity i
+commands-stand n us past t (commands.Send (dests.Port q) body) none i ready left = send-stands n us past t q body i
+commands-stand n us past t (commands.Send (dests.All g) body) none i ready left = all-stands n us past t ready body g i
+commands-stand n us past t (commands.Send (dests.One g) body) none i ready left = one-stands n us past t ready body g i
+commands-stand n us past t (commands.Send (dests.OneAt g s) body) none i ready left = one-at-stands n us past t ready body g s i
+commands-stand n us past t (commands.Call q back body) none i ready left = call-stands n us past t q back body i
+commands-stand n us past t commands.Retry none i ready left = retry-stands n us past t i
+commands-stand n us past t commands.Cancel none i ready left = cancel-stands n us past t i
+commands-stand n us past t (commands.Reply body) none i ready left = reply-stands n us past t body i
+commands-stand n us past t (commands.Take q) none i ready left = take-given n us past t q i
+commands-stand n us past t (commands.Move q actor) none i ready left = move-given n us past t q actor i
+commands-stand n us past t (commands.GroupMake s) none i ready left = group-make-stands n us past t s i
+commands-stand n us past t (commands.Join g q) none i ready left = join-stands n us past t g q i
+commands-stand n us past t (commands.Leave g q) none i ready left = leave-stands n us past t g q i
+commands-stand n us past t (commands.Delete q) none i ready left = delete-given n us past t q i
 
 pub packets-stand : PacketsStand
 packets-stand n us past t a k i apart = by k.cargo refl
@@ -83,5 +78,5 @@ packets-stand n us past t a k i apart = by k.cargo refl
     by (cargos.Ask m (dests.OneAt g s)) e = asked m (dests.OneAt g s) g refl e
     by (cargos.Report x v) e = report-stands n us past t a k i x v e
 
-pub all-events-stand : GroupPostsStand → EventsStand
-all-events-stand group = events-stand (commands-stand group) packets-stand have-places acts-ready works-ready
+pub all-events-stand : EventsStand
+all-events-stand = events-stand commands-stand packets-stand have-places acts-ready works-ready
