@@ -24,9 +24,9 @@ use Rattle.trial_law.proofs.ClientFacts.{keeps-clients}
 use Rattle.trial_law.proofs.Events.{CommandsStand, PacketsStand, EventsStand, events-stand}
 use Rattle.trial_law.proofs.HavePlaces.{have-places}
 use Rattle.trial_law.proofs.Making.{make-stands}
+use Rattle.trial_law.proofs.GroupPosting.{all-stands, one-stands, one-at-stands}
 use Rattle.trial_law.proofs.Commands.{group-make-stands, join-stands, leave-stands}
 use Rattle.trial_law.proofs.CallerCommands.{send-stands, call-stands, retry-stands, reply-stands, cancel-stands}
-use Rattle.trial_law.proofs.GroupPosting.{all-stands, one-stands, one-at-stands}
 use Rattle.trial_law.proofs.AtPorts.{take-given, move-given, delete-given}
 use Rattle.trial_law.proofs.Delivering.{try-stands, verdict-stands}
 use Rattle.trial_law.proofs.Arriving.{transfer-stands}
@@ -78,6 +78,5 @@ packets-stand n us past t a k i apart = by k.cargo refl
     by (cargos.Ask m (dests.OneAt g s)) e = asked m (dests.OneAt g s) g refl e
     by (cargos.Report x v) e = report-stands n us past t a k i x v e
 
--- Each event puts new entries in front of a past that the network stands for, and is ready.
 pub all-events-stand : EventsStand
 all-events-stand = events-stand commands-stand packets-stand have-places acts-ready works-ready

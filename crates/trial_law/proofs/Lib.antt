@@ -40,6 +40,6 @@ pub mod Posting
 pub mod CallerCommands
 pub mod GroupFacts
 pub mod Choosing
+pub mod GroupPosting
 pub mod Asking
 pub mod Cases
-pub mod GroupPosting
