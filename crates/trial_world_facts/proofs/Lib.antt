@@ -9,3 +9,5 @@ pub mod Firsts
 pub mod Sites
 pub mod CallFacts
 pub mod GroupNames
+pub mod Paths
+pub mod Ways

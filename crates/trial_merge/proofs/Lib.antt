@@ -1,0 +1,12 @@
+pub mod Parts
+pub mod Journals
+pub mod Performs
+pub mod Shows
+pub mod Saying
+pub mod OwnAnswers
+pub mod InOrder
+pub mod Performing
+pub mod Packets
+pub mod Closed
+pub mod Rests
+pub mod Laws

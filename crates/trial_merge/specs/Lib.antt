@@ -1,0 +1,13 @@
+pub mod Schedules
+pub mod Network
+pub mod Left
+pub mod Holdings
+pub mod Quiet
+pub mod History
+pub mod Always
+pub mod Accepting
+pub mod Answer
+pub mod Answering
+pub mod Tasks
+pub mod Promises
+pub mod Mass
