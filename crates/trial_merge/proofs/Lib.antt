@@ -10,3 +10,9 @@ pub mod Packets
 pub mod Closed
 pub mod Rests
 pub mod Laws
+pub mod OnlyAnswer
+pub mod Answered
+pub mod Drains
+pub mod Emptied
+pub mod Passing
+pub mod Masses
