@@ -16,3 +16,5 @@ pub mod Drains
 pub mod Emptied
 pub mod Passing
 pub mod Masses
+pub mod Working
+pub mod Lowering
