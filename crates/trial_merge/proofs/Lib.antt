@@ -18,3 +18,4 @@ pub mod Passing
 pub mod Masses
 pub mod Working
 pub mod Lowering
+pub mod Routes

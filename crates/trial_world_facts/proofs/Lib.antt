@@ -11,3 +11,4 @@ pub mod CallFacts
 pub mod GroupNames
 pub mod Paths
 pub mod Ways
+pub mod Members
