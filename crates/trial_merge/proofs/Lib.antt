@@ -19,3 +19,5 @@ pub mod Masses
 pub mod Working
 pub mod Lowering
 pub mod Routes
+pub mod Fronts
+pub mod Bounds
