@@ -21,3 +21,4 @@ pub mod Lowering
 pub mod Routes
 pub mod Fronts
 pub mod Bounds
+pub mod Ending
