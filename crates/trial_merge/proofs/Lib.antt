@@ -22,3 +22,6 @@ pub mod Routes
 pub mod Fronts
 pub mod Bounds
 pub mod Ending
+pub mod Accepted
+pub mod Promised
+pub mod Drained
