@@ -25,3 +25,4 @@ pub mod Ending
 pub mod Accepted
 pub mod Promised
 pub mod Drained
+pub mod Puts
