@@ -26,3 +26,4 @@ pub mod Accepted
 pub mod Promised
 pub mod Drained
 pub mod Puts
+pub mod Carrying

@@ -12,3 +12,4 @@ pub mod GroupNames
 pub mod Paths
 pub mod Ways
 pub mod Members
+pub mod DirectTries
