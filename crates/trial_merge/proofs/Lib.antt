@@ -27,3 +27,4 @@ pub mod Promised
 pub mod Drained
 pub mod Puts
 pub mod Carrying
+pub mod Few
