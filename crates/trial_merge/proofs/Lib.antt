@@ -28,3 +28,5 @@ pub mod Drained
 pub mod Puts
 pub mod Carrying
 pub mod Few
+pub mod Stopped
+pub mod AllPromises

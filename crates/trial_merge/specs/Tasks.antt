@@ -1,14 +1,17 @@
 -- Tasks: an event, or a drain. A drain is whole rounds of deliveries, so many that one more would serve nothing.
 -- l is a layout, es are events and ts are tasks, both with the latest first, o is a packet with the place that it goes to.
-use Rattle.std.specs.Prelude.{ℕ, ◌≡◌, ◌==◌, true, false, List, [], ◌∷◌, ◌++◌, is_some, slice_get}
+use Rattle.std.specs.Prelude.{ℕ, ◌≡◌, ◌==◌, ◌⊎◌, true, false, List, [], ◌∷◌, ◌++◌, Some, is_some, slice_get}
 use Rattle.std.specs.List.{All}
+use Rattle.chorus_ui.specs.declared.ui.Ui.{Ui}
 use Rattle.chorus_ui.specs.declared.layout.Layout.{Layout}
 use Rattle.chorus_ui.specs.Layout.{IsShape, has_place}
 use Rattle.chorus_entry.specs.declared.command.Command.{Command}
+use Rattle.chorus_world.specs.Commands.{performs}
 use Rattle.trial_place.specs.State.{Outgoing}
-use Rattle.trial_net.specs.Network.{Event, schedule, round, rounds}
+use Rattle.trial_net.specs.Network.{NetState, Event, Deliver, schedule, round, rounds}
 use Rattle.trial_merge.specs.Network.{served, drained}
-use Rattle.trial_net.specs.Schedules.{command_in, may_happen, may_be}
+use Rattle.trial_net.specs.Stands.{actor_of}
+use Rattle.trial_net.specs.Schedules.{command_in, commands_of, may_happen, may_be}
 use Rattle.trial_merge.specs.Schedules.{OfSchedules}
 use Rattle.trial_merge.specs.Left.{packets_left, merged_past}
 use Rattle.trial_merge.specs.Quiet.{IsQuiet}
@@ -75,3 +78,33 @@ abbrev pub DrainsRest : Type 0
 DrainsRest =
     (l : Layout) (seat : ℕ) (ts : List Task) (es : List Event) → IsShape l → may_be l es ≡ true → CarryOut l (Drain seat ∷ ts) es →
     is_some (slice_get (schedule l es).callers seat) ≡ true → IsQuiet l (merged_past (schedule l es)) (packets_left (schedule l es))
+
+-- Where a call stops before its tasks are carried out, a front of them was.
+
+-- deliveries of the seat
+abbrev pub AreDeliveries : ℕ → List Event → Type 0
+AreDeliveries seat es = All (λ (e : Event). (a : ℕ) × ((b : ℕ) × (e ≡ Deliver seat a b))) es
+
+-- the events carry out the first of the tasks, and of a drain behind these some deliveries
+abbrev pub CarryFront : Layout → List Task → List Event → Type 0
+CarryFront l [] es = es ≡ []
+CarryFront l (Do event ∷ ts) es = CarryOut l (Do event ∷ ts) es ⊎ CarryFront l ts es
+CarryFront l (Drain seat ∷ ts) es =
+    ((done : List Event) × ((older : List Event) × ((es ≡ done ++ older) × AreDeliveries seat done × CarryOut l ts older))) ⊎ CarryFront l ts es
+
+-- so the commands that were given are the first of those of the tasks, both with the latest first
+abbrev pub FrontsGiveFronts : Type 0
+FrontsGiveFronts =
+    (l : Layout) (ts : List Task) (es : List Event) (seat : ℕ) → CarryFront l ts es → (later : List Command) × (commands_in seat ts ≡ later ++ commands_of seat es)
+
+-- and the merge performs them
+pub record PerformsFront (l : Layout) (ts : List Task) (n : NetState) (seat : ℕ) (actor : Ui) : Type 0 where
+  pub done : List Command
+  pub later : List Command
+  pub front : commands_in seat ts ≡ later ++ done
+  pub performed : performs l seat actor (merged_past n) done ≡ true
+
+abbrev pub FrontsPerformed : Type 0
+FrontsPerformed =
+    (l : Layout) (ts : List Task) (es : List Event) (seat : ℕ) (actor : Ui) → IsShape l → may_be l es ≡ true → CarryFront l ts es →
+    actor_of (schedule l es) seat ≡ Some actor → PerformsFront l ts (schedule l es) seat actor

@@ -1,0 +1,31 @@
+-- All that holds of each schedule, in one record.
+use Rattle.std.proofs.Common.{◌≡◌, true, refl}
+use Rattle.trial_net.specs.Network.{schedule}
+use Rattle.trial_merge.specs.Schedules.{OfSchedules}
+use Rattle.trial_merge.specs.Left.{merged_past}
+use Rattle.trial_merge.specs.Promises.{DeliversLawfully, SchedulesKeepPromises}
+use Rattle.trial_merge.proofs.Accepted.{in-sender-order, requests-once, one-member, on-site, in-choice-order}
+use Rattle.trial_merge.proofs.Promised.{legal-merge, runs-at, journals-at, performs-at, tables-at, closes-at, quiet-at, receives-at, fates-at}
+use Rattle.trial_merge.proofs.Few.{carries-few}
+
+pub keeps-promises : OfSchedules DeliversLawfully → SchedulesKeepPromises
+keeps-promises lawful l es shape may =
+    let past = merged_past (schedule l es) in
+    let legal = legal-merge l es shape may in
+    record {
+      run = runs-at l es shape may;
+      journals = journals-at l es shape may;
+      performed = performs-at l es shape may;
+      lawful = lawful l es shape may;
+      stands = tables-at l es shape may;
+      left = closes-at l es shape may;
+      quiet = quiet-at l es shape may;
+      receives = receives-at l es shape may;
+      fates = fates-at l es shape may;
+      sender_order = in-sender-order l past legal;
+      once = requests-once l past legal;
+      one_member = one-member l past legal;
+      on_site = on-site l past legal;
+      choice_order = in-choice-order l past legal;
+      few_packets = carries-few l es shape may;
+    }
