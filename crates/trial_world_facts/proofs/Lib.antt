@@ -13,3 +13,4 @@ pub mod Paths
 pub mod Ways
 pub mod Members
 pub mod DirectTries
+pub mod MadePorts
