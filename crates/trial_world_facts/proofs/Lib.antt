@@ -14,3 +14,5 @@ pub mod Ways
 pub mod Members
 pub mod DirectTries
 pub mod MadePorts
+pub mod Ids
+pub mod Ranged
