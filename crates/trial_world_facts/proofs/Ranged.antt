@@ -19,7 +19,9 @@ use Rattle.chorus_entry.specs.declared.answer.Answer.{Answer}
 use Rattle.chorus_entry.specs.declared.answer.Answer.TheVariants as A
 use Rattle.chorus_entry.specs.declared.act.Act.{Act}
 use Rattle.chorus_entry.specs.declared.act.Act.TheVariants.{Post, Accept, Full, Already, ClientsFull, Stale, Early, NoPort, Elsewhere, NoMember, Choose, Try, Told, Heard, Gone, Depart, Arrive}
-use Rattle.chorus_entry.specs.Act.{message_of, held_port_of}
+use Rattle.chorus_entry.specs.Act.{message_of, held_port_of, port_of, is_decision}
+use Rattle.chorus_entry.specs.MsgId.{same_id}
+use Rattle.chorus_entry.proofs.Same.{from_same_id}
 use Rattle.chorus_entry.specs.Answer.{is_final}
 use Rattle.chorus_entry.specs.Ranges.{is_from, is_place_number, has_range_of_id, has_ranges_of_answer, is_told}
 use Rattle.chorus_world.specs.declared.place.Location.{Location}
@@ -28,11 +30,11 @@ use Rattle.chorus_world.specs.declared.message.Progress.{Progress}
 use Rattle.chorus_world.specs.declared.message.Progress.TheVariants.{Idle, Asked, Tried, Decided, Settled, Reported}
 use Rattle.chorus_world.specs.declared.step.Due.{Due}
 use Rattle.chorus_world.specs.declared.step.Due.TheVariants.{NotDue, ByTry, AtHome}
-use Rattle.chorus_world.specs.Views.{Views, views, at, on, about, is_at, is_on, is_about}
+use Rattle.chorus_world.specs.Views.{Views, views, at, on, about, is_at, is_on, is_about, are_same}
 use Rattle.chorus_world.specs.Messages.{progress, progress_after, decided, told, settled, posted}
 use Rattle.chorus_world.specs.Ports.{Fate, fate, is_held_at, is_coming, is_next_hop, is_full, has_room, waiting}
 use Rattle.chorus_world.specs.Posts.{site_asked, is_on_site}
-use Rattle.chorus_world.specs.Places.{last_clock, located, named_location, learned, farther, is_location, sent, taught, is_sent_to, find_sent}
+use Rattle.chorus_world.specs.Places.{last_clock, located, named_location, learned, farther, is_location, sent, taught, is_sent_to, find_sent, is_first}
 use Rattle.chorus_world.specs.Groups.{choice}
 use Rattle.chorus_world.specs.Steps.{act_may, is_legal, is_to_go, is_beyond, due, due_by_try, due_at_home, is_due_with, is_tried_with, is_early, suits, may_enter, meets, is_elsewhere, may_choose}
 use Rattle.chorus_world.specs.LocationLaws.{path_of}
@@ -179,3 +181,242 @@ due-by l past v p x q test m w h =
     go (Decided from b r a) e k = inr (home k)
     go (Settled a) e k = inr (home k)
     go Reported e k = inr (home k)
+
+found-id : (x : MsgId) (ms : List Sent) (m : Sent) → find_sent x ms ≡ Some m → m.id ≡ x
+found-id x [] m h = absurd (let bad : None ≡ Some m = h in cc)
+found-id x (k ∷ ms) m h = go (same_id k.id x) refl h (found-id x ms m)
+  where
+    go : (b : Bool) → same_id k.id x ≡ b → cond b (Some k) (find_sent x ms) ≡ Some m → (find_sent x ms ≡ Some m → m.id ≡ x) → m.id ≡ x
+    go true e f ih = (let same : k ≡ m = cc in ap (λ (z : Sent). z.id) (sym same) ∙ from_same_id k.id x e)
+    go false e f ih = ih f
+
+twice-not : (b : Bool) → not (not b) ≡ true → b ≡ true
+twice-not true k = refl
+twice-not false k = k
+
+not-not : (b : Bool) → not b ≡ false → b ≡ true
+not-not true k = refl
+not-not false k = absurd (false≢true (sym k))
+
+-- tried by a hop below this one
+tried-some : (hop : ℕ) (d : Due) → is_tried_with (λ h. nat_lt h hop) d ≡ true → 1 ≤ hop
+tried-some hop (ByTry h) k = (let lt = ltb-true h hop k in omega (arith, lt))
+tried-some hop NotDue k = absurd (false≢true k)
+tried-some hop (AtHome h) k = absurd (false≢true k)
+
+-- One more entry.
+module _ (l : Layout) (past : List Entry) (e : Entry) (shape : IsShape l) (legal : is_legal l (e ∷ past) ≡ true) (causal : IsCausal (e ∷ past)) (old : AllFit l past) where
+  before : is_legal l past ≡ true
+  before = (legal_parts l e past legal).1
+
+  older : IsCausal past
+  older = causal-older e past causal
+
+  here-lt : last_clock (at e.place past) < e.clock
+  here-lt = (clock-some l past e legal).1
+
+  -- the port that the entry needs held, comes or goes
+  line-le : (q : Ui) (f : Fate) → held_port_of e.act ≡ Some q → fate (on q past) ≡ Some f → length f.accepted + length f.path ≤ e.clock
+  line-le q f port is =
+      let on_line : is_on (Some q) e ≡ true = ap (are_same same_ui (Some q)) port ∙ same_ui-self q in
+      let le = rising-le e (on q past) (rising-view (is_on (Some q)) e past on_line (causal.ports q)) in
+      let made : IsWellMade l q f (on q past) = subst (λ o. MadeWell l q o (on q past)) is (made-well l past q shape before older) in
+      let less = made.clock in
+      omega (arith, le, less)
+
+  located-le : (q : Ui) → (located l q (at e.place past)).hop ≤ e.clock
+  located-le q = (let le = old.hops e.place q in let lt = here-lt in omega (arith, le, lt))
+
+  -- a location by a hop from 1 on fits in an answer
+  stale-fits : (q : Ui) (to hop : ℕ) → is_location to hop (located l q (at e.place past)) ≡ true → 1 ≤ hop → AnswerFits l e.clock (A.Stale to hop) × AnswerFits l e.clock (A.Elsewhere to hop) × Teaches l q (A.Stale to hop)
+  stale-fits q to hop h some =
+      let at_it = located l q (at e.place past) in
+      let two = and_parts (at_it.to == to) (at_it.hop == hop) h in
+      let to_is : at_it.to ≡ to = eqb-true at_it.to to two.0 in
+      let hop_is : at_it.hop ≡ hop = eqb-true at_it.hop hop two.1 in
+      let le = located-le q in
+      let made = located-made l past e.place q shape before older (omega (arith, hop_is, some)) in
+      let has : has_place l to ≡ true = ap (has_place l) (sym to_is) ∙ made.1 in
+      let ranges : is_place_number to && nat_le hop e.clock ≡ true = and_from (is_place_number to) (nat_le hop e.clock) (place-number l to shape has) (le-leb hop e.clock (omega (arith, le, hop_is))) in (
+        record { ranges = ranges; places = has },
+        record { ranges = ranges; places = has },
+        (made.0, some),
+      )
+
+  module _ (x : MsgId) (about_x : is_about (Some x) e ≡ true) where
+    facts : MessageFacts x past
+    facts = legal_messages l past before x
+
+    about-le : last_clock (about x past) ≤ e.clock
+    about-le = rising-le e (about x past) (rising-view (is_about (Some x)) e past about_x (causal.messages x))
+
+    -- who waits first was sent
+    first-id : (q : Ui) → is_first x q (at e.place past) ≡ true → has_range_of_id x ≡ true
+    first-id q first =
+        let f = first_here x q e.place past first in
+        let ranged = found-has (λ (m : Sent). has_range_of_id m.id ≡ true) x (sent (at e.place past)) f.message (sent-ranged l past e.place before) f.is in
+        subst (λ z. has_range_of_id z ≡ true) (found-id x (sent (at e.place past)) f.message f.is) ranged
+
+    decides : (a : Act) (q : Ui) (answer : Answer) → ((z : Progress) → progress_after e.place a z ≡ decided e.place q answer z) → IsDue x q e.place past → AnswerFits l e.clock answer → is_told answer ≡ true
+        → ((from h : ℕ) → progress (about x past) ≡ Tried from q e.place h → Teaches l q answer) → ProgressFits l x e.clock (progress_after e.place a (progress (about x past)))
+    decides a q answer gives (inl t) fits can_tell teaches =
+        let now : progress_after e.place a (progress (about x past)) ≡ Decided t.from e.place q answer =
+        gives (progress (about x past)) ∙ ap (decided e.place q answer) t.is
+        ∙ ap (λ b. cond b (Decided t.from e.place q answer) Idle) (and_from (e.place == e.place) (same_ui q q) (eq-eqb e.place e.place refl) (same_ui-self q)) in
+        let was : ProgressFits l x (last_clock (about x past)) (Tried t.from q e.place t.hop) = subst (ProgressFits l x (last_clock (about x past))) t.is (old.messages x) in
+        subst (ProgressFits l x e.clock) (sym now) (was.0, fits, can_tell, teaches t.from t.hop t.is)
+    decides a q answer gives (inr first) fits can_tell teaches =
+        let idle = (first_is_idle x q e.place past facts (first_here x q e.place past first)).0 in
+        let now : progress_after e.place a (progress (about x past)) ≡ settled answer = gives (progress (about x past)) ∙ ap (decided e.place q answer) idle in
+        subst (ProgressFits l x e.clock) (sym now) (settled-fits l x e.clock answer (first-id q first) fits)
+
+    plain : (a : Act) (q : Ui) (answer : Answer) → ((z : Progress) → progress_after e.place a z ≡ decided e.place q answer z) → IsDue x q e.place past → has_ranges_of_answer e.clock answer ≡ true → NamesPlaces l answer → is_told answer ≡ true → Teaches l q answer → ProgressFits l x e.clock (progress_after e.place a (progress (about x past)))
+    plain a q answer gives due ranges places can_tell teaches = decides a q answer gives due (record { ranges = ranges; places = places }) can_tell (λ from h t. teaches)
+
+    room-is : (n : ℕ) (o : Option Fate) → has_room n o ≡ true → (f : Fate) × (o ≡ Some f) × (n ≡ length f.accepted)
+    room-is n None h = absurd (false≢true h)
+    room-is n (Some f) h = (f, refl, eqb-true n (length f.accepted) (and_parts (nat_lt (waiting f) f.capacity) (n == length f.accepted) h).1)
+
+    full-is : (n : ℕ) (o : Option Fate) → is_full n o ≡ true → (f : Fate) × (o ≡ Some f) × (n ≡ f.capacity)
+    full-is n None h = absurd (false≢true h)
+    full-is n (Some f) h =
+        let two = and_parts (waiting f == f.capacity) (n == waiting f) h in
+        (f, refl, eqb-true n (waiting f) two.1 ∙ eqb-true (waiting f) f.capacity two.0)
+
+    early-le : (q : Ui) (hop h : ℕ) → h ≤ e.clock → is_early e.place hop (located l q (at e.place past)) h ≡ true → hop ≤ e.clock
+    early-le q hop h le k =
+        let at_it = located l q (at e.place past) in
+        elim (or_cases (is_location e.place hop at_it && nat_lt h hop) (nat_le at_it.hop h && (hop == h) && nat_lt 0 h) k) [
+          | inl a ↦ (
+              let b = (and_parts (is_location e.place hop at_it) (nat_lt h hop) a).0 in
+              let c : at_it.hop ≡ hop = eqb-true at_it.hop hop (and_parts (at_it.to == e.place) (at_it.hop == hop) b).1 in
+              let d = located-le q in
+              omega (arith, c, d))
+          | inr a ↦ (
+              let b = (and_parts (nat_le at_it.hop h && (hop == h)) (nat_lt 0 h) a).0 in
+              let c : hop ≡ h = eqb-true hop h (and_parts (nat_le at_it.hop h) (hop == h) b).1 in
+              omega (arith, c, le))
+        ]
+
+    abbrev is_may : Act → Type 0
+    is_may a = act_may l (views past e.place e.seat a) e.place e.seat a ≡ true
+
+    due-now : (a : Act) (q : Ui) → is_decision a ≡ true → message_of a ≡ Some x → port_of a ≡ Some q → is_may a → IsDue x q e.place past
+    due-now a q d m o h = decision_due l past e.place e.seat a x q d m o h
+
+    message-fits : (a : Act) → e.act ≡ a → is_may a → message_of a ≡ Some x → ProgressFits l x e.clock (progress_after e.place a (progress (about x past)))
+    message-fits (Post m (D.Port q)) is h this = tt
+    message-fits (Post m (D.All g)) is h this =
+        let n = post_needs l past e.place e.seat m (D.All g) h in
+        let number = n.number in
+        let copy = n.copy in
+        subst (λ z. has_range_of_id z ≡ true) (some_is m.id x this) (range-of-id m.id (omega (arith, number)) (omega (arith, copy)))
+    message-fits (Post m (D.One g)) is h this =
+        let n = post_needs l past e.place e.seat m (D.One g) h in
+        let number = n.number in
+        let copy = n.copy in
+        subst (λ z. has_range_of_id z ≡ true) (some_is m.id x this) (range-of-id m.id (omega (arith, number)) (omega (arith, copy)))
+    message-fits (Post m (D.OneAt g s)) is h this =
+        let n = post_needs l past e.place e.seat m (D.OneAt g s) h in
+        let number = n.number in
+        let copy = n.copy in
+        subst (λ z. has_range_of_id z ≡ true) (some_is m.id x this) (range-of-id m.id (omega (arith, number)) (omega (arith, copy)))
+    message-fits (Choose y g qs) is h this =
+        let n = choose_needs l past e.place e.seat y g qs h in
+        let same : y ≡ x = some_is y x this in
+        let was : has_range_of_id x ≡ true = subst (λ z. has_range_of_id z ≡ true) same (subst (ProgressFits l y (last_clock (about y past))) n.asked (old.messages y)) in
+        let c = choose-names l past e.place e.seat y g qs h in
+        let few = choice-few l past e.place c.0 before in
+        let long : length qs ≡ length (choice l c.0 (at e.place past)) = ap length c.2 in
+        let v = views past e.place e.seat (Choose y g qs) in
+        let some = ltb-true 0 (length qs) (and_parts _ (nat_lt 0 (length qs)) (and_parts _ _ h).0).1 in
+        (was, record { ranges = and_from (nat_le 1 (length qs)) (nat_le (length qs) 32) (le-leb 1 (length qs) (omega (arith, some))) (le-leb (length qs) 32 (omega (arith, few, long))); places = tt }, refl)
+    message-fits (NoMember y g) is h this =
+        let n = no_member_needs l past e.place e.seat y g h in
+        let same : y ≡ x = some_is y x this in
+        let was : has_range_of_id x ≡ true = subst (λ z. has_range_of_id z ≡ true) same (subst (ProgressFits l y (last_clock (about y past))) n.asked (old.messages y)) in
+        (was, record { ranges = refl; places = tt }, refl)
+    message-fits (Heard y a) is h this = tt
+    message-fits (Try y q to hop) is h this =
+        let same : y ≡ x = some_is y x this in
+        let three = and_parts _ (is_on_site l (site_asked y past) to) h in
+        let two = and_parts _ (not (to == e.place)) three.0 in
+        let one = and_parts (is_to_go l (views past e.place e.seat (Try y q to hop)) y q to) ((located l q (at e.place past)).hop == hop) two.0 in
+        let go = to_go_parts l past e.place e.seat (Try y q to hop) y q to one.0 in
+        let hop_is : (located l q (at e.place past)).hop ≡ hop = eqb-true (located l q (at e.place past)).hop hop one.1 in
+        let le = located-le q in
+        (first-id q (subst (λ z. is_first z q (at e.place past) ≡ true) same go.0), omega (arith, hop_is, le), not-not (has_site l q.site) go.1)
+    message-fits (Told y a) is h this =
+        let same : y ≡ x = some_is y x this in
+        let n = told_needs l past e.place e.seat x a (subst (λ z. act_may l (views past e.place e.seat (Told z a)) e.place e.seat (Told z a) ≡ true) same h) in
+        let was : ProgressFits l x (last_clock (about x past)) (Decided e.place n.by n.port a) = subst (ProgressFits l x (last_clock (about x past))) n.is (old.messages x) in
+        subst (λ z. ProgressFits l x e.clock (told a z)) (sym n.is) (settled-fits l x e.clock a was.0 (later-fits l (last_clock (about x past)) e.clock a about-le was.1))
+    message-fits (Accept y q n) is h this =
+        let v = views past e.place e.seat (Accept y q n) in
+        let room = room-is n (fate (on q past)) (and_parts (may_enter l v e.place y q) (has_room n (fate (on q past))) h).1 in
+        let le = line-le q room.0 (ap held_port_of is) room.1 in
+        let pos = room.2 in
+        plain (Accept y q n) q (A.Accepted n) (λ z. refl) (due-now (Accept y q n) q refl this refl h) (le-leb n e.clock (omega (arith, le, pos))) tt refl tt
+    message-fits (Full y q n) is h this =
+        let v = views past e.place e.seat (Full y q n) in
+        let full = full-is n (fate (on q past)) (and_parts (may_enter l v e.place y q) (is_full n (fate (on q past))) h).1 in
+        let cap = keeps_to_capacity l past q full.0 shape before full.1 in
+        let low = cap.1 in
+        let high = cap.2 in
+        let len = full.2 in
+        plain (Full y q n) q (A.Full n) (λ z. refl) (due-now (Full y q n) q refl this refl h) (and_from (nat_le 1 n) (nat_le n 64) (le-leb 1 n (omega (arith, low, len))) (le-leb n 64 (omega (arith, high, len)))) tt refl tt
+    message-fits (Already y q) is h this = plain (Already y q) q A.Already (λ z. refl) (due-now (Already y q) q refl this refl h) refl tt refl tt
+    message-fits (ClientsFull y q) is h this = plain (ClientsFull y q) q A.ClientsFull (λ z. refl) (due-now (ClientsFull y q) q refl this refl h) refl tt refl tt
+    message-fits (NoPort y q) is h this = plain (NoPort y q) q A.NoPort (λ z. refl) (due-now (NoPort y q) q refl this refl h) refl tt refl tt
+    message-fits (Gone y q) is h this = plain (Gone y q) q A.Gone (λ z. refl) (due-now (Gone y q) q refl this refl h) refl tt refl tt
+    message-fits (Stale y q tried to hop) is h this =
+        let v = views past e.place e.seat (Stale y q tried to hop) in
+        let five = and_parts _ (is_none (site_asked y past)) h in
+        let four = and_parts _ (not (to == e.place)) five.0 in
+        let three = and_parts _ (nat_lt tried hop) four.0 in
+        let two = and_parts _ (is_location to hop (located l q (at e.place past))) three.0 in
+        let lt = ltb-true tried hop three.1 in
+        let f = stale-fits q to hop two.1 (omega (arith, lt)) in
+        decides (Stale y q tried to hop) q (A.Stale to hop) (λ z. refl) (due-now (Stale y q tried to hop) q refl this refl h) f.0 refl (λ from k t. f.2)
+    message-fits (Early y q hop) is h this =
+        let v = views past e.place e.seat (Early y q hop) in
+        let same : y ≡ x = some_is y x this in
+        let test = is_early e.place hop (located l q (at e.place past)) in
+        let k = (and_parts (is_due_with test (due l v e.place y q)) (is_coming e.place hop (fate (on q past))) h).0 in
+        let by = due-by l past v e.place y q test refl refl k in
+        let le : hop ≤ e.clock = early same by in
+        plain (Early y q hop) q (A.Early hop) (λ z. refl) (due-now (Early y q hop) q refl this refl h) (le-leb hop e.clock le) tt refl tt
+      where
+        early : y ≡ x → ((from : ℕ) × (k : ℕ) × (progress (about y past) ≡ Tried from q e.place k) × (is_early e.place hop (located l q (at e.place past)) k ≡ true)) ⊎ (is_early e.place hop (located l q (at e.place past)) (located l q (at e.place past)).hop ≡ true) → hop ≤ e.clock
+        early same (inl t) =
+            let is_tried : progress (about x past) ≡ Tried t.0 q e.place t.1 = ap (λ z. progress (about z past)) (sym same) ∙ t.2 in
+            let was : ProgressFits l x (last_clock (about x past)) (Tried t.0 q e.place t.1) = subst (ProgressFits l x (last_clock (about x past))) is_tried (old.messages x) in
+            let a = was.1 in
+            let b = about-le in
+            early-le q hop t.1 (omega (arith, a, b)) t.3
+        early same (inr t) = early-le q hop (located l q (at e.place past)).hop (located-le q) t
+    message-fits (Elsewhere y q to hop) is h this =
+        let v = views past e.place e.seat (Elsewhere y q to hop) in
+        let same : y ≡ x = some_is y x this in
+        let two = and_parts (is_some (site_asked y past) && is_location to hop (located l q (at e.place past))) (is_elsewhere l v e.place y q to hop) h in
+        let there = (and_parts (is_some (site_asked y past)) (is_location to hop (located l q (at e.place past))) two.0).1 in
+        let due_x = due-now (Elsewhere y q to hop) q refl this refl h in
+        elim (or_cases (is_to_go l v y q to && not (is_on_site l (site_asked y past) to)) (is_tried_with (λ k. nat_lt k hop) (due l v e.place y q) && not (is_held_at e.place (fate (on q past))) && not (to == e.place)) two.1) [
+          | inl a ↦ (
+              let go = to_go_parts l past e.place e.seat (Elsewhere y q to hop) y q to (and_parts (is_to_go l v y q to) (not (is_on_site l (site_asked y past) to)) a).0 in
+              let site : has_site l q.site ≡ true = not-not (has_site l q.site) go.1 in
+              let has : has_place l to ≡ true = ap (has_place l) (sym go.2) ∙ located-in l past e.place q shape before site in
+              let hop_is : (located l q (at e.place past)).hop ≡ hop = eqb-true (located l q (at e.place past)).hop hop (and_parts ((located l q (at e.place past)).to == to) ((located l q (at e.place past)).hop == hop) there).1 in
+              let le = located-le q in
+              let first : is_first x q (at e.place past) ≡ true = subst (λ z. is_first z q (at e.place past) ≡ true) same go.0 in
+              let idle = (first_is_idle x q e.place past facts (first_here x q e.place past first)).0 in
+              decides (Elsewhere y q to hop) q (A.Elsewhere to hop) (λ z. refl) due_x
+              (record { ranges = and_from (is_place_number to) (nat_le hop e.clock) (place-number l to shape has) (le-leb hop e.clock (omega (arith, le, hop_is))); places = has }) refl
+              (λ from k t. absurd (let bad : Idle ≡ Tried from q e.place k = sym idle ∙ t in cc)))
+          | inr a ↦ (
+              let b = (and_parts (is_tried_with (λ k. nat_lt k hop) (due l v e.place y q)) (not (is_held_at e.place (fate (on q past)))) (and_parts (is_tried_with (λ k. nat_lt k hop) (due l v e.place y q) && not (is_held_at e.place (fate (on q past)))) (not (to == e.place)) a).0).0 in
+              let some = tried-some hop (due l v e.place y q) b in
+              let f = stale-fits q to hop there some in
+              decides (Elsewhere y q to hop) q (A.Elsewhere to hop) (λ z. refl) due_x f.1 refl (λ from k t. f.2))
+        ]
+    message-fits a is h this = none_some x this
