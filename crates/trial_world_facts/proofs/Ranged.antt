@@ -21,7 +21,7 @@ use Rattle.chorus_entry.specs.declared.act.Act.{Act}
 use Rattle.chorus_entry.specs.declared.act.Act.TheVariants.{Post, Accept, Full, Already, ClientsFull, Stale, Early, NoPort, Elsewhere, NoMember, Choose, Try, Told, Heard, Gone, Depart, Arrive}
 use Rattle.chorus_entry.specs.Act.{message_of, held_port_of, port_of, is_decision}
 use Rattle.chorus_entry.specs.MsgId.{same_id}
-use Rattle.chorus_entry.proofs.Same.{from_same_id}
+use Rattle.chorus_entry.proofs.Same.{from_same_id, same_id-self}
 use Rattle.chorus_entry.specs.Answer.{is_final}
 use Rattle.chorus_entry.specs.Ranges.{is_from, is_place_number, has_range_of_id, has_ranges_of_answer, is_told}
 use Rattle.chorus_world.specs.declared.place.Location.{Location}
@@ -420,3 +420,75 @@ module _ (l : Layout) (past : List Entry) (e : Entry) (shape : IsShape l) (legal
               decides (Elsewhere y q to hop) q (A.Elsewhere to hop) (λ z. refl) due_x f.1 refl (λ from k t. f.2))
         ]
     message-fits a is h this = none_some x this
+
+  -- what the place learns
+  next-hop : (hop : ℕ) (o : Option Fate) → is_next_hop hop o ≡ true → (f : Fate) × (o ≡ Some f) × (hop ≡ length f.path)
+  next-hop hop None h = absurd (false≢true h)
+  next-hop hop (Some f) h = (f, refl, eqb-true hop (length f.path) h)
+
+  told-hop : (c : ℕ) (a : Answer) (m : Location) → has_ranges_of_answer c a ≡ true → taught a ≡ Some m → m.hop ≤ c
+  told-hop c (A.Stale to hop) m r h =
+      let same : record { to = to; hop = hop } ≡ m = cc in
+      let le = leb-true hop c (and_parts (is_place_number to) (nat_le hop c) r).1 in
+      subst (λ (z : Location). z.hop ≤ c) same le
+  told-hop c (A.Elsewhere to hop) m r h =
+      let same : record { to = to; hop = hop } ≡ m = cc in
+      let le = leb-true hop c (and_parts (is_place_number to) (nat_le hop c) r).1 in
+      subst (λ (z : Location). z.hop ≤ c) same le
+  told-hop c (A.Accepted n) m r h = absurd (cc)
+  told-hop c (A.Full n) m r h = absurd (cc)
+  told-hop c (A.Early n) m r h = absurd (cc)
+  told-hop c A.NoPort m r h = absurd (cc)
+  told-hop c A.Already m r h = absurd (cc)
+  told-hop c A.ClientsFull m r h = absurd (cc)
+  told-hop c A.NoMember m r h = absurd (cc)
+  told-hop c (A.Chosen n) m r h = absurd (cc)
+  told-hop c A.Gone m r h = absurd (cc)
+
+  some-lesson : (b : Bool) (o : Option Location) (m : Location) → cond b o None ≡ Some m → o ≡ Some m
+  some-lesson true o m h = h
+  some-lesson false o m h = absurd (cc)
+
+  lesson-le : (a : Act) (q : Ui) (m : Location) → e.act ≡ a → act_may l (views past e.place e.seat a) e.place e.seat a ≡ true → learned q e.place (at e.place past) a ≡ Some m → m.hop ≤ e.clock
+  lesson-le (Arrive r hop) q m is h k =
+      let c = coming_fate e.place hop (fate (on r past)) h in
+      let le = line-le r c.0 (ap held_port_of is) c.2 in
+      let hop_is = c.5 in
+      let same : record { to = e.place; hop = hop } ≡ m = (let some = some-lesson (same_ui r q) (Some (let z : Location = record { to = e.place; hop = hop } in z)) m k in cc) in
+      subst (λ (z : Location). z.hop ≤ e.clock) same (omega (arith, le, hop_is))
+  lesson-le (Depart r to a hop) q m is h k =
+      let four = and_parts _ (is_next_hop hop (fate (on r past))) h in
+      let f = next-hop hop (fate (on r past)) four.1 in
+      let le = line-le r f.0 (ap held_port_of is) f.1 in
+      let hop_is = f.2 in
+      let same : record { to = to; hop = hop } ≡ m = (let some = some-lesson (same_ui r q) (Some (let z : Location = record { to = to; hop = hop } in z)) m k in cc) in
+      subst (λ (z : Location). z.hop ≤ e.clock) same (omega (arith, le, hop_is))
+  lesson-le (Told x a) q m is h k =
+      let n = told_needs l past e.place e.seat x a h in
+      let was : ProgressFits l x (last_clock (about x past)) (Decided e.place n.by n.port a) = subst (ProgressFits l x (last_clock (about x past))) n.is (old.messages x) in
+      let about_x : is_about (Some x) e ≡ true = ap (λ z. are_same same_id (Some x) (message_of z)) is ∙ same_id-self x in
+      let le = about-le x about_x in
+      let less = told-hop (last_clock (about x past)) a m (was.1).ranges (some-lesson (is_sent_to q (find_sent x (sent (at e.place past)))) (taught a) m k) in
+      omega (arith, le, less)
+  lesson-le a q m is h k = absurd (cc)
+
+  hops-fit : (p : ℕ) (q : Ui) → (located l q (at p (e ∷ past))).hop ≤ last_clock (at p (e ∷ past))
+  hops-fit p q = go (is_at p e) refl
+    where
+      go : (b : Bool) → is_at p e ≡ b → (located l q (cond b (e ∷ at p past) (at p past))).hop ≤ last_clock (cond b (e ∷ at p past) (at p past))
+      go false t = old.hops p q
+      go true t =
+          let here : e.place ≡ p = eqb-true e.place p t in
+          subst (λ z. (farther (located l q (at z past)) (learned q e.place (at z past) e.act)).hop ≤ e.clock) here
+          (farther-hop (located l q (at e.place past)) (learned q e.place (at e.place past) e.act) e.clock (located-le q) (λ m k. lesson-le e.act q m refl (legal_parts l e past legal).0 k))
+
+  pub fit-more : AllFit l (e ∷ past)
+  fit-more = record { hops = hops-fit; messages = λ x. go x (is_about (Some x) e) refl }
+    where
+      go : (x : MsgId) (b : Bool) → is_about (Some x) e ≡ b → ProgressFits l x (last_clock (cond b (e ∷ about x past) (about x past))) (progress (cond b (e ∷ about x past) (about x past)))
+      go x true t = message-fits x t e.act refl (legal_parts l e past legal).0 (id_is x (message_of e.act) t)
+      go x false t = old.messages x
+
+pub all-fit : (l : Layout) (past : List Entry) → IsShape l → is_legal l past ≡ true → IsCausal past → AllFit l past
+all-fit l [] shape h c = record { hops = λ p q. omega arith; messages = λ x. tt }
+all-fit l (e ∷ past) shape h c = fit-more l past e shape h c (all-fit l past shape (legal_parts l e past h).1 (causal-older e past c))
