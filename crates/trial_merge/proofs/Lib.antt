@@ -30,3 +30,4 @@ pub mod Carrying
 pub mod Few
 pub mod Stopped
 pub mod AllPromises
+pub mod Posts
