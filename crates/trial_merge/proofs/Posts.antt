@@ -151,3 +151,146 @@ hand-fits past (e ∷ mine) h all k = by e.act k (λ y. hand-fits past mine y al
         (λ d o. (and_parts (has_range_of_tag d.message.tag) (nat_le (length d.message.body) 4096) (and_parts (has_range_of_tag d.message.tag && nat_le (length d.message.body) 4096) (demands_a_site d.dest) (post-fits x past d all o)).0).0) ih i
     by (acts.Post m d) i ih = hand-without-fits m.tag (seats.hand past mine) h ih i
     by a i ih = ih h i
+
+-- An own act that posts.
+
+either-fits : (b : Bool) (x y : Act) → posts_fit x ≡ true → posts_fit y ≡ true → posts_fit (cond b x y) ≡ true
+either-fits true x y h k = h
+either-fits false x y h k = k
+
+three-fit : (b c : Bool) (x y z : Act) → posts_fit x ≡ true → posts_fit y ≡ true → posts_fit z ≡ true → posts_fit (cond b x (cond c y z)) ≡ true
+three-fit true c x y z h k m = h
+three-fit false c x y z h k m = either-fits c y z k m
+
+new-fits : (tag : Tag) (body : List ℕ) (caller : Seated) (d : Dest) → has_range_of_tag tag ≡ true → length body ≤ 4096 → demands_a_site d ≡ true → fits_in_post (next_message tag body caller) d ≡ true
+new-fits tag body caller d t b s =
+    and_from (has_range_of_tag tag && nat_le (length body) 4096) (demands_a_site d) (and_from (has_range_of_tag tag) (nat_le (length body) 4096) t (le-leb (length body) 4096 b)) s
+
+module _ (n : NetState) (past : List Entry) (s : Stands n past) (all : All PostsFit past) (k : ℕ) (caller : Seated) (h : slice_get n.callers k ≡ Some caller) where
+  mine-fit : All PostsFit (by k past)
+  mine-fit = All-filter (is_by k) PostsFit past all
+
+  call-fits : (q back : Ui) (body : List ℕ) (o : Option Call) → length body ≤ 4096 → posts_fit (call_act q back body caller o) ≡ true
+  call-fits q back body None b = new-fits (tags.Request (caller.client.given + 1) back) body caller (dests.Port q) (le-leb 1 (caller.client.given + 1) (omega arith)) b refl
+  call-fits q back body (Some call) b = refl
+
+  retry-fits : (o : Option Call) → caller.client.outstanding ≡ o → posts_fit (retry_act caller o) ≡ true
+  retry-fits None e = refl
+  retry-fits (Some call) e =
+      let is : outstanding (by k past) ≡ Some call = sym (s.callers k caller h).call ∙ e in
+      let f = go (seats.call (by k past)) is in
+      new-fits (tags.Request call.number call.back) call.body caller (dests.Port call.port) (le-leb 1 call.number f.0) f.1 refl
+    where
+      named : (m : ℕ) (o : Option seats.Call) → seats.first_call m (by k past) ≡ o → as_called m o ≡ Some call → (1 ≤ call.number) × (length call.body ≤ 4096)
+      named m None f i = absurd (cc)
+      named m (Some c) f i =
+          let fits = called-fits m (by k past) c mine-fit f in
+          let number : m ≡ call.number = ap number_in i in
+          let body : c.body ≡ call.body = ap body_in i in
+          (subst (λ z. 1 ≤ z) number fits.0, subst (λ xs. length xs ≤ 4096) body fits.1)
+        where
+          number_in : Option Call → ℕ
+          number_in None = 0
+          number_in (Some d) = d.number
+
+          body_in : Option Call → List ℕ
+          body_in None = []
+          body_in (Some d) = d.body
+
+      go : (o : Option ℕ) → outstanding_as (by k past) o ≡ Some call → (1 ≤ call.number) × (length call.body ≤ 4096)
+      go None i = absurd (cc)
+      go (Some m) i = named m (seats.first_call m (by k past)) refl i
+
+  reply-fits : (body : List ℕ) (o : Option Hand) → caller.hand ≡ o → length body ≤ 4096 → posts_fit (reply_act body caller o) ≡ true
+  reply-fits body None e b = refl
+  reply-fits body (Some z) e b =
+      let is : seats.hand past (by k past) ≡ Some z = sym (s.callers k caller h).hand ∙ e in
+      new-fits (tags.Reply z.client z.number) body caller (dests.Port z.back) (le-leb 1 z.number (hand-fits past (by k past) z all is)) b refl
+
+  take-fits : (q : Ui) (o : Taken) → posts_fit (take_act q o) ≡ true
+  take-fits q (takes.Message pos m) = refl
+  take-fits q takes.Empty = refl
+  take-fits q takes.NotHere = refl
+
+  cancel-fits : (o : Option Call) → posts_fit (cancel_act o) ≡ true
+  cancel-fits None = refl
+  cancel-fits (Some call) = refl
+
+  move-fits : (q actor : Ui) (p : PlaceState) (o : Option PortRecord) → posts_fit (move_act q actor p o) ≡ true
+  move-fits q actor p None = refl
+  move-fits q actor p (Some port) =
+      three-fit (not (has_actor p.layout actor)) (actor.site == site_of p.layout p.number) (acts.NoActor actor) (acts.Rehome q actor) (acts.Depart q (place_at p.layout actor.site q) actor (port.hop + 1)) refl refl refl
+
+  delete-fits : (q : Ui) (o : Option PortRecord) → posts_fit (delete_act q o) ≡ true
+  delete-fits q None = refl
+  delete-fits q (Some port) = refl
+
+  pub own-post-fits : (c : Command) → meets_conditions c ≡ true → has_body_in_limit c ≡ true → posts_fit (own c (turn_for c caller n)) ≡ true
+  own-post-fits (commands.Make actor capacity) m b =
+      let p = (turn_for (commands.Make actor capacity) caller n).place in
+      three-fit (not (has_actor p.layout actor)) (is_full_of_ports p.layout p.journal) (acts.NoActor actor) (acts.MakeFull actor) (acts.Make (next_port p actor) actor capacity) refl refl refl
+  own-post-fits (commands.Send d body) m b =
+      new-fits tags.Plain body caller d refl (leb-true (length body) 4096 b) (and_parts (has_kinds_in_dest d) (demands_a_site d) m).1
+  own-post-fits (commands.Call q back body) m b = call-fits q back body caller.client.outstanding (leb-true (length body) 4096 b)
+  own-post-fits commands.Retry m b = retry-fits caller.client.outstanding refl
+  own-post-fits commands.Cancel m b = cancel-fits caller.client.outstanding
+  own-post-fits (commands.Reply body) m b = reply-fits body caller.hand refl (leb-true (length body) 4096 b)
+  own-post-fits (commands.Take q) m b = take-fits q (taken caller.actor (find q (turn_for (commands.Take q) caller n).place.ports))
+  own-post-fits (commands.Move q actor) m b =
+      move-fits q actor (turn_for (commands.Move q actor) caller n).place (held_by caller.actor (find q (turn_for (commands.Move q actor) caller n).place.ports))
+  own-post-fits (commands.GroupMake site) m b =
+      let p = (turn_for (commands.GroupMake site) caller n).place in
+      three-fit (not (has_site p.layout site)) (nat_le GROUPS_PER_SITE (groups_made p.journal)) (acts.NoSite site) (acts.GroupsFull site) (acts.GroupMake (next_group p site)) refl refl refl
+  own-post-fits (commands.Join g q) m b =
+      let here = (turn_for (commands.Join g q) caller n).place.journal in
+      let full = nat_le MEMBERS_LIMIT (length (members g here)) in
+      either-fits (not (is_group g here)) (acts.NoGroup g) (cond (is_member q (members g here)) (acts.There g q) (cond full (acts.MembersFull g) (acts.Join g q))) refl
+      (three-fit (is_member q (members g here)) full (acts.There g q) (acts.MembersFull g) (acts.Join g q) refl refl refl)
+  own-post-fits (commands.Leave g q) m b =
+      let here = (turn_for (commands.Leave g q) caller n).place.journal in
+      three-fit (not (is_group g here)) (is_member q (members g here)) (acts.NoGroup g) (acts.Leave g q) (acts.NotThere g q) refl refl refl
+  own-post-fits (commands.Delete q) m b = delete-fits q (held_by caller.actor (find q (turn_for (commands.Delete q) caller n).place.ports))
+
+-- entries that answer no command post nothing
+follow-fits : (es : List Entry) → All (λ (e : Entry). is_command_entry e.act ≡ false) es → All PostsFit es
+follow-fits es h = All-weaker (λ (e : Entry). is_command_entry e.act ≡ false) PostsFit (λ e k. by e.act k) es h
+  where
+    by : (a : Act) → is_command_entry a ≡ false → posts_fit a ≡ true
+    by (acts.Post m d) k = absurd (true≢false k)
+    by a k = refl
+
+-- The history.
+module _ (l : Layout) (shape : IsShape l) where
+  given-fits : (es : List Event) (k : ℕ) (c : Command) (o : Option Seated) → may_be l es ≡ true → slice_get (schedule l es).callers k ≡ o → may_give o c ≡ true → All PostsFit (history l es) → All PostsFit (said_with c o (schedule l es))
+  given-fits es k c None may e gives all = All-nil PostsFit
+  given-fits es k c (Some caller) may e gives all =
+      let n = schedule l es in
+      let t = turn_for c caller n in
+      let three = and_parts (meets_conditions c && has_kinds_in_command c && has_body_in_limit c) (has_number_left caller c) gives in
+      let two = and_parts (meets_conditions c && has_kinds_in_command c) (has_body_in_limit c) three.0 in
+      let one = and_parts (meets_conditions c) (has_kinds_in_command c) two.0 in
+      let own_fits = own-post-fits n (history l es) (in-order l es shape may).0 all k caller e c one.0 two.1 in
+      let g = act-goes c t in
+      subst (All PostsFit) (sym (said-act c t))
+      (All-append PostsFit g.newer (next_entry (own c t) t ∷ []) (follow-fits g.newer g.follow) (All-cons PostsFit (next_entry (own c t) t) [] own_fits (All-nil PostsFit)))
+
+  worked-fits : (b : ℕ) (caller : Seated) (o : Option Packet) (n : NetState) → All PostsFit (said_on b caller o n)
+  worked-fits b caller None n = All-nil PostsFit
+  worked-fits b caller (Some q) n =
+      let t = begun_by (place b n) caller q in
+      subst (All PostsFit) (sym (said-work q t)) (follow-fits (work-goes q t).newer (work-goes q t).follow)
+
+  delivered-fits : (a b : ℕ) (o : Option Seated) (n : NetState) → All PostsFit (said_at a b o n)
+  delivered-fits a b None n = All-nil PostsFit
+  delivered-fits a b (Some caller) n = worked-fits b caller (first_on a b n.packets) n
+
+  pub history-fits : (es : List Event) → may_be l es ≡ true → All PostsFit (history l es)
+  history-fits [] may = All-nil PostsFit
+  history-fits (Enter actor last ∷ es) may = history-fits es (and_parts (may_happen (Enter actor last) (schedule l es)) (may_be l es) may).1
+  history-fits (Give k c ∷ es) may =
+      let two = and_parts (may_happen (Give k c) (schedule l es)) (may_be l es) may in
+      let old = history-fits es two.1 in
+      All-append PostsFit (said_by (Give k c) (schedule l es)) (history l es) (given-fits es k c (slice_get (schedule l es).callers k) two.1 refl two.0 old) old
+  history-fits (Deliver k a b ∷ es) may =
+      let two = and_parts (may_happen (Deliver k a b) (schedule l es)) (may_be l es) may in
+      All-append PostsFit (said_by (Deliver k a b) (schedule l es)) (history l es) (delivered-fits a b (slice_get (schedule l es).callers k) (schedule l es)) (history-fits es two.1)
