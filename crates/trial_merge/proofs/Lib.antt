@@ -31,3 +31,4 @@ pub mod Few
 pub mod Stopped
 pub mod AllPromises
 pub mod Posts
+pub mod Kept

@@ -492,3 +492,11 @@ module _ (l : Layout) (past : List Entry) (e : Entry) (shape : IsShape l) (legal
 pub all-fit : (l : Layout) (past : List Entry) → IsShape l → is_legal l past ≡ true → IsCausal past → AllFit l past
 all-fit l [] shape h c = record { hops = λ p q. omega arith; messages = λ x. tt }
 all-fit l (e ∷ past) shape h c = fit-more l past e shape h c (all-fit l past shape (legal_parts l e past h).1 (causal-older e past c))
+
+-- what is due at a place has an id within its range
+pub due-ranged : (l : Layout) (past : List Entry) (p : ℕ) (x : MsgId) (q : Ui) → is_legal l past ≡ true → AllFit l past → IsDue x q p past → has_range_of_id x ≡ true
+due-ranged l past p x q legal fit (inl t) = (subst (ProgressFits l x (last_clock (about x past))) t.is (fit.messages x)).0
+due-ranged l past p x q legal fit (inr first) =
+    let f = first_here x q p past first in
+    let ranged = found-has (λ (m : Sent). has_range_of_id m.id ≡ true) x (sent (at p past)) f.message (sent-ranged l past p legal) f.is in
+    subst (λ z. has_range_of_id z ≡ true) (found-id x (sent (at p past)) f.message f.is) ranged
