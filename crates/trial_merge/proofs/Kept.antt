@@ -48,7 +48,7 @@ abbrev pub IsKnown : List Entry → MsgId → Type 0
 IsKnown past x = (has_range_of_id x ≡ true) × IsPosted past x
 
 known-more : (e : Entry) (past : List Entry) (xs : List MsgId) → All (IsKnown past) xs → All (IsKnown (e ∷ past)) xs
-known-more e past xs h = All-weaker (IsKnown past) (IsKnown (e ∷ past)) (λ x k. (k.0, k.1.0, post_stays x past e k.1.0 k.1.1)) xs h
+known-more e past xs h = All-weaker (IsKnown past) (IsKnown (e ∷ past)) (λ x k. (k.0, (k.1.0, post_stays x past e k.1.0 k.1.1))) xs h
 
 accepted-after : (past : List Entry) (p : ℕ) (a : Act) (o : Option Fate) → All (IsKnown past) (accepted_from o) → ((x : MsgId) (q : Ui) (n : ℕ) → a ≡ acts.Accept x q n → IsKnown past x) → All (IsKnown past) (accepted_from (fate_after p a o))
 accepted-after past p (acts.Make q a c) o h k = All-nil (IsKnown past)
@@ -68,7 +68,7 @@ accepted-known l (e ∷ past) q shape h c = go (is_on (Some q) e) (known-more e 
     new x r n is =
         let due = decision_due l past e.place e.seat (acts.Accept x r n) x r refl refl refl (subst (λ a. act_may l (views past e.place e.seat a) e.place e.seat a ≡ true) is two.0) in
         let known = waiting_posted l past r x two.1 (accept_waits l past e x r n h is) in
-        (due-ranged l past e.place x r two.1 (all-fit l past shape two.1 (causal-older e past c)) due, known.0, post_stays x past e known.0 known.1)
+        (due-ranged l past e.place x r two.1 (all-fit l past shape two.1 (causal-older e past c)) due, (known.0, post_stays x past e known.0 known.1))
 
     go : (b : Bool) → All (IsKnown (e ∷ past)) (accepted_from (fate (on q past))) → All (IsKnown (e ∷ past)) (accepted_from (fate (cond b (e ∷ on q past) (on q past))))
     go true ih = accepted-after (e ∷ past) e.place e.act (fate (on q past)) ih new
@@ -116,17 +116,17 @@ none-pushed d c n (k ∷ ks) h ne = go (k.0 == d) h (λ i. none-pushed d c n ks 
 
 distinct-pushed : (c n : ℕ) (ks : List (ℕ × ℕ)) → are_distinct ks ≡ true → is_some (number_of ks c) ≡ false → are_distinct (ks ++ (c, n) ∷ []) ≡ true
 distinct-pushed c n [] h i = refl
-distinct-pushed c n (k ∷ ks) h i = go (k.0 == c) refl i
+distinct-pushed c n (k ∷ ks) h i = go (k.0 == c) refl i (distinct-pushed c n ks)
   where
     two : (not (is_some (number_of ks k.0)) ≡ true) × (are_distinct ks ≡ true)
     two = and_parts (not (is_some (number_of ks k.0))) (are_distinct ks) h
 
-    go : (b : Bool) → (k.0 == c) ≡ b → is_some (cond b (Some k.1) (number_of ks c)) ≡ false → not (is_some (number_of (ks ++ (c, n) ∷ []) k.0)) && are_distinct (ks ++ (c, n) ∷ []) ≡ true
-    go true t j = absurd (true≢false j)
-    go false t j =
+    go : (b : Bool) → (k.0 == c) ≡ b → is_some (cond b (Some k.1) (number_of ks c)) ≡ false → (are_distinct ks ≡ true → is_some (number_of ks c) ≡ false → are_distinct (ks ++ (c, n) ∷ []) ≡ true) → not (is_some (number_of (ks ++ (c, n) ∷ []) k.0)) && are_distinct (ks ++ (c, n) ∷ []) ≡ true
+    go true t j ih = absurd (true≢false j)
+    go false t j ih =
         let other : (c == k.0) ≡ false = grind (arith, t) in
         let none = none-pushed k.0 c n ks (not-true (is_some (number_of ks k.0)) two.0) other in
-        and_from (not (is_some (number_of (ks ++ (c, n) ∷ []) k.0))) (are_distinct (ks ++ (c, n) ∷ [])) (ap not none) (distinct-pushed c n ks two.1 j)
+        and_from (not (is_some (number_of (ks ++ (c, n) ∷ []) k.0))) (are_distinct (ks ++ (c, n) ∷ [])) (ap not none) (ih two.1 j)
 
 some-renumbered : (c n : ℕ) (ks : List (ℕ × ℕ)) → 1 ≤ n → list_all has_range_of_client ks ≡ true → list_all has_range_of_client (with_number ks c n) ≡ true
 some-renumbered c n [] le h = refl
@@ -198,7 +198,7 @@ module _ (l : Layout) (past : List Entry) (e : Entry) (q : Ui) (shape : IsShape 
 pub table-fits : (l : Layout) (past : List Entry) (q : Ui) → IsShape l → is_legal l past ≡ true → All PostsFit past → TableFits (clients_kept past (on q past))
 table-fits l [] q shape h all = record { few = omega arith; distinct = refl; some = refl }
 table-fits l (e ∷ past) q shape h all =
-    subst (λ b. TableFits (clients_kept (e ∷ past) b)) refl (go (is_on (Some q) e) refl (table-fits l past q shape legal (All-tail PostsFit e past all)))
+    go (is_on (Some q) e) refl (table-fits l past q shape legal (All-tail PostsFit e past all))
   where
     legal : is_legal l past ≡ true
     legal = (legal_parts l e past h).1

@@ -16,3 +16,4 @@ pub mod DirectTries
 pub mod MadePorts
 pub mod Ids
 pub mod Ranged
+pub mod Hearings
