@@ -32,3 +32,4 @@ pub mod Stopped
 pub mod AllPromises
 pub mod Posts
 pub mod Kept
+pub mod Lawful
