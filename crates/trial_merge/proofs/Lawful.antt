@@ -61,6 +61,7 @@ use Rattle.trial_world_facts.proofs.Paths.{PathIn, Moves, path-in, IsOnItsWay}
 use Rattle.trial_world_facts.proofs.MadePorts.{IsWellMade, MadeWell, ActorFits, made-well}
 use Rattle.trial_world_facts.proofs.Ranged.{NamesPlaces, Teaches, AnswerFits, ProgressFits, AllFit, all-fit, place-number}
 use Rattle.trial_world_facts.proofs.Hearings.{stays-reported}
+use Rattle.chorus_ports.specs.Table.{find}
 use Rattle.trial_place.specs.State.{PlaceState, Outgoing}
 use Rattle.trial_place.specs.Lawful.{is_first_of, is_under_way, is_known_answer, may_teach, makes, is_made_here, may_receive, is_asked_here, is_lawful_cargo, is_lawful}
 use Rattle.trial_net.specs.Packets.{first_on}
@@ -355,3 +356,169 @@ module _ (n : NetState) (past : List Entry) (shape : IsShape n.layout) (s : Stan
           go : (c : Bool) → is_heard x (at b past) ≡ c → not c ≡ true
           go false t = refl
           go true t = absurd (let bad : Settled v ≡ Reported = sym stage ∙ heard-reported n.layout past b x legal t in cc)
+
+  -- A Transfer.
+
+  -- the port is on its way by this packet
+  record IsMoved (o : Outgoing) (port : PortRecord) : Type 0 where
+    moved : Fate
+    actor : Ui
+    made : fate (on port.ui past) ≡ Some moved
+    spot : moved.spot ≡ spots.Moving actor
+    record_is : port ≡ record_for past (on port.ui past) port.ui actor moved
+    to : o.to ≡ last_of 0 moved.path
+    clock : o.packet.clock ≡ last_clock (on port.ui past)
+
+  is-moved : (o : Outgoing) (port : PortRecord) → o.packet.cargo ≡ cargos.Transfer port → IsIn o (transfer past port.ui) → IsMoved o port
+  is-moved o port e i = go (fate (on port.ui past)) refl i
+    where
+      by-spot : (f : Fate) (spot : Spot) → fate (on port.ui past) ≡ Some f → f.spot ≡ spot → IsIn o (transfer_in past (on port.ui past) port.ui f spot) → IsMoved o port
+      by-spot f (spots.Held w) g z j = absurd j
+      by-spot f spots.Ended g z j = absurd j
+      by-spot f (spots.Moving w) g z (inr j) = absurd j
+      by-spot f (spots.Moving w) g z (inl same) =
+          let cargo : cargos.Transfer (record_for past (on port.ui past) port.ui w f) ≡ cargos.Transfer port = ap (λ (u : Outgoing). u.packet.cargo) same ∙ e in
+          let is : record_for past (on port.ui past) port.ui w f ≡ port = cc in
+          record {
+            moved = f;
+            actor = w;
+            made = g;
+            spot = z;
+            record_is = sym is;
+            to = sym (ap (λ (u : Outgoing). u.to) same);
+            clock = sym (ap (λ (u : Outgoing). u.packet.clock) same);
+          }
+
+      go : (c : Option Fate) → fate (on port.ui past) ≡ c → IsIn o (transfer_of past (on port.ui past) port.ui c) → IsMoved o port
+      go None g j = absurd j
+      go (Some f) g j = by-spot f f.spot g refl j
+
+  pending-ranged : (xs : List MsgId) → All (IsKnown past) xs → list_all has_ranges_of_message (map (message past) xs) ≡ true
+  pending-ranged [] h = refl
+  pending-ranged (x ∷ xs) h =
+      let one = All-head (IsKnown past) x xs h in
+      and_from (has_ranges_of_message (message past x)) (list_all has_ranges_of_message (map (message past) xs))
+      (message-ranged n.layout past x one.1.0 legal all one.0 one.1.1) (pending-ranged xs (All-tail (IsKnown past) x xs h))
+
+  -- a port q with the fate f, on its way to the actor w at this place
+  module _ (q w : Ui) (f : Fate) (made : fate (on q past) ≡ Some f) (spot : f.spot ≡ spots.Moving w) (to : b ≡ last_of 0 f.path) (clock : k.clock ≡ last_clock (on q past)) where
+    abbrev brought : PortRecord
+    brought = record_for past (on q past) q w f
+
+    well : IsWellMade n.layout q f (on q past)
+    well = subst (λ o. MadeWell n.layout q o (on q past)) made (made-well n.layout past q shape legal s.causal)
+
+    actor-fits : (names_actor w ≡ true) × (has_actor n.layout w ≡ true)
+    actor-fits = subst (ActorFits n.layout) spot well.actor
+
+    on-its-way : IsOnItsWay n.layout q w f.path
+    on-its-way = subst (Moves n.layout q f.path) spot (subst (PathIn n.layout q) made (path-in n.layout past q shape legal)).1
+
+    taken-some : f.taken ≤ length f.accepted
+    taken-some = subst (λ o. taken_from o ≤ length (accepted_from o)) made (receives_in_order n.layout past q shape legal).1
+
+    capacity : (length f.accepted ≤ f.taken + f.capacity) × (1 ≤ f.capacity) × (f.capacity ≤ 64)
+    capacity = keeps_to_capacity n.layout past q f shape legal made
+
+    waits : length (map (message past) (drop f.taken f.accepted)) ≡ length f.accepted - f.taken
+    waits = length-map (drop f.taken f.accepted) (message past) ∙ length-drop f.taken f.accepted
+
+    place-is : n.layout ≡ n.layout → b ≡ place_at n.layout w.site q
+    place-is z = to ∙ (moving-to n.layout q w f.path on-its-way).1 ∙ on-its-way.place
+
+    site : has_site n.layout w.site ≡ true
+    site = (and_parts (has_site n.layout w.site) (nat_le 1 w.number) (and_parts (has_site n.layout w.site && nat_le 1 w.number) (nat_le w.number ACTORS_PER_SITE) actor-fits.1).0).0
+
+    site-is : site_of n.layout b ≡ w.site
+    site-is = ap (site_of n.layout) (place-is refl) ∙ place-site n.layout w.site q shape site
+
+    brought-ranged : has_ranges_of_record k.clock brought ≡ true
+    brought-ranged =
+        let c = well.clock in
+        let cap = capacity.0 in
+        let table = table-fits n.layout past q shape legal all in
+        let known : All (IsKnown past) f.accepted = subst (λ o. All (IsKnown past) (accepted_from o)) made (accepted-known n.layout past q shape legal s.causal) in
+        let some = well.some in
+        let taken_le = taken-some in
+        let long = waits in
+        let names = line-named n.layout past q f legal made in
+        let hop_low : nat_le (length f.path - 1) k.clock ≡ true = le-leb (length f.path - 1) k.clock (omega (arith, c, clock)) in
+        let first_low : nat_le f.taken k.clock ≡ true = le-leb f.taken k.clock (omega (arith, c, clock, taken_le)) in
+        let few : nat_le (length (map (message past) (drop f.taken f.accepted))) f.capacity ≡ true = le-leb (length (map (message past) (drop f.taken f.accepted))) f.capacity (omega (arith, long, cap)) in
+        let msgs = pending-ranged (drop f.taken f.accepted) (All-drop (IsKnown past) f.taken f.accepted known) in
+        let small : nat_le 1 f.capacity && nat_le f.capacity 64 ≡ true = and_from (nat_le 1 f.capacity) (nat_le f.capacity 64) (le-leb 1 f.capacity capacity.1) (le-leb f.capacity 64 capacity.2) in
+        let clients : has_ranges_of_clients (clients_kept past (on q past)) ≡ true =
+        and_from (nat_le (length (clients_kept past (on q past))) 64 && are_distinct (clients_kept past (on q past))) (list_all has_range_of_client (clients_kept past (on q past)))
+        (and_from (nat_le (length (clients_kept past (on q past))) 64) (are_distinct (clients_kept past (on q past))) (le-leb (length (clients_kept past (on q past))) 64 table.few) table.distinct) table.some in
+        and_from _ (has_ranges_of_clients (clients_kept past (on q past)))
+        (and_from _ (list_all has_ranges_of_message (map (message past) (drop f.taken f.accepted)))
+        (and_from _ (nat_le (length (map (message past) (drop f.taken f.accepted))) f.capacity)
+        (and_from _ (nat_le f.taken k.clock)
+        (and_from _ (nat_le (length f.path - 1) k.clock)
+        (and_from (names_port q && names_actor w) (nat_le 1 f.capacity && nat_le f.capacity 64)
+        (and_from (names_port q) (names_actor w) names actor-fits.0) small) hop_low) first_low) few) msgs) clients
+
+    not-held : is_none (find q (place b n).ports) ≡ true
+    not-held = ap is_none (s.ports b q ∙ ap (record_here past (on q past) q b) made ∙ ap (record_held past (on q past) q b f) spot)
+
+    made-there : not (creation_place n.layout q == b) || is_made_here q (at b past) ≡ true
+    made-there = go (creation_place n.layout q == b) refl
+      where
+        go : (c : Bool) → (creation_place n.layout q == b) ≡ c → not c || is_made_here q (at b past) ≡ true
+        go false t = refl
+        go true t = subst (λ p. is_made_here q (at p past) ≡ true) (eqb-true (creation_place n.layout q) b t) (made-here n.layout past q f shape legal made)
+
+    brought-received : may_receive k.clock brought (place b n) ≡ true
+    brought-received =
+        let c = well.clock in
+        let taken_le = taken-some in
+        let long = waits in
+        let path : length f.path ≡ length on-its-way.front + 2 = ap length on-its-way.is ∙ length-append on-its-way.front (on-its-way.from ∷ on-its-way.to ∷ []) in
+        let hop_some : nat_le 1 (length f.path - 1) ≡ true = le-leb 1 (length f.path - 1) (omega (arith, path)) in
+        let all_low : nat_le (f.taken + length (map (message past) (drop f.taken f.accepted))) k.clock ≡ true = le-leb (f.taken + length (map (message past) (drop f.taken f.accepted))) k.clock (omega (arith, c, clock, taken_le, long)) in
+        let where_to : (place_at n.layout (site_of n.layout b) q == b) ≡ true = eq-eqb (place_at n.layout (site_of n.layout b) q) b (ap (λ z. place_at n.layout z q) site-is ∙ sym (place-is refl)) in
+        let on_site : (w.site == site_of n.layout b) ≡ true = eq-eqb w.site (site_of n.layout b) (sym site-is) in
+        let lay = layout_at in
+        let num = number_at in
+        and_from _ (nat_le (f.taken + length (map (message past) (drop f.taken f.accepted))) k.clock)
+        (and_from _ (not (creation_place (place b n).layout q == (place b n).number) || is_made_here q (place b n).journal)
+        (and_from _ (nat_le 1 (length f.path - 1))
+        (and_from _ (w.site == site_of (place b n).layout (place b n).number)
+        (and_from _ (has_actor (place b n).layout w)
+        (and_from _ (is_none (find q (place b n).ports))
+        (and_from (can_make_port (place b n).layout q) (place_at (place b n).layout (site_of (place b n).layout (place b n).number) q == (place b n).number)
+        (ap (λ (z : Layout). can_make_port z q) lay ∙ well.listed) ((λ i. place_at (lay i) (site_of (lay i) (num i)) q == num i) ∙ where_to))
+        not-held) (ap (λ (z : Layout). has_actor z w) lay ∙ actor-fits.1)) ((λ i. w.site == site_of (lay i) (num i)) ∙ on_site)) hop_some)
+        ((λ i. not (creation_place (lay i) q == num i) || is_made_here q (s.journal b i)) ∙ made-there)) all_low
+
+  transfer-lawful : (port : PortRecord) → k.cargo ≡ cargos.Transfer port → Both (cargos.Transfer port)
+  transfer-lawful port e =
+      let o = on-way.outgoing in
+      let cargo : o.packet.cargo ≡ cargos.Transfer port = ap (λ (z : Packet). z.cargo) on-way.packet ∙ e in
+      let inside : IsIn o (transfer past port.ui) = subst (IsIn o) (s.transfers port.ui) (in-view (is_with port.ui) o n.packets (ap (moves port.ui) cargo ∙ same_ui-self port.ui) on-way.stands) in
+      let m = is-moved o port cargo inside in
+      let to : b ≡ last_of 0 (m.moved).path = sym on-way.to ∙ m.to in
+      let clock : k.clock ≡ last_clock (on port.ui past) = ap (λ (z : Packet). z.clock) (sym on-way.packet) ∙ m.clock in (
+        ap (has_ranges_of_record k.clock) m.record_is ∙ brought-ranged port.ui m.actor m.moved m.made m.spot to clock,
+        ap (λ r. may_receive k.clock r (place b n)) m.record_is ∙ brought-received port.ui m.actor m.moved m.made m.spot to clock,
+      )
+
+  both-lawful : Both k.cargo
+  both-lawful = go k.cargo refl
+    where
+      go : (c : Cargo) → k.cargo ≡ c → Both c
+      go (cargos.Try m q r only hop) e = try-lawful m q r only hop e
+      go (cargos.Verdict x q r v) e = verdict-lawful x q r v e
+      go (cargos.Transfer port) e = transfer-lawful port e
+      go (cargos.Ask m d) e = ask-lawful m d e
+      go (cargos.Report x v) e = report-lawful x v e
+
+  pub lawful-here : is_lawful a k (place b n) ≡ true
+  lawful-here =
+      let both = both-lawful in
+      let away : not (a == (place b n).number) ≡ true = ap (λ z. not (a == z)) number_at ∙ ap not apart in
+      let ranges : has_ranges k ≡ true = and_from (is_place_number k.from) (has_ranges_of_cargo k.clock k.cargo) (ap is_place_number from-a ∙ place-number n.layout a shape has-a) both.0 in
+      and_from ((k.from == a) && not (a == (place b n).number) && has_place (place b n).layout a && has_ranges k) (is_lawful_cargo k.clock a k.cargo (place b n))
+      (and_from ((k.from == a) && not (a == (place b n).number) && has_place (place b n).layout a) (has_ranges k)
+      (and_from ((k.from == a) && not (a == (place b n).number)) (has_place (place b n).layout a)
+      (and_from (k.from == a) (not (a == (place b n).number)) (eq-eqb k.from a from-a) away) (ap (λ (z : Layout). has_place z a) layout_at ∙ has-a)) ranges) both.1
