@@ -44,22 +44,26 @@ first-from a b (u ∷ us) k h = go (is_link a b u) refl h (first-from a b us k)
         ap (λ (z : Packet). z.from) (sym same) ∙ eqb-true u.packet.from a (and_parts (u.packet.from == a) (u.to == b) e).0
     go false e f ih = ih f
 
+-- whatever number of messages the caller has left
+pub commands-lead : (n : NetState) (us : List Outgoing) (past : List Entry) (t : Turn) (c : Command) → t.puts ≡ [] → IsGiven n us past t c → ReadyHere t → LeadsOn n us past (act c t)
+commands-lead n us past t (commands.Make actor capacity) none i ready = make-stands n us past t actor capacity i
+commands-lead n us past t (commands.Send (dests.Port q) body) none i ready = send-stands n us past t q body i
+commands-lead n us past t (commands.Send (dests.All g) body) none i ready = all-stands n us past t ready body g i
+commands-lead n us past t (commands.Send (dests.One g) body) none i ready = one-stands n us past t ready body g i
+commands-lead n us past t (commands.Send (dests.OneAt g s) body) none i ready = one-at-stands n us past t ready body g s i
+commands-lead n us past t (commands.Call q back body) none i ready = call-stands n us past t q back body i
+commands-lead n us past t commands.Retry none i ready = retry-stands n us past t i
+commands-lead n us past t commands.Cancel none i ready = cancel-stands n us past t i
+commands-lead n us past t (commands.Reply body) none i ready = reply-stands n us past t body i
+commands-lead n us past t (commands.Take q) none i ready = take-given n us past t q i
+commands-lead n us past t (commands.Move q actor) none i ready = move-given n us past t q actor i
+commands-lead n us past t (commands.GroupMake s) none i ready = group-make-stands n us past t s i
+commands-lead n us past t (commands.Join g q) none i ready = join-stands n us past t g q i
+commands-lead n us past t (commands.Leave g q) none i ready = leave-stands n us past t g q i
+commands-lead n us past t (commands.Delete q) none i ready = delete-given n us past t q i
+
 pub commands-stand : CommandsStand
-commands-stand n us past t (commands.Make actor capacity) none i ready left = make-stands n us past t actor capacity i
-commands-stand n us past t (commands.Send (dests.Port q) body) none i ready left = send-stands n us past t q body i
-commands-stand n us past t (commands.Send (dests.All g) body) none i ready left = all-stands n us past t ready body g i
-commands-stand n us past t (commands.Send (dests.One g) body) none i ready left = one-stands n us past t ready body g i
-commands-stand n us past t (commands.Send (dests.OneAt g s) body) none i ready left = one-at-stands n us past t ready body g s i
-commands-stand n us past t (commands.Call q back body) none i ready left = call-stands n us past t q back body i
-commands-stand n us past t commands.Retry none i ready left = retry-stands n us past t i
-commands-stand n us past t commands.Cancel none i ready left = cancel-stands n us past t i
-commands-stand n us past t (commands.Reply body) none i ready left = reply-stands n us past t body i
-commands-stand n us past t (commands.Take q) none i ready left = take-given n us past t q i
-commands-stand n us past t (commands.Move q actor) none i ready left = move-given n us past t q actor i
-commands-stand n us past t (commands.GroupMake s) none i ready left = group-make-stands n us past t s i
-commands-stand n us past t (commands.Join g q) none i ready left = join-stands n us past t g q i
-commands-stand n us past t (commands.Leave g q) none i ready left = leave-stands n us past t g q i
-commands-stand n us past t (commands.Delete q) none i ready left = delete-given n us past t q i
+commands-stand n us past t c none i ready left = commands-lead n us past t c none i ready
 
 pub packets-stand : PacketsStand
 packets-stand n us past t a k i apart = by k.cargo refl

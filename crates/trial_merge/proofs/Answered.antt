@@ -55,7 +55,7 @@ pub answers-once : (l : Layout) (callers : ℕ → Option Ui) (past : List Entry
 answers-once l callers past k a c clock x y who f g =
     answer-is l callers past k a c clock x who f ∙ sym (answer-is l callers past k a c clock y who g)
 
-run-older : (l : Layout) (callers : ℕ → Option Ui) (newer older : List Entry) → is_run l callers (newer ++ older) ≡ true → is_run l callers older ≡ true
+pub run-older : (l : Layout) (callers : ℕ → Option Ui) (newer older : List Entry) → is_run l callers (newer ++ older) ≡ true → is_run l callers older ≡ true
 run-older l callers [] older h = h
 run-older l callers (e ∷ newer) older h =
     run-older l callers newer older (and_parts (may l (newer ++ older) e && may_run callers (newer ++ older) e) (is_run l callers (newer ++ older)) h).1

@@ -81,7 +81,7 @@ turn-entries n m past new t u p lay places s r begins same inside fresh grows =
     new-entries n m past new fresh p s r here there ∙ sym (newer-is fresh t.place.journal) ∙ ap (newer t.place.journal) (sym grows)
 
 -- each event
-given-new : (n : NetState) (past new : List Entry) (k : ℕ) (c : Command) (o : Option Seated) → ((caller : Seated) → o ≡ Some caller → has_place n.layout (place_for n.layout caller.actor c) ≡ true) → Stands n past → Stands (commanded k c o n) (new ++ past) → new ≡ said_with c o n
+pub given-new : (n : NetState) (past new : List Entry) (k : ℕ) (c : Command) (o : Option Seated) → ((caller : Seated) → o ≡ Some caller → has_place n.layout (place_for n.layout caller.actor c) ≡ true) → Stands n past → Stands (commanded k c o n) (new ++ past) → new ≡ said_with c o n
 given-new n past new k c None inside s r = no-entries n n past new s r (λ i. refl)
 given-new n past new k c (Some caller) inside s r =
     let t = turn_for c caller n in

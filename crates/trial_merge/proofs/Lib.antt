@@ -33,3 +33,4 @@ pub mod AllPromises
 pub mod Posts
 pub mod Kept
 pub mod Lawful
+pub mod OwnIsOnly
