@@ -1,15 +1,12 @@
 -- Facts of legal lists: what was posted has names of the right kinds; no number above the greatest was called; and the hand that
 -- a seat has names a port.
-use Rattle.std.proofs.Common.{ℕ, ◌≡◌, ◌+◌, ◌≤◌, ◌==◌, max, Bool, true, false, ◌&&◌, cond, List, [], ◌∷◌, Option, Some, None, inl, inr, refl, sym, ◌∙◌, ap, subst, arith}
-use Rattle.std.specs.Option.{option_or}
+use Rattle.std.proofs.Common.{ℕ, ◌≡◌, ◌+◌, ◌≤◌, ◌==◌, max, true, List, [], ◌∷◌, Option, Some, None, inl, inr, refl, sym, ◌∙◌, ap, subst, arith}
 use Rattle.std.proofs.lemmas.Bool.{and_parts, eqb-true, cases_Bool}
 use Rattle.chorus_ui.specs.declared.layout.Layout.{Layout}
-use Rattle.chorus_ui.specs.declared.ui.Ui.{Ui}
 use Rattle.chorus_ui.specs.Layout.{IsShape}
 use Rattle.chorus_entry.specs.declared.entry.Entry.{Entry}
 use Rattle.chorus_entry.specs.declared.hand.Hand.{Hand}
 use Rattle.chorus_entry.specs.declared.id.MsgId.{MsgId}
-use Rattle.chorus_entry.specs.declared.message.Message.{Message}
 use Rattle.chorus_entry.specs.declared.dest.Dest.{Dest}
 use Rattle.chorus_entry.specs.declared.dest.Dest.TheVariants.{Port, All, One, OneAt}
 use Rattle.chorus_entry.specs.declared.tag.Tag.{Tag}
@@ -18,14 +15,14 @@ use Rattle.chorus_entry.specs.declared.act.Act.{Act}
 use Rattle.chorus_entry.specs.declared.act.Act.TheVariants.{Post, Take}
 use Rattle.chorus_entry.specs.Kinds.{has_kinds, has_kinds_in_tag, has_kinds_in_dest, names_port}
 use Rattle.chorus_world.specs.Views.{by, is_by}
-use Rattle.chorus_world.specs.Posts.{Posted, post_of, posted_by, posted_in, source, tag_of, tag_from}
+use Rattle.chorus_world.specs.Posts.{Posted, post_of, posted_by, posted_in, source, tag_from}
 use Rattle.chorus_world.specs.Seats.{Call, call_in, call_by, first_call, number_in, requests, requests_after, hand, hand_after, hand_with, hand_without}
 use Rattle.chorus_world.specs.Steps.{is_legal}
 use Rattle.chorus_world.proofs.LegalLemmas.{skips, keeps}
 use Rattle.chorus_world.proofs.LineLemmas.{none_some}
 use Rattle.chorus_world.proofs.SendingLemmas.{from_or, some_is, cond_some}
 use Rattle.chorus_world.proofs.ChoiceLemmas.{posted_is}
-use Rattle.chorus_world.proofs.Posted.{AllPosted, filtered}
+use Rattle.chorus_world.proofs.Posted.{filtered}
 use Rattle.chorus_world.proofs.Observers.{legal_laws}
 use Rattle.chorus_world.proofs.Agreement.{hand_agrees}
 use Rattle.trial_world_facts.proofs.Growing.{goes-on}

@@ -2,7 +2,7 @@
 -- sent it.
 use Rattle.std.proofs.Common.{ℕ, ◌≡◌, ◌≤◌, ◌+◌, Bool, true, false, ◌==◌, ◌&&◌, not, cond, List, [], ◌∷◌, Option, Some, None, refl, sym, ◌∙◌, ap, subst, inl, inr, arith}
 use Rattle.std.specs.List.{filter}
-use Rattle.std.proofs.lemmas.Bool.{eqb-true, eq-eqb, false≢true, true≢false, and_parts, and_from}
+use Rattle.std.proofs.lemmas.Bool.{eq-eqb, false≢true, true≢false, and_parts, and_from}
 use Rattle.chorus_ui.specs.declared.ui.Ui.{Ui}
 use Rattle.chorus_ui.specs.declared.layout.Layout.{Layout}
 use Rattle.chorus_ui.specs.Name.{same_ui}
@@ -16,20 +16,19 @@ use Rattle.chorus_entry.specs.declared.answer.Answer.TheVariants as A
 use Rattle.chorus_entry.specs.declared.act.Act.{Act}
 use Rattle.chorus_entry.specs.declared.act.Act.TheVariants.{Post, Accept, Full, Already, ClientsFull, Stale, Early, NoPort, Elsewhere, NoMember, Choose, Try, Told, Heard, Gone}
 use Rattle.chorus_entry.specs.Act.{message_of}
-use Rattle.chorus_entry.specs.Answer.{is_final}
 use Rattle.chorus_entry.specs.MsgId.{same_id}
 use Rattle.chorus_entry.proofs.Same.{same_id-self, from_same_id}
 use Rattle.chorus_world.specs.declared.place.Sent.{Sent}
 use Rattle.chorus_world.specs.declared.message.Progress.{Progress}
 use Rattle.chorus_world.specs.declared.message.Progress.TheVariants.{Idle, Asked, Tried, Decided, Settled, Reported}
-use Rattle.chorus_world.specs.Views.{views, at, by, about, is_at, is_about, are_same}
-use Rattle.chorus_world.specs.Messages.{progress, progress_after, decided, told, settled, is_to_be_heard}
+use Rattle.chorus_world.specs.Views.{views, at, by, about, is_about, are_same}
+use Rattle.chorus_world.specs.Messages.{progress, progress_after, decided, is_to_be_heard}
 use Rattle.chorus_world.specs.Places.{sent, sent_by, copies, find_sent, first_for, same_route, is_settled, unsettled, is_tried, is_first, is_first_as, located}
 use Rattle.chorus_world.specs.Posts.{site_asked, is_on_site, source}
 use Rattle.chorus_world.specs.Groups.{is_chosen}
 use Rattle.chorus_world.specs.Seats.{posts}
-use Rattle.chorus_world.specs.Steps.{act_may, is_legal, is_to_go, is_asked_from}
-use Rattle.chorus_world.proofs.LegalLemmas.{entry, legal_parts, keeps, skips}
+use Rattle.chorus_world.specs.Steps.{act_may, is_legal, is_to_go}
+use Rattle.chorus_world.proofs.LegalLemmas.{legal_parts, keeps, skips}
 use Rattle.chorus_world.proofs.LineLemmas.{none_some, id_is}
 use Rattle.chorus_world.proofs.SendingLemmas.{sent_as, prior, IsAhead, some_is, cond_none, first_here}
 use Rattle.chorus_world.proofs.StageLemmas.{Stage, MessageFacts}

@@ -1,19 +1,17 @@
 -- Facts of legal lists: what is so of a port that was made. Its name is one that the layout can make, who holds it is an actor of
 -- the layout, and the clock of the last entry on its line is at least the number of its places and of what it accepted.
-use Rattle.std.proofs.Common.{ℕ, zero, suc, ◌≡◌, ◌≢◌, ◌<◌, ◌≤◌, ◌+◌, ◌-◌, ◌*◌, ◌/◌, ◌%◌, ◌==◌, nat_le, nat_lt, Bool, true, false, ◌&&◌, ◌||◌, not, cond, List, [], ◌∷◌, ◌++◌, length, Option, Some, None, refl, sym, ◌∙◌, ap, subst, inl, inr, arith}
-use Rattle.std.specs.List.{All, filter}
-use Rattle.std.proofs.lemmas.Bool.{eqb-true, and_parts, and_from, or_cases, leb-true, leb-false, le-leb, ltb-true, false≢true, not-true}
+use Rattle.std.proofs.Common.{ℕ, zero, suc, ◌≡◌, ◌≢◌, ◌<◌, ◌≤◌, ◌+◌, ◌-◌, ◌*◌, ◌/◌, ◌%◌, ◌==◌, nat_le, nat_lt, Bool, true, false, ◌&&◌, not, cond, List, [], ◌∷◌, length, Option, Some, None, refl, sym, ◌∙◌, ap, subst, inl, inr, arith}
+use Rattle.std.specs.List.{filter}
+use Rattle.std.proofs.lemmas.Bool.{eqb-true, and_parts, and_from, or_cases, leb-false, le-leb, ltb-true, false≢true, not-true}
 use Rattle.std.proofs.lemmas.List.{length_push}
 use Rattle.std.proofs.lemmas.List.Elements.{All-head}
 use Rattle.chorus_ui.specs.declared.ui.Ui.{Ui}
 use Rattle.chorus_ui.specs.declared.layout.Layout.{Layout}
 use Rattle.chorus_ui.specs.declared.layout.TheConstants.{PORTS_PER_SITE, ACTORS_PER_SITE}
-use Rattle.chorus_ui.specs.Layout as layout
 use Rattle.chorus_ui.specs.Layout.{IsShape, has_site, has_place, has_actor, can_make_port, place_at, site_of}
 use Rattle.chorus_ui.specs.Name.{same_ui}
 use Rattle.chorus_ui.proofs.Names.{from_same_ui}
 use Rattle.chorus_entry.specs.declared.entry.Entry.{Entry}
-use Rattle.chorus_entry.specs.declared.id.MsgId.{MsgId}
 use Rattle.chorus_entry.specs.declared.act.Act.{Act}
 use Rattle.chorus_entry.specs.declared.act.Act.TheVariants.{Make, Accept, Full, Already, ClientsFull, Take, Empty, Rehome, Depart, Arrive, Delete}
 use Rattle.chorus_entry.specs.Act.{held_port_of}
@@ -25,7 +23,7 @@ use Rattle.chorus_world.specs.Ports.{Fate, fate, fate_after, changed, arrived, l
 use Rattle.chorus_world.specs.Places.{last_clock, ports_made}
 use Rattle.chorus_world.specs.Steps.{act_may, may, is_legal, is_home, is_full_of_ports, next_number, is_timely, act_follows}
 use Rattle.chorus_world.specs.Order.{IsRising, IsCausal, comes_before}
-use Rattle.chorus_world.proofs.LegalLemmas.{legal_parts, on_is, keeps, skips}
+use Rattle.chorus_world.proofs.LegalLemmas.{legal_parts, on_is}
 use Rattle.chorus_world.proofs.LineLemmas.{none_some, needs}
 use Rattle.chorus_world.proofs.PortMoves.{held_fate, coming_fate}
 use Rattle.trial_world_facts.proofs.SentFacts.{legal-kinds}
@@ -127,7 +125,7 @@ new-listed l past p s q a c shape h =
     let few : q.number ≤ 32 = few-ports l.turns (ports_made here) (p - 1) q.number shape.turns_from_one shape.turns_to_four shape.turns_not_three room number in
     let low : 1 ≤ q.number = omega (arith, number) in (
       and_from (has_site l q.site && nat_le 1 q.number) (nat_le q.number PORTS_PER_SITE)
-      (and_from (has_site l q.site) (nat_le 1 q.number) (ap (has_site l) same ∙ site) (le-leb 1 q.number low)) (le-leb q.number 32 few),
+          (and_from (has_site l q.site) (nat_le 1 q.number) (ap (has_site l) same ∙ site) (le-leb 1 q.number low)) (le-leb q.number 32 few),
       home.0,
     )
 

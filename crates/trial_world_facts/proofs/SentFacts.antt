@@ -1,8 +1,7 @@
 -- Facts of legal lists on what a place sent: it was posted, and what an entry sends is new and not settled; ids differ, and
 -- each is found by its id; it goes to a port's name.
-use Rattle.std.proofs.Common.{ℕ, ◌≡◌, ◌+◌, ◌<◌, ◌≤◌, ◌==◌, Bool, true, false, ◌||◌, not, cond, List, [], ◌∷◌, ◌++◌, map, Some, refl, sym, ◌∙◌, ap, subst, arith, ◌&&◌, Option, None}
+use Rattle.std.proofs.Common.{ℕ, ◌≡◌, ◌+◌, ◌<◌, ◌≤◌, ◌==◌, Bool, true, false, ◌||◌, cond, List, [], ◌∷◌, ◌++◌, Some, refl, sym, ◌∙◌, ap, subst, arith, ◌&&◌, Option, None}
 use Rattle.std.specs.List.{filter, list_all}
-use Rattle.std.proofs.lemmas.List.Elements.{filter-append}
 use Rattle.chorus_ui.specs.declared.ui.Ui.{Ui}
 use Rattle.chorus_ui.specs.declared.layout.Layout.{Layout}
 use Rattle.chorus_entry.specs.declared.entry.Entry.{Entry}
@@ -11,29 +10,25 @@ use Rattle.chorus_entry.specs.declared.dest.Dest.TheVariants.{Port, All, One, On
 use Rattle.chorus_entry.specs.declared.act.Act.{Act}
 use Rattle.chorus_entry.specs.declared.act.Act.TheVariants.{Post, Choose}
 use Rattle.chorus_world.specs.declared.place.Sent.{Sent}
-use Rattle.chorus_world.specs.Views.{views, at, by, about, is_at, is_about, are_same}
-use Rattle.chorus_world.specs.Places.{sent, sent_by, copies, settles, is_settled, unsettled, find_sent, first_for, is_tried, is_first, is_first_as, same_route, last_clock, just_taken}
+use Rattle.chorus_world.specs.Views.{views, at, by, about, is_at, is_about}
+use Rattle.chorus_world.specs.Places.{sent, sent_by, copies, is_settled, find_sent, same_route, just_taken}
 use Rattle.chorus_world.specs.Groups.{is_chosen}
-use Rattle.chorus_world.specs.Posts.{source, site_asked}
+use Rattle.chorus_world.specs.Posts.{source}
 use Rattle.chorus_world.specs.Seats.{posts}
 use Rattle.chorus_world.specs.Steps.{act_may, is_legal, may, is_timely, act_follows, may_stand_behind}
-use Rattle.chorus_world.proofs.LegalLemmas.{skips, legal_parts}
-use Rattle.chorus_world.proofs.Posted.{IsPosted, IfPosted, AllPosted, id_in, filtered, sent_posted}
+use Rattle.chorus_world.proofs.LegalLemmas.{legal_parts}
+use Rattle.chorus_world.proofs.Posted.{IsPosted, IfPosted, AllPosted, id_in}
 use Rattle.chorus_world.proofs.PostLemmas.{post_needs, choose_needs, asked_facts, own_source}
-use Rattle.chorus_world.proofs.SendingLemmas.{at_same, settles_other, first_here}
-use Rattle.chorus_world.proofs.StageLemmas.{MessageFacts, first_is_idle}
+use Rattle.chorus_world.proofs.SendingLemmas.{settles_other}
+use Rattle.chorus_world.proofs.StageLemmas.{MessageFacts}
 use Rattle.std.specs.Option.{option_or}
-use Rattle.std.proofs.lemmas.Bool.{and_parts, and_from, eqb-true, false≢true}
-use Rattle.chorus_ui.specs.Name.{same_ui}
-use Rattle.chorus_ui.proofs.Names.{from_same_ui, same_ui-self}
+use Rattle.std.proofs.lemmas.Bool.{and_parts, eqb-true, false≢true}
+use Rattle.chorus_ui.proofs.Names.{from_same_ui}
 use Rattle.chorus_entry.specs.MsgId.{same_id}
 use Rattle.chorus_entry.proofs.Same.{same_id-self}
 use Rattle.chorus_world.proofs.SentLemmas.{find_sent_append}
 use Rattle.chorus_world.proofs.MessageInvariant.{legal_messages}
 use Rattle.chorus_entry.specs.Kinds.{has_kinds, has_kinds_in_tag, names_port, names_group}
-use Rattle.chorus_world.specs.declared.message.Progress.TheVariants.{Idle}
-use Rattle.chorus_world.specs.Messages.{progress}
-use Rattle.chorus_world.proofs.ClockLemmas.{sender_clock}
 
 -- each of the messages that were sent
 abbrev pub EachSent : (Sent → Type 0) → List Sent → Type 0
