@@ -5,7 +5,8 @@ ghost use Rattle.chorus_entry.specs.declared.id.MsgId.{MsgId};
 ghost use Rattle.chorus_ui.specs.declared.limits.TheConstants.{MEMBERS_LIMIT};
 ghost use Rattle.chorus_waits.specs.Unheard.{is_unheard, asked, heard};
 
-use chorus_entry::{MEMBERS_LIMIT, MsgId};
+use chorus_entry::MsgId;
+use chorus_ui::MEMBERS_LIMIT;
 use std::alloc::{AllocError, Global};
 use std::collections::HashMap;
 use std::marker::Model;
