@@ -9,7 +9,7 @@ ghost use Rattle.chorus_groups.specs.Faults.{unless, refuses_join, refuses_leave
 ghost use Rattle.chorus_groups.specs.Choosing.{first_round};
 
 use crate::fault::{JoinFault, LeaveFault};
-use crate::ports::{first_at, index_of, is_member, moved_back, wrapped};
+use crate::ports::{first_at, index_of, is_member, move_back, wrap};
 use chorus_entry::MEMBERS_LIMIT;
 use chorus_ui::Ui;
 use std::alloc::{AllocError, Global};
@@ -90,7 +90,7 @@ impl Group {
             return Err(LeaveFault::NotThere);
         }
         let _left = self.members.remove(at);
-        self.rotation = wrapped(self.members.len(), moved_back(self.rotation, at));
+        self.rotation = wrap(self.members.len(), move_back(self.rotation, at));
         Ok(())
     }
 
@@ -120,6 +120,6 @@ impl Group {
         ensures { self.new ≡ turned_behind port self.old }
     {
         let at = index_of(self.members.as_slice(), port);
-        self.rotation = wrapped(self.members.len(), at + 1);
+        self.rotation = wrap(self.members.len(), at + 1);
     }
 }

@@ -27,14 +27,14 @@ pub(crate) fn is_member(ports: &[Ui], port: Ui) -> bool
 }
 
 /// The position in a list of this length, or the first one where it comes to the end.
-pub(crate) fn wrapped(len: usize, at: usize) -> usize
+pub(crate) fn wrap(len: usize, at: usize) -> usize
     ensures { result ≡ wrapped len at }
 {
     if at < len { at } else { 0 }
 }
 
 /// The position when the item at `gone` has left the list: one back where it was before it.
-pub(crate) fn moved_back(position: usize, gone: usize) -> usize
+pub(crate) fn move_back(position: usize, gone: usize) -> usize
     ensures { result ≡ if nat_lt gone position then position - 1 else position }
 {
     if gone < position {

@@ -1,17 +1,26 @@
 -- What a place knows of where ports are: for each port that its layout can make, the pair of place and hop that is kept.
-use Rattle.std.specs.Prelude.{ℕ, ◌+◌, ◌-◌, ◌*◌, nat_lt, Bool, ◌&&◌, if◌then◌else◌, Option, Some, None, List, slice_index_or}
+use Rattle.std.specs.Prelude.{◌≡◌, ℕ, IsTrue, IfSome, length, ◌+◌, ◌-◌, ◌*◌, nat_lt, Bool, ◌&&◌, if◌then◌else◌, Option, Some, None, List, slice_index_or}
 use Rattle.chorus_ui.specs.declared.kind.Kind.TheVariants.{Port}
 use Rattle.chorus_ui.specs.declared.layout.Layout.{Layout}
 use Rattle.chorus_ui.specs.declared.limits.TheConstants.{PORTS_PER_SITE_LIMIT}
 use Rattle.chorus_ui.specs.declared.ui.Ui.{Ui}
 use Rattle.chorus_ui.specs.Kind.{same_kind}
-use Rattle.chorus_ui.specs.Layout.{can_make_port, creation_place}
+use Rattle.chorus_ui.specs.Layout.{has_place, can_make_port, creation_place}
 use Rattle.chorus_ui.specs.Name.{same_ui}
 
 -- the pairs stand by site and then by number
 pub record Known : Type 0 where
   pub layout : Layout
   pub pairs : List (Option (ℕ × ℕ))
+
+-- the place of the pair is one of the layout
+abbrev pub IsInLayout : Layout → ℕ × ℕ → Type 0
+IsInLayout layout pair = IsTrue (has_place layout pair.0)
+
+-- what is kept always: a pair, or none, for each port that the layout can make, and places of the layout alone
+pub record IsKnown (known : Known) : Type 0 where
+  pub rows : length known.pairs ≡ known.layout.sites * PORTS_PER_SITE_LIMIT
+  pub places : (row : ℕ) → IfSome (slice_index_or known.pairs row None) (IsInLayout known.layout)
 
 -- a port that the layout can make
 abbrev pub is_listed : Layout → Ui → Bool

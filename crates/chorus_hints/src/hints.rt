@@ -3,8 +3,8 @@
 ghost use Rattle.std.specs.Prelude.{◌≡◌, nat_lt, IsTrue, IfOk};
 ghost use Rattle.chorus_ui.specs.declared.ui.Ui.{Ui};
 ghost use Rattle.chorus_ui.specs.declared.kind.Kind.TheVariants.{Port};
-ghost use Rattle.chorus_ui.specs.Layout.{has_site, can_make_port};
-ghost use Rattle.chorus_hints.specs.Known.{row_of, kept, newest, hop_of, learned};
+ghost use Rattle.chorus_ui.specs.Layout.{has_site, has_place, can_make_port};
+ghost use Rattle.chorus_hints.specs.Known.{row_of, kept, newest, hop_of, learned, IsInLayout};
 
 use chorus_ui::{Kind, Layout, PORTS_PER_SITE_LIMIT, Ui};
 use std::alloc::{AllocError, Global};
@@ -19,16 +19,14 @@ pub struct Hints {
 }
 
 impl Model for Hints {
-    ghost use Rattle.std.specs.Prelude.{◌≡◌, ◌*◌, length};
-    ghost use Rattle.chorus_ui.specs.declared.limits.TheConstants.{PORTS_PER_SITE_LIMIT};
-    ghost use Rattle.chorus_hints.specs.Known.{Known};
+    ghost use Rattle.chorus_hints.specs.Known.{Known, IsKnown};
 
     ghost Value = { Known };
 
     ghost view = { λ hints. record { layout = hints.layout; pairs = hints.pairs.items } };
 
     ghost invariant = { λ hints.
-        length hints.pairs.items ≡ hints.layout.sites * PORTS_PER_SITE_LIMIT };
+        IsKnown (record { layout = hints.layout; pairs = hints.pairs.items }) };
 }
 
 /// Where the pair of a port stands, counted from 0.
@@ -51,10 +49,11 @@ impl Hints {
     }
 
     /// Keeps the place, where its hop is greater than that of the kept pair, or than 0 where none is kept; and answers whether.
-    /// The port is one that the layout can make. Takes no memory.
+    /// The port is one that the layout can make, and the place one of its places. Takes no memory.
     pub fn learn(&mut self, ui: Ui, place: u16, hop: u64) -> bool
         requires port { ui.kind ≡ Port }
         requires in_layout { IsTrue (can_make_port self.old.layout ui) }
+        requires place { IsTrue (has_place self.old.layout place) }
         ensures answer { result ≡ nat_lt (hop_of (kept self.old ui)) hop }
         ensures pairs { (q : Ui) → kept self.new q ≡ learned ui place hop (kept self.old) q }
         ensures layout { self.new.layout ≡ self.old.layout }
@@ -71,12 +70,13 @@ impl Hints {
         farther
     }
 
-    /// The kept pair of place and hop, and where none is kept the creation place with hop 0. The port's site is in the
-    /// layout. Takes no memory.
+    /// The kept pair of place and hop, and where none is kept the creation place with hop 0: a place of the layout. The
+    /// port's site is in the layout. Takes no memory.
     pub fn newest(&self, ui: Ui) -> (u16, u64)
         requires port { ui.kind ≡ Port }
         requires in_layout { IsTrue (has_site self.now.layout ui.site) }
-        ensures { result ≡ newest self.now ui }
+        ensures value { result ≡ newest self.now ui }
+        ensures in_layout { IsInLayout self.now.layout result }
     {
         let made = (self.layout.place_at(ui.site(), ui), 0);
         if self.layout.can_make_port(ui) {

@@ -1,4 +1,5 @@
 pub mod Histories
 pub mod Records
+pub mod Refusals
 pub mod Rows
 pub mod Tables

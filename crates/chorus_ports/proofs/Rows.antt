@@ -118,7 +118,7 @@ kept-without q rs new most before capacity kept room held e =
       limits = limits-without q rs kept.limits;
       within = omega (arith, kept.within, length-without q rs held);
       most_in_16_bits = kept.most_in_16_bits;
-      room = room ∙ kept.room;
+      room = let most_before = kept.room in omega arith;
     })
 
 -- and after one comes last
@@ -131,7 +131,7 @@ kept-last rs new r most before capacity kept room absent spare limits e =
       limits = limits-last rs r kept.limits limits;
       within = rw length-append (omega (arith, spare));
       most_in_16_bits = kept.most_in_16_bits;
-      room = room ∙ kept.room;
+      room = let most_before = kept.room in omega arith;
     })
 
 -- the list that a removal leaves

@@ -34,3 +34,10 @@ answered (Full len back) m port = port
 -- the port after it decided on the message
 abbrev pub after_offer : Message → PortRecord → PortRecord
 after_offer m port = answered (answer_to m port) m port
+
+-- what is so where the message was refused
+abbrev pub OnRefused : Accept → Type 0 → Type 0
+OnRefused (Accepted pos) P = Unit {0}
+OnRefused (Already back) P = P
+OnRefused (ClientsFull back) P = P
+OnRefused (Full len back) P = P

@@ -22,10 +22,10 @@ abbrev pub AreWithinLimits : List PortRecord → Type 0
 AreWithinLimits [] = Unit {0}
 AreWithinLimits (r ∷ rs) = IsWithinLimits r × AreWithinLimits rs
 
--- what each table keeps: each port has one record, each record keeps its limits, and there is room for `most`
+-- what each table keeps: each port has one record, each record keeps its limits, and there is room for `most` at least
 pub record IsTable (records : List PortRecord) (most capacity : ℕ) : Type 0 where
   pub distinct : are_distinct records ≡ true
   pub limits : AreWithinLimits records
   pub within : length records ≤ most
   pub most_in_16_bits : most < 2 ^ 16
-  pub room : capacity ≡ most
+  pub room : most ≤ capacity

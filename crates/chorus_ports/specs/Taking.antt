@@ -21,6 +21,12 @@ abbrev pub taken : Ui → Option PortRecord → Taken
 taken actor None = T.NotHere
 taken actor (Some port) = taken_from actor port
 
+-- what is so where nothing was taken
+abbrev pub OnNotTaken : Taken → Type 0 → Type 0
+OnNotTaken (T.Message pos m) P = Unit {0}
+OnNotTaken T.Empty P = P
+OnNotTaken T.NotHere P = P
+
 -- the port behind its first message
 abbrev pub passed : List Message → PortRecord → PortRecord
 passed [] port = port

@@ -6,8 +6,8 @@ ghost use Rattle.chorus_entry.specs.PortRecord.{new_record};
 ghost use Rattle.chorus_ui.specs.declared.limits.TheConstants.{PENDING_LIMIT};
 ghost use Rattle.chorus_ports.specs.Table.{empty_table, find, changed, without, are_distinct, added, GivesRoomBack};
 ghost use Rattle.chorus_ports.specs.Limits.{IsWithinLimits, AreWithinLimits, HasPositionLeft};
-ghost use Rattle.chorus_ports.specs.Deciding.{answer_to, after_offer};
-ghost use Rattle.chorus_ports.specs.Taking.{taken, after_take, rehomed};
+ghost use Rattle.chorus_ports.specs.Deciding.{answer_to, after_offer, OnRefused};
+ghost use Rattle.chorus_ports.specs.Taking.{taken, after_take, rehomed, OnNotTaken};
 
 use crate::deciding::{Accept, offer};
 use crate::row::row_of;
@@ -18,7 +18,7 @@ use std::alloc::{AllocError, Global};
 use std::marker::Model;
 
 /// The records of the ports that a place holds, in table order: a port that is made or arrives is the last, and one that
-/// departs leaves no gap. Its room is that of `with_room`; a record that leaves gives its room back.
+/// departs leaves no gap. Its room is that of `with_room` and of `reserve`; a record that leaves gives its room back.
 ///
 /// A place holds at most 32 ports of its own making and those that came to it, so a port is found by going over the records.
 #[derive(Debug, Drop)]
@@ -76,6 +76,24 @@ impl Ports {
         self.most - self.len()
     }
 
+    /// Takes room for one record more, where none fits, so that the next one that arrives needs no memory. Changes no record,
+    /// whatever the answer. A table of 65,535 records, which is more than a layout can make ports, has no memory for another.
+    pub fn reserve(&mut self) -> Result<(), AllocError>
+        ensures records { self.new.records ≡ self.old.records }
+        ensures kept { self.old.spare ≤ self.new.spare }
+        ensures room { OnOk result (0 < self.new.spare) }
+    {
+        if self.spare() > 0 {
+            return Ok(());
+        }
+        if self.most == u16::MAX {
+            return Err(AllocError);
+        }
+        self.records.reserve(1)?;
+        self.most += 1;
+        Ok(())
+    }
+
     /// The record of the port; None exactly where it is not held.
     pub fn get(&self, ui: Ui) -> Option<&PortRecord>
         ensures value { option_copied result ≡ find ui self.now.records }
@@ -112,6 +130,7 @@ impl Ports {
         ensures answer { IfSome (find ui self.old.records) (λ port.
             result ≡ answer_to message port) }
         ensures after { self.new ≡ changed ui (after_offer message) self.old }
+        ensures refused { OnRefused result (self.new ≡ self.old) }
     {
         let row = row_of(&self.records, ui);
         offer(&mut self.records[row], message)
@@ -122,6 +141,7 @@ impl Ports {
     pub fn take(&mut self, ui: Ui, actor: Ui) -> Taken
         ensures value { result ≡ taken actor (find ui self.old.records) }
         ensures after { self.new ≡ changed ui (after_take actor) self.old }
+        ensures not_taken { OnNotTaken result (self.new ≡ self.old) }
     {
         let row = row_of(&self.records, ui);
         if row == self.records.len() {

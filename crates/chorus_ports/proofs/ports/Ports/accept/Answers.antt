@@ -5,6 +5,7 @@ use Rattle.chorus_ports.specs.Deciding.{answer_to, after_offer}
 use Rattle.chorus_ports.proofs.Records.{after_offer-same_port, limits-after_offer}
 use Rattle.chorus_ports.proofs.Tables.{limits-of}
 use Rattle.chorus_ports.proofs.Rows.{reached, row-within, seen-replace, kept-replace}
+use Rattle.chorus_ports.proofs.Refusals.{refused}
 use Rattle.chorus_ports.proofs.ports.Ports.accept.Goals as goal
 
 pub index_mut-requires : goal.index_mut-requires
@@ -54,3 +55,7 @@ returns-clause-after c =
     let lt = row-within c.args.ui c.self.inside.records.items _ _ c.deref.ensures.value c.row_of-row.ensures.value held in
     let at = reached c.args.ui c.self.inside.records.items _ _ _ _ c.deref.ensures.value c.row_of-row.ensures.value lt c.index_mut.ensures.value in
     seen-replace c.args.ui (after_offer c.args.message) c.args.self.now c.self.inside.records.items _ c.self.inside.most c.self.view_is (at.replaced (after_offer c.args.message) _ c.offer.ensures.after)
+
+pub returns-clause-refused : goal.returns-clause-refused
+returns-clause-refused c =
+    refused c.args.ui c.args.message c.args.self.now _ _ c.requires.held (returns-clause-answer c) (returns-clause-after c)

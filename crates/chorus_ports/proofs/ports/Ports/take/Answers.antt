@@ -4,6 +4,7 @@ use Rattle.chorus_ports.specs.Taking.{taken, after_take}
 use Rattle.chorus_ports.proofs.Records.{after_take-same_port, limits-after_take}
 use Rattle.chorus_ports.proofs.Rows.{reached, row-missing, seen-replace, kept-replace}
 use Rattle.chorus_ports.proofs.Tables.{limits-of, replace-absent}
+use Rattle.chorus_ports.proofs.Refusals.{not_taken}
 use Rattle.chorus_ports.proofs.ports.Ports.take.Goals as goal
 
 pub returns-then-row-len-clause-value : goal.returns-then-row-len-clause-value
@@ -42,3 +43,6 @@ returns-clause-after c =
     let lt : c.row_of-row.result < length c.self.inside.records.items = omega (arith, c.if-row-len.false, c.len.ensures, c.deref.ensures.len, ap length c.deref.ensures.value, c.row_of-row.ensures.within) in
     let at = reached c.args.ui c.self.inside.records.items _ _ _ _ c.deref.ensures.value c.row_of-row.ensures.value lt c.index_mut.ensures.value in
     seen-replace c.args.ui (after_take c.args.actor) c.args.self.now c.self.inside.records.items _ c.self.inside.most c.self.view_is (at.replaced (after_take c.args.actor) _ c.take.ensures.after)
+
+pub returns-clause-not_taken : goal.returns-clause-not_taken
+returns-clause-not_taken c = not_taken c.args.ui c.args.actor c.args.self.now _ _ (returns-clause-value c) (returns-clause-after c)
