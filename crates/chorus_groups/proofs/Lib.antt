@@ -3,3 +3,4 @@ pub mod TableLemmas
 pub mod GroupLemmas
 pub mod Turns
 pub mod Ties
+pub mod Turning

@@ -41,6 +41,11 @@ choice t (OneAt g s) located =
 abbrev pub turned_by : List Ui → Group → Group
 turned_by chosen x = record x { rotation = turned x.members chosen x.rotation }
 
+-- the one port of a list of one
+abbrev pub only : List Ui → Option Ui
+only (q ∷ []) = Some q
+only _ = None
+
 -- the table after this one member of the group, or none, is chosen
 abbrev pub after_one : Ui → Option Ui → Table → Table
 after_one g chosen t = with_change g (turned_by (listed chosen)) t

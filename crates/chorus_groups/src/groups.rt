@@ -5,9 +5,9 @@ ghost use Rattle.std.specs.Option.{option_copied};
 ghost use Rattle.chorus_entry.specs.Dest.{group_in};
 ghost use Rattle.chorus_ui.specs.declared.limits.TheConstants.{MEMBERS_LIMIT};
 ghost use Rattle.chorus_entry.specs.Members.{are_distinct, first_of, round_from, listed, IsPosition};
-ghost use Rattle.chorus_groups.specs.Groups.{new_table, group_of, row_of, after_make, members, rotation};
+ghost use Rattle.chorus_groups.specs.Groups.{with_change, new_table, group_of, row_of, after_make, members, rotation};
 ghost use Rattle.chorus_groups.specs.Faults.{unless, join_fault_of, after_join, leave_fault_of, after_leave};
-ghost use Rattle.chorus_groups.specs.Choosing.{choice, after_choose, after_one, first_round, members_for};
+ghost use Rattle.chorus_groups.specs.Choosing.{only, turned_by, choice, after_choose, after_one, first_round, members_for};
 ghost use Rattle.chorus_groups.specs.Made.{made_of};
 
 use crate::choice::Choice;
@@ -46,6 +46,16 @@ fn row_of(groups: &[Group], group: Ui) -> usize
         }
     }
     groups.len()
+}
+
+/// The one port of a list of one.
+fn only(chosen: &[Ui]) -> Option<Ui>
+    ensures { result ≡ only chosen.now }
+{
+    match chosen {
+        [port] => Some(*port),
+        _ => None,
+    }
 }
 
 impl Groups {
@@ -154,6 +164,20 @@ impl Groups {
                 let chosen = self.first_at(group, site, located);
                 self.choose_one(alloc, group, chosen)
             }
+        }
+    }
+
+    /// Moves the rotation place of the group behind the member that was chosen. It stays where none or several were, or the
+    /// group is not made. Takes no memory.
+    pub fn turn(&mut self, group: Ui, chosen: &[Ui])
+        ensures { self.new ≡ with_change group (turned_by chosen.now) self.old }
+    {
+        let Some(port) = only(chosen) else {
+            return;
+        };
+        let row = row_of(self.groups.as_slice(), group);
+        if let Some(made) = self.groups.get_mut(row) {
+            made.turn_behind(port);
         }
     }
 
