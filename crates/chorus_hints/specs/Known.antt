@@ -1,26 +1,17 @@
 -- What a place knows of where ports are: for each port that its layout can make, the pair of place and hop that is kept.
-use Rattle.std.specs.Prelude.{◌≡◌, ℕ, IsTrue, IfSome, length, ◌+◌, ◌-◌, ◌*◌, nat_lt, Bool, ◌&&◌, if◌then◌else◌, Option, Some, None, List, slice_index_or}
+use Rattle.std.specs.Prelude.{ℕ, ◌+◌, ◌-◌, ◌*◌, nat_lt, Bool, ◌&&◌, if◌then◌else◌, Option, Some, None, List, replicate, slice_index_or, slice_set}
 use Rattle.chorus_ui.specs.declared.kind.Kind.TheVariants.{Port}
 use Rattle.chorus_ui.specs.declared.layout.Layout.{Layout}
 use Rattle.chorus_ui.specs.declared.limits.TheConstants.{PORTS_PER_SITE_LIMIT}
 use Rattle.chorus_ui.specs.declared.ui.Ui.{Ui}
 use Rattle.chorus_ui.specs.Kind.{same_kind}
-use Rattle.chorus_ui.specs.Layout.{has_place, can_make_port, creation_place}
+use Rattle.chorus_ui.specs.Layout.{can_make_port, creation_place}
 use Rattle.chorus_ui.specs.Name.{same_ui}
 
 -- the pairs stand by site and then by number
 pub record Known : Type 0 where
   pub layout : Layout
   pub pairs : List (Option (ℕ × ℕ))
-
--- the place of the pair is one of the layout
-abbrev pub IsInLayout : Layout → ℕ × ℕ → Type 0
-IsInLayout layout pair = IsTrue (has_place layout pair.0)
-
--- what is kept always: a pair, or none, for each port that the layout can make, and places of the layout alone
-pub record IsKnown (known : Known) : Type 0 where
-  pub rows : length known.pairs ≡ known.layout.sites * PORTS_PER_SITE_LIMIT
-  pub places : (row : ℕ) → IfSome (slice_index_or known.pairs row None) (IsInLayout known.layout)
 
 -- a port that the layout can make
 abbrev pub is_listed : Layout → Ui → Bool
@@ -54,3 +45,14 @@ hop_of (Some pair) = pair.1
 -- a greater hop is kept, with its place, in place of the pair that was, and the pairs of the other ports stay
 abbrev pub learned : Ui → ℕ → ℕ → Pairs → Pairs
 learned port place hop pairs q = if nat_lt (hop_of (pairs port)) hop && same_ui port q then Some (place, hop) else pairs q
+
+-- nothing is kept, and there is room for each port that the layout can make
+abbrev pub nothing_known : Layout → Known
+nothing_known layout = record { layout = layout; pairs = replicate (layout.sites * PORTS_PER_SITE_LIMIT) None }
+
+-- the same, as one value: the pair of the port is put where it stands
+abbrev pub known_after : Known → Ui → ℕ → ℕ → Known
+known_after known port place hop =
+    if nat_lt (hop_of (kept known port)) hop
+    then record known { pairs = slice_set known.pairs (row_of port) (Some (place, hop)) }
+    else known

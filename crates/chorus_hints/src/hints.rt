@@ -1,10 +1,10 @@
 //! The pairs of place and hop that are kept.
 
-ghost use Rattle.std.specs.Prelude.{◌≡◌, nat_lt, IsTrue, IfOk};
+ghost use Rattle.std.specs.Prelude.{◌≡◌, nat_lt, IsTrue, IsNone, IfOk};
 ghost use Rattle.chorus_ui.specs.declared.ui.Ui.{Ui};
 ghost use Rattle.chorus_ui.specs.declared.kind.Kind.TheVariants.{Port};
 ghost use Rattle.chorus_ui.specs.Layout.{has_site, has_place, can_make_port};
-ghost use Rattle.chorus_hints.specs.Known.{row_of, kept, newest, hop_of, learned, IsInLayout};
+ghost use Rattle.chorus_hints.specs.Known.{row_of, kept, newest, hop_of, learned, nothing_known, known_after};
 
 use chorus_ui::{Kind, Layout, PORTS_PER_SITE_LIMIT, Ui};
 use std::alloc::{AllocError, Global};
@@ -19,14 +19,16 @@ pub struct Hints {
 }
 
 impl Model for Hints {
-    ghost use Rattle.chorus_hints.specs.Known.{Known, IsKnown};
+    ghost use Rattle.std.specs.Prelude.{◌≡◌, ◌*◌, length};
+    ghost use Rattle.chorus_ui.specs.declared.limits.TheConstants.{PORTS_PER_SITE_LIMIT};
+    ghost use Rattle.chorus_hints.specs.Known.{Known};
 
     ghost Value = { Known };
 
     ghost view = { λ hints. record { layout = hints.layout; pairs = hints.pairs.items } };
 
     ghost invariant = { λ hints.
-        IsKnown (record { layout = hints.layout; pairs = hints.pairs.items }) };
+        length hints.pairs.items ≡ hints.layout.sites * PORTS_PER_SITE_LIMIT };
 }
 
 /// Where the pair of a port stands, counted from 0.
@@ -40,6 +42,7 @@ fn row_of(port: Ui) -> usize
 impl Hints {
     /// Nothing is kept, and there is room for each port that the layout can make.
     pub fn with_room(alloc: Global, layout: Layout) -> Result<Hints, AllocError>
+        ensures value { IfOk result (λ hints. hints ≡ nothing_known layout) }
         ensures layout { IfOk result (λ hints. hints.layout ≡ layout) }
         ensures nothing { IfOk result (λ hints. (q : Ui) → kept hints q ≡ None) }
     {
@@ -48,13 +51,20 @@ impl Hints {
         Ok(Hints { layout, pairs })
     }
 
+    /// The layout whose ports these are.
+    pub fn layout(&self) -> Layout
+        ensures { result ≡ self.now.layout }
+    {
+        self.layout
+    }
+
     /// Keeps the place, where its hop is greater than that of the kept pair, or than 0 where none is kept; and answers whether.
-    /// The port is one that the layout can make, and the place one of its places. Takes no memory.
+    /// The port is one that the layout can make. Takes no memory.
     pub fn learn(&mut self, ui: Ui, place: u16, hop: u64) -> bool
         requires port { ui.kind ≡ Port }
         requires in_layout { IsTrue (can_make_port self.old.layout ui) }
-        requires place { IsTrue (has_place self.old.layout place) }
         ensures answer { result ≡ nat_lt (hop_of (kept self.old ui)) hop }
+        ensures value { self.new ≡ known_after self.old ui place hop }
         ensures pairs { (q : Ui) → kept self.new q ≡ learned ui place hop (kept self.old) q }
         ensures layout { self.new.layout ≡ self.old.layout }
     {
@@ -70,13 +80,13 @@ impl Hints {
         farther
     }
 
-    /// The kept pair of place and hop, and where none is kept the creation place with hop 0: a place of the layout. The
+    /// The kept pair of place and hop, and where none is kept the creation place with hop 0, which is a place of the layout. The
     /// port's site is in the layout. Takes no memory.
     pub fn newest(&self, ui: Ui) -> (u16, u64)
         requires port { ui.kind ≡ Port }
         requires in_layout { IsTrue (has_site self.now.layout ui.site) }
         ensures value { result ≡ newest self.now ui }
-        ensures in_layout { IsInLayout self.now.layout result }
+        ensures made { IsNone (kept self.now ui) → IsTrue (has_place self.now.layout result.0) }
     {
         let made = (self.layout.place_at(ui.site(), ui), 0);
         if self.layout.can_make_port(ui) {
@@ -84,5 +94,15 @@ impl Hints {
         } else {
             made
         }
+    }
+
+    /// Keeps what the other one keeps, of the same layout. Takes no memory.
+    pub fn copy_from(&mut self, other: &Hints)
+        requires { other.now.layout ≡ self.old.layout }
+        ensures { self.new ≡ other.now }
+    {
+        self.pairs
+            .as_mut_slice()
+            .copy_from_slice(other.pairs.as_slice());
     }
 }
