@@ -1,0 +1,50 @@
+//! The parts of a step: an entry, and a packet that it causes.
+
+ghost use Rattle.std.specs.Prelude.{◌≡◌, ◌+◌, ◌-◌, ◌^◌, ◌<◌, ◌≤◌, ◌++◌, ◌∷◌, [], max, true, vec_len, vec_capacity};
+ghost use Rattle.chorus_world.specs.Places.{last_clock};
+ghost use Rattle.chorus_calls.specs.Callers.{after_tick};
+ghost use Rattle.trial_code.specs.Plain.{is_plain};
+ghost use Rattle.trial_code.specs.Turns.{next_clock, next_entry, after_entry, parcel};
+
+use crate::parcel::Parcel;
+use chorus_calls::Caller;
+use chorus_entry::{Act, Cargo, Entry, Packet};
+use trial_journal::Journal;
+
+/// The caller's next entry at this place: its clock is above that of the place and of the caller.
+pub(crate) fn next_entry(journal: &Journal, place: u16, caller: &Caller, act: Act) -> Entry
+    requires { max (last_clock journal.now.past) caller.now.last + 1 < 2 ^ 64 }
+    ensures { result ≡ next_entry place act caller.now journal.now }
+{
+    let clock = journal.clock().max(caller.last()) + 1;
+    let seat = caller.seat();
+    Entry {
+        clock,
+        place,
+        seat,
+        act,
+    }
+}
+
+/// Appends the caller's next entry at this place, which changes no count. Its clock becomes the caller's.
+pub(crate) fn say(journal: &mut Journal, place: u16, caller: &mut Caller, act: Act)
+    requires plain { is_plain act ≡ true }
+    requires room { 1 ≤ journal.old.spare }
+    requires clock { max (last_clock journal.old.past) caller.old.last + 1 < 2 ^ 64 }
+    ensures journal { journal.new ≡ after_entry place act caller.old journal.old }
+    ensures caller { caller.new ≡ after_tick caller.old (next_clock journal.old caller.old) }
+{
+    let entry = next_entry(journal, place, caller, act);
+    caller.tick(entry.clock);
+    journal.append(entry);
+}
+
+/// Puts a packet, which carries this clock, in the room that is there.
+pub(crate) fn put(puts: &mut Vec<Parcel>, to: u16, clock: u64, from: u16, cargo: Cargo)
+    requires { 1 ≤ vec_capacity puts.old - vec_len puts.old }
+    ensures items { puts.new.items ≡ puts.old.items ++ parcel to clock from cargo ∷ [] }
+    ensures room { vec_capacity puts.new ≡ vec_capacity puts.old }
+{
+    let packet = Packet { clock, from, cargo };
+    puts.push_reserved(Parcel { to, packet });
+}
