@@ -1,12 +1,12 @@
 -- What a place keeps stays kept with each entry.
-use Rattle.std.proofs.Common.{◌≡◌, ℕ, max, ◌×◌, ◌+◌, ◌-◌, ◌<◌, ◌≤◌, Bool, true, false, ◌||◌, ◌&&◌, nat_lt, unwrap_or, ◌*◌, ◌%◌, cond, Option, Some, None, List, [], ◌∷◌, ◌++◌, length, length-append, drop, refl, sym, ◌∙◌, ap, subst, arith, All}
+use Rattle.std.proofs.Common.{◌≡◌, ℕ, max, ◌+◌, ◌-◌, ◌<◌, ◌≤◌, Bool, true, false, ◌||◌, ◌&&◌, nat_lt, unwrap_or, ◌*◌, ◌%◌, cond, Option, Some, None, List, [], ◌∷◌, ◌++◌, length, length-append, drop, refl, sym, ◌∙◌, ap, subst, arith, All}
 use Rattle.std.specs.Option.{option_map, option_cmp}
 use Rattle.std.specs.declared.cmp.Ordering.{Ordering}
 use Rattle.std.specs.declared.cmp.Ordering.TheVariants as orders
 use Rattle.std.specs.Ordering.{is_eq, ordering_then}
 use Rattle.std.proofs.lemmas.Bool.{false≢true}
 use Rattle.std.proofs.Math.Nat.{le-max_left}
-use Rattle.std.proofs.lemmas.List.Elements.{All-push, All-drop, All-same, All-weaker}
+use Rattle.std.proofs.lemmas.List.Elements.{All-nil, All-push, All-drop, All-same, All-weaker}
 use Rattle.chorus_ui.specs.declared.ui.Ui.{Ui}
 use Rattle.chorus_ui.specs.declared.layout.Layout.{Layout}
 use Rattle.chorus_ui.specs.Layout.{has_place}
@@ -28,7 +28,7 @@ use Rattle.chorus_ports.specs.Deciding.{answer_to, answered, after_offer}
 use Rattle.chorus_ports.proofs.Tables.{KeepsName, find-replace, find-last, find-without}
 use Rattle.chorus_waits.specs.declared.wait.Key.{Key}
 use Rattle.chorus_waits.specs.declared.wait.Wait.{Wait}
-use Rattle.chorus_waits.specs.Queues.{Queue, Row, queue, same_key, changed, passed, at, with_last}
+use Rattle.chorus_waits.specs.Queues.{Queue, Row, empty_queue, queue, same_key, changed, passed, at, with_last}
 use Rattle.trial_journal.specs.Counting.{JournalState}
 use Rattle.trial_code.specs.declared.parcel.Parcel.{Parcel}
 use Rattle.trial_code.specs.Plain.{is_plain}
@@ -112,7 +112,16 @@ kept-plain l p past more a ports known rows puts k s plain =
 pub kept-put : (l : Layout) (p : ℕ) (past : List Entry) (ports : List PortRecord) (known : Known) (rows : List (Key × Row)) (puts more : List Parcel) (x : Parcel)
     → IsKept l p past ports known rows puts → more ≡ puts ++ x ∷ [] → has_place l x.to ≡ true → IsKept l p past ports known rows more
 kept-put l p past ports known rows puts more x k e to =
-    record k { sent = All-same (GoesTo l) more (puts ++ x ∷ []) e (All-push (GoesTo l) puts x k.sent to) }
+    record {
+      place = k.place;
+      held = k.held;
+      layout = k.layout;
+      located = k.located;
+      waiting = k.waiting;
+      numbered = k.numbered;
+      grouped = k.grouped;
+      sent = All-same (GoesTo l) more (puts ++ x ∷ []) e (All-push (GoesTo l) puts x k.sent to);
+    }
 
 -- What deciding does to one record.
 
@@ -262,3 +271,19 @@ waiting-at l p rows more k to w e = waiting-changed l p rows more k (at to) w e 
 pub waiting-last : (l : Layout) (p : ℕ) (rows more : List (Key × Row)) (k : Key) (x : Wait) → AreWaiting l p rows
     → ((u : Key) → queue more u ≡ changed k (with_last x) (queue rows) u) → MayWait l p k x → AreWaiting l p more
 waiting-last l p rows more k x w e may = waiting-changed l p rows more k (with_last x) w e (All-push (MayWait l p k) (queue rows k).waits x (w k) may)
+
+-- nothing happened yet
+pub kept-start : (l : Layout) (p : ℕ) (past : List Entry) (ports : List PortRecord) (known : Known) (rows : List (Key × Row)) (puts : List Parcel)
+    → has_place l p ≡ true → past ≡ [] → ports ≡ [] → known.layout ≡ l → ((q : Ui) → kept known q ≡ None) → ((k : Key) → queue rows k ≡ empty_queue) → puts ≡ []
+    → IsKept l p past ports known rows puts
+kept-start l p past ports known rows puts place nothing no_port layout no_location no_message no_packet =
+    record {
+      place = place;
+      held = λ q r h. absurd (let e : None ≡ Some r = sym (ap (find q) no_port) ∙ h in cc);
+      layout = layout;
+      located = λ q to hop h. absurd (let e : None ≡ Some (to, hop) = sym (no_location q) ∙ h in cc);
+      waiting = λ k. All-same (MayWait l p k) (queue rows k).waits [] (ap (λ (q : Queue). q.waits) (no_message k)) (All-nil (MayWait l p k));
+      numbered = λ q h. absurd (false≢true (sym (ap (is_made_here q) nothing) ∙ h));
+      grouped = λ g. All-same IsPort (members g past) [] (ap (members g) nothing) (All-nil IsPort);
+      sent = All-same (GoesTo l) puts [] no_packet (All-nil (GoesTo l));
+    }

@@ -1,3 +1,4 @@
 pub mod Plain
-pub mod Kept
 pub mod States
+pub mod Kept
+pub mod Deciding

@@ -1,10 +1,12 @@
 //! Deciding on a message.
 
-ghost use Rattle.std.specs.Prelude.{◌≡◌, true, IfSome};
+ghost use Rattle.std.specs.Prelude.{◌≡◌, true, IsNone, IfSome, unwrap_or};
+ghost use Rattle.trial_code.specs.Going.{LeavesRecords};
 ghost use Rattle.chorus_ui.specs.declared.kind.Kind.TheVariants as Kind;
 ghost use Rattle.chorus_ui.specs.Layout.{has_site};
 ghost use Rattle.chorus_ports.specs.Table.{find};
 ghost use Rattle.chorus_ports.specs.Limits.{HasPositionLeft};
+ghost use Rattle.chorus_entry.specs.Answer.{is_final};
 ghost use Rattle.chorus_place.specs.Deciding.{answer_in, answer_away, answer_of, decision, records_after};
 ghost use Rattle.trial_code.specs.Plain.{is_plain};
 ghost use Rattle.trial_code.specs.Tables.{seen};
@@ -46,6 +48,13 @@ fn answer_away(place: u16, only: Option<u16>, tried: u64, newest: (u16, u64)) ->
     } else {
         Answer::Early { hop: tried }
     }
+}
+
+/// Whether the message is not tried again.
+pub(crate) fn is_final(answer: Answer) -> bool
+    ensures { result ≡ is_final answer }
+{
+    !matches!(answer, Answer::Stale { .. })
 }
 
 /// The act of the entry by which the message has this answer.
@@ -98,4 +107,31 @@ pub(crate) fn decide(
         return Answer::Gone;
     }
     answer_away(place, only, tried, hints.newest(port))
+}
+
+/// The answer that is given, or else what the place decides.
+pub(crate) fn decide_unless(
+    given: Option<Answer>,
+    place: u16,
+    ports: &mut Ports,
+    hints: &Hints,
+    journal: &Journal,
+    message: Message,
+    port: Ui,
+    only: Option<u16>,
+    tried: u64,
+) -> Answer
+    requires kind { port.kind ≡ Kind.Port }
+    requires site { IsNone given → has_site hints.now.layout port.site ≡ true }
+    requires leaves { IfSome given LeavesRecords }
+    requires positions { IfSome (find port ports.old.records) HasPositionLeft }
+    ensures answer { result ≡ unwrap_or given (answer_of message port only tried
+        (seen place journal.now hints.now) (find port ports.old.records)) }
+    ensures ports { ports.new ≡
+        record ports.old { records = records_after result message port ports.old.records } }
+{
+    match given {
+        Some(answer) => answer,
+        None => decide(place, ports, hints, journal, message, port, only, tried),
+    }
 }

@@ -2,6 +2,8 @@
 #![tactic(auto)]
 
 mod decision;
+mod go;
 mod parcel;
+mod steps_messages;
 mod tables;
 mod turn;

@@ -30,7 +30,7 @@ pub(crate) struct Tables {
 }
 
 impl Model for Tables {
-    ghost use Rattle.std.specs.Prelude.{◌×◌, ◌≡◌, ◌-◌, min, vec_len, vec_capacity};
+    ghost use Rattle.std.specs.Prelude.{◌≡◌, ◌-◌, min, vec_len, vec_capacity};
     ghost use Rattle.trial_code.specs.Tables as tables;
 
     ghost Value = { tables.Tables };

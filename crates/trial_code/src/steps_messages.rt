@@ -1,0 +1,117 @@
+//! The steps of messages: each appends one entry.
+
+ghost use Rattle.std.specs.Prelude.{◌≡◌, ◌+◌, ◌-◌, ◌^◌, ◌<◌, ◌≤◌, true, Some, IsNone, IsSome, IfSome};
+ghost use Rattle.chorus_ui.specs.declared.kind.Kind.TheVariants as Kind;
+ghost use Rattle.chorus_ui.specs.Layout.{has_site, has_place};
+ghost use Rattle.chorus_place.specs.PlaceState.{greatest_clock};
+ghost use Rattle.chorus_place.specs.Trying.{tries_at};
+ghost use Rattle.trial_code.specs.Tables.{turn};
+ghost use Rattle.chorus_entry.specs.declared.packet.Cargo.TheVariants as Cargo;
+ghost use Rattle.trial_code.specs.Going.{LeavesRecords, first_for, settles, reports_for};
+
+use crate::decision::{decide_unless, decision};
+use crate::tables::Tables;
+use crate::turn::{put, put_report, say};
+use chorus_calls::Caller;
+use chorus_entry::{Act, Answer, Cargo};
+use chorus_waits::{Key, Wait};
+
+/// What is sent to the place where a message is tried with this hop.
+fn trying(key: &Key, wait: Wait, hop: u64) -> Cargo
+    ensures { result ≡ Cargo.Try wait.message key.now.port key.now.route wait.only hop }
+{
+    let Wait { message, only, .. } = wait;
+    Cargo::Try {
+        message,
+        port: key.port,
+        route: key.route,
+        only,
+        hop,
+    }
+}
+
+impl Tables {
+    /// Settles the first message of a port and route here, where it was tried with the hop `tried`: by the answer that is
+    /// given, which enqueues nothing, or else by what the place decides.
+    pub(crate) fn settle_first(
+        &mut self,
+        key: &Key,
+        given: Option<Answer>,
+        tried: u64,
+        caller: &mut Caller,
+    )
+        requires kind { key.now.port.kind ≡ Kind.Port }
+        requires site { IsNone given → has_site self.old.layout key.now.port.site ≡ true }
+        requires leaves { IfSome given LeavesRecords }
+        requires first { IsSome (first_for key.now self.old) }
+        requires spare { 1 ≤ self.old.journal.spare }
+        requires room { reports_for key.now self.old ≤ self.old.room }
+        requires clock { greatest_clock (turn self.old caller.old) + 1 < 2 ^ 64 }
+        ensures turn { IfSome (first_for key.now self.old) (λ w. turn self.new caller.new ≡
+            settles key.now w given tried (turn self.old caller.old)) }
+        ensures spare { self.new.journal.spare ≡ self.old.journal.spare - 1 }
+        ensures room { self.old.room + reports_for key.now self.new ≤
+            self.new.room + reports_for key.now self.old }
+        ensures out { self.new.out ≡ self.old.out }
+    {
+        let port = key.port;
+        let Wait {
+            message,
+            only,
+            home,
+        } = self.waits.pop(key).unwrap();
+        let id = message.id;
+        let answer = decide_unless(
+            given,
+            self.number,
+            &mut self.ports,
+            &self.hints,
+            &self.journal,
+            message,
+            port,
+            only,
+            tried,
+        );
+        say(
+            &mut self.journal,
+            self.number,
+            caller,
+            decision(id, port, tried, answer),
+        );
+        let clock = self.journal.clock();
+        put_report(&mut self.puts, clock, self.number, home, id, answer);
+    }
+
+    /// Tries the first message of a port and route, of which `again` is a copy, at the place where the port is located.
+    pub(crate) fn try_first(
+        &mut self,
+        key: &Key,
+        again: Wait,
+        newest: (u16, u64),
+        caller: &mut Caller,
+    )
+        requires first { first_for key.now self.old ≡ Some again }
+        requires place { has_place self.old.layout newest.0 ≡ true }
+        requires spare { 1 ≤ self.old.journal.spare }
+        requires room { 1 ≤ self.old.room }
+        requires clock { greatest_clock (turn self.old caller.old) + 1 < 2 ^ 64 }
+        ensures turn { turn self.new caller.new ≡ tries_at key.now again
+            (record { to = newest.0; hop = newest.1 }) (turn self.old caller.old) }
+        ensures spare { self.new.journal.spare ≡ self.old.journal.spare - 1 }
+        ensures room { self.new.room ≡ self.old.room - 1 }
+        ensures out { self.new.out ≡ self.old.out }
+    {
+        let (to, hop) = newest;
+        let port = key.port;
+        let id = again.message.id;
+        say(
+            &mut self.journal,
+            self.number,
+            caller,
+            Act::Try { id, port, to, hop },
+        );
+        self.waits.set_tried(key, Some(to));
+        let clock = self.journal.clock();
+        put(&mut self.puts, to, clock, self.number, trying(key, again, hop));
+    }
+}
