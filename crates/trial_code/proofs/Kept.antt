@@ -1,12 +1,12 @@
 -- What a place keeps stays kept with each entry.
-use Rattle.std.proofs.Common.{◌≡◌, ℕ, max, ◌+◌, ◌-◌, ◌<◌, ◌≤◌, Bool, true, false, ◌||◌, ◌&&◌, nat_lt, unwrap_or, ◌*◌, ◌%◌, cond, Option, Some, None, List, [], ◌∷◌, ◌++◌, length, length-append, drop, refl, sym, ◌∙◌, ap, subst, arith, All}
+use Rattle.std.proofs.Common.{◌≡◌, ℕ, max, ◌+◌, ◌-◌, ◌<◌, ◌≤◌, Bool, true, false, ◌||◌, ◌&&◌, nat_lt, unwrap_or, ◌*◌, ◌%◌, cond, Option, Some, None, List, [], ◌∷◌, ◌++◌, length, length-append, drop, slice_get, IfSome, not, ◌==◌, refl, sym, ◌∙◌, ap, subst, arith, All}
 use Rattle.std.specs.Option.{option_map, option_cmp}
 use Rattle.std.specs.declared.cmp.Ordering.{Ordering}
 use Rattle.std.specs.declared.cmp.Ordering.TheVariants as orders
 use Rattle.std.specs.Ordering.{is_eq, ordering_then}
 use Rattle.std.proofs.lemmas.Bool.{false≢true}
 use Rattle.std.proofs.Math.Nat.{le-max_left}
-use Rattle.std.proofs.lemmas.List.Elements.{All-nil, All-push, All-drop, All-same, All-weaker}
+use Rattle.std.proofs.lemmas.List.Elements.{All-nil, All-push, All-append, All-cons, All-head, All-drop, All-same, All-weaker}
 use Rattle.chorus_ui.specs.declared.ui.Ui.{Ui}
 use Rattle.chorus_ui.specs.declared.layout.Layout.{Layout}
 use Rattle.chorus_ui.specs.Layout.{has_place}
@@ -24,7 +24,7 @@ use Rattle.chorus_hints.specs.Known.{Known, kept, learned, hop_of}
 use Rattle.chorus_ports.specs.declared.deciding.Accept.{Accept}
 use Rattle.chorus_ports.specs.declared.deciding.Accept.TheVariants as accepts
 use Rattle.chorus_ports.specs.Table.{find, replace, without, are_distinct}
-use Rattle.chorus_ports.specs.Deciding.{answer_to, answered, after_offer}
+use Rattle.chorus_ports.specs.Deciding.{answer_to, answered, after_offer, enqueued}
 use Rattle.chorus_ports.proofs.Tables.{KeepsName, find-replace, find-last, find-without}
 use Rattle.chorus_waits.specs.declared.wait.Key.{Key}
 use Rattle.chorus_waits.specs.declared.wait.Wait.{Wait}
@@ -32,8 +32,17 @@ use Rattle.chorus_waits.specs.Queues.{Queue, Row, empty_queue, queue, same_key, 
 use Rattle.trial_journal.specs.Counting.{JournalState}
 use Rattle.trial_code.specs.declared.parcel.Parcel.{Parcel}
 use Rattle.trial_code.specs.Plain.{is_plain}
-use Rattle.trial_code.specs.Turns.{after_entry, next_entry}
-use Rattle.trial_code.specs.Tables.{end_of, MayHold, AreHeld, AreLocated, MayWait, AreWaiting, AreNumbered, IsPort, AreMembers, GoesTo, AreSent, IsKept}
+use Rattle.trial_code.specs.Turns.{after_entry, next_entry, parcel, parcels}
+use Rattle.chorus_out.specs.Waiting.{Waiting}
+use Rattle.chorus_entry.specs.declared.answer.Answer.{Answer}
+use Rattle.chorus_entry.specs.declared.answer.Answer.TheVariants as A
+use Rattle.chorus_entry.specs.declared.id.MsgId.{MsgId}
+use Rattle.chorus_entry.specs.declared.packet.Cargo.{Cargo}
+use Rattle.chorus_entry.specs.Answer.{is_final}
+use Rattle.chorus_ports.specs.Limits.{HasPositionLeft}
+use Rattle.chorus_place.specs.Deciding.{records_after}
+use Rattle.chorus_place.specs.Trying.{report}
+use Rattle.trial_code.specs.Tables.{end_of, MayHold, AreHeld, AreLocated, MayWait, AreWaiting, AreNumbered, IsPort, AreMembers, GoesTo, AreSent, IsBoxed, IsKept}
 use Rattle.trial_code.proofs.Plain.{makes_none, makes_not, same_members}
 
 -- one entry more, by this act
@@ -286,4 +295,66 @@ kept-start l p past ports known rows puts place nothing no_port layout no_locati
       numbered = λ q h. absurd (false≢true (sym (ap (is_made_here q) nothing) ∙ h));
       grouped = λ g. All-same IsPort (members g past) [] (ap (members g) nothing) (All-nil IsPort);
       sent = All-same (GoesTo l) puts [] no_packet (All-nil (GoesTo l));
+    }
+
+-- an answer was given: a port that accepted the message has it
+enqueued-raises : (m : Message) → Raises (enqueued m)
+enqueued-raises m =
+    record {
+      name = λ r. refl;
+      end = λ r. let e = length-append r.pending (m ∷ []) in omega (arith, e);
+      hop = λ r. omega arith;
+    }
+
+pub held-answered : (l : Layout) (p : ℕ) (past more : List Entry) (a : Act) (ports now : List PortRecord) (answer : Answer) (m : Message) (q : Ui)
+    → AreHeld l p past ports → Said past more a → now ≡ records_after answer m q ports → AreHeld l p more now
+held-answered l p past more a ports now answer m q k s e = subst (AreHeld l p more) (sym e) (by answer)
+  where
+    by : (x : Answer) → AreHeld l p more (records_after x m q ports)
+    by (A.Accepted pos) = held-replace l p past more a ports q (enqueued m) k s (enqueued-raises m)
+    by _ = held-later l p past more a ports k s
+
+-- the position of the next message is a number of 64 bits
+pub positions-fit : (l : Layout) (p : ℕ) (past : List Entry) (ports : List PortRecord) (q : Ui) (last : ℕ) → AreHeld l p past ports
+    → max (last_clock past) last + 1 < 18446744073709551616 → IfSome (find q ports) HasPositionLeft
+positions-fit l p past ports q last k h = by (find q ports) (k q)
+  where
+    by : (o : Option PortRecord) → ((r : PortRecord) → o ≡ Some r → MayHold l p past q r) → IfSome o HasPositionLeft
+    by None f = tt
+    by (Some r) f = let b = (f r refl).position in let m = le-max_left (last_clock past) last in omega (arith, b, m, h)
+
+pub all-first : (P : Wait → Type 0) (ws : List Wait) (w : Wait) → slice_get ws 0 ≡ Some w → All P ws → P w
+all-first P [] w h k = absurd (cc)
+all-first P (x ∷ xs) w h k = let e : x ≡ w = cc in subst P e (All-head P x xs k)
+
+-- packets more
+pub sent-more : (l : Layout) (puts more xs : List Parcel) → AreSent l puts → more ≡ puts ++ xs → AreSent l xs → AreSent l more
+sent-more l puts more xs k e f = All-same (GoesTo l) more (puts ++ xs) e (All-append (GoesTo l) puts xs k f)
+
+pub sent-report : (l : Layout) (p home clock : ℕ) (x : MsgId) (answer : Answer) → has_place l home ≡ true → AreSent l (parcels clock p (report p home x answer))
+sent-report l p home clock x answer h = by (is_final answer && not (home == p))
+  where
+    by : (b : Bool) → AreSent l (parcels clock p (cond b ((home, Cargo.Report x answer) ∷ []) []))
+    by true = All-cons (GoesTo l) (parcel home clock p (Cargo.Report x answer)) [] h (All-nil (GoesTo l))
+    by false = All-nil (GoesTo l)
+
+pub boxed-more : (l : Layout) (puts more xs : List Parcel) (out : Waiting) (n : ℕ) → IsBoxed l puts out → more ≡ puts ++ xs → length xs ≤ n → n ≤ out.spare - length puts
+    → IsBoxed l more out
+boxed-more l puts more xs out n k e f g =
+    let len = ap (λ (ys : List Parcel). length ys) e ∙ length-append puts xs in
+    let room = k.room in
+    record { lists = k.lists; room = omega (arith, len, f, g, room) }
+
+pub kept-waits : (l : Layout) (p : ℕ) (past : List Entry) (ports : List PortRecord) (known : Known) (rows more : List (Key × Row)) (puts : List Parcel)
+    → IsKept l p past ports known rows puts → AreWaiting l p more → IsKept l p past ports known more puts
+kept-waits l p past ports known rows more puts k w =
+    record {
+      place = k.place;
+      held = k.held;
+      layout = k.layout;
+      located = k.located;
+      waiting = w;
+      numbered = k.numbered;
+      grouped = k.grouped;
+      sent = k.sent;
     }

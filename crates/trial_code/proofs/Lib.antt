@@ -2,3 +2,6 @@ pub mod Plain
 pub mod States
 pub mod Kept
 pub mod Deciding
+pub mod Reports
+pub mod Going
+pub mod Firsts
