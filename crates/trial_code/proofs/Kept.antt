@@ -358,3 +358,6 @@ kept-waits l p past ports known rows more puts k w =
       grouped = k.grouped;
       sent = k.sent;
     }
+
+pub sent-one : (l : Layout) (puts more : List Parcel) (x : Parcel) → AreSent l puts → more ≡ puts ++ x ∷ [] → has_place l x.to ≡ true → AreSent l more
+sent-one l puts more x k e to = All-same (GoesTo l) more (puts ++ x ∷ []) e (All-push (GoesTo l) puts x k to)

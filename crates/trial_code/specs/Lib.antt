@@ -2,3 +2,4 @@ pub mod Tables
 pub mod Plain
 pub mod Turns
 pub mod Going
+pub mod Steps
