@@ -14,6 +14,13 @@ use Rattle.chorus_world.specs.Places.{taught}
 use Rattle.chorus_calls.specs.Callers.{after_post}
 use Rattle.chorus_waits.specs.declared.wait.Key.{Key}
 use Rattle.chorus_waits.specs.Queues.{changed, with_last}
+use Rattle.chorus_entry.specs.declared.record.PortRecord.{PortRecord}
+use Rattle.chorus_ports.specs.declared.taking.Taken.{Taken}
+use Rattle.chorus_ports.specs.declared.taking.Taken.TheVariants as takes
+use Rattle.chorus_ports.specs.Table.{replace}
+use Rattle.chorus_ports.specs.Taking.{after_take, rehomed}
+use Rattle.chorus_place.specs.Own.{take_act}
+use Rattle.chorus_place.specs.Doing.{with_ports}
 use Rattle.chorus_place.specs.PlaceState.{Turn, unchanged, say}
 use Rattle.chorus_place.specs.Deciding.{decide}
 use Rattle.chorus_place.specs.Doing.{direct, post}
@@ -44,3 +51,16 @@ told_by x k answer t =
 -- a message that another place tried here is decided
 abbrev pub answered : ℕ → Message → Key → Option ℕ → ℕ → Turn → Turn
 answered from m k only tried t = answers_try from m k.port k.route tried (decide m k.port only tried t.place) t
+
+-- what was taken leaves the record, and nothing changes where nothing was
+abbrev pub records_behind : Ui → Taken → Turn → List PortRecord
+records_behind q (takes.Message position m) t = replace q (after_take t.caller.actor) t.place.ports
+records_behind q _ t = t.place.ports
+
+-- the entry of what was taken
+abbrev pub took : Ui → Taken → Turn → Turn
+took q x t = say (take_act q x) (record (unchanged t) { ports = records_behind q x t }) t
+
+-- the port is held here by another actor
+abbrev pub rehomes : Ui → Ui → Turn → Turn
+rehomes q actor t = with_ports (Act.Rehome q actor) (replace q (rehomed actor) t.place.ports) t

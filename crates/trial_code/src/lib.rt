@@ -4,6 +4,8 @@
 mod decision;
 mod go;
 mod parcel;
+mod steps_calls;
 mod steps_messages;
+mod steps_ports;
 mod tables;
 mod turn;

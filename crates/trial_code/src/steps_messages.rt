@@ -15,7 +15,7 @@ ghost use Rattle.chorus_waits.specs.declared.wait.Key.{Key};
 ghost use Rattle.chorus_waits.specs.Queues.{queue, room, changed};
 ghost use Rattle.trial_code.specs.Plain.{is_plain};
 ghost use Rattle.trial_code.specs.Steps.{MayTeach, posted, told_by, answered};
-ghost use Rattle.trial_code.specs.Tables.{turn};
+ghost use Rattle.trial_code.specs.Tables.{turn, IsSound};
 ghost use Rattle.chorus_entry.specs.declared.packet.Cargo.TheVariants as Cargo;
 ghost use Rattle.trial_code.specs.Going.{LeavesRecords, first_for, settles, reports_for};
 
@@ -171,6 +171,7 @@ impl Tables {
     pub(crate) fn post(&mut self, key: &Key, message: Message, wait: Wait, caller: &mut Caller)
         requires copy { wait ≡ post message self.old.number }
         requires direct { key.now.route ≡ None }
+        requires sound { IsSound message }
         requires line { 0 < room self.old.waits key.now }
         requires posts { caller.old.posts < u32.MAX }
         requires spare { 1 ≤ self.old.journal.spare }
@@ -233,6 +234,7 @@ impl Tables {
         requires kind { key.now.port.kind ≡ Kind.Port }
         requires site { has_site self.old.layout key.now.port.site ≡ true }
         requires from { has_place self.old.layout from ≡ true }
+        requires sound { IsSound message }
         requires spare { 1 ≤ self.old.journal.spare }
         requires room { 1 ≤ self.old.room }
         requires clock { greatest_clock (turn self.old caller.old) + 1 < 2 ^ 64 }

@@ -40,7 +40,7 @@ invariant_of-self c =
     record {
       place = kept.place;
       held = held-answered i.layout i.number i.journal.past c.say.new.journal.past c.decision.result i.ports.records c.decide-answer.new.ports.records c.decide-answer.result c.args.message k.port kept.held said
-          (ap (λ t. t.records) c.decide-answer.ensures.ports);
+          (ap (λ t. t.records) c.decide-answer.ensures.ports) c.requires.sound;
       layout = kept.layout;
       located = kept.located;
       waiting = kept.waiting;

@@ -6,7 +6,7 @@ use Rattle.chorus_entry.specs.declared.act.Act.TheVariants as Act
 use Rattle.chorus_calls.specs.Callers.{after_post}
 use Rattle.chorus_waits.specs.Queues.{queue, changed, with_last}
 use Rattle.chorus_place.specs.Doing.{post}
-use Rattle.trial_code.specs.Tables.{Tables}
+use Rattle.trial_code.specs.Tables.{Tables, IsSound}
 use Rattle.trial_code.proofs.States.{same_turn}
 use Rattle.trial_code.proofs.Kept.{said-by, kept-plain, kept-waits, waiting-last}
 use Rattle.trial_code.proofs.tables.Tables.post.Goals as goal
@@ -22,7 +22,7 @@ invariant_of-self c =
     kept-waits i.layout i.number c.say.new.journal.past i.ports.records i.hints i.waits c.push.new.self i.puts.items
     (kept-plain i.layout i.number i.journal.past c.say.new.journal.past act i.ports.records i.hints i.waits i.puts.items kept said refl)
     (waiting-last i.layout i.number i.waits c.push.new.self c.args.key.now c.args.wait kept.waiting c.push.ensures.queues
-    (record { home = ap (has_place i.layout) home ∙ kept.place; own = λ _. home })))
+    (record { home = ap (has_place i.layout) home ∙ kept.place; own = λ _. home; message = subst IsSound (sym (ap (λ w. w.message) c.requires.copy)) c.requires.sound })))
 
 pub returns-clause-turn : goal.returns-clause-turn
 returns-clause-turn c =

@@ -1,0 +1,14 @@
+use Rattle.std.proofs.Common.{ap, ◌∙◌, refl}
+use Rattle.chorus_entry.specs.declared.act.Act.TheVariants as Act
+use Rattle.chorus_ports.specs.Taking.{rehomed}
+use Rattle.trial_code.proofs.Kept.{said-by, kept-replaced, rehomed-raises}
+use Rattle.trial_code.proofs.tables.Tables.rehome.Goals as goal
+
+pub invariant_of-self : goal.invariant_of-self
+invariant_of-self c =
+    let i = c.self.inside in
+    let act = Act.Rehome c.args.port c.args.actor in
+    let said = said-by i.number act c.args.caller.now i.journal c.say.new.journal c.say.ensures.journal in
+    (ap (λ j. j.layout) c.say.ensures.journal ∙ c.self.invariant.0, c.self.invariant.1,
+    kept-replaced i.layout i.number i.journal.past c.say.new.journal.past act i.ports.records c.rehome.new.self.records i.hints i.waits i.puts.items
+    c.args.port (rehomed c.args.actor) c.self.invariant.2 said refl (ap (λ t. t.records) c.rehome.ensures) (rehomed-raises c.args.actor))

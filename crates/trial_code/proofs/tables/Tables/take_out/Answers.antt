@@ -1,0 +1,13 @@
+use Rattle.std.proofs.Common.{ap, ◌∙◌}
+use Rattle.chorus_ports.specs.Taking.{after_take}
+use Rattle.trial_code.proofs.Kept.{said-by, kept-replaced, take-raises}
+use Rattle.trial_code.proofs.tables.Tables.take_out.Goals as goal
+
+pub invariant_of-self : goal.invariant_of-self
+invariant_of-self c =
+    let i = c.self.inside in
+    let act = c.take_act.result in
+    let said = said-by i.number act c.args.caller.now i.journal c.say.new.journal c.say.ensures.journal in
+    (ap (λ j. j.layout) c.say.ensures.journal ∙ c.self.invariant.0, c.self.invariant.1,
+    kept-replaced i.layout i.number i.journal.past c.say.new.journal.past act i.ports.records c.take-taken.new.self.records i.hints i.waits i.puts.items
+    c.args.port (after_take c.actor.result) c.self.invariant.2 said c.take_act.ensures.plain (ap (λ t. t.records) c.take-taken.ensures.after) (take-raises c.actor.result))
