@@ -1,6 +1,6 @@
 -- The steps of a turn, each with one entry.
 -- k is a port and route, q a port, m a message, x its id, t the turn.
-use Rattle.std.specs.Prelude.{ℕ, ◌≡◌, true, List, [], ◌∷◌, Option, Some, None}
+use Rattle.std.specs.Prelude.{ℕ, ◌≡◌, ◌≤◌, true, List, [], ◌∷◌, Option, Some, None}
 use Rattle.chorus_ui.specs.declared.ui.Ui.{Ui}
 use Rattle.chorus_ui.specs.declared.layout.Layout.{Layout}
 use Rattle.chorus_ui.specs.Layout.{has_place, can_make_port}
@@ -23,7 +23,10 @@ use Rattle.chorus_place.specs.Own.{take_act}
 use Rattle.chorus_place.specs.Doing.{with_ports}
 use Rattle.chorus_place.specs.PlaceState.{Turn, unchanged, say}
 use Rattle.chorus_place.specs.Deciding.{decide}
-use Rattle.chorus_place.specs.Doing.{direct, post}
+use Rattle.chorus_entry.specs.declared.tag.Tag.{Tag}
+use Rattle.chorus_entry.specs.declared.tag.Tag.TheVariants as tags
+use Rattle.trial_code.specs.Tables.{IsSound}
+use Rattle.chorus_place.specs.Doing.{direct, post, holding}
 use Rattle.chorus_place.specs.Working.{answers_try, taught_of, told, report_of}
 
 -- what is taught of a port is a place of the layout, and the port one that the layout can make
@@ -57,6 +60,20 @@ abbrev pub records_behind : Ui → Taken → Turn → List PortRecord
 records_behind q (takes.Message position m) t = replace q (after_take t.caller.actor) t.place.ports
 records_behind q _ t = t.place.ports
 
+-- a message that was taken is within its ranges
+abbrev pub IsSoundTaken : Taken → Type 0
+IsSoundTaken (takes.Message position m) = IsSound m
+IsSoundTaken _ = Unit {0}
+
+-- a request has a number from 1 on
+abbrev pub HasNumber : Tag → Type 0
+HasNumber (tags.Request number back) = 1 ≤ number
+HasNumber _ = Unit {0}
+
+-- a request that is taken is in the caller's hand
+abbrev pub held : MsgId → Tag → Turn → Turn
+held x tag t = record t { caller = holding x tag t.caller }
+
 -- the entry of what was taken
 abbrev pub took : Ui → Taken → Turn → Turn
 took q x t = say (take_act q x) (record (unchanged t) { ports = records_behind q x t }) t
@@ -64,3 +81,8 @@ took q x t = say (take_act q x) (record (unchanged t) { ports = records_behind q
 -- the port is held here by another actor
 abbrev pub rehomes : Ui → Ui → Turn → Turn
 rehomes q actor t = with_ports (Act.Rehome q actor) (replace q (rehomed actor) t.place.ports) t
+
+-- the actor that holds the port
+abbrev pub holder_of : Option PortRecord → Option Ui
+holder_of None = None
+holder_of (Some port) = Some port.actor

@@ -4,8 +4,10 @@
 mod decision;
 mod go;
 mod parcel;
+mod room;
 mod steps_calls;
 mod steps_messages;
 mod steps_ports;
 mod tables;
 mod turn;
+mod turns_ports;

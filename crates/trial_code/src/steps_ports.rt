@@ -8,7 +8,7 @@ ghost use Rattle.chorus_place.specs.PlaceState.{greatest_clock};
 ghost use Rattle.chorus_place.specs.Own.{take_act};
 ghost use Rattle.chorus_place.specs.Doing.{departs};
 ghost use Rattle.trial_code.specs.Plain.{is_plain};
-ghost use Rattle.trial_code.specs.Steps.{took, rehomes};
+ghost use Rattle.trial_code.specs.Steps.{took, rehomes, IsSoundTaken};
 ghost use Rattle.trial_code.specs.Tables.{turn};
 
 use crate::tables::Tables;
@@ -41,6 +41,7 @@ impl Tables {
         requires clock { greatest_clock (turn self.old caller.old) + 1 < 2 ^ 64 }
         ensures value { result ≡ taken caller.old.actor (find port self.old.ports.records) }
         ensures turn { turn self.new caller.new ≡ took port result (turn self.old caller.old) }
+        ensures sound { IsSoundTaken result }
         ensures spare { self.new.journal.spare ≡ self.old.journal.spare - 1 }
         ensures room { self.new.room ≡ self.old.room }
         ensures out { self.new.out ≡ self.old.out }

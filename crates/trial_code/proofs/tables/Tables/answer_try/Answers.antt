@@ -32,11 +32,10 @@ invariant_of-self c =
     let kept = c.self.invariant.2 in
     let said = said-by i.number c.decision.result c.args.caller.now i.journal c.say.new.journal c.say.ensures.journal in
     let x = parcel c.args.from c.clock-clock.result i.number (Cargo.Verdict c.args.message.id k.port k.route c.decide-answer.result) in
-    let len = i.puts.ok.0 in
     let seen = ap (λ p. p.room) c.self.view_is in
     let room = c.requires.room in
     (ap (λ j. j.layout) c.say.ensures.journal ∙ c.self.invariant.0,
-    boxed-more i.layout i.puts.items c.put.new.puts.items (x ∷ []) i.out 1 c.self.invariant.1 c.put.ensures.items (omega arith) (omega (arith, len, seen, room)),
+    boxed-more i.layout i.puts.items c.put.new.puts.items (x ∷ []) i.out 1 c.self.invariant.1 c.put.ensures.items (omega arith) (omega (arith, seen, room)),
     record {
       place = kept.place;
       held = held-answered i.layout i.number i.journal.past c.say.new.journal.past c.decision.result i.ports.records c.decide-answer.new.ports.records c.decide-answer.result c.args.message k.port kept.held said

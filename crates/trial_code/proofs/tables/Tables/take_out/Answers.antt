@@ -1,4 +1,7 @@
-use Rattle.std.proofs.Common.{ap, ◌∙◌}
+use Rattle.std.proofs.Common.{ap, ◌∙◌, sym, subst}
+use Rattle.chorus_ports.specs.Table.{find}
+use Rattle.trial_code.specs.Steps.{IsSoundTaken}
+use Rattle.trial_code.proofs.Taking.{sound-taken}
 use Rattle.chorus_ports.specs.Taking.{after_take}
 use Rattle.trial_code.proofs.Kept.{said-by, kept-replaced, take-raises}
 use Rattle.trial_code.proofs.tables.Tables.take_out.Goals as goal
@@ -11,3 +14,8 @@ invariant_of-self c =
     (ap (λ j. j.layout) c.say.ensures.journal ∙ c.self.invariant.0, c.self.invariant.1,
     kept-replaced i.layout i.number i.journal.past c.say.new.journal.past act i.ports.records c.take-taken.new.self.records i.hints i.waits i.puts.items
     c.args.port (after_take c.actor.result) c.self.invariant.2 said c.take_act.ensures.plain (ap (λ t. t.records) c.take-taken.ensures.after) (take-raises c.actor.result))
+
+pub returns-clause-sound : goal.returns-clause-sound
+returns-clause-sound c =
+    subst IsSoundTaken (sym c.take-taken.ensures.value)
+    (sound-taken c.actor.result (find c.args.port c.self.inside.ports.records) (λ r h. (c.self.invariant.2.held c.args.port r h).pending))

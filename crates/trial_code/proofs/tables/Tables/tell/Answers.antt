@@ -30,11 +30,10 @@ invariant_of-self c =
     let seen = ap (λ p. reports_for k p) c.self.view_is in
     let space = ap (λ p. p.room) c.self.view_is in
     let room = c.requires.room in
-    let len = i.puts.ok.0 in
     let count = length-parcels c.clock-clock.result i.number (report i.number w.home x a) in
     let teaches = subst (λ l. MayTeach l k.port (taught a)) (sym (ap (λ p. p.layout) c.self.view_is)) c.requires.teaches in
     (ap (λ j. j.layout) c.say.ensures.journal ∙ c.self.invariant.0,
-    boxed-more i.layout i.puts.items c.put_report.new.puts.items loads i.out (length loads) c.self.invariant.1 c.put_report.ensures.items (omega arith) (omega (arith, all, seen, space, room, len, count)),
+    boxed-more i.layout i.puts.items c.put_report.new.puts.items loads i.out (length loads) c.self.invariant.1 c.put_report.ensures.items (omega arith) (omega (arith, all, seen, space, room, count)),
     record {
       place = kept.place;
       held = held-later i.layout i.number i.journal.past c.say.new.journal.past act i.ports.records kept.held said;
