@@ -32,6 +32,7 @@ use Rattle.trial_code.specs.declared.parcel.Parcel.{Parcel}
 use Rattle.trial_code.specs.Plain.{is_plain}
 use Rattle.trial_code.specs.Turns.{after_entry, next_entry, parcel, parcels}
 use Rattle.chorus_out.specs.Waiting.{Waiting}
+use Rattle.chorus_entry.specs.declared.packet.Packet.{Packet}
 use Rattle.chorus_entry.specs.declared.answer.Answer.{Answer}
 use Rattle.chorus_entry.specs.declared.answer.Answer.TheVariants as A
 use Rattle.chorus_entry.specs.declared.id.MsgId.{MsgId}
@@ -384,3 +385,15 @@ pub kept-replaced : (l : Layout) (p : ℕ) (past more : List Entry) (a : Act) (p
     → IsKept l p past ports known rows puts → Said past more a → is_plain a ≡ true → now ≡ replace q f ports → Raises f → IsKept l p more now known rows puts
 kept-replaced l p past more a ports now known rows puts q f k s plain e raises =
     kept-ports l p past more a ports now known rows puts k s plain (subst (AreHeld l p more) (sym e) (held-replace l p past more a ports q f k.held s raises))
+
+-- the room alone changed
+pub kept-past : (l : Layout) (p : ℕ) (past more : List Entry) (ports : List PortRecord) (known : Known) (rows : List (Key × Row)) (puts now : List Parcel)
+    → IsKept l p past ports known rows puts → more ≡ past → now ≡ puts → IsKept l p more ports known rows now
+kept-past l p past more ports known rows puts now k e f =
+    subst (λ x. IsKept l p x ports known rows now) (sym e) (subst (λ y. IsKept l p past ports known rows y) (sym f) k)
+
+pub boxed-out : (l : Layout) (puts now : List Parcel) (out more : Waiting) → IsBoxed l puts out → now ≡ puts → more.lists ≡ out.lists → out.spare ≤ more.spare → IsBoxed l now more
+boxed-out l puts now out more k e f g =
+    let n = ap (λ (xs : List Parcel). length xs) e in
+    let room = k.room in
+    record { lists = ap (λ (ls : List (List Packet)). length ls) f ∙ k.lists; room = omega (arith, n, g, room) }

@@ -6,4 +6,4 @@ pub mod Reports
 pub mod Going
 pub mod Firsts
 pub mod Telling
-pub mod Taking
+pub mod Turns

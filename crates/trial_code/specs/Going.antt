@@ -1,10 +1,14 @@
 -- The messages of a port and route go, one after the other: what is left to do, and what it needs.
 -- k is a port and route, w a message that waits, p the tables of a place, t a turn.
-use Rattle.std.specs.Prelude.{ℕ, ◌≡◌, ◌+◌, ◌<◌, ◌≤◌, ◌==◌, ◌^◌, cond, not, if◌then◌else◌, List, [], ◌∷◌, length, slice_get, Option, Some, None, unwrap_or}
+use Rattle.std.specs.Prelude.{ℕ, ◌≡◌, ◌+◌, ◌<◌, ◌≤◌, ◌==◌, ◌^◌, cond, not, if◌then◌else◌, List, [], ◌∷◌, length, slice_get, Option, Some, None, ◌++◌, drop, option_to_list, unwrap_or}
 use Rattle.chorus_ui.specs.declared.ui.Ui.{Ui}
 use Rattle.chorus_ui.specs.declared.layout.Layout.{Layout}
 use Rattle.chorus_ui.specs.Layout.{has_site}
 use Rattle.chorus_entry.specs.declared.answer.Answer.{Answer}
+use Rattle.chorus_entry.specs.declared.answer.Answer.TheVariants as A
+use Rattle.chorus_world.specs.Places.{taught}
+use Rattle.chorus_hints.specs.Known.{kept, newest_of}
+use Rattle.chorus_place.specs.Working.{taught_of}
 use Rattle.chorus_entry.specs.declared.message.Message.{Message}
 use Rattle.chorus_entry.specs.declared.record.PortRecord.{PortRecord}
 use Rattle.chorus_world.specs.Posts.{is_on_site}
@@ -76,3 +80,14 @@ pub record Going (k : Key) (again : Option Wait) (start now : Turn) (entries pac
   pub spare : length (now.place.waiting k).waits ≤ entries
   pub room : left + 1 ≤ packets
   pub clock : greatest_clock now + length (now.place.waiting k).waits + 1 < 2 ^ 64
+
+-- how many messages an answer settles
+abbrev pub settled_by : Answer → ℕ
+settled_by (A.Stale to hop) = 0
+settled_by _ = 1
+
+-- the message that is tried at another place once the answer is learned: of those behind the first `start`, and then of `last`
+abbrev pub leaving_after : Key → Answer → ℕ → Option Wait → Tables → Option Wait
+leaving_after k answer start last p =
+    leaving_to p.layout p.number k.port (newest_of p.layout k.port (taught_of k.port (taught answer) (kept p.known) k.port)).0
+    (drop start (waits_for k p) ++ option_to_list last)

@@ -3,3 +3,5 @@ pub mod Plain
 pub mod Turns
 pub mod Going
 pub mod Steps
+pub mod Room
+pub mod Commands

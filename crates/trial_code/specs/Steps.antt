@@ -14,19 +14,9 @@ use Rattle.chorus_world.specs.Places.{taught}
 use Rattle.chorus_calls.specs.Callers.{after_post}
 use Rattle.chorus_waits.specs.declared.wait.Key.{Key}
 use Rattle.chorus_waits.specs.Queues.{changed, with_last}
-use Rattle.chorus_entry.specs.declared.record.PortRecord.{PortRecord}
-use Rattle.chorus_ports.specs.declared.taking.Taken.{Taken}
-use Rattle.chorus_ports.specs.declared.taking.Taken.TheVariants as takes
-use Rattle.chorus_ports.specs.Table.{replace}
-use Rattle.chorus_ports.specs.Taking.{after_take, rehomed}
-use Rattle.chorus_place.specs.Own.{take_act}
-use Rattle.chorus_place.specs.Doing.{with_ports}
 use Rattle.chorus_place.specs.PlaceState.{Turn, unchanged, say}
 use Rattle.chorus_place.specs.Deciding.{decide}
-use Rattle.chorus_entry.specs.declared.tag.Tag.{Tag}
-use Rattle.chorus_entry.specs.declared.tag.Tag.TheVariants as tags
-use Rattle.trial_code.specs.Tables.{IsSound}
-use Rattle.chorus_place.specs.Doing.{direct, post, holding}
+use Rattle.chorus_place.specs.Doing.{direct, post}
 use Rattle.chorus_place.specs.Working.{answers_try, taught_of, told, report_of}
 
 -- what is taught of a port is a place of the layout, and the port one that the layout can make
@@ -54,35 +44,3 @@ told_by x k answer t =
 -- a message that another place tried here is decided
 abbrev pub answered : ℕ → Message → Key → Option ℕ → ℕ → Turn → Turn
 answered from m k only tried t = answers_try from m k.port k.route tried (decide m k.port only tried t.place) t
-
--- what was taken leaves the record, and nothing changes where nothing was
-abbrev pub records_behind : Ui → Taken → Turn → List PortRecord
-records_behind q (takes.Message position m) t = replace q (after_take t.caller.actor) t.place.ports
-records_behind q _ t = t.place.ports
-
--- a message that was taken is within its ranges
-abbrev pub IsSoundTaken : Taken → Type 0
-IsSoundTaken (takes.Message position m) = IsSound m
-IsSoundTaken _ = Unit {0}
-
--- a request has a number from 1 on
-abbrev pub HasNumber : Tag → Type 0
-HasNumber (tags.Request number back) = 1 ≤ number
-HasNumber _ = Unit {0}
-
--- a request that is taken is in the caller's hand
-abbrev pub held : MsgId → Tag → Turn → Turn
-held x tag t = record t { caller = holding x tag t.caller }
-
--- the entry of what was taken
-abbrev pub took : Ui → Taken → Turn → Turn
-took q x t = say (take_act q x) (record (unchanged t) { ports = records_behind q x t }) t
-
--- the port is held here by another actor
-abbrev pub rehomes : Ui → Ui → Turn → Turn
-rehomes q actor t = with_ports (Act.Rehome q actor) (replace q (rehomed actor) t.place.ports) t
-
--- the actor that holds the port
-abbrev pub holder_of : Option PortRecord → Option Ui
-holder_of None = None
-holder_of (Some port) = Some port.actor

@@ -1,34 +1,55 @@
-//! The room that a turn needs, which is taken before its first change.
+//! Room that is taken before a turn changes anything.
 
-ghost use Rattle.std.specs.Prelude.{◌≡◌, ◌≤◌, [], IsOk, OnOk};
+ghost use Rattle.std.specs.Prelude.{◌≡◌, ◌<◌, ◌≤◌, IsOk, OnOk};
 ghost use Rattle.chorus_calls.specs.Callers.{Seated};
 ghost use Rattle.trial_code.specs.Tables.{turn};
+ghost use Rattle.trial_code.specs.Room.{Roomier};
 
 use crate::tables::Tables;
 use std::alloc::AllocError;
 
 impl Tables {
-    /// Makes room for so many entries and packets. Changes nothing else, whatever the answer.
+    /// Takes room for so many entries and packets more. All else stays, whatever the answer. Takes no memory where that room is
+    /// there.
     pub(crate) fn make_room(&mut self, entries: usize, packets: usize) -> Result<(), AllocError>
-        requires rested { self.old.puts ≡ [] }
-        ensures entries { OnOk result (entries ≤ self.new.journal.spare) }
-        ensures packets { OnOk result (packets ≤ self.new.room) }
+        ensures same { Roomier self.old self.new }
         ensures turn { (c : Seated) → turn self.new c ≡ turn self.old c }
-        ensures same { self.new ≡ record self.old {
-            journal = self.new.journal; out = self.new.out; room = self.new.room } }
-        ensures lists { self.new.out.lists ≡ self.old.out.lists }
-        ensures kept { self.old.journal.spare ≤ self.new.journal.spare }
-        ensures succeeds { entries ≤ self.old.journal.spare → packets ≤ self.old.room → IsOk result }
+        ensures spare { OnOk result (entries ≤ self.new.journal.spare) }
+        ensures room { OnOk result (packets ≤ self.new.room) }
+        ensures takes_no_memory { entries ≤ self.old.journal.spare → packets ≤ self.old.room →
+            IsOk result }
     {
-        if self.journal.spare() < entries {
-            self.journal.reserve(entries)?;
+        self.make_entry_room(entries)?;
+        self.make_packet_room(packets)
+    }
+
+    /// Takes room for so many entries more.
+    fn make_entry_room(&mut self, entries: usize) -> Result<(), AllocError>
+        ensures same { Roomier self.old self.new }
+        ensures turn { (c : Seated) → turn self.new c ≡ turn self.old c }
+        ensures spare { OnOk result (entries ≤ self.new.journal.spare) }
+        ensures room { self.new.room ≡ self.old.room }
+        ensures takes_no_memory { entries ≤ self.old.journal.spare → IsOk result }
+    {
+        if self.journal.spare() >= entries {
+            return Ok(());
         }
-        if self.out.spare() < packets {
-            self.out.reserve(packets)?;
+        self.journal.reserve(entries)
+    }
+
+    /// Takes room for so many packets more.
+    fn make_packet_room(&mut self, packets: usize) -> Result<(), AllocError>
+        ensures same { Roomier self.old self.new }
+        ensures turn { (c : Seated) → turn self.new c ≡ turn self.old c }
+        ensures spare { self.new.journal.spare ≡ self.old.journal.spare }
+        ensures room { OnOk result (packets ≤ self.new.room) }
+        ensures takes_no_memory { packets ≤ self.old.room → IsOk result }
+    {
+        self.puts.reserve(packets)?;
+        let all = self.puts.len() + packets;
+        if self.out.spare() >= all {
+            return Ok(());
         }
-        if self.puts.capacity() < packets {
-            self.puts.reserve(packets)?;
-        }
-        Ok(())
+        self.out.reserve(all)
     }
 }

@@ -178,6 +178,7 @@ impl Tables {
         requires clock { greatest_clock (turn self.old caller.old) + 1 < 2 ^ 64 }
         ensures turn { turn self.new caller.new ≡
             posted message key.now.port (turn self.old caller.old) }
+        ensures reports { reports_for key.now self.new ≡ reports_for key.now self.old }
         ensures spare { self.new.journal.spare ≡ self.old.journal.spare - 1 }
         ensures room { self.new.room ≡ self.old.room }
         ensures out { self.new.out ≡ self.old.out }
