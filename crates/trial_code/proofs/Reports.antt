@@ -1,12 +1,12 @@
 -- The reports that the messages of a queue bring.
-use Rattle.std.proofs.Common.{◌≡◌, ℕ, min, ◌+◌, ◌-◌, ◌≤◌, ◌==◌, ◌&&◌, not, Bool, true, false, cond, Option, Some, None, List, [], ◌∷◌, length, drop, slice_get, refl, sym, ◌∙◌, ap, subst, IfSome, arith}
+use Rattle.std.proofs.Common.{◌≡◌, ℕ, min, ◌+◌, ◌-◌, ◌≤◌, ◌==◌, ◌&&◌, not, Bool, true, false, cond, Option, Some, None, List, [], ◌∷◌, ◌++◌, length, drop, slice_get, refl, sym, ◌∙◌, ap, subst, IfSome, arith}
 use Rattle.chorus_entry.specs.declared.id.MsgId.{MsgId}
 use Rattle.chorus_entry.specs.declared.answer.Answer.{Answer}
 use Rattle.chorus_entry.specs.declared.packet.Cargo.{Cargo}
 use Rattle.chorus_entry.specs.Answer.{is_final}
 use Rattle.chorus_waits.specs.declared.wait.Wait.{Wait}
 use Rattle.chorus_waits.specs.declared.wait.Key.{Key}
-use Rattle.chorus_waits.specs.Queues.{Queue, Row, queue, same_key, changed, passed}
+use Rattle.chorus_waits.specs.Queues.{Queue, Row, queue, same_key, changed, passed, with_last}
 use Rattle.chorus_waits.proofs.Keys.{same_key-refl}
 use Rattle.chorus_place.specs.Trying.{report}
 use Rattle.trial_code.specs.Going.{reports}
@@ -50,3 +50,22 @@ if-first o w P e h = subst (λ x. IfSome x P) (sym e) h
 pub length-parcels : (clock p : ℕ) (loads : List (ℕ × Cargo)) → length (parcels clock p loads) ≡ length loads
 length-parcels clock p [] = refl
 length-parcels clock p (load ∷ loads) = let e = length-parcels clock p loads in grind (arith, e)
+
+reports-append : (p : ℕ) (ws : List Wait) (w : Wait) → reports p (ws ++ w ∷ []) ≡ reports p ws + cond (w.home == p) 0 1
+reports-append p [] w = omega arith
+reports-append p (x ∷ xs) w = let e = reports-append p xs w in omega (arith, e)
+
+here-none : (p : ℕ) (w : Wait) → w.home ≡ p → cond (w.home == p) 0 1 ≡ 0
+here-none p w h = ap (λ b. cond b 0 1) (eq-is w.home p h)
+  where
+    eq-is : (a b : ℕ) → a ≡ b → (a == b) ≡ true
+    eq-is a b e = grind (arith, e)
+
+-- a message of this place is not reported
+pub reports-own : (p : ℕ) (k : Key) (rows more : List (Key × Row)) (w : Wait) → ((l : Key) → queue more l ≡ changed k (with_last w) (queue rows) l) → w.home ≡ p
+    → reports p (queue more k).waits ≡ reports p (queue rows k).waits
+reports-own p k rows more w e h =
+    let f = ap (λ (q : Queue). reports p q.waits) (e k ∙ at-key k (with_last w) (queue rows)) in
+    let g = reports-append p (queue rows k).waits w in
+    let n = here-none p w h in
+    omega (arith, f, g, n)

@@ -1,5 +1,5 @@
 -- Whole turns.
-use Rattle.std.proofs.Common.{◌≡◌, ℕ, max, ◌+◌, ◌-◌, ◌<◌, ◌≤◌, ◌==◌, Bool, true, false, not, cond, Option, Some, None, List, [], ◌∷◌, ◌++◌, length, drop, refl, sym, ◌∙◌, ap, arith}
+use Rattle.std.proofs.Common.{◌≡◌, ℕ, max, ◌+◌, ◌-◌, ◌<◌, ◌≤◌, ◌==◌, Bool, true, false, not, cond, Option, Some, None, List, [], ◌∷◌, ◌++◌, length, drop, length-append, refl, sym, ◌∙◌, ap, arith}
 use Rattle.std.proofs.lemmas.List.{append-nil}
 use Rattle.chorus_ui.specs.declared.ui.Ui.{Ui}
 use Rattle.chorus_ui.specs.declared.layout.Layout.{Layout}
@@ -12,12 +12,18 @@ use Rattle.chorus_world.specs.declared.place.Location.{Location}
 use Rattle.chorus_hints.specs.Known.{newest_of}
 use Rattle.chorus_waits.specs.declared.wait.Key.{Key}
 use Rattle.chorus_waits.specs.declared.wait.Wait.{Wait}
-use Rattle.chorus_waits.specs.Queues.{Queue, changed}
+use Rattle.chorus_waits.specs.Queues.{Queue, changed, with_last}
 use Rattle.chorus_place.specs.PlaceState.{Turn, location, newest, greatest_clock}
 use Rattle.chorus_place.specs.Trying.{go}
+use Rattle.chorus_place.specs.Doing.{direct, post}
+use Rattle.chorus_place.specs.Own.{next_message}
+use Rattle.chorus_entry.specs.declared.tag.Tag.{Tag}
+use Rattle.chorus_entry.specs.declared.message.Message.{Message}
+use Rattle.chorus_entry.specs.Message.{as_copy}
+use Rattle.chorus_calls.specs.Callers.{Seated}
 use Rattle.chorus_place.specs.Working.{hears_verdict, taught_of, told}
 use Rattle.trial_code.specs.Going.{first_to, leaving_to, leaving, settled_by}
-use Rattle.trial_code.specs.Steps.{told_by}
+use Rattle.trial_code.specs.Steps.{told_by, posted}
 use Rattle.trial_code.proofs.Deciding.{located}
 use Rattle.trial_code.proofs.Reports.{at-key}
 
@@ -69,3 +75,32 @@ tell-leaving k x a t u o e h =
 
 pub worked : (k : Key) (x : MsgId) (a : Answer) (t s u v : Turn) → s ≡ t → u ≡ told_by x k a s → v ≡ go k u → v ≡ hears_verdict x k a t
 worked k x a t s u v same f g = g ∙ ap (go k) (f ∙ ap (told_by x k a) same)
+
+-- Posting to a port.
+
+-- a copy with the same number is the message again
+pub copy-of : (tag : Tag) (body : List ℕ) (c : Seated) (m w : Message) → m ≡ next_message tag body c → w ≡ as_copy m 0 → w ≡ m
+copy-of tag body c m w e h = h ∙ ap (λ x. as_copy x 0) e ∙ sym e
+
+pub posted-length : (q : Ui) (m : Message) (t u : Turn) → u ≡ posted m q t
+    → length (u.place.waiting (direct q)).waits ≡ length (t.place.waiting (direct q)).waits + 1
+posted-length q m t u e =
+    ap (λ (x : Turn). length (x.place.waiting (direct q)).waits) e
+    ∙ ap (λ (x : Queue). length x.waits) (at-key (direct q) (with_last (post m t.place.number)) t.place.waiting)
+    ∙ length-append (t.place.waiting (direct q)).waits _
+
+pub posted-clock : (q : Ui) (m : Message) (t u : Turn) → u ≡ posted m q t → greatest_clock u ≡ greatest_clock t + 1
+posted-clock q m t u e = ap greatest_clock e ∙ max-same (greatest_clock t + 1)
+
+pub posted-leaving : (q : Ui) (m : Message) (t u : Turn) (o : Option Wait) (w : Wait) → u ≡ posted m q t → w ≡ post m t.place.number
+    → o ≡ leaving_to t.place.layout t.place.number q (newest_of t.place.layout q (t.place.known q)).0 ((t.place.waiting (direct q)).waits ++ w ∷ [])
+    → o ≡ leaving (direct q) u.place
+posted-leaving q m t u o w e c h =
+    h
+    ∙ leaving-at t.place.layout t.place.number q (t.place.known q) ((t.place.waiting (direct q)).waits ++ w ∷ [])
+    ∙ ap (λ x. leaving_to t.place.layout t.place.number q (newest t.place q).to ((t.place.waiting (direct q)).waits ++ x ∷ [])) c
+    ∙ sym (ap (λ (x : Turn). leaving (direct q) x.place) e
+    ∙ ap (λ (x : Queue). leaving_to t.place.layout t.place.number q (newest t.place q).to x.waits) (at-key (direct q) (with_last (post m t.place.number)) t.place.waiting))
+
+pub sent : (q : Ui) (m n : Message) (t s r u v : Turn) → r ≡ s → s ≡ t → m ≡ n → u ≡ posted m q r → v ≡ go (direct q) u → v ≡ go (direct q) (posted n q t)
+sent q m n t s r u v e f g h k = k ∙ ap (go (direct q)) (h ∙ ap (posted m q) (e ∙ f) ∙ ap (λ x. posted x q t) g)

@@ -8,6 +8,7 @@ use Rattle.chorus_waits.specs.Queues.{queue, changed, with_last}
 use Rattle.chorus_place.specs.Doing.{post}
 use Rattle.trial_code.specs.Tables.{Tables, IsSound}
 use Rattle.trial_code.proofs.States.{same_turn}
+use Rattle.trial_code.proofs.Reports.{reports-own}
 use Rattle.trial_code.proofs.Kept.{said-by, kept-plain, kept-waits, waiting-last}
 use Rattle.trial_code.proofs.tables.Tables.post.Goals as goal
 
@@ -34,3 +35,10 @@ returns-clause-turn c =
     (λ k. c.push.ensures.queues k ∙ ap (λ w. changed key (with_last w) (queue i.waits) k) copy
     ∙ ap (λ r. changed (record { port = key.port; route = r }) (with_last (post c.args.message i.number)) (queue i.waits) k) c.requires.direct)
     (λ x. refl) (c.posted.ensures.after ∙ ap after_post c.say.ensures.caller) (sym (append-nil _)))
+
+pub returns-clause-reports : goal.returns-clause-reports
+returns-clause-reports c =
+    let i = c.self.inside in
+    rw (← c.self.view_is)
+    (reports-own i.number c.args.key.now i.waits c.push.new.self c.args.wait c.push.ensures.queues
+    (ap (λ w. w.home) c.requires.copy ∙ ap (λ (p : Tables). p.number) (sym c.self.view_is)))
