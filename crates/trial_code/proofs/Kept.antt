@@ -62,7 +62,7 @@ or-right : (b c : Bool) → c ≡ true → b || c ≡ true
 or-right true c h = refl
 or-right false c h = h
 
-made-more : (past more : List Entry) (a : Act) (q : Ui) → Said past more a → is_made_here q past ≡ true → is_made_here q more ≡ true
+pub made-more : (past more : List Entry) (a : Act) (q : Ui) → Said past more a → is_made_here q past ≡ true → is_made_here q more ≡ true
 made-more past more a q s h = ap (is_made_here q) s.is ∙ or-right (makes q s.entry.act) (is_made_here q past) h
 
 made-plain : (past more : List Entry) (a : Act) (q : Ui) → Said past more a → is_plain a ≡ true → is_made_here q more ≡ is_made_here q past

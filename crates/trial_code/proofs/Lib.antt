@@ -5,3 +5,4 @@ pub mod Deciding
 pub mod Reports
 pub mod Going
 pub mod Firsts
+pub mod Ports

@@ -2,3 +2,5 @@ pub mod Tables
 pub mod Plain
 pub mod Turns
 pub mod Going
+pub mod Room
+pub mod Ports

@@ -5,7 +5,7 @@ use Rattle.chorus_entry.specs.declared.entry.Entry.{Entry}
 use Rattle.chorus_entry.specs.declared.packet.Cargo.{Cargo}
 use Rattle.chorus_world.specs.Places.{last_clock}
 use Rattle.chorus_calls.specs.Callers.{Seated}
-use Rattle.trial_journal.specs.Counting.{JournalState}
+use Rattle.trial_journal.specs.Counting.{JournalState, groups_with}
 use Rattle.trial_code.specs.declared.parcel.Parcel.{Parcel}
 
 -- the clock of the caller's next entry
@@ -15,10 +15,15 @@ next_clock journal caller = max (last_clock journal.past) caller.last + 1
 abbrev pub next_entry : ℕ → Act → Seated → JournalState → Entry
 next_entry p act caller journal = record { clock = next_clock journal caller; place = p; seat = caller.seat; act = act }
 
--- the journal with that entry, which changes no group
+-- the journal with that entry
 abbrev pub after_entry : ℕ → Act → Seated → JournalState → JournalState
 after_entry p act caller journal =
-    record journal { past = next_entry p act caller journal ∷ journal.past; spare = journal.spare - 1 }
+    record {
+      layout = journal.layout;
+      past = next_entry p act caller journal ∷ journal.past;
+      groups = groups_with act journal.groups;
+      spare = journal.spare - 1;
+    }
 
 -- a packet for the place `to`
 abbrev pub parcel : ℕ → ℕ → ℕ → Cargo → Parcel

@@ -4,6 +4,8 @@
 mod decision;
 mod go;
 mod parcel;
+mod room;
 mod steps_messages;
+mod steps_ports;
 mod tables;
 mod turn;

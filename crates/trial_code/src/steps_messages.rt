@@ -4,7 +4,9 @@ ghost use Rattle.std.specs.Prelude.{◌≡◌, ◌+◌, ◌-◌, ◌^◌, ◌<�
 ghost use Rattle.chorus_ui.specs.declared.kind.Kind.TheVariants as Kind;
 ghost use Rattle.chorus_ui.specs.Layout.{has_site, has_place};
 ghost use Rattle.chorus_place.specs.PlaceState.{greatest_clock};
+ghost use Rattle.chorus_place.specs.PlaceState.{note};
 ghost use Rattle.chorus_place.specs.Trying.{tries_at};
+ghost use Rattle.trial_code.specs.Plain.{is_plain};
 ghost use Rattle.trial_code.specs.Tables.{turn};
 ghost use Rattle.chorus_entry.specs.declared.packet.Cargo.TheVariants as Cargo;
 ghost use Rattle.trial_code.specs.Going.{LeavesRecords, first_for, settles, reports_for};
@@ -113,5 +115,18 @@ impl Tables {
         self.waits.set_tried(key, Some(to));
         let clock = self.journal.clock();
         put(&mut self.puts, to, clock, self.number, trying(key, again, hop));
+    }
+
+    /// Appends an entry that changes nothing else.
+    pub(crate) fn note(&mut self, act: Act, caller: &mut Caller)
+        requires plain { is_plain act ≡ true }
+        requires spare { 1 ≤ self.old.journal.spare }
+        requires clock { greatest_clock (turn self.old caller.old) + 1 < 2 ^ 64 }
+        ensures turn { turn self.new caller.new ≡ note act (turn self.old caller.old) }
+        ensures spare { self.new.journal.spare ≡ self.old.journal.spare - 1 }
+        ensures room { self.new.room ≡ self.old.room }
+        ensures out { self.new.out ≡ self.old.out }
+    {
+        say(&mut self.journal, self.number, caller, act);
     }
 }

@@ -3,7 +3,7 @@
 ghost use Rattle.std.specs.Prelude.{◌≡◌, ◌+◌, ◌-◌, ◌^◌, ◌<◌, ◌≤◌, ◌++◌, ◌∷◌, [], max, true, length, vec_len, vec_capacity};
 ghost use Rattle.chorus_world.specs.Places.{last_clock};
 ghost use Rattle.chorus_calls.specs.Callers.{after_tick};
-ghost use Rattle.trial_code.specs.Plain.{is_plain};
+ghost use Rattle.trial_journal.specs.Counting.{MayFollow};
 ghost use Rattle.trial_code.specs.Turns.{next_clock, next_entry, after_entry, parcel, parcels};
 ghost use Rattle.chorus_place.specs.Trying.{report};
 
@@ -28,9 +28,9 @@ pub(crate) fn next_entry(journal: &Journal, place: u16, caller: &Caller, act: Ac
     }
 }
 
-/// Appends the caller's next entry at this place, which changes no count. Its clock becomes the caller's.
+/// Appends the caller's next entry at this place, by an act that makes no group. Its clock becomes the caller's.
 pub(crate) fn say(journal: &mut Journal, place: u16, caller: &mut Caller, act: Act)
-    requires plain { is_plain act ≡ true }
+    requires follows { MayFollow journal.old.layout journal.old.groups act }
     requires room { 1 ≤ journal.old.spare }
     requires clock { max (last_clock journal.old.past) caller.old.last + 1 < 2 ^ 64 }
     ensures journal { journal.new ≡ after_entry place act caller.old journal.old }

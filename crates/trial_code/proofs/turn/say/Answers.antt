@@ -1,9 +1,7 @@
 use Rattle.std.proofs.Common.{ap, sym, subst}
 use Rattle.trial_journal.specs.Counting.{MayFollow}
-use Rattle.trial_code.proofs.Plain.{may_follow}
 use Rattle.trial_code.proofs.turn.say.Goals as goal
 
 pub append-requires-clause-follows : goal.append-requires-clause-follows
 append-requires-clause-follows c =
-    subst (MayFollow c.args.journal.now.layout c.args.journal.now.groups) (sym (ap (λ e. e.act) c.next_entry-entry.ensures))
-    (may_follow c.args.act c.args.journal.now.layout c.args.journal.now.groups c.requires.plain)
+    subst (MayFollow c.args.journal.now.layout c.args.journal.now.groups) (sym (ap (λ e. e.act) c.next_entry-entry.ensures)) c.requires.follows

@@ -12,6 +12,7 @@ use Rattle.trial_code.specs.Turns.{parcels}
 use Rattle.trial_code.specs.Going.{reports, reports_for}
 use Rattle.trial_code.proofs.States.{same_turn, put-loads, said-as, said-at}
 use Rattle.trial_code.proofs.Kept.{said-by, positions-fit, held-answered, numbered-plain, grouped-plain, waiting-passed, all-first, sent-more, sent-report, boxed-more}
+use Rattle.trial_code.proofs.Plain.{may_follow}
 use Rattle.trial_code.proofs.Deciding.{same-answer}
 use Rattle.trial_code.proofs.Reports.{report-length, reports-passed, room-left, if-first, length-parcels}
 use Rattle.trial_code.proofs.tables.Tables.settle_first.Goals as goal
@@ -93,3 +94,6 @@ returns-clause-room c =
     rw (← c.self.view_is)
     (room-left _ _ _ _ _ _ _ _ _ (report-length i.number w.home w.message.id c.decide_unless-answer.result)
     (reports-passed i.number c.args.key.now i.waits c.pop.new.self w first c.pop.ensures.queues) c.put_report.ensures.len c.put_report.ensures.room)
+
+pub say-requires-clause-follows : goal.say-requires-clause-follows
+say-requires-clause-follows c = may_follow c.decision.result c.self.inside.journal.layout c.self.inside.journal.groups c.decision.ensures.plain

@@ -1,0 +1,22 @@
+-- The steps of ports, each with one entry.
+-- q is a port, t the turn.
+use Rattle.std.specs.Prelude.{◌≤◌}
+use Rattle.chorus_ui.specs.declared.ui.Ui.{Ui}
+use Rattle.chorus_entry.specs.declared.tag.Tag.{Tag}
+use Rattle.chorus_entry.specs.declared.tag.Tag.TheVariants as tags
+use Rattle.chorus_ports.specs.declared.taking.Taken.{Taken}
+use Rattle.chorus_ports.specs.Table.{replace}
+use Rattle.chorus_ports.specs.Taking.{after_take}
+use Rattle.chorus_place.specs.PlaceState.{Turn}
+use Rattle.chorus_place.specs.Own.{take_act}
+use Rattle.chorus_place.specs.Doing.{with_ports}
+
+-- a request has a number from 1 on
+abbrev pub HasNumber : Tag → Type 0
+HasNumber tags.Plain = Unit {0}
+HasNumber (tags.Request number back) = 1 ≤ number
+HasNumber (tags.Reply client number) = Unit {0}
+
+-- an actor took this from the port
+abbrev pub takes_from : Ui → Taken → Turn → Turn
+takes_from q taken t = with_ports (take_act q taken) (replace q (after_take t.caller.actor) t.place.ports) t
