@@ -1,6 +1,6 @@
 -- What a place keeps stays kept with the entries of ports.
 use Rattle.std.proofs.Common.{◌≡◌, ℕ, ◌+◌, ◌-◌, ◌*◌, ◌/◌, ◌%◌, ◌<◌, ◌≤◌, Bool, true, false, ◌||◌, ◌&&◌, not, cond, nat_le, nat_lt, Option, Some, None, is_some, IsNone, IsSome, List, [], ◌∷◌, ◌++◌, length, refl, sym, ◌∙◌, ap, subst, add-mul, one-mul, mul_comm, arith, All, option_copied, Bor}
-use Rattle.std.proofs.Common.{map, append-nil}
+use Rattle.std.proofs.Common.{map, append-nil, mul-zero, zero, suc}
 use Rattle.std.proofs.lemmas.Bool.{false≢true, and_parts}
 use Rattle.chorus_place.specs.PlaceState.{Outgoing}
 use Rattle.std.proofs.lemmas.Nat.{mod-mul-add, mod_below, div-add-mod', mul-add-lt}
@@ -198,7 +198,7 @@ can-make-next l p past a q turns actor site name few =
     let low : nat_le 1 q.number ≡ true = grind (arith, name) in
     let within : q.number ≤ 32 = omega (arith, more, all, comm, name) in
     let high : nat_le q.number 32 ≡ true = grind (arith, within) in
-    let there : has_site l q.site ≡ true = ap (has_site l) site ∙ (and_parts (has_site l a.site) (nat_le 1 a.number && nat_le a.number 8) actor).0 in
+    let there : has_site l q.site ≡ true = ap (has_site l) site ∙ (and_parts (has_site l a.site) (nat_le 1 a.number) (and_parts (has_site l a.site && nat_le 1 a.number) (nat_le a.number 8) actor).0).0 in
     λ i. there i && low i && high i
 
 pub kept-made : (l : Layout) (p : ℕ) (past more : List Entry) (ports now : List PortRecord) (known : Known) (rows : List (Key × Row)) (puts : List Parcel) (q a : Ui) (n : ℕ)
@@ -256,3 +256,15 @@ listed l q kind can = λ i. same_kind (kind i) kinds.Port && can i
 -- nothing more was put
 pub no-more : (puts : List Outgoing) → puts ≡ puts ++ []
 no-more puts = sym (append-nil puts)
+
+-- a layout that has a place has at least one of each site
+pub some-turns : (l : Layout) (p : ℕ) → has_place l p ≡ true → 1 ≤ l.turns
+some-turns l p h = by l.turns (and_parts (nat_le 1 p) (nat_le p (l.sites * l.turns)) h)
+  where
+    by : (t : ℕ) → (nat_le 1 p ≡ true) × (nat_le p (l.sites * t) ≡ true) → 1 ≤ t
+    by zero k =
+        let low : 1 ≤ p = grind (arith, k.0) in
+        let high : p ≤ l.sites * 0 = grind (arith, k.1) in
+        let none = mul-zero l.sites in
+        absurd (omega (arith, low, high, none))
+    by (suc t) k = omega arith

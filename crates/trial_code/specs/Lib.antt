@@ -4,3 +4,4 @@ pub mod Turns
 pub mod Going
 pub mod Room
 pub mod Ports
+pub mod Commands

@@ -1,6 +1,7 @@
 //! A place, whole: its tables, and the turns of callers with commands and packets there.
 #![tactic(auto)]
 
+mod commands_ports;
 mod decision;
 mod go;
 mod parcel;

@@ -5,14 +5,14 @@ use Rattle.chorus_world.specs.Steps.{is_full_of_ports}
 use Rattle.chorus_place.specs.Own.{next_port}
 use Rattle.trial_code.specs.Tables.{state}
 use Rattle.trial_code.proofs.Kept.{said-by}
-use Rattle.trial_code.proofs.Ports.{kept-made, absent-next, creation-next}
+use Rattle.trial_code.proofs.Ports.{kept-made, absent-next, creation-next, some-turns}
 use Rattle.trial_code.proofs.tables.Tables.make_port.Goals as goal
 
 pub make-requires-clause-not_held : goal.make-requires-clause-not_held
 make-requires-clause-not_held c =
     let i = c.self.inside in
     let kept = c.self.invariant.2 in
-    let turns = i.layout.ok.turns_from_one in
+    let turns = some-turns i.layout i.number c.self.invariant.2.place in
     let next = c.requires.next ∙ sym (ap (λ p. next_port (state p) c.args.actor) c.self.view_is) in
     let name = ap (λ u. u.number) next in
     let home = ap (λ p. creation_place p.layout c.args.actor) c.self.view_is ∙ c.requires.home ∙ sym (ap (λ p. p.number) c.self.view_is) in
@@ -23,7 +23,7 @@ pub invariant_of-self-2 : goal.invariant_of-self-2
 invariant_of-self-2 c =
     let i = c.self.inside in
     let act = Act.Make c.args.port c.args.actor c.args.capacity in
-    let turns = i.layout.ok.turns_from_one in
+    let turns = some-turns i.layout i.number c.self.invariant.2.place in
     let next = c.requires.next ∙ sym (ap (λ p. next_port (state p) c.args.actor) c.self.view_is) in
     let home = ap (λ p. creation_place p.layout c.args.actor) c.self.view_is ∙ c.requires.home ∙ sym (ap (λ p. p.number) c.self.view_is) in
     let actor = ap (λ p. has_actor p.layout c.args.actor) c.self.view_is ∙ c.requires.actor in
