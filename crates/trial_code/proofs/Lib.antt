@@ -6,3 +6,4 @@ pub mod Reports
 pub mod Going
 pub mod Firsts
 pub mod Ports
+pub mod Commands

@@ -202,7 +202,7 @@ impl Tables {
     fn ids_in(&self, port: Ui) -> Result<Ids, AllocError>
         requires held { IsSome (find port self.now.ports.records) }
         ensures ids { IfOk result (λ ids. IfSome (find port self.now.ports.records)
-            (λ record. ids ≡ ids_of record.pending)) }
+            (λ r. ids ≡ ids_of r.pending)) }
         ensures few { IfOk result (λ ids. length ids ≤ PENDING_LIMIT) }
     {
         let record = self.ports.get(port).unwrap();
