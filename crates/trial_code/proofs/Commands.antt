@@ -1,5 +1,8 @@
 -- What the machine does on a command at a port, by what its code found.
 use Rattle.std.proofs.Common.{◌≡◌, ℕ, Bool, true, false, not, cond, Option, Some, None, is_some, is_none, unwrap_or, IfSome, Result, Ok, Err, OnErr, List, [], ◌∷◌, map, refl, sym, ◌∙◌, ap, subst}
+use Rattle.std.proofs.Common.{◌+◌, ◌++◌, take, slice_get}
+use Rattle.std.proofs.lemmas.List.{map_more}
+use Rattle.std.proofs.lemmas.Option.{slice_get_within, get_or_from_slice_get}
 use Rattle.std.proofs.lemmas.Bool.{false≢true}
 use Rattle.chorus_ui.specs.declared.ui.Ui.{Ui}
 use Rattle.chorus_ui.specs.declared.layout.Layout.{Layout}
@@ -154,3 +157,8 @@ deleting q t xs held ids = by (find q t.place.ports) held ids
     by : (o : Option PortRecord) → is_some (held_by t.caller.actor o) ≡ true → IfSome o (λ r. xs ≡ ids_of r.pending) → delete_act q (held_by t.caller.actor o) ≡ Act.Delete q xs
     by None h e = absurd (false≢true h)
     by (Some r) h e = owned (same_ui r.actor t.caller.actor) r h e
+
+-- the ids of one message more
+pub ids-more : (ms : List Message) (i : ℕ) (m : Message) → slice_get ms i ≡ Some m → ids_of (take (i + 1) ms) ≡ ids_of (take i ms) ++ m.id ∷ []
+ids-more ms i m h =
+    map_more (λ (x : Message). x.id) ms i m (slice_get_within ms i m h) ∙ ap (λ (x : Message). ids_of (take i ms) ++ x.id ∷ []) (get_or_from_slice_get ms i m m h)

@@ -6,7 +6,7 @@ use Rattle.std.specs.declared.cmp.Ordering.TheVariants as orders
 use Rattle.std.specs.Ordering.{is_eq, ordering_then}
 use Rattle.std.proofs.lemmas.Bool.{false≢true}
 use Rattle.std.proofs.Math.Nat.{le-max_left}
-use Rattle.std.proofs.lemmas.List.Elements.{All-nil, All-push, All-append, All-cons, All-head, All-drop, All-same, All-weaker}
+use Rattle.std.proofs.lemmas.List.Elements.{All-nil, All-push, All-append, All-cons, All-head, All-tail, All-drop, All-same, All-weaker}
 use Rattle.chorus_ui.specs.declared.ui.Ui.{Ui}
 use Rattle.chorus_ui.specs.declared.layout.Layout.{Layout}
 use Rattle.chorus_ui.specs.Layout.{has_place}
@@ -21,10 +21,8 @@ use Rattle.chorus_world.specs.Places.{last_clock, ports_after, ports_made, is_ma
 use Rattle.chorus_world.specs.Steps.{next_number}
 use Rattle.chorus_world.specs.Groups.{members, members_after}
 use Rattle.chorus_hints.specs.Known.{Known, kept, learned, hop_of}
-use Rattle.chorus_ports.specs.declared.deciding.Accept.{Accept}
-use Rattle.chorus_ports.specs.declared.deciding.Accept.TheVariants as accepts
 use Rattle.chorus_ports.specs.Table.{find, replace, without, are_distinct}
-use Rattle.chorus_ports.specs.Deciding.{answer_to, answered, after_offer, enqueued}
+use Rattle.chorus_ports.specs.Deciding.{enqueued}
 use Rattle.chorus_ports.proofs.Tables.{KeepsName, find-replace, find-last, find-without}
 use Rattle.chorus_waits.specs.declared.wait.Key.{Key}
 use Rattle.chorus_waits.specs.declared.wait.Wait.{Wait}
@@ -34,15 +32,18 @@ use Rattle.trial_code.specs.declared.parcel.Parcel.{Parcel}
 use Rattle.trial_code.specs.Plain.{is_plain}
 use Rattle.trial_code.specs.Turns.{after_entry, next_entry, parcel, parcels}
 use Rattle.chorus_out.specs.Waiting.{Waiting}
+use Rattle.chorus_entry.specs.declared.packet.Packet.{Packet}
 use Rattle.chorus_entry.specs.declared.answer.Answer.{Answer}
 use Rattle.chorus_entry.specs.declared.answer.Answer.TheVariants as A
 use Rattle.chorus_entry.specs.declared.id.MsgId.{MsgId}
 use Rattle.chorus_entry.specs.declared.packet.Cargo.{Cargo}
 use Rattle.chorus_entry.specs.Answer.{is_final}
 use Rattle.chorus_ports.specs.Limits.{HasPositionLeft}
+use Rattle.chorus_ports.specs.Taking.{after_take, rehomed}
+use Rattle.chorus_ports.specs.Taking.{passed as passed_port}
 use Rattle.chorus_place.specs.Deciding.{records_after}
 use Rattle.chorus_place.specs.Trying.{report}
-use Rattle.trial_code.specs.Tables.{end_of, MayHold, AreHeld, AreLocated, MayWait, AreWaiting, AreNumbered, IsPort, AreMembers, GoesTo, AreSent, IsBoxed, IsKept}
+use Rattle.trial_code.specs.Tables.{end_of, IsSound, MayHold, AreHeld, AreLocated, MayWait, AreWaiting, AreNumbered, IsPort, AreMembers, GoesTo, AreSent, IsBoxed, IsKept}
 use Rattle.trial_code.proofs.Plain.{makes_none, makes_not, same_members}
 
 -- one entry more, by this act
@@ -62,7 +63,7 @@ or-right : (b c : Bool) → c ≡ true → b || c ≡ true
 or-right true c h = refl
 or-right false c h = h
 
-pub made-more : (past more : List Entry) (a : Act) (q : Ui) → Said past more a → is_made_here q past ≡ true → is_made_here q more ≡ true
+made-more : (past more : List Entry) (a : Act) (q : Ui) → Said past more a → is_made_here q past ≡ true → is_made_here q more ≡ true
 made-more past more a q s h = ap (is_made_here q) s.is ∙ or-right (makes q s.entry.act) (is_made_here q past) h
 
 made-plain : (past more : List Entry) (a : Act) (q : Ui) → Said past more a → is_plain a ≡ true → is_made_here q more ≡ is_made_here q past
@@ -83,6 +84,7 @@ held-later l p past more a ports k s q r h =
       position = omega (arith, end, later);
       hop = omega (arith, hop, later);
       own = λ c. made-more past more a q s (m.own c);
+      pending = m.pending;
     }
 
 pub numbered-plain : (l : Layout) (p : ℕ) (past more : List Entry) (a : Act) → AreNumbered l p past → Said past more a → is_plain a ≡ true
@@ -132,46 +134,12 @@ kept-put l p past ports known rows puts more x k e to =
       sent = All-same (GoesTo l) more (puts ++ x ∷ []) e (All-push (GoesTo l) puts x k.sent to);
     }
 
--- What deciding does to one record.
-
-pub offer-name : (m : Message) → KeepsName (after_offer m)
-offer-name m r = by (answer_to m r)
-  where
-    by : (a : Accept) → (answered a m r).ui ≡ r.ui
-    by (accepts.Accepted pos) = refl
-    by (accepts.Already x) = refl
-    by (accepts.ClientsFull x) = refl
-    by (accepts.Full len x) = refl
-
-pub offer-hop : (m : Message) (r : PortRecord) → (after_offer m r).hop ≤ r.hop + 1
-offer-hop m r = by (answer_to m r)
-  where
-    by : (a : Accept) → (answered a m r).hop ≤ r.hop + 1
-    by (accepts.Accepted pos) = omega arith
-    by (accepts.Already x) = omega arith
-    by (accepts.ClientsFull x) = omega arith
-    by (accepts.Full len x) = omega arith
-
-pub offer-end : (m : Message) (r : PortRecord) → end_of (after_offer m r) ≤ end_of r + 1
-offer-end m r = by (answer_to m r)
-  where
-    one_more : (xs : List Message) → length (xs ++ m ∷ []) ≡ length xs + 1
-    one_more xs = length-append xs (m ∷ [])
-
-    by : (a : Accept) → end_of (answered a m r) ≤ end_of r + 1
-    by (accepts.Accepted pos) = let e = one_more r.pending in omega (arith, e)
-    by (accepts.Already x) = omega arith
-    by (accepts.ClientsFull x) = omega arith
-    by (accepts.Full len x) = omega arith
-
 -- a change of a record that raises its numbers by one at most
 pub record Raises (f : PortRecord → PortRecord) : Type 0 where
   pub name : KeepsName f
   pub end : (s : PortRecord) → end_of (f s) ≤ end_of s + 1
   pub hop : (s : PortRecord) → (f s).hop ≤ s.hop + 1
-
-pub offer-raises : (m : Message) → Raises (after_offer m)
-offer-raises m = record { name = offer-name m; end = offer-end m; hop = offer-hop m }
+  pub pending : (s : PortRecord) → All IsSound s.pending → All IsSound (f s).pending
 
 -- a record is replaced
 pub held-replace : (l : Layout) (p : ℕ) (past more : List Entry) (a : Act) (ports : List PortRecord) (q : Ui) (f : PortRecord → PortRecord)
@@ -192,6 +160,7 @@ held-replace l p past more a ports q f k s raises u r h =
           position = omega (arith, end, later, end_more);
           hop = omega (arith, hop, later, hop_more);
           own = λ c. made-more past more a u s (m.own c);
+          pending = raises.pending t m.pending;
         }
 
     stays : (t : PortRecord) → MayHold l p past u t → MayHold l p more u t
@@ -205,6 +174,7 @@ held-replace l p past more a ports q f k s raises u r h =
           position = omega (arith, end, later);
           hop = omega (arith, hop, later);
           own = λ c. made-more past more a u s (m.own c);
+          pending = m.pending;
         }
 
     by : (b : Bool) (o : Option PortRecord) → ((t : PortRecord) → o ≡ Some t → MayHold l p past u t) → cond b (option_map f o) o ≡ Some r → MayHold l p more u r
@@ -263,7 +233,7 @@ waiting-changed l p rows more k f w e own u =
     subst (λ (x : Queue). All (MayWait l p u) x.waits) (sym (e u)) (by (same_key k u) refl)
   where
     moved : same_key k u ≡ true → (x : Wait) → MayWait l p k x → MayWait l p u x
-    moved s x m = record { home = m.home; own = λ none. m.own (route-none k u s none) }
+    moved s x m = record { home = m.home; own = λ none. m.own (route-none k u s none); message = m.message }
 
     by : (b : Bool) → same_key k u ≡ b → All (MayWait l p u) (cond b (f (queue rows k)) (queue rows u)).waits
     by true s = All-weaker (MayWait l p k) (MayWait l p u) (moved s) (f (queue rows k)).waits own
@@ -298,20 +268,21 @@ kept-start l p past ports known rows puts place nothing no_port layout no_locati
     }
 
 -- an answer was given: a port that accepted the message has it
-enqueued-raises : (m : Message) → Raises (enqueued m)
-enqueued-raises m =
+enqueued-raises : (m : Message) → IsSound m → Raises (enqueued m)
+enqueued-raises m sound =
     record {
       name = λ r. refl;
       end = λ r. let e = length-append r.pending (m ∷ []) in omega (arith, e);
       hop = λ r. omega arith;
+      pending = λ r k. All-push IsSound r.pending m k sound;
     }
 
 pub held-answered : (l : Layout) (p : ℕ) (past more : List Entry) (a : Act) (ports now : List PortRecord) (answer : Answer) (m : Message) (q : Ui)
-    → AreHeld l p past ports → Said past more a → now ≡ records_after answer m q ports → AreHeld l p more now
-held-answered l p past more a ports now answer m q k s e = subst (AreHeld l p more) (sym e) (by answer)
+    → AreHeld l p past ports → Said past more a → now ≡ records_after answer m q ports → IsSound m → AreHeld l p more now
+held-answered l p past more a ports now answer m q k s e sound = subst (AreHeld l p more) (sym e) (by answer)
   where
     by : (x : Answer) → AreHeld l p more (records_after x m q ports)
-    by (A.Accepted pos) = held-replace l p past more a ports q (enqueued m) k s (enqueued-raises m)
+    by (A.Accepted pos) = held-replace l p past more a ports q (enqueued m) k s (enqueued-raises m sound)
     by _ = held-later l p past more a ports k s
 
 -- the position of the next message is a number of 64 bits
@@ -358,3 +329,71 @@ kept-waits l p past ports known rows more puts k w =
       grouped = k.grouped;
       sent = k.sent;
     }
+
+pub sent-one : (l : Layout) (puts more : List Parcel) (x : Parcel) → AreSent l puts → more ≡ puts ++ x ∷ [] → has_place l x.to ≡ true → AreSent l more
+sent-one l puts more x k e to = All-same (GoesTo l) more (puts ++ x ∷ []) e (All-push (GoesTo l) puts x k to)
+
+-- What taking does to one record.
+pub take-raises : (a : Ui) → Raises (after_take a)
+take-raises a =
+    record {
+      name = λ r. name (same_ui r.actor a) r r.pending;
+      end = λ r. end (same_ui r.actor a) r r.pending refl;
+      hop = λ r. hop (same_ui r.actor a) r r.pending;
+      pending = λ r k. pending (same_ui r.actor a) r r.pending k k;
+    }
+  where
+    name : (b : Bool) (r : PortRecord) (ms : List Message) → (cond b (passed_port ms r) r).ui ≡ r.ui
+    name true r [] = refl
+    name true r (m ∷ ms) = refl
+    name false r ms = refl
+
+    end : (b : Bool) (r : PortRecord) (ms : List Message) → r.pending ≡ ms → end_of (cond b (passed_port ms r) r) ≤ end_of r + 1
+    end true r [] e = omega arith
+    end true r (m ∷ ms) e = let n = ap (λ (xs : List Message). length xs) e in omega (arith, n)
+    end false r ms e = omega arith
+
+    hop : (b : Bool) (r : PortRecord) (ms : List Message) → (cond b (passed_port ms r) r).hop ≤ r.hop + 1
+    hop true r [] = omega arith
+    hop true r (m ∷ ms) = omega arith
+    hop false r ms = omega arith
+
+    pending : (b : Bool) (r : PortRecord) (ms : List Message) → All IsSound ms → All IsSound r.pending → All IsSound (cond b (passed_port ms r) r).pending
+    pending true r [] k h = h
+    pending true r (m ∷ ms) k h = All-tail IsSound m ms k
+    pending false r ms k h = h
+
+pub rehomed-raises : (a : Ui) → Raises (rehomed a)
+rehomed-raises a = record { name = λ r. refl; end = λ r. omega arith; hop = λ r. omega arith; pending = λ r k. k }
+
+pub kept-ports : (l : Layout) (p : ℕ) (past more : List Entry) (a : Act) (ports now : List PortRecord) (known : Known) (rows : List (Key × Row)) (puts : List Parcel)
+    → IsKept l p past ports known rows puts → Said past more a → is_plain a ≡ true → AreHeld l p more now → IsKept l p more now known rows puts
+kept-ports l p past more a ports now known rows puts k s plain held =
+    record {
+      place = k.place;
+      held = held;
+      layout = k.layout;
+      located = k.located;
+      waiting = k.waiting;
+      numbered = numbered-plain l p past more a k.numbered s plain;
+      grouped = grouped-plain past more a k.grouped s plain;
+      sent = k.sent;
+    }
+
+pub kept-replaced : (l : Layout) (p : ℕ) (past more : List Entry) (a : Act) (ports now : List PortRecord) (known : Known) (rows : List (Key × Row)) (puts : List Parcel)
+    (q : Ui) (f : PortRecord → PortRecord)
+    → IsKept l p past ports known rows puts → Said past more a → is_plain a ≡ true → now ≡ replace q f ports → Raises f → IsKept l p more now known rows puts
+kept-replaced l p past more a ports now known rows puts q f k s plain e raises =
+    kept-ports l p past more a ports now known rows puts k s plain (subst (AreHeld l p more) (sym e) (held-replace l p past more a ports q f k.held s raises))
+
+-- the room alone changed
+pub kept-past : (l : Layout) (p : ℕ) (past more : List Entry) (ports : List PortRecord) (known : Known) (rows : List (Key × Row)) (puts now : List Parcel)
+    → IsKept l p past ports known rows puts → more ≡ past → now ≡ puts → IsKept l p more ports known rows now
+kept-past l p past more ports known rows puts now k e f =
+    subst (λ x. IsKept l p x ports known rows now) (sym e) (subst (λ y. IsKept l p past ports known rows y) (sym f) k)
+
+pub boxed-out : (l : Layout) (puts now : List Parcel) (out more : Waiting) → IsBoxed l puts out → now ≡ puts → more.lists ≡ out.lists → out.spare ≤ more.spare → IsBoxed l now more
+boxed-out l puts now out more k e f g =
+    let n = ap (λ (xs : List Parcel). length xs) e in
+    let room = k.room in
+    record { lists = ap (λ (ls : List (List Packet)). length ls) f ∙ k.lists; room = omega (arith, n, g, room) }

@@ -5,5 +5,6 @@ pub mod Deciding
 pub mod Reports
 pub mod Going
 pub mod Firsts
+pub mod Telling
 pub mod Ports
 pub mod Commands

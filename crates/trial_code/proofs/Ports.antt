@@ -4,7 +4,7 @@ use Rattle.std.proofs.Common.{map, append-nil, mul-zero, zero, suc}
 use Rattle.std.proofs.lemmas.Bool.{false≢true, and_parts}
 use Rattle.chorus_place.specs.PlaceState.{Outgoing}
 use Rattle.std.proofs.lemmas.Nat.{mod-mul-add, mod_below, div-add-mod', mul-add-lt}
-use Rattle.std.proofs.lemmas.List.Elements.{All-same}
+use Rattle.std.proofs.lemmas.List.Elements.{All-same, All-nil, All-head}
 use Rattle.chorus_ui.specs.declared.ui.Ui.{Ui}
 use Rattle.chorus_ui.specs.declared.layout.Layout.{Layout}
 use Rattle.chorus_ui.specs.declared.kind.Kind.TheVariants as kinds
@@ -17,18 +17,24 @@ use Rattle.chorus_entry.specs.declared.act.Act.{Act}
 use Rattle.chorus_entry.specs.declared.act.Act.TheVariants as acts
 use Rattle.chorus_entry.specs.declared.message.Message.{Message}
 use Rattle.chorus_entry.specs.declared.record.PortRecord.{PortRecord}
+use Rattle.chorus_entry.specs.declared.tag.Tag.{Tag}
+use Rattle.chorus_entry.specs.declared.tag.Tag.TheVariants as tags
+use Rattle.chorus_entry.specs.Kinds.{has_kinds_in_tag}
+use Rattle.chorus_entry.specs.Ranges.{has_range_of_id, has_range_of_tag}
 use Rattle.chorus_entry.specs.PortRecord.{new_record}
+use Rattle.trial_code.specs.Ports.{HasNumber, IsSoundTaken}
 use Rattle.chorus_world.specs.Places.{last_clock, ports_after, ports_made, is_made_here, makes}
 use Rattle.chorus_world.specs.Steps.{next_number, is_full_of_ports}
 use Rattle.chorus_world.specs.Groups.{members, members_after}
 use Rattle.chorus_hints.specs.Known.{Known, kept, learned}
 use Rattle.chorus_ports.specs.Table.{find, replace, without, are_distinct}
-use Rattle.chorus_ports.specs.Taking.{passed, after_take, rehomed}
-use Rattle.chorus_ports.proofs.Tables.{KeepsName}
+use Rattle.chorus_ports.specs.declared.taking.Taken.{Taken}
+use Rattle.chorus_ports.specs.declared.taking.Taken.TheVariants as T
+use Rattle.chorus_ports.specs.Taking.{taken, first_at}
 use Rattle.chorus_waits.specs.declared.wait.Key.{Key}
 use Rattle.chorus_waits.specs.Queues.{Row}
 use Rattle.trial_code.specs.declared.parcel.Parcel.{Parcel}
-use Rattle.trial_code.specs.Tables.{end_of, MayHold, AreHeld, AreLocated, AreWaiting, AreNumbered, IsPort, AreMembers, AreSent, IsKept}
+use Rattle.trial_code.specs.Tables.{end_of, IsSound, MayHold, AreHeld, AreLocated, AreWaiting, AreNumbered, IsPort, AreMembers, AreSent, IsKept}
 use Rattle.trial_code.proofs.Kept.{Said, Raises, held-later, held-replace, held-last, held-without, located-learned, made-more}
 
 -- other records, or other locations
@@ -79,38 +85,6 @@ pub held-came : (l : Layout) (p : ℕ) (past more : List Entry) (a : Act) (ports
     → AreHeld l p past ports → Said past more a → MayHold l p more r.ui r → IsNone (find r.ui ports) → now ≡ ports ++ r ∷ [] → AreHeld l p more now
 held-came l p past more a ports now r k s may none e =
     subst (AreHeld l p more) (sym e) (held-last l p past more a ports r k s may (absent (find r.ui ports) none))
-
--- What is done to one record.
-
-pub rehomed-raises : (a : Ui) → Raises (rehomed a)
-rehomed-raises a = record { name = λ r. refl; end = λ r. omega arith; hop = λ r. omega arith }
-
-pub take-raises : (a : Ui) → Raises (after_take a)
-take-raises a = record { name = name; end = end; hop = hop }
-  where
-    name : KeepsName (after_take a)
-    name r = by (same_ui r.actor a) r.pending
-      where
-        by : (b : Bool) (ms : List Message) → (cond b (passed ms r) r).ui ≡ r.ui
-        by true [] = refl
-        by true (m ∷ ms) = refl
-        by false ms = refl
-
-    end : (r : PortRecord) → end_of (after_take a r) ≤ end_of r + 1
-    end r = by (same_ui r.actor a) r.pending refl
-      where
-        by : (b : Bool) (ms : List Message) → r.pending ≡ ms → end_of (cond b (passed ms r) r) ≤ end_of r + 1
-        by true [] e = omega arith
-        by true (m ∷ ms) e = let n = ap (λ xs. length xs) e in omega (arith, n)
-        by false ms e = omega arith
-
-    hop : (r : PortRecord) → (after_take a r).hop ≤ r.hop + 1
-    hop r = by (same_ui r.actor a) r.pending
-      where
-        by : (b : Bool) (ms : List Message) → (cond b (passed ms r) r).hop ≤ r.hop + 1
-        by true [] = omega arith
-        by true (m ∷ ms) = omega arith
-        by false ms = omega arith
 
 -- Acts that change no group, or make no port.
 
@@ -217,6 +191,7 @@ kept-made l p past more ports now known rows puts q a n k s turns actor home few
         position = omega arith;
         hop = omega arith;
         own = λ c. made;
+        pending = All-nil IsSound;
       }) (absent-next l p past ports q k.held k.numbered (creation-next l p past a q turns home site name) name) e;
       layout = k.layout;
       located = k.located;
@@ -268,3 +243,25 @@ some-turns l p h = by l.turns (and_parts (nat_le 1 p) (nat_le p (l.sites * l.tur
         let none = mul-zero l.sites in
         absurd (omega (arith, low, high, none))
     by (suc t) k = omega arith
+
+-- Receiving: a message that is taken is one that waited, and a request has a number.
+
+pub sound-taken : (a : Ui) (o : Option PortRecord) → ((r : PortRecord) → o ≡ Some r → All IsSound r.pending) → IsSoundTaken (taken a o)
+sound-taken a None k = tt
+sound-taken a (Some r) k = by (same_ui r.actor a) r.pending (k r refl)
+  where
+    by : (b : Bool) (ms : List Message) → All IsSound ms → IsSoundTaken (cond b (first_at r.first ms) T.NotHere)
+    by true [] h = tt
+    by true (m ∷ ms) h = All-head IsSound m ms h
+    by false ms h = tt
+
+pub has-number : (m : Message) → IsSound m → HasNumber m.tag
+has-number m h =
+    by m.tag (and_parts (has_range_of_id m.id) (has_range_of_tag m.tag)
+    (and_parts (has_range_of_id m.id && has_range_of_tag m.tag) (has_kinds_in_tag m.tag)
+    (and_parts (has_range_of_id m.id && has_range_of_tag m.tag && has_kinds_in_tag m.tag) (nat_le (length m.body) 4096) h).0).0).1
+  where
+    by : (t : Tag) → has_range_of_tag t ≡ true → HasNumber t
+    by tags.Plain g = tt
+    by (tags.Request number back) g = grind (arith, g)
+    by (tags.Reply client number) g = tt

@@ -6,7 +6,9 @@ use Rattle.chorus_ui.specs.declared.kind.Kind.TheVariants as kinds
 use Rattle.chorus_ui.specs.declared.layout.Layout.{Layout}
 use Rattle.chorus_ui.specs.Layout.{places, has_place, can_make_port, creation_place}
 use Rattle.chorus_entry.specs.declared.entry.Entry.{Entry}
+use Rattle.chorus_entry.specs.declared.message.Message.{Message}
 use Rattle.chorus_entry.specs.declared.packet.Packet.{Packet}
+use Rattle.chorus_entry.specs.Ranges.{has_ranges_of_message}
 use Rattle.chorus_entry.specs.declared.record.PortRecord.{PortRecord}
 use Rattle.chorus_world.specs.Places.{last_clock, is_made_here}
 use Rattle.chorus_world.specs.Steps.{next_number}
@@ -75,14 +77,19 @@ turn p caller = record { place = state p; caller = caller; puts = map outgoing p
 abbrev pub end_of : PortRecord → ℕ
 end_of r = r.first + length r.pending
 
--- of each port that is held: the layout can make it, neither its next position nor its hop is above the place's clock, and
--- if this is its creation place it was made here
+-- a message within the ranges of a packet
+abbrev pub IsSound : Message → Type 0
+IsSound m = has_ranges_of_message m ≡ true
+
+-- of each port that is held: the layout can make it, neither its next position nor its hop is above the place's clock, if
+-- this is its creation place it was made here, and its messages are within their ranges
 pub record MayHold (l : Layout) (p : ℕ) (past : List Entry) (q : Ui) (r : PortRecord) : Type 0 where
   pub kind : q.kind ≡ kinds.Port
   pub can_make : can_make_port l q ≡ true
   pub position : end_of r ≤ last_clock past
   pub hop : r.hop ≤ last_clock past
   pub own : creation_place l q ≡ p → is_made_here q past ≡ true
+  pub pending : All IsSound r.pending
 
 abbrev pub AreHeld : Layout → ℕ → List Entry → List PortRecord → Type 0
 AreHeld l p past ports = (q : Ui) (r : PortRecord) → find q ports ≡ Some r → MayHold l p past q r
@@ -91,10 +98,12 @@ AreHeld l p past ports = (q : Ui) (r : PortRecord) → find q ports ≡ Some r �
 abbrev pub AreLocated : Layout → Known → Type 0
 AreLocated l known = (q : Ui) (to hop : ℕ) → kept known q ≡ Some (to, hop) → has_place l to ≡ true
 
--- of each message that waits: the place where it was posted is one of the layout, and a direct one was posted here
+-- of each message that waits: the place where it was posted is one of the layout, a direct one was posted here, and it is
+-- within its ranges
 pub record MayWait (l : Layout) (p : ℕ) (k : Key) (w : Wait) : Type 0 where
   pub home : has_place l w.home ≡ true
   pub own : k.route ≡ None → w.home ≡ p
+  pub message : IsSound w.message
 
 abbrev pub AreWaiting : Layout → ℕ → List (Key × Row) → Type 0
 AreWaiting l p rows = (k : Key) → All (MayWait l p k) (queue rows k).waits

@@ -1,7 +1,6 @@
 //! A place, whole: its tables, and the turns of callers with commands and packets there.
 #![tactic(auto)]
 
-mod commands_ports;
 mod decision;
 mod go;
 mod parcel;
@@ -10,3 +9,4 @@ mod steps_messages;
 mod steps_ports;
 mod tables;
 mod turn;
+mod turns_ports;

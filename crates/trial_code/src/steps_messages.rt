@@ -1,22 +1,32 @@
 //! The steps of messages: each appends one entry.
 
-ghost use Rattle.std.specs.Prelude.{◌≡◌, ◌+◌, ◌-◌, ◌^◌, ◌<◌, ◌≤◌, true, Some, IsNone, IsSome, IfSome};
+ghost use Rattle.std.specs.Prelude.{◌≡◌, ◌+◌, ◌-◌, ◌^◌, ◌<◌, ◌≤◌, true, None, Some, IsNone, IsSome, IfSome, length};
 ghost use Rattle.chorus_ui.specs.declared.kind.Kind.TheVariants as Kind;
 ghost use Rattle.chorus_ui.specs.Layout.{has_site, has_place};
 ghost use Rattle.chorus_place.specs.PlaceState.{greatest_clock};
 ghost use Rattle.chorus_place.specs.PlaceState.{note};
 ghost use Rattle.chorus_place.specs.Trying.{tries_at};
+ghost use Rattle.chorus_place.specs.Doing.{post};
+ghost use Rattle.chorus_place.specs.Working.{taught_of, told};
+ghost use Rattle.chorus_ui.specs.declared.ui.Ui.{Ui};
+ghost use Rattle.chorus_world.specs.Places.{taught};
+ghost use Rattle.chorus_hints.specs.Known.{kept};
+ghost use Rattle.chorus_waits.specs.declared.wait.Key.{Key};
+ghost use Rattle.chorus_waits.specs.Queues.{queue, room, changed};
 ghost use Rattle.trial_code.specs.Plain.{is_plain};
-ghost use Rattle.trial_code.specs.Tables.{turn};
+ghost use Rattle.trial_code.specs.Steps.{MayTeach, posted, told_by, answered};
+ghost use Rattle.trial_code.specs.Tables.{turn, IsSound};
 ghost use Rattle.chorus_entry.specs.declared.packet.Cargo.TheVariants as Cargo;
 ghost use Rattle.trial_code.specs.Going.{LeavesRecords, first_for, settles, reports_for};
 
-use crate::decision::{decide_unless, decision};
+use crate::decision::{decide, decide_unless, decision};
 use crate::tables::Tables;
 use crate::turn::{put, put_report, say};
 use chorus_calls::Caller;
-use chorus_entry::{Act, Answer, Cargo};
-use chorus_waits::{Key, Wait};
+use chorus_entry::{Act, Answer, Cargo, Dest, Message, MsgId};
+use chorus_hints::Hints;
+use chorus_ui::Ui;
+use chorus_waits::{Key, Wait, Waits};
 
 /// What is sent to the place where a message is tried with this hop.
 fn trying(key: &Key, wait: Wait, hop: u64) -> Cargo
@@ -29,6 +39,33 @@ fn trying(key: &Key, wait: Wait, hop: u64) -> Cargo
         route: key.route,
         only,
         hop,
+    }
+}
+
+/// Learns where an answer says that the port is.
+fn teach(hints: &mut Hints, port: Ui, answer: Answer)
+    requires kind { port.kind ≡ Kind.Port }
+    requires teaches { MayTeach hints.old.layout port (taught answer) }
+    ensures pairs { (q : Ui) → kept hints.new q ≡ taught_of port (taught answer) (kept hints.old) q }
+    ensures layout { hints.new.layout ≡ hints.old.layout }
+{
+    match answer {
+        Answer::Stale { to, hop } | Answer::Elsewhere { to, hop } => {
+            hints.learn(port, to, hop);
+        }
+        _ => {}
+    }
+}
+
+/// Settles the first message of a port and route, or lets it be tried again.
+fn pass(waits: &mut Waits, key: &Key, answer: Answer)
+    requires { 0 < length (queue waits.old key.now).waits }
+    ensures { (k : Key) → queue waits.new k ≡ changed key.now (told answer) (queue waits.old) k }
+{
+    if let Answer::Stale { .. } = answer {
+        waits.set_tried(key, None);
+    } else {
+        let _ = waits.pop(key);
     }
 }
 
@@ -128,5 +165,108 @@ impl Tables {
         ensures out { self.new.out ≡ self.old.out }
     {
         say(&mut self.journal, self.number, caller, act);
+    }
+
+    /// Posts the message, of which `wait` is a copy, behind the other direct ones to a port, in the room that is there.
+    pub(crate) fn post(&mut self, key: &Key, message: Message, wait: Wait, caller: &mut Caller)
+        requires copy { wait ≡ post message self.old.number }
+        requires direct { key.now.route ≡ None }
+        requires sound { IsSound message }
+        requires line { 0 < room self.old.waits key.now }
+        requires posts { caller.old.posts < u32.MAX }
+        requires spare { 1 ≤ self.old.journal.spare }
+        requires clock { greatest_clock (turn self.old caller.old) + 1 < 2 ^ 64 }
+        ensures turn { turn self.new caller.new ≡
+            posted message key.now.port (turn self.old caller.old) }
+        ensures spare { self.new.journal.spare ≡ self.old.journal.spare - 1 }
+        ensures room { self.new.room ≡ self.old.room }
+        ensures out { self.new.out ≡ self.old.out }
+    {
+        self.waits.push(key, wait);
+        let dest = Dest::Port(key.port);
+        say(
+            &mut self.journal,
+            self.number,
+            caller,
+            Act::Post { message, dest },
+        );
+        caller.posted();
+    }
+
+    /// Tells the first message of a port and route, which is under way, what was decided.
+    pub(crate) fn tell(&mut self, key: &Key, id: MsgId, answer: Answer, caller: &mut Caller)
+        requires kind { key.now.port.kind ≡ Kind.Port }
+        requires teaches { MayTeach self.old.layout key.now.port (taught answer) }
+        requires first { IsSome (first_for key.now self.old) }
+        requires spare { 1 ≤ self.old.journal.spare }
+        requires room { reports_for key.now self.old ≤ self.old.room }
+        requires clock { greatest_clock (turn self.old caller.old) + 1 < 2 ^ 64 }
+        ensures turn { turn self.new caller.new ≡
+            told_by id key.now answer (turn self.old caller.old) }
+        ensures spare { self.new.journal.spare ≡ self.old.journal.spare - 1 }
+        ensures room { self.old.room + reports_for key.now self.new ≤
+            self.new.room + reports_for key.now self.old }
+        ensures out { self.new.out ≡ self.old.out }
+    {
+        let home = self.waits.first(key).unwrap().home;
+        say(
+            &mut self.journal,
+            self.number,
+            caller,
+            Act::Told { id, answer },
+        );
+        teach(&mut self.hints, key.port, answer);
+        pass(&mut self.waits, key, answer);
+        let clock = self.journal.clock();
+        put_report(&mut self.puts, clock, self.number, home, id, answer);
+    }
+
+    /// Decides on a message of the place `from`, which was tried here with the hop `tried`.
+    pub(crate) fn answer_try(
+        &mut self,
+        from: u16,
+        message: Message,
+        key: &Key,
+        only: Option<u16>,
+        tried: u64,
+        caller: &mut Caller,
+    )
+        requires kind { key.now.port.kind ≡ Kind.Port }
+        requires site { has_site self.old.layout key.now.port.site ≡ true }
+        requires from { has_place self.old.layout from ≡ true }
+        requires sound { IsSound message }
+        requires spare { 1 ≤ self.old.journal.spare }
+        requires room { 1 ≤ self.old.room }
+        requires clock { greatest_clock (turn self.old caller.old) + 1 < 2 ^ 64 }
+        ensures turn { turn self.new caller.new ≡
+            answered from message key.now only tried (turn self.old caller.old) }
+        ensures out { self.new.out ≡ self.old.out }
+    {
+        let id = message.id;
+        let port = key.port;
+        let answer = decide(
+            self.number,
+            &mut self.ports,
+            &self.hints,
+            &self.journal,
+            message,
+            port,
+            only,
+            tried,
+        );
+        say(
+            &mut self.journal,
+            self.number,
+            caller,
+            decision(id, port, tried, answer),
+        );
+        let clock = self.journal.clock();
+        let verdict = Cargo::Verdict {
+            id,
+            port,
+            route: key.route,
+            answer,
+        };
+        put(&mut self.puts, from, clock, self.number, verdict);
     }
 }

@@ -1,14 +1,11 @@
 //! The steps of ports: each appends one entry.
 
-ghost use Rattle.std.specs.Prelude.{◌≡◌, ◌+◌, ◌-◌, ◌^◌, ◌<◌, ◌≤◌, true, false, Some, IsNone, IsSome, IfSome, OnOk, OnErr};
-ghost use Rattle.chorus_ui.specs.declared.kind.Kind.TheVariants as Kind;
+ghost use Rattle.std.specs.Prelude.{◌≡◌, ◌+◌, ◌-◌, ◌^◌, ◌<◌, ◌≤◌, true, false, Some, IsSome, IfSome, OnOk, OnErr};
 ghost use Rattle.chorus_ui.specs.declared.limits.TheConstants.{PENDING_LIMIT};
-ghost use Rattle.chorus_ui.specs.Layout.{has_actor, has_place, can_make_port, creation_place};
+ghost use Rattle.chorus_ui.specs.Layout.{has_actor, has_place, creation_place};
 ghost use Rattle.chorus_entry.specs.declared.act.Act.TheVariants as Act;
 ghost use Rattle.chorus_entry.specs.declared.tag.Tag.TheVariants as Tag;
-ghost use Rattle.chorus_world.specs.Places.{is_made_here};
 ghost use Rattle.chorus_world.specs.Steps.{is_full_of_ports};
-ghost use Rattle.chorus_ports.specs.Limits.{IsWithinLimits};
 ghost use Rattle.chorus_ports.specs.Table.{find};
 ghost use Rattle.chorus_ports.specs.Taking.{taken};
 ghost use Rattle.chorus_place.specs.PlaceState.{greatest_clock};
@@ -17,8 +14,8 @@ ghost use Rattle.chorus_place.specs.Doing.{does, ends, ends_call, holding};
 ghost use Rattle.chorus_place.specs.Replies.{settling};
 ghost use Rattle.chorus_place.specs.Working.{receives_port};
 ghost use Rattle.trial_code.specs.Plain.{is_plain};
-ghost use Rattle.trial_code.specs.Ports.{HasNumber, takes_from};
-ghost use Rattle.trial_code.specs.Tables.{state, turn, end_of};
+ghost use Rattle.trial_code.specs.Ports.{HasNumber, IsSoundTaken, MayArrive, takes_from};
+ghost use Rattle.trial_code.specs.Tables.{state, turn};
 
 use crate::tables::Tables;
 use crate::turn::{put, say};
@@ -85,6 +82,7 @@ impl Tables {
         ensures taken { result ≡ taken caller.old.actor (find port self.old.ports.records) }
         ensures turn { turn self.new caller.new ≡
             takes_from port result (turn self.old caller.old) }
+        ensures sound { IsSoundTaken result }
         ensures spare { self.new.journal.spare ≡ self.old.journal.spare - 1 }
         ensures room { self.new.room ≡ self.old.room }
         ensures out { self.new.out ≡ self.old.out }
@@ -206,14 +204,7 @@ impl Tables {
 
     /// Holds a port that came, in the room that is there, and learns that it is here.
     pub(crate) fn arrive(&mut self, port: PortRecord, caller: &mut Caller)
-        requires kind { port.ui.kind ≡ Kind.Port }
-        requires port { can_make_port self.old.layout port.ui ≡ true }
-        requires not_held { IsNone (find port.ui self.old.ports.records) }
-        requires own { creation_place self.old.layout port.ui ≡ self.old.number →
-            is_made_here port.ui self.old.journal.past ≡ true }
-        requires limits { IsWithinLimits port }
-        requires position { end_of port ≤ greatest_clock (turn self.old caller.old) }
-        requires hop { port.hop ≤ greatest_clock (turn self.old caller.old) }
+        requires may { MayArrive port (turn self.old caller.old) }
         requires slot { 0 < self.old.ports.spare }
         requires spare { 1 ≤ self.old.journal.spare }
         requires clock { greatest_clock (turn self.old caller.old) + 1 < 2 ^ 64 }

@@ -12,6 +12,7 @@ use chorus_ports::Ports;
 use chorus_ui::{Layout, PORTS_PER_SITE_LIMIT};
 use chorus_waits::{Unheard, Waits};
 use std::alloc::{AllocError, Global};
+use std::collections::VecDeque;
 use std::marker::Model;
 use trial_journal::Journal;
 
@@ -25,12 +26,13 @@ pub(crate) struct Tables {
     pub(crate) hints: Hints,
     pub(crate) waits: Waits,
     pub(crate) unheard: Unheard,
-    pub(crate) puts: Vec<Parcel>,
+    pub(crate) puts: VecDeque<Parcel>,
     pub(crate) out: Outbox,
 }
 
 impl Model for Tables {
-    ghost use Rattle.std.specs.Prelude.{◌≡◌, ◌-◌, min, vec_len, vec_capacity};
+    ghost use Rattle.std.specs.Prelude.{◌≡◌, ◌-◌, min, length};
+    ghost use Rattle.std.specs.VecDeque.{deque_capacity};
     ghost use Rattle.trial_code.specs.Tables as tables;
 
     ghost Value = { tables.Tables };
@@ -45,7 +47,7 @@ impl Model for Tables {
       unheard = p.unheard;
       puts = p.puts.items;
       out = p.out;
-      room = min (vec_capacity p.puts - vec_len p.puts) (p.out.spare - vec_len p.puts);
+      room = min (deque_capacity p.puts - length p.puts.items) (p.out.spare - length p.puts.items);
     } };
 
     ghost invariant = { λ p. (p.journal.layout ≡ p.layout)
@@ -68,7 +70,7 @@ impl Tables {
             hints: Hints::with_room(alloc, layout)?,
             waits: Waits::new(alloc),
             unheard: Unheard::new(alloc),
-            puts: Vec::new(alloc),
+            puts: VecDeque::new(alloc),
             out: Outbox::with_places(alloc, layout.places())?,
         })
     }

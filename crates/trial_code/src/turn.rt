@@ -1,6 +1,7 @@
 //! The parts of a step: an entry, and a packet that it causes.
 
-ghost use Rattle.std.specs.Prelude.{◌≡◌, ◌+◌, ◌-◌, ◌^◌, ◌<◌, ◌≤◌, ◌++◌, ◌∷◌, [], max, true, length, vec_len, vec_capacity};
+ghost use Rattle.std.specs.Prelude.{◌≡◌, ◌+◌, ◌-◌, ◌^◌, ◌<◌, ◌≤◌, ◌++◌, ◌∷◌, [], max, true, length};
+ghost use Rattle.std.specs.VecDeque.{deque_capacity};
 ghost use Rattle.chorus_world.specs.Places.{last_clock};
 ghost use Rattle.chorus_calls.specs.Callers.{after_tick};
 ghost use Rattle.trial_journal.specs.Counting.{MayFollow};
@@ -11,6 +12,7 @@ use crate::decision::is_final;
 use crate::parcel::Parcel;
 use chorus_calls::Caller;
 use chorus_entry::{Act, Answer, Cargo, Entry, MsgId, Packet};
+use std::collections::VecDeque;
 use trial_journal::Journal;
 
 /// The caller's next entry at this place: its clock is above that of the place and of the caller.
@@ -42,30 +44,32 @@ pub(crate) fn say(journal: &mut Journal, place: u16, caller: &mut Caller, act: A
 }
 
 /// Puts a packet, which carries this clock, in the room that is there.
-pub(crate) fn put(puts: &mut Vec<Parcel>, to: u16, clock: u64, from: u16, cargo: Cargo)
-    requires { 1 ≤ vec_capacity puts.old - vec_len puts.old }
+pub(crate) fn put(puts: &mut VecDeque<Parcel>, to: u16, clock: u64, from: u16, cargo: Cargo)
+    requires { 1 ≤ deque_capacity puts.old - length puts.old.items }
     ensures items { puts.new.items ≡ puts.old.items ++ parcel to clock from cargo ∷ [] }
-    ensures len { vec_len puts.new ≡ vec_len puts.old + 1 }
-    ensures room { vec_capacity puts.new ≡ vec_capacity puts.old }
+    ensures len { length puts.new.items ≡ length puts.old.items + 1 }
+    ensures room { deque_capacity puts.new ≡ deque_capacity puts.old }
 {
     let packet = Packet { clock, from, cargo };
-    puts.push_reserved(Parcel { to, packet });
+    puts.push_back_reserved(Parcel { to, packet });
 }
 
 /// Puts a report of what became of a message that was posted at the place `home`, where that is another place.
 pub(crate) fn put_report(
-    puts: &mut Vec<Parcel>,
+    puts: &mut VecDeque<Parcel>,
     clock: u64,
     place: u16,
     home: u16,
     id: MsgId,
     answer: Answer,
 )
-    requires { length (report place home id answer) ≤ vec_capacity puts.old - vec_len puts.old }
+    requires { length (report place home id answer) ≤
+        deque_capacity puts.old - length puts.old.items }
     ensures items { puts.new.items ≡
         puts.old.items ++ parcels clock place (report place home id answer) }
-    ensures len { vec_len puts.new ≡ vec_len puts.old + length (report place home id answer) }
-    ensures room { vec_capacity puts.new ≡ vec_capacity puts.old }
+    ensures len { length puts.new.items ≡
+        length puts.old.items + length (report place home id answer) }
+    ensures room { deque_capacity puts.new ≡ deque_capacity puts.old }
 {
     if home != place && is_final(answer) {
         put(puts, home, clock, place, Cargo::Report { id, answer });

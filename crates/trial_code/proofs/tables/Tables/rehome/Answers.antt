@@ -1,8 +1,8 @@
 use Rattle.std.proofs.Common.{ap, refl, ◌∙◌}
 use Rattle.chorus_entry.specs.declared.act.Act.TheVariants as Act
 use Rattle.chorus_ports.specs.Taking.{rehomed}
-use Rattle.trial_code.proofs.Kept.{said-by, kept-plain}
-use Rattle.trial_code.proofs.Ports.{kept-ports, held-changed, rehomed-raises}
+use Rattle.trial_code.proofs.Kept.{said-by, kept-plain, rehomed-raises}
+use Rattle.trial_code.proofs.Ports.{kept-ports, held-changed}
 use Rattle.trial_code.proofs.tables.Tables.rehome.Goals as goal
 
 pub invariant_of-self : goal.invariant_of-self

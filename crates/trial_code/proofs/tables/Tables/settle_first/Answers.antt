@@ -44,20 +44,20 @@ invariant_of-self c =
     let kept = c.self.invariant.2 in
     let said = said-by i.number c.decision.result c.args.caller.now i.journal c.say.new.journal c.say.ensures.journal in
     let first = sym c.pop.ensures.value ∙ c.unwrap-message.ensures in
-    let home = (all-first (MayWait i.layout i.number c.args.key.now) _ w first (kept.waiting c.args.key.now)).home in
+    let may = all-first (MayWait i.layout i.number c.args.key.now) _ w first (kept.waiting c.args.key.now) in
+    let home = may.home in
     let loads = parcels c.clock-clock.result i.number (report i.number w.home w.message.id c.decide_unless-answer.result) in
     let n = report-length i.number w.home w.message.id c.decide_unless-answer.result in
     let all = reports-passed i.number c.args.key.now i.waits c.pop.new.self w first c.pop.ensures.queues in
     let seen = ap (λ p. reports_for c.args.key.now p) c.self.view_is in
     let space = ap (λ p. p.room) c.self.view_is in
     let room = c.requires.room in
-    let len = i.puts.ok.0 in
     let count = length-parcels c.clock-clock.result i.number (report i.number w.home w.message.id c.decide_unless-answer.result) in
     (ap (λ j. j.layout) c.say.ensures.journal ∙ c.self.invariant.0,
-    boxed-more i.layout i.puts.items c.put_report.new.puts.items loads i.out (length loads) c.self.invariant.1 c.put_report.ensures.items (omega arith) (omega (arith, n, all, seen, space, room, len, count)),
+    boxed-more i.layout i.puts.items c.put_report.new.puts.items loads i.out (length loads) c.self.invariant.1 c.put_report.ensures.items (omega arith) (omega (arith, n, all, seen, space, room, count)),
     record {
       place = kept.place;
-      held = held-answered i.layout i.number i.journal.past c.say.new.journal.past c.decision.result i.ports.records c.decide_unless-answer.new.ports.records c.decide_unless-answer.result w.message c.args.key.now.port kept.held said (ap (λ t. t.records) c.decide_unless-answer.ensures.ports);
+      held = held-answered i.layout i.number i.journal.past c.say.new.journal.past c.decision.result i.ports.records c.decide_unless-answer.new.ports.records c.decide_unless-answer.result w.message c.args.key.now.port kept.held said (ap (λ t. t.records) c.decide_unless-answer.ensures.ports) may.message;
       layout = kept.layout;
       located = kept.located;
       waiting = waiting-passed i.layout i.number i.waits c.pop.new.self c.args.key.now kept.waiting c.pop.ensures.queues;

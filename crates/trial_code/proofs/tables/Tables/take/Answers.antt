@@ -5,6 +5,7 @@ use Rattle.chorus_place.specs.declared.reply.Reply.{Reply}
 use Rattle.trial_code.specs.Commands.{Performed}
 use Rattle.trial_code.specs.Tables.{turn}
 use Rattle.trial_code.proofs.Commands.{taking, taking-refused}
+use Rattle.trial_code.proofs.Ports.{has-number}
 use Rattle.trial_code.proofs.tables.Tables.take.Goals as goal
 
 pub returns-in-NotHere-clause-performed : goal.returns-in-NotHere-clause-performed
@@ -29,3 +30,6 @@ returns-in-Message-clause-performed c =
     subst (λ x. Performed (Command.Take c.args.port) x u (Reply.Taken c.in-Message.pos c.in-Message.message c.heed-settled.result)) (c.make_room.ensures.turn c.args.caller.now)
     (taking c.args.port t mid u c.in-Message.pos c.in-Message.message c.heed-settled.result c.in-Message.ensures.taken c.in-Message.ensures.turn c.heed-settled.ensures.turn
     c.heed-settled.ensures.settled)
+
+pub heed-settled-requires-clause-numbered : goal.heed-settled-requires-clause-numbered
+heed-settled-requires-clause-numbered c = has-number c.in-Message.message c.in-Message.ensures.sound

@@ -1,7 +1,9 @@
-use Rattle.std.proofs.Common.{ap, refl, ◌∙◌}
+use Rattle.std.proofs.Common.{ap, refl, sym, subst, ◌∙◌}
+use Rattle.chorus_ports.specs.Table.{find}
+use Rattle.trial_code.specs.Ports.{IsSoundTaken}
 use Rattle.chorus_ports.specs.Taking.{after_take}
-use Rattle.trial_code.proofs.Kept.{said-by, kept-plain}
-use Rattle.trial_code.proofs.Ports.{kept-ports, held-changed, take-raises}
+use Rattle.trial_code.proofs.Kept.{said-by, kept-plain, take-raises}
+use Rattle.trial_code.proofs.Ports.{kept-ports, held-changed, sound-taken}
 use Rattle.trial_code.proofs.tables.Tables.take_message.Goals as goal
 
 pub invariant_of-self : goal.invariant_of-self
@@ -15,3 +17,8 @@ invariant_of-self c =
     (kept-plain i.layout i.number i.journal.past c.say.new.journal.past act i.ports.records i.hints i.waits i.puts.items kept said c.take_act-act.ensures.plain)
     (held-changed i.layout i.number i.journal.past c.say.new.journal.past act i.ports.records c.take-taken.new.self.records c.args.port (after_take c.actor.result) kept.held said
     (take-raises c.actor.result) (ap (λ t. t.records) c.take-taken.ensures.after)))
+
+pub returns-clause-sound : goal.returns-clause-sound
+returns-clause-sound c =
+    subst IsSoundTaken (sym c.take-taken.ensures.value)
+    (sound-taken c.actor.result (find c.args.port c.self.inside.ports.records) (λ r h. (c.self.invariant.2.held c.args.port r h).pending))

@@ -1,6 +1,6 @@
-//! The commands at ports, whole: what can fail comes first, and then one step after the other.
+//! Whole turns at ports: what can fail comes first, and then one step after the other.
 
-ghost use Rattle.std.specs.Prelude.{◌≡◌, ◌+◌, ◌^◌, ◌<◌, ◌≤◌, true, false, length, is_some, IsSome, IsNone, IsOk, IfOk, IfSome, OnOk, OnErr};
+ghost use Rattle.std.specs.Prelude.{◌≡◌, ◌+◌, ◌^◌, ◌<◌, ◌≤◌, true, false, length, is_some, IsSome, IsNone, IsOk, IfOk, IfSome, IfErr, OnOk, OnErr};
 ghost use Rattle.chorus_ui.specs.declared.kind.Kind.TheVariants as Kind;
 ghost use Rattle.chorus_ui.specs.declared.limits.TheConstants.{PENDING_LIMIT};
 ghost use Rattle.chorus_entry.specs.declared.command.Command.TheVariants as Command;
@@ -10,14 +10,14 @@ ghost use Rattle.chorus_ports.specs.Table.{find};
 ghost use Rattle.chorus_calls.specs.Callers.{Seated};
 ghost use Rattle.chorus_place.specs.PlaceState.{greatest_clock};
 ghost use Rattle.chorus_place.specs.Own.{held_by, next_port};
-ghost use Rattle.chorus_place.specs.Doing.{first_message};
+ghost use Rattle.chorus_place.specs.Working.{receives_port};
 ghost use Rattle.trial_code.specs.Commands.{Performed, StaysOut};
-ghost use Rattle.trial_code.specs.Ports.{IsNumberedMessage, ids_of};
+ghost use Rattle.trial_code.specs.Ports.{MayArrive, ids_of};
 ghost use Rattle.trial_code.specs.Tables.{state, turn};
 
 use crate::tables::Tables;
 use chorus_calls::Caller;
-use chorus_entry::{Act, Ids, Pending};
+use chorus_entry::{Act, Ids, Pending, PortRecord};
 use chorus_place::Reply;
 use chorus_ports::Taken;
 use chorus_ui::{Kind, PORTS_PER_SITE_LIMIT, Ui};
@@ -96,7 +96,9 @@ impl Tables {
     pub(crate) fn make_port_room(&mut self) -> Result<(), AllocError>
         ensures turn { (c : Seated) → turn self.new c ≡ turn self.old c }
         ensures layout { self.new.layout ≡ self.old.layout }
+        ensures number { self.new.number ≡ self.old.number }
         ensures journal { self.new.journal ≡ self.old.journal }
+        ensures records { self.new.ports.records ≡ self.old.ports.records }
         ensures room { self.new.room ≡ self.old.room }
         ensures out { self.new.out ≡ self.old.out }
         ensures slot { OnOk result (0 < self.new.ports.spare) }
@@ -107,7 +109,6 @@ impl Tables {
     /// Takes the first message that waits in the port, for the caller's actor. `NotHere` where that actor does not hold it
     /// here, and else `Empty` where none waits. Takes no memory where there is room for two entries.
     pub(crate) fn take(&mut self, port: Ui, caller: &mut Caller) -> Result<Reply, AllocError>
-        requires numbered { IsNumberedMessage (first_message (find port self.old.ports.records)) }
         requires clock { greatest_clock (turn self.old caller.old) + 2 < 2 ^ 64 }
         ensures performed { IfOk result (λ reply. Performed (Command.Take port)
             (turn self.old caller.old) (turn self.new caller.new) reply) }
@@ -207,5 +208,38 @@ impl Tables {
     {
         let record = self.ports.get(port).unwrap();
         ids_of(*self.puts.allocator(), &record.pending)
+    }
+
+    /// Holds a port that a packet brought, whose clock the caller's last is not below. Want of memory changes nothing and hands
+    /// the record back.
+    pub(crate) fn hear_transfer(
+        &mut self,
+        port: PortRecord,
+        caller: &mut Caller,
+    ) -> Result<(), (PortRecord, AllocError)>
+        requires may { MayArrive port (turn self.old caller.old) }
+        requires clock { greatest_clock (turn self.old caller.old) + 1 < 2 ^ 64 }
+        ensures ok { OnOk result (turn self.new caller.new ≡
+            receives_port port (turn self.old caller.old)) }
+        ensures refused { OnErr result (turn self.new caller.new ≡ turn self.old caller.old) }
+        ensures back { IfErr result (λ refused. refused.0 ≡ port) }
+        ensures out { StaysOut self.old.out self.new.out }
+    {
+        if let Err(none) = self.make_arrival_room() {
+            return Err((port, none));
+        }
+        self.arrive(port, caller);
+        Ok(())
+    }
+
+    /// Takes room for an entry, and for the record of one port more. All else stays, whatever the answer.
+    fn make_arrival_room(&mut self) -> Result<(), AllocError>
+        ensures turn { (c : Seated) → turn self.new c ≡ turn self.old c }
+        ensures out { StaysOut self.old.out self.new.out }
+        ensures spare { OnOk result (1 ≤ self.new.journal.spare) }
+        ensures slot { OnOk result (0 < self.new.ports.spare) }
+    {
+        self.make_room(1, 0)?;
+        self.make_port_room()
     }
 }

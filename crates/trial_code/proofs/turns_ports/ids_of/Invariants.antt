@@ -1,7 +1,7 @@
 use Rattle.std.proofs.Common.{◌≡◌, length, take}
 use Rattle.std.specs.Prelude.{vec_len, vec_capacity, ◌≤◌}
 use Rattle.trial_code.specs.Ports.{ids_of}
-use Rattle.trial_code.proofs.commands_ports.ids_of.Given as goal
+use Rattle.trial_code.proofs.turns_ports.ids_of.Given as goal
 
 abbrev pub invariant-loop-at : goal.invariant-loop-at
 invariant-loop-at l = (l.ids.items ≡ ids_of (take l.at l.pending)) × (vec_len l.ids ≡ l.at) × (l.len ≤ vec_capacity l.ids)
