@@ -8,3 +8,4 @@ pub mod Firsts
 pub mod Telling
 pub mod Ports
 pub mod Commands
+pub mod Arriving

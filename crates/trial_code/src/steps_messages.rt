@@ -151,7 +151,13 @@ impl Tables {
         );
         self.waits.set_tried(key, Some(to));
         let clock = self.journal.clock();
-        put(&mut self.puts, to, clock, self.number, trying(key, again, hop));
+        put(
+            &mut self.puts,
+            to,
+            clock,
+            self.number,
+            trying(key, again, hop),
+        );
     }
 
     /// Appends an entry that changes nothing else.

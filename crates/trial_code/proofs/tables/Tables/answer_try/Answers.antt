@@ -33,20 +33,21 @@ invariant_of-self c =
     let said = said-by i.number c.decision.result c.args.caller.now i.journal c.say.new.journal c.say.ensures.journal in
     let x = parcel c.args.from c.clock-clock.result i.number (Cargo.Verdict c.args.message.id k.port k.route c.decide-answer.result) in
     let seen = ap (λ p. p.room) c.self.view_is in
-    let room = c.requires.room in
-    (ap (λ j. j.layout) c.say.ensures.journal ∙ c.self.invariant.0,
-    boxed-more i.layout i.puts.items c.put.new.puts.items (x ∷ []) i.out 1 c.self.invariant.1 c.put.ensures.items (omega arith) (omega (arith, seen, room)),
-    record {
-      place = kept.place;
-      held = held-answered i.layout i.number i.journal.past c.say.new.journal.past c.decision.result i.ports.records c.decide-answer.new.ports.records c.decide-answer.result c.args.message k.port kept.held said
-          (ap (λ t. t.records) c.decide-answer.ensures.ports) c.requires.sound;
-      layout = kept.layout;
-      located = kept.located;
-      waiting = kept.waiting;
-      numbered = numbered-plain i.layout i.number i.journal.past c.say.new.journal.past c.decision.result kept.numbered said c.decision.ensures.plain;
-      grouped = grouped-plain i.journal.past c.say.new.journal.past c.decision.result kept.grouped said c.decision.ensures.plain;
-      sent = sent-one i.layout i.puts.items c.put.new.puts.items x kept.sent c.put.ensures.items (ap (λ p. has_place p.layout c.args.from) c.self.view_is ∙ c.requires.from);
-    })
+    let room = c.requires.room in (
+      ap (λ j. j.layout) c.say.ensures.journal ∙ c.self.invariant.0,
+      boxed-more i.layout i.puts.items c.put.new.puts.items (x ∷ []) i.out 1 c.self.invariant.1 c.put.ensures.items (omega arith) (omega (arith, seen, room)),
+      record {
+        place = kept.place;
+        held = held-answered i.layout i.number i.journal.past c.say.new.journal.past c.decision.result i.ports.records c.decide-answer.new.ports.records c.decide-answer.result c.args.message k.port kept.held said
+            (ap (λ t. t.records) c.decide-answer.ensures.ports) c.requires.sound;
+        layout = kept.layout;
+        located = kept.located;
+        waiting = kept.waiting;
+        numbered = numbered-plain i.layout i.number i.journal.past c.say.new.journal.past c.decision.result kept.numbered said c.decision.ensures.plain;
+        grouped = grouped-plain i.journal.past c.say.new.journal.past c.decision.result kept.grouped said c.decision.ensures.plain;
+        sent = sent-one i.layout i.puts.items c.put.new.puts.items x kept.sent c.put.ensures.items (ap (λ p. has_place p.layout c.args.from) c.self.view_is ∙ c.requires.from);
+      },
+    )
 
 pub returns-clause-turn : goal.returns-clause-turn
 returns-clause-turn c =
@@ -55,7 +56,7 @@ returns-clause-turn c =
     let m = c.args.message in
     let newest = ap (λ l. location l k.port (kept i.hints k.port)) c.self.invariant.2.layout in
     let answer = c.decide-answer.ensures.answer
-        ∙ same-answer m k.port c.args.only c.args.tried (seen i.number i.journal i.hints) (state (the_view i)) (find k.port i.ports.records) refl refl newest in
+    ∙ same-answer m k.port c.args.only c.args.tried (seen i.number i.journal i.hints) (state (the_view i)) (find k.port i.ports.records) refl refl newest in
     rw (← c.self.view_is)
     (same_turn _ _ refl refl
     (said-as i.number c.decision.result _ c.args.caller.now i.journal c.say.new.journal c.say.ensures.journal (c.decision.ensures.value ∙ ap (decision m.id k.port c.args.tried) answer))

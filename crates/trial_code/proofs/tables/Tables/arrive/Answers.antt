@@ -22,21 +22,23 @@ invariant_of-self c =
     let end = c.requires.may.position in
     let hop = c.requires.may.hop in
     let layout = ap (λ p. p.layout) c.self.view_is in
-    let number = ap (λ p. p.number) c.self.view_is in
-    (ap (λ j. j.layout) c.say.ensures.journal ∙ c.self.invariant.0, c.self.invariant.1,
-    kept-learned i.layout i.number c.say.new.journal.past c.arrive.new.self.records i.hints c.learn.new.self i.waits i.puts.items r.ui i.number r.hop
-    (kept-ports i.layout i.number c.say.new.journal.past i.ports.records c.arrive.new.self.records i.hints i.waits i.puts.items
-    (kept-plain i.layout i.number i.journal.past c.say.new.journal.past act i.ports.records i.hints i.waits i.puts.items kept said refl)
-    (held-came i.layout i.number i.journal.past c.say.new.journal.past act i.ports.records c.arrive.new.self.records r kept.held said (record {
-      kind = c.requires.may.kind;
-      can_make = ap (λ l. can_make_port l r.ui) layout ∙ c.requires.may.can_make;
-      position = omega (arith, more, seen, end);
-      pending = c.requires.may.pending;
-      hop = omega (arith, more, seen, hop);
-      own = λ e. made-more i.journal.past c.say.new.journal.past act r.ui said
-      (ap (λ p. is_made_here r.ui p.journal.past) c.self.view_is ∙ c.requires.may.own (sym (ap (λ l. creation_place l r.ui) layout) ∙ e ∙ number));
-    }) (ap (λ p. is_some (find r.ui p.ports.records)) c.self.view_is ∙ c.requires.may.absent) (ap (λ t. t.records) c.arrive.ensures)))
-    c.learn.ensures.layout c.learn.ensures.pairs kept.place)
+    let number = ap (λ p. p.number) c.self.view_is in (
+      ap (λ j. j.layout) c.say.ensures.journal ∙ c.self.invariant.0,
+      c.self.invariant.1,
+      kept-learned i.layout i.number c.say.new.journal.past c.arrive.new.self.records i.hints c.learn.new.self i.waits i.puts.items r.ui i.number r.hop
+          (kept-ports i.layout i.number c.say.new.journal.past i.ports.records c.arrive.new.self.records i.hints i.waits i.puts.items
+          (kept-plain i.layout i.number i.journal.past c.say.new.journal.past act i.ports.records i.hints i.waits i.puts.items kept said refl)
+          (held-came i.layout i.number i.journal.past c.say.new.journal.past act i.ports.records c.arrive.new.self.records r kept.held said (record {
+            kind = c.requires.may.kind;
+            can_make = ap (λ l. can_make_port l r.ui) layout ∙ c.requires.may.can_make;
+            position = omega (arith, more, seen, end);
+            pending = c.requires.may.pending;
+            hop = omega (arith, more, seen, hop);
+            own = λ e. made-more i.journal.past c.say.new.journal.past act r.ui said
+                (ap (λ p. is_made_here r.ui p.journal.past) c.self.view_is ∙ c.requires.may.own (sym (ap (λ l. creation_place l r.ui) layout) ∙ e ∙ number));
+          }) (ap (λ p. is_some (find r.ui p.ports.records)) c.self.view_is ∙ c.requires.may.absent) (ap (λ t. t.records) c.arrive.ensures)))
+          c.learn.ensures.layout c.learn.ensures.pairs kept.place,
+    )
 
 pub returns-clause-turn : goal.returns-clause-turn
 returns-clause-turn c =

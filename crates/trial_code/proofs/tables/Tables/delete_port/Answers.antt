@@ -17,7 +17,9 @@ pub invariant_of-self : goal.invariant_of-self
 invariant_of-self c =
     let i = c.self.inside in
     let act = Act.Delete c.args.port c.args.discarded in
-    let said = said-by i.number act c.args.caller.now i.journal c.say.new.journal c.say.ensures.journal in
-    (ap (λ j. j.layout) c.say.ensures.journal ∙ c.self.invariant.0, c.self.invariant.1,
-    kept-deleted i.layout i.number i.journal.past c.say.new.journal.past i.ports.records c.depart.new.self.records i.hints i.waits i.puts.items c.args.port act
-    c.self.invariant.2 said (λ n. refl) (λ u. refl) (λ g qs. refl) c.depart.ensures.distinct c.depart.ensures.records)
+    let said = said-by i.number act c.args.caller.now i.journal c.say.new.journal c.say.ensures.journal in (
+      ap (λ j. j.layout) c.say.ensures.journal ∙ c.self.invariant.0,
+      c.self.invariant.1,
+      kept-deleted i.layout i.number i.journal.past c.say.new.journal.past i.ports.records c.depart.new.self.records i.hints i.waits i.puts.items c.args.port act
+          c.self.invariant.2 said (λ n. refl) (λ u. refl) (λ g qs. refl) c.depart.ensures.distinct c.depart.ensures.records,
+    )

@@ -47,17 +47,18 @@ invariant_of-self c =
     let x = parcel c.args.to c.clock-clock.result i.number (Cargo.Transfer (migrated hop c.args.actor r)) in
     let seen = ap (λ p. p.room) c.self.view_is in
     let room = c.requires.room in
-    let place = ap (λ p. has_place p.layout c.args.to) c.self.view_is ∙ c.requires.place in
-    (ap (λ j. j.layout) c.say.ensures.journal ∙ c.self.invariant.0,
-    boxed-more i.layout i.puts.items c.put.new.puts.items (x ∷ []) i.out 1 c.self.invariant.1 c.put.ensures.items (omega arith) (omega (arith, seen, room)),
-    kept-put i.layout i.number c.say.new.journal.past c.depart.new.self.records c.learn.new.self i.waits i.puts.items c.put.new.puts.items x
-    (kept-learned i.layout i.number c.say.new.journal.past c.depart.new.self.records i.hints c.learn.new.self i.waits i.puts.items c.args.port c.args.to hop
-    (kept-ports i.layout i.number c.say.new.journal.past i.ports.records c.depart.new.self.records i.hints i.waits i.puts.items
-    (kept-plain i.layout i.number i.journal.past c.say.new.journal.past act i.ports.records i.hints i.waits i.puts.items kept said refl)
-    (held-left i.layout i.number i.journal.past c.say.new.journal.past act i.ports.records c.depart.new.self.records c.args.port kept.held said c.depart.ensures.distinct
-    c.depart.ensures.records))
-    c.learn.ensures.layout c.learn.ensures.pairs place)
-    c.put.ensures.items place)
+    let place = ap (λ p. has_place p.layout c.args.to) c.self.view_is ∙ c.requires.place in (
+      ap (λ j. j.layout) c.say.ensures.journal ∙ c.self.invariant.0,
+      boxed-more i.layout i.puts.items c.put.new.puts.items (x ∷ []) i.out 1 c.self.invariant.1 c.put.ensures.items (omega arith) (omega (arith, seen, room)),
+      kept-put i.layout i.number c.say.new.journal.past c.depart.new.self.records c.learn.new.self i.waits i.puts.items c.put.new.puts.items x
+          (kept-learned i.layout i.number c.say.new.journal.past c.depart.new.self.records i.hints c.learn.new.self i.waits i.puts.items c.args.port c.args.to hop
+          (kept-ports i.layout i.number c.say.new.journal.past i.ports.records c.depart.new.self.records i.hints i.waits i.puts.items
+          (kept-plain i.layout i.number i.journal.past c.say.new.journal.past act i.ports.records i.hints i.waits i.puts.items kept said refl)
+          (held-left i.layout i.number i.journal.past c.say.new.journal.past act i.ports.records c.depart.new.self.records c.args.port kept.held said c.depart.ensures.distinct
+          c.depart.ensures.records))
+          c.learn.ensures.layout c.learn.ensures.pairs place)
+          c.put.ensures.items place,
+    )
 
 pub returns-clause-turn : goal.returns-clause-turn
 returns-clause-turn c =

@@ -28,7 +28,9 @@ invariant_of-self-2 c =
     let home = ap (λ p. creation_place p.layout c.args.actor) c.self.view_is ∙ c.requires.home ∙ sym (ap (λ p. p.number) c.self.view_is) in
     let actor = ap (λ p. has_actor p.layout c.args.actor) c.self.view_is ∙ c.requires.actor in
     let few = ap (λ p. is_full_of_ports p.layout p.journal.past) c.self.view_is ∙ c.requires.few in
-    let said = said-by i.number act c.args.caller.now i.journal c.say.new.journal c.say.ensures.journal in
-    (ap (λ j. j.layout) c.say.ensures.journal ∙ c.self.invariant.0, c.self.invariant.1,
-    kept-made i.layout i.number i.journal.past c.say.new.journal.past i.ports.records c.make.new.self.records i.hints i.waits i.puts.items c.args.port c.args.actor c.args.capacity
-    c.self.invariant.2 said turns actor home few next (ap (λ t. t.records) c.in_ok-make.ensures.ok))
+    let said = said-by i.number act c.args.caller.now i.journal c.say.new.journal c.say.ensures.journal in (
+      ap (λ j. j.layout) c.say.ensures.journal ∙ c.self.invariant.0,
+      c.self.invariant.1,
+      kept-made i.layout i.number i.journal.past c.say.new.journal.past i.ports.records c.make.new.self.records i.hints i.waits i.puts.items c.args.port c.args.actor c.args.capacity
+          c.self.invariant.2 said turns actor home few next (ap (λ t. t.records) c.in_ok-make.ensures.ok),
+    )

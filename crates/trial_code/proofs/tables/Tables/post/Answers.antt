@@ -17,12 +17,14 @@ invariant_of-self c =
     let act = Act.Post c.args.message (Dest.Port c.args.key.now.port) in
     let said = said-by i.number act c.args.caller.now i.journal c.say.new.journal c.say.ensures.journal in
     let kept = c.self.invariant.2 in
-    let home = ap (λ w. w.home) c.requires.copy ∙ ap (λ (p : Tables). p.number) (sym c.self.view_is) in
-    (ap (λ j. j.layout) c.say.ensures.journal ∙ c.self.invariant.0, c.self.invariant.1,
-    kept-waits i.layout i.number c.say.new.journal.past i.ports.records i.hints i.waits c.push.new.self i.puts.items
-    (kept-plain i.layout i.number i.journal.past c.say.new.journal.past act i.ports.records i.hints i.waits i.puts.items kept said refl)
-    (waiting-last i.layout i.number i.waits c.push.new.self c.args.key.now c.args.wait kept.waiting c.push.ensures.queues
-    (record { home = ap (has_place i.layout) home ∙ kept.place; own = λ _. home; message = subst IsSound (sym (ap (λ w. w.message) c.requires.copy)) c.requires.sound })))
+    let home = ap (λ w. w.home) c.requires.copy ∙ ap (λ (p : Tables). p.number) (sym c.self.view_is) in (
+      ap (λ j. j.layout) c.say.ensures.journal ∙ c.self.invariant.0,
+      c.self.invariant.1,
+      kept-waits i.layout i.number c.say.new.journal.past i.ports.records i.hints i.waits c.push.new.self i.puts.items
+          (kept-plain i.layout i.number i.journal.past c.say.new.journal.past act i.ports.records i.hints i.waits i.puts.items kept said refl)
+          (waiting-last i.layout i.number i.waits c.push.new.self c.args.key.now c.args.wait kept.waiting c.push.ensures.queues
+          (record { home = ap (has_place i.layout) home ∙ kept.place; own = λ _. home; message = subst IsSound (sym (ap (λ w. w.message) c.requires.copy)) c.requires.sound })),
+    )
 
 pub returns-clause-turn : goal.returns-clause-turn
 returns-clause-turn c =

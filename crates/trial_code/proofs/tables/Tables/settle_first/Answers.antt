@@ -52,19 +52,20 @@ invariant_of-self c =
     let seen = ap (λ p. reports_for c.args.key.now p) c.self.view_is in
     let space = ap (λ p. p.room) c.self.view_is in
     let room = c.requires.room in
-    let count = length-parcels c.clock-clock.result i.number (report i.number w.home w.message.id c.decide_unless-answer.result) in
-    (ap (λ j. j.layout) c.say.ensures.journal ∙ c.self.invariant.0,
-    boxed-more i.layout i.puts.items c.put_report.new.puts.items loads i.out (length loads) c.self.invariant.1 c.put_report.ensures.items (omega arith) (omega (arith, n, all, seen, space, room, count)),
-    record {
-      place = kept.place;
-      held = held-answered i.layout i.number i.journal.past c.say.new.journal.past c.decision.result i.ports.records c.decide_unless-answer.new.ports.records c.decide_unless-answer.result w.message c.args.key.now.port kept.held said (ap (λ t. t.records) c.decide_unless-answer.ensures.ports) may.message;
-      layout = kept.layout;
-      located = kept.located;
-      waiting = waiting-passed i.layout i.number i.waits c.pop.new.self c.args.key.now kept.waiting c.pop.ensures.queues;
-      numbered = numbered-plain i.layout i.number i.journal.past c.say.new.journal.past c.decision.result kept.numbered said c.decision.ensures.plain;
-      grouped = grouped-plain i.journal.past c.say.new.journal.past c.decision.result kept.grouped said c.decision.ensures.plain;
-      sent = sent-more i.layout i.puts.items c.put_report.new.puts.items loads kept.sent c.put_report.ensures.items (sent-report i.layout i.number w.home c.clock-clock.result w.message.id c.decide_unless-answer.result home);
-    })
+    let count = length-parcels c.clock-clock.result i.number (report i.number w.home w.message.id c.decide_unless-answer.result) in (
+      ap (λ j. j.layout) c.say.ensures.journal ∙ c.self.invariant.0,
+      boxed-more i.layout i.puts.items c.put_report.new.puts.items loads i.out (length loads) c.self.invariant.1 c.put_report.ensures.items (omega arith) (omega (arith, n, all, seen, space, room, count)),
+      record {
+        place = kept.place;
+        held = held-answered i.layout i.number i.journal.past c.say.new.journal.past c.decision.result i.ports.records c.decide_unless-answer.new.ports.records c.decide_unless-answer.result w.message c.args.key.now.port kept.held said (ap (λ t. t.records) c.decide_unless-answer.ensures.ports) may.message;
+        layout = kept.layout;
+        located = kept.located;
+        waiting = waiting-passed i.layout i.number i.waits c.pop.new.self c.args.key.now kept.waiting c.pop.ensures.queues;
+        numbered = numbered-plain i.layout i.number i.journal.past c.say.new.journal.past c.decision.result kept.numbered said c.decision.ensures.plain;
+        grouped = grouped-plain i.journal.past c.say.new.journal.past c.decision.result kept.grouped said c.decision.ensures.plain;
+        sent = sent-more i.layout i.puts.items c.put_report.new.puts.items loads kept.sent c.put_report.ensures.items (sent-report i.layout i.number w.home c.clock-clock.result w.message.id c.decide_unless-answer.result home);
+      },
+    )
 
 pub returns-clause-turn : goal.returns-clause-turn
 returns-clause-turn c =
@@ -74,9 +75,9 @@ returns-clause-turn c =
     let place = c.self.view_is in
     let newest = ap (λ l. location l k.port (kept i.hints k.port)) c.self.invariant.2.layout in
     let answer = c.decide_unless-answer.ensures.answer
-        ∙ ap (unwrap_or c.args.given) (same-answer w.message k.port w.only c.args.tried (seen i.number i.journal i.hints)
-            (state (the_view i))
-            (find k.port i.ports.records) refl refl newest) in
+    ∙ ap (unwrap_or c.args.given) (same-answer w.message k.port w.only c.args.tried (seen i.number i.journal i.hints)
+    (state (the_view i))
+    (find k.port i.ports.records) refl refl newest) in
     rw (← c.self.view_is)
     (if-first _ w _ (sym c.pop.ensures.value ∙ c.unwrap-message.ensures)
     (same_turn _ _ refl refl

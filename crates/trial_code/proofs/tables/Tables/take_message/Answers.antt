@@ -11,12 +11,14 @@ invariant_of-self c =
     let i = c.self.inside in
     let act = c.take_act-act.result in
     let kept = c.self.invariant.2 in
-    let said = said-by i.number act c.args.caller.now i.journal c.say.new.journal c.say.ensures.journal in
-    (ap (λ j. j.layout) c.say.ensures.journal ∙ c.self.invariant.0, c.self.invariant.1,
-    kept-ports i.layout i.number c.say.new.journal.past i.ports.records c.take-taken.new.self.records i.hints i.waits i.puts.items
-    (kept-plain i.layout i.number i.journal.past c.say.new.journal.past act i.ports.records i.hints i.waits i.puts.items kept said c.take_act-act.ensures.plain)
-    (held-changed i.layout i.number i.journal.past c.say.new.journal.past act i.ports.records c.take-taken.new.self.records c.args.port (after_take c.actor.result) kept.held said
-    (take-raises c.actor.result) (ap (λ t. t.records) c.take-taken.ensures.after)))
+    let said = said-by i.number act c.args.caller.now i.journal c.say.new.journal c.say.ensures.journal in (
+      ap (λ j. j.layout) c.say.ensures.journal ∙ c.self.invariant.0,
+      c.self.invariant.1,
+      kept-ports i.layout i.number c.say.new.journal.past i.ports.records c.take-taken.new.self.records i.hints i.waits i.puts.items
+          (kept-plain i.layout i.number i.journal.past c.say.new.journal.past act i.ports.records i.hints i.waits i.puts.items kept said c.take_act-act.ensures.plain)
+          (held-changed i.layout i.number i.journal.past c.say.new.journal.past act i.ports.records c.take-taken.new.self.records c.args.port (after_take c.actor.result) kept.held said
+          (take-raises c.actor.result) (ap (λ t. t.records) c.take-taken.ensures.after)),
+    )
 
 pub returns-clause-sound : goal.returns-clause-sound
 returns-clause-sound c =

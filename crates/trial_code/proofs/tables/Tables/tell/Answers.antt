@@ -31,19 +31,20 @@ invariant_of-self c =
     let space = ap (λ p. p.room) c.self.view_is in
     let room = c.requires.room in
     let count = length-parcels c.clock-clock.result i.number (report i.number w.home x a) in
-    let teaches = subst (λ l. MayTeach l k.port (taught a)) (sym (ap (λ p. p.layout) c.self.view_is)) c.requires.teaches in
-    (ap (λ j. j.layout) c.say.ensures.journal ∙ c.self.invariant.0,
-    boxed-more i.layout i.puts.items c.put_report.new.puts.items loads i.out (length loads) c.self.invariant.1 c.put_report.ensures.items (omega arith) (omega (arith, all, seen, space, room, count)),
-    record {
-      place = kept.place;
-      held = held-later i.layout i.number i.journal.past c.say.new.journal.past act i.ports.records kept.held said;
-      layout = c.teach.ensures.layout ∙ kept.layout;
-      located = located-taught i.layout i.hints c.teach.new.hints k.port (taught a) kept.located c.teach.ensures.pairs teaches;
-      waiting = waiting-told i.layout i.number i.waits c.pass.new.waits k a kept.waiting c.pass.ensures;
-      numbered = numbered-plain i.layout i.number i.journal.past c.say.new.journal.past act kept.numbered said refl;
-      grouped = grouped-plain i.journal.past c.say.new.journal.past act kept.grouped said refl;
-      sent = sent-more i.layout i.puts.items c.put_report.new.puts.items loads kept.sent c.put_report.ensures.items (sent-report i.layout i.number w.home c.clock-clock.result x a home);
-    })
+    let teaches = subst (λ l. MayTeach l k.port (taught a)) (sym (ap (λ p. p.layout) c.self.view_is)) c.requires.teaches in (
+      ap (λ j. j.layout) c.say.ensures.journal ∙ c.self.invariant.0,
+      boxed-more i.layout i.puts.items c.put_report.new.puts.items loads i.out (length loads) c.self.invariant.1 c.put_report.ensures.items (omega arith) (omega (arith, all, seen, space, room, count)),
+      record {
+        place = kept.place;
+        held = held-later i.layout i.number i.journal.past c.say.new.journal.past act i.ports.records kept.held said;
+        layout = c.teach.ensures.layout ∙ kept.layout;
+        located = located-taught i.layout i.hints c.teach.new.hints k.port (taught a) kept.located c.teach.ensures.pairs teaches;
+        waiting = waiting-told i.layout i.number i.waits c.pass.new.waits k a kept.waiting c.pass.ensures;
+        numbered = numbered-plain i.layout i.number i.journal.past c.say.new.journal.past act kept.numbered said refl;
+        grouped = grouped-plain i.journal.past c.say.new.journal.past act kept.grouped said refl;
+        sent = sent-more i.layout i.puts.items c.put_report.new.puts.items loads kept.sent c.put_report.ensures.items (sent-report i.layout i.number w.home c.clock-clock.result x a home);
+      },
+    )
 
 pub put_report-requires : goal.put_report-requires
 put_report-requires c =

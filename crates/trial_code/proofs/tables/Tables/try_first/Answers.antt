@@ -16,14 +16,15 @@ invariant_of-self c =
     let said = said-by i.number act c.args.caller.now i.journal c.say.new.journal c.say.ensures.journal in
     let x = parcel c.args.newest.0 c.clock-clock.result i.number c.trying.result in
     let seen = ap (λ p. p.room) c.self.view_is in
-    let room = c.requires.room in
-    (ap (λ j. j.layout) c.say.ensures.journal ∙ c.self.invariant.0,
-    boxed-more i.layout i.puts.items c.put.new.puts.items (x ∷ []) i.out 1 c.self.invariant.1 c.put.ensures.items (omega arith) (omega (arith, seen, room)),
-    kept-put i.layout i.number c.say.new.journal.past i.ports.records i.hints c.set_tried.new.self i.puts.items c.put.new.puts.items x
-    (kept-waits i.layout i.number c.say.new.journal.past i.ports.records i.hints i.waits c.set_tried.new.self i.puts.items
-    (kept-plain i.layout i.number i.journal.past c.say.new.journal.past act i.ports.records i.hints i.waits i.puts.items c.self.invariant.2 said refl)
-    (waiting-at i.layout i.number i.waits c.set_tried.new.self c.args.key.now (Some c.args.newest.0) c.self.invariant.2.waiting c.set_tried.ensures.queues))
-    c.put.ensures.items (ap (λ p. has_place p.layout c.args.newest.0) c.self.view_is ∙ c.requires.place))
+    let room = c.requires.room in (
+      ap (λ j. j.layout) c.say.ensures.journal ∙ c.self.invariant.0,
+      boxed-more i.layout i.puts.items c.put.new.puts.items (x ∷ []) i.out 1 c.self.invariant.1 c.put.ensures.items (omega arith) (omega (arith, seen, room)),
+      kept-put i.layout i.number c.say.new.journal.past i.ports.records i.hints c.set_tried.new.self i.puts.items c.put.new.puts.items x
+          (kept-waits i.layout i.number c.say.new.journal.past i.ports.records i.hints i.waits c.set_tried.new.self i.puts.items
+          (kept-plain i.layout i.number i.journal.past c.say.new.journal.past act i.ports.records i.hints i.waits i.puts.items c.self.invariant.2 said refl)
+          (waiting-at i.layout i.number i.waits c.set_tried.new.self c.args.key.now (Some c.args.newest.0) c.self.invariant.2.waiting c.set_tried.ensures.queues))
+          c.put.ensures.items (ap (λ p. has_place p.layout c.args.newest.0) c.self.view_is ∙ c.requires.place),
+    )
 
 pub returns-clause-turn : goal.returns-clause-turn
 returns-clause-turn c =
