@@ -1,3 +1,4 @@
 pub mod Parts
 pub mod Journals
 pub mod Performs
+pub mod Sorts

@@ -5,3 +5,6 @@ pub mod Carrying
 pub mod Few
 pub mod Promised
 pub mod AllPromises
+pub mod Posts
+pub mod Kept
+pub mod Lawful

@@ -16,3 +16,4 @@ pub mod History
 pub mod Tasks
 pub mod Promises
 pub mod Answering
+pub mod Merging

@@ -12,6 +12,7 @@ mod closed;
 mod delivery;
 mod fault;
 mod laws;
+mod merging;
 mod network;
 mod sites;
 #[cfg(test)]
@@ -21,5 +22,6 @@ pub use closed::{Closed, Placed};
 pub use delivery::{Delivered, Quiet};
 pub use fault::EnterFault;
 pub use laws::one_place_runs;
+pub use merging::merge_is_the_sorted_list;
 pub use network::{drains_leave_nothing_to_do, network_refines_world};
 pub use sites::Sites;

@@ -5,3 +5,4 @@ pub mod Moments
 pub mod Words
 pub mod Commands
 pub mod Limits
+pub mod Entries

@@ -21,3 +21,6 @@ pub mod DirectTries
 pub mod Decided
 pub mod Told
 pub mod WasSent
+pub mod Hearings
+pub mod Ids
+pub mod Ranged

@@ -7,3 +7,4 @@ pub mod PortNames
 pub mod Paths
 pub mod Sites
 pub mod ByFate
+pub mod MadePorts

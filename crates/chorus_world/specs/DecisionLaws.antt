@@ -75,8 +75,8 @@ abbrev pub TellsTheVerdict : List Entry → Entry → Type 0
 TellsTheVerdict past e =
     (x : MsgId) (a : Answer) → e.act ≡ Told x a → is_final a ≡ true → verdict x past ≡ Some a
 
--- a Heard says the verdict of its message, or how many copies a choice made of it
+-- a Heard says the verdict of its message, or how many copies a choice made of it, where one made some
 abbrev pub HearsTheEnd : List Entry → Entry → Type 0
 HearsTheEnd past e =
     (x : MsgId) (a : Answer) → e.act ≡ Heard x a →
-    (verdict x past ≡ Some a) ⊎ (a ≡ Answer.Chosen (length (copies_of x past)))
+    (verdict x past ≡ Some a) ⊎ ((a ≡ Answer.Chosen (length (copies_of x past))) × (0 < length (copies_of x past)))

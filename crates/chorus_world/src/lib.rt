@@ -5,7 +5,8 @@
 //! entry can read (`Views`), what was posted (`Posts`), how far a message is (`Messages`), what became of a port (`Ports`)
 //! and of each message that it accepted (`Fates`), what it keeps of requests (`Clients`), what a place knows (`Places`), a
 //! group's members (`Groups`), a caller's calls (`Seats`), and from these the step relation (`Steps`). `Runs` and
-//! `Commands` say which lists are runs for callers and which perform commands.
+//! `Commands` say which lists are runs for callers and which perform commands, and `Answer` names the one act that answers a
+//! command.
 //!
 //! The layers above rest on the definitions, and on what holds of each legal list: [`laws`], and [`sorting`], where ports
 //! were, and that such a list is legal in the order by clock and place too. The crate has no code but the types that

@@ -1,40 +1,32 @@
--- In every schedule the own act of the place machine is the one act that answers the command.
-use Rattle.std.proofs.Common.{ℕ, ◌≡◌, true, ◌&&◌, nat_lt, List, [], ◌∷◌, ◌++◌, Option, Some, slice_get, refl, sym, ◌∙◌, ap, subst, append_assoc}
+-- In every schedule the own act of the place machine is the one act that answers its command.
+use Rattle.std.proofs.Common.{ℕ, ◌≡◌, true, ◌&&◌, List, [], ◌∷◌, ◌++◌, Option, Some, slice_get, refl, sym, ◌∙◌, ap, subst, append_assoc}
 use Rattle.std.proofs.lemmas.Bool.{and_parts}
-use Rattle.chorus_ui.specs.declared.ui.Ui.{Ui}
 use Rattle.chorus_ui.specs.declared.layout.Layout.{Layout}
 use Rattle.chorus_ui.specs.Layout.{IsLayout}
 use Rattle.chorus_entry.specs.declared.entry.Entry.{Entry}
 use Rattle.chorus_entry.specs.declared.act.Act.{Act}
 use Rattle.chorus_entry.specs.declared.command.Command.{Command}
-use Rattle.chorus_entry.specs.Kinds.{has_kinds}
 use Rattle.chorus_entry.specs.Places.{place_for}
-use Rattle.chorus_world.specs.Views.{views, at, by}
-use Rattle.chorus_world.specs.Places.{last_clock, just_taken}
-use Rattle.chorus_world.specs.Steps.{act_may, act_follows, may, may_stand_behind, is_timely}
-use Rattle.chorus_world.specs.Runs.{fits_callers, may_run, is_run}
-use Rattle.chorus_world.specs.Commands.{act_answers, answers}
+use Rattle.chorus_world.specs.Steps.{may}
+use Rattle.chorus_world.specs.Runs.{may_run, is_run}
+use Rattle.chorus_world.specs.Commands.{answers}
 use Rattle.chorus_calls.specs.Callers.{Seated}
 use Rattle.chorus_place.specs.PlaceState.{next_clock, next_entry}
 use Rattle.chorus_place.specs.Own.{own}
 use Rattle.chorus_net.specs.Network.{Act as Acts, Event, turn_for, schedule}
 use Rattle.chorus_net.specs.Stands.{actor_of}
 use Rattle.chorus_net.specs.Schedules.{may_be}
-use Rattle.chorus_world.specs.Answering.{Fits}
-use Rattle.chorus_net.proofs.Places.Layouts.{schedule-keeps}
 use Rattle.chorus_world.specs.Answer.{answer_for}
+use Rattle.chorus_world.specs.Answering.{Fits}
+use Rattle.chorus_world.proofs.Moments.{run-older}
+use Rattle.chorus_world.proofs.Seats.Answered.{one-at-most}
+use Rattle.chorus_net.proofs.Places.Layouts.{schedule-keeps}
 use Rattle.chorus_net.specs.History.{history}
 use Rattle.chorus_net.proofs.Events.InOrder.{in-order}
 use Rattle.chorus_net.proofs.Standing.Turning.{number-is}
 use Rattle.chorus_net.proofs.Events.Said.{said_with, act-goes, said-act}
-use Rattle.chorus_world.proofs.Seats.Answered.{one-at-most}
 use Rattle.chorus_net.proofs.Commands.OwnAnswers.{own-answers}
 use Rattle.chorus_net.proofs.Commands.Performing.{actor_in, given-actors}
-
-run-older : (l : Layout) (callers : ℕ → Option Ui) (newer older : List Entry) → is_run l callers (newer ++ older) ≡ true → is_run l callers older ≡ true
-run-older l callers [] older h = h
-run-older l callers (e ∷ newer) older h =
-    run-older l callers newer older (and_parts (may l (newer ++ older) e && may_run callers (newer ++ older) e) (is_run l callers (newer ++ older)) h).1
 
 -- In a schedule.
 

@@ -11,6 +11,7 @@ use Rattle.chorus_entry.specs.declared.answer.Answer.{Answer}
 use Rattle.chorus_entry.specs.declared.packet.Packet.{Packet}
 use Rattle.chorus_entry.specs.declared.packet.Cargo.{Cargo}
 use Rattle.chorus_entry.specs.declared.packet.Cargo.TheVariants as cargos
+use Rattle.chorus_entry.specs.Kinds.{names_port}
 use Rattle.chorus_entry.specs.MsgId.{same_id}
 use Rattle.chorus_entry.proofs.Same.{same_id-self, from_same_id}
 use Rattle.chorus_world.specs.declared.message.Progress.TheVariants.{Decided}
@@ -66,6 +67,10 @@ module _ (n : NetState) (past : List Entry) (shape : IsLayout n.layout) (s : Sta
       pub rest : List Sent
       pub heads : sent_for past b (record { port = q; route = r }) ≡ head ∷ rest
       pub id : head.id ≡ x
+      pub named : names_port q ≡ true
+      pub sender : Sent
+      pub sent : sent_as x b past ≡ Some sender
+      pub way : sender.route ≡ r
 
     pub is-told : (x : MsgId) (q : Ui) (r : Option Ui) (v : Answer) → k.cargo ≡ cargos.Verdict x q r v → IsTold x q r v
     is-told x q r v e =
@@ -96,6 +101,10 @@ module _ (n : NetState) (past : List Entry) (shape : IsLayout n.layout) (s : Sta
           rest = heads.1;
           heads = heads.2;
           id = heads.3 ∙ id;
+          named = stages.0;
+          sender = m;
+          sent = under.2.is;
+          way = way;
         }
 
     -- so it is under way from the place that tells it

@@ -52,7 +52,7 @@ pub record SeesReport (l : Layout) (past : List Entry) (x : MsgId) (s : Progress
   pub far : far_place l post.place (group_in post.dest) ≡ Some o.packet.from
   pub clock_is : o.packet.clock ≡ clock
 
-sees-report : (l : Layout) (past : List Entry) (x : MsgId) (c : ℕ) (s : Progress) (o : Outgoing) (v : Answer)
+pub sees-report : (l : Layout) (past : List Entry) (x : MsgId) (c : ℕ) (s : Progress) (o : Outgoing) (v : Answer)
     → under_way_as l past x c s ≡ o ∷ [] → o.packet.cargo ≡ cargos.Report x v → SeesReport l past x s c o v
 sees-report l past x c Idle o v h e = absurd (cc)
 sees-report l past x c (Asked from d) o v h e = go (far_place l from (group_in d)) h

@@ -1,5 +1,5 @@
 -- Facts of legal lists: whom a post chooses is a member of its group, and what holds of all members holds of those chosen.
-use Rattle.std.proofs.Common.{ℕ, suc, ◌≡◌, ◌==◌, nat_lt, Bool, true, false, ◌&&◌, cond, List, [], ◌∷◌, ◌++◌, take, drop, length, Option, Some, None, refl, sym, ◌∙◌, ap, subst}
+use Rattle.std.proofs.Common.{ℕ, suc, ◌≡◌, nat_lt, Bool, true, false, ◌&&◌, cond, List, [], ◌∷◌, take, drop, length, Some, ◌∙◌, ap, subst}
 use Rattle.std.specs.Prelude.{find}
 use Rattle.std.specs.List.{All}
 use Rattle.std.proofs.lemmas.Bool.{and_parts}
@@ -18,7 +18,7 @@ use Rattle.chorus_world.specs.Views.{views, at, about}
 use Rattle.chorus_world.specs.Messages.{progress}
 use Rattle.chorus_world.specs.Groups.{members, in_turn, rotation, is_at_site, choice}
 use Rattle.chorus_world.specs.Steps.{act_may, may_choose_from, choice_from}
-use Rattle.chorus_world.proofs.Messages.PostLemmas.{ChoiceNeeds, choose_needs}
+use Rattle.chorus_world.proofs.Messages.PostLemmas.{choose_needs}
 
 -- of a list without one of its ports
 pub all-without : (P : Ui → Type 0) (q : Ui) (qs : List Ui) → All P qs → All P (without q qs)

@@ -1,5 +1,5 @@
 -- A fact of legal lists: a direct post is tried at most once more than its port departed.
-use Rattle.std.proofs.Common.{ℕ, zero, suc, ◌≡◌, ◌≤◌, ◌+◌, ◌-◌, Bool, true, false, ◌||◌, cond, List, [], ◌∷◌, length, Option, Some, None, refl, sym, ◌∙◌, ap, subst, inl, inr, ◌⊎◌, arith}
+use Rattle.std.proofs.Common.{◌≡◌, ◌≤◌, Bool, true, false, List, [], ◌∷◌, length, Some, refl, sym, ◌∙◌, ap, subst, inl, inr, ◌⊎◌, arith}
 use Rattle.std.proofs.lemmas.Bool.{or_left, or_right}
 use Rattle.chorus_ui.specs.declared.ui.Ui.{Ui}
 use Rattle.chorus_ui.specs.Name.{same_ui}
@@ -15,7 +15,7 @@ use Rattle.chorus_entry.proofs.Same.{from_same_id}
 use Rattle.chorus_world.specs.Views.{views, on, about, is_about}
 use Rattle.chorus_world.specs.Posts.{Posted, post_of}
 use Rattle.chorus_world.specs.Steps.{act_may, is_legal}
-use Rattle.chorus_world.specs.Ports.{PortState, fate}
+use Rattle.chorus_world.specs.Ports.{fate}
 use Rattle.chorus_world.specs.LocationLaws.{path_of, tries, tries_after, is_try_for, is_tried_for}
 use Rattle.chorus_world.proofs.Steps.LegalLemmas.{legal_parts, keeps, skips}
 use Rattle.chorus_world.proofs.Messages.SendingLemmas.{first_here, some_is}

@@ -1,7 +1,7 @@
 -- What is told and heard of a message is its verdict, or how many copies a choice made of it.
-use Rattle.std.proofs.Common.{ℕ, ◌≡◌, Bool, true, false, ◌==◌, ◌&&◌, ◌⊎◌, cond, List, [], ◌∷◌, ◌++◌, length, Some, None, refl, sym, ◌∙◌, ap, subst, inl, inr, append-nil}
+use Rattle.std.proofs.Common.{ℕ, ◌≡◌, ◌<◌, nat_lt, Bool, true, false, ◌==◌, ◌&&◌, ◌⊎◌, cond, List, [], ◌∷◌, ◌++◌, length, Some, None, refl, sym, ◌∙◌, ap, subst, inl, inr, append-nil}
 use Rattle.std.specs.Option.{option_or}
-use Rattle.std.proofs.lemmas.Bool.{and_from, and_parts, false≢true, cases_Bool}
+use Rattle.std.proofs.lemmas.Bool.{ltb-true, and_from, and_parts, false≢true, cases_Bool}
 use Rattle.chorus_ui.specs.declared.ui.Ui.{Ui}
 use Rattle.chorus_ui.specs.declared.layout.Layout.{Layout}
 use Rattle.chorus_entry.specs.declared.entry.Entry.{Entry}
@@ -20,12 +20,13 @@ use Rattle.chorus_entry.specs.MsgId.{same_id}
 use Rattle.chorus_entry.proofs.Same.{from_same_answer, from_same_id, same_id-self}
 use Rattle.chorus_world.specs.declared.message.Progress.{Progress}
 use Rattle.chorus_world.specs.declared.message.Progress.TheVariants.{Idle, Asked, Tried, Decided, Settled, Reported}
-use Rattle.chorus_world.specs.Views.{about, is_about}
+use Rattle.chorus_world.specs.Views.{about, is_about, views}
 use Rattle.chorus_world.specs.Posts.{post_of}
 use Rattle.chorus_world.specs.Messages.{is_to_be_heard, is_to_be_told, progress, progress_after, settled, decided, told, posted, verdict, verdict_by}
 use Rattle.chorus_world.specs.Places.{copies}
 use Rattle.chorus_world.specs.GroupLaws.{copies_by, copies_of}
-use Rattle.chorus_world.specs.Steps.{is_asked_from, is_legal}
+use Rattle.chorus_entry.specs.Members.{same_uis}
+use Rattle.chorus_world.specs.Steps.{may_choose_from, choice_from, is_asked_from, is_legal}
 use Rattle.chorus_world.specs.DecisionLaws.{HearsTheEnd, TellsTheVerdict}
 use Rattle.chorus_world.proofs.Steps.LegalLemmas.{entry, legal_parts, skips, keeps}
 use Rattle.chorus_world.proofs.Ports.PortMoves.{to_be_told}
@@ -38,7 +39,7 @@ use Rattle.chorus_world.proofs.Messages.Decided.{may_as}
 
 -- the answer is its verdict, or says how many copies were made of it
 abbrev pub IsItsEnd : MsgId → List Entry → Answer → Type 0
-IsItsEnd x past a = (verdict x past ≡ Some a) ⊎ (a ≡ A.Chosen (length (copies_of x past)))
+IsItsEnd x past a = (verdict x past ≡ Some a) ⊎ ((a ≡ A.Chosen (length (copies_of x past))) × (0 < length (copies_of x past)))
 
 -- what the progress of a message says of its verdict
 abbrev pub Ends : MsgId → List Entry → Progress → Type 0
@@ -50,7 +51,8 @@ ends-grow : (x : MsgId) (past : List Entry) (e : Entry) (s : Progress) → copie
 ends-grow x past e (Decided from by q a) none h = λ f. or_some (verdict x past) (verdict_by x e.act) a (h f)
 ends-grow x past e (Settled a) none (inl h) = inl (or_some (verdict x past) (verdict_by x e.act) a h)
 ends-grow x past e (Settled a) none (inr h) =
-    inr (h ∙ ap (λ zs. A.Chosen (length zs)) (sym (ap (λ zs. copies_of x past ++ zs) none ∙ append-nil (copies_of x past))))
+    let same : copies_of x past ≡ copies_of x (e ∷ past) = sym (ap (λ zs. copies_of x past ++ zs) none ∙ append-nil (copies_of x past)) in
+    inr (h.0 ∙ ap (λ zs. A.Chosen (length zs)) same, subst (λ zs. 0 < length zs) same h.1)
 ends-grow x past e Idle none h = tt
 ends-grow x past e (Asked from d) none h = tt
 ends-grow x past e (Tried from q to hop) none h = tt
@@ -110,7 +112,11 @@ module _ (l : Layout) (past : List Entry) (x : MsgId) (c p s : ℕ) where
       let none = no_copies y past asked.0.chosen in
       let now : copies_of y (e ∷ past) ≡ copies y g 1 qs = (λ i. none i ++ copies_by y (Choose y g qs)) ∙ ap (λ b. cond b (copies y g 1 qs) []) (same_id-self y) in
       let count : length qs ≡ length (copies_of y (e ∷ past)) = sym (ap length now ∙ copies_length y g 1 qs) in
-      inr (ap (λ n. A.Chosen n) (count ∙ ap (λ z. length (copies_of z (e ∷ past))) (sym same)))
+      let all : length qs ≡ length (copies_of x (e ∷ past)) = count ∙ ap (λ z. length (copies_of z (e ∷ past))) (sym same) in
+      let v = views past p s (Choose y g qs) in
+      let from = may_choose_from l v p y g (progress v.message) in
+      let some = and_parts from (nat_lt 0 (length qs)) (and_parts (from && nat_lt 0 (length qs)) (same_uis qs (choice_from l v.here (progress v.message))) may).0 in
+      inr (ap (λ n. A.Chosen n) all, subst (λ n. 0 < n) all (ltb-true 0 (length qs) some.1))
 
   about-it : (a : Act) → AboutIt a
   about-it (Post m d) h t old = by d

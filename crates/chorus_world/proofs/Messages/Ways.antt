@@ -2,11 +2,11 @@
 use Rattle.std.proofs.Common.{ℕ, zero, suc, ◌≡◌, ◌≢◌, ◌==◌, Bool, true, false, ◌&&◌, not, cond, List, [], ◌∷◌, Option, Some, None, refl, sym, ◌∙◌, ap, subst, inl, inr}
 use Rattle.std.specs.List.{All, slice_get}
 use Rattle.std.specs.Option.{option_or}
-use Rattle.std.proofs.lemmas.Bool.{eqb-true, eqb-false, eq-eqb, ne_eqb, and_parts, and_from, not-true, cond_both}
-use Rattle.std.proofs.lemmas.List.Elements.{All-nil, All-cons, All-head, All-tail, All-filter}
+use Rattle.std.proofs.lemmas.Bool.{eqb-true, eqb-false, eq-eqb, and_parts, and_from, not-true, cond_both}
+use Rattle.std.proofs.lemmas.List.Elements.{All-nil, All-cons, All-head, All-tail}
 use Rattle.chorus_ui.specs.declared.ui.Ui.{Ui}
 use Rattle.chorus_ui.specs.declared.layout.Layout.{Layout}
-use Rattle.chorus_ui.specs.Layout.{IsLayout, has_site, has_place, first_place, creation_place}
+use Rattle.chorus_ui.specs.Layout.{IsLayout, has_site, has_place, creation_place}
 use Rattle.chorus_ui.specs.Name.{same_ui}
 use Rattle.chorus_ui.proofs.Names.{same_ui-self}
 use Rattle.chorus_entry.specs.declared.entry.Entry.{Entry}
@@ -18,18 +18,14 @@ use Rattle.chorus_entry.specs.declared.act.Act.{Act}
 use Rattle.chorus_entry.specs.declared.act.Act.TheVariants.{Post, Accept, Full, Already, ClientsFull, Stale, Early, NoPort, Elsewhere, NoMember, Choose, Try, Told, Heard, Gone}
 use Rattle.chorus_entry.specs.Act.{message_of}
 use Rattle.chorus_entry.specs.Answer.{is_final}
-use Rattle.chorus_entry.specs.Dest.{group_in}
 use Rattle.chorus_entry.specs.MsgId.{same_id}
-use Rattle.chorus_entry.proofs.Same.{same_id-self}
 use Rattle.chorus_world.specs.declared.message.Progress.{Progress}
-use Rattle.chorus_world.specs.declared.message.Progress.TheVariants.{Idle, Asked, Tried, Decided, Settled, Reported}
-use Rattle.chorus_world.specs.declared.port.Spot.{Spot}
-use Rattle.chorus_world.specs.declared.port.Spot.TheVariants as spots
-use Rattle.chorus_world.specs.Views.{views, at, by, on, about, is_by, is_about}
+use Rattle.chorus_world.specs.declared.message.Progress.TheVariants.{Idle, Asked, Tried, Decided, Settled}
+use Rattle.chorus_world.specs.Views.{views, at, on, about, is_about}
 use Rattle.chorus_world.specs.Messages.{progress, progress_after, decided, told, settled}
-use Rattle.chorus_world.specs.Ports.{PortState, fate, last_of}
-use Rattle.chorus_world.specs.Posts.{Posted, posted_in, posted_by, post_of, source, site_asked, is_on_site}
-use Rattle.chorus_world.specs.Places.{last_clock, located, named_location, is_first}
+use Rattle.chorus_world.specs.Ports.{PortState, fate}
+use Rattle.chorus_world.specs.Posts.{Posted, posted_in, posted_by, site_asked, is_on_site}
+use Rattle.chorus_world.specs.Places.{located, named_location, is_first}
 use Rattle.chorus_world.specs.Steps.{act_may, may, is_legal, is_to_go, is_beyond}
 use Rattle.chorus_world.specs.LocationLaws.{path_of}
 use Rattle.chorus_world.proofs.Steps.LegalLemmas.{legal_parts, keeps, skips}
