@@ -281,8 +281,8 @@ module _ (n : NetState) (past : List Entry) (shape : IsLayout n.layout) (s : Sta
       let low : nat_le hop k.clock ≡ true = le-leb hop k.clock (omega (arith, le, c1, c2)) in
       let msg : has_ranges_of_message m ≡ true = ap has_ranges_of_message y.message ∙ message-ranged n.layout past x d.0 legal all facts.0 d.1 in (
         and_from (is_route r && is_demanded_site only && nat_le hop k.clock && names_port q) (has_ranges_of_message m)
-        (and_from (is_route r && is_demanded_site only && nat_le hop k.clock) (names_port q)
-        (and_from (is_route r && is_demanded_site only) (nat_le hop k.clock) (and_from (is_route r) (is_demanded_site only) way site) low) stages.0) msg,
+            (and_from (is_route r && is_demanded_site only && nat_le hop k.clock) (names_port q)
+            (and_from (is_route r && is_demanded_site only) (nat_le hop k.clock) (and_from (is_route r) (is_demanded_site only) way site) low) stages.0) msg,
         ap (λ (z : Layout). has_site z q.site) layout_at ∙ facts.2,
       )
 
@@ -297,11 +297,11 @@ module _ (n : NetState) (past : List Entry) (shape : IsLayout n.layout) (s : Sta
       let from_here : (k.from == a) ≡ true = eq-eqb k.from a from-a in
       let way_back : is_under_way x a ((place b n).waiting (record { port = q; route = r })) ≡ true = ap (is_under_way x a) queue ∙ and_from (same_id (message past (t.head).id).id x) (k.from == a) head from_here in (
         and_from (has_range_of_id x && names_port q && is_route r && is_told v) (has_ranges_of_answer k.clock v)
-        (and_from (has_range_of_id x && names_port q && is_route r) (is_told v)
-        (and_from (has_range_of_id x && names_port q) (is_route r) (and_from (has_range_of_id x) (names_port q) facts.0 t.named) way) facts.2) ranges,
+            (and_from (has_range_of_id x && names_port q && is_route r) (is_told v)
+            (and_from (has_range_of_id x && names_port q) (is_route r) (and_from (has_range_of_id x) (names_port q) facts.0 t.named) way) facts.2) ranges,
         and_from (is_under_way x a ((place b n).waiting (record { port = q; route = r })) && is_known_answer (place b n).layout v) (may_teach (place b n).layout q v)
-        (and_from (is_under_way x a ((place b n).waiting (record { port = q; route = r }))) (is_known_answer (place b n).layout v) way_back (ap (λ (z : Layout). is_known_answer z v) layout_at ∙ known-answer n.layout v (facts.1).places))
-        (ap (λ (z : Layout). may_teach z q v) layout_at ∙ teaches n.layout q v facts.3),
+            (and_from (is_under_way x a ((place b n).waiting (record { port = q; route = r }))) (is_known_answer (place b n).layout v) way_back (ap (λ (z : Layout). is_known_answer z v) layout_at ∙ known-answer n.layout v (facts.1).places))
+            (ap (λ (z : Layout). may_teach z q v) layout_at ∙ teaches n.layout q v facts.3),
       )
 
   ask-lawful : (m : Message) (d : Dest) → k.cargo ≡ cargos.Ask m d → Both (cargos.Ask m d)

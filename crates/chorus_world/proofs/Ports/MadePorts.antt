@@ -129,7 +129,7 @@ new-listed l past p s q a c shape h =
     let few : q.number ≤ 32 = few-ports l.turns (ports_made here) (p - 1) q.number shape.turns_from_one shape.turns_to_four shape.turns_not_three room number in
     let low : 1 ≤ q.number = omega (arith, number) in (
       and_from (has_site l q.site && nat_le 1 q.number) (nat_le q.number PORTS_PER_SITE_LIMIT)
-      (and_from (has_site l q.site) (nat_le 1 q.number) (ap (has_site l) same ∙ site) (le-leb 1 q.number low)) (le-leb q.number 32 few),
+          (and_from (has_site l q.site) (nat_le 1 q.number) (ap (has_site l) same ∙ site) (le-leb 1 q.number low)) (le-leb q.number 32 few),
       home.0,
     )
 
