@@ -15,8 +15,10 @@ pub struct Home {
     pub turns: u64,
 }
 
+/// The reader's end of the table that is published.
 pub type TableReader = Reader<Table, Home, Published>;
 
+/// The writer's end of it.
 pub type TableWriter = Writer<Table, Publish, Home, Published>;
 
 /// The rule of what is published.
