@@ -29,7 +29,7 @@ use Rattle.chorus_net.proofs.Says.{Stands, InCall, turn, IsDone}
 use Rattle.chorus_net.proofs.Making.{making}
 use Rattle.chorus_net.proofs.Taking.{taking}
 use Rattle.chorus_net.proofs.Sending.{sending}
-use Rattle.chorus_net.proofs.Standing.CallerList.{get-more, get-replaced, get-other}
+use Rattle.chorus_law.proofs.Standing.CallerList.{get-more, get-replaced, get-other}
 use Rattle.chorus_net.proofs.Seating.{get-last, run-more, run-ungiven}
 
 -- a caller counts what its seat posted, and its clock is not behind

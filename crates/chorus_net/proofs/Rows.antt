@@ -4,7 +4,7 @@ use Rattle.chorus_ui.specs.declared.ui.Ui.{Ui}
 use Rattle.chorus_ui.specs.declared.layout.Layout.{Layout}
 use Rattle.chorus_entry.specs.declared.dest.Dest.{Dest}
 use Rattle.chorus_entry.specs.declared.command.Command.{Command}
-use Rattle.chorus_place.specs.declared.reply.Reply.{Reply}
+use Rattle.chorus_machine.specs.declared.reply.Reply.{Reply}
 use Rattle.chorus_net.specs.Sites.{SitesState, opening, entered, acted, actor_of, posts_of}
 use Rattle.chorus_net.specs.OnePlace.{may_give}
 use Rattle.chorus_net.proofs.Example.{one_site, actor, other, port}

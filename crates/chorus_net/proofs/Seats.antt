@@ -8,7 +8,7 @@ use Rattle.chorus_entry.specs.declared.command.Command.{Command}
 use Rattle.chorus_entry.specs.Command.{meets_conditions}
 use Rattle.chorus_entry.specs.Places.{place_for}
 use Rattle.chorus_calls.specs.Callers.{Seated}
-use Rattle.chorus_place.specs.declared.reply.Reply.{Reply}
+use Rattle.chorus_machine.specs.declared.reply.Reply.{Reply}
 use Rattle.chorus_place.specs.State.{PlaceState}
 use Rattle.chorus_place.specs.Machine.{is_built, call, reply}
 use Rattle.chorus_place.specs.Calls.{MayCall}

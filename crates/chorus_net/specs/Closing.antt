@@ -5,7 +5,7 @@ use Rattle.chorus_entry.specs.declared.entry.Entry.{Entry}
 use Rattle.chorus_entry.specs.declared.record.PortRecord.{PortRecord}
 use Rattle.chorus_net.specs.declared.closed.Closed.{Closed}
 use Rattle.chorus_net.specs.declared.closed.Origin.{Origin}
-use Rattle.chorus_net.specs.declared.closed.Placed.{Placed}
+use Rattle.chorus_law.specs.declared.placed.Placed.{Placed}
 use Rattle.chorus_net.specs.Sites.{SitesState}
 
 -- the journals, as lists

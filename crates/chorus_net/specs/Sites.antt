@@ -8,7 +8,7 @@ use Rattle.chorus_entry.specs.declared.command.Command.{Command}
 use Rattle.chorus_world.specs.Places.{last_clock}
 use Rattle.chorus_calls.specs.Callers.{Seated, new_caller}
 use Rattle.chorus_place.specs.State.{PlaceState, Turn, started}
-use Rattle.chorus_place.specs.declared.reply.Reply.{Reply}
+use Rattle.chorus_machine.specs.declared.reply.Reply.{Reply}
 use Rattle.chorus_place.specs.Machine.{call, reply}
 use Rattle.chorus_ui.specs.declared.limits.TheConstants.{SEATS_LIMIT}
 

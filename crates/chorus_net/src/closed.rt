@@ -1,6 +1,7 @@
 //! What is left when the sites are closed.
 
-use chorus_entry::{Entry, Packet, PortRecord};
+use chorus_entry::{Entry, Packet};
+use chorus_law::Placed;
 
 /// What is left when the sites are closed. Only [`Sites::close`](crate::Sites::close) makes one, since its origin is private.
 #[derive(Debug, Drop)]
@@ -20,13 +21,4 @@ pub struct Closed {
 pub(crate) enum Origin {
     /// `Sites::close`.
     Sites,
-}
-
-/// A port that is held at a place.
-#[derive(Debug, Drop)]
-pub struct Placed {
-    /// The place's number, from 1.
-    pub place: u16,
-    /// The port.
-    pub port: PortRecord,
 }

@@ -9,19 +9,14 @@
 #![tactic(auto)]
 
 mod closed;
-mod delivery;
 mod fault;
 mod laws;
-mod merging;
-mod network;
 mod sites;
 #[cfg(test)]
 mod tests;
 
-pub use closed::{Closed, Placed};
-pub use delivery::{Delivered, Quiet};
+pub use chorus_law::{Delivered, Placed, Quiet, drains_leave_nothing_to_do, network_refines_world};
+pub use closed::Closed;
 pub use fault::EnterFault;
 pub use laws::one_place_runs;
-pub use merging::merge_is_the_sorted_list;
-pub use network::{drains_leave_nothing_to_do, network_refines_world};
 pub use sites::Sites;

@@ -9,10 +9,11 @@ ghost use Rattle.chorus_net.specs.Sites.{opening, entered, acted, replied, actor
 ghost use Rattle.chorus_net.specs.OnePlace.{may_give};
 ghost use Rattle.chorus_net.specs.Closing.{IsClosed};
 
-use crate::closed::{Closed, Origin, Placed};
+use crate::closed::{Closed, Origin};
 use crate::fault::EnterFault;
 use chorus_calls::Caller;
 use chorus_entry::Command;
+use chorus_law::Placed;
 use chorus_place::{Place, PlaceFault, Reply};
 use chorus_ui::{Kind, Layout, SEATS_LIMIT, Ui};
 use std::alloc::{AllocError, Global};

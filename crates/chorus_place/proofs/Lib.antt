@@ -1,4 +1,1 @@
 pub mod Kept
-pub mod Tries
-pub mod Asked
-pub mod Machine

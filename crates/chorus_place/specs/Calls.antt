@@ -13,7 +13,7 @@ use Rattle.chorus_world.specs.Places.{last_clock, ports_made}
 use Rattle.chorus_world.specs.Steps.{next_number}
 use Rattle.chorus_ports.specs.Table.{find}
 use Rattle.chorus_calls.specs.Callers.{Seated}
-use Rattle.chorus_place.specs.declared.reply.Reply.{Reply}
+use Rattle.chorus_machine.specs.declared.reply.Reply.{Reply}
 use Rattle.chorus_place.specs.State.{PlaceState, Turn}
 use Rattle.chorus_place.specs.Machine.{is_built, call, reply}
 

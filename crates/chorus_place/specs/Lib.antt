@@ -3,14 +3,3 @@ pub mod Journal
 pub mod Turns
 pub mod Machine
 pub mod Calls
-pub mod PlaceState
-pub mod Deciding
-pub mod Trying
-pub mod Choosing
-pub mod Own
-pub mod Doing
-pub mod Working
-pub mod PlaceMachine
-pub mod Replies
-pub mod Outcomes
-pub mod Lawful

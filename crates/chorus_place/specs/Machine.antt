@@ -23,7 +23,7 @@ use Rattle.chorus_ports.specs.Table.{find, replace}
 use Rattle.chorus_ports.specs.Deciding.{answer_to, after_offer}
 use Rattle.chorus_ports.specs.Taking.{taken, after_take}
 use Rattle.chorus_calls.specs.Callers.{Seated, after_post}
-use Rattle.chorus_place.specs.declared.reply.Reply.{Reply}
+use Rattle.chorus_machine.specs.declared.reply.Reply.{Reply}
 use Rattle.chorus_place.specs.State.{Turn, say}
 
 -- Making a port.

@@ -9,14 +9,11 @@
 
 mod fault;
 mod journal;
-mod outcome;
 mod place;
-mod reply;
 #[cfg(test)]
 mod tests;
 mod turn;
 
+pub use chorus_machine::{Outcome, Reply};
 pub use fault::PlaceFault;
-pub use outcome::Outcome;
 pub use place::Place;
-pub use reply::Reply;

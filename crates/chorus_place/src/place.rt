@@ -12,12 +12,12 @@ ghost use Rattle.chorus_ui.specs.declared.limits.TheConstants.{CLOCK_LIMIT};
 
 use crate::fault::PlaceFault;
 use crate::journal::Journal;
-use crate::reply::Reply;
 use crate::turn::{
     decision, next_message, next_port, port_in, post, say, take_act, take_reply, verdict_reply,
 };
 use chorus_calls::Caller;
 use chorus_entry::{Act, Body, Command, Entry};
+use chorus_machine::Reply;
 use chorus_ports::Ports;
 use chorus_ui::{CLOCK_LIMIT, Layout, PORTS_PER_SITE_LIMIT, Ui};
 use std::alloc::{AllocError, Global};

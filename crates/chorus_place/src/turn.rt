@@ -10,9 +10,9 @@ ghost use Rattle.chorus_place.specs.Turns.{next_clock, after_entry, number_behin
 ghost use Rattle.chorus_ui.specs.declared.limits.TheConstants.{CLOCK_LIMIT};
 
 use crate::journal::Journal;
-use crate::reply::Reply;
 use chorus_calls::Caller;
 use chorus_entry::{Act, Body, Dest, Entry, Message, MsgId, Tag};
+use chorus_machine::Reply;
 use chorus_ports::{Accept, Taken};
 use chorus_ui::{Kind, Layout, Ui};
 

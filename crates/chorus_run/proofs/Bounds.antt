@@ -13,7 +13,7 @@ use Rattle.chorus_place.specs.State.{Turn, greatest}
 use Rattle.chorus_place.specs.Machine.{call}
 use Rattle.chorus_net.specs.Sites.{SitesState, Event, Enter, Act, after, first_actor, last_of, posts_of, compared, entered, acted_by}
 use Rattle.chorus_net.proofs.Seating.{get-last}
-use Rattle.chorus_net.proofs.Standing.CallerList.{get-replaced, get-other}
+use Rattle.chorus_law.proofs.Standing.CallerList.{get-replaced, get-other}
 use Rattle.chorus_run.proofs.Callers.{actors_in, callers-after}
 
 -- A call appends at most two entries and posts at most one message.

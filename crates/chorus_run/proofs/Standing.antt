@@ -6,7 +6,7 @@ use Rattle.chorus_entry.specs.declared.entry.Entry.{Entry}
 use Rattle.chorus_entry.specs.declared.record.PortRecord.{PortRecord}
 use Rattle.chorus_world.specs.Places.{sent, unsettled}
 use Rattle.chorus_net.specs.declared.closed.Closed.{Closed}
-use Rattle.chorus_net.specs.declared.closed.Placed.{Placed}
+use Rattle.chorus_law.specs.declared.placed.Placed.{Placed}
 use Rattle.chorus_net.specs.Closing.{placed, IsClosed}
 use Rattle.chorus_net.specs.OnePlace.{StandsFor}
 use Rattle.chorus_net.proofs.AfterEvents.{holds}

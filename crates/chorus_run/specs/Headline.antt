@@ -15,7 +15,7 @@ use Rattle.chorus_world.specs.Runs.{is_run}
 use Rattle.chorus_world.specs.Commands.{performs}
 use Rattle.chorus_world.specs.AcceptedLaws.{received, taken_by, accepted_by}
 use Rattle.chorus_net.specs.declared.closed.Closed.{Closed}
-use Rattle.chorus_net.specs.declared.closed.Placed.{Placed}
+use Rattle.chorus_law.specs.declared.placed.Placed.{Placed}
 use Rattle.chorus_net.specs.Closing.{journals_of}
 use Rattle.chorus_net.specs.OnePlace.{StandsFor}
 use Rattle.chorus_net.specs.Sites.{SitesState, layout_of, opening, first_actor}

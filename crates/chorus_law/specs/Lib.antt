@@ -1,0 +1,16 @@
+pub mod Packets
+pub mod Network
+pub mod Calls
+pub mod Left
+pub mod Records
+pub mod UnderWay
+pub mod Stands
+pub mod Ready
+pub mod Holdings
+pub mod Quiet
+pub mod Schedules
+pub mod History
+pub mod Tasks
+pub mod Promises
+pub mod Answering
+pub mod Merging

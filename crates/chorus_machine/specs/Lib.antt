@@ -1,0 +1,11 @@
+pub mod PlaceState
+pub mod Deciding
+pub mod Trying
+pub mod Choosing
+pub mod Own
+pub mod Doing
+pub mod Working
+pub mod PlaceMachine
+pub mod Replies
+pub mod Outcomes
+pub mod Lawful
