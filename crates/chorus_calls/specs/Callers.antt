@@ -1,6 +1,7 @@
 -- A caller, as contracts see it.
-use Rattle.std.specs.Prelude.{ℕ, ◌+◌, ◌≤◌, Option, None, IfSome}
+use Rattle.std.specs.Prelude.{ℕ, ◌≡◌, ◌+◌, ◌≤◌, Option, None, IfSome}
 use Rattle.chorus_ui.specs.declared.ui.Ui.{Ui}
+use Rattle.chorus_ui.specs.declared.kind.Kind.TheVariants as kinds
 use Rattle.chorus_entry.specs.declared.hand.Hand.{Hand}
 use Rattle.chorus_calls.specs.Clients.{Calling, new_client}
 
@@ -20,6 +21,10 @@ new_caller seat actor last =
 -- a request in hand has a number from 1 on
 abbrev pub IsNumbered : Option Hand → Type 0
 IsNumbered hand = IfSome hand (λ h. 1 ≤ h.number)
+
+-- and its reply goes to a port
+abbrev pub HasBack : Option Hand → Type 0
+HasBack hand = IfSome hand (λ h. h.back.kind ≡ kinds.Port)
 
 abbrev pub after_tick : Seated → ℕ → Seated
 after_tick c last = record c { last = last }

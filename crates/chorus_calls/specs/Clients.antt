@@ -1,6 +1,7 @@
 -- The calls of one caller, as contracts see them.
-use Rattle.std.specs.Prelude.{◌≡◌, ℕ, ◌+◌, ◌==◌, Bool, false, List, Option, Some, None, IfSome, Result, Ok, Err, if◌then◌else◌}
+use Rattle.std.specs.Prelude.{◌≡◌, ◌≤◌, ℕ, ◌+◌, ◌==◌, Bool, false, List, Option, Some, None, IfSome, Result, Ok, Err, if◌then◌else◌}
 use Rattle.chorus_ui.specs.declared.ui.Ui.{Ui}
+use Rattle.chorus_ui.specs.declared.kind.Kind.TheVariants as kinds
 use Rattle.chorus_calls.specs.declared.client.Outstanding.{Outstanding}
 use Rattle.chorus_calls.specs.declared.client.Settle.{Settle}
 use Rattle.chorus_calls.specs.declared.client.Settle.TheVariants.{Done, Late}
@@ -26,6 +27,15 @@ number_of call = call.number
 -- an outstanding call has the last number given
 abbrev pub IsLatest : Calling → Type 0
 IsLatest c = IfSome c.outstanding (λ call. call.number ≡ c.given)
+
+-- it has a number from 1 on, and goes to a port, as its reply does
+pub record IsRequest (call : Call) : Type 0 where
+  pub number : 1 ≤ call.number
+  pub port : call.port.kind ≡ kinds.Port
+  pub back : call.back.kind ≡ kinds.Port
+
+abbrev pub IsRequested : Calling → Type 0
+IsRequested c = IfSome c.outstanding IsRequest
 
 -- the next number, where no call is outstanding; the body again and the number of the outstanding one, where one is
 abbrev pub answered : Option Call → ℕ → List ℕ → Result ℕ (List ℕ × Outstanding)

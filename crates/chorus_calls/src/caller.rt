@@ -2,7 +2,7 @@
 
 ghost use Rattle.std.specs.Prelude.{◌≡◌, ◌+◌, ◌<◌};
 ghost use Rattle.std.specs.Borrow.{sem};
-ghost use Rattle.chorus_calls.specs.Callers.{new_caller, after_tick, after_post, with_hand, IsNumbered};
+ghost use Rattle.chorus_calls.specs.Callers.{new_caller, after_tick, after_post, with_hand, IsNumbered, HasBack};
 ghost use Rattle.chorus_calls.specs.Lending.{LendsClient};
 
 use crate::client::Client;
@@ -22,7 +22,7 @@ pub struct Caller {
 }
 
 impl Model for Caller {
-    ghost use Rattle.chorus_calls.specs.Callers.{Seated, IsNumbered};
+    ghost use Rattle.chorus_calls.specs.Callers.{Seated, IsNumbered, HasBack};
 
     ghost Value = { Seated };
 
@@ -35,7 +35,7 @@ impl Model for Caller {
       hand = c.hand;
     } };
 
-    ghost invariant = { λ c. IsNumbered c.hand };
+    ghost invariant = { λ c. IsNumbered c.hand × HasBack c.hand };
 }
 
 impl Caller {
@@ -89,10 +89,11 @@ impl Caller {
         &self.client
     }
 
-    /// The request that it took last and has not replied to, whose number is at least 1.
+    /// The request that it took last and has not replied to, whose number is at least 1 and whose reply goes to a port.
     pub fn hand(&self) -> Option<Hand>
         ensures value { result ≡ self.now.hand }
         ensures numbered { IsNumbered result }
+        ensures back { HasBack result }
     {
         self.hand
     }
@@ -122,9 +123,10 @@ impl Caller {
         &mut self.client
     }
 
-    /// Puts a request in its hand, with a number of at least 1, or takes it out.
+    /// Puts a request in its hand, with a number of at least 1 and a reply that goes to a port, or takes it out.
     pub fn set_hand(&mut self, hand: Option<Hand>)
-        requires { IsNumbered hand }
+        requires numbered { IsNumbered hand }
+        requires back { HasBack hand }
         ensures { self.new ≡ with_hand self.old hand }
     {
         self.hand = hand;

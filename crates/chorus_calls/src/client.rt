@@ -1,8 +1,9 @@
 //! The calls of one caller, one after another.
 
-ghost use Rattle.std.specs.Prelude.{◌≡◌, ◌<◌};
+ghost use Rattle.std.specs.Prelude.{◌≡◌, ◌<◌, IfSome};
 ghost use Rattle.std.specs.Option.{option_map};
-ghost use Rattle.chorus_calls.specs.Clients.{new_client, begun, after_begin, number_of, answer_to, after_settle, after_cancel, IsLatest};
+ghost use Rattle.chorus_ui.specs.declared.kind.Kind.TheVariants as Kind;
+ghost use Rattle.chorus_calls.specs.Clients.{new_client, begun, after_begin, number_of, answer_to, after_settle, after_cancel, IsLatest, IsRequest};
 ghost use Rattle.chorus_calls.specs.Again.{call_again};
 
 use chorus_entry::Body;
@@ -57,7 +58,7 @@ pub struct Client {
 }
 
 impl Model for Client {
-    ghost use Rattle.chorus_calls.specs.Clients.{Calling, IsLatest};
+    ghost use Rattle.chorus_calls.specs.Clients.{Calling, IsLatest, IsRequested};
     ghost use Rattle.chorus_calls.specs.Kept.{kept};
     ghost use Rattle.std.specs.Option.{option_map};
 
@@ -66,7 +67,8 @@ impl Model for Client {
     ghost view = { λ c. record { outstanding = option_map kept c.outstanding; given = c.given } };
 
     ghost invariant = { λ c.
-        IsLatest (record { outstanding = option_map kept c.outstanding; given = c.given }) };
+        IsLatest (record { outstanding = option_map kept c.outstanding; given = c.given })
+        × IsRequested (record { outstanding = option_map kept c.outstanding; given = c.given }) };
 }
 
 impl Client {
@@ -88,12 +90,14 @@ impl Client {
         self.given
     }
 
-    /// Begins a call and gives its number, the next from 1. Fewer than 2^32 - 1 numbers are to have been given before, which
-    /// `given` tells.
+    /// Begins a call to a port, whose reply goes to the port `back`, and gives its number, the next from 1. Fewer than 2^32 - 1
+    /// numbers are to have been given before, which `given` tells.
     ///
     /// It fails exactly where a call is outstanding: then the body comes back with that call's number, and nothing changes.
     pub fn begin(&mut self, port: Ui, back: Ui, body: Body) -> Result<u32, (Body, Outstanding)>
-        requires { self.old.given < u32.MAX }
+        requires given { self.old.given < u32.MAX }
+        requires port { port.kind ≡ Kind.Port }
+        requires back { back.kind ≡ Kind.Port }
         ensures answer { result ≡ begun self.old body }
         ensures after { self.new ≡ after_begin self.old port back body }
     {
@@ -113,9 +117,11 @@ impl Client {
         Ok(self.given)
     }
 
-    /// The outstanding call as it was begun; None exactly where none is outstanding.
+    /// The outstanding call as it was begun, with a number of at least 1, to a port and for a reply to a port; None exactly where
+    /// none is outstanding.
     pub fn again(&self) -> Option<Again<'_>>
-        ensures { option_map call_again result ≡ self.now.outstanding }
+        ensures value { option_map call_again result ≡ self.now.outstanding }
+        ensures request { IfSome self.now.outstanding IsRequest }
     {
         let call = self.outstanding.as_ref()?;
         Some(Again {

@@ -46,10 +46,6 @@ abbrev pub only : List Ui → Option Ui
 only (q ∷ []) = Some q
 only _ = None
 
--- the table after this one member of the group, or none, is chosen
-abbrev pub after_one : Ui → Option Ui → Table → Table
-after_one g chosen t = with_change g (turned_by (listed chosen)) t
-
 -- a broadcast leaves it as it was
 abbrev pub after_choose : Table → Dest → List ℕ → Table
 after_choose t (Port q) located = t

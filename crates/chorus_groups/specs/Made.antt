@@ -7,3 +7,8 @@ use Rattle.chorus_groups.specs.declared.choice.Choice.TheVariants.{Members, NoMe
 abbrev pub made_of : List Ui → Choice
 made_of [] = NoMember
 made_of (q ∷ qs) = Members (q ∷ qs)
+
+-- its members
+abbrev pub chosen_in : Choice → List Ui
+chosen_in NoMember = []
+chosen_in (Members qs) = qs

@@ -2,7 +2,8 @@
 
 ghost use Rattle.std.specs.Prelude.{◌≡◌, ◌≤◌, length, IfOk};
 ghost use Rattle.chorus_ui.specs.declared.limits.TheConstants.{MEMBERS_LIMIT};
-ghost use Rattle.chorus_groups.specs.Made.{made_of};
+ghost use Rattle.chorus_entry.specs.Members.{listed};
+ghost use Rattle.chorus_groups.specs.Made.{made_of, chosen_in};
 
 use chorus_entry::Members;
 use chorus_ui::Ui;
@@ -28,5 +29,25 @@ impl Choice {
         }
         let members = Members::of(alloc, members)?;
         Ok(Choice::Members(members))
+    }
+
+    /// The choice of this member, or of none.
+    pub(crate) fn of_one(alloc: Global, member: Option<Ui>) -> Result<Choice, AllocError>
+        ensures { IfOk result (λ choice. choice ≡ made_of (listed member)) }
+    {
+        match member {
+            Some(member) => Choice::of(alloc, &[member]),
+            None => Ok(Choice::NoMember),
+        }
+    }
+
+    /// The members, in the order of the copies.
+    pub fn members(&self) -> &[Ui]
+        ensures { result.now ≡ chosen_in self.now }
+    {
+        match self {
+            Choice::Members(members) => members.uis(),
+            Choice::NoMember => &[],
+        }
     }
 }

@@ -64,16 +64,38 @@ impl Group {
         self.members.as_slice()
     }
 
+    /// Why the port does not join, where it does not.
+    pub(crate) fn join_fault(&self, port: Ui) -> Option<JoinFault>
+        ensures { result ≡ refuses_join port self.now }
+    {
+        if is_member(self.members.as_slice(), port) {
+            return Some(JoinFault::There);
+        }
+        if self.members.len() >= MEMBERS_LIMIT {
+            return Some(JoinFault::MembersFull);
+        }
+        None
+    }
+
+    /// Why the port does not leave, where it does not.
+    pub(crate) fn leave_fault(&self, port: Ui) -> Option<LeaveFault>
+        ensures { result ≡ refuses_leave port self.now }
+    {
+        let there = is_member(self.members.as_slice(), port);
+        if there {
+            None
+        } else {
+            Some(LeaveFault::NotThere)
+        }
+    }
+
     /// The port joins, as the last member.
     pub(crate) fn join(&mut self, port: Ui) -> Result<(), JoinFault>
         ensures answer { result ≡ unless (refuses_join port self.old) }
         ensures after { self.new ≡ after (refuses_join port self.old) (joined port) self.old }
     {
-        if is_member(self.members.as_slice(), port) {
-            return Err(JoinFault::There);
-        }
-        if self.members.len() >= MEMBERS_LIMIT {
-            return Err(JoinFault::MembersFull);
+        if let Some(fault) = self.join_fault(port) {
+            return Err(fault);
         }
         self.members.push_reserved(port);
         Ok(())

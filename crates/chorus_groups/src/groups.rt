@@ -4,10 +4,10 @@ ghost use Rattle.std.specs.Prelude.{◌≡◌, ◌<◌, ◌≤◌, length, IfOk,
 ghost use Rattle.std.specs.Option.{option_copied};
 ghost use Rattle.chorus_entry.specs.Dest.{group_in};
 ghost use Rattle.chorus_ui.specs.declared.limits.TheConstants.{MEMBERS_LIMIT};
-ghost use Rattle.chorus_entry.specs.Members.{are_distinct, first_of, round_from, listed, IsPosition};
+ghost use Rattle.chorus_entry.specs.Members.{are_distinct, first_of, round_from, IsPosition};
 ghost use Rattle.chorus_groups.specs.Groups.{with_change, new_table, group_of, row_of, after_make, members, rotation};
 ghost use Rattle.chorus_groups.specs.Faults.{unless, join_fault_of, after_join, leave_fault_of, after_leave};
-ghost use Rattle.chorus_groups.specs.Choosing.{only, turned_by, choice, after_choose, after_one, first_round, members_for};
+ghost use Rattle.chorus_groups.specs.Choosing.{only, turned_by, choice, after_choose, first_round, members_for};
 ghost use Rattle.chorus_groups.specs.Made.{made_of};
 
 use crate::choice::Choice;
@@ -74,6 +74,13 @@ impl Groups {
         self.groups.capacity() - self.groups.len()
     }
 
+    /// How many groups are made.
+    pub fn made(&self) -> usize
+        ensures { result ≡ length self.now.groups }
+    {
+        self.groups.len()
+    }
+
     /// Whether the group is made.
     pub fn is_made(&self, group: Ui) -> bool
         ensures { result ≡ is_some (group_of group self.now.groups) }
@@ -92,6 +99,26 @@ impl Groups {
         let made = Group::with_room(alloc, group)?;
         self.groups.push_reserved(made);
         Ok(())
+    }
+
+    /// Why the port does not join the group, where `join` refuses it. Takes no memory.
+    pub fn join_fault(&self, group: Ui, port: Ui) -> Option<JoinFault>
+        ensures { result ≡ join_fault_of self.now group port }
+    {
+        match self.get(group) {
+            Some(made) => made.join_fault(port),
+            None => Some(JoinFault::NoGroup),
+        }
+    }
+
+    /// Why the port does not leave the group, where `leave` refuses it. Takes no memory.
+    pub fn leave_fault(&self, group: Ui, port: Ui) -> Option<LeaveFault>
+        ensures { result ≡ leave_fault_of self.now group port }
+    {
+        match self.get(group) {
+            Some(made) => made.leave_fault(port),
+            None => Some(LeaveFault::NoGroup),
+        }
     }
 
     /// The port joins the group as its last member. NoGroup where the group is not made, else There where the port is a
@@ -134,12 +161,32 @@ impl Groups {
         }
     }
 
-    /// Chooses the members that a post to this destination, a group, is turned into copies for. `located` has the newest site
-    /// of each member, in the order of `members`, and 0 for one that is located nowhere.
+    /// The members that a post to this destination, a group, is turned into copies for. `located` has the newest site of each
+    /// member, in the order of `members`, and 0 for one that is located nowhere.
     ///
-    /// A broadcast chooses all members, and leaves the rotation place. One member is that at the rotation place, and at a
-    /// site the first from there on, round the list, that is located on the site; the rotation place moves behind it. A
-    /// group that is not made has no member. Only the list that is given out takes memory; an error changes nothing.
+    /// A broadcast chooses all members. One member is that at the rotation place, and at a site the first from there on, round
+    /// the list, that is located on the site. A group that is not made has no member. Only the list that is given out takes
+    /// memory.
+    pub fn chosen(&self, alloc: Global, dest: &Dest, located: &[u16]) -> Result<Choice, AllocError>
+        requires group { IsSome (group_in dest.now) }
+        requires located { length located.now ≡ length (members_for dest.now self.now) }
+        ensures value { IfOk result (λ given.
+            given ≡ made_of (choice self.now dest.now located.now)) }
+    {
+        match *dest {
+            Dest::Port(_) => Ok(Choice::NoMember),
+            Dest::All(group) => Choice::of(alloc, self.members(group)),
+            Dest::One(group) => Choice::of_one(alloc, self.first(group)),
+            Dest::OneAt(group, site) => {
+                let chosen = self.first_at(group, site, located);
+                Choice::of_one(alloc, chosen)
+            }
+        }
+    }
+
+    /// Chooses the members that a post to this destination, a group, is turned into copies for: those of `chosen`.
+    ///
+    /// A broadcast leaves the rotation place. It moves behind the one member that is chosen else. An error changes nothing.
     pub fn choose(
         &mut self,
         alloc: Global,
@@ -153,18 +200,11 @@ impl Groups {
         ensures after { OnOk result (self.new ≡ after_choose self.old dest.now located.now) }
         ensures err { OnErr result (self.new ≡ self.old) }
     {
-        match *dest {
-            Dest::Port(_) => Ok(Choice::NoMember),
-            Dest::All(group) => Choice::of(alloc, self.members(group)),
-            Dest::One(group) => {
-                let chosen = self.first(group);
-                self.choose_one(alloc, group, chosen)
-            }
-            Dest::OneAt(group, site) => {
-                let chosen = self.first_at(group, site, located);
-                self.choose_one(alloc, group, chosen)
-            }
+        let given = self.chosen(alloc, dest, located)?;
+        if let Dest::One(group) | Dest::OneAt(group, _) = *dest {
+            self.turn(group, given.members());
         }
+        Ok(given)
     }
 
     /// Moves the rotation place of the group behind the member that was chosen. It stays where none or several were, or the
@@ -203,27 +243,5 @@ impl Groups {
         ensures { result ≡ first_round (rotation group self.now) site (members group self.now) located.now }
     {
         self.get(group)?.first_at(site, located)
-    }
-
-    /// Chooses this member of the group, or none, and moves the rotation place behind it.
-    fn choose_one(
-        &mut self,
-        alloc: Global,
-        group: Ui,
-        chosen: Option<Ui>,
-    ) -> Result<Choice, AllocError>
-        ensures value { IfOk result (λ given. given ≡ made_of (listed chosen)) }
-        ensures after { OnOk result (self.new ≡ after_one group chosen self.old) }
-        ensures err { OnErr result (self.new ≡ self.old) }
-    {
-        let Some(port) = chosen else {
-            return Ok(Choice::NoMember);
-        };
-        let given = Choice::of(alloc, &[port])?;
-        let row = row_of(self.groups.as_slice(), group);
-        if let Some(made) = self.groups.get_mut(row) {
-            made.turn_behind(port);
-        }
-        Ok(given)
     }
 }

@@ -2,7 +2,7 @@
 //!
 //! [`Groups`] keeps the groups that were made at a place. Each has its members in the order in which they joined, at most
 //! 32, and a rotation place: the member that is chosen next where one is to be chosen. `with_room` and `make` take all
-//! memory, but for the members that `choose` gives out.
+//! memory, but for the members that `chosen` and `choose` give out.
 //!
 //! The layer above rests on `chosen_in_turn`: over any list of choices of one member, with no join or leave between them,
 //! the members of a group are chosen in turn, round the list. Each call's contract is in the words of `specs/Groups.antt`,

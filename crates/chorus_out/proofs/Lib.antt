@@ -1,3 +1,5 @@
 pub mod Lists
 pub mod Places
 pub mod Whole
+pub mod Fronts
+pub mod Outboxes

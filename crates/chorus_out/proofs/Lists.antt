@@ -1,7 +1,7 @@
 -- Lists that stand in one map, and what a change of the map makes of them.
 use Rattle.std.proofs.Common.{◌≡◌, ◌≢◌, ℕ, ◌+◌, ◌-◌, ◌<◌, ◌≤◌, ◌==◌, zero, suc, Bool, true, false, ◌&&◌, cond, Option, Some, None, IsSome, Result, Ok, Err, IsOk, OnOk, List, [], ◌∷◌, ◌++◌, length, drop, get_or, set, refl, sym, ◌∙◌, ap, arith, eqb-true, eq-eqb, append-nil, append_assoc}
 use Rattle.chorus_entry.specs.declared.packet.Packet.{Packet}
-use Rattle.chorus_out.specs.declared.outbox.Span.{Span}
+use Rattle.chorus_out.specs.declared.pool.Span.{Span}
 use Rattle.chorus_out.specs.Waiting.{list_to, with_last, without_first}
 use Rattle.chorus_out.specs.Spans.{listed, packets_from, no_span, size, lists_of}
 

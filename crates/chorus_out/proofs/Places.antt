@@ -1,10 +1,6 @@
 -- What waits for each place after a call, and the first place for which a packet waits.
 use Rattle.std.proofs.Common.{◌≡◌, ℕ, zero, suc, ◌==◌, ◌++◌, eqb-true, eq-eqb, true≢false, get_or-set_same, get_or-set_other, ◌+◌, ◌<◌, Bool, true, false, cond, ltb, Option, Some, None, IsSome, List, [], ◌∷◌, length, drop, slice_get, refl, sym, ◌∙◌, ap, subst, arith, ltb-true, ltb-false}
 use Rattle.chorus_entry.specs.declared.packet.Packet.{Packet}
-use Rattle.chorus_out.specs.declared.outbox.Span.{Span}
-use Rattle.chorus_out.specs.Spans.{lists_of, first_filled}
-use Rattle.chorus_out.proofs.Lists.{packets-first, packets-none}
-use Rattle.chorus_out.proofs.Whole.{AreWhole, first, later}
 use Rattle.chorus_out.specs.Waiting.{next, after_next, first_place, list_to, with_last, without_first}
 
 -- a packet put is the last for its place, and the lists of the others stay
@@ -46,21 +42,3 @@ pub after-first : (ls : List (List Packet)) → without_first (first_place ls) l
 after-first [] = refl
 after-first ([] ∷ ls) = ap (λ i. without_first i ([] ∷ ls)) (add-one (first_place ls)) ∙ ap (λ x. [] ∷ x) (after-first ls)
 after-first ((packet ∷ l) ∷ ls) = refl
-
--- it is the first span that has a packet
-pub first-filled : (f : ℕ → ℕ → Option Packet) (puts p : ℕ) (ss : List Span) → AreWhole f puts p ss → first_filled ss ≡ first_place (lists_of f p ss)
-first-filled f puts p [] h = refl
-first-filled f puts p (s ∷ ss) h = by (ltb s.first s.next) refl (first-filled f puts (p + 1) ss (later f puts p s ss h))
-  where
-    by : (b : Bool) → ltb s.first s.next ≡ b → first_filled ss ≡ first_place (lists_of f (p + 1) ss)
-        → cond b 0 (first_filled ss + 1) ≡ first_place (lists_of f p (s ∷ ss))
-    by true e rest =
-        some (f p s.first) refl ((first f puts p s ss h).filled s.first (omega arith) (ltb-true s.first s.next e))
-      where
-        some : (o : Option Packet) → f p s.first ≡ o → IsSome o → 0 ≡ first_place (lists_of f p (s ∷ ss))
-        some None q k = cc
-        some (Some v) q k =
-            ap (λ l. first_place (l ∷ lists_of f (p + 1) ss)) (sym (packets-first (f p) s v (ltb-true s.first s.next e) q))
-    by false e rest =
-        let z : s.first ≡ s.next = let o = (first f puts p s ss h).ordered in let g = ltb-false s.first s.next e in omega arith in
-        ap (λ n. n + 1) rest ∙ ap (λ l. first_place (l ∷ lists_of f (p + 1) ss)) (sym (packets-none (f p) s z))

@@ -1,9 +1,9 @@
--- What each outbox keeps, after each call.
+-- What each pool keeps, after each call.
 use Rattle.std.proofs.Common.{◌≡◌, ◌≢◌, ℕ, ◌+◌, ◌-◌, ◌<◌, ◌≤◌, ◌==◌, zero, suc, Bool, true, false, Option, Some, None, IsSome, is_some, List, [], ◌∷◌, length, get_or, set, replicate, refl, sym, ◌∙◌, ap, subst, arith, eqb-true, eq-eqb, get_or-set_same, get_or-set_other, length-append, true≢false}
 use Rattle.chorus_entry.specs.declared.packet.Packet.{Packet}
-use Rattle.chorus_out.specs.declared.outbox.Span.{Span}
+use Rattle.chorus_out.specs.declared.pool.Span.{Span}
 use Rattle.chorus_out.specs.Waiting.{count, nothing_to}
-use Rattle.chorus_out.specs.Spans.{packets_from, listed, no_span, size, total, lists_of, IsWhole, IsOutbox}
+use Rattle.chorus_out.specs.Spans.{packets_from, listed, no_span, size, total, lists_of, IsWhole, IsPool}
 use Rattle.chorus_out.proofs.Lists.{Sets, sets-here, sets-place, sets-number, longer, shorter}
 
 pub total-set : (ss : List Span) (i : ℕ) (s : Span) → i < length ss → total (set ss i s) + size (get_or ss i no_span) ≡ total ss + size s
@@ -42,17 +42,17 @@ count-lists_of f puts p (s ∷ ss) h =
 pub from_zero : (f : ℕ → ℕ → Option Packet) (puts : ℕ) (ss : List Span) → ((i : ℕ) → IsWhole (f i) puts (get_or ss i no_span)) → AreWhole f puts 0 ss
 from_zero f puts ss h i = let e : i ≡ 0 + i = omega arith in subst (λ k. IsWhole (f k) puts (get_or ss i no_span)) e (h i)
 
-pub count-outbox : (f : ℕ → ℕ → Option Packet) (ss : List Span) (puts waiting : ℕ) → IsOutbox f ss puts waiting → waiting ≡ count (lists_of f 0 ss)
-count-outbox f ss puts waiting h = h.counted ∙ sym (count-lists_of f puts 0 ss (from_zero f puts ss h.whole))
+pub count-pool : (f : ℕ → ℕ → Option Packet) (ss : List Span) (puts waiting : ℕ) → IsPool f ss puts waiting → waiting ≡ count (lists_of f 0 ss)
+count-pool f ss puts waiting h = h.counted ∙ sym (count-lists_of f puts 0 ss (from_zero f puts ss h.whole))
 
-pub first-found : (f : ℕ → ℕ → Option Packet) (ss : List Span) (puts waiting p : ℕ) (s : Span) → IsOutbox f ss puts waiting
+pub first-found : (f : ℕ → ℕ → Option Packet) (ss : List Span) (puts waiting p : ℕ) (s : Span) → IsPool f ss puts waiting
     → s ≡ get_or ss p no_span → s.first ≢ s.next → (s.first < s.next) × IsSome (f p s.first)
 first-found f ss puts waiting p s h e ne =
     let w = subst (λ t. IsWhole (f p) puts t) (sym e) (h.whole p) in
     let l : s.first < s.next = let o = w.ordered in omega arith in
     (l, w.filled s.first (omega arith) l)
 
-pub some-waits : (f : ℕ → ℕ → Option Packet) (ss : List Span) (puts waiting p : ℕ) (s : Span) → IsOutbox f ss puts waiting
+pub some-waits : (f : ℕ → ℕ → Option Packet) (ss : List Span) (puts waiting p : ℕ) (s : Span) → IsPool f ss puts waiting
     → s ≡ get_or ss p no_span → s.first < s.next → 1 ≤ waiting
 some-waits f ss puts waiting p s h e l = rw h.counted (at_least ss p (subst (λ t. t.first < t.next) e l))
   where
@@ -61,9 +61,9 @@ some-waits f ss puts waiting p s h e l = rw h.counted (at_least ss p (subst (λ 
     at_least (t ∷ ts) zero k = omega arith
     at_least (t ∷ ts) (suc i) k = omega (arith, at_least ts i k)
 
-pub same-outbox : (f g : ℕ → ℕ → Option Packet) (ss : List Span) (puts waiting : ℕ) → ((i n : ℕ) → g i n ≡ f i n)
-    → IsOutbox f ss puts waiting → IsOutbox g ss puts waiting
-same-outbox f g ss puts waiting e h = record {
+pub same-pool : (f g : ℕ → ℕ → Option Packet) (ss : List Span) (puts waiting : ℕ) → ((i n : ℕ) → g i n ≡ f i n)
+    → IsPool f ss puts waiting → IsPool g ss puts waiting
+same-pool f g ss puts waiting e h = record {
   whole = λ i. record {
     ordered = (h.whole i).ordered;
     below = (h.whole i).below;
@@ -73,10 +73,10 @@ same-outbox f g ss puts waiting e h = record {
   at_most = h.at_most;
 }
 
-pub put-outbox : (f g : ℕ → ℕ → Option Packet) (ss : List Span) (puts waiting p : ℕ) (s : Span) (packet : Packet) → IsOutbox f ss puts waiting
+pub put-pool : (f g : ℕ → ℕ → Option Packet) (ss : List Span) (puts waiting p : ℕ) (s : Span) (packet : Packet) → IsPool f ss puts waiting
     → s ≡ get_or ss p no_span → p < length ss → Sets f g p s.next (Some packet)
-    → IsOutbox g (set ss p (longer s)) (puts + 1) (waiting + 1)
-put-outbox f g ss puts waiting p s packet h e l c = record {
+    → IsPool g (set ss p (longer s)) (puts + 1) (waiting + 1)
+put-pool f g ss puts waiting p s packet h e l c = record {
   whole = λ i. by i (i == p) refl;
   counted =
       let w = subst (λ t. IsWhole (f p) puts t) (sym e) (h.whole p) in
@@ -116,10 +116,10 @@ put-outbox f g ss puts waiting p s packet h e l c = record {
           filled = λ n a b. subst IsSome (sym (sets-place f g p s.next (Some packet) c i n ne)) ((h.whole i).filled n a b);
         }
 
-pub take-outbox : (f g : ℕ → ℕ → Option Packet) (ss : List Span) (puts waiting p : ℕ) (s : Span) → IsOutbox f ss puts waiting
+pub take-pool : (f g : ℕ → ℕ → Option Packet) (ss : List Span) (puts waiting p : ℕ) (s : Span) → IsPool f ss puts waiting
     → s ≡ get_or ss p no_span → s.first < s.next → p < length ss → Sets f g p s.first None
-    → IsOutbox g (set ss p (shorter s)) puts (waiting - 1)
-take-outbox f g ss puts waiting p s h e lt l c = record {
+    → IsPool g (set ss p (shorter s)) puts (waiting - 1)
+take-pool f g ss puts waiting p s h e lt l c = record {
   whole = λ i. by i (i == p) refl;
   counted =
       let t = total-set ss p (shorter s) l in
@@ -149,7 +149,7 @@ take-outbox f g ss puts waiting p s h e lt l c = record {
           filled = λ n a b. subst IsSome (sym (sets-place f g p s.first None c i n ne)) ((h.whole i).filled n a b);
         }
 
--- an outbox with nothing in it
+-- a pool with nothing in it
 
 pub no_span-at : (n i : ℕ) → get_or (replicate n no_span) i no_span ≡ no_span
 no_span-at zero i = refl
@@ -160,8 +160,8 @@ total-none : (n : ℕ) → total (replicate n no_span) ≡ 0
 total-none zero = refl
 total-none (suc n) = omega (arith, total-none n)
 
-pub new-outbox : (f : ℕ → ℕ → Option Packet) (n : ℕ) (ss : List Span) → ss ≡ replicate n no_span → IsOutbox f ss 0 0
-new-outbox f n ss e = record {
+pub new-pool : (f : ℕ → ℕ → Option Packet) (n : ℕ) (ss : List Span) → ss ≡ replicate n no_span → IsPool f ss 0 0
+new-pool f n ss e = record {
   whole = λ i.
       subst (λ t. IsWhole (f i) 0 t) (sym (ap (λ ts. get_or ts i no_span) e ∙ no_span-at n i))
       record { ordered = omega arith; below = omega arith; filled = λ x a b. absurd (omega arith) };

@@ -1,9 +1,9 @@
 -- How the lists stand in one map: each packet at its place and its number among those that were put for that place.
-use Rattle.std.specs.Prelude.{◌≡◌, ℕ, ◌+◌, ◌-◌, ◌<◌, ◌≤◌, zero, suc, nat_lt, cond, Bool, ◌&&◌, ◌==◌, List, [], ◌∷◌, ◌++◌, Option, Some, None, IsSome, slice_index_or}
+use Rattle.std.specs.Prelude.{◌≡◌, ℕ, ◌+◌, ◌-◌, ◌<◌, ◌≤◌, zero, suc, Bool, ◌&&◌, ◌==◌, List, [], ◌∷◌, ◌++◌, Option, Some, None, IsSome, slice_index_or}
 use Rattle.std.specs.Map.{lookup}
 use Rattle.chorus_entry.specs.declared.packet.Packet.{Packet}
-use Rattle.chorus_out.specs.declared.outbox.Spot.{Spot}
-use Rattle.chorus_out.specs.declared.outbox.Span.{Span}
+use Rattle.chorus_out.specs.declared.pool.Spot.{Spot}
+use Rattle.chorus_out.specs.declared.pool.Span.{Span}
 
 abbrev pub same_spot : Spot → Spot → Bool
 same_spot a b = (a.place == b.place) && (a.number == b.number)
@@ -43,13 +43,8 @@ pub record IsWhole (at : ℕ → Option Packet) (puts : ℕ) (span : Span) : Typ
   pub below : span.next ≤ puts
   pub filled : (number : ℕ) → span.first ≤ number → number < span.next → IsSome (at number)
 
--- what each outbox keeps
-pub record IsOutbox (at : ℕ → ℕ → Option Packet) (spans : List Span) (puts waiting : ℕ) : Type 0 where
+-- what each pool keeps
+pub record IsPool (at : ℕ → ℕ → Option Packet) (spans : List Span) (puts waiting : ℕ) : Type 0 where
   pub whole : (place : ℕ) → IsWhole (at place) puts (slice_index_or spans place no_span)
   pub counted : waiting ≡ total spans
   pub at_most : waiting ≤ puts
-
--- the first span that has a packet; their number where none has
-abbrev pub first_filled : List Span → ℕ
-first_filled [] = 0
-first_filled (s ∷ ss) = cond (nat_lt s.first s.next) 0 (first_filled ss + 1)

@@ -1,10 +1,17 @@
 -- The packets that wait to go to other places.
-use Rattle.std.specs.Prelude.{ℕ, ◌+◌, List, [], ◌∷◌, ◌++◌, length, drop, Option, Some, None, slice_index_or, slice_set, replicate}
+use Rattle.std.specs.Prelude.{ℕ, ◌≡◌, ◌+◌, ◌<◌, Bool, true, false, List, [], ◌∷◌, ◌++◌, length, drop, Option, Some, None, slice_index_or, slice_set, replicate}
 use Rattle.chorus_entry.specs.declared.packet.Packet.{Packet}
 
--- by the number of the place that they go to, in the order in which they were put; how many more need no memory; and how many
--- were put so far
+-- by the number of the place that they go to, in the order in which they were put; how many more need no memory; how many were
+-- put so far; and for which places one may be put back
 pub record Waiting : Type 0 where
+  pub lists : List (List Packet)
+  pub spare : ℕ
+  pub puts : ℕ
+  pub free : List Bool
+
+-- the same in the pool, where none is put back
+pub record Pooled : Type 0 where
   pub lists : List (List Packet)
   pub spare : ℕ
   pub puts : ℕ
@@ -21,6 +28,10 @@ list_to place lists = slice_index_or lists place []
 abbrev pub with_last : ℕ → Packet → List (List Packet) → List (List Packet)
 with_last place packet lists = slice_set lists place (list_to place lists ++ packet ∷ [])
 
+-- with a packet in front of the others for the place
+abbrev pub with_first : ℕ → Packet → List (List Packet) → List (List Packet)
+with_first place packet lists = slice_set lists place (packet ∷ list_to place lists)
+
 -- without the first packet for the place
 abbrev pub without_first : ℕ → List (List Packet) → List (List Packet)
 without_first place lists = slice_set lists place (drop 1 (list_to place lists))
@@ -29,6 +40,12 @@ without_first place lists = slice_set lists place (drop 1 (list_to place lists))
 abbrev pub count : List (List Packet) → ℕ
 count [] = 0
 count (l ∷ ls) = length l + count ls
+
+-- a packet may be put back for the place: it is one of these places, the one that was put back before was taken, and fewer wait
+-- than were put
+pub record MayPutBack (place : ℕ) (out : Waiting) : Type 0 where
+  pub free : slice_index_or out.free place false ≡ true
+  pub fewer : count out.lists < out.puts
 
 -- the first packet for the first place that has one
 abbrev pub next : List (List Packet) → Option Packet

@@ -1,65 +1,40 @@
-//! The packets that wait to go to other places: one pool, with a list for each place in it.
+//! The packets that wait to go to other places.
 
-ghost use Rattle.std.specs.Prelude.{◌≡◌, ◌==◌, ◌+◌, ◌-◌, ◌^◌, ◌<◌, ◌≤◌, length, slice_get, IfOk, OnOk};
-ghost use Rattle.chorus_out.specs.Spans.{first_filled};
-ghost use Rattle.chorus_out.specs.Waiting.{nothing_to, list_to, with_last, without_first, count, next, after_next};
+ghost use Rattle.std.specs.Prelude.{◌≡◌, ◌==◌, ◌+◌, ◌-◌, ◌^◌, ◌<◌, ◌≤◌, length, slice_get, IfOk, IfSome, OnOk};
+ghost use Rattle.chorus_out.specs.Fronts.{is_filled};
+ghost use Rattle.chorus_out.specs.Waiting.{nothing_to, list_to, with_last, with_first, without_first, count, next, after_next, first_place, MayPutBack};
 
+use crate::pool::Pool;
 use chorus_entry::Packet;
 use std::alloc::{AllocError, Global};
-use std::collections::HashMap;
 use std::marker::Model;
 
-/// Where a packet stands: the place that it goes to, and its number among those that were put for it, from 0.
-#[derive(Clone, Copy, Debug, PartialEq, Eq, Hash)]
-pub(crate) struct Spot {
-    pub(crate) place: usize,
-    pub(crate) number: u64,
-}
-
-/// The numbers of the packets that wait for a place: from `first` on, below `next`.
-#[derive(Clone, Copy, Debug)]
-pub(crate) struct Span {
-    pub(crate) first: u64,
-    pub(crate) next: u64,
-}
-
-/// The packets that wait to go to other places, of each place in the order put. There is one pool of packets, and each place
-/// has a span of numbers in it, so room for a packet is room for any place.
+/// The packets that wait to go to other places, of each place in the order put. Room for a packet is room for any place. A packet
+/// that was taken out may be put back, in room of its own.
 #[derive(Debug, Drop)]
 pub struct Outbox {
-    packets: HashMap<Spot, Packet>,
-    spans: Vec<Span>,
-    puts: u64,
-    waiting: u64,
+    /// For each place the packet that was put back.
+    fronts: Vec<Option<Packet>>,
+    /// How many were.
+    back: u64,
+    /// The others.
+    pool: Pool,
 }
 
 impl Model for Outbox {
-    ghost use Rattle.std.specs.HashMap.{spare};
     ghost use Rattle.chorus_out.specs.Waiting.{Waiting};
-    ghost use Rattle.chorus_out.specs.Spans.{packet_at, lists_of, IsOutbox};
+    ghost use Rattle.chorus_out.specs.Fronts.{with_fronts, are_free, IsOutbox};
 
     ghost Value = { Waiting };
 
     ghost view = { λ o. record {
-      lists = lists_of (packet_at o.packets.entries) 0 o.spans.items;
-      spare = spare o.packets;
-      puts = o.puts;
+      lists = with_fronts o.fronts.items o.pool.lists;
+      spare = o.pool.spare;
+      puts = o.pool.puts;
+      free = are_free o.fronts.items;
     } };
 
-    ghost invariant = { λ o.
-        IsOutbox (packet_at o.packets.entries) o.spans.items o.puts o.waiting };
-}
-
-/// Where the first span stands that has a packet, counted from 0: their number where none has.
-fn first_filled(spans: &[Span]) -> usize
-    ensures { result ≡ first_filled spans.now }
-{
-    for (place, span) in spans.iter().enumerate() {
-        if span.first < span.next {
-            return place;
-        }
-    }
-    spans.len()
+    ghost invariant = { λ o. IsOutbox o.fronts.items o.pool o.back };
 }
 
 impl Outbox {
@@ -68,13 +43,14 @@ impl Outbox {
         ensures lists { IfOk result (λ outbox. outbox.lists ≡ nothing_to places) }
         ensures puts { IfOk result (λ outbox. outbox.puts ≡ 0) }
     {
-        let none = Span { first: 0, next: 0 };
-        let spans = vec![in alloc; none; usize::from(places) + 1]?;
+        let mut fronts = Vec::with_capacity(alloc, usize::from(places) + 1)?;
+        for _place in 0..usize::from(places) + 1 {
+            fronts.push_reserved(None);
+        }
         Ok(Outbox {
-            packets: HashMap::new(alloc),
-            spans,
-            puts: 0,
-            waiting: 0,
+            fronts,
+            back: 0,
+            pool: Pool::with_places(alloc, places)?,
         })
     }
 
@@ -82,7 +58,7 @@ impl Outbox {
     pub fn waiting(&self) -> u64
         ensures { result ≡ count self.now.lists }
     {
-        self.waiting
+        self.pool.waiting() + self.back
     }
 
     /// Whether none waits.
@@ -96,24 +72,25 @@ impl Outbox {
     pub fn puts(&self) -> u64
         ensures { result ≡ self.now.puts }
     {
-        self.puts
+        self.pool.puts()
     }
 
     /// How many packets more need no memory.
     pub fn spare(&self) -> usize
         ensures { result ≡ self.now.spare }
     {
-        self.packets.capacity() - self.packets.len()
+        self.pool.spare()
     }
 
     /// Takes room for this many packets more, whatever places they go to. Changes no list, whatever the answer.
     pub fn reserve(&mut self, more: usize) -> Result<(), AllocError>
         ensures lists { self.new.lists ≡ self.old.lists }
         ensures puts { self.new.puts ≡ self.old.puts }
+        ensures free { self.new.free ≡ self.old.free }
         ensures kept { self.old.spare ≤ self.new.spare }
         ensures spare { OnOk result (more ≤ self.new.spare) }
     {
-        self.packets.reserve(more)
+        self.pool.reserve(more)
     }
 
     /// Puts a packet behind those that wait for the place, in the room that is there. Takes no memory.
@@ -124,18 +101,9 @@ impl Outbox {
         ensures lists { self.new.lists ≡ with_last place packet self.old.lists }
         ensures spare { self.old.spare ≤ self.new.spare + 1 }
         ensures puts { self.new.puts ≡ self.old.puts + 1 }
+        ensures free { self.new.free ≡ self.old.free }
     {
-        let place = usize::from(place);
-        let mut span = self.spans[place];
-        let spot = Spot {
-            place,
-            number: span.next,
-        };
-        let _ = self.packets.insert(spot, packet);
-        span.next += 1;
-        self.spans[place] = span;
-        self.puts += 1;
-        self.waiting += 1;
+        self.pool.put(place, packet);
     }
 
     /// Takes the first packet for the place out; None exactly where none waits for it, and then nothing changes. Takes no
@@ -145,8 +113,20 @@ impl Outbox {
         ensures lists { self.new.lists ≡ without_first place self.old.lists }
         ensures spare { self.old.spare ≤ self.new.spare }
         ensures puts { self.new.puts ≡ self.old.puts }
+        ensures back { IfSome result (λ packet. MayPutBack place self.new) }
     {
         self.take_at(usize::from(place))
+    }
+
+    /// Puts a packet that was taken out in front of those that wait for the place. Takes no memory.
+    pub fn put_back(&mut self, place: u16, packet: Packet)
+        requires { MayPutBack place self.old }
+        ensures lists { self.new.lists ≡ with_first place packet self.old.lists }
+        ensures spare { self.new.spare ≡ self.old.spare }
+        ensures puts { self.new.puts ≡ self.old.puts }
+    {
+        self.fronts[usize::from(place)] = Some(packet);
+        self.back += 1;
     }
 
     /// Takes a packet out: the first one for the first place that has any. None exactly where none waits, and then nothing
@@ -157,8 +137,28 @@ impl Outbox {
         ensures spare { self.old.spare ≤ self.new.spare }
         ensures puts { self.new.puts ≡ self.old.puts }
     {
-        let place = first_filled(&self.spans);
+        let place = self.first_place();
         self.take_at(place)
+    }
+
+    /// The first place for which a packet waits; their number where none waits.
+    fn first_place(&self) -> usize
+        ensures { result ≡ first_place self.now.lists }
+    {
+        for place in 0..self.fronts.len() {
+            if self.is_filled(place) {
+                return place;
+            }
+        }
+        self.fronts.len()
+    }
+
+    /// Whether a packet waits for the place.
+    fn is_filled(&self, place: usize) -> bool
+        requires { place < length self.now.lists }
+        ensures { result ≡ is_filled (list_to place self.now.lists) }
+    {
+        self.fronts[place].is_some() || self.pool.is_filled(place)
     }
 
     /// Takes the first packet for the place with this number out.
@@ -167,21 +167,15 @@ impl Outbox {
         ensures lists { self.new.lists ≡ without_first place self.old.lists }
         ensures spare { self.old.spare ≤ self.new.spare }
         ensures puts { self.new.puts ≡ self.old.puts }
+        ensures back { IfSome result (λ packet. MayPutBack place self.new) }
     {
-        if place >= self.spans.len() {
+        if place >= self.fronts.len() {
             return None;
         }
-        let mut span = self.spans[place];
-        if span.first == span.next {
-            return None;
+        if let Some(packet) = self.fronts[place].take() {
+            self.back -= 1;
+            return Some(packet);
         }
-        let spot = Spot {
-            place,
-            number: span.first,
-        };
-        span.first += 1;
-        self.spans[place] = span;
-        self.waiting -= 1;
-        self.packets.remove(&spot)
+        self.pool.take(place)
     }
 }

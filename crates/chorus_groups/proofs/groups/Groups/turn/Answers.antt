@@ -1,7 +1,6 @@
-use Rattle.std.proofs.Common.{◌≡◌, ◌∙◌, sym, ap, refl, length, ◌<◌, slice_set, arith, None, Some, List, [], ◌∷◌}
-use Rattle.chorus_ui.specs.declared.ui.Ui.{Ui}
+use Rattle.std.proofs.Common.{◌≡◌, ◌∙◌, sym, ap, refl, length, ◌<◌, slice_set, arith, None, [], ◌∷◌}
 use Rattle.chorus_groups.specs.Groups.{Table, row_of, group_of, with_change}
-use Rattle.chorus_groups.specs.Choosing.{turned_by, only}
+use Rattle.chorus_groups.specs.Choosing.{turned_by}
 use Rattle.chorus_groups.specs.contracts.groups.Groups.{the_view}
 use Rattle.chorus_groups.proofs.TableLemmas.{changed_at, changed_none, not_found}
 use Rattle.chorus_groups.proofs.Turning.{changed_stays, only_one, only_none}

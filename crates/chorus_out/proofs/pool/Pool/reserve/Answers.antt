@@ -1,11 +1,11 @@
 use Rattle.std.proofs.Common.{ap, ◌∙◌}
 use Rattle.chorus_out.proofs.Lists.{lists-same}
-use Rattle.chorus_out.proofs.Whole.{same-outbox}
-use Rattle.chorus_out.proofs.outbox.Outbox.reserve.Goals as goal
+use Rattle.chorus_out.proofs.Whole.{same-pool}
+use Rattle.chorus_out.proofs.pool.Pool.reserve.Goals as goal
 
 pub invariant_of-self : goal.invariant_of-self
 invariant_of-self c =
-    same-outbox _ _ _ _ _ (λ i n. c.reserve.ensures.entries.2 (record { place = i; number = n })) c.self.invariant
+    same-pool _ _ _ _ _ (λ i n. c.reserve.ensures.entries.2 (record { place = i; number = n })) c.self.invariant
 
 pub returns-clause-lists : goal.returns-clause-lists
 returns-clause-lists c =

@@ -1,0 +1,69 @@
+//! Ports that are marked at a place.
+
+ghost use Rattle.std.specs.Prelude.{◌≡◌, ◌||◌, false, IsTrue, IfOk};
+ghost use Rattle.chorus_ui.specs.declared.ui.Ui.{Ui};
+ghost use Rattle.chorus_ui.specs.Name.{same_ui};
+ghost use Rattle.chorus_journal.specs.Marks.{row_of, is_listed, is_marked};
+
+use chorus_ui::{Kind, Layout, PORTS_PER_SITE_LIMIT, Ui};
+use std::alloc::{AllocError, Global};
+use std::marker::Model;
+
+/// The ports that are marked at a place: a mark for each port that the layout can make, so each call takes constant time.
+#[derive(Debug, Drop)]
+pub(crate) struct PortMarks {
+    layout: Layout,
+    flags: Vec<bool>,
+}
+
+impl Model for PortMarks {
+    ghost use Rattle.std.specs.Prelude.{◌≡◌, ◌*◌, length};
+    ghost use Rattle.chorus_ui.specs.declared.limits.TheConstants.{PORTS_PER_SITE_LIMIT};
+    ghost use Rattle.chorus_journal.specs.Marks.{Marks};
+
+    ghost Value = { Marks };
+
+    ghost view = { λ d. record { layout = d.layout; flags = d.flags.items } };
+
+    ghost invariant = { λ d. length d.flags.items ≡ d.layout.sites * PORTS_PER_SITE_LIMIT };
+}
+
+/// Where the mark of a port stands, counted from 0.
+fn row_of(port: Ui) -> usize
+    ensures { result ≡ row_of port }
+{
+    let site = usize::from(port.site() - 1);
+    site * PORTS_PER_SITE_LIMIT as usize + (port.number() - 1) as usize
+}
+
+impl PortMarks {
+    /// None is marked.
+    pub(crate) fn with_room(alloc: Global, layout: Layout) -> Result<PortMarks, AllocError>
+        ensures layout { IfOk result (λ marks. marks.layout ≡ layout) }
+        ensures nothing { IfOk result (λ marks. (q : Ui) → is_marked marks q ≡ false) }
+    {
+        let ports = usize::from(layout.sites()) * PORTS_PER_SITE_LIMIT as usize;
+        let flags = vec![in alloc; false; ports]?;
+        Ok(PortMarks { layout, flags })
+    }
+
+    /// Marks a port that the layout can make. Takes no memory.
+    pub(crate) fn mark(&mut self, ui: Ui)
+        requires { IsTrue (is_listed self.old.layout ui) }
+        ensures marks { (q : Ui) → is_marked self.new q ≡ same_ui ui q || is_marked self.old q }
+        ensures layout { self.new.layout ≡ self.old.layout }
+    {
+        let row = row_of(ui);
+        self.flags[row] = true;
+    }
+
+    /// Whether the port is marked. Takes no memory.
+    pub(crate) fn is_marked(&self, ui: Ui) -> bool
+        ensures { result ≡ is_marked self.now ui }
+    {
+        if ui.kind() != Kind::Port || !self.layout.can_make_port(ui) {
+            return false;
+        }
+        self.flags[row_of(ui)]
+    }
+}
