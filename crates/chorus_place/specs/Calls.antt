@@ -1,52 +1,112 @@
--- What a place keeps, and what a call of a caller does there.
-use Rattle.std.specs.Prelude.{ℕ, ◌≡◌, ◌+◌, ◌≤◌, ◌/◌, ◌<◌, Bool, true, false, List, length, Some, is_some}
-use Rattle.chorus_ui.specs.declared.ui.Ui.{Ui}
+-- A place as its callers see it, and what its calls do.
+-- p is the place, s its state, c a command, t the turn.
+use Rattle.std.specs.Prelude.{ℕ, ◌≡◌, ◌+◌, ◌≤◌, min, Bool, true, false, List, [], ◌∷◌, length, IsNone}
 use Rattle.chorus_ui.specs.declared.layout.Layout.{Layout}
-use Rattle.chorus_ui.specs.declared.limits.TheConstants.{PORTS_PER_SITE_LIMIT}
-use Rattle.chorus_ui.specs.Layout.{has_place}
 use Rattle.chorus_entry.specs.declared.entry.Entry.{Entry}
-use Rattle.chorus_entry.specs.declared.command.Command.{Command}
 use Rattle.chorus_entry.specs.declared.record.PortRecord.{PortRecord}
+use Rattle.chorus_entry.specs.declared.command.Command.{Command}
+use Rattle.chorus_entry.specs.declared.command.Command.TheVariants.{Call, Take, Move, Delete}
+use Rattle.chorus_entry.specs.declared.packet.Packet.{Packet}
 use Rattle.chorus_entry.specs.Command.{meets_conditions}
 use Rattle.chorus_entry.specs.Places.{place_for}
-use Rattle.chorus_world.specs.Places.{last_clock, ports_made}
-use Rattle.chorus_world.specs.Steps.{next_number}
 use Rattle.chorus_ports.specs.Table.{find}
+use Rattle.chorus_hints.specs.Known.{Known, kept}
+use Rattle.chorus_waits.specs.declared.wait.Key.{Key}
+use Rattle.chorus_waits.specs.declared.unheard.Post.{Post}
+use Rattle.chorus_waits.specs.declared.unheard.Copies.{Copies}
+use Rattle.chorus_waits.specs.Queues.{Row, queue}
+use Rattle.chorus_waits.specs.Unheard.{is_unheard}
 use Rattle.chorus_calls.specs.Callers.{Seated}
+use Rattle.chorus_out.specs.Waiting.{Waiting, with_last}
 use Rattle.chorus_machine.specs.declared.reply.Reply.{Reply}
-use Rattle.chorus_place.specs.State.{PlaceState, Turn}
-use Rattle.chorus_place.specs.Machine.{is_built, call, reply}
+use Rattle.chorus_machine.specs.PlaceState.{PlaceState, Outgoing, Turn}
+use Rattle.chorus_machine.specs.PlaceMachine.{begun, begun_by, act, work}
+use Rattle.chorus_machine.specs.Own.{held_by}
+use Rattle.chorus_machine.specs.Replies.{reply}
+use Rattle.chorus_place.specs.Tables.{Tables}
 
--- a place, and how many entries it can append without memory
+-- a place: its layout and number; its journal, the newest entry first; its tables; the packets that wait to go to other places,
+-- by these; and how many entries and packets need no memory
 pub record Place : Type 0 where
-  pub state : PlaceState
+  pub layout : Layout
+  pub number : ℕ
+  pub journal : List Entry
+  pub ports : List PortRecord
+  pub known : Known
+  pub waits : List (Key × Row)
+  pub unheard : List (Post × Copies)
+  pub out : Waiting
   pub spare : ℕ
 
--- what a place keeps: it is one of the layout; how many ports it made, and how many records still fit; a port that it holds
--- was made here before the next one, and the position of its next message is not above the place's clock
-pub record IsKept (l : Layout) (p : ℕ) (past : List Entry) (made : ℕ) (ports : List PortRecord) (spare : ℕ) : Type 0 where
-  pub place : has_place l p ≡ true
-  pub count : made ≡ ports_made past
-  pub room : spare + made ≡ PORTS_PER_SITE_LIMIT / l.turns
-  pub names : (q : Ui) → is_some (find q ports) ≡ true → q.number < next_number l p past
-  pub positions : (q : Ui) (port : PortRecord) → find q ports ≡ Some port → port.first + length port.pending ≤ last_clock past
+-- the place that has these tables, between turns
+abbrev pub place_of : Tables → Place
+place_of p =
+    record {
+      layout = p.layout;
+      number = p.number;
+      journal = p.journal.past;
+      ports = p.ports.records;
+      known = p.known;
+      waits = p.waits;
+      unheard = p.unheard;
+      out = p.out;
+      spare = min p.journal.spare p.room;
+    }
 
--- the place with the caller in whose call it is
-abbrev pub turn : Place → Seated → Turn
-turn place caller = record { place = place.state; caller = caller }
+-- the state that they stand for
+abbrev pub state : Place → PlaceState
+state p =
+    record {
+      layout = p.layout;
+      number = p.number;
+      journal = p.journal;
+      ports = p.ports;
+      known = kept p.known;
+      waiting = queue p.waits;
+      unheard = is_unheard p.unheard;
+    }
 
-abbrev pub is_take : Command → Bool
-is_take (Command.Take port) = true
-is_take _ = false
+-- the packets that wait, with these behind them
+abbrev pub with_all : List Outgoing → List (List Packet) → List (List Packet)
+with_all [] lists = lists
+with_all (o ∷ os) lists = with_all os (with_last o.to o.packet lists)
 
--- the conditions of a call: the command meets its own, it is to be carried out here, and the place has it so far
-pub record MayCall (place : PlaceState) (caller : Seated) (c : Command) : Type 0 where
+-- the conditions of a command: it meets its own, and is to be carried out here
+pub record MayCall (s : PlaceState) (caller : Seated) (c : Command) : Type 0 where
   pub conditions : meets_conditions c ≡ true
-  pub here : place_for place.layout caller.actor c ≡ place.number
-  pub built : is_built place.layout place.number c ≡ true
+  pub here : place_for s.layout caller.actor c ≡ s.number
 
--- the call did what the machine does and gave its reply, and took no more room than that of the entries that it appended
+-- it is a call
+abbrev pub is_call : Command → Bool
+is_call (Call q back body) = true
+is_call _ = false
+
+-- the place and the caller are as the turn left them, what it put waits behind what waited, and no more room is taken than
+-- that of the entries and packets
+pub record Ended (t : Turn) (old new : Place) (caller : Seated) : Type 0 where
+  pub state : state new ≡ t.place
+  pub caller_is : caller ≡ t.caller
+  pub waits : new.out.lists ≡ with_all t.puts old.out.lists
+  pub spare : old.spare + length old.journal ≤ new.spare + length new.journal + length t.puts
+
+-- the call did what the machine does, and gave its reply
 pub record Called (old new : Place) (before after : Seated) (c : Command) (r : Reply) : Type 0 where
-  pub done : turn new after ≡ call c (turn old before)
-  pub answer : r ≡ reply c (turn old before)
-  pub spare : old.spare + length old.state.journal ≤ new.spare + length new.state.journal
+  pub ended : Ended (act c (begun (state old) before)) old new after
+  pub answer : r ≡ reply c (begun (state old) before)
+
+-- the packet was worked off as the machine does it
+abbrev pub WorkedOff : Place → Place → Seated → Seated → Packet → Type 0
+WorkedOff old new before after packet = Ended (work packet (begun_by (state old) before packet)) old new after
+
+-- nothing changed but the room, of which there is as much at least
+pub record Stays (old new : Place) : Type 0 where
+  pub state : state new ≡ state old
+  pub waits : new.out.lists ≡ old.out.lists
+  pub spare : old.spare ≤ new.spare
+
+-- a command that takes no memory where there is room for two: receiving, moving, and a Delete of a port that is not held
+abbrev pub TakesNone : Command → PlaceState → Seated → Type 0
+TakesNone (Take q) s caller = Unit {0}
+TakesNone (Move q actor) s caller = Unit {0}
+TakesNone (Delete q) s caller = IsNone (held_by caller.actor (find q s.ports))
+TakesNone _ s caller = ⊥

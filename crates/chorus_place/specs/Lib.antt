@@ -1,5 +1,14 @@
-pub mod State
-pub mod Journal
+pub mod Tables
+pub mod Plain
 pub mod Turns
-pub mod Machine
+pub mod Going
+pub mod Steps
+pub mod Room
+pub mod Ports
+pub mod Commands
+pub mod Outcomes
+pub mod Sending
+pub mod CallTurns
+pub mod GroupTurns
 pub mod Calls
+pub mod Opening

@@ -1,249 +1,218 @@
-//! A place, and the calls of callers there.
+//! A place of a layout.
 
-ghost use Rattle.std.specs.Prelude.{◌≡◌, ℕ, ◌<◌, ◌≤◌, ◌↔◌, true, length, reverse, IsOk, IfOk, OnOk, OnErr, IsErrOf};
-ghost use Rattle.chorus_ui.specs.Layout.{has_place};
-ghost use Rattle.chorus_entry.specs.declared.dest.Dest.TheVariants as Dest;
-ghost use Rattle.chorus_world.specs.Places.{last_clock};
-ghost use Rattle.chorus_world.specs.Steps.{is_full_of_ports};
-ghost use Rattle.chorus_place.specs.State.{started, greatest};
-ghost use Rattle.chorus_entry.specs.Command.{is_post};
-ghost use Rattle.chorus_place.specs.Calls.{turn, is_take, MayCall, Called};
+ghost use Rattle.std.specs.Prelude.{◌≡◌, ℕ, ◌<◌, ◌≤◌, ◌↔◌, true, length, reverse, slice_get, IfOk, IfErr, IfSome, OnOk, OnErr, IsOk, IsErrOf};
+ghost use Rattle.chorus_ui.specs.declared.kind.Kind.TheVariants as Kind;
 ghost use Rattle.chorus_ui.specs.declared.limits.TheConstants.{CLOCK_LIMIT};
+ghost use Rattle.chorus_ui.specs.Layout.{has_site, has_place, places, IsLayout};
+ghost use Rattle.chorus_entry.specs.Command.{is_post};
+ghost use Rattle.chorus_world.specs.Places.{last_clock};
+ghost use Rattle.chorus_out.specs.Waiting.{nothing_to, list_to, without_first, with_first, count, MayPutBack};
+ghost use Rattle.chorus_machine.specs.PlaceState.{started, newest, greatest_clock};
+ghost use Rattle.chorus_machine.specs.PlaceMachine.{begun, begun_by};
+ghost use Rattle.chorus_machine.specs.Lawful.{is_lawful};
+ghost use Rattle.chorus_machine.specs.Outcomes.{outcome};
+ghost use Rattle.chorus_place.specs.Calls.{state, is_call, Called, MayCall, Stays, TakesNone, WorkedOff};
 
 use crate::fault::PlaceFault;
-use crate::journal::Journal;
-use crate::turn::{
-    decision, next_message, next_port, port_in, post, say, take_act, take_reply, verdict_reply,
-};
+use crate::tables::Tables;
 use chorus_calls::Caller;
-use chorus_entry::{Act, Body, Command, Entry};
-use chorus_machine::Reply;
+use chorus_entry::{Command, Entry, MsgId, Packet};
+use chorus_machine::{Outcome, Reply};
+use chorus_out::Outbox;
 use chorus_ports::Ports;
-use chorus_ui::{CLOCK_LIMIT, Layout, PORTS_PER_SITE_LIMIT, Ui};
+use chorus_ui::{CLOCK_LIMIT, Layout, Ui};
 use std::alloc::{AllocError, Global};
 use std::marker::Model;
 
-/// A place of a layout: its journal, and the ports that it holds. So far it makes ports, decides on messages to the ports whose
-/// creation place it is, and hands messages to the actors that hold ports here.
+/// A place of a layout.
 #[derive(Debug, Drop)]
 pub struct Place {
-    layout: Layout,
-    number: u16,
-    journal: Journal,
-    made: u16,
-    ports: Ports,
+    tables: Tables,
 }
 
 impl Model for Place {
+    ghost use Rattle.std.specs.Prelude.{◌≡◌, []};
     ghost use Rattle.chorus_place.specs.Calls as calls;
 
     ghost Value = { calls.Place };
 
-    ghost view = { λ p. record { state = record { layout = p.layout; number = p.number; journal = p.journal.past; ports = p.ports.records }; spare = p.journal.spare } };
+    ghost view = { λ p. calls.place_of p.tables };
 
-    ghost invariant = { λ p. calls.IsKept p.layout p.number p.journal.past p.made p.ports.records p.ports.spare };
+    ghost invariant = { λ p. p.tables.puts ≡ [] };
 }
 
 impl Place {
-    /// The place of this number, on which nothing happened yet. The only error is want of memory.
+    /// The place of this number, one of the layout, on which nothing happened yet. The only error is want of memory.
     pub fn start(alloc: Global, layout: Layout, number: u16) -> Result<Place, AllocError>
         requires { has_place layout number ≡ true }
-        ensures { IfOk result (λ place. place.state ≡ started layout number) }
+        ensures state { IfOk result (λ place. state place ≡ started layout number) }
+        ensures out { IfOk result (λ place. place.out.lists ≡ nothing_to (places layout)) }
+        ensures layout { IfOk result (λ place. IsLayout layout) }
     {
-        let most = PORTS_PER_SITE_LIMIT / u64::from(layout.turns());
-        Ok(Place {
-            layout,
-            number,
-            journal: Journal::new(alloc),
-            made: 0,
-            ports: Ports::with_room(alloc, most as u16)?,
-        })
-    }
-
-    /// The layout that it is a place of.
-    pub fn layout(&self) -> Layout
-        ensures { result ≡ self.now.state.layout }
-    {
-        self.layout
-    }
-
-    /// Its journal: all its entries, in order.
-    pub fn journal(&self) -> &[Entry]
-        ensures { reverse result.now ≡ self.now.state.journal }
-    {
-        self.journal.entries()
-    }
-
-    /// The clock of its last entry, or 0.
-    pub fn clock(&self) -> u64
-        ensures { result ≡ last_clock self.now.state.journal }
-    {
-        self.journal.clock()
+        let tables = Tables::start(alloc, layout, number)?;
+        Ok(Place { tables })
     }
 
     /// Its number, one of a place of the layout.
     pub fn number(&self) -> u16
-        ensures value { result ≡ self.now.state.number }
-        ensures in_layout { has_place self.now.state.layout self.now.state.number ≡ true }
+        ensures value { result ≡ self.now.number }
+        ensures in_layout { has_place self.now.layout self.now.number ≡ true }
     {
-        self.number
+        self.tables.number()
+    }
+
+    /// Its journal: all its entries, in order.
+    pub fn journal(&self) -> &[Entry]
+        ensures { reverse result.now ≡ self.now.journal }
+    {
+        self.tables.entries()
+    }
+
+    /// The clock of its last entry, or 0.
+    pub fn clock(&self) -> u64
+        ensures { result ≡ last_clock self.now.journal }
+    {
+        self.tables.clock()
     }
 
     /// How many ports it holds.
     pub fn held(&self) -> u16
-        ensures { result ≡ length self.now.state.ports }
+        ensures { result ≡ length self.now.ports }
     {
-        self.ports.len()
+        self.tables.held()
     }
 
-    /// How many entries it can append without memory.
+    /// How many packets wait to go to other places.
+    pub fn waiting(&self) -> u64
+        ensures { result ≡ count self.now.out.lists }
+    {
+        self.tables.waiting()
+    }
+
+    /// The newest location of a port that the place knows: the place where the port is, and its hop.
+    pub fn newest(&self, port: Ui) -> (u16, u64)
+        requires kind { port.kind ≡ Kind.Port }
+        requires site { has_site self.now.layout port.site ≡ true }
+        ensures place { result.0 ≡ (newest (state self.now) port).to }
+        ensures hop { result.1 ≡ (newest (state self.now) port).hop }
+        ensures in_layout { has_place self.now.layout result.0 ≡ true }
+    {
+        self.tables.newest(port)
+    }
+
+    /// What became of the message. It reads the journal once, and takes no memory.
+    pub fn outcome(&self, id: MsgId) -> Outcome
+        ensures { result ≡ outcome id self.now.journal }
+    {
+        self.tables.outcome(id)
+    }
+
+    /// How many entries and packets need no memory.
     pub fn spare(&self) -> u64
         ensures { result ≡ self.now.spare }
     {
-        self.journal.spare() as u64
+        self.tables.spare() as u64
     }
 
-    /// Makes room for at least so many entries. An error leaves the room as it was.
+    /// Makes room for at least so many entries and packets. Nothing else changes, whatever the answer.
     pub fn reserve(&mut self, more: u32) -> Result<(), AllocError>
-        ensures state { self.new.state ≡ self.old.state }
-        ensures spare { self.old.spare ≤ self.new.spare }
+        ensures same { Stays self.old self.new }
         ensures ok { OnOk result (more ≤ self.new.spare) }
-        ensures err { OnErr result (self.new ≡ self.old) }
     {
-        self.journal.reserve(more as usize)
+        self.tables.make_room(more as usize, more as usize)
     }
 
-    /// Takes the place apart: its journal, in order, and the ports that it holds.
-    pub fn finish(self) -> (Vec<Entry>, Ports)
-        ensures journal { reverse result.0.items ≡ self.state.journal }
-        ensures ports { result.1.records ≡ self.state.ports }
-    {
-        (self.journal.into_entries(), self.ports)
-    }
-
-    /// Performs a caller's command: it appends the entries of the call and changes what they say, and gives the reply.
+    /// Performs a caller's command: it appends the entries of the turn, changes what they say, and gives the reply. The packets that
+    /// they cause wait to go.
     ///
     /// It is refused as worn exactly where the greater of the place's and the caller's last clocks is at least 2^62, and else only
-    /// for want of memory. A refusal changes neither the place nor the caller. A take needs no memory while there is room for
-    /// two entries.
+    /// for want of memory. A refusal changes nothing. Before a command that posts the caller has posted fewer than 2^32 - 1
+    /// messages, and before a call its client has given fewer than 2^32 - 1 numbers.
     pub fn act(&mut self, caller: &mut Caller, command: Command) -> Result<Reply, PlaceFault>
-        requires may { MayCall self.old.state caller.old command }
+        requires may { MayCall (state self.old) caller.old command }
         requires posts { is_post command ≡ true → caller.old.posts < u32.MAX }
+        requires given { is_call command ≡ true → caller.old.client.given < u32.MAX }
         ensures called { IfOk result (λ r. Called self.old self.new caller.old caller.new command r) }
-        ensures worn { (clock : ℕ) → IsErrOf result (PlaceFault.Worn clock) ↔ ((CLOCK_LIMIT ≤ greatest (turn self.old caller.old)) × (clock ≡ greatest (turn self.old caller.old))) }
-        ensures refused { OnErr result ((self.new.state ≡ self.old.state) × (caller.new ≡ caller.old)) }
-        ensures room { OnErr result (self.old.spare ≤ self.new.spare) }
-        ensures takes_no_memory { is_take command ≡ true → 2 ≤ self.old.spare → greatest (turn self.old caller.old) < CLOCK_LIMIT → IsOk result }
+        ensures worn { (clock : ℕ) → IsErrOf result (PlaceFault.Worn clock) ↔
+            ((CLOCK_LIMIT ≤ greatest_clock (begun (state self.old) caller.old)) × (clock ≡ greatest_clock (begun (state self.old) caller.old))) }
+        ensures refused { OnErr result (Stays self.old self.new × (caller.new ≡ caller.old)) }
+        ensures takes_no_memory { TakesNone command (state self.old) caller.old → 2 ≤ self.old.spare →
+            greatest_clock (begun (state self.old) caller.old) < CLOCK_LIMIT → IsOk result }
     {
-        let clock = self.journal.clock().max(caller.last());
+        let clock = self.tables.clock().max(caller.last());
         if clock >= CLOCK_LIMIT {
             return Err(PlaceFault::Worn { clock });
         }
-        match command {
-            Command::Make { actor, capacity } => Ok(self.make(caller, actor, capacity)?),
-            Command::Send { dest, body } => Ok(self.send(caller, port_in(dest), body)?),
-            Command::Take { port } => Ok(self.take(caller, port)?),
-            _ => unreachable!(),
+        let reply = self.tables.perform(command, caller)?;
+        self.tables.send_out();
+        Ok(reply)
+    }
+
+    /// Whether the packet, which came from the place `from`, may be worked off here.
+    pub fn lawful(&self, from: u16, packet: &Packet) -> bool
+        ensures { result ≡ is_lawful from packet.now (state self.now) }
+    {
+        self.tables.lawful(from, packet)
+    }
+
+    /// Works off a lawful packet, for a caller whose clock is then at least the packet's. The packets that it causes wait to go.
+    ///
+    /// It is refused as worn exactly where the greatest of the place's, the caller's and the packet's clocks is at least 2^62, and
+    /// else only for want of memory. A refusal hands the packet back and changes nothing.
+    pub fn work(&mut self, caller: &mut Caller, packet: Packet) -> Result<(), (Packet, PlaceFault)>
+        requires { is_lawful packet.from packet (state self.old) ≡ true }
+        ensures worked { OnOk result (WorkedOff self.old self.new caller.old caller.new packet) }
+        ensures worn { (back : Packet) (clock : ℕ) → IsErrOf result (back, PlaceFault.Worn clock) ↔
+            ((CLOCK_LIMIT ≤ greatest_clock (begun_by (state self.old) caller.old packet)) × (clock ≡ greatest_clock (begun_by (state self.old) caller.old packet)) × (back ≡ packet)) }
+        ensures back { IfErr result (λ refused. refused.0 ≡ packet) }
+        ensures refused { OnErr result (Stays self.old self.new × (caller.new ≡ caller.old)) }
+    {
+        let last = caller.last();
+        let heard = last.max(packet.clock);
+        let clock = self.tables.clock().max(heard);
+        if clock >= CLOCK_LIMIT {
+            return Err((packet, PlaceFault::Worn { clock }));
+        }
+        caller.tick(heard);
+        match self.tables.open(packet, caller) {
+            Ok(()) => {
+                self.tables.send_out();
+                Ok(())
+            }
+            Err((back, none)) => {
+                caller.tick(last);
+                Err((back, PlaceFault::Memory(none)))
+            }
         }
     }
 
-    /// Makes a port of the actor, whose home place this is where the layout has it.
-    fn make(&mut self, caller: &mut Caller, actor: Ui, capacity: u8) -> Result<Reply, AllocError>
-        requires may { MayCall self.old.state caller.old (Command.Make actor capacity) }
-        requires clock { greatest (turn self.old caller.old) < CLOCK_LIMIT }
-        ensures called { IfOk result (λ r. Called self.old self.new caller.old caller.new (Command.Make actor capacity) r) }
-        ensures refused { OnErr result ((self.new.state ≡ self.old.state) × (caller.new ≡ caller.old)) }
-        ensures room { OnErr result (self.old.spare ≤ self.new.spare) }
+    /// Takes out the first packet that waits to go to the place; None exactly where none waits, and then nothing changes.
+    pub fn out(&mut self, to: u16) -> Option<Packet>
+        ensures value { result ≡ slice_get (list_to to self.old.out.lists) 0 }
+        ensures state { state self.new ≡ state self.old }
+        ensures waits { self.new.out.lists ≡ without_first to self.old.out.lists }
+        ensures spare { self.old.spare ≤ self.new.spare }
+        ensures taken { IfSome result (λ packet. MayPutBack to self.new.out) }
     {
-        let made_all = self.has_made_all();
-        self.journal.reserve(1)?;
-        if self.layout.home(actor).is_none() {
-            say(
-                &mut self.journal,
-                self.number,
-                caller,
-                Act::NoActor { actor },
-            );
-            return Ok(Reply::NoActor);
-        }
-        if made_all {
-            say(
-                &mut self.journal,
-                self.number,
-                caller,
-                Act::MakeFull { actor },
-            );
-            return Ok(Reply::MakeFull);
-        }
-        let port = next_port(self.layout, self.number, self.made, actor);
-        self.ports.make(port, actor, capacity)?;
-        self.made += 1;
-        let act = Act::Make {
-            port,
-            actor,
-            capacity,
-        };
-        say(&mut self.journal, self.number, caller, act);
-        Ok(Reply::Made(port))
+        self.tables.take_out(to)
     }
 
-    /// Whether it made as many ports as it may make.
-    fn has_made_all(&self) -> bool
-        ensures { result ≡ is_full_of_ports self.now.state.layout self.now.state.journal }
+    /// Puts a packet that was taken out last back, in front of those that wait to go to the place.
+    pub fn put_back(&mut self, to: u16, packet: Packet)
+        requires { MayPutBack to self.old.out }
+        ensures state { state self.new ≡ state self.old }
+        ensures waits { self.new.out.lists ≡ with_first to packet self.old.out.lists }
+        ensures spare { self.old.spare ≤ self.new.spare }
     {
-        u64::from(self.made) == PORTS_PER_SITE_LIMIT / u64::from(self.layout.turns())
+        self.tables.put_back(to, packet);
     }
 
-    /// Posts a message to a port whose creation place this is, and decides on it.
-    fn send(&mut self, caller: &mut Caller, port: Ui, body: Body) -> Result<Reply, AllocError>
-        requires posts { caller.old.posts < u32.MAX }
-        requires clock { greatest (turn self.old caller.old) < CLOCK_LIMIT }
-        ensures called { IfOk result (λ r. Called self.old self.new caller.old caller.new (Command.Send (Dest.Port port) body) r) }
-        ensures refused { OnErr result ((self.new.state ≡ self.old.state) × (caller.new ≡ caller.old)) }
-        ensures room { OnErr result (self.old.spare ≤ self.new.spare) }
+    /// Takes the place apart: its journal, in order, the packets that wait to go, and the ports that it holds.
+    pub fn finish(self) -> (Vec<Entry>, Outbox, Ports)
+        ensures journal { reverse result.0.items ≡ self.journal }
+        ensures out { result.1.lists ≡ self.out.lists }
+        ensures ports { result.2.records ≡ self.ports }
     {
-        self.journal.reserve(2)?;
-        let message = next_message(caller, body);
-        let id = message.id;
-        if self.ports.get(port).is_none() {
-            post(&mut self.journal, self.number, caller, message, port);
-            say(
-                &mut self.journal,
-                self.number,
-                caller,
-                Act::NoPort { id, port },
-            );
-            return Ok(Reply::NoPort(id));
-        }
-        // One is the journal's, and the other waits in the port.
-        let copy = message.copied(0)?;
-        post(&mut self.journal, self.number, caller, message, port);
-        let answer = self.ports.accept(port, copy);
-        say(
-            &mut self.journal,
-            self.number,
-            caller,
-            decision(id, port, &answer),
-        );
-        Ok(verdict_reply(id, &answer))
-    }
-
-    /// Takes the first message that waits in the port, for the caller's actor.
-    fn take(&mut self, caller: &mut Caller, port: Ui) -> Result<Reply, AllocError>
-        requires clock { greatest (turn self.old caller.old) < CLOCK_LIMIT }
-        ensures called { IfOk result (λ r. Called self.old self.new caller.old caller.new (Command.Take port) r) }
-        ensures refused { OnErr result ((self.new.state ≡ self.old.state) × (caller.new ≡ caller.old)) }
-        ensures room { OnErr result (self.old.spare ≤ self.new.spare) }
-        ensures takes_no_memory { 1 ≤ self.old.spare → IsOk result }
-    {
-        self.journal.reserve(1)?;
-        let taken = self.ports.take(port, caller.actor());
-        say(
-            &mut self.journal,
-            self.number,
-            caller,
-            take_act(port, &taken),
-        );
-        Ok(take_reply(taken))
+        self.tables.finish()
     }
 }

@@ -1,0 +1,97 @@
+-- A call of a place, by what its tables did.
+use Rattle.std.proofs.Common.{◌≡◌, ◌+◌, ◌≤◌, min, List, [], ◌∷◌, length, map, refl, sym, ◌∙◌, ap, arith}
+use Rattle.std.proofs.lemmas.List.{length-map}
+use Rattle.chorus_entry.specs.declared.command.Command.{Command}
+use Rattle.chorus_entry.specs.declared.packet.Packet.{Packet}
+use Rattle.chorus_calls.specs.Callers.{Seated}
+use Rattle.chorus_out.specs.Waiting.{with_last}
+use Rattle.chorus_machine.specs.declared.reply.Reply.{Reply}
+use Rattle.chorus_machine.specs.PlaceState.{Turn, Outgoing}
+use Rattle.chorus_machine.specs.PlaceMachine.{begun, act}
+use Rattle.chorus_machine.specs.Replies.{reply}
+use Rattle.chorus_place.specs.declared.parcel.Parcel.{Parcel}
+use Rattle.chorus_place.specs.Tables.{Tables, state, turn, outgoing}
+use Rattle.chorus_place.specs.Commands.{Performed, StaysOut}
+use Rattle.chorus_place.specs.Room.{KeepsRoom}
+use Rattle.chorus_place.specs.Sending as sending
+use Rattle.chorus_place.specs.Calls as calls
+
+-- between turns nothing is put
+pub begins : (p : Tables) (c : Seated) → p.puts ≡ [] → turn p c ≡ begun (state p) c
+begins p c none = ap (λ (ps : List Parcel). record { place = state p; caller = c; puts = map outgoing ps }) none
+
+none-put : (ps : List Parcel) → map outgoing ps ≡ [] → ps ≡ []
+none-put [] h = refl
+none-put (p ∷ ps) h = absurd (cc)
+
+-- and nothing where the turn was refused
+pub still-none : (old new : Tables) (before after : Seated) → old.puts ≡ [] → turn new after ≡ turn old before → new.puts ≡ []
+still-none old new before after none same = none-put new.puts (ap (λ t. t.puts) same ∙ ap (λ (ps : List Parcel). map outgoing ps) none)
+
+sends : (ps : List Parcel) (lists : List (List Packet)) → sending.with_all ps lists ≡ calls.with_all (map outgoing ps) lists
+sends [] lists = refl
+sends (p ∷ ps) lists = sends ps (with_last p.to p.packet lists)
+
+-- what the end of a turn does
+pub record Sent (mid new : Tables) : Type 0 where
+  pub state : state new ≡ state mid
+  pub lists : new.out.lists ≡ sending.with_all mid.puts mid.out.lists
+  pub spare : new.journal.spare ≡ mid.journal.spare
+  pub room : mid.room ≤ new.room
+
+pub ended : (t : Turn) (old mid new : Tables) (after : Seated) → old.puts ≡ [] → turn mid after ≡ t → StaysOut old.out mid.out → KeepsRoom old mid → Sent mid new
+    → calls.Ended t (calls.place_of old) (calls.place_of new) after
+ended t old mid new after none done out keeps sent =
+    record {
+      state = sent.state ∙ ap (λ u. u.place) done;
+      caller_is = ap (λ u. u.caller) done;
+      waits = sent.lists ∙ sends mid.puts mid.out.lists ∙ ap (λ (os : List Outgoing). calls.with_all os mid.out.lists) (ap (λ u. u.puts) done)
+          ∙ ap (λ ls. calls.with_all t.puts ls) out.lists;
+      spare = room;
+    }
+  where
+    room : min old.journal.spare old.room + length old.journal.past ≤ min new.journal.spare new.room + length new.journal.past + length t.puts
+    room =
+        let entries = keeps.entries in
+        let packets = keeps.packets in
+        let grows = keeps.grows in
+        let nothing = ap (λ (ps : List Parcel). length ps) none in
+        let past = ap (λ s. length s.journal) sent.state in
+        let spare = sent.spare in
+        let more = sent.room in
+        let puts = sym (length-map mid.puts outgoing) ∙ ap (λ u. length u.puts) done in
+        omega (arith, entries, packets, grows, nothing, past, spare, more, puts)
+
+pub called : (old mid new : Tables) (before after : Seated) (c : Command) (r : Reply) → old.puts ≡ [] → Performed c (turn old before) (turn mid after) r → StaysOut old.out mid.out
+    → KeepsRoom old mid → Sent mid new → calls.Called (calls.place_of old) (calls.place_of new) before after c r
+called old mid new before after c r none performed out keeps sent =
+    record {
+      ended = ended (act c (begun (state old) before)) old mid new after none (performed.done ∙ ap (act c) (begins old before none)) out keeps sent;
+      answer = performed.answer ∙ ap (reply c) (begins old before none);
+    }
+
+-- a call that was refused
+pub stays : (old new : Tables) (before after : Seated) → old.puts ≡ [] → turn new after ≡ turn old before → StaysOut old.out new.out → KeepsRoom old new
+    → calls.Stays (calls.place_of old) (calls.place_of new)
+stays old new before after none same out keeps =
+    record { state = ap (λ t. t.place) same; waits = out.lists; spare = room }
+  where
+    room : min old.journal.spare old.room ≤ min new.journal.spare new.room
+    room =
+        let entries = keeps.entries in
+        let packets = keeps.packets in
+        let past = ap (λ t. length t.place.journal) same in
+        let nothing = ap (λ (ps : List Parcel). length ps) none in
+        let still = ap (λ (ps : List Parcel). length ps) (still-none old new before after none same) in
+        omega (arith, entries, packets, past, nothing, still)
+
+-- one after the other
+pub kept-then : {a b c : Tables} → KeepsRoom a b → KeepsRoom b c → KeepsRoom a c
+kept-then h k =
+    let e1 = h.entries in
+    let e2 = k.entries in
+    let p1 = h.packets in
+    let p2 = k.packets in
+    let g1 = h.grows in
+    let g2 = k.grows in
+    record { entries = omega (arith, e1, e2); packets = omega (arith, p1, p2); grows = omega (arith, g1, g2) }

@@ -1,0 +1,36 @@
+-- What one pass over a list or a journal reads.
+use Rattle.std.proofs.Common.{◌≡◌, ℕ, ◌+◌, Bool, true, false, ◌&&◌, cond, Option, Some, None, List, [], ◌∷◌, ◌++◌, ◌<◌, length, take, drop, get_or, reverse, slice_get, refl, sym, ◌∙◌, ap}
+use Rattle.std.specs.List.{list_all}
+use Rattle.std.specs.Option.{option_or}
+use Rattle.std.proofs.lemmas.Option.{slice_get_within, get_or_from_slice_get}
+use Rattle.std.proofs.lemmas.List.{drop_more, take_more, reverse-append}
+use Rattle.chorus_entry.specs.declared.entry.Entry.{Entry}
+use Rattle.chorus_entry.specs.declared.id.MsgId.{MsgId}
+use Rattle.chorus_world.specs.Views.{is_by, by}
+use Rattle.chorus_world.specs.Posts.{Posted, posted_by, posted_in}
+use Rattle.chorus_place.specs.Outcomes.{goes_to, dest_by}
+
+-- a test of all that are left, and of the first of them
+pub all-from : {A : Type 0} (f : A → Bool) (xs : List A) (i : ℕ) (x : A) → slice_get xs i ≡ Some x → list_all f (drop i xs) ≡ f x && list_all f (drop (i + 1) xs)
+all-from f xs i x h = ap (list_all f) (drop_more xs i x (slice_get_within xs i x h) ∙ ap (λ y. y ∷ drop (i + 1) xs) (get_or_from_slice_get xs i x x h))
+
+pub all-fails : {A : Type 0} (f : A → Bool) (xs : List A) (i : ℕ) (x : A) → slice_get xs i ≡ Some x → f x ≡ false → list_all f (drop i xs) ≡ false
+all-fails f xs i x h fails = all-from f xs i x h ∙ ap (λ b. b && list_all f (drop (i + 1) xs)) fails
+
+pub all-passes : {A : Type 0} (f : A → Bool) (xs : List A) (i : ℕ) (x : A) → slice_get xs i ≡ Some x → f x ≡ true → list_all f (drop i xs) ≡ list_all f (drop (i + 1) xs)
+all-passes f xs i x h passes = all-from f xs i x h ∙ ap (λ b. b && list_all f (drop (i + 1) xs)) passes
+
+-- the entries of a journal, with one more
+pub next-entry : (es : List Entry) (i : ℕ) (e : Entry) → i < length es → e ≡ get_or es i e → reverse (take (i + 1) es) ≡ e ∷ reverse (take i es)
+next-entry es i e h is = ap reverse (take_more es i e h) ∙ ap (λ x. reverse (take i es ++ x ∷ [])) (sym is) ∙ reverse-append (take i es) (e ∷ [])
+
+-- where a post goes, with one entry more
+pub dest_more : (x : MsgId) (e : Entry) (here : List Entry) → goes_to (posted_in x (by x.seat (e ∷ here))) ≡ option_or (goes_to (posted_in x (by x.seat here))) (dest_by x e)
+dest_more x e here = cases (is_by x.seat e) (posted_in x (by x.seat here)) refl
+  where
+    cases : (b : Bool) (o : Option Posted) → posted_in x (by x.seat here) ≡ o
+        → goes_to (posted_in x (cond b (e ∷ by x.seat here) (by x.seat here))) ≡ option_or (goes_to o) (cond b (goes_to (posted_by x e.place e.act)) None)
+    cases true None h = ap (λ o. goes_to (option_or o (posted_by x e.place e.act))) h
+    cases true (Some m) h = ap (λ o. goes_to (option_or o (posted_by x e.place e.act))) h
+    cases false None h = ap goes_to h
+    cases false (Some m) h = ap goes_to h

@@ -1,0 +1,157 @@
+-- Whole turns.
+use Rattle.std.proofs.Common.{◌≡◌, ℕ, max, ◌+◌, ◌≤◌, ◌==◌, Bool, true, false, not, cond, All, Result, Ok, Err, OnErr, Option, None, List, [], ◌∷◌, ◌++◌, length, drop, length-append, refl, sym, ◌∙◌, ap, arith}
+use Rattle.std.proofs.lemmas.List.{append-nil}
+use Rattle.std.proofs.lemmas.List.Elements.{All-head, All-tail}
+use Rattle.chorus_ui.specs.declared.ui.Ui.{Ui}
+use Rattle.chorus_ui.specs.declared.layout.Layout.{Layout}
+use Rattle.chorus_ui.specs.Layout.{has_site}
+use Rattle.chorus_entry.specs.declared.id.MsgId.{MsgId}
+use Rattle.chorus_entry.specs.declared.answer.Answer.{Answer}
+use Rattle.chorus_entry.specs.declared.answer.Answer.TheVariants as A
+use Rattle.chorus_world.specs.Places.{taught}
+use Rattle.chorus_world.specs.declared.place.Location.{Location}
+use Rattle.chorus_hints.specs.Known.{newest_of}
+use Rattle.chorus_waits.specs.declared.wait.Key.{Key}
+use Rattle.chorus_waits.specs.declared.wait.Wait.{Wait}
+use Rattle.chorus_waits.specs.Queues.{Queue, changed, with_last}
+use Rattle.chorus_machine.specs.PlaceState.{Turn, location, newest, greatest_clock, say, unchanged}
+use Rattle.chorus_machine.specs.Trying.{go}
+use Rattle.chorus_machine.specs.Doing.{direct, post, does, after_tag}
+use Rattle.chorus_machine.specs.Own.{own}
+use Rattle.chorus_entry.specs.declared.tag.Tag.{Tag}
+use Rattle.chorus_entry.specs.declared.tag.Tag.TheVariants as tags
+use Rattle.chorus_entry.specs.declared.act.Act.{Act}
+use Rattle.chorus_entry.specs.declared.dest.Dest.{Dest}
+use Rattle.chorus_entry.specs.declared.command.Command.{Command}
+use Rattle.chorus_entry.specs.declared.message.Message.{Message}
+use Rattle.chorus_machine.specs.declared.reply.Reply.{Reply}
+use Rattle.chorus_machine.specs.Replies.{reply_to, post_reply}
+use Rattle.chorus_place.specs.Commands.{Performed}
+use Rattle.chorus_calls.specs.Callers.{after_post}
+use Rattle.chorus_machine.specs.Working.{hears_verdict, taught_of, told}
+use Rattle.chorus_place.specs.Going.{first_to, leaving_to, leaving, settled_by, reports}
+use Rattle.chorus_place.specs.Tables.{MayWait}
+use Rattle.chorus_place.specs.Steps.{told_by, posted}
+use Rattle.chorus_place.proofs.Deciding.{located}
+use Rattle.chorus_place.proofs.Reports.{at-key, here-none}
+
+max-same : (n : ℕ) → max n n ≡ n
+max-same n = omega arith
+
+-- with either word for the location
+leaving-at : (l : Layout) (p : ℕ) (q : Ui) (o : Option (ℕ × ℕ)) (ws : List Wait) → leaving_to l p q (newest_of l q o).0 ws ≡ leaving_to l p q (location l q o).to ws
+leaving-at l p q o ws = by (has_site l q.site) refl
+  where
+    by : (b : Bool) → has_site l q.site ≡ b → leaving_to l p q (newest_of l q o).0 ws ≡ leaving_to l p q (location l q o).to ws
+    by true h = ap (λ n. leaving_to l p q n ws) (sym (ap (λ (x : Location). x.to) (located l q o (newest_of l q o) h refl)))
+    by false h =
+        ap (λ b. cond (not b) None (cond ((newest_of l q o).0 == p) None (first_to l (newest_of l q o).0 ws))) h
+        ∙ sym (ap (λ b. cond (not b) None (cond ((location l q o).to == p) None (first_to l (location l q o).to ws))) h)
+
+told-waits : (a : Answer) (q : Queue) → (told a q).waits ≡ drop (settled_by a) q.waits ++ []
+told-waits (A.Stale to hop) q = sym (append-nil _)
+told-waits _ q = sym (append-nil _)
+
+told-length : (a : Answer) (q : Queue) → length (told a q).waits ≤ length q.waits
+told-length a q = by a q.waits
+  where
+    less : (ws : List Wait) → length (drop 1 ws) ≤ length ws
+    less [] = omega arith
+    less (w ∷ ws) = omega arith
+
+    by : (a : Answer) (ws : List Wait) → length (told a (record { tried = q.tried; waits = ws })).waits ≤ length ws
+    by (A.Stale to hop) ws = omega arith
+    by _ ws = less ws
+
+pub tell-length : (k : Key) (x : MsgId) (a : Answer) (t u : Turn) → u ≡ told_by x k a t → length (u.place.waiting k).waits ≤ length (t.place.waiting k).waits
+tell-length k x a t u e =
+    let f = ap (λ (v : Turn). length (v.place.waiting k).waits) e ∙ ap (λ (q : Queue). length q.waits) (at-key k (told a) t.place.waiting) in
+    let g = told-length a (t.place.waiting k) in omega (arith, f, g)
+
+pub tell-clock : (k : Key) (x : MsgId) (a : Answer) (t u : Turn) → u ≡ told_by x k a t → greatest_clock u ≡ greatest_clock t + 1
+tell-clock k x a t u e = ap greatest_clock e ∙ max-same (greatest_clock t + 1)
+
+pub tell-leaving : (k : Key) (x : MsgId) (a : Answer) (t u : Turn) (o : Option Wait) → u ≡ told_by x k a t
+    → o ≡ leaving_to t.place.layout t.place.number k.port (newest_of t.place.layout k.port (taught_of k.port (taught a) t.place.known k.port)).0 (drop (settled_by a) (t.place.waiting k).waits ++ [])
+    → o ≡ leaving k u.place
+tell-leaving k x a t u o e h =
+    h
+    ∙ leaving-at t.place.layout t.place.number k.port (taught_of k.port (taught a) t.place.known k.port) (drop (settled_by a) (t.place.waiting k).waits ++ [])
+    ∙ sym (ap (λ (v : Turn). leaving k v.place) e
+    ∙ ap (λ ws. leaving_to t.place.layout t.place.number k.port (location t.place.layout k.port (taught_of k.port (taught a) t.place.known k.port)).to ws)
+    (ap (λ (q : Queue). q.waits) (at-key k (told a) t.place.waiting) ∙ told-waits a (t.place.waiting k)))
+
+pub worked : (k : Key) (x : MsgId) (a : Answer) (t s u v : Turn) → s ≡ t → u ≡ told_by x k a s → v ≡ go k u → v ≡ hears_verdict x k a t
+worked k x a t s u v same f g = g ∙ ap (go k) (f ∙ ap (told_by x k a) same)
+
+-- What the messages of a queue report.
+
+-- direct ones none
+pub reports-direct : (l : Layout) (p : ℕ) (k : Key) (ws : List Wait) → All (MayWait l p k) ws → k.route ≡ None → reports p ws ≡ 0
+reports-direct l p k [] m e = refl
+reports-direct l p k (w ∷ ws) m e =
+    let first = here-none p w ((All-head (MayWait l p k) w ws m).own e) in
+    let rest = reports-direct l p k ws (All-tail (MayWait l p k) w ws m) e in omega (arith, first, rest)
+
+-- each one at most
+pub reports-most : (p : ℕ) (ws : List Wait) → reports p ws ≤ length ws
+reports-most p [] = omega arith
+reports-most p (w ∷ ws) = by (w.home == p) (reports-most p ws)
+  where
+    by : (b : Bool) → reports p ws ≤ length ws → cond b 0 1 + reports p ws ≤ length (w ∷ ws)
+    by true h = omega (arith, h)
+    by false h = omega (arith, h)
+
+-- Posting to a port.
+
+pub posted-length : (q : Ui) (m : Message) (t u : Turn) → u ≡ posted m q t
+    → length (u.place.waiting (direct q)).waits ≡ length (t.place.waiting (direct q)).waits + 1
+posted-length q m t u e =
+    ap (λ (x : Turn). length (x.place.waiting (direct q)).waits) e
+    ∙ ap (λ (x : Queue). length x.waits) (at-key (direct q) (with_last (post m t.place.number)) t.place.waiting)
+    ∙ length-append (t.place.waiting (direct q)).waits _
+
+pub posted-clock : (q : Ui) (m : Message) (t u : Turn) → u ≡ posted m q t → greatest_clock u ≡ greatest_clock t + 1
+posted-clock q m t u e = ap greatest_clock e ∙ max-same (greatest_clock t + 1)
+
+pub posted-leaving : (q : Ui) (m : Message) (t u : Turn) (o : Option Wait) (w : Wait) → u ≡ posted m q t → w ≡ post m t.place.number
+    → o ≡ leaving_to t.place.layout t.place.number q (newest_of t.place.layout q (t.place.known q)).0 ((t.place.waiting (direct q)).waits ++ w ∷ [])
+    → o ≡ leaving (direct q) u.place
+posted-leaving q m t u o w e c h =
+    h
+    ∙ leaving-at t.place.layout t.place.number q (t.place.known q) ((t.place.waiting (direct q)).waits ++ w ∷ [])
+    ∙ ap (λ x. leaving_to t.place.layout t.place.number q (newest t.place q).to ((t.place.waiting (direct q)).waits ++ x ∷ [])) c
+    ∙ sym (ap (λ (x : Turn). leaving (direct q) x.place) e
+    ∙ ap (λ (x : Queue). leaving_to t.place.layout t.place.number q (newest t.place q).to x.waits) (at-key (direct q) (with_last (post m t.place.number)) t.place.waiting))
+
+pub on-err : {A E : Type 0} (r : Result A E) (P : Type 0) → P → OnErr r P
+on-err (Ok a) P p = tt
+on-err (Err e) P p = p
+
+-- any command that posts to a port
+pub post-performs : (command : Command) (m : Message) (q : Ui) (t u : Turn) (r : Reply) → own command t ≡ Act.Post m (Dest.Port q)
+    → u ≡ go (direct q) (posted m q (record t { caller = after_tag m.tag q m.body t.caller })) → r ≡ post_reply m.id u.place.journal → Performed command t u r
+post-performs command m q t u r o e a =
+    record {
+      done = e ∙ sym (same m.tag refl) ∙ sym (ap (λ x. does x t) o);
+      answer = a ∙ ap (λ (x : Turn). post_reply m.id x.place.journal) (e ∙ sym (same m.tag refl)) ∙ sym (ap (λ x. reply_to x t (does x t)) o);
+    }
+  where
+    -- the turn of a post by a caller whose client and hand are these
+    by_tag : Tag → Turn
+    by_tag tag =
+        go (direct q) (say (Act.Post m (Dest.Port q)) (record (unchanged t) {
+          caller = after_post (after_tag tag q m.body t.caller);
+          waiting = changed (direct q) (with_last (post m t.place.number)) t.place.waiting;
+        }) t)
+
+    by_caller : Tag → Turn
+    by_caller tag = go (direct q) (posted m q (record t { caller = after_tag tag q m.body t.caller }))
+
+    each : (tag : Tag) → by_tag tag ≡ by_caller tag
+    each tags.Plain = refl
+    each (tags.Request number back) = refl
+    each (tags.Reply client number) = refl
+
+    same : (tag : Tag) → m.tag ≡ tag → by_tag m.tag ≡ by_caller m.tag
+    same tag f = ap by_tag f ∙ each tag ∙ sym (ap by_caller f)
