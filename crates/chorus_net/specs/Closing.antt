@@ -1,28 +1,57 @@
 -- What closing gives.
-use Rattle.std.specs.Prelude.{◌≡◌, List, [], ◌∷◌, map, reverse}
+-- n is the network.
+use Rattle.std.specs.Prelude.{ℕ, ◌≡◌, ◌+◌, List, [], ◌∷◌, ◌++◌, length, map, reverse}
 use Rattle.std.specs.Global.{Vec}
 use Rattle.chorus_entry.specs.declared.entry.Entry.{Entry}
-use Rattle.chorus_entry.specs.declared.record.PortRecord.{PortRecord}
+use Rattle.chorus_entry.specs.declared.packet.Packet.{Packet}
+use Rattle.chorus_out.specs.Waiting.{count}
+use Rattle.chorus_law.specs.declared.placed.Placed.{Placed}
+use Rattle.chorus_law.specs.Network.{NetState}
+use Rattle.chorus_law.specs.Left.{journals, packets_left, placed_at, placed}
+use Rattle.chorus_place.specs.Calls.{Place}
 use Rattle.chorus_net.specs.declared.closed.Closed.{Closed}
 use Rattle.chorus_net.specs.declared.closed.Origin.{Origin}
-use Rattle.chorus_law.specs.declared.placed.Placed.{Placed}
-use Rattle.chorus_net.specs.Sites.{SitesState}
 
 -- the journals, as lists
-abbrev pub journals_of : Closed → List (List Entry)
-journals_of closed = map (λ (journal : Vec Entry). journal.items) closed.journals.items
+abbrev pub journal_items : List (Vec Entry) → List (List Entry)
+journal_items journals = map (λ (journal : Vec Entry). journal.items) journals
 
--- a port that is held at place 1
-abbrev pub placed : PortRecord → Placed
-placed port = record { place = 1; port = port }
+abbrev pub journals_of : Closed → List (List Entry)
+journals_of closed = journal_items closed.journals.items
 
 -- it was made by closing sites
 abbrev pub IsOfSites : Closed → Type 0
 IsOfSites closed = closed.origin ≡ Origin.Sites
 
--- the journal of the one place, no packet, and the ports of its table, by closing sites
-pub record IsClosed (s : SitesState) (closed : Closed) : Type 0 where
-  pub journals : journals_of closed ≡ reverse s.place.journal ∷ []
-  pub rest : closed.rest.items ≡ []
-  pub ports : closed.ports.items ≡ map placed s.place.ports
+-- the journals of the places, the packets that were put and not worked off, and the ports that are held, by closing sites
+pub record IsClosed (n : NetState) (closed : Closed) : Type 0 where
+  pub journals : journals_of closed ≡ journals n
+  pub rest : closed.rest.items ≡ packets_left n
+  pub ports : closed.ports.items ≡ placed n
   pub origin : IsOfSites closed
+
+-- What places have, by place: their journals, the packets that wait there, and the ports that they hold.
+
+abbrev pub journals_in : List Place → List (List Entry)
+journals_in ps = map (λ (p : Place). reverse p.journal) ps
+
+abbrev pub flat : List (List Packet) → List Packet
+flat [] = []
+flat (l ∷ ls) = l ++ flat ls
+
+abbrev pub packets_of : List Place → List Packet
+packets_of [] = []
+packets_of (p ∷ ps) = flat p.out.lists ++ packets_of ps
+
+abbrev pub ports_of : List Place → List Placed
+ports_of [] = []
+ports_of (p ∷ ps) = placed_at p.number p.ports ++ ports_of ps
+
+-- how many packets, and how many ports
+abbrev pub total_waiting : List Place → ℕ
+total_waiting [] = 0
+total_waiting (p ∷ ps) = count p.out.lists + total_waiting ps
+
+abbrev pub total_held : List Place → ℕ
+total_held [] = 0
+total_held (p ∷ ps) = length p.ports + total_held ps

@@ -1,3 +1,5 @@
-pub mod Sites
-pub mod OnePlace
 pub mod Closing
+pub mod Drains
+pub mod Room
+pub mod Sites
+pub mod Starting

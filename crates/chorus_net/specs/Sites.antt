@@ -1,96 +1,79 @@
--- The sites of a layout on one thread: so far one place, and the callers by their seats.
-use Rattle.std.specs.Prelude.{ℕ, ◌≡◌, ◌≤◌, ◌==◌, max, cond, List, [], ◌∷◌, ◌++◌, length, Option, Some, None, slice_get, slice_set}
-use Rattle.std.specs.Option.{option_map}
-use Rattle.chorus_ui.specs.declared.kind.Kind.TheVariants as kinds
-use Rattle.chorus_ui.specs.declared.ui.Ui.{Ui}
+-- The sites: their places and their callers, and the network that they are.
+-- l is a layout, p is a place, ps are places, k is the number of the first one, b of a place that packets go to.
+use Rattle.std.specs.Prelude.{ℕ, ◌≡◌, ◌+◌, ◌≤◌, true, List, [], ◌∷◌, ◌++◌, length, map}
 use Rattle.chorus_ui.specs.declared.layout.Layout.{Layout}
-use Rattle.chorus_entry.specs.declared.command.Command.{Command}
-use Rattle.chorus_world.specs.Places.{last_clock}
-use Rattle.chorus_calls.specs.Callers.{Seated, new_caller}
-use Rattle.chorus_place.specs.State.{PlaceState, Turn, started}
-use Rattle.chorus_machine.specs.declared.reply.Reply.{Reply}
-use Rattle.chorus_place.specs.Machine.{call, reply}
 use Rattle.chorus_ui.specs.declared.limits.TheConstants.{SEATS_LIMIT}
+use Rattle.chorus_ui.specs.Layout as layouts
+use Rattle.chorus_ui.specs.Layout.{IsLayout}
+use Rattle.chorus_entry.specs.declared.packet.Packet.{Packet}
+use Rattle.chorus_calls.specs.Callers.{Seated}
+use Rattle.chorus_machine.specs.PlaceState.{PlaceState, Outgoing}
+use Rattle.chorus_law.specs.Network.{NetState, Event, schedule}
+use Rattle.chorus_law.specs.Schedules.{may_be}
+use Rattle.chorus_place.specs.Calls.{Place, state}
 
--- the place, and the caller of each seat given, from seat 0 on
+-- the places by their numbers, and the caller of each seat, from seat 0 on
 pub record SitesState : Type 0 where
-  pub place : PlaceState
+  pub layout : Layout
+  pub places : List Place
   pub callers : List Seated
 
--- the layout of the sites
-abbrev pub layout_of : SitesState → Layout
-layout_of s = s.place.layout
+-- The packets that wait, by the place that put them, then by the place that they go to.
 
--- the actor of seat 0
-abbrev pub first_actor : Ui
-first_actor = record { site = 1; kind = kinds.Actor; number = 1 }
+abbrev pub to_place : ℕ → List Packet → List Outgoing
+to_place b packets = map (λ (packet : Packet). record { to = b; packet = packet }) packets
 
--- nothing happened yet, and seat 0 was given
-abbrev pub opening : Layout → SitesState
-opening l = record { place = started l 1; callers = new_caller 0 first_actor 0 ∷ [] }
+-- those of one outbox
+abbrev pub waiting_from : ℕ → List (List Packet) → List Outgoing
+waiting_from b [] = []
+waiting_from b (l ∷ ls) = to_place b l ++ waiting_from (b + 1) ls
 
--- the last clock of a caller, if there is one
-abbrev pub last_of : Option Seated → ℕ
-last_of None = 0
-last_of (Some caller) = caller.last
+abbrev pub waiting_in : List (List (List Packet)) → List Outgoing
+waiting_in [] = []
+waiting_in (ls ∷ rest) = waiting_from 0 ls ++ waiting_in rest
 
--- one seat more, in this actor, whose last clock is that of seat 0
-abbrev pub entered : Ui → SitesState → SitesState
-entered actor s =
-    record s { callers = s.callers ++ new_caller (length s.callers) actor (last_of (slice_get s.callers 0)) ∷ [] }
+abbrev pub boxes : List Place → List (List (List Packet))
+boxes ps = map (λ (p : Place). p.out.lists) ps
 
-abbrev pub put_back : ℕ → Turn → SitesState → SitesState
-put_back k t s = record { place = t.place; callers = slice_set s.callers k t.caller }
+abbrev pub all_waiting : List Place → List Outgoing
+all_waiting ps = waiting_in (boxes ps)
 
-abbrev pub acted_by : ℕ → Option Seated → Command → SitesState → SitesState
-acted_by k None c s = s
-acted_by k (Some caller) c s = put_back k (call c (record { place = s.place; caller = caller })) s
+-- the network that the sites are
+abbrev pub net : SitesState → NetState
+net s = record { layout = s.layout; places = map state s.places; packets = all_waiting s.places; callers = s.callers }
 
--- the sites after a command of the seat k
-abbrev pub acted : ℕ → Command → SitesState → SitesState
-acted k c s = acted_by k (slice_get s.callers k) c s
+-- What sites keep.
 
--- the actor in which the seat k runs
-abbrev pub actor_of : SitesState → ℕ → Option Ui
-actor_of s k = option_map (λ (caller : Seated). caller.actor) (slice_get s.callers k)
+-- the packets come from the place of this number
+abbrev pub AreFrom : ℕ → List Packet → Type 0
+AreFrom k [] = Unit {0}
+AreFrom k (packet ∷ packets) = (packet.from ≡ k) × AreFrom k packets
 
--- how many messages the seat k posted
-abbrev pub posts_of : SitesState → ℕ → Option ℕ
-posts_of s k = option_map (λ (caller : Seated). caller.posts) (slice_get s.callers k)
+abbrev pub AllFrom : ℕ → List (List Packet) → Type 0
+AllFrom k [] = Unit {0}
+AllFrom k (l ∷ ls) = AreFrom k l × AllFrom k ls
 
--- the reply to a command of the seat k, if the seat was given
-abbrev pub replied : ℕ → Command → SitesState → Option Reply
-replied k c s = option_map (λ (caller : Seated). reply c (record { place = s.place; caller = caller })) (slice_get s.callers k)
+-- the place of this number: it has a list of packets for each place, and all are from it
+pub record IsPlaceOf (l : Layout) (k : ℕ) (p : Place) : Type 0 where
+  pub number : p.number ≡ k
+  pub layout : p.layout ≡ l
+  pub lists : length p.out.lists ≡ layouts.places l + 1
+  pub from : AllFrom k p.out.lists
 
--- the greater of the last clocks of the place and of the seat k
-abbrev pub compared : ℕ → SitesState → ℕ
-compared k s = max (last_clock s.place.journal) (last_of (slice_get s.callers k))
+abbrev pub ArePlaces : Layout → ℕ → List Place → Type 0
+ArePlaces l k [] = Unit {0}
+ArePlaces l k (p ∷ ps) = IsPlaceOf l k p × ArePlaces l (k + 1) ps
 
--- what sites keep: their place is the first, and at least seat 0 and at most 1,048,576 seats were given
-pub record AreSites (s : SitesState) : Type 0 where
-  pub place : s.place.number ≡ 1
+-- the network is what some schedule left
+pub record IsScheduled (l : Layout) (n : NetState) : Type 0 where
+  pub events : List Event
+  pub may : may_be l events ≡ true
+  pub is : n ≡ schedule l events
+
+pub record IsSites (s : SitesState) : Type 0 where
+  pub shape : IsLayout s.layout
+  pub places : ArePlaces s.layout 1 s.places
+  pub all : length s.places ≡ layouts.places s.layout
+  pub scheduled : IsScheduled s.layout (net s)
   pub some_seat : 1 ≤ length s.callers
   pub few_seats : length s.callers ≤ SEATS_LIMIT
-
--- What happens on the sites, one after the other: a seat is given, or a seat's command is performed. Lists have the latest
--- first.
-pub data Event : Type 0 where
-  Enter : (actor : Ui) → Event
-  Act : (seat : ℕ) (command : Command) → Event
-
-abbrev pub happened : Event → SitesState → SitesState
-happened (Enter actor) s = entered actor s
-happened (Act k c) s = acted k c s
-
-abbrev pub after : Layout → List Event → SitesState
-after l [] = opening l
-after l (event ∷ events) = happened event (after l events)
-
--- the commands of the seat k, the latest first
-abbrev pub command_in : ℕ → Event → List Command → List Command
-command_in k (Enter actor) cs = cs
-command_in k (Act s c) cs = cond (s == k) (c ∷ cs) cs
-
-abbrev pub commands_of : ℕ → List Event → List Command
-commands_of k [] = []
-commands_of k (event ∷ events) = command_in k event (commands_of k events)

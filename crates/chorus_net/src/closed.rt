@@ -22,3 +22,4 @@ pub(crate) enum Origin {
     /// `Sites::close`.
     Sites,
 }
+

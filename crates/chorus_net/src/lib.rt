@@ -1,22 +1,21 @@
-//! The nucleus on one thread: its sites, their callers, and what a command of a caller does.
+//! The nucleus on one thread: its sites, their callers, and what happens on them.
 //!
-//! The layer above rests on this: each call of [`Sites`] changes exactly what the definitions of `specs/Sites.antt` say, by
-//! the machine of a place; and [`one_place_runs`]: whatever happens on the sites, the journal is a run of the one-holder world
-//! for their callers, which performs the commands of each, and the table of ports stands for its world.
+//! The layer above rests on this: each call of [`Sites`] is exactly one event of the network machine, or the deliveries of a
+//! drain, so that the sites are always what some schedule of that machine leaves.
 //!
-//! Begin with `sites`. So far the sites have one place. For all places [`network_refines_world`] has the law: the network of
-//! place machines refines that world.
+//! Begin with `sites`; `specs/Sites.antt` has the network that sites are.
 #![tactic(auto)]
 
 mod closed;
+mod closing;
+mod commands;
 mod fault;
-mod laws;
 mod sites;
-#[cfg(test)]
-mod tests;
+mod starting;
 
-pub use chorus_law::{Delivered, Placed, Quiet, drains_leave_nothing_to_do, network_refines_world};
+pub use chorus_law::{
+    Delivered, Placed, Quiet, drains_leave_nothing_to_do, network_refines_world,
+};
 pub use closed::Closed;
 pub use fault::EnterFault;
-pub use laws::one_place_runs;
 pub use sites::Sites;

@@ -1,61 +1,75 @@
 //! The sites on one thread.
 
-ghost use Rattle.std.specs.Prelude.{◌≡◌, ℕ, ◌<◌, ◌≤◌, ◌↔◌, true, false, length, IfOk, OnOk, OnErr, IfErr, IsErrOf, Some, IfSome};
-ghost use Rattle.chorus_ui.specs.Layout.{has_actor};
-ghost use Rattle.chorus_entry.specs.Kinds.{names_actor};
-ghost use Rattle.chorus_entry.specs.Command.{is_post};
+ghost use Rattle.std.specs.Prelude.{◌≡◌, ◌≢◌, ℕ, [], ◌∷◌, ◌<◌, ◌≤◌, ◌↔◌, true, false, length, slice_get, All, IfOk, IsOk, OnOk, OnErr, IfErr, IsErrOf, Some, None, Ok};
+ghost use Rattle.chorus_ui.specs.Layout.{IsLayout, has_actor, has_place};
 ghost use Rattle.chorus_ui.specs.declared.limits.TheConstants.{CLOCK_LIMIT, SEATS_LIMIT};
-ghost use Rattle.chorus_net.specs.Sites.{opening, entered, acted, replied, actor_of, posts_of, compared};
-ghost use Rattle.chorus_net.specs.OnePlace.{may_give};
+ghost use Rattle.chorus_entry.specs.Kinds.{names_actor};
+ghost use Rattle.chorus_law.specs.Packets.{first_on};
+ghost use Rattle.chorus_law.specs.Network.{Act, happened, replied, delivery, place_numbers, from_one};
+ghost use Rattle.chorus_law.specs.History.{put_by};
+ghost use Rattle.chorus_law.specs.Schedules.{may_happen};
+ghost use Rattle.chorus_law.specs.Calls.{just_started, entering, delivering, posts_of, compared, compared_at};
 ghost use Rattle.chorus_net.specs.Closing.{IsClosed};
+ghost use Rattle.chorus_net.specs.Drains.{Ticks, IsWorn, Goes, GoesRound, Drains, Stops};
+ghost use Rattle.chorus_net.specs.Room.{HaveRoom, HasRoomAt, KeepRoom, HasReserved, UsesRoom, TakesNoneAt};
+ghost use Rattle.chorus_net.specs.Sites.{net, IsScheduled};
 
-use crate::closed::{Closed, Origin};
-use crate::fault::EnterFault;
+use crate::closed::Closed;
+use crate::closing::{count_packets, count_ports, take_apart};
+use crate::commands::place_for;
+use crate::starting::start_places;
 use chorus_calls::Caller;
 use chorus_entry::Command;
-use chorus_law::Placed;
+use chorus_law::{Delivered, Quiet};
+use crate::fault::EnterFault;
 use chorus_place::{Place, PlaceFault, Reply};
 use chorus_ui::{Kind, Layout, SEATS_LIMIT, Ui};
 use std::alloc::{AllocError, Global};
 use std::marker::Model;
 
-/// The sites of a layout on one thread, and their callers. So far they have place 1 alone, and perform what it does.
+/// The sites of a layout on one thread: their places, and their callers.
 #[derive(Debug, Drop)]
 pub struct Sites {
-    place: Place,
+    layout: Layout,
+    places: Vec<Place>,
     callers: Vec<Caller>,
 }
 
 impl Model for Sites {
-    ghost use Rattle.chorus_net.specs.Sites.{SitesState, AreSites};
+    ghost use Rattle.chorus_net.specs.Sites.{SitesState, IsSites};
 
     ghost Value = { SitesState };
 
-    ghost view = { λ s. record { place = s.place.state; callers = s.callers.items } };
+    ghost view = { λ s. record { layout = s.layout; places = s.places.items; callers = s.callers.items } };
 
-    ghost invariant = { λ s. AreSites (record { place = s.place.state; callers = s.callers.items }) };
+    ghost invariant = { λ s. IsSites (record { layout = s.layout; places = s.places.items; callers = s.callers.items }) };
 }
 
 impl Sites {
     /// The sites of the layout, on which nothing happened yet: seat 0 is given, in actor `1.a.1`. The only error is want of
     /// memory.
     pub fn start(alloc: Global, layout: Layout) -> Result<Sites, AllocError>
-        ensures { IfOk result (λ sites. sites ≡ opening layout) }
+        ensures { IfOk result (λ sites. net sites ≡ just_started layout) }
     {
+        let places = start_places(alloc, layout)?;
         let actor = Ui::new(1, Kind::Actor, 1).unwrap();
         let mut callers = Vec::new(alloc);
         callers.push(Caller::new(0, actor, 0))?;
         Ok(Sites {
-            place: Place::start(alloc, layout, 1)?,
+            layout,
+            places,
             callers,
         })
     }
 
     /// The layout.
     pub fn layout(&self) -> Layout
-        ensures { result ≡ self.now.place.layout }
+        ensures value { result ≡ self.now.layout }
+        ensures shape { IsLayout self.now.layout }
+        // What happened on the sites is a schedule of the network machine.
+        ensures scheduled { IsScheduled self.now.layout (net self.now) }
     {
-        self.place.layout()
+        self.layout
     }
 
     /// How many seats were given, from 1 to 1,048,576.
@@ -68,16 +82,9 @@ impl Sites {
     /// How many messages the seat posted.
     pub fn posts(&self, seat: u32) -> u32
         requires { seat < length self.now.callers }
-        ensures { Some result ≡ posts_of self.now seat }
+        ensures { Some result ≡ posts_of (net self.now) seat }
     {
         self.callers[seat as usize].posts()
-    }
-
-    /// Makes room for so many entries. An error leaves the sites as they were.
-    pub fn reserve(&mut self, more: u32) -> Result<(), AllocError>
-        ensures { self.new ≡ self.old }
-    {
-        self.place.reserve(more)
     }
 
     /// Gives the next seat, to a caller in this actor, whose last clock is that of seat 0. The name is one of an actor.
@@ -86,12 +93,14 @@ impl Sites {
     /// An error changes nothing.
     pub fn enter(&mut self, actor: Ui) -> Result<u32, EnterFault>
         requires { names_actor actor ≡ true }
-        ensures ok { IfOk result (λ seat. (seat ≡ length self.old.callers) × (self.new ≡ entered actor self.old)) }
-        ensures no_actor { IsErrOf result EnterFault.NoActor ↔ (has_actor self.old.place.layout actor ≡ false) }
-        ensures no_seat { (made : ℕ) → IsErrOf result (EnterFault.NoSeat made) ↔ ((has_actor self.old.place.layout actor ≡ true) × (length self.old.callers ≡ SEATS_LIMIT) × (made ≡ SEATS_LIMIT)) }
+        ensures seat { IfOk result (λ seat. seat ≡ length self.old.callers) }
+        ensures ok { OnOk result (net self.new ≡ happened (entering actor (net self.old)) (net self.old)) }
+        ensures no_actor { IsErrOf result EnterFault.NoActor ↔ (has_actor self.old.layout actor ≡ false) }
+        ensures no_seat { (made : ℕ) → IsErrOf result (EnterFault.NoSeat made) ↔ ((has_actor self.old.layout actor ≡ true) × (length self.old.callers ≡ SEATS_LIMIT) × (made ≡ SEATS_LIMIT)) }
         ensures refused { OnErr result (self.new ≡ self.old) }
+        ensures places { (self.new.layout ≡ self.old.layout) × (self.new.places ≡ self.old.places) }
     {
-        if self.place.layout().home(actor).is_none() {
+        if self.layout.home(actor).is_none() {
             return Err(EnterFault::NoActor);
         }
         let made = self.seats();
@@ -104,49 +113,200 @@ impl Sites {
         Ok(made)
     }
 
-    /// Performs a command of the seat, and gives the reply.
+    /// Performs a command of the seat at its place, and gives the reply.
     ///
     /// It is refused as worn exactly where the greater of the place's and the seat's last clocks is at least 2^62, and else only
     /// for want of memory. A refusal changes nothing.
     pub fn act(&mut self, seat: u32, command: Command) -> Result<Reply, PlaceFault>
-        requires may { may_give self.old.place.layout (actor_of self.old seat) command ≡ true }
-        requires posts { is_post command ≡ true → IfSome (posts_of self.old seat) (λ posts. posts < u32.MAX) }
-        ensures ok { OnOk result (self.new ≡ acted seat command self.old) }
-        ensures reply { IfOk result (λ reply. Some reply ≡ replied seat command self.old) }
-        ensures worn { (clock : ℕ) → IsErrOf result (PlaceFault.Worn clock) ↔ ((CLOCK_LIMIT ≤ compared seat self.old) × (clock ≡ compared seat self.old)) }
-        ensures refused { OnErr result (self.new ≡ self.old) }
+        requires { may_happen (Act seat command) (net self.old) ≡ true }
+        ensures ok { OnOk result (net self.new ≡ happened (Act seat command) (net self.old)) }
+        ensures reply { IfOk result (λ reply. Some reply ≡ replied seat command (net self.old)) }
+        ensures worn { (clock : ℕ) → IsErrOf result (PlaceFault.Worn clock) ↔
+            ((CLOCK_LIMIT ≤ compared seat command (net self.old)) × (clock ≡ compared seat command (net self.old))) }
+        ensures refused { OnErr result (net self.new ≡ net self.old) }
+        ensures room { OnOk result (UsesRoom (length (put_by (Act seat command) (net self.old))) self.old.places self.new.places) }
+        ensures kept { OnErr result (KeepRoom self.old.places self.new.places) }
+        ensures takes_no_memory { TakesNoneAt command (slice_get self.old.callers seat) self.old →
+            compared seat command (net self.old) < CLOCK_LIMIT → IsOk result }
+        ensures layout { self.new.layout ≡ self.old.layout }
     {
         let caller = &mut self.callers[seat as usize];
-        self.place.act(caller, command)
+        let number = place_for(self.layout, caller.actor(), &command);
+        let place = &mut self.places[usize::from(number) - 1];
+        place.act(caller, command)
+    }
+
+    /// Seat 0 works off, at the place `to`, the first packet that waits there from the place `from`, another place; Nothing
+    /// exactly where none waits.
+    ///
+    /// It is refused as worn exactly where the greatest of the place's, seat 0's and the packet's clocks is at least 2^62, and
+    /// else only for want of memory. A refusal changes nothing.
+    pub fn deliver(&mut self, from: u16, to: u16) -> Result<Delivered, PlaceFault>
+        requires from { has_place self.old.layout from ≡ true }
+        requires to { has_place self.old.layout to ≡ true }
+        requires apart { from ≢ to }
+        ensures ok { OnOk result (net self.new ≡ happened (delivering from to) (net self.old)) }
+        ensures answer { IfOk result (λ delivered. delivered ≡ delivery from to (net self.old)) }
+        ensures worn { (clock : ℕ) → IsErrOf result (PlaceFault.Worn clock) ↔
+            ((CLOCK_LIMIT ≤ clock) × (compared_at 0 from to (net self.old) ≡ Some clock)) }
+        // Where a packet was worked off, seat 0's last clock was below 2^62, and has risen.
+        ensures ticks { result ≡ Ok Delivered.Served → Ticks (net self.old) (net self.new) }
+        ensures layout { self.new.layout ≡ self.old.layout }
+        ensures refused { OnErr result (net self.new ≡ net self.old) }
+        ensures room { OnOk result (UsesRoom (length (put_by (delivering from to) (net self.old))) self.old.places self.new.places) }
+        ensures kept { OnErr result (KeepRoom self.old.places self.new.places) }
+    {
+        let Some(packet) = self.places[usize::from(from) - 1].out(to) else {
+            return Ok(Delivered::Nothing);
+        };
+        let caller = &mut self.callers[0];
+        match self.places[usize::from(to) - 1].work(caller, packet) {
+            Ok(()) => Ok(Delivered::Served),
+            Err((packet, fault)) => {
+                self.places[usize::from(from) - 1].put_back(to, packet);
+                Err(fault)
+            }
+        }
+    }
+
+    /// Seat 0 works off packets until none is left: in rounds, for each place rising, the first packet to each other place
+    /// rising. The last round serves nothing.
+    ///
+    /// It is refused as worn only where the next delivery is, and else only for want of memory. After a refusal the deliveries
+    /// before it stand.
+    pub fn drain(&mut self) -> Result<Quiet, PlaceFault>
+        ensures ok { IfOk result (λ quiet. Drains self.old.layout (net self.old) (net self.new) quiet.served) }
+        ensures stopped { OnErr result (Stops (net self.old) (net self.new)) }
+        ensures worn { (clock : ℕ) → IsErrOf result (PlaceFault.Worn clock) → IsWorn clock (net self.new) }
+        ensures layout { self.new.layout ≡ self.old.layout }
+    {
+        let mut served = 0;
+        loop {
+            let more = self.round()?;
+            if more == 0 {
+                return Ok(Quiet { served });
+            }
+            served += more;
+        }
+    }
+
+    /// Makes room at each place for so many entries and packets. Nothing else changes, whatever the answer.
+    pub fn reserve(&mut self, more: u32) -> Result<(), AllocError>
+        ensures same { net self.new ≡ net self.old }
+        ensures room { OnOk result (HaveRoom more self.new.places) }
+        ensures kept { KeepRoom self.old.places self.new.places }
+        ensures layout { self.new.layout ≡ self.old.layout }
+    {
+        let count = self.places.len();
+        let mut index = 0;
+        while index < count {
+            self.reserve_at(index, more)?;
+            index += 1;
+        }
+        Ok(())
+    }
+
+    /// Makes room at the place that stands there for so many entries and packets.
+    fn reserve_at(&mut self, index: usize, more: u32) -> Result<(), AllocError>
+        requires { index < length self.old.places }
+        ensures same { net self.new ≡ net self.old }
+        ensures reserved { HasReserved index self.old.places self.new.places }
+        ensures layout { self.new.layout ≡ self.old.layout }
+        ensures room { OnOk result (HasRoomAt more index self.new.places) }
+    {
+        self.places[index].reserve(more)
     }
 
     /// Takes the sites apart. Want of memory hands them back as they were.
     pub fn close(self, alloc: Global) -> Result<Closed, (Sites, AllocError)>
-        ensures ok { IfOk result (λ closed. IsClosed self closed) }
+        ensures ok { IfOk result (λ closed. IsClosed (net self) closed) }
+        ensures scheduled { OnOk result (IsScheduled self.layout (net self)) }
         ensures err { IfErr result (λ back. back.0 ≡ self) }
     {
+        let Some(packets) = count_packets(&self.places) else {
+            return Err((self, AllocError));
+        };
+        let Some(held) = count_ports(&self.places) else {
+            return Err((self, AllocError));
+        };
         let mut journals = Vec::new(alloc);
-        if let Err(error) = journals.reserve(1) {
+        if let Err(error) = journals.reserve(self.places.len()) {
             return Err((self, error));
         }
-        let mut placed = Vec::new(alloc);
-        if let Err(error) = placed.reserve(usize::from(self.place.held())) {
+        let mut rest = Vec::new(alloc);
+        if let Err(error) = rest.reserve(packets) {
             return Err((self, error));
         }
-        let number = self.place.number();
-        let (journal, mut ports) = self.place.finish();
-        journals.push_reserved(journal);
-        while let Some(port) = ports.pop() {
-            placed.push_reserved(Placed {
-                place: number,
-                port,
-            });
+        let mut ports = Vec::new(alloc);
+        if let Err(error) = ports.reserve(held) {
+            return Err((self, error));
         }
-        Ok(Closed {
-            journals,
-            rest: Vec::new(alloc),
-            ports: placed,
-            origin: Origin::Sites,
-        })
+        Ok(take_apart(self.places, journals, rest, ports))
+    }
+
+    /// One round of a drain. Gives the number of packets that it worked off.
+    fn round(&mut self) -> Result<u64, PlaceFault>
+        ensures ok { IfOk result (λ number. GoesRound self.old.layout (net self.old) (net self.new) number) }
+        ensures stopped { OnErr result (Stops (net self.old) (net self.new)) }
+        ensures worn { (clock : ℕ) → IsErrOf result (PlaceFault.Worn clock) → IsWorn clock (net self.new) }
+        ensures layout { self.new.layout ≡ self.old.layout }
+        ensures dry { result ≡ Ok 0 → (net self.new).packets ≡ [] }
+    {
+        let count = self.layout.places();
+        let mut served = 0;
+        let mut from = 1;
+        while from <= count {
+            served += self.deliver_from(from)?;
+            from += 1;
+        }
+        Ok(served)
+    }
+
+    /// Works off, of the packets that wait to go from the place, the first one to each other place. Looks nowhere where none
+    /// waits to go. Gives the number of packets that it worked off.
+    fn deliver_from(&mut self, from: u16) -> Result<u64, PlaceFault>
+        requires { has_place self.old.layout from ≡ true }
+        ensures ok { IfOk result (λ number. Goes (from_one 0 from (place_numbers self.old.layout)) (net self.old) (net self.new) number) }
+        ensures stopped { OnErr result (Stops (net self.old) (net self.new)) }
+        ensures worn { (clock : ℕ) → IsErrOf result (PlaceFault.Worn clock) → IsWorn clock (net self.new) }
+        ensures layout { self.new.layout ≡ self.old.layout }
+    {
+        if self.is_idle(from) {
+            return Ok(0);
+        }
+        let count = self.layout().places();
+        let mut served = 0;
+        let mut to = 1;
+        while to <= count {
+            served += self.serve(from, to)?;
+            to += 1;
+        }
+        Ok(served)
+    }
+
+    /// Whether no packet waits to go from the place.
+    fn is_idle(&self, from: u16) -> bool
+        requires { has_place self.now.layout from ≡ true }
+        ensures { result ≡ true → (to : ℕ) → has_place self.now.layout to ≡ true → first_on from to (net self.now).packets ≡ None }
+    {
+        self.places[usize::from(from) - 1].waiting() == 0
+    }
+
+    /// Delivers once, where the places are two. Gives the number of packets that it worked off.
+    fn serve(&mut self, from: u16, to: u16) -> Result<u64, PlaceFault>
+        requires from { has_place self.old.layout from ≡ true }
+        requires to { has_place self.old.layout to ≡ true }
+        ensures ok { IfOk result (λ number. Goes (from_one 0 from (to ∷ [])) (net self.old) (net self.new) number) }
+        ensures stopped { OnErr result (net self.new ≡ net self.old) }
+        ensures worn { (clock : ℕ) → IsErrOf result (PlaceFault.Worn clock) → IsWorn clock (net self.new) }
+        ensures layout { self.new.layout ≡ self.old.layout }
+    {
+        if from == to {
+            return Ok(0);
+        }
+        match self.deliver(from, to)? {
+            Delivered::Served => Ok(1),
+            Delivered::Nothing => Ok(0),
+        }
     }
 }

@@ -1,0 +1,284 @@
+-- Rounds of deliveries, one after the other.
+use Rattle.std.proofs.Common.{ℕ, zero, suc, ◌≡◌, ◌≢◌, ◌+◌, ◌-◌, ◌<◌, ◌≤◌, ◌==◌, nat_le, Bool, true, false, ◌&&◌, cond, List, [], ◌∷◌, ◌++◌, length, reverse, map, get_or, Option, Some, None, is_some, slice_get, refl, sym, ◌∙◌, ap, subst, arith, append_assoc}
+use Rattle.std.specs.List.{All}
+use Rattle.std.proofs.lemmas.Bool.{and_from, and_parts, le-leb, leb-true, eq-eqb, ne_eqb}
+use Rattle.std.proofs.lemmas.List.{reverse-append, append-nil}
+use Rattle.std.proofs.lemmas.List.Elements.{All-nil, All-cons, All-append, All-head, All-tail}
+use Rattle.chorus_ui.specs.declared.layout.Layout.{Layout}
+use Rattle.chorus_ui.specs.declared.limits.TheConstants.{CLOCK_LIMIT}
+use Rattle.chorus_ui.specs.Layout.{has_place, places}
+use Rattle.chorus_entry.specs.declared.packet.Packet.{Packet}
+use Rattle.chorus_calls.specs.Callers.{Seated}
+use Rattle.chorus_out.specs.Waiting.{count, list_to}
+use Rattle.chorus_law.specs.declared.delivery.Delivered.{Delivered}
+use Rattle.chorus_law.specs.Packets.{first_on}
+use Rattle.chorus_law.specs.Network.{NetState, Event, Deliver, numbers, place_numbers, happened, after, from_one, from_each, round, rounds, one_if, serves, served, delivered, delivery, delivery_of, schedule}
+use Rattle.chorus_law.specs.Tasks.{AreDeliveries, IsDrain}
+use Rattle.chorus_law.specs.Calls.{last_of, draining}
+use Rattle.chorus_law.proofs.Merge.Parts.{All-reverse}
+use Rattle.chorus_law.proofs.Draining.Drains.{idle, idle-event, after-append, round-deliveries}
+use Rattle.chorus_law.proofs.Draining.Emptied.{drains-leave-nothing}
+use Rattle.chorus_place.specs.Calls.{Place}
+use Rattle.chorus_net.specs.Drains.{seat_clock, Ticks, forward, serves_all, Goes, GoesRound, GoesRounds, Drains, Stops}
+use Rattle.chorus_net.specs.Sites.{SitesState, net, boxes, waiting_in, IsSites}
+use Rattle.chorus_net.proofs.Boxes.{first-is, none-first}
+use Rattle.chorus_net.proofs.Changes.{are-boxes, box-of, length-boxes}
+
+abbrev IsDelivery : Event → Type 0
+IsDelivery e = (a : ℕ) × ((b : ℕ) × (e ≡ Deliver 0 a b))
+
+-- Events one after the other.
+
+forward-append : (es fs : List Event) (n : NetState) → forward (es ++ fs) n ≡ forward fs (forward es n)
+forward-append [] fs n = refl
+forward-append (e ∷ es) fs n = forward-append es fs (happened e n)
+
+serves-append : (es fs : List Event) (n : NetState) → serves_all (es ++ fs) n ≡ serves_all es n + serves_all fs (forward es n)
+serves-append [] fs n = omega arith
+serves-append (e ∷ es) fs n = (let rest = serves-append es fs (happened e n) in omega (arith, rest))
+
+served-append : (xs ys : List Event) (n : NetState) → served (xs ++ ys) n ≡ served xs (after ys n) + served ys n
+served-append [] ys n = omega arith
+served-append (x ∷ xs) ys n =
+    (let rest = served-append xs ys n in
+    let same : serves x (after (xs ++ ys) n) ≡ serves x (after xs (after ys n)) = ap (serves x) (after-append xs ys n) in
+    omega (arith, rest, same))
+
+reverse-more : (e : Event) (es : List Event) → reverse (e ∷ es) ≡ reverse es ++ e ∷ []
+reverse-more e es = reverse-append (e ∷ []) es
+
+pub after-reverse : (es : List Event) (n : NetState) → after (reverse es) n ≡ forward es n
+after-reverse [] n = refl
+after-reverse (e ∷ es) n =
+    ap (λ fs. after fs n) (reverse-more e es) ∙ after-append (reverse es) (e ∷ []) n ∙ after-reverse es (happened e n)
+
+pub served-reverse : (es : List Event) (n : NetState) → served (reverse es) n ≡ serves_all es n
+served-reverse [] n = refl
+served-reverse (e ∷ es) n =
+    (let one = ap (λ fs. served fs n) (reverse-more e es) ∙ served-append (reverse es) (e ∷ []) n in
+    let rest = served-reverse es (happened e n) in
+    omega (arith, one, rest))
+
+pub goes-none : (n : NetState) → Goes [] n n 0
+goes-none n = record {
+  deliveries = All-nil IsDelivery;
+  forward = refl;
+  total = refl;
+  risen = omega arith;
+  last = λ h. absurd (omega (arith, h));
+}
+
+pub goes-on : (es fs : List Event) (n m k : NetState) (i j : ℕ) → Goes es n m i → Goes fs m k j → Goes (es ++ fs) n k (i + j)
+goes-on es fs n m k i j g h = record {
+  deliveries = All-append IsDelivery es fs g.deliveries h.deliveries;
+  forward = h.forward ∙ ap (forward fs) g.forward ∙ sym (forward-append es fs n);
+  total = (let a = g.total in let b = h.total in let c = serves-append es fs n in let d : serves_all fs m ≡ serves_all fs (forward es n) = ap (serves_all fs) g.forward in omega (arith, a, b, c, d));
+  risen = (let a = g.risen in let b = h.risen in omega (arith, a, b));
+  last = λ most. last-of i j (seat_clock n) (seat_clock m) g.risen g.last h.last most;
+}
+  where
+    last-of : (i j a b : ℕ) → a + i ≤ b → (1 ≤ i → a + i ≤ CLOCK_LIMIT) → (1 ≤ j → b + j ≤ CLOCK_LIMIT) → 1 ≤ i + j → a + (i + j) ≤ CLOCK_LIMIT
+    last-of i zero a b r f g h = (let e = f (omega (arith, h)) in omega (arith, e))
+    last-of i (suc j) a b r f g h = (let e = g (omega arith) in omega (arith, e, r))
+
+-- a call that stopped behind them
+pub stops-behind : (es : List Event) (n m k : NetState) (i : ℕ) → Goes es n m i → Stops m k → Stops n k
+stops-behind es n m k i g s = record {
+  done = s.done ++ reverse es;
+  deliveries = All-append IsDelivery s.done (reverse es) s.deliveries (All-reverse IsDelivery es g.deliveries);
+  after = s.after ∙ ap (after s.done) (g.forward ∙ sym (after-reverse es n)) ∙ sym (after-append s.done (reverse es) n);
+}
+
+pub stops-here : (n m : NetState) → m ≡ n → Stops n m
+stops-here n m e = record { done = []; deliveries = All-nil IsDelivery; after = e }
+
+-- The places in their order.
+
+pub numbers-more : (n k : ℕ) → numbers n k ++ (k + n) ∷ [] ≡ numbers (suc n) k
+numbers-more zero k = (let e : k + 0 ≡ k = omega arith in ap (λ x. x ∷ []) e)
+numbers-more (suc n) k = (let e : k + suc n ≡ (k + 1) + n = omega arith in ap (λ x. k ∷ (numbers n (k + 1) ++ x ∷ [])) e ∙ ap (λ xs. k ∷ xs) (numbers-more n (k + 1)))
+
+one-append : (a : ℕ) (xs ys : List ℕ) → from_one 0 a (xs ++ ys) ≡ from_one 0 a xs ++ from_one 0 a ys
+one-append a [] ys = refl
+one-append a (x ∷ xs) ys =
+    ap (λ es. cond (a == x) [] (Deliver 0 a x ∷ []) ++ es) (one-append a xs ys)
+    ∙ sym (append_assoc (cond (a == x) [] (Deliver 0 a x ∷ [])) (from_one 0 a xs) (from_one 0 a ys))
+
+each-append : (xs ys bs : List ℕ) → from_each 0 (xs ++ ys) bs ≡ from_each 0 xs bs ++ from_each 0 ys bs
+each-append [] ys bs = refl
+each-append (x ∷ xs) ys bs =
+    ap (λ es. from_one 0 x bs ++ es) (each-append xs ys bs) ∙ sym (append_assoc (from_one 0 x bs) (from_each 0 xs bs) (from_each 0 ys bs))
+
+-- one place more of a row, and one row more of a round
+pub row-on : (a n b : ℕ) (m k o : NetState) (i j : ℕ) → b ≡ 1 + n → Goes (from_one 0 a (numbers n 1)) m k i → Goes (from_one 0 a (b ∷ [])) k o j
+    → Goes (from_one 0 a (numbers (suc n) 1)) m o (i + j)
+row-on a n b m k o i j e g h =
+    subst (λ es. Goes es m o (i + j)) (sym (one-append a (numbers n 1) (b ∷ [])) ∙ ap (λ x. from_one 0 a (numbers n 1 ++ x ∷ [])) e ∙ ap (from_one 0 a) (numbers-more n 1))
+    (goes-on (from_one 0 a (numbers n 1)) (from_one 0 a (b ∷ [])) m k o i j g h)
+
+pub round-on : (bs : List ℕ) (n a : ℕ) (m k o : NetState) (i j : ℕ) → a ≡ 1 + n → Goes (from_each 0 (numbers n 1) bs) m k i → Goes (from_one 0 a bs) k o j
+    → Goes (from_each 0 (numbers (suc n) 1) bs) m o (i + j)
+round-on bs n a m k o i j e g h =
+    subst (λ es. Goes es m o (i + j))
+    (ap (λ es. from_each 0 (numbers n 1) bs ++ es) (sym (append-nil (from_one 0 a bs))) ∙ sym (each-append (numbers n 1) (a ∷ []) bs)
+    ∙ ap (λ x. from_each 0 (numbers n 1 ++ x ∷ []) bs) e ∙ ap (λ xs. from_each 0 xs bs) (numbers-more n 1))
+    (goes-on (from_each 0 (numbers n 1) bs) (from_one 0 a bs) m k o i j g h)
+
+pub round-done : (l : Layout) (n m : NetState) (i : ℕ) → Goes (from_each 0 (place_numbers l) (place_numbers l)) n m i → GoesRound l n m i
+round-done l n m i g = record {
+  after = g.forward ∙ sym (after-reverse (from_each 0 (place_numbers l) (place_numbers l)) n);
+  total = g.total ∙ sym (served-reverse (from_each 0 (place_numbers l) (place_numbers l)) n);
+  risen = g.risen;
+  last = g.last;
+}
+
+-- A delivery.
+
+one-list : (a b : ℕ) → (a == b) ≡ false → from_one 0 a (b ∷ []) ≡ Deliver 0 a b ∷ []
+one-list a b e = ap (λ c. cond c [] (Deliver 0 a b ∷ []) ++ []) e
+
+pub same-place : (a b : ℕ) (n : NetState) → a ≡ b → Goes (from_one 0 a (b ∷ [])) n n 0
+same-place a b n e = subst (λ es. Goes es n n 0) (sym (ap (λ c. cond c [] (Deliver 0 a b ∷ []) ++ []) (eq-eqb a b e))) (goes-none n)
+
+-- what it answers says whether it serves
+first-of : (o : Option Packet) (b : Bool) → delivery_of o ≡ cond b Delivered.Served Delivered.Nothing → is_some o ≡ b
+first-of None true h = absurd (cc)
+first-of None false h = refl
+first-of (Some k) true h = refl
+first-of (Some k) false h = absurd (cc)
+
+pub serves-one : (a b : ℕ) (n m : NetState) → a ≢ b → is_some (slice_get n.callers 0) ≡ true → m ≡ happened (Deliver 0 a b) n → Delivered.Served ≡ delivery a b n → Ticks n m
+    → Goes (from_one 0 a (b ∷ [])) n m 1
+serves-one a b n m ne who is answer ticks = subst (λ es. Goes es n m 1) (sym (one-list a b (ne_eqb a b ne))) record {
+  deliveries = All-cons IsDelivery (Deliver 0 a b) [] (a, (b, refl)) (All-nil IsDelivery);
+  forward = is;
+  total = (let one : serves (Deliver 0 a b) n ≡ 1 = ap one_if (and_from (is_some (slice_get n.callers 0)) (is_some (first_on a b n.packets)) who (first-of (first_on a b n.packets) true (sym answer))) in omega (arith, one));
+  risen = (let r = ticks.risen in omega (arith, r));
+  last = λ h. (let r = ticks.below in omega (arith, r));
+}
+
+idle-serves : (a b : ℕ) (n : NetState) → is_some (first_on a b n.packets) ≡ false → serves (Deliver 0 a b) n ≡ 0
+idle-serves a b n h = go (is_some (slice_get n.callers 0))
+  where
+    go : (c : Bool) → one_if (c && is_some (first_on a b n.packets)) ≡ 0
+    go true = ap one_if h
+    go false = refl
+
+pub serves-none : (a b : ℕ) (n m : NetState) → a ≢ b → m ≡ happened (Deliver 0 a b) n → Delivered.Nothing ≡ delivery a b n → Goes (from_one 0 a (b ∷ [])) n m 0
+serves-none a b n m ne is answer =
+    let none = idle-serves a b n (first-of (first_on a b n.packets) false (sym answer)) in
+    let still : m ≡ n = is ∙ idle-event (Deliver 0 a b) n none in
+    subst (λ es. Goes es n m 0) (sym (one-list a b (ne_eqb a b ne))) record {
+      deliveries = All-cons IsDelivery (Deliver 0 a b) [] (a, (b, refl)) (All-nil IsDelivery);
+      forward = is;
+      total = omega (arith, none);
+      risen = (let e = ap seat_clock still in omega (arith, e));
+      last = λ h. absurd (omega (arith, h));
+    }
+
+-- Where none waits to go from a place, its row serves nothing.
+
+idle-row : (l : Layout) (a : ℕ) (n : NetState) (k c : ℕ) → ((b : ℕ) → has_place l b ≡ true → first_on a b n.packets ≡ None) → 1 ≤ c → c + k ≤ places l + 1 → Goes (from_one 0 a (numbers k c)) n n 0
+idle-row l a n zero c none low high = goes-none n
+idle-row l a n (suc k) c none low high =
+    let rest = idle-row l a n k (c + 1) none (omega arith) (omega (arith, high)) in
+    goes-on (cond (a == c) [] (Deliver 0 a c ∷ [])) (from_one 0 a (numbers k (c + 1))) n n n 0 0 (go (a == c)) rest
+  where
+    has : has_place l c ≡ true
+    has = and_from (nat_le 1 c) (nat_le c (places l)) (le-leb 1 c low) (le-leb c (places l) (omega (arith, high)))
+
+    go : (b : Bool) → Goes (cond b [] (Deliver 0 a c ∷ [])) n n 0
+    go true = goes-none n
+    go false =
+        let zero-served = idle-serves a c n (ap is_some (none c has)) in
+        record {
+          deliveries = All-cons IsDelivery (Deliver 0 a c) [] (a, (c, refl)) (All-nil IsDelivery);
+          forward = sym (idle-event (Deliver 0 a c) n zero-served);
+          total = omega (arith, zero-served);
+          risen = omega arith;
+          last = λ h. absurd (omega (arith, h));
+        }
+
+pub idle-place : (l : Layout) (a : ℕ) (n : NetState) → ((b : ℕ) → has_place l b ≡ true → first_on a b n.packets ≡ None) → Goes (from_one 0 a (place_numbers l)) n n 0
+idle-place l a n none = idle-row l a n (places l) 1 none (omega arith) (omega arith)
+
+pub idle-first : (s : SitesState) (a b i : ℕ) (p : Place) → IsSites s → a ≡ 1 + i → i < length s.places → p ≡ get_or s.places i p → has_place s.layout b ≡ true → count p.out.lists ≡ 0
+    → first_on a b (waiting_in (boxes s.places)) ≡ None
+idle-first s a b i p h e lt at has none =
+    let high = leb-true b (places s.layout) (and_parts (nat_le 1 b) (nat_le b (places s.layout)) has).1 in
+    first-is a b i (places s.layout + 1) 1 (boxes s.places) (are-boxes s.layout 1 s.places h.places) (let n = length-boxes s.places in omega (arith, n, lt)) e (omega (arith, high))
+    ∙ ap (λ ls. slice_get (list_to b ls) 0) (box-of s.places i p at lt) ∙ none-first b p.out.lists none
+
+-- Rounds.
+
+pub rounds-none : (l : Layout) (n : NetState) → GoesRounds l n n 0
+rounds-none l n = record { count = 0; deliveries = All-nil IsDelivery; after = refl; total = refl; risen = omega arith; last = λ h. absurd (omega (arith, h)) }
+
+pub rounds-on : (l : Layout) (n m k : NetState) (i j : ℕ) → GoesRounds l n m i → GoesRound l m k j → GoesRounds l n k (i + j)
+rounds-on l n m k i j g h = record {
+  count = suc g.count;
+  deliveries = All-append IsDelivery (round l 0) (draining l g.count) (round-deliveries l 0) g.deliveries;
+  after = h.after ∙ ap (after (round l 0)) g.after ∙ sym (after-append (round l 0) (rounds l 0 g.count) n);
+  total = (
+    let a = g.total in
+    let b = h.total in
+    let c = served-append (round l 0) (rounds l 0 g.count) n in
+    let d : served (round l 0) m ≡ served (round l 0) (after (rounds l 0 g.count) n) = ap (served (round l 0)) g.after in
+    omega (arith, a, b, c, d));
+  risen = (let a = g.risen in let b = h.risen in omega (arith, a, b));
+  last = λ most. last-of i j (seat_clock n) (seat_clock m) g.risen g.last h.last most;
+}
+  where
+    last-of : (i j a b : ℕ) → a + i ≤ b → (1 ≤ i → a + i ≤ CLOCK_LIMIT) → (1 ≤ j → b + j ≤ CLOCK_LIMIT) → 1 ≤ i + j → a + (i + j) ≤ CLOCK_LIMIT
+    last-of i zero a b r f g h = (let e = f (omega (arith, h)) in omega (arith, e))
+    last-of i (suc j) a b r f g h = (let e = g (omega arith) in omega (arith, e, r))
+
+pub stops-behind-rounds : (l : Layout) (n m k : NetState) (i : ℕ) → GoesRounds l n m i → Stops m k → Stops n k
+stops-behind-rounds l n m k i g s = record {
+  done = s.done ++ draining l g.count;
+  deliveries = All-append IsDelivery s.done (draining l g.count) s.deliveries g.deliveries;
+  after = s.after ∙ ap (after s.done) g.after ∙ sym (after-append s.done (draining l g.count) n);
+}
+
+-- a round that serves nothing changes nothing, and nothing is left
+pub dry-round : (s : SitesState) (m : NetState) (i : ℕ) → IsSites s → GoesRound s.layout (net s) m i → i ≡ 0 → m.packets ≡ []
+dry-round s m i h r none =
+    let dry : served (round s.layout 0) (net s) ≡ 0 = sym r.total ∙ none in
+    let still : m ≡ net s = r.after ∙ idle (round s.layout 0) (net s) dry in
+    let es = h.scheduled.events in
+    let d : IsDrain s.layout 0 h.scheduled.events h.scheduled.events = record {
+      count = 0;
+      rounds = refl;
+      dry = ap (served (round s.layout 0)) (sym h.scheduled.is) ∙ dry;
+    } in
+    ap (λ (z : NetState). z.packets) (still ∙ h.scheduled.is)
+    ∙ drains-leave-nothing s.layout 0 es es h.shape h.scheduled.may (ap (λ (z : NetState). is_some (slice_get z.callers 0)) (sym h.scheduled.is) ∙ who s.callers h.some_seat) d
+  where
+    who : (cs : List Seated) → 1 ≤ length cs → is_some (slice_get cs 0) ≡ true
+    who [] k = absurd (omega (arith, k))
+    who (x ∷ cs) k = refl
+
+-- so it ends the drain
+pub drained : (l : Layout) (n m k : NetState) (i j : ℕ) → GoesRounds l n m i → GoesRound l m k j → j ≡ 0 → k.packets ≡ [] → Drains l n k i
+drained l n m k i j g r none empty =
+    let dry : served (round l 0) m ≡ 0 = sym r.total ∙ none in
+    let still : k ≡ m = r.after ∙ idle (round l 0) m dry in
+    record {
+      count = g.count;
+      drained = still ∙ g.after;
+      dry = ap (served (round l 0)) still ∙ dry;
+      empty = empty;
+      total = g.total;
+    }
+
+-- seat 0 has come, where its clock has risen
+pub who-of : (a b : ℕ) (n m : NetState) → m ≡ happened (Deliver 0 a b) n → Ticks n m → is_some (slice_get n.callers 0) ≡ true
+who-of a b n m e t = go (slice_get n.callers 0) refl
+  where
+    go : (o : Option Seated) → slice_get n.callers 0 ≡ o → is_some (slice_get n.callers 0) ≡ true
+    go None f =
+        let still : m ≡ n = e ∙ ap (λ o. delivered 0 a b o n) f in
+        let same = ap seat_clock still in
+        let up = t.risen in
+        absurd (omega (arith, same, up))
+    go (Some x) f = ap is_some f

@@ -1,0 +1,26 @@
+use Rattle.std.proofs.Common.{◌≡◌, ◌≢◌, ◌+◌, ◌-◌, ◌<◌, ◌≤◌, ◌==◌, ℕ, suc, Result, Ok, true, length, refl, sym, ◌∙◌, ap, subst, arith}
+use Rattle.std.proofs.lemmas.Bool.{eqb-true}
+use Rattle.std.proofs.lemmas.Result.{MatchResult-from_err}
+use Rattle.chorus_ui.specs.Layout.{has_place, places}
+use Rattle.chorus_out.specs.Waiting.{count}
+use Rattle.chorus_law.specs.Packets.{first_on}
+use Rattle.chorus_law.specs.declared.delivery.Delivered.{Delivered}
+use Rattle.chorus_law.specs.Network.{Deliver, happened, delivery, numbers, place_numbers, from_one, from_each}
+use Rattle.chorus_net.specs.Drains.{Goes, GoesRound, GoesRounds, Ticks}
+use Rattle.chorus_net.specs.Sites.{SitesState, net, IsSites, boxes, waiting_in}
+use Rattle.chorus_net.proofs.Events.{stands-at-index}
+use Rattle.chorus_net.proofs.Rounds.{same-place, serves-one, serves-none, who-of, idle-first, idle-place, goes-none, row-on, round-on, round-done, stops-behind, stops-here, dry-round, drained, rounds-on, rounds-none, stops-behind-rounds}
+use Rattle.chorus_net.proofs.sites.Sites.is_idle.Goals as goal
+
+pub returns : goal.returns
+returns c = λ e to has.
+    let s : SitesState = record { layout = c.self.inside.layout; places = c.self.inside.places.items; callers = c.self.inside.callers.items } in
+    let h = c.self.invariant in
+    let i = c.from.result - 1 in
+    let p = c.index.result.now in
+    let from : has_place c.self.inside.layout c.args.from ≡ true = ap (λ (v : SitesState). has_place v.layout c.args.from) c.self.view_is ∙ c.requires in
+    let to-has : has_place c.self.inside.layout to ≡ true = ap (λ (v : SitesState). has_place v.layout to) c.self.view_is ∙ has in
+    let fi = stands-at-index c.self.inside.layout c.args.from c.from.result (length c.self.inside.places.items) from c.from.ensures h.all in
+    let none : count c.index.result.now.out.lists ≡ 0 = sym c.waiting.ensures ∙ eqb-true c.waiting.result 0 e in
+    ap (λ (v : SitesState). first_on c.args.from to (waiting_in (boxes v.places))) (sym c.self.view_is)
+    ∙ idle-first s c.args.from to i p h fi.0 fi.1 c.index.ensures to-has none

@@ -1,0 +1,57 @@
+use Rattle.std.proofs.Common.{◌≡◌, ◌≢◌, ◌+◌, ◌-◌, ◌<◌, ◌≤◌, ◌==◌, ℕ, suc, Result, Ok, Err, true, length, refl, sym, ◌∙◌, ap, subst, arith}
+use Rattle.std.proofs.lemmas.Bool.{eqb-true}
+use Rattle.std.proofs.lemmas.Result.{MatchResult-from_err}
+use Rattle.chorus_ui.specs.Layout.{has_place, places}
+use Rattle.chorus_out.specs.Waiting.{count}
+use Rattle.chorus_law.specs.Packets.{first_on}
+use Rattle.chorus_law.specs.declared.delivery.Delivered.{Delivered}
+use Rattle.chorus_law.specs.Network.{Deliver, happened, delivery, numbers, place_numbers, from_one, from_each}
+use Rattle.chorus_net.specs.Drains.{Goes, GoesRound, GoesRounds, Ticks}
+use Rattle.chorus_net.specs.Sites.{SitesState, net, IsSites, boxes, waiting_in}
+use Rattle.chorus_net.proofs.Events.{stands-at-index}
+use Rattle.chorus_net.proofs.Rounds.{same-place, serves-one, serves-none, who-of, idle-first, idle-place, goes-none, row-on, round-on, round-done, stops-behind, stops-here, dry-round, drained, rounds-on, rounds-none, stops-behind-rounds}
+use Rattle.chorus_net.proofs.sites.Sites.round.Goals as goal
+
+pub returns-in_err-served-clause-stopped : goal.returns-in_err-served-clause-stopped
+returns-in_err-served-clause-stopped c =
+    MatchResult-from_err c.from_residual.result _ _ c.from_residual.ensures.0 (λ _.
+        stops-behind (from_each 0 (numbers (c.loop-from.from - 1) 1) (place_numbers c.args.self.now.layout)) (net c.args.self.now) (net c.loop-from.self) (net c.deliver_from.new.self) c.loop-from.served
+        c.loop-from.invariant.goes c.in_err-served.ensures.stopped)
+
+pub loop-from-preserved : goal.loop-from-preserved
+loop-from-preserved c =
+    let i = c.loop-from.invariant in
+    let low = i.low in
+    let t = c.loop-from-test.true in
+    let b : c.loop-from.from ≡ 1 + (c.loop-from.from - 1) = omega (arith, low) in
+    let e : suc (c.loop-from.from - 1) ≡ c.loop-from.from + 1 - 1 = omega (arith, low) in
+    let row : Goes (from_one 0 c.loop-from.from (place_numbers c.args.self.now.layout)) (net c.loop-from.self) (net c.deliver_from.new.self) c.in_ok-served.field-0 =
+    subst (λ l. Goes (from_one 0 c.loop-from.from (place_numbers l)) (net c.loop-from.self) (net c.deliver_from.new.self) c.in_ok-served.field-0) i.layout c.in_ok-served.ensures.ok in
+    record {
+      low = omega arith;
+      high = omega (arith, t);
+      goes = subst (λ k. Goes (from_each 0 (numbers k 1) (place_numbers c.args.self.now.layout)) (net c.args.self.now) (net c.deliver_from.new.self) (c.loop-from.served + c.in_ok-served.field-0)) e
+          (round-on (place_numbers c.args.self.now.layout) (c.loop-from.from - 1) c.loop-from.from (net c.args.self.now) (net c.loop-from.self) (net c.deliver_from.new.self) c.loop-from.served c.in_ok-served.field-0 b i.goes row);
+      layout = c.in_ok-served.ensures.layout ∙ i.layout;
+    }
+
+pub returns-clause-ok : goal.returns-clause-ok
+returns-clause-ok c =
+    let i = c.loop-from.invariant in
+    let high = i.high in
+    let f = c.loop-from-test.false in
+    let v : c.places-count.result ≡ places c.args.self.now.layout = c.places-count.ensures.value ∙ ap (λ (z : SitesState). places z.layout) c.self.view_is in
+    let e : c.loop-from.from - 1 ≡ places c.args.self.now.layout = omega (arith, high, f, v) in
+    round-done c.args.self.now.layout (net c.args.self.now) (net c.loop-from.self) c.loop-from.served
+    (subst (λ k. Goes (from_each 0 (numbers k 1) (place_numbers c.args.self.now.layout)) (net c.args.self.now) (net c.loop-from.self) c.loop-from.served) e i.goes)
+
+abbrev value-of : {E : Type 0} → Result ℕ E → ℕ
+value-of (Ok n) = n
+value-of (Err e) = 0
+
+pub returns-clause-dry : goal.returns-clause-dry
+returns-clause-dry c = λ ok.
+    let s : SitesState = record { layout = c.self.inside.layout; places = c.self.inside.places.items; callers = c.self.inside.callers.items } in
+    let done = returns-clause-ok c in
+    dry-round s (net c.loop-from.self) c.loop-from.served c.self.invariant
+    (subst (λ (v : SitesState). GoesRound v.layout (net v) (net c.loop-from.self) c.loop-from.served) (sym c.self.view_is) done) (ap (λ r. value-of r) ok)

@@ -1,0 +1,16 @@
+use Rattle.std.proofs.Common.{◌≡◌, ◌+◌, ◌-◌, ◌≤◌}
+use Rattle.chorus_law.specs.Network.{from_each, numbers, place_numbers}
+use Rattle.chorus_net.specs.Drains.{Goes}
+use Rattle.chorus_net.specs.Sites.{net}
+use Rattle.chorus_net.proofs.sites.Sites.round.Given as goal
+
+abbrev pub invariant-loop-from : goal.invariant-loop-from
+invariant-loop-from l = record {
+  low : 1 ≤ l.from;
+  high : l.from ≤ l.count + 1;
+  goes : Goes (from_each 0 (numbers (l.from - 1) 1) (place_numbers l.initial.self.layout)) (net l.initial.self) (net l.self) l.served;
+  layout : l.self.layout ≡ l.initial.self.layout;
+}
+
+abbrev pub decreases-loop-from : goal.decreases-loop-from
+decreases-loop-from l = (l.count + 1) - l.from

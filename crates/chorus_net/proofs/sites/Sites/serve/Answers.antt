@@ -1,0 +1,45 @@
+use Rattle.std.proofs.Common.{◌≡◌, ◌≢◌, ◌+◌, ◌-◌, ◌<◌, ◌≤◌, ◌==◌, ℕ, suc, Result, Ok, Err, true, length, refl, sym, ◌∙◌, ap, subst, arith}
+use Rattle.std.proofs.lemmas.Bool.{eqb-true}
+use Rattle.std.proofs.lemmas.Result.{MatchResult-from_err, err_from_is_err_and}
+use Rattle.chorus_place.specs.declared.fault.PlaceFault.TheVariants as faults
+use Rattle.chorus_law.specs.Calls.{compared_at}
+use Rattle.chorus_ui.specs.Layout.{has_place, places}
+use Rattle.chorus_out.specs.Waiting.{count}
+use Rattle.chorus_law.specs.Packets.{first_on}
+use Rattle.chorus_law.specs.declared.delivery.Delivered.{Delivered}
+use Rattle.chorus_law.specs.Network.{Deliver, happened, delivery, numbers, place_numbers, from_one, from_each}
+use Rattle.chorus_net.specs.Drains.{Goes, GoesRound, GoesRounds, Ticks}
+use Rattle.chorus_net.specs.Sites.{SitesState, net, IsSites, boxes, waiting_in}
+use Rattle.chorus_net.proofs.Deliveries.{fault-in}
+use Rattle.chorus_net.proofs.Events.{stands-at-index}
+use Rattle.chorus_net.proofs.Rounds.{same-place, serves-one, serves-none, who-of, idle-first, idle-place, goes-none, row-on, round-on, round-done, stops-behind, stops-here, dry-round, drained, rounds-on, rounds-none, stops-behind-rounds}
+use Rattle.chorus_net.proofs.sites.Sites.serve.Goals as goal
+
+pub returns-in-Served-clause-ok : goal.returns-in-Served-clause-ok
+returns-in-Served-clause-ok c =
+    let n = net c.args.self.now in
+    let m = net c.deliver.new.self in
+    let is : net c.deliver.new.self ≡ happened (Deliver 0 c.args.from c.args.to) (net c.args.self.now) = c.in_ok-deliver.ensures.ok in
+    let answer : Delivered.Served ≡ delivery c.args.from c.args.to (net c.args.self.now) = sym c.in-Served.is ∙ c.in_ok-deliver.ensures.answer in
+    let ticks : Ticks (net c.args.self.now) (net c.deliver.new.self) = c.deliver.ensures.ticks (c.in_ok-deliver.was ∙ ap Ok c.in-Served.is) in
+    let ne : c.args.from ≢ c.args.to = c.if-from-to.false in
+    serves-one c.args.from c.args.to n m ne (who-of c.args.from c.args.to n m is ticks) is answer ticks
+
+pub returns-in-Nothing-clause-ok : goal.returns-in-Nothing-clause-ok
+returns-in-Nothing-clause-ok c =
+    let n = net c.args.self.now in
+    let m = net c.deliver.new.self in
+    let answer : Delivered.Nothing ≡ delivery c.args.from c.args.to (net c.args.self.now) = sym c.in-Nothing.is ∙ c.in_ok-deliver.ensures.answer in
+    let ne : c.args.from ≢ c.args.to = c.if-from-to.false in
+    serves-none c.args.from c.args.to n m ne c.in_ok-deliver.ensures.ok answer
+
+pub returns-in_err-deliver-clause-worn : goal.returns-in_err-deliver-clause-worn
+returns-in_err-deliver-clause-worn c = λ clock e.
+    let p = err_from_is_err_and c.from_residual.result c.from_residual.ensures.1 in
+    let a = p.1 in
+    let b = p.2 in
+    let was = c.in_err-deliver.was in
+    let w : c.deliver.result ≡ Err (faults.Worn clock) = was ∙ ap Err (sym b ∙ ap (λ z. fault-in z (faults.Worn clock)) (sym a ∙ e)) in
+    let both = (c.deliver.ensures.worn clock).0 w in
+    let same = c.in_err-deliver.ensures.refused in
+    record { from = c.args.from; to = c.args.to; compared = ap (compared_at 0 c.args.from c.args.to) same ∙ both.1; limit = both.0 }

@@ -1,0 +1,16 @@
+-- Places on which nothing happened yet.
+-- l is the layout, k is the number of the first place.
+use Rattle.std.specs.Prelude.{ℕ, ◌≡◌, ◌+◌, List, [], ◌∷◌}
+use Rattle.chorus_ui.specs.declared.layout.Layout.{Layout}
+use Rattle.chorus_ui.specs.Layout.{places}
+use Rattle.chorus_out.specs.Waiting.{nothing_to}
+use Rattle.chorus_machine.specs.PlaceState.{started}
+use Rattle.chorus_place.specs.Calls.{Place, state}
+
+pub record HasStarted (l : Layout) (k : ℕ) (p : Place) : Type 0 where
+  pub state : state p ≡ started l k
+  pub waits : p.out.lists ≡ nothing_to (places l)
+
+abbrev pub HaveStarted : Layout → ℕ → List Place → Type 0
+HaveStarted l k [] = Unit {0}
+HaveStarted l k (p ∷ ps) = HasStarted l k p × HaveStarted l (k + 1) ps
