@@ -31,6 +31,14 @@ book_read reader = reader.kept.seen.book
 abbrev pub IsWithoutHandle : BoardReader → Type 0
 IsWithoutHandle reader = reader.handle ≡ None
 
+-- it has a handle if it had one
+abbrev pub KeepsHandle : BoardReader → BoardReader → Type 0
+KeepsHandle old new = IsWithoutHandle new → IsWithoutHandle old
+
+-- it has the handle that it had, or still none
+abbrev pub HasSameHandle : BoardReader → BoardReader → Type 0
+HasSameHandle old new = new.handle ≡ old.handle
+
 abbrev pub IsSameReader : BoardReader → BoardReader → Type 0
 IsSameReader old new = (book_read new ≡ book_read old) × (layout_read new ≡ layout_read old)
 
