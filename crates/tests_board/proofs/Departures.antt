@@ -1,13 +1,12 @@
 -- What the publishes of the tests owe.
-use Rattle.std.proofs.Common.{◌≡◌, ℕ, zero, suc, ◌+◌, ◌%◌, Bool, true, false, List, [], ◌∷◌, ◌++◌, length, reverse, rules, refl, ap, sym, ◌∙◌, arith, length-append}
+use Rattle.std.proofs.Common.{◌≡◌, ℕ, zero, suc, ◌+◌, ◌%◌, [], ◌∷◌, ◌++◌, length, rules, refl, ap, sym, ◌∙◌, arith, length-append}
 use Rattle.std.proofs.lemmas.List.Elements.{All-append}
 use Rattle.std.specs.List.{All}
 use Rattle.chorus_ui.specs.declared.layout.Layout.{Layout}
 use Rattle.chorus_ui.specs.declared.ui.Ui.{Ui}
-use Rattle.chorus_ui.specs.Name.{same_ui}
 use Rattle.chorus_entry.specs.declared.act.Act.TheVariants.{Depart}
 use Rattle.chorus_entry.specs.declared.entry.Entry.{Entry}
-use Rattle.chorus_world.specs.Places.{farther, learned}
+use Rattle.chorus_world.specs.Places.{farther}
 use Rattle.chorus_board.specs.declared.board.Board.{Board}
 use Rattle.chorus_board.specs.Boards.{IsNewBoard}
 use Rattle.chorus_board.specs.Located.{located_after, told_of, IsOfOnePlace}
