@@ -1,24 +1,23 @@
 -- A first table stands for no entries, and a publish makes one that stands for the entries that it names.
-use Rattle.std.proofs.Common.{◌≡◌, ℕ, ◌*◌, nat_lt, Bool, true, false, ◌&&◌, if◌then◌else◌, cond, Option, Some, None, List, [], ◌∷◌, length, refl, ap, sym, ◌∙◌, subst, arith}
+use Rattle.std.proofs.Common.{◌≡◌, ℕ, ◌*◌, nat_lt, Bool, true, false, ◌&&◌, if◌then◌else◌, cond, Some, None, List, [], ◌∷◌, length, refl, ap, sym, ◌∙◌, subst, arith}
 use Rattle.std.proofs.lemmas.Bool.{and_from}
 use Rattle.chorus_ui.specs.declared.kind.Kind.TheVariants.{Port}
 use Rattle.chorus_ui.specs.declared.layout.Layout.{Layout}
 use Rattle.chorus_ui.specs.declared.limits.TheConstants.{PORTS_PER_SITE_LIMIT}
 use Rattle.chorus_ui.specs.declared.ui.Ui.{Ui}
 use Rattle.chorus_ui.specs.Kind.{same_kind}
-use Rattle.chorus_ui.specs.Layout.{has_site, can_make_port, creation_place}
+use Rattle.chorus_ui.specs.Layout.{can_make_port, creation_place}
 use Rattle.chorus_ui.specs.Name.{same_ui}
-use Rattle.chorus_ui.proofs.Names.{same_kind-self}
 use Rattle.chorus_entry.specs.declared.entry.Entry.{Entry}
 use Rattle.chorus_world.specs.declared.place.Location.{Location}
 use Rattle.chorus_world.specs.Places.{farther}
-use Rattle.chorus_hints.specs.Known.{Known, is_listed, kept, newest_of, newest, learned, nothing_known, known_after}
+use Rattle.chorus_hints.specs.Known.{Known, is_listed, kept, newest_of, newest, nothing_known, known_after}
 use Rattle.chorus_hints.proofs.Lessons.{newest-learned}
 use Rattle.chorus_hints.proofs.Values.{kept-nothing_known, length-nothing_known, kept-known_after, layout-known_after, length-known_after}
 use Rattle.chorus_board.specs.declared.table.Table.{Table}
 use Rattle.chorus_board.specs.declared.table.Publish.{Publish}
 use Rattle.chorus_board.specs.Located.{located_after, pair_of, told_of, IsPortIn, IsOfOnePlace}
-use Rattle.chorus_board.specs.Table.{told, applied_to, Exact, IsRoomy, Fine}
+use Rattle.chorus_board.specs.Table.{told, Exact, IsRoomy, Fine}
 use Rattle.chorus_board.specs.Writers.{IsReady}
 
 -- nothing is pending

@@ -4,13 +4,12 @@ use Rattle.logbook.specs.Pages.{Book}
 use Rattle.chorus_ui.specs.declared.ui.Ui.{Ui}
 use Rattle.chorus_ui.specs.declared.layout.Layout.{Layout}
 use Rattle.chorus_entry.specs.declared.entry.Entry.{Entry}
-use Rattle.chorus_world.specs.declared.place.Location.{Location}
 use Rattle.chorus_world.specs.Places.{farther}
 use Rattle.chorus_board.specs.declared.table.Table.{Table}
 use Rattle.chorus_board.specs.declared.reader.BoardReader.{BoardReader}
 use Rattle.chorus_board.specs.declared.reader.Located.{Located}
 use Rattle.chorus_board.specs.declared.board.Board.{Board}
-use Rattle.chorus_board.specs.Located.{located_after, pair_of, told_of, IsPortIn}
+use Rattle.chorus_board.specs.Located.{located_after, told_of, IsPortIn}
 
 -- the place and the hop of an answer
 abbrev pub pair_told : Located → ℕ × ℕ
@@ -30,6 +29,14 @@ book_read reader = reader.kept.seen.book
 -- it was given no handle
 abbrev pub IsWithoutHandle : BoardReader → Type 0
 IsWithoutHandle reader = reader.handle ≡ None
+
+-- it has a handle if it had one
+abbrev pub KeepsHandle : BoardReader → BoardReader → Type 0
+KeepsHandle old new = IsWithoutHandle new → IsWithoutHandle old
+
+-- it has the handle that it had, or still none
+abbrev pub HasSameHandle : BoardReader → BoardReader → Type 0
+HasSameHandle old new = new.handle ≡ old.handle
 
 abbrev pub IsSameReader : BoardReader → BoardReader → Type 0
 IsSameReader old new = (book_read new ≡ book_read old) × (layout_read new ≡ layout_read old)

@@ -1,10 +1,9 @@
 -- What a table says, and what a publish makes of it.
-use Rattle.std.specs.Prelude.{ℕ, ◌≡◌, ◌*◌, if◌then◌else◌, List, length}
+use Rattle.std.specs.Prelude.{◌≡◌, ◌*◌, if◌then◌else◌, List, length}
 use Rattle.chorus_ui.specs.declared.ui.Ui.{Ui}
-use Rattle.chorus_ui.specs.declared.layout.Layout.{Layout}
 use Rattle.chorus_ui.specs.declared.limits.TheConstants.{PORTS_PER_SITE_LIMIT}
 use Rattle.chorus_entry.specs.declared.entry.Entry.{Entry}
-use Rattle.chorus_hints.specs.Known.{Known, is_listed, newest, nothing_known, known_after}
+use Rattle.chorus_hints.specs.Known.{Known, is_listed, newest, known_after}
 use Rattle.chorus_board.specs.declared.table.Table.{Table}
 use Rattle.chorus_board.specs.declared.table.Publish.{Publish}
 use Rattle.chorus_board.specs.Located.{located_after, pair_of, IsPortIn, IsOfOnePlace}

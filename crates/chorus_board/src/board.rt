@@ -168,7 +168,7 @@ fn show_in<R: Wait>(writer: &mut TableWriter, rt: &R) -> Result<(), AllocError>
 impl BoardReader {
     ghost use Rattle.std.specs.Prelude.{◌≡◌};
     ghost use mathlib.Core.List.{IsPrefix};
-    ghost use Rattle.chorus_board.specs.Boards.{entries_seen, entries_published, IsReaderOf, IsSameReader};
+    ghost use Rattle.chorus_board.specs.Boards.{entries_seen, entries_published, HasSameHandle, IsReaderOf, IsSameReader};
 
     /// The reader, which is of this board, has then seen all that was published, which begins with what it had seen. Takes
     /// no memory.
@@ -178,6 +178,7 @@ impl BoardReader {
         ensures reader { IsSameReader self.old self.new }
         ensures board { board.new ≡ board.old }
         ensures seen { entries_seen self.new ≡ entries_published board.old }
+        ensures handle { HasSameHandle self.old self.new }
     {
         put_down(&mut self.kept, board.writer.published());
     }

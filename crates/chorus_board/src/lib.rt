@@ -1,13 +1,14 @@
 //! The board of a place: where ports are now, read without a turn.
 //!
 //! A board has one writer, [`Board`], and 64 readers. The writer publishes one location after another. Each publish stands,
-//! for contracts alone, for the list of the place's entries up to then. A [`BoardReader`] answers without waiting, without
-//! memory and without a turn at the place.
+//! for contracts alone, for the list of the place's entries up to then. A [`BoardReader`] answers without waiting and without
+//! a turn at the place.
 //!
-//! The layer above rests on this: a reader's answer is where the port is located after a list of entries for which a publish
-//! stands, or the empty list, and that list begins with the one of the reader's last answer. What a reader has seen can be
-//! told to the writer (`Board::hear`), whose next publish then begins with it, and what was published can be told to a reader
-//! (`BoardReader::follow`). Nothing is said of when a publish comes to a reader.
+//! The layer above rests on this: a reader's answer is where the port is located after a list of entries, and that list begins
+//! with the one of the reader's last answer. What a reader has seen can be told to the writer (`Board::hear`), whose next
+//! publish then begins with it, and what was published can be told to a reader (`BoardReader::follow`). No clause says that a
+//! reader's list is one for which a publish stands: by the rule it is a beginning of the board's one history, and that only
+//! `publish` makes that longer is read off the code. Nothing is said of when a publish comes to a reader.
 //!
 //! Begin with `specs/Located.antt` and `specs/Boards.antt`, the words of the contracts, then `board` and `reader`. The rule that
 //! holds between any two steps is `specs/Rule.antt`. Boards are this project's own.

@@ -43,7 +43,7 @@ impl BoardReader {
     ghost use Rattle.chorus_ui.specs.declared.kind.Kind.TheVariants.{Port};
     ghost use Rattle.chorus_ui.specs.Layout.{has_site};
     ghost use Rattle.chorus_board.specs.Located.{located_after, pair_of, IsOfOnePlace};
-    ghost use Rattle.chorus_board.specs.Boards.{entries_seen, layout_read, pair_told, IsWithoutHandle, IsSameReader};
+    ghost use Rattle.chorus_board.specs.Boards.{entries_seen, layout_read, pair_told, IsWithoutHandle, IsSameReader, KeepsHandle};
 
     /// Where the port is located after some entries, which begin with all that this reader had seen. The port's site is in
     /// the layout.
@@ -57,6 +57,7 @@ impl BoardReader {
         ensures begins { IsPrefix (entries_seen self.old) (entries_seen self.new) }
         ensures one_place { IsOfOnePlace (entries_seen self.new) }
         ensures unread { IsWithoutHandle self.old → self.new ≡ self.old }
+        ensures keeps { KeepsHandle self.old self.new }
         ensures located { pair_told result
             ≡ pair_of (located_after (layout_read self.old) (entries_seen self.new) ui) }
         ensures upto { result.upto ≡ length (entries_seen self.new) }
@@ -75,6 +76,7 @@ impl BoardReader {
         ensures reader { IsSameReader self.old self.new }
         ensures begins { IsPrefix (entries_seen self.old) (entries_seen self.new) }
         ensures unread { IsWithoutHandle self.old → self.new ≡ self.old }
+        ensures keeps { KeepsHandle self.old self.new }
     {
         let Some(handle) = self.handle.take() else {
             return;

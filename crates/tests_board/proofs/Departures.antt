@@ -1,16 +1,17 @@
 -- What the publishes of the tests owe.
-use Rattle.std.proofs.Common.{◌≡◌, ℕ, zero, suc, ◌+◌, ◌%◌, Bool, true, false, List, [], ◌∷◌, ◌++◌, length, reverse, rules, refl, ap, sym, ◌∙◌, arith, length-append}
+use Rattle.std.proofs.Common.{◌≡◌, ℕ, zero, suc, ◌+◌, ◌%◌, [], ◌∷◌, ◌++◌, length, rules, refl, ap, sym, ◌∙◌, arith, length-append}
 use Rattle.std.proofs.lemmas.List.Elements.{All-append}
 use Rattle.std.specs.List.{All}
 use Rattle.chorus_ui.specs.declared.layout.Layout.{Layout}
 use Rattle.chorus_ui.specs.declared.ui.Ui.{Ui}
-use Rattle.chorus_ui.specs.Name.{same_ui}
 use Rattle.chorus_entry.specs.declared.act.Act.TheVariants.{Depart}
 use Rattle.chorus_entry.specs.declared.entry.Entry.{Entry}
-use Rattle.chorus_world.specs.Places.{farther, learned}
+use Rattle.chorus_world.specs.Places.{farther}
+use Rattle.chorus_board.specs.declared.board.Board.{Board}
+use Rattle.chorus_board.specs.Boards.{IsNewBoard}
 use Rattle.chorus_board.specs.Located.{located_after, told_of, IsOfOnePlace}
 use Rattle.chorus_board.proofs.Whereabouts.{located_more, of_one_place}
-use Rattle.tests_board.specs.Moves.{entry_of, departure, departures}
+use Rattle.tests_board.specs.Moves.{entry_of, departure, departures, HasDeparted}
 
 pub departure_located : (l : Layout) (port : Ui) (place hop : ℕ) (q : Ui) → farther (located_after l [] q) (told_of q port place hop) ≡ located_after l (departure port place hop) q
 unfolding located_after
@@ -22,9 +23,13 @@ departure_of_one_place port place hop = of_one_place 1 (departure port place hop
 abbrev pub next_entry : Ui → ℕ → Entry
 next_entry port n = entry_of (n + 1) (Depart port ((n + 1) % 2 + 1) port (n + 1))
 
-pub no_departures : (port : Ui) → departures port 0 ≡ []
+no_departures : (port : Ui) → departures port 0 ≡ []
 unfolding departures
 no_departures port = refl
+
+-- of a new board nothing departed
+pub none_departed : (l : Layout) (board : Board) (port : Ui) → IsNewBoard l board → HasDeparted board port 0
+none_departed l board port new = (new.2 ∙ sym (no_departures port), new.1 ∙ sym (no_departures port))
 
 pub next_departures : (port : Ui) (n : ℕ) → departures port (n + 1) ≡ departures port n ++ next_entry port n ∷ []
 unfolding departures

@@ -1,12 +1,11 @@
-ghost use Rattle.std.specs.Prelude.{◌≡◌, ◌≤◌, IsTrue};
+ghost use Rattle.std.specs.Prelude.{◌≡◌, IsTrue};
 ghost use Rattle.chorus_ui.specs.declared.kind.Kind.TheVariants.{Port};
-ghost use Rattle.chorus_ui.specs.Layout.{has_site, can_make_port, places};
+ghost use Rattle.chorus_ui.specs.Layout.{has_site, can_make_port};
 ghost use Rattle.chorus_board.specs.Boards.{layout_of, layout_read, IsNewBoard};
 
-use crate::publishes::next_reader;
+use crate::publishes::{next_reader, publish_next};
 use chorus_board::{Board, BoardReader};
 use chorus_ui::{Kind, Layout, Ui};
-use std::marker::Brand;
 use std::sync::Wait;
 use std::test::*;
 use std::thread;
@@ -14,19 +13,12 @@ use std::thread::join;
 
 const LAST: u64 = 2_000;
 
-// Publishes that the port departs, by the hops from 1 on, each publish one entry more.
 fn publish_departures<R: Wait>(rt: &R, board: &mut Board, port: Ui) -> bool
     requires new { IsNewBoard (layout_of board.old) board.old }
     requires port { (port.kind ≡ Port) × IsTrue (can_make_port (layout_of board.old) port) }
-    requires places { 2 ≤ places (layout_of board.old) }
 {
     for count in 0..LAST {
-        let hop = count + 1;
-        let place = (hop % 2) as u16 + 1;
-        if board
-            .publish::<Brand, R>(rt, port, place, hop, hop)
-            .is_err()
-        {
+        if publish_next(rt, board, port, count).is_err() {
             return false;
         }
     }
@@ -56,7 +48,7 @@ fn read_departures<R: Wait>(rt: &R, mut reader: BoardReader, port: Ui) -> bool
 }
 
 #[test]
-fn a_reader_in_another_thread_never_goes_back(rt: HostRuntime) -> Result<(), Fail> {
+fn a_reader_in_another_thread_comes_to_the_last_publish(rt: HostRuntime) -> Result<(), Fail> {
     let layout = Layout::new(2, 1).ok_or("a layout")?;
     let port = Ui::new(1, Kind::Port, 1).ok_or("a port")?;
     let (mut board, mut readers) = Board::start(rt.alloc(), &rt, layout)?;
@@ -67,7 +59,7 @@ fn a_reader_in_another_thread_never_goes_back(rt: HostRuntime) -> Result<(), Fai
     };
     let mut rises = false;
     let mut done = false;
-    if port.kind() == Kind::Port && layout.can_make_port(port) && layout.places() >= 2 {
+    if port.kind() == Kind::Port && layout.can_make_port(port) {
         (rises, done) = join(
             &rt,
             move || -> bool
@@ -76,7 +68,6 @@ fn a_reader_in_another_thread_never_goes_back(rt: HostRuntime) -> Result<(), Fai
             || -> bool
                 requires new { IsNewBoard (layout_of board) board }
                 requires port { (port.kind ≡ Port) × IsTrue (can_make_port (layout_of board) port) }
-                requires places { 2 ≤ places (layout_of board) }
             { publish_departures(&rt, &mut board, port) },
         );
     }

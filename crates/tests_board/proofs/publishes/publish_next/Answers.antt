@@ -1,0 +1,23 @@
+use Rattle.std.proofs.Common.{◌+◌, ◌%◌, ◌∷◌, [], ◌++◌, ap, sym, ◌∙◌}
+use Rattle.chorus_world.specs.Places.{farther}
+use Rattle.chorus_board.specs.Boards.{layout_of}
+use Rattle.chorus_board.specs.Located.{located_after, told_of}
+use Rattle.tests_board.proofs.Departures.{next_entry, next_departures, length_departures, departures_of_one_place, departures_located}
+use Rattle.tests_board.proofs.publishes.publish_next.Goals as goal
+
+pub publish-requires-clause-longer : goal.publish-requires-clause-longer
+publish-requires-clause-longer g c =
+    let next = next_entry c.args.port c.args.count ∷ [] in
+    (next, ap (λ log. log ++ next) c.requires.so_far.0 ∙ sym (next_departures c.args.port c.args.count))
+
+pub publish-requires-clause-count : goal.publish-requires-clause-count
+publish-requires-clause-count g c = sym (length_departures c.args.port (c.args.count + 1))
+
+pub publish-requires-clause-one_place : goal.publish-requires-clause-one_place
+publish-requires-clause-one_place g c = departures_of_one_place c.args.port (c.args.count + 1)
+
+pub publish-requires-clause-located : goal.publish-requires-clause-located
+publish-requires-clause-located g c q here =
+    let n = c.args.count in
+    ap (λ log. farther (located_after (layout_of c.args.board.now) log q) (told_of q c.args.port ((n + 1) % 2 + 1) (n + 1))) c.requires.so_far.1
+    ∙ departures_located (layout_of c.args.board.now) c.args.port n q
