@@ -181,7 +181,7 @@ module _ (s : SitesState) (a b i j : ℕ) (x : Seated) (p p' : Place) (h : IsSit
           ap (put_all (work k (begun_by (state r) x k)).puts) taken-packets
           ∙ turned-packets s.layout (set s.places i p') j r q t x y taken-are lt1 rt puts e stays stays-layout in
           let same : net (record { layout = s.layout; places = set (set s.places i p') j q; callers = set s.callers 0 y })
-              ≡ ended 0 (work k (begun_by (state r) x k)) (record (net s) { packets = rest_on a b (waiting_in (boxes s.places)) }) =
+          ≡ ended 0 (work k (begun_by (state r) x k)) (record (net s) { packets = rest_on a b (waiting_in (boxes s.places)) }) =
           (λ n. record { layout = s.layout; places = sym one n; packets = sym two n; callers = set s.callers 0 (e.caller_is n) }) in
           same ∙ sym event-is
 
@@ -274,12 +274,14 @@ fault-in (Err e) d = e
 pub not-worn : {T : Type 0} (D : Delivered) (r : Result T (Packet × PlaceFault)) (v : T) (k : Packet) (clock g : ℕ) (o : Option ℕ) → r ≡ Ok v → o ≡ Some g
     → ((back : Packet) (n : ℕ) → (r ≡ Err (back, faults.Worn n)) ↔ ((CLOCK_LIMIT ≤ g) × (n ≡ g) × (back ≡ k)))
     → (◌≡◌ {A = Result Delivered PlaceFault} (Ok D) (Err (faults.Worn clock))) ↔ ((CLOCK_LIMIT ≤ clock) × (o ≡ Some clock))
-not-worn D r v k clock g o ok is worn =
-    (λ e. absurd (cc), λ h. (
+not-worn D r v k clock g o ok is worn = (
+  λ e. absurd (cc),
+  λ h. (
       let same : g ≡ clock = same_Some g clock (sym is ∙ h.1) in
       let le = h.0 in
       let bad : r ≡ Err (k, faults.Worn g) = (worn k g).1 (omega (arith, same, le), refl, refl) in
-      absurd (ok-err r v (k, faults.Worn g) ok bad)))
+      absurd (ok-err r v (k, faults.Worn g) ok bad)),
+)
   where
     ok-err : {A E : Type 0} (r : Result A E) (v : A) (e : E) → r ≡ Ok v → r ≡ Err e → ⊥
     ok-err r v e a b = cc
@@ -288,19 +290,20 @@ not-worn D r v k clock g o ok is worn =
 pub why-worn : {T : Type 0} (r : Result T (Packet × PlaceFault)) (back k : Packet) (f : PlaceFault) (clock g : ℕ) (o : Option ℕ) → r ≡ Err (back, f) → o ≡ Some g
     → ((back : Packet) (n : ℕ) → (r ≡ Err (back, faults.Worn n)) ↔ ((CLOCK_LIMIT ≤ g) × (n ≡ g) × (back ≡ k)))
     → (◌≡◌ {A = Result Delivered PlaceFault} (Err f) (Err (faults.Worn clock))) ↔ ((CLOCK_LIMIT ≤ clock) × (o ≡ Some clock))
-why-worn r back k f clock g o err is worn =
-    (λ e. (
+why-worn r back k f clock g o err is worn = (
+  λ e. (
       let same : f ≡ faults.Worn clock = ap (λ z. fault-in z f) e in
       let w = (worn back clock).0 (err ∙ ap (λ z. Err (back, z)) same) in
       let le = w.0 in
       let n = w.1 in
       (omega (arith, le, n), is ∙ ap Some (sym n))),
-    λ h. (
+  λ h. (
       let same : g ≡ clock = same_Some g clock (sym is ∙ h.1) in
       let le = h.0 in
       let w : r ≡ Err (k, faults.Worn clock) = (worn k clock).1 (omega (arith, same, le), sym same, refl) in
       let f-is : f ≡ faults.Worn clock = ap (λ z. fault-of z f) (sym err ∙ w) in
-      ap Err f-is))
+      ap Err f-is),
+)
 
 pub nobody-worn : (D : Delivered) (clock : ℕ) (o : Option ℕ) → o ≡ None
     → (◌≡◌ {A = Result Delivered PlaceFault} (Ok D) (Err (faults.Worn clock))) ↔ ((CLOCK_LIMIT ≤ clock) × (o ≡ Some clock))

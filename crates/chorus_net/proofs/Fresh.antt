@@ -24,13 +24,15 @@ none-waits b (suc n) = none-waits (b + 1) n
 
 pub are-places : (l : Layout) (k : ℕ) (ps : List Place) → HaveStarted l k ps → ArePlaces l k ps
 are-places l k [] h = tt
-are-places l k (p ∷ ps) h =
-    (record {
-      number = ap (λ (s : PlaceState). s.number) h.0.state;
-      layout = ap (λ (s : PlaceState). s.layout) h.0.state;
-      lists = ap length h.0.waits ∙ length-replicate (places l + 1) [];
-      from = subst (AllFrom k) (sym h.0.waits) (none-from k (places l + 1));
-    }, are-places l (k + 1) ps h.1)
+are-places l k (p ∷ ps) h = (
+  record {
+    number = ap (λ (s : PlaceState). s.number) h.0.state;
+    layout = ap (λ (s : PlaceState). s.layout) h.0.state;
+    lists = ap length h.0.waits ∙ length-replicate (places l + 1) [];
+    from = subst (AllFrom k) (sym h.0.waits) (none-from k (places l + 1));
+  },
+  are-places l (k + 1) ps h.1,
+)
 
 pub none-waiting : (l : Layout) (k : ℕ) (ps : List Place) → HaveStarted l k ps → waiting_in (boxes ps) ≡ []
 none-waiting l k [] h = refl

@@ -8,3 +8,4 @@ pub mod Rounds
 pub mod Parts
 pub mod Rooms
 pub mod Numbers
+pub mod Worn

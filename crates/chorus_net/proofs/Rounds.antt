@@ -14,15 +14,17 @@ use Rattle.chorus_law.specs.declared.delivery.Delivered.{Delivered}
 use Rattle.chorus_law.specs.Packets.{first_on}
 use Rattle.chorus_law.specs.Network.{NetState, Event, Deliver, numbers, place_numbers, happened, after, from_one, from_each, round, rounds, one_if, serves, served, delivered, delivery, delivery_of, schedule}
 use Rattle.chorus_law.specs.Tasks.{AreDeliveries, IsDrain}
-use Rattle.chorus_law.specs.Calls.{last_of, draining}
+use Rattle.chorus_law.specs.Calls.{last_of, draining, compared_at}
 use Rattle.chorus_law.proofs.Merge.Parts.{All-reverse}
 use Rattle.chorus_law.proofs.Draining.Drains.{idle, idle-event, after-append, round-deliveries}
 use Rattle.chorus_law.proofs.Draining.Emptied.{drains-leave-nothing}
 use Rattle.chorus_place.specs.Calls.{Place}
-use Rattle.chorus_net.specs.Drains.{seat_clock, Ticks, forward, serves_all, Goes, GoesRound, GoesRounds, Drains, Stops}
+use Rattle.chorus_net.specs.Drains.{seat_clock, Ticks, forward, serves_all, Goes, GoesRound, GoesRounds, Drains, Stops, IsWornAmong}
 use Rattle.chorus_net.specs.Sites.{SitesState, net, boxes, waiting_in, IsSites}
+use Rattle.chorus_net.specs.Worn.{compared_by, IsUnworn, AreUnworn, ComeUnworn, IsInRounds, IsWornIn}
 use Rattle.chorus_net.proofs.Boxes.{first-is, none-first}
 use Rattle.chorus_net.proofs.Changes.{are-boxes, box-of, length-boxes}
+use Rattle.chorus_net.proofs.Worn.{unworn-append, come-append, unworn-reverse, nothing-unworn}
 
 abbrev IsDelivery : Event → Type 0
 IsDelivery e = (a : ℕ) × ((b : ℕ) × (e ≡ Deliver 0 a b))
@@ -63,6 +65,7 @@ pub goes-none : (n : NetState) → Goes [] n n 0
 goes-none n = record {
   deliveries = All-nil IsDelivery;
   forward = refl;
+  unworn = tt;
   total = refl;
   risen = omega arith;
   last = λ h. absurd (omega (arith, h));
@@ -72,6 +75,7 @@ pub goes-on : (es fs : List Event) (n m k : NetState) (i j : ℕ) → Goes es n 
 goes-on es fs n m k i j g h = record {
   deliveries = All-append IsDelivery es fs g.deliveries h.deliveries;
   forward = h.forward ∙ ap (forward fs) g.forward ∙ sym (forward-append es fs n);
+  unworn = come-append es fs n g.unworn (subst (λ z. ComeUnworn fs z) g.forward h.unworn);
   total = (let a = g.total in let b = h.total in let c = serves-append es fs n in let d : serves_all fs m ≡ serves_all fs (forward es n) = ap (serves_all fs) g.forward in omega (arith, a, b, c, d));
   risen = (let a = g.risen in let b = h.risen in omega (arith, a, b));
   last = λ most. last-of i j (seat_clock n) (seat_clock m) g.risen g.last h.last most;
@@ -127,6 +131,7 @@ round-on bs n a m k o i j e g h =
 pub round-done : (l : Layout) (n m : NetState) (i : ℕ) → Goes (from_each 0 (place_numbers l) (place_numbers l)) n m i → GoesRound l n m i
 round-done l n m i g = record {
   after = g.forward ∙ sym (after-reverse (from_each 0 (place_numbers l) (place_numbers l)) n);
+  unworn = unworn-reverse (from_each 0 (place_numbers l) (place_numbers l)) n g.unworn;
   total = g.total ∙ sym (served-reverse (from_each 0 (place_numbers l) (place_numbers l)) n);
   risen = g.risen;
   last = g.last;
@@ -148,10 +153,11 @@ first-of (Some k) true h = refl
 first-of (Some k) false h = absurd (cc)
 
 pub serves-one : (a b : ℕ) (n m : NetState) → a ≢ b → is_some (slice_get n.callers 0) ≡ true → m ≡ happened (Deliver 0 a b) n → Delivered.Served ≡ delivery a b n → Ticks n m
-    → Goes (from_one 0 a (b ∷ [])) n m 1
-serves-one a b n m ne who is answer ticks = subst (λ es. Goes es n m 1) (sym (one-list a b (ne_eqb a b ne))) record {
+    → IsUnworn (compared_at 0 a b n) → Goes (from_one 0 a (b ∷ [])) n m 1
+serves-one a b n m ne who is answer ticks free = subst (λ es. Goes es n m 1) (sym (one-list a b (ne_eqb a b ne))) record {
   deliveries = All-cons IsDelivery (Deliver 0 a b) [] (a, (b, refl)) (All-nil IsDelivery);
   forward = is;
+  unworn = (free, tt);
   total = (let one : serves (Deliver 0 a b) n ≡ 1 = ap one_if (and_from (is_some (slice_get n.callers 0)) (is_some (first_on a b n.packets)) who (first-of (first_on a b n.packets) true (sym answer))) in omega (arith, one));
   risen = (let r = ticks.risen in omega (arith, r));
   last = λ h. (let r = ticks.below in omega (arith, r));
@@ -171,6 +177,7 @@ serves-none a b n m ne is answer =
     subst (λ es. Goes es n m 0) (sym (one-list a b (ne_eqb a b ne))) record {
       deliveries = All-cons IsDelivery (Deliver 0 a b) [] (a, (b, refl)) (All-nil IsDelivery);
       forward = is;
+      unworn = (nothing-unworn a b n (first-of (first_on a b n.packets) false (sym answer)), tt);
       total = omega (arith, none);
       risen = (let e = ap seat_clock still in omega (arith, e));
       last = λ h. absurd (omega (arith, h));
@@ -194,6 +201,7 @@ idle-row l a n (suc k) c none low high =
         record {
           deliveries = All-cons IsDelivery (Deliver 0 a c) [] (a, (c, refl)) (All-nil IsDelivery);
           forward = sym (idle-event (Deliver 0 a c) n zero-served);
+          unworn = (nothing-unworn a c n (ap is_some (none c has)), tt);
           total = omega (arith, zero-served);
           risen = omega arith;
           last = λ h. absurd (omega (arith, h));
@@ -212,19 +220,20 @@ idle-first s a b i p h e lt at has none =
 -- Rounds.
 
 pub rounds-none : (l : Layout) (n : NetState) → GoesRounds l n n 0
-rounds-none l n = record { count = 0; deliveries = All-nil IsDelivery; after = refl; total = refl; risen = omega arith; last = λ h. absurd (omega (arith, h)) }
+rounds-none l n = record { count = 0; deliveries = All-nil IsDelivery; after = refl; unworn = tt; total = refl; risen = omega arith; last = λ h. absurd (omega (arith, h)) }
 
 pub rounds-on : (l : Layout) (n m k : NetState) (i j : ℕ) → GoesRounds l n m i → GoesRound l m k j → GoesRounds l n k (i + j)
 rounds-on l n m k i j g h = record {
   count = suc g.count;
   deliveries = All-append IsDelivery (round l 0) (draining l g.count) (round-deliveries l 0) g.deliveries;
   after = h.after ∙ ap (after (round l 0)) g.after ∙ sym (after-append (round l 0) (rounds l 0 g.count) n);
+  unworn = unworn-append (round l 0) (rounds l 0 g.count) n (subst (λ z. AreUnworn (round l 0) z) g.after h.unworn) g.unworn;
   total = (
-    let a = g.total in
-    let b = h.total in
-    let c = served-append (round l 0) (rounds l 0 g.count) n in
-    let d : served (round l 0) m ≡ served (round l 0) (after (rounds l 0 g.count) n) = ap (served (round l 0)) g.after in
-    omega (arith, a, b, c, d));
+      let a = g.total in
+      let b = h.total in
+      let c = served-append (round l 0) (rounds l 0 g.count) n in
+      let d : served (round l 0) m ≡ served (round l 0) (after (rounds l 0 g.count) n) = ap (served (round l 0)) g.after in
+      omega (arith, a, b, c, d));
   risen = (let a = g.risen in let b = h.risen in omega (arith, a, b));
   last = λ most. last-of i j (seat_clock n) (seat_clock m) g.risen g.last h.last most;
 }
@@ -266,6 +275,7 @@ drained l n m k i j g r none empty =
     record {
       count = g.count;
       drained = still ∙ g.after;
+      unworn = g.unworn;
       dry = ap (served (round l 0)) still ∙ dry;
       empty = empty;
       total = g.total;
@@ -282,3 +292,81 @@ who-of a b n m e t = go (slice_get n.callers 0) refl
         let up = t.risen in
         absurd (omega (arith, same, up))
     go (Some x) f = ap is_some f
+
+-- Where a delivery is refused as worn.
+
+pub worn-here : (a b clock : ℕ) (n m : NetState) → a ≢ b → m ≡ n → compared_at 0 a b n ≡ Some clock → CLOCK_LIMIT ≤ clock → IsWornAmong (from_one 0 a (b ∷ [])) clock n m
+worn-here a b clock n m ne e at limit = subst (λ es. IsWornAmong es clock n m) (sym (one-list a b (ne_eqb a b ne))) record {
+  done = [];
+  next = Deliver 0 a b;
+  later = [];
+  are = refl;
+  is = e;
+  unworn = tt;
+  compares = ap (compared_at 0 a b) e ∙ at;
+  worn = limit;
+}
+
+worn-behind : (es fs gs : List Event) (n m k : NetState) (i clock : ℕ) → Goes es n m i → IsWornAmong fs clock m k → IsWornAmong (es ++ (fs ++ gs)) clock n k
+worn-behind es fs gs n m k i clock g w = record {
+  done = es ++ w.done;
+  next = w.next;
+  later = w.later ++ gs;
+  are = ap (λ z. es ++ (z ++ gs)) w.are ∙ ap (λ z. es ++ z) (append_assoc w.done (w.next ∷ w.later) gs)
+      ∙ sym (append_assoc es w.done (w.next ∷ (w.later ++ gs)));
+  is = w.is ∙ ap (forward w.done) g.forward ∙ sym (forward-append es w.done n);
+  unworn = come-append es w.done n g.unworn (subst (λ z. ComeUnworn w.done z) g.forward w.unworn);
+  compares = w.compares;
+  worn = w.worn;
+}
+
+numbers-split : (n m k : ℕ) → numbers (n + suc m) k ≡ numbers n k ++ (k + n) ∷ numbers m ((k + n) + 1)
+numbers-split zero m k =
+    (let e : 0 + suc m ≡ suc m = omega arith in
+    let f : k ≡ k + 0 = omega arith in
+    ap (λ x. numbers x k) e ∙ ap (λ x. x ∷ numbers m (x + 1)) f)
+numbers-split (suc n) m k =
+    (let e : suc n + suc m ≡ suc (n + suc m) = omega arith in
+    let f : (k + 1) + n ≡ k + suc n = omega arith in
+    ap (λ x. numbers x k) e ∙ ap (λ xs. k ∷ xs) (numbers-split n m (k + 1) ∙ ap (λ x. numbers n (k + 1) ++ x ∷ numbers m (x + 1)) f))
+
+split-at : (n b p : ℕ) → b ≡ 1 + n → b ≤ p → numbers p 1 ≡ numbers n 1 ++ b ∷ numbers (p - b) (b + 1)
+split-at n b p is le =
+    (let e : p ≡ n + suc (p - b) = omega (arith, is, le) in
+    ap (λ x. numbers x 1) e ∙ numbers-split n (p - b) 1 ∙ ap (λ x. numbers n 1 ++ x ∷ numbers (p - b) (x + 1)) (sym is))
+
+-- in a row, in a round and in rounds
+pub row-worn : (a n b p clock : ℕ) (m k o : NetState) (i : ℕ) → b ≡ 1 + n → b ≤ p → Goes (from_one 0 a (numbers n 1)) m k i → IsWornAmong (from_one 0 a (b ∷ [])) clock k o
+    → IsWornAmong (from_one 0 a (numbers p 1)) clock m o
+row-worn a n b p clock m k o i is le g w =
+    let rest = numbers (p - b) (b + 1) in
+    subst (λ es. IsWornAmong es clock m o)
+    (sym (ap (from_one 0 a) (split-at n b p is le) ∙ one-append a (numbers n 1) (b ∷ rest) ∙ ap (λ es. from_one 0 a (numbers n 1) ++ es) (one-append a (b ∷ []) rest)))
+    (worn-behind (from_one 0 a (numbers n 1)) (from_one 0 a (b ∷ [])) (from_one 0 a rest) m k o i clock g w)
+
+pub round-worn : (bs : List ℕ) (n a p clock : ℕ) (m k o : NetState) (i : ℕ) → a ≡ 1 + n → a ≤ p → Goes (from_each 0 (numbers n 1) bs) m k i → IsWornAmong (from_one 0 a bs) clock k o
+    → IsWornAmong (from_each 0 (numbers p 1) bs) clock m o
+round-worn bs n a p clock m k o i is le g w =
+    let rest = numbers (p - a) (a + 1) in
+    subst (λ es. IsWornAmong es clock m o)
+    (sym (ap (λ xs. from_each 0 xs bs) (split-at n a p is le) ∙ each-append (numbers n 1) (a ∷ rest) bs))
+    (worn-behind (from_each 0 (numbers n 1) bs) (from_one 0 a bs) (from_each 0 rest bs) m k o i clock g w)
+
+pub rounds-worn : (n m k : NetState) (i clock : ℕ) → GoesRounds n.layout n m i → IsWornAmong (from_each 0 (place_numbers n.layout) (place_numbers n.layout)) clock m k → IsWornIn clock n k
+rounds-worn n m k i clock g w =
+    let before = rounds n.layout 0 g.count in
+    let turned : reverse (w.done ++ w.next ∷ w.later) ≡ reverse w.later ++ w.next ∷ reverse w.done =
+    reverse-append w.done (w.next ∷ w.later) ∙ ap (λ z. z ++ reverse w.done) (reverse-more w.next w.later) ∙ append_assoc (reverse w.later) (w.next ∷ []) (reverse w.done) in
+    record {
+      next = w.next;
+      done = reverse w.done ++ before;
+      comes = record {
+        count = suc g.count;
+        later = reverse w.later;
+        are = ap (λ z. reverse z ++ before) w.are ∙ ap (λ z. z ++ before) turned ∙ append_assoc (reverse w.later) (w.next ∷ reverse w.done) before;
+      };
+      is = w.is ∙ sym (after-reverse w.done m) ∙ ap (after (reverse w.done)) g.after ∙ sym (after-append (reverse w.done) before n);
+      unworn = unworn-append (reverse w.done) before n (subst (λ z. AreUnworn (reverse w.done) z) g.after (unworn-reverse w.done m w.unworn)) g.unworn;
+      compares = w.compares;
+      worn = w.worn;
+    }

@@ -3,3 +3,4 @@ pub mod Drains
 pub mod Room
 pub mod Sites
 pub mod Starting
+pub mod Worn

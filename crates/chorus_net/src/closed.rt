@@ -22,4 +22,3 @@ pub(crate) enum Origin {
     /// `Sites::close`.
     Sites,
 }
-

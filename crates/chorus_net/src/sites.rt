@@ -5,23 +5,24 @@ ghost use Rattle.chorus_ui.specs.Layout.{IsLayout, has_actor, has_place};
 ghost use Rattle.chorus_ui.specs.declared.limits.TheConstants.{CLOCK_LIMIT, SEATS_LIMIT};
 ghost use Rattle.chorus_entry.specs.Kinds.{names_actor};
 ghost use Rattle.chorus_law.specs.Packets.{first_on};
-ghost use Rattle.chorus_law.specs.Network.{Act, happened, replied, delivery, place_numbers, from_one};
+ghost use Rattle.chorus_law.specs.Network.{Act, happened, replied, delivery, place_numbers, from_one, from_each};
 ghost use Rattle.chorus_law.specs.History.{put_by};
 ghost use Rattle.chorus_law.specs.Schedules.{may_happen};
 ghost use Rattle.chorus_law.specs.Calls.{just_started, entering, delivering, posts_of, compared, compared_at};
 ghost use Rattle.chorus_net.specs.Closing.{IsClosed};
-ghost use Rattle.chorus_net.specs.Drains.{Ticks, IsWorn, Goes, GoesRound, Drains, Stops};
+ghost use Rattle.chorus_net.specs.Drains.{Ticks, Goes, GoesRound, Drains, Stops, IsWornAmong};
 ghost use Rattle.chorus_net.specs.Room.{HaveRoom, HasRoomAt, KeepRoom, HasReserved, UsesRoom, TakesNoneAt};
 ghost use Rattle.chorus_net.specs.Sites.{net, IsScheduled};
+ghost use Rattle.chorus_net.specs.Worn.{IsWornIn};
 
 use crate::closed::Closed;
 use crate::closing::{count_packets, count_ports, take_apart};
 use crate::commands::place_for;
+use crate::fault::EnterFault;
 use crate::starting::start_places;
 use chorus_calls::Caller;
 use chorus_entry::Command;
 use chorus_law::{Delivered, Quiet};
-use crate::fault::EnterFault;
 use chorus_place::{Place, PlaceFault, Reply};
 use chorus_ui::{Kind, Layout, SEATS_LIMIT, Ui};
 use std::alloc::{AllocError, Global};
@@ -172,12 +173,13 @@ impl Sites {
     /// Seat 0 works off packets until none is left: in rounds, for each place rising, the first packet to each other place
     /// rising. The last round serves nothing.
     ///
-    /// It is refused as worn only where the next delivery is, and else only for want of memory. After a refusal the deliveries
-    /// before it stand.
+    /// It is refused as worn only where the next delivery of a round is, and else only for want of memory. After a refusal the
+    /// deliveries before it stand.
     pub fn drain(&mut self) -> Result<Quiet, PlaceFault>
         ensures ok { IfOk result (λ quiet. Drains self.old.layout (net self.old) (net self.new) quiet.served) }
         ensures stopped { OnErr result (Stops (net self.old) (net self.new)) }
-        ensures worn { (clock : ℕ) → IsErrOf result (PlaceFault.Worn clock) → IsWorn clock (net self.new) }
+        ensures worn { (clock : ℕ) → IsErrOf result (PlaceFault.Worn clock) →
+            IsWornIn clock (net self.old) (net self.new) }
         ensures layout { self.new.layout ≡ self.old.layout }
     {
         let mut served = 0;
@@ -248,7 +250,8 @@ impl Sites {
     fn round(&mut self) -> Result<u64, PlaceFault>
         ensures ok { IfOk result (λ number. GoesRound self.old.layout (net self.old) (net self.new) number) }
         ensures stopped { OnErr result (Stops (net self.old) (net self.new)) }
-        ensures worn { (clock : ℕ) → IsErrOf result (PlaceFault.Worn clock) → IsWorn clock (net self.new) }
+        ensures worn { (clock : ℕ) → IsErrOf result (PlaceFault.Worn clock) →
+            IsWornAmong (from_each 0 (place_numbers self.old.layout) (place_numbers self.old.layout)) clock (net self.old) (net self.new) }
         ensures layout { self.new.layout ≡ self.old.layout }
         ensures dry { result ≡ Ok 0 → (net self.new).packets ≡ [] }
     {
@@ -268,7 +271,8 @@ impl Sites {
         requires { has_place self.old.layout from ≡ true }
         ensures ok { IfOk result (λ number. Goes (from_one 0 from (place_numbers self.old.layout)) (net self.old) (net self.new) number) }
         ensures stopped { OnErr result (Stops (net self.old) (net self.new)) }
-        ensures worn { (clock : ℕ) → IsErrOf result (PlaceFault.Worn clock) → IsWorn clock (net self.new) }
+        ensures worn { (clock : ℕ) → IsErrOf result (PlaceFault.Worn clock) →
+            IsWornAmong (from_one 0 from (place_numbers self.old.layout)) clock (net self.old) (net self.new) }
         ensures layout { self.new.layout ≡ self.old.layout }
     {
         if self.is_idle(from) {
@@ -298,7 +302,8 @@ impl Sites {
         requires to { has_place self.old.layout to ≡ true }
         ensures ok { IfOk result (λ number. Goes (from_one 0 from (to ∷ [])) (net self.old) (net self.new) number) }
         ensures stopped { OnErr result (net self.new ≡ net self.old) }
-        ensures worn { (clock : ℕ) → IsErrOf result (PlaceFault.Worn clock) → IsWorn clock (net self.new) }
+        ensures worn { (clock : ℕ) → IsErrOf result (PlaceFault.Worn clock) →
+            IsWornAmong (from_one 0 from (to ∷ [])) clock (net self.old) (net self.new) }
         ensures layout { self.new.layout ≡ self.old.layout }
     {
         if from == to {

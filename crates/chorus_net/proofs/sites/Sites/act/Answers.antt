@@ -88,7 +88,7 @@ returns-clause-ok c =
     let number : place_for c.self.inside.layout c.index_mut-caller.result.now.actor c.args.command ≡ 1 + (c.from.result - 1) = ap (λ (a : Ui). place_for c.self.inside.layout a c.args.command) (sym c.actor.ensures) ∙ sym c.place_for-number.ensures.value ∙ stands.0 in
     if-ok c.act.result _ _ c.act.ensures.called
     (λ r h. acted-net s c.args.seat i c.args.command x p c.self.invariant may found number stands.1 c.index_mut-place.ensures.value c.act.new.self c.act.new.caller h.ended
-        ∙ ap (λ (v : SitesState). happened (Act c.args.seat c.args.command) (net v)) c.self.view_is)
+    ∙ ap (λ (v : SitesState). happened (Act c.args.seat c.args.command) (net v)) c.self.view_is)
 
 pub returns-clause-reply : goal.returns-clause-reply
 returns-clause-reply c =
@@ -103,7 +103,7 @@ returns-clause-reply c =
     let number : place_for c.self.inside.layout c.index_mut-caller.result.now.actor c.args.command ≡ 1 + (c.from.result - 1) = ap (λ (a : Ui). place_for c.self.inside.layout a c.args.command) (sym c.actor.ensures) ∙ sym c.place_for-number.ensures.value ∙ stands.0 in
     if-ok c.act.result _ _ c.act.ensures.called
     (λ r h. acted-reply s c.args.seat i c.args.command x p c.self.invariant may found number stands.1 c.index_mut-place.ensures.value c.act.new.self c.act.new.caller h.ended r h.answer
-        ∙ ap (λ (v : SitesState). replied c.args.seat c.args.command (net v)) c.self.view_is)
+    ∙ ap (λ (v : SitesState). replied c.args.seat c.args.command (net v)) c.self.view_is)
 
 pub returns-clause-worn : goal.returns-clause-worn
 returns-clause-worn c clock =
@@ -150,18 +150,18 @@ returns-clause-room c =
     let number : place_for c.self.inside.layout c.index_mut-caller.result.now.actor c.args.command ≡ 1 + (c.from.result - 1) = ap (λ (a : Ui). place_for c.self.inside.layout a c.args.command) (sym c.actor.ensures) ∙ sym c.place_for-number.ensures.value ∙ stands.0 in
     if-ok c.act.result _ _ c.act.ensures.called
     (λ r h.
-        let le = h.ended.spare in
-        let one = uses-set (length (act c.args.command (begun (state c.index_mut-place.result.now) c.index_mut-caller.result.now)).puts) c.self.inside.places.items i p c.act.new.self c.index_mut-place.ensures.value le in
-        let n : length (act c.args.command (begun (state c.index_mut-place.result.now) c.index_mut-caller.result.now)).puts ≡ length (put_by (Act c.args.seat c.args.command) (net c.args.self.now)) =
-        ap (λ (os : List Outgoing). length os) (sym (acted-puts s c.args.seat i c.args.command x p c.self.invariant may found number stands.1 c.index_mut-place.ensures.value) ∙ ap (λ (v : SitesState). put_by (Act c.args.seat c.args.command) (net v)) c.self.view_is) in
-        subst (λ (v : SitesState). UsesRoom (length (put_by (Act c.args.seat c.args.command) (net c.args.self.now))) v.places (set c.self.inside.places.items (c.from.result - 1) c.act.new.self)) c.self.view_is
-        (subst (λ m. UsesRoom m c.self.inside.places.items (set c.self.inside.places.items (c.from.result - 1) c.act.new.self)) n one))
+    let le = h.ended.spare in
+    let one = uses-set (length (act c.args.command (begun (state c.index_mut-place.result.now) c.index_mut-caller.result.now)).puts) c.self.inside.places.items i p c.act.new.self c.index_mut-place.ensures.value le in
+    let n : length (act c.args.command (begun (state c.index_mut-place.result.now) c.index_mut-caller.result.now)).puts ≡ length (put_by (Act c.args.seat c.args.command) (net c.args.self.now)) =
+    ap (λ (os : List Outgoing). length os) (sym (acted-puts s c.args.seat i c.args.command x p c.self.invariant may found number stands.1 c.index_mut-place.ensures.value) ∙ ap (λ (v : SitesState). put_by (Act c.args.seat c.args.command) (net v)) c.self.view_is) in
+    subst (λ (v : SitesState). UsesRoom (length (put_by (Act c.args.seat c.args.command) (net c.args.self.now))) v.places (set c.self.inside.places.items (c.from.result - 1) c.act.new.self)) c.self.view_is
+    (subst (λ m. UsesRoom m c.self.inside.places.items (set c.self.inside.places.items (c.from.result - 1) c.act.new.self)) n one))
 
 pub returns-clause-kept : goal.returns-clause-kept
 returns-clause-kept c =
     on-err c.act.result _ _ c.act.ensures.refused
     (λ h. subst (λ (v : SitesState). KeepRoom v.places (set c.self.inside.places.items (c.from.result - 1) c.act.new.self)) c.self.view_is
-        (keep-set c.self.inside.places.items (c.from.result - 1) c.index_mut-place.result.now c.act.new.self c.index_mut-place.ensures.value h.0.spare))
+    (keep-set c.self.inside.places.items (c.from.result - 1) c.index_mut-place.result.now c.act.new.self c.index_mut-place.ensures.value h.0.spare))
 
 pub returns-clause-takes_no_memory : goal.returns-clause-takes_no_memory
 returns-clause-takes_no_memory c = λ takes below.

@@ -1,15 +1,17 @@
-use Rattle.std.proofs.Common.{◌≡◌, ◌≢◌, ◌+◌, ◌-◌, ◌<◌, ◌≤◌, ◌==◌, ℕ, suc, Result, Ok, true, length, refl, sym, ◌∙◌, ap, subst, arith}
+use Rattle.std.proofs.Common.{◌≡◌, ◌≢◌, ◌+◌, ◌-◌, ◌<◌, ◌≤◌, ◌==◌, ℕ, suc, Result, Ok, Err, true, length, refl, sym, ◌∙◌, ap, subst, arith}
 use Rattle.std.proofs.lemmas.Bool.{eqb-true}
-use Rattle.std.proofs.lemmas.Result.{MatchResult-from_err}
+use Rattle.std.proofs.lemmas.Result.{MatchResult-from_err, err_from_is_err_and}
+use Rattle.chorus_place.specs.declared.fault.PlaceFault.TheVariants as faults
 use Rattle.chorus_ui.specs.Layout.{has_place, places}
 use Rattle.chorus_out.specs.Waiting.{count}
 use Rattle.chorus_law.specs.Packets.{first_on}
 use Rattle.chorus_law.specs.declared.delivery.Delivered.{Delivered}
 use Rattle.chorus_law.specs.Network.{Deliver, happened, delivery, numbers, place_numbers, from_one, from_each}
-use Rattle.chorus_net.specs.Drains.{Goes, GoesRound, GoesRounds, Ticks}
+use Rattle.chorus_net.specs.Drains.{Goes, GoesRound, GoesRounds, Ticks, IsWornAmong}
 use Rattle.chorus_net.specs.Sites.{SitesState, net, IsSites, boxes, waiting_in}
+use Rattle.chorus_net.proofs.Deliveries.{fault-in}
 use Rattle.chorus_net.proofs.Events.{stands-at-index}
-use Rattle.chorus_net.proofs.Rounds.{same-place, serves-one, serves-none, who-of, idle-first, idle-place, goes-none, row-on, round-on, round-done, stops-behind, stops-here, dry-round, drained, rounds-on, rounds-none, stops-behind-rounds}
+use Rattle.chorus_net.proofs.Rounds.{row-worn, same-place, serves-one, serves-none, who-of, idle-first, idle-place, goes-none, row-on, round-on, round-done, stops-behind, stops-here, dry-round, drained, rounds-on, rounds-none, stops-behind-rounds}
 use Rattle.chorus_net.proofs.sites.Sites.deliver_from.Goals as goal
 
 pub returns-then-is_idle-clause-ok : goal.returns-then-is_idle-clause-ok
@@ -18,8 +20,8 @@ returns-then-is_idle-clause-ok c = idle-place c.args.self.now.layout c.args.from
 pub returns-in_err-served-clause-stopped : goal.returns-in_err-served-clause-stopped
 returns-in_err-served-clause-stopped c =
     MatchResult-from_err c.from_residual.result _ _ c.from_residual.ensures.0 (λ _.
-        stops-behind (from_one 0 c.args.from (numbers (c.loop-to.to - 1) 1)) (net c.args.self.now) (net c.loop-to.self) (net c.serve.new.self) c.loop-to.served c.loop-to.invariant.goes
-        (stops-here (net c.loop-to.self) (net c.serve.new.self) c.in_err-served.ensures.stopped))
+    stops-behind (from_one 0 c.args.from (numbers (c.loop-to.to - 1) 1)) (net c.args.self.now) (net c.loop-to.self) (net c.serve.new.self) c.loop-to.served c.loop-to.invariant.goes
+    (stops-here (net c.loop-to.self) (net c.serve.new.self) c.in_err-served.ensures.stopped))
 
 pub loop-to-preserved : goal.loop-to-preserved
 loop-to-preserved c =
@@ -45,3 +47,18 @@ returns-clause-ok c =
     let v : c.places-count.result ≡ places c.args.self.now.layout = c.places-count.ensures.value ∙ ap places c.layout.ensures.value in
     let e : c.loop-to.to - 1 ≡ places c.args.self.now.layout = omega (arith, high, f, v) in
     subst (λ k. Goes (from_one 0 c.args.from (numbers k 1)) (net c.args.self.now) (net c.loop-to.self) c.loop-to.served) e i.goes
+
+pub returns-in_err-served-clause-worn : goal.returns-in_err-served-clause-worn
+returns-in_err-served-clause-worn c = λ clock e.
+    let p = err_from_is_err_and c.from_residual.result c.from_residual.ensures.1 in
+    let a = p.1 in
+    let b = p.2 in
+    let was = c.in_err-served.was in
+    let w : c.serve.result ≡ Err (faults.Worn clock) = was ∙ ap Err (sym b ∙ ap (λ z. fault-in z (faults.Worn clock)) (sym a ∙ e)) in
+    let i = c.loop-to.invariant in
+    let low = i.low in
+    let t = c.loop-to-test.true in
+    let v : c.places-count.result ≡ places c.args.self.now.layout = c.places-count.ensures.value ∙ ap places c.layout.ensures.value in
+    let is : c.loop-to.to ≡ 1 + (c.loop-to.to - 1) = omega (arith, low) in
+    let le : c.loop-to.to ≤ places c.args.self.now.layout = omega (arith, t, v) in
+    row-worn c.args.from (c.loop-to.to - 1) c.loop-to.to (places c.args.self.now.layout) clock (net c.args.self.now) (net c.loop-to.self) (net c.serve.new.self) c.loop-to.served is le i.goes (c.serve.ensures.worn clock w)

@@ -1,22 +1,24 @@
 use Rattle.std.proofs.Common.{◌≡◌, ◌≢◌, ◌+◌, ◌-◌, ◌<◌, ◌≤◌, ◌==◌, ℕ, suc, Result, Ok, Err, true, length, refl, sym, ◌∙◌, ap, subst, arith}
 use Rattle.std.proofs.lemmas.Bool.{eqb-true}
-use Rattle.std.proofs.lemmas.Result.{MatchResult-from_err}
+use Rattle.std.proofs.lemmas.Result.{MatchResult-from_err, err_from_is_err_and}
+use Rattle.chorus_place.specs.declared.fault.PlaceFault.TheVariants as faults
 use Rattle.chorus_ui.specs.Layout.{has_place, places}
 use Rattle.chorus_out.specs.Waiting.{count}
 use Rattle.chorus_law.specs.Packets.{first_on}
 use Rattle.chorus_law.specs.declared.delivery.Delivered.{Delivered}
 use Rattle.chorus_law.specs.Network.{Deliver, happened, delivery, numbers, place_numbers, from_one, from_each}
-use Rattle.chorus_net.specs.Drains.{Goes, GoesRound, GoesRounds, Ticks}
+use Rattle.chorus_net.specs.Drains.{Goes, GoesRound, GoesRounds, Ticks, IsWornAmong}
 use Rattle.chorus_net.specs.Sites.{SitesState, net, IsSites, boxes, waiting_in}
+use Rattle.chorus_net.proofs.Deliveries.{fault-in}
 use Rattle.chorus_net.proofs.Events.{stands-at-index}
-use Rattle.chorus_net.proofs.Rounds.{same-place, serves-one, serves-none, who-of, idle-first, idle-place, goes-none, row-on, round-on, round-done, stops-behind, stops-here, dry-round, drained, rounds-on, rounds-none, stops-behind-rounds}
+use Rattle.chorus_net.proofs.Rounds.{round-worn, same-place, serves-one, serves-none, who-of, idle-first, idle-place, goes-none, row-on, round-on, round-done, stops-behind, stops-here, dry-round, drained, rounds-on, rounds-none, stops-behind-rounds}
 use Rattle.chorus_net.proofs.sites.Sites.round.Goals as goal
 
 pub returns-in_err-served-clause-stopped : goal.returns-in_err-served-clause-stopped
 returns-in_err-served-clause-stopped c =
     MatchResult-from_err c.from_residual.result _ _ c.from_residual.ensures.0 (λ _.
-        stops-behind (from_each 0 (numbers (c.loop-from.from - 1) 1) (place_numbers c.args.self.now.layout)) (net c.args.self.now) (net c.loop-from.self) (net c.deliver_from.new.self) c.loop-from.served
-        c.loop-from.invariant.goes c.in_err-served.ensures.stopped)
+    stops-behind (from_each 0 (numbers (c.loop-from.from - 1) 1) (place_numbers c.args.self.now.layout)) (net c.args.self.now) (net c.loop-from.self) (net c.deliver_from.new.self) c.loop-from.served
+    c.loop-from.invariant.goes c.in_err-served.ensures.stopped)
 
 pub loop-from-preserved : goal.loop-from-preserved
 loop-from-preserved c =
@@ -55,3 +57,20 @@ returns-clause-dry c = λ ok.
     let done = returns-clause-ok c in
     dry-round s (net c.loop-from.self) c.loop-from.served c.self.invariant
     (subst (λ (v : SitesState). GoesRound v.layout (net v) (net c.loop-from.self) c.loop-from.served) (sym c.self.view_is) done) (ap (λ r. value-of r) ok)
+
+pub returns-in_err-served-clause-worn : goal.returns-in_err-served-clause-worn
+returns-in_err-served-clause-worn c = λ clock e.
+    let p = err_from_is_err_and c.from_residual.result c.from_residual.ensures.1 in
+    let a = p.1 in
+    let b = p.2 in
+    let was = c.in_err-served.was in
+    let w : c.deliver_from.result ≡ Err (faults.Worn clock) = was ∙ ap Err (sym b ∙ ap (λ z. fault-in z (faults.Worn clock)) (sym a ∙ e)) in
+    let i = c.loop-from.invariant in
+    let low = i.low in
+    let t = c.loop-from-test.true in
+    let v : c.places-count.result ≡ places c.args.self.now.layout = c.places-count.ensures.value ∙ ap (λ (z : SitesState). places z.layout) c.self.view_is in
+    let is : c.loop-from.from ≡ 1 + (c.loop-from.from - 1) = omega (arith, low) in
+    let le : c.loop-from.from ≤ places c.args.self.now.layout = omega (arith, t, v) in
+    let row : IsWornAmong (from_one 0 c.loop-from.from (place_numbers c.args.self.now.layout)) clock (net c.loop-from.self) (net c.deliver_from.new.self) =
+    subst (λ l. IsWornAmong (from_one 0 c.loop-from.from (place_numbers l)) clock (net c.loop-from.self) (net c.deliver_from.new.self)) i.layout (c.deliver_from.ensures.worn clock w) in
+    round-worn (place_numbers c.args.self.now.layout) (c.loop-from.from - 1) c.loop-from.from (places c.args.self.now.layout) clock (net c.args.self.now) (net c.loop-from.self) (net c.deliver_from.new.self) c.loop-from.served is le i.goes row

@@ -12,7 +12,8 @@ use Rattle.chorus_net.specs.Drains.{Goes, GoesRound, GoesRounds, Ticks}
 use Rattle.chorus_net.specs.Sites.{SitesState, net, IsSites, boxes, waiting_in}
 use Rattle.chorus_net.proofs.Deliveries.{fault-in}
 use Rattle.chorus_net.proofs.Events.{stands-at-index}
-use Rattle.chorus_net.proofs.Rounds.{same-place, serves-one, serves-none, who-of, idle-first, idle-place, goes-none, row-on, round-on, round-done, stops-behind, stops-here, dry-round, drained, rounds-on, rounds-none, stops-behind-rounds}
+use Rattle.chorus_net.proofs.Rounds.{worn-here, same-place, serves-one, serves-none, who-of, idle-first, idle-place, goes-none, row-on, round-on, round-done, stops-behind, stops-here, dry-round, drained, rounds-on, rounds-none, stops-behind-rounds}
+use Rattle.chorus_net.proofs.Worn.{done-unworn}
 use Rattle.chorus_net.proofs.sites.Sites.serve.Goals as goal
 
 pub returns-in-Served-clause-ok : goal.returns-in-Served-clause-ok
@@ -24,6 +25,7 @@ returns-in-Served-clause-ok c =
     let ticks : Ticks (net c.args.self.now) (net c.deliver.new.self) = c.deliver.ensures.ticks (c.in_ok-deliver.was ∙ ap Ok c.in-Served.is) in
     let ne : c.args.from ≢ c.args.to = c.if-from-to.false in
     serves-one c.args.from c.args.to n m ne (who-of c.args.from c.args.to n m is ticks) is answer ticks
+    (done-unworn c.deliver.result Delivered.Served (compared_at 0 c.args.from c.args.to (net c.args.self.now)) (c.in_ok-deliver.was ∙ ap Ok c.in-Served.is) c.deliver.ensures.worn)
 
 pub returns-in-Nothing-clause-ok : goal.returns-in-Nothing-clause-ok
 returns-in-Nothing-clause-ok c =
@@ -42,4 +44,5 @@ returns-in_err-deliver-clause-worn c = λ clock e.
     let w : c.deliver.result ≡ Err (faults.Worn clock) = was ∙ ap Err (sym b ∙ ap (λ z. fault-in z (faults.Worn clock)) (sym a ∙ e)) in
     let both = (c.deliver.ensures.worn clock).0 w in
     let same = c.in_err-deliver.ensures.refused in
-    record { from = c.args.from; to = c.args.to; compared = ap (compared_at 0 c.args.from c.args.to) same ∙ both.1; limit = both.0 }
+    let ne : c.args.from ≢ c.args.to = c.if-from-to.false in
+    worn-here c.args.from c.args.to clock (net c.args.self.now) (net c.deliver.new.self) ne same both.1 both.0
