@@ -6,10 +6,9 @@ ghost use Rattle.chorus_ui.specs.declared.limits.TheConstants.{BODY_LIMIT};
 use crate::conditions::{meets_conditions, place_for};
 use chorus_calls::Caller;
 use chorus_entry::{Body, Command, Dest};
-use chorus_place::{PlaceFault, Reply};
+use chorus_place::{Place, PlaceFault, Reply};
 use chorus_ui::{Kind, Layout, Ui};
 use std::alloc::{AllocError, Global};
-use chorus_place::Place;
 
 /// Why a round was not done.
 #[derive(Clone, Copy, Debug)]

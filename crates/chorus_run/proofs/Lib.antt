@@ -1,13 +1,12 @@
-pub mod Texts
-pub mod Closed
-pub mod Holding
-pub mod Standing
 pub mod Given
 pub mod Callers
-pub mod Ready
+pub mod May
+pub mod Plays
+pub mod Texts
 pub mod Reading
-pub mod Bounds
-pub mod Lengths
-pub mod Next
-pub mod Moments
-pub mod Scheduling
+pub mod Clocks
+pub mod Stepping
+pub mod Loops
+pub mod Once
+mod Examples
+pub mod Seating

@@ -1,32 +1,39 @@
--- What a replay promises: what was read, and what the journals that it hands out are.
-use Rattle.std.specs.Prelude.{ℕ, ◌≡◌, ◌+◌, ◌≤◌, ◌⊎◌, true, if◌then◌else◌, List, [], ◌∷◌, ◌++◌, All, length, map, take, reverse, Option, Some, None, IfSome, Result, Ok, Err, slice_get}
+-- What a top call promises: what it read, and what the journals are that it hands out.
+-- l is a layout, c a scenario, k a seat.
+use Rattle.std.specs.Prelude.{ℕ, ◌≡◌, ◌+◌, ◌≤◌, ◌⊎◌, true, List, ◌∷◌, ◌++◌, length, map, take, reverse, Option, Some, None, IfSome, Result, Ok, slice_get}
 use Rattle.std.specs.Io.KnownBytes.{Consumes, IsAtEnd}
 use Rattle.chorus_ui.specs.declared.ui.Ui.{Ui}
 use Rattle.chorus_ui.specs.declared.layout.Layout.{Layout}
+use Rattle.chorus_ui.specs.Layout.{places}
 use Rattle.chorus_entry.specs.declared.entry.Entry.{Entry}
-use Rattle.chorus_entry.specs.declared.id.MsgId.{MsgId}
 use Rattle.chorus_entry.specs.declared.command.Command.{Command}
-use Rattle.chorus_entry.specs.declared.record.PortRecord.{PortRecord}
 use Rattle.chorus_merge.specs.Merge.{merged}
-use Rattle.chorus_world.specs.Views.{on}
-use Rattle.chorus_world.specs.Places.{sent, unsettled}
-use Rattle.chorus_world.specs.Ports.{PortState, fate, is_held}
+use Rattle.chorus_world.specs.Views.{at}
 use Rattle.chorus_world.specs.Runs.{is_run}
 use Rattle.chorus_world.specs.Commands.{performs}
-use Rattle.chorus_world.specs.AcceptedLaws.{received, taken_by, accepted_by}
+use Rattle.chorus_world.specs.Always.{Always}
+use Rattle.chorus_world.specs.AcceptedLaws.{ReceivesInOrder, KeepsEachMessage}
 use Rattle.chorus_net.specs.declared.closed.Closed.{Closed}
-use Rattle.chorus_law.specs.declared.placed.Placed.{Placed}
 use Rattle.chorus_net.specs.Closing.{journals_of}
-use Rattle.chorus_net.specs.OnePlace.{StandsFor}
-use Rattle.chorus_net.specs.Sites.{SitesState, layout_of, opening, first_actor}
+use Rattle.chorus_law.specs.Calls.{just_started, first_actor}
+use Rattle.chorus_law.specs.Holdings.{StandsFor, holdings_left}
+use Rattle.chorus_law.specs.Network.{NetState, Event, opening, schedule}
+use Rattle.chorus_law.specs.Quiet.{IsQuiet}
+use Rattle.chorus_law.specs.Schedules.{may_be}
+use Rattle.chorus_law.specs.Tasks.{Task, CarryOut}
+use Rattle.chorus_show.specs.declared.status.Status.{Status}
+use Rattle.chorus_show.specs.declared.status.Status.TheVariants.{Worn}
 use Rattle.chorus_scene.specs.declared.limits.TheConstants.{TEXT_LIMIT}
 use Rattle.chorus_scene.specs.Scene.{Scene, Script}
 use Rattle.chorus_scene.specs.Grammar.{read_scene}
-use Rattle.chorus_run.specs.Order.{scene_is_built, setup_commands}
+use Rattle.chorus_run.specs.Order.{setup_commands, tasks}
+use Rattle.chorus_net.specs.Worn.{AreUnworn}
+use Rattle.chorus_run.specs.Worn.{AreWornBy}
+use Rattle.chorus_net.specs.Closing.{IsClosed}
 
 -- nothing happened on the sites yet
-abbrev pub AreJustStarted : SitesState → Type 0
-AreJustStarted s = s ≡ opening (layout_of s)
+abbrev pub AreJustStarted : NetState → Type 0
+AreJustStarted n = n ≡ just_started n.layout
 
 -- What was read.
 
@@ -34,19 +41,10 @@ AreJustStarted s = s ≡ opening (layout_of s)
 abbrev pub bytes_read : List ℕ → List ℕ
 bytes_read input = take (TEXT_LIMIT + 1) input
 
--- an accepted scenario that is not built yet is refused with line 0 and reason 0
-abbrev pub unless_unbuilt : Result Scene (ℕ × ℕ) → Result Scene (ℕ × ℕ)
-unless_unbuilt (Ok c) = if scene_is_built c then Ok c else Err (0, 0)
-unless_unbuilt (Err fault) = Err fault
-
--- what the grammar makes of an input: its scenario, or the line and the reason of the refusal
-abbrev pub judged : Layout → List ℕ → Result Scene (ℕ × ℕ)
-judged l input = unless_unbuilt (read_scene l (bytes_read input))
-
--- the input is told, and gives this
+-- the input is told, and gives this: its scenario, or the line and the reason of the refusal
 abbrev pub Gives : Layout → Option (List ℕ) → Result Scene (ℕ × ℕ) → Type 0
 Gives l None outcome = ⊥
-Gives l (Some input) outcome = judged l input ≡ outcome
+Gives l (Some input) outcome = read_scene l (bytes_read input) ≡ outcome
 
 -- the source was read to its end, or to one byte more than the limit
 pub record IsRead (old new : Option (List ℕ)) : Type 0 where
@@ -60,16 +58,60 @@ ReadsNoFurther old new = (bytes : List ℕ) × Consumes old new bytes × (length
 
 -- What is handed out.
 
--- this holds of the scenario that the input gives and of what was closed, where there are both
-abbrev pub OfScene : Layout → Option (List ℕ) → Option Closed → (Scene → Closed → Type 0) → Type 0
-OfScene l told closed holds = (c : Scene) → Gives l told (Ok c) → IfSome closed (holds c)
-
 -- the merge of the journals, in order, and as a past of the world
 abbrev pub merge_of : Closed → List Entry
 merge_of closed = merged (journals_of closed)
 
 abbrev pub past_of : Closed → List Entry
 past_of closed = reverse (merge_of closed)
+
+-- it performs these commands of a seat, each once and in their order, by the entry that answers it
+abbrev pub PerformsAll : Layout → ℕ → Ui → Closed → List Command → Type 0
+PerformsAll l k actor closed commands = performs l k actor (past_of closed) (reverse commands) ≡ true
+
+-- or the first of them, where a clock was worn
+abbrev pub PerformsFirst : Layout → ℕ → Ui → Closed → List Command → Type 0
+PerformsFirst l k actor closed commands =
+    (done : List Command) × ((rest : List Command) × ((commands ≡ done ++ rest) × PerformsAll l k actor closed done))
+
+abbrev pub PerformsUnless : Status → Layout → ℕ → Ui → Closed → List Command → Type 0
+PerformsUnless (Worn clock) l k actor closed commands = PerformsFirst l k actor closed commands
+PerformsUnless status l k actor closed commands = PerformsAll l k actor closed commands
+
+-- nothing is left to be done, unless a clock was worn
+abbrev pub IsQuietUnless : Status → Layout → Closed → Type 0
+IsQuietUnless (Worn clock) l closed = Unit {0}
+IsQuietUnless status l closed = IsQuiet l (past_of closed) closed.rest.items
+
+-- What was closed plays what these callers give: the merge of the journals is a run of the world for the callers that performs
+-- their commands; at each moment of it each port gave out what it accepted first, in order, and each accepted message has one
+-- fate; the records and packets that are left stand for its ports; there is a journal for each place, with what the merge has at
+-- it; and nothing is left to be done.
+pub record Plays (l : Layout) (callers : ℕ → Option Ui) (commands : ℕ → Option (List Command)) (status : Status) (closed : Closed) : Type 0 where
+  pub run : is_run l callers (past_of closed) ≡ true
+  pub performed : (k : ℕ) (actor : Ui) (given : List Command) → callers k ≡ Some actor → commands k ≡ Some given → PerformsUnless status l k actor closed given
+  pub receives : Always ReceivesInOrder (past_of closed)
+  pub fates : Always KeepsEachMessage (past_of closed)
+  pub stands : StandsFor (past_of closed) (holdings_left l closed.ports.items closed.rest.items)
+  pub places_are : length (journals_of closed) ≡ places l
+  pub journals : (p : ℕ) (journal : List Entry) → slice_get (journals_of closed) p ≡ Some journal → journal ≡ reverse (at (p + 1) (past_of closed))
+  pub quiet : IsQuietUnless status l closed
+
+-- The order: what was closed is the network after events that carry out the tasks.
+
+-- the events carry out all tasks, or the first of them, up to a clock that is worn
+abbrev pub CarryAsFar : Status → Layout → List Task → List Event → Type 0
+CarryAsFar (Worn clock) l ts es = AreWornBy l ts es clock
+CarryAsFar status l ts es = CarryOut l ts es
+
+pub record IsOrdered (l : Layout) (ts : List Task) (status : Status) (closed : Closed) : Type 0 where
+  pub events : List Event
+  pub may : may_be l events ≡ true
+  pub unworn : AreUnworn events (opening l)
+  pub carried : CarryAsFar status l ts events
+  pub closes : IsClosed (schedule l events) closed
+
+-- What a scenario gives.
 
 -- the callers: seat 0 in the first actor, and seat k in the actor of script k
 abbrev pub callers_of : Scene → ℕ → Option Ui
@@ -79,53 +121,15 @@ callers_of c k = slice_get (first_actor ∷ map (λ (script : Script). script.ac
 abbrev pub commands_by : Scene → ℕ → Option (List Command)
 commands_by c k = slice_get (setup_commands c ∷ map (λ (script : Script). script.commands) c.scripts) k
 
--- the merge is a run of the world for the callers
-abbrev pub IsRun : Scene → Closed → Type 0
-IsRun c closed = is_run c.layout (callers_of c) (past_of closed) ≡ true
+-- there are bytes of which the grammar gives the scenario: those that are read of the source, where it tells them
+pub record IsGiven (l : Layout) (told : Option (List ℕ)) (c : Scene) : Type 0 where
+  pub bytes : List ℕ
+  pub read : IfSome told (λ input. bytes ≡ bytes_read input)
+  pub given : read_scene l bytes ≡ Ok c
 
--- it performs the commands of each seat, each once and in its order, by the entry that answers it
-abbrev pub Performs : Scene → Closed → Type 0
-Performs c closed =
-    (k : ℕ) (actor : Ui) (commands : List Command) → callers_of c k ≡ Some actor → commands_by c k ≡ Some commands →
-    performs c.layout k actor (past_of closed) (reverse commands) ≡ true
-
--- at each moment of the merge the messages received from a port are the first that it accepted
-abbrev pub ReceivesInOrder : Closed → Type 0
-ReceivesInOrder closed =
-    (newer past : List Entry) (port : Ui) → past_of closed ≡ newer ++ past →
-    received (on port past) ≡ take (taken_by port past) (accepted_by port past)
-
--- a message that a port accepted at this position stands at no other, of no port: so what became of it is its fate there
-pub record StandsAlone (past : List Entry) (port : Ui) (position : ℕ) (x : MsgId) : Type 0 where
-  pub state : PortState
-  pub made : fate (on port past) ≡ Some state
-  pub alone : (other : Ui) (place : ℕ) → slice_get (accepted_by other past) place ≡ Some x → (other ≡ port) × (place ≡ position)
-
--- at each moment of the merge each message that a port accepted stands alone
-abbrev pub HasOneHolder : Closed → Type 0
-HasOneHolder closed =
-    (newer past : List Entry) (port : Ui) (position : ℕ) (x : MsgId) → past_of closed ≡ newer ++ past →
-    slice_get (accepted_by port past) position ≡ Some x → StandsAlone past port position x
-
--- at each moment of the merge each port that was made is held: so far none moves and none is deleted, so each message that
--- it accepted was received or is queued
-abbrev pub HoldsAllPorts : Closed → Type 0
-HoldsAllPorts closed =
-    (newer past : List Entry) (port : Ui) (state : PortState) → past_of closed ≡ newer ++ past →
-    fate (on port past) ≡ Some state → is_held state.spot ≡ true
-
--- In the real tables.
-
--- the records of the ports that are handed out
-abbrev pub ports_of : Closed → List PortRecord
-ports_of closed = map (λ (placed : Placed). placed.port) closed.ports.items
-
--- these are the ports that the world of the merge holds, each once, with what waits in it; and each is at place 1
-pub record StandsForMerge (closed : Closed) : Type 0 where
-  pub ports : StandsFor (past_of closed) (ports_of closed)
-  pub places : All (λ (placed : Placed). placed.place ≡ 1) closed.ports.items
-
--- no packet is left, and each message that was sent has its verdict
-pub record IsQuiet (closed : Closed) : Type 0 where
-  pub rest : closed.rest.items ≡ []
-  pub settled : unsettled (past_of closed) (sent (past_of closed)) ≡ []
+-- there is a scenario that the source gives, and what was closed plays it, in the order of a replay
+pub record Replays (l : Layout) (told : Option (List ℕ)) (status : Status) (closed : Closed) : Type 0 where
+  pub scene : Scene
+  pub given : IsGiven l told scene
+  pub plays : Plays l (callers_of scene) (commands_by scene) status closed
+  pub ordered : IsOrdered l (tasks scene) status closed

@@ -1,4 +1,6 @@
 pub mod Order
+pub mod Worn
+pub mod Performing
 pub mod Headline
 pub mod Output
-pub mod Calls
+pub mod Laws

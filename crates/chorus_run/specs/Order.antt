@@ -1,10 +1,11 @@
--- The order of a replay: what happens on the sites, one after the other, when a scenario is replayed.
-use Rattle.std.specs.Prelude.{ℕ, ◌+◌, ◌==◌, Bool, ◌&&◌, List, [], ◌∷◌, ◌++◌, map, drop, reverse, option_to_list, slice_get, count_by}
-use Rattle.std.specs.List.{list_all}
+-- The order of a replay: the tasks that a scenario gives, which are done one after the other when it is replayed.
+-- c is a scenario, k the number of a script and of its seat. Lists stand in order, but for `tasks`, which has the latest first.
+use Rattle.std.specs.Prelude.{ℕ, ◌+◌, List, [], ◌∷◌, ◌++◌, map, drop, reverse, option_to_list, slice_get, count_by}
 use Rattle.std.specs.Option.{option_map}
 use Rattle.chorus_entry.specs.declared.command.Command.{Command}
-use Rattle.chorus_place.specs.Machine.{is_built}
-use Rattle.chorus_net.specs.Sites.{Event, Enter, Act, SitesState, after}
+use Rattle.chorus_law.specs.Network.{NetState, Event, Enter, Act, Deliver, schedule}
+use Rattle.chorus_law.specs.Calls.{starting, last_of}
+use Rattle.chorus_law.specs.Tasks.{Task, Do, Drain}
 use Rattle.chorus_scene.specs.Scene.{Scene, Script}
 use Rattle.chorus_scene.specs.Grammar.{script_at, is_step}
 use Rattle.chorus_scene.specs.declared.scenario.SetupLine.{SetupLine}
@@ -12,7 +13,7 @@ use Rattle.chorus_scene.specs.declared.scenario.SetupLine.TheVariants as setups
 use Rattle.chorus_scene.specs.declared.scenario.Step as step
 use Rattle.chorus_scene.specs.declared.scenario.Step.TheVariants as steps
 
--- a line of the setup is a command of seat 0
+-- seat 0 performs the lines of the setup
 abbrev pub setup_command : SetupLine → Command
 setup_command (setups.Port actor capacity) = Command.Make actor capacity
 setup_command (setups.Group site) = Command.GroupMake site
@@ -24,41 +25,39 @@ setup_commands c = map setup_command c.setup
 abbrev pub in_setup : Scene → List Event
 in_setup c = map (Act 0) (setup_commands c)
 
--- then a seat is entered for each script: script k has seat k
+-- the sites behind the setup
+abbrev pub set_up : Scene → NetState
+set_up c = schedule c.layout (reverse (starting ∷ in_setup c))
+
+-- then a seat is entered for each script, in their order, so that script k has seat k; its last clock is that of seat 0
 abbrev pub entering : Scene → List Event
-entering c = map (λ (script : Script). Enter script.actor) c.scripts
+entering c = map (λ (script : Script). Enter script.actor (last_of (slice_get (set_up c).callers 0))) c.scripts
 
--- a step performs the next command of its script, where these steps stand before it; as one place has no packets, nothing is
--- delivered and nothing drains
-abbrev pub performed : List Script → List step.Step → step.Step → List Event
-performed scripts before (steps.Step k) =
-    option_to_list (option_map (Act k) (slice_get (script_at k scripts).commands (count_by (is_step k) before)))
-performed scripts before (steps.Deliver from to) = []
-performed scripts before steps.Drain = []
+-- A step performs the next command of its script, where these steps stand before it; seat 0 delivers and drains.
+abbrev pub step_tasks : List Script → List step.Step → step.Step → List Task
+step_tasks scripts before (steps.Step k) =
+    option_to_list (option_map (λ (command : Command). Do (Act k command)) (slice_get (script_at k scripts).commands (count_by (is_step k) before)))
+step_tasks scripts before (steps.Deliver from to) = Do (Deliver 0 from to) ∷ []
+step_tasks scripts before steps.Drain = Drain 0 ∷ []
 
-abbrev pub in_schedule : List Script → List step.Step → List step.Step → List Event
+abbrev pub in_schedule : List Script → List step.Step → List step.Step → List Task
 in_schedule scripts before [] = []
-in_schedule scripts before (step ∷ rest) = performed scripts before step ++ in_schedule scripts (before ++ step ∷ []) rest
+in_schedule scripts before (step ∷ rest) = step_tasks scripts before step ++ in_schedule scripts (before ++ step ∷ []) rest
 
--- and the commands that are left, script by script from script k on
-abbrev pub left_from : List step.Step → ℕ → List Script → List Event
+-- the commands that are left, script by script from script k on, and a drain behind each
+abbrev pub then_drain : ℕ → List Command → List Task
+then_drain k [] = []
+then_drain k (command ∷ commands) = Do (Act k command) ∷ Drain 0 ∷ then_drain k commands
+
+abbrev pub left_from : List step.Step → ℕ → List Script → List Task
 left_from schedule k [] = []
 left_from schedule k (script ∷ scripts) =
-    map (Act k) (drop (count_by (is_step k) schedule) script.commands) ++ left_from schedule (k + 1) scripts
+    then_drain k (drop (count_by (is_step k) schedule) script.commands) ++ left_from schedule (k + 1) scripts
 
-abbrev pub order : Scene → List Event
-order c = in_setup c ++ entering c ++ in_schedule c.scripts [] c.schedule ++ left_from c.schedule 1 c.scripts
+-- all of it, from the start of the sites on; a last drain ends it
+abbrev pub order : Scene → List Task
+order c =
+    map Do (starting ∷ in_setup c ++ entering c) ++ in_schedule c.scripts [] c.schedule ++ left_from c.schedule 1 c.scripts ++ Drain 0 ∷ []
 
--- the sites after it
-abbrev pub replayed : Scene → SitesState
-replayed c = after c.layout (reverse (order c))
-
--- What is built so far: one site of one place, and the commands that it has.
-
-abbrev pub script_is_built : Scene → Script → Bool
-script_is_built c script = list_all (is_built c.layout 1) script.commands
-
-abbrev pub scene_is_built : Scene → Bool
-scene_is_built c =
-    (c.sites == 1) && (c.layout.turns == 1) && list_all (is_built c.layout 1) (setup_commands c)
-    && list_all (script_is_built c) c.scripts
+abbrev pub tasks : Scene → List Task
+tasks c = reverse (order c)

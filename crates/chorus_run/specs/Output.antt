@@ -7,7 +7,7 @@ use Rattle.chorus_show.specs.Summary.{summary_text}
 use Rattle.chorus_net.specs.declared.closed.Closed.{Closed}
 use Rattle.chorus_run.specs.Headline.{merge_of}
 use Rattle.chorus_show.specs.declared.status.Status.{Status}
-use Rattle.chorus_show.specs.declared.status.Status.TheVariants.{Done, Scenario, ReadFault, WriteFault, Memory}
+use Rattle.chorus_show.specs.declared.status.Status.TheVariants.{Done, Scenario, ReadFault, WriteFault, Memory, Worn}
 
 -- the sink took the whole text at Done, a prefix of it at WriteFault, and nothing with any other status
 abbrev pub Writes : Status → Option (List ℕ) → Option (List ℕ) → List ℕ → Type 0
@@ -15,7 +15,14 @@ Writes Done old new text = Appends old new text
 Writes WriteFault old new text = AppendsPrefix old new text
 Writes _ old new text = new ≡ old
 
--- a call that reads gave up before it wrote
+-- the call closed the sites: it wrote, or tried to, or a clock was worn
+abbrev pub HandsOut : Status → Type 0
+HandsOut Done = Unit {0}
+HandsOut WriteFault = Unit {0}
+HandsOut (Worn clock) = Unit {0}
+HandsOut _ = ⊥
+
+-- a call that reads gave up before it worked
 abbrev pub GivesUp : Status → Type 0
 GivesUp (Scenario line reason) = Unit {0}
 GivesUp ReadFault = Unit {0}
@@ -23,6 +30,9 @@ GivesUp Memory = Unit {0}
 GivesUp _ = ⊥
 
 -- the text of what was closed: the journal text and the summary text of the merge of its journals
+abbrev pub report : Closed → List ℕ
+report closed = journal_text (merge_of closed) ++ summary_text (merge_of closed)
+
 abbrev pub text_of : Option Closed → List ℕ
 text_of None = []
-text_of (Some closed) = journal_text (merge_of closed) ++ summary_text (merge_of closed)
+text_of (Some closed) = report closed

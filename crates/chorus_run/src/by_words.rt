@@ -1,13 +1,12 @@
 //! What the program does, by its words.
 
-ghost use Rattle.std.specs.Prelude.{◌≡◌, ◌↔◌, ◌≢◌, ◌⊎◌, ℕ, IsTrue, IsSome, IsNone, IfSome, Ok, Err, map, [], ◌∷◌, codes};
+ghost use Rattle.std.specs.Prelude.{◌≡◌, ◌↔◌, ◌≢◌, ◌≤◌, ℕ, IsTrue, IsSome, IfSome, Err, map, [], ◌∷◌, codes};
 ghost use Rattle.chorus_io.specs.Count.{Rose};
-ghost use Rattle.chorus_scene.specs.Scene.{Scene};
-ghost use Rattle.chorus_net.specs.Closing.{IsClosed, IsOfSites};
-ghost use Rattle.chorus_net.specs.Sites.{layout_of};
-ghost use Rattle.chorus_run.specs.Order.{replayed};
-ghost use Rattle.chorus_run.specs.Headline.{AreJustStarted, Gives, IsRead, ReadsNoFurther, OfScene, IsRun, Performs, ReceivesInOrder, HasOneHolder, HoldsAllPorts, StandsForMerge, IsQuiet};
-ghost use Rattle.chorus_run.specs.Output.{Writes, text_of};
+ghost use Rattle.chorus_ui.specs.declared.limits.TheConstants.{CLOCK_LIMIT};
+ghost use Rattle.chorus_run.specs.Headline.{AreJustStarted, Gives, IsRead, ReadsNoFurther, Replays, merge_of};
+ghost use Rattle.chorus_run.specs.Output.{Writes, HandsOut, text_of};
+ghost use Rattle.chorus_net.specs.Sites.{net};
+ghost use Rattle.chorus_run.specs.Worn.{HasClock};
 
 use crate::finished::Finished;
 use crate::on_one_thread::replay;
@@ -25,44 +24,35 @@ pub fn words<S: Source, K: Sink>(
     sink: &mut K,
     sites: Sites,
 ) -> Finished
-    requires { AreJustStarted sites }
+    requires { AreJustStarted (net sites) }
 
     // Why it ended. Want of memory is the one free answer.
     ensures usage { (result.status ≡ Status.Usage)
         ↔ (map (λ word. word.now) words.now ≢ codes "replay" ∷ []) }
     ensures untouched { result.status ≡ Status.Usage →
         (source.new ≡ source.old) × (sink.new ≡ sink.old) }
-    ensures worn { (clock : ℕ) → result.status ≢ Status.Worn clock }
     ensures scenario { (line reason : ℕ) → result.status ≡ Status.Scenario line reason →
         IsSome (S.left source.old) →
-        Gives (layout_of sites) (S.left source.old) (Err (line, reason)) }
-    ensures accepted { IsSome result.closed → IsSome (S.left source.old) →
-        (c : Scene) × Gives (layout_of sites) (S.left source.old) (Ok c) }
+        Gives (net sites).layout (S.left source.old) (Err (line, reason)) }
     ensures read_fault { result.status ≡ Status.ReadFault →
         Rose (S.faults source.old) (S.faults source.new) }
     ensures reliable { S.reliable source.old → S.faults source.new ≡ S.faults source.old }
     ensures write_fault { result.status ≡ Status.WriteFault →
         Rose (K.faults sink.old) (K.faults sink.new) }
+    ensures worn { (clock : ℕ) → result.status ≡ Status.Worn clock → (CLOCK_LIMIT ≤ clock)
+        × IfSome result.closed (λ closed. HasClock clock (merge_of closed)) }
     ensures read { result.status ≢ Status.Usage → result.status ≢ Status.ReadFault →
         result.status ≢ Status.Memory → IsRead (S.left source.old) (S.left source.new) }
     ensures reads_at_most { ReadsNoFurther (S.left source.old) (S.left source.new) }
-    ensures closed { IsSome result.closed ↔ (result.status ≡ Status.Done)
-        ⊎ (result.status ≡ Status.WriteFault) }
+    ensures closed { IsSome result.closed ↔ HandsOut result.status }
 
     // What it did, where it handed out what it closed.
-    ensures unwritten { IsNone result.closed → sink.new ≡ sink.old }
+    ensures unwritten { result.status ≢ Status.Done → result.status ≢ Status.WriteFault →
+        sink.new ≡ sink.old }
     ensures prints { Writes result.status (K.held sink.old) (K.held sink.new)
         (text_of result.closed) }
-    ensures ordered { OfScene (layout_of sites) (S.left source.old) result.closed
-        (λ c. IsClosed (replayed c)) }
-    ensures run { OfScene (layout_of sites) (S.left source.old) result.closed IsRun }
-    ensures performs { OfScene (layout_of sites) (S.left source.old) result.closed Performs }
-    ensures receives { IfSome result.closed ReceivesInOrder }
-    ensures holder { IfSome result.closed HasOneHolder }
-    ensures still { IfSome result.closed HoldsAllPorts }
-    ensures stands { IfSome result.closed StandsForMerge }
-    ensures quiet { IfSome result.closed IsQuiet }
-    ensures origin { IfSome result.closed IsOfSites }
+    ensures replays { IfSome result.closed
+        (λ closed. Replays (net sites).layout (S.left source.old) result.status closed) }
 {
     if is_replay(words) {
         return replay(alloc, source, sink, sites);

@@ -8,6 +8,6 @@ use chorus_show::Status;
 pub struct Finished {
     /// Whether it did all, or why it did not.
     pub status: Status,
-    /// What was left when the sites were closed: Some exactly at `Done` and `WriteFault`.
+    /// What was left when the sites were closed: Some exactly at `Done`, `WriteFault` and `Worn`.
     pub closed: Option<Closed>,
 }

@@ -1,17 +1,16 @@
 //! A scenario on one thread.
 
-ghost use Rattle.std.specs.Prelude.{◌≡◌, ◌≢◌, ◌↔◌, ◌⊎◌, ℕ, IfOk, IfErr, IsErrOf, IfSome, IsSome, IsNone, Some, None, Ok, Err, true};
+ghost use Rattle.std.specs.Prelude.{◌≡◌, ◌≢◌, ◌↔◌, ◌⊎◌, ℕ, ◌≤◌, IfOk, IfErr, IsErrOf, IfSome, IsSome, Some, None, Err};
 ghost use Rattle.chorus_io.specs.Count.{Rose};
 ghost use Rattle.chorus_ui.specs.Layout.{IsLayout};
-ghost use Rattle.chorus_scene.specs.Scene.{Scene};
+ghost use Rattle.chorus_ui.specs.declared.limits.TheConstants.{CLOCK_LIMIT};
 ghost use Rattle.chorus_scene.specs.Limits.{Keeps};
-ghost use Rattle.chorus_net.specs.Closing.{IsClosed, IsOfSites};
-ghost use Rattle.chorus_net.specs.Sites.{layout_of};
-ghost use Rattle.chorus_run.specs.Order.{scene_is_built, replayed};
-ghost use Rattle.chorus_run.specs.Headline.{AreJustStarted, Gives, IsRead, ReadsNoFurther, OfScene, IsRun, Performs, ReceivesInOrder, HasOneHolder, HoldsAllPorts, StandsForMerge, IsQuiet};
-ghost use Rattle.chorus_run.specs.Output.{Writes, GivesUp, text_of};
+ghost use Rattle.chorus_run.specs.Worn.{HasClock};
+ghost use Rattle.chorus_run.specs.Headline.{AreJustStarted, Gives, IsGiven, IsRead, ReadsNoFurther, Replays, merge_of};
+ghost use Rattle.chorus_run.specs.Output.{Writes, HandsOut, GivesUp, report, text_of};
+ghost use Rattle.chorus_run.specs.Performing.{IsPlayed};
+ghost use Rattle.chorus_net.specs.Sites.{net};
 
-use crate::built::is_built;
 use crate::finished::Finished;
 use crate::performing::perform;
 use chorus_io::{ReadAll, Sink, Source, read_all, write_all};
@@ -24,77 +23,64 @@ use std::alloc::{AllocError, Global};
 
 /// Reads the source to its end, replays the scenario that it gives on the sites, and writes the journal and the summary.
 ///
-/// The sites were just started. So far a scenario of one site is replayed whose commands make ports, send to them and take
-/// from them, on sites of one place each; any other that the grammar accepts is refused with line 0 and reason 0.
+/// The sites were just started. Where a clock is worn before all is done, the sites are closed and nothing is written.
 pub fn replay<S: Source, K: Sink>(
     alloc: Global,
     source: &mut S,
     sink: &mut K,
     sites: Sites,
 ) -> Finished
-    requires { AreJustStarted sites }
+    requires { AreJustStarted (net sites) }
 
     // Why it ended. Want of memory is the one free answer.
     ensures usage { result.status ≢ Status.Usage }
-    ensures worn { (clock : ℕ) → result.status ≢ Status.Worn clock }
     ensures scenario { (line reason : ℕ) → result.status ≡ Status.Scenario line reason →
         IsSome (S.left source.old) →
-        Gives (layout_of sites) (S.left source.old) (Err (line, reason)) }
-    ensures accepted { IsSome result.closed → IsSome (S.left source.old) →
-        (c : Scene) × Gives (layout_of sites) (S.left source.old) (Ok c) }
+        Gives (net sites).layout (S.left source.old) (Err (line, reason)) }
     ensures read_fault { result.status ≡ Status.ReadFault →
         Rose (S.faults source.old) (S.faults source.new) }
     ensures reliable { S.reliable source.old → S.faults source.new ≡ S.faults source.old }
     ensures write_fault { result.status ≡ Status.WriteFault →
         Rose (K.faults sink.old) (K.faults sink.new) }
+    ensures worn { (clock : ℕ) → result.status ≡ Status.Worn clock → (CLOCK_LIMIT ≤ clock)
+        × IfSome result.closed (λ closed. HasClock clock (merge_of closed)) }
     ensures read { result.status ≢ Status.ReadFault → result.status ≢ Status.Memory →
         IsRead (S.left source.old) (S.left source.new) }
     ensures reads_at_most { ReadsNoFurther (S.left source.old) (S.left source.new) }
-    ensures closed { IsSome result.closed ↔ (result.status ≡ Status.Done)
-        ⊎ (result.status ≡ Status.WriteFault) }
+    ensures closed { IsSome result.closed ↔ HandsOut result.status }
 
     // What it did, where it handed out what it closed.
-    ensures unwritten { IsNone result.closed → sink.new ≡ sink.old }
+    ensures unwritten { result.status ≢ Status.Done → result.status ≢ Status.WriteFault →
+        sink.new ≡ sink.old }
     ensures prints { Writes result.status (K.held sink.old) (K.held sink.new)
         (text_of result.closed) }
-    ensures ordered { OfScene (layout_of sites) (S.left source.old) result.closed
-        (λ c. IsClosed (replayed c)) }
-    ensures run { OfScene (layout_of sites) (S.left source.old) result.closed IsRun }
-    ensures performs { OfScene (layout_of sites) (S.left source.old) result.closed Performs }
-    ensures receives { IfSome result.closed ReceivesInOrder }
-    ensures holder { IfSome result.closed HasOneHolder }
-    ensures still { IfSome result.closed HoldsAllPorts }
-    ensures stands { IfSome result.closed StandsForMerge }
-    ensures quiet { IfSome result.closed IsQuiet }
-    ensures origin { IfSome result.closed IsOfSites }
+    ensures replays { IfSome result.closed
+        (λ closed. Replays (net sites).layout (S.left source.old) result.status closed) }
 {
     let scenario = match read_scenario(alloc, source, sites.layout()) {
         Ok(scenario) => scenario,
         Err(status) => return gave_up(status),
     };
-    let Ok((closed, text)) = play(alloc, sites, &scenario) else {
+    let Ok(played) = play(alloc, sites, &scenario) else {
         return gave_up(Status::Memory);
     };
-    let status = match write_all(sink, &text) {
-        Ok(()) => Status::Done,
-        Err(_) => Status::WriteFault,
-    };
-    Finished {
-        status,
-        closed: Some(closed),
+    if let Some(clock) = played.worn {
+        return Finished {
+            status: Status::Worn { clock },
+            closed: Some(played.closed),
+        };
     }
+    print(alloc, sink, played.closed)
 }
 
-/// The scenario that the source gives, where it is one that is built so far; else why there is none.
+/// The scenario that the source gives; else why there is none.
 fn read_scenario<S: Source>(
     alloc: Global,
     source: &mut S,
     layout: Layout,
 ) -> Result<Scenario, Status>
-    ensures ok { IfOk result
-        (λ c. (c.layout ≡ layout) × (scene_is_built c ≡ true) × Keeps c × IsLayout c.layout) }
-    ensures accepted { IfOk result
-        (λ c. IsSome (S.left source.old) → Gives layout (S.left source.old) (Ok c)) }
+    ensures ok { IfOk result (λ c. (c.layout ≡ layout) × Keeps c) }
+    ensures given { IfOk result (λ c. IsGiven layout (S.left source.old) c) }
     ensures refused { (line reason : ℕ) → IsErrOf result (Status.Scenario line reason) →
         IsSome (S.left source.old) → Gives layout (S.left source.old) (Err (line, reason)) }
     ensures err { IfErr result GivesUp }
@@ -116,36 +102,65 @@ fn read_scenario<S: Source>(
         Err(ReadFault::Scene(fault)) => return Err(refused(fault)),
         Err(ReadFault::Memory(_)) => return Err(Status::Memory),
     };
-    if !is_built(&scenario) {
-        return Err(Status::Scenario { line: 0, reason: 0 });
-    }
     Ok(scenario)
 }
 
-/// Replays the scenario, and gives what was closed with the text of it.
-fn play(
-    alloc: Global,
-    mut sites: Sites,
-    scenario: &Scenario,
-) -> Result<(Closed, Vec<u8>), AllocError>
-    requires just_started { AreJustStarted sites }
-    requires layout { scenario.now.layout ≡ layout_of sites }
-    requires built { scene_is_built scenario.now ≡ true }
+/// What a replayed scenario left: the closed sites, and the clock that was worn, if one was.
+#[derive(Debug, Drop)]
+struct Played {
+    closed: Closed,
+    worn: Option<u64>,
+}
+
+/// Replays the scenario, and closes the sites.
+fn play(alloc: Global, mut sites: Sites, scenario: &Scenario) -> Result<Played, AllocError>
+    requires just_started { AreJustStarted (net sites) }
+    requires layout { scenario.now.layout ≡ (net sites).layout }
     requires keeps { Keeps scenario.now }
-    requires sites { IsLayout scenario.now.layout }
-    ensures text { IfOk result (λ played. played.1.items ≡ text_of (Some played.0)) }
-    ensures closed { IfOk result (λ played. IsClosed (replayed scenario.now) played.0) }
+    requires shape { IsLayout scenario.now.layout }
+    ensures { IfOk result (λ played. IsPlayed scenario.now played.worn played.closed) }
 {
-    perform(alloc, &mut sites, scenario)?;
-    let closed = match sites.close(alloc) {
-        Ok(closed) => closed,
-        Err((_, error)) => return Err(error),
+    let worn = perform(alloc, &mut sites, scenario)?;
+    match sites.close(alloc) {
+        Ok(closed) => Ok(Played { closed, worn }),
+        Err((_, error)) => Err(error),
+    }
+}
+
+/// Writes the journal and the summary of what was closed.
+fn print<K: Sink>(alloc: Global, sink: &mut K, closed: Closed) -> Finished
+    ensures status { (result.status ≡ Status.Done) ⊎ (result.status ≡ Status.WriteFault)
+        ⊎ (result.status ≡ Status.Memory) }
+    ensures write_fault { result.status ≡ Status.WriteFault →
+        Rose (K.faults sink.old) (K.faults sink.new) }
+    ensures closed { IfSome result.closed (λ out. out ≡ closed) }
+    ensures hands_out { IsSome result.closed ↔ HandsOut result.status }
+    ensures unwritten { result.status ≡ Status.Memory → sink.new ≡ sink.old }
+    ensures prints { Writes result.status (K.held sink.old) (K.held sink.new)
+        (text_of result.closed) }
+{
+    let Ok(text) = text_of(alloc, &closed) else {
+        return gave_up(Status::Memory);
     };
+    let status = match write_all(sink, &text) {
+        Ok(()) => Status::Done,
+        Err(_) => Status::WriteFault,
+    };
+    Finished {
+        status,
+        closed: Some(closed),
+    }
+}
+
+/// The journal text and the summary text of what was closed.
+fn text_of(alloc: Global, closed: &Closed) -> Result<Vec<u8>, AllocError>
+    ensures { IfOk result (λ text. text.items ≡ report closed.now) }
+{
     let entries = merge(alloc, &closed.journals)?;
     let mut text = Vec::new(alloc);
     journal_text(&entries, &mut text)?;
     summary_text(&entries, &mut text)?;
-    Ok((closed, text))
+    Ok(text)
 }
 
 /// The status of a text that the grammar refuses.

@@ -1,59 +1,93 @@
 //! Performing a scenario on sites.
 
-ghost use Rattle.std.specs.Prelude.{◌≡◌, ◌<◌, ◌++◌, reverse, IfSome, OnOk, true};
-ghost use Rattle.chorus_scene.specs.Limits.{Keeps};
+ghost use Rattle.std.specs.Prelude.{◌≡◌, ℕ, [], ◌∷◌, IfOk, OnOk, IsErrOf};
 ghost use Rattle.chorus_ui.specs.Layout.{IsLayout};
-ghost use Rattle.chorus_entry.specs.Command.{is_post};
-ghost use Rattle.chorus_ui.specs.declared.limits.TheConstants.{CLOCK_LIMIT};
-ghost use Rattle.chorus_net.specs.Sites.{acted, actor_of, posts_of, compared, after};
-ghost use Rattle.chorus_net.specs.OnePlace.{may_give};
-ghost use Rattle.chorus_run.specs.Order.{scene_is_built, setup_command, in_setup, entering, replayed};
+ghost use Rattle.chorus_scene.specs.Limits.{Keeps};
+ghost use Rattle.chorus_law.specs.Calls.{just_started};
+ghost use Rattle.chorus_law.specs.Tasks.{Drain};
+ghost use Rattle.chorus_run.specs.Order.{setup_command, set_up};
 ghost use Rattle.chorus_run.specs.Headline.{AreJustStarted};
+ghost use Rattle.chorus_run.specs.Performing.{IsBefore, IsWornAt, IsPerformed, to_enter, to_follow};
+ghost use Rattle.chorus_net.specs.Sites.{net};
 
-use crate::order::calls;
+use crate::following::{finish, follow};
 use chorus_entry::Command;
 use chorus_net::{EnterFault, Sites};
 use chorus_place::PlaceFault;
 use chorus_scene::{Scenario, SetupLine};
 use std::alloc::{AllocError, Global};
 
-/// Performs the scenario on the sites, which were just started: the setup by seat 0, then the schedule's steps by the seats of
-/// their scripts, and then the commands that are left, script by script.
+/// Performs the scenario on the sites, which were just started, and gives the clock that was worn, if one was.
 pub(crate) fn perform(
     alloc: Global,
     sites: &mut Sites,
     scenario: &Scenario,
-) -> Result<(), AllocError>
-    requires just_started { AreJustStarted sites.old }
-    requires layout { scenario.now.layout ≡ sites.old.place.layout }
-    requires built { scene_is_built scenario.now ≡ true }
+) -> Result<Option<u64>, AllocError>
+    requires just_started { AreJustStarted (net sites.old) }
+    requires layout { scenario.now.layout ≡ (net sites.old).layout }
     requires keeps { Keeps scenario.now }
-    requires sites { IsLayout scenario.now.layout }
-    ensures { OnOk result (sites.new ≡ replayed scenario.now) }
+    requires shape { IsLayout scenario.now.layout }
+    ensures { IfOk result (λ worn. IsPerformed scenario.now worn (net sites.new)) }
 {
-    let calls = calls(alloc, scenario)?;
-    let room = scenario.setup().len() + calls.len();
-    sites.reserve(room as u32)?;
+    sites.reserve(room(scenario))?;
+    match perform_tasks(alloc, sites, scenario) {
+        Ok(()) => Ok(None),
+        Err(PlaceFault::Worn { clock }) => Ok(Some(clock)),
+        Err(PlaceFault::Memory(error)) => Err(error),
+    }
+}
+
+/// How many entries the commands of the scenario begin: as many as it has lines of the setup and commands.
+fn room(scenario: &Scenario) -> u32 {
+    let mut room = scenario.setup().len();
+    for script in scenario.scripts() {
+        room = room.saturating_add(script.commands().len());
+    }
+    u32::try_from(room).unwrap_or(u32::MAX)
+}
+
+/// Performs the setup by seat 0, enters the callers of the scripts, does the steps of the schedule, performs the commands that
+/// are left, with a drain behind each, and drains.
+fn perform_tasks(alloc: Global, sites: &mut Sites, scenario: &Scenario) -> Result<(), PlaceFault>
+    requires start { net sites.old ≡ just_started scenario.now.layout }
+    requires keeps { Keeps scenario.now }
+    requires shape { IsLayout scenario.now.layout }
+    ensures ok { OnOk result (IsBefore scenario.now [] (net sites.new)) }
+    ensures worn { (clock : ℕ) → IsErrOf result (PlaceFault.Worn clock) →
+        IsWornAt scenario.now clock (net sites.new) }
+{
     set_up(sites, scenario)?;
     enter(sites, scenario)?;
-    for call in &calls {
-        act(sites, call.seat, call.command.copied()?)?;
-    }
+    let next = follow(alloc, sites, scenario)?;
+    finish(sites, scenario, &next)?;
+    drain_last(sites, scenario)
+}
+
+/// Drains, when all else is done.
+fn drain_last(sites: &mut Sites, scenario: &Scenario) -> Result<(), PlaceFault>
+    requires before { IsBefore scenario.now (Drain 0 ∷ []) (net sites.old) }
+    requires keeps { Keeps scenario.now }
+    requires shape { IsLayout scenario.now.layout }
+    ensures ok { OnOk result (IsBefore scenario.now [] (net sites.new)) }
+    ensures worn { (clock : ℕ) → IsErrOf result (PlaceFault.Worn clock) →
+        IsWornAt scenario.now clock (net sites.new) }
+{
+    sites.drain()?;
     Ok(())
 }
 
 /// Performs the setup, by seat 0.
-fn set_up(sites: &mut Sites, scenario: &Scenario) -> Result<(), AllocError>
-    requires just_started { AreJustStarted sites.old }
-    requires layout { scenario.now.layout ≡ sites.old.place.layout }
-    requires built { scene_is_built scenario.now ≡ true }
+fn set_up(sites: &mut Sites, scenario: &Scenario) -> Result<(), PlaceFault>
+    requires start { net sites.old ≡ just_started scenario.now.layout }
     requires keeps { Keeps scenario.now }
-    requires sites { IsLayout scenario.now.layout }
-    ensures { OnOk result
-        (sites.new ≡ after scenario.now.layout (reverse (in_setup scenario.now))) }
+    requires shape { IsLayout scenario.now.layout }
+    ensures ok { OnOk result (IsBefore scenario.now (to_enter scenario.now) (net sites.new)) }
+    ensures now { OnOk result (net sites.new ≡ set_up scenario.now) }
+    ensures worn { (clock : ℕ) → IsErrOf result (PlaceFault.Worn clock) →
+        IsWornAt scenario.now clock (net sites.new) }
 {
     for line in scenario.setup() {
-        act(sites, 0, setup_command(line))?;
+        sites.act(0, setup_command(line))?;
     }
     Ok(())
 }
@@ -71,13 +105,11 @@ fn setup_command(line: &SetupLine) -> Command
 
 /// Enters a seat for each script.
 fn enter(sites: &mut Sites, scenario: &Scenario) -> Result<(), AllocError>
-    requires now { sites.old ≡ after scenario.now.layout (reverse (in_setup scenario.now)) }
-    requires built { scene_is_built scenario.now ≡ true }
+    requires before { IsBefore scenario.now (to_enter scenario.now) (net sites.old) }
+    requires now { net sites.old ≡ set_up scenario.now }
     requires keeps { Keeps scenario.now }
-    requires sites { IsLayout scenario.now.layout }
-    ensures { OnOk result
-        (sites.new
-        ≡ after scenario.now.layout (reverse (in_setup scenario.now ++ entering scenario.now))) }
+    requires shape { IsLayout scenario.now.layout }
+    ensures { OnOk result (IsBefore scenario.now (to_follow scenario.now) (net sites.new)) }
 {
     for script in scenario.scripts() {
         match sites.enter(script.actor()) {
@@ -88,19 +120,4 @@ fn enter(sites: &mut Sites, scenario: &Scenario) -> Result<(), AllocError>
         }
     }
     Ok(())
-}
-
-/// Performs a command of the seat, where no clock is worn.
-fn act(sites: &mut Sites, seat: u32, command: Command) -> Result<(), AllocError>
-    requires may { may_give sites.old.place.layout (actor_of sites.old seat) command ≡ true }
-    requires posts { is_post command ≡ true →
-        IfSome (posts_of sites.old seat) (λ posts. posts < u32.MAX) }
-    requires clock { compared seat sites.old < CLOCK_LIMIT }
-    ensures { OnOk result (sites.new ≡ acted seat command sites.old) }
-{
-    match sites.act(seat, command) {
-        Ok(_) => Ok(()),
-        Err(PlaceFault::Memory(error)) => Err(error),
-        Err(PlaceFault::Worn { .. }) => unreachable!(),
-    }
 }

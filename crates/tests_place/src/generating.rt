@@ -9,12 +9,11 @@ use chorus_calls::Caller;
 use chorus_entry::{
     Act, Answer, Body, Cargo, Command, Dest, Message, MsgId, Packet, PortRecord, Tag,
 };
-use chorus_place::PlaceFault;
+use chorus_place::{Place, PlaceFault};
 use chorus_ui::{CLOCK_LIMIT, Kind, Ui};
 use std::alloc::Global;
 use std::process::Abort;
 use std::test::Fail;
-use chorus_place::Place;
 
 const ROUNDS: u64 = 8;
 

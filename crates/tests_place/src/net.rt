@@ -7,12 +7,11 @@ use crate::lines::push_told;
 use chorus_calls::Caller;
 use chorus_entry::{Command, Entry, Hand, Packet};
 use chorus_merge::merge;
-use chorus_place::{PlaceFault, Reply};
+use chorus_place::{Place, PlaceFault, Reply};
 use chorus_show::entry_line;
 use chorus_ui::{Kind, Layout, Ui};
 use std::alloc::Global;
 use std::test::Fail;
-use chorus_place::Place;
 
 /// The places of a layout, their callers, and what these were told, one line for each reply.
 #[derive(Drop)]

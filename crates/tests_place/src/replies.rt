@@ -6,12 +6,11 @@ use crate::net::{Net, act_at};
 use crate::playing::{Row, assert_rows};
 use chorus_calls::Caller;
 use chorus_entry::{Body, Command};
-use chorus_place::{PlaceFault, Reply};
+use chorus_place::{Place, PlaceFault, Reply};
 use chorus_ui::{CLOCK_LIMIT, Kind, Layout, Ui};
 use std::alloc::Global;
 use std::process::Abort;
 use std::test::Fail;
-use chorus_place::Place;
 
 #[test]
 fn names_and_limits(rt: HostRuntime) -> Result<(), Fail> {

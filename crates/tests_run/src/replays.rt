@@ -141,7 +141,7 @@ end
 ";
 
 /// Runs `replay` on the text, with reads and writes that fail as listed and writes of at most `most` bytes.
-fn run(
+pub(crate) fn run(
     alloc: Global,
     text: &[u8],
     reads: &[u64],
@@ -160,7 +160,12 @@ fn run(
 }
 
 /// Asserts that the text is replayed and this is printed, whatever a write takes.
-fn assert_prints(rt: &impl Abort, alloc: Global, text: &str, printed: &str) -> Result<(), Fail> {
+pub(crate) fn assert_prints(
+    rt: &impl Abort,
+    alloc: Global,
+    text: &str,
+    printed: &str,
+) -> Result<(), Fail> {
     for most in [1, 64, 4096] {
         let (finished, sink) = run(alloc, text.as_bytes(), &[], most, &[])?;
         assert_eq!(rt; finished.status, Status::Done, "{text}");
@@ -296,21 +301,7 @@ fn unfinished_and_unknown_texts(rt: HostRuntime) -> Result<(), Fail> {
 }
 
 #[test]
-fn what_is_not_built_yet_is_refused(rt: HostRuntime) -> Result<(), Fail> {
-    for text in [
-        "chorus 1\nsites 2\nscript 1.a.1\nschedule\nend",
-        "chorus 1\nsites 1\ngroup 1.g.1\nschedule\nend",
-        "chorus 1\nsites 1\nscript 1.a.1\nretry\nschedule\nend",
-        "chorus 1\nsites 1\nscript 1.a.1\none 1.g.1 =x\nschedule\nend",
-        "chorus 1\nsites 1\nscript 1.a.1\nmove 1.p.1 1.a.2\nschedule\nend",
-    ] {
-        assert_refused(&rt, rt.alloc(), text, 0, 0)?;
-    }
-    Ok(())
-}
-
-#[test]
-fn sites_of_two_places_are_refused(rt: HostRuntime) -> Result<(), Fail> {
+fn sites_of_two_places_replay_too(rt: HostRuntime) -> Result<(), Fail> {
     let alloc = rt.alloc();
     let text = Vec::from_slice(alloc, NOTHING.as_bytes())?;
     let mut source = MemSource::new(text, Vec::new(alloc));
@@ -318,10 +309,9 @@ fn sites_of_two_places_are_refused(rt: HostRuntime) -> Result<(), Fail> {
     let layout = Layout::new(16, 2).ok_or("a layout")?;
     let sites = Sites::start(alloc, layout)?;
     let finished = words(alloc, &["replay"], &mut source, &mut sink, sites);
-    let unbuilt = Status::Scenario { line: 0, reason: 0 };
-    assert_eq!(rt; finished.status, unbuilt);
-    assert_eq!(rt; sink.bytes().len(), 0);
-    assert!(rt; finished.closed.is_none());
+    assert_eq!(rt; finished.status, Status::Done);
+    assert_eq!(rt; sink.bytes(), PRINTS_NOTHING.as_bytes());
+    assert!(rt; finished.closed.is_some());
     Ok(())
 }
 

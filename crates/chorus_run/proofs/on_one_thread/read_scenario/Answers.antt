@@ -1,7 +1,8 @@
 use Rattle.std.proofs.Common.{◌≡◌, Err, sym, ◌∙◌, ap, subst, arith}
 use Rattle.chorus_scene.specs.Grammar.{read_scene, Refuses}
+use Rattle.chorus_scene.proofs.Kept.{kept}
 use Rattle.chorus_scene.proofs.Law.{printed_again}
-use Rattle.chorus_run.proofs.Reading.{gives-whole, gives-long-as, built-is, unbuilt-is, refused-is, refused-of}
+use Rattle.chorus_run.proofs.Reading.{gives-whole, gives-long-as, refused-is, whole-given}
 use Rattle.chorus_run.proofs.on_one_thread.read_scenario.Goals as goal
 
 pub returns-in-Err-TooLong-clause-refused : goal.returns-in-Err-TooLong-clause-refused
@@ -20,23 +21,15 @@ returns-in-Err-Scene-clause-refused g c line reason is some =
     gives-whole _ _ c.in-Ok.text.items _ c.in-Ok.ensures.whole (grind (arith, within, len))
     (refused-is _ _ _ _ _ (ap (read_scene c.args.layout) (sym c.deref.ensures.value) ∙ subst (λ f. Refuses f (read_scene c.args.layout c.deref.result.now)) c.in-Err-Scene.field-0-is c.in-Err-Scene.ensures) (cc) (cc)) some
 
-pub returns-then-not-is_built-clause-refused : goal.returns-then-not-is_built-clause-refused
-returns-then-not-is_built-clause-refused g c line reason is some =
-    let fails = c.if-not-is_built.true in
-    let within = c.in-Ok.ensures.within in
-    let len = c.deref.ensures.len in
-    gives-whole _ _ c.in-Ok.text.items _ c.in-Ok.ensures.whole (grind (arith, within, len))
-    (refused-of _ _ _ (unbuilt-is _ _ (ap (read_scene c.args.layout) (sym c.deref.ensures.value) ∙ c.in-Ok-read.ensures) (sym c.is_built.ensures.value ∙ grind (arith, fails))) (cc) (cc)) some
-
 pub returns-clause-ok : goal.returns-clause-ok
 returns-clause-ok g c =
-    let holds = c.if-not-is_built.false in
-    ((printed_again c.args.layout c.deref.result.now c.in-Ok-read.scenario c.in-Ok-read.ensures).0, sym c.is_built.ensures.value ∙ grind (arith, holds), c.is_built.ensures.keeps, c.is_built.ensures.layout)
+    let layout = c.args.layout in
+    let bytes = c.deref.result.now in
+    ((printed_again layout bytes c.in-Ok-read.scenario c.in-Ok-read.ensures).0, kept layout bytes c.in-Ok-read.scenario c.in-Ok-read.ensures)
 
-pub returns-clause-accepted : goal.returns-clause-accepted
-returns-clause-accepted g c some =
-    let holds = c.if-not-is_built.false in
+pub returns-clause-given : goal.returns-clause-given
+returns-clause-given g c =
     let within = c.in-Ok.ensures.within in
     let len = c.deref.ensures.len in
-    gives-whole _ _ c.in-Ok.text.items _ c.in-Ok.ensures.whole (grind (arith, within, len))
-    (built-is _ _ (ap (read_scene c.args.layout) (sym c.deref.ensures.value) ∙ c.in-Ok-read.ensures) (sym c.is_built.ensures.value ∙ grind (arith, holds))) some
+    whole-given _ _ c.in-Ok.text.items _ c.in-Ok.ensures.whole (grind (arith, within, len))
+    (ap (read_scene c.args.layout) (sym c.deref.ensures.value) ∙ c.in-Ok-read.ensures)

@@ -1,52 +1,36 @@
-use Rattle.std.proofs.Common.{subst}
-use Rattle.chorus_net.specs.Closing.{IsClosed}
-use Rattle.chorus_run.specs.Order.{replayed}
-use Rattle.chorus_run.specs.Headline.{IsRun, Performs}
-use Rattle.chorus_run.proofs.Reading.{gives-one}
-use Rattle.chorus_run.proofs.Closed.{merge-is, runs, performs-all, receives-in-order}
-use Rattle.chorus_run.proofs.Holding.{has-one-holder, holds-all-ports}
-use Rattle.chorus_run.proofs.Standing.{stands-for-merge, is-quiet}
+use Rattle.std.proofs.Common.{◌≡◌, Some, sym, ◌∙◌, ap, subst}
+use Rattle.chorus_ui.specs.Layout.{IsLayout}
+use Rattle.chorus_run.specs.Headline.{IsGiven}
+use Rattle.chorus_run.specs.Performing.{IsPlayed}
+use Rattle.chorus_net.specs.Sites.{net}
+use Rattle.chorus_run.proofs.Stepping.{replays-all, replays-worn, replays-printed, none-of, worn-high, worn-has}
 use Rattle.chorus_run.proofs.on_one_thread.replay.Goals as goal
 
-pub returns-clause-ordered : goal.returns-clause-ordered
-returns-clause-ordered g c scene gives =
-    subst (λ s. IsClosed (replayed s) c.in-Ok-play.closed) (gives-one _ _ _ c.in-Ok.scenario scene c.layout.ensures gives c.in-Ok.ensures.accepted)
-    c.in-Ok-play.ensures.closed
-
-pub returns-clause-run : goal.returns-clause-run
-returns-clause-run g c scene gives =
+pub returns-in-Some-clause-replays : goal.returns-in-Some-clause-replays
+returns-in-Some-clause-replays g c =
+    let scene = c.in-Ok.scenario in
     let ok = c.in-Ok.ensures.ok in
-    subst (λ s. IsRun s c.in-Ok-play.closed) (gives-one _ _ _ c.in-Ok.scenario scene c.layout.ensures gives c.in-Ok.ensures.accepted)
-    (runs c.in-Ok.scenario c.in-Ok-play.closed ok.3 ok.2 ok.1 (merge-is c.in-Ok.scenario c.in-Ok-play.closed c.in-Ok-play.ensures.closed.journals))
+    let value = c.layout.ensures.value in
+    replays-worn scene (subst IsLayout (sym (ok.0 ∙ c.layout.ensures.value)) c.layout.ensures.shape) ok.1 (net c.args.sites).layout _ c.in-Some.clock c.in-Ok-play.played.closed (ok.0 ∙ value)
+    (subst (λ l. IsGiven l (g.S.Source.left c.args.source.now) scene) value c.in-Ok.ensures.given)
+    (subst (λ worn. IsPlayed scene worn c.in-Ok-play.played.closed) c.in-Some.is c.in-Ok-play.ensures)
 
-pub returns-clause-performs : goal.returns-clause-performs
-returns-clause-performs g c scene gives =
+pub returns-clause-replays : goal.returns-clause-replays
+returns-clause-replays g c =
+    let scene = c.in-Ok.scenario in
     let ok = c.in-Ok.ensures.ok in
-    subst (λ s. Performs s c.in-Ok-play.closed) (gives-one _ _ _ c.in-Ok.scenario scene c.layout.ensures gives c.in-Ok.ensures.accepted)
-    (performs-all c.in-Ok.scenario c.in-Ok-play.closed ok.3 ok.2 ok.1 (merge-is c.in-Ok.scenario c.in-Ok-play.closed c.in-Ok-play.ensures.closed.journals))
+    let value = c.layout.ensures.value in
+    let worn = none-of c.in-Ok-play.played.worn c.in_default-worn.not-Some in
+    replays-printed (net c.args.sites).layout _ c.print.result.status c.print.result.closed c.in-Ok-play.played.closed c.print.ensures.closed c.print.ensures.hands_out c.print.ensures.status
+    (replays-all scene (subst IsLayout (sym (ok.0 ∙ c.layout.ensures.value)) c.layout.ensures.shape) ok.1 (net c.args.sites).layout _ c.in-Ok-play.played.closed (ok.0 ∙ value)
+    (subst (λ l. IsGiven l (g.S.Source.left c.args.source.now) scene) value c.in-Ok.ensures.given)
+    (subst (λ worn. IsPlayed scene worn c.in-Ok-play.played.closed) worn c.in-Ok-play.ensures))
 
-pub returns-clause-receives : goal.returns-clause-receives
-returns-clause-receives g c =
-    let ok = c.in-Ok.ensures.ok in receives-in-order c.in-Ok.scenario c.in-Ok-play.closed ok.3 ok.2 ok.1 (merge-is c.in-Ok.scenario c.in-Ok-play.closed c.in-Ok-play.ensures.closed.journals)
-
-pub returns-clause-holder : goal.returns-clause-holder
-returns-clause-holder g c =
+pub returns-in-Some-clause-worn : goal.returns-in-Some-clause-worn
+returns-in-Some-clause-worn g c clock is =
+    let scene = c.in-Ok.scenario in
     let ok = c.in-Ok.ensures.ok in
-    has-one-holder c.in-Ok.scenario c.in-Ok-play.closed ok.3
-    (runs c.in-Ok.scenario c.in-Ok-play.closed ok.3 ok.2 ok.1 (merge-is c.in-Ok.scenario c.in-Ok-play.closed c.in-Ok-play.ensures.closed.journals))
-
-pub returns-clause-still : goal.returns-clause-still
-returns-clause-still g c =
-    let ok = c.in-Ok.ensures.ok in
-    holds-all-ports c.in-Ok.scenario c.in-Ok-play.closed ok.3 ok.2 ok.1
-    (merge-is c.in-Ok.scenario c.in-Ok-play.closed c.in-Ok-play.ensures.closed.journals)
-
-pub returns-clause-stands : goal.returns-clause-stands
-returns-clause-stands g c =
-    let ok = c.in-Ok.ensures.ok in
-    stands-for-merge c.in-Ok.scenario c.in-Ok-play.closed ok.3 ok.2 ok.1 c.in-Ok-play.ensures.closed
-
-pub returns-clause-quiet : goal.returns-clause-quiet
-returns-clause-quiet g c =
-    let ok = c.in-Ok.ensures.ok in
-    is-quiet c.in-Ok.scenario c.in-Ok-play.closed ok.3 ok.2 ok.1 c.in-Ok-play.ensures.closed
+    let shape = subst IsLayout (sym (ok.0 ∙ c.layout.ensures.value)) c.layout.ensures.shape in
+    let same : c.in-Some.clock ≡ clock = cc in
+    let played = subst (λ worn. IsPlayed scene worn c.in-Ok-play.played.closed) (c.in-Some.is ∙ ap (λ x. Some x) same) c.in-Ok-play.ensures in
+    (worn-high scene shape ok.1 clock c.in-Ok-play.played.closed played, worn-has scene shape ok.1 clock c.in-Ok-play.played.closed played)

@@ -1,7 +1,11 @@
-use Rattle.std.proofs.Common.{◌≡◌, ◌++◌, take, reverse}
-use Rattle.chorus_net.specs.Sites.{after}
-use Rattle.chorus_run.specs.Order.{in_setup, entering}
+use Rattle.std.proofs.Common.{◌≡◌, slice_get}
+use Rattle.chorus_run.specs.Order.{set_up}
+use Rattle.chorus_run.specs.Performing.{IsBefore}
+use Rattle.chorus_net.specs.Sites.{net}
+use Rattle.chorus_run.proofs.Loops.{enter_from}
 use Rattle.chorus_run.proofs.performing.enter.Given as goal
 
 abbrev pub invariant-loop-script : goal.invariant-loop-script
-invariant-loop-script l = l.sites ≡ after l.scenario.layout (reverse (in_setup l.scenario ++ take l.script-index (entering l.scenario)))
+invariant-loop-script l =
+    IsBefore l.scenario (enter_from l.scenario l.script-index) (net l.sites)
+    × (slice_get (net l.sites).callers 0 ≡ slice_get (set_up l.scenario).callers 0)

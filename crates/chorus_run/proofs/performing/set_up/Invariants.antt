@@ -1,7 +1,13 @@
-use Rattle.std.proofs.Common.{◌≡◌, take, reverse}
-use Rattle.chorus_net.specs.Sites.{after}
-use Rattle.chorus_run.specs.Order.{in_setup}
+use Rattle.std.proofs.Common.{◌≡◌, take, map, reverse, ◌∷◌}
+use Rattle.chorus_law.specs.Network.{Act, schedule}
+use Rattle.chorus_law.specs.Calls.{starting}
+use Rattle.chorus_run.specs.Order.{setup_command}
+use Rattle.chorus_run.specs.Performing.{IsBefore}
+use Rattle.chorus_net.specs.Sites.{net}
+use Rattle.chorus_run.proofs.Loops.{setup_from}
 use Rattle.chorus_run.proofs.performing.set_up.Given as goal
 
 abbrev pub invariant-loop-line : goal.invariant-loop-line
-invariant-loop-line l = l.sites ≡ after l.scenario.layout (reverse (take l.line-index (in_setup l.scenario)))
+invariant-loop-line l =
+    IsBefore l.scenario (setup_from l.scenario l.line-index) (net l.sites)
+    × (net l.sites ≡ schedule l.scenario.layout (reverse (starting ∷ map (Act 0) (map setup_command (take l.line-index l.scenario.setup)))))

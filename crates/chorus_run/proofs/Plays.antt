@@ -1,0 +1,268 @@
+-- What was closed in the order of a replay plays its scenario.
+use Rattle.std.proofs.Common.{ℕ, zero, suc, ◌≡◌, ◌==◌, ◌+◌, Bool, true, false, not, ◌&&◌, cond, List, [], ◌∷◌, ◌++◌, length, map, reverse, Option, Some, None, is_some, slice_get, refl, sym, ◌∙◌, ap, ap₂, subst, inl, inr, arith}
+use Rattle.std.specs.Option.{option_map}
+use Rattle.std.proofs.lemmas.Bool.{and_parts, eqb-true, false≢true}
+use Rattle.std.proofs.lemmas.List.{reverse-append, reverse-reverse, length-map}
+use Rattle.std.proofs.lemmas.List.Elements.{All-nil, All-tail, All-append}
+use Rattle.chorus_ui.specs.declared.ui.Ui.{Ui}
+use Rattle.chorus_ui.specs.declared.layout.Layout.{Layout}
+use Rattle.chorus_ui.specs.Layout.{IsLayout, places}
+use Rattle.chorus_entry.specs.declared.entry.Entry.{Entry}
+use Rattle.chorus_entry.specs.declared.command.Command.{Command}
+use Rattle.chorus_entry.specs.declared.packet.Packet.{Packet}
+use Rattle.chorus_entry.specs.Act.{is_command_entry}
+use Rattle.chorus_merge.specs.Merge.{merged}
+use Rattle.chorus_world.specs.Views.{by, at, is_by}
+use Rattle.chorus_world.specs.Runs.{is_run}
+use Rattle.chorus_world.specs.Commands.{performs, is_own_of}
+use Rattle.chorus_world.specs.Always.{Always}
+use Rattle.chorus_world.specs.AcceptedLaws.{ReceivesInOrder, KeepsEachMessage}
+use Rattle.chorus_calls.specs.Callers.{Seated}
+use Rattle.chorus_net.specs.declared.closed.Closed.{Closed}
+use Rattle.chorus_law.specs.declared.placed.Placed.{Placed}
+use Rattle.chorus_law.specs.Calls.{starting}
+use Rattle.chorus_net.specs.Closing.{journals_of}
+use Rattle.chorus_law.specs.Holdings.{StandsFor, holdings_left}
+use Rattle.chorus_law.specs.History.{history}
+use Rattle.chorus_law.specs.Left.{journals, packets_left, merged_past}
+use Rattle.chorus_law.specs.Network.{NetState, Event, Enter, Act, Deliver, schedule, round, rounds, numbers}
+use Rattle.chorus_law.specs.Quiet.{IsQuiet}
+use Rattle.chorus_law.specs.Schedules.{may_give, may_happen, may_be, commands_of}
+use Rattle.chorus_law.specs.Stands.{actor_of}
+use Rattle.chorus_law.specs.Tasks.{Task, Do, Drain, CarryOut, CarryFront, AreDeliveries}
+use Rattle.chorus_run.proofs.Seating.{run-more, run-ungiven}
+use Rattle.chorus_law.proofs.Merge.Journals.{journals-are}
+use Rattle.chorus_law.proofs.Merge.Parts.{part}
+use Rattle.chorus_law.proofs.Places.Layouts.{schedule-keeps}
+use Rattle.chorus_law.proofs.Promises.Promised.{stands-at, runs-at, journals-at, performs-at, closes-at, receives-at, fates-at}
+use Rattle.chorus_law.proofs.Draining.Drained.{drains-rest}
+use Rattle.chorus_law.proofs.Draining.Drains.{round-deliveries, carried-commands}
+use Rattle.chorus_law.proofs.Draining.Stopped.{fronts-give-fronts}
+use Rattle.chorus_show.specs.declared.status.Status.{Status}
+use Rattle.chorus_scene.specs.Scene.{Scene}
+use Rattle.chorus_scene.specs.Limits.{Keeps}
+use Rattle.chorus_run.specs.Order.{in_setup, entering, in_schedule, left_from, tasks}
+use Rattle.chorus_net.specs.Worn.{IsInRounds}
+use Rattle.chorus_run.specs.Worn.{ComesNext}
+use Rattle.chorus_net.specs.Closing.{IsClosed}
+use Rattle.chorus_run.specs.Headline.{past_of, PerformsAll, PerformsFirst, PerformsUnless, IsQuietUnless, Plays, IsOrdered, callers_of, commands_by}
+use Rattle.chorus_run.proofs.Given.{commands-given}
+use Rattle.chorus_run.proofs.Callers.{actors_in, actor-after, callers-given, callers-so-far, get-front}
+
+-- Fronts.
+
+pub deliveries : (l : Layout) (k m : ℕ) → AreDeliveries k (rounds l k m)
+deliveries l k zero = All-nil (λ (e : Event). (a : ℕ) × ((b : ℕ) × (e ≡ Deliver k a b)))
+deliveries l k (suc m) = All-append (λ (e : Event). (a : ℕ) × ((b : ℕ) × (e ≡ Deliver k a b))) (round l k) (rounds l k m) (round-deliveries l k) (deliveries l k m)
+
+pub carry-front : (l : Layout) (ts : List Task) (es : List Event) → CarryOut l ts es → CarryFront l ts es
+carry-front l [] es c = c
+carry-front l (Do e ∷ ts) es c = inl c
+carry-front l (Drain k ∷ ts) es c = inl (rounds l k (c.1.0).count, (c.0, ((c.1.0).rounds, deliveries l k (c.1.0).count, c.1.1)))
+
+pub behind : (k : ℕ) (xs ys : List Event) → AreDeliveries k (xs ++ ys) → AreDeliveries k ys
+behind k [] ys h = h
+behind k (x ∷ xs) ys h = behind k xs ys (All-tail (λ (e : Event). (a : ℕ) × ((b : ℕ) × (e ≡ Deliver k a b))) x (xs ++ ys) h)
+
+pub in-rounds : (l : Layout) (k : ℕ) (next : Event) (done : List Event) → IsInRounds l k next done → AreDeliveries k done
+in-rounds l k next done is =
+    All-tail (λ (e : Event). (a : ℕ) × ((b : ℕ) × (e ≡ Deliver k a b))) next done
+    (behind k is.later (next ∷ done) (subst (AreDeliveries k) is.are (deliveries l k is.count)))
+
+-- the events before one that comes next carry out a front
+pub front-of : (l : Layout) (ts : List Task) (next : Event) (es : List Event) → ComesNext l ts next es → CarryFront l ts es
+front-of l [] next es c = absurd c
+front-of l (Do e ∷ ts) next es (inl now) = inr (carry-front l ts es now.1)
+front-of l (Do e ∷ ts) next es (inr less) = inr (front-of l ts next es less)
+front-of l (Drain k ∷ ts) next es (inl part) = inl (part.0, (part.1.0, (part.1.1.1, in-rounds l k next part.0 part.1.1.0, part.1.1.2)))
+front-of l (Drain k ∷ ts) next es (inr less) = inr (front-of l ts next es less)
+
+-- A seat that nobody has gave no command and performs none.
+
+performs-none : (l : Layout) (s : ℕ) (a : Ui) (past : List Entry) → by s past ≡ [] → performs l s a past [] ≡ true
+performs-none l s a [] h = refl
+performs-none l s a (e ∷ past) h = go (is_by s e) refl h (performs-none l s a past)
+  where
+    go : (b : Bool) → is_by s e ≡ b → cond b (e ∷ by s past) (by s past) ≡ [] → (by s past ≡ [] → performs l s a past [] ≡ true) → not (is_own_of s e) && performs l s a past [] ≡ true
+    go true f k ih = absurd (cc)
+    go false f k ih = ap (λ b. not (b && is_command_entry e.act) && performs l s a past []) f ∙ ih k
+
+none-before : (xs ys : List Ui) (k : ℕ) → slice_get (xs ++ ys) k ≡ None → slice_get xs k ≡ None
+none-before xs ys k h = go (slice_get xs k) refl
+  where
+    go : (o : Option Ui) → slice_get xs k ≡ o → o ≡ None
+    go None e = refl
+    go (Some a) e = absurd (let there = get-front xs ys k a e in let bad : None ≡ Some a = sym h ∙ there in cc)
+
+nobody : (o : Option Seated) → option_map (λ (caller : Seated). caller.actor) o ≡ None → o ≡ None
+nobody None h = refl
+nobody (Some c) h = absurd (cc)
+
+ungiven : (l : Layout) (es : List Event) (k : ℕ) → may_be l es ≡ true → slice_get (reverse (actors_in es)) k ≡ None → commands_of k es ≡ []
+ungiven l [] k may h = refl
+ungiven l (Enter actor last ∷ es) k may h =
+    let two = and_parts (may_happen (Enter actor last) (schedule l es)) (may_be l es) may in
+    ungiven l es k two.1 (none-before (reverse (actors_in es)) (actor ∷ []) k (ap (λ z. slice_get z k) (sym (reverse-append (actor ∷ []) (actors_in es))) ∙ h))
+ungiven l (Deliver j a b ∷ es) k may h =
+    let two = and_parts (may_happen (Deliver j a b) (schedule l es)) (may_be l es) may in ungiven l es k two.1 h
+ungiven l (Act j c ∷ es) k may h =
+    let two = and_parts (may_happen (Act j c) (schedule l es)) (may_be l es) may in by-seat (ungiven l es k two.1 h) two.0 (j == k) refl
+  where
+    by-seat : commands_of k es ≡ [] → may_give (slice_get (schedule l es).callers j) c ≡ true → (b : Bool) → (j == k) ≡ b → cond b (c ∷ commands_of k es) (commands_of k es) ≡ []
+    by-seat rest gives false e = rest
+    by-seat rest gives true e =
+        let none : slice_get (schedule l es).callers j ≡ None =
+        ap (slice_get (schedule l es).callers) (eqb-true j k e) ∙ nobody (slice_get (schedule l es).callers k) (actor-after l es k ∙ h) in
+        absurd (false≢true (ap (λ o. may_give o c) (sym none) ∙ gives))
+
+-- Numbers.
+
+get-number : {X : Type 0} (f : ℕ → X) (m p i : ℕ) (x : X) → slice_get (map f (numbers m p)) i ≡ Some x → x ≡ f (p + i)
+get-number f zero p i x h = absurd (cc)
+get-number f (suc m) p zero x h =
+    let is : f p ≡ x = cc in sym is ∙ ap f (same p)
+  where
+    same : (p : ℕ) → p ≡ p + 0
+    same p = omega arith
+get-number f (suc m) p (suc i) x h = get-number f m (p + 1) i x h ∙ ap f (next p i)
+  where
+    next : (p i : ℕ) → p + 1 + i ≡ p + suc i
+    next p i = omega arith
+
+count-numbers : (m p : ℕ) → length (numbers m p) ≡ m
+count-numbers zero p = refl
+count-numbers (suc m) p = ap suc (count-numbers m (p + 1))
+
+module _ (c : Scene) (shape : IsLayout c.layout) (keeps : Keeps c) (closed : Closed) (es : List Event) (may : may_be c.layout es ≡ true) (closes : IsClosed (schedule c.layout es) closed) where
+  abbrev l : Layout
+  l = c.layout
+
+  abbrev n : NetState
+  n = schedule c.layout es
+
+  past-is : past_of closed ≡ merged_past n
+  past-is = ap (λ js. reverse (merged js)) closes.journals
+
+  run-of : ((k : ℕ) (a : Ui) → actor_of n k ≡ Some a → callers_of c k ≡ Some a) → is_run l (callers_of c) (past_of closed) ≡ true
+  run-of all =
+      ap (is_run l (callers_of c)) past-is ∙ run-more l (actor_of n) (callers_of c) all (merged_past n) (runs-at l es shape may)
+
+  receives-of : Always ReceivesInOrder (past_of closed)
+  receives-of = subst (Always ReceivesInOrder) (sym past-is) (receives-at l es shape may)
+
+  fates-of : Always KeepsEachMessage (past_of closed)
+  fates-of = subst (Always KeepsEachMessage) (sym past-is) (fates-at l es shape may)
+
+  stands-of : StandsFor (past_of closed) (holdings_left l closed.ports.items closed.rest.items)
+  stands-of =
+      subst (λ past. StandsFor past (holdings_left l closed.ports.items closed.rest.items)) (sym past-is)
+      (subst (λ (rest : List Packet). StandsFor (merged_past n) (holdings_left l closed.ports.items rest)) (sym closes.rest)
+      (subst (λ (ports : List Placed). StandsFor (merged_past n) (holdings_left l ports (packets_left n))) (sym closes.ports) (closes-at l es shape may)))
+
+  layout-is : n.layout ≡ l
+  layout-is = (schedule-keeps l es).layout
+
+  parts-are : journals_of closed ≡ map (part (history l es)) (numbers (places n.layout) 1)
+  parts-are = closes.journals ∙ journals-are n (history l es) (stands-at l es shape may)
+
+  places-of : length (journals_of closed) ≡ places l
+  places-of =
+      ap length parts-are ∙ length-map (numbers (places n.layout) 1) (part (history l es)) ∙ count-numbers (places n.layout) 1 ∙ ap places layout-is
+
+  journals-of : (p : ℕ) (journal : List Entry) → slice_get (journals_of closed) p ≡ Some journal → journal ≡ reverse (at (p + 1) (past_of closed))
+  journals-of p journal h =
+      get-number (part (history l es)) (places n.layout) 1 p journal (ap (λ js. slice_get js p) (sym parts-are) ∙ h)
+      ∙ ap (λ q. reverse (at q (history l es))) (turned p)
+      ∙ ap reverse (sym ((stands-at l es shape may).journal (p + 1)) ∙ sym (journals-at l es shape may (p + 1)) ∙ ap (at (p + 1)) (sym past-is))
+    where
+      turned : (p : ℕ) → 1 + p ≡ p + 1
+      turned p = omega arith
+
+  quiet-of : IsQuiet l (merged_past n) (packets_left n) → IsQuiet l (past_of closed) closed.rest.items
+  quiet-of quiet =
+      subst (λ past. IsQuiet l past closed.rest.items) (sym past-is)
+      (subst (λ (rest : List Packet). IsQuiet l (merged_past n) rest) (sym closes.rest) quiet)
+
+  -- where the tasks are carried out
+  module _ (carried : CarryOut c.layout (tasks c) es) where
+    performs-of : (k : ℕ) (actor : Ui) (given : List Command) → callers_of c k ≡ Some actor → commands_by c k ≡ Some given → PerformsAll l k actor closed given
+    performs-of k actor given who what =
+        ap (λ past. performs l k actor past (reverse given)) past-is
+        ∙ ap (performs l k actor (merged_past n)) (sym (carried-commands l k (tasks c) es carried ∙ commands-given c keeps k given what))
+        ∙ performs-at l es shape may k actor (callers-given c es carried k ∙ who)
+
+    first-comes : is_some (slice_get n.callers 0) ≡ true
+    first-comes = go (slice_get n.callers 0) refl
+      where
+        first : (o : Option Seated) → slice_get n.callers 0 ≡ o → actor_of n 0 ≡ option_map (λ (caller : Seated). caller.actor) o
+        first o e = ap (option_map (λ (caller : Seated). caller.actor)) e
+
+        go : (o : Option Seated) → slice_get n.callers 0 ≡ o → is_some o ≡ true
+        go None e = absurd (let a = sym (first None e) ∙ callers-given c es carried 0 in cc)
+        go (Some x) e = refl
+
+    rests-of : IsQuiet l (past_of closed) closed.rest.items
+    rests-of =
+        let before = map Do (starting ∷ in_setup c ++ entering c) ++ in_schedule c.scripts [] c.schedule ++ left_from c.schedule 1 c.scripts in
+        let last : tasks c ≡ Drain 0 ∷ reverse before = reverse-append before (Drain 0 ∷ []) in
+        quiet-of (drains-rest l 0 (reverse before) es shape may (subst (λ ts. CarryOut l ts es) last carried) first-comes)
+
+    plays-out : (status : Status) → ((k : ℕ) (actor : Ui) (given : List Command) → PerformsAll l k actor closed given → PerformsUnless status l k actor closed given) → (IsQuiet l (past_of closed) closed.rest.items → IsQuietUnless status l closed) → Plays l (callers_of c) (commands_by c) status closed
+    plays-out status performs_ rests = record {
+      run = run-of (λ k a h. sym (callers-given c es carried k) ∙ h);
+      performed = λ k actor given who what. performs_ k actor given (performs-of k actor given who what);
+      receives = receives-of;
+      fates = fates-of;
+      stands = stands-of;
+      places_are = places-of;
+      journals = journals-of;
+      quiet = rests rests-of;
+    }
+
+  -- where a clock is worn
+  module _ (front : CarryFront c.layout (tasks c) es) where
+    performs-first : (k : ℕ) (actor : Ui) (given : List Command) → callers_of c k ≡ Some actor → commands_by c k ≡ Some given → PerformsFirst l k actor closed given
+    performs-first k actor given who what =
+        let so_far = fronts-give-fronts l (tasks c) es k front in
+        let all : given ≡ reverse (commands_of k es) ++ reverse so_far.0 =
+        sym (reverse-reverse given) ∙ ap reverse (sym (commands-given c keeps k given what)) ∙ ap reverse so_far.1 ∙ reverse-append so_far.0 (commands_of k es) in (
+          reverse (commands_of k es),
+          (
+            reverse so_far.0,
+            (
+              all,
+              ap₂ (λ past cs. performs l k actor past cs) past-is (reverse-reverse (commands_of k es)) ∙ by-caller (actor_of n k) refl,
+            ),
+          ),
+        )
+      where
+        by-caller : (o : Option Ui) → actor_of n k ≡ o → performs l k actor (merged_past n) (commands_of k es) ≡ true
+        by-caller None e =
+            ap (performs l k actor (merged_past n)) (ungiven l es k may (sym (actor-after l es k) ∙ e))
+            ∙ performs-none l k actor (merged_past n) (run-ungiven l (actor_of n) k (merged_past n) (runs-at l es shape may) e)
+        by-caller (Some a) e =
+            let same : a ≡ actor = (let both : Some a ≡ Some actor = sym (callers-so-far c es front k a e) ∙ who in cc) in
+            performs-at l es shape may k actor (e ∙ ap (λ (x : Ui). Some x) same)
+
+    plays-front : (clock : ℕ) → Plays l (callers_of c) (commands_by c) (Status.Worn clock) closed
+    plays-front clock = record {
+      run = run-of (callers-so-far c es front);
+      performed = performs-first;
+      receives = receives-of;
+      fates = fates-of;
+      stands = stands-of;
+      places_are = places-of;
+      journals = journals-of;
+      quiet = tt;
+    }
+
+-- what was closed in the order of a replay plays the scenario
+pub plays : (c : Scene) → IsLayout c.layout → Keeps c → (status : Status) (closed : Closed) → IsOrdered c.layout (tasks c) status closed → Plays c.layout (callers_of c) (commands_by c) status closed
+plays c shape keeps Status.Done closed is = plays-out c shape keeps closed is.events is.may is.closes is.carried Status.Done (λ k actor given h. h) (λ h. h)
+plays c shape keeps Status.Usage closed is = plays-out c shape keeps closed is.events is.may is.closes is.carried Status.Usage (λ k actor given h. h) (λ h. h)
+plays c shape keeps (Status.Scenario line reason) closed is = plays-out c shape keeps closed is.events is.may is.closes is.carried (Status.Scenario line reason) (λ k actor given h. h) (λ h. h)
+plays c shape keeps Status.ReadFault closed is = plays-out c shape keeps closed is.events is.may is.closes is.carried Status.ReadFault (λ k actor given h. h) (λ h. h)
+plays c shape keeps Status.WriteFault closed is = plays-out c shape keeps closed is.events is.may is.closes is.carried Status.WriteFault (λ k actor given h. h) (λ h. h)
+plays c shape keeps Status.Memory closed is = plays-out c shape keeps closed is.events is.may is.closes is.carried Status.Memory (λ k actor given h. h) (λ h. h)
+plays c shape keeps (Status.Worn clock) closed is =
+    plays-front c shape keeps closed is.events is.may is.closes (front-of c.layout (tasks c) is.carried.next is.events is.carried.comes) clock

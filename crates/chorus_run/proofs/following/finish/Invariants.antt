@@ -1,0 +1,10 @@
+use Rattle.std.proofs.Common.{◌+◌, drop, [], ◌∷◌, ◌++◌}
+use Rattle.chorus_law.specs.Tasks.{Drain}
+use Rattle.chorus_run.specs.Order.{left_from}
+use Rattle.chorus_run.specs.Performing.{IsBefore}
+use Rattle.chorus_net.specs.Sites.{net}
+use Rattle.chorus_run.proofs.following.finish.Given as goal
+
+abbrev pub invariant-loop-index : goal.invariant-loop-index
+invariant-loop-index l =
+    IsBefore l.scenario (left_from l.scenario.schedule (l.index + 1) (drop l.index l.scenario.scripts) ++ Drain 0 ∷ []) (net l.sites)
