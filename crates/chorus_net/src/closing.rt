@@ -9,6 +9,7 @@ use crate::closed::{Closed, Origin};
 use chorus_entry::{Entry, Packet};
 use chorus_law::Placed;
 use chorus_out::Outbox;
+use chorus_place::Place;
 use chorus_ports::Ports;
 
 /// How many packets wait at the places. None where they are too many to count.

@@ -4,6 +4,7 @@ ghost use Rattle.std.specs.Prelude.{◌≡◌, length, IfOk};
 ghost use Rattle.chorus_ui.specs.Layout.{IsLayout, places};
 ghost use Rattle.chorus_net.specs.Starting.{HaveStarted};
 
+use chorus_place::Place;
 use chorus_ui::Layout;
 use std::alloc::{AllocError, Global};
 
