@@ -3,4 +3,5 @@
 
 #[cfg(test)]
 mod network;
+#[cfg(test)]
 mod replays;
