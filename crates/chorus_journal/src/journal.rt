@@ -18,8 +18,8 @@ use chorus_ui::{GROUPS_PER_SITE_LIMIT, Layout, Ui};
 use std::alloc::{AllocError, Global};
 use std::marker::Model;
 
-/// The entries of a place, in order, and what is counted from them: the clock of the last one, how many ports were made, which ones, which were deleted,
-/// and the groups. It is appended to and never copied.
+/// The entries of a place, in order, and what is counted from them: the clock of the last one, how many ports were made, which
+/// ports were made and which deleted, and the groups. It is appended to and never copied.
 #[derive(Debug, Drop)]
 pub struct Journal {
     layout: Layout,
@@ -54,7 +54,7 @@ impl Journal {
     pub fn with_room(alloc: Global, layout: Layout) -> Result<Journal, AllocError>
         ensures layout { IfOk result (λ journal. journal.layout ≡ layout) }
         ensures past { IfOk result (λ journal. journal.past ≡ []) }
-        ensures groups { IfOk result (λ journal. journal.groups ≡ new_table 4) }
+        ensures groups { IfOk result (λ journal. journal.groups ≡ new_table GROUPS_PER_SITE_LIMIT) }
     {
         let made = PortMarks::with_room(alloc, layout)?;
         let deleted = PortMarks::with_room(alloc, layout)?;
