@@ -53,6 +53,13 @@ impl Place {
         Ok(Place { tables })
     }
 
+    /// Its layout.
+    pub fn layout(&self) -> Layout
+        ensures { result ≡ self.now.layout }
+    {
+        self.tables.layout
+    }
+
     /// Its number, one of a place of the layout.
     pub fn number(&self) -> u16
         ensures value { result ≡ self.now.number }
