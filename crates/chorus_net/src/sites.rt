@@ -41,9 +41,11 @@ impl Model for Sites {
 
     ghost Value = { SitesState };
 
-    ghost view = { λ s. record { layout = s.layout; places = s.places.items; callers = s.callers.items } };
+    ghost view = { λ s.
+        record { layout = s.layout; places = s.places.items; callers = s.callers.items } };
 
-    ghost invariant = { λ s. IsSites (record { layout = s.layout; places = s.places.items; callers = s.callers.items }) };
+    ghost invariant = { λ s. IsSites
+        (record { layout = s.layout; places = s.places.items; callers = s.callers.items }) };
 }
 
 impl Sites {
@@ -95,9 +97,13 @@ impl Sites {
     pub fn enter(&mut self, actor: Ui) -> Result<u32, EnterFault>
         requires { names_actor actor ≡ true }
         ensures seat { IfOk result (λ seat. seat ≡ length self.old.callers) }
-        ensures ok { OnOk result (net self.new ≡ happened (entering actor (net self.old)) (net self.old)) }
-        ensures no_actor { IsErrOf result EnterFault.NoActor ↔ (has_actor self.old.layout actor ≡ false) }
-        ensures no_seat { (made : ℕ) → IsErrOf result (EnterFault.NoSeat made) ↔ ((has_actor self.old.layout actor ≡ true) × (length self.old.callers ≡ SEATS_LIMIT) × (made ≡ SEATS_LIMIT)) }
+        ensures ok { OnOk result
+            (net self.new ≡ happened (entering actor (net self.old)) (net self.old)) }
+        ensures no_actor { IsErrOf result EnterFault.NoActor
+            ↔ (has_actor self.old.layout actor ≡ false) }
+        ensures no_seat { (made : ℕ) → IsErrOf result (EnterFault.NoSeat made)
+            ↔ ((has_actor self.old.layout actor ≡ true)
+            × (length self.old.callers ≡ SEATS_LIMIT) × (made ≡ SEATS_LIMIT)) }
         ensures refused { OnErr result (self.new ≡ self.old) }
         ensures places { (self.new.layout ≡ self.old.layout) × (self.new.places ≡ self.old.places) }
     {
@@ -123,9 +129,11 @@ impl Sites {
         ensures ok { OnOk result (net self.new ≡ happened (Act seat command) (net self.old)) }
         ensures reply { IfOk result (λ reply. Some reply ≡ replied seat command (net self.old)) }
         ensures worn { (clock : ℕ) → IsErrOf result (PlaceFault.Worn clock) ↔
-            ((CLOCK_LIMIT ≤ compared seat command (net self.old)) × (clock ≡ compared seat command (net self.old))) }
+            ((CLOCK_LIMIT ≤ compared seat command (net self.old))
+            × (clock ≡ compared seat command (net self.old))) }
         ensures refused { OnErr result (net self.new ≡ net self.old) }
-        ensures room { OnOk result (UsesRoom (length (put_by (Act seat command) (net self.old))) self.old.places self.new.places) }
+        ensures room { OnOk result (UsesRoom
+            (length (put_by (Act seat command) (net self.old))) self.old.places self.new.places) }
         ensures kept { OnErr result (KeepRoom self.old.places self.new.places) }
         ensures takes_no_memory { TakesNoneAt command (slice_get self.old.callers seat) self.old →
             compared seat command (net self.old) < CLOCK_LIMIT → IsOk result }
@@ -154,7 +162,8 @@ impl Sites {
         ensures ticks { result ≡ Ok Delivered.Served → Ticks (net self.old) (net self.new) }
         ensures layout { self.new.layout ≡ self.old.layout }
         ensures refused { OnErr result (net self.new ≡ net self.old) }
-        ensures room { OnOk result (UsesRoom (length (put_by (delivering from to) (net self.old))) self.old.places self.new.places) }
+        ensures room { OnOk result (UsesRoom
+            (length (put_by (delivering from to) (net self.old))) self.old.places self.new.places) }
         ensures kept { OnErr result (KeepRoom self.old.places self.new.places) }
     {
         let Some(packet) = self.places[usize::from(from) - 1].out(to) else {
@@ -176,7 +185,8 @@ impl Sites {
     /// It is refused as worn only where the next delivery of a round is, and else only for want of memory. After a refusal the
     /// deliveries before it stand.
     pub fn drain(&mut self) -> Result<Quiet, PlaceFault>
-        ensures ok { IfOk result (λ quiet. Drains self.old.layout (net self.old) (net self.new) quiet.served) }
+        ensures ok { IfOk result (λ quiet.
+            Drains self.old.layout (net self.old) (net self.new) quiet.served) }
         ensures stopped { OnErr result (Stops (net self.old) (net self.new)) }
         ensures worn { (clock : ℕ) → IsErrOf result (PlaceFault.Worn clock) →
             IsWornIn clock (net self.old) (net self.new) }
@@ -248,10 +258,13 @@ impl Sites {
 
     /// One round of a drain. Gives the number of packets that it worked off.
     fn round(&mut self) -> Result<u64, PlaceFault>
-        ensures ok { IfOk result (λ number. GoesRound self.old.layout (net self.old) (net self.new) number) }
+        ensures ok { IfOk result (λ number.
+            GoesRound self.old.layout (net self.old) (net self.new) number) }
         ensures stopped { OnErr result (Stops (net self.old) (net self.new)) }
         ensures worn { (clock : ℕ) → IsErrOf result (PlaceFault.Worn clock) →
-            IsWornAmong (from_each 0 (place_numbers self.old.layout) (place_numbers self.old.layout)) clock (net self.old) (net self.new) }
+            IsWornAmong
+            (from_each 0 (place_numbers self.old.layout) (place_numbers self.old.layout))
+            clock (net self.old) (net self.new) }
         ensures layout { self.new.layout ≡ self.old.layout }
         ensures dry { result ≡ Ok 0 → (net self.new).packets ≡ [] }
     {
@@ -269,7 +282,8 @@ impl Sites {
     /// waits to go. Gives the number of packets that it worked off.
     fn deliver_from(&mut self, from: u16) -> Result<u64, PlaceFault>
         requires { has_place self.old.layout from ≡ true }
-        ensures ok { IfOk result (λ number. Goes (from_one 0 from (place_numbers self.old.layout)) (net self.old) (net self.new) number) }
+        ensures ok { IfOk result (λ number. Goes
+            (from_one 0 from (place_numbers self.old.layout)) (net self.old) (net self.new) number) }
         ensures stopped { OnErr result (Stops (net self.old) (net self.new)) }
         ensures worn { (clock : ℕ) → IsErrOf result (PlaceFault.Worn clock) →
             IsWornAmong (from_one 0 from (place_numbers self.old.layout)) clock (net self.old) (net self.new) }
@@ -291,7 +305,8 @@ impl Sites {
     /// Whether no packet waits to go from the place.
     fn is_idle(&self, from: u16) -> bool
         requires { has_place self.now.layout from ≡ true }
-        ensures { result ≡ true → (to : ℕ) → has_place self.now.layout to ≡ true → first_on from to (net self.now).packets ≡ None }
+        ensures { result ≡ true → (to : ℕ) → has_place self.now.layout to ≡ true →
+            first_on from to (net self.now).packets ≡ None }
     {
         self.places[usize::from(from) - 1].waiting() == 0
     }
@@ -300,7 +315,8 @@ impl Sites {
     fn serve(&mut self, from: u16, to: u16) -> Result<u64, PlaceFault>
         requires from { has_place self.old.layout from ≡ true }
         requires to { has_place self.old.layout to ≡ true }
-        ensures ok { IfOk result (λ number. Goes (from_one 0 from (to ∷ [])) (net self.old) (net self.new) number) }
+        ensures ok { IfOk result (λ number.
+            Goes (from_one 0 from (to ∷ [])) (net self.old) (net self.new) number) }
         ensures stopped { OnErr result (net self.new ≡ net self.old) }
         ensures worn { (clock : ℕ) → IsErrOf result (PlaceFault.Worn clock) →
             IsWornAmong (from_one 0 from (to ∷ [])) clock (net self.old) (net self.new) }
