@@ -17,6 +17,28 @@ const NOTHING: &str = "chorus 1\nsites 1\nscript 1.a.1\nschedule\nend";
 const PRINTS_NOTHING: &str =
     "journal 0\nsummary\nposted 0\naccepted 0\ntaken 0\nqueued 0\nmoving 0\nrefused 0\nstale 0\ndeparts 0\nend\n";
 
+const TWO_TURNS: &str =
+    "chorus 1\nsites 1\nport 1.p.2 1.a.2 4\nscript 1.a.1\nsend 1.p.2 =x\nschedule\nend\n";
+
+const PRINTS_TWO_TURNS: &str = "\
+journal 5
+1 2 0 make 1.p.2 1.a.2 4
+2 1 1 post 1:1:0 port 1.p.2 plain =x
+3 1 1 try 1:1:0 1.p.2 2 0
+4 2 0 accept 1:1:0 1.p.2 0
+5 1 0 told 1:1:0 accepted 0
+summary
+posted 1
+accepted 1
+taken 0
+queued 1
+moving 0
+refused 0
+stale 0
+departs 0
+end
+";
+
 const TAKEN_THEN_EMPTY: &str =
     "chorus 1\nsites 1\nport 1.p.1 1.a.1 1\nscript 1.a.1\nsend 1.p.1 =a\nsend 1.p.1 =b\ntake 1.p.1\ntake 1.p.1\ntake 1.p.1\nschedule\nend\n";
 
@@ -301,16 +323,16 @@ fn unfinished_and_unknown_texts(rt: HostRuntime) -> Result<(), Fail> {
 }
 
 #[test]
-fn sites_of_two_places_replay_too(rt: HostRuntime) -> Result<(), Fail> {
+fn two_turns_per_site(rt: HostRuntime) -> Result<(), Fail> {
     let alloc = rt.alloc();
-    let text = Vec::from_slice(alloc, NOTHING.as_bytes())?;
+    let text = Vec::from_slice(alloc, TWO_TURNS.as_bytes())?;
     let mut source = MemSource::new(text, Vec::new(alloc));
     let mut sink = MemSink::new(alloc, 4096, Vec::new(alloc));
-    let layout = Layout::new(16, 2).ok_or("a layout")?;
+    let layout = Layout::new(2, 2).ok_or("a layout")?;
     let sites = Sites::start(alloc, layout)?;
     let finished = words(alloc, &["replay"], &mut source, &mut sink, sites);
     assert_eq!(rt; finished.status, Status::Done);
-    assert_eq!(rt; sink.bytes(), PRINTS_NOTHING.as_bytes());
+    assert_eq!(rt; sink.bytes(), PRINTS_TWO_TURNS.as_bytes());
     assert!(rt; finished.closed.is_some());
     Ok(())
 }
