@@ -8,6 +8,8 @@
 #[cfg(test)]
 mod conditions;
 #[cfg(test)]
+mod generating;
+#[cfg(test)]
 mod groups;
 #[cfg(test)]
 mod lines;
