@@ -6,12 +6,12 @@ use Rattle.chorus_ui.specs.declared.layout.Layout.{Layout}
 use Rattle.chorus_ui.specs.declared.limits.TheConstants.{PORTS_PER_SITE_LIMIT}
 use Rattle.chorus_ui.specs.declared.ui.Ui.{Ui}
 use Rattle.chorus_ui.specs.Kind.{same_kind}
-use Rattle.chorus_ui.specs.Layout.{can_make_port, creation_place}
+use Rattle.chorus_ui.specs.Layout.{can_make_port, creation_place, names_port}
 use Rattle.chorus_ui.specs.Name.{same_ui}
 use Rattle.chorus_entry.specs.declared.entry.Entry.{Entry}
 use Rattle.chorus_world.specs.declared.place.Location.{Location}
 use Rattle.chorus_world.specs.Places.{farther}
-use Rattle.chorus_hints.specs.Known.{Known, is_listed, kept, newest_of, newest, nothing_known, known_after}
+use Rattle.chorus_hints.specs.Known.{Known, kept, newest_of, newest, nothing_known, known_after}
 use Rattle.chorus_hints.proofs.Lessons.{newest-learned}
 use Rattle.chorus_hints.proofs.Values.{kept-nothing_known, length-nothing_known, kept-known_after, layout-known_after, length-known_after}
 use Rattle.chorus_board.specs.declared.table.Table.{Table}
@@ -59,7 +59,7 @@ module _ (shown : Table) (o : Publish) (fine : Fine shown) (kind : o.ui.kind ≡
   abbrev next : Known
   next = known_after known o.ui o.place o.hop
 
-  listed : is_listed known.layout o.ui ≡ true
+  listed : names_port known.layout o.ui ≡ true
   listed = and_from (same_kind o.ui.kind Port) (can_make_port known.layout o.ui) (ap (λ k. same_kind k Port) kind) can
 
   is_told : told known o ≡ next

@@ -1,9 +1,9 @@
 -- What a table says, and what a publish makes of it.
-use Rattle.std.specs.Prelude.{◌≡◌, ◌*◌, if◌then◌else◌, List, length}
+use Rattle.std.specs.Prelude.{◌≡◌, if◌then◌else◌, List, length}
 use Rattle.chorus_ui.specs.declared.ui.Ui.{Ui}
-use Rattle.chorus_ui.specs.declared.limits.TheConstants.{PORTS_PER_SITE_LIMIT}
+use Rattle.chorus_ui.specs.Layout.{names_port, ports_of}
 use Rattle.chorus_entry.specs.declared.entry.Entry.{Entry}
-use Rattle.chorus_hints.specs.Known.{Known, is_listed, newest, known_after}
+use Rattle.chorus_hints.specs.Known.{Known, newest, known_after}
 use Rattle.chorus_board.specs.declared.table.Table.{Table}
 use Rattle.chorus_board.specs.declared.table.Publish.{Publish}
 use Rattle.chorus_board.specs.Located.{located_after, pair_of, IsPortIn, IsOfOnePlace}
@@ -11,7 +11,7 @@ use Rattle.chorus_board.specs.Located.{located_after, pair_of, IsPortIn, IsOfOne
 -- what is known after the publish, of a port that the layout can make
 abbrev pub told : Known → Publish → Known
 told known o =
-    if is_listed known.layout o.ui then known_after known o.ui o.place o.hop else known
+    if names_port known.layout o.ui then known_after known o.ui o.place o.hop else known
 
 abbrev pub applied_to : Table → Publish → Table
 applied_to table o = record { hints = told table.hints o; upto = o.upto; seen = o.seen }
@@ -22,7 +22,7 @@ Exact known log = (q : Ui) → IsPortIn known.layout q → newest known q ≡ pa
 
 -- there is a row for each port that the layout can make
 abbrev pub IsRoomy : Known → Type 0
-IsRoomy known = length known.pairs ≡ known.layout.sites * PORTS_PER_SITE_LIMIT
+IsRoomy known = length known.pairs ≡ ports_of known.layout
 
 -- the table stands for all that it has seen
 abbrev pub Fine : Table → Type 0

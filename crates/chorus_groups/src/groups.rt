@@ -240,7 +240,8 @@ impl Groups {
     /// The first member of the group from its rotation place on, round the list, that is located on the site.
     fn first_at(&self, group: Ui, site: u16, located: &[u16]) -> Option<Ui>
         requires { length located.now ≡ length (members group self.now) }
-        ensures { result ≡ first_round (rotation group self.now) site (members group self.now) located.now }
+        ensures { result
+            ≡ first_round (rotation group self.now) site (members group self.now) located.now }
     {
         self.get(group)?.first_at(site, located)
     }

@@ -11,11 +11,14 @@ ghost use Rattle.chorus_groups.specs.Law.{chosen_of, times, around};
 pub fn chosen_in_turn()
     // The members of a group are chosen in turn, from the one at its rotation place on, round the list.
     ensures turns { (group : Ui) (choices : List Ui) (table : Table) →
-        IsTrue (are_distinct (members group table)) → IsPosition (rotation group table) (length (members group table)) →
-        chosen_of group choices table ≡ around (times group choices) (rotation group table) (members group table) }
+        IsTrue (are_distinct (members group table)) →
+        IsPosition (rotation group table) (length (members group table)) →
+        chosen_of group choices table
+        ≡ around (times group choices) (rotation group table) (members group table) }
     // As many choices as there are members choose each of them once.
     ensures round { (group : Ui) (choices : List Ui) (table : Table) →
-        IsTrue (are_distinct (members group table)) → IsPosition (rotation group table) (length (members group table)) →
+        IsTrue (are_distinct (members group table)) →
+        IsPosition (rotation group table) (length (members group table)) →
         times group choices ≡ length (members group table) →
         chosen_of group choices table ≡ round_from (rotation group table) (members group table) }
 {}

@@ -1,11 +1,8 @@
 -- What a place knows of where ports are: for each port that its layout can make, the pair of place and hop that is kept.
-use Rattle.std.specs.Prelude.{ℕ, ◌+◌, ◌-◌, ◌*◌, nat_lt, Bool, ◌&&◌, if◌then◌else◌, Option, Some, None, List, replicate, slice_index_or, slice_set}
-use Rattle.chorus_ui.specs.declared.kind.Kind.TheVariants.{Port}
+use Rattle.std.specs.Prelude.{ℕ, nat_lt, Bool, ◌&&◌, if◌then◌else◌, Option, Some, None, List, replicate, slice_index_or, slice_set}
 use Rattle.chorus_ui.specs.declared.layout.Layout.{Layout}
-use Rattle.chorus_ui.specs.declared.limits.TheConstants.{PORTS_PER_SITE_LIMIT}
 use Rattle.chorus_ui.specs.declared.ui.Ui.{Ui}
-use Rattle.chorus_ui.specs.Kind.{same_kind}
-use Rattle.chorus_ui.specs.Layout.{can_make_port, creation_place}
+use Rattle.chorus_ui.specs.Layout.{creation_place, names_port, ports_of, port_row}
 use Rattle.chorus_ui.specs.Name.{same_ui}
 
 -- the pairs stand by site and then by number
@@ -13,17 +10,9 @@ pub record Known : Type 0 where
   pub layout : Layout
   pub pairs : List (Option (ℕ × ℕ))
 
--- a port that the layout can make
-abbrev pub is_listed : Layout → Ui → Bool
-is_listed layout q = same_kind q.kind Port && can_make_port layout q
-
--- where its pair stands, counted from 0
-abbrev pub row_of : Ui → ℕ
-row_of q = (q.site - 1) * PORTS_PER_SITE_LIMIT + (q.number - 1)
-
 -- the pair that is kept of a port
 abbrev pub kept : Known → Ui → Option (ℕ × ℕ)
-kept known q = if is_listed known.layout q then slice_index_or known.pairs (row_of q) None else None
+kept known q = if names_port known.layout q then slice_index_or known.pairs (port_row q) None else None
 
 -- the kept pair, and where nothing is kept the creation place with hop 0
 abbrev pub newest_of : Layout → Ui → Option (ℕ × ℕ) → ℕ × ℕ
@@ -48,11 +37,11 @@ learned port place hop pairs q = if nat_lt (hop_of (pairs port)) hop && same_ui 
 
 -- nothing is kept, and there is room for each port that the layout can make
 abbrev pub nothing_known : Layout → Known
-nothing_known layout = record { layout = layout; pairs = replicate (layout.sites * PORTS_PER_SITE_LIMIT) None }
+nothing_known layout = record { layout = layout; pairs = replicate (ports_of layout) None }
 
 -- the same, as one value: the pair of the port is put where it stands
 abbrev pub known_after : Known → Ui → ℕ → ℕ → Known
 known_after known port place hop =
     if nat_lt (hop_of (kept known port)) hop
-    then record known { pairs = slice_set known.pairs (row_of port) (Some (place, hop)) }
+    then record known { pairs = slice_set known.pairs (port_row port) (Some (place, hop)) }
     else known

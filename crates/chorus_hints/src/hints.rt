@@ -4,9 +4,9 @@ ghost use Rattle.std.specs.Prelude.{◌≡◌, nat_lt, IsTrue, IsNone, IfOk};
 ghost use Rattle.chorus_ui.specs.declared.ui.Ui.{Ui};
 ghost use Rattle.chorus_ui.specs.declared.kind.Kind.TheVariants.{Port};
 ghost use Rattle.chorus_ui.specs.Layout.{has_site, has_place, can_make_port};
-ghost use Rattle.chorus_hints.specs.Known.{row_of, kept, newest, hop_of, learned, nothing_known, known_after};
+ghost use Rattle.chorus_hints.specs.Known.{kept, newest, hop_of, learned, nothing_known, known_after};
 
-use chorus_ui::{Kind, Layout, PORTS_PER_SITE_LIMIT, Ui};
+use chorus_ui::{Kind, Layout, Ui};
 use std::alloc::{AllocError, Global};
 use std::marker::Model;
 
@@ -19,8 +19,8 @@ pub struct Hints {
 }
 
 impl Model for Hints {
-    ghost use Rattle.std.specs.Prelude.{◌≡◌, ◌*◌, length};
-    ghost use Rattle.chorus_ui.specs.declared.limits.TheConstants.{PORTS_PER_SITE_LIMIT};
+    ghost use Rattle.std.specs.Prelude.{◌≡◌, length};
+    ghost use Rattle.chorus_ui.specs.Layout.{ports_of};
     ghost use Rattle.chorus_hints.specs.Known.{Known};
 
     ghost Value = { Known };
@@ -28,15 +28,7 @@ impl Model for Hints {
     ghost view = { λ hints. record { layout = hints.layout; pairs = hints.pairs.items } };
 
     ghost invariant = { λ hints.
-        length hints.pairs.items ≡ hints.layout.sites * PORTS_PER_SITE_LIMIT };
-}
-
-/// Where the pair of a port stands, counted from 0.
-fn row_of(port: Ui) -> usize
-    ensures { result ≡ row_of port }
-{
-    let site = usize::from(port.site() - 1);
-    site * PORTS_PER_SITE_LIMIT as usize + (port.number() - 1) as usize
+        length hints.pairs.items ≡ ports_of hints.layout };
 }
 
 impl Hints {
@@ -46,8 +38,7 @@ impl Hints {
         ensures layout { IfOk result (λ hints. hints.layout ≡ layout) }
         ensures nothing { IfOk result (λ hints. (q : Ui) → kept hints q ≡ None) }
     {
-        let ports = usize::from(layout.sites()) * PORTS_PER_SITE_LIMIT as usize;
-        let pairs = vec![in alloc; None; ports]?;
+        let pairs = vec![in alloc; None; layout.ports()]?;
         Ok(Hints { layout, pairs })
     }
 
@@ -68,7 +59,7 @@ impl Hints {
         ensures pairs { (q : Ui) → kept self.new q ≡ learned ui place hop (kept self.old) q }
         ensures layout { self.new.layout ≡ self.old.layout }
     {
-        let row = row_of(ui);
+        let row = self.layout.port_row(ui);
         let farthest = match self.pairs[row] {
             Some((_, kept)) => kept,
             None => 0,
@@ -90,7 +81,7 @@ impl Hints {
     {
         let made = (self.layout.place_at(ui.site(), ui), 0);
         if self.layout.can_make_port(ui) {
-            self.pairs[row_of(ui)].unwrap_or(made)
+            self.pairs[self.layout.port_row(ui)].unwrap_or(made)
         } else {
             made
         }

@@ -3,6 +3,7 @@ use Rattle.std.specs.Prelude.{◌≡◌, ℕ, ◌+◌, ◌-◌, ◌∷◌, ◌�
 use Rattle.chorus_ui.specs.declared.limits.TheConstants.{GROUPS_PER_SITE_LIMIT}
 use Rattle.chorus_ui.specs.declared.ui.Ui.{Ui}
 use Rattle.chorus_ui.specs.declared.layout.Layout.{Layout}
+use Rattle.chorus_ui.specs.Layout.{names_port}
 use Rattle.chorus_entry.specs.declared.entry.Entry.{Entry}
 use Rattle.chorus_entry.specs.declared.act.Act.{Act}
 use Rattle.chorus_entry.specs.declared.act.Act.TheVariants.{Make, Delete, GroupMake, Join, Leave, Choose}
@@ -12,7 +13,7 @@ use Rattle.chorus_world.specs.Groups as world
 use Rattle.chorus_groups.specs.Groups.{Table, group_of, after_make, with_change, joined, left, members, rotation}
 use Rattle.chorus_groups.specs.Faults.{join_fault_of, leave_fault_of}
 use Rattle.chorus_groups.specs.Choosing.{turned_by}
-use Rattle.chorus_journal.specs.Marks.{Marks, is_listed, is_marked}
+use Rattle.chorus_journal.specs.Marks.{Marks, is_marked}
 
 -- a journal as contracts see it: the newest entry first, the groups made there, and how many entries more need no memory
 pub record JournalState : Type 0 where
@@ -45,8 +46,8 @@ deleted_by _ = None
 -- an act that may be appended: who joins or leaves may, a port that is made or deleted is one of the layout, and a group is
 -- made by a call of its own
 abbrev pub MayFollow : Layout → Table → Act → Type 0
-MayFollow l t (Make q a n) = IsTrue (is_listed l q)
-MayFollow l t (Delete q xs) = IsTrue (is_listed l q)
+MayFollow l t (Make q a n) = IsTrue (names_port l q)
+MayFollow l t (Delete q xs) = IsTrue (names_port l q)
 MayFollow l t (GroupMake g) = ⊥
 MayFollow l t (Join g q) = join_fault_of t g q ≡ None
 MayFollow l t (Leave g q) = leave_fault_of t g q ≡ None

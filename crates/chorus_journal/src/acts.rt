@@ -59,7 +59,8 @@ pub(crate) fn mark_made(made: &mut PortMarks, act: &Act, layout: Layout, groups:
 pub(crate) fn mark_deleted(deleted: &mut PortMarks, act: &Act, layout: Layout, groups: &Groups)
     requires layout { deleted.old.layout ≡ layout }
     requires follows { MayFollow layout groups.now act.now }
-    ensures marks { (q : Ui) → is_marked deleted.new q ≡ deletes q act.now || is_marked deleted.old q }
+    ensures marks { (q : Ui) →
+        is_marked deleted.new q ≡ deletes q act.now || is_marked deleted.old q }
     ensures layout { deleted.new.layout ≡ layout }
 {
     let Some(port) = deleted_by(act) else {

@@ -118,7 +118,8 @@ impl Journal {
         ensures members { (g : Ui) → members g result.now ≡ world.members g self.now.past }
         ensures rotation { (g : Ui) → rotation g result.now ≡ world.rotation g self.now.past }
         ensures made { length result.now.groups ≡ world.groups_made self.now.past }
-        ensures named { (g : Ui) → is_some (group_of g result.now.groups) ≡ is_group g self.now.past }
+        ensures named { (g : Ui) →
+            is_some (group_of g result.now.groups) ≡ is_group g self.now.past }
     {
         &self.groups
     }

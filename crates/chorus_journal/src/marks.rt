@@ -2,10 +2,11 @@
 
 ghost use Rattle.std.specs.Prelude.{◌≡◌, ◌||◌, false, IsTrue, IfOk};
 ghost use Rattle.chorus_ui.specs.declared.ui.Ui.{Ui};
+ghost use Rattle.chorus_ui.specs.Layout.{names_port};
 ghost use Rattle.chorus_ui.specs.Name.{same_ui};
-ghost use Rattle.chorus_journal.specs.Marks.{row_of, is_listed, is_marked};
+ghost use Rattle.chorus_journal.specs.Marks.{is_marked};
 
-use chorus_ui::{Kind, Layout, PORTS_PER_SITE_LIMIT, Ui};
+use chorus_ui::{Kind, Layout, Ui};
 use std::alloc::{AllocError, Global};
 use std::marker::Model;
 
@@ -17,23 +18,15 @@ pub(crate) struct PortMarks {
 }
 
 impl Model for PortMarks {
-    ghost use Rattle.std.specs.Prelude.{◌≡◌, ◌*◌, length};
-    ghost use Rattle.chorus_ui.specs.declared.limits.TheConstants.{PORTS_PER_SITE_LIMIT};
+    ghost use Rattle.std.specs.Prelude.{◌≡◌, length};
+    ghost use Rattle.chorus_ui.specs.Layout.{ports_of};
     ghost use Rattle.chorus_journal.specs.Marks.{Marks};
 
     ghost Value = { Marks };
 
     ghost view = { λ d. record { layout = d.layout; flags = d.flags.items } };
 
-    ghost invariant = { λ d. length d.flags.items ≡ d.layout.sites * PORTS_PER_SITE_LIMIT };
-}
-
-/// Where the mark of a port stands, counted from 0.
-fn row_of(port: Ui) -> usize
-    ensures { result ≡ row_of port }
-{
-    let site = usize::from(port.site() - 1);
-    site * PORTS_PER_SITE_LIMIT as usize + (port.number() - 1) as usize
+    ghost invariant = { λ d. length d.flags.items ≡ ports_of d.layout };
 }
 
 impl PortMarks {
@@ -42,18 +35,17 @@ impl PortMarks {
         ensures layout { IfOk result (λ marks. marks.layout ≡ layout) }
         ensures nothing { IfOk result (λ marks. (q : Ui) → is_marked marks q ≡ false) }
     {
-        let ports = usize::from(layout.sites()) * PORTS_PER_SITE_LIMIT as usize;
-        let flags = vec![in alloc; false; ports]?;
+        let flags = vec![in alloc; false; layout.ports()]?;
         Ok(PortMarks { layout, flags })
     }
 
     /// Marks a port that the layout can make. Takes no memory.
     pub(crate) fn mark(&mut self, ui: Ui)
-        requires { IsTrue (is_listed self.old.layout ui) }
+        requires { IsTrue (names_port self.old.layout ui) }
         ensures marks { (q : Ui) → is_marked self.new q ≡ same_ui ui q || is_marked self.old q }
         ensures layout { self.new.layout ≡ self.old.layout }
     {
-        let row = row_of(ui);
+        let row = self.layout.port_row(ui);
         self.flags[row] = true;
     }
 
@@ -64,6 +56,6 @@ impl PortMarks {
         if ui.kind() != Kind::Port || !self.layout.can_make_port(ui) {
             return false;
         }
-        self.flags[row_of(ui)]
+        self.flags[self.layout.port_row(ui)]
     }
 }

@@ -23,8 +23,10 @@ pub fn a_port_keeps_order_and_accepts_once()
     // What is accepted next has the position that counts what was accepted before it.
     ensures positions { (ui actor : Ui) (capacity : ℕ) (events : List Event)
         (message : Message) (pos : ℕ) →
-        let h = history ui actor capacity events in answer_to message h.port ≡ Accepted pos → pos ≡ length h.accepted }
+        let h = history ui actor capacity events in
+        answer_to message h.port ≡ Accepted pos → pos ≡ length h.accepted }
     // No request number of a client is accepted twice.
     ensures once { (ui actor : Ui) (capacity : ℕ) (events : List Event) (client number : ℕ) →
-        let h = history ui actor capacity events in count_by (is_request client number) h.accepted ≤ 1 }
+        let h = history ui actor capacity events in
+        count_by (is_request client number) h.accepted ≤ 1 }
 {}

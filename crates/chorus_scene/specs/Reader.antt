@@ -20,7 +20,7 @@ use Rattle.chorus_scene.specs.declared.fault.ReadFault.{ReadFault}
 use Rattle.chorus_scene.specs.declared.fault.ReadFault.TheVariants as faults
 use Rattle.chorus_ui.specs.declared.limits.TheConstants.{SITES_LIMIT, PORTS_PER_SITE_LIMIT, GROUPS_PER_SITE_LIMIT}
 use Rattle.chorus_scene.specs.declared.limits.TheConstants.{SCRIPTS_LIMIT}
-use Rattle.chorus_scene.specs.declared.setup.TheConstants.{PORT_COUNTS, COUNTS, LISTS}
+use Rattle.chorus_scene.specs.declared.setup.TheConstants.{SITE_COUNTS, PORT_COUNTS, COUNTS, SITE_LISTS, LISTS}
 use Rattle.chorus_scene.specs.Text.{fields}
 use Rattle.chorus_scene.specs.Scene.{Scene}
 use Rattle.chorus_scene.specs.Making.{stride, shares_place, made_after, names_said, is_among, members_of}
@@ -29,8 +29,8 @@ use Rattle.chorus_scene.specs.Grammar.{State, judge_fields, then_after, is_step,
 
 -- where the table of a setup counts what one place has given: four places for each site, ports and then groups
 abbrev pub count_at : Layout → Kind → ℕ → ℕ → ℕ
-count_at l kinds.Group site number = PORT_COUNTS + (site - 1) * 4 + (number - 1) % stride l kinds.Group
-count_at l kind site number = (site - 1) * 4 + (number - 1) % stride l kind
+count_at l kinds.Group site number = PORT_COUNTS + (site - 1) * SITE_COUNTS + (number - 1) % stride l kinds.Group
+count_at l kind site number = (site - 1) * SITE_COUNTS + (number - 1) % stride l kind
 
 abbrev pub is_actor : Kind → Bool
 is_actor kinds.Actor = true
@@ -42,7 +42,7 @@ abbrev pub is_listed : Ui → Bool
 is_listed g = same_kind g.kind kinds.Group && nat_le 1 g.site && nat_le g.site SITES_LIMIT && nat_le 1 g.number && nat_le g.number GROUPS_PER_SITE_LIMIT
 
 abbrev pub list_number : Ui → ℕ
-list_number g = (g.site - 1) * 4 + (g.number - 1)
+list_number g = (g.site - 1) * SITE_LISTS + (g.number - 1)
 
 abbrev pub listed : Setup → Ui → List Ui
 listed s g = slice_index_or (map (λ v. v.items) s.members.items) (list_number g) []

@@ -17,7 +17,8 @@ pub(crate) fn none(rest: Option<&[u8]>) -> bool
 pub(crate) fn one(rest: Option<&[u8]>) -> Option<&[u8]>
     ensures { MatchOption result
         (are_fields 1 (fields 1 (option_copied rest.entry)) ≡ false)
-        (λ a. (fields 1 (option_copied rest.entry) ≡ a.now ∷ []) × (are_fields 1 (a.now ∷ []) ≡ true)) }
+        (λ a. (fields 1 (option_copied rest.entry) ≡ a.now ∷ [])
+        × (are_fields 1 (a.now ∷ []) ≡ true)) }
 {
     let (a, rest) = cut(b' ', rest?);
     if a.is_empty() || rest.is_some() {
@@ -31,7 +32,8 @@ pub(crate) fn one(rest: Option<&[u8]>) -> Option<&[u8]>
 pub(crate) fn two(rest: Option<&[u8]>) -> Option<(&[u8], &[u8])>
     ensures { MatchOption result
         (are_fields 2 (fields 2 (option_copied rest.entry)) ≡ false)
-        (λ x. (fields 2 (option_copied rest.entry) ≡ x.0.now ∷ x.1.now ∷ []) × (are_fields 2 (x.0.now ∷ x.1.now ∷ []) ≡ true)) }
+        (λ x. (fields 2 (option_copied rest.entry) ≡ x.0.now ∷ x.1.now ∷ [])
+        × (are_fields 2 (x.0.now ∷ x.1.now ∷ []) ≡ true)) }
 {
     let (a, rest) = cut(b' ', rest?);
     let (b, rest) = cut(b' ', rest?);
@@ -46,7 +48,8 @@ pub(crate) fn two(rest: Option<&[u8]>) -> Option<(&[u8], &[u8])>
 pub(crate) fn three(rest: Option<&[u8]>) -> Option<(&[u8], &[u8], &[u8])>
     ensures { MatchOption result
         (are_fields 3 (fields 3 (option_copied rest.entry)) ≡ false)
-        (λ x. (fields 3 (option_copied rest.entry) ≡ x.0.now ∷ x.1.now ∷ x.2.now ∷ []) × (are_fields 3 (x.0.now ∷ x.1.now ∷ x.2.now ∷ []) ≡ true)) }
+        (λ x. (fields 3 (option_copied rest.entry) ≡ x.0.now ∷ x.1.now ∷ x.2.now ∷ [])
+        × (are_fields 3 (x.0.now ∷ x.1.now ∷ x.2.now ∷ []) ≡ true)) }
 {
     let (a, rest) = cut(b' ', rest?);
     let (b, rest) = cut(b' ', rest?);
@@ -62,7 +65,8 @@ pub(crate) fn three(rest: Option<&[u8]>) -> Option<(&[u8], &[u8], &[u8])>
 pub(crate) fn body_alone(rest: Option<&[u8]>) -> Option<&[u8]>
     ensures { MatchOption result
         (are_fields 1 (fields 0 (option_copied rest.entry)) ≡ false)
-        (λ a. (fields 0 (option_copied rest.entry) ≡ a.now ∷ []) × (are_fields 1 (a.now ∷ []) ≡ true)) }
+        (λ a. (fields 0 (option_copied rest.entry) ≡ a.now ∷ [])
+        × (are_fields 1 (a.now ∷ []) ≡ true)) }
 {
     let body = rest?;
     if body.is_empty() { None } else { Some(body) }
@@ -72,7 +76,8 @@ pub(crate) fn body_alone(rest: Option<&[u8]>) -> Option<&[u8]>
 pub(crate) fn one_and_body(rest: Option<&[u8]>) -> Option<(&[u8], &[u8])>
     ensures { MatchOption result
         (are_fields 2 (fields 1 (option_copied rest.entry)) ≡ false)
-        (λ x. (fields 1 (option_copied rest.entry) ≡ x.0.now ∷ x.1.now ∷ []) × (are_fields 2 (x.0.now ∷ x.1.now ∷ []) ≡ true)) }
+        (λ x. (fields 1 (option_copied rest.entry) ≡ x.0.now ∷ x.1.now ∷ [])
+        × (are_fields 2 (x.0.now ∷ x.1.now ∷ []) ≡ true)) }
 {
     let (a, rest) = cut(b' ', rest?);
     let body = rest?;
@@ -87,7 +92,8 @@ pub(crate) fn one_and_body(rest: Option<&[u8]>) -> Option<(&[u8], &[u8])>
 pub(crate) fn two_and_body(rest: Option<&[u8]>) -> Option<(&[u8], &[u8], &[u8])>
     ensures { MatchOption result
         (are_fields 3 (fields 2 (option_copied rest.entry)) ≡ false)
-        (λ x. (fields 2 (option_copied rest.entry) ≡ x.0.now ∷ x.1.now ∷ x.2.now ∷ []) × (are_fields 3 (x.0.now ∷ x.1.now ∷ x.2.now ∷ []) ≡ true)) }
+        (λ x. (fields 2 (option_copied rest.entry) ≡ x.0.now ∷ x.1.now ∷ x.2.now ∷ [])
+        × (are_fields 3 (x.0.now ∷ x.1.now ∷ x.2.now ∷ []) ≡ true)) }
 {
     let (a, rest) = cut(b' ', rest?);
     let (b, rest) = cut(b' ', rest?);

@@ -107,8 +107,10 @@ impl Model for Scenario {
         scene_with s.layout s.version s.sites s.setup.items s.scripts.items s.schedule.items };
 
     ghost invariant = { λ s. (s.names.items ≡ names_said s.layout [] s.setup.items)
-        × IsReadAgain (scene_with s.layout s.version s.sites s.setup.items s.scripts.items s.schedule.items)
-        × Keeps (scene_with s.layout s.version s.sites s.setup.items s.scripts.items s.schedule.items) };
+        × IsReadAgain
+        (scene_with s.layout s.version s.sites s.setup.items s.scripts.items s.schedule.items)
+        × Keeps
+        (scene_with s.layout s.version s.sites s.setup.items s.scripts.items s.schedule.items) };
 }
 
 impl Scenario {

@@ -1,7 +1,7 @@
 //! The setup lines that were read, with tables of what they made.
 
 ghost use Rattle.std.specs.Prelude.{◌≡◌, ◌+◌, ◌<◌, ◌≤◌, List, [], ◌∷◌, ◌++◌, true, false, OnOk, IfOk};
-ghost use Rattle.chorus_ui.specs.declared.limits.TheConstants.{SITES_LIMIT};
+ghost use Rattle.chorus_ui.specs.declared.limits.TheConstants.{PLACES_PER_SITE_LIMIT, SITES_LIMIT};
 ghost use Rattle.chorus_ui.specs.declared.ui.Ui.{Ui};
 ghost use Rattle.chorus_ui.specs.Layout.{IsLayout};
 ghost use Rattle.chorus_ui.specs.declared.layout.Layout.{Layout};
@@ -10,17 +10,23 @@ ghost use Rattle.chorus_scene.specs.Making.{stride, next_name, makes, name_said,
 ghost use Rattle.chorus_scene.specs.Reader.{count_at, is_actor, is_listed, list_number, most_number, made_by, IsSetup};
 
 use crate::scenario::SetupLine;
-use chorus_ui::{GROUPS_PER_SITE_LIMIT, Kind, Layout, SITES_LIMIT, Ui};
+use chorus_ui::{GROUPS_PER_SITE_LIMIT, Kind, Layout, PLACES_PER_SITE_LIMIT, SITES_LIMIT, Ui};
 use std::alloc::{AllocError, Global};
 
-/// The counts of ports: one for each place that a layout may have, four on each of 16 sites.
-const PORT_COUNTS: usize = 64;
+/// The counts of a site: one for each place that it may have.
+const SITE_COUNTS: usize = PLACES_PER_SITE_LIMIT as usize;
+
+/// The counts of ports: those of each site that a layout may have.
+const PORT_COUNTS: usize = SITES_LIMIT as usize * SITE_COUNTS;
 
 /// All counts of the table: those of ports, and as many of groups.
-const COUNTS: usize = 128;
+const COUNTS: usize = 2 * PORT_COUNTS;
 
-/// The lists of members: four groups on each of 16 sites.
-const LISTS: usize = 64;
+/// The lists of a site: one for each group that it makes.
+const SITE_LISTS: usize = GROUPS_PER_SITE_LIMIT as usize;
+
+/// The lists of members: those of each site that a layout may have.
+const LISTS: usize = SITES_LIMIT as usize * SITE_LISTS;
 
 /// The setup lines so far. The tables say in one step what a search of the lines would say.
 #[derive(Drop)]
@@ -38,7 +44,7 @@ pub(crate) struct Setup {
 fn stride(layout: Layout, kind: Kind) -> u64
     ensures value { result ≡ stride layout kind }
     ensures some { 1 ≤ result }
-    ensures few { result ≤ 4 }
+    ensures few { result ≤ PLACES_PER_SITE_LIMIT }
     ensures shape { IsLayout layout }
 {
     let turns = u64::from(layout.turns());
@@ -56,7 +62,7 @@ fn count_at(layout: Layout, kind: Kind, site: u16, number: u64) -> usize
     ensures small { result < COUNTS }
     ensures shape { IsLayout layout }
 {
-    let row = (site as usize - 1) * 4 + ((number - 1) % stride(layout, kind)) as usize;
+    let row = (site as usize - 1) * SITE_COUNTS + ((number - 1) % stride(layout, kind)) as usize;
     match kind {
         Kind::Group => PORT_COUNTS + row,
         _ => row,
@@ -78,7 +84,7 @@ fn list_number(group: Ui) -> usize
     ensures value { result ≡ list_number group }
     ensures small { result < LISTS }
 {
-    (group.site() as usize - 1) * 4 + (group.number() as usize - 1)
+    (group.site() as usize - 1) * SITE_LISTS + (group.number() as usize - 1)
 }
 
 impl Setup {

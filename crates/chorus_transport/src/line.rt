@@ -21,5 +21,6 @@ pub fn line_delivers_prefix()
     // The ends' numbers count what was put and what was delivered.
     ensures counted { (window : ℕ) (events : List Event) →
         let line = line_after window events in
-        (next_number line.sender ≡ length line.put) × (line.receiver.delivered ≡ length line.delivered) }
+        (next_number line.sender ≡ length line.put)
+        × (line.receiver.delivered ≡ length line.delivered) }
 {}

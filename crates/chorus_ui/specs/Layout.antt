@@ -1,6 +1,8 @@
 -- The places of a layout, and where a name stands among them.
 use Rattle.std.specs.Prelude.{◌≢◌, ℕ, ◌≤◌, ◌+◌, ◌-◌, ◌*◌, ◌/◌, ◌%◌, Bool, ◌&&◌, ◌||◌, ◌==◌, nat_le, Option, Some, None, if◌then◌else◌}
+use Rattle.chorus_ui.specs.Kind.{same_kind}
 use Rattle.chorus_ui.specs.Name.{Name}
+use Rattle.chorus_ui.specs.declared.kind.Kind.TheVariants.{Port}
 use Rattle.chorus_ui.specs.declared.limits.TheConstants.{SITES_LIMIT, PLACES_PER_SITE_LIMIT, ACTORS_PER_SITE_LIMIT, PORTS_PER_SITE_LIMIT}
 
 -- how many sites there are, and how many places per site: `turns`
@@ -53,6 +55,18 @@ has_actor l u = has_site l u.site && nat_le 1 u.number && nat_le u.number ACTORS
 -- a site makes at most 32 ports
 abbrev pub can_make_port : Shape → Name → Bool
 can_make_port l u = has_site l u.site && nat_le 1 u.number && nat_le u.number PORTS_PER_SITE_LIMIT
+
+-- a name of such a port
+abbrev pub names_port : Shape → Name → Bool
+names_port l u = same_kind u.kind Port && can_make_port l u
+
+-- how many ports a layout makes
+abbrev pub ports_of : Shape → ℕ
+ports_of l = l.sites * PORTS_PER_SITE_LIMIT
+
+-- where a port stands among them, by site and then by number, counted from 0
+abbrev pub port_row : Name → ℕ
+port_row u = (u.site - 1) * PORTS_PER_SITE_LIMIT + (u.number - 1)
 
 -- where a thing of this name stands on the site that made it
 abbrev pub creation_place : Shape → Name → ℕ

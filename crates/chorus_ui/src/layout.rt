@@ -1,6 +1,6 @@
 //! The places of a layout.
 
-ghost use Rattle.std.specs.Prelude.{◌≡◌, ◌≤◌, IsTrue, IfSome};
+ghost use Rattle.std.specs.Prelude.{◌≡◌, ◌<◌, ◌≤◌, IsTrue, IfSome};
 ghost use Rattle.chorus_ui.specs.declared.limits.TheConstants.{PLACES_LIMIT};
 
 use crate::kind::Kind;
@@ -31,7 +31,7 @@ impl Model for Layout {
 }
 
 impl Layout {
-    ghost use Rattle.chorus_ui.specs.Layout.{IsLayout, new_layout, places, has_site, has_place, can_make_port, first_place, place_at, site_of, home, group_place};
+    ghost use Rattle.chorus_ui.specs.Layout.{IsLayout, new_layout, places, has_site, has_place, can_make_port, ports_of, port_row, first_place, place_at, site_of, home, group_place};
 
     /// The layout of these numbers. None exactly outside 1 to 16 sites and 1, 2 or 4 places per site.
     pub fn new(sites: u16, turns: u16) -> Option<Layout>
@@ -88,6 +88,23 @@ impl Layout {
         ensures { result ≡ can_make_port self.now port }
     {
         self.has_site(port.site()) && port.number() <= PORTS_PER_SITE_LIMIT
+    }
+
+    /// The number of ports that the layout can make, from 32 to 512.
+    pub fn ports(&self) -> usize
+        ensures { result ≡ ports_of self.now }
+    {
+        usize::from(self.sites) * PORTS_PER_SITE_LIMIT as usize
+    }
+
+    /// Where a port that the layout can make stands among them, by site and then by number, counted from 0: its row in a
+    /// table of all of them.
+    pub fn port_row(&self, port: Ui) -> usize
+        requires { IsTrue (can_make_port self.now port) }
+        ensures value { result ≡ port_row port }
+        ensures inside { result < ports_of self.now }
+    {
+        usize::from(port.site() - 1) * PORTS_PER_SITE_LIMIT as usize + (port.number() - 1) as usize
     }
 
     /// The first place of a site, where its groups stand.

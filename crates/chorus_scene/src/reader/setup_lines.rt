@@ -134,7 +134,9 @@ impl Reader {
             ≡ next_name self.old.layout ui.kind site number made }
         requires joins { (group : Ui) → members_of group (line ∷ []) ≡ [] }
         ensures gives { Gives (state_of self.new) result
-            (unless (not (same_ui ui (next_name self.old.layout ui.kind site number (made (scene_of self.old))))) Reason.Order (Ok (with_setup (state_of self.old) line))) }
+            (unless (not (same_ui ui
+            (next_name self.old.layout ui.kind site number (made (scene_of self.old)))))
+            Reason.Order (Ok (with_setup (state_of self.old) line))) }
         ensures stands { OnOk result (Stands self.new) }
     {
         let next = self.setup.next_number(self.layout, ui.kind(), site, number);
