@@ -10,7 +10,7 @@ use thiserror::Error;
 
 /// The first line that fails a test, and why. Lines and reasons are this project's own.
 #[derive(Clone, Copy, Debug, PartialEq, Eq, Error)]
-#[error("line {line} is refused for reason {reason}")]
+#[error("line {line}: {words} (reason {reason})", words = words_for(*.reason))]
 pub struct SceneFault {
     /// The number of the line, from 1; 0 for a text that is too long, and one more than the lines for a text without end.
     pub line: u32,
@@ -18,6 +18,23 @@ pub struct SceneFault {
     /// 7 order, 8 text, 9 unfinished, 10 schedule. Without a line that fails, a text that is too long has 6 and a text
     /// without end 9. `docs/FORMATS.md` says what each one means, and what to write instead.
     pub reason: u8,
+}
+
+/// What a reason says, in words, for a person who reads a [`SceneFault`].
+fn words_for(reason: u8) -> &'static str {
+    match reason {
+        1 => "the first line is not the head",
+        2 => "a word that there is not, or fields that do not fit it",
+        3 => "a number, a name or the digits of a body are not spelled as they should be",
+        4 => "a site, an actor or a member that there is not",
+        5 => "the setup says something twice",
+        6 => "a number or a count is beyond its limit",
+        7 => "a line that may not stand here, or a name out of turn",
+        8 => "a byte that is no printable ASCII",
+        9 => "the text ends without its end",
+        10 => "a step that cannot be done",
+        _ => "no reason that a text is refused for",
+    }
 }
 
 /// The fault of a text of more than [`TEXT_LIMIT`](crate::TEXT_LIMIT) bytes: line 0, reason 6.

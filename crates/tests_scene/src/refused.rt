@@ -1,6 +1,7 @@
 // Texts that are refused, each worked out by hand from the grammar: `;` stands for the end of a line.
 
 use crate::texts::{fault, lines};
+use chorus_scene::SceneFault;
 use chorus_ui::Layout;
 use std::alloc::{AllocError, Global};
 use std::test::*;
@@ -162,4 +163,14 @@ fn turns(rt: HostRuntime) {
         let got = fault_behind(rt.alloc(), text, layout).expect(&rt, "memory");
         assert_eq!(rt; got, want);
     }
+}
+
+#[test]
+fn a_fault_is_told_in_words(rt: HostRuntime) {
+    let fault = SceneFault { line: 3, reason: 6 };
+    let told = format!(in rt.alloc(); "{fault}").expect(&rt, "memory");
+    assert_eq!(rt;
+        told.as_str(),
+        "line 3: a number or a count is beyond its limit (reason 6)"
+    );
 }
