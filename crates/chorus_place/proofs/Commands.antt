@@ -28,7 +28,7 @@ use Rattle.chorus_machine.specs.PlaceState.{PlaceState, Turn, next_clock}
 use Rattle.chorus_machine.specs.Own.{own, make_act, next_port, take_act, held_by, delete_act}
 use Rattle.chorus_machine.specs.Doing.{does, takes, with_ports, first_message, ends, holding}
 use Rattle.chorus_machine.specs.Replies.{reply_to, settling, taken_reply}
-use Rattle.chorus_place.specs.Ports.{takes_from, ids_of}
+use Rattle.chorus_steps.specs.Ports.{takes_from, ids_of}
 use Rattle.chorus_place.specs.Commands.{Performed}
 
 pub on_err : {A E : Type 0} (r : Result A E) (P : Type 0) → P → OnErr r P
@@ -157,8 +157,3 @@ deleting q t xs held ids = by (find q t.place.ports) held ids
     by : (o : Option PortRecord) → is_some (held_by t.caller.actor o) ≡ true → IfSome o (λ r. xs ≡ ids_of r.pending) → delete_act q (held_by t.caller.actor o) ≡ Act.Delete q xs
     by None h e = absurd (false≢true h)
     by (Some r) h e = owned (same_ui r.actor t.caller.actor) r h e
-
--- the ids of one message more
-pub ids-more : (ms : List Message) (i : ℕ) (m : Message) → slice_get ms i ≡ Some m → ids_of (take (i + 1) ms) ≡ ids_of (take i ms) ++ m.id ∷ []
-ids-more ms i m h =
-    map_more (λ (x : Message). x.id) ms i m (slice_get_within ms i m h) ∙ ap (λ (x : Message). ids_of (take i ms) ++ x.id ∷ []) (get_or_from_slice_get ms i m m h)
