@@ -1,14 +1,12 @@
 -- A choice is made ready, and carried out.
-use Rattle.std.proofs.Common.{◌≡◌, ℕ, zero, suc, max, ◌+◌, ◌-◌, ◌<◌, ◌≤◌, ◌==◌, ◌&&◌, Bool, true, false, not, cond, Option, Some, None, Result, Ok, Err, IfOk, OnOk, OnErr, List, [], ◌∷◌, ◌++◌, length, map, take, drop, nat_le, get_or, All, length-append, refl, sym, ◌∙◌, ap, subst, arith}
-use Rattle.std.specs.List.{find}
+use Rattle.std.proofs.Common.{◌≡◌, ℕ, suc, max, ◌+◌, ◌-◌, ◌<◌, ◌≤◌, ◌==◌, ◌&&◌, true, false, not, cond, Some, Result, Ok, Err, IfOk, OnOk, OnErr, List, [], ◌∷◌, ◌++◌, length, take, nat_le, get_or, All, length-append, refl, sym, ◌∙◌, ap, subst, arith}
 use Rattle.std.proofs.lemmas.Bool.{and_parts}
 use Rattle.std.proofs.lemmas.List.{take_more, length-take-le, length-map}
-use Rattle.std.proofs.lemmas.List.Elements.{All-same, All-nil, All-cons, All-head, All-tail, All-push, All-append, All-drop, All-take, All-weaker}
+use Rattle.std.proofs.lemmas.List.Elements.{All-same, All-nil, All-cons}
 use Rattle.chorus_ui.specs.declared.ui.Ui.{Ui}
 use Rattle.chorus_ui.specs.Name.{same_ui}
 use Rattle.chorus_ui.specs.declared.kind.Kind.TheVariants as kinds
 use Rattle.chorus_ui.proofs.Names.{from_same_kind}
-use Rattle.chorus_ui.specs.Layout.{has_site, site_of}
 use Rattle.chorus_entry.specs.declared.tag.Tag.TheVariants as tags
 use Rattle.chorus_entry.specs.declared.act.Act.{Act}
 use Rattle.chorus_entry.specs.declared.answer.Answer.TheVariants as A
@@ -19,7 +17,7 @@ use Rattle.chorus_entry.specs.Message.{as_copy}
 use Rattle.chorus_machine.specs.declared.reply.Reply.{Reply}
 use Rattle.chorus_machine.specs.Trying.{report}
 use Rattle.chorus_machine.specs.Own.{next_message}
-use Rattle.chorus_machine.specs.Doing.{posted_to, choosing_place, chooses_own, asks, posts, posts_to_group}
+use Rattle.chorus_machine.specs.Doing.{choosing_place, chooses_own, asks, posts, posts_to_group}
 use Rattle.chorus_machine.specs.Working.{answers_ask}
 use Rattle.chorus_machine.specs.Replies.{choice_reply, group_reply, posted_reply}
 use Rattle.chorus_machine.specs.PlaceMachine.{act}
@@ -28,26 +26,21 @@ use Rattle.chorus_entry.specs.declared.id.MsgId.{MsgId}
 use Rattle.chorus_entry.specs.declared.dest.Dest.{Dest}
 use Rattle.chorus_entry.specs.declared.dest.Dest.TheVariants as D
 use Rattle.chorus_entry.specs.declared.message.Message.{Message}
-use Rattle.chorus_entry.specs.Dest.{group_in, port_in}
-use Rattle.chorus_entry.specs.Members.{is_member, are_distinct, first_of, listed, round_from}
-use Rattle.chorus_world.specs.Groups as world
+use Rattle.chorus_entry.specs.Dest.{group_in}
+use Rattle.chorus_entry.specs.Members.{is_member, are_distinct}
 use Rattle.chorus_groups.specs.declared.choice.Choice.{Choice}
 use Rattle.chorus_groups.specs.declared.choice.Choice.TheVariants as choices
-use Rattle.chorus_groups.specs.Groups.{Table, members, rotation}
-use Rattle.chorus_groups.specs.Choosing.{is_on, first_at}
-use Rattle.chorus_groups.specs.Choosing.{choice as table_choice}
 use Rattle.chorus_groups.specs.Made.{made_of, chosen_in}
-use Rattle.chorus_groups.proofs.Ties.{first_at-map, round_from-map}
 use Rattle.chorus_calls.specs.Callers.{Seated}
 use Rattle.chorus_waits.specs.declared.wait.Key.{Key}
-use Rattle.chorus_waits.specs.Queues.{Row, Queue, queue, room, changed, with_last}
+use Rattle.chorus_waits.specs.Queues.{Queue, queue, room, changed, with_last}
 use Rattle.chorus_machine.specs.PlaceState.{PlaceState, Turn, newest, greatest_clock, unchanged, say}
-use Rattle.chorus_machine.specs.Choosing.{by_group, all_go, copy, with_copies, choice, chooses, chooses_these, is_at_site}
+use Rattle.chorus_machine.specs.Choosing.{by_group, all_go, copy, with_copies, choice, chooses, chooses_these}
 use Rattle.chorus_steps.specs.declared.steps_groups.Course.{Course}
 use Rattle.chorus_steps.specs.declared.steps_groups.MemberCopy.{MemberCopy}
 use Rattle.chorus_steps.specs.Tables.{Tables, state, turn, IsPort, IsSound}
 use Rattle.chorus_steps.specs.Going.{leaving_to}
-use Rattle.chorus_steps.specs.Groups.{ports_of, when_free, free_leaving, going, waiting_for, AllGoing, members_of, with_each, HaveLines, IsCopy, chosen, leaving_with, courses_of, site_at, posted_alone}
+use Rattle.chorus_steps.specs.Groups.{ports_of, when_free, free_leaving, going, waiting_for, AllGoing, members_of, with_each, HaveLines, IsCopy, chosen, leaving_with, courses_of, posted_alone}
 use Rattle.chorus_place.specs.GroupTurns.{IsReady, chosen_go, copies}
 use Rattle.chorus_steps.proofs.Reports.{at-key}
 use Rattle.chorus_steps.proofs.Groups.{Agree, or-none, not-at, other-key, not-here, member-first, member-more, waiting-same, put-elsewhere}

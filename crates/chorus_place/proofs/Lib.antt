@@ -1,4 +1,4 @@
-pub mod Commands
+pub mod Performing
 pub mod MovePort
 pub mod Arriving
 pub mod Turns

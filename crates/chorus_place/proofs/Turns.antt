@@ -1,7 +1,6 @@
 -- Whole turns.
-use Rattle.std.proofs.Common.{◌≡◌, ℕ, max, ◌+◌, ◌≤◌, ◌==◌, Bool, true, false, not, cond, All, Result, Ok, Err, OnErr, Option, None, List, [], ◌∷◌, ◌++◌, length, drop, length-append, refl, sym, ◌∙◌, ap, arith}
+use Rattle.std.proofs.Common.{◌≡◌, ℕ, max, ◌+◌, ◌≤◌, ◌==◌, Bool, true, false, not, cond, Result, Ok, Err, OnErr, Option, None, List, [], ◌∷◌, ◌++◌, length, drop, length-append, refl, sym, ◌∙◌, ap, arith}
 use Rattle.std.proofs.lemmas.List.{append-nil}
-use Rattle.std.proofs.lemmas.List.Elements.{All-head, All-tail}
 use Rattle.chorus_ui.specs.declared.ui.Ui.{Ui}
 use Rattle.chorus_ui.specs.declared.layout.Layout.{Layout}
 use Rattle.chorus_ui.specs.Layout.{has_site}
@@ -29,12 +28,11 @@ use Rattle.chorus_machine.specs.Replies.{reply_to, post_reply}
 use Rattle.chorus_place.specs.Commands.{Performed}
 use Rattle.chorus_calls.specs.Callers.{after_post}
 use Rattle.chorus_machine.specs.Working.{hears_verdict, taught_of, told}
-use Rattle.chorus_steps.specs.Going.{first_to, leaving_to, leaving, reports}
+use Rattle.chorus_steps.specs.Going.{first_to, leaving_to, leaving}
 use Rattle.chorus_place.specs.Posting.{settled_by}
-use Rattle.chorus_steps.specs.Tables.{MayWait}
 use Rattle.chorus_steps.specs.Steps.{told_by, posted}
 use Rattle.chorus_steps.proofs.Deciding.{located}
-use Rattle.chorus_steps.proofs.Reports.{at-key, here-none}
+use Rattle.chorus_steps.proofs.Reports.{at-key}
 
 max-same : (n : ℕ) → max n n ≡ n
 max-same n = omega arith

@@ -127,7 +127,7 @@ impl Tables {
     }
 
     /// Lets the messages of a port and route go, where none is under way.
-    pub(crate) fn go(&mut self, key: &Key, again: Option<Wait>, caller: &mut Caller)
+    pub fn go(&mut self, key: &Key, again: Option<Wait>, caller: &mut Caller)
         requires kind { key.now.port.kind ≡ Kind.Port }
         requires again { (queue self.old.waits key.now).tried ≡ None →
             again ≡ leaving key.now (state self.old) }

@@ -4,7 +4,7 @@ use Rattle.chorus_ports.specs.declared.taking.Taken.TheVariants as T
 use Rattle.chorus_machine.specs.declared.reply.Reply.{Reply}
 use Rattle.chorus_place.specs.Commands.{Performed}
 use Rattle.chorus_steps.specs.Tables.{turn}
-use Rattle.chorus_place.proofs.Commands.{taking, taking-refused}
+use Rattle.chorus_place.proofs.Performing.{taking, taking-refused}
 use Rattle.chorus_steps.proofs.Ports.{has-number}
 use Rattle.chorus_place.proofs.turns_ports.take.Goals as goal
 
