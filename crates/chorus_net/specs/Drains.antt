@@ -3,7 +3,7 @@
 use Rattle.std.specs.Prelude.{ℕ, ◌≡◌, ◌+◌, ◌<◌, ◌≤◌, List, [], ◌∷◌, ◌++◌, Some, slice_get}
 use Rattle.chorus_ui.specs.declared.layout.Layout.{Layout}
 use Rattle.chorus_ui.specs.declared.limits.TheConstants.{CLOCK_LIMIT}
-use Rattle.chorus_law.specs.Network.{NetState, Event, happened, after, serves, round, served}
+use Rattle.chorus_law.specs.Network.{NetState, Event, happened, after, serves, round, served, place_numbers, from_one}
 use Rattle.chorus_law.specs.Tasks.{AreDeliveries}
 use Rattle.chorus_law.specs.Calls.{last_of, draining}
 use Rattle.chorus_net.specs.Worn.{compared_by, AreUnworn, ComeUnworn}
@@ -25,6 +25,10 @@ forward (e ∷ es) n = forward es (happened e n)
 abbrev pub serves_all : List Event → NetState → ℕ
 serves_all [] n = 0
 serves_all (e ∷ es) n = serves e n + serves_all es (happened e n)
+
+-- the deliveries from one place to each of the others
+abbrev pub row_from : Layout → ℕ → List Event
+row_from l from = from_one 0 from (place_numbers l)
 
 -- these deliveries worked off so many packets, none was worn, and the clock of seat 0 rose with each; so there are not too many to count
 pub record Goes (es : List Event) (old new : NetState) (number : ℕ) : Type 0 where

@@ -8,7 +8,6 @@
 
 mod closed;
 mod closing;
-mod commands;
 mod fault;
 mod sites;
 mod starting;

@@ -10,20 +10,19 @@ ghost use Rattle.chorus_law.specs.History.{put_by};
 ghost use Rattle.chorus_law.specs.Schedules.{may_happen};
 ghost use Rattle.chorus_law.specs.Calls.{just_started, entering, delivering, posts_of, compared, compared_at};
 ghost use Rattle.chorus_net.specs.Closing.{IsClosed};
-ghost use Rattle.chorus_net.specs.Drains.{Ticks, Goes, GoesRound, Drains, Stops, IsWornAmong};
+ghost use Rattle.chorus_net.specs.Drains.{Ticks, Goes, GoesRound, Drains, Stops, IsWornAmong, row_from};
 ghost use Rattle.chorus_net.specs.Room.{HaveRoom, HasRoomAt, KeepRoom, HasReserved, UsesRoom, TakesNoneAt};
 ghost use Rattle.chorus_net.specs.Sites.{net, IsScheduled};
 ghost use Rattle.chorus_net.specs.Worn.{IsWornIn};
 
 use crate::closed::Closed;
 use crate::closing::{count_packets, count_ports, take_apart};
-use crate::commands::place_for;
 use crate::fault::EnterFault;
 use crate::starting::start_places;
 use chorus_calls::Caller;
 use chorus_entry::Command;
 use chorus_law::{Delivered, Quiet};
-use chorus_place::{Place, PlaceFault, Reply};
+use chorus_place::{Place, PlaceFault, Reply, place_for};
 use chorus_ui::{Kind, Layout, SEATS_LIMIT, Ui};
 use std::alloc::{AllocError, Global};
 use std::marker::Model;
@@ -283,10 +282,10 @@ impl Sites {
     fn deliver_from(&mut self, from: u16) -> Result<u64, PlaceFault>
         requires { has_place self.old.layout from ≡ true }
         ensures ok { IfOk result (λ number. Goes
-            (from_one 0 from (place_numbers self.old.layout)) (net self.old) (net self.new) number) }
+            (row_from self.old.layout from) (net self.old) (net self.new) number) }
         ensures stopped { OnErr result (Stops (net self.old) (net self.new)) }
         ensures worn { (clock : ℕ) → IsErrOf result (PlaceFault.Worn clock) →
-            IsWornAmong (from_one 0 from (place_numbers self.old.layout)) clock (net self.old) (net self.new) }
+            IsWornAmong (row_from self.old.layout from) clock (net self.old) (net self.new) }
         ensures layout { self.new.layout ≡ self.old.layout }
     {
         if self.is_idle(from) {

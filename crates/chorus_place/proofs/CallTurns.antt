@@ -29,8 +29,8 @@ use Rattle.chorus_machine.specs.Trying.{verdict_here, tries, settles_here, goes_
 use Rattle.chorus_machine.specs.Working.{opens}
 use Rattle.chorus_machine.specs.Replies.{post_reply}
 use Rattle.chorus_place.specs.Commands.{Performed}
-use Rattle.chorus_place.specs.Steps.{posted, told_by}
-use Rattle.chorus_place.specs.Tables.{Tables, turn}
+use Rattle.chorus_steps.specs.Steps.{posted, told_by}
+use Rattle.chorus_steps.specs.Tables.{Tables, turn}
 use Rattle.chorus_place.specs.CallTurns.{with_call, GaveWithinPosts}
 use Rattle.chorus_place.proofs.Turns.{post-performs}
 

@@ -9,11 +9,11 @@ use Rattle.chorus_machine.specs.declared.reply.Reply.{Reply}
 use Rattle.chorus_machine.specs.PlaceState.{Turn, Outgoing}
 use Rattle.chorus_machine.specs.PlaceMachine.{begun, act}
 use Rattle.chorus_machine.specs.Replies.{reply}
-use Rattle.chorus_place.specs.declared.parcel.Parcel.{Parcel}
-use Rattle.chorus_place.specs.Tables.{Tables, state, turn, outgoing}
+use Rattle.chorus_steps.specs.declared.parcel.Parcel.{Parcel}
+use Rattle.chorus_steps.specs.Tables.{Tables, state, turn, outgoing}
 use Rattle.chorus_place.specs.Commands.{Performed, StaysOut}
-use Rattle.chorus_place.specs.Room.{KeepsRoom}
-use Rattle.chorus_place.specs.Sending as sending
+use Rattle.chorus_steps.specs.Room.{KeepsRoom}
+use Rattle.chorus_steps.specs.Sending as sending
 use Rattle.chorus_place.specs.Calls as calls
 
 -- between turns nothing is put
@@ -84,14 +84,3 @@ stays old new before after none same out keeps =
         let nothing = ap (λ (ps : List Parcel). length ps) none in
         let still = ap (λ (ps : List Parcel). length ps) (still-none old new before after none same) in
         omega (arith, entries, packets, past, nothing, still)
-
--- one after the other
-pub kept-then : {a b c : Tables} → KeepsRoom a b → KeepsRoom b c → KeepsRoom a c
-kept-then h k =
-    let e1 = h.entries in
-    let e2 = k.entries in
-    let p1 = h.packets in
-    let p2 = k.packets in
-    let g1 = h.grows in
-    let g2 = k.grows in
-    record { entries = omega (arith, e1, e2); packets = omega (arith, p1, p2); grows = omega (arith, g1, g2) }

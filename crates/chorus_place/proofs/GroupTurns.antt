@@ -1,380 +1,367 @@
--- Groups in whole turns.
-pub mod Ready
-use Rattle.std.proofs.Common.{◌≡◌, ℕ, zero, suc, max, ◌+◌, ◌<◌, ◌≤◌, ◌==◌, ◌||◌, Bool, true, false, not, drop, cond, Option, Some, None, List, [], ◌∷◌, ◌++◌, length, All, refl, sym, ◌∙◌, ap, subst, arith}
-use Rattle.std.specs.List.{remove}
-use Rattle.std.specs.Cmp.{unsigned_tied}
-use Rattle.std.specs.Option.{option_cmp}
-use Rattle.std.specs.declared.cmp.Ordering.{Ordering}
-use Rattle.std.specs.declared.cmp.Ordering.TheVariants as orders
-use Rattle.std.specs.Ordering.{is_eq, ordering_then, nat_cmp}
-use Rattle.std.proofs.lemmas.Bool.{false≢true, and_parts}
-use Rattle.std.proofs.lemmas.List.Elements.{All-same, All-nil, All-cons, All-head, All-tail, All-push, All-weaker}
+-- A choice is made ready, and carried out.
+use Rattle.std.proofs.Common.{◌≡◌, ℕ, suc, max, ◌+◌, ◌-◌, ◌<◌, ◌≤◌, ◌==◌, ◌&&◌, true, false, not, cond, Some, Result, Ok, Err, IfOk, OnOk, OnErr, List, [], ◌∷◌, ◌++◌, length, take, nat_le, get_or, All, length-append, refl, sym, ◌∙◌, ap, subst, arith}
+use Rattle.std.proofs.lemmas.Bool.{and_parts}
+use Rattle.std.proofs.lemmas.List.{take_more, length-take-le, length-map}
+use Rattle.std.proofs.lemmas.List.Elements.{All-same, All-nil, All-cons}
 use Rattle.chorus_ui.specs.declared.ui.Ui.{Ui}
-use Rattle.chorus_ui.specs.declared.layout.Layout.{Layout}
+use Rattle.chorus_ui.specs.Name.{same_ui}
 use Rattle.chorus_ui.specs.declared.kind.Kind.TheVariants as kinds
-use Rattle.chorus_ui.specs.declared.kind.Kind.{Kind}
-use Rattle.chorus_ui.specs.Kind.{kind_number}
-use Rattle.chorus_ui.specs.Name.{same_ui, name_cmp}
-use Rattle.chorus_ui.proofs.Names.{from_same_ui, same_ui-self}
-use Rattle.chorus_ui.specs.Layout.{has_place}
+use Rattle.chorus_ui.proofs.Names.{from_same_kind}
+use Rattle.chorus_entry.specs.declared.tag.Tag.TheVariants as tags
 use Rattle.chorus_entry.specs.declared.act.Act.{Act}
-use Rattle.chorus_entry.specs.declared.entry.Entry.{Entry}
-use Rattle.chorus_entry.specs.declared.record.PortRecord.{PortRecord}
-use Rattle.chorus_entry.specs.declared.answer.Answer.{Answer}
-use Rattle.chorus_entry.specs.Members.{is_member, are_distinct, index_of, without}
-use Rattle.chorus_world.specs.Places.{last_clock, ports_after, makes}
-use Rattle.chorus_calls.specs.Callers.{Seated}
-use Rattle.chorus_journal.specs.Counting.{JournalState, with_group}
-use Rattle.std.proofs.Math.Nat.{le-max_left}
-use Rattle.chorus_place.specs.Turns.{next_entry}
-use Rattle.chorus_world.specs.Groups as world
-use Rattle.chorus_hints.specs.Known.{Known}
-use Rattle.chorus_waits.specs.declared.wait.Key.{Key}
-use Rattle.chorus_waits.specs.declared.wait.Wait.{Wait}
-use Rattle.chorus_waits.specs.Queues.{Row, Queue, queue, room, same_key, changed, passed, at, with_last, less_one}
-use Rattle.chorus_machine.specs.PlaceState.{PlaceState, Turn, location, newest, greatest_clock}
+use Rattle.chorus_entry.specs.declared.answer.Answer.TheVariants as A
+use Rattle.chorus_entry.specs.declared.command.Command.{Command}
+use Rattle.chorus_entry.specs.Kinds.{has_kinds_in_tag, has_kinds_in_dest}
+use Rattle.chorus_entry.specs.Ranges.{has_range_of_id, has_range_of_tag}
+use Rattle.chorus_entry.specs.Message.{as_copy}
+use Rattle.chorus_machine.specs.declared.reply.Reply.{Reply}
+use Rattle.chorus_machine.specs.Trying.{report}
+use Rattle.chorus_machine.specs.Own.{next_message}
+use Rattle.chorus_machine.specs.Doing.{choosing_place, chooses_own, asks, posts, posts_to_group}
+use Rattle.chorus_machine.specs.Working.{answers_ask}
+use Rattle.chorus_machine.specs.Replies.{choice_reply, group_reply, posted_reply}
+use Rattle.chorus_machine.specs.PlaceMachine.{act}
+use Rattle.chorus_place.specs.Commands.{Performed}
 use Rattle.chorus_entry.specs.declared.id.MsgId.{MsgId}
-use Rattle.chorus_place.proofs.Reports.{report-length}
-use Rattle.chorus_machine.specs.Trying.{report, settles_here, verdict_here, tries, goes_on, goes_unless, go}
-use Rattle.chorus_machine.specs.Choosing.{by_group, all_go}
-use Rattle.chorus_place.specs.declared.parcel.Parcel.{Parcel}
-use Rattle.chorus_place.specs.Tables.{AreMembers, AreWaiting, AreSent, MayWait, IsPort, IsKept}
-use Rattle.chorus_place.specs.declared.steps_groups.Course.{Course}
-use Rattle.chorus_place.specs.Going.{leaving_to, reports}
-use Rattle.chorus_place.specs.Going.{leaving as leaves_at}
-use Rattle.chorus_place.specs.declared.steps_groups.MemberCopy.{MemberCopy}
-use Rattle.chorus_place.specs.GroupTurns.{ports_of, when_free, free_leaving, going, waiting_for, AllGoing, members_of, with_each, HaveLines, IsCopy, Putting}
-use Rattle.chorus_place.proofs.Kept.{Said, held-later}
-use Rattle.chorus_place.proofs.Ports.{numbered-same}
+use Rattle.chorus_entry.specs.declared.dest.Dest.{Dest}
+use Rattle.chorus_entry.specs.declared.dest.Dest.TheVariants as D
+use Rattle.chorus_entry.specs.declared.message.Message.{Message}
+use Rattle.chorus_entry.specs.Dest.{group_in}
+use Rattle.chorus_entry.specs.Members.{is_member, are_distinct}
+use Rattle.chorus_groups.specs.declared.choice.Choice.{Choice}
+use Rattle.chorus_groups.specs.declared.choice.Choice.TheVariants as choices
+use Rattle.chorus_groups.specs.Made.{made_of, chosen_in}
+use Rattle.chorus_calls.specs.Callers.{Seated}
+use Rattle.chorus_waits.specs.declared.wait.Key.{Key}
+use Rattle.chorus_waits.specs.Queues.{Queue, queue, room, changed, with_last}
+use Rattle.chorus_machine.specs.PlaceState.{PlaceState, Turn, newest, greatest_clock, unchanged, say}
+use Rattle.chorus_machine.specs.Choosing.{by_group, all_go, copy, with_copies, choice, chooses, chooses_these}
+use Rattle.chorus_steps.specs.declared.steps_groups.Course.{Course}
+use Rattle.chorus_steps.specs.declared.steps_groups.MemberCopy.{MemberCopy}
+use Rattle.chorus_steps.specs.Tables.{Tables, state, turn, IsPort, IsSound}
+use Rattle.chorus_steps.specs.Going.{leaving_to}
+use Rattle.chorus_steps.specs.Groups.{ports_of, when_free, free_leaving, going, waiting_for, AllGoing, members_of, with_each, HaveLines, IsCopy, chosen, leaving_with, courses_of, posted_alone}
+use Rattle.chorus_place.specs.GroupTurns.{IsReady, chosen_go, copies}
+use Rattle.chorus_steps.proofs.Reports.{at-key}
+use Rattle.chorus_steps.proofs.Groups.{Agree, or-none, not-at, other-key, not-here, member-first, member-more, waiting-same, put-elsewhere}
 
--- Making, joining and leaving.
+-- Lists that are made.
 
--- an entry that makes no port, and leaves the members of each group ports
-pub kept-grouped : (l : Layout) (p : ℕ) (past more : List Entry) (ports : List PortRecord) (known : Known) (rows : List (Key × Row)) (puts : List Parcel) (act : Act)
-    → IsKept l p past ports known rows puts → Said past more act → ((n : ℕ) → ports_after act n ≡ n) → ((u : Ui) → makes u act ≡ false)
-    → AreMembers more → IsKept l p more ports known rows puts
-kept-grouped l p past more ports known rows puts act k s none not_made grouped =
-    record {
-      place = k.place;
-      held = held-later l p past more act ports k.held s;
-      layout = k.layout;
-      located = k.located;
-      waiting = k.waiting;
-      numbered = numbered-same l p past more act k.numbered s none not_made;
-      grouped = grouped;
-      sent = k.sent;
-    }
+copies-last : (m : Message) (d : Dest) (home n : ℕ) (qs : List Ui) (q : Ui)
+    → copies m d home n (qs ++ q ∷ []) ≡ copies m d home n qs ++ record { port = q; wait = copy m d home (n + length qs) } ∷ []
+copies-last m d home n [] q = let e : n ≡ n + 0 = omega arith in ap (λ k. record { port = q; wait = copy m d home k } ∷ []) e
+copies-last m d home n (r ∷ rs) q =
+    let e : n + 1 + length rs ≡ n + length (r ∷ rs) = omega arith in
+    ap (λ xs. record { port = r; wait = copy m d home n } ∷ xs)
+    (copies-last m d home (n + 1) rs q ∙ ap (λ k. copies m d home (n + 1) rs ++ record { port = q; wait = copy m d home k } ∷ []) e)
 
--- the entry that makes a group
-pub said-group : (p : ℕ) (a : Act) (c : Seated) (j more : JournalState) (e : Entry) (g : Ui) → more ≡ with_group j e g → e ≡ next_entry p a c j → Said j.past more.past a
-said-group p a c j more e g m f =
-    let m' = le-max_left (last_clock j.past) c.last in
-    let clock = ap (λ (x : JournalState). last_clock x.past) m ∙ ap (λ (x : Entry). x.clock) f in
-    record { entry = e; is = ap (λ (x : JournalState). x.past) m; act = ap (λ (x : Entry). x.act) f; later = omega (arith, m', clock) }
+pub copies-more : (m : Message) (d : Dest) (home : ℕ) (qs : List Ui) (i : ℕ) (q : Ui) → i < length qs → get_or qs i q ≡ q
+    → copies m d home 1 (take (i + 1) qs) ≡ copies m d home 1 (take i qs) ++ record { port = q; wait = copy m d home (i + 1) } ∷ []
+copies-more m d home qs i q lt e =
+    let within : i ≤ length qs = omega (arith, lt) in
+    let len = length-take-le i qs within in
+    let number : 1 + length (take i qs) ≡ i + 1 = omega (arith, len) in
+    ap (copies m d home 1) (take_more qs i q lt ∙ ap (λ x. take i qs ++ x ∷ []) e)
+    ∙ copies-last m d home 1 (take i qs) q
+    ∙ ap (λ k. copies m d home 1 (take i qs) ++ record { port = q; wait = copy m d home k } ∷ []) number
 
-members-said : (past more : List Entry) (act : Act) (g : Ui) → Said past more act → world.members g more ≡ world.members_after g act (world.members g past)
-members-said past more act g s = ap (world.members g) s.is ∙ ap (λ b. world.members_after g b (world.members g past)) s.act
+-- Who is chosen.
 
-pub grouped-same : (past more : List Entry) (act : Act) → AreMembers past → Said past more act → ((g : Ui) (qs : List Ui) → world.members_after g act qs ≡ qs) → AreMembers more
-grouped-same past more act k s same g =
-    All-same IsPort (world.members g more) (world.members g past) (members-said past more act g s ∙ same g (world.members g past)) (k g)
+-- The copies wait.
 
-pub grouped-joined : (past more : List Entry) (h q : Ui) → AreMembers past → Said past more (Act.Join h q) → IsPort q → AreMembers more
-grouped-joined past more h q k s port g =
-    All-same IsPort (world.members g more) (world.members_after g (Act.Join h q) (world.members g past)) (members-said past more (Act.Join h q) g s) (by (same_ui h g))
-  where
-    by : (b : Bool) → All IsPort (cond b (world.members g past ++ q ∷ []) (world.members g past))
-    by true = All-push IsPort (world.members g past) q (k g) port
-    by false = k g
+-- the queue of a port that is no member of these stays
+untouched : (g q : Ui) (cs : List MemberCopy) (f : Key → Queue) → is_member q (members_of cs) ≡ false → with_each g cs f (by_group g q) ≡ f (by_group g q)
+untouched g q [] f h = refl
+untouched g q (c ∷ cs) f h =
+    let parts = or-none (same_ui c.port q) (is_member q (members_of cs)) h in
+    untouched g q cs (changed (by_group g c.port) (with_last c.wait) f) parts.1
+    ∙ not-at (by_group g c.port) (by_group g q) (with_last c.wait) f (other-key g c.port q parts.0)
 
-all-remove : (P : Ui → Type 0) (qs : List Ui) (i : ℕ) → All P qs → All P (remove qs i)
-all-remove P [] zero h = h
-all-remove P [] (suc i) h = h
-all-remove P (q ∷ qs) zero h = All-tail P q qs h
-all-remove P (q ∷ qs) (suc i) h = All-cons P q (remove qs i) (All-head P q qs h) (all-remove P qs i (All-tail P q qs h))
+-- the queue of the first has its copy
+first-put : (g : Ui) (c : MemberCopy) (cs : List MemberCopy) (f : Key → Queue) → are_distinct (members_of (c ∷ cs)) ≡ true
+    → with_each g (c ∷ cs) f (by_group g c.port) ≡ with_last c.wait (f (by_group g c.port))
+first-put g c cs f h =
+    untouched g c.port cs (changed (by_group g c.port) (with_last c.wait) f) (not-here c.port (members_of cs) h) ∙ at-key (by_group g c.port) (with_last c.wait) f
 
-pub grouped-left : (past more : List Entry) (h q : Ui) → AreMembers past → Said past more (Act.Leave h q) → AreMembers more
-grouped-left past more h q k s g =
-    All-same IsPort (world.members g more) (world.members_after g (Act.Leave h q) (world.members g past)) (members-said past more (Act.Leave h q) g s) (by (same_ui h g))
-  where
-    by : (b : Bool) → All IsPort (cond b (without q (world.members g past)) (world.members g past))
-    by true = all-remove IsPort (world.members g past) (index_of q (world.members g past)) (k g)
-    by false = k g
+tail-distinct : (q : Ui) (qs : List Ui) → are_distinct (q ∷ qs) ≡ true → are_distinct qs ≡ true
+tail-distinct q qs h = (and_parts (not (is_member q qs)) (are_distinct qs) h).1
 
--- Keys of members.
-
-nat-same : (a b : ℕ) → (a == b) ≡ true → a ≡ b
-nat-same a b h = grind (arith, h)
-
-eq-parts : (o r : Ordering) → is_eq (ordering_then o r) ≡ true → (is_eq o ≡ true) × (is_eq r ≡ true)
-eq-parts orders.Less r h = absurd (false≢true h)
-eq-parts orders.Equal r h = (refl, h)
-eq-parts orders.Greater r h = absurd (false≢true h)
-
-kind-same : (k l : Kind) → kind_number k ≡ kind_number l → k ≡ l
-kind-same kinds.Actor kinds.Actor h = refl
-kind-same kinds.Actor kinds.Port h = absurd (omega (arith, h))
-kind-same kinds.Actor kinds.Group h = absurd (omega (arith, h))
-kind-same kinds.Port kinds.Actor h = absurd (omega (arith, h))
-kind-same kinds.Port kinds.Port h = refl
-kind-same kinds.Port kinds.Group h = absurd (omega (arith, h))
-kind-same kinds.Group kinds.Actor h = absurd (omega (arith, h))
-kind-same kinds.Group kinds.Port h = absurd (omega (arith, h))
-kind-same kinds.Group kinds.Group h = refl
-
--- names that compare as equal are one
-name-same : (q r : Ui) → is_eq (name_cmp q r) ≡ true → q ≡ r
-name-same q r h =
-    let outer = eq-parts (ordering_then (nat_cmp q.site r.site) (nat_cmp (kind_number q.kind) (kind_number r.kind))) (nat_cmp q.number r.number) h in
-    let inner = eq-parts (nat_cmp q.site r.site) (nat_cmp (kind_number q.kind) (kind_number r.kind)) outer.0 in
-    let s = nat-same q.site r.site (sym (unsigned_tied q.site r.site) ∙ inner.0) in
-    let k = kind-same q.kind r.kind (nat-same (kind_number q.kind) (kind_number r.kind) (sym (unsigned_tied (kind_number q.kind) (kind_number r.kind)) ∙ inner.1)) in
-    let n = nat-same q.number r.number (sym (unsigned_tied q.number r.number) ∙ outer.1) in
-    λ i. record { site = s i; kind = k i; number = n i }
-
--- keys of other members are other keys
-pub other-key : (g q r : Ui) → same_ui q r ≡ false → same_key (by_group g q) (by_group g r) ≡ false
-other-key g q r h = by (same_key (by_group g q) (by_group g r)) refl
-  where
-    by : (b : Bool) → same_key (by_group g q) (by_group g r) ≡ b → same_key (by_group g q) (by_group g r) ≡ false
-    by false e = e
-    by true e =
-        let one = name-same q r (eq-parts (name_cmp q r) (option_cmp name_cmp (Some g) (Some g)) e).0 in
-        absurd (false≢true (sym h ∙ ap (same_ui q) (sym one) ∙ same_ui-self q))
-
--- a member differs from one that is none
-pub differs : (p q : Ui) (qs : List Ui) → is_member p qs ≡ false → is_member q qs ≡ true → same_ui p q ≡ false
-differs p q qs none there = by (same_ui p q) refl
-  where
-    by : (b : Bool) → same_ui p q ≡ b → same_ui p q ≡ false
-    by false e = e
-    by true e = absurd (false≢true (sym none ∙ ap (λ u. is_member u qs) (from_same_ui p q e) ∙ there))
-
--- Queues of members that are one.
-
-abbrev pub Agree : Ui → List Ui → (Key → Queue) → (Key → Queue) → Type 0
-Agree g qs f h = (q : Ui) → is_member q qs ≡ true → f (by_group g q) ≡ h (by_group g q)
-
-or-left : (b c : Bool) → b ≡ true → b || c ≡ true
-or-left true c h = refl
-or-left false c h = absurd (false≢true h)
-
-or-right : (b c : Bool) → c ≡ true → b || c ≡ true
-or-right true c h = refl
-or-right false c h = h
-
-pub member-first : (q : Ui) (qs : List Ui) → is_member q (q ∷ qs) ≡ true
-member-first q qs = or-left (same_ui q q) (is_member q qs) (same_ui-self q)
-
-pub member-more : (q r : Ui) (qs : List Ui) → is_member q qs ≡ true → is_member q (r ∷ qs) ≡ true
-member-more q r qs h = or-right (same_ui r q) (is_member q qs) h
-
-pub agree-rest : (g q : Ui) (qs : List Ui) (f h : Key → Queue) → Agree g (q ∷ qs) f h → Agree g qs f h
-agree-rest g q qs f h a r m = a r (member-more r q qs m)
-
-pub waiting-same : (g : Ui) (qs : List Ui) (f h : Key → Queue) → Agree g qs f h → waiting_for g qs f ≡ waiting_for g qs h
-waiting-same g [] f h a = refl
-waiting-same g (q ∷ qs) f h a =
-    let one = ap (λ (x : Queue). length x.waits) (a q (member-first q qs)) in
-    let rest = waiting-same g qs f h (agree-rest g q qs f h a) in
-    λ i. one i + rest i
-
-pub leaving-same : (k : Key) (s u : PlaceState) → s.layout ≡ u.layout → s.number ≡ u.number → s.known ≡ u.known → s.waiting k ≡ u.waiting k
-    → free_leaving k s ≡ free_leaving k u
-leaving-same k s u l n e w = λ i. when_free (w i).tried (leaving_to (l i) (n i) k.port (location (l i) k.port (e i k.port)).to (w i).waits)
-
-pub going-same : (g : Ui) (s u : PlaceState) (qs : List Ui) → s.layout ≡ u.layout → s.number ≡ u.number → s.known ≡ u.known → Agree g qs s.waiting u.waiting
-    → going g s qs ≡ going g u qs
-going-same g s u [] l n e a = refl
-going-same g s u (q ∷ qs) l n e a =
-    let one = leaving-same (by_group g q) s u l n e (a q (member-first q qs)) in
-    let rest = going-same g s u qs l n e (agree-rest g q qs s.waiting u.waiting a) in
-    λ i. record { port = q; again = one i } ∷ rest i
-
--- the first of these, where no message for it is under way
-pub course-free : (g : Ui) (s : PlaceState) (c : Course) (left : List Course) → c ∷ left ≡ going g s (ports_of (c ∷ left)) → (s.waiting (by_group g c.port)).tried ≡ None
-    → c.again ≡ leaves_at (by_group g c.port) s
-course-free g s c left h free =
+put-courses : (g : Ui) (s : PlaceState) (cs : List MemberCopy) (f : Key → Queue) → are_distinct (members_of cs) ≡ true → Agree g (members_of cs) f s.waiting
+    → going g (record s { waiting = with_each g cs f }) (members_of cs) ≡ courses_of g s cs
+put-courses g s [] f h a = refl
+put-courses g s (c ∷ cs) f h a =
     let k = by_group g c.port in
-    let e : c ≡ record { port = c.port; again = free_leaving k s } = cc in
-    ap (λ (x : Course). x.again) e ∙ ap (λ o. when_free o (leaves_at k s)) free
+    let here = first-put g c cs f h ∙ ap (with_last c.wait) (a c.port (member-first c.port (members_of cs))) in
+    let one : free_leaving k (record s { waiting = with_each g (c ∷ cs) f }) ≡ leaving_with k c.wait s =
+    ap (λ (x : Queue). when_free x.tried (leaving_to s.layout s.number c.port (newest s c.port).to x.waits)) here in
+    let rest = put-courses g s cs (changed k (with_last c.wait) f) (tail-distinct c.port (members_of cs) h)
+    (λ q m. put-elsewhere g c cs f h q m ∙ a q (member-more q c.port (members_of cs) m)) in
+    λ i. record { port = c.port; again = one i } ∷ rest i
 
--- What the messages of k leave as it was when they go, and how far the clock goes then.
+put-count : (g : Ui) (cs : List MemberCopy) (f : Key → Queue) → are_distinct (members_of cs) ≡ true
+    → waiting_for g (members_of cs) (with_each g cs f) ≡ waiting_for g (members_of cs) f + length cs
+put-count g [] f h = refl
+put-count g (c ∷ cs) f h =
+    let k = by_group g c.port in
+    let one = ap (λ (x : Queue). length x.waits) (first-put g c cs f h) ∙ length-append (f k).waits (c.wait ∷ []) in
+    let rest = put-count g cs (changed k (with_last c.wait) f) (tail-distinct c.port (members_of cs) h) in
+    let same = waiting-same g (members_of cs) (changed k (with_last c.wait) f) f (put-elsewhere g c cs f h) in
+    omega (arith, one, rest, same)
 
-pub record GoesAlone (k : Key) (n : ℕ) (t u : Turn) : Type 0 where
-  pub layout : u.place.layout ≡ t.place.layout
-  pub number : u.place.number ≡ t.place.number
-  pub known : u.place.known ≡ t.place.known
-  pub waiting : (l : Key) → same_key k l ≡ false → u.place.waiting l ≡ t.place.waiting l
-  pub clock : greatest_clock u ≤ greatest_clock t + n
+course-ports : (g : Ui) (s : PlaceState) (cs : List MemberCopy) → ports_of (courses_of g s cs) ≡ members_of cs
+course-ports g s [] = refl
+course-ports g s (c ∷ cs) = ap (λ xs. c.port ∷ xs) (course-ports g s cs)
+
+course-count : (g : Ui) (s : PlaceState) (cs : List MemberCopy) → length (courses_of g s cs) ≡ length cs
+course-count g s cs = length-map cs (λ (c : MemberCopy). record { port = c.port; again = leaving_with (by_group g c.port) c.wait s })
 
 max-same : (n : ℕ) → max n n ≡ n
 max-same n = omega arith
 
-not-at : (k l : Key) (f : Queue → Queue) (qs : Key → Queue) → same_key k l ≡ false → changed k f qs l ≡ qs l
-not-at k l f qs h = ap (λ b. cond b (f (qs k)) (qs l)) h
-
-after-settled : (k : Key) (w : Wait) (tried n : ℕ) (a : Answer) (t u : Turn) → GoesAlone k n (settles_here k w tried a t) u → GoesAlone k (suc n) t u
-after-settled k w tried n a t u h =
-    let clock = h.clock in
-    let same = max-same (greatest_clock t + 1) in
-    record {
-      layout = h.layout;
-      number = h.number;
-      known = h.known;
-      waiting = λ l e. h.waiting l e ∙ not-at k l passed t.place.waiting e;
-      clock = omega (arith, clock, same);
-    }
-
-goes-alone : (k : Key) (ws : List Wait) (t : Turn) → GoesAlone k (length ws) t (goes_on k ws t)
-goes-alone k [] t = record { layout = refl; number = refl; known = refl; waiting = λ l e. refl; clock = omega arith }
-goes-alone k (w ∷ ws) t = by (verdict_here k w (newest t.place k.port) t.place) (λ a. goes-alone k ws (settles_here k w (newest t.place k.port).hop a t))
+-- once the copies wait, their messages may go
+pub carries : (x : MsgId) (g : Ui) (home : ℕ) (made : Choice) (cs : List MemberCopy) (course : List Course) (p : Tables) (c : Seated) (u : Turn) (entries packets : ℕ)
+    → IsReady g home made cs course 1 p → greatest_clock (turn p c) ≤ 4611686018427387904 → u ≡ chosen x g home cs (turn p c)
+    → entries ≡ p.journal.spare - 1 → p.room ≤ packets + 1 → AllGoing g (ports_of course) u u course entries packets
+carries x g home made cs course p c u entries packets h clock is spare rest =
+    subst (λ v. AllGoing g (ports_of course) v v course entries packets) (sym is) (subst (λ xs. AllGoing g (ports_of xs) v v xs entries packets) (sym h.courses) ready)
   where
-    by : (o : Option Answer) → ((a : Answer) → GoesAlone k (length ws) (settles_here k w (newest t.place k.port).hop a t) (goes_on k ws (settles_here k w (newest t.place k.port).hop a t)))
-        → GoesAlone k (suc (length ws)) t (tries k w (newest t.place k.port) (goes_on k ws) o t)
-    by (Some a) on = after-settled k w (newest t.place k.port).hop (length ws) a t _ (on a)
-    by None on =
-        let same = max-same (greatest_clock t + 1) in
+    v : Turn
+    v = chosen x g home cs (turn p c)
+
+    ports : ports_of (courses_of g (state p) cs) ≡ members_of cs
+    ports = course-ports g (state p) cs
+
+    count : waiting_for g (ports_of (courses_of g (state p) cs)) v.place.waiting ≡ waiting_for g (members_of cs) (queue p.waits) + length cs
+    count = ap (λ qs. waiting_for g qs (with_each g cs (queue p.waits))) ports ∙ put-count g cs (queue p.waits) h.distinct
+
+    ready : AllGoing g (ports_of (courses_of g (state p) cs)) v v (courses_of g (state p) cs) entries packets
+    ready =
+        let n = count in
+        let k = course-count g (state p) cs in
+        let one = h.spare in
+        let two = h.room in
+        let few = h.few in
+        let later = max-same (greatest_clock (turn p c) + 1) in
         record {
-          layout = refl;
-          number = refl;
-          known = refl;
-          waiting = λ l e. not-at k l (at (Some (newest t.place k.port).to)) t.place.waiting e;
-          clock = omega (arith, same);
+          same = refl;
+          kinds = All-same IsPort (ports_of (courses_of g (state p) cs)) (members_of cs) ports h.kinds;
+          distinct = ap are_distinct ports ∙ h.distinct;
+          courses = sym (put-courses g (state p) cs (queue p.waits) h.distinct (λ q m. refl)) ∙ ap (going g v.place) (sym ports);
+          spare = omega (arith, n, one, spare);
+          room = omega (arith, n, k, two, rest);
+          clock = omega (arith, n, k, few, clock, later);
         }
 
-pub go-alone : (k : Key) (t : Turn) → GoesAlone k (length (t.place.waiting k).waits) t (go k t)
-go-alone k t = by (t.place.waiting k).tried
+-- what was carried out is what was ready
+pub carried : (x : MsgId) (g : Ui) (home : ℕ) (made : Choice) (ms : List Ui) (cs : List MemberCopy) (course : List Course) (s : PlaceState) (t u v : Turn)
+    → made ≡ made_of (members_of cs) → made ≡ choices.Members ms → course ≡ courses_of g s cs → u ≡ chosen x g home cs t → v ≡ all_go g (ports_of course) u
+    → v ≡ chosen_go x g home cs t
+carried x g home made ms [] course s t u v e some c is goes = absurd (let none : choices.NoMember ≡ choices.Members ms = sym e ∙ some in cc)
+carried x g home made ms (y ∷ ys) course s t u v e some c is goes =
+    goes ∙ ap (λ (w : Turn). all_go g (ports_of course) w) is ∙ ap (λ xs. all_go g xs (chosen x g home (y ∷ ys) t)) (ap ports_of c ∙ course-ports g s (y ∷ ys))
+
+-- All is ready.
+
+pub made-in : (qs : List Ui) → chosen_in (made_of qs) ≡ qs
+made-in [] = refl
+made-in (q ∷ qs) = refl
+
+pub members-copies : (m : Message) (d : Dest) (home n : ℕ) (qs : List Ui) → members_of (copies m d home n qs) ≡ qs
+members-copies m d home n [] = refl
+members-copies m d home n (q ∷ qs) = ap (λ xs. q ∷ xs) (members-copies m d home (n + 1) qs)
+
+count-copies : (m : Message) (d : Dest) (home n : ℕ) (qs : List Ui) → length (copies m d home n qs) ≡ length qs
+count-copies m d home n [] = refl
+count-copies m d home n (q ∷ qs) = ap suc (count-copies m d home (n + 1) qs)
+
+-- a copy is within its ranges
+sound-copy : (m : Message) (n : ℕ) → IsSound m → n ≤ 32 → IsSound (as_copy m n)
+sound-copy m n h lt =
+    let body = and_parts (has_range_of_id m.id && has_range_of_tag m.tag && has_kinds_in_tag m.tag) (nat_le (length m.body) 4096) h in
+    let kinds = and_parts (has_range_of_id m.id && has_range_of_tag m.tag) (has_kinds_in_tag m.tag) body.0 in
+    let tag = and_parts (has_range_of_id m.id) (has_range_of_tag m.tag) kinds.0 in
+    let id = and_parts (nat_le 1 m.id.number) (nat_le m.id.copy 32) tag.0 in
+    let number : nat_le n 32 ≡ true = grind (arith, lt) in
+    λ i. id.0 i && number i && tag.1 i && kinds.1 i && body.1 i
+
+copies-sound : (m : Message) (d : Dest) (home n : ℕ) (qs : List Ui) → IsSound m → n + length qs ≤ 33 → All (IsCopy home) (copies m d home n qs)
+copies-sound m d home n [] h few = All-nil (IsCopy home)
+copies-sound m d home n (q ∷ qs) h few =
+    All-cons (IsCopy home) (record { port = q; wait = copy m d home n }) (copies m d home (n + 1) qs) (refl, sound-copy m n h (omega (arith, few)))
+    (copies-sound m d home (n + 1) qs h (omega (arith, few)))
+
+pub all-ready : (m : Message) (d : Dest) (g : Ui) (home : ℕ) (p r now : Tables) (made : Choice) (qs all : List Ui) (cs : List MemberCopy) (course : List Course) (count : ℕ)
+    → made ≡ made_of all → qs ≡ all → All IsPort all → are_distinct all ≡ true → length all ≤ 32 → IsSound m → cs ≡ copies m d home 1 qs
+    → count ≡ waiting_for g qs (queue p.waits) + length qs → count ≤ 4611686018427387904 → r.waits ≡ p.waits → count + 2 ≤ r.journal.spare → count + length qs + 1 ≤ r.room
+    → now ≡ record r { waits = now.waits } → ((k : Key) → queue now.waits k ≡ queue r.waits k) → HaveLines g now.waits qs → course ≡ courses_of g (state now) cs
+    → IsReady g home made cs course 2 now
+all-ready m d g home p r now made qs all cs course count is same kinds distinct few sound copied counted within waits spare packet kept queues lines courses =
+    record {
+      chosen = is ∙ ap made_of (sym ms);
+      kinds = All-same IsPort (members_of cs) all ms kinds;
+      distinct = ap are_distinct ms ∙ distinct;
+      copied = subst (All (IsCopy home)) (sym copied) (copies-sound m d home 1 qs sound (omega (arith, few, n)));
+      courses = courses;
+      lines = subst (HaveLines g now.waits) (same ∙ sym ms) lines;
+      few = omega (arith, counted, within, all-waiting, k);
+      spare = omega (arith, counted, spare, all-waiting, k, entries);
+      room = omega (arith, counted, packet, all-waiting, k, packets);
+    }
   where
-    by : (o : Option ℕ) → GoesAlone k (length (t.place.waiting k).waits) t (goes_unless k o (t.place.waiting k).waits t)
-    by None = goes-alone k (t.place.waiting k).waits t
-    by (Some to) = record { layout = refl; number = refl; known = refl; waiting = λ l e. refl; clock = omega arith }
+    ms : members_of cs ≡ all
+    ms = ap members_of copied ∙ members-copies m d home 1 qs ∙ same
 
--- The messages for the next member went.
+    n : length qs ≡ length all
+    n = ap (λ (xs : List Ui). length xs) same
 
-pub reports-within : (p : ℕ) (ws : List Wait) → reports p ws ≤ length ws
-reports-within p [] = omega arith
-reports-within p (w ∷ ws) = by (w.home == p) (reports-within p ws)
-  where
-    by : (b : Bool) → reports p ws ≤ length ws → cond b 0 1 + reports p ws ≤ length (w ∷ ws)
-    by true h = omega (arith, h)
-    by false h = omega (arith, h)
+    k : length cs ≡ length qs
+    k = ap (λ (xs : List MemberCopy). length xs) copied ∙ count-copies m d home 1 qs
 
-not-here : (q : Ui) (qs : List Ui) → are_distinct (q ∷ qs) ≡ true → is_member q qs ≡ false
-not-here q qs h = by (is_member q qs) (and_parts (not (is_member q qs)) (are_distinct qs) h).0
-  where
-    by : (b : Bool) → not b ≡ true → b ≡ false
-    by true e = absurd (false≢true e)
-    by false e = refl
+    all-waiting : waiting_for g (members_of cs) (queue now.waits) ≡ waiting_for g qs (queue p.waits)
+    all-waiting =
+        ap (λ xs. waiting_for g xs (queue now.waits)) (ms ∙ sym same)
+        ∙ waiting-same g qs (queue now.waits) (queue p.waits) (λ q x. queues (by_group g q) ∙ ap (λ w. queue w (by_group g q)) waits)
 
-pub all-next : (g : Ui) (all : List Ui) (start t u : Turn) (c : Course) (left : List Course) (e p more rest : ℕ)
-    → AllGoing g all start t (c ∷ left) e p → u ≡ go (by_group g c.port) t
-    → e ≤ more + length (t.place.waiting (by_group g c.port)).waits
-    → p ≤ rest + reports t.place.number (t.place.waiting (by_group g c.port)).waits + 1
-    → AllGoing g all start u left more rest
-all-next g all start t u c left e p more rest h is entries packets =
-    let k = by_group g c.port in
-    let alone = subst (λ x. GoesAlone k (length (t.place.waiting k).waits) t x) (sym is) (go-alone k t) in
-    let others : Agree g (ports_of left) t.place.waiting u.place.waiting =
-    (λ q m. sym (alone.waiting (by_group g q) (other-key g c.port q (differs c.port q (ports_of left) (not-here c.port (ports_of left) h.distinct) m)))) in
-    let count = waiting-same g (ports_of left) t.place.waiting u.place.waiting others in
-    let few = reports-within t.place.number (t.place.waiting k).waits in
+    entries : now.journal.spare ≡ r.journal.spare
+    entries = ap (λ (x : Tables). x.journal.spare) kept
+
+    packets : now.room ≡ r.room
+    packets = ap (λ (x : Tables). x.room) kept
+
+-- The choice is the machine's.
+
+each-copy : (m : Message) (d : Dest) (g : Ui) (home n : ℕ) (qs : List Ui) (f : Key → Queue) → with_each g (copies m d home n qs) f ≡ with_copies m d g home n qs f
+each-copy m d g home n [] f = refl
+each-copy m d g home n (q ∷ qs) f = each-copy m d g home (n + 1) qs (changed (by_group g q) (with_last (copy m d home n)) f)
+
+pub chosen-these : (m : Message) (d : Dest) (g : Ui) (home : ℕ) (qs : List Ui) (t : Turn) → chosen_go m.id g home (copies m d home 1 qs) t ≡ chooses_these m d g home qs t
+chosen-these m d g home [] t = refl
+chosen-these m d g home (q ∷ qs) t =
+    let ms = members-copies m d home 1 (q ∷ qs) in
+    let queues = each-copy m d g home 1 (q ∷ qs) t.place.waiting in
+    λ i. all_go g (ms i) (say (Act.Choose m.id g (ms i)) (record (unchanged t) { waiting = queues i; loads = report t.place.number home m.id (A.Chosen (length (ms i))) }) t)
+
+pub asked-for : (m : Message) (d : Dest) (g : Ui) (home : ℕ) (t : Turn) → group_in d ≡ Some g → chooses m d g home t ≡ answers_ask home m d t
+asked-for m (D.Port q) g home t e = absurd (cc)
+asked-for m (D.All x) g home t e = let same : g ≡ x = cc in ap (λ u. chooses m (D.All x) u home t) same
+asked-for m (D.One x) g home t e = let same : g ≡ x = cc in ap (λ u. chooses m (D.One x) u home t) same
+asked-for m (D.OneAt x site) g home t e = let same : g ≡ x = cc in ap (λ u. chooses m (D.OneAt x site) u home t) same
+
+-- an Ask was answered: t is the turn before the room was made, and u behind it
+pub answered-ask : (m : Message) (d : Dest) (g : Ui) (home : ℕ) (cs : List MemberCopy) (t u v : Turn) → group_in d ≡ Some g → u ≡ t → cs ≡ copies m d home 1 (choice d t.place)
+    → v ≡ chosen_go m.id g home cs u → v ≡ answers_ask home m d t
+answered-ask m d g home cs t u v e same made done =
+    done ∙ ap (chosen_go m.id g home cs) same ∙ ap (λ xs. chosen_go m.id g home xs t) made ∙ chosen-these m d g home (choice d t.place) t ∙ asked-for m d g home t e
+
+pub ready-less : (g : Ui) (home : ℕ) (made : Choice) (cs : List MemberCopy) (course : List Course) (p : Tables) → IsReady g home made cs course 2 p → IsReady g home made cs course 1 p
+ready-less g home made cs course p h =
     let spare = h.spare in
-    let room = h.room in
-    let clock = h.clock in
-    let later = alone.clock in
+    record { chosen = h.chosen; kinds = h.kinds; distinct = h.distinct; copied = h.copied; courses = h.courses; lines = h.lines; few = h.few; spare = omega (arith, spare); room = h.room }
+
+-- the post was made, and all is still ready
+pub ready-posted : (g : Ui) (home : ℕ) (made : Choice) (cs : List MemberCopy) (course : List Course) (p now : Tables) → IsReady g home made cs course 2 p
+    → now ≡ record p { journal = now.journal } → now.journal.spare ≡ p.journal.spare - 1 → IsReady g home made cs course 1 now
+ready-posted g home made cs course p now h is entries =
+    let spare = h.spare in
+    subst (IsReady g home made cs course 1) (sym is)
+    (record { chosen = h.chosen; kinds = h.kinds; distinct = h.distinct; copied = h.copied; courses = h.courses; lines = h.lines; few = h.few; spare = omega (arith, spare, entries); room = h.room })
+
+same-choice : (m : Message) (d : Dest) (t : Turn) → choice d (posted_alone m d t).place ≡ choice d t.place
+same-choice m (D.Port q) t = refl
+same-choice m (D.All g) t = refl
+same-choice m (D.One g) t = refl
+same-choice m (D.OneAt g site) t = refl
+
+posts-alone : (m : Message) (d : Dest) (g : Ui) (t : Turn) → group_in d ≡ Some g → chooses m d g t.place.number (posted_alone m d t) ≡ chooses_own m d g t
+posts-alone m (D.Port q) g t e = absurd (cc)
+posts-alone m (D.All x) g t e = refl
+posts-alone m (D.One x) g t e = refl
+posts-alone m (D.OneAt x site) g t e = refl
+
+pub posted-here : (m : Message) (d : Dest) (g : Ui) (home : ℕ) (cs : List MemberCopy) (t s u v : Turn) → group_in d ≡ Some g → home ≡ t.place.number → s ≡ t → u ≡ posted_alone m d s
+    → cs ≡ copies m d home 1 (choice d t.place) → v ≡ chosen_go m.id g home cs u → v ≡ chooses_own m d g t
+posted-here m d g home cs t s u v e here same post made done =
+    done ∙ ap (chosen_go m.id g home cs) (post ∙ ap (posted_alone m d) same) ∙ ap (λ xs. chosen_go m.id g home xs (posted_alone m d t)) made
+    ∙ chosen-these m d g home (choice d t.place) (posted_alone m d t)
+    ∙ ap (λ xs. chooses_these m d g home xs (posted_alone m d t)) (sym (same-choice m d t))
+    ∙ ap (λ n. chooses m d g n (posted_alone m d t)) here
+    ∙ posts-alone m d g t e
+
+-- The reply.
+
+pub choice-told : (x : MsgId) (made : Choice) (ms qs : List Ui) → made ≡ choices.Members ms → made ≡ made_of qs → Reply.Chosen x (length ms) ≡ choice_reply x qs
+choice-told x made ms [] e f = absurd (let none : choices.NoMember ≡ choices.Members ms = sym f ∙ e in cc)
+choice-told x made ms (q ∷ qs) e f = let same : ms ≡ q ∷ qs = cc in ap (λ (xs : List Ui). Reply.Chosen x (length xs)) same
+
+pub none-told : (x : MsgId) (made : Choice) (qs : List Ui) → made ≡ choices.NoMember → made ≡ made_of qs → Reply.NoMember x ≡ choice_reply x qs
+none-told x made [] e f = refl
+none-told x made (q ∷ qs) e f = absurd (let none : choices.NoMember ≡ choices.Members (q ∷ qs) = sym e ∙ f in cc)
+
+-- The command.
+
+pub group-kind : (d : Dest) (g : Ui) → group_in d ≡ Some g → has_kinds_in_dest d ≡ true → g.kind ≡ kinds.Group
+group-kind (D.Port q) g e h = absurd (cc)
+group-kind (D.All x) g e h = let same : g ≡ x = cc in ap (λ (u : Ui). u.kind) same ∙ from_same_kind x.kind kinds.Group h
+group-kind (D.One x) g e h = let same : g ≡ x = cc in ap (λ (u : Ui). u.kind) same ∙ from_same_kind x.kind kinds.Group h
+group-kind (D.OneAt x site) g e h = let same : g ≡ x = cc in ap (λ (u : Ui). u.kind) same ∙ from_same_kind x.kind kinds.Group h
+
+posts-by : (m : Message) (d : Dest) (g : Ui) (t : Turn) → group_in d ≡ Some g → posts m d t ≡ posts_to_group m d g t
+posts-by m (D.Port q) g t e = absurd (cc)
+posts-by m (D.All x) g t e = let same : x ≡ g = cc in ap (λ u. posts_to_group m (D.All x) u t) same
+posts-by m (D.One x) g t e = let same : x ≡ g = cc in ap (λ u. posts_to_group m (D.One x) u t) same
+posts-by m (D.OneAt x site) g t e = let same : x ≡ g = cc in ap (λ u. posts_to_group m (D.OneAt x site) u t) same
+
+replies-by : (x : MsgId) (d : Dest) (g : Ui) (t u : Turn) → group_in d ≡ Some g → posted_reply x d t u ≡ group_reply x d g t.place
+replies-by x (D.Port q) g t u e = absurd (cc)
+replies-by x (D.All h) g t u e = let same : h ≡ g = cc in ap (λ r. group_reply x (D.All h) r t.place) same
+replies-by x (D.One h) g t u e = let same : h ≡ g = cc in ap (λ r. group_reply x (D.One h) r t.place) same
+replies-by x (D.OneAt h site) g t u e = let same : h ≡ g = cc in ap (λ r. group_reply x (D.OneAt h site) r t.place) same
+
+pub sends-here : (d : Dest) (g : Ui) (body : List ℕ) (m : Message) (t u : Turn) (r : Reply) → group_in d ≡ Some g → (choosing_place t.place g == t.place.number) ≡ true
+    → m ≡ next_message tags.Plain body t.caller → u ≡ chooses_own m d g t → r ≡ choice_reply m.id (choice d t.place) → Performed (Command.Send d body) t u r
+sends-here d g body m t u r e at is done told =
+    let n = next_message tags.Plain body t.caller in
     record {
-      same = ap (all_go g (ports_of left)) is ∙ h.same;
-      kinds = All-tail IsPort c.port (ports_of left) h.kinds;
-      distinct = (and_parts (not (is_member c.port (ports_of left))) (are_distinct (ports_of left)) h.distinct).1;
-      courses = ap (drop 1) h.courses ∙ going-same g t.place u.place (ports_of left) (sym alone.layout) (sym alone.number) (sym alone.known) others;
-      spare = omega (arith, count, few, spare, entries);
-      room = omega (arith, count, few, room, packets);
-      clock = omega (arith, count, clock, later);
+      done = done ∙ ap (λ x. chooses_own x d g t) is ∙ sym (ap (λ b. cond b (chooses_own n d g t) (asks n d (choosing_place t.place g) t)) at) ∙ sym (posts-by n d g t e);
+      answer = told ∙ ap (λ (x : Message). choice_reply x.id (choice d t.place)) is
+          ∙ sym (ap (λ b. cond b (choice_reply n.id (choice d t.place)) (Reply.Posted n.id)) at) ∙ sym (replies-by n.id d g t (act (Command.Send d body) t) e);
     }
 
--- Copies are put.
-
-or-none : (b c : Bool) → b || c ≡ false → (b ≡ false) × (c ≡ false)
-or-none true c h = absurd (false≢true (sym h))
-or-none false c h = (refl, h)
-
--- a copy for another member leaves the queue
-pub put-elsewhere : (g : Ui) (c : MemberCopy) (cs : List MemberCopy) (f : Key → Queue) → are_distinct (members_of (c ∷ cs)) ≡ true
-    → Agree g (members_of cs) (changed (by_group g c.port) (with_last c.wait) f) f
-put-elsewhere g c cs f h q m = not-at (by_group g c.port) (by_group g q) (with_last c.wait) f (other-key g c.port q (differs c.port q (members_of cs) (not-here c.port (members_of cs) h) m))
-
-rooms-kept : (g : Ui) (rows more : List (Key × Row)) (qs : List Ui) → ((q : Ui) → is_member q qs ≡ true → room more (by_group g q) ≡ room rows (by_group g q))
-    → HaveLines g rows qs → HaveLines g more qs
-rooms-kept g rows more [] a h = All-nil (λ q. 0 < room more (by_group g q))
-rooms-kept g rows more (q ∷ qs) a h =
-    All-cons (λ q. 0 < room more (by_group g q)) q qs
-    (subst (λ n. 0 < n) (sym (a q (member-first q qs))) (All-head (λ q. 0 < room rows (by_group g q)) q qs h))
-    (rooms-kept g rows more qs (λ r m. a r (member-more r q qs m)) (All-tail (λ q. 0 < room rows (by_group g q)) q qs h))
-
-pub put-next : (g : Ui) (all : List MemberCopy) (start rows more : List (Key × Row)) (c : MemberCopy) (left : List MemberCopy) → Putting g all start rows (c ∷ left)
-    → ((k : Key) → queue more k ≡ changed (by_group g c.port) (with_last c.wait) (queue rows) k)
-    → ((k : Key) → room more k ≡ changed (by_group g c.port) less_one (room rows) k) → Putting g all start more left
-put-next g all start rows more c left h queues rooms =
+pub sends-away : (d : Dest) (g : Ui) (body : List ℕ) (m : Message) (to : ℕ) (t u : Turn) (r : Reply) → group_in d ≡ Some g → to ≡ choosing_place t.place g
+    → (choosing_place t.place g == t.place.number) ≡ false → m ≡ next_message tags.Plain body t.caller → u ≡ asks m d to t → r ≡ Reply.Posted m.id
+    → Performed (Command.Send d body) t u r
+sends-away d g body m to t u r e place at is done told =
+    let n = next_message tags.Plain body t.caller in
     record {
-      same = λ k. (λ i. with_each g left (λ l. queues l i) k) ∙ h.same k;
-      distinct = (and_parts (not (is_member c.port (members_of left))) (are_distinct (members_of left)) h.distinct).1;
-      lines = rooms-kept g rows more (members_of left)
-          (λ q m. rooms (by_group g q) ∙ ap (λ b. cond b (less_one (room rows (by_group g c.port))) (room rows (by_group g q)))
-          (other-key g c.port q (differs c.port q (members_of left) (not-here c.port (members_of left) h.distinct) m)))
-          (All-tail (λ q. 0 < room rows (by_group g q)) c.port (members_of left) h.lines);
+      done = done ∙ ap (λ x. asks x d to t) is ∙ ap (λ x. asks n d x t) place
+          ∙ sym (ap (λ b. cond b (chooses_own n d g t) (asks n d (choosing_place t.place g) t)) at) ∙ sym (posts-by n d g t e);
+      answer = told ∙ ap (λ (x : Message). Reply.Posted x.id) is
+          ∙ sym (ap (λ b. cond b (choice_reply n.id (choice d t.place)) (Reply.Posted n.id)) at) ∙ sym (replies-by n.id d g t (act (Command.Send d body) t) e);
     }
 
--- Copies that were put wait as they may.
+-- Parts of answers.
 
-no-route : (g q : Ui) (k : Key) → same_key (by_group g q) k ≡ true → k.route ≡ None → ⊥
-no-route g q k h none = by k.route none (eq-parts (name_cmp q k.port) (option_cmp name_cmp (Some g) k.route) h).1
-  where
-    by : (o : Option Ui) → o ≡ None → is_eq (option_cmp name_cmp (Some g) o) ≡ true → ⊥
-    by None e f = false≢true f
-    by (Some r) e f = absurd (cc)
+pub on-err : {V E : Type 0} (r : Result V E) (P : Type 0) → P → OnErr r P
+on-err (Ok x) P p = tt
+on-err (Err e) P p = p
 
-pub each-waits : (l : Layout) (p home : ℕ) (g : Ui) (cs : List MemberCopy) (f : Key → Queue) → has_place l home ≡ true → All (IsCopy home) cs
-    → ((k : Key) → All (MayWait l p k) (f k).waits) → (k : Key) → All (MayWait l p k) (with_each g cs f k).waits
-each-waits l p home g [] f place copied w k = w k
-each-waits l p home g (c ∷ cs) f place copied w k =
-    each-waits l p home g cs (changed (by_group g c.port) (with_last c.wait) f) place (All-tail (IsCopy home) c cs copied) (λ u. by u (same_key (by_group g c.port) u) refl) k
-  where
-    this : IsCopy home c
-    this = All-head (IsCopy home) c cs copied
+pub chosen-list : (made : Choice) (qs all : List Ui) → made ≡ made_of all → qs ≡ chosen_in made → qs ≡ all
+chosen-list made qs all e f = f ∙ ap chosen_in e ∙ made-in all
 
-    by : (u : Key) (b : Bool) → same_key (by_group g c.port) u ≡ b → All (MayWait l p u) (cond b (with_last c.wait (f (by_group g c.port))) (f u)).waits
-    by u true e =
-        All-push (MayWait l p u) (f (by_group g c.port)).waits c.wait
-        (All-weaker (MayWait l p (by_group g c.port)) (MayWait l p u) (λ x m. record { home = m.home; own = λ none. absurd (no-route g c.port u e none); message = m.message })
-        (f (by_group g c.port)).waits (w (by_group g c.port)))
-        (record { home = ap (has_place l) this.0 ∙ place; own = λ none. absurd (no-route g c.port u e none); message = this.1 })
-    by u false e = w u
+pub kinds-copies : (m : Message) (d : Dest) (home : ℕ) (qs all : List Ui) (cs : List MemberCopy) → cs ≡ copies m d home 1 qs → qs ≡ all → All IsPort all → All IsPort (members_of cs)
+kinds-copies m d home qs all cs e f h = All-same IsPort (members_of cs) all (ap members_of e ∙ members-copies m d home 1 qs ∙ f) h
 
-pub waiting-each : (l : Layout) (p home : ℕ) (g : Ui) (cs : List MemberCopy) (rows more : List (Key × Row)) → AreWaiting l p rows → has_place l home ≡ true → All (IsCopy home) cs
-    → ((k : Key) → queue more k ≡ with_each g cs (queue rows) k) → AreWaiting l p more
-waiting-each l p home g cs rows more w place copied e k =
-    subst (λ (x : Queue). All (MayWait l p k) x.waits) (sym (e k)) (each-waits l p home g cs (queue rows) place copied w k)
+pub posted-clock : (m : Message) (d : Dest) (t : Turn) → greatest_clock (posted_alone m d t) ≡ greatest_clock t + 1
+posted-clock m d t = max-same (greatest_clock t + 1)
 
--- an entry of a group that makes no port, with other messages that wait and other packets
-pub kept-chosen : (l : Layout) (p : ℕ) (past more : List Entry) (ports : List PortRecord) (known : Known) (rows now : List (Key × Row)) (puts put : List Parcel) (act : Act)
-    → IsKept l p past ports known rows puts → Said past more act → ((n : ℕ) → ports_after act n ≡ n) → ((u : Ui) → makes u act ≡ false)
-    → ((g : Ui) (qs : List Ui) → world.members_after g act qs ≡ qs) → AreWaiting l p now → AreSent l put → IsKept l p more ports known now put
-kept-chosen l p past more ports known rows now puts put act k s none not_made same waiting sent =
-    record {
-      place = k.place;
-      held = held-later l p past more act ports k.held s;
-      layout = k.layout;
-      located = k.located;
-      waiting = waiting;
-      numbered = numbered-same l p past more act k.numbered s none not_made;
-      grouped = grouped-same past more act k.grouped s same;
-      sent = sent;
-    }
+pub sent-here : {E : Type 0} (res : Result Reply E) (d : Dest) (g : Ui) (body : List ℕ) (m : Message) (t u : Turn) → group_in d ≡ Some g
+    → (choosing_place t.place g == t.place.number) ≡ true → m ≡ next_message tags.Plain body t.caller → OnOk res (u ≡ chooses_own m d g t)
+    → IfOk res (λ r. r ≡ choice_reply m.id (choice d t.place)) → IfOk res (λ r. Performed (Command.Send d body) t u r)
+sent-here (Ok r) d g body m t u e at is done told = sends-here d g body m t u r e at is done told
+sent-here (Err x) d g body m t u e at is done told = tt
 
-pub report-one : (p home : ℕ) (x : MsgId) (a : Answer) → length (report p home x a) ≤ 1
-report-one p home x a = let n = report-length p home x a in let few = by (home == p) in omega (arith, n, few)
-  where
-    by : (b : Bool) → cond b 0 1 ≤ 1
-    by true = omega arith
-    by false = omega arith
+pub sent-away : {E : Type 0} (res : Result Reply E) (d : Dest) (g : Ui) (body : List ℕ) (m : Message) (to : ℕ) (t u : Turn) → group_in d ≡ Some g → to ≡ choosing_place t.place g
+    → (choosing_place t.place g == t.place.number) ≡ false → m ≡ next_message tags.Plain body t.caller → OnOk res (u ≡ asks m d to t)
+    → IfOk res (λ r. r ≡ Reply.Posted m.id) → IfOk res (λ r. Performed (Command.Send d body) t u r)
+sent-away (Ok r) d g body m to t u e place at is done told = sends-away d g body m to t u r e place at is done told
+sent-away (Err x) d g body m to t u e place at is done told = tt

@@ -13,7 +13,7 @@ use Rattle.chorus_machine.specs.PlaceState.{PlaceState, Turn}
 use Rattle.chorus_machine.specs.Own.{held_by, move_act}
 use Rattle.chorus_machine.specs.Doing.{does}
 use Rattle.chorus_place.specs.Commands.{Performed}
-use Rattle.chorus_place.proofs.Commands.{performs, has-home}
+use Rattle.chorus_place.proofs.Performing.{performs, has-home}
 
 same-number : (m n : ℕ) → m ≡ n → (m == n) ≡ true
 same-number m n e = grind (arith, e)

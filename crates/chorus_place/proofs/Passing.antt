@@ -1,24 +1,12 @@
 -- What one pass over a list or a journal reads.
-use Rattle.std.proofs.Common.{◌≡◌, ℕ, ◌+◌, Bool, true, false, ◌&&◌, cond, Option, Some, None, List, [], ◌∷◌, ◌++◌, ◌<◌, length, take, drop, get_or, reverse, slice_get, refl, sym, ◌∙◌, ap}
-use Rattle.std.specs.List.{list_all}
+use Rattle.std.proofs.Common.{◌≡◌, ℕ, ◌+◌, Bool, true, false, cond, Option, Some, None, List, [], ◌∷◌, ◌++◌, ◌<◌, length, take, get_or, reverse, refl, sym, ◌∙◌, ap}
 use Rattle.std.specs.Option.{option_or}
-use Rattle.std.proofs.lemmas.Option.{slice_get_within, get_or_from_slice_get}
-use Rattle.std.proofs.lemmas.List.{drop_more, take_more, reverse-append}
+use Rattle.std.proofs.lemmas.List.{take_more, reverse-append}
 use Rattle.chorus_entry.specs.declared.entry.Entry.{Entry}
 use Rattle.chorus_entry.specs.declared.id.MsgId.{MsgId}
 use Rattle.chorus_world.specs.Views.{is_by, by}
 use Rattle.chorus_world.specs.Posts.{Posted, posted_by, posted_in}
 use Rattle.chorus_place.specs.Outcomes.{goes_to, dest_by}
-
--- a test of all that are left, and of the first of them
-pub all-from : {A : Type 0} (f : A → Bool) (xs : List A) (i : ℕ) (x : A) → slice_get xs i ≡ Some x → list_all f (drop i xs) ≡ f x && list_all f (drop (i + 1) xs)
-all-from f xs i x h = ap (list_all f) (drop_more xs i x (slice_get_within xs i x h) ∙ ap (λ y. y ∷ drop (i + 1) xs) (get_or_from_slice_get xs i x x h))
-
-pub all-fails : {A : Type 0} (f : A → Bool) (xs : List A) (i : ℕ) (x : A) → slice_get xs i ≡ Some x → f x ≡ false → list_all f (drop i xs) ≡ false
-all-fails f xs i x h fails = all-from f xs i x h ∙ ap (λ b. b && list_all f (drop (i + 1) xs)) fails
-
-pub all-passes : {A : Type 0} (f : A → Bool) (xs : List A) (i : ℕ) (x : A) → slice_get xs i ≡ Some x → f x ≡ true → list_all f (drop i xs) ≡ list_all f (drop (i + 1) xs)
-all-passes f xs i x h passes = all-from f xs i x h ∙ ap (λ b. b && list_all f (drop (i + 1) xs)) passes
 
 -- the entries of a journal, with one more
 pub next-entry : (es : List Entry) (i : ℕ) (e : Entry) → i < length es → e ≡ get_or es i e → reverse (take (i + 1) es) ≡ e ∷ reverse (take i es)

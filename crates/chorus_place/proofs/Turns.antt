@@ -1,7 +1,6 @@
 -- Whole turns.
-use Rattle.std.proofs.Common.{◌≡◌, ℕ, max, ◌+◌, ◌≤◌, ◌==◌, Bool, true, false, not, cond, All, Result, Ok, Err, OnErr, Option, None, List, [], ◌∷◌, ◌++◌, length, drop, length-append, refl, sym, ◌∙◌, ap, arith}
+use Rattle.std.proofs.Common.{◌≡◌, ℕ, max, ◌+◌, ◌≤◌, ◌==◌, Bool, true, false, not, cond, Result, Ok, Err, OnErr, Option, None, List, [], ◌∷◌, ◌++◌, length, drop, length-append, refl, sym, ◌∙◌, ap, arith}
 use Rattle.std.proofs.lemmas.List.{append-nil}
-use Rattle.std.proofs.lemmas.List.Elements.{All-head, All-tail}
 use Rattle.chorus_ui.specs.declared.ui.Ui.{Ui}
 use Rattle.chorus_ui.specs.declared.layout.Layout.{Layout}
 use Rattle.chorus_ui.specs.Layout.{has_site}
@@ -29,11 +28,11 @@ use Rattle.chorus_machine.specs.Replies.{reply_to, post_reply}
 use Rattle.chorus_place.specs.Commands.{Performed}
 use Rattle.chorus_calls.specs.Callers.{after_post}
 use Rattle.chorus_machine.specs.Working.{hears_verdict, taught_of, told}
-use Rattle.chorus_place.specs.Going.{first_to, leaving_to, leaving, settled_by, reports}
-use Rattle.chorus_place.specs.Tables.{MayWait}
-use Rattle.chorus_place.specs.Steps.{told_by, posted}
-use Rattle.chorus_place.proofs.Deciding.{located}
-use Rattle.chorus_place.proofs.Reports.{at-key, here-none}
+use Rattle.chorus_steps.specs.Going.{first_to, leaving_to, leaving}
+use Rattle.chorus_place.specs.Posting.{settled_by}
+use Rattle.chorus_steps.specs.Steps.{told_by, posted}
+use Rattle.chorus_steps.proofs.Deciding.{located}
+use Rattle.chorus_steps.proofs.Reports.{at-key}
 
 max-same : (n : ℕ) → max n n ≡ n
 max-same n = omega arith
@@ -83,24 +82,6 @@ tell-leaving k x a t u o e h =
 
 pub worked : (k : Key) (x : MsgId) (a : Answer) (t s u v : Turn) → s ≡ t → u ≡ told_by x k a s → v ≡ go k u → v ≡ hears_verdict x k a t
 worked k x a t s u v same f g = g ∙ ap (go k) (f ∙ ap (told_by x k a) same)
-
--- What the messages of a queue report.
-
--- direct ones none
-pub reports-direct : (l : Layout) (p : ℕ) (k : Key) (ws : List Wait) → All (MayWait l p k) ws → k.route ≡ None → reports p ws ≡ 0
-reports-direct l p k [] m e = refl
-reports-direct l p k (w ∷ ws) m e =
-    let first = here-none p w ((All-head (MayWait l p k) w ws m).own e) in
-    let rest = reports-direct l p k ws (All-tail (MayWait l p k) w ws m) e in omega (arith, first, rest)
-
--- each one at most
-pub reports-most : (p : ℕ) (ws : List Wait) → reports p ws ≤ length ws
-reports-most p [] = omega arith
-reports-most p (w ∷ ws) = by (w.home == p) (reports-most p ws)
-  where
-    by : (b : Bool) → reports p ws ≤ length ws → cond b 0 1 + reports p ws ≤ length (w ∷ ws)
-    by true h = omega (arith, h)
-    by false h = omega (arith, h)
 
 -- Posting to a port.
 

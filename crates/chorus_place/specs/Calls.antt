@@ -2,6 +2,7 @@
 -- p is the place, s its state, c a command, t the turn.
 use Rattle.std.specs.Prelude.{ℕ, ◌≡◌, ◌+◌, ◌≤◌, min, Bool, true, false, List, [], ◌∷◌, length, IsNone}
 use Rattle.chorus_ui.specs.declared.layout.Layout.{Layout}
+use Rattle.chorus_ui.specs.declared.limits.TheConstants.{CLOCK_LIMIT}
 use Rattle.chorus_entry.specs.declared.entry.Entry.{Entry}
 use Rattle.chorus_entry.specs.declared.record.PortRecord.{PortRecord}
 use Rattle.chorus_entry.specs.declared.command.Command.{Command}
@@ -19,11 +20,11 @@ use Rattle.chorus_waits.specs.Unheard.{is_unheard}
 use Rattle.chorus_calls.specs.Callers.{Seated}
 use Rattle.chorus_out.specs.Waiting.{Waiting, with_last}
 use Rattle.chorus_machine.specs.declared.reply.Reply.{Reply}
-use Rattle.chorus_machine.specs.PlaceState.{PlaceState, Outgoing, Turn}
+use Rattle.chorus_machine.specs.PlaceState.{PlaceState, Outgoing, Turn, greatest_clock}
 use Rattle.chorus_machine.specs.PlaceMachine.{begun, begun_by, act, work}
 use Rattle.chorus_machine.specs.Own.{held_by}
 use Rattle.chorus_machine.specs.Replies.{reply}
-use Rattle.chorus_place.specs.Tables.{Tables}
+use Rattle.chorus_steps.specs.Tables.{Tables}
 
 -- a place: its layout and number; its journal, the newest entry first; its tables; the packets that wait to go to other places,
 -- by these; and how many entries and packets need no memory
@@ -97,6 +98,14 @@ pub record Called (old new : Place) (before after : Seated) (c : Command) (r : R
 -- the packet was worked off as the machine does it
 abbrev pub WorkedOff : Place → Place → Seated → Seated → Packet → Type 0
 WorkedOff old new before after packet = Ended (work packet (begun_by (state old) before packet)) old new after
+
+-- the turn's clocks are worn: `clock` is the greatest, and at the limit
+abbrev pub IsWornAt : ℕ → Turn → Type 0
+IsWornAt clock t = (CLOCK_LIMIT ≤ greatest_clock t) × (clock ≡ greatest_clock t)
+
+-- and the packet is handed back
+abbrev pub IsWornBack : ℕ → Packet → Packet → Turn → Type 0
+IsWornBack clock back packet t = (CLOCK_LIMIT ≤ greatest_clock t) × (clock ≡ greatest_clock t) × (back ≡ packet)
 
 -- nothing changed but the room, of which there is as much at least
 pub record Stays (old new : Place) : Type 0 where

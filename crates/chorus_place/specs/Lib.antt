@@ -1,14 +1,7 @@
-pub mod Tables
-pub mod Plain
-pub mod Turns
-pub mod Going
-pub mod Steps
-pub mod Room
-pub mod Ports
 pub mod Commands
 pub mod Outcomes
-pub mod Sending
 pub mod CallTurns
+pub mod Posting
 pub mod GroupTurns
 pub mod Calls
 pub mod Opening

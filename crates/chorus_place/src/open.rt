@@ -9,222 +9,223 @@ ghost use Rattle.chorus_machine.specs.PlaceState.{greatest_clock};
 ghost use Rattle.chorus_machine.specs.Working.{opens};
 ghost use Rattle.chorus_place.specs.Commands.{StaysOut};
 ghost use Rattle.chorus_place.specs.Opening.{MayOpen, MayTry, MayTell, MayAsk};
-ghost use Rattle.chorus_place.specs.Ports.{MayArrive};
-ghost use Rattle.chorus_place.specs.Room.{KeepsRoom};
-ghost use Rattle.chorus_place.specs.Tables.{state, turn};
+ghost use Rattle.chorus_steps.specs.Ports.{MayArrive};
+ghost use Rattle.chorus_steps.specs.Room.{KeepsRoom};
+ghost use Rattle.chorus_steps.specs.Tables.{state, turn};
 
-use crate::tables::Tables;
+use crate::turns_groups::hear_ask;
+use crate::turns_messages::{hear_report, hear_try, hear_verdict};
+use crate::turns_ports::hear_transfer;
 use chorus_calls::Caller;
 use chorus_entry::{Answer, Cargo, Dest, Message, MsgId, Packet, PortRecord};
+use chorus_steps::Tables;
 use chorus_waits::Key;
 use std::alloc::AllocError;
 
-impl Tables {
-    /// Works off a lawful packet, whose clock the caller's last is not below. Want of memory hands the packet back and changes
-    /// nothing.
-    pub(crate) fn open(
-        &mut self,
-        packet: Packet,
-        caller: &mut Caller,
-    ) -> Result<(), (Packet, AllocError)>
-        requires lawful { is_lawful packet.from packet (state self.old) ≡ true }
-        requires heard { packet.clock ≤ greatest_clock (turn self.old caller.old) }
-        requires clock { greatest_clock (turn self.old caller.old) < CLOCK_LIMIT }
-        ensures ok { OnOk result (turn self.new caller.new ≡
-            work packet (turn self.old caller.old)) }
-        ensures back { IfErr result (λ refused. refused.0 ≡ packet) }
-        ensures refused { OnErr result (turn self.new caller.new ≡ turn self.old caller.old) }
-        ensures out { StaysOut self.old.out self.new.out }
-        ensures kept { KeepsRoom self.old self.new }
-    {
-        let Packet { clock, from, cargo } = packet;
-        match self.open_cargo(from, cargo, caller) {
-            Ok(()) => Ok(()),
-            Err((cargo, none)) => {
-                let back = Packet { clock, from, cargo };
-                Err((back, none))
-            }
+/// Works off a lawful packet, whose clock the caller's last is not below. Want of memory hands the packet back and changes
+/// nothing.
+pub(crate) fn open(
+    tables: &mut Tables,
+    packet: Packet,
+    caller: &mut Caller,
+) -> Result<(), (Packet, AllocError)>
+    requires lawful { is_lawful packet.from packet (state tables.old) ≡ true }
+    requires heard { packet.clock ≤ greatest_clock (turn tables.old caller.old) }
+    requires clock { greatest_clock (turn tables.old caller.old) < CLOCK_LIMIT }
+    ensures ok { OnOk result (turn tables.new caller.new ≡
+        work packet (turn tables.old caller.old)) }
+    ensures back { IfErr result (λ refused. refused.0 ≡ packet) }
+    ensures refused { OnErr result (turn tables.new caller.new ≡ turn tables.old caller.old) }
+    ensures out { StaysOut tables.old.out tables.new.out }
+    ensures kept { KeepsRoom tables.old tables.new }
+{
+    let Packet { clock, from, cargo } = packet;
+    match open_cargo(tables, from, cargo, caller) {
+        Ok(()) => Ok(()),
+        Err((cargo, none)) => {
+            let back = Packet { clock, from, cargo };
+            Err((back, none))
         }
     }
+}
 
-    /// Works off what a packet of the place `from` carries.
-    fn open_cargo(
-        &mut self,
-        from: u16,
-        cargo: Cargo,
-        caller: &mut Caller,
-    ) -> Result<(), (Cargo, AllocError)>
-        requires may { MayOpen from cargo (turn self.old caller.old) }
-        requires clock { greatest_clock (turn self.old caller.old) < CLOCK_LIMIT }
-        ensures ok { OnOk result (turn self.new caller.new ≡
-            opens from cargo (turn self.old caller.old)) }
-        ensures back { IfErr result (λ refused. refused.0 ≡ cargo) }
-        ensures refused { OnErr result (turn self.new caller.new ≡ turn self.old caller.old) }
-        ensures out { StaysOut self.old.out self.new.out }
-        ensures kept { KeepsRoom self.old self.new }
-    {
-        match cargo {
-            Cargo::Try {
+/// Works off what a packet of the place `from` carries.
+fn open_cargo(
+    tables: &mut Tables,
+    from: u16,
+    cargo: Cargo,
+    caller: &mut Caller,
+) -> Result<(), (Cargo, AllocError)>
+    requires may { MayOpen from cargo (turn tables.old caller.old) }
+    requires clock { greatest_clock (turn tables.old caller.old) < CLOCK_LIMIT }
+    ensures ok { OnOk result (turn tables.new caller.new ≡
+        opens from cargo (turn tables.old caller.old)) }
+    ensures back { IfErr result (λ refused. refused.0 ≡ cargo) }
+    ensures refused { OnErr result (turn tables.new caller.new ≡ turn tables.old caller.old) }
+    ensures out { StaysOut tables.old.out tables.new.out }
+    ensures kept { KeepsRoom tables.old tables.new }
+{
+    match cargo {
+        Cargo::Try {
+            message,
+            port,
+            route,
+            only,
+            hop,
+        } => {
+            let key = Key { port, route };
+            open_try(tables, from, message, &key, only, hop, caller)
+        }
+        Cargo::Verdict {
+            id,
+            port,
+            route,
+            answer,
+        } => {
+            let key = Key { port, route };
+            open_verdict(tables, id, &key, answer, caller)
+        }
+        Cargo::Transfer { port } => open_transfer(tables, port, caller),
+        Cargo::Ask { message, dest } => open_ask(tables, from, message, &dest, caller),
+        Cargo::Report { id, answer } => open_report(tables, id, answer, caller),
+    }
+}
+
+/// Decides on a message that the place `from` tried here.
+fn open_try(
+    tables: &mut Tables,
+    from: u16,
+    message: Message,
+    key: &Key,
+    only: Option<u16>,
+    hop: u64,
+    caller: &mut Caller,
+) -> Result<(), (Cargo, AllocError)>
+    requires may { MayTry from message key.now.port (turn tables.old caller.old) }
+    requires clock { greatest_clock (turn tables.old caller.old) < CLOCK_LIMIT }
+    ensures ok { OnOk result (turn tables.new caller.new ≡ opens from
+        (Cargo.Try message key.now.port key.now.route only hop) (turn tables.old caller.old)) }
+    ensures back { IfErr result (λ refused. refused.0 ≡
+        Cargo.Try message key.now.port key.now.route only hop) }
+    ensures refused { OnErr result (turn tables.new caller.new ≡ turn tables.old caller.old) }
+    ensures out { StaysOut tables.old.out tables.new.out }
+    ensures kept { KeepsRoom tables.old tables.new }
+{
+    match hear_try(tables, from, message, key, only, hop, caller) {
+        Ok(()) => Ok(()),
+        Err((message, none)) => {
+            let back = Cargo::Try {
                 message,
-                port,
-                route,
+                port: key.port,
+                route: key.route,
                 only,
                 hop,
-            } => {
-                let key = Key { port, route };
-                self.open_try(from, message, &key, only, hop, caller)
-            }
-            Cargo::Verdict {
+            };
+            Err((back, none))
+        }
+    }
+}
+
+/// Tells the first message of a port and route what was decided.
+fn open_verdict(
+    tables: &mut Tables,
+    id: MsgId,
+    key: &Key,
+    answer: Answer,
+    caller: &mut Caller,
+) -> Result<(), (Cargo, AllocError)>
+    requires may { MayTell key.now answer (turn tables.old caller.old) }
+    requires clock { greatest_clock (turn tables.old caller.old) < CLOCK_LIMIT }
+    ensures ok { OnOk result (turn tables.new caller.new ≡ opens 0
+        (Cargo.Verdict id key.now.port key.now.route answer) (turn tables.old caller.old)) }
+    ensures back { IfErr result (λ refused. refused.0 ≡
+        Cargo.Verdict id key.now.port key.now.route answer) }
+    ensures refused { OnErr result (turn tables.new caller.new ≡ turn tables.old caller.old) }
+    ensures out { StaysOut tables.old.out tables.new.out }
+    ensures kept { KeepsRoom tables.old tables.new }
+{
+    match hear_verdict(tables, id, key, answer, caller) {
+        Ok(()) => Ok(()),
+        Err(none) => {
+            let back = Cargo::Verdict {
                 id,
-                port,
-                route,
+                port: key.port,
+                route: key.route,
                 answer,
-            } => {
-                let key = Key { port, route };
-                self.open_verdict(id, &key, answer, caller)
-            }
-            Cargo::Transfer { port } => self.open_transfer(port, caller),
-            Cargo::Ask { message, dest } => self.open_ask(from, message, &dest, caller),
-            Cargo::Report { id, answer } => self.open_report(id, answer, caller),
+            };
+            Err((back, none))
         }
     }
+}
 
-    /// Decides on a message that the place `from` tried here.
-    fn open_try(
-        &mut self,
-        from: u16,
-        message: Message,
-        key: &Key,
-        only: Option<u16>,
-        hop: u64,
-        caller: &mut Caller,
-    ) -> Result<(), (Cargo, AllocError)>
-        requires may { MayTry from message key.now.port (turn self.old caller.old) }
-        requires clock { greatest_clock (turn self.old caller.old) < CLOCK_LIMIT }
-        ensures ok { OnOk result (turn self.new caller.new ≡ opens from
-            (Cargo.Try message key.now.port key.now.route only hop) (turn self.old caller.old)) }
-        ensures back { IfErr result (λ refused. refused.0 ≡
-            Cargo.Try message key.now.port key.now.route only hop) }
-        ensures refused { OnErr result (turn self.new caller.new ≡ turn self.old caller.old) }
-        ensures out { StaysOut self.old.out self.new.out }
-        ensures kept { KeepsRoom self.old self.new }
-    {
-        match self.hear_try(from, message, key, only, hop, caller) {
-            Ok(()) => Ok(()),
-            Err((message, none)) => {
-                let back = Cargo::Try {
-                    message,
-                    port: key.port,
-                    route: key.route,
-                    only,
-                    hop,
-                };
-                Err((back, none))
-            }
+/// Holds a port that came.
+fn open_transfer(
+    tables: &mut Tables,
+    port: PortRecord,
+    caller: &mut Caller,
+) -> Result<(), (Cargo, AllocError)>
+    requires may { MayArrive port (turn tables.old caller.old) }
+    requires clock { greatest_clock (turn tables.old caller.old) < CLOCK_LIMIT }
+    ensures ok { OnOk result (turn tables.new caller.new ≡ opens 0
+        (Cargo.Transfer port) (turn tables.old caller.old)) }
+    ensures back { IfErr result (λ refused. refused.0 ≡ Cargo.Transfer port) }
+    ensures refused { OnErr result (turn tables.new caller.new ≡ turn tables.old caller.old) }
+    ensures out { StaysOut tables.old.out tables.new.out }
+    ensures kept { KeepsRoom tables.old tables.new }
+{
+    match hear_transfer(tables, port, caller) {
+        Ok(()) => Ok(()),
+        Err((port, none)) => Err((Cargo::Transfer { port }, none)),
+    }
+}
+
+/// Chooses members for a post of the place `from`.
+fn open_ask(
+    tables: &mut Tables,
+    from: u16,
+    message: Message,
+    dest: &Dest,
+    caller: &mut Caller,
+) -> Result<(), (Cargo, AllocError)>
+    requires may { MayAsk from message dest.now (turn tables.old caller.old) }
+    requires clock { greatest_clock (turn tables.old caller.old) < CLOCK_LIMIT }
+    ensures ok { OnOk result (turn tables.new caller.new ≡ opens from
+        (Cargo.Ask message dest.now) (turn tables.old caller.old)) }
+    ensures back { IfErr result (λ refused. refused.0 ≡ Cargo.Ask message dest.now) }
+    ensures refused { OnErr result (turn tables.new caller.new ≡ turn tables.old caller.old) }
+    ensures out { StaysOut tables.old.out tables.new.out }
+    ensures kept { KeepsRoom tables.old tables.new }
+{
+    match hear_ask(tables, from, message, *dest, caller) {
+        Ok(()) => Ok(()),
+        Err((message, none)) => {
+            let back = Cargo::Ask {
+                message,
+                dest: *dest,
+            };
+            Err((back, none))
         }
     }
+}
 
-    /// Tells the first message of a port and route what was decided.
-    fn open_verdict(
-        &mut self,
-        id: MsgId,
-        key: &Key,
-        answer: Answer,
-        caller: &mut Caller,
-    ) -> Result<(), (Cargo, AllocError)>
-        requires may { MayTell key.now answer (turn self.old caller.old) }
-        requires clock { greatest_clock (turn self.old caller.old) < CLOCK_LIMIT }
-        ensures ok { OnOk result (turn self.new caller.new ≡ opens 0
-            (Cargo.Verdict id key.now.port key.now.route answer) (turn self.old caller.old)) }
-        ensures back { IfErr result (λ refused. refused.0 ≡
-            Cargo.Verdict id key.now.port key.now.route answer) }
-        ensures refused { OnErr result (turn self.new caller.new ≡ turn self.old caller.old) }
-        ensures out { StaysOut self.old.out self.new.out }
-        ensures kept { KeepsRoom self.old self.new }
-    {
-        match self.hear_verdict(id, key, answer, caller) {
-            Ok(()) => Ok(()),
-            Err(none) => {
-                let back = Cargo::Verdict {
-                    id,
-                    port: key.port,
-                    route: key.route,
-                    answer,
-                };
-                Err((back, none))
-            }
-        }
-    }
-
-    /// Holds a port that came.
-    fn open_transfer(
-        &mut self,
-        port: PortRecord,
-        caller: &mut Caller,
-    ) -> Result<(), (Cargo, AllocError)>
-        requires may { MayArrive port (turn self.old caller.old) }
-        requires clock { greatest_clock (turn self.old caller.old) < CLOCK_LIMIT }
-        ensures ok { OnOk result (turn self.new caller.new ≡ opens 0
-            (Cargo.Transfer port) (turn self.old caller.old)) }
-        ensures back { IfErr result (λ refused. refused.0 ≡ Cargo.Transfer port) }
-        ensures refused { OnErr result (turn self.new caller.new ≡ turn self.old caller.old) }
-        ensures out { StaysOut self.old.out self.new.out }
-        ensures kept { KeepsRoom self.old self.new }
-    {
-        match self.hear_transfer(port, caller) {
-            Ok(()) => Ok(()),
-            Err((port, none)) => Err((Cargo::Transfer { port }, none)),
-        }
-    }
-
-    /// Chooses members for a post of the place `from`.
-    fn open_ask(
-        &mut self,
-        from: u16,
-        message: Message,
-        dest: &Dest,
-        caller: &mut Caller,
-    ) -> Result<(), (Cargo, AllocError)>
-        requires may { MayAsk from message dest.now (turn self.old caller.old) }
-        requires clock { greatest_clock (turn self.old caller.old) < CLOCK_LIMIT }
-        ensures ok { OnOk result (turn self.new caller.new ≡ opens from
-            (Cargo.Ask message dest.now) (turn self.old caller.old)) }
-        ensures back { IfErr result (λ refused. refused.0 ≡ Cargo.Ask message dest.now) }
-        ensures refused { OnErr result (turn self.new caller.new ≡ turn self.old caller.old) }
-        ensures out { StaysOut self.old.out self.new.out }
-        ensures kept { KeepsRoom self.old self.new }
-    {
-        match self.hear_ask(from, message, *dest, caller) {
-            Ok(()) => Ok(()),
-            Err((message, none)) => {
-                let back = Cargo::Ask {
-                    message,
-                    dest: *dest,
-                };
-                Err((back, none))
-            }
-        }
-    }
-
-    /// Hears what became of a message elsewhere.
-    fn open_report(
-        &mut self,
-        id: MsgId,
-        answer: Answer,
-        caller: &mut Caller,
-    ) -> Result<(), (Cargo, AllocError)>
-        requires copy { id.copy ≤ MEMBERS_LIMIT }
-        requires clock { greatest_clock (turn self.old caller.old) < CLOCK_LIMIT }
-        ensures ok { OnOk result (turn self.new caller.new ≡ opens 0
-            (Cargo.Report id answer) (turn self.old caller.old)) }
-        ensures back { IfErr result (λ refused. refused.0 ≡ Cargo.Report id answer) }
-        ensures refused { OnErr result (turn self.new caller.new ≡ turn self.old caller.old) }
-        ensures out { StaysOut self.old.out self.new.out }
-        ensures kept { KeepsRoom self.old self.new }
-    {
-        match self.hear_report(id, answer, caller) {
-            Ok(()) => Ok(()),
-            Err(none) => Err((Cargo::Report { id, answer }, none)),
-        }
+/// Hears what became of a message elsewhere.
+fn open_report(
+    tables: &mut Tables,
+    id: MsgId,
+    answer: Answer,
+    caller: &mut Caller,
+) -> Result<(), (Cargo, AllocError)>
+    requires copy { id.copy ≤ MEMBERS_LIMIT }
+    requires clock { greatest_clock (turn tables.old caller.old) < CLOCK_LIMIT }
+    ensures ok { OnOk result (turn tables.new caller.new ≡ opens 0
+        (Cargo.Report id answer) (turn tables.old caller.old)) }
+    ensures back { IfErr result (λ refused. refused.0 ≡ Cargo.Report id answer) }
+    ensures refused { OnErr result (turn tables.new caller.new ≡ turn tables.old caller.old) }
+    ensures out { StaysOut tables.old.out tables.new.out }
+    ensures kept { KeepsRoom tables.old tables.new }
+{
+    match hear_report(tables, id, answer, caller) {
+        Ok(()) => Ok(()),
+        Err(none) => Err((Cargo::Report { id, answer }, none)),
     }
 }

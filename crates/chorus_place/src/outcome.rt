@@ -8,10 +8,9 @@ ghost use Rattle.chorus_world.specs.Posts.{source, post_of};
 ghost use Rattle.chorus_machine.specs.Outcomes.{said_of, answer_by, answer_for, became, outcome};
 ghost use Rattle.chorus_place.specs.Outcomes.{goes_to, dest_by, copies_by, outcome_by};
 
-use crate::decision::is_final;
-use crate::tables::Tables;
 use chorus_entry::{Act, Answer, Dest, Entry, MsgId};
 use chorus_machine::Outcome;
+use chorus_ranges::is_final;
 
 /// What the journal says of a message: where its post goes, the answer of the post, and that of the message.
 #[derive(Clone, Copy, Debug)]
@@ -138,11 +137,9 @@ fn outcome_by(id: MsgId, said: Said) -> Outcome
     }
 }
 
-impl Tables {
-    /// What became of the message. It reads the journal once, and takes no memory.
-    pub(crate) fn outcome(&self, id: MsgId) -> Outcome
-        ensures { result ≡ outcome id self.now.journal.past }
-    {
-        outcome_by(id, read(self.journal.entries(), id))
-    }
+/// What became of the message, by the entries of the place where it was posted. It reads them once, and takes no memory.
+pub(crate) fn outcome_in(entries: &[Entry], id: MsgId) -> Outcome
+    ensures { result ≡ outcome id (reverse entries.now) }
+{
+    outcome_by(id, read(entries, id))
 }

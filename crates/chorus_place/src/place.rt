@@ -11,15 +11,18 @@ ghost use Rattle.chorus_machine.specs.PlaceState.{started, newest, greatest_cloc
 ghost use Rattle.chorus_machine.specs.PlaceMachine.{begun, begun_by};
 ghost use Rattle.chorus_machine.specs.Lawful.{is_lawful};
 ghost use Rattle.chorus_machine.specs.Outcomes.{outcome};
-ghost use Rattle.chorus_place.specs.Calls.{state, is_call, Called, MayCall, Stays, TakesNone, WorkedOff};
+ghost use Rattle.chorus_place.specs.Calls.{state, is_call, Called, IsWornAt, IsWornBack, MayCall, Stays, TakesNone, WorkedOff};
 
 use crate::fault::PlaceFault;
-use crate::tables::Tables;
+use crate::open::open;
+use crate::outcome::outcome_in;
+use crate::perform::perform;
 use chorus_calls::Caller;
 use chorus_entry::{Command, Entry, MsgId, Packet};
 use chorus_machine::{Outcome, Reply};
 use chorus_out::Outbox;
 use chorus_ports::Ports;
+use chorus_steps::Tables;
 use chorus_ui::{CLOCK_LIMIT, Layout, Ui};
 use std::alloc::{AllocError, Global};
 use std::marker::Model;
@@ -57,7 +60,7 @@ impl Place {
     pub fn layout(&self) -> Layout
         ensures { result ≡ self.now.layout }
     {
-        self.tables.layout
+        self.tables.layout()
     }
 
     /// Its number, one of a place of the layout.
@@ -111,7 +114,7 @@ impl Place {
     pub fn outcome(&self, id: MsgId) -> Outcome
         ensures { result ≡ outcome id self.now.journal }
     {
-        self.tables.outcome(id)
+        outcome_in(self.tables.entries(), id)
     }
 
     /// How many entries and packets need no memory.
@@ -139,18 +142,20 @@ impl Place {
         requires may { MayCall (state self.old) caller.old command }
         requires posts { is_post command ≡ true → caller.old.posts < u32.MAX }
         requires given { is_call command ≡ true → caller.old.client.given < u32.MAX }
-        ensures called { IfOk result (λ r. Called self.old self.new caller.old caller.new command r) }
+        ensures called { IfOk result (λ r.
+            Called self.old self.new caller.old caller.new command r) }
         ensures worn { (clock : ℕ) → IsErrOf result (PlaceFault.Worn clock) ↔
-            ((CLOCK_LIMIT ≤ greatest_clock (begun (state self.old) caller.old)) × (clock ≡ greatest_clock (begun (state self.old) caller.old))) }
+            IsWornAt clock (begun (state self.old) caller.old) }
         ensures refused { OnErr result (Stays self.old self.new × (caller.new ≡ caller.old)) }
-        ensures takes_no_memory { TakesNone command (state self.old) caller.old → 2 ≤ self.old.spare →
-            greatest_clock (begun (state self.old) caller.old) < CLOCK_LIMIT → IsOk result }
+        ensures takes_no_memory { TakesNone command (state self.old) caller.old →
+            2 ≤ self.old.spare → greatest_clock (begun (state self.old) caller.old) < CLOCK_LIMIT →
+            IsOk result }
     {
         let clock = self.tables.clock().max(caller.last());
         if clock >= CLOCK_LIMIT {
             return Err(PlaceFault::Worn { clock });
         }
-        let reply = self.tables.perform(command, caller)?;
+        let reply = perform(&mut self.tables, command, caller)?;
         self.tables.send_out();
         Ok(reply)
     }
@@ -170,7 +175,7 @@ impl Place {
         requires { is_lawful packet.from packet (state self.old) ≡ true }
         ensures worked { OnOk result (WorkedOff self.old self.new caller.old caller.new packet) }
         ensures worn { (back : Packet) (clock : ℕ) → IsErrOf result (back, PlaceFault.Worn clock) ↔
-            ((CLOCK_LIMIT ≤ greatest_clock (begun_by (state self.old) caller.old packet)) × (clock ≡ greatest_clock (begun_by (state self.old) caller.old packet)) × (back ≡ packet)) }
+            IsWornBack clock back packet (begun_by (state self.old) caller.old packet) }
         ensures back { IfErr result (λ refused. refused.0 ≡ packet) }
         ensures refused { OnErr result (Stays self.old self.new × (caller.new ≡ caller.old)) }
     {
@@ -181,7 +186,7 @@ impl Place {
             return Err((packet, PlaceFault::Worn { clock }));
         }
         caller.tick(heard);
-        match self.tables.open(packet, caller) {
+        match open(&mut self.tables, packet, caller) {
             Ok(()) => {
                 self.tables.send_out();
                 Ok(())

@@ -1,6 +1,6 @@
 use Rattle.std.proofs.Common.{◌++◌, ◌∷◌, [], take, ap, sym, ◌∙◌, arith}
 use Rattle.chorus_place.specs.GroupTurns.{copies}
-use Rattle.chorus_place.proofs.GroupTurns.Ready.{copies-more}
+use Rattle.chorus_place.proofs.GroupTurns.{copies-more}
 use Rattle.chorus_place.proofs.turns_groups.copies_for.Goals as goal
 
 pub loop-at-preserved : goal.loop-at-preserved

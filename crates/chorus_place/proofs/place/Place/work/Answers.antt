@@ -1,7 +1,7 @@
 use Rattle.std.proofs.Common.{ap, subst, max, ◌∙◌}
 use Rattle.chorus_machine.specs.PlaceMachine.{work, begun, begun_by}
 use Rattle.chorus_calls.specs.Callers.{after_tick}
-use Rattle.chorus_place.specs.Tables.{state}
+use Rattle.chorus_steps.specs.Tables.{state}
 use Rattle.chorus_place.specs.Calls as calls
 use Rattle.chorus_place.proofs.Ended.{begins, ended}
 use Rattle.chorus_place.proofs.place.Place.work.Goals as goal
@@ -15,5 +15,5 @@ returns-in-Ok-clause-worked c =
     let heard = c.max-heard.ensures ∙ ap (λ n. max n packet.clock) c.last-last.ensures in
     let done = c.in-Ok.ensures.ok ∙ ap (work packet) (begins p c.tick.new.self c.self.invariant ∙ ap (begun (state p)) (c.tick.ensures ∙ ap (after_tick caller) heard)) in
     subst (λ q. calls.Ended (work packet (begun_by (calls.state q) caller packet)) q (calls.place_of c.send_out.new.self) c.open.new.caller) c.self.view_is
-    (ended (work packet (begun_by (state p) caller packet)) p c.open.new.self c.send_out.new.self c.open.new.caller c.self.invariant done c.open.ensures.out c.open.ensures.kept
+    (ended (work packet (begun_by (state p) caller packet)) p c.open.new.tables c.send_out.new.self c.open.new.caller c.self.invariant done c.open.ensures.out c.open.ensures.kept
     (record { state = sent.state; lists = sent.lists; spare = ap (λ j. j.spare) sent.journal; room = sent.room }))

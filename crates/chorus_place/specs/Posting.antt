@@ -1,0 +1,34 @@
+-- A message is posted to a port, or hears its verdict: what is ready then.
+-- p is the tables of a place.
+use Rattle.std.specs.Prelude.{ℕ, ◌≡◌, ◌+◌, ◌<◌, ◌≤◌, ◌^◌, List, [], ◌∷◌, length, Option, Some, None}
+use Rattle.chorus_ui.specs.declared.kind.Kind.TheVariants as kinds
+use Rattle.chorus_entry.specs.declared.answer.Answer.{Answer}
+use Rattle.chorus_entry.specs.declared.answer.Answer.TheVariants as A
+use Rattle.chorus_entry.specs.Act.{answer_of}
+use Rattle.chorus_entry.specs.declared.entry.Entry.{Entry}
+use Rattle.chorus_waits.specs.Queues.{room}
+use Rattle.chorus_machine.specs.Doing.{direct, post}
+use Rattle.chorus_place.specs.declared.turns_messages.Ready.{Ready}
+use Rattle.chorus_steps.specs.Tables.{Tables, IsSound}
+use Rattle.chorus_steps.specs.Going.{waits_for, reports_for, leaving_after}
+
+-- how many messages an answer settles
+abbrev pub settled_by : Answer → ℕ
+settled_by (A.Stale to hop) = 0
+settled_by _ = 1
+
+-- all that the post of a message to a port takes is there
+pub record IsReady (ready : Ready) (p : Tables) : Type 0 where
+  pub kind : ready.port.kind ≡ kinds.Port
+  pub sound : IsSound ready.message
+  pub wait : ready.wait ≡ post ready.message p.number
+  pub again : ready.again ≡ leaving_after (direct ready.port) A.NoPort 0 (Some ready.wait) p
+  pub line : 0 < room p.waits (direct ready.port)
+  pub few : length (waits_for (direct ready.port) p) < 2 ^ 63
+  pub spare : length (waits_for (direct ready.port) p) + 2 ≤ p.journal.spare
+  pub room : reports_for (direct ready.port) p + 1 ≤ p.room
+
+-- the answer that the newest entry gives
+abbrev pub last_answer : List Entry → Option Answer
+last_answer [] = None
+last_answer (e ∷ here) = answer_of e.act

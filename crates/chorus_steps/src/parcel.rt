@@ -1,0 +1,12 @@
+//! A packet on its way out.
+
+use chorus_entry::Packet;
+
+/// A packet that the turn has put, and the place that it goes to.
+#[derive(Debug, Drop)]
+pub struct Parcel {
+    /// The place, from 1.
+    pub to: u16,
+    /// What it gets.
+    pub packet: Packet,
+}
