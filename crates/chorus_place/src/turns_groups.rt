@@ -128,7 +128,7 @@ pub(crate) fn join(
     ensures kept { KeepsRoom tables.old tables.new }
 {
     tables.make_room(1, 0)?;
-    match tables.join_fault(group, port) {
+    match tables.groups().join_fault(group, port) {
         Some(JoinFault::NoGroup) => {
             tables.note(Act::NoGroup { group }, caller);
             Ok(Reply::NoGroup)
@@ -165,7 +165,7 @@ pub(crate) fn leave(
     ensures kept { KeepsRoom tables.old tables.new }
 {
     tables.make_room(1, 0)?;
-    match tables.leave_fault(group, port) {
+    match tables.groups().leave_fault(group, port) {
         Some(LeaveFault::NoGroup) => {
             tables.note(Act::NoGroup { group }, caller);
             Ok(Reply::NoGroup)

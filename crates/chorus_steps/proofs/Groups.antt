@@ -210,7 +210,7 @@ pub record GoesAlone (k : Key) (n : ℕ) (t u : Turn) : Type 0 where
 max-same : (n : ℕ) → max n n ≡ n
 max-same n = omega arith
 
-not-at : (k l : Key) (f : Queue → Queue) (qs : Key → Queue) → same_key k l ≡ false → changed k f qs l ≡ qs l
+pub not-at : (k l : Key) (f : Queue → Queue) (qs : Key → Queue) → same_key k l ≡ false → changed k f qs l ≡ qs l
 not-at k l f qs h = ap (λ b. cond b (f (qs k)) (qs l)) h
 
 after-settled : (k : Key) (w : Wait) (tried n : ℕ) (a : Answer) (t u : Turn) → GoesAlone k n (settles_here k w tried a t) u → GoesAlone k (suc n) t u
@@ -259,7 +259,7 @@ reports-within p (w ∷ ws) = by (w.home == p) (reports-within p ws)
     by true h = omega (arith, h)
     by false h = omega (arith, h)
 
-not-here : (q : Ui) (qs : List Ui) → are_distinct (q ∷ qs) ≡ true → is_member q qs ≡ false
+pub not-here : (q : Ui) (qs : List Ui) → are_distinct (q ∷ qs) ≡ true → is_member q qs ≡ false
 not-here q qs h = by (is_member q qs) (and_parts (not (is_member q qs)) (are_distinct qs) h).0
   where
     by : (b : Bool) → not b ≡ true → b ≡ false
@@ -294,7 +294,7 @@ all-next g all start t u c left e p more rest h is entries packets =
 
 -- Copies are put.
 
-or-none : (b c : Bool) → b || c ≡ false → (b ≡ false) × (c ≡ false)
+pub or-none : (b c : Bool) → b || c ≡ false → (b ≡ false) × (c ≡ false)
 or-none true c h = absurd (false≢true (sym h))
 or-none false c h = (refl, h)
 

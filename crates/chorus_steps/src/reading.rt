@@ -1,12 +1,15 @@
 //! What is read of a place, and what is left of it at its end.
 
 ghost use Rattle.std.specs.Prelude.{◌≡◌, ◌^◌, ◌<◌, ◌≤◌, min, true, length, reverse, is_some, IsSome, IfOk, IfSome};
+ghost use Rattle.chorus_ui.specs.declared.ui.Ui.{Ui};
 ghost use Rattle.chorus_ui.specs.declared.kind.Kind.TheVariants as Kind;
 ghost use Rattle.chorus_ui.specs.declared.limits.TheConstants.{PENDING_LIMIT};
 ghost use Rattle.chorus_ui.specs.Layout.{has_site, has_place};
-ghost use Rattle.chorus_world.specs.Groups.{groups_made};
 ghost use Rattle.chorus_world.specs.Places.{last_clock};
-ghost use Rattle.chorus_groups.specs.Faults.{join_fault_of, leave_fault_of};
+ghost use Rattle.chorus_world.specs.Views.{is_group};
+ghost use Rattle.chorus_world.specs.Groups.{groups_made};
+ghost use Rattle.chorus_world.specs.Groups as world;
+ghost use Rattle.chorus_groups.specs.Groups.{group_of, members, rotation};
 ghost use Rattle.chorus_ports.specs.Table.{find};
 ghost use Rattle.chorus_out.specs.Waiting.{count};
 ghost use Rattle.chorus_machine.specs.Own.{held_by};
@@ -17,7 +20,7 @@ ghost use Rattle.chorus_steps.specs.Tables.{state};
 
 use crate::tables::Tables;
 use chorus_entry::{Entry, Ids, Pending};
-use chorus_groups::{JoinFault, LeaveFault};
+use chorus_groups::Groups;
 use chorus_out::Outbox;
 use chorus_ports::Ports;
 use chorus_ui::{Layout, Ui};
@@ -60,18 +63,18 @@ impl Tables {
         self.journal.groups_made()
     }
 
-    /// Why the port does not join the group, where it does not.
-    pub fn join_fault(&self, group: Ui, port: Ui) -> Option<JoinFault>
-        ensures { result ≡ join_fault_of self.now.journal.groups group port }
+    /// The groups that were made here, with their members and rotation places.
+    pub fn groups(&self) -> &Groups
+        ensures groups { result.now ≡ self.now.journal.groups }
+        ensures members { (g : Ui) →
+            members g result.now ≡ world.members g self.now.journal.past }
+        ensures rotation { (g : Ui) →
+            rotation g result.now ≡ world.rotation g self.now.journal.past }
+        ensures made { length result.now.groups ≡ groups_made self.now.journal.past }
+        ensures named { (g : Ui) →
+            is_some (group_of g result.now.groups) ≡ is_group g self.now.journal.past }
     {
-        self.journal.groups().join_fault(group, port)
-    }
-
-    /// Why the port does not leave the group, where it does not.
-    pub fn leave_fault(&self, group: Ui, port: Ui) -> Option<LeaveFault>
-        ensures { result ≡ leave_fault_of self.now.journal.groups group port }
-    {
-        self.journal.groups().leave_fault(group, port)
+        self.journal.groups()
     }
 
     /// How many messages wait for a port and route.

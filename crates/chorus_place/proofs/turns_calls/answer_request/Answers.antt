@@ -22,6 +22,6 @@ returns-clause-performed c =
     let ready = c.in_ok-ready.ready in
     let after = c.post_prepared-id in
     post-done (Command.Reply c.args.body) (next_message (Tag.Reply hand.client hand.number) c.args.body caller) ready.message hand.back ready.port c.args.tables.now
-    c.ready_post.new.tables caller c.set_hand.new.self (turn after.new.self after.new.caller) c.post_reply.result after.result
+    c.ready_post.new.tables caller c.set_hand.new.self (turn after.new.tables after.new.caller) c.post_reply.result after.result
     (ap (reply_act c.args.body caller) c.requires.hand) c.in_ok-ready.ensures.port c.in_ok-ready.ensures.message c.ready_post.ensures.turn c.set_hand.ensures after.ensures.turn
     after.ensures.id c.post_reply.ensures

@@ -29,5 +29,5 @@ returns-clause-performed c =
     ∙ ap (λ n. next_message (Tag.Request (n + 1) back) c.in_ok-carried.carried caller) given
     ∙ ap (λ b. next_message (Tag.Request (caller.client.given + 1) back) b caller) c.in_ok-carried.ensures.copy in
     post-done (Command.Call port back body) (next_message (Tag.Request (caller.client.given + 1) back) body caller) ready.message port ready.port c.args.tables.now
-    c.ready_post.new.tables caller c.begin.new.caller (turn after.new.self after.new.caller) c.post_reply.result after.result
+    c.ready_post.new.tables caller c.begin.new.caller (turn after.new.tables after.new.caller) c.post_reply.result after.result
     (ap (call_act port back body caller) c.requires.free) c.in_ok-ready.ensures.port message c.ready_post.ensures.turn c.begin.ensures after.ensures.turn after.ensures.id c.post_reply.ensures

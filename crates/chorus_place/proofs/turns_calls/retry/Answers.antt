@@ -27,6 +27,6 @@ returns-clause-performed c =
     let message = c.in_ok-ready.ensures.message
     ∙ ap (λ b. next_message (Tag.Request call.number call.back) b caller) c.in_ok-body.ensures.copy in
     post-done Command.Retry (next_message (Tag.Request call.number call.back) call.body caller) ready.message call.port ready.port c.args.tables.now
-    c.ready_post.new.tables caller caller (turn after.new.self after.new.caller) c.post_reply.result after.result
+    c.ready_post.new.tables caller caller (turn after.new.tables after.new.caller) c.post_reply.result after.result
     (ap (retry_act caller) outstanding) c.in_ok-ready.ensures.port message c.ready_post.ensures.turn (same-call call.port call.back call.body caller call outstanding)
     after.ensures.turn after.ensures.id c.post_reply.ensures
