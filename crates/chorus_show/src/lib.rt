@@ -20,5 +20,6 @@ mod summary;
 
 pub use journal::{entry_line, journal_text};
 pub use law::a_line_has_one_entry;
+pub use queues::Spot;
 pub use status::{Status, fault_text};
 pub use summary::summary_text;

@@ -11,7 +11,7 @@ use std::collections::BTreeMap;
 
 /// Where a port is.
 #[derive(Clone, Copy, Debug, PartialEq, Eq)]
-pub(crate) enum Spot {
+pub enum Spot {
     /// At an actor.
     Held,
     /// Under way to another site.
