@@ -1,5 +1,5 @@
 -- The own act of the place machine is the act that the views tell, where the network stands for a past.
-use Rattle.std.proofs.Common.{ℕ, zero, suc, ◌≡◌, ◌≤◌, ◌<◌, ◌+◌, ◌-◌, ◌==◌, Bool, true, false, ◌&&◌, not, cond, List, [], ◌∷◌, length, map, drop, Option, Some, None, slice_get, refl, sym, ◌∙◌, ap, subst, inl, inr, arith}
+use Rattle.std.proofs.Common.{ℕ, zero, suc, ◌≡◌, ◌≢◌, ◌≤◌, ◌+◌, ◌-◌, ◌==◌, Bool, true, false, ◌&&◌, not, cond, List, [], ◌∷◌, length, map, drop, Option, Some, None, slice_get, refl, sym, ◌∙◌, ap, subst, inl, inr, arith}
 use Rattle.std.proofs.lemmas.Bool.{both_ways}
 use Rattle.chorus_ui.specs.declared.ui.Ui.{Ui}
 use Rattle.chorus_ui.specs.Name.{same_ui}
@@ -48,12 +48,12 @@ swapped : (u v : Ui) → same_ui u v ≡ same_ui v u
 swapped u v =
     elim (same_ui_tells u v) [
       | inl same ↦ (same.0 ∙ sym (ap (same_ui v) same.1 ∙ same_ui-self v))
-      | inr differ ↦ (differ.0 ∙ sym (apart (same_ui v u) refl))
+      | inr differ ↦ (differ.0 ∙ sym (apart differ.1 (same_ui v u) refl))
     ]
   where
-    apart : (b : Bool) → same_ui v u ≡ b → same_ui v u ≡ false
-    apart true e = absurd (cc)
-    apart false e = e
+    apart : u ≢ v → (b : Bool) → same_ui v u ≡ b → same_ui v u ≡ false
+    apart n true e = absurd (n (sym (from_same_ui v u e)))
+    apart n false e = e
 
 both-hold : (b c : Bool) → b && c ≡ cond c b false
 both-hold true true = refl
