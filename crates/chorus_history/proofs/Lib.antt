@@ -4,7 +4,9 @@ pub mod Sorting
 pub mod Clocks
 pub mod Runs
 pub mod Counts
+pub mod Working
 pub mod Rising
+pub mod Appending
 pub mod Showing
 pub mod Arriving
 pub mod Happening

@@ -106,14 +106,8 @@ none-left (u ∷ us) h =
     sym (ap (λ b. map (λ (o : Outgoing). o.packet) (cond b (u ∷ filter (is_link u.packet.from u.to) us) (filter (is_link u.packet.from u.to) us))) own) ∙ h u.packet.from u.to in
     absurd (cc)
 
-module _ (l : Layout) (comers : List Comer) (places-of seats : ℕ → List PlaceTurn) (closing : Network PlaceState Seated Packet) (shape : IsLayout l) (h : AreHistories l comers places-of seats closing) where
-  ts : List PlaceTurn
-  ts = (their-schedule l comers places-of seats closing h).0
-
-  is : IsTheirSchedule l comers places-of seats closing ts
-  is = (their-schedule l comers places-of seats closing h).1
-
-  n : NetState
+module _ (l : Layout) (comers : List Comer) (places-of seats : ℕ → List PlaceTurn) (closing : Network PlaceState Seated Packet) (shape : IsLayout l) (ts : List PlaceTurn) (is : IsTheirSchedule l comers places-of seats closing ts) where
+  abbrev n : NetState
   n = schedule l (events comers ts)
 
   promises : Promises l (events comers ts) n
@@ -146,7 +140,9 @@ module _ (l : Layout) (comers : List Comer) (places-of seats : ℕ → List Plac
       }
 
 pub journals-merge-as-a-run : JournalsMergeAsARun
-journals-merge-as-a-run l comers places-of seats closing shape h = merges l comers places-of seats closing shape h
+journals-merge-as-a-run l comers places-of seats closing shape h =
+    let found = their-schedule l comers places-of seats closing h in merges l comers places-of seats closing shape found.0 found.1
 
 pub journals-keep-promises : JournalsKeepPromises
-journals-keep-promises l comers places-of seats closing shape h = keeps-all l comers places-of seats closing shape h
+journals-keep-promises l comers places-of seats closing shape h =
+    let found = their-schedule l comers places-of seats closing h in keeps-all l comers places-of seats closing shape found.0 found.1

@@ -1,39 +1,23 @@
 -- The clocks of a turn of the place machine rise: what it leaves and puts has at least the clock of its first entry.
-use Rattle.std.proofs.Common.{ℕ, ◌≡◌, ◌<◌, ◌≤◌, ◌+◌, ◌==◌, max, Bool, true, false, ◌&&◌, not, List, [], ◌∷◌, ◌++◌, map, length, Some, refl, sym, ◌∙◌, ap, subst, arith}
+use Rattle.std.proofs.Common.{ℕ, ◌≡◌, ◌<◌, ◌≤◌, ◌+◌, ◌==◌, max, Bool, true, false, ◌&&◌, not, List, [], ◌∷◌, ◌++◌, map, Some, refl, sym, ◌∙◌, ap, subst, arith}
 use Rattle.std.specs.List.{All}
 use Rattle.std.proofs.lemmas.Bool.{and_parts, eqb-true, false≢true}
 use Rattle.std.proofs.lemmas.List.Elements.{All-nil, All-cons, All-append, All-weaker, All-head, All-tail}
-use Rattle.chorus_ui.specs.declared.ui.Ui.{Ui}
 use Rattle.chorus_ui.specs.declared.layout.Layout.{Layout}
 use Rattle.chorus_ui.specs.Layout.{has_place}
 use Rattle.chorus_entry.specs.declared.act.Act.{Act}
-use Rattle.chorus_entry.specs.declared.act.Act.TheVariants as acts
-use Rattle.chorus_entry.specs.declared.answer.Answer.{Answer}
-use Rattle.chorus_entry.specs.declared.answer.Answer.TheVariants as answers
 use Rattle.chorus_entry.specs.declared.command.Command.{Command}
-use Rattle.chorus_entry.specs.declared.dest.Dest.{Dest}
-use Rattle.chorus_entry.specs.declared.dest.Dest.TheVariants as dests
-use Rattle.chorus_entry.specs.declared.message.Message.{Message}
 use Rattle.chorus_entry.specs.declared.packet.Packet.{Packet}
 use Rattle.chorus_entry.specs.declared.packet.Cargo.{Cargo}
-use Rattle.chorus_entry.specs.declared.packet.Cargo.TheVariants as cargos
 use Rattle.chorus_entry.specs.Places.{place_for}
-use Rattle.chorus_world.specs.Places.{last_clock, taught}
-use Rattle.chorus_hints.specs.Known.{learned}
-use Rattle.chorus_waits.specs.declared.wait.Key.{Key}
-use Rattle.chorus_waits.specs.Queues.{changed}
-use Rattle.chorus_waits.specs.Unheard.{heard}
+use Rattle.chorus_world.specs.Places.{last_clock}
 use Rattle.chorus_calls.specs.Callers.{Seated}
-use Rattle.chorus_machine.specs.PlaceState.{PlaceState, Turn, Change, Outgoing, unchanged, next_clock, packed, say}
-use Rattle.chorus_machine.specs.Deciding.{decide, decision, records_after}
-use Rattle.chorus_machine.specs.Trying.{report}
+use Rattle.chorus_machine.specs.PlaceState.{PlaceState, Turn, Change, Outgoing, next_clock, packed, say}
 use Rattle.chorus_machine.specs.PlaceMachine.{begun, begun_by, act, work}
-use Rattle.chorus_machine.specs.Choosing.{choice, with_copies, chooses_all, chooses_these}
-use Rattle.chorus_machine.specs.Working.{taught_of, told, report_of, opens, answers_ask}
-use Rattle.chorus_machine.proofs.Machine.Follows.{go-keeps, all-go-keeps}
 use Rattle.chorus_machine.proofs.Machine.Chains.{act-gives}
 use Rattle.chorus_law.specs.Schedules.{may_give}
 use Rattle.chorus_history.specs.Turns.{Input, Sent, Outcome, Machine, Rises}
+use Rattle.chorus_history.proofs.Working.{work-gives}
 use Rattle.chorus_history.specs.PlaceTurns.{as_sent, outcome, turn, brings_entry, may_come, may_take, machine}
 
 -- the packet is put by the place p, with a clock of at least `first`
@@ -76,57 +60,9 @@ pub act-rises : (c : Command) (t : Turn) → t.puts ≡ [] → Rose (next_clock 
 act-rises c t e =
     act-gives (Rose (next_clock t) t.place.number) (λ a x u s h. said-more (next_clock t) t.place.number a x u h) c t (λ a x s. said-first a x t e)
 
--- A packet that brings an entry: it comes first, and then others.
-module _ (t : Turn) (e : t.puts ≡ []) where
-  abbrev After : Turn → Type 0
-  After u = Rose (next_clock t) t.place.number u
-
-  more : (a : Act) (c : Change) (u : Turn) → After u → After (say a c u)
-  more a c u h = said-more (next_clock t) t.place.number a c u h
-
-  these-rise : (m : Message) (d : Dest) (g : Ui) (home : ℕ) (qs : List Ui) → After (chooses_these m d g home qs t)
-  these-rise m d g home [] =
-      said-first (acts.NoMember m.id g) (record (unchanged t) { loads = report t.place.number home m.id answers.NoMember }) t e
-  these-rise m d g home (q ∷ qs) =
-      let chosen : Change = record (unchanged t) {
-        waiting = with_copies m d g home 1 (q ∷ qs) t.place.waiting;
-        loads = report t.place.number home m.id (answers.Chosen (length (q ∷ qs)));
-      } in
-      all-go-keeps After (λ a c u n s h. more a c u h) g (q ∷ qs) (chooses_all m d g home (q ∷ qs) t)
-      (said-first (acts.Choose m.id g (q ∷ qs)) chosen t e)
-
-  asked-rises : (from : ℕ) (m : Message) (d : Dest) → brings_entry (cargos.Ask m d) ≡ true → After (answers_ask from m d t)
-  asked-rises from m (dests.Port q) b = absurd (false≢true b)
-  asked-rises from m (dests.All g) b = these-rise m (dests.All g) g from (choice (dests.All g) t.place)
-  asked-rises from m (dests.One g) b = these-rise m (dests.One g) g from (choice (dests.One g) t.place)
-  asked-rises from m (dests.OneAt g n) b = these-rise m (dests.OneAt g n) g from (choice (dests.OneAt g n) t.place)
-
-  opens-rises : (from : ℕ) (k : Cargo) → brings_entry k ≡ true → After (opens from k t)
-  opens-rises from (cargos.Try m q route only hop) b =
-      let answer = decide m q only hop t.place in
-      said-first (decision m.id q hop answer) (record (unchanged t) {
-        ports = records_after answer m q t.place.ports;
-        loads = (from, cargos.Verdict m.id q route answer) ∷ [];
-      }) t e
-  opens-rises from (cargos.Verdict x q route a) b =
-      let k : Key = record { port = q; route = route } in
-      let c : Change = record (unchanged t) {
-        known = taught_of k.port (taught a) t.place.known;
-        waiting = changed k (told a) t.place.waiting;
-        loads = report_of t.place.number x a (t.place.waiting k).waits;
-      } in
-      go-keeps After (λ a c u n s h. more a c u h) k (say (acts.Told x a) c t) (said-first (acts.Told x a) c t e)
-  opens-rises from (cargos.Transfer port) b =
-      said-first (acts.Arrive port.ui port.hop) (record (unchanged t) {
-        ports = t.place.ports ++ port ∷ [];
-        known = learned port.ui t.place.number port.hop t.place.known;
-      }) t e
-  opens-rises from (cargos.Ask m d) b = asked-rises from m d b
-  opens-rises from (cargos.Report x a) b =
-      said-first (acts.Heard x a) (record (unchanged t) { unheard = heard x t.place.unheard }) t e
-
 pub work-rises : (k : Packet) (t : Turn) → t.puts ≡ [] → brings_entry k.cargo ≡ true → Rose (next_clock t) t.place.number (work k t)
-work-rises k t e b = opens-rises t e k.from k.cargo b
+work-rises k t e b =
+    work-gives (Rose (next_clock t) t.place.number) (λ a x u s h. said-more (next_clock t) t.place.number a x u h) t (λ a x s. said-first a x t e) k b
 
 -- So the place machine is a machine of histories.
 

@@ -1,7 +1,15 @@
 //! The laws of journals. They speak of the definitions alone and make no call.
 
+ghost use Rattle.chorus_history.specs.Entries.{TurnsAppendEntries};
 ghost use Rattle.chorus_history.specs.Journals.{JournalsAreASchedule};
 ghost use Rattle.chorus_history.specs.Runs.{JournalsKeepPromises, JournalsMergeAsARun};
+
+/// Each turn that a place may take appends an entry with the clock that is noted of it, and perhaps newer ones.
+///
+/// All of them are of the place and of the caller in whose turn it is, and the caller keeps its seat and its actor.
+pub fn turns_append_entries()
+    ensures { TurnsAppendEntries }
+{}
 
 /// The journals of places that callers worked at side by side are those of a schedule.
 ///

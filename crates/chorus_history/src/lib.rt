@@ -17,5 +17,5 @@ mod journals;
 mod turns;
 
 pub use histories::{equal_counts_leave_nothing, histories_are_scheduled, stands_behind_all_seen};
-pub use journals::{journals_are_a_schedule, journals_merge_as_a_run};
+pub use journals::{journals_are_a_schedule, journals_merge_as_a_run, turns_append_entries};
 pub use turns::{Input, Sent};
