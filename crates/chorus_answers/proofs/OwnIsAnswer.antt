@@ -1,9 +1,8 @@
 -- The own act of the place machine is the act that the views tell, where the network stands for a past.
-use Rattle.std.proofs.Common.{ℕ, zero, suc, ◌≡◌, ◌≢◌, ◌≤◌, ◌+◌, ◌-◌, ◌==◌, Bool, true, false, ◌&&◌, not, cond, List, [], ◌∷◌, length, map, drop, Option, Some, None, slice_get, refl, sym, ◌∙◌, ap, subst, inl, inr, arith}
-use Rattle.std.proofs.lemmas.Bool.{both_ways}
+use Rattle.std.proofs.Common.{ℕ, zero, suc, ◌≡◌, ◌≢◌, ◌+◌, ◌-◌, ◌==◌, Bool, true, false, ◌&&◌, cond, List, [], ◌∷◌, length, map, drop, Option, Some, None, slice_get, refl, sym, ◌∙◌, ap, subst, inl, inr, arith}
 use Rattle.chorus_ui.specs.declared.ui.Ui.{Ui}
 use Rattle.chorus_ui.specs.Name.{same_ui}
-use Rattle.chorus_ui.specs.Layout.{IsLayout, has_actor, place_at, site_of}
+use Rattle.chorus_ui.specs.Layout.{IsLayout}
 use Rattle.chorus_ui.proofs.Names.{from_same_ui, same_ui-self, same_ui_tells}
 use Rattle.chorus_entry.specs.declared.entry.Entry.{Entry}
 use Rattle.chorus_entry.specs.declared.hand.Hand.{Hand}
@@ -32,12 +31,11 @@ use Rattle.chorus_world.proofs.Sorted.Holders.{run_is_legal}
 use Rattle.chorus_ports.specs.declared.taking.Taken.TheVariants as takes
 use Rattle.chorus_ports.specs.Table.{find}
 use Rattle.chorus_ports.specs.Taking.{first_at, taken}
-use Rattle.chorus_calls.specs.Clients.{Call}
 use Rattle.chorus_calls.specs.Callers.{Seated}
 use Rattle.chorus_machine.specs.PlaceState.{PlaceState}
 use Rattle.chorus_machine.specs.Own.{make_act, group_act, join_act, leave_act, take_act, held_by, move_act, delete_act, next_message, call_act, retry_act, cancel_act, reply_act, own}
 use Rattle.chorus_law.specs.Network.{NetState, place, turn_for}
-use Rattle.chorus_law.specs.Records.{message, record_for, record_held, record_here, record_at, as_called, outstanding_as, outstanding}
+use Rattle.chorus_law.specs.Records.{message, record_for, record_held, record_here, record_at, as_called, outstanding_as}
 use Rattle.chorus_law.specs.Stands.{Stands, IsCaller, actor_of}
 use Rattle.chorus_law.proofs.Standing.Grows.{message-id}
 use Rattle.chorus_law.proofs.Standing.Turning.{number-is, layout-is}

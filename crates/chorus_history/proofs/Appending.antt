@@ -1,22 +1,20 @@
 -- A turn appends entries of its place and caller, the first with the clock that was next when it began.
-use Rattle.std.proofs.Common.{ℕ, ◌≡◌, ◌==◌, true, ◌&&◌, not, List, [], ◌∷◌, ◌++◌, refl, sym, ◌∙◌, ap}
+use Rattle.std.proofs.Common.{◌≡◌, ◌==◌, true, ◌&&◌, not, List, [], ◌∷◌, ◌++◌, refl, ◌∙◌, ap}
 use Rattle.std.specs.List.{All}
 use Rattle.std.proofs.lemmas.Bool.{and_parts}
 use Rattle.std.proofs.lemmas.List.Elements.{All-nil, All-cons}
-use Rattle.chorus_ui.specs.declared.layout.Layout.{Layout}
 use Rattle.chorus_ui.specs.Layout.{has_place}
 use Rattle.chorus_entry.specs.declared.entry.Entry.{Entry}
 use Rattle.chorus_entry.specs.declared.act.Act.{Act}
 use Rattle.chorus_entry.specs.declared.command.Command.{Command}
 use Rattle.chorus_entry.specs.declared.packet.Packet.{Packet}
-use Rattle.chorus_calls.specs.Callers.{Seated}
-use Rattle.chorus_machine.specs.PlaceState.{PlaceState, Turn, Change, next_clock, next_entry, say}
+use Rattle.chorus_machine.specs.PlaceState.{Turn, Change, next_clock, next_entry, say}
 use Rattle.chorus_machine.specs.PlaceMachine.{begun, begun_by, act, work}
 use Rattle.chorus_machine.proofs.Machine.Chains.{act-gives}
 use Rattle.chorus_machine.proofs.Machine.Follows.{IsSame}
 use Rattle.chorus_history.specs.Turns.{Input}
-use Rattle.chorus_history.specs.PlaceTurns.{brings_entry, may_come, may_take}
-use Rattle.chorus_history.specs.Entries.{IsMadeBy, Appends, TurnsAppendEntries}
+use Rattle.chorus_history.specs.PlaceTurns.{brings_entry, may_come}
+use Rattle.chorus_history.specs.Entries.{IsMadeBy, TurnsAppendEntries}
 use Rattle.chorus_history.proofs.Working.{work-gives}
 
 -- the turn u, which began as t, has appended a first entry and these newer ones

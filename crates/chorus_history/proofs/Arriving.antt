@@ -9,8 +9,8 @@ use Rattle.chorus_ui.specs.declared.layout.Layout.{Layout}
 use Rattle.chorus_ui.specs.Layout.{has_actor}
 use Rattle.chorus_entry.specs.Kinds.{names_actor}
 use Rattle.chorus_calls.specs.Callers.{Seated, new_caller}
-use Rattle.chorus_machine.specs.PlaceState.{PlaceState, Outgoing, started}
-use Rattle.chorus_law.specs.Network.{NetState, Event, place_numbers, place_in, place, schedule}
+use Rattle.chorus_machine.specs.PlaceState.{started}
+use Rattle.chorus_law.specs.Network.{Event, place_numbers, place_in, schedule}
 use Rattle.chorus_law.specs.Schedules.{may_be}
 use Rattle.chorus_law.proofs.Places.Layouts.{schedule-keeps}
 use Rattle.chorus_history.specs.Journals.{Comer, IsComer, new_from, at_start, coming}

@@ -1,7 +1,7 @@
 -- A small history, worked out by hand, and histories that fail one premise each. On two sites of one place the first caller sends a
 -- message to a port that is not made, and the second works the packet off.
-use Rattle.std.proofs.Common.{ℕ, zero, suc, ◌≡◌, ◌<◌, ◌==◌, Bool, true, false, ◌&&◌, cond, List, [], ◌∷◌, ◌++◌, Option, None, slice_get, refl, sym, ◌∙◌, ap, arith}
-use Rattle.std.specs.List.{All, filter}
+use Rattle.std.proofs.Common.{ℕ, zero, suc, ◌≡◌, ◌<◌, ◌==◌, true, false, cond, List, [], ◌∷◌, ◌++◌, None, slice_get, refl, sym, ◌∙◌, ap, arith}
+use Rattle.std.specs.List.{filter}
 use Rattle.std.proofs.lemmas.Bool.{ne_eqb, false≢true}
 use Rattle.std.proofs.lemmas.List.Elements.{All-nil, All-cons, All-head}
 use Rattle.chorus_ui.specs.declared.ui.Ui.{Ui}

@@ -1,5 +1,5 @@
 -- Each event of the network machine shows what the turn leaves of places, links and callers.
-use Rattle.std.proofs.Common.{ℕ, ◌≡◌, ◌==◌, Bool, true, false, ◌&&◌, not, cond, List, [], ◌∷◌, ◌++◌, map, reverse, Option, Some, None, is_some, slice_get, refl, sym, ◌∙◌, ap, subst}
+use Rattle.std.proofs.Common.{ℕ, ◌≡◌, ◌==◌, true, ◌&&◌, not, List, [], ◌∷◌, ◌++◌, map, reverse, Option, Some, None, is_some, slice_get, refl, sym, ◌∙◌, ap, subst}
 use Rattle.std.specs.List.{All}
 use Rattle.std.specs.Option.{option_map}
 use Rattle.std.proofs.lemmas.Bool.{and_parts, and_from, false≢true}
@@ -10,9 +10,9 @@ use Rattle.chorus_entry.specs.declared.command.Command.{Command}
 use Rattle.chorus_entry.specs.declared.packet.Packet.{Packet}
 use Rattle.chorus_entry.specs.Places.{place_for}
 use Rattle.chorus_calls.specs.Callers.{Seated}
-use Rattle.chorus_machine.specs.PlaceState.{PlaceState, Outgoing, Turn, next_clock}
+use Rattle.chorus_machine.specs.PlaceState.{PlaceState, Turn, next_clock}
 use Rattle.chorus_machine.specs.PlaceMachine.{begun, begun_by, act, work}
-use Rattle.chorus_law.specs.Packets.{first_on, rest_on}
+use Rattle.chorus_law.specs.Packets.{rest_on}
 use Rattle.chorus_law.specs.Network as law
 use Rattle.chorus_law.specs.Network.{NetState, place, schedule, turn_for, commanded, works_off, delivered}
 use Rattle.chorus_law.specs.Schedules.{may_give, may_happen, may_be}
@@ -20,14 +20,13 @@ use Rattle.chorus_law.proofs.Links.LinkViews.{rest-order}
 use Rattle.chorus_law.proofs.Standing.Turning.{number-is}
 use Rattle.chorus_law.proofs.Places.Layouts.{Keeps, schedule-keeps}
 use Rattle.chorus_history.specs.Turns.{Input}
-use Rattle.chorus_history.specs.Turns as turns
 use Rattle.chorus_history.specs.Network.{Network, Event, MayHappen, MayCarry, relinked, carried, happens, run, IsSchedule}
 use Rattle.chorus_history.specs.Histories as histories
 use Rattle.chorus_history.specs.PlaceTurns.{brings_entry, may_come, machine}
 use Rattle.chorus_history.specs.Journals.{Comer, PlaceTurn, event_with, event_of}
 use Rattle.chorus_history.proofs.Lists.{reverse-first}
 use Rattle.chorus_history.proofs.Rising.{IsPut, act-rises, work-rises}
-use Rattle.chorus_history.proofs.Showing.{Shows, packets_on, first-is, relinks, ended-shows}
+use Rattle.chorus_history.proofs.Showing.{Shows, first-is, relinks, ended-shows}
 
 came : (o : Option Comer) (w : Seated) → is_some o ≡ true → option_map (λ (c : Comer). w) o ≡ Some w
 came None w h = absurd (false≢true h)

@@ -1,8 +1,8 @@
 -- The clocks of a turn of the place machine rise: what it leaves and puts has at least the clock of its first entry.
-use Rattle.std.proofs.Common.{ℕ, ◌≡◌, ◌<◌, ◌≤◌, ◌+◌, ◌==◌, max, Bool, true, false, ◌&&◌, not, List, [], ◌∷◌, ◌++◌, map, Some, refl, sym, ◌∙◌, ap, subst, arith}
+use Rattle.std.proofs.Common.{ℕ, ◌≡◌, ◌<◌, ◌≤◌, ◌==◌, true, ◌&&◌, not, List, [], ◌∷◌, map, Some, refl, sym, subst, arith}
 use Rattle.std.specs.List.{All}
-use Rattle.std.proofs.lemmas.Bool.{and_parts, eqb-true, false≢true}
-use Rattle.std.proofs.lemmas.List.Elements.{All-nil, All-cons, All-append, All-weaker, All-head, All-tail}
+use Rattle.std.proofs.lemmas.Bool.{and_parts, eqb-true}
+use Rattle.std.proofs.lemmas.List.Elements.{All-nil, All-cons, All-append, All-head, All-tail}
 use Rattle.chorus_ui.specs.declared.layout.Layout.{Layout}
 use Rattle.chorus_ui.specs.Layout.{has_place}
 use Rattle.chorus_entry.specs.declared.act.Act.{Act}
@@ -16,9 +16,9 @@ use Rattle.chorus_machine.specs.PlaceState.{PlaceState, Turn, Change, Outgoing, 
 use Rattle.chorus_machine.specs.PlaceMachine.{begun, begun_by, act, work}
 use Rattle.chorus_machine.proofs.Machine.Chains.{act-gives}
 use Rattle.chorus_law.specs.Schedules.{may_give}
-use Rattle.chorus_history.specs.Turns.{Input, Sent, Outcome, Machine, Rises}
+use Rattle.chorus_history.specs.Turns.{Input, Sent, Rises}
 use Rattle.chorus_history.proofs.Working.{work-gives}
-use Rattle.chorus_history.specs.PlaceTurns.{as_sent, outcome, turn, brings_entry, may_come, may_take, machine}
+use Rattle.chorus_history.specs.PlaceTurns.{as_sent, turn, brings_entry, may_come, may_take, machine}
 
 -- the packet is put by the place p, with a clock of at least `first`
 pub record IsPut (first p : ℕ) (o : Outgoing) : Type 0 where

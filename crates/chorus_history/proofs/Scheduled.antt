@@ -1,24 +1,23 @@
 -- Journals are a schedule: the general law for the place machine, and what the network machine shows of it.
-use Rattle.std.proofs.Common.{ℕ, ◌≡◌, ◌≤◌, ◌+◌, ◌==◌, nat_le, Bool, true, false, ◌&&◌, cond, List, [], ◌∷◌, ◌++◌, map, reverse, Option, Some, None, is_some, slice_get, refl, sym, ◌∙◌, ap, subst, arith}
+use Rattle.std.proofs.Common.{ℕ, ◌≡◌, ◌≤◌, ◌+◌, nat_le, Bool, true, false, cond, List, [], ◌∷◌, ◌++◌, map, reverse, Option, Some, None, is_some, slice_get, refl, sym, ◌∙◌, ap, subst, arith}
 use Rattle.std.specs.List.{All, filter}
 use Rattle.std.specs.Option.{option_map}
-use Rattle.std.proofs.lemmas.Bool.{and_parts, false≢true}
+use Rattle.std.proofs.lemmas.Bool.{and_parts}
 use Rattle.std.proofs.lemmas.List.{append-nil}
 use Rattle.std.proofs.lemmas.List.Elements.{All-nil, All-cons}
 use Rattle.chorus_ui.specs.declared.layout.Layout.{Layout}
 use Rattle.chorus_ui.specs.Layout.{has_place, places}
-use Rattle.chorus_entry.specs.declared.command.Command.{Command}
 use Rattle.chorus_entry.specs.declared.packet.Packet.{Packet}
 use Rattle.chorus_calls.specs.Callers.{Seated}
 use Rattle.chorus_machine.specs.PlaceState.{PlaceState}
 use Rattle.chorus_law.specs.Network.{schedule}
 use Rattle.chorus_law.specs.Schedules.{may_be}
-use Rattle.chorus_history.specs.Turns.{Turn, is_by}
+use Rattle.chorus_history.specs.Turns.{is_by}
 use Rattle.chorus_history.specs.Network.{Network, run}
 use Rattle.chorus_history.specs.Histories as histories
 use Rattle.chorus_history.specs.Histories.{Takes, IsScheduled}
 use Rattle.chorus_history.specs.PlaceTurns.{may_come, machine}
-use Rattle.chorus_history.specs.Journals.{Comer, PlaceTurn, at_start, AreHistories, coming, event_of, events, EndsAs, IsTheirSchedule, JournalsAreASchedule}
+use Rattle.chorus_history.specs.Journals.{Comer, PlaceTurn, at_start, AreHistories, coming, event_of, events, IsTheirSchedule, JournalsAreASchedule}
 use Rattle.chorus_history.proofs.Lists.{filter_takes, eqb_same}
 use Rattle.chorus_history.proofs.Runs.{scheduled}
 use Rattle.chorus_history.proofs.Rising.{place-rises}

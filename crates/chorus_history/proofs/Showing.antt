@@ -1,8 +1,8 @@
 -- The network machine, with its lists of places, packets and callers, shows what places, links and callers are.
-use Rattle.std.proofs.Common.{ℕ, ◌≡◌, ◌≢◌, ◌==◌, Bool, true, false, ◌&&◌, cond, List, [], ◌∷◌, ◌++◌, map, Option, Some, None, slice_get, slice_set, eqb, refl, sym, ◌∙◌, ap, subst, inl, inr, append_assoc, arith}
+use Rattle.std.proofs.Common.{ℕ, ◌≡◌, ◌==◌, Bool, true, false, ◌&&◌, cond, List, [], ◌∷◌, ◌++◌, map, Option, Some, None, slice_get, slice_set, eqb, refl, sym, ◌∙◌, ap, subst, inl, inr, append_assoc, arith}
 use Rattle.std.specs.List.{All, filter}
 use Rattle.std.specs.Option.{option_map}
-use Rattle.std.proofs.lemmas.Bool.{and_parts, and_from, eqb-true, eqb-false, eq-eqb, ne_eqb, cases_Bool, false≢true, both_ways}
+use Rattle.std.proofs.lemmas.Bool.{and_parts, eqb-true, eqb-false, eq-eqb, cases_Bool}
 use Rattle.std.proofs.lemmas.List.{append-nil}
 use Rattle.std.proofs.lemmas.List.Elements.{All-head, All-tail}
 use Rattle.chorus_ui.specs.declared.layout.Layout.{Layout}
@@ -14,15 +14,15 @@ use Rattle.chorus_law.specs.Packets.{is_link, AreByLink, put, put_all, first_on,
 use Rattle.chorus_law.specs.Network as law
 use Rattle.chorus_law.specs.Network.{NetState, place}
 use Rattle.chorus_law.specs.Stands.{AreOf}
-use Rattle.chorus_law.proofs.Links.LinkViews.{put-last, put-out, put-order, view-head, view-other, rest-order}
+use Rattle.chorus_law.proofs.Links.LinkViews.{put-last, put-out, put-order, view-other}
 use Rattle.chorus_law.proofs.Standing.CallerList.{get-replaced, get-other}
 use Rattle.chorus_law.proofs.Standing.Turning.{stands-there}
 use Rattle.chorus_law.proofs.Places.PlacesStay.{place-other, place-same, stands_in}
 use Rattle.chorus_law.proofs.Places.Layouts.{Keeps}
-use Rattle.chorus_history.specs.Turns.{Sent, puts_to}
+use Rattle.chorus_history.specs.Turns.{puts_to}
 use Rattle.chorus_history.specs.Network.{Network, set, sent, relinked, ended}
 use Rattle.chorus_history.specs.PlaceTurns.{as_sent, outcome, machine}
-use Rattle.chorus_history.specs.Journals.{Comer, on_link}
+use Rattle.chorus_history.specs.Journals.{Comer}
 use Rattle.chorus_history.proofs.Lists.{set_here, set_else}
 use Rattle.chorus_history.proofs.Rising.{IsPut}
 

@@ -1,12 +1,12 @@
 -- Journals are a schedule: the turns that places took and callers were given, in one order, are a schedule of the network machine.
 -- l is a layout, p, a and b are numbers of places, q is a seat, t a turn, n a network, ts are turns, the first one first, and es
 -- are events, the latest first.
-use Rattle.std.specs.Prelude.{ℕ, ◌≡◌, true, false, List, [], ◌∷◌, ◌++◌, map, reverse, Option, Some, None, slice_get}
+use Rattle.std.specs.Prelude.{ℕ, ◌≡◌, true, List, [], ◌++◌, map, reverse, Option, Some, None, slice_get}
 use Rattle.std.specs.List.{All, filter}
 use Rattle.std.specs.Option.{option_map}
 use Rattle.chorus_ui.specs.declared.ui.Ui.{Ui}
 use Rattle.chorus_ui.specs.declared.layout.Layout.{Layout}
-use Rattle.chorus_ui.specs.Layout.{IsLayout, has_actor, has_place}
+use Rattle.chorus_ui.specs.Layout.{IsLayout, has_actor}
 use Rattle.chorus_entry.specs.declared.command.Command.{Command}
 use Rattle.chorus_entry.specs.declared.packet.Packet.{Packet}
 use Rattle.chorus_entry.specs.Kinds.{names_actor}
@@ -24,7 +24,6 @@ use Rattle.chorus_history.specs.PlaceTurns.{machine}
 -- a turn of a place, as it is noted
 abbrev pub PlaceTurn : Type 0
 PlaceTurn = Turn Seated Command Packet
-
 
 -- Who comes: a caller in an actor, with any last clock.
 
