@@ -1,4 +1,4 @@
 pub mod Remarks
-pub mod Closing
+pub mod Schedules
 pub mod Growth
 pub mod Places

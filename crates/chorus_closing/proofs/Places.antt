@@ -23,7 +23,7 @@ use Rattle.chorus_history.specs.Journals.{PlaceTurn, Comer, IsComer, new_from, a
 use Rattle.chorus_history.proofs.Rising.{place-rises}
 use Rattle.chorus_closing.specs.Closing.{HasSchedule}
 use Rattle.chorus_closing.specs.Places.{PlaceNote, is_new, ArePlacesClosed, HaveHistories, ClosedPlacesHaveHistories}
-use Rattle.chorus_closing.proofs.Closing.{closed}
+use Rattle.chorus_closing.proofs.Schedules.{closed}
 
 -- A new caller is one, in an actor of the layout.
 

@@ -6,7 +6,8 @@ use Rattle.chorus_entry.specs.declared.entry.Entry.{Entry}
 use Rattle.chorus_turn.specs.declared.knowledge.Remarked.{Remarked}
 use Rattle.chorus_turn.specs.declared.knowledge.Placed.{Placed}
 use Rattle.chorus_turn.specs.Journals.{with_place}
-use Rattle.chorus_history.specs.Turns.{Input, Machine, puts_to, packet_from}
+use Rattle.chorus_history.specs.declared.turns.Input.{Input}
+use Rattle.chorus_history.specs.Turns.{Machine, puts_to, packet_from}
 use Rattle.chorus_closing.specs.declared.noted.Noted.{Noted}
 use Rattle.chorus_closing.specs.Remarks.{remarked}
 use Rattle.chorus_closing.specs.Closing.{IsPlace, IsThread, Keeps}

@@ -1,4 +1,4 @@
-use Rattle.chorus_closing.proofs.Closing.{closed}
+use Rattle.chorus_closing.proofs.Schedules.{closed}
 use Rattle.chorus_closing.proofs.closing.closed_has_schedule.Goals as goal
 
 pub returns : goal.returns
