@@ -1,0 +1,2 @@
+pub mod OwnIsAnswer
+pub mod Answered

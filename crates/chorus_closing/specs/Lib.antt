@@ -1,0 +1,4 @@
+pub mod Remarks
+pub mod Closing
+pub mod Growth
+pub mod Places
