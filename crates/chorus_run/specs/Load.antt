@@ -92,10 +92,19 @@ abbrev pub turns : List Draw → List Task
 turns [] = []
 turns (d ∷ ds) = turn_tasks d ++ turns ds
 
--- all of it, from the start of the sites on; a drain ends it
+-- what is left: from this draw on, behind the setup, and behind the start of the sites; a drain ends it
+abbrev pub to_draw : ℕ → ℕ → ℕ → List Task
+to_draw count i x = turns (draws count i x) ++ Drain 0 ∷ []
+
+abbrev pub to_enter : ℕ → ℕ → List Task
+to_enter first commands = map Do load_entering ++ to_draw commands 1 first
+
+abbrev pub to_set_up : ℕ → ℕ → List Task
+to_set_up first commands = map Do (map (Act 0) load_setup) ++ to_enter first commands
+
+-- all of it
 abbrev pub load_order : ℕ → ℕ → List Task
-load_order first commands =
-    map Do (starting ∷ map (Act 0) load_setup ++ load_entering) ++ turns (draws commands 1 first) ++ Drain 0 ∷ []
+load_order first commands = Do starting ∷ to_set_up first commands
 
 -- the latest first
 abbrev pub load_tasks : ℕ → ℕ → List Task

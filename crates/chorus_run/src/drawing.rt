@@ -1,14 +1,18 @@
 //! The draws of a load: by which seat each command is performed, what it is, and which packet is delivered behind it.
 
-ghost use Rattle.std.specs.Prelude.{◌≡◌, ℕ, ◌≤◌, ◌<◌, ◌^◌, IfOk};
-ghost use Rattle.chorus_run.specs.Load.{next_state, number_of, site_by, drawn, drawn_command, load_actor, load_port, load_group};
+ghost use Rattle.std.specs.Prelude.{◌≡◌, ◌≤◌, ◌<◌, IfOk, Some, slice_get, decimal};
+ghost use Rattle.chorus_run.specs.declared.drawing.TheConstants.{SETUP_COMMANDS};
+ghost use Rattle.chorus_run.specs.Load.{next_state, number_of, site_by, drawn, drawn_command, load_actor, load_port, load_group, load_setup};
 
 use chorus_entry::{Body, Command, Dest};
-use chorus_ui::{Kind, Ui, push_decimal};
+use chorus_ui::{Kind, PENDING_LIMIT, Ui, push_decimal};
 use std::alloc::{AllocError, Global};
 
 /// The sites of a load, each with one place.
 pub const LOAD_SITES: u16 = 8;
+
+/// The commands of the setup: a port on each site, the group, and a member for each port.
+pub(crate) const SETUP_COMMANDS: u16 = 2 * LOAD_SITES + 1;
 
 // The generator: a state times the one and plus the other, modulo 2^64.
 const FACTOR: u64 = 6_364_136_223_846_793_005;
@@ -26,6 +30,26 @@ pub(crate) struct Draw {
     pub(crate) to: u16,
 }
 
+/// The command of the setup that stands there, counted from 0.
+pub(crate) fn setup_command(index: u16) -> Command
+    requires { index < SETUP_COMMANDS }
+    ensures { slice_get load_setup index ≡ Some result }
+{
+    if index < LOAD_SITES {
+        return Command::Make {
+            actor: load_actor(index + 1),
+            capacity: PENDING_LIMIT as u8,
+        };
+    }
+    if index == LOAD_SITES {
+        return Command::GroupMake { site: 1 };
+    }
+    Command::Join {
+        group: load_group(),
+        port: load_port(index - LOAD_SITES),
+    }
+}
+
 /// What the generator comes to next.
 pub(crate) fn next_state(state: u64) -> u64
     ensures { result ≡ next_state state }
@@ -34,7 +58,7 @@ pub(crate) fn next_state(state: u64) -> u64
 }
 
 /// What is drawn for the command of this number, from 1, where the generator has come to this state.
-pub(crate) fn draw(alloc: Global, number: u32, state: u64) -> Result<Draw, AllocError>
+pub(crate) fn draw_for(alloc: Global, number: u32, state: u64) -> Result<Draw, AllocError>
     requires { 1 ≤ number }
     ensures { IfOk result (λ draw. draw ≡ drawn number (number_of state)) }
 {

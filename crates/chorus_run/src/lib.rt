@@ -13,6 +13,7 @@
 
 mod by_words;
 mod drawing;
+mod ending;
 mod finished;
 mod following;
 mod laws;
@@ -23,6 +24,6 @@ mod performing;
 pub use by_words::words;
 pub use drawing::LOAD_SITES;
 pub use finished::Finished;
-pub use laws::a_replay_has_one_outcome;
+pub use laws::{a_load_has_one_outcome, a_replay_has_one_outcome};
 pub use loading::{LOAD_LIMIT, load};
 pub use on_one_thread::replay;
