@@ -344,18 +344,18 @@ setup-now i command n new at now happens =
 abbrev pub seats_left : ℕ → ℕ → ℕ → List Task
 seats_left first commands i = map Do (map enter_site (drop i (numbers LOAD_SITES 1))) ++ to_draw commands 1 first
 
-pub seat-next : (first commands i : ℕ) (n : NetState) → i < LOAD_SITES → slice_get n.callers 0 ≡ slice_get (after_setup load_layout load_setup).callers 0 → AreLeft load_layout (load_order first commands) (seats_left first commands i) n
-    → AreLeft load_layout (load_order first commands) (Do (entering (load_actor (i + 1)) n) ∷ seats_left first commands (i + 1)) n
-seat-next first commands i n h same b =
+pub seat-next : (first commands i : ℕ) (actor : Ui) (n : NetState) → actor ≡ load_actor (i + 1) → i < LOAD_SITES → slice_get n.callers 0 ≡ slice_get (after_setup load_layout load_setup).callers 0
+    → AreLeft load_layout (load_order first commands) (seats_left first commands i) n → AreLeft load_layout (load_order first commands) (Do (entering actor n) ∷ seats_left first commands (i + 1)) n
+seat-next first commands i actor n is h same b =
     subst (λ ts. AreLeft load_layout (load_order first commands) ts n)
     (ap (λ sites. map Do (map enter_site sites) ++ to_draw commands 1 first) (drop-next (numbers LOAD_SITES 1) i (i + 1) (get-numbers LOAD_SITES 1 i h ∙ ap (λ (x : ℕ). Some x) (turned i)))
-    ∙ ap (λ o. Do (Enter (load_actor (i + 1)) (last_of o)) ∷ seats_left first commands (i + 1)) (sym same))
+    ∙ ap₂ (λ a o. Do (Enter a (last_of o)) ∷ seats_left first commands (i + 1)) (sym is) (sym same))
     b
   where
     turned : (i : ℕ) → 1 + i ≡ i + 1
     turned i = omega arith
 
-pub draws-next : (first commands i x : ℕ) (n : NetState) → i < commands → AreLeft load_layout (load_order first commands) (to_draw (commands - i) (i + 1) x) n
+draws-next : (first commands i x : ℕ) (n : NetState) → i < commands → AreLeft load_layout (load_order first commands) (to_draw (commands - i) (i + 1) x) n
     → AreLeft load_layout (load_order first commands) (turn_tasks (drawn (i + 1) (number_of (next_state x))) ++ to_draw (commands - (i + 1)) (i + 1 + 1) (next_state x)) n
 draws-next first commands i x n h b =
     subst (λ ts. AreLeft load_layout (load_order first commands) ts n)
@@ -375,3 +375,10 @@ no-delivery d rest same = ap (λ b. cond b [] (Do (Deliver 0 d.from d.to) ∷ []
 
 pub one-delivery : (d : Draw) (rest : List Task) → d.from ≢ d.to → behind d rest ≡ Do (Deliver 0 d.from d.to) ∷ rest
 one-delivery d rest apart = ap (λ b. cond b [] (Do (Deliver 0 d.from d.to) ∷ []) ++ rest) (ne_eqb d.from d.to apart)
+
+pub turn-next : (first commands i x state : ℕ) (d : Draw) (n : NetState) → state ≡ next_state x → d ≡ drawn (i + 1) (number_of state) → i < commands → AreLeft load_layout (load_order first commands) (to_draw (commands - i) (i + 1) x) n
+    → AreLeft load_layout (load_order first commands) (Do (Act d.seat d.command) ∷ behind d (to_draw (commands - (i + 1)) (i + 1 + 1) state)) n
+turn-next first commands i x state d n one two h b =
+    subst (λ ts. AreLeft load_layout (load_order first commands) ts n)
+    (ap₂ (λ y s. turn_tasks y ++ to_draw (commands - (i + 1)) (i + 1 + 1) s) (sym (two ∙ ap (λ s. drawn (i + 1) (number_of s)) one)) (sym one))
+    (draws-next first commands i x n h b)

@@ -30,7 +30,7 @@ use Rattle.chorus_net.specs.Closing.{IsClosed}
 use Rattle.chorus_net.specs.Drains.{Drains}
 use Rattle.chorus_run.specs.Performing.{AreLeft, AreStopped, ArePerformed, ArePlayed, HaveClocks}
 use Rattle.chorus_run.specs.Headline.{IsOrdered, merge_of, past_of}
-use Rattle.chorus_run.specs.Output.{HandsOut}
+use Rattle.chorus_run.specs.Output.{Writes}
 use Rattle.chorus_run.proofs.May.{tasks-may, first-there}
 use Rattle.chorus_run.proofs.Clocks.{BeginsSo, clocks-more, clocks-delivered, clocks-start, first-clock, worn-in-merge, has-reverse}
 use Rattle.chorus_run.proofs.Plays.{deliveries, in-rounds}
@@ -234,12 +234,16 @@ module _ {l : Layout} {all : List Task} (can : CanBe l all) where
   worn-high clock closed p = p.1.0.worn.worn
 
 -- what was printed, or tried to be printed
-pub printed : (P : Status → Closed → Type 0) (status : Status) (closed : Option Closed) (out : Closed) → IfSome closed (λ o. o ≡ out) → (IsSome closed ↔ HandsOut status)
-    → (status ≡ Status.Done) ⊎ (status ≡ Status.WriteFault) ⊎ (status ≡ Status.Memory) → P Status.Done out × P Status.WriteFault out → IfSome closed (λ o. P status o)
-printed P status None out same hands is all = tt
-printed P status (Some o) out same hands (inl done) all = subst₂ P (sym done) (sym same) all.0
-printed P status (Some o) out same hands (inr (inl failed)) all = subst₂ P (sym failed) (sym same) all.1
-printed P status (Some o) out same hands (inr (inr memory)) all = absurd (subst HandsOut memory (hands.0 refl))
+pub printed : (P : Status → Closed → Type 0) (status : Status) (closed : Option Closed) (out : Closed) → closed ≡ Some out → (status ≡ Status.Done) ⊎ (status ≡ Status.WriteFault)
+    → P Status.Done out × P Status.WriteFault out → IfSome closed (λ o. P status o)
+printed P status closed out same (inl done) all = subst₂ (λ s o. IfSome o (λ x. P s x)) (sym done) (sym same) all.0
+printed P status closed out same (inr failed) all = subst₂ (λ s o. IfSome o (λ x. P s x)) (sym failed) (sym same) all.1
+
+-- the text of what was closed
+pub prints-text : (of : Option Closed → List ℕ) (status : Status) (closed : Option Closed) (out : Closed) (old new : Option (List ℕ)) (written text : List ℕ) → closed ≡ Some out
+    → written ≡ text → text ≡ of (Some out) → Writes status old new written → Writes status old new (of closed)
+prints-text of status closed out old new written text same is value writes =
+    subst (λ t. Writes status old new t) (is ∙ value ∙ ap of (sym same)) writes
 
 pub none-of : (o : Option ℕ) → ((x : ℕ) → o ≡ Some x → ⊥) → o ≡ None
 none-of None h = refl

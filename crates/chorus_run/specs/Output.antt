@@ -1,6 +1,5 @@
 -- What a top call did to its source and sink, by its status.
-use Rattle.std.specs.Prelude.{◌≡◌, ℕ, List, [], ◌++◌, Option, Some, None, Result, Ok, Err}
-use Rattle.std.specs.Global.{Vec}
+use Rattle.std.specs.Prelude.{◌≡◌, ℕ, List, [], ◌++◌, Option, Some, None}
 use Rattle.std.specs.Io.KnownBytes.{Appends}
 use Rattle.chorus_io.specs.Bytes.{AppendsPrefix}
 use Rattle.chorus_show.specs.Journal.{journal_text}
@@ -45,11 +44,6 @@ report closed = journal_text (merge_of closed) ++ summary_text (merge_of closed)
 abbrev pub text_of : Option Closed → List ℕ
 text_of None = []
 text_of (Some closed) = report closed
-
--- the text that there was memory for
-abbrev pub written_of : {E : Type 0} → Result (Vec ℕ) E → List ℕ
-written_of (Ok text) = text.items
-written_of (Err error) = []
 
 -- or the summary text alone
 abbrev pub summary : Closed → List ℕ

@@ -1,10 +1,10 @@
 //! How the calls on one thread end: the sites are closed, and what was closed is written.
 
-ghost use Rattle.std.specs.Prelude.{◌≡◌, ◌↔◌, ◌⊎◌, None, IfOk, IfSome, IsSome};
+ghost use Rattle.std.specs.Prelude.{◌≡◌, ◌⊎◌, Some, None, IfOk};
 ghost use Rattle.chorus_io.specs.Count.{Rose};
 ghost use Rattle.chorus_net.specs.Closing.{IsClosed};
 ghost use Rattle.chorus_net.specs.Sites.{net};
-ghost use Rattle.chorus_run.specs.Output.{Writes, HandsOut, GivesUp, written_of};
+ghost use Rattle.chorus_run.specs.Output.{Writes, HandsOut, GivesUp};
 
 use crate::finished::Finished;
 use chorus_io::{Sink, write_all};
@@ -34,25 +34,16 @@ pub(crate) fn close(
     }
 }
 
-/// Writes the text of what was closed, where there was memory for it.
-pub(crate) fn print<K: Sink>(
-    sink: &mut K,
-    text: Result<Vec<u8>, AllocError>,
-    closed: Closed,
-) -> Finished
-    ensures status { (result.status ≡ Status.Done) ⊎ (result.status ≡ Status.WriteFault)
-        ⊎ (result.status ≡ Status.Memory) }
+/// Writes the text of what was closed.
+pub(crate) fn print<K: Sink>(sink: &mut K, text: &[u8], closed: Closed) -> Finished
+    ensures status { (result.status ≡ Status.Done) ⊎ (result.status ≡ Status.WriteFault) }
     ensures write_fault { result.status ≡ Status.WriteFault →
         Rose (K.faults sink.old) (K.faults sink.new) }
-    ensures closed { IfSome result.closed (λ out. out ≡ closed) }
-    ensures hands_out { IsSome result.closed ↔ HandsOut result.status }
-    ensures unwritten { result.status ≡ Status.Memory → sink.new ≡ sink.old }
-    ensures prints { Writes result.status (K.held sink.old) (K.held sink.new) (written_of text) }
+    ensures closed { result.closed ≡ Some closed }
+    ensures hands_out { HandsOut result.status }
+    ensures prints { Writes result.status (K.held sink.old) (K.held sink.new) text.now }
 {
-    let Ok(text) = text else {
-        return gave_up(Status::Memory);
-    };
-    let status = match write_all(sink, &text) {
+    let status = match write_all(sink, text) {
         Ok(()) => Status::Done,
         Err(_) => Status::WriteFault,
     };

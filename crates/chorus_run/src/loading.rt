@@ -68,8 +68,10 @@ pub fn load<K: Sink>(
             closed: Some(played.closed),
         };
     }
-    let text = summary_of(alloc, &played.closed);
-    print(sink, text, played.closed)
+    let Ok(text) = summary_of(alloc, &played.closed) else {
+        return gave_up(Status::Memory);
+    };
+    print(sink, &text, played.closed)
 }
 
 /// The summary text of what was closed.

@@ -71,8 +71,10 @@ pub fn replay<S: Source, K: Sink>(
             closed: Some(played.closed),
         };
     }
-    let text = text_of(alloc, &played.closed);
-    print(sink, text, played.closed)
+    let Ok(text) = text_of(alloc, &played.closed) else {
+        return gave_up(Status::Memory);
+    };
+    print(sink, &text, played.closed)
 }
 
 /// The scenario that the source gives; else why there is none.

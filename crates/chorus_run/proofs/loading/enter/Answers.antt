@@ -1,7 +1,7 @@
 use Rattle.std.proofs.Common.{◌+◌, refl, ap, sym, ◌∙◌, slice_get, arith, Err}
 use Rattle.std.proofs.lemmas.Bool.{false≢true}
 use Rattle.chorus_net.specs.Sites.{net}
-use Rattle.chorus_run.specs.Load.{load_layout, load_actor, load_order, load_setup}
+use Rattle.chorus_run.specs.Load.{load_layout, load_order, load_setup}
 use Rattle.chorus_run.specs.Order.{after_setup}
 use Rattle.chorus_run.proofs.Loops.{after-some, enter-first, seats-few}
 use Rattle.chorus_run.proofs.LoadTasks.{load-can, load-seats, seats_left, seat-next}
@@ -13,8 +13,9 @@ unreachable-requires c =
     let i = c.loop-index.index in
     let first = c.args.first in
     let commands = c.args.commands in
-    let next = seat-next first commands i (net c.loop-index.sites) c.loop-index-test.true c.loop-index.invariant.1 c.loop-index.invariant.0 in
-    let there = (enter-may (load-can first commands c.requires.commands) (load_actor (i + 1)) _ (net c.loop-index.sites) next).1 in
+    let actor = c.load_actor.result in
+    let next = seat-next first commands i actor (net c.loop-index.sites) c.load_actor.ensures c.loop-index-test.true c.loop-index.invariant.1 c.loop-index.invariant.0 in
+    let there = (enter-may (load-can first commands c.requires.commands) actor _ (net c.loop-index.sites) next).1 in
     let missing = c.in-Err-NoActor.ensures.no_actor.0 (ap Err c.in-Err-NoActor.field-0-is) in
     false≢true (sym missing ∙ there)
 
@@ -35,7 +36,8 @@ loop-index-preserved c =
     let i = c.loop-index.index in
     let first = c.args.first in
     let commands = c.args.commands in
-    let next = seat-next first commands i (net c.loop-index.sites) c.loop-index-test.true c.loop-index.invariant.1 c.loop-index.invariant.0 in (
-      enter-done (load-can first commands c.requires.commands) (load_actor (i + 1)) (seats_left first commands (i + 1)) _ _ next c.in-Ok.ensures.ok,
-      enter-first (slice_get (after_setup load_layout load_setup).callers 0) (load_actor (i + 1)) _ _ (after-some load_layout load_setup) c.loop-index.invariant.1 c.in-Ok.ensures.ok,
+    let actor = c.load_actor.result in
+    let next = seat-next first commands i actor (net c.loop-index.sites) c.load_actor.ensures c.loop-index-test.true c.loop-index.invariant.1 c.loop-index.invariant.0 in (
+      enter-done (load-can first commands c.requires.commands) actor (seats_left first commands (i + 1)) _ _ next c.in-Ok.ensures.ok,
+      enter-first (slice_get (after_setup load_layout load_setup).callers 0) actor _ _ (after-some load_layout load_setup) c.loop-index.invariant.1 c.in-Ok.ensures.ok,
     )

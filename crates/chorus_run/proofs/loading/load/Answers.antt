@@ -1,9 +1,10 @@
 use Rattle.std.proofs.Common.{◌≡◌, Some, ◌∙◌, ap, subst}
 use Rattle.chorus_show.specs.declared.status.Status.{Status}
 use Rattle.chorus_run.specs.Load.{load_layout, load_order, Loads}
+use Rattle.chorus_run.specs.Output.{summary_of}
 use Rattle.chorus_run.specs.Performing.{ArePlayed}
 use Rattle.chorus_run.proofs.LoadTasks.{load-can, loads}
-use Rattle.chorus_run.proofs.Stepping.{ordered-all, ordered-worn, printed, none-of, worn-high, worn-has}
+use Rattle.chorus_run.proofs.Stepping.{ordered-all, ordered-worn, printed, prints-text, none-of, worn-high, worn-has}
 use Rattle.chorus_run.proofs.loading.load.Goals as goal
 
 pub returns-in-Some-clause-loads : goal.returns-in-Some-clause-loads
@@ -22,7 +23,7 @@ returns-clause-loads g c =
     let worn = none-of c.in-Ok.played.worn c.in_default-worn.not-Some in
     let played = subst (λ w. ArePlayed load_layout (load_order first commands) w closed) worn c.in-Ok.ensures in
     let ordered = ordered-all (load-can first commands c.requires.commands) closed played in
-    printed (λ s o. Loads first commands s o) c.print.result.status c.print.result.closed closed c.print.ensures.closed c.print.ensures.hands_out c.print.ensures.status
+    printed (λ s o. Loads first commands s o) c.print.result.status c.print.result.closed closed c.print.ensures.closed c.print.ensures.status
     (loads first commands Status.Done closed ordered.0, loads first commands Status.WriteFault closed ordered.1)
 
 pub returns-in-Some-clause-worn : goal.returns-in-Some-clause-worn
@@ -34,3 +35,7 @@ returns-in-Some-clause-worn g c clock is =
     let played = subst (λ worn. ArePlayed load_layout (load_order first commands) worn closed) (c.in-Some.is ∙ ap (λ x. Some x) same) c.in-Ok.ensures in
     let can = load-can first commands c.requires.commands in
     (worn-high can clock closed played, worn-has can clock closed played)
+
+pub returns-clause-prints : goal.returns-clause-prints
+returns-clause-prints g c =
+    prints-text summary_of c.print.result.status c.print.result.closed c.in-Ok.played.closed _ _ _ _ c.print.ensures.closed c.deref.ensures.value c.in-Ok-summary_of.ensures c.print.ensures.prints
