@@ -285,11 +285,12 @@ load-shape = record { sites_from_one = omega arith; sites_to_max = omega arith; 
 load-needs : (first commands : ℕ) → commands ≤ LOAD_LIMIT → NeedsOn load_layout 0 (load_order first commands)
 load-needs first commands h =
     let ds = draws commands 1 first in
-    let entered = ap length (enter-actors (numbers LOAD_SITES 1)) in
-    ((refl, refl),
-    on-still load_layout 1 (map Do (map (Act 0) load_setup)) (to_enter first commands) (acts-none 0 load_setup) (acts-need load_setup refl)
-    (on-append load_layout 1 9 (map Do load_entering) (to_draw commands 1 first) (ap (λ n. n + 1) (sym entered)) (enter-need 1 (numbers LOAD_SITES 1) refl)
-    (on-still load_layout 9 (turns ds) (Drain 0 ∷ []) (still-turns ds) (turns-need commands 1 first (omega (arith, h))) (omega arith, tt))))
+    let entered = ap length (enter-actors (numbers LOAD_SITES 1)) in (
+      (refl, refl),
+      on-still load_layout 1 (map Do (map (Act 0) load_setup)) (to_enter first commands) (acts-none 0 load_setup) (acts-need load_setup refl)
+          (on-append load_layout 1 9 (map Do load_entering) (to_draw commands 1 first) (ap (λ n. n + 1) (sym entered)) (enter-need 1 (numbers LOAD_SITES 1) refl)
+          (on-still load_layout 9 (turns ds) (Drain 0 ∷ []) (still-turns ds) (turns-need commands 1 first (omega (arith, h))) (omega arith, tt))),
+    )
 
 pub load-can : (first commands : ℕ) → commands ≤ LOAD_LIMIT → CanBe load_layout (load_order first commands)
 load-can first commands h = record {

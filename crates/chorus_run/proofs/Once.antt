@@ -249,9 +249,11 @@ one-end l ts es fs _ _ shape may can free loose (Worn-at clock v) (Worn-at time 
 
 pub ordered-once : OrderedOnce
 ordered-once l ts s t one other shape a b =
-    let same = one-end l ts a.events b.events (worn_clock s) (worn_clock t) shape a.may b.may a.unworn b.unworn (ends-as l ts s a.events a.carried) (ends-as l ts t b.events b.carried) in
-    (same.0, record {
-      journals = (a.closes).journals ∙ ap journals same.1 ∙ sym (b.closes).journals;
-      rest = (a.closes).rest ∙ ap packets_left same.1 ∙ sym (b.closes).rest;
-      ports = (a.closes).ports ∙ ap placed same.1 ∙ sym (b.closes).ports;
-    })
+    let same = one-end l ts a.events b.events (worn_clock s) (worn_clock t) shape a.may b.may a.unworn b.unworn (ends-as l ts s a.events a.carried) (ends-as l ts t b.events b.carried) in (
+      same.0,
+      record {
+        journals = (a.closes).journals ∙ ap journals same.1 ∙ sym (b.closes).journals;
+        rest = (a.closes).rest ∙ ap packets_left same.1 ∙ sym (b.closes).rest;
+        ports = (a.closes).ports ∙ ap placed same.1 ∙ sym (b.closes).ports;
+      },
+    )

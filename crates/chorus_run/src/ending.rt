@@ -20,11 +20,7 @@ pub(crate) struct Played {
 }
 
 /// Closes the sites, on which this clock was worn, if one was.
-pub(crate) fn close(
-    alloc: Global,
-    sites: Sites,
-    worn: Option<u64>,
-) -> Result<Played, AllocError>
+pub(crate) fn close(alloc: Global, sites: Sites, worn: Option<u64>) -> Result<Played, AllocError>
     ensures { IfOk result
         (λ played. (played.worn ≡ worn) × IsClosed (net sites) played.closed) }
 {

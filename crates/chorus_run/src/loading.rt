@@ -14,7 +14,9 @@ ghost use Rattle.chorus_run.specs.Order.{after_setup};
 ghost use Rattle.chorus_run.specs.Load.{Loads, load_layout, load_order, load_setup, to_enter, to_draw};
 ghost use Rattle.chorus_run.specs.Output.{Writes, HandsOut, EndsUnread, summary, summary_of};
 
-use crate::drawing::{Draw, LOAD_SITES, SETUP_COMMANDS, draw_for, load_actor, next_state, setup_command};
+use crate::drawing::{
+    Draw, LOAD_SITES, SETUP_COMMANDS, draw_for, load_actor, next_state, setup_command,
+};
 use crate::ending::{Played, close, gave_up, print};
 use crate::finished::Finished;
 use chorus_io::Sink;
@@ -173,12 +175,7 @@ fn enter(sites: &mut Sites, first: u64, commands: u32) -> Result<(), AllocError>
 }
 
 /// Performs the commands that are drawn, each by its seat, and delivers one packet behind each where two places were drawn.
-fn take_turns(
-    alloc: Global,
-    sites: &mut Sites,
-    first: u64,
-    commands: u32,
-) -> Result<(), PlaceFault>
+fn take_turns(alloc: Global, sites: &mut Sites, first: u64, commands: u32) -> Result<(), PlaceFault>
     requires before { AreLeft load_layout (load_order first commands)
         (to_draw commands 1 first) (net sites.old) }
     requires commands { commands ≤ LOAD_LIMIT }
@@ -190,7 +187,12 @@ fn take_turns(
     let mut state = first;
     for index in 0..commands {
         state = next_state(state);
-        let Draw { seat, command, from, to } = draw_for(alloc, index + 1, state)?;
+        let Draw {
+            seat,
+            command,
+            from,
+            to,
+        } = draw_for(alloc, index + 1, state)?;
         sites.act(seat, command)?;
         if from != to {
             sites.deliver(from, to)?;

@@ -84,7 +84,7 @@ loop-index-preserved c =
     let next = turn-next first commands i c.loop-index.state c.next_state-state.result d (net c.loop-index.sites) c.next_state-state.ensures c.in_ok-seat.ensures c.loop-index-test.true c.loop-index.invariant in
     let acted = act-done can d.seat d.command (behind d rest) _ (net c.act.new.self) next c.in_ok-act.ensures.ok (act-unworn c.act.result c.in_ok-act.field-0 _ c.in_ok-act.was c.act.ensures.worn) in
     elim c.if-from-to.branch [
-      then-from-to+in_ok-deliver w ↦
+      | then-from-to+in_ok-deliver w ↦
           (let here = subst (λ ts. AreLeft load_layout (load_order first commands) ts (net c.act.new.self)) (one-delivery d rest w.if-from-to.true) acted in
           let done = step-done can (delivering d.from d.to) rest _ (net w.deliver.new.self) here w.in_ok-deliver.ensures.ok (deliver-unworn w.deliver.result w.in_ok-deliver.field-0 _ w.in_ok-deliver.was w.deliver.ensures.worn) (λ past h. tt) in
           subst (λ s. AreLeft load_layout (load_order first commands) rest (net s)) (sym w.sites-is) done)
