@@ -1,5 +1,5 @@
 -- The order of a small scenario, task by task, and the first draw of a load.
-use Rattle.std.proofs.Common.{◌≡◌, [], ◌∷◌, List, Some, codes, refl}
+use Rattle.std.proofs.Common.{◌≡◌, [], ◌∷◌, Some, codes, refl}
 use Rattle.chorus_ui.specs.declared.kind.Kind.TheVariants as kinds
 use Rattle.chorus_ui.specs.declared.ui.Ui.{Ui}
 use Rattle.chorus_entry.specs.declared.dest.Dest.{Dest}

@@ -1,5 +1,5 @@
 -- A load: its tasks come by its callers, give each seat its commands, and may be done one after the other.
-use Rattle.std.proofs.Common.{ℕ, zero, suc, ◌≡◌, ◌≢◌, ◌<◌, ◌≤◌, ◌+◌, ◌-◌, ◌/◌, ◌%◌, ◌^◌, ◌==◌, nat_le, nat_lt, Bool, true, false, not, ◌&&◌, cond, List, [], ◌∷◌, ◌++◌, length, map, take, drop, reverse, decimal, Option, Some, slice_get, refl, sym, ◌∙◌, ap, ap₂, subst, append_assoc, append-nil, inl, inr, arith}
+use Rattle.std.proofs.Common.{ℕ, zero, suc, ◌≡◌, ◌≢◌, ◌<◌, ◌≤◌, ◌+◌, ◌-◌, ◌/◌, ◌%◌, ◌^◌, ◌==◌, nat_le, nat_lt, Bool, true, false, not, ◌&&◌, cond, List, [], ◌∷◌, ◌++◌, length, map, take, drop, reverse, decimal, Some, slice_get, refl, sym, ◌∙◌, ap, ap₂, subst, append_assoc, append-nil, inl, inr, arith}
 use Rattle.std.specs.List.{list_all}
 use Rattle.std.specs.Option.{option_map}
 use Rattle.std.proofs.lemmas.Bool.{and_parts, and_from, le-leb, eq-eqb, ne_eqb}
@@ -14,7 +14,7 @@ use Rattle.chorus_entry.specs.declared.command.Command.{Command}
 use Rattle.chorus_entry.specs.declared.dest.Dest.{Dest}
 use Rattle.chorus_law.specs.Network.{NetState, Enter, Act, Deliver, happened, numbers}
 use Rattle.chorus_law.specs.Calls.{first_actor, starting, last_of, entering}
-use Rattle.chorus_law.specs.Tasks.{Task, Do, Drain, MayAll, commands_in}
+use Rattle.chorus_law.specs.Tasks.{Task, Do, Drain, commands_in}
 use Rattle.chorus_net.specs.declared.closed.Closed.{Closed}
 use Rattle.chorus_show.specs.declared.status.Status.{Status}
 use Rattle.chorus_run.specs.declared.drawing.Draw.{Draw}
@@ -26,7 +26,7 @@ use Rattle.chorus_run.specs.Laws.{LoadsOnce}
 use Rattle.chorus_run.specs.Headline.{IsOrdered}
 use Rattle.chorus_run.specs.Order.{after_setup}
 use Rattle.chorus_run.specs.Performing.{AreLeft}
-use Rattle.chorus_run.specs.Load.{load_layout, load_actor, load_port, load_group, next_state, number_of, site_by, drawn_command, drawn, draws, make_port, join_port, load_setup, enter_site, load_entering, turn_tasks, turns, to_draw, to_enter, to_set_up, load_order, load_tasks, load_callers, drawn_for, load_commands, Loads}
+use Rattle.chorus_run.specs.Load.{load_layout, load_actor, load_port, load_group, next_state, number_of, site_by, drawn_command, drawn, draws, make_port, join_port, load_setup, enter_site, load_entering, turn_tasks, turns, to_draw, to_enter, load_order, load_tasks, load_callers, drawn_for, load_commands, Loads}
 use Rattle.chorus_run.proofs.Given.{commands-append, commands-reverse, own-acts, other-acts}
 use Rattle.chorus_run.proofs.Callers.{AreComers, actors_by, actors-append, actors-reverse, acts-none, get-front}
 use Rattle.chorus_run.proofs.Needs.{HasAll, NeedsOn, not-false, all-of, on-append, on-still, may-all}

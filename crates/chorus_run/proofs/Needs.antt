@@ -10,7 +10,6 @@ use Rattle.chorus_entry.specs.declared.entry.Entry.{Entry}
 use Rattle.chorus_entry.specs.declared.act.Act as acts
 use Rattle.chorus_entry.specs.Act.{is_command_entry}
 use Rattle.chorus_entry.specs.declared.command.Command.{Command}
-use Rattle.chorus_entry.specs.declared.command.Command.TheVariants as commands
 use Rattle.chorus_entry.specs.Kinds.{names_actor}
 use Rattle.chorus_entry.specs.Command.{is_post, has_body_in_limit, meets_conditions}
 use Rattle.chorus_world.specs.Views.{by}
@@ -26,7 +25,6 @@ use Rattle.chorus_law.proofs.Events.InOrder.{in-order}
 use Rattle.chorus_law.proofs.Commands.Performing.{performs-history}
 use Rattle.chorus_law.proofs.Draining.Drains.{carried-commands}
 use Rattle.chorus_law.proofs.Draining.Ending.{caller-actor, rounds-may}
-use Rattle.chorus_run.specs.Order.{order, tasks}
 use Rattle.chorus_run.specs.declared.loading.TheConstants.{LOAD_LIMIT}
 use Rattle.chorus_run.proofs.Callers.{actors_in, actor_in, actors_by, callers-after, carried-actors}
 

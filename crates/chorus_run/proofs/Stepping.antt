@@ -1,7 +1,7 @@
 -- The next task on the network that the tasks before it left.
-use Rattle.std.proofs.Common.{ℕ, ◌≡◌, ◌<◌, ◌≤◌, ◌+◌, ◌↔◌, ◌≢◌, ◌==◌, ◌&&◌, not, is_some, true, List, [], ◌∷◌, ◌++◌, map, reverse, Option, Some, None, IsSome, IfSome, slice_get, refl, sym, ◌∙◌, ap, subst, subst₂, ◌⊎◌, append_assoc, append-nil, inl, inr}
+use Rattle.std.proofs.Common.{ℕ, ◌≡◌, ◌<◌, ◌≤◌, ◌+◌, ◌≢◌, ◌==◌, ◌&&◌, not, is_some, true, List, [], ◌∷◌, ◌++◌, reverse, Option, Some, None, IfSome, slice_get, refl, sym, ◌∙◌, ap, subst, subst₂, ◌⊎◌, append_assoc, append-nil, inl, inr}
 use Rattle.std.proofs.lemmas.Bool.{and_parts, and_from, eq-eqb, false≢true}
-use Rattle.std.proofs.lemmas.List.{map-append, reverse-append}
+use Rattle.std.proofs.lemmas.List.{reverse-append}
 use Rattle.chorus_ui.specs.declared.layout.Layout.{Layout}
 use Rattle.chorus_ui.specs.declared.limits.TheConstants.{CLOCK_LIMIT}
 use Rattle.chorus_ui.specs.Layout.{IsLayout, has_actor, has_place}

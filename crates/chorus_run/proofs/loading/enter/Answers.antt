@@ -1,4 +1,4 @@
-use Rattle.std.proofs.Common.{◌+◌, refl, ap, sym, ◌∙◌, slice_get, arith, Err}
+use Rattle.std.proofs.Common.{◌+◌, ap, sym, ◌∙◌, slice_get, arith, Err}
 use Rattle.std.proofs.lemmas.Bool.{false≢true}
 use Rattle.chorus_net.specs.Sites.{net}
 use Rattle.chorus_run.specs.Load.{load_layout, load_order, load_setup}
