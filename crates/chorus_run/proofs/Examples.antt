@@ -1,5 +1,5 @@
 -- The order of a small scenario, task by task, and the first draw of a load.
-use Rattle.std.proofs.Common.{◌≡◌, [], ◌∷◌, Some, codes, refl}
+use Rattle.std.proofs.Common.{◌≡◌, [], ◌∷◌, Some, decimal, refl}
 use Rattle.chorus_ui.specs.declared.kind.Kind.TheVariants as kinds
 use Rattle.chorus_ui.specs.declared.ui.Ui.{Ui}
 use Rattle.chorus_entry.specs.declared.dest.Dest.{Dest}
@@ -47,10 +47,10 @@ seven-state = refl
 pub seven-number : number_of (next_state 7) ≡ 1059165278
 seven-number = refl
 
-pub seven-drawn : draws 1 1 7 ≡ record { seat = 1; command = Command.Send (Dest.One load_group) (codes "1"); from = 3; to = 2 } ∷ []
+pub seven-drawn : draws 1 1 7 ≡ record { seat = 1; command = Command.Send (Dest.One load_group) (decimal 1); from = 3; to = 2 } ∷ []
 seven-drawn = refl
 
-pub seven-commands : load_commands 7 1 1 ≡ Some (Command.Send (Dest.One load_group) (codes "1") ∷ [])
+pub seven-commands : load_commands 7 1 1 ≡ Some (Command.Send (Dest.One load_group) (decimal 1) ∷ [])
 seven-commands = refl
 
 pub eight-callers : load_callers 8 ≡ Some (load_actor 8)
