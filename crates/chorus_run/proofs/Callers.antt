@@ -1,4 +1,4 @@
--- The callers in the order of a replay: seat 0 in the first actor, and seat k in the actor of script k.
+-- The callers that come by tasks: in the order of a replay seat 0 in the first actor, and seat k in the actor of script k.
 use Rattle.std.proofs.Common.{ℕ, zero, suc, ◌≡◌, ◌+◌, List, [], ◌∷◌, ◌++◌, length, map, drop, reverse, count_by, option_to_list, Option, Some, None, slice_get, slice_set, refl, sym, ◌∙◌, ap, ap₂, append_assoc, append-nil, inl, inr}
 use Rattle.std.specs.Option.{option_map}
 use Rattle.std.proofs.lemmas.List.{map-append, reverse-append, reverse-reverse}
@@ -200,19 +200,27 @@ actors-order c =
 pub comers : (c : Scene) → reverse (actors_by (tasks c)) ≡ first_actor ∷ map (λ (script : Script). script.actor) c.scripts
 comers c = ap reverse (actors-reverse (order c)) ∙ reverse-reverse (actors_by (order c)) ∙ actors-order c
 
--- when the tasks are carried out, the callers are those of the scenario
-pub callers-given : (c : Scene) (es : List Event) → CarryOut c.layout (tasks c) es → (k : ℕ) → actor_of (schedule c.layout es) k ≡ callers_of c k
-callers-given c es carried k =
-    actor-after c.layout es k ∙ ap (λ z. slice_get z k) (ap reverse (carried-actors c.layout (tasks c) es carried) ∙ comers c)
+-- the callers that come by tasks are these
+abbrev pub AreComers : List Task → (ℕ → Option Ui) → Type 0
+AreComers ts callers = (k : ℕ) → slice_get (reverse (actors_by ts)) k ≡ callers k
 
-pub get-front : (xs ys : List Ui) (k : ℕ) (a : Ui) → slice_get xs k ≡ Some a → slice_get (xs ++ ys) k ≡ Some a
+pub are-comers : (c : Scene) → AreComers (tasks c) (callers_of c)
+are-comers c k = ap (λ z. slice_get z k) (comers c)
+
+pub get-front : {X : Type 0} (xs ys : List X) (k : ℕ) (a : X) → slice_get xs k ≡ Some a → slice_get (xs ++ ys) k ≡ Some a
 get-front [] ys k a h = absurd (cc)
 get-front (x ∷ xs) ys zero a h = h
 get-front (x ∷ xs) ys (suc k) a h = get-front xs ys k a h
 
--- when a front of them is, each caller that has come is one of the scenario's
-pub callers-so-far : (c : Scene) (es : List Event) → CarryFront c.layout (tasks c) es → (k : ℕ) (a : Ui) → actor_of (schedule c.layout es) k ≡ Some a → callers_of c k ≡ Some a
-callers-so-far c es carried k a h =
-    let front = front-actors c.layout (tasks c) es carried in
-    let all = sym (reverse-append front.0 (actors_in es)) ∙ ap reverse (sym front.1) ∙ comers c in
-    ap (λ z. slice_get z k) (sym all) ∙ get-front (reverse (actors_in es)) (reverse front.0) k a (sym (actor-after c.layout es k) ∙ h)
+module _ (l : Layout) (ts : List Task) (callers : ℕ → Option Ui) (come : AreComers ts callers) (es : List Event) where
+  -- when the tasks are carried out, the callers are all of these
+  pub callers-given : CarryOut l ts es → (k : ℕ) → actor_of (schedule l es) k ≡ callers k
+  callers-given carried k =
+      actor-after l es k ∙ ap (λ z. slice_get z k) (ap reverse (carried-actors l ts es carried)) ∙ come k
+
+  -- when a front of them is, each caller that has come is one of these
+  pub callers-so-far : CarryFront l ts es → (k : ℕ) (a : Ui) → actor_of (schedule l es) k ≡ Some a → callers k ≡ Some a
+  callers-so-far carried k a h =
+      let front = front-actors l ts es carried in
+      let all = sym (reverse-append front.0 (actors_in es)) ∙ ap reverse (sym front.1) in
+      sym (come k) ∙ ap (λ z. slice_get z k) (sym all) ∙ get-front (reverse (actors_in es)) (reverse front.0) k a (sym (actor-after l es k) ∙ h)

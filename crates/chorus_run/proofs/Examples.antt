@@ -1,5 +1,5 @@
--- The order of a small scenario, task by task.
-use Rattle.std.proofs.Common.{◌≡◌, [], ◌∷◌, List, Some, refl}
+-- The order of a small scenario, task by task, and the first draw of a load.
+use Rattle.std.proofs.Common.{◌≡◌, [], ◌∷◌, Some, decimal, refl}
 use Rattle.chorus_ui.specs.declared.kind.Kind.TheVariants as kinds
 use Rattle.chorus_ui.specs.declared.ui.Ui.{Ui}
 use Rattle.chorus_entry.specs.declared.dest.Dest.{Dest}
@@ -12,6 +12,7 @@ use Rattle.chorus_scene.specs.declared.scenario.Step.TheVariants as steps
 use Rattle.chorus_scene.specs.Scene.{Scene, scene_with}
 use Rattle.chorus_run.specs.Order.{order}
 use Rattle.chorus_run.specs.Headline.{callers_of, commands_by}
+use Rattle.chorus_run.specs.Load.{next_state, number_of, load_actor, load_group, draws, load_callers, load_commands}
 
 abbrev other : Ui
 other = record { site = 2; kind = kinds.Actor; number = 1 }
@@ -38,3 +39,19 @@ small-caller = refl
 
 pub small-commands : commands_by small 0 ≡ Some (Command.Make first_actor 4 ∷ [])
 small-commands = refl
+
+-- the first draw from 7 is a send to one of the group by seat 1, and a delivery from place 3 to place 2 behind it
+pub seven-state : next_state 7 ≡ 9098160460397411210
+seven-state = refl
+
+pub seven-number : number_of (next_state 7) ≡ 1059165278
+seven-number = refl
+
+pub seven-drawn : draws 1 1 7 ≡ record { seat = 1; command = Command.Send (Dest.One load_group) (decimal 1); from = 3; to = 2 } ∷ []
+seven-drawn = refl
+
+pub seven-commands : load_commands 7 1 1 ≡ Some (Command.Send (Dest.One load_group) (decimal 1) ∷ [])
+seven-commands = refl
+
+pub eight-callers : load_callers 8 ≡ Some (load_actor 8)
+eight-callers = refl

@@ -40,7 +40,7 @@ last-one k (Do (Enter actor last)) es = append-nil (reverse (commands_in k es))
 last-one k (Do (Deliver s a b)) es = append-nil (reverse (commands_in k es))
 last-one k (Do (Act s c)) es = last-case (s == k) c (commands_in k es)
 
-commands-reverse : (k : ℕ) (es : List Task) → commands_in k (reverse es) ≡ reverse (commands_in k es)
+pub commands-reverse : (k : ℕ) (es : List Task) → commands_in k (reverse es) ≡ reverse (commands_in k es)
 commands-reverse k [] = refl
 commands-reverse k (e ∷ es) =
     ap (commands_in k) (reverse-append (e ∷ []) es)
@@ -50,13 +50,13 @@ commands-reverse k (e ∷ es) =
 
 -- The commands of one seat, and seats that are entered.
 
-own-acts : (k s : ℕ) (cs : List Command) → (s == k) ≡ true → commands_in k (map Do (map (Act s) cs)) ≡ cs
+pub own-acts : (k s : ℕ) (cs : List Command) → (s == k) ≡ true → commands_in k (map Do (map (Act s) cs)) ≡ cs
 own-acts k s [] e = refl
 own-acts k s (c ∷ cs) e =
     let rest = commands_in k (map Do (map (Act s) cs)) in
     ap (λ b. cond b (c ∷ rest) rest) e ∙ ap (λ z. c ∷ z) (own-acts k s cs e)
 
-other-acts : (k s : ℕ) (cs : List Command) → (s == k) ≡ false → commands_in k (map Do (map (Act s) cs)) ≡ []
+pub other-acts : (k s : ℕ) (cs : List Command) → (s == k) ≡ false → commands_in k (map Do (map (Act s) cs)) ≡ []
 other-acts k s [] e = refl
 other-acts k s (c ∷ cs) e =
     let rest = commands_in k (map Do (map (Act s) cs)) in

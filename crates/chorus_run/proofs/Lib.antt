@@ -1,5 +1,6 @@
 pub mod Given
 pub mod Callers
+pub mod Needs
 pub mod May
 pub mod Plays
 pub mod Texts
@@ -8,5 +9,6 @@ pub mod Clocks
 pub mod Stepping
 pub mod Loops
 pub mod Once
+pub mod LoadTasks
 mod Examples
 pub mod Seating

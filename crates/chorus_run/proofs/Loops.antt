@@ -23,9 +23,9 @@ use Rattle.chorus_scene.specs.declared.scenario.Step.TheVariants as steps
 use Rattle.chorus_scene.specs.Scene.{Scene, Script}
 use Rattle.chorus_scene.specs.Grammar.{script_at, no_script, is_step}
 use Rattle.chorus_scene.specs.Limits.{Keeps, step_keeps, schedule_keeps}
-use Rattle.chorus_run.specs.Order.{setup_command, set_up, in_setup, step_tasks, in_schedule, then_drain, left_from, order}
+use Rattle.chorus_run.specs.Order.{setup_command, after_setup, set_up, in_setup, entering, step_tasks, in_schedule, then_drain, left_from, order}
 use Rattle.chorus_net.specs.Worn.{IsUnworn}
-use Rattle.chorus_run.specs.Performing.{IsBefore, AreNext, to_enter, to_follow, to_finish}
+use Rattle.chorus_run.specs.Performing.{AreLeft, IsBefore, AreNext, to_set_up, to_enter, to_follow, to_finish}
 use Rattle.chorus_run.proofs.Callers.{actors_in, actor_in, actors_by, callers-after, actor-after, carried-actors, actors-append, actors-reverse, actors-order}
 
 -- what is left from this line of the setup on, and from this script on
@@ -60,6 +60,17 @@ take-next (y ∷ ys) (suc i) x h = ap (λ m. take m (y ∷ ys)) (up i) ∙ ap (�
   where
     up : (i : ℕ) → suc i + 1 ≡ suc (i + 1)
     up i = omega arith
+
+-- a scenario's order is the start of the sites and then its setup
+pub order-is : (c : Scene) → order c ≡ Do starting ∷ to_set_up c
+order-is c =
+    let first = map Do (starting ∷ in_setup c ++ entering c) in
+    let scheduled = in_schedule c.scripts [] c.schedule in
+    let rest = left_from c.schedule 1 c.scripts in
+    append_assoc (first ++ scheduled) rest (Drain 0 ∷ [])
+    ∙ append_assoc first scheduled (rest ++ Drain 0 ∷ [])
+    ∙ ap (λ z. Do starting ∷ (z ++ to_follow c)) (map-append Do (in_setup c) (entering c))
+    ∙ ap (λ z. Do starting ∷ z) (append_assoc (map Do (in_setup c)) (map Do (entering c)) (to_follow c))
 
 -- Answers of calls.
 
@@ -97,18 +108,23 @@ setup-next c items i x command n same read is b =
     ∙ ap (λ z. Do (Act 0 z) ∷ setup_from c (i + 1)) (sym is))
     b
 
+-- seat 0 performs one command more
+pub acts-now : (l : Layout) (before : List Command) (command : Command) (n new : NetState) → n ≡ schedule l (reverse (starting ∷ map (Act 0) before)) → new ≡ happened (Act 0 command) n
+    → new ≡ schedule l (reverse (starting ∷ map (Act 0) (before ++ command ∷ [])))
+acts-now l before command n new now happens =
+    happens ∙ ap (happened (Act 0 command)) now
+    ∙ ap (schedule l) (sym (ap (λ es. reverse (starting ∷ es)) (map-append (Act 0) before (command ∷ [])) ∙ reverse-append (starting ∷ map (Act 0) before) (Act 0 command ∷ [])))
+
 pub setup-now : (c : Scene) (items : List SetupLine) (i : ℕ) (x : SetupLine) (command : Command) (n new : NetState) → items ≡ c.setup → slice_get items i ≡ Some x → command ≡ setup_command x
     → n ≡ schedule c.layout (reverse (starting ∷ map (Act 0) (map setup_command (take i c.setup)))) → new ≡ happened (Act 0 command) n
     → new ≡ schedule c.layout (reverse (starting ∷ map (Act 0) (map setup_command (take (i + 1) c.setup))))
 setup-now c items i x command n new same read is now happens =
-    let before = map (Act 0) (map setup_command (take i c.setup)) in
-    let more : map (Act 0) (map setup_command (take (i + 1) c.setup)) ≡ before ++ Act 0 command ∷ [] =
-    ap (λ xs. map (Act 0) (map setup_command xs)) (take-next c.setup i x (ap (λ xs. slice_get xs i) (sym same) ∙ read))
-    ∙ ap (map (Act 0)) (map-append setup_command (take i c.setup) (x ∷ []))
-    ∙ map-append (Act 0) (map setup_command (take i c.setup)) (setup_command x ∷ [])
-    ∙ ap (λ z. before ++ Act 0 z ∷ []) (sym is) in
-    happens ∙ ap (happened (Act 0 command)) now
-    ∙ ap (schedule c.layout) (sym (ap (λ es. reverse (starting ∷ es)) more ∙ reverse-append (starting ∷ before) (Act 0 command ∷ [])))
+    let before = map setup_command (take i c.setup) in
+    let more : map setup_command (take (i + 1) c.setup) ≡ before ++ command ∷ [] =
+    ap (map setup_command) (take-next c.setup i x (ap (λ xs. slice_get xs i) (sym same) ∙ read))
+    ∙ map-append setup_command (take i c.setup) (x ∷ [])
+    ∙ ap (λ z. before ++ z ∷ []) (sym is) in
+    acts-now c.layout before command n new now happens ∙ ap (λ cs. schedule c.layout (reverse (starting ∷ map (Act 0) cs))) (sym more)
 
 -- The callers.
 
@@ -122,12 +138,13 @@ first-last (Enter actor last ∷ es) = ap (λ z. actor ∷ z) (first-last es)
 first-last (Act k c ∷ es) = first-last es
 first-last (Deliver k a b ∷ es) = first-last es
 
-set-up-some : (c : Scene) → is_some (slice_get (set_up c).callers 0) ≡ true
-set-up-some c =
-    let es = reverse (in_setup c) in
-    let front : reverse (starting ∷ in_setup c) ≡ es ++ starting ∷ [] = reverse-append (starting ∷ []) (in_setup c) in
-    some-of (slice_get (set_up c).callers 0) first_actor
-    (actor-after c.layout (reverse (starting ∷ in_setup c)) 0
+-- seat 0 has come behind a setup
+pub after-some : (l : Layout) (setup : List Command) → is_some (slice_get (after_setup l setup).callers 0) ≡ true
+after-some l setup =
+    let es = reverse (map (Act 0) setup) in
+    let front : reverse (starting ∷ map (Act 0) setup) ≡ es ++ starting ∷ [] = reverse-append (starting ∷ []) (map (Act 0) setup) in
+    some-of (slice_get (after_setup l setup).callers 0) first_actor
+    (actor-after l (reverse (starting ∷ map (Act 0) setup)) 0
     ∙ ap (λ z. slice_get (reverse z) 0) (ap actors_in front ∙ first-last es)
     ∙ ap (λ z. slice_get z 0) (reverse-append (actors_in es) (first_actor ∷ [])))
 
@@ -143,31 +160,41 @@ enter-next c items i x actor n same read is first b =
     ∙ ap₂ (λ a o. Do (Enter a (last_of o)) ∷ enter_from c (i + 1)) (sym is) (sym first))
     b
 
-pub enter-first : (c : Scene) (actor : Ui) (n new : NetState) → slice_get n.callers 0 ≡ slice_get (set_up c).callers 0 → new ≡ happened (calls.entering actor n) n → slice_get new.callers 0 ≡ slice_get (set_up c).callers 0
-enter-first c actor n new first is =
+-- and stays as it is where another caller comes
+pub enter-first : (o : Option Seated) (actor : Ui) (n new : NetState) → is_some o ≡ true → slice_get n.callers 0 ≡ o → new ≡ happened (calls.entering actor n) n → slice_get new.callers 0 ≡ o
+enter-first o actor n new some first is =
     ap (λ (m : NetState). slice_get m.callers 0) is
-    ∙ get-first n.callers (new_caller (length n.callers) actor (last_of (slice_get n.callers 0)) ∷ []) (ap is_some first ∙ set-up-some c)
+    ∙ get-first n.callers (new_caller (length n.callers) actor (last_of (slice_get n.callers 0)) ∷ []) (ap is_some first ∙ some)
     ∙ first
 
-pub seats-few : (c : Scene) (rest : List Task) (n : NetState) → Keeps c → IsBefore c rest n → length n.callers < SEATS_LIMIT
-seats-few c rest n keeps b =
+-- no more callers than come by all tasks
+pub seats-few : (l : Layout) (all rest : List Task) (n : NetState) → length (actors_by all) < SEATS_LIMIT → AreLeft l all rest n → length n.callers < SEATS_LIMIT
+seats-few l all rest n few b =
     let seats = ap (λ (m : NetState). length m.callers) b.is in
-    let mapped = length-map (schedule c.layout b.events).callers actor_in in
-    let came = ap length (callers-after c.layout b.events) in
+    let mapped = length-map (schedule l b.events).callers actor_in in
+    let came = ap length (callers-after l b.events) in
     let turned = length-reverse (actors_in b.events) in
-    let by_tasks = ap length (carried-actors c.layout (reverse b.done) b.events b.carried ∙ actors-reverse b.done) in
+    let by_tasks = ap length (carried-actors l (reverse b.done) b.events b.carried ∙ actors-reverse b.done) in
     let back = length-reverse (actors_by b.done) in
     let split = ap length (ap actors_by b.whole ∙ actors-append b.done rest) in
     let sum = length-append (actors_by b.done) (actors_by rest) in
+    bound (length n.callers) (length (schedule l b.events).callers) (length (map actor_in (schedule l b.events).callers)) (length (reverse (actors_in b.events))) (length (actors_in b.events))
+    (length (reverse (actors_by b.done))) (length (actors_by b.done)) (length (actors_by all)) (length (actors_by b.done ++ actors_by rest)) (length (actors_by rest))
+    seats mapped came turned by_tasks back split sum few
+  where
+    bound : (a b d e f g h i j k : ℕ) → a ≡ b → d ≡ b → d ≡ e → e ≡ f → f ≡ g → g ≡ h → i ≡ j → j ≡ h + k → i < SEATS_LIMIT → a < SEATS_LIMIT
+    bound a b d e f g h i j k h1 h2 h3 h4 h5 h6 h7 h8 h9 = omega arith
+
+-- a scenario has few
+pub scripts-few : (c : Scene) → Keeps c → length (actors_by (order c)) < SEATS_LIMIT
+scripts-few c keeps =
     let all = ap length (actors-order c) in
     let scripts = length-map c.scripts (λ (script : Script). script.actor) in
     let few = keeps.few_scripts in
-    bound (length n.callers) (length (schedule c.layout b.events).callers) (length (map actor_in (schedule c.layout b.events).callers)) (length (reverse (actors_in b.events))) (length (actors_in b.events))
-    (length (reverse (actors_by b.done))) (length (actors_by b.done)) (length (actors_by (order c))) (length (actors_by b.done ++ actors_by rest)) (length (actors_by rest)) (length (map (λ (script : Script). script.actor) c.scripts)) (length c.scripts)
-    seats mapped came turned by_tasks back split sum all scripts few
+    bound (length (actors_by (order c))) (length (map (λ (script : Script). script.actor) c.scripts)) (length c.scripts) all scripts few
   where
-    bound : (a b d e f g h i j k m p : ℕ) → a ≡ b → d ≡ b → d ≡ e → e ≡ f → f ≡ g → g ≡ h → i ≡ j → j ≡ h + k → i ≡ suc m → m ≡ p → p ≤ SCRIPTS_LIMIT → a < SEATS_LIMIT
-    bound a b d e f g h i j k m p h1 h2 h3 h4 h5 h6 h7 h8 h9 h10 h11 = omega arith
+    bound : (i m p : ℕ) → i ≡ suc m → m ≡ p → p ≤ SCRIPTS_LIMIT → i < SEATS_LIMIT
+    bound i m p h1 h2 h3 = omega arith
 
 -- The schedule.
 

@@ -6,7 +6,7 @@ use Rattle.chorus_ui.specs.declared.limits.TheConstants.{CLOCK_LIMIT}
 use Rattle.chorus_ui.specs.Layout.{IsLayout}
 use Rattle.chorus_entry.specs.declared.packet.Packet.{Packet}
 use Rattle.chorus_calls.specs.Callers.{Seated}
-use Rattle.chorus_law.specs.Left.{journals}
+use Rattle.chorus_law.specs.Left.{journals, packets_left, placed}
 use Rattle.chorus_law.specs.Packets.{first_on}
 use Rattle.chorus_law.specs.Network.{NetState, Event, Deliver, works_off, delivered, happened, after, opening, schedule, round, rounds}
 use Rattle.chorus_law.specs.Calls.{compared_on}
@@ -249,5 +249,11 @@ one-end l ts es fs _ _ shape may can free loose (Worn-at clock v) (Worn-at time 
 
 pub ordered-once : OrderedOnce
 ordered-once l ts s t one other shape a b =
-    let same = one-end l ts a.events b.events (worn_clock s) (worn_clock t) shape a.may b.may a.unworn b.unworn (ends-as l ts s a.events a.carried) (ends-as l ts t b.events b.carried) in
-    (same.0, (a.closes).journals ∙ ap journals same.1 ∙ sym (b.closes).journals)
+    let same = one-end l ts a.events b.events (worn_clock s) (worn_clock t) shape a.may b.may a.unworn b.unworn (ends-as l ts s a.events a.carried) (ends-as l ts t b.events b.carried) in (
+      same.0,
+      record {
+        journals = (a.closes).journals ∙ ap journals same.1 ∙ sym (b.closes).journals;
+        rest = (a.closes).rest ∙ ap packets_left same.1 ∙ sym (b.closes).rest;
+        ports = (a.closes).ports ∙ ap placed same.1 ∙ sym (b.closes).ports;
+      },
+    )

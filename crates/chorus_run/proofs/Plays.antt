@@ -1,4 +1,4 @@
--- What was closed in the order of a replay plays its scenario.
+-- What was closed in the order of tasks plays what their callers give.
 use Rattle.std.proofs.Common.{ℕ, zero, suc, ◌≡◌, ◌==◌, ◌+◌, Bool, true, false, not, ◌&&◌, cond, List, [], ◌∷◌, ◌++◌, length, map, reverse, Option, Some, None, is_some, slice_get, refl, sym, ◌∙◌, ap, ap₂, subst, inl, inr, arith}
 use Rattle.std.specs.Option.{option_map}
 use Rattle.std.proofs.lemmas.Bool.{and_parts, eqb-true, false≢true}
@@ -29,7 +29,7 @@ use Rattle.chorus_law.specs.Network.{NetState, Event, Enter, Act, Deliver, sched
 use Rattle.chorus_law.specs.Quiet.{IsQuiet}
 use Rattle.chorus_law.specs.Schedules.{may_give, may_happen, may_be, commands_of}
 use Rattle.chorus_law.specs.Stands.{actor_of}
-use Rattle.chorus_law.specs.Tasks.{Task, Do, Drain, CarryOut, CarryFront, AreDeliveries}
+use Rattle.chorus_law.specs.Tasks.{Task, Do, Drain, CarryOut, CarryFront, AreDeliveries, commands_in}
 use Rattle.chorus_run.proofs.Seating.{run-more, run-ungiven}
 use Rattle.chorus_law.proofs.Merge.Journals.{journals-are}
 use Rattle.chorus_law.proofs.Merge.Parts.{part}
@@ -45,9 +45,9 @@ use Rattle.chorus_run.specs.Order.{in_setup, entering, in_schedule, left_from, t
 use Rattle.chorus_net.specs.Worn.{IsInRounds}
 use Rattle.chorus_run.specs.Worn.{ComesNext}
 use Rattle.chorus_net.specs.Closing.{IsClosed}
-use Rattle.chorus_run.specs.Headline.{past_of, PerformsAll, PerformsFirst, PerformsUnless, IsQuietUnless, Plays, IsOrdered, callers_of, commands_by}
+use Rattle.chorus_run.specs.Headline.{past_of, PerformsAll, PerformsFirst, PerformsUnless, IsQuietUnless, Plays, IsOrdered, IsGiven, Replays, callers_of, commands_by}
 use Rattle.chorus_run.proofs.Given.{commands-given}
-use Rattle.chorus_run.proofs.Callers.{actors_in, actor-after, callers-given, callers-so-far, get-front}
+use Rattle.chorus_run.proofs.Callers.{AreComers, actors_in, actor-after, are-comers, callers-given, callers-so-far, get-front}
 
 -- Fronts.
 
@@ -133,19 +133,24 @@ count-numbers : (m p : ℕ) → length (numbers m p) ≡ m
 count-numbers zero p = refl
 count-numbers (suc m) p = ap suc (count-numbers m (p + 1))
 
-module _ (c : Scene) (shape : IsLayout c.layout) (keeps : Keeps c) (closed : Closed) (es : List Event) (may : may_be c.layout es ≡ true) (closes : IsClosed (schedule c.layout es) closed) where
-  abbrev l : Layout
-  l = c.layout
+-- The tasks are by these callers with these commands, and a drain by seat 0, who comes, is the last of them.
+pub record AreOf (ts : List Task) (callers : ℕ → Option Ui) (commands : ℕ → Option (List Command)) : Type 0 where
+  pub come : AreComers ts callers
+  pub first : is_some (callers 0) ≡ true
+  pub give : (k : ℕ) (given : List Command) → commands k ≡ Some given → commands_in k ts ≡ reverse given
+  pub before : List Task
+  pub last : ts ≡ Drain 0 ∷ before
 
+module _ (l : Layout) (ts : List Task) (callers : ℕ → Option Ui) (commands : ℕ → Option (List Command)) (are : AreOf ts callers commands) (shape : IsLayout l) (closed : Closed) (es : List Event) (may : may_be l es ≡ true) (closes : IsClosed (schedule l es) closed) where
   abbrev n : NetState
-  n = schedule c.layout es
+  n = schedule l es
 
   past-is : past_of closed ≡ merged_past n
   past-is = ap (λ js. reverse (merged js)) closes.journals
 
-  run-of : ((k : ℕ) (a : Ui) → actor_of n k ≡ Some a → callers_of c k ≡ Some a) → is_run l (callers_of c) (past_of closed) ≡ true
+  run-of : ((k : ℕ) (a : Ui) → actor_of n k ≡ Some a → callers k ≡ Some a) → is_run l callers (past_of closed) ≡ true
   run-of all =
-      ap (is_run l (callers_of c)) past-is ∙ run-more l (actor_of n) (callers_of c) all (merged_past n) (runs-at l es shape may)
+      ap (is_run l callers) past-is ∙ run-more l (actor_of n) callers all (merged_past n) (runs-at l es shape may)
 
   receives-of : Always ReceivesInOrder (past_of closed)
   receives-of = subst (Always ReceivesInOrder) (sym past-is) (receives-at l es shape may)
@@ -184,32 +189,27 @@ module _ (c : Scene) (shape : IsLayout c.layout) (keeps : Keeps c) (closed : Clo
       (subst (λ (rest : List Packet). IsQuiet l (merged_past n) rest) (sym closes.rest) quiet)
 
   -- where the tasks are carried out
-  module _ (carried : CarryOut c.layout (tasks c) es) where
-    performs-of : (k : ℕ) (actor : Ui) (given : List Command) → callers_of c k ≡ Some actor → commands_by c k ≡ Some given → PerformsAll l k actor closed given
+  module _ (carried : CarryOut l ts es) where
+    performs-of : (k : ℕ) (actor : Ui) (given : List Command) → callers k ≡ Some actor → commands k ≡ Some given → PerformsAll l k actor closed given
     performs-of k actor given who what =
         ap (λ past. performs l k actor past (reverse given)) past-is
-        ∙ ap (performs l k actor (merged_past n)) (sym (carried-commands l k (tasks c) es carried ∙ commands-given c keeps k given what))
-        ∙ performs-at l es shape may k actor (callers-given c es carried k ∙ who)
+        ∙ ap (performs l k actor (merged_past n)) (sym (carried-commands l k ts es carried ∙ are.give k given what))
+        ∙ performs-at l es shape may k actor (callers-given l ts callers are.come es carried k ∙ who)
 
     first-comes : is_some (slice_get n.callers 0) ≡ true
-    first-comes = go (slice_get n.callers 0) refl
+    first-comes =
+        comes (slice_get n.callers 0) (ap is_some (callers-given l ts callers are.come es carried 0) ∙ are.first)
       where
-        first : (o : Option Seated) → slice_get n.callers 0 ≡ o → actor_of n 0 ≡ option_map (λ (caller : Seated). caller.actor) o
-        first o e = ap (option_map (λ (caller : Seated). caller.actor)) e
-
-        go : (o : Option Seated) → slice_get n.callers 0 ≡ o → is_some o ≡ true
-        go None e = absurd (let a = sym (first None e) ∙ callers-given c es carried 0 in cc)
-        go (Some x) e = refl
+        comes : (o : Option Seated) → is_some (option_map (λ (caller : Seated). caller.actor) o) ≡ true → is_some o ≡ true
+        comes None h = h
+        comes (Some x) h = refl
 
     rests-of : IsQuiet l (past_of closed) closed.rest.items
-    rests-of =
-        let before = map Do (starting ∷ in_setup c ++ entering c) ++ in_schedule c.scripts [] c.schedule ++ left_from c.schedule 1 c.scripts in
-        let last : tasks c ≡ Drain 0 ∷ reverse before = reverse-append before (Drain 0 ∷ []) in
-        quiet-of (drains-rest l 0 (reverse before) es shape may (subst (λ ts. CarryOut l ts es) last carried) first-comes)
+    rests-of = quiet-of (drains-rest l 0 are.before es shape may (subst (λ z. CarryOut l z es) are.last carried) first-comes)
 
-    plays-out : (status : Status) → ((k : ℕ) (actor : Ui) (given : List Command) → PerformsAll l k actor closed given → PerformsUnless status l k actor closed given) → (IsQuiet l (past_of closed) closed.rest.items → IsQuietUnless status l closed) → Plays l (callers_of c) (commands_by c) status closed
+    plays-out : (status : Status) → ((k : ℕ) (actor : Ui) (given : List Command) → PerformsAll l k actor closed given → PerformsUnless status l k actor closed given) → (IsQuiet l (past_of closed) closed.rest.items → IsQuietUnless status l closed) → Plays l callers commands status closed
     plays-out status performs_ rests = record {
-      run = run-of (λ k a h. sym (callers-given c es carried k) ∙ h);
+      run = run-of (λ k a h. sym (callers-given l ts callers are.come es carried k) ∙ h);
       performed = λ k actor given who what. performs_ k actor given (performs-of k actor given who what);
       receives = receives-of;
       fates = fates-of;
@@ -220,12 +220,12 @@ module _ (c : Scene) (shape : IsLayout c.layout) (keeps : Keeps c) (closed : Clo
     }
 
   -- where a clock is worn
-  module _ (front : CarryFront c.layout (tasks c) es) where
-    performs-first : (k : ℕ) (actor : Ui) (given : List Command) → callers_of c k ≡ Some actor → commands_by c k ≡ Some given → PerformsFirst l k actor closed given
+  module _ (front : CarryFront l ts es) where
+    performs-first : (k : ℕ) (actor : Ui) (given : List Command) → callers k ≡ Some actor → commands k ≡ Some given → PerformsFirst l k actor closed given
     performs-first k actor given who what =
-        let so_far = fronts-give-fronts l (tasks c) es k front in
+        let so_far = fronts-give-fronts l ts es k front in
         let all : given ≡ reverse (commands_of k es) ++ reverse so_far.0 =
-        sym (reverse-reverse given) ∙ ap reverse (sym (commands-given c keeps k given what)) ∙ ap reverse so_far.1 ∙ reverse-append so_far.0 (commands_of k es) in (
+        sym (reverse-reverse given) ∙ ap reverse (sym (are.give k given what)) ∙ ap reverse so_far.1 ∙ reverse-append so_far.0 (commands_of k es) in (
           reverse (commands_of k es),
           (
             reverse so_far.0,
@@ -241,12 +241,12 @@ module _ (c : Scene) (shape : IsLayout c.layout) (keeps : Keeps c) (closed : Clo
             ap (performs l k actor (merged_past n)) (ungiven l es k may (sym (actor-after l es k) ∙ e))
             ∙ performs-none l k actor (merged_past n) (run-ungiven l (actor_of n) k (merged_past n) (runs-at l es shape may) e)
         by-caller (Some a) e =
-            let same : a ≡ actor = (let both : Some a ≡ Some actor = sym (callers-so-far c es front k a e) ∙ who in cc) in
+            let same : a ≡ actor = (let both : Some a ≡ Some actor = sym (callers-so-far l ts callers are.come es front k a e) ∙ who in cc) in
             performs-at l es shape may k actor (e ∙ ap (λ (x : Ui). Some x) same)
 
-    plays-front : (clock : ℕ) → Plays l (callers_of c) (commands_by c) (Status.Worn clock) closed
+    plays-front : (clock : ℕ) → Plays l callers commands (Status.Worn clock) closed
     plays-front clock = record {
-      run = run-of (callers-so-far c es front);
+      run = run-of (callers-so-far l ts callers are.come es front);
       performed = performs-first;
       receives = receives-of;
       fates = fates-of;
@@ -256,13 +256,35 @@ module _ (c : Scene) (shape : IsLayout c.layout) (keeps : Keeps c) (closed : Clo
       quiet = tt;
     }
 
--- what was closed in the order of a replay plays the scenario
-pub plays : (c : Scene) → IsLayout c.layout → Keeps c → (status : Status) (closed : Closed) → IsOrdered c.layout (tasks c) status closed → Plays c.layout (callers_of c) (commands_by c) status closed
-plays c shape keeps Status.Done closed is = plays-out c shape keeps closed is.events is.may is.closes is.carried Status.Done (λ k actor given h. h) (λ h. h)
-plays c shape keeps Status.Usage closed is = plays-out c shape keeps closed is.events is.may is.closes is.carried Status.Usage (λ k actor given h. h) (λ h. h)
-plays c shape keeps (Status.Scenario line reason) closed is = plays-out c shape keeps closed is.events is.may is.closes is.carried (Status.Scenario line reason) (λ k actor given h. h) (λ h. h)
-plays c shape keeps Status.ReadFault closed is = plays-out c shape keeps closed is.events is.may is.closes is.carried Status.ReadFault (λ k actor given h. h) (λ h. h)
-plays c shape keeps Status.WriteFault closed is = plays-out c shape keeps closed is.events is.may is.closes is.carried Status.WriteFault (λ k actor given h. h) (λ h. h)
-plays c shape keeps Status.Memory closed is = plays-out c shape keeps closed is.events is.may is.closes is.carried Status.Memory (λ k actor given h. h) (λ h. h)
-plays c shape keeps (Status.Worn clock) closed is =
-    plays-front c shape keeps closed is.events is.may is.closes (front-of c.layout (tasks c) is.carried.next is.events is.carried.comes) clock
+-- what was closed in the order of the tasks plays what their callers give
+module _ (l : Layout) (ts : List Task) (callers : ℕ → Option Ui) (commands : ℕ → Option (List Command)) (are : AreOf ts callers commands) (shape : IsLayout l) where
+  pub plays : (status : Status) (closed : Closed) → IsOrdered l ts status closed → Plays l callers commands status closed
+  plays Status.Done closed is = plays-out l ts callers commands are shape closed is.events is.may is.closes is.carried Status.Done (λ k actor given h. h) (λ h. h)
+  plays Status.Usage closed is = plays-out l ts callers commands are shape closed is.events is.may is.closes is.carried Status.Usage (λ k actor given h. h) (λ h. h)
+  plays (Status.Scenario line reason) closed is = plays-out l ts callers commands are shape closed is.events is.may is.closes is.carried (Status.Scenario line reason) (λ k actor given h. h) (λ h. h)
+  plays Status.ReadFault closed is = plays-out l ts callers commands are shape closed is.events is.may is.closes is.carried Status.ReadFault (λ k actor given h. h) (λ h. h)
+  plays Status.WriteFault closed is = plays-out l ts callers commands are shape closed is.events is.may is.closes is.carried Status.WriteFault (λ k actor given h. h) (λ h. h)
+  plays Status.Memory closed is = plays-out l ts callers commands are shape closed is.events is.may is.closes is.carried Status.Memory (λ k actor given h. h) (λ h. h)
+  plays (Status.Worn clock) closed is =
+      plays-front l ts callers commands are shape closed is.events is.may is.closes (front-of l ts is.carried.next is.events is.carried.comes) clock
+
+-- the tasks of a scenario are by its callers with its commands
+pub are-of-scene : (c : Scene) → Keeps c → AreOf (tasks c) (callers_of c) (commands_by c)
+are-of-scene c keeps =
+    let before = map Do (starting ∷ in_setup c ++ entering c) ++ in_schedule c.scripts [] c.schedule ++ left_from c.schedule 1 c.scripts in
+    record {
+      come = are-comers c;
+      first = refl;
+      give = commands-given c keeps;
+      before = reverse before;
+      last = reverse-append before (Drain 0 ∷ []);
+    }
+
+-- so what was closed in the order of a scenario that was given replays it
+pub replays-as : (c : Scene) → IsLayout c.layout → Keeps c → (m : Layout) (told : Option (List ℕ)) (status : Status) (closed : Closed) → c.layout ≡ m → IsGiven m told c → IsOrdered c.layout (tasks c) status closed → Replays m told status closed
+replays-as c shape keeps m told status closed same given is = record {
+  scene = c;
+  given = given;
+  plays = subst (λ (z : Layout). Plays z (callers_of c) (commands_by c) status closed) same (plays c.layout (tasks c) (callers_of c) (commands_by c) (are-of-scene c keeps) shape status closed is);
+  ordered = subst (λ (z : Layout). IsOrdered z (tasks c) status closed) same is;
+}

@@ -1,4 +1,4 @@
--- The order of a replay leaves one outcome.
+-- The order of a replay, and that of a load, leave one outcome.
 -- l is a layout, ts are tasks, s and t are statuses.
 use Rattle.std.specs.Prelude.{ℕ, ◌≡◌, List, Option, Some, None}
 use Rattle.chorus_ui.specs.declared.layout.Layout.{Layout}
@@ -9,14 +9,28 @@ use Rattle.chorus_law.specs.Tasks.{Task}
 use Rattle.chorus_show.specs.declared.status.Status.{Status}
 use Rattle.chorus_show.specs.declared.status.Status.TheVariants.{Worn}
 use Rattle.chorus_run.specs.Headline.{IsOrdered}
+use Rattle.chorus_run.specs.Load.{Loads}
+use Rattle.chorus_run.specs.Output.{summary}
 
 -- the clock that was worn, if one was
 abbrev pub worn_clock : Status → Option ℕ
 worn_clock (Worn clock) = Some clock
 worn_clock _ = None
 
--- two replays in the order of the same tasks wear the same clock or none, and close the same journals
+-- the same journals were closed, the same packets and the same ports
+pub record AreClosedAlike (one other : Closed) : Type 0 where
+  pub journals : journals_of one ≡ journals_of other
+  pub rest : one.rest.items ≡ other.rest.items
+  pub ports : one.ports.items ≡ other.ports.items
+
+-- two replays in the order of the same tasks wear the same clock or none, and close the same
 abbrev pub OrderedOnce : Type 0
 OrderedOnce =
     (l : Layout) (ts : List Task) (s t : Status) (one other : Closed) → IsLayout l → IsOrdered l ts s one → IsOrdered l ts t other →
-    (worn_clock s ≡ worn_clock t) × (journals_of one ≡ journals_of other)
+    (worn_clock s ≡ worn_clock t) × AreClosedAlike one other
+
+-- so do two loads of the same words: what they write is the same
+abbrev pub LoadsOnce : Type 0
+LoadsOnce =
+    (first commands : ℕ) (s t : Status) (one other : Closed) → Loads first commands s one → Loads first commands t other →
+    (worn_clock s ≡ worn_clock t) × AreClosedAlike one other × (summary one ≡ summary other)

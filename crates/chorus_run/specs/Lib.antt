@@ -3,4 +3,5 @@ pub mod Worn
 pub mod Performing
 pub mod Headline
 pub mod Output
+pub mod Load
 pub mod Laws

@@ -2,6 +2,7 @@
 -- c is a scenario, k the number of a script and of its seat. Lists stand in order, but for `tasks`, which has the latest first.
 use Rattle.std.specs.Prelude.{ℕ, ◌+◌, List, [], ◌∷◌, ◌++◌, map, drop, reverse, option_to_list, slice_get, count_by}
 use Rattle.std.specs.Option.{option_map}
+use Rattle.chorus_ui.specs.declared.layout.Layout.{Layout}
 use Rattle.chorus_entry.specs.declared.command.Command.{Command}
 use Rattle.chorus_law.specs.Network.{NetState, Event, Enter, Act, Deliver, schedule}
 use Rattle.chorus_law.specs.Calls.{starting, last_of}
@@ -25,9 +26,12 @@ setup_commands c = map setup_command c.setup
 abbrev pub in_setup : Scene → List Event
 in_setup c = map (Act 0) (setup_commands c)
 
--- the sites behind the setup
+-- the sites behind the commands of a setup
+abbrev pub after_setup : Layout → List Command → NetState
+after_setup l setup = schedule l (reverse (starting ∷ map (Act 0) setup))
+
 abbrev pub set_up : Scene → NetState
-set_up c = schedule c.layout (reverse (starting ∷ in_setup c))
+set_up c = after_setup c.layout (setup_commands c)
 
 -- then a seat is entered for each script, in their order, so that script k has seat k; its last clock is that of seat 0
 abbrev pub entering : Scene → List Event

@@ -29,6 +29,14 @@ GivesUp ReadFault = Unit {0}
 GivesUp Memory = Unit {0}
 GivesUp _ = ⊥
 
+-- a call that reads nothing ends so
+abbrev pub EndsUnread : Status → Type 0
+EndsUnread Done = Unit {0}
+EndsUnread WriteFault = Unit {0}
+EndsUnread Memory = Unit {0}
+EndsUnread (Worn clock) = Unit {0}
+EndsUnread _ = ⊥
+
 -- the text of what was closed: the journal text and the summary text of the merge of its journals
 abbrev pub report : Closed → List ℕ
 report closed = journal_text (merge_of closed) ++ summary_text (merge_of closed)
@@ -36,3 +44,11 @@ report closed = journal_text (merge_of closed) ++ summary_text (merge_of closed)
 abbrev pub text_of : Option Closed → List ℕ
 text_of None = []
 text_of (Some closed) = report closed
+
+-- or the summary text alone
+abbrev pub summary : Closed → List ℕ
+summary closed = summary_text (merge_of closed)
+
+abbrev pub summary_of : Option Closed → List ℕ
+summary_of None = []
+summary_of (Some closed) = summary closed

@@ -1,8 +1,9 @@
--- How far a scenario was performed.
--- c is a scenario, n a network; tasks stand in order.
+-- How far tasks were performed.
+-- l is a layout, all are the tasks of an order, which stand in order, c is a scenario, n a network.
 use Rattle.std.specs.Prelude.{ℕ, ◌≡◌, ◌+◌, ◌<◌, ◌⊎◌, true, List, [], ◌∷◌, ◌++◌, length, map, reverse, slice_get, slice_index, count_by, Option, Some, None}
 use Rattle.std.specs.List.{All}
 use Rattle.chorus_entry.specs.declared.entry.Entry.{Entry}
+use Rattle.chorus_ui.specs.declared.layout.Layout.{Layout}
 use Rattle.chorus_calls.specs.Callers.{Seated}
 use Rattle.chorus_machine.specs.PlaceState.{Outgoing}
 use Rattle.chorus_net.specs.declared.closed.Closed.{Closed}
@@ -13,7 +14,7 @@ use Rattle.chorus_law.specs.Tasks.{Task, Do, Drain, CarryOut}
 use Rattle.chorus_scene.specs.Scene.{Scene, Script}
 use Rattle.chorus_scene.specs.Grammar.{is_step}
 use Rattle.chorus_scene.specs.declared.scenario.Step as step
-use Rattle.chorus_run.specs.Order.{in_setup, entering, in_schedule, left_from, order, tasks}
+use Rattle.chorus_run.specs.Order.{in_setup, entering, in_schedule, left_from, order}
 use Rattle.chorus_net.specs.Closing.{IsClosed}
 use Rattle.chorus_net.specs.Worn.{AreUnworn}
 use Rattle.chorus_run.specs.Worn.{AreWornBy, HasClock}
@@ -27,34 +28,48 @@ pub record HaveClocks (past : List Entry) (n : NetState) : Type 0 where
   pub lasts : (k : ℕ) (caller : Seated) → slice_get n.callers k ≡ Some caller → IsClock past caller.last
   pub packets : All (λ (o : Outgoing). IsClock past o.packet.clock) n.packets
 
--- these tasks are left, and the network is what the events left that carried out those before them
-pub record IsBefore (c : Scene) (rest : List Task) (n : NetState) : Type 0 where
+-- of all tasks these are left, and the network is what the events left that carried out those before them
+pub record AreLeft (l : Layout) (all rest : List Task) (n : NetState) : Type 0 where
   pub done : List Task
-  pub whole : order c ≡ done ++ rest
+  pub whole : all ≡ done ++ rest
   pub events : List Event
-  pub is : n ≡ schedule c.layout events
-  pub carried : CarryOut c.layout (reverse done) events
-  pub may : may_be c.layout events ≡ true
-  pub unworn : AreUnworn events (opening c.layout)
-  pub clocks : HaveClocks (history c.layout events) (schedule c.layout events)
+  pub is : n ≡ schedule l events
+  pub carried : CarryOut l (reverse done) events
+  pub may : may_be l events ≡ true
+  pub unworn : AreUnworn events (opening l)
+  pub clocks : HaveClocks (history l events) (schedule l events)
 
 -- the event that came next would have compared this clock
-pub record IsWornAt (c : Scene) (clock : ℕ) (n : NetState) : Type 0 where
+pub record AreStopped (l : Layout) (all : List Task) (clock : ℕ) (n : NetState) : Type 0 where
   pub events : List Event
-  pub is : n ≡ schedule c.layout events
-  pub may : may_be c.layout events ≡ true
-  pub unworn : AreUnworn events (opening c.layout)
-  pub clocks : HaveClocks (history c.layout events) (schedule c.layout events)
-  pub worn : AreWornBy c.layout (tasks c) events clock
+  pub is : n ≡ schedule l events
+  pub may : may_be l events ≡ true
+  pub unworn : AreUnworn events (opening l)
+  pub clocks : HaveClocks (history l events) (schedule l events)
+  pub worn : AreWornBy l (reverse all) events clock
 
 -- all was performed, or a clock was worn
-abbrev pub IsPerformed : Scene → Option ℕ → NetState → Type 0
-IsPerformed c None n = IsBefore c [] n
-IsPerformed c (Some clock) n = IsWornAt c clock n
+abbrev pub ArePerformed : Layout → List Task → Option ℕ → NetState → Type 0
+ArePerformed l all None n = AreLeft l all [] n
+ArePerformed l all (Some clock) n = AreStopped l all clock n
 
 -- what was closed is the network that was reached
+abbrev pub ArePlayed : Layout → List Task → Option ℕ → Closed → Type 0
+ArePlayed l all worn closed = (n : NetState) × (ArePerformed l all worn n × IsClosed n closed)
+
+-- The same of a scenario.
+
+abbrev pub IsBefore : Scene → List Task → NetState → Type 0
+IsBefore c rest n = AreLeft c.layout (order c) rest n
+
+abbrev pub IsWornAt : Scene → ℕ → NetState → Type 0
+IsWornAt c clock n = AreStopped c.layout (order c) clock n
+
+abbrev pub IsPerformed : Scene → Option ℕ → NetState → Type 0
+IsPerformed c worn n = ArePerformed c.layout (order c) worn n
+
 abbrev pub IsPlayed : Scene → Option ℕ → Closed → Type 0
-IsPlayed c worn closed = (n : NetState) × (IsPerformed c worn n × IsClosed n closed)
+IsPlayed c worn closed = ArePlayed c.layout (order c) worn closed
 
 -- what is left: behind the schedule, behind the callers, behind the setup, and from the start of the sites on
 abbrev pub to_finish : Scene → List Task

@@ -11,9 +11,10 @@ ghost use Rattle.chorus_run.specs.Output.{Writes, HandsOut, GivesUp, report, tex
 ghost use Rattle.chorus_run.specs.Performing.{IsPlayed};
 ghost use Rattle.chorus_net.specs.Sites.{net};
 
+use crate::ending::{Played, close, gave_up, print};
 use crate::finished::Finished;
 use crate::performing::perform;
-use chorus_io::{ReadAll, Sink, Source, read_all, write_all};
+use chorus_io::{ReadAll, Sink, Source, read_all};
 use chorus_merge::merge;
 use chorus_net::{Closed, Sites};
 use chorus_scene::{ReadFault, Scenario, SceneFault, TEXT_LIMIT, TOO_LONG, read};
@@ -70,7 +71,10 @@ pub fn replay<S: Source, K: Sink>(
             closed: Some(played.closed),
         };
     }
-    print(alloc, sink, played.closed)
+    let Ok(text) = text_of(alloc, &played.closed) else {
+        return gave_up(Status::Memory);
+    };
+    print(sink, &text, played.closed)
 }
 
 /// The scenario that the source gives; else why there is none.
@@ -105,13 +109,6 @@ fn read_scenario<S: Source>(
     Ok(scenario)
 }
 
-/// What a replayed scenario left: the closed sites, and the clock that was worn, if one was.
-#[derive(Debug, Drop)]
-struct Played {
-    closed: Closed,
-    worn: Option<u64>,
-}
-
 /// Replays the scenario, and closes the sites.
 fn play(alloc: Global, mut sites: Sites, scenario: &Scenario) -> Result<Played, AllocError>
     requires just_started { AreJustStarted (net sites) }
@@ -121,35 +118,7 @@ fn play(alloc: Global, mut sites: Sites, scenario: &Scenario) -> Result<Played, 
     ensures { IfOk result (λ played. IsPlayed scenario.now played.worn played.closed) }
 {
     let worn = perform(alloc, &mut sites, scenario)?;
-    match sites.close(alloc) {
-        Ok(closed) => Ok(Played { closed, worn }),
-        Err((_, error)) => Err(error),
-    }
-}
-
-/// Writes the journal and the summary of what was closed.
-fn print<K: Sink>(alloc: Global, sink: &mut K, closed: Closed) -> Finished
-    ensures status { (result.status ≡ Status.Done) ⊎ (result.status ≡ Status.WriteFault)
-        ⊎ (result.status ≡ Status.Memory) }
-    ensures write_fault { result.status ≡ Status.WriteFault →
-        Rose (K.faults sink.old) (K.faults sink.new) }
-    ensures closed { IfSome result.closed (λ out. out ≡ closed) }
-    ensures hands_out { IsSome result.closed ↔ HandsOut result.status }
-    ensures unwritten { result.status ≡ Status.Memory → sink.new ≡ sink.old }
-    ensures prints { Writes result.status (K.held sink.old) (K.held sink.new)
-        (text_of result.closed) }
-{
-    let Ok(text) = text_of(alloc, &closed) else {
-        return gave_up(Status::Memory);
-    };
-    let status = match write_all(sink, &text) {
-        Ok(()) => Status::Done,
-        Err(_) => Status::WriteFault,
-    };
-    Finished {
-        status,
-        closed: Some(closed),
-    }
+    close(alloc, sites, worn)
 }
 
 /// The journal text and the summary text of what was closed.
@@ -170,16 +139,5 @@ fn refused(fault: SceneFault) -> Status
     Status::Scenario {
         line: fault.line,
         reason: fault.reason,
-    }
-}
-
-/// A run that ended with this status, and closed nothing.
-fn gave_up(status: Status) -> Finished
-    requires { GivesUp status }
-    ensures { result ≡ record { status = status; closed = None } }
-{
-    Finished {
-        status,
-        closed: None,
     }
 }

@@ -39,6 +39,26 @@ departs 0
 end
 ";
 
+const MOVE_TO_ANOTHER_SITE: &str =
+    "chorus 1\nsites 2\nport 1.p.2 1.a.2 4\nscript 1.a.2\nmove 1.p.2 2.a.1\nschedule\nend\n";
+
+const PRINTS_MOVE_TO_ANOTHER_SITE: &str = "\
+journal 3
+1 2 0 make 1.p.2 1.a.2 4
+2 2 1 depart 1.p.2 4 2.a.1 1
+3 4 0 arrive 1.p.2 1
+summary
+posted 0
+accepted 0
+taken 0
+queued 0
+moving 0
+refused 0
+stale 0
+departs 1
+end
+";
+
 const TAKEN_THEN_EMPTY: &str =
     "chorus 1\nsites 1\nport 1.p.1 1.a.1 1\nscript 1.a.1\nsend 1.p.1 =a\nsend 1.p.1 =b\ntake 1.p.1\ntake 1.p.1\ntake 1.p.1\nschedule\nend\n";
 
@@ -223,25 +243,13 @@ fn scripts_are_interleaved(rt: HostRuntime) -> Result<(), Fail> {
 }
 
 #[test]
-fn scenarios_print_these_lines(rt: HostRuntime) -> Result<(), Fail> {
-    for (name, text, line) in [
-        (
-            "binary_bodies",
-            "chorus 2\nsites 1\nport 1.p.1 1.a.1 1\nscript 1.a.1\nsend 1.p.1 x00ff\nschedule\nend",
-            "\n2 1 1 post 1:1:0 port 1.p.1 plain =%00%ff\n",
-        ),
-        (
-            "a port that another actor holds",
-            "chorus 1\nsites 1\nport 1.p.1 1.a.1 1\nscript 1.a.2\ntake 1.p.1\ntake 1.p.2\nschedule\nend",
-            "\n2 1 1 not-here 1.p.1\n3 1 1 not-here 1.p.2\nsummary\n",
-        ),
-    ] {
-        let (finished, sink) = run(rt.alloc(), text.as_bytes(), &[], 4096, &[])?;
-        assert_eq!(rt; finished.status, Status::Done, "{name}");
-        let printed = String::from_utf8(Vec::from_slice(rt.alloc(), sink.bytes())?)?;
-        assert!(rt; printed.as_str().contains(line), "{name}");
-    }
-    Ok(())
+fn another_actor_holds_the_port(rt: HostRuntime) -> Result<(), Fail> {
+    assert_prints(
+        &rt,
+        rt.alloc(),
+        "chorus 1\nsites 1\nport 1.p.1 1.a.1 1\nscript 1.a.2\ntake 1.p.1\ntake 1.p.2\nschedule\nend",
+        "journal 3\n1 1 0 make 1.p.1 1.a.1 1\n2 1 1 not-here 1.p.1\n3 1 1 not-here 1.p.2\nsummary\nposted 0\naccepted 0\ntaken 0\nqueued 0\nmoving 0\nrefused 0\nstale 0\ndeparts 0\nend\n",
+    )
 }
 
 #[test]
@@ -271,7 +279,7 @@ fn fills_to_capacity(rt: HostRuntime) -> Result<(), Fail> {
 }
 
 /// Asserts that the text is refused with this line and reason, and nothing is written or closed.
-fn assert_refused(
+pub(crate) fn assert_refused(
     rt: &impl Abort,
     alloc: Global,
     text: &str,
@@ -325,15 +333,19 @@ fn unfinished_and_unknown_texts(rt: HostRuntime) -> Result<(), Fail> {
 #[test]
 fn two_turns_per_site(rt: HostRuntime) -> Result<(), Fail> {
     let alloc = rt.alloc();
-    let text = Vec::from_slice(alloc, TWO_TURNS.as_bytes())?;
-    let mut source = MemSource::new(text, Vec::new(alloc));
-    let mut sink = MemSink::new(alloc, 4096, Vec::new(alloc));
-    let layout = Layout::new(2, 2).ok_or("a layout")?;
-    let sites = Sites::start(alloc, layout)?;
-    let finished = words(alloc, &["replay"], &mut source, &mut sink, sites);
-    assert_eq!(rt; finished.status, Status::Done);
-    assert_eq!(rt; sink.bytes(), PRINTS_TWO_TURNS.as_bytes());
-    assert!(rt; finished.closed.is_some());
+    for (text, printed) in [
+        (TWO_TURNS, PRINTS_TWO_TURNS),
+        (MOVE_TO_ANOTHER_SITE, PRINTS_MOVE_TO_ANOTHER_SITE),
+    ] {
+        let mut source = MemSource::new(Vec::from_slice(alloc, text.as_bytes())?, Vec::new(alloc));
+        let mut sink = MemSink::new(alloc, 4096, Vec::new(alloc));
+        let layout = Layout::new(2, 2).ok_or("a layout")?;
+        let sites = Sites::start(alloc, layout)?;
+        let finished = words(alloc, &["replay"], &mut source, &mut sink, sites);
+        assert_eq!(rt; finished.status, Status::Done, "{text}");
+        assert_eq!(rt; sink.bytes(), printed.as_bytes(), "{text}");
+        assert!(rt; finished.closed.is_some(), "{text}");
+    }
     Ok(())
 }
 

@@ -1,9 +1,12 @@
 use Rattle.std.proofs.Common.{◌≡◌, Some, sym, ◌∙◌, ap, subst}
 use Rattle.chorus_ui.specs.Layout.{IsLayout}
-use Rattle.chorus_run.specs.Headline.{IsGiven}
+use Rattle.chorus_show.specs.declared.status.Status.{Status}
+use Rattle.chorus_run.specs.Headline.{IsGiven, Replays}
+use Rattle.chorus_run.specs.Output.{text_of}
 use Rattle.chorus_run.specs.Performing.{IsPlayed}
 use Rattle.chorus_net.specs.Sites.{net}
-use Rattle.chorus_run.proofs.Stepping.{replays-all, replays-worn, replays-printed, none-of, worn-high, worn-has}
+use Rattle.chorus_run.proofs.Plays.{replays-as}
+use Rattle.chorus_run.proofs.Stepping.{can, ordered-all, ordered-worn, printed, prints-text, none-of, worn-high, worn-has}
 use Rattle.chorus_run.proofs.on_one_thread.replay.Goals as goal
 
 pub returns-in-Some-clause-replays : goal.returns-in-Some-clause-replays
@@ -11,20 +14,26 @@ returns-in-Some-clause-replays g c =
     let scene = c.in-Ok.scenario in
     let ok = c.in-Ok.ensures.ok in
     let value = c.layout.ensures.value in
-    replays-worn scene (subst IsLayout (sym (ok.0 ∙ c.layout.ensures.value)) c.layout.ensures.shape) ok.1 (net c.args.sites).layout _ c.in-Some.clock c.in-Ok-play.played.closed (ok.0 ∙ value)
+    let shape = subst IsLayout (sym (ok.0 ∙ value)) c.layout.ensures.shape in
+    let closed = c.in-Ok-play.played.closed in
+    let played = subst (λ worn. IsPlayed scene worn closed) c.in-Some.is c.in-Ok-play.ensures in
+    replays-as scene shape ok.1 (net c.args.sites).layout (g.S.Source.left c.args.source.now) (Status.Worn c.in-Some.clock) closed (ok.0 ∙ value)
     (subst (λ l. IsGiven l (g.S.Source.left c.args.source.now) scene) value c.in-Ok.ensures.given)
-    (subst (λ worn. IsPlayed scene worn c.in-Ok-play.played.closed) c.in-Some.is c.in-Ok-play.ensures)
+    (ordered-worn (can scene shape ok.1) c.in-Some.clock closed played)
 
 pub returns-clause-replays : goal.returns-clause-replays
 returns-clause-replays g c =
     let scene = c.in-Ok.scenario in
     let ok = c.in-Ok.ensures.ok in
     let value = c.layout.ensures.value in
+    let shape = subst IsLayout (sym (ok.0 ∙ value)) c.layout.ensures.shape in
+    let closed = c.in-Ok-play.played.closed in
+    let told = g.S.Source.left c.args.source.now in
     let worn = none-of c.in-Ok-play.played.worn c.in_default-worn.not-Some in
-    replays-printed (net c.args.sites).layout _ c.print.result.status c.print.result.closed c.in-Ok-play.played.closed c.print.ensures.closed c.print.ensures.hands_out c.print.ensures.status
-    (replays-all scene (subst IsLayout (sym (ok.0 ∙ c.layout.ensures.value)) c.layout.ensures.shape) ok.1 (net c.args.sites).layout _ c.in-Ok-play.played.closed (ok.0 ∙ value)
-    (subst (λ l. IsGiven l (g.S.Source.left c.args.source.now) scene) value c.in-Ok.ensures.given)
-    (subst (λ worn. IsPlayed scene worn c.in-Ok-play.played.closed) worn c.in-Ok-play.ensures))
+    let given = subst (λ l. IsGiven l told scene) value c.in-Ok.ensures.given in
+    let ordered = ordered-all (can scene shape ok.1) closed (subst (λ w. IsPlayed scene w closed) worn c.in-Ok-play.ensures) in
+    printed (λ s o. Replays (net c.args.sites).layout told s o) c.print.result.status c.print.result.closed closed c.print.ensures.closed c.print.ensures.status
+    (replays-as scene shape ok.1 (net c.args.sites).layout told Status.Done closed (ok.0 ∙ value) given ordered.0, replays-as scene shape ok.1 (net c.args.sites).layout told Status.WriteFault closed (ok.0 ∙ value) given ordered.1)
 
 pub returns-in-Some-clause-worn : goal.returns-in-Some-clause-worn
 returns-in-Some-clause-worn g c clock is =
@@ -33,4 +42,8 @@ returns-in-Some-clause-worn g c clock is =
     let shape = subst IsLayout (sym (ok.0 ∙ c.layout.ensures.value)) c.layout.ensures.shape in
     let same : c.in-Some.clock ≡ clock = cc in
     let played = subst (λ worn. IsPlayed scene worn c.in-Ok-play.played.closed) (c.in-Some.is ∙ ap (λ x. Some x) same) c.in-Ok-play.ensures in
-    (worn-high scene shape ok.1 clock c.in-Ok-play.played.closed played, worn-has scene shape ok.1 clock c.in-Ok-play.played.closed played)
+    (worn-high (can scene shape ok.1) clock c.in-Ok-play.played.closed played, worn-has (can scene shape ok.1) clock c.in-Ok-play.played.closed played)
+
+pub returns-clause-prints : goal.returns-clause-prints
+returns-clause-prints g c =
+    prints-text text_of c.print.result.status c.print.result.closed c.in-Ok-play.played.closed _ _ _ _ c.print.ensures.closed c.deref.ensures.value c.in-Ok-text_of.ensures c.print.ensures.prints

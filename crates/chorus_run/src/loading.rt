@@ -1,0 +1,202 @@
+//! A load on one thread.
+
+ghost use Rattle.std.specs.Prelude.{◌≡◌, ◌≢◌, ◌↔◌, ℕ, ◌≤◌, [], ◌∷◌, IfOk, OnOk, IsErrOf, IfSome, IsSome};
+ghost use Rattle.chorus_io.specs.Count.{Rose};
+ghost use Rattle.chorus_ui.specs.declared.limits.TheConstants.{CLOCK_LIMIT};
+ghost use Rattle.chorus_law.specs.Calls.{just_started};
+ghost use Rattle.chorus_law.specs.Tasks.{Drain};
+ghost use Rattle.chorus_net.specs.Sites.{net};
+ghost use Rattle.chorus_run.specs.declared.loading.TheConstants.{LOAD_LIMIT};
+ghost use Rattle.chorus_run.specs.Worn.{HasClock};
+ghost use Rattle.chorus_run.specs.Headline.{AreJustStarted, merge_of};
+ghost use Rattle.chorus_run.specs.Performing.{AreLeft, AreStopped, ArePerformed, ArePlayed};
+ghost use Rattle.chorus_run.specs.Order.{after_setup};
+ghost use Rattle.chorus_run.specs.Load.{Loads, load_layout, load_order, load_setup, to_enter, to_draw};
+ghost use Rattle.chorus_run.specs.Output.{Writes, HandsOut, EndsUnread, summary, summary_of};
+
+use crate::drawing::{
+    Draw, LOAD_SITES, SETUP_COMMANDS, draw_for, load_actor, next_state, setup_command,
+};
+use crate::ending::{Played, close, gave_up, print};
+use crate::finished::Finished;
+use chorus_io::Sink;
+use chorus_merge::merge;
+use chorus_net::{Closed, EnterFault, Sites};
+use chorus_place::PlaceFault;
+use chorus_show::{Status, summary_text};
+use std::alloc::{AllocError, Global};
+
+/// The most commands of a load.
+pub const LOAD_LIMIT: u32 = 65_536;
+
+/// Performs a load on the sites, and writes the summary of its journal: so many commands, at most 65,536, which are drawn from
+/// the first number.
+///
+/// The sites were just started, and are 8 with one place each. Where a clock is worn before all is done, the sites are closed
+/// and nothing is written.
+pub fn load<K: Sink>(
+    alloc: Global,
+    first: u64,
+    commands: u32,
+    sink: &mut K,
+    sites: Sites,
+) -> Finished
+    requires just_started { AreJustStarted (net sites) }
+    requires layout { (net sites).layout ≡ load_layout }
+    requires commands { commands ≤ LOAD_LIMIT }
+
+    // Why it ended. Want of memory is the one free answer.
+    ensures status { EndsUnread result.status }
+    ensures write_fault { result.status ≡ Status.WriteFault →
+        Rose (K.faults sink.old) (K.faults sink.new) }
+    ensures worn { (clock : ℕ) → result.status ≡ Status.Worn clock → (CLOCK_LIMIT ≤ clock)
+        × IfSome result.closed (λ closed. HasClock clock (merge_of closed)) }
+    ensures closed { IsSome result.closed ↔ HandsOut result.status }
+
+    // What it did, where it handed out what it closed.
+    ensures unwritten { result.status ≢ Status.Done → result.status ≢ Status.WriteFault →
+        sink.new ≡ sink.old }
+    ensures prints { Writes result.status (K.held sink.old) (K.held sink.new)
+        (summary_of result.closed) }
+    ensures loads { IfSome result.closed
+        (λ closed. Loads first commands result.status closed) }
+{
+    let Ok(played) = play(alloc, sites, first, commands) else {
+        return gave_up(Status::Memory);
+    };
+    if let Some(clock) = played.worn {
+        return Finished {
+            status: Status::Worn { clock },
+            closed: Some(played.closed),
+        };
+    }
+    let Ok(text) = summary_of(alloc, &played.closed) else {
+        return gave_up(Status::Memory);
+    };
+    print(sink, &text, played.closed)
+}
+
+/// The summary text of what was closed.
+fn summary_of(alloc: Global, closed: &Closed) -> Result<Vec<u8>, AllocError>
+    ensures { IfOk result (λ text. text.items ≡ summary closed.now) }
+{
+    let entries = merge(alloc, &closed.journals)?;
+    let mut text = Vec::new(alloc);
+    summary_text(&entries, &mut text)?;
+    Ok(text)
+}
+
+/// Performs the load, and closes the sites.
+fn play(alloc: Global, mut sites: Sites, first: u64, commands: u32) -> Result<Played, AllocError>
+    requires start { net sites ≡ just_started load_layout }
+    requires commands { commands ≤ LOAD_LIMIT }
+    ensures { IfOk result (λ played.
+        ArePlayed load_layout (load_order first commands) played.worn played.closed) }
+{
+    let worn = perform(alloc, &mut sites, first, commands)?;
+    close(alloc, sites, worn)
+}
+
+/// Performs the load on the sites, which were just started, and gives the clock that was worn, if one was. All room that the
+/// commands need in the journals is taken ahead.
+fn perform(
+    alloc: Global,
+    sites: &mut Sites,
+    first: u64,
+    commands: u32,
+) -> Result<Option<u64>, AllocError>
+    requires start { net sites.old ≡ just_started load_layout }
+    requires commands { commands ≤ LOAD_LIMIT }
+    ensures { IfOk result (λ worn.
+        ArePerformed load_layout (load_order first commands) worn (net sites.new)) }
+{
+    sites.reserve(u32::from(SETUP_COMMANDS) + commands)?;
+    match perform_tasks(alloc, sites, first, commands) {
+        Ok(()) => Ok(None),
+        Err(PlaceFault::Worn { clock }) => Ok(Some(clock)),
+        Err(PlaceFault::Memory(error)) => Err(error),
+    }
+}
+
+/// Performs the setup by seat 0, enters a seat on each site, performs the commands that are drawn, and drains.
+fn perform_tasks(
+    alloc: Global,
+    sites: &mut Sites,
+    first: u64,
+    commands: u32,
+) -> Result<(), PlaceFault>
+    requires start { net sites.old ≡ just_started load_layout }
+    requires commands { commands ≤ LOAD_LIMIT }
+    ensures ok { OnOk result (AreLeft load_layout (load_order first commands) [] (net sites.new)) }
+    ensures worn { (clock : ℕ) → IsErrOf result (PlaceFault.Worn clock) →
+        AreStopped load_layout (load_order first commands) clock (net sites.new) }
+{
+    set_up(sites, first, commands)?;
+    enter(sites, first, commands)?;
+    take_turns(alloc, sites, first, commands)?;
+    sites.drain()?;
+    Ok(())
+}
+
+/// Performs the setup, by seat 0.
+fn set_up(sites: &mut Sites, first: u64, commands: u32) -> Result<(), PlaceFault>
+    requires start { net sites.old ≡ just_started load_layout }
+    requires commands { commands ≤ LOAD_LIMIT }
+    ensures ok { OnOk result (AreLeft load_layout (load_order first commands)
+        (to_enter first commands) (net sites.new)) }
+    ensures now { OnOk result (net sites.new ≡ after_setup load_layout load_setup) }
+    ensures worn { (clock : ℕ) → IsErrOf result (PlaceFault.Worn clock) →
+        AreStopped load_layout (load_order first commands) clock (net sites.new) }
+{
+    for index in 0..SETUP_COMMANDS {
+        sites.act(0, setup_command(index))?;
+    }
+    Ok(())
+}
+
+/// Enters a seat on each site.
+fn enter(sites: &mut Sites, first: u64, commands: u32) -> Result<(), AllocError>
+    requires before { AreLeft load_layout (load_order first commands)
+        (to_enter first commands) (net sites.old) }
+    requires now { net sites.old ≡ after_setup load_layout load_setup }
+    requires commands { commands ≤ LOAD_LIMIT }
+    ensures { OnOk result (AreLeft load_layout (load_order first commands)
+        (to_draw commands 1 first) (net sites.new)) }
+{
+    for index in 0..LOAD_SITES {
+        match sites.enter(load_actor(index + 1)) {
+            Ok(_) => {}
+            Err(EnterFault::Memory(error)) => return Err(error),
+            Err(EnterFault::NoActor) => unreachable!(),
+            Err(EnterFault::NoSeat { .. }) => unreachable!(),
+        }
+    }
+    Ok(())
+}
+
+/// Performs the commands that are drawn, each by its seat, and delivers one packet behind each where two places were drawn.
+fn take_turns(alloc: Global, sites: &mut Sites, first: u64, commands: u32) -> Result<(), PlaceFault>
+    requires before { AreLeft load_layout (load_order first commands)
+        (to_draw commands 1 first) (net sites.old) }
+    requires commands { commands ≤ LOAD_LIMIT }
+    ensures ok { OnOk result (AreLeft load_layout (load_order first commands)
+        (Drain 0 ∷ []) (net sites.new)) }
+    ensures worn { (clock : ℕ) → IsErrOf result (PlaceFault.Worn clock) →
+        AreStopped load_layout (load_order first commands) clock (net sites.new) }
+{
+    let mut state = first;
+    for index in 0..commands {
+        state = next_state(state);
+        let Draw {
+            seat,
+            command,
+            from,
+            to,
+        } = draw_for(alloc, index + 1, state)?;
+        sites.act(seat, command)?;
+        if from != to {
+            sites.deliver(from, to)?;
+        }
+    }
+    Ok(())
+}
