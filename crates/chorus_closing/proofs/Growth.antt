@@ -120,5 +120,6 @@ module _ (P C M K : Type 0) where
   moves-keep-places m start p log x pushed out popped hand pushed_now out_now popped_now hand_now more keeps puts pops holds =
       keeps_moves m start p log x pushed out popped hand pushed_now out_now popped_now hand_now more keeps puts pops holds
 
-  pub turns-keep-passes : TurnsKeepPasses P C M K
+module _ (C M K : Type 0) where
+  pub turns-keep-passes : TurnsKeepPasses C M K
   turns-keep-passes is_new count q p mine t r e es is same = thread_turn is_new count q p mine t r e es is same

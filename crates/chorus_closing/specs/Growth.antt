@@ -36,8 +36,8 @@ MovesKeepPlaces P C M K =
     ((a : ℕ) → hand_now a ≡ hand a ++ more a) → Keeps m start p log x pushed_now out_now popped_now hand_now
 
 -- a pass has taken a turn more, at the place p, from the caller that its last turn left
-abbrev pub TurnsKeepPasses : Type 0 → Type 0 → Type 0 → Type 0 → Type 0
-TurnsKeepPasses P C M K =
+abbrev pub TurnsKeepPasses : Type 0 → Type 0 → Type 0 → Type 0
+TurnsKeepPasses C M K =
     (is_new : ℕ → C → Bool) (count q p : ℕ) (mine : List (Placed (Noted C M K))) (t : IsThread is_new count q mine)
     (r : Noted C M K) (e : Entry) (es : List Entry) → IsPlace count p → r.before ≡ t.last →
     (u : IsThread is_new count q (mine ++ with_place p (remarked r (e ∷ es)))) × (u.last ≡ r.after)

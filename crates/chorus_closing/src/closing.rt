@@ -19,7 +19,7 @@ pub fn closed_has_schedule<P, C, M, K>()
 /// a link into the hand, without an entry (`moves`).
 pub fn turns_keep_what_closing_needs<P, C, M, K>()
     ensures place { TurnsKeepPlaces P C M K }
-    ensures pass { TurnsKeepPasses P C M K }
+    ensures pass { TurnsKeepPasses C M K }
     ensures moves { MovesKeepPlaces P C M K }
 {}
 
