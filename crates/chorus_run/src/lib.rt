@@ -1,6 +1,6 @@
 //! The top calls: what the program does between its input and its output.
 //!
-//! [`words`] decides by the program's words; [`replay`] reads a scenario from a source, replays it on one thread, and writes the
+//! [`replay`] reads a scenario from a source, replays it on one thread, and writes the
 //! journal and the summary to a sink. The program rests on this: what comes out is the text of the merge of the journals that are
 //! handed out; they are those of the network after the scenario's tasks in the order of a replay; that merge is a run of the
 //! one-holder world for the scenario's callers, in which each command stands once, in its script's order, with the entry that
@@ -11,14 +11,12 @@
 
 #![tactic(auto)]
 
-mod by_words;
 mod finished;
 mod following;
 mod laws;
 mod on_one_thread;
 mod performing;
 
-pub use by_words::words;
 pub use finished::Finished;
 pub use laws::a_replay_has_one_outcome;
 pub use on_one_thread::replay;
