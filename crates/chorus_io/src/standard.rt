@@ -1,10 +1,10 @@
-//! Standard input and output. They tell nothing of their bytes: what a process reads and shows is outside any contract.
+//! Standard input, output and error. They tell nothing of their bytes: what a process reads and shows is outside any contract.
 ghost use Rattle.std.specs.Prelude.{◌≡◌};
 
 use crate::count::raise;
 use crate::{Failed, Sink, Source};
 use std::io::{Read, Write};
-use std::rt::{Stdin, Stdout};
+use std::rt::{Stderr, Stdin, Stdout};
 
 /// Standard input.
 #[derive(Drop)]
@@ -62,6 +62,41 @@ impl Sink for StdSink {
     /// Fails also where the device takes no byte.
     fn write(&mut self, bytes: &[u8]) -> Result<usize, Failed> {
         match self.stdout.write(bytes) {
+            Ok(n) if n > 0 => Ok(n),
+            _ => {
+                self.faults = raise(self.faults);
+                Err(Failed)
+            }
+        }
+    }
+
+    fn faults(&self) -> u64 {
+        self.faults
+    }
+}
+
+/// Standard error.
+#[derive(Drop)]
+pub struct StdErrors {
+    stderr: Stderr,
+    faults: u64,
+}
+
+impl StdErrors {
+    /// No fault was met yet.
+    pub fn new(stderr: Stderr) -> Self
+        ensures { ⟦<StdErrors as Sink>⟧.faults result ≡ 0 }
+    {
+        StdErrors { stderr, faults: 0 }
+    }
+}
+
+impl Sink for StdErrors {
+    ghost faults = { λ s. s.faults };
+
+    /// Fails also where the device takes no byte.
+    fn write(&mut self, bytes: &[u8]) -> Result<usize, Failed> {
+        match self.stderr.write(bytes) {
             Ok(n) if n > 0 => Ok(n),
             _ => {
                 self.faults = raise(self.faults);

@@ -4,7 +4,7 @@ ghost use Rattle.std.specs.Prelude.{◌≤◌};
 
 use chorus_io::{MemSink, MemSource};
 use chorus_net::Sites;
-use chorus_run::{Finished, words};
+use chorus_run::{Finished, replay};
 use chorus_show::Status;
 use chorus_ui::Layout;
 use std::alloc::Global;
@@ -197,7 +197,7 @@ pub(crate) fn run(
     let mut sink = MemSink::new(alloc, most, Vec::from_slice(alloc, writes)?);
     let layout = Layout::new(16, 1).ok_or("a layout")?;
     let sites = Sites::start(alloc, layout)?;
-    let finished = words(alloc, &["replay"], &mut source, &mut sink, sites);
+    let finished = replay(alloc, &mut source, &mut sink, sites);
     Ok((finished, sink))
 }
 
@@ -341,7 +341,7 @@ fn two_turns_per_site(rt: HostRuntime) -> Result<(), Fail> {
         let mut sink = MemSink::new(alloc, 4096, Vec::new(alloc));
         let layout = Layout::new(2, 2).ok_or("a layout")?;
         let sites = Sites::start(alloc, layout)?;
-        let finished = words(alloc, &["replay"], &mut source, &mut sink, sites);
+        let finished = replay(alloc, &mut source, &mut sink, sites);
         assert_eq!(rt; finished.status, Status::Done, "{text}");
         assert_eq!(rt; sink.bytes(), printed.as_bytes(), "{text}");
         assert!(rt; finished.closed.is_some(), "{text}");
@@ -395,27 +395,5 @@ fn faults_of_source_and_sink(rt: HostRuntime) -> Result<(), Fail> {
         assert_eq!(rt; finished.status, status, "at {call}");
         assert_eq!(rt; sink.bytes().len() as u64, most.min(call - 1), "at {call}");
     }
-    Ok(())
-}
-
-/// How `words` ends on an empty source, and how many bytes it wrote.
-fn status_of(alloc: Global, said: &[&str]) -> Result<(Status, usize), Fail> {
-    let mut source = MemSource::new(Vec::new(alloc), Vec::new(alloc));
-    let mut sink = MemSink::new(alloc, 64, Vec::new(alloc));
-    let layout = Layout::new(16, 1).ok_or("a layout")?;
-    let sites = Sites::start(alloc, layout)?;
-    let finished = words(alloc, said, &mut source, &mut sink, sites);
-    Ok((finished.status, sink.bytes().len()))
-}
-
-#[test]
-fn other_words_are_usage(rt: HostRuntime) -> Result<(), Fail> {
-    let alloc = rt.alloc();
-    assert_eq!(rt; status_of(alloc, &[])?, (Status::Usage, 0));
-    assert_eq!(rt; status_of(alloc, &["replay", "x"])?, (Status::Usage, 0));
-    assert_eq!(rt; status_of(alloc, &["--help"])?, (Status::Usage, 0));
-    assert_eq!(rt; status_of(alloc, &["run"])?, (Status::Usage, 0));
-    let empty = Status::Scenario { line: 1, reason: 9 };
-    assert_eq!(rt; status_of(alloc, &["replay"])?, (empty, 0));
     Ok(())
 }

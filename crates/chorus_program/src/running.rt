@@ -1,0 +1,155 @@
+//! What the program does, by its words.
+
+ghost use Rattle.std.specs.Prelude.{◌≡◌, ◌≢◌, ◌↔◌, ◌⊎◌, ℕ, ◌≤◌, IfOk, IfSome, IsSome, None, Err, map};
+ghost use Rattle.chorus_io.specs.Count.{Rose};
+ghost use Rattle.chorus_ui.specs.declared.limits.TheConstants.{CLOCK_LIMIT};
+ghost use Rattle.chorus_ui.specs.Layout.{IsLayout};
+ghost use Rattle.chorus_net.specs.Sites.{net};
+ghost use Rattle.chorus_run.specs.Headline.{AreJustStarted, Gives, IsRead, ReadsNoFurther, Replays, merge_of};
+ghost use Rattle.chorus_run.specs.Load.{load_layout, Loads};
+ghost use Rattle.chorus_run.specs.Output.{EndsUnread, HandsOut, Writes, summary_of, text_of};
+ghost use Rattle.chorus_run.specs.Worn.{HasClock};
+ghost use Rattle.chorus_words.specs.declared.words.TheConstants.{COMMANDS_LIMIT};
+ghost use Rattle.chorus_words.specs.declared.words.Words.TheVariants.{Load, Replay};
+ghost use Rattle.chorus_words.specs.Words.{Ask};
+ghost use Rattle.chorus_program.specs.Running.{one_place_each, replay_layout};
+
+use chorus_io::{Sink, Source};
+use chorus_net::Sites;
+use chorus_run::{Finished, LOAD_SITES, load, replay};
+use chorus_show::Status;
+use chorus_ui::Layout;
+use chorus_words::{Words, read_words};
+use std::alloc::{AllocError, Global};
+
+/// The sites of a replay, each with one place.
+pub const REPLAY_SITES: u16 = 16;
+
+/// Does what the words say, on sites that are started for it: `replay` replays the scenario that the source gives, and
+/// `load FIRST COMMANDS` performs the commands that are drawn. Any other words are Usage, and then nothing is read or written.
+pub fn program<'a, S: Source, K: Sink>(
+    alloc: Global,
+    words: &'a [&'a str],
+    source: &mut S,
+    sink: &mut K,
+) -> Finished
+    // Why it ended. Want of memory is the one free answer.
+    ensures usage { result.status ≡ Status.Usage →
+        (asked : Words) → ¬ (Ask (map (λ word. word.now) words.now) asked) }
+    ensures listed { ((asked : Words) → ¬ (Ask (map (λ word. word.now) words.now) asked)) →
+        (result.status ≡ Status.Usage) ⊎ (result.status ≡ Status.Memory) }
+    ensures untouched { result.status ≡ Status.Usage →
+        (source.new ≡ source.old) × (sink.new ≡ sink.old) }
+    ensures scenario { (line reason : ℕ) → result.status ≡ Status.Scenario line reason →
+        IsSome (S.left source.old) →
+        Gives replay_layout (S.left source.old) (Err (line, reason)) }
+    ensures read_fault { result.status ≡ Status.ReadFault →
+        Rose (S.faults source.old) (S.faults source.new) }
+    ensures reliable { S.reliable source.old → S.faults source.new ≡ S.faults source.old }
+    ensures write_fault { result.status ≡ Status.WriteFault →
+        Rose (K.faults sink.old) (K.faults sink.new) }
+    ensures worn { (clock : ℕ) → result.status ≡ Status.Worn clock → (CLOCK_LIMIT ≤ clock)
+        × IfSome result.closed (λ closed. HasClock clock (merge_of closed)) }
+    ensures closed { IsSome result.closed ↔ HandsOut result.status }
+    ensures unwritten { result.status ≢ Status.Done → result.status ≢ Status.WriteFault →
+        sink.new ≡ sink.old }
+
+    // What `replay` did.
+    ensures reads { Ask (map (λ word. word.now) words.now) Replay →
+        result.status ≢ Status.ReadFault → result.status ≢ Status.Memory →
+        IsRead (S.left source.old) (S.left source.new) }
+    ensures reads_at_most { Ask (map (λ word. word.now) words.now) Replay →
+        ReadsNoFurther (S.left source.old) (S.left source.new) }
+    ensures prints { Ask (map (λ word. word.now) words.now) Replay →
+        Writes result.status (K.held sink.old) (K.held sink.new) (text_of result.closed) }
+    ensures replays { Ask (map (λ word. word.now) words.now) Replay → IfSome result.closed
+        (λ closed. Replays replay_layout (S.left source.old) result.status closed) }
+
+    // What `load FIRST COMMANDS` did.
+    ensures unread { (first commands : ℕ) →
+        Ask (map (λ word. word.now) words.now) (Load first commands) →
+        EndsUnread result.status × (source.new ≡ source.old) }
+    ensures sums_up { (first commands : ℕ) →
+        Ask (map (λ word. word.now) words.now) (Load first commands) →
+        Writes result.status (K.held sink.old) (K.held sink.new) (summary_of result.closed) }
+    ensures loads { (first commands : ℕ) →
+        Ask (map (λ word. word.now) words.now) (Load first commands) →
+        IfSome result.closed (Loads first commands result.status) }
+{
+    match read_words(alloc, words) {
+        Ok(Some(Words::Replay)) => start_replay(alloc, source, sink),
+        Ok(Some(Words::Load { first, commands })) => start_load(alloc, first, commands, sink),
+        Ok(None) => gave_up(Status::Usage),
+        Err(_) => gave_up(Status::Memory),
+    }
+}
+
+/// Replays on sites that are started for it.
+fn start_replay<S: Source, K: Sink>(alloc: Global, source: &mut S, sink: &mut K) -> Finished
+    ensures usage { result.status ≢ Status.Usage }
+    ensures scenario { (line reason : ℕ) → result.status ≡ Status.Scenario line reason →
+        IsSome (S.left source.old) →
+        Gives replay_layout (S.left source.old) (Err (line, reason)) }
+    ensures read_fault { result.status ≡ Status.ReadFault →
+        Rose (S.faults source.old) (S.faults source.new) }
+    ensures reliable { S.reliable source.old → S.faults source.new ≡ S.faults source.old }
+    ensures write_fault { result.status ≡ Status.WriteFault →
+        Rose (K.faults sink.old) (K.faults sink.new) }
+    ensures worn { (clock : ℕ) → result.status ≡ Status.Worn clock → (CLOCK_LIMIT ≤ clock)
+        × IfSome result.closed (λ closed. HasClock clock (merge_of closed)) }
+    ensures read { result.status ≢ Status.ReadFault → result.status ≢ Status.Memory →
+        IsRead (S.left source.old) (S.left source.new) }
+    ensures reads_at_most { ReadsNoFurther (S.left source.old) (S.left source.new) }
+    ensures closed { IsSome result.closed ↔ HandsOut result.status }
+    ensures unwritten { result.status ≢ Status.Done → result.status ≢ Status.WriteFault →
+        sink.new ≡ sink.old }
+    ensures prints { Writes result.status (K.held sink.old) (K.held sink.new)
+        (text_of result.closed) }
+    ensures replays { IfSome result.closed
+        (λ closed. Replays replay_layout (S.left source.old) result.status closed) }
+{
+    match start(alloc, REPLAY_SITES) {
+        Ok(sites) => replay(alloc, source, sink, sites),
+        Err(_) => gave_up(Status::Memory),
+    }
+}
+
+/// Performs a load on sites that are started for it.
+fn start_load<K: Sink>(alloc: Global, first: u64, commands: u32, sink: &mut K) -> Finished
+    requires { commands ≤ COMMANDS_LIMIT }
+    ensures status { EndsUnread result.status }
+    ensures write_fault { result.status ≡ Status.WriteFault →
+        Rose (K.faults sink.old) (K.faults sink.new) }
+    ensures worn { (clock : ℕ) → result.status ≡ Status.Worn clock → (CLOCK_LIMIT ≤ clock)
+        × IfSome result.closed (λ closed. HasClock clock (merge_of closed)) }
+    ensures closed { IsSome result.closed ↔ HandsOut result.status }
+    ensures unwritten { result.status ≢ Status.Done → result.status ≢ Status.WriteFault →
+        sink.new ≡ sink.old }
+    ensures prints { Writes result.status (K.held sink.old) (K.held sink.new)
+        (summary_of result.closed) }
+    ensures loads { IfSome result.closed (Loads first commands result.status) }
+{
+    match start(alloc, LOAD_SITES) {
+        Ok(sites) => load(alloc, first, commands, sink, sites),
+        Err(_) => gave_up(Status::Memory),
+    }
+}
+
+/// Starts so many sites, with one place each.
+fn start(alloc: Global, sites: u16) -> Result<Sites, AllocError>
+    requires { IsLayout (one_place_each sites) }
+    ensures { IfOk result (λ started. AreJustStarted (net started)
+        × ((net started).layout ≡ one_place_each sites)) }
+{
+    Sites::start(alloc, Layout::new(sites, 1).unwrap())
+}
+
+/// What ended with this status before anything was closed.
+fn gave_up(status: Status) -> Finished
+    ensures { result ≡ record { status = status; closed = None } }
+{
+    Finished {
+        status,
+        closed: None,
+    }
+}

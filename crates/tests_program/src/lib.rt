@@ -1,0 +1,8 @@
+//! Tests of the crates `chorus_words` and `chorus_program`, over their public items.
+
+#![tactic(auto)]
+
+#[cfg(test)]
+mod endings;
+#[cfg(test)]
+mod words;
