@@ -1,5 +1,5 @@
 -- The lines with numbers, part by part.
-use Rattle.std.proofs.Common.{◌≡◌, ◌∙◌, ◌⊎◌, inl, inr, Result, Ok, Err, OnOk, OnErr, ℕ, List, [], ◌∷◌, ◌++◌, sym, ap, append_assoc, append-nil, codes, decimal}
+use Rattle.std.proofs.Common.{◌≡◌, ◌∙◌, ◌⊎◌, inl, inr, Result, Ok, Err, OnOk, OnErr, ℕ, [], ◌∷◌, ◌++◌, sym, ap, append_assoc, append-nil, codes, decimal}
 use Rattle.chorus_show.specs.declared.status.Status.TheVariants.{Scenario, Worn}
 use Rattle.chorus_show.specs.Faults.{fault_line}
 

@@ -1,4 +1,3 @@
-use Rattle.std.proofs.Common.{rules}
 use Rattle.chorus_program.proofs.Lines.{one_of}
 use Rattle.chorus_program.proofs.ending.ended.Goals as goal
 

@@ -1,4 +1,4 @@
-use Rattle.std.proofs.Common.{◌≡◌, ◌∙◌, subst}
+use Rattle.std.proofs.Common.{◌∙◌, subst}
 use Rattle.chorus_io.specs.Bytes.{AppendsPrefix}
 use Rattle.chorus_io.proofs.Callers.{AppendsPrefix-rest}
 use Rattle.chorus_program.proofs.ending.write_number.Goals as goal

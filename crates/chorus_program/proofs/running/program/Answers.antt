@@ -1,0 +1,20 @@
+use Rattle.std.proofs.Common.{◌≡◌, IfSome, subst₂}
+use Rattle.chorus_run.specs.Load.{Loads}
+use Rattle.chorus_words.specs.declared.words.Words.TheVariants.{Load, Replay}
+use Rattle.chorus_program.proofs.running.program.Goals as goal
+
+-- words that are in the list are read as what they ask
+pub returns-in-Ok-Some-Load-clause-loads : goal.returns-in-Ok-Some-Load-clause-loads
+returns-in-Ok-Some-Load-clause-loads g c first commands asks =
+    let read = c.in-Ok-Some-Load.ensures.listed (Load first commands) asks in
+    let one : c.in-Ok-Some-Load.first ≡ first = cc (read, c.in-Ok-Some-Load.field-0-is, c.in-Ok-Some-Load.field-0-0-is) in
+    let two : c.in-Ok-Some-Load.commands ≡ commands = cc (read, c.in-Ok-Some-Load.field-0-is, c.in-Ok-Some-Load.field-0-0-is) in
+    subst₂ (λ f n. IfSome c.start_load.result.closed (Loads f n c.start_load.result.status)) one two c.start_load.ensures.loads
+
+pub returns-in-Ok-None-clause-reads : goal.returns-in-Ok-None-clause-reads
+returns-in-Ok-None-clause-reads g c asks =
+    absurd (cc (c.in-Ok-None.ensures.listed Replay asks, c.in-Ok-None.field-0-is))
+
+pub returns-in-Ok-None-clause-unread : goal.returns-in-Ok-None-clause-unread
+returns-in-Ok-None-clause-unread g c first commands asks =
+    absurd (cc (c.in-Ok-None.ensures.listed (Load first commands) asks, c.in-Ok-None.field-0-is))
