@@ -68,7 +68,7 @@ legal_below l (e ∷ late) past h = legal_below l late past (and_parts (may l (l
 pub legal_next : (l : Layout) (es : List Entry) (e : Entry) (tail : List Entry) → is_legal l (reverse (es ++ e ∷ tail)) ≡ true → may l (reverse es) e ≡ true
 legal_next l es e tail h =
     let turned : reverse (es ++ e ∷ tail) ≡ reverse tail ++ e ∷ reverse es =
-        ap reverse (sym (append_assoc es (e ∷ []) tail)) ∙ reverse-append (es ++ e ∷ []) tail ∙ ap (λ past. reverse tail ++ past) (reverse-append es (e ∷ []))
+    ap reverse (sym (append_assoc es (e ∷ []) tail)) ∙ reverse-append (es ++ e ∷ []) tail ∙ ap (λ past. reverse tail ++ past) (reverse-append es (e ∷ []))
     in
     let legal = legal_below l (reverse tail) (e ∷ reverse es) (ap (is_legal l) (sym turned) ∙ h) in
     (and_parts (may l (reverse es) e) (is_legal l (reverse es)) legal).0

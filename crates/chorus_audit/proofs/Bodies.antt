@@ -41,7 +41,7 @@ one_byte text bytes left more b h e small less = record {
 }
 
 pub at_last : (text bytes left : List ℕ) → Sofar text bytes left → unescape None left ≡ [] → IsUnescaped bytes text
-at_last text bytes left h e = record { is = sym (h.is ∙ ap (λ t. bytes ++ t) e ∙ append-nil bytes); few = h.few; bytes = h.bytes_are }
+at_last text bytes left h e = record { is = sym (h.is ∙ ap (λ t. bytes ++ t) e ∙ append-nil bytes); few = h.few; are_bytes = h.bytes_are }
 
 pub too_long : (text bytes left more : List ℕ) (b : ℕ) → Sofar text bytes left → unescape None left ≡ b ∷ unescape None more → length bytes ≡ 4096 → 4096 < length (unescape None text)
 too_long text bytes left more b h e full = omega (arith, ap length (h.is ∙ ap (λ t. bytes ++ t) e), length-append bytes (b ∷ unescape None more), full)

@@ -212,17 +212,20 @@ module _ (l : Layout) (text : List ℕ) (n : ℕ) (w : State) (rest : List ℕ) 
   begun = subst (λ es. Begins l text n es rest) (sym all) h.begins
 
   pub legal_end : rest ≡ summary_text entries → IsVerdict l text (Legal n)
-  legal_end is =
-      (entries, record {
-        number = subst (λ m. m < 4294967296) (sym len) begun.number;
-        within = begun.within;
-        legal = begun.legal;
-        is =
-            begun.is
-            ∙ ap (λ t. head n ++ (lines entries ++ t)) is
-            ∙ sym (append_assoc (head n) (lines entries) (summary_text entries))
-            ∙ ap (λ m. (head m ++ lines entries) ++ summary_text entries) (sym len);
-      }, len)
+  legal_end is = (
+    entries,
+    record {
+      number = subst (λ m. m < 4294967296) (sym len) begun.number;
+      within = begun.within;
+      legal = begun.legal;
+      is =
+          begun.is
+          ∙ ap (λ t. head n ++ (lines entries ++ t)) is
+          ∙ sym (append_assoc (head n) (lines entries) (summary_text entries))
+          ∙ ap (λ m. (head m ++ lines entries) ++ summary_text entries) (sym len);
+    },
+    len,
+  )
 
   pub summary_end : (shared : ℕ) → rest ≢ summary_text entries → shared ≡ lines_shared rest (summary_text entries) → IsVerdict l text (Wrong (n + 2 + shared) 99)
   summary_end shared differs is =

@@ -38,7 +38,7 @@ short (Some bytes) = if nat_le (length bytes) BODY_LIMIT then Some bytes else No
 pub record IsUnescaped (bytes text : List ℕ) : Type 0 where
   pub is : bytes ≡ unescape None text
   pub few : length bytes ≤ BODY_LIMIT
-  pub bytes : AreBytes bytes
+  pub are_bytes : AreBytes bytes
 
 abbrev pub IsLong : Unread → List ℕ → Type 0
 IsLong NoEntry bytes = BODY_LIMIT < length bytes

@@ -28,11 +28,19 @@ fn made(alloc: Global, kind: &[u8], words: &mut Words<'_>) -> Result<Act, Unread
 {
     if kind == b"make".as_slice() {
         let (port, actor, capacity) = words.three()?;
-        Ok(Act::Make { port, actor, capacity })
+        Ok(Act::Make {
+            port,
+            actor,
+            capacity,
+        })
     } else if kind == b"make-full".as_slice() {
-        Ok(Act::MakeFull { actor: words.one()? })
+        Ok(Act::MakeFull {
+            actor: words.one()?,
+        })
     } else if kind == b"no-actor".as_slice() {
-        Ok(Act::NoActor { actor: words.one()? })
+        Ok(Act::NoActor {
+            actor: words.one()?,
+        })
     } else if kind == b"no-site".as_slice() {
         Ok(Act::NoSite { site: words.one()? })
     } else if kind == b"post".as_slice() {
@@ -63,7 +71,13 @@ fn decision(alloc: Global, kind: &[u8], words: &mut Words<'_>) -> Result<Act, Un
     } else if kind == b"stale".as_slice() {
         let (id, port, tried, to) = words.four()?;
         let hop = words.one()?;
-        Ok(Act::Stale { id, port, tried, to, hop })
+        Ok(Act::Stale {
+            id,
+            port,
+            tried,
+            to,
+            hop,
+        })
     } else if kind == b"early".as_slice() {
         let (id, port, hop) = words.three()?;
         Ok(Act::Early { id, port, hop })
@@ -97,10 +111,16 @@ fn news(alloc: Global, kind: &[u8], words: &mut Words<'_>) -> Result<Act, Unread
         Ok(Act::Try { id, port, to, hop })
     } else if kind == b"told".as_slice() {
         let id = words.one()?;
-        Ok(Act::Told { id, answer: answer(words)? })
+        Ok(Act::Told {
+            id,
+            answer: answer(words)?,
+        })
     } else if kind == b"heard".as_slice() {
         let id = words.one()?;
-        Ok(Act::Heard { id, answer: answer(words)? })
+        Ok(Act::Heard {
+            id,
+            answer: answer(words)?,
+        })
     } else {
         port_act(alloc, kind, words)
     }
@@ -116,9 +136,13 @@ fn port_act(alloc: Global, kind: &[u8], words: &mut Words<'_>) -> Result<Act, Un
         let (port, pos, id) = words.three()?;
         Ok(Act::Take { port, pos, id })
     } else if kind == b"done".as_slice() {
-        Ok(Act::Done { number: words.one()? })
+        Ok(Act::Done {
+            number: words.one()?,
+        })
     } else if kind == b"late".as_slice() {
-        Ok(Act::Late { number: words.one()? })
+        Ok(Act::Late {
+            number: words.one()?,
+        })
     } else if kind == b"empty".as_slice() {
         Ok(Act::Empty { port: words.one()? })
     } else if kind == b"not-here".as_slice() {
@@ -128,7 +152,12 @@ fn port_act(alloc: Global, kind: &[u8], words: &mut Words<'_>) -> Result<Act, Un
         Ok(Act::Rehome { port, actor })
     } else if kind == b"depart".as_slice() {
         let (port, to, actor, hop) = words.four()?;
-        Ok(Act::Depart { port, to, actor, hop })
+        Ok(Act::Depart {
+            port,
+            to,
+            actor,
+            hop,
+        })
     } else if kind == b"arrive".as_slice() {
         let (port, hop) = words.two()?;
         Ok(Act::Arrive { port, hop })
@@ -146,7 +175,9 @@ fn group_act(kind: &[u8], words: &mut Words<'_>) -> Result<Act, Unread>
     ensures allowed { IfOk result IsAct }
 {
     if kind == b"group".as_slice() {
-        Ok(Act::GroupMake { group: words.one()? })
+        Ok(Act::GroupMake {
+            group: words.one()?,
+        })
     } else if kind == b"groups-full".as_slice() {
         Ok(Act::GroupsFull { site: words.one()? })
     } else if kind == b"join".as_slice() {
@@ -156,7 +187,9 @@ fn group_act(kind: &[u8], words: &mut Words<'_>) -> Result<Act, Unread>
         let (group, port) = words.two()?;
         Ok(Act::Leave { group, port })
     } else if kind == b"no-group".as_slice() {
-        Ok(Act::NoGroup { group: words.one()? })
+        Ok(Act::NoGroup {
+            group: words.one()?,
+        })
     } else if kind == b"there".as_slice() {
         let (group, port) = words.two()?;
         Ok(Act::There { group, port })
@@ -164,7 +197,9 @@ fn group_act(kind: &[u8], words: &mut Words<'_>) -> Result<Act, Unread>
         let (group, port) = words.two()?;
         Ok(Act::NotThere { group, port })
     } else if kind == b"members-full".as_slice() {
-        Ok(Act::MembersFull { group: words.one()? })
+        Ok(Act::MembersFull {
+            group: words.one()?,
+        })
     } else {
         call_act(kind, words)
     }
@@ -177,13 +212,17 @@ fn call_act(kind: &[u8], words: &mut Words<'_>) -> Result<Act, Unread>
     ensures allowed { IfOk result IsAct }
 {
     if kind == b"outstanding".as_slice() {
-        Ok(Act::Outstanding { number: words.one()? })
+        Ok(Act::Outstanding {
+            number: words.one()?,
+        })
     } else if kind == b"no-call".as_slice() {
         Ok(Act::NoCall)
     } else if kind == b"no-request".as_slice() {
         Ok(Act::NoRequest)
     } else if kind == b"cancel".as_slice() {
-        Ok(Act::Cancel { number: words.one()? })
+        Ok(Act::Cancel {
+            number: words.one()?,
+        })
     } else {
         Err(Unread::NoEntry)
     }

@@ -20,9 +20,9 @@ pub(crate) fn cut(mark: u8, text: &[u8]) -> (&[u8], Option<&[u8]>)
 
 /// The next part of what is left of a text, and what is left behind it. Where nothing is left the part is empty.
 pub(crate) fn next_part(mark: u8, left: Option<&[u8]>) -> (&[u8], Option<&[u8]>)
-    ensures part { result.0.now ≡ first (parts_behind mark (option_copied left)) }
+    ensures part { result.0.now ≡ first (parts_behind mark (option_copied left.entry)) }
     ensures left { parts_behind mark (option_copied result.1)
-        ≡ rest (parts_behind mark (option_copied left)) }
+        ≡ rest (parts_behind mark (option_copied left.entry)) }
 {
     match left {
         Some(text) => cut(mark, text),

@@ -41,11 +41,7 @@ fn as_printed(alloc: Global, entry: Entry, line: &[u8]) -> Result<Option<Entry>,
         (e : Entry) → IsWithin e → entry_text e ≢ line.now ++ 10 ∷ []) }
 {
     let printed = is_printed(alloc, &entry, line)?;
-    if printed {
-        Ok(Some(entry))
-    } else {
-        Ok(None)
-    }
+    if printed { Ok(Some(entry)) } else { Ok(None) }
 }
 
 /// What the words of the line say.

@@ -134,11 +134,7 @@ fn take(world: &mut World, entry: Entry) -> Result<(), Stop>
 }
 
 /// How many lines the text shares with the summary of the entries before it differs. None exactly where it is that summary.
-fn summary_fault(
-    alloc: Global,
-    entries: &[Entry],
-    text: &[u8],
-) -> Result<Option<u32>, AllocError>
+fn summary_fault(alloc: Global, entries: &[Entry], text: &[u8]) -> Result<Option<u32>, AllocError>
     requires { length text.now ≤ AUDIT_LIMIT }
     ensures { IfOk result (λ fault. MatchOption fault
         (text.now ≡ summary_text entries.now)

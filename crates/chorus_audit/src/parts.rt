@@ -81,7 +81,9 @@ pub(crate) fn answer(words: &mut Words<'_>) -> Result<Answer, Unread>
     } else if form == b"no-member".as_slice() {
         Ok(Answer::NoMember)
     } else if form == b"chosen".as_slice() {
-        Ok(Answer::Chosen { count: words.one()? })
+        Ok(Answer::Chosen {
+            count: words.one()?,
+        })
     } else if form == b"gone".as_slice() {
         Ok(Answer::Gone)
     } else {

@@ -9,9 +9,11 @@ const MADE: &[u8] = b"1 1 0 make 1.p.1 1.a.1 1\n2 1 1 post 1:1:0 port 1.p.1 plai
 
 const TAKEN: &[u8] = b"6 1 1 take 1.p.1 0 1:1:0\n7 1 1 empty 1.p.1\n8 1 1 empty 1.p.1\n";
 
-const SUMMARY: &[u8] = b"summary\nposted 2\naccepted 1\ntaken 1\nqueued 0\nmoving 0\nrefused 1\nstale 0\ndeparts 0\nend\n";
+const SUMMARY: &[u8] =
+    b"summary\nposted 2\naccepted 1\ntaken 1\nqueued 0\nmoving 0\nrefused 1\nstale 0\ndeparts 0\nend\n";
 
-const NOTHING: &[u8] = b"summary\nposted 0\naccepted 0\ntaken 0\nqueued 0\nmoving 0\nrefused 0\nstale 0\ndeparts 0\nend\n";
+const NOTHING: &[u8] =
+    b"summary\nposted 0\naccepted 0\ntaken 0\nqueued 0\nmoving 0\nrefused 0\nstale 0\ndeparts 0\nend\n";
 
 /// The text of these parts.
 fn joined(alloc: Global, parts: &[&[u8]]) -> Result<Vec<u8>, Fail> {
@@ -38,11 +40,19 @@ fn audit_finds_the_line(rt: HostRuntime) -> Result<(), Fail> {
     let full: &[u8] = b"5 1 1 full 1:2:0 1.p.1 1\n";
     let accept: &[u8] = b"5 1 1 accept 1:2:0 1.p.1 1\n";
     assert_eq!(rt;
-        found(rt.alloc(), 1, &[b"journal 8\n", MADE, rest, full, TAKEN, SUMMARY])?,
+        found(
+            rt.alloc(),
+            1,
+            &[b"journal 8\n", MADE, rest, full, TAKEN, SUMMARY]
+        )?,
         Audit::Legal { entries: 8 }
     );
     assert_eq!(rt;
-        found(rt.alloc(), 1, &[b"journal 8\n", MADE, rest, accept, TAKEN, SUMMARY])?,
+        found(
+            rt.alloc(),
+            1,
+            &[b"journal 8\n", MADE, rest, accept, TAKEN, SUMMARY]
+        )?,
         Audit::Wrong { line: 6, rule: 6 }
     );
     Ok(())
@@ -52,7 +62,10 @@ fn audit_finds_the_line(rt: HostRuntime) -> Result<(), Fail> {
 fn first_lines(rt: HostRuntime) -> Result<(), Fail> {
     let alloc = rt.alloc();
     let first = Audit::Wrong { line: 1, rule: 99 };
-    assert_eq!(rt; found(alloc, 1, &[b"journal 0\n", NOTHING])?, Audit::Legal { entries: 0 });
+    assert_eq!(rt;
+        found(alloc, 1, &[b"journal 0\n", NOTHING])?,
+        Audit::Legal { entries: 0 }
+    );
     assert_eq!(rt; found(alloc, 1, &[])?, first);
     assert_eq!(rt; found(alloc, 1, &[b"journal 0"])?, first);
     assert_eq!(rt; found(alloc, 1, &[b"journal 0\r\n", NOTHING])?, first);
@@ -69,9 +82,18 @@ fn first_lines(rt: HostRuntime) -> Result<(), Fail> {
 fn lines_of_entries(rt: HostRuntime) -> Result<(), Fail> {
     let alloc = rt.alloc();
     let second = Audit::Wrong { line: 2, rule: 99 };
-    assert_eq!(rt; found(alloc, 1, &[b"journal 1\n1  1 0 make 1.p.1 1.a.1 1\n"])?, second);
-    assert_eq!(rt; found(alloc, 1, &[b"journal 1\n1 1 0 make 1.p.1 1.a.1 1\r\n"])?, second);
-    assert_eq!(rt; found(alloc, 1, &[b"journal 1\n1 1 0 make 1.p.1 1.a.1 1"])?, second);
+    assert_eq!(rt;
+        found(alloc, 1, &[b"journal 1\n1  1 0 make 1.p.1 1.a.1 1\n"])?,
+        second
+    );
+    assert_eq!(rt;
+        found(alloc, 1, &[b"journal 1\n1 1 0 make 1.p.1 1.a.1 1\r\n"])?,
+        second
+    );
+    assert_eq!(rt;
+        found(alloc, 1, &[b"journal 1\n1 1 0 make 1.p.1 1.a.1 1"])?,
+        second
+    );
     assert_eq!(rt;
         found(alloc, 1, &[b"journal 1\n1 1 0 choose 1:1:0 1.g.1\n"])?,
         Audit::Wrong { line: 2, rule: 15 }
@@ -80,28 +102,33 @@ fn lines_of_entries(rt: HostRuntime) -> Result<(), Fail> {
         found(alloc, 1, &[b"journal 1\n0 1 0 make 1.p.1 1.a.1 1\n"])?,
         Audit::Wrong { line: 2, rule: 0 }
     );
-    let named: &[u8] = b"journal 2\n1 1 0 make 1.p.1 1.a.1 1\n2 1 1 post 1:1:0 port 1.p.1 plain =%41\n";
-    assert_eq!(rt; found(alloc, 1, &[named])?, Audit::Wrong { line: 3, rule: 99 });
+    let named: &[u8] =
+        b"journal 2\n1 1 0 make 1.p.1 1.a.1 1\n2 1 1 post 1:1:0 port 1.p.1 plain =%41\n";
+    assert_eq!(rt;
+        found(alloc, 1, &[named])?,
+        Audit::Wrong { line: 3, rule: 99 }
+    );
     Ok(())
 }
 
 #[test]
 fn summaries(rt: HostRuntime) -> Result<(), Fail> {
     let alloc = rt.alloc();
-    let cut: &[u8] = b"summary\nposted 0\naccepted 0\ntaken 0\nqueued 0\nmoving 0\nrefused 0\nstale 0\ndeparts 0\n";
-    let last = Audit::Wrong {
-        line: 11,
-        rule: 99,
-    };
-    let behind = Audit::Wrong {
-        line: 12,
-        rule: 99,
-    };
+    let cut: &[u8] =
+        b"summary\nposted 0\naccepted 0\ntaken 0\nqueued 0\nmoving 0\nrefused 0\nstale 0\ndeparts 0\n";
+    let last = Audit::Wrong { line: 11, rule: 99 };
+    let behind = Audit::Wrong { line: 12, rule: 99 };
     assert_eq!(rt; found(alloc, 1, &[b"journal 0\n", cut])?, last);
     assert_eq!(rt; found(alloc, 1, &[b"journal 0\n", cut, b"end"])?, last);
     assert_eq!(rt; found(alloc, 1, &[b"journal 0\n", NOTHING, b"\n"])?, behind);
-    assert_eq!(rt; found(alloc, 1, &[b"journal 0\n", NOTHING, b"end\n"])?, behind);
-    assert_eq!(rt; found(alloc, 1, &[b"journal 0\n", SUMMARY])?, Audit::Wrong { line: 3, rule: 99 });
+    assert_eq!(rt;
+        found(alloc, 1, &[b"journal 0\n", NOTHING, b"end\n"])?,
+        behind
+    );
+    assert_eq!(rt;
+        found(alloc, 1, &[b"journal 0\n", SUMMARY])?,
+        Audit::Wrong { line: 3, rule: 99 }
+    );
     Ok(())
 }
 
@@ -111,9 +138,15 @@ fn a_layout_judges_its_own_journals(rt: HostRuntime) -> Result<(), Fail> {
     let by_two: &[u8] = b"journal 1\n1 2 0 make 1.p.2 1.a.2 1\n";
     let by_four: &[u8] = b"journal 1\n1 3 0 make 1.p.3 1.a.3 1\n";
     let wrong = Audit::Wrong { line: 2, rule: 1 };
-    assert_eq!(rt; found(alloc, 2, &[by_two, NOTHING])?, Audit::Legal { entries: 1 });
+    assert_eq!(rt;
+        found(alloc, 2, &[by_two, NOTHING])?,
+        Audit::Legal { entries: 1 }
+    );
     assert_eq!(rt; found(alloc, 1, &[by_two, NOTHING])?, wrong);
-    assert_eq!(rt; found(alloc, 4, &[by_four, NOTHING])?, Audit::Legal { entries: 1 });
+    assert_eq!(rt;
+        found(alloc, 4, &[by_four, NOTHING])?,
+        Audit::Legal { entries: 1 }
+    );
     assert_eq!(rt; found(alloc, 2, &[by_four, NOTHING])?, wrong);
     Ok(())
 }
