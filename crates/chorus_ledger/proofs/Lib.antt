@@ -1,0 +1,16 @@
+pub mod CallIndex
+pub mod ClientLemmas
+pub mod GroupLemmas
+pub mod Keeping
+pub mod KeyLemmas
+pub mod LineChanges
+pub mod ListLemmas
+pub mod LocationLemmas
+pub mod MessageLemmas
+pub mod OpenLines
+pub mod PlaceLemmas
+pub mod PortLemmas
+pub mod ReadLemmas
+pub mod SeatLemmas
+pub mod StepLemmas
+pub mod TieLemmas

@@ -1,0 +1,11 @@
+pub mod Clients
+pub mod Groups
+pub mod Keys
+pub mod Lines
+pub mod Locations
+pub mod Messages
+pub mod Places
+pub mod Ports
+pub mod Seats
+pub mod Ties
+pub mod Worlds
