@@ -10,7 +10,7 @@ mod places;
 mod seats;
 
 use crate::tables::Tables;
-use chorus_entry::{Act, Entry};
+use chorus_entry::Entry;
 use chorus_ui::Layout;
 use std::alloc::{AllocError, Global};
 use std::marker::Model;
@@ -76,10 +76,7 @@ impl Ledger {
         self.tables.grow_lists(alloc, &entry)?;
         let index = self.entries.len();
         self.tables.grow_rows(alloc, self.layout, &entry, index);
-        self.tables.shorten_sent(&entry);
-        if let Act::Choose { id, group, .. } | Act::NoMember { id, group } = &entry.act {
-            self.tables.shorten_asked(self.layout, *id, *group);
-        }
+        self.tables.shorten(self.layout, &entry);
         self.entries.push_reserved(entry);
         Ok(())
     }

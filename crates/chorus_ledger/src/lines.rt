@@ -84,7 +84,8 @@ fn take_back(
     group: Ui,
     members: &[Ui],
 )
-    ensures { AreTakenBack place (copies post group 1 members.now) (line_in lines.old) (line_in lines.new) }
+    ensures { AreTakenBack place (copies post group 1 members.now)
+        (line_in lines.old) (line_in lines.new) }
 {
     let mut left = members.len();
     while left > 0 {

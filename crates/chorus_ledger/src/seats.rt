@@ -233,7 +233,8 @@ fn seat_here(entry: &Entry, tag: &Tag, index: usize, row: SeatRow) -> SeatRow
 /// Puts the row of a caller.
 fn put_seat(seats: &mut HashMap<u32, SeatRow>, seat: u32, row: SeatRow)
     requires { 0 < spare seats.old }
-    ensures { (s : ℕ) → get nat_eq seats.new s ≡ cond (nat_eq seat s) (Some row) (get nat_eq seats.old s) }
+    ensures { (s : ℕ) →
+        get nat_eq seats.new s ≡ cond (nat_eq seat s) (Some row) (get nat_eq seats.old s) }
 {
     if let Some(place) = seats.get_mut(&seat) {
         *place = row;

@@ -247,7 +247,7 @@ impl Tables {
     }
 
     /// Takes out of the line of the entry's message the first ones that are settled.
-    pub(crate) fn shorten_sent(&mut self, entry: &Entry)
+    fn shorten_sent(&mut self, entry: &Entry)
         ensures { StillFollow self.old self.new }
     {
         if let Some(sent) = self.sent(entry) {
@@ -258,7 +258,7 @@ impl Tables {
     }
 
     /// Takes out of the line of the group's posts, made at the place of this post, the first ones that have their choice.
-    pub(crate) fn shorten_asked(&mut self, layout: Layout, id: MsgId, group: Ui)
+    fn shorten_asked(&mut self, layout: Layout, id: MsgId, group: Ui)
         ensures { (past : List Entry) → Follows layout past self.old → Follows layout past self.new }
     {
         if let Some(post) = message_in(&self.messages, id).post {
@@ -266,6 +266,18 @@ impl Tables {
             let place = choosing_place(layout, &line);
             let end = End::Chosen;
             shorten_line(&mut self.asks, &self.marks, &line, place, end);
+        }
+    }
+
+    /// Takes out of the lines of the entry's message the first ones that have met their end.
+    pub(crate) fn shorten(&mut self, layout: Layout, entry: &Entry)
+        ensures { (past : List Entry) → Follows layout past self.old → Follows layout past self.new }
+    {
+        self.shorten_sent(entry);
+        match &entry.act {
+            Act::Choose { id, group, .. } => self.shorten_asked(layout, *id, *group),
+            Act::NoMember { id, group } => self.shorten_asked(layout, *id, *group),
+            _ => {}
         }
     }
 }

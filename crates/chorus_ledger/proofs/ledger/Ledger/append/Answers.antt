@@ -34,3 +34,21 @@ grow_rows-requires-clause-few c =
     let few : length past < 2 ^ 63 = omega (arith, length-reverse c.self.inside.entries.items, c.in_ok-reserve.ensures.items, ap length c.in_ok-reserve.ensures.items) in
     let f = same_rows l past c.self.inside.tables r c.in_ok-make_room.ensures.rows c.self.invariant.1 in
     few_stays c.args.entry r c.grow_lists.new.self c.in_ok-grow_lists.ensures.ok (has_few l past r c.args.entry f few)
+
+pub invariant_of-self-2 : goal.invariant_of-self-2
+invariant_of-self-2 c =
+    let l = c.self.inside.layout in
+    let es = c.self.inside.entries.items in
+    let past = reverse es in
+    let e = c.args.entry in
+    let items : c.push_reserved.new.self.items ≡ es ++ e ∷ [] = c.push_reserved.ensures.items ∙ ap (λ (xs : List Entry). xs ++ e ∷ []) c.in_ok-reserve.ensures.items in
+    let may_come : may l past e ≡ true = ap (λ (w : State). may w.layout w.past e) c.self.view_is ∙ c.requires in
+    let r = c.make_room.new.self in
+    let t = c.grow_lists.new.self in
+    let u = c.grow_rows.new.self in
+    let index : c.len-index.result ≡ length past = omega (arith, c.len-index.ensures, length-reverse es, ap length c.in_ok-reserve.ensures.items) in
+    let f = same_rows l past c.self.inside.tables r c.in_ok-make_room.ensures.rows c.self.invariant.1 in
+    let g : Follows l (e ∷ past) u = grown l past e c.len-index.result r t u index c.self.invariant.0 f c.in_ok-grow_lists.ensures.ok c.grow_rows.ensures in (
+      legal_grows l es c.push_reserved.new.self.items e c.self.invariant.0 may_come items,
+      subst (λ p. Follows l p c.shorten.new.self) (sym (ap reverse items ∙ reverse-append es (e ∷ []))) (c.shorten.ensures (e ∷ past) g),
+    )
