@@ -1,0 +1,4 @@
+pub mod Links
+pub mod Memory
+pub mod Ruled
+pub mod Linked

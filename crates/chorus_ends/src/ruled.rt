@@ -1,0 +1,116 @@
+//! Ends over ruled links.
+
+ghost use Rattle.std.specs.Prelude.{◌≡◌, ◌<◌, ◌++◌, [], ◌∷◌, true, is_some, IfOk, IfErr, OnOk, OnErr, IfSome, IfNone};
+ghost use Rattle.chorus_ends.specs.Ruled.{links, sent_by, received_by, fulls_by, empties_by, name_to, name_from};
+
+use crate::ends::{Ends, Moves, PushFault};
+use chorus_entry::Packet;
+use chorus_frame::Frame;
+use chorus_link::{RecvEnd, SendEnd};
+use std::alloc::AllocError;
+use std::marker::Model;
+use std::sync::Wait;
+
+/// How many packets a link has room for.
+pub const LINK_CAPACITY: usize = 32;
+
+/// The ends, at one place, of a link to and a link from each other place. A packet goes as its frame, so what it held can be let go
+/// where it was sent.
+#[derive(Drop)]
+pub struct RuledEnds {
+    /// By the number of the place that it leads to.
+    pub(crate) out: Vec<Option<SendEnd<Frame>>>,
+    /// By the number of the place that it comes from.
+    pub(crate) into: Vec<Option<RecvEnd<Frame>>>,
+}
+
+impl Model for RuledEnds {
+    ghost use Rattle.chorus_ends.specs.Ruled.{Ruled};
+
+    ghost Value = { Ruled };
+
+    ghost view = { λ e. record { out = e.out.items; into = e.into.items } };
+}
+
+/// Sends a frame by the end that is there.
+fn send<R: Wait>(slot: &mut Option<SendEnd<Frame>>, ground: &R, frame: Frame) -> Result<(), Frame>
+    requires { is_some slot.old ≡ true }
+    ensures there { is_some slot.new ≡ true }
+    ensures name { name_to slot.new ≡ name_to slot.old }
+    ensures sent { OnOk result (sent_by slot.new ≡ sent_by slot.old ++ frame ∷ []) }
+    ensures fulls { OnOk result (fulls_by slot.new ≡ fulls_by slot.old) }
+    ensures unmoved { OnErr result (sent_by slot.new ≡ sent_by slot.old) }
+    ensures full { OnErr result (fulls_by slot.old < fulls_by slot.new) }
+{
+    match slot {
+        Some(end) => match end.push(ground, frame) {
+            Ok(()) => Ok(()),
+            Err(back) => Err(back),
+        },
+        None => unreachable!(),
+    }
+}
+
+/// Receives the next frame by the end that is there.
+fn receive<R: Wait>(slot: &mut Option<RecvEnd<Frame>>, ground: &R) -> Option<Frame>
+    requires { is_some slot.old ≡ true }
+    ensures there { is_some slot.new ≡ true }
+    ensures name { name_from slot.new ≡ name_from slot.old }
+    ensures got { IfSome result (λ frame.
+        received_by slot.new ≡ received_by slot.old ++ frame ∷ []) }
+    ensures empties { IfSome result (λ frame. empties_by slot.new ≡ empties_by slot.old) }
+    ensures unmoved { IfNone result (received_by slot.new ≡ received_by slot.old) }
+    ensures empty { IfNone result (empties_by slot.old < empties_by slot.new) }
+{
+    match slot {
+        Some(end) => end.pop(ground),
+        None => unreachable!(),
+    }
+}
+
+impl Ends for RuledEnds {
+    type Parcel = Frame;
+
+    ghost packet = { λ frame. frame };
+
+    ghost links = { links };
+
+    fn unpack(parcel: Frame) -> Result<Packet, (Frame, AllocError)> {
+        match parcel.unpack() {
+            Ok(packet) => Ok(packet),
+            Err(none) => Err((parcel, none)),
+        }
+    }
+
+    fn fulls(&self, to: u16) -> u64 {
+        match self.out.get(usize::from(to)) {
+            Some(Some(end)) => end.fulls(),
+            _ => 0,
+        }
+    }
+
+    fn empties(&self, from: u16) -> u64 {
+        match self.into.get(usize::from(from)) {
+            Some(Some(end)) => end.empties(),
+            _ => 0,
+        }
+    }
+}
+
+impl<R: Wait> Moves<R> for RuledEnds {
+    fn push(&mut self, ground: &R, to: u16, packet: Packet) -> Result<(), (Packet, PushFault)> {
+        let alloc = *self.out.allocator();
+        let frame = match Frame::of(alloc, &packet) {
+            Ok(frame) => frame,
+            Err(none) => return Err((packet, PushFault::Memory(none))),
+        };
+        match send(&mut self.out[usize::from(to)], ground, frame) {
+            Ok(()) => Ok(()),
+            Err(_frame) => Err((packet, PushFault::Full)),
+        }
+    }
+
+    fn pop(&mut self, ground: &R, from: u16) -> Option<Frame> {
+        receive(&mut self.into[usize::from(from)], ground)
+    }
+}

@@ -1,0 +1,11 @@
+//! Tests of places at the ends of their links (`chorus_ends`, `chorus_serve`), by public items alone.
+#![tactic(auto)]
+
+#[cfg(test)]
+mod arbitrary;
+#[cfg(test)]
+mod conditions;
+#[cfg(test)]
+mod memory;
+#[cfg(test)]
+mod threads;
