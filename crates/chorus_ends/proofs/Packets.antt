@@ -2,7 +2,7 @@
 use Rattle.std.proofs.Common.{ℕ, zero, suc, ◌≡◌, ◌≢◌, ◌+◌, ◌<◌, ◌≤◌, ◌==◌, Bool, true, false, cond, List, [], ◌∷◌, ◌++◌, map, length, take, drop, get_or, drop-cons, refl, sym, ◌∙◌, ap, subst, arith}
 use Rattle.std.specs.List.{filter, remove}
 use Rattle.std.proofs.lemmas.Bool.{eq-eqb, ne_eqb}
-use Rattle.std.proofs.lemmas.List.{take-append-drop}
+use Rattle.std.proofs.lemmas.List.{take-append-drop, map-append}
 use Rattle.std.proofs.lemmas.Grind.{common_steps}
 use Rattle.std.proofs.lemmas.List.Elements.{filter-append, filter_more}
 use Rattle.chorus_entry.specs.declared.packet.Packet.{Packet}
@@ -50,3 +50,7 @@ gets-first p at packets x h e =
 pub others-stay : (p at q : ℕ) (packets : List Packet) (x : Packet) → IsFirstFrom p at packets → x ≡ get_or packets at x → q ≢ p → from_place q (remove packets at) ≡ from_place q packets
 others-stay p at q packets x h e ne =
     other-of p q (take at packets) (drop (suc at) packets) x (is-from p at packets x h e) ne ∙ sym (ap (from_place q) (parts-at at packets x h.below e))
+
+-- one more stands behind, by what it is seen as
+pub seen-push : {A : Type 0} (xs ys : List A) (a : A) (f : A → Packet) (x : Packet) → ys ≡ xs ++ a ∷ [] → f a ≡ x → map f ys ≡ map f xs ++ x ∷ []
+seen-push xs ys a f x e g = ap (map f) e ∙ map-append f xs (a ∷ []) ∙ ap (λ y. map f xs ++ y ∷ []) g
