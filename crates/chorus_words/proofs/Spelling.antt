@@ -1,0 +1,97 @@
+-- The words of the list are values, and are known by their first three.
+use Rattle.std.proofs.Common.{◌≡◌, ◌∙◌, ◌^◌, ◌<◌, ◌≤◌, ℕ, zero, suc, true, true≢false, List, [], ◌∷◌, Option, Some, None, refl, sym, ap, ap₂, arith, decimal, get_or, length, slice_get}
+use Rattle.std.specs.List.{list_all}
+use Rattle.std.proofs.lemmas.Grind.{common_steps}
+use Rattle.std.proofs.lemmas.Fmt.{decimal_digit, decimal_injective, first_decimal}
+use Rattle.std.specs.Option.{IfSome, IsNone, is_some, unwrap_or}
+use Rattle.chorus_words.specs.declared.words.Words.{Words}
+use Rattle.chorus_words.specs.declared.words.Words.TheVariants.{Replay, Load, Lossy}
+use Rattle.chorus_words.specs.Words.{Ask, IsWithin, spelled}
+use Rattle.chorus_words.specs.Cutting.{AskByThree, is_value}
+
+digit_value : (ds : List ℕ) → 48 ≤ get_or ds 0 0 → is_value ds ≡ true
+digit_value [] h = absurd (omega (arith, h))
+digit_value (d ∷ ds) h = grind (arith, common_steps, h)
+
+decimal_value : (n : ℕ) → n < 2 ^ 64 → is_value (decimal n) ≡ true
+decimal_value zero h = digit_value (decimal 0) (rw (decimal_digit 0 (omega arith)) (omega arith))
+decimal_value (suc n) h = digit_value (decimal (suc n)) (omega (arith, first_decimal (suc n) (omega arith) h))
+
+pub spelled_values : (asked : Words) → IsWithin asked → list_all is_value (spelled asked) ≡ true
+spelled_values Replay w = refl
+spelled_values (Load first commands) w = rw (decimal_value first w.0, decimal_value commands (omega (arith, w.1))) refl
+spelled_values (Lossy first) w = rw (decimal_value first w) refl
+
+no_word : {X : Type 0} (x : X) → None ≡ Some x → ⊥
+no_word x e = true≢false (sym (ap is_some e))
+
+the_word : {X : Type 0} (x y : X) → Some x ≡ Some y → x ≡ y
+the_word x y e = ap (λ o. unwrap_or o x) e
+
+pub same_three : (xs ys : List (List ℕ)) → length xs ≤ 3 → length ys ≤ 3
+    → slice_get xs 0 ≡ slice_get ys 0 → slice_get xs 1 ≡ slice_get ys 1 → slice_get xs 2 ≡ slice_get ys 2 → xs ≡ ys
+same_three [] [] lx ly e f g = refl
+same_three [] (y ∷ ys) lx ly e f g = absurd (no_word y e)
+same_three (x ∷ xs) [] lx ly e f g = absurd (no_word x (sym e))
+same_three (x ∷ []) (y ∷ []) lx ly e f g = ap (λ z. z ∷ []) (the_word x y e)
+same_three (x ∷ []) (y ∷ y' ∷ ys) lx ly e f g = absurd (no_word y' f)
+same_three (x ∷ x' ∷ xs) (y ∷ []) lx ly e f g = absurd (no_word x' (sym f))
+same_three (x ∷ x' ∷ []) (y ∷ y' ∷ []) lx ly e f g = ap₂ (λ z z'. z ∷ z' ∷ []) (the_word x y e) (the_word x' y' f)
+same_three (x ∷ x' ∷ []) (y ∷ y' ∷ y'' ∷ ys) lx ly e f g = absurd (no_word y'' g)
+same_three (x ∷ x' ∷ x'' ∷ xs) (y ∷ y' ∷ []) lx ly e f g = absurd (no_word x'' (sym g))
+same_three (x ∷ x' ∷ x'' ∷ []) (y ∷ y' ∷ y'' ∷ []) lx ly e f g =
+    ap₂ (λ z zs. z ∷ zs) (the_word x y e) (ap₂ (λ z z'. z ∷ z' ∷ []) (the_word x' y' f) (the_word x'' y'' g))
+same_three (x ∷ x' ∷ x'' ∷ x''' ∷ xs) ys lx ly e f g = absurd (omega arith)
+same_three xs (y ∷ y' ∷ y'' ∷ y''' ∷ ys) lx ly e f g = absurd (omega arith)
+
+few_words : (asked : Words) → length (spelled asked) ≤ 3
+few_words Replay = omega arith
+few_words (Load first commands) = omega arith
+few_words (Lossy first) = omega arith
+
+-- at most three words, of which the first three ask this, ask it
+pub asks : (ws : List (List ℕ)) (what first second : Option (List ℕ)) (asked : Words) → length ws ≤ 3
+    → what ≡ slice_get ws 0 → first ≡ slice_get ws 1 → second ≡ slice_get ws 2 → AskByThree what first second asked → Ask ws asked
+asks ws what first second asked l e f g by =
+    (same_three ws (spelled asked) l (few_words asked) (sym e ∙ by.0) (sym f ∙ by.1) (sym g ∙ by.2), by.3)
+
+pub asks_if : (o : Option Words) (ws : List (List ℕ)) (what first second : Option (List ℕ)) → length ws ≤ 3
+    → what ≡ slice_get ws 0 → first ≡ slice_get ws 1 → second ≡ slice_get ws 2
+    → IfSome o (AskByThree what first second) → IfSome o (Ask ws)
+asks_if None ws what first second l e f g by = tt
+asks_if (Some asked) ws what first second l e f g by = asks ws what first second asked l e f g by
+
+-- Words ask one thing.
+
+same_number : (m n : ℕ) → m < 2 ^ 64 → n < 2 ^ 64 → Some (decimal m) ≡ Some (decimal n) → m ≡ n
+same_number m n h k e = decimal_injective m n h k (the_word (decimal m) (decimal n) e)
+
+one_spelling : (a b : Words) → IsWithin a → IsWithin b → spelled a ≡ spelled b → a ≡ b
+one_spelling Replay Replay w v e = refl
+one_spelling Replay (Load first commands) w v e = absurd (no_word (decimal first) (ap (λ l. slice_get l 1) e))
+one_spelling Replay (Lossy first) w v e = absurd (no_word (decimal first) (ap (λ l. slice_get l 1) e))
+one_spelling (Load first commands) Replay w v e = absurd (no_word (decimal first) (sym (ap (λ l. slice_get l 1) e)))
+one_spelling (Load first commands) (Load f c) w v e = ap₂ Load
+    (same_number first f w.0 v.0 (ap (λ l. slice_get l 1) e))
+    (same_number commands c (omega (arith, w.1)) (omega (arith, v.1)) (ap (λ l. slice_get l 2) e))
+one_spelling (Load first commands) (Lossy f) w v e = absurd (no_word (decimal commands) (sym (ap (λ l. slice_get l 2) e)))
+one_spelling (Lossy first) Replay w v e = absurd (no_word (decimal first) (sym (ap (λ l. slice_get l 1) e)))
+one_spelling (Lossy first) (Load f c) w v e = absurd (no_word (decimal c) (ap (λ l. slice_get l 2) e))
+one_spelling (Lossy first) (Lossy f) w v e = ap Lossy (same_number first f w v (ap (λ l. slice_get l 1) e))
+
+pub ask_once : (ws : List (List ℕ)) (a b : Words) → Ask ws a → Ask ws b → a ≡ b
+ask_once ws a b m n = one_spelling a b m.1 n.1 (sym m.0 ∙ n.0)
+
+-- what is read is what the words ask
+pub listed_by : (o : Option Words) (ws : List (List ℕ)) (asked : Words) → IfSome o (Ask ws) → (IsNone o → Ask ws asked → ⊥) → Ask ws asked → o ≡ Some asked
+listed_by None ws asked some none ask = absurd (none refl ask)
+listed_by (Some read) ws asked some none ask = ap Some (ask_once ws read asked some ask)
+
+pub by_three : (ws : List (List ℕ)) (what first second : Option (List ℕ)) (asked : Words)
+    → what ≡ slice_get ws 0 → first ≡ slice_get ws 1 → second ≡ slice_get ws 2 → Ask ws asked → AskByThree what first second asked
+by_three ws what first second asked e f g ask =
+    (e ∙ ap (λ l. slice_get l 0) ask.0, f ∙ ap (λ l. slice_get l 1) ask.0, g ∙ ap (λ l. slice_get l 2) ask.0, ask.1)
+
+-- the list has no row of more than three words
+pub too_long : (ws : List (List ℕ)) (asked : Words) → 3 < length ws → Ask ws asked → ⊥
+too_long ws asked l ask = let same : length ws ≡ length (spelled asked) = ap length ask.0 in absurd (omega (arith, few_words asked, same, l))

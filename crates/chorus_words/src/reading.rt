@@ -1,0 +1,75 @@
+//! The list of the program's words, read.
+
+ghost use Rattle.std.specs.Prelude.{◌≡◌, ◌^◌, ◌<◌, ◌≤◌, ℕ, map, option_map, decimal, IfOk, IfSome, IsNone, Some};
+ghost use Rattle.std.specs.List.{list_all};
+ghost use Rattle.chorus_words.specs.declared.words.TheConstants.{COMMANDS_LIMIT};
+ghost use Rattle.chorus_words.specs.Words.{Ask};
+ghost use Rattle.chorus_words.specs.Cutting.{is_value, AskByThree};
+
+use crate::cutting::{FIRST, SECOND, WHAT, cut};
+use crate::words::{COMMANDS_LIMIT, Words};
+use chorus_ui::parse_decimal;
+use std::alloc::{AllocError, Global};
+
+/// What the words ask. None exactly where they are not in the list; want of memory is the one error.
+pub fn read_words<'a>(alloc: Global, words: &'a [&'a str]) -> Result<Option<Words>, AllocError>
+    ensures some { IfOk result (λ read. IfSome read (Ask (map (λ word. word.now) words.now))) }
+    ensures listed { (asked : Words) → Ask (map (λ word. word.now) words.now) asked →
+        IfOk result (λ read. read ≡ Some asked) }
+{
+    if !are_values(words) {
+        return Ok(None);
+    }
+    let Some(matches) = cut(alloc, words)? else {
+        return Ok(None);
+    };
+    Ok(asked_by(
+        matches.get_str(WHAT),
+        matches.get_str(FIRST),
+        matches.get_str(SECOND),
+    ))
+}
+
+fn are_values(words: &[&str]) -> bool
+    ensures { result ≡ list_all (λ word. is_value word.now) words.now }
+{
+    words.iter().all(|word| is_value(word))
+}
+
+/// Whether the word is one that the list may have: not empty, and not begun with `-`.
+fn is_value(word: &str) -> bool
+    ensures { result ≡ is_value word.now }
+{
+    !word.is_empty() && !word.starts_with('-')
+}
+
+/// What these words ask, the first, the second and the third.
+fn asked_by(what: Option<&str>, first: Option<&str>, second: Option<&str>) -> Option<Words>
+    ensures some { IfSome result (AskByThree (option_map (λ w. w.now) what.entry)
+        (option_map (λ w. w.now) first.entry) (option_map (λ w. w.now) second.entry)) }
+    ensures none { IsNone result → (asked : Words) → ¬ (AskByThree (option_map (λ w. w.now) what.entry)
+        (option_map (λ w. w.now) first.entry) (option_map (λ w. w.now) second.entry) asked) }
+{
+    match (what?, first, second) {
+        ("replay", None, None) => Some(Words::Replay),
+        ("load", Some(first), Some(commands)) => Some(Words::Load {
+            first: parse_decimal(first.as_bytes())?,
+            commands: commands_of(commands)?,
+        }),
+        ("lossy", Some(first), None) => Some(Words::Lossy {
+            first: parse_decimal(first.as_bytes())?,
+        }),
+        _ => None,
+    }
+}
+
+/// The number of commands whose decimal the word is. None exactly where there is none within the limit.
+fn commands_of(word: &str) -> Option<u32>
+    ensures some { IfSome result (λ n. (word.now ≡ decimal n) × (n ≤ COMMANDS_LIMIT)) }
+    ensures none { IsNone result → (n : ℕ) → n ≤ COMMANDS_LIMIT → ¬ (word.now ≡ decimal n) }
+{
+    match parse_decimal(word.as_bytes()) {
+        Some(number) if number <= u64::from(COMMANDS_LIMIT) => Some(number as u32),
+        _ => None,
+    }
+}

@@ -1,0 +1,15 @@
+//! What the program's words ask.
+
+/// The most commands of a load.
+pub const COMMANDS_LIMIT: u32 = 65_536;
+
+/// What the program's words ask.
+#[derive(Clone, Copy, Debug, PartialEq, Eq)]
+pub enum Words {
+    /// `replay`: a scenario is replayed.
+    Replay,
+    /// `load FIRST COMMANDS`: so many commands, at most [`COMMANDS_LIMIT`], are drawn from the first state on.
+    Load { first: u64, commands: u32 },
+    /// `lossy FIRST`: the input is carried over a line whose losses are drawn from the first state on.
+    Lossy { first: u64 },
+}
