@@ -1,5 +1,5 @@
 -- The numbers of a summary, entry by entry.
-use Rattle.std.proofs.Common.{ℕ, ◌≡◌, ◌≢◌, ◌+◌, ◌-◌, ◌≤◌, Bool, true, false, ◌&&◌, not, cond, if◌then◌else◌, List, [], ◌∷◌, ◌++◌, length, reverse, Option, Some, None, is_some, refl, sym, ◌∙◌, ap, subst, arith, inl, inr, sum_by, count_by, ⊎_elim}
+use Rattle.std.proofs.Common.{ℕ, ◌≡◌, ◌≢◌, ◌+◌, ◌-◌, ◌≤◌, nat_lt, Bool, true, false, ◌&&◌, not, cond, if◌then◌else◌, List, [], ◌∷◌, ◌++◌, length, reverse, Option, Some, None, is_some, refl, sym, ◌∙◌, ap, subst, arith, inl, inr, sum_by, count_by, ⊎_elim}
 use Rattle.std.specs.Option.{option_or}
 use Rattle.std.proofs.lemmas.Bool.{and_parts, cases_Bool, false≢true, true≢false}
 use Rattle.std.proofs.lemmas.List.{length_push, reverse-append}
@@ -20,6 +20,7 @@ use Rattle.chorus_world.specs.Views.{is_on, on, views}
 use Rattle.chorus_entry.specs.Same.{are_same}
 use Rattle.chorus_world.specs.Ports.{PortState, fate, fate_after, changed, new_port, is_held, is_held_at, is_moving, arrived}
 use Rattle.chorus_world.specs.Steps.{act_may, is_legal}
+use Rattle.chorus_world.specs.Fates.{MessageFate, Received, Queued, UnderWay, Discarded, fate_left}
 use Rattle.chorus_world.proofs.Steps.LegalLemmas.{legal_parts, on_is, skips, keeps}
 use Rattle.chorus_world.proofs.Ports.LineLemmas.{Needs, needs, MakesNew, held_at, coming, none_some}
 use Rattle.chorus_world.proofs.Ports.PortMoves.{make_new}
@@ -28,7 +29,7 @@ use Rattle.chorus_show.specs.declared.queues.Spot.{Spot}
 use Rattle.chorus_show.specs.declared.queues.Spot.TheVariants.{Held, Moving, Ended}
 use Rattle.chorus_show.specs.Summary.{accepts, gives, count, waiting, put_by, spot_in, last_spot, same_spot, port_left, ports_at, waiting_at}
 use Rattle.chorus_show.specs.Tally.{is_spot}
-use Rattle.chorus_summary.specs.Counted.{spot_of, spot_in_world, waiting_in_world, once_at, CountsTheWorld, SummariesCountTheWorld}
+use Rattle.chorus_summary.specs.Counted.{spot_of, spot_in_world, waiting_in_world, once_at, IsFateOf, FatesFollowPorts, CountsTheWorld, SummariesCountTheWorld}
 
 -- Lists in order, of which the newest entry is the last.
 
@@ -320,3 +321,14 @@ summaries_count l past i h =
       waiting = each;
       sum = λ spot. sum_same (waiting (reverse past)) (λ q. waiting_in_world (fate (on q past))) each (ports_at spot (reverse past));
     }
+
+-- The fates.
+
+left_fate : (b : Bool) (s : world.Spot) → IsFateOf (spot_of s) (if b then Received else fate_left s)
+left_fate true s = record { queued = λ h. cc; under_way = λ h. cc; discarded = λ h. cc }
+left_fate false (spots.Held a) = record { queued = λ h. refl; under_way = λ h. cc; discarded = λ h. cc }
+left_fate false (spots.Moving a) = record { queued = λ h. cc; under_way = λ h. refl; discarded = λ h. cc }
+left_fate false spots.Ended = record { queued = λ h. cc; under_way = λ h. cc; discarded = λ h. refl }
+
+pub fates_follow : FatesFollowPorts
+fates_follow f i = left_fate (nat_lt i f.taken) f.spot

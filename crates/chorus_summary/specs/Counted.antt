@@ -11,6 +11,7 @@ use Rattle.chorus_world.specs.declared.port.Spot.TheVariants as spots
 use Rattle.chorus_world.specs.Views.{on}
 use Rattle.chorus_world.specs.Ports.{PortState, fate}
 use Rattle.chorus_world.specs.Ports as ports
+use Rattle.chorus_world.specs.Fates.{MessageFate, Queued, UnderWay, Discarded, fate_at}
 use Rattle.chorus_world.specs.Steps.{is_legal}
 use Rattle.chorus_show.specs.declared.queues.Spot.{Spot}
 use Rattle.chorus_show.specs.declared.queues.Spot.TheVariants.{Held, Moving, Ended}
@@ -42,6 +43,15 @@ pub record CountsTheWorld (past : List Entry) : Type 0 where
   pub ports : (spot : Spot) (q : Ui) → count_by (same_ui q) (ports_at spot (reverse past)) ≡ once_at spot (fate (on q past))
   pub waiting : (q : Ui) → waiting (reverse past) q ≡ waiting_in_world (fate (on q past))
   pub sum : (spot : Spot) → waiting_at spot (reverse past) ≡ sum_by (λ q. waiting_in_world (fate (on q past))) (ports_at spot (reverse past))
+
+-- a message that is queued is in a port that is held, one under way in a port that moves, one discarded in a port that ended
+pub record IsFateOf (spot : Spot) (what : MessageFate) : Type 0 where
+  pub queued : what ≡ Queued → spot ≡ Held
+  pub under_way : what ≡ UnderWay → spot ≡ Moving
+  pub discarded : what ≡ Discarded → spot ≡ Ended
+
+abbrev pub FatesFollowPorts : Type 0
+FatesFollowPorts = (f : PortState) (i : ℕ) → IsFateOf (spot_of f.spot) (fate_at i f)
 
 abbrev pub SummariesCountTheWorld : Type 0
 SummariesCountTheWorld = (l : Layout) (past : List Entry) → IsLayout l → is_legal l past ≡ true → CountsTheWorld past
