@@ -2,15 +2,16 @@
 use Rattle.std.proofs.Common.{◌≡◌, ℕ, ◌+◌, ◌<◌, ◌≤◌, Bool, true, false, cond, eqb, ltb, List, [], ◌∷◌, length, Option, Some, None, Result, Ok, Err, refl, sym, ap, ◌∙◌, arith, subst}
 use Rattle.std.specs.Prelude.{unwrap_or}
 use Rattle.chorus_ui.specs.declared.layout.Layout.{Layout}
-use Rattle.chorus_scene.specs.declared.fault.Stop.{Stop}
-use Rattle.chorus_scene.specs.declared.fault.Stop.TheVariants as stops
-use Rattle.chorus_scene.specs.Reader.{Fails, fault_at}
+use Rattle.chorus_lines.specs.declared.fault.Stop.{Stop}
+use Rattle.chorus_lines.specs.declared.fault.Stop.TheVariants as stops
+use Rattle.chorus_scene.specs.Reader.{Fails}
+use Rattle.chorus_lines.specs.Reasons.{fault_at}
 use Rattle.chorus_scene.specs.Scene.{Scene}
-use Rattle.chorus_scene.specs.Text.{cut, lines, in_front}
+use Rattle.chorus_lines.specs.Text.{cut, lines, in_front}
 use Rattle.chorus_scene.specs.Grammar.{State, next, judge, is_ended, read_scene, opening, Refuses}
 use Rattle.std.proofs.lemmas.Bool.Decides.{nat_tests}
-use Rattle.chorus_scene.specs.declared.word.Section.{Section}
-use Rattle.chorus_scene.specs.declared.word.Section.TheVariants as sections
+use Rattle.chorus_lines.specs.declared.word.Section.{Section}
+use Rattle.chorus_lines.specs.declared.word.Section.TheVariants as sections
 
 -- what stands behind the first line
 abbrev pub behind : List ℕ × Option (List ℕ) → List ℕ

@@ -1,15 +1,15 @@
 //! Reading a whole text.
 
 ghost use Rattle.std.specs.Prelude.{◌≡◌, ◌<◌, ◌∷◌, length};
-ghost use Rattle.chorus_scene.specs.Text.{lines};
+ghost use Rattle.chorus_lines.specs.Text.{lines};
 ghost use Rattle.chorus_scene.specs.Grammar.{read_scene, Reads};
 
-use crate::fault::{ReadFault, SceneFault, TOO_LONG, fault_at, reason_number};
 use crate::limits::TEXT_LIMIT;
 use crate::reader::Reader;
 use crate::scenario::Scenario;
-use crate::text::cut;
-use crate::word::{Reason, Section};
+use chorus_lines::{
+    ReadFault, Reason, SceneFault, Section, TOO_LONG, cut, fault_at, reason_number,
+};
 use chorus_ui::Layout;
 use std::alloc::Global;
 
