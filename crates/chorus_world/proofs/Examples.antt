@@ -6,3 +6,5 @@ pub mod Words
 pub mod Commands
 pub mod Limits
 pub mod Entries
+pub mod Passed
+pub mod Fates
