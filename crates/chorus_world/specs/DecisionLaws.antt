@@ -44,8 +44,8 @@ FullWithoutRoom past e =
     (x : MsgId) (q : Ui) (n : ℕ) → e.act ≡ Full x q n →
     (f : PortState) × (fate (on q past) ≡ Some f) × (waiting f ≡ f.capacity) × (n ≡ f.capacity)
 
--- The place of e was tried too late for the port q: x stands tried there with a hop, the place does not hold the port, and it
--- locates the port at another place, `to`, by a later hop.
+-- The place of e was tried too late for the port q: x stands tried there with a hop, and the place does not hold the port, and
+-- locates it at another place, `to`, by a later hop.
 pub record IsPassed (l : Layout) (past : List Entry) (e : Entry) (x : MsgId) (q : Ui) (tried to hop : ℕ) : Type 0 where
   pub from : ℕ
   pub is : progress (about x past) ≡ Tried from q e.place tried
@@ -54,7 +54,7 @@ pub record IsPassed (l : Layout) (past : List Entry) (e : Entry) (x : MsgId) (q 
   pub elsewhere : to ≢ e.place
   pub later : tried < hop
 
--- x is to be tried first from the place of e, which locates the port q at a place `to` that is not on the site
+-- x is the next to be tried for the port q from the place of e, which locates the port off the site
 pub record IsOffSite (l : Layout) (past : List Entry) (e : Entry) (x : MsgId) (q : Ui) (to hop site : ℕ) : Type 0 where
   pub first : is_first x q (at e.place past) ≡ true
   pub within : has_site l q.site ≡ true
@@ -70,7 +70,7 @@ StaleNamesLater l past e =
     × (slice_get (path_of l q (fate (on q past))) hop ≡ Some to)
 
 -- an Elsewhere stands only for a message that asks for a site, and names where its place locates the port, which is on the
--- port's path at that hop: a place off the site, where the message is to be tried first, or as a Stale does
+-- port's path at that hop: off the site, where the message is the next to be tried, or as a Stale does
 abbrev pub ElsewhereNamesPath : Layout → List Entry → Entry → Type 0
 ElsewhereNamesPath l past e =
     (x : MsgId) (q : Ui) (to hop : ℕ) → e.act ≡ Elsewhere x q to hop →
@@ -78,16 +78,16 @@ ElsewhereNamesPath l past e =
     × (IsOffSite l past e x q to hop site ⊎ ((tried : ℕ) × IsPassed l past e x q tried to hop))
 
 -- the decision that names where a port is
-abbrev pub naming : Option ℕ → MsgId → Ui → ℕ → ℕ → ℕ → Act
-naming None x q tried to hop = Stale x q tried to hop
-naming (Some site) x q tried to hop = Elsewhere x q to hop
+abbrev pub naming_decision : Option ℕ → MsgId → Ui → ℕ → ℕ → ℕ → Act
+naming_decision None x q tried to hop = Stale x q tried to hop
+naming_decision (Some site) x q tried to hop = Elsewhere x q to hop
 
 -- and a place that was tried too late answers so: its decision on the message is Stale, or Elsewhere where the message asks for
 -- a site, and names where the place locates the port
 abbrev pub AnswersNewer : Layout → List Entry → Entry → Type 0
 AnswersNewer l past e =
     (x : MsgId) (q : Ui) (tried to hop : ℕ) → is_decision e.act ≡ true → message_of e.act ≡ Some x →
-    IsPassed l past e x q tried to hop → e.act ≡ naming (site_asked x past) x q tried to hop
+    IsPassed l past e x q tried to hop → e.act ≡ naming_decision (site_asked x past) x q tried to hop
 
 -- a Told other than Stale says the verdict of its message
 abbrev pub TellsTheVerdict : List Entry → Entry → Type 0

@@ -35,8 +35,8 @@ pub record IsPostedToGroup (x : MsgId) (g : Ui) (past : List Entry) : Type 0 whe
   pub group : group_in dest ≡ Some g
   pub id : message.id ≡ x
 
--- x is a copy that the choice for its post made for the port q, and the post was posted before, to the group that is named:
--- copy n is for the n-th member, counted from 1
+-- x is the copy that the choice for its post made for the port q: copy n is for the n-th member, counted from 1. The post was
+-- posted before, to the group which the Choose names
 pub record IsCopiedTo (x : MsgId) (q : Ui) (past : List Entry) : Type 0 where
   pub entry : Entry
   pub post : MsgId
@@ -50,7 +50,7 @@ pub record IsCopiedTo (x : MsgId) (q : Ui) (past : List Entry) : Type 0 where
   pub copy : x.copy ≡ position + 1
   pub source : source x ≡ source post
 
--- what a port accepted was posted to it, or is a copy that a Choose made for it of a post to the group
+-- what a port accepted was posted to it, or is the copy that a Choose made for it, of a post to the group that is named
 abbrev pub AcceptsWhatWasSent : List Entry → Type 0
 AcceptsWhatWasSent past =
     (q : Ui) (i : ℕ) (x : MsgId) → slice_get (accepted_by q past) i ≡ Some x → IsPostedTo x q past ⊎ IsCopiedTo x q past

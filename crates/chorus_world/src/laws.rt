@@ -61,7 +61,8 @@ pub fn entries_tell_each_fate()
     ensures discarded { LayoutAlways DiscardedByFate }
 {}
 
-/// What a port accepted was posted: to that port, or to the group that its Choose names, which made a copy for it.
+/// What a port accepted was posted to it, or is the copy that a Choose made for it, of a post that was posted before to the
+/// group which the Choose names.
 pub fn port_accepts_what_was_sent()
     ensures { LegalAlways AcceptsWhatWasSent }
 {}
@@ -74,11 +75,11 @@ pub fn only_the_holder_accepts()
     ensures full { LegalEntries (λ l. FullWithoutRoom) }
 {}
 
-/// A place is tried too late where it does not hold the port and locates it at another place by a later hop than the message
-/// was tried with. A Stale stands only there, for a message that asks for no site, and names that place, which is on the port's
-/// path. An Elsewhere stands only for a message that asks for a site, and names a place of the port's path: as Stale does, or
-/// one off the site where the message is to be tried first. And what is decided where a place is tried too late is nothing else:
-/// Stale, or Elsewhere for a message that asks for a site.
+/// A place was tried too late where a message stands tried at it with a hop, and it does not hold the port, and locates it at
+/// another place by a later hop. A Stale stands only there, for a message that asks for no site, and names that other place. An
+/// Elsewhere stands only for a message that asks for a site, and names where its place locates the port: there as well, or from
+/// where the message is the next to be tried, off the site. What they name is on the port's path. And a place that was tried too
+/// late decides nothing else: Stale, or Elsewhere for a message that asks for a site.
 pub fn stale_names_a_later_place()
     ensures stale { LayoutEntries StaleNamesLater }
     ensures elsewhere { LayoutEntries ElsewhereNamesPath }

@@ -1,6 +1,6 @@
 -- A place that was tried too late for a port: what it answers, and entries that say it wrongly, each in a past that is not
 -- legal.
-use Rattle.std.proofs.Common.{ℕ, ◌≡◌, true, false, List, [], ◌∷◌, Some, refl, inl, inr, arith}
+use Rattle.std.proofs.Common.{ℕ, ◌≡◌, true, false, List, [], ◌∷◌, refl, inl, inr, arith}
 use Rattle.std.proofs.lemmas.Bool.{false≢true}
 use Rattle.chorus_ui.specs.declared.kind.Kind.TheVariants as kinds
 use Rattle.chorus_ui.specs.declared.ui.Ui.{Ui}
@@ -8,7 +8,6 @@ use Rattle.chorus_entry.specs.declared.answer.Answer.{Answer}
 use Rattle.chorus_entry.specs.declared.dest.Dest.{Dest}
 use Rattle.chorus_entry.specs.declared.entry.Entry.{Entry}
 use Rattle.chorus_entry.specs.declared.id.MsgId.{MsgId}
-use Rattle.chorus_entry.specs.declared.message.Message.{Message}
 use Rattle.chorus_entry.specs.declared.tag.Tag.{Tag}
 use Rattle.chorus_entry.specs.declared.act.Act.{Act}
 use Rattle.chorus_world.specs.declared.message.Progress.{Progress}

@@ -24,7 +24,7 @@ use Rattle.chorus_world.specs.Clients.{finds_clients_full, is_already}
 use Rattle.chorus_world.specs.Messages.{progress}
 use Rattle.chorus_world.specs.Places.{is_first, is_location, located}
 use Rattle.chorus_world.specs.Steps.{act_may, due, due_at_home, due_by_try, is_beyond, is_due, is_due_with, is_early, is_elsewhere, is_legal, is_to_go, is_tried_with, may_enter, meets, suits}
-use Rattle.chorus_world.specs.DecisionLaws.{AcceptsWithRoom, AnswersNewer, ElsewhereNamesPath, FullWithoutRoom, MeetsWhereHeld, StaleNamesLater, naming, port_met}
+use Rattle.chorus_world.specs.DecisionLaws.{AcceptsWithRoom, AnswersNewer, ElsewhereNamesPath, FullWithoutRoom, MeetsWhereHeld, StaleNamesLater, naming_decision, port_met}
 use Rattle.chorus_world.specs.LocationLaws.{KnowsWhatLeft, path_of}
 use Rattle.chorus_world.proofs.Steps.LegalLemmas.{legal_parts}
 use Rattle.chorus_world.proofs.Ports.PortSteps.{spot_in}
@@ -293,7 +293,7 @@ module _ (l : Layout) (past : List Entry) (p s : ℕ) (x : MsgId) (q : Ui) (from
         let port : r ≡ q = for-port r (decision_due l past p s a x r d m o h) in
         false≢true (sym away ∙ subst (λ z. is_held_at p (fate (on z past)) ≡ true) port (meets-held l past p s a r h met))
 
-    stale-is : (t u k : ℕ) → act_may l (views past p s (Stale x q t u k)) p s (Stale x q t u k) ≡ true → Stale x q t u k ≡ naming (site_asked x past) x q tried to hop
+    stale-is : (t u k : ℕ) → act_may l (views past p s (Stale x q t u k)) p s (Stale x q t u k) ≡ true → Stale x q t u k ≡ naming_decision (site_asked x past) x q tried to hop
     stale-is t u k h =
         let v = views past p s (Stale x q t u k) in
         let d = is_due_with (λ h. h == t) (due l v p x q) in
@@ -306,16 +306,16 @@ module _ (l : Layout) (past : List Entry) (p s : ℕ) (x : MsgId) (q : Ui) (from
         let one = and_parts d off two.0 in
         let hops : tried ≡ t = eqb-true tried t (ap (is_due_with (λ h. h == t)) (sym (due-is v refl)) ∙ one.0) in
         let same = is-there u k two.1 in
-        (λ i. Stale x q (sym hops i) (same.0 i) (same.1 i)) ∙ ap (λ o. naming o x q tried to hop) (sym (none-there (site_asked x past) five.1))
+        (λ i. Stale x q (sym hops i) (same.0 i) (same.1 i)) ∙ ap (λ o. naming_decision o x q tried to hop) (sym (none-there (site_asked x past) five.1))
 
-    elsewhere-is : (u k : ℕ) → act_may l (views past p s (Elsewhere x q u k)) p s (Elsewhere x q u k) ≡ true → Elsewhere x q u k ≡ naming (site_asked x past) x q tried to hop
+    elsewhere-is : (u k : ℕ) → act_may l (views past p s (Elsewhere x q u k)) p s (Elsewhere x q u k) ≡ true → Elsewhere x q u k ≡ naming_decision (site_asked x past) x q tried to hop
     elsewhere-is u k h =
         let v = views past p s (Elsewhere x q u k) in
         let two = and_parts (is_some (site_asked x v.all) && is_location u k (located l q v.here)) (is_elsewhere l v p x q u k) h in
         let one = and_parts (is_some (site_asked x v.all)) (is_location u k (located l q v.here)) two.0 in
         let site = there-some (site_asked x past) one.0 in
         let same = is-there u k one.1 in
-        (λ i. Elsewhere x q (same.0 i) (same.1 i)) ∙ ap (λ o. naming o x q tried to hop) (sym site.1)
+        (λ i. Elsewhere x q (same.0 i) (same.1 i)) ∙ ap (λ o. naming_decision o x q tried to hop) (sym site.1)
 
     not-early : (k : ℕ) → act_may l (views past p s (Early x q k)) p s (Early x q k) ≡ true → ⊥
     not-early k h =
@@ -356,25 +356,25 @@ module _ (l : Layout) (past : List Entry) (p s : ℕ) (x : MsgId) (q : Ui) (from
         let here = ends-here l q p (fate (on q past)) _ _ _ _ ((legal_inv l past layout legal).ports q) ended in
         elsewhere (sym (ap (λ (z : Location). z.to) known) ∙ here)
 
-    answers : (a : Act) → act_may l (views past p s a) p s a ≡ true → is_decision a ≡ true → message_of a ≡ Some x → a ≡ naming (site_asked x past) x q tried to hop
+    answers : (a : Act) → act_may l (views past p s a) p s a ≡ true → is_decision a ≡ true → message_of a ≡ Some x → a ≡ naming_decision (site_asked x past) x q tried to hop
     answers (Accept y r n) h d m = absurd (not-held (Accept y r n) r h d m refl refl)
     answers (Full y r n) h d m = absurd (not-held (Full y r n) r h d m refl refl)
     answers (Already y r) h d m = absurd (not-held (Already y r) r h d m refl refl)
     answers (ClientsFull y r) h d m = absurd (not-held (ClientsFull y r) r h d m refl refl)
     answers (Stale y r t u k) h d m =
-        on-this (λ z w. Stale z w t u k) y r (naming (site_asked x past) x q tried to hop) (some_is y x m)
+        on-this (λ z w. Stale z w t u k) y r (naming_decision (site_asked x past) x q tried to hop) (some_is y x m)
         (for-port r (decision_due l past p s (Stale y r t u k) x r d m refl h)) (stale-is t u k) h
     answers (Elsewhere y r u k) h d m =
-        on-this (λ z w. Elsewhere z w u k) y r (naming (site_asked x past) x q tried to hop) (some_is y x m)
+        on-this (λ z w. Elsewhere z w u k) y r (naming_decision (site_asked x past) x q tried to hop) (some_is y x m)
         (for-port r (decision_due l past p s (Elsewhere y r u k) x r d m refl h)) (elsewhere-is u k) h
     answers (Early y r k) h d m =
-        on-this (λ z w. Early z w k) y r (naming (site_asked x past) x q tried to hop) (some_is y x m)
+        on-this (λ z w. Early z w k) y r (naming_decision (site_asked x past) x q tried to hop) (some_is y x m)
         (for-port r (decision_due l past p s (Early y r k) x r d m refl h)) (λ j. absurd (not-early k j)) h
     answers (NoPort y r) h d m =
-        on-this (λ z w. NoPort z w) y r (naming (site_asked x past) x q tried to hop) (some_is y x m)
+        on-this (λ z w. NoPort z w) y r (naming_decision (site_asked x past) x q tried to hop) (some_is y x m)
         (for-port r (decision_due l past p s (NoPort y r) x r d m refl h)) (λ j. absurd (not-no-port j)) h
     answers (Gone y r) h d m =
-        on-this (λ z w. Gone z w) y r (naming (site_asked x past) x q tried to hop) (some_is y x m)
+        on-this (λ z w. Gone z w) y r (naming_decision (site_asked x past) x q tried to hop) (some_is y x m)
         (for-port r (decision_due l past p s (Gone y r) x r d m refl h)) (λ j. absurd (not-gone j)) h
     answers _ h d m = absurd (false≢true d)
 

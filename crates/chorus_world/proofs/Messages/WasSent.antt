@@ -69,12 +69,12 @@ abbrev now-stands : (e : Entry) (past : List Entry) → StandsIn e (e ∷ past)
 now-stands e past = record { newer = []; older = past; is = refl }
 
 -- what is found among the posts of a seat was posted
-post-grows : (x : MsgId) (g : Ui) (e : Entry) (past : List Entry) → IsPostedToGroup x g past → IsPostedToGroup x g (e ∷ past)
-post-grows x g e past h =
+to-group-later : (x : MsgId) (g : Ui) (e : Entry) (past : List Entry) → IsPostedToGroup x g past → IsPostedToGroup x g (e ∷ past)
+to-group-later x g e past h =
     record { entry = h.entry; message = h.message; dest = h.dest; stands = stands-later e h.entry past h.stands; posts = h.posts; group = h.group; id = h.id }
 
-post-now : (x : MsgId) (g : Ui) (m : Posted) (e : Entry) (past : List Entry) (a : Act) → e.act ≡ a → posted_by x e.place a ≡ Some m → group_in m.dest ≡ Some g → IsPostedToGroup x g (e ∷ past)
-post-now x g m e past (Post k d) is h group = go (same_id k.id x) refl h
+to-group-now : (x : MsgId) (g : Ui) (m : Posted) (e : Entry) (past : List Entry) (a : Act) → e.act ≡ a → posted_by x e.place a ≡ Some m → group_in m.dest ≡ Some g → IsPostedToGroup x g (e ∷ past)
+to-group-now x g m e past (Post k d) is h group = go (same_id k.id x) refl h
   where
     go : (b : Bool) → same_id k.id x ≡ b → cond b (Some (record { place = e.place; message = k; dest = d })) None ≡ Some m → IsPostedToGroup x g (e ∷ past)
     go true t j =
@@ -89,19 +89,19 @@ post-now x g m e past (Post k d) is h group = go (same_id k.id x) refl h
           id = from_same_id k.id x t;
         }
     go false t j = none_some m j
-post-now x g m e past _ is h group = none_some m h
+to-group-now x g m e past _ is h group = none_some m h
 
-post-stands : (past : List Entry) (s : ℕ) (x : MsgId) (g : Ui) (m : Posted) → posted_in x (by s past) ≡ Some m → group_in m.dest ≡ Some g → IsPostedToGroup x g past
-post-stands [] s x g m h group = none_some m h
-post-stands (e ∷ past) s x g m h group =
+to-group-stands : (past : List Entry) (s : ℕ) (x : MsgId) (g : Ui) (m : Posted) → posted_in x (by s past) ≡ Some m → group_in m.dest ≡ Some g → IsPostedToGroup x g past
+to-group-stands [] s x g m h group = none_some m h
+to-group-stands (e ∷ past) s x g m h group =
     elim (cases_Bool (is_by s e)) [
       | inl t ↦ (
           let mine : option_or (posted_in x (by s past)) (posted_by x e.place e.act) ≡ Some m = ap (posted_in x) (sym (keeps (is_by s) e past t)) ∙ h in
           elim (from_or (posted_in x (by s past)) (posted_by x e.place e.act) m mine) [
-            | inl old ↦ post-grows x g e past (post-stands past s x g m old group)
-            | inr new ↦ post-now x g m e past e.act refl new.1 group
+            | inl old ↦ to-group-later x g e past (to-group-stands past s x g m old group)
+            | inr new ↦ to-group-now x g m e past e.act refl new.1 group
           ])
-      | inr n ↦ post-grows x g e past (post-stands past s x g m (ap (posted_in x) (sym (skips (is_by s) e past n)) ∙ h) group)
+      | inr n ↦ to-group-later x g e past (to-group-stands past s x g m (ap (posted_in x) (sym (skips (is_by s) e past n)) ∙ h) group)
     ]
 
 -- the post of a Choose was posted to its group
@@ -112,7 +112,7 @@ chosen-posted l past e y g qs legal is =
     let needs = choose_needs l past e.place e.seat y g qs may in
     let asked = (asked_facts y past needs.from needs.dest (legal_messages l past two.1 y) needs.asked).1 in
     subst (λ z. IsPostedToGroup z g past) (own_source y asked.copy)
-    (post-stands past y.seat (source y) g asked.post asked.posted (ap group_in asked.dest ∙ needs.group))
+    (to-group-stands past y.seat (source y) g asked.post asked.posted (ap group_in asked.dest ∙ needs.group))
 
 was-now : (l : Layout) (x : MsgId) (m : Sent) (e : Entry) (past : List Entry) (a : Act) → is_legal l (e ∷ past) ≡ true → e.act ≡ a → find_sent x (sent_by a) ≡ Some m → WasSent x m.port (e ∷ past)
 was-now l x m e past (Post k (Port q)) legal is h = go (same_id k.id x) refl h
