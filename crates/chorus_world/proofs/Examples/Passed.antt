@@ -53,7 +53,7 @@ not-newer h =
 not-stale : EachEntry (StaleNamesLater two_sites) (now 3 (Act.Stale (far 1) port 0 1 1) ∷ tried) → ⊥
 not-stale h = (h [] tried (now 3 (Act.Stale (far 1) port 0 1 1)) refl (far 1) port 0 1 1 refl).0.elsewhere refl
 
--- Stale to a message that was not tried, and with a hop with which it was not tried
+-- Stale to a message that was not tried
 abbrev untried : List Entry
 untried = there 1 (post 1 (Dest.Port port)) ∷ left_behind
 
