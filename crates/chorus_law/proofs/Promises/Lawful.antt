@@ -78,9 +78,8 @@ use Rattle.chorus_law.proofs.Links.UnderWays.{Seen, SeesTry, sees-try}
 use Rattle.chorus_law.proofs.Groups.Asking.{SeesAsk, sees-ask}
 use Rattle.chorus_law.proofs.Packets.Reporting.{SeesReport, sees-report, asking}
 use Rattle.chorus_world.proofs.Ports.PortNames.{line-named}
-use Rattle.chorus_law.specs.Tasks.{IsBetweenPlaces}
 use Rattle.chorus_law.proofs.Holdings.Packets.{IsIn, IsOn, first-is-on, in-view, moving-to}
-use Rattle.chorus_law.proofs.Holdings.Passing.{packets-between}
+use Rattle.chorus_law.proofs.Holdings.Passing.{IsBetweenPlaces, packets-between}
 use Rattle.chorus_law.proofs.Draining.Fronts.{legal-past, seen-here, IsTold, is-told, told-queue}
 use Rattle.chorus_law.proofs.Promises.Posts.{PostsFit, fits_in_post, post-fits}
 use Rattle.chorus_law.proofs.Promises.Kept.{IsKnown, accepted-known, TableFits, table-fits}
