@@ -31,20 +31,20 @@ use Rattle.chorus_law.specs.EachMessage.{waiting_in, is_among, is_waiting_in, fa
 -- Lists of ids.
 
 drop-index : (xs : List MsgId) (n j : ℕ) → slice_get (drop n xs) j ≡ slice_get xs (n + j)
-drop-index xs zero j = refl
+drop-index xs zero j = let e : j ≡ 0 + j = omega arith in ap (slice_get xs) e
 drop-index [] (suc n) j = refl
-drop-index (x ∷ xs) (suc n) j = drop-index xs n j
+drop-index (x ∷ xs) (suc n) j = let e : suc (n + j) ≡ suc n + j = omega arith in drop-index xs n j ∙ ap (slice_get (x ∷ xs)) e
 
 none-in : (k : ℕ) (x : MsgId) → slice_get {X = MsgId} [] k ≡ Some x → ⊥
 none-in k x h = let lt : k < 0 = slice_get_within [] k x h in omega (arith, lt)
 
 index-of : (x : MsgId) (xs : List MsgId) → is_among x xs ≡ true → (j : ℕ) × (slice_get xs j ≡ Some x)
 index-of x [] h = absurd (false≢true h)
-index-of x (y ∷ ys) h = go (same_id x y) refl h
+index-of x (y ∷ ys) h = go (same_id x y) refl h (index-of x ys)
   where
-    go : (b : Bool) → same_id x y ≡ b → b || is_among x ys ≡ true → (j : ℕ) × (slice_get (y ∷ ys) j ≡ Some x)
-    go true e k = (0, ap (λ z. Some z) (sym (from_same_id x y e)))
-    go false e k = let later = index-of x ys k in (suc later.0, later.1)
+    go : (b : Bool) → same_id x y ≡ b → b || is_among x ys ≡ true → (is_among x ys ≡ true → (j : ℕ) × (slice_get ys j ≡ Some x)) → (j : ℕ) × (slice_get (y ∷ ys) j ≡ Some x)
+    go true e k later = (0, ap (λ z. Some z) (sym (from_same_id x y e)))
+    go false e k later = let rest = later k in (suc rest.0, rest.1)
 
 among-at : (x : MsgId) (xs : List MsgId) (j : ℕ) → slice_get xs j ≡ Some x → is_among x xs ≡ true
 among-at x [] j h = absurd (none-in j x h)
@@ -55,31 +55,33 @@ among-at x (y ∷ ys) (suc j) h = or_right (same_id x y) (is_among x ys) (among-
 
 filter-nowhere : (x : MsgId) (xs : List MsgId) → ((j : ℕ) → slice_get xs j ≡ Some x → ⊥) → filter (same_id x) xs ≡ []
 filter-nowhere x [] none = refl
-filter-nowhere x (y ∷ ys) none = go (same_id x y) refl
+filter-nowhere x (y ∷ ys) none = go (same_id x y) refl (filter-nowhere x ys (λ j h. none (suc j) h))
   where
-    go : (b : Bool) → same_id x y ≡ b → cond b (y ∷ filter (same_id x) ys) (filter (same_id x) ys) ≡ []
-    go true e = absurd (none 0 (ap (λ z. Some z) (sym (from_same_id x y e))))
-    go false e = filter-nowhere x ys (λ j h. none (suc j) h)
+    go : (b : Bool) → same_id x y ≡ b → filter (same_id x) ys ≡ [] → cond b (y ∷ filter (same_id x) ys) (filter (same_id x) ys) ≡ []
+    go true e later = absurd (none 0 (ap (λ z. Some z) (sym (from_same_id x y e))))
+    go false e later = later
 
 -- an id that stands at one index alone
 filter-once : (x : MsgId) (xs : List MsgId) (k : ℕ) → slice_get xs k ≡ Some x → ((j : ℕ) → slice_get xs j ≡ Some x → j ≡ k) → filter (same_id x) xs ≡ x ∷ []
 filter-once x [] k h only = absurd (none-in k x h)
-filter-once x (y ∷ ys) k h only = go (same_id x y) refl
+filter-once x (y ∷ ys) k h only = go (same_id x y) refl (λ i at alone. filter-once x ys i at alone)
   where
-    later : (i : ℕ) → k ≡ i → slice_get (y ∷ ys) i ≡ Some x → same_id x y ≡ false → filter (same_id x) ys ≡ x ∷ []
-    later zero e at differ =
+    Rest : Type 0
+    Rest = (i : ℕ) → slice_get ys i ≡ Some x → ((j : ℕ) → slice_get ys j ≡ Some x → j ≡ i) → filter (same_id x) ys ≡ x ∷ []
+
+    later : (i : ℕ) → k ≡ i → slice_get (y ∷ ys) i ≡ Some x → same_id x y ≡ false → Rest → filter (same_id x) ys ≡ x ∷ []
+    later zero e at differ rest =
         let same : y ≡ x = cc in
         absurd (false≢true (sym differ ∙ subst (λ z. same_id x z ≡ true) (sym same) (same_id-self x)))
-    later (suc i) e at differ =
-        filter-once x ys i at (λ j g. let next : suc j ≡ k = only (suc j) g in omega (arith, next, e))
+    later (suc i) e at differ rest = rest i at (λ j g. let next : suc j ≡ k = only (suc j) g in omega (arith, next, e))
 
-    go : (b : Bool) → same_id x y ≡ b → cond b (y ∷ filter (same_id x) ys) (filter (same_id x) ys) ≡ x ∷ []
-    go true e =
+    go : (b : Bool) → same_id x y ≡ b → Rest → cond b (y ∷ filter (same_id x) ys) (filter (same_id x) ys) ≡ x ∷ []
+    go true e rest =
         let same : x ≡ y = from_same_id x y e in
         let first : 0 ≡ k = only 0 (ap (λ z. Some z) (sym same)) in
         ap (λ zs. y ∷ zs) (filter-nowhere x ys (λ j g. let next : suc j ≡ k = only (suc j) g in omega (arith, first, next)))
         ∙ ap (λ z. z ∷ []) (sym same)
-    go false e = later k refl h e
+    go false e rest = later k refl h e rest
 
 -- Holdings.
 
