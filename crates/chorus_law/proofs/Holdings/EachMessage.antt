@@ -1,12 +1,11 @@
 -- Each accepted message stands in holdings by its fate.
-use Rattle.std.proofs.Common.{ℕ, zero, suc, ◌≡◌, ◌<◌, ◌≤◌, ◌+◌, ◌-◌, Bool, true, false, ◌||◌, cond, nat_lt, List, [], ◌∷◌, map, drop, Option, Some, None, refl, sym, ◌∙◌, ap, subst, inl, inr, arith}
+use Rattle.std.proofs.Common.{ℕ, zero, suc, ◌≡◌, ◌<◌, ◌≤◌, ◌+◌, ◌-◌, Bool, true, false, ◌||◌, cond, nat_lt, List, [], ◌∷◌, map, drop, Option, Some, None, refl, sym, ◌∙◌, ap, subst, arith}
 use Rattle.std.specs.Prelude.{slice_get}
 use Rattle.std.specs.List.{All, filter}
-use Rattle.std.proofs.lemmas.Bool.{cases_Bool, or_left, or_right, false≢true, ltb-true, ltb-false}
+use Rattle.std.proofs.lemmas.Bool.{or_left, or_right, false≢true, ltb-true, ltb-false}
 use Rattle.std.proofs.lemmas.List.Elements.{All-nil, All-cons, All-head, All-tail, All-weaker}
 use Rattle.std.proofs.lemmas.Option.{slice_get_within}
 use Rattle.chorus_ui.specs.declared.ui.Ui.{Ui}
-use Rattle.chorus_ui.specs.declared.layout.Layout.{Layout}
 use Rattle.chorus_ui.specs.Name.{same_ui}
 use Rattle.chorus_ui.proofs.Names.{same_ui-self}
 use Rattle.chorus_entry.specs.declared.entry.Entry.{Entry}
@@ -22,11 +21,11 @@ use Rattle.chorus_world.specs.Posts.{Posted, as_posted, post_of}
 use Rattle.chorus_world.specs.Ports.{PortState, fate, last_of}
 use Rattle.chorus_world.specs.Fates.{fate_at, fate_left}
 use Rattle.chorus_world.specs.Fates.MessageFate.{Received}
-use Rattle.chorus_world.specs.AcceptedLaws.{accepted_by, accepted_from, KeepsEachMessage}
+use Rattle.chorus_world.specs.AcceptedLaws.{accepted_by, accepted_from}
 use Rattle.chorus_law.specs.Records.{message, record_for}
 use Rattle.chorus_law.specs.UnderWay.{before_last}
 use Rattle.chorus_law.specs.Holdings.{Holding, At, OnTheWay, record_in, holds, told_in, told_of, holding_told, StandsFor}
-use Rattle.chorus_law.specs.EachMessage.{waiting_in, is_among, is_waiting_in, fate_in, WaitsOnce, StandsByFate, HoldsAccepted, HoldEachMessage, HoldingsHoldEach}
+use Rattle.chorus_law.specs.EachMessage.{waiting_in, is_among, is_waiting_in, fate_in, WaitsOnce, StandsByFate, HoldsAccepted, HoldingsHoldEach}
 
 -- Lists of ids.
 

@@ -1,6 +1,6 @@
 -- The merge of the journals of a past is the past sorted by clock and place. The clocks of the journals alone say that clock and
 -- place rise along what the past has at each place, and this is enough for the sorted past to keep it and to be in order.
-use Rattle.std.proofs.Common.{ℕ, ◌≡◌, ◌==◌, Bool, true, false, cond, List, [], ◌∷◌, ◌++◌, reverse, refl, sym, ◌∙◌, ap, subst, inl, inr, arith}
+use Rattle.std.proofs.Common.{ℕ, ◌≡◌, Bool, true, false, cond, List, [], ◌∷◌, ◌++◌, reverse, refl, sym, ◌∙◌, ap, subst, inl, inr, arith}
 use Rattle.std.specs.List.{All, filter}
 use Rattle.std.proofs.lemmas.Bool.{cases_Bool, eqb-true, eq-eqb, false≢true}
 use Rattle.std.proofs.lemmas.List.{reverse-append, reverse-reverse}
@@ -15,7 +15,7 @@ use Rattle.chorus_merge.specs.Laws.{ShareNoPlace}
 use Rattle.chorus_merge.proofs.Order.{comes_before-levelled}
 use Rattle.chorus_merge.proofs.Places.{gives_journals_back, keeps_places}
 use Rattle.chorus_merge.proofs.Sorted.{is_sorted, sorted_once, other_way}
-use Rattle.chorus_law.specs.Merging.{AreJournalsOf, MergesAsSorted}
+use Rattle.chorus_law.specs.Merging.{MergesAsSorted}
 use Rattle.chorus_law.proofs.Merge.Parts.{All-reverse, filter-reverse, in-order-reverse}
 
 -- Each part of the merge rises.
