@@ -23,9 +23,8 @@ use Rattle.chorus_law.specs.Packets.{put_all}
 use Rattle.chorus_law.specs.Network.{NetState, Event, Act, Enter, place, place_in, with_place, ended, commanded, replied, happened, schedule}
 use Rattle.chorus_law.specs.History.{put_by, put_in, taken_with}
 use Rattle.chorus_law.specs.Schedules.{may_give, has_number_left, may_happen, may_be}
-use Rattle.chorus_law.specs.Tasks.{IsBetweenPlaces}
 use Rattle.chorus_law.specs.Calls.{starting, first_actor}
-use Rattle.chorus_law.proofs.Holdings.Passing.{packets-lie-between}
+use Rattle.chorus_law.proofs.Holdings.Passing.{IsBetweenPlaces, packets-lie-between}
 use Rattle.chorus_law.proofs.Places.Layouts.{schedule-keeps}
 use Rattle.chorus_law.proofs.Promises.Promised.{stands-at}
 use Rattle.chorus_law.specs.Stands.{IsCaller}
