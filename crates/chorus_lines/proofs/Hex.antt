@@ -1,11 +1,12 @@
 -- Reading digits two by two.
-use Rattle.std.proofs.Common.{◌≡◌, ℕ, zero, suc, ◌+◌, ◌-◌, ◌*◌, ◌/◌, ◌%◌, ◌<◌, ◌≤◌, Bool, true, false, ◌&&◌, cond, eqb, List, [], ◌∷◌, ◌++◌, length, get_or, take, drop, Some, None, IsSome, refl, append_assoc, add-one, arith, drop-cons}
+use Rattle.std.proofs.Common.{◌≡◌, ℕ, ◌+◌, ◌-◌, ◌*◌, ◌/◌, ◌%◌, ◌≤◌, Bool, true, false, ◌&&◌, cond, eqb, List, [], ◌∷◌, length, take, drop, Ok, Some, None, IsSome, refl, sym, ◌∙◌, arith}
 use Rattle.std.specs.Prelude.{◌==◌}
 use Rattle.std.proofs.lemmas.Bool.Decides.{nat_tests}
-use Rattle.std.proofs.lemmas.Grind.{common_steps}
 use Rattle.chorus_lines.specs.Text.{each_byte}
 use Rattle.std.specs.Option.{ForSome}
 use Rattle.std.proofs.lemmas.List.{length-take, length-drop}
+use Rattle.hex.specs.Hex.{hex_digit_value, decode_pairs, decode_sized}
+use Rattle.hex.proofs.HexLemmas.{decode_of-even, decode_sized-twice}
 use Rattle.chorus_lines.specs.Body.{pairs, hex_value, is_hex, is_hex_text, body_in}
 
 pub pairs_len : (text : List ℕ) → length (pairs text) ≡ length text / 2
@@ -22,27 +23,21 @@ pub and_right : (a b : Bool) → (a && b) ≡ true → b ≡ true
 and_right true b h = h
 and_right false b h = cc
 
-pub each_at : (test : ℕ → Bool) (xs : List ℕ) (i : ℕ) → each_byte test xs ≡ true → i < length xs → test (get_or xs i 0) ≡ true
-unfolding each_byte
-each_at test [] i h lt = absurd (omega arith)
-each_at test (x ∷ xs) zero h lt = and_left (test x) (each_byte test xs) h
-each_at test (x ∷ xs) (suc i) h lt = each_at test xs i (and_right (test x) (each_byte test xs) h) (omega arith)
+-- the kit decodes each two digits to the byte that they stand for
+digit_of : (c : ℕ) → is_hex c ≡ true → hex_digit_value c ≡ Some (hex_value c)
+digit_of c h = grind (arith, nat_tests)
 
-pub pairs_on : (text out : List ℕ) (i : ℕ) (total : List ℕ) → 2 * i + 1 < length text → out ++ pairs (drop (2 * i) text) ≡ total
-    → (out ++ (16 * hex_value (get_or text (2 * i) 0) + hex_value (get_or text (2 * i + 1) 0)) ∷ []) ++ pairs (drop (2 * (i + 1)) text) ≡ total
-unfolding pairs
-pairs_on text out i total lt so_far =
-    let d : drop (2 * i) text ≡ get_or text (2 * i) 0 ∷ drop (2 * i + 1) text = rw add-one (drop-cons text (2 * i) 0 (omega arith)) in
-    let e : drop (2 * i + 1) text ≡ get_or text (2 * i + 1) 0 ∷ drop (2 * i + 1 + 1) text = rw (add-one (2 * i + 1)) (drop-cons text (2 * i + 1) 0 lt) in
-    let n : 2 * (i + 1) ≡ 2 * i + 1 + 1 = omega arith in
-    rw (n, append_assoc) (rw (d, e) at so_far)
-
-pub pairs_end : (text out : List ℕ) (i : ℕ) (total : List ℕ) → length text ≤ 2 * i → out ++ pairs (drop (2 * i) text) ≡ total → out ≡ total
-unfolding pairs
-pairs_end text out i total le so_far =
-    let d : drop (2 * i) text ≡ [] = grind (arith, common_steps) in
-    let t : out ++ [] ≡ out = grind (arith, common_steps) in
-    rw (d, t) at so_far
+pub decoded : (text : List ℕ) (i : ℕ) → each_byte is_hex text ≡ true → length text % 2 ≡ 0 → decode_pairs i text ≡ Ok (pairs text)
+unfolding pairs each_byte decode_pairs
+decoded [] i h even = refl
+decoded (c ∷ []) i h even = absurd (omega arith)
+decoded (c ∷ d ∷ cs) i h even =
+    let tail = and_right (is_hex c) _ h in
+    let high = digit_of c (and_left (is_hex c) _ h) in
+    let low = digit_of d (and_left (is_hex d) _ tail) in
+    let swap : hex_value c * 16 + hex_value d ≡ 16 * hex_value c + hex_value d = omega arith in
+    let rest = decoded cs (i + 2) (and_right (is_hex d) _ tail) (omega arith) in
+    rw (high, low, rest, swap) refl
 
 is_even : (n : ℕ) → (n % 2 == 0) ≡ true → n % 2 ≡ 0
 is_even n h = grind (arith, nat_tests)
@@ -55,6 +50,11 @@ small_by true false cs hex is small =
     let few = small (pairs cs) refl in
     omega arith
 small_by false false cs hex is small = absurd cc
+
+pub decodes : (text : List ℕ) (n : ℕ) → is_hex_text text ≡ true → 2 * n ≡ length text → decode_sized text n ≡ Ok (pairs text)
+decodes text n h room =
+    let even = is_even (length text) (and_left (length text % 2 == 0) (each_byte is_hex text) h) in
+    decode_sized-twice text n (sym room) ∙ decode_of-even text even ∙ decoded text 0 (and_right (length text % 2 == 0) (each_byte is_hex text) h) even
 
 -- a body within its limit has not too many digits
 pub digits_small : (text : List ℕ) → 1 ≤ length text → IsSome (body_in text) → ForSome (body_in text) (λ bytes. length bytes ≤ 4096) → length (take (length text - 1) (drop 1 text)) ≤ 8192

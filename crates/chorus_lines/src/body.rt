@@ -3,7 +3,7 @@
 ghost use Rattle.std.specs.Prelude.{◌≡◌, ◌≤◌, ◌<◌, ◌*◌, option_map, length, true, IfOk, IsSome, Some};
 ghost use Rattle.std.specs.Option.{ForSome};
 ghost use Rattle.chorus_lines.specs.Text.{each_byte};
-ghost use Rattle.chorus_lines.specs.Body.{body_in, bytes_of_hex, pairs, is_hex, is_hex_text, hex_value, begins_a_body};
+ghost use Rattle.chorus_lines.specs.Body.{body_in, bytes_of_hex, pairs, is_hex, is_hex_text, begins_a_body};
 ghost use Rattle.chorus_ui.specs.declared.limits.TheConstants.{BODY_LIMIT};
 
 use chorus_entry::{BODY_LIMIT, Body};
@@ -75,11 +75,10 @@ fn write_bytes(digits: &[u8], bytes: &mut [u8])
     requires room { 2 * length bytes.old ≡ length digits.now }
     ensures { bytes.new ≡ pairs digits.now }
 {
-    for i in 0..bytes.len() {
-        bytes[i] = 16 * hex_value(digits[2 * i]) + hex_value(digits[2 * i + 1]);
-    }
+    let _ = hex::decode_to_slice(digits, bytes);
 }
 
+/// Whether each byte is a digit. Capitals are none.
 fn are_hex(text: &[u8]) -> bool
     ensures { result ≡ each_byte is_hex text.now }
 {
@@ -95,12 +94,4 @@ fn is_hex(c: u8) -> bool
     ensures { result ≡ is_hex c }
 {
     (48 <= c && c <= 57) || (97 <= c && c <= 102)
-}
-
-fn hex_value(c: u8) -> u8
-    requires { is_hex c ≡ true }
-    ensures value { result ≡ hex_value c }
-    ensures small { result < 16 }
-{
-    if c <= 57 { c - 48 } else { c - 87 }
 }
