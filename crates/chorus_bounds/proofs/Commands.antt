@@ -1,6 +1,6 @@
 -- A turn with a command.
-use Rattle.std.proofs.Common.{ℕ, ◌≡◌, ◌≤◌, ◌<◌, ◌+◌, ◌==◌, nat_le, Bool, true, false, ◌&&◌, not, cond, List, [], ◌∷◌, ◌++◌, length, Option, Some, None, IfSome, refl, sym, ◌∙◌, ap, subst, arith, leb-true, All}
-use Rattle.std.proofs.lemmas.Bool.{and_parts, and_from, le-leb, false≢true}
+use Rattle.std.proofs.Common.{ℕ, ◌≡◌, ◌≤◌, ◌<◌, ◌+◌, ◌==◌, nat_le, Bool, true, false, ◌&&◌, not, cond, List, [], ◌∷◌, ◌++◌, length, Option, Some, None, IfSome, refl, subst, arith, leb-true, All}
+use Rattle.std.proofs.lemmas.Bool.{and_parts, and_from, le-leb}
 use Rattle.std.proofs.lemmas.Bool.Decides.{nat_tests}
 use Rattle.std.proofs.lemmas.List.Elements.{All-nil, All-cons, All-push}
 use Rattle.chorus_ui.specs.declared.ui.Ui.{Ui}
@@ -10,7 +10,7 @@ use Rattle.chorus_ui.specs.Kind.{same_kind}
 use Rattle.chorus_ui.specs.Name.{same_ui}
 use Rattle.chorus_ui.proofs.Names.{from_same_ui}
 use Rattle.chorus_ui.specs.Layout.{has_site, has_actor, place_at, site_of}
-use Rattle.chorus_ui.specs.declared.limits.TheConstants.{ACTORS_PER_SITE_LIMIT, GROUPS_PER_SITE_LIMIT, MEMBERS_LIMIT}
+use Rattle.chorus_ui.specs.declared.limits.TheConstants.{GROUPS_PER_SITE_LIMIT}
 use Rattle.chorus_entry.specs.declared.id.MsgId.{MsgId}
 use Rattle.chorus_entry.specs.declared.hand.Hand.{Hand}
 use Rattle.chorus_entry.specs.declared.tag.Tag.{Tag}
@@ -30,7 +30,7 @@ use Rattle.chorus_entry.specs.Kinds.{names_actor, names_port, names_group, has_k
 use Rattle.chorus_entry.specs.Command.{is_capacity, demands_a_site, meets_conditions, has_body_in_limit}
 use Rattle.chorus_entry.specs.Members.{is_member}
 use Rattle.chorus_entry.specs.Members.{without as without_member}
-use Rattle.chorus_entry.specs.Ranges.{is_place_number, has_range_of_id, has_range_of_tag, has_ranges_of_message, is_demanded_site, is_asked}
+use Rattle.chorus_entry.specs.Ranges.{is_place_number, has_range_of_tag, has_ranges_of_message, is_demanded_site, is_asked}
 use Rattle.chorus_world.specs.Places.{last_clock}
 use Rattle.chorus_world.specs.Groups.{members, members_after, groups_made}
 use Rattle.chorus_world.specs.Steps.{is_full_of_ports}
@@ -45,14 +45,14 @@ use Rattle.chorus_calls.specs.Callers.{Seated, with_client}
 use Rattle.chorus_hints.specs.Known.{learned}
 use Rattle.chorus_waits.specs.Queues.{changed, with_last}
 use Rattle.chorus_waits.specs.Unheard.{asked}
-use Rattle.chorus_machine.specs.PlaceState.{PlaceState, Turn, Change, greatest_clock, next_clock, unchanged, say, note}
+use Rattle.chorus_machine.specs.PlaceState.{Turn, next_clock, unchanged, say, note}
 use Rattle.chorus_machine.specs.Own.{own, next_port, make_act, group_act, next_group, join_act, leave_act, take_act, held_by, move_act, delete_act, next_message, call_act, retry_act, cancel_act, reply_act}
-use Rattle.chorus_machine.specs.Doing.{does, posts, posts_direct, posts_to_group, chooses_own, asks, choosing_place, poster, direct, post, takes, first_message, holding, ends, ends_call, departs, transfer_to, with_ports, with_caller}
+use Rattle.chorus_machine.specs.Doing.{does, posts, posts_to_group, chooses_own, asks, choosing_place, poster, direct, post, takes, first_message, holding, ends, departs, transfer_to}
 use Rattle.chorus_machine.specs.PlaceMachine.{act}
-use Rattle.chorus_bounds.specs.Bounds.{IsPortWithin, IsWaitWithin, AreMembersWithin, IsWithin, IsCallerWithin, IsTurnWithin}
-use Rattle.chorus_bounds.proofs.Ranges.{le-later, standing-within, message-from}
+use Rattle.chorus_bounds.specs.Bounds.{IsPortWithin, IsWaitWithin, AreMembersWithin, IsCallerWithin, IsTurnWithin}
+use Rattle.chorus_bounds.proofs.Ranges.{standing-within, message-from}
 use Rattle.chorus_bounds.proofs.Ports as ports
-use Rattle.chorus_bounds.proofs.Entries.{IsLoadWithin, Brings, clock-later, says, ports-still, known-still, still, notes, learned-within, waiting-changed}
+use Rattle.chorus_bounds.proofs.Entries.{IsLoadWithin, clock-later, says, ports-still, known-still, still, notes, learned-within, waiting-changed}
 use Rattle.chorus_bounds.proofs.Trying.{go-within}
 use Rattle.chorus_bounds.proofs.Groups.{left-within, joined-within, chooses-within}
 

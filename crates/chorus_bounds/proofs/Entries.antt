@@ -1,5 +1,5 @@
 -- One entry more: what it brings, and that all stays within the ranges.
-use Rattle.std.proofs.Common.{ℕ, ◌≡◌, ◌≤◌, ◌<◌, ◌+◌, max, nat_lt, Bool, true, false, ◌&&◌, cond, List, [], ◌∷◌, ◌++◌, map, length, Option, Some, None, IfSome, refl, sym, ◌∙◌, ap, subst, arith, All}
+use Rattle.std.proofs.Common.{ℕ, ◌≡◌, ◌≤◌, nat_lt, Bool, true, false, ◌&&◌, cond, List, [], ◌∷◌, map, Some, IfSome, refl, sym, subst, arith, All}
 use Rattle.std.proofs.lemmas.Bool.{and_from}
 use Rattle.std.proofs.lemmas.Option.{IfSome_then}
 use Rattle.std.proofs.lemmas.List.Elements.{All-nil, All-cons, All-head, All-tail, All-append, All-weaker}
@@ -8,17 +8,15 @@ use Rattle.chorus_ui.specs.declared.ui.Ui.{Ui}
 use Rattle.chorus_ui.specs.Name.{same_ui}
 use Rattle.chorus_entry.specs.declared.act.Act.{Act}
 use Rattle.chorus_entry.specs.declared.packet.Cargo.{Cargo}
-use Rattle.chorus_entry.specs.declared.record.PortRecord.{PortRecord}
 use Rattle.chorus_entry.specs.Ranges.{is_place_number, has_ranges_of_cargo}
 use Rattle.chorus_world.specs.Places.{last_clock}
 use Rattle.chorus_world.specs.Groups.{members, members_after}
 use Rattle.chorus_waits.specs.declared.wait.Key.{Key}
-use Rattle.chorus_waits.specs.declared.wait.Wait.{Wait}
 use Rattle.chorus_waits.specs.Queues.{Queue, changed, same_key}
-use Rattle.chorus_machine.specs.PlaceState.{PlaceState, Outgoing, Turn, Change, unchanged, greatest_clock, next_clock, packed, say, note}
+use Rattle.chorus_machine.specs.PlaceState.{Outgoing, Turn, Change, unchanged, greatest_clock, next_clock, packed, say, note}
 use Rattle.chorus_machine.proofs.Machine.Keys.{same_key-is}
 use Rattle.chorus_hints.specs.Known.{Pairs, learned, hop_of}
-use Rattle.chorus_bounds.specs.Bounds.{IsPortWithin, IsPairWithin, IsWaitWithin, AreMembersWithin, IsWithin, HasRanges, IsTurnWithin}
+use Rattle.chorus_bounds.specs.Bounds.{IsPortWithin, IsPairWithin, IsWaitWithin, AreMembersWithin, HasRanges, IsTurnWithin}
 use Rattle.chorus_bounds.proofs.Ports as ports
 
 -- the cargo may go with this clock

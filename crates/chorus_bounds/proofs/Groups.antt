@@ -1,10 +1,9 @@
 -- The members of groups, and the copies that wait for those that a post chooses.
-use Rattle.std.proofs.Common.{ℕ, zero, suc, ◌≡◌, ◌≤◌, ◌<◌, ◌+◌, nat_le, Bool, true, false, ◌&&◌, cond, List, [], ◌∷◌, ◌++◌, take, drop, remove, length, length-append, Option, Some, None, refl, sym, ◌∙◌, ap, subst, arith, All}
+use Rattle.std.proofs.Common.{ℕ, zero, suc, ◌≡◌, ◌≤◌, ◌<◌, ◌+◌, nat_le, Bool, true, false, cond, List, [], ◌∷◌, ◌++◌, take, drop, remove, length, length-append, Some, refl, arith, All}
 use Rattle.std.specs.Prelude.{find}
 use Rattle.std.proofs.lemmas.Bool.{and_from, le-leb}
 use Rattle.std.proofs.lemmas.List.Elements.{All-nil, All-cons, All-head, All-tail, All-append, All-take, All-drop, All-push}
 use Rattle.chorus_ui.specs.declared.ui.Ui.{Ui}
-use Rattle.chorus_ui.specs.Name.{same_ui}
 use Rattle.chorus_entry.specs.declared.entry.Entry.{Entry}
 use Rattle.chorus_entry.specs.declared.act.Act.{Act}
 use Rattle.chorus_entry.specs.declared.answer.Answer.TheVariants as A
@@ -18,12 +17,12 @@ use Rattle.chorus_entry.specs.Ranges.{has_ranges_of_message, is_demanded_site}
 use Rattle.chorus_world.specs.Groups.{members, rotation, in_turn}
 use Rattle.chorus_waits.specs.declared.wait.Key.{Key}
 use Rattle.chorus_waits.specs.Queues.{Queue, changed, with_last}
-use Rattle.chorus_machine.specs.PlaceState.{PlaceState, Turn, unchanged, next_clock, say}
+use Rattle.chorus_machine.specs.PlaceState.{PlaceState, Turn, unchanged, next_clock}
 use Rattle.chorus_machine.specs.Trying.{report, go}
-use Rattle.chorus_machine.specs.Choosing.{is_at_site, choice, by_group, copy, with_copies, all_go, finds_no_member, chooses_all, chooses_these, chooses}
+use Rattle.chorus_machine.specs.Choosing.{is_at_site, choice, by_group, copy, with_copies, all_go, chooses_all, chooses_these, chooses}
 use Rattle.chorus_bounds.specs.Bounds.{IsWaitWithin, AreMembersWithin, IsWithin, IsTurnWithin}
 use Rattle.chorus_bounds.proofs.Ranges.{message-parts, copy-within}
-use Rattle.chorus_bounds.proofs.Entries.{Brings, IsMute, says, ports-still, known-still, waiting-changed, IsLoadWithin}
+use Rattle.chorus_bounds.proofs.Entries.{says, ports-still, known-still, waiting-changed}
 use Rattle.chorus_bounds.proofs.Trying.{report-within, go-within}
 
 abbrev IsPort : Ui → Type 0

@@ -1,7 +1,7 @@
 -- A turn with a packet.
-use Rattle.std.proofs.Common.{ℕ, ◌≡◌, ◌≤◌, ◌<◌, ◌+◌, ◌==◌, nat_le, Bool, true, false, ◌&&◌, ◌||◌, not, cond, List, [], ◌∷◌, ◌++◌, length, Option, Some, None, IfSome, is_none, refl, sym, ◌∙◌, ap, subst, arith, leb-true, All}
-use Rattle.std.proofs.lemmas.Bool.{and_parts, and_from, le-leb, false≢true}
-use Rattle.std.proofs.lemmas.List.Elements.{All-nil, All-cons, All-head, All-drop, All-push}
+use Rattle.std.proofs.Common.{ℕ, ◌≡◌, ◌≤◌, ◌+◌, ◌==◌, nat_le, true, ◌&&◌, ◌||◌, not, List, [], ◌∷◌, ◌++◌, length, Option, IfSome, is_none, refl, arith, leb-true, All}
+use Rattle.std.proofs.lemmas.Bool.{and_parts, and_from}
+use Rattle.std.proofs.lemmas.List.Elements.{All-nil, All-cons, All-drop, All-push}
 use Rattle.chorus_ui.specs.declared.ui.Ui.{Ui}
 use Rattle.chorus_ui.specs.Layout.{has_place, can_make_port, place_at, site_of, has_actor, creation_place}
 use Rattle.chorus_entry.specs.declared.id.MsgId.{MsgId}
@@ -15,25 +15,24 @@ use Rattle.chorus_entry.specs.declared.packet.Packet.{Packet}
 use Rattle.chorus_entry.specs.declared.packet.Cargo.{Cargo}
 use Rattle.chorus_entry.specs.declared.packet.Cargo.TheVariants as cargos
 use Rattle.chorus_entry.specs.declared.record.PortRecord.{PortRecord}
-use Rattle.chorus_entry.specs.Answer.{is_final}
 use Rattle.chorus_entry.specs.Kinds.{names_port, names_group}
-use Rattle.chorus_entry.specs.Ranges.{is_place_number, is_site_number, has_range_of_id, has_ranges_of_message, is_route, is_demanded_site, has_ranges_of_answer, is_told, is_reported, has_ranges_of_record, is_asked, has_ranges_of_cargo, has_ranges}
-use Rattle.chorus_world.specs.Places.{last_clock, taught, is_made_here}
+use Rattle.chorus_entry.specs.Ranges.{is_place_number, is_site_number, has_range_of_id, has_ranges_of_message, is_route, is_demanded_site, has_ranges_of_answer, is_told, has_ranges_of_record, is_asked, has_ranges_of_cargo, has_ranges}
+use Rattle.chorus_world.specs.Places.{taught, is_made_here}
 use Rattle.chorus_ports.specs.Table.{find}
-use Rattle.chorus_hints.specs.Known.{Pairs, learned}
+use Rattle.chorus_hints.specs.Known.{learned}
 use Rattle.chorus_waits.specs.declared.wait.Key.{Key}
 use Rattle.chorus_waits.specs.declared.wait.Wait.{Wait}
-use Rattle.chorus_waits.specs.Queues.{Queue, changed, passed, at}
+use Rattle.chorus_waits.specs.Queues.{changed}
 use Rattle.chorus_waits.specs.Unheard.{heard}
-use Rattle.chorus_machine.specs.PlaceState.{PlaceState, Turn, greatest_clock, next_clock, unchanged, say}
+use Rattle.chorus_machine.specs.PlaceState.{Turn, greatest_clock, next_clock, unchanged, say}
 use Rattle.chorus_machine.specs.Deciding.{decide, decision, records_after}
 use Rattle.chorus_machine.specs.Working.{answers_try, taught_of, told, report_of, hears_verdict, receives_port, answers_ask, hears, opens}
-use Rattle.chorus_machine.specs.Lawful.{may_receive, is_lawful_cargo, is_lawful}
+use Rattle.chorus_machine.specs.Lawful.{is_lawful_cargo, is_lawful}
 use Rattle.chorus_machine.specs.PlaceMachine.{work}
 use Rattle.chorus_bounds.specs.Bounds.{IsPortWithin, IsPairWithin, IsWaitWithin, IsTurnWithin}
 use Rattle.chorus_bounds.proofs.Ranges.{answer-later, message-parts}
 use Rattle.chorus_bounds.proofs.Ports as ports
-use Rattle.chorus_bounds.proofs.Entries.{IsLoadWithin, Brings, clock-later, says, ports-still, known-still, members-still, learned-within, waiting-changed}
+use Rattle.chorus_bounds.proofs.Entries.{IsLoadWithin, clock-later, says, ports-still, known-still, members-still, learned-within, waiting-changed}
 use Rattle.chorus_bounds.proofs.Trying.{IsDecided, decided, decision-mute, report-within, go-within}
 use Rattle.chorus_bounds.proofs.Groups.{chooses-within}
 

@@ -1,7 +1,7 @@
 -- The records of ports stay within their ranges.
-use Rattle.std.proofs.Common.{ℕ, ◌≡◌, ◌≤◌, ◌<◌, ◌+◌, ◌==◌, nat_le, max, Bool, true, false, ◌&&◌, not, cond, if◌then◌else◌, List, [], ◌∷◌, ◌++◌, map, length, length-append, Option, Some, None, is_some, refl, sym, ◌∙◌, ap, subst, arith, leb-true, All}
+use Rattle.std.proofs.Common.{ℕ, ◌≡◌, ◌≤◌, ◌+◌, ◌==◌, nat_le, max, Bool, true, false, ◌&&◌, not, cond, if◌then◌else◌, List, [], ◌∷◌, ◌++◌, length, length-append, Option, Some, None, is_some, refl, sym, ◌∙◌, ap, subst, arith, leb-true, All}
 use Rattle.std.specs.List.{list_all}
-use Rattle.std.proofs.lemmas.Bool.{and_parts, and_from, le-leb, eqb-true, false≢true}
+use Rattle.std.proofs.lemmas.Bool.{and_parts, and_from, le-leb}
 use Rattle.std.proofs.lemmas.Bool.Decides.{nat_tests}
 use Rattle.std.proofs.lemmas.List.Elements.{All-nil, All-cons, All-head, All-tail}
 use Rattle.chorus_ui.specs.declared.ui.Ui.{Ui}
@@ -15,7 +15,7 @@ use Rattle.chorus_entry.specs.Kinds.{names_port, names_actor}
 use Rattle.chorus_entry.specs.Command.{is_capacity}
 use Rattle.chorus_entry.specs.Clients.{is_one_too_many, raised, with_client, remembered}
 use Rattle.chorus_entry.specs.ClientTable.{number_of, are_distinct, renumbered, with_number}
-use Rattle.chorus_entry.specs.Ranges.{is_from, has_range_of_tag, has_ranges_of_message, has_range_of_client, has_ranges_of_clients, has_ranges_of_record}
+use Rattle.chorus_entry.specs.Ranges.{is_from, has_range_of_tag, has_ranges_of_message, has_range_of_client, has_ranges_of_clients}
 use Rattle.chorus_entry.proofs.Clients.{length-with_client}
 use Rattle.chorus_entry.proofs.ClientTables.{are_distinct-snoc, are_distinct-with_number}
 use Rattle.chorus_ports.specs.Table.{find, replace, without}
@@ -23,7 +23,7 @@ use Rattle.chorus_ports.specs.Deciding.{is_full, enqueued}
 use Rattle.chorus_ports.specs.Taking.{passed, after_take, rehomed}
 use Rattle.chorus_ports.specs.History.{migrated}
 use Rattle.chorus_bounds.specs.Bounds.{IsPortWithin}
-use Rattle.chorus_bounds.proofs.Ranges.{all-append, le-later, MessageParts, message-parts}
+use Rattle.chorus_bounds.proofs.Ranges.{all-append, le-later, message-parts}
 
 -- The parts of a record's range.
 pub record Parts (clock : ℕ) (r : PortRecord) : Type 0 where

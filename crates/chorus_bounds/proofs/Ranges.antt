@@ -1,7 +1,7 @@
 -- The parts of a range, and a later clock.
-use Rattle.std.proofs.Common.{ℕ, zero, suc, ◌≡◌, ◌≢◌, ◌≤◌, ◌<◌, ◌+◌, ◌-◌, ◌*◌, ◌%◌, nat_le, Bool, true, false, ◌&&◌, List, [], ◌∷◌, ◌++◌, length, Option, Some, None, IfSome, refl, sym, ◌∙◌, ap, arith, leb-true}
+use Rattle.std.proofs.Common.{ℕ, zero, suc, ◌≡◌, ◌≤◌, ◌<◌, ◌+◌, ◌-◌, ◌*◌, ◌%◌, nat_le, Bool, true, ◌&&◌, List, ◌++◌, length, ◌∙◌, arith, leb-true}
 use Rattle.std.specs.List.{list_all}
-use Rattle.std.proofs.lemmas.Bool.{and_parts, and_from, le-leb, false≢true}
+use Rattle.std.proofs.lemmas.Bool.{and_parts, and_from, le-leb}
 use Rattle.std.proofs.lemmas.List.Folds.{list_all-append}
 use Rattle.std.proofs.Math.Nat.{mod-lt}
 use Rattle.chorus_ui.specs.declared.ui.Ui.{Ui}
@@ -10,11 +10,10 @@ use Rattle.chorus_ui.specs.Layout as layout
 use Rattle.chorus_ui.specs.Layout.{IsLayout, has_site, has_place, place_at}
 use Rattle.chorus_entry.specs.declared.answer.Answer.{Answer}
 use Rattle.chorus_entry.specs.declared.answer.Answer.TheVariants as A
-use Rattle.chorus_entry.specs.declared.id.MsgId.{MsgId}
 use Rattle.chorus_entry.specs.declared.message.Message.{Message}
 use Rattle.chorus_entry.specs.Message.{as_copy}
 use Rattle.chorus_entry.specs.Kinds.{has_kinds_in_tag}
-use Rattle.chorus_entry.specs.Ranges.{is_from, is_place_number, has_range_of_id, has_range_of_tag, has_ranges_of_message, has_ranges_of_answer}
+use Rattle.chorus_entry.specs.Ranges.{is_place_number, has_range_of_id, has_range_of_tag, has_ranges_of_message, has_ranges_of_answer}
 
 -- what passes in a list passes behind another
 pub all-append : {X : Type 0} (p : X → Bool) (xs ys : List X) → list_all p xs ≡ true → list_all p ys ≡ true → list_all p (xs ++ ys) ≡ true

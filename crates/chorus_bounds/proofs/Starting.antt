@@ -1,5 +1,5 @@
 -- A place on which nothing happened yet.
-use Rattle.std.proofs.Common.{ℕ, ◌≡◌, true, [], arith}
+use Rattle.std.proofs.Common.{ℕ, ◌≡◌, true, arith}
 use Rattle.std.proofs.lemmas.List.Elements.{All-nil}
 use Rattle.chorus_ui.specs.declared.ui.Ui.{Ui}
 use Rattle.chorus_ui.specs.declared.layout.Layout.{Layout}

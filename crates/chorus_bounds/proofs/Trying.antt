@@ -1,10 +1,9 @@
 -- Deciding on messages, and trying those that wait.
-use Rattle.std.proofs.Common.{ℕ, ◌≡◌, ◌≤◌, ◌<◌, ◌+◌, ◌==◌, nat_le, nat_lt, Bool, true, false, ◌&&◌, not, cond, if◌then◌else◌, List, [], ◌∷◌, ◌++◌, drop, length, Option, Some, None, IfSome, refl, sym, ◌∙◌, ap, subst, arith, leb-true, ltb-true, All}
-use Rattle.std.proofs.lemmas.Bool.{and_parts, and_from, le-leb, eqb-true, false≢true, not-true}
-use Rattle.std.proofs.lemmas.List.Elements.{All-nil, All-cons, All-head, All-tail, All-drop, All-push, All-weaker}
+use Rattle.std.proofs.Common.{ℕ, ◌≡◌, ◌≤◌, ◌<◌, ◌+◌, ◌==◌, nat_le, nat_lt, Bool, true, false, ◌&&◌, not, cond, if◌then◌else◌, List, [], ◌∷◌, length, Option, Some, None, IfSome, refl, sym, ◌∙◌, ap, subst, arith, ltb-true, All}
+use Rattle.std.proofs.lemmas.Bool.{and_from, le-leb, eqb-true}
+use Rattle.std.proofs.lemmas.List.Elements.{All-nil, All-cons, All-head, All-tail, All-drop, All-weaker}
 use Rattle.chorus_ui.specs.declared.ui.Ui.{Ui}
-use Rattle.chorus_ui.specs.declared.layout.Layout.{Layout}
-use Rattle.chorus_ui.specs.Layout.{IsLayout, has_site, creation_place}
+use Rattle.chorus_ui.specs.Layout.{has_site, creation_place}
 use Rattle.chorus_entry.specs.declared.id.MsgId.{MsgId}
 use Rattle.chorus_entry.specs.declared.message.Message.{Message}
 use Rattle.chorus_entry.specs.declared.act.Act.{Act}
@@ -15,25 +14,23 @@ use Rattle.chorus_entry.specs.declared.record.PortRecord.{PortRecord}
 use Rattle.chorus_entry.specs.Answer.{is_final}
 use Rattle.chorus_entry.specs.Clients.{is_repeated, is_one_too_many}
 use Rattle.chorus_entry.specs.Kinds.{names_port}
-use Rattle.chorus_entry.specs.Ranges.{is_from, is_place_number, has_range_of_id, has_ranges_of_message, is_route, is_demanded_site, has_ranges_of_answer, is_told, has_ranges_of_cargo}
+use Rattle.chorus_entry.specs.Ranges.{is_from, is_place_number, has_range_of_id, has_ranges_of_message, is_route, is_demanded_site, has_ranges_of_answer, is_told}
 use Rattle.chorus_world.specs.declared.place.Location.{Location}
 use Rattle.chorus_world.specs.Places.{last_clock, is_deleted}
 use Rattle.chorus_world.specs.Posts.{is_on_site}
-use Rattle.chorus_world.specs.Steps.{is_beyond}
-use Rattle.chorus_world.specs.Groups.{members, members_after}
 use Rattle.chorus_ports.specs.declared.deciding.Accept.TheVariants as accepts
 use Rattle.chorus_ports.specs.Deciding.{is_full, answer_to, enqueued}
-use Rattle.chorus_ports.specs.Table.{find, replace}
+use Rattle.chorus_ports.specs.Table.{find}
 use Rattle.chorus_waits.specs.declared.wait.Key.{Key}
 use Rattle.chorus_waits.specs.declared.wait.Wait.{Wait}
 use Rattle.chorus_waits.specs.Queues.{changed, passed, at}
-use Rattle.chorus_machine.specs.PlaceState.{PlaceState, Turn, Change, location, newest, unchanged, greatest_clock, next_clock, say}
+use Rattle.chorus_machine.specs.PlaceState.{PlaceState, Turn, location, newest, unchanged, greatest_clock, next_clock}
 use Rattle.chorus_machine.specs.Deciding.{answer_in, answer_moved, answer_away, answer_of, decide, decision, records_after}
 use Rattle.chorus_machine.specs.Trying.{report, settles_here, tries_at, verdict_here, tries, goes_on, goes_unless, go}
 use Rattle.chorus_bounds.specs.Bounds.{IsPortWithin, IsPairWithin, IsWaitWithin, IsWithin, IsTurnWithin}
-use Rattle.chorus_bounds.proofs.Ranges.{answer-later, standing-within, MessageParts, message-parts}
+use Rattle.chorus_bounds.proofs.Ranges.{answer-later, standing-within, message-parts}
 use Rattle.chorus_bounds.proofs.Ports as ports
-use Rattle.chorus_bounds.proofs.Entries.{IsLoadWithin, Brings, IsMute, clock-later, says, ports-still, known-still, members-still, waiting-changed}
+use Rattle.chorus_bounds.proofs.Entries.{IsLoadWithin, IsMute, clock-later, says, ports-still, known-still, members-still, waiting-changed}
 
 -- Locations.
 
