@@ -1,21 +1,29 @@
 -- What waits to go, and what a place keeps, is within the ranges of packets.
-use Rattle.std.proofs.Common.{◌≡◌, ◌+◌, ℕ, zero, suc, true, List, [], ◌∷◌, ◌++◌, drop, replicate, slice_get, Option, Some, None, IfSome, refl, sym, ◌∙◌, ap, subst, All}
+use Rattle.std.proofs.Common.{◌≡◌, ◌+◌, max, arith, ℕ, zero, suc, true, List, [], ◌∷◌, ◌++◌, drop, replicate, slice_get, Option, Some, None, IfSome, refl, sym, ◌∙◌, ap, subst, All}
 use Rattle.std.proofs.lemmas.List.Elements.{All-nil, All-cons, All-head, All-tail, All-set, All-push, All-drop}
 use Rattle.chorus_entry.specs.declared.command.Command.{Command}
 use Rattle.chorus_entry.specs.declared.packet.Packet.{Packet}
 use Rattle.chorus_entry.specs.Ranges.{has_ranges}
 use Rattle.chorus_ui.specs.declared.layout.Layout.{Layout}
 use Rattle.chorus_ui.specs.Layout.{IsLayout, has_place}
-use Rattle.chorus_calls.specs.Callers.{Seated}
+use Rattle.chorus_entry.specs.Command.{meets_conditions, has_body_in_limit}
+use Rattle.chorus_calls.specs.Callers.{Seated, after_tick}
 use Rattle.chorus_out.specs.Waiting.{Waiting, nothing_to, list_to, with_last, with_first, without_first}
 use Rattle.chorus_machine.specs.PlaceState.{Turn, Outgoing, started}
-use Rattle.chorus_machine.specs.PlaceMachine.{begun}
-use Rattle.chorus_bounds.specs.Bounds.{IsWithin, HasRanges, IsTurnWithin, AreWaitingWithin}
+use Rattle.chorus_machine.specs.PlaceMachine.{begun, begun_by, act, work}
+use Rattle.chorus_machine.specs.Lawful.{is_lawful}
+use Rattle.chorus_bounds.specs.Bounds.{IsWithin, IsCallerWithin, HasRanges, IsTurnWithin, AreWaitingWithin}
 use Rattle.chorus_bounds.proofs.Starting.{start-within}
+use Rattle.chorus_bounds.proofs.Commands.{act-within}
+use Rattle.chorus_bounds.proofs.Packets.{work-within}
+use Rattle.chorus_hints.specs.Known.{kept}
+use Rattle.chorus_waits.specs.Queues.{queue}
+use Rattle.chorus_waits.specs.Unheard.{is_unheard}
+use Rattle.chorus_steps.specs.Room.{Roomier}
 use Rattle.chorus_steps.specs.Tables.{Tables, state, turn, outgoing}
 use Rattle.chorus_place.specs.Commands.{StaysOut}
 use Rattle.chorus_place.specs.Calls.{IsAtRest, with_all}
-use Rattle.chorus_place.proofs.Ended.{Sent, still-none, sends}
+use Rattle.chorus_place.proofs.Ended.{Sent, begins, still-none, sends}
 
 -- What waits.
 
@@ -70,6 +78,32 @@ pub still-at-rest : (old new : Tables) → IsAtRest old → new.puts ≡ [] → 
 still-at-rest old new h none same waits =
     record { none = none; within = subst IsWithin (sym same) h.within; waits = subst AreWaitingWithin (sym waits) h.waits }
 
+-- room was taken
+pub room-at-rest : (old new : Tables) → IsAtRest old → Roomier old new → IsAtRest new
+room-at-rest old new h r = still-at-rest old new h (r.puts ∙ h.none) same r.lists
+  where
+    same : state new ≡ state old
+    same = λ i. record {
+      layout = r.layout i;
+      number = r.number i;
+      journal = r.past i;
+      ports = (r.ports i).records;
+      known = kept (r.known i);
+      waiting = queue (r.waits i);
+      unheard = is_unheard (r.unheard i);
+    }
+
+-- a packet was taken out
+pub out-at-rest : (p : ℕ) (old new : Tables) → IsAtRest old → new.puts ≡ old.puts → state new ≡ state old → new.out.lists ≡ without_first p old.out.lists → IsAtRest new
+out-at-rest p old new h puts same waits =
+    record { none = puts ∙ h.none; within = subst IsWithin (sym same) h.within; waits = subst AreWaitingWithin (sym waits) (rest-within p old.out.lists h.waits) }
+
+-- one was put back
+pub back-at-rest : (p : ℕ) (packet : Packet) (old new : Tables) → HasRanges packet → IsAtRest old → new.puts ≡ old.puts → state new ≡ state old
+    → new.out.lists ≡ with_first p packet old.out.lists → IsAtRest new
+back-at-rest p packet old new k h puts same waits =
+    record { none = puts ∙ h.none; within = subst IsWithin (sym same) h.within; waits = subst AreWaitingWithin (sym waits) (first-within p packet old.out.lists k h.waits) }
+
 -- a turn was refused
 pub refused-at-rest : (old new : Tables) (before after : Seated) → IsAtRest old → turn new after ≡ turn old before → StaysOut old.out new.out → IsAtRest new
 refused-at-rest old new before after h same out =
@@ -85,3 +119,18 @@ ends-at-rest t old mid new after h done out sent none w =
           subst AreWaitingWithin (sym (sent.lists ∙ sends mid.puts mid.out.lists ∙ ap (λ (os : List Outgoing). with_all os mid.out.lists) (ap (λ u. u.puts) done) ∙ ap (λ ls. with_all t.puts ls) out.lists))
           (all-within t.puts old.out.lists w.puts h.waits);
     }
+
+-- a turn with a command
+pub acts-at-rest : (c : Command) (old mid new : Tables) (before after : Seated) → IsAtRest old → turn mid after ≡ act c (turn old before) → StaysOut old.out mid.out → Sent mid new → new.puts ≡ []
+    → meets_conditions c ≡ true → has_body_in_limit c ≡ true → IsCallerWithin before → IsAtRest new
+acts-at-rest c old mid new before after h done out sent none may body within =
+    ends-at-rest (act c (begun (state old) before)) old mid new after h (done ∙ ap (act c) (begins old before h.none)) out sent none
+    (act-within c (begun (state old) before) may body within (begins-within old before h))
+
+-- a turn with a packet, which raises the caller's clock before
+pub works-at-rest : (k : Packet) (old mid new : Tables) (before raised after : Seated) → IsAtRest old → raised ≡ after_tick before (max before.last k.clock) → turn mid after ≡ work k (turn old raised)
+    → StaysOut old.out mid.out → Sent mid new → new.puts ≡ [] → is_lawful k.from k (state old) ≡ true → IsAtRest new
+works-at-rest k old mid new before raised after h ticked done out sent none lawful =
+    let same = begins old raised h.none ∙ ap (begun (state old)) ticked in
+    ends-at-rest (work k (begun_by (state old) before k)) old mid new after h (done ∙ ap (work k) same) out sent none
+    (work-within k (begun_by (state old) before k) lawful (omega arith) (begins-within old (after_tick before (max before.last k.clock)) h))

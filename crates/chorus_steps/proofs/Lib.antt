@@ -13,4 +13,3 @@ pub mod Rooms
 pub mod Groups
 pub mod Choosing
 pub mod Counted
-mod Lawful

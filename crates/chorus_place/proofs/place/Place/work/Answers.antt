@@ -13,7 +13,7 @@ returns-in-Ok-clause-worked c =
     let packet = c.args.packet in
     let sent = c.send_out.ensures in
     let heard = c.max-heard.ensures ∙ ap (λ n. max n packet.clock) c.last-last.ensures in
-    let done = c.in-Ok.ensures.ok ∙ ap (work packet) (begins p c.tick.new.self c.self.invariant ∙ ap (begun (state p)) (c.tick.ensures ∙ ap (after_tick caller) heard)) in
+    let done = c.in-Ok.ensures.ok ∙ ap (work packet) (begins p c.tick.new.self c.self.invariant.none ∙ ap (begun (state p)) (c.tick.ensures ∙ ap (after_tick caller) heard)) in
     subst (λ q. calls.Ended (work packet (begun_by (calls.state q) caller packet)) q (calls.place_of c.send_out.new.self) c.open.new.caller) c.self.view_is
-    (ended (work packet (begun_by (state p) caller packet)) p c.open.new.tables c.send_out.new.self c.open.new.caller c.self.invariant done c.open.ensures.out c.open.ensures.kept
+    (ended (work packet (begun_by (state p) caller packet)) p c.open.new.tables c.send_out.new.self c.open.new.caller c.self.invariant.none done c.open.ensures.out c.open.ensures.kept
     (record { state = sent.state; lists = sent.lists; spare = ap (λ j. j.spare) sent.journal; room = sent.room }))
