@@ -1,14 +1,13 @@
 -- What waits to go, and what a place keeps, is within the ranges of packets.
-use Rattle.std.proofs.Common.{◌≡◌, ◌+◌, max, arith, ℕ, zero, suc, true, List, [], ◌∷◌, ◌++◌, drop, replicate, slice_get, Option, Some, None, IfSome, refl, sym, ◌∙◌, ap, subst, All}
+use Rattle.std.proofs.Common.{◌≡◌, ◌+◌, max, arith, ℕ, zero, suc, true, List, [], ◌∷◌, ◌++◌, drop, replicate, slice_get, IfSome, sym, ◌∙◌, ap, subst, All}
 use Rattle.std.proofs.lemmas.List.Elements.{All-nil, All-cons, All-head, All-tail, All-set, All-push, All-drop}
 use Rattle.chorus_entry.specs.declared.command.Command.{Command}
 use Rattle.chorus_entry.specs.declared.packet.Packet.{Packet}
-use Rattle.chorus_entry.specs.Ranges.{has_ranges}
 use Rattle.chorus_ui.specs.declared.layout.Layout.{Layout}
 use Rattle.chorus_ui.specs.Layout.{IsLayout, has_place}
 use Rattle.chorus_entry.specs.Command.{meets_conditions, has_body_in_limit}
 use Rattle.chorus_calls.specs.Callers.{Seated, after_tick}
-use Rattle.chorus_out.specs.Waiting.{Waiting, nothing_to, list_to, with_last, with_first, without_first}
+use Rattle.chorus_out.specs.Waiting.{nothing_to, list_to, with_last, with_first, without_first}
 use Rattle.chorus_machine.specs.PlaceState.{Turn, Outgoing, started}
 use Rattle.chorus_machine.specs.PlaceMachine.{begun, begun_by, act, work}
 use Rattle.chorus_machine.specs.Lawful.{is_lawful}
@@ -16,11 +15,7 @@ use Rattle.chorus_bounds.specs.Bounds.{IsWithin, IsCallerWithin, HasRanges, IsTu
 use Rattle.chorus_bounds.proofs.Starting.{start-within}
 use Rattle.chorus_bounds.proofs.Commands.{act-within}
 use Rattle.chorus_bounds.proofs.Packets.{work-within}
-use Rattle.chorus_hints.specs.Known.{kept}
-use Rattle.chorus_waits.specs.Queues.{queue}
-use Rattle.chorus_waits.specs.Unheard.{is_unheard}
-use Rattle.chorus_steps.specs.Room.{Roomier}
-use Rattle.chorus_steps.specs.Tables.{Tables, state, turn, outgoing}
+use Rattle.chorus_steps.specs.Tables.{Tables, state, turn}
 use Rattle.chorus_place.specs.Commands.{StaysOut}
 use Rattle.chorus_place.specs.Calls.{IsAtRest, with_all}
 use Rattle.chorus_place.proofs.Ended.{Sent, begins, still-none, sends}
@@ -77,21 +72,6 @@ begins-within p c h = record { place = h.within; puts = All-nil (λ (o : Outgoin
 pub still-at-rest : (old new : Tables) → IsAtRest old → new.puts ≡ [] → state new ≡ state old → new.out.lists ≡ old.out.lists → IsAtRest new
 still-at-rest old new h none same waits =
     record { none = none; within = subst IsWithin (sym same) h.within; waits = subst AreWaitingWithin (sym waits) h.waits }
-
--- room was taken
-pub room-at-rest : (old new : Tables) → IsAtRest old → Roomier old new → IsAtRest new
-room-at-rest old new h r = still-at-rest old new h (r.puts ∙ h.none) same r.lists
-  where
-    same : state new ≡ state old
-    same = λ i. record {
-      layout = r.layout i;
-      number = r.number i;
-      journal = r.past i;
-      ports = (r.ports i).records;
-      known = kept (r.known i);
-      waiting = queue (r.waits i);
-      unheard = is_unheard (r.unheard i);
-    }
 
 -- a packet was taken out
 pub out-at-rest : (p : ℕ) (old new : Tables) → IsAtRest old → new.puts ≡ old.puts → state new ≡ state old → new.out.lists ≡ without_first p old.out.lists → IsAtRest new

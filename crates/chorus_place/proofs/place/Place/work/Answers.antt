@@ -1,10 +1,22 @@
 use Rattle.std.proofs.Common.{ap, subst, max, ◌∙◌}
+use Rattle.chorus_machine.specs.Lawful.{is_lawful}
 use Rattle.chorus_machine.specs.PlaceMachine.{work, begun, begun_by}
 use Rattle.chorus_calls.specs.Callers.{after_tick}
 use Rattle.chorus_steps.specs.Tables.{state}
 use Rattle.chorus_place.specs.Calls as calls
 use Rattle.chorus_place.proofs.Ended.{begins, ended}
+use Rattle.chorus_place.proofs.Bounded.{works-at-rest}
 use Rattle.chorus_place.proofs.place.Place.work.Goals as goal
+
+pub invariant_of-self : goal.invariant_of-self
+invariant_of-self c =
+    let caller = c.args.caller.now in
+    let packet = c.args.packet in
+    let sent = c.send_out.ensures in
+    let heard = c.max-heard.ensures ∙ ap (λ n. max n packet.clock) c.last-last.ensures in
+    works-at-rest packet c.self.inside.tables c.open.new.tables c.send_out.new.self caller c.tick.new.self c.open.new.caller c.self.invariant (c.tick.ensures ∙ ap (after_tick caller) heard) c.in-Ok.ensures.ok c.open.ensures.out
+    (record { state = sent.state; lists = sent.lists; spare = ap (λ j. j.spare) sent.journal; room = sent.room }) sent.none
+    (ap (λ q. is_lawful packet.from packet (calls.state q)) c.self.view_is ∙ c.requires)
 
 pub returns-in-Ok-clause-worked : goal.returns-in-Ok-clause-worked
 returns-in-Ok-clause-worked c =
