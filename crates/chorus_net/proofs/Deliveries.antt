@@ -31,6 +31,11 @@ use Rattle.chorus_net.proofs.Changes.{place-of, are-set, finds, replaces, still,
 use Rattle.chorus_net.proofs.Events.{next-event, next-between, are-put, turned-are, turned-places, turned-packets, stayed-are, stayed-boxes}
 use Rattle.chorus_net.proofs.Puts.{work-from, work-ticks}
 
+-- one of two places is as it was set, where the other one was set behind it
+pub set-apart : (ps : List Place) (a b i j : ℕ) (p q d : Place) → a ≡ 1 + i → b ≡ 1 + j → i < length ps → a ≢ b → get_or (set (set ps i p) j q) i d ≡ p
+set-apart ps a b i j p q d from to lt apart =
+    get_or-set_other (set ps i p) j i q d (λ e. apart (let f : a ≡ b = omega (arith, from, to, e) in f)) ∙ get_or-set_same ps i p d lt
+
 none-without : (b : ℕ) (ls : List (List Packet)) → slice_get (list_to b ls) 0 ≡ None → without_first b ls ≡ ls
 none-without b [] h = refl
 none-without zero ([] ∷ ls) h = refl
@@ -209,8 +214,7 @@ module _ (s : SitesState) (a b i j : ℕ) (x : Seated) (p p' : Place) (h : IsSit
     module _ (q p2 r2 : Place) (y : Seated) (stays : Stays r q) (same : y ≡ x) (here : x ≡ get_or s.callers 0 x) (at2 : p2 ≡ get_or (set (set s.places i p') j q) i p2)
         (st2 : state r2 ≡ state p2) (back : r2.out.lists ≡ with_first b k p2.out.lists) where
       p2-is : p2 ≡ p'
-      p2-is =
-          at2 ∙ get_or-set_other (set s.places i p') j i q p2 (λ e. apart (let f : a ≡ b = omega (arith, from, to, e) in f)) ∙ get_or-set_same s.places i p' p2 lt
+      p2-is = at2 ∙ set-apart s.places a b i j p' q p2 from to lt apart
 
       lt2 : i < length (set (set s.places i p') j q)
       lt2 = let m = length-set (set s.places i p') j q in let n = length-set s.places i p' in omega (arith, m, n, lt)

@@ -2,7 +2,7 @@ use Rattle.std.proofs.Common.{◌≡◌, ◌≢◌, ◌+◌, ◌-◌, ◌<◌, �
 use Rattle.std.proofs.lemmas.Option.{slice_get_read}
 use Rattle.chorus_ui.specs.declared.limits.TheConstants.{CLOCK_LIMIT}
 use Rattle.chorus_ui.specs.Layout.{has_place}
-use Rattle.chorus_out.specs.Waiting.{list_to, with_first}
+use Rattle.chorus_out.specs.Waiting.{list_to, with_first, MayPutBack}
 use Rattle.chorus_machine.specs.PlaceState.{greatest_clock}
 use Rattle.chorus_machine.specs.PlaceMachine.{begun_by, work}
 use Rattle.chorus_law.specs.declared.delivery.Delivered.{Delivered}
@@ -15,9 +15,9 @@ use Rattle.chorus_machine.specs.PlaceState.{PlaceState, Outgoing}
 use Rattle.chorus_law.specs.History.{put_by}
 use Rattle.chorus_net.specs.Room.{UsesRoom, KeepRoom}
 use Rattle.chorus_net.proofs.Rooms.{uses-set, uses-on, keep-set, keep-on}
-use Rattle.chorus_place.specs.Calls.{state}
+use Rattle.chorus_place.specs.Calls.{Place, state}
 use Rattle.chorus_net.specs.Sites.{SitesState, net, IsSites}
-use Rattle.chorus_net.proofs.Deliveries.{worked-puts, first-caller, idle-net, idle-sites, idle-event, idle-answer, idle-compared, lawful, served-answer, served-compared, worked-net, worked-sites, restored-net, restored-sites, not-worn, why-worn, nobody-worn, risen, below-limit, slice_get-set}
+use Rattle.chorus_net.proofs.Deliveries.{worked-puts, first-caller, idle-net, idle-sites, idle-event, idle-answer, idle-compared, lawful, served-answer, served-compared, worked-net, worked-sites, restored-net, restored-sites, not-worn, set-apart, why-worn, nobody-worn, risen, below-limit, slice_get-set}
 use Rattle.chorus_net.proofs.Events.{stands-at-index}
 use Rattle.chorus_net.proofs.sites.Sites.deliver.Goals as goal
 
@@ -228,6 +228,18 @@ returns-in-Err-clause-worn c clock =
     let found : slice_get c.self.inside.callers.items 0 ≡ Some c.index_mut-caller.result.now = slice_get_read c.self.inside.callers.items _ 0 c.index_mut-caller.result.now refl h.some_seat c.index_mut-caller.ensures.value in
     let some : slice_get (list_to c.args.to c.index_mut.result.now.out.lists) 0 ≡ Some c.in-Some.packet = sym c.out.ensures.value ∙ c.in-Some.is in
     why-worn c.work.result c.in-Err.packet c.in-Some.packet c.in-Err.fault clock (greatest_clock (begun_by (state c.index_mut-2.result.now) c.index_mut-caller.result.now c.in-Some.packet)) (compared_at 0 c.args.from c.args.to (net c.args.self.now)) c.in-Err.is (sym (ap (λ (v : SitesState). compared_at 0 c.args.from c.args.to (net v)) c.self.view_is) ∙ served-compared s a b i j x p p' h fi.0 fj.0 fi.1 fj.1 c.requires.apart c.index_mut.ensures.value found has has' c.out.ensures.state c.out.ensures.waits k r some c.index_mut-2.ensures.value) c.work.ensures.worn
+
+pub put_back-requires-clause-back : goal.put_back-requires-clause-back
+put_back-requires-clause-back c =
+    let h = c.self.invariant in
+    let has : has_place c.self.inside.layout c.args.from ≡ true = ap (λ (v : SitesState). has_place v.layout c.args.from) c.self.view_is ∙ c.requires.from in
+    let fi = stands-at-index c.self.inside.layout c.args.from c.from.result (length c.self.inside.places.items) has c.from.ensures h.all in
+    let there = stands-at-index c.self.inside.layout c.args.to c.from-2.result (length c.self.inside.places.items) (ap (λ (v : SitesState). has_place v.layout c.args.to) c.self.view_is ∙ c.requires.to) c.from-2.ensures h.all in
+    let n : c.from-in-Err.result ≡ c.from.result = c.from-in-Err.ensures ∙ sym c.from.ensures in
+    let taken : c.index_mut-in-Err.result.now ≡ c.out.new.self =
+    c.index_mut-in-Err.ensures.value ∙ ap (λ m. get_or (set (set c.self.inside.places.items (c.from.result - 1) c.out.new.self) (c.from-2.result - 1) c.work.new.self) (m - 1) c.index_mut-in-Err.result.now) n
+    ∙ set-apart c.self.inside.places.items c.args.from c.args.to (c.from.result - 1) (c.from-2.result - 1) c.out.new.self c.work.new.self c.index_mut-in-Err.result.now fi.0 there.0 fi.1 c.requires.apart in
+    subst (λ (q : Place). MayPutBack c.args.to q.out) (sym taken) c.in-Some.ensures.taken
 
 pub invariant_of-self-in-Err : goal.invariant_of-self-in-Err
 invariant_of-self-in-Err c =
