@@ -30,6 +30,8 @@ use Rattle.chorus_net.proofs.Boxes.{IsPut, first-is, rest-is, put-back-is, witho
 use Rattle.chorus_net.proofs.Changes.{place-of, are-set, finds, replaces, still, are-boxes, box-of, boxes-set-is, length-boxes}
 use Rattle.chorus_net.proofs.Events.{next-event, next-between, are-put, turned-are, turned-places, turned-packets, stayed-are, stayed-boxes}
 use Rattle.chorus_net.proofs.Puts.{work-from, work-ticks}
+use Rattle.chorus_net.specs.Room.{UsesRoom, count_from, puts_in}
+use Rattle.chorus_net.proofs.Rooms.{uses-set, uses-on, turn-uses}
 
 none-without : (b : ℕ) (ls : List (List Packet)) → slice_get (list_to b ls) 0 ≡ None → without_first b ls ≡ ls
 none-without b [] h = refl
@@ -82,6 +84,11 @@ module _ (s : SitesState) (a b i j : ℕ) (x : Seated) (p p' : Place) (h : IsSit
       let one = and_from (is_some (slice_get s.callers 0)) (has_place s.layout a) (ap is_some found) has in
       let two = and_from (is_some (slice_get s.callers 0) && has_place s.layout a) (has_place s.layout b) one has' in
       and_from (is_some (slice_get s.callers 0) && has_place s.layout a && has_place s.layout b) (not (a == b)) two (ap not (ne_eqb a b apart))
+
+  pub taken-uses : (f : ℕ → ℕ) → p.spare ≤ p'.spare → UsesRoom f s.places (set s.places i p')
+  taken-uses f room =
+      uses-set f s.places i p p' at (ap (λ (z : PlaceState). z.number) st)
+      (let j = ap (λ (z : PlaceState). length z.journal) st in omega (arith, j, room))
 
   -- Nothing waits.
 
@@ -194,6 +201,13 @@ module _ (s : SitesState) (a b i j : ℕ) (x : Seated) (p p' : Place) (h : IsSit
         some_seat = (let n = length-set s.callers 0 y in let o = h.some_seat in omega (arith, n, o));
         few_seats = (let n = length-set s.callers 0 y in let o = h.few_seats in omega (arith, n, o));
       }
+
+      -- the room that it uses
+      pub worked-uses : p.spare ≤ p'.spare → UsesRoom (puts_in (Deliver 0 a b) (net s)) s.places (set (set s.places i p') j q)
+      worked-uses room =
+          uses-on (puts_in (Deliver 0 a b) (net s)) s.places (set s.places i p') (set (set s.places i p') j q) (taken-uses (λ n. 0) room)
+          (subst (λ os. UsesRoom (λ n. count_from n os) (set s.places i p') (set (set s.places i p') j q)) (sym worked-puts)
+          (turn-uses (work k (begun_by (state r) x k)) (set s.places i p') j r q y rt e stays (work-from k (begun_by (state r) x k) refl)))
 
       -- the caller's clock has risen
       pub risen : x.last < y.last

@@ -34,6 +34,8 @@ use Rattle.chorus_net.specs.Sites.{SitesState, waiting_in, boxes, net, AllFrom, 
 use Rattle.chorus_net.proofs.Boxes.{IsPut, put-all-is, with-all-keeps}
 use Rattle.chorus_net.proofs.Changes.{place-of, are-set, finds, replaces, still, are-boxes, box-of, boxes-set-is, length-boxes, all-put-parts, both}
 use Rattle.chorus_net.proofs.Puts.{act-from}
+use Rattle.chorus_net.specs.Room.{UsesRoom, count_from, puts_in}
+use Rattle.chorus_net.proofs.Rooms.{turn-uses}
 
 -- Schedules.
 
@@ -166,6 +168,12 @@ module _ (s : SitesState) (k i : ℕ) (c : Command) (x : Seated) (p : Place) (h 
       some_seat = (let n = length-set s.callers k y in let o = h.some_seat in omega (arith, n, o));
       few_seats = (let n = length-set s.callers k y in let o = h.few_seats in omega (arith, n, o));
     }
+
+    -- the room that it uses
+    pub acted-uses : UsesRoom (puts_in (Act k c) (net s)) s.places (set s.places i q)
+    acted-uses =
+        subst (λ os. UsesRoom (λ n. count_from n os) s.places (set s.places i q)) (sym acted-puts)
+        (turn-uses (act c (begun (state p) x)) s.places i p q y at e stays (act-from c (begun (state p) x) refl))
 
     pub acted-reply : (r : Reply) → r ≡ reply c (begun (state p) x) → Some r ≡ replied k c (net s)
     acted-reply r is =
