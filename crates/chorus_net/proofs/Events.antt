@@ -1,15 +1,12 @@
 -- What happens on the sites is an event of the network.
-use Rattle.std.proofs.Common.{ℕ, zero, suc, ◌≡◌, ◌≢◌, ◌+◌, ◌-◌, ◌<◌, ◌≤◌, ◌==◌, nat_le, nat_lt, Bool, true, false, ◌&&◌, ◌||◌, not, cond, List, [], ◌∷◌, ◌++◌, length, map, get_or, set, Option, Some, None, is_some, slice_get, Result, Ok, Err, IfOk, OnOk, OnErr, refl, sym, ◌∙◌, ap, subst, arith}
+use Rattle.std.proofs.Common.{ℕ, zero, suc, ◌≡◌, ◌+◌, ◌-◌, ◌<◌, nat_le, nat_lt, Bool, true, false, ◌&&◌, ◌||◌, not, cond, List, [], ◌∷◌, length, map, get_or, set, Some, None, is_some, slice_get, Result, Ok, Err, IfOk, OnErr, refl, sym, ◌∙◌, ap, subst, arith}
 use Rattle.std.specs.List.{All}
 use Rattle.std.specs.Option.{option_map}
-use Rattle.std.proofs.lemmas.Bool.{and_parts, and_from, false≢true, le-leb, leb-true, ltb-true, eqb-true}
+use Rattle.std.proofs.lemmas.Bool.{and_parts, and_from, false≢true, le-leb, leb-true, ltb-true}
 use Rattle.std.proofs.lemmas.List.{length-set, set-get_or}
-use Rattle.std.proofs.lemmas.Option.{same_Some}
-use Rattle.chorus_ui.specs.declared.ui.Ui.{Ui}
 use Rattle.chorus_ui.specs.declared.layout.Layout.{Layout}
 use Rattle.chorus_ui.specs.Layout.{IsLayout, has_site, has_actor, has_place, places}
 use Rattle.chorus_entry.specs.declared.command.Command.{Command}
-use Rattle.chorus_entry.specs.declared.packet.Packet.{Packet}
 use Rattle.chorus_entry.specs.Command.{meets_conditions, has_body_in_limit, is_post}
 use Rattle.chorus_entry.specs.Kinds.{names_actor}
 use Rattle.chorus_entry.specs.Places.{place_for}
@@ -20,16 +17,15 @@ use Rattle.chorus_machine.specs.PlaceMachine.{begun, act}
 use Rattle.chorus_machine.specs.Replies.{reply}
 use Rattle.chorus_machine.proofs.Machine.Stays.{act-stays}
 use Rattle.chorus_law.specs.Packets.{put_all}
-use Rattle.chorus_law.specs.Network.{NetState, Event, Act, Enter, place, place_in, with_place, ended, commanded, replied, happened, schedule}
+use Rattle.chorus_law.specs.Network.{NetState, Event, Act, place, with_place, ended, commanded, replied, happened, schedule}
 use Rattle.chorus_law.specs.History.{put_by, put_in, taken_with}
 use Rattle.chorus_law.specs.Schedules.{may_give, has_number_left, may_happen, may_be}
 use Rattle.chorus_law.specs.Tasks.{IsBetweenPlaces}
-use Rattle.chorus_law.specs.Calls.{starting, first_actor}
+use Rattle.chorus_law.specs.Calls.{first_actor}
 use Rattle.chorus_law.proofs.Holdings.Passing.{packets-lie-between}
 use Rattle.chorus_law.proofs.Places.Layouts.{schedule-keeps}
 use Rattle.chorus_law.proofs.Promises.Promised.{stands-at}
-use Rattle.chorus_law.specs.Stands.{IsCaller}
-use Rattle.chorus_place.specs.Calls.{Place, state, Ended, Called, MayCall, Stays, with_all}
+use Rattle.chorus_place.specs.Calls.{Place, state, Ended, MayCall, Stays, with_all}
 use Rattle.chorus_net.specs.Sites.{SitesState, waiting_in, boxes, net, AllFrom, IsPlaceOf, ArePlaces, IsScheduled, IsSites}
 use Rattle.chorus_net.proofs.Boxes.{IsPut, put-all-is, with-all-keeps}
 use Rattle.chorus_net.proofs.Changes.{place-of, are-set, finds, replaces, still, are-boxes, box-of, boxes-set-is, length-boxes, all-put-parts, both}

@@ -1,7 +1,7 @@
 -- Room at each place, one place after the other.
 use Rattle.std.proofs.Common.{ℕ, zero, suc, ◌≡◌, ◌+◌, ◌<◌, ◌≤◌, ◌==◌, Bool, true, false, List, [], ◌∷◌, ◌++◌, length, reverse, map, take, get_or, set, cond, refl, sym, ◌∙◌, ap, subst, arith}
 use Rattle.std.specs.List.{All}
-use Rattle.std.proofs.lemmas.List.{length-set, reverse-append}
+use Rattle.std.proofs.lemmas.List.{reverse-append}
 use Rattle.std.proofs.lemmas.List.Elements.{All-head, All-tail}
 use Rattle.chorus_calls.specs.Callers.{Seated}
 use Rattle.chorus_machine.specs.PlaceState.{PlaceState, Outgoing, Turn}
@@ -9,8 +9,8 @@ use Rattle.chorus_law.specs.Network.{NetState, Event, happened, after, one_if}
 use Rattle.chorus_law.proofs.Draining.Drains.{after-append}
 use Rattle.chorus_place.specs.Calls.{Place, Ended, state}
 use Rattle.chorus_net.specs.Drains.{forward, puts_forward}
-use Rattle.chorus_net.specs.Room.{HaveRoom, HasRoomAt, KeepRoom, HasReserved, UsesRoom, room_at, entries_at, count_from, puts_in, puts_of}
-use Rattle.chorus_net.specs.Sites.{IsPlaceOf, ArePlaces}
+use Rattle.chorus_net.specs.Room.{HaveRoom, HasRoomAt, KeepRoom, UsesRoom, room_at, entries_at, count_from, puts_in, puts_of}
+use Rattle.chorus_net.specs.Sites.{ArePlaces}
 use Rattle.chorus_ui.specs.declared.layout.Layout.{Layout}
 use Rattle.std.proofs.lemmas.Bool.{eq-eqb, eqb-true, ne_eqb}
 

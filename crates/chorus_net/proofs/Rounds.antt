@@ -1,5 +1,5 @@
 -- Rounds of deliveries, one after the other.
-use Rattle.std.proofs.Common.{ℕ, zero, suc, ◌≡◌, ◌≢◌, ◌+◌, ◌-◌, ◌<◌, ◌≤◌, ◌==◌, nat_le, Bool, true, false, ◌&&◌, cond, List, [], ◌∷◌, ◌++◌, length, reverse, map, get_or, Option, Some, None, is_some, slice_get, refl, sym, ◌∙◌, ap, subst, arith, append_assoc}
+use Rattle.std.proofs.Common.{ℕ, zero, suc, ◌≡◌, ◌≢◌, ◌+◌, ◌-◌, ◌<◌, ◌≤◌, ◌==◌, nat_le, Bool, true, false, ◌&&◌, cond, List, [], ◌∷◌, ◌++◌, length, reverse, get_or, Option, Some, None, is_some, slice_get, refl, sym, ◌∙◌, ap, subst, arith, append_assoc}
 use Rattle.std.proofs.lemmas.Bool.{and_from, and_parts, le-leb, leb-true, eq-eqb, ne_eqb}
 use Rattle.std.proofs.lemmas.List.{reverse-append, append-nil}
 use Rattle.chorus_ui.specs.declared.layout.Layout.{Layout}
@@ -10,9 +10,9 @@ use Rattle.chorus_calls.specs.Callers.{Seated}
 use Rattle.chorus_out.specs.Waiting.{count, list_to}
 use Rattle.chorus_law.specs.declared.delivery.Delivered.{Delivered}
 use Rattle.chorus_law.specs.Packets.{first_on}
-use Rattle.chorus_law.specs.Network.{NetState, Event, Deliver, numbers, place_numbers, happened, after, from_one, from_each, round, rounds, one_if, serves, served, delivered, delivery, delivery_of, schedule}
+use Rattle.chorus_law.specs.Network.{NetState, Event, Deliver, numbers, place_numbers, happened, after, from_one, from_each, round, rounds, one_if, serves, served, delivered, delivery, delivery_of}
 use Rattle.chorus_law.specs.Tasks.{IsDrain}
-use Rattle.chorus_law.specs.Calls.{last_of, draining, compared_at}
+use Rattle.chorus_law.specs.Calls.{draining, compared_at}
 use Rattle.chorus_law.proofs.Draining.Drains.{idle, idle-event, after-append}
 use Rattle.chorus_law.proofs.Draining.Emptied.{drains-leave-nothing}
 use Rattle.chorus_place.specs.Calls.{Place}
@@ -20,7 +20,7 @@ use Rattle.chorus_net.specs.Drains.{seat_clock, Ticks, forward, serves_all, puts
 use Rattle.chorus_net.specs.Room.{UsesRoom, UsesRoomInRounds, puts_in, puts_of}
 use Rattle.chorus_net.proofs.Rooms.{uses-self, uses-one, uses-forward, uses-after, uses-reverse}
 use Rattle.chorus_net.specs.Sites.{SitesState, net, boxes, waiting_in, IsSites}
-use Rattle.chorus_net.specs.Worn.{compared_by, IsUnworn, AreUnworn, ComeUnworn, IsInRounds, IsWornIn}
+use Rattle.chorus_net.specs.Worn.{IsUnworn, AreUnworn, ComeUnworn, IsWornIn}
 use Rattle.chorus_net.proofs.Boxes.{first-is, none-first}
 use Rattle.chorus_net.proofs.Changes.{are-boxes, box-of, length-boxes}
 use Rattle.chorus_net.proofs.Worn.{unworn-append, come-append, unworn-reverse, nothing-unworn}

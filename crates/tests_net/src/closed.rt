@@ -57,7 +57,9 @@ fn closed_tells_what_was_worn(rt: HostRuntime) -> Result<(), Fail> {
         }
         let closed = Closed::of(journals, Vec::new(alloc), Vec::new(alloc), spent, worn);
         assert!(rt; closed.worn() == worn, "{worn:?}");
-        assert!(rt; closed.journals.len() == 1 && closed.rest.len() == 0 && closed.ports.len() == 0);
+        assert!(rt;
+            closed.journals.len() == 1 && closed.rest.len() == 0 && closed.ports.len() == 0
+        );
     }
     let sites = Sites::start(alloc, Layout::new(2, 1).ok_or("a layout")?)?;
     let Ok(closed) = sites.close(alloc) else {

@@ -143,7 +143,10 @@ fn two_turns_per_site(rt: HostRuntime) -> Result<(), Fail> {
         Call::Move(1, "1.p.2", "2.a.1"),
         Call::Drain,
     ];
-    for (calls, text) in [(posts, POSTS_AT_ANOTHER_PLACE), (moves, MOVES_TO_ANOTHER_SITE)] {
+    for (calls, text) in [
+        (posts, POSTS_AT_ANOTHER_PLACE),
+        (moves, MOVES_TO_ANOTHER_SITE),
+    ] {
         let layout = Layout::new(2, 2).ok_or("a layout")?;
         let left = text_of(rt.alloc(), layout, &calls)?;
         assert_eq!(rt; left.as_slice(), text.as_bytes(), "{text}");

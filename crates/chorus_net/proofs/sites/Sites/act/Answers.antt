@@ -1,20 +1,20 @@
-use Rattle.std.proofs.Common.{◌≡◌, ◌+◌, ◌-◌, ◌<◌, ◌≤◌, ◌↔◌, nat_le, ◌&&◌, List, length, set, get_or, slice_get, Some, true, IsErrOf, refl, sym, ◌∙◌, ap, subst, arith}
+use Rattle.std.proofs.Common.{◌≡◌, ◌+◌, ◌-◌, ◌<◌, ◌≤◌, ◌↔◌, nat_le, ◌&&◌, length, set, slice_get, Some, true, IsErrOf, refl, sym, ◌∙◌, ap, subst, arith}
 use Rattle.std.proofs.lemmas.Bool.{and_parts}
 use Rattle.std.proofs.lemmas.Option.{slice_get_read}
 use Rattle.chorus_ui.specs.declared.ui.Ui.{Ui}
 use Rattle.chorus_ui.specs.declared.limits.TheConstants.{CLOCK_LIMIT}
-use Rattle.chorus_ui.specs.Layout.{has_site, has_actor}
+use Rattle.chorus_ui.specs.Layout.{has_site}
 use Rattle.chorus_entry.specs.Places.{place_for}
 use Rattle.chorus_place.specs.declared.fault.PlaceFault.TheVariants as fault
 use Rattle.chorus_machine.specs.PlaceState.{greatest_clock}
-use Rattle.chorus_machine.specs.PlaceMachine.{begun, act}
+use Rattle.chorus_machine.specs.PlaceMachine.{begun}
 use Rattle.chorus_law.specs.Network.{Act, happened, replied}
 use Rattle.chorus_law.specs.Schedules.{may_happen, may_give}
 use Rattle.chorus_law.specs.Calls.{compared, compared_with}
 use Rattle.chorus_place.specs.Calls.{state, TakesNone}
 use Rattle.chorus_net.specs.Room.{UsesRoom, KeepRoom, TakesNoneAt, puts_in}
 use Rattle.chorus_net.proofs.Rooms.{keep-set, room-found}
-use Rattle.chorus_net.specs.Sites.{SitesState, net, IsSites}
+use Rattle.chorus_net.specs.Sites.{SitesState, net}
 use Rattle.chorus_net.proofs.Events.{acted-uses, caller-of, seat-given, stands-at-index, given-may, given-posts, place-found, acted-net, acted-sites, acted-reply, refused-net, refused-sites, by-result, if-ok, on-err}
 use Rattle.chorus_net.proofs.Numbers.{call-left}
 use Rattle.chorus_net.proofs.sites.Sites.act.Goals as goal
