@@ -13,8 +13,6 @@ use Rattle.std.specs.Prelude.{nat_le, not}
 use Rattle.chorus_entry.specs.declared.id.MsgId.{MsgId}
 use Rattle.chorus_entry.specs.Clients.{is_one_too_many, is_reached, is_repeated, raised, remembered}
 use Rattle.chorus_entry.proofs.Clients.{number_of-with_client, length-with_client}
-use Rattle.chorus_ui.specs.Name.{same_ui}
-use Rattle.chorus_ui.proofs.Names.{from_same_ui, same_ui-self}
 use Rattle.chorus_world.specs.Views.{on, is_on}
 use Rattle.chorus_world.specs.Posts.{tag_of, source, posted_by}
 use Rattle.chorus_world.proofs.Messages.Posted.{AllPosted, filtered}
@@ -129,36 +127,6 @@ clients_few past (e ∷ port) = let h = met_few past port e.act (clients past po
 
 pub few_clients : (past : List Entry) (q : Ui) → clients_row past q ≤ length past
 few_clients past q = let h = clients_few past (on q past) in let k = filter_few (is_on (Some q)) past in omega (arith, h, k)
-
--- A row that is put.
-
-ui_sym : (u v : Ui) → same_ui u v ≡ same_ui v u
-ui_sym u v = go (same_ui u v) (same_ui v u) refl refl
-  where
-    go : (a b : Bool) → same_ui u v ≡ a → same_ui v u ≡ b → same_ui u v ≡ same_ui v u
-    go true b h k = h ∙ sym (ap (same_ui v) (from_same_ui u v h) ∙ same_ui-self v)
-    go false true h k = ap (same_ui u) (from_same_ui v u k) ∙ (same_ui-self u ∙ sym k)
-    go false false h k = h ∙ sym k
-
-kept_case : (a b : Bool) (o : Option ℕ) (n : ℕ) → cond (a && b) (Some n) o ≡ cond b (cond a (Some n) o) o
-kept_case true true o n = refl
-kept_case true false o n = refl
-kept_case false true o n = refl
-kept_case false false o n = refl
-
--- the number of the client was put for the port
-pub put_kept : (port q : Ui) (seat client number : ℕ) (back : Ui) (old : Ui → ℕ → Option ℕ) (row : ℕ) (new : Option ℕ) → row ≡ raised number (old port seat) → new ≡ cond ((seat == client) && same_ui port q) (Some row) (old q client)
-    → new ≡ cond (same_ui q port) (kept_with client seat (Request number back) (old q client)) (old q client)
-put_kept port q seat client number back old row new r h =
-    h
-    ∙ (kept_case (seat == client) (same_ui port q) (old q client) row
-    ∙ (ap (λ b. cond b (cond (seat == client) (Some row) (old q client)) (old q client)) (ui_sym port q)
-    ∙ go (same_ui q port) (seat == client) refl refl))
-  where
-    go : (a b : Bool) → same_ui q port ≡ a → (seat == client) ≡ b → cond a (cond b (Some row) (old q client)) (old q client) ≡ cond a (cond b (Some (raised number (old q client))) (old q client)) (old q client)
-    go true true s t = ap Some (r ∙ ((λ i. raised number (old (sym (from_same_ui q port s) i) seat)) ∙ ap (λ c. raised number (old q c)) (eqb-true seat client t)))
-    go true false s t = refl
-    go false b s t = refl
 
 -- What the tables read.
 

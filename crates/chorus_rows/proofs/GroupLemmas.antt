@@ -1,5 +1,5 @@
 -- The row of a group at a place after one entry more.
-use Rattle.std.proofs.Common.{ℕ, ◌≡◌, ◌==◌, Bool, true, false, ◌&&◌, ◌||◌, cond, List, [], ◌∷◌, ◌++◌, Some, None, refl, sym, ◌∙◌, ap}
+use Rattle.std.proofs.Common.{◌≡◌, ◌==◌, Bool, true, false, ◌&&◌, ◌||◌, cond, List, ◌∷◌, Some, refl, sym, ◌∙◌, ap}
 use Rattle.std.proofs.lemmas.Bool.{false≢true}
 use Rattle.chorus_ui.specs.declared.ui.Ui.{Ui}
 use Rattle.chorus_ui.specs.Name.{same_ui}
@@ -10,7 +10,7 @@ use Rattle.chorus_entry.specs.Members.{without, turned, turned_back}
 use Rattle.chorus_world.specs.Views.{at, is_group}
 use Rattle.chorus_world.specs.Groups.{members, rotation}
 use Rattle.chorus_rows.specs.Keys.{same_name_at}
-use Rattle.chorus_rows.specs.Groups.{GroupRow, group_row, group_here, joined_here, changed_here, changed_own, changed_group, group_after, joined}
+use Rattle.chorus_rows.specs.Groups.{GroupRow, group_row, group_here, joined_here, changed_here, changed_own, changed_group, group_after}
 use Rattle.chorus_rows.specs.declared.keys.NameAt.{NameAt}
 
 abbrev row_of : Ui → List Entry → GroupRow
@@ -36,9 +36,6 @@ both_are k e r s t h j = j ∙ (ap (λ z. cond (e.place == k.place) (changed_her
     go false = refl
 
 -- the group that the act names changes as its own, and no other does
-
-row_same : (a b : Bool) (xs ys : List Ui) (i j : ℕ) → a ≡ b → xs ≡ ys → i ≡ j → (let r : GroupRow = record { made = a; members = xs; rotation = i } in r) ≡ record { made = b; members = ys; rotation = j }
-row_same a b xs ys i j h k l = cc
 
 own_case : (g h : Ui) (a : Act) (r : GroupRow) → changed_group a ≡ Some h → same_ui h g ≡ true → changed_here g a r ≡ changed_own a r
 own_case g h (GroupMake k) r n s = ap (λ b. record { made = b || r.made; members = r.members; rotation = r.rotation }) (ap (λ u. same_ui u g) (some_is k h n) ∙ s)
@@ -84,29 +81,3 @@ and_case false c r s h k = refl
 
 pub changes_other : (k : NameAt) (e : Entry) (h : Ui) → changed_group e.act ≡ Some h → same_name_at (record { place = e.place; name = h }) k ≡ false → (r : GroupRow) → cond (e.place == k.place) (changed_here k.name e.act r) r ≡ r
 changes_other k e h n s r = and_case (e.place == k.place) (same_ui h k.name) r (changed_here k.name e.act r) s (λ d. other_case k.name h e.act r n d)
-
-silent_case : (g : Ui) (a : Act) (r : GroupRow) → changed_group a ≡ None → changed_here g a r ≡ r
-silent_case g (GroupMake k) r n = absurd (cc)
-silent_case g (Leave k q) r n = absurd (cc)
-silent_case g (Choose x k qs) r n = absurd (cc)
-silent_case g _ r n = refl
-
-same_case : (b : Bool) (r s : GroupRow) → s ≡ r → cond b s r ≡ r
-same_case true r s h = h
-same_case false r s h = refl
-
-pub changes_none : (k : NameAt) (e : Entry) → changed_group e.act ≡ None → (r : GroupRow) → cond (e.place == k.place) (changed_here k.name e.act r) r ≡ r
-changes_none k e n r = same_case (e.place == k.place) r (changed_here k.name e.act r) (silent_case k.name e.act r n)
-
--- a port joins
-pub joins_own : (k : NameAt) (e : Entry) (h q : Ui) (r : GroupRow) → e.act ≡ Join h q → (e.place == k.place) ≡ true → same_ui h k.name ≡ true → cond (e.place == k.place) (joined_here k.name e.act r) r ≡ joined q r
-joins_own k e h q r is p s =
-    ap (λ b. cond b (joined_here k.name e.act r) r) p
-    ∙ (ap (λ a. joined_here k.name a r) is
-    ∙ ap (λ b. record { made = r.made; members = cond b (r.members ++ q ∷ []) r.members; rotation = r.rotation }) s)
-
-pub joins_other : (k : NameAt) (e : Entry) (h q : Ui) → e.act ≡ Join h q → same_name_at (record { place = e.place; name = h }) k ≡ false → (r : GroupRow) → cond (e.place == k.place) (joined_here k.name e.act r) r ≡ r
-joins_other k e h q is s r =
-    and_case (e.place == k.place) (same_ui h k.name) r (joined_here k.name e.act r) s (λ d.
-    ap (λ a. joined_here k.name a r) is
-    ∙ ap (λ b. record { made = r.made; members = cond b (r.members ++ q ∷ []) r.members; rotation = r.rotation }) d)

@@ -1,22 +1,26 @@
 -- Equal keys.
-use Rattle.std.proofs.Common.{ℕ, ◌≡◌, ◌==◌, true, ◌&&◌, Option, Some, None, refl, ap}
+use Rattle.std.proofs.Common.{ℕ, ◌≡◌, ◌==◌, Bool, true, false, ◌&&◌, Option, Some, None, refl, sym, ◌∙◌, ap}
 use Rattle.std.specs.Option.{option_eq}
 use Rattle.std.proofs.lemmas.Bool.{and_parts, eqb-true, false≢true}
 use Rattle.chorus_ui.specs.declared.ui.Ui.{Ui}
 use Rattle.chorus_ui.specs.Name.{same_ui}
-use Rattle.chorus_ui.proofs.Names.{from_same_ui}
+use Rattle.chorus_ui.proofs.Names.{from_same_ui, same_ui-self}
 use Rattle.chorus_entry.specs.declared.id.MsgId.{MsgId}
 use Rattle.chorus_entry.specs.MsgId.{same_id}
 use Rattle.chorus_entry.proofs.Same.{from_same_id}
-use Rattle.chorus_rows.specs.Keys.{same_port, same_message_at, same_name_at, same_line, same_client}
-use Rattle.chorus_rows.specs.declared.keys.PortKey.{PortKey}
+use Rattle.chorus_rows.specs.Keys.{same_message_at, same_name_at, same_line}
 use Rattle.chorus_rows.specs.declared.keys.MessageAt.{MessageAt}
 use Rattle.chorus_rows.specs.declared.keys.NameAt.{NameAt}
 use Rattle.chorus_rows.specs.declared.keys.Line.{Line}
-use Rattle.chorus_rows.specs.declared.keys.ClientOf.{ClientOf}
 
-port_key : (x y : Ui) → x ≡ y → (let k : PortKey = record { port = x } in k) ≡ record { port = y }
-port_key x y a = cc
+-- the order does not matter
+pub ui_sym : (u v : Ui) → same_ui u v ≡ same_ui v u
+ui_sym u v = go (same_ui u v) (same_ui v u) refl refl
+  where
+    go : (a b : Bool) → same_ui u v ≡ a → same_ui v u ≡ b → same_ui u v ≡ same_ui v u
+    go true b h k = h ∙ sym (ap (same_ui v) (from_same_ui u v h) ∙ same_ui-self v)
+    go false true h k = ap (same_ui u) (from_same_ui v u k) ∙ (same_ui-self u ∙ sym k)
+    go false false h k = h ∙ sym k
 
 message_at : (p q : ℕ) (x y : MsgId) → p ≡ q → x ≡ y → (let k : MessageAt = record { place = p; id = x } in k) ≡ record { place = q; id = y }
 message_at p q x y a b = cc
@@ -26,12 +30,6 @@ name_at p q x y a b = cc
 
 line : (p q : ℕ) (x y : Ui) (r s : Option Ui) → p ≡ q → x ≡ y → r ≡ s → (let k : Line = record { place = p; name = x; route = r } in k) ≡ record { place = q; name = y; route = s }
 line p q x y r s a b c = cc
-
-client_of : (x y : Ui) (c d : ℕ) → x ≡ y → c ≡ d → (let k : ClientOf = record { port = x; client = c } in k) ≡ record { port = y; client = d }
-client_of x y c d a b = cc
-
-pub from_same_port : (k l : PortKey) → same_port k l ≡ true → k ≡ l
-from_same_port k l h = port_key _ _ (from_same_ui k.port l.port h)
 
 pub from_same_message_at : (k l : MessageAt) → same_message_at k l ≡ true → k ≡ l
 from_same_message_at k l h =
@@ -54,8 +52,3 @@ from_same_line k l h =
     let two = and_parts (k.place == l.place) (same_ui k.name l.name && option_eq same_ui k.route l.route) h in
     let one = and_parts (same_ui k.name l.name) (option_eq same_ui k.route l.route) two.1 in
     line _ _ _ _ _ _ (eqb-true k.place l.place two.0) (from_same_ui k.name l.name one.0) (from_route k.route l.route one.1)
-
-pub from_same_client : (k l : ClientOf) → same_client k l ≡ true → k ≡ l
-from_same_client k l h =
-    let two = and_parts (k.client == l.client) (same_ui k.port l.port) h in
-    client_of _ _ _ _ (from_same_ui k.port l.port two.1) (eqb-true k.client l.client two.0)

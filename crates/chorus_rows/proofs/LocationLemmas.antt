@@ -48,9 +48,6 @@ location_grows l past e s k h = by (e.place == k.place) refl
         (ap (λ p. learned k.name e.place (at p past) e.act) (sym (eqb-true e.place k.place g)) ∙ lesson_is k.name e.place (at e.place past) e.act s h)
     by false g = refl
 
-farther_none : (at : Location) → farther at None ≡ at
-farther_none at = refl
-
 apart_case : (b c : Bool) (at : Location) (m : Option Location) → (b && c) ≡ false → cond b (farther at (cond c m None)) at ≡ at
 apart_case true true at m h = absurd (false≢true (sym h))
 apart_case true false at m h = refl
@@ -70,10 +67,6 @@ location_own k e s t is a b at =
 none_case : (b : Bool) (at : Location) → cond b (farther at None) at ≡ at
 none_case true at = refl
 none_case false at = refl
-
-pub location_silent : (k : NameAt) (e : Entry) (s : Option Sent) → lesson e.place s e.act ≡ None → (at : Location) → location_after k e s at ≡ at
-location_silent k e s is at =
-    ap (λ o. cond (e.place == k.place) (farther at (of_port k.name o)) at) is ∙ none_case (e.place == k.place) at
 
 -- A table after one location is put.
 module _ (old new : NameAt → Option Location) (l : Layout) where

@@ -12,7 +12,7 @@ use Rattle.chorus_world.specs.Views.{at, by, about, is_about}
 use Rattle.chorus_entry.specs.Same.{are_same}
 use Rattle.chorus_world.specs.declared.message.Progress.{Progress}
 use Rattle.chorus_world.specs.Messages.{progress_after, progress, verdict_by}
-use Rattle.chorus_world.specs.Places.{settles, is_settling, is_settled, is_tried}
+use Rattle.chorus_world.specs.Places.{settles, is_settled, is_tried}
 use Rattle.chorus_world.specs.Posts.{Posted, posted_by, posted_in}
 use Rattle.chorus_world.specs.Groups.{chooses, is_chosen}
 use Rattle.chorus_world.proofs.Messages.SendingLemmas.{same_id_sym, settles_other, tried_other}
@@ -22,7 +22,7 @@ use Rattle.chorus_rows.specs.declared.posting.Posting.{Posting}
 use Rattle.chorus_rows.specs.declared.keys.MessageAt.{MessageAt}
 use Rattle.chorus_rows.specs.declared.messages.MessageRow.{MessageRow}
 use Rattle.chorus_rows.specs.declared.marks.MarkRow.{MarkRow}
-use Rattle.chorus_rows.specs.Messages.{message_row, message_after, posted_under, mark_row, mark_here, mark_after, is_choosing}
+use Rattle.chorus_rows.specs.Messages.{message_row, message_after, posted_under, mark_row, mark_here, mark_after}
 
 or_none : {A : Type 0} (o : Option A) → option_or o None ≡ o
 or_none None = refl
@@ -99,13 +99,6 @@ here_apart x a h r =
     let c2 : (chooses x a || r.chosen) ≡ r.chosen = ap (λ b. b || r.chosen) c in
     mark_same _ _ _ _ _ _ s2 t c2
 
-pub mark_silent : (k : MessageAt) (e : Entry) → is_about (Some k.id) e ≡ false → (r : MarkRow) → mark_after k e r ≡ r
-mark_silent k e h r = by (e.place == k.place)
-  where
-    by : (b : Bool) → cond b (mark_here k.id e.act r) r ≡ r
-    by true = here_apart k.id e.act h r
-    by false = refl
-
 pub mark_apart : (k : MessageAt) (e : Entry) (id : MsgId) → message_of e.act ≡ Some id → same_message_at (record { place = e.place; id = id }) k ≡ false → (r : MarkRow) → mark_after k e r ≡ r
 mark_apart k e id m h r = by (e.place == k.place) h
   where
@@ -116,11 +109,3 @@ mark_apart k e id m h r = by (e.place == k.place) h
 and_true : (b c : Bool) → c ≡ true → (b && c) ≡ b
 and_true true c h = h
 and_true false c h = refl
-
-pub settles_own : (x : MsgId) (a : Act) → are_same same_id (Some x) (message_of a) ≡ true → settles x a ≡ is_settling a
-settles_own x a h = and_true (is_settling a) (are_same same_id (Some x) (message_of a)) h
-
-pub chooses_own : (x : MsgId) (a : Act) → are_same same_id (Some x) (message_of a) ≡ true → chooses x a ≡ is_choosing a
-chooses_own x (Choose y g qs) h = same_id_sym y x ∙ h
-chooses_own x (NoMember y g) h = same_id_sym y x ∙ h
-chooses_own x _ h = refl

@@ -1,10 +1,9 @@
 -- What is open of a line: the table's line and the messages sent leave the same.
-use Rattle.std.proofs.Common.{ℕ, ◌≡◌, ◌==◌, ◌+◌, ◌-◌, ◌<◌, ◌≤◌, Bool, true, false, ◌&&◌, ◌||◌, not, cond, List, [], ◌∷◌, ◌++◌, length, take, drop, slice_get, suc, zero, get_or, length-take-le, filter, find, Option, Some, None, refl, sym, ◌∙◌, ap, arith}
+use Rattle.std.proofs.Common.{ℕ, ◌≡◌, ◌==◌, ◌+◌, ◌-◌, ◌<◌, ◌≤◌, Bool, true, false, ◌&&◌, ◌||◌, not, cond, List, [], ◌∷◌, ◌++◌, length, take, get_or, length-take-le, filter, find, Option, Some, None, refl, sym, ◌∙◌, ap, arith}
 use Rattle.std.proofs.lemmas.List.Elements.{filter-append}
 use Rattle.std.proofs.lemmas.Bool.{false≢true}
-use Rattle.std.proofs.lemmas.List.{drop_all, append-nil, append_assoc, length-append, take_more}
+use Rattle.std.proofs.lemmas.List.{append-nil, append_assoc, length-append, take_more}
 use Rattle.std.specs.Option.{option_eq}
-use Rattle.std.proofs.lemmas.Option.{slice_get_within}
 use Rattle.chorus_ui.specs.declared.ui.Ui.{Ui}
 use Rattle.chorus_ui.specs.Name.{same_ui}
 use Rattle.chorus_entry.specs.declared.entry.Entry.{Entry}
@@ -194,17 +193,3 @@ pub all_back : (p : ℕ) (k : Line) (x : MsgId) (g : Ui) (qs : List Ui) (i : ℕ
 all_back p k x g qs i b xs le h =
     let z : i ≡ 0 = omega arith in
     h ∙ (ap (λ j. b ++ sent_by_line p k (copies x g 1 (take j qs))) z ∙ (ap (λ ys. b ++ ys) (cond_same (p == k.place)) ∙ append-nil b))
-
--- A search from an index on.
-
-module _ {A : Type 0} where
-  pub find_here : (t : A → Bool) (xs : List A) (i : ℕ) (x : A) → slice_get xs i ≡ Some x → t x ≡ true → find t (drop i xs) ≡ Some x
-  find_here t [] i x h e = absurd (let lt : i < 0 = slice_get_within {A = A} [] i x h in omega arith)
-  find_here t (y ∷ xs) zero x h e = ap (λ z. find t (z ∷ xs)) (some_is y x h) ∙ ap (λ b. cond b (Some x) (find t xs)) e
-    where
-      some_is : (a b : A) → Some a ≡ Some b → a ≡ b
-      some_is a b k = cc
-  find_here t (y ∷ xs) (suc i) x h e = find_here t xs i x h e
-
-  pub find_end : (t : A → Bool) (xs : List A) (i : ℕ) → length xs ≤ i → find t (drop i xs) ≡ None
-  find_end t xs i h = ap (find t) (drop_all i xs h)

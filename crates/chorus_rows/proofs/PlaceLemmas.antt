@@ -7,9 +7,9 @@ use Rattle.chorus_entry.specs.declared.act.Act.{Act}
 use Rattle.chorus_entry.specs.declared.act.Act.TheVariants.{Make, Take, GroupMake}
 use Rattle.chorus_entry.specs.Order.{is_at}
 use Rattle.chorus_world.specs.Views.{at}
-use Rattle.chorus_world.specs.Places.{ports_after, ports_made, reply_taken_by, just_taken}
+use Rattle.chorus_world.specs.Places.{ports_after, ports_made, reply_taken_by}
 use Rattle.chorus_world.specs.Groups.{groups_after, groups_made}
-use Rattle.chorus_rows.specs.Places.{fold_place, place_row, place_here, place_after, taking, last_taking, reply_of}
+use Rattle.chorus_rows.specs.Places.{fold_place, place_row, place_here, place_after, taking, reply_of}
 use Rattle.chorus_rows.specs.declared.places.PlaceRow.{PlaceRow}
 
 place_case : (e : Entry) (here : List Entry) (b : Bool) → fold_place (cond b (e ∷ here) here) ≡ cond b (place_here e (fold_place here)) (fold_place here)
@@ -29,10 +29,6 @@ place_own e r = ap (λ b. cond b (place_here e r) r) (eq-eqb e.place e.place ref
 taken_case : (past : List Entry) (s : ℕ) (a : Act) → reply_taken_by past s a ≡ reply_of past (taking s a)
 taken_case past s (Take q n x) = refl
 taken_case past s _ = refl
-
-pub taken_is : (past here : List Entry) → just_taken past here ≡ reply_of past (last_taking here)
-taken_is past [] = refl
-taken_is past (e ∷ here) = taken_case past e.seat e.act
 
 -- no more ports and groups than entries
 ports_case : (a : Act) (n k : ℕ) → n ≤ k → ports_after a n ≤ k + 1

@@ -10,7 +10,6 @@ use Rattle.chorus_entry.specs.Same.{same_route}
 use Rattle.chorus_world.specs.declared.place.Sent.{Sent}
 use Rattle.chorus_world.specs.Views.{at}
 use Rattle.chorus_world.specs.Places.{sent, sent_by, find_sent, is_settled}
-use Rattle.chorus_world.specs.Groups.{is_chosen, posts_to, post_to}
 use Rattle.chorus_rows.specs.Keys.{same_line, same_message_at}
 use Rattle.chorus_rows.specs.Messages.{mark_in}
 use Rattle.chorus_rows.specs.declared.keys.MessageAt.{MessageAt}
@@ -52,12 +51,9 @@ items_of (Some q) = q.items
 abbrev pub line_in : {S A : Type 0} → HashMap Line (VecDeque MsgId A) S → Line → List MsgId
 line_in t k = items_of (get same_line t k)
 
--- the messages are open at the place with this past: not settled, and not chosen for
+-- the message is open at the place with this past: not settled there
 abbrev pub open_at : List Entry → MsgId → Bool
 open_at here x = not (is_settled x here)
-
-abbrev pub unchosen_at : List Entry → MsgId → Bool
-unchosen_at here x = not (is_chosen x here)
 
 -- what goes by the line: to its port, by its route
 abbrev pub goes_by : Line → Sent → Bool
@@ -76,13 +72,6 @@ sent_by_line p k ms = cond (p == k.place) (ids_by k ms) []
 
 abbrev pub but_last : List MsgId → List MsgId
 but_last xs = take (length xs - 1) xs
-
--- the posts to the group of a key, made at its place
-abbrev pub asked_row : List Entry → Line → List MsgId
-asked_row past k = posts_to k.name (at k.place past)
-
-abbrev pub asked_by : Line → Entry → List MsgId
-asked_by k e = cond (e.place == k.place) (post_to k.name e.act) []
 
 -- What becomes of lines: they stay, one has an id more, one has its last no more, and these messages are put behind.
 

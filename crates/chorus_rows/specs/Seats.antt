@@ -1,5 +1,5 @@
 -- Seats: what the table has of a caller, and what an entry makes of it.
-use Rattle.std.specs.Prelude.{ℕ, ◌≡◌, ◌==◌, nat_eq, nat_lt, Bool, true, false, cond, List, [], ◌∷◌, length, Option, Some, None, unwrap_or, slice_get}
+use Rattle.std.specs.Prelude.{ℕ, ◌≡◌, ◌==◌, nat_eq, nat_lt, Bool, true, false, cond, List, [], ◌∷◌, length, Option, Some, None, unwrap_or}
 use Rattle.std.specs.Option.{option_or}
 use Rattle.std.specs.HashMap.{HashMap, get}
 use Rattle.chorus_entry.specs.declared.entry.Entry.{Entry}
@@ -78,10 +78,6 @@ first_index s (e ∷ past) =
 abbrev pub call_of : ℕ → Option Entry → Option Call
 call_of n None = None
 call_of n (Some e) = call_by n e.act
-
-abbrev pub call_at : List Entry → Option ℕ → ℕ → Option Call
-call_at entries None n = None
-call_at entries (Some i) n = call_of n (slice_get entries i)
 
 -- the row
 

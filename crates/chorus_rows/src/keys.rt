@@ -12,35 +12,45 @@ use std::hash::{Hash, Hasher};
 /// A port.
 #[derive(Clone, Copy, Debug, Eq)]
 pub struct PortKey {
+    /// Its name.
     pub port: Ui,
 }
 
 /// A message at a place.
 #[derive(Clone, Copy, Debug, Eq, Hash)]
 pub struct MessageAt {
+    /// The place.
     pub place: u16,
+    /// The message.
     pub id: MsgId,
 }
 
 /// A port, or a group, at a place.
 #[derive(Clone, Copy, Debug, Eq)]
 pub struct NameAt {
+    /// The place.
     pub place: u16,
+    /// The port or the group.
     pub name: Ui,
 }
 
 /// What goes from a place to a port by one route: directly, or by a group.
 #[derive(Clone, Copy, Debug, PartialEq, Eq)]
 pub struct Line {
+    /// The place that it goes from.
     pub place: u16,
+    /// The port; of posts to a group, the group.
     pub name: Ui,
+    /// The group that it goes by, where it does not go directly.
     pub route: Option<Ui>,
 }
 
 /// A client of a port.
 #[derive(Clone, Copy, Debug, Eq)]
 pub struct ClientOf {
+    /// The port.
     pub port: Ui,
+    /// The caller that sends it requests.
     pub client: u32,
 }
 

@@ -14,7 +14,7 @@ use std::collections::HashMap;
 
 /// What an entry teaches its place: where a port is.
 #[derive(Clone, Copy, Debug)]
-pub struct Lesson {
+pub(crate) struct Lesson {
     pub port: Ui,
     pub location: Location,
 }

@@ -11,12 +11,14 @@ use crate::keys::MessageAt;
 use chorus_entry::{Act, Answer, Entry, MsgId};
 use std::collections::HashMap;
 
-/// What the entries of a place say of a message: whether it is settled there, whether a try stands that was not told
-/// yet, and whether it has its choice of members.
+/// What the entries of a place say of a message.
 #[derive(Clone, Copy, Debug)]
 pub struct MarkRow {
+    /// Whether it is settled there.
     pub settled: bool,
+    /// Whether a try stands there that was not told yet.
     pub tried: bool,
+    /// Whether it has its choice of members there.
     pub chosen: bool,
 }
 

@@ -17,8 +17,11 @@ use std::collections::HashMap;
 /// What the entries about a message say of it.
 #[derive(Clone, Copy, Debug)]
 pub struct MessageRow {
+    /// How far it is on its way.
     pub progress: Progress,
+    /// The answer of its first verdict.
     pub verdict: Option<Answer>,
+    /// The first post under this very id.
     pub post: Option<Posting>,
 }
 

@@ -13,17 +13,22 @@ use std::collections::HashMap;
 /// Who took which message.
 #[derive(Clone, Copy, Debug)]
 pub struct Taking {
+    /// The caller that took it.
     pub taker: u32,
+    /// The message.
     pub id: MsgId,
 }
 
-/// What the entries of a place say of it: its last clock, how many ports and groups it made, and the message that its last
-/// entry took.
+/// What the entries of a place say of it.
 #[derive(Clone, Copy, Debug)]
 pub struct PlaceRow {
+    /// The clock of its last entry, or 0.
     pub clock: u64,
+    /// How many ports were made there.
     pub ports: u64,
+    /// How many groups were made there.
     pub groups: u64,
+    /// What its last entry took.
     pub taken: Option<Taking>,
 }
 

@@ -19,16 +19,20 @@ pub enum Stay {
     Apart,
 }
 
-/// What the entries of a caller say of it: how many messages it posted and where, its greatest request number, its
-/// outstanding call, the request in its hand, and where the first post of the greatest request number stands among all
-/// entries.
+/// What the entries of a caller say of it.
 #[derive(Clone, Copy, Debug)]
 pub struct SeatRow {
+    /// How many messages it posted.
     pub posts: u64,
+    /// Where it posted them.
     pub stay: Stay,
+    /// The greatest request number that it posted, or 0.
     pub requests: u32,
+    /// The number of its outstanding call.
     pub call: Option<u32>,
+    /// The request in its hand.
     pub hand: Option<Hand>,
+    /// Where the first post of the greatest request number stands among all entries, from 0.
     pub first: Option<usize>,
 }
 
