@@ -1,5 +1,1 @@
-pub mod ClientLemmas
-pub mod PortLemmas
-pub mod SeatLemmas
-pub mod StepLemmas
-pub mod TableLemmas
+pub mod ChoiceLemmas

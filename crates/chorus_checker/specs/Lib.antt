@@ -1,6 +1,3 @@
 pub mod Rules
 pub mod Refusals
-pub mod Fields
-pub mod Computing
-pub mod Rows
 pub mod Worlds

@@ -1,7 +1,6 @@
 -- Worlds: the terms of the step relation, of a world. No definition uses them.
-use Rattle.std.specs.Prelude.{ℕ, ◌≡◌, true, Bool, List, ◌∷◌, reverse}
+use Rattle.std.specs.Prelude.{ℕ, Bool, List, [], ◌∷◌}
 use Rattle.chorus_ui.specs.declared.ui.Ui.{Ui}
-use Rattle.chorus_ui.specs.declared.layout.Layout.{Layout}
 use Rattle.chorus_entry.specs.declared.entry.Entry.{Entry}
 use Rattle.chorus_entry.specs.declared.id.MsgId.{MsgId}
 use Rattle.chorus_entry.specs.declared.message.Message.{Message}
@@ -11,17 +10,11 @@ use Rattle.chorus_entry.specs.declared.act.Act.TheVariants.{Post, NoMember, Grou
 use Rattle.chorus_world.specs.declared.message.Progress.{Progress}
 use Rattle.chorus_world.specs.declared.place.Location.{Location}
 use Rattle.chorus_world.specs.declared.step.Due.{Due}
-use Rattle.chorus_checker.specs.declared.table.NamedPort.{NamedPort}
-use Rattle.chorus_checker.specs.Rows.{IsTableOf}
 use Rattle.chorus_world.specs.Views.{Views, at, by, views, views_about}
 use Rattle.chorus_entry.specs.Same.{are_same}
 use Rattle.chorus_world.specs.Places.{located}
 use Rattle.chorus_world.specs.Seats.{hand, same_hand}
-use Rattle.chorus_world.specs.Steps.{State, act_follows, act_may, choice_from, due, is_elsewhere, is_group_at, is_legal, is_timely, may_choose_from, may_request, may_tag, next_number, reply_to}
-
--- the table has what the entries, the oldest first, made of each port, and they are legal
-abbrev pub IsWorld : Layout → List Entry → List NamedPort → Type 0
-IsWorld layout entries ports = IsTableOf entries ports × (is_legal layout (reverse entries) ≡ true)
+use Rattle.chorus_world.specs.Steps.{State, act_follows, act_may, choice_from, due, is_elsewhere, is_group_at, is_timely, may_choose_from, may_request, may_tag, next_number, reply_to}
 
 -- what the act needs is there, at the place and by the seat
 abbrev pub may_do : State → ℕ → ℕ → Act → Bool
@@ -36,10 +29,6 @@ is_on_time w e = is_timely w.layout (views w.past e.place e.seat e.act) e
 
 abbrev pub is_next : State → Entry → Bool
 is_next w e = act_follows w.layout (views w.past e.place e.seat e.act) e.place e.seat e.act
-
--- the world with one entry more
-abbrev pub with_entry : State → Entry → State
-with_entry w e = record { layout = w.layout; past = e ∷ w.past }
 
 -- what a decision on the message for the port reads at the place
 abbrev pub seen : State → ℕ → MsgId → Ui → Views
@@ -83,3 +72,8 @@ may_request_in w place seat number m dest = may_request (views w.past place seat
 abbrev pub may_reply_in : State → ℕ → ℕ → ℕ → Dest → Bool
 may_reply_in w seat client number dest =
     are_same same_hand (hand w.past (by seat w.past)) (reply_to client number dest)
+
+-- the first list, or the second where it is empty
+abbrev pub one_of : List Ui → List Ui → List Ui
+one_of [] qs = qs
+one_of (q ∷ rs) qs = q ∷ rs

@@ -42,14 +42,14 @@ fn follow(rt: &impl Abort, alloc: Global, world: &mut World, journal: &str) {
 
 /// The world takes the entry of the line.
 fn takes(rt: &impl Abort, alloc: Global, world: &mut World, line: &str) {
-    let answer = world.apply(&entry_in(rt, alloc, line));
+    let answer = world.apply(entry_in(rt, alloc, line));
     assert!(rt; answer.is_ok(), "{line}: {answer:?}");
 }
 
 /// The world refuses the entry of the line by the rule that stands before it.
 fn refuses(rt: &impl Abort, alloc: Global, world: &mut World, refused: &str) {
     let (rule, line) = refused.split_once(": ").expect(rt, "a rule");
-    match world.apply(&entry_in(rt, alloc, line)) {
+    match world.apply(entry_in(rt, alloc, line)) {
         Err(WorldFault::NotLegal { rule: named }) => {
             assert_eq!(rt; rule.parse().ok(), Some(named), "{line}");
         }

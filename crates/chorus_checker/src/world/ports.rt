@@ -8,7 +8,6 @@ ghost use Rattle.chorus_world.specs.Views.{at};
 ghost use Rattle.chorus_checker.specs.Worlds.{may_do, next_in};
 
 use crate::group::site_of;
-use crate::place::ports_made;
 use crate::port::{are_waiting, is_coming, is_empty, is_first_waiting, is_held_at, is_next_hop};
 use crate::world::World;
 use chorus_entry::{Ids, MsgId, PENDING_LIMIT};
@@ -19,32 +18,32 @@ impl World {
     fn has_actor(&self, actor: Ui) -> bool
         ensures { result ≡ has_actor self.now.layout actor }
     {
-        self.layout.has_site(actor.site()) && actor.number() <= ACTORS_PER_SITE_LIMIT
+        self.layout().has_site(actor.site()) && actor.number() <= ACTORS_PER_SITE_LIMIT
     }
 
     /// Whether the actor is one of the layout, and the place its home place.
     fn is_home(&self, actor: Ui, place: u16) -> bool
         ensures { result ≡ is_home self.now.layout actor place }
     {
-        self.has_actor(actor) && self.layout.place_at(actor.site(), actor) == place
+        self.has_actor(actor) && self.layout().place_at(actor.site(), actor) == place
     }
 
     /// Whether the place has made its share of the ports of a site.
     fn is_full_of_ports(&self, place: u16) -> bool
         ensures { result ≡ is_full_of_ports self.now.layout (at place self.now.past) }
     {
-        let made = ports_made(self.entries.as_slice(), place) as u64;
-        PORTS_PER_SITE_LIMIT / u64::from(self.layout.turns()) <= made
+        let made = self.ledger.ports_made(place);
+        PORTS_PER_SITE_LIMIT / u64::from(self.layout().turns()) <= made
     }
 
     /// The number of the next port that the place makes, which has not made its share.
     fn is_next_number(&self, place: u16, number: u64) -> bool
         ensures { result ≡ (number == next_in self.now place) }
     {
-        let made = ports_made(self.entries.as_slice(), place) as u64;
-        let turns = u64::from(self.layout.turns());
-        let turn = u64::from(place.saturating_sub(1)) % turns;
-        number == made * turns + turn + 1
+        let made = u128::from(self.ledger.ports_made(place));
+        let turns = u128::from(self.layout().turns());
+        let turn = u128::from(place.saturating_sub(1)) % turns;
+        u128::from(number) == made * turns + turn + 1
     }
 
     pub(super) fn may_make(&self, place: u16, port: Ui, actor: Ui, capacity: u8) -> bool
@@ -87,7 +86,7 @@ impl World {
     {
         is_held_at(self.port(port), place)
             && self.has_actor(actor)
-            && actor.site() == site_of(self.layout, place)
+            && actor.site() == site_of(self.layout(), place)
     }
 
     pub(super) fn may_depart(&self, place: u16, port: Ui, to: u16, actor: Ui, hop: u64) -> bool
@@ -95,8 +94,8 @@ impl World {
     {
         is_held_at(self.port(port), place)
             && self.has_actor(actor)
-            && actor.site() != site_of(self.layout, place)
-            && to == self.layout.place_at(actor.site(), port)
+            && actor.site() != site_of(self.layout(), place)
+            && to == self.layout().place_at(actor.site(), port)
             && is_next_hop(self.port(port), hop)
     }
 

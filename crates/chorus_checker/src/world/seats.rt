@@ -8,8 +8,6 @@ ghost use Rattle.chorus_world.specs.Views.{by};
 ghost use Rattle.chorus_entry.specs.Same.{is_number};
 ghost use Rattle.chorus_checker.specs.Worlds.{may_do, may_reply_in, may_request_in, may_tag_in};
 
-use crate::place::just_taken;
-use crate::seat::{in_hand, is_call_again, outstanding, posts, posts_stay, requests};
 use crate::world::World;
 use chorus_entry::{Dest, Message, Tag};
 use chorus_world::TakenReply;
@@ -30,11 +28,12 @@ impl World {
             (Tag::Request { number: named, .. }, Dest::Port(_)) => *named == number,
             _ => false,
         };
-        let entries = self.entries.as_slice();
         request
-            && match outstanding(entries, seat) {
-                None => number != 0 && number - 1 == requests(entries, seat),
-                Some(call) => call == number && is_call_again(entries, seat, number, message, dest),
+            && match self.ledger.call(seat) {
+                None => number != 0 && number - 1 == self.ledger.requests(seat),
+                Some(call) => {
+                    call == number && self.ledger.is_call_again(seat, number, message, dest)
+                }
             }
     }
 
@@ -42,7 +41,7 @@ impl World {
     fn may_reply(&self, seat: u32, client: u32, number: u32, dest: &Dest) -> bool
         ensures { result ≡ may_reply_in self.now seat client number dest.now }
     {
-        match in_hand(self.entries.as_slice(), seat) {
+        match self.ledger.hand(seat) {
             Some(hand) => match dest {
                 Dest::Port(port) => {
                     hand.client == client && hand.number == number && hand.back == *port
@@ -67,12 +66,11 @@ impl World {
     pub(super) fn may_post(&self, place: u16, seat: u32, message: &Message, dest: &Dest) -> bool
         ensures { result ≡ may_do self.now place seat (Act.Post message.now dest.now) }
     {
-        let entries = self.entries.as_slice();
         message.id.seat == seat
             && message.id.number != 0
-            && message.id.number as usize - 1 == posts(entries, seat)
+            && u64::from(message.id.number) - 1 == self.ledger.posts(seat)
             && message.id.copy == 0
-            && posts_stay(entries, seat, place)
+            && self.ledger.posts_stay(seat, place)
             && self.may_tag(place, seat, message, dest)
     }
 
@@ -80,7 +78,7 @@ impl World {
     pub(super) fn is_outstanding(&self, seat: u32, number: u32) -> bool
         ensures { result ≡ is_number number (call (by seat self.now.past)) }
     {
-        match outstanding(self.entries.as_slice(), seat) {
+        match self.ledger.call(seat) {
             Some(call) => call == number,
             None => false,
         }
@@ -89,13 +87,13 @@ impl World {
     pub(super) fn has_no_call(&self, seat: u32) -> bool
         ensures { result ≡ is_none (call (by seat self.now.past)) }
     {
-        outstanding(self.entries.as_slice(), seat).is_none()
+        self.ledger.call(seat).is_none()
     }
 
     pub(super) fn has_no_request(&self, seat: u32) -> bool
         ensures { result ≡ is_none (hand self.now.past (by seat self.now.past)) }
     {
-        in_hand(self.entries.as_slice(), seat).is_none()
+        self.ledger.hand(seat).is_none()
     }
 
     /// Whether the reply that was taken ends the caller's outstanding call, which has this number.
@@ -108,7 +106,7 @@ impl World {
     pub(super) fn may_be_done(&self, place: u16, seat: u32, number: u32) -> bool
         ensures { result ≡ may_do self.now place seat (Act.Done number) }
     {
-        match just_taken(self.entries.as_slice(), place) {
+        match self.ledger.just_taken(place) {
             Some(reply) => {
                 reply.taker == seat
                     && reply.number == number
@@ -121,7 +119,7 @@ impl World {
     pub(super) fn may_be_late(&self, place: u16, seat: u32, number: u32) -> bool
         ensures { result ≡ may_do self.now place seat (Act.Late number) }
     {
-        match just_taken(self.entries.as_slice(), place) {
+        match self.ledger.just_taken(place) {
             Some(reply) => {
                 reply.taker == seat
                     && reply.number == number

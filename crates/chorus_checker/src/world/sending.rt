@@ -1,6 +1,6 @@
 //! The way of a message to its port: trying, deciding and telling, and the choice of a group's members.
 
-ghost use Rattle.std.specs.Prelude.{◌≡◌, IfOk, unwrap_or};
+ghost use Rattle.std.specs.Prelude.{◌≡◌, unwrap_or};
 ghost use Rattle.chorus_entry.specs.declared.act.Act.TheVariants as Act;
 ghost use Rattle.chorus_world.specs.Posts.{is_on_site, post_of};
 ghost use Rattle.chorus_world.specs.Steps.{is_beyond, is_to_go, suits, due_at_home, is_due, meets, may_enter, is_early, is_asked_from};
@@ -8,24 +8,20 @@ ghost use Rattle.chorus_world.specs.Places.{is_location};
 ghost use Rattle.chorus_ui.specs.Layout.{group_place};
 ghost use Rattle.chorus_checker.specs.Worlds.{choice_in, due_in, finds_elsewhere, located_in, may_choose_in, may_do, seen};
 
-use crate::client::{finds_clients_full, is_already};
-use crate::group::{choice, first_unchosen, site_of};
-use crate::message::{is_to_be_heard, is_to_be_told, progress_of};
-use crate::place::{is_first, located};
+use crate::group::{choice, site_of};
+use crate::message::{is_to_be_heard, is_to_be_told};
 use crate::port::{has_room, is_coming, is_ended_at, is_full, is_held_at, is_made};
-use crate::post::{post_of, site_asked};
 use crate::world::World;
 use chorus_entry::{Answer, Members, MsgId};
 use chorus_ui::Ui;
 use chorus_world::{Due, Location, Progress};
-use std::alloc::AllocError;
 
 impl World {
     /// Whether the layout has no such site as that of the name.
     fn is_beyond(&self, ui: Ui) -> bool
         ensures { result ≡ is_beyond self.now.layout ui }
     {
-        !self.layout.has_site(ui.site())
+        !self.layout().has_site(ui.site())
     }
 
     /// Whether the place is on the site, where one is asked for.
@@ -33,7 +29,7 @@ impl World {
         ensures { result ≡ is_on_site self.now.layout site place }
     {
         match site {
-            Some(site) => site_of(self.layout, place) == site,
+            Some(site) => site_of(self.layout(), place) == site,
             None => true,
         }
     }
@@ -42,16 +38,16 @@ impl World {
     fn suits(&self, place: u16, id: MsgId, port: Ui) -> bool
         ensures { result ≡ suits self.now.layout (seen self.now place id port) place id }
     {
-        self.is_on_site(site_asked(self.entries.as_slice(), id), place)
+        self.is_on_site(self.ledger.site_asked(id), place)
     }
 
     /// Whether the message is to be tried from the place, and its port is located at `to`.
     fn is_to_go(&self, place: u16, id: MsgId, port: Ui, to: u16) -> bool
         ensures { result ≡ is_to_go self.now.layout (seen self.now place id port) id port to }
     {
-        is_first(self.entries.as_slice(), place, id, port)
+        self.ledger.is_first(place, id, port)
             && !self.is_beyond(port)
-            && located(self.layout, self.entries.as_slice(), place, port).to == to
+            && self.ledger.located(place, port).to == to
     }
 
     /// How the message is due at the place where it waits.
@@ -59,7 +55,7 @@ impl World {
         ensures { result ≡ due_at_home self.now.layout (seen self.now place id port) place id port }
     {
         if self.is_to_go(place, id, port, place) && self.suits(place, id, port) {
-            let hop = located(self.layout, self.entries.as_slice(), place, port).hop;
+            let hop = self.ledger.located(place, port).hop;
             Due::AtHome { hop }
         } else {
             Due::NotDue
@@ -70,7 +66,7 @@ impl World {
     fn due(&self, place: u16, id: MsgId, port: Ui) -> Due
         ensures { result ≡ due_in self.now place id port }
     {
-        let progress = progress_of(self.entries.as_slice(), id);
+        let progress = self.ledger.progress(id);
         match &progress {
             Progress::Tried {
                 port: tried,
@@ -105,8 +101,8 @@ impl World {
     {
         self.meets(place, id, port)
             && self.suits(place, id, port)
-            && !is_already(self.entries.as_slice(), port, id)
-            && !finds_clients_full(self.entries.as_slice(), port, id)
+            && !self.ledger.is_already(port, id)
+            && !self.ledger.finds_clients_full(port, id)
     }
 
     pub(super) fn may_accept(&self, place: u16, id: MsgId, port: Ui, pos: u64) -> bool
@@ -124,13 +120,13 @@ impl World {
     pub(super) fn may_find_already(&self, place: u16, id: MsgId, port: Ui) -> bool
         ensures { result ≡ may_do self.now place 0 (Act.Already id port) }
     {
-        self.meets(place, id, port) && is_already(self.entries.as_slice(), port, id)
+        self.meets(place, id, port) && self.ledger.is_already(port, id)
     }
 
     pub(super) fn may_find_clients_full(&self, place: u16, id: MsgId, port: Ui) -> bool
         ensures { result ≡ may_do self.now place 0 (Act.ClientsFull id port) }
     {
-        self.meets(place, id, port) && finds_clients_full(self.entries.as_slice(), port, id)
+        self.meets(place, id, port) && self.ledger.finds_clients_full(port, id)
     }
 
     pub(super) fn may_be_stale(
@@ -152,21 +148,21 @@ impl World {
             && self.is_located(place, port, to, hop)
             && tried < hop
             && to != place
-            && site_asked(self.entries.as_slice(), id).is_none()
+            && self.ledger.site_asked(id).is_none()
     }
 
     /// Whether the place locates the port at `to`, by this hop.
     fn is_located(&self, place: u16, port: Ui, to: u16, hop: u64) -> bool
         ensures { result ≡ is_location to hop (located_in self.now place port) }
     {
-        let location = located(self.layout, self.entries.as_slice(), place, port);
+        let location = self.ledger.located(place, port);
         location.to == to && location.hop == hop
     }
 
     pub(super) fn may_be_early(&self, place: u16, id: MsgId, port: Ui, hop: u64) -> bool
         ensures { result ≡ may_do self.now place 0 (Act.Early id port hop) }
     {
-        let location = located(self.layout, self.entries.as_slice(), place, port);
+        let location = self.ledger.located(place, port);
         let early = match self.due(place, id, port) {
             Due::NotDue => false,
             Due::ByTry { hop: tried } | Due::AtHome { hop: tried } => {
@@ -183,14 +179,14 @@ impl World {
             Due::NotDue => false,
             Due::ByTry { hop } | Due::AtHome { hop } => hop == 0 && !is_made(self.port(port)),
         };
-        unmade || self.is_beyond(port) && is_first(self.entries.as_slice(), place, id, port)
+        unmade || self.is_beyond(port) && self.ledger.is_first(place, id, port)
     }
 
     /// Whether the place where the message waits, or was tried, finds the port elsewhere than on the site asked for.
     fn is_elsewhere(&self, place: u16, id: MsgId, port: Ui, to: u16, hop: u64) -> bool
         ensures { result ≡ finds_elsewhere self.now place id port to hop }
     {
-        let off_site = !self.is_on_site(site_asked(self.entries.as_slice(), id), to);
+        let off_site = !self.is_on_site(self.ledger.site_asked(id), to);
         if off_site && self.is_to_go(place, id, port, to) {
             return true;
         }
@@ -212,7 +208,7 @@ impl World {
     ) -> bool
         ensures { result ≡ may_do self.now place 0 (Act.Elsewhere id port to hop) }
     {
-        site_asked(self.entries.as_slice(), id).is_some()
+        self.ledger.site_asked(id).is_some()
             && self.is_located(place, port, to, hop)
             && self.is_elsewhere(place, id, port, to, hop)
     }
@@ -227,15 +223,15 @@ impl World {
         ensures { result ≡ may_do self.now place 0 (Act.Try id port to hop) }
     {
         self.is_to_go(place, id, port, to)
-            && located(self.layout, self.entries.as_slice(), place, port).hop == hop
+            && self.ledger.located(place, port).hop == hop
             && to != place
-            && self.is_on_site(site_asked(self.entries.as_slice(), id), to)
+            && self.is_on_site(self.ledger.site_asked(id), to)
     }
 
     pub(super) fn may_be_told(&self, place: u16, id: MsgId, answer: Answer) -> bool
         ensures { result ≡ may_do self.now place 0 (Act.Told id answer) }
     {
-        is_to_be_told(place, answer, progress_of(self.entries.as_slice(), id))
+        is_to_be_told(place, answer, self.ledger.progress(id))
     }
 
     /// Whether the post to the group has its turn to be chosen for at the place, where it has this progress.
@@ -250,7 +246,7 @@ impl World {
                 };
                 named
                     && self.choosing_place(group, *from) == place
-                    && match first_unchosen(self.entries.as_slice(), place, *from, group) {
+                    && match self.ledger.first_unchosen(place, *from, group) {
                         Some(next) => id == next,
                         None => false,
                     }
@@ -263,67 +259,51 @@ impl World {
     fn choosing_place(&self, group: Ui, from: u16) -> u16
         ensures { result ≡ unwrap_or (group_place self.now.layout group) from }
     {
-        if self.layout.has_site(group.site()) {
-            self.layout.first_place(group.site())
+        if self.layout().has_site(group.site()) {
+            self.layout().first_place(group.site())
         } else {
             from
         }
     }
 
     /// The members that are chosen for a post with this progress.
-    fn choice_from(&self, place: u16, progress: &Progress) -> Result<Vec<Ui>, AllocError>
-        ensures { IfOk result (λ chosen. chosen.items ≡ choice_in self.now place progress.now) }
+    fn choice_from(&self, place: u16, progress: &Progress) -> &[Ui]
+        ensures { result.now ≡ choice_in self.now place progress.now }
     {
-        let alloc = *self.entries.allocator();
         match progress {
-            Progress::Asked { dest, .. } => {
-                choice(alloc, self.layout, self.entries.as_slice(), place, dest)
-            }
-            _ => Ok(Vec::new(alloc)),
+            Progress::Asked { dest, .. } => choice(&self.ledger, place, dest),
+            _ => &[],
         }
     }
 
-    pub(super) fn may_choose(
-        &self,
-        place: u16,
-        id: MsgId,
-        group: Ui,
-        members: &Members,
-    ) -> Result<bool, AllocError>
-        ensures { IfOk result (λ b. b ≡ may_do self.now place 0 (Act.Choose id group members.now)) }
+    pub(super) fn may_choose(&self, place: u16, id: MsgId, group: Ui, members: &Members) -> bool
+        ensures { result ≡ may_do self.now place 0 (Act.Choose id group members.now) }
     {
-        let progress = progress_of(self.entries.as_slice(), id);
-        let chosen = self.choice_from(place, &progress)?;
-        Ok(
-            self.may_choose_from(place, id, group, &progress)
-                && 0 < members.uis().len()
-                && members.uis() == chosen.as_slice(),
-        )
+        let progress = self.ledger.progress(id);
+        self.may_choose_from(place, id, group, &progress)
+            && 0 < members.uis().len()
+            && members.uis() == self.choice_from(place, &progress)
     }
 
-    pub(super) fn may_find_no_member(
-        &self,
-        place: u16,
-        id: MsgId,
-        group: Ui,
-    ) -> Result<bool, AllocError>
-        ensures { IfOk result (λ b. b ≡ may_do self.now place 0 (Act.NoMember id group)) }
+    pub(super) fn may_find_no_member(&self, place: u16, id: MsgId, group: Ui) -> bool
+        ensures { result ≡ may_do self.now place 0 (Act.NoMember id group) }
     {
-        let progress = progress_of(self.entries.as_slice(), id);
-        let chosen = self.choice_from(place, &progress)?;
-        Ok(self.may_choose_from(place, id, group, &progress) && chosen.len() == 0)
+        let progress = self.ledger.progress(id);
+        self.may_choose_from(place, id, group, &progress)
+            && self.choice_from(place, &progress).len() == 0
     }
 
     /// Whether the message was posted at the place to a group of another place.
     fn is_asked_from(&self, place: u16, id: MsgId) -> bool
         ensures { result ≡ is_asked_from self.now.layout place (post_of id self.now.past) }
     {
-        match post_of(self.entries.as_slice(), id) {
+        match self.ledger.post_of(id) {
             Some(post) => {
                 post.place == place
                     && match post.dest.group() {
                         Some(group) => {
-                            self.layout.has_site(group.site()) && !self.is_group_place(place, group)
+                            self.layout().has_site(group.site())
+                                && !self.is_group_place(place, group)
                         }
                         None => false,
                     }
@@ -335,8 +315,7 @@ impl World {
     pub(super) fn may_hear(&self, place: u16, id: MsgId, answer: Answer) -> bool
         ensures { result ≡ may_do self.now place 0 (Act.Heard id answer) }
     {
-        self.is_asked_from(place, id)
-            && is_to_be_heard(answer, progress_of(self.entries.as_slice(), id))
+        self.is_asked_from(place, id) && is_to_be_heard(answer, self.ledger.progress(id))
     }
 }
 

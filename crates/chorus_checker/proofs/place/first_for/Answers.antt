@@ -1,7 +1,0 @@
-use Rattle.std.proofs.Common.{arith}
-use Rattle.std.proofs.lemmas.Grind.{common_steps}
-use Rattle.chorus_world.proofs.Messages.SentLemmas.{first_unsettled_append}
-use Rattle.chorus_checker.proofs.place.first_for.Goals as goal
-
-pub loop-entry-preserved : goal.loop-entry-preserved
-loop-entry-preserved c = grind (arith, common_steps, first_unsettled_append)

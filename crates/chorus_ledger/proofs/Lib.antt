@@ -1,0 +1,6 @@
+pub mod CallIndex
+pub mod ListLemmas
+pub mod PortLemmas
+pub mod ReadLemmas
+pub mod StepLemmas
+pub mod TieLemmas

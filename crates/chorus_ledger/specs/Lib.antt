@@ -1,0 +1,4 @@
+pub mod Asks
+pub mod Ports
+pub mod Ties
+pub mod Worlds

@@ -1,0 +1,10 @@
+pub mod ClientLemmas
+pub mod GroupLemmas
+pub mod Keeping
+pub mod KeyLemmas
+pub mod LineChanges
+pub mod LocationLemmas
+pub mod MessageLemmas
+pub mod OpenLines
+pub mod PlaceLemmas
+pub mod SeatLemmas

@@ -1,0 +1,8 @@
+pub mod Clients
+pub mod Groups
+pub mod Keys
+pub mod Lines
+pub mod Locations
+pub mod Messages
+pub mod Places
+pub mod Seats
