@@ -13,15 +13,10 @@ use Rattle.chorus_law.specs.Network.{NetState, Event, Enter, Act, Deliver, happe
 use Rattle.chorus_law.specs.Schedules.{may_happen, may_be}
 use Rattle.chorus_law.specs.Tasks.{Task, Do, Drain, IsDrain, CarryOut}
 use Rattle.chorus_law.proofs.Draining.Drains.{idle, round-deliveries}
+use Rattle.chorus_run.proofs.Stepping.{may-suffix}
 use Rattle.chorus_version.proofs.Places.{layout_on}
 use Rattle.chorus_version.proofs.Nets.{net_on, EventWithin, is_near, near}
 use Rattle.chorus_version.proofs.Schedules.{Agree, agree}
-
--- What may happen.
-
-pub may-behind : (l : Layout) (xs ys : List Event) → may_be l (xs ++ ys) ≡ true → may_be l ys ≡ true
-may-behind l [] ys may = may
-may-behind l (x ∷ xs) ys may = may-behind l xs ys (and_parts (may_happen x (schedule l (xs ++ ys))) (may_be l (xs ++ ys)) may).1
 
 -- Events that serve nothing.
 
@@ -96,13 +91,13 @@ module _ (n : ℕ) (more : List PlaceState) (l : Layout) (shape : IsLayout l) (w
   carry-down (Do e ∷ ts) fs all may c =
       let older = c.0 in
       let head = All-head (TaskWithin n l) (Do e) ts all in
-      let may_older = may-behind (layout_on n l) (e ∷ []) older (ap (may_be (layout_on n l)) (sym c.1.0) ∙ may) in
+      let may_older = may-suffix (layout_on n l) (e ∷ []) older (ap (may_be (layout_on n l)) (sym c.1.0) ∙ may) in
       (near l older, (ap (near l) c.1.0 ∙ near-first n l e older head.1, carry-down ts older (All-tail (TaskWithin n l) (Do e) ts all) may_older c.1.1))
   carry-down (Drain seat ∷ ts) fs all may c =
       let older = c.0 in
       let d = c.1.0 in
       let wide = layout_on n l in
-      let may_older = may-behind wide (rounds wide seat d.count) older (ap (may_be wide) (sym d.rounds) ∙ may) in
+      let may_older = may-suffix wide (rounds wide seat d.count) older (ap (may_be wide) (sym d.rounds) ∙ may) in
       let agrees = agree n more l shape wider start fs may (carried-within n l wide (Drain seat ∷ ts) fs all c) in
       let turned = ap (near l) d.rounds ∙ filter-append (is_near l) (rounds wide seat d.count) older ∙ ap (λ (xs : List Event). xs ++ near l older) (rounds-near seat d.count) in
       (near l older, (record { count = d.count; rounds = turned; dry = dry-down seat fs agrees d.dry }, carry-down ts older (All-tail (TaskWithin n l) (Drain seat) ts all) may_older c.1.1))

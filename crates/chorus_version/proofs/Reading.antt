@@ -1,0 +1,275 @@
+-- A text of version 1 says the same for layouts of any number of sites from 8 on.
+-- l is a layout, n a number of sites, c a scenario, s, t and u are states of reading, x is a line.
+use Rattle.std.proofs.Common.{ℕ, ◌≡◌, ◌≤◌, ◌<◌, ◌+◌, ◌==◌, Bool, true, false, ◌&&◌, ◌||◌, not, cond, nat_lt, nat_le, List, [], ◌∷◌, ◌++◌, length, ◌⊎◌, inl, inr, Option, Some, None, Result, Ok, Err, refl, sym, ◌∙◌, ap, subst, arith}
+use Rattle.std.proofs.lemmas.Bool.Decides.{nat_tests}
+use Rattle.chorus_ui.specs.declared.ui.Ui.{Ui}
+use Rattle.chorus_ui.specs.declared.layout.Layout.{Layout}
+use Rattle.chorus_ui.specs.Name.{same_ui}
+use Rattle.chorus_entry.specs.declared.dest.Dest.{Dest}
+use Rattle.chorus_entry.specs.declared.dest.Dest.TheVariants as dests
+use Rattle.chorus_entry.specs.declared.command.Command.{Command}
+use Rattle.chorus_scene.specs.declared.scenario.SetupLine.{SetupLine}
+use Rattle.chorus_scene.specs.declared.scenario.SetupLine.TheVariants as setups
+use Rattle.chorus_scene.specs.declared.scenario.Step as step
+use Rattle.chorus_scene.specs.declared.scenario.Step.TheVariants as steps
+use Rattle.chorus_scene.specs.declared.word.Word.{Word}
+use Rattle.chorus_scene.specs.declared.word.Section.{Section}
+use Rattle.chorus_scene.specs.declared.word.Section.TheVariants as sections
+use Rattle.chorus_scene.specs.declared.word.Reason.{Reason}
+use Rattle.chorus_scene.specs.declared.word.Reason.TheVariants as reasons
+use Rattle.chorus_scene.specs.declared.limits.TheConstants.{TEXT_LIMIT}
+use Rattle.chorus_scene.specs.Text.{cut, fields, lines, is_text, is_skipped}
+use Rattle.chorus_scene.specs.Scene.{Scene}
+use Rattle.chorus_scene.specs.Making.{next_port, next_group, makes, made_after, is_among}
+use Rattle.chorus_scene.specs.Line.{Line, VersionLine, SitesLine, PortLine, GroupLine, MemberLine, ScriptLine, CommandLine, ScheduleLine, StepLine, EndLine, word_of, may_stand, cuts, is_misshapen, line_of}
+use Rattle.chorus_scene.specs.Grammar.{State, opening, made, is_beyond, command_is_unknown, names_unknown, repeats, is_not_given, cannot_go, is_unscheduled, is_far, unless, known, judge_line, judge_fields, judge_word, judge_head, is_head, judge_bytes, after, then_after, next, is_ended, read_scene}
+use Rattle.chorus_scene.specs.Laws.{Pass}
+use Rattle.chorus_scene.proofs.Law.{Tidy, Said, line_said, inv_text, inv_judge}
+use Rattle.chorus_scene.proofs.Order.{accepted}
+use Rattle.chorus_scene.proofs.Sofar.{Follows}
+use Rattle.chorus_version.proofs.Places.{layout_on}
+
+-- the scenario, and what was said so far, with so many sites in the layout
+abbrev pub scene_on : ℕ → Scene → Scene
+scene_on n c = record c { layout = layout_on n c.layout }
+
+abbrev pub state_on : ℕ → State → State
+state_on n s = record s { scene = scene_on n s.scene }
+
+abbrev result_on : ℕ → Result State Reason → Result State Reason
+result_on n (Ok s) = Ok (state_on n s)
+result_on n (Err reason) = Err reason
+
+module _ (n : ℕ) (eight : 8 ≤ n) where
+  -- What is made depends on the number of places per site alone.
+  made-same : (l : Layout) (names : List Ui) (xs : List SetupLine) → made_after (layout_on n l) names xs ≡ made_after l names xs
+  made-same l names [] = refl
+  made-same l names (setups.Port actor capacity ∷ xs) = made-same l (names ++ makes l names (setups.Port actor capacity)) xs
+  made-same l names (setups.Group site ∷ xs) = made-same l (names ++ makes l names (setups.Group site)) xs
+  made-same l names (setups.Member group port ∷ xs) = made-same l (names ++ []) xs
+
+  module _ (c : Scene) (wide : 8 ≤ c.layout.sites) (one : c.version ≡ 1) where
+    made-is : made (scene_on n c) ≡ made c
+    made-is = made-same c.layout [] c.setup
+
+    sites-same : (m : ℕ) → (m == 0) || nat_lt n m || nat_lt 8 m ≡ (m == 0) || nat_lt c.layout.sites m || nat_lt 8 m
+    sites-same m = grind (arith, nat_tests, eight, wide)
+
+    beyond-same : (x : Line) → is_beyond (scene_on n c) x ≡ is_beyond c x
+    beyond-same (SitesLine m) = ?
+    beyond-same (VersionLine v) = refl
+    beyond-same (PortLine u actor capacity) = refl
+    beyond-same (GroupLine u) = refl
+    beyond-same (MemberLine group port) = refl
+    beyond-same (ScriptLine actor) = refl
+    beyond-same (CommandLine command) = refl
+    beyond-same ScheduleLine = refl
+    beyond-same (StepLine step) = refl
+    beyond-same EndLine = refl
+
+    dest-same : (d : Dest) (body : List ℕ) → command_is_unknown (scene_on n c) (Command.Send d body) ≡ command_is_unknown c (Command.Send d body)
+    dest-same (dests.Port q) body = refl
+    dest-same (dests.All g) body = refl
+    dest-same (dests.One g) body = refl
+    dest-same (dests.OneAt g site) body = refl
+
+    command-same : (command : Command) → command_is_unknown (scene_on n c) command ≡ command_is_unknown c command
+    command-same (Command.Send d body) = dest-same d body
+    command-same (Command.Make actor capacity) = refl
+    command-same (Command.Call port back body) = refl
+    command-same Command.Retry = refl
+    command-same Command.Cancel = refl
+    command-same (Command.Reply body) = refl
+    command-same (Command.Take port) = refl
+    command-same (Command.Move port actor) = refl
+    command-same (Command.Delete port) = refl
+    command-same (Command.GroupMake site) = refl
+    command-same (Command.Join group port) = refl
+    command-same (Command.Leave group port) = refl
+
+    unknown-same : (x : Line) → names_unknown (scene_on n c) x ≡ names_unknown c x
+    unknown-same (MemberLine group port) =
+        ap (λ (names : List Ui). not (not (is_far c group) && is_among group names) || not (not (is_far c port) && is_among port names)) made-is
+    unknown-same (CommandLine command) = command-same command
+    unknown-same (SitesLine m) = refl
+    unknown-same (VersionLine v) = refl
+    unknown-same (PortLine u actor capacity) = refl
+    unknown-same (GroupLine u) = refl
+    unknown-same (ScriptLine actor) = refl
+    unknown-same ScheduleLine = refl
+    unknown-same (StepLine step) = refl
+    unknown-same EndLine = refl
+
+    repeats-same : (x : Line) → repeats (scene_on n c) x ≡ repeats c x
+    repeats-same (PortLine u actor capacity) = ap (is_among u) made-is
+    repeats-same (GroupLine u) = ap (is_among u) made-is
+    repeats-same (MemberLine group port) = refl
+    repeats-same (CommandLine command) = refl
+    repeats-same (SitesLine m) = refl
+    repeats-same (VersionLine v) = refl
+    repeats-same (ScriptLine actor) = refl
+    repeats-same ScheduleLine = refl
+    repeats-same (StepLine step) = refl
+    repeats-same EndLine = refl
+
+    given-same : (x : Line) → is_not_given (scene_on n c) x ≡ is_not_given c x
+    given-same (PortLine u actor capacity) = ap (λ (names : List Ui). not (same_ui u (next_port c.layout actor names))) made-is
+    given-same (GroupLine u) = ap (λ (names : List Ui). not (same_ui u (next_group c.layout u.site names))) made-is
+    given-same (MemberLine group port) = refl
+    given-same (CommandLine command) = refl
+    given-same (SitesLine m) = refl
+    given-same (VersionLine v) = refl
+    given-same (ScriptLine actor) = refl
+    given-same ScheduleLine = refl
+    given-same (StepLine step) = refl
+    given-same EndLine = refl
+
+    step-same : (x : step.Step) → cannot_go (scene_on n c) x ≡ cannot_go c x
+    step-same (steps.Step k) = refl
+    step-same (steps.Deliver from to) = refl
+    step-same steps.Drain = refl
+
+    unscheduled-same : (x : Line) → is_unscheduled (scene_on n c) x ≡ is_unscheduled c x
+    unscheduled-same (StepLine step) = step-same step
+    unscheduled-same (PortLine u actor capacity) = refl
+    unscheduled-same (GroupLine u) = refl
+    unscheduled-same (MemberLine group port) = refl
+    unscheduled-same (CommandLine command) = refl
+    unscheduled-same (SitesLine m) = refl
+    unscheduled-same (VersionLine v) = refl
+    unscheduled-same (ScriptLine actor) = refl
+    unscheduled-same ScheduleLine = refl
+    unscheduled-same EndLine = refl
+
+    line-same : (x : Line) → judge_line (scene_on n c) x ≡ judge_line c x
+    line-same x =
+        λ i. unless (beyond-same x i) reasons.Limit (unless (unknown-same x i) reasons.Unknown (unless (repeats-same x i) reasons.Twice (unless (given-same x i) reasons.Order (unless (unscheduled-same x i) reasons.Schedule (Ok x)))))
+
+    fields-same : (w : Word) (fs : List (List ℕ)) → judge_fields (scene_on n c) w fs ≡ judge_fields c w fs
+    fields-same w fs = λ i. unless (is_misshapen c.version w fs) reasons.Word (known (line_of w fs) reasons.Number (λ (x : Line). line-same x i))
+
+  word-same : (s : State) (p : List ℕ × Option (List ℕ)) → 8 ≤ s.scene.layout.sites → s.scene.version ≡ 1 → judge_word (state_on n s) p ≡ judge_word s p
+  word-same s (word, rest) wide one =
+      λ i. known (word_of s.scene.version word) reasons.Word (λ (w : Word). unless (not (may_stand s.section w)) reasons.Order (fields-same s.scene wide one w (fields (cuts w) rest) i))
+
+  -- A line more.
+
+  after-on : (s : State) (x : Line) → after (state_on n s) x ≡ state_on n (after s x)
+  after-on s (SitesLine m) = refl
+  after-on s (VersionLine v) = refl
+  after-on s (PortLine u actor capacity) = refl
+  after-on s (GroupLine u) = refl
+  after-on s (MemberLine group port) = refl
+  after-on s (ScriptLine actor) = refl
+  after-on s (CommandLine command) = refl
+  after-on s ScheduleLine = refl
+  after-on s (StepLine step) = refl
+  after-on s EndLine = refl
+
+  then-on : (s : State) (r : Result Line Reason) → then_after (state_on n s) r ≡ result_on n (then_after s r)
+  then-on s (Ok x) = ap (λ (t : State). Ok t) (after-on s x)
+  then-on s (Err reason) = refl
+
+  bytes-same : (s : State) (bytes : List ℕ) → 8 ≤ s.scene.layout.sites → ((s.section ≡ sections.Head) ⊎ (s.scene.version ≡ 1)) → judge_bytes (state_on n s) bytes ≡ judge_bytes s bytes
+  bytes-same s bytes wide (inl e) =
+      ap (λ b. cond b (judge_head bytes) (judge_word (state_on n s) (cut 32 bytes))) (ap is_head e) ∙ sym (ap (λ b. cond b (judge_head bytes) (judge_word s (cut 32 bytes))) (ap is_head e))
+  bytes-same s bytes wide (inr one) = ap (cond (is_head s.section) (judge_head bytes)) (word-same s (cut 32 bytes) wide one)
+
+  next-on : (s : State) (bytes : List ℕ) → 8 ≤ s.scene.layout.sites → ((s.section ≡ sections.Head) ⊎ (s.scene.version ≡ 1)) → next (state_on n s) bytes ≡ result_on n (next s bytes)
+  unfolding next
+  next-on s bytes wide when = go (not (is_text bytes)) (is_skipped bytes)
+    where
+      said : then_after (state_on n s) (judge_bytes (state_on n s) bytes) ≡ result_on n (then_after s (judge_bytes s bytes))
+      said = ap (then_after (state_on n s)) (bytes-same s bytes wide when) ∙ then-on s (judge_bytes s bytes)
+
+      go : (a b : Bool) → unless a reasons.Text (cond b (Ok (state_on n s)) (then_after (state_on n s) (judge_bytes (state_on n s) bytes))) ≡ result_on n (unless a reasons.Text (cond b (Ok s) (then_after s (judge_bytes s bytes))))
+      go true b = refl
+      go false true = refl
+      go false false = said
+
+-- Behind its head a text keeps its version and its layout.
+
+head-gone : (s : State) (x : Line) → is_head s.section ≡ false → Follows s x → ((after s x).scene.version ≡ s.scene.version) × (is_head (after s x).section ≡ false)
+head-gone s (VersionLine v) h f = absurd (let bad : true ≡ false = sym (ap is_head f) ∙ h in cc)
+head-gone s (SitesLine m) h f = (refl, refl)
+head-gone s (PortLine u actor capacity) h f = (refl, refl)
+head-gone s (GroupLine u) h f = (refl, refl)
+head-gone s (MemberLine group port) h f = (refl, refl)
+head-gone s (ScriptLine actor) h f = (refl, refl)
+head-gone s (CommandLine command) h f = (refl, refl)
+head-gone s ScheduleLine h f = (refl, refl)
+head-gone s (StepLine step) h f = (refl, refl)
+head-gone s EndLine h f = (refl, h)
+
+layout-kept : (s : State) (x : Line) → (after s x).scene.layout ≡ s.scene.layout
+layout-kept s (VersionLine v) = refl
+layout-kept s (SitesLine m) = refl
+layout-kept s (PortLine u actor capacity) = refl
+layout-kept s (GroupLine u) = refl
+layout-kept s (MemberLine group port) = refl
+layout-kept s (ScriptLine actor) = refl
+layout-kept s (CommandLine command) = refl
+layout-kept s ScheduleLine = refl
+layout-kept s (StepLine step) = refl
+layout-kept s EndLine = refl
+
+-- what holds of the state behind a line that passes
+record Later (s u : State) : Type 0 where
+  tidy : Tidy u
+  layout : u.scene.layout ≡ s.scene.layout
+  version : is_head s.section ≡ false → u.scene.version ≡ s.scene.version
+  head : is_head s.section ≡ false → is_head u.section ≡ false
+
+later : (s u : State) (bytes : List ℕ) → Tidy s → next s bytes ≡ Ok u → Later s u
+later s u bytes tidy e = by (line_said s u bytes (is_skipped bytes) (is_text bytes) refl refl tidy e)
+  where
+    by : (s ≡ u) ⊎ Said s bytes u → Later s u
+    by (inl same) = subst (Later s) same (record { tidy = tidy; layout = refl; version = λ h. refl; head = λ h. h })
+    by (inr d) =
+        subst (Later s) (sym d.so) (record {
+          tidy = (d.stays).1;
+          layout = layout-kept s d.line;
+          version = λ h. (head-gone s d.line h (d.stays).0).0;
+          head = λ h. (head-gone s d.line h (d.stays).0).1;
+        })
+
+version-kept : (s t : State) (xs : List (List ℕ)) → Tidy s → Pass s xs t → is_head s.section ≡ false → t.scene.version ≡ s.scene.version
+version-kept s t [] tidy pass h = ap (λ (z : State). z.scene.version) (sym pass)
+version-kept s t (x ∷ xs) tidy pass h =
+    let k = later s pass.0 x tidy pass.1 in version-kept pass.0 t xs k.tidy pass.2 (k.head h) ∙ k.version h
+
+head-or : (s t : State) (xs : List (List ℕ)) → Tidy s → Pass s xs t → t.scene.version ≡ 1 → (s.section ≡ sections.Head) ⊎ (s.scene.version ≡ 1)
+head-or s t xs tidy pass one = by s.section refl
+  where
+    other : is_head s.section ≡ false → (s.section ≡ sections.Head) ⊎ (s.scene.version ≡ 1)
+    other h = inr (sym (version-kept s t xs tidy pass h) ∙ one)
+
+    by : (sec : Section) → s.section ≡ sec → (s.section ≡ sections.Head) ⊎ (s.scene.version ≡ 1)
+    by sections.Head e = inl e
+    by sections.Sites e = other (ap is_head e)
+    by sections.Setup e = other (ap is_head e)
+    by sections.Scripts e = other (ap is_head e)
+    by sections.Schedule e = other (ap is_head e)
+    by sections.Ended e = other (ap is_head e)
+
+-- So the lines pass for more sites too, and for fewer, from 8 on.
+pass-on : (n : ℕ) → 8 ≤ n → (s t : State) (xs : List (List ℕ)) → 8 ≤ s.scene.layout.sites → Tidy s → Pass s xs t → t.scene.version ≡ 1 → Pass (state_on n s) xs (state_on n t)
+pass-on n eight s t [] wide tidy pass one = ap (state_on n) pass
+pass-on n eight s t (x ∷ xs) wide tidy pass one =
+    let u = pass.0 in
+    let k = later s u x tidy pass.1 in
+    let here : next (state_on n s) x ≡ Ok (state_on n u) = next-on n eight s x wide (head-or s t (x ∷ xs) tidy pass one) ∙ ap (result_on n) pass.1 in
+    (state_on n u, here, pass-on n eight u t xs (subst (λ (l : Layout). 8 ≤ l.sites) (sym k.layout) wide) k.tidy pass.2 one)
+
+short : (m : ℕ) → nat_lt TEXT_LIMIT m ≡ false → m ≤ TEXT_LIMIT
+short m h = grind (arith, nat_tests)
+
+-- a text of version 1 says the same
+pub read-on : (n : ℕ) → 8 ≤ n → (l : Layout) (text : List ℕ) (c : Scene) → 8 ≤ l.sites → read_scene l text ≡ Ok c → c.version ≡ 1 → read_scene (layout_on n l) text ≡ Ok (scene_on n c)
+read-on n eight l text c wide h one =
+    let i = inv_text l text c h in
+    let p = inv_judge 1 (opening l) (lines text) c i.1 in
+    let t = p.0 in
+    let version : t.scene.version ≡ 1 = ap (λ (z : Scene). z.version) p.3 ∙ one in
+    let pass = pass-on n eight (opening l) t (lines text) wide (refl, refl, refl) p.1 version in
+    accepted (layout_on n l) text (state_on n t) (short (length text) i.0) pass p.2 ∙ ap (λ (z : Scene). Ok (scene_on n z)) p.3
