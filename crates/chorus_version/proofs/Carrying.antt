@@ -48,7 +48,7 @@ TaskWithin n l (Do e) = EventWithin n l e × (is_near l e ≡ true)
 TaskWithin n l (Drain seat) = Unit {0}
 
 module _ (n : ℕ) (l : Layout) where
-  near-first : (e : Event) (es : List Event) → is_near l e ≡ true → near l (e ∷ es) ≡ e ∷ near l es
+  pub near-first : (e : Event) (es : List Event) → is_near l e ≡ true → near l (e ∷ es) ≡ e ∷ near l es
   near-first e es h = ap (λ b. cond b (e ∷ near l es) (near l es)) h
 
   round-within : (seat : ℕ) (m : Layout) → All (EventWithin n l) (round m seat)

@@ -1,6 +1,7 @@
 -- A text of version 1 says the same for layouts of any number of sites from 8 on.
 -- l is a layout, n a number of sites, c a scenario, s, t and u are states of reading, x is a line.
 use Rattle.std.proofs.Common.{ℕ, ◌≡◌, ◌≤◌, ◌<◌, ◌+◌, ◌==◌, Bool, true, false, ◌&&◌, ◌||◌, not, cond, nat_lt, nat_le, List, [], ◌∷◌, ◌++◌, length, ◌⊎◌, inl, inr, Option, Some, None, Result, Ok, Err, refl, sym, ◌∙◌, ap, subst, arith}
+use Rattle.std.proofs.lemmas.Bool.{ltb-true, ltb-false}
 use Rattle.std.proofs.lemmas.Bool.Decides.{nat_tests}
 use Rattle.chorus_ui.specs.declared.ui.Ui.{Ui}
 use Rattle.chorus_ui.specs.declared.layout.Layout.{Layout}
@@ -12,17 +13,12 @@ use Rattle.chorus_scene.specs.declared.scenario.SetupLine.{SetupLine}
 use Rattle.chorus_scene.specs.declared.scenario.SetupLine.TheVariants as setups
 use Rattle.chorus_scene.specs.declared.scenario.Step as step
 use Rattle.chorus_scene.specs.declared.scenario.Step.TheVariants as steps
-use Rattle.chorus_scene.specs.declared.word.Word.{Word}
-use Rattle.chorus_scene.specs.declared.word.Section.{Section}
-use Rattle.chorus_scene.specs.declared.word.Section.TheVariants as sections
-use Rattle.chorus_scene.specs.declared.word.Reason.{Reason}
-use Rattle.chorus_scene.specs.declared.word.Reason.TheVariants as reasons
-use Rattle.chorus_scene.specs.declared.limits.TheConstants.{TEXT_LIMIT}
-use Rattle.chorus_scene.specs.Text.{cut, fields, lines, is_text, is_skipped}
+use Rattle.chorus_scene.specs.declared.limits.TheConstants.{TEXT_LIMIT, VERSION_ONE_SITES}
+use Rattle.chorus_scene.specs.Text.{cut, lines, is_text, is_skipped}
 use Rattle.chorus_scene.specs.Scene.{Scene}
 use Rattle.chorus_scene.specs.Making.{next_port, next_group, makes, made_after, is_among}
-use Rattle.chorus_scene.specs.Line.{Line, VersionLine, SitesLine, PortLine, GroupLine, MemberLine, ScriptLine, CommandLine, ScheduleLine, StepLine, EndLine, word_of, may_stand, cuts, is_misshapen, line_of}
-use Rattle.chorus_scene.specs.Grammar.{State, opening, made, is_beyond, command_is_unknown, names_unknown, repeats, is_not_given, cannot_go, is_unscheduled, is_far, unless, known, judge_line, judge_fields, judge_word, judge_head, is_head, judge_bytes, after, then_after, next, is_ended, read_scene}
+use Rattle.chorus_scene.specs.Line.{Line, VersionLine, SitesLine, PortLine, GroupLine, MemberLine, ScriptLine, CommandLine, ScheduleLine, StepLine, EndLine}
+use Rattle.chorus_scene.specs.Grammar.{State, opening, made, most_sites, is_beyond, command_is_unknown, names_unknown, repeats, is_not_given, cannot_go, is_unscheduled, is_far, judge_line, judge_word, judge_head, is_head, judge_bytes, after, then_after, next, is_ended, read_scene}
 use Rattle.chorus_scene.specs.Laws.{Pass}
 use Rattle.chorus_scene.proofs.Law.{Tidy, Said, line_said, inv_text, inv_judge}
 use Rattle.chorus_scene.proofs.Order.{accepted}
@@ -36,7 +32,7 @@ scene_on n c = record c { layout = layout_on n c.layout }
 abbrev pub state_on : ℕ → State → State
 state_on n s = record s { scene = scene_on n s.scene }
 
-abbrev result_on : ℕ → Result State Reason → Result State Reason
+abbrev result_on : {E : Type 0} → ℕ → Result State E → Result State E
 result_on n (Ok s) = Ok (state_on n s)
 result_on n (Err reason) = Err reason
 
@@ -52,11 +48,25 @@ module _ (n : ℕ) (eight : 8 ≤ n) where
     made-is : made (scene_on n c) ≡ made c
     made-is = made-same c.layout [] c.setup
 
-    sites-same : (m : ℕ) → (m == 0) || nat_lt n m || nat_lt 8 m ≡ (m == 0) || nat_lt c.layout.sites m || nat_lt 8 m
-    sites-same m = grind (arith, nat_tests, eight, wide)
+    -- in version 1 the number of sites is at most 8, and so at most that of either layout
+    most-same : (m : ℕ) → (m == 0) || nat_lt n m || nat_lt VERSION_ONE_SITES m ≡ (m == 0) || nat_lt c.layout.sites m || nat_lt VERSION_ONE_SITES m
+    most-same m = go (m == 0) (nat_lt n m) (nat_lt c.layout.sites m) (nat_lt VERSION_ONE_SITES m) refl refl refl
+      where
+        below : (a : ℕ) → 8 ≤ a → nat_lt VERSION_ONE_SITES m ≡ false → nat_lt a m ≡ true → ⊥
+        below a le h k = (let few = ltb-false VERSION_ONE_SITES m h in let many = ltb-true a m k in omega (arith, le, few, many))
+
+        go : (z a b t : Bool) → nat_lt n m ≡ a → nat_lt c.layout.sites m ≡ b → nat_lt VERSION_ONE_SITES m ≡ t → z || a || t ≡ z || b || t
+        go true a b t e f g = refl
+        go false true true t e f g = refl
+        go false false false t e f g = refl
+        go false true false true e f g = refl
+        go false false true true e f g = refl
+        go false true false false e f g = absurd (below n eight g e)
+        go false false true false e f g = absurd (below c.layout.sites wide g f)
 
     beyond-same : (x : Line) → is_beyond (scene_on n c) x ≡ is_beyond c x
-    beyond-same (SitesLine m) = ?
+    beyond-same (SitesLine m) =
+        ap (λ v. (m == 0) || nat_lt n m || nat_lt (most_sites v) m) one ∙ most-same m ∙ sym (ap (λ v. (m == 0) || nat_lt c.layout.sites m || nat_lt (most_sites v) m) one)
     beyond-same (VersionLine v) = refl
     beyond-same (PortLine u actor capacity) = refl
     beyond-same (GroupLine u) = refl
@@ -142,15 +152,13 @@ module _ (n : ℕ) (eight : 8 ≤ n) where
     unscheduled-same EndLine = refl
 
     line-same : (x : Line) → judge_line (scene_on n c) x ≡ judge_line c x
-    line-same x =
-        λ i. unless (beyond-same x i) reasons.Limit (unless (unknown-same x i) reasons.Unknown (unless (repeats-same x i) reasons.Twice (unless (given-same x i) reasons.Order (unless (unscheduled-same x i) reasons.Schedule (Ok x)))))
+    line-same x = rw (beyond-same x, unknown-same x, repeats-same x, given-same x, unscheduled-same x) refl
 
-    fields-same : (w : Word) (fs : List (List ℕ)) → judge_fields (scene_on n c) w fs ≡ judge_fields c w fs
-    fields-same w fs = λ i. unless (is_misshapen c.version w fs) reasons.Word (known (line_of w fs) reasons.Number (λ (x : Line). line-same x i))
+    judge-same : judge_line (scene_on n c) ≡ judge_line c
+    judge-same = λ i x. line-same x i
 
   word-same : (s : State) (p : List ℕ × Option (List ℕ)) → 8 ≤ s.scene.layout.sites → s.scene.version ≡ 1 → judge_word (state_on n s) p ≡ judge_word s p
-  word-same s (word, rest) wide one =
-      λ i. known (word_of s.scene.version word) reasons.Word (λ (w : Word). unless (not (may_stand s.section w)) reasons.Order (fields-same s.scene wide one w (fields (cuts w) rest) i))
+  word-same s (word, rest) wide one = rw (judge-same s.scene wide one) refl
 
   -- A line more.
 
@@ -166,26 +174,28 @@ module _ (n : ℕ) (eight : 8 ≤ n) where
   after-on s (StepLine step) = refl
   after-on s EndLine = refl
 
-  then-on : (s : State) (r : Result Line Reason) → then_after (state_on n s) r ≡ result_on n (then_after s r)
-  then-on s (Ok x) = ap (λ (t : State). Ok t) (after-on s x)
-  then-on s (Err reason) = refl
-
-  bytes-same : (s : State) (bytes : List ℕ) → 8 ≤ s.scene.layout.sites → ((s.section ≡ sections.Head) ⊎ (s.scene.version ≡ 1)) → judge_bytes (state_on n s) bytes ≡ judge_bytes s bytes
+  bytes-same : (s : State) (bytes : List ℕ) → 8 ≤ s.scene.layout.sites → ((is_head s.section ≡ true) ⊎ (s.scene.version ≡ 1)) → judge_bytes (state_on n s) bytes ≡ judge_bytes s bytes
   bytes-same s bytes wide (inl e) =
-      ap (λ b. cond b (judge_head bytes) (judge_word (state_on n s) (cut 32 bytes))) (ap is_head e) ∙ sym (ap (λ b. cond b (judge_head bytes) (judge_word s (cut 32 bytes))) (ap is_head e))
+      ap (λ b. cond b (judge_head bytes) (judge_word (state_on n s) (cut 32 bytes))) e ∙ sym (ap (λ b. cond b (judge_head bytes) (judge_word s (cut 32 bytes))) e)
   bytes-same s bytes wide (inr one) = ap (cond (is_head s.section) (judge_head bytes)) (word-same s (cut 32 bytes) wide one)
 
-  next-on : (s : State) (bytes : List ℕ) → 8 ≤ s.scene.layout.sites → ((s.section ≡ sections.Head) ⊎ (s.scene.version ≡ 1)) → next (state_on n s) bytes ≡ result_on n (next s bytes)
-  unfolding next
-  next-on s bytes wide when = go (not (is_text bytes)) (is_skipped bytes)
-    where
-      said : then_after (state_on n s) (judge_bytes (state_on n s) bytes) ≡ result_on n (then_after s (judge_bytes s bytes))
-      said = ap (then_after (state_on n s)) (bytes-same s bytes wide when) ∙ then-on s (judge_bytes s bytes)
+  then-on : (s : State) (bytes : List ℕ) → then_after (state_on n s) (judge_bytes s bytes) ≡ result_on n (then_after s (judge_bytes s bytes))
+  then-on s bytes =
+      elim (judge_bytes s bytes) as (λ r. then_after (state_on n s) r ≡ result_on n (then_after s r)) [
+        | Ok x ↦ ap (λ (t : State). Ok t) (after-on s x)
+        | Err reason ↦ refl
+      ]
 
-      go : (a b : Bool) → unless a reasons.Text (cond b (Ok (state_on n s)) (then_after (state_on n s) (judge_bytes (state_on n s) bytes))) ≡ result_on n (unless a reasons.Text (cond b (Ok s) (then_after s (judge_bytes s bytes))))
-      go true b = refl
-      go false true = refl
-      go false false = said
+  either-on : {E : Type 0} → (b : Bool) (x y v w : Result State E) → x ≡ result_on n v → y ≡ result_on n w → cond b x y ≡ result_on n (cond b v w)
+  either-on true x y v w h k = h
+  either-on false x y v w h k = k
+
+  next-on : (s : State) (bytes : List ℕ) → 8 ≤ s.scene.layout.sites → ((is_head s.section ≡ true) ⊎ (s.scene.version ≡ 1)) → next (state_on n s) bytes ≡ result_on n (next s bytes)
+  unfolding next
+  next-on s bytes wide when =
+      either-on (not (is_text bytes)) _ _ _ _ refl
+      (either-on (is_skipped bytes) (Ok (state_on n s)) (then_after (state_on n s) (judge_bytes (state_on n s) bytes)) (Ok s) (then_after s (judge_bytes s bytes)) refl
+      (ap (then_after (state_on n s)) (bytes-same s bytes wide when) ∙ then-on s bytes))
 
 -- Behind its head a text keeps its version and its layout.
 
@@ -199,7 +209,7 @@ head-gone s (ScriptLine actor) h f = (refl, refl)
 head-gone s (CommandLine command) h f = (refl, refl)
 head-gone s ScheduleLine h f = (refl, refl)
 head-gone s (StepLine step) h f = (refl, refl)
-head-gone s EndLine h f = (refl, h)
+head-gone s EndLine h f = (refl, refl)
 
 layout-kept : (s : State) (x : Line) → (after s x).scene.layout ≡ s.scene.layout
 layout-kept s (VersionLine v) = refl
@@ -238,19 +248,12 @@ version-kept s t [] tidy pass h = ap (λ (z : State). z.scene.version) (sym pass
 version-kept s t (x ∷ xs) tidy pass h =
     let k = later s pass.0 x tidy pass.1 in version-kept pass.0 t xs k.tidy pass.2 (k.head h) ∙ k.version h
 
-head-or : (s t : State) (xs : List (List ℕ)) → Tidy s → Pass s xs t → t.scene.version ≡ 1 → (s.section ≡ sections.Head) ⊎ (s.scene.version ≡ 1)
-head-or s t xs tidy pass one = by s.section refl
+head-or : (s t : State) (xs : List (List ℕ)) → Tidy s → Pass s xs t → t.scene.version ≡ 1 → (is_head s.section ≡ true) ⊎ (s.scene.version ≡ 1)
+head-or s t xs tidy pass one = by (is_head s.section) refl
   where
-    other : is_head s.section ≡ false → (s.section ≡ sections.Head) ⊎ (s.scene.version ≡ 1)
-    other h = inr (sym (version-kept s t xs tidy pass h) ∙ one)
-
-    by : (sec : Section) → s.section ≡ sec → (s.section ≡ sections.Head) ⊎ (s.scene.version ≡ 1)
-    by sections.Head e = inl e
-    by sections.Sites e = other (ap is_head e)
-    by sections.Setup e = other (ap is_head e)
-    by sections.Scripts e = other (ap is_head e)
-    by sections.Schedule e = other (ap is_head e)
-    by sections.Ended e = other (ap is_head e)
+    by : (b : Bool) → is_head s.section ≡ b → (is_head s.section ≡ true) ⊎ (s.scene.version ≡ 1)
+    by true e = inl e
+    by false e = inr (sym (version-kept s t xs tidy pass e) ∙ one)
 
 -- So the lines pass for more sites too, and for fewer, from 8 on.
 pass-on : (n : ℕ) → 8 ≤ n → (s t : State) (xs : List (List ℕ)) → 8 ≤ s.scene.layout.sites → Tidy s → Pass s xs t → t.scene.version ≡ 1 → Pass (state_on n s) xs (state_on n t)
@@ -258,7 +261,7 @@ pass-on n eight s t [] wide tidy pass one = ap (state_on n) pass
 pass-on n eight s t (x ∷ xs) wide tidy pass one =
     let u = pass.0 in
     let k = later s u x tidy pass.1 in
-    let here : next (state_on n s) x ≡ Ok (state_on n u) = next-on n eight s x wide (head-or s t (x ∷ xs) tidy pass one) ∙ ap (result_on n) pass.1 in
+    let here : next (state_on n s) x ≡ Ok (state_on n u) = next-on n eight s x wide (head-or s t (x ∷ xs) tidy pass one) ∙ ap (λ r. result_on n r) pass.1 in
     (state_on n u, here, pass-on n eight u t xs (subst (λ (l : Layout). 8 ≤ l.sites) (sym k.layout) wide) k.tidy pass.2 one)
 
 short : (m : ℕ) → nat_lt TEXT_LIMIT m ≡ false → m ≤ TEXT_LIMIT
