@@ -1,17 +1,15 @@
 -- Tasks on more sites: the events that carry them out, without the deliveries from and to the places of the further sites, carry
 -- them out on fewer.
 -- l is a layout, n a number of sites, `more` the places of the further sites, ts are tasks, es and fs events, the latest first.
-use Rattle.std.proofs.Common.{ℕ, zero, suc, ◌≡◌, ◌≤◌, ◌+◌, Bool, true, false, ◌&&◌, cond, List, [], ◌∷◌, ◌++◌, map, reverse, refl, sym, ◌∙◌, ap, ap₂, subst, append_assoc, arith}
-use Rattle.std.specs.List.{All, filter}
-use Rattle.std.proofs.lemmas.Bool.{and_parts}
+use Rattle.std.proofs.Common.{ℕ, zero, suc, ◌≡◌, ◌≤◌, true, cond, List, [], ◌∷◌, ◌++◌, refl, sym, ◌∙◌, ap, ap₂, subst, arith}
+use Rattle.std.specs.List.{All}
 use Rattle.std.proofs.lemmas.List.Elements.{All-nil, All-cons, All-head, All-tail, All-append, All-filter, All-weaker, filter-append}
 use Rattle.chorus_ui.specs.declared.layout.Layout.{Layout}
 use Rattle.chorus_ui.specs.Layout.{IsLayout}
-use Rattle.chorus_entry.specs.declared.entry.Entry.{Entry}
 use Rattle.chorus_machine.specs.PlaceState.{PlaceState}
-use Rattle.chorus_law.specs.Network.{NetState, Event, Enter, Act, Deliver, happened, after, opening, schedule, round, rounds, serves, served}
-use Rattle.chorus_law.specs.Schedules.{may_happen, may_be}
-use Rattle.chorus_law.specs.Tasks.{Task, Do, Drain, IsDrain, CarryOut}
+use Rattle.chorus_law.specs.Network.{NetState, Event, Enter, Act, Deliver, after, opening, schedule, round, rounds, serves, served}
+use Rattle.chorus_law.specs.Schedules.{may_be}
+use Rattle.chorus_law.specs.Tasks.{Task, Do, Drain, CarryOut}
 use Rattle.chorus_law.proofs.Draining.Drains.{idle, round-deliveries}
 use Rattle.chorus_run.proofs.Stepping.{may-suffix}
 use Rattle.chorus_version.proofs.Places.{layout_on}

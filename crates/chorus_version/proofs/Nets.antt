@@ -1,13 +1,13 @@
 -- The network on more sites: each event does on it what it does on fewer, where all names are within, and the places of the
 -- further sites stay as they were started.
 -- l is a layout, n a number of sites, net a network, `more` the places of the further sites, es are events, the latest first.
-use Rattle.std.proofs.Common.{ℕ, ◌≡◌, ◌≤◌, ◌==◌, nat_le, Bool, true, false, ◌&&◌, not, cond, List, [], ◌∷◌, ◌++◌, map, Option, Some, None, is_some, slice_get, slice_set, unwrap_or, refl, sym, ◌∙◌, ap, subst}
+use Rattle.std.proofs.Common.{ℕ, ◌≡◌, ◌≤◌, ◌==◌, Bool, true, false, ◌&&◌, not, cond, List, [], ◌∷◌, ◌++◌, map, Option, Some, None, is_some, slice_get, slice_set, unwrap_or, refl, sym, ◌∙◌, ap, subst}
 use Rattle.std.specs.List.{All, filter}
 use Rattle.std.proofs.lemmas.Bool.{false≢true, eqb-true, and_parts, and_from}
-use Rattle.std.proofs.lemmas.List.Elements.{All-nil, All-cons, All-head, All-tail, All-append, All-weaker}
+use Rattle.std.proofs.lemmas.List.Elements.{All-head, All-tail}
 use Rattle.chorus_ui.specs.declared.ui.Ui.{Ui}
 use Rattle.chorus_ui.specs.declared.layout.Layout.{Layout}
-use Rattle.chorus_ui.specs.Layout.{IsLayout, has_place, has_actor, creation_place, first_place, place_at}
+use Rattle.chorus_ui.specs.Layout.{IsLayout, has_place, creation_place, first_place, place_at}
 use Rattle.chorus_entry.specs.declared.entry.Entry.{Entry}
 use Rattle.chorus_entry.specs.declared.command.Command.{Command}
 use Rattle.chorus_entry.specs.declared.packet.Packet.{Packet}
@@ -15,29 +15,23 @@ use Rattle.chorus_entry.specs.declared.packet.Cargo.{Cargo}
 use Rattle.chorus_entry.specs.declared.packet.Cargo.TheVariants as cargos
 use Rattle.chorus_entry.specs.Kinds.{names_actor}
 use Rattle.chorus_entry.specs.Places.{place_for}
-use Rattle.chorus_entry.specs.Act.{is_command_entry}
 use Rattle.chorus_world.specs.Views.{at}
 use Rattle.chorus_world.specs.Groups.{members}
 use Rattle.chorus_calls.specs.Callers.{Seated}
-use Rattle.chorus_machine.specs.PlaceState.{PlaceState, Outgoing, Turn, next_entry}
-use Rattle.chorus_machine.specs.Own.{own}
+use Rattle.chorus_machine.specs.PlaceState.{PlaceState, Outgoing, Turn}
 use Rattle.chorus_machine.specs.PlaceMachine.{begun, begun_by, act, work}
 use Rattle.chorus_machine.proofs.Machine.Stays.{act-stays, work-stays}
 use Rattle.chorus_law.specs.Packets.{put_all, is_link, first_on, rest_on}
-use Rattle.chorus_law.specs.Network.{NetState, place_in, place, with_place, ended, turn_for, commanded, works_off, delivered, Event, Enter, Act, Deliver, happened, opening, schedule}
-use Rattle.chorus_law.specs.Schedules.{may_give, may_happen, may_be}
+use Rattle.chorus_law.specs.Network.{NetState, place_in, place, with_place, ended, turn_for, commanded, works_off, delivered, Event, Enter, Act, Deliver, happened}
+use Rattle.chorus_law.specs.Schedules.{may_happen}
 use Rattle.chorus_law.specs.Stands.{Stands}
 use Rattle.chorus_law.specs.Tasks.{IsBetweenPlaces}
-use Rattle.chorus_law.specs.History.{said_by, history}
-use Rattle.chorus_law.proofs.Places.Layouts.{schedule-keeps}
 use Rattle.chorus_law.proofs.Places.PlacesStay.{stands_in}
 use Rattle.chorus_law.proofs.Standing.Turning.{number-is, layout-is, stands-there}
 use Rattle.chorus_law.proofs.Events.HavePlaces.{have-places}
-use Rattle.chorus_law.proofs.Events.InOrder.{in-order}
-use Rattle.chorus_law.proofs.Events.Said.{said_with, said_on, said_at, act-goes, work-goes, said-act, said-work}
 use Rattle.chorus_law.proofs.Holdings.Passing.{packets-between}
-use Rattle.chorus_version.proofs.Places.{layout_on, place_on, turn_on, BothHave, Within, CommandWithin, CallerWithin, MembersWithin, CargoWithin, has-same, actor-same, group-same, own-within, act-on, work-on}
-use Rattle.chorus_version.proofs.Pasts.{both-have, EntryWithin, follows-within, members-within, caller-within, here-within}
+use Rattle.chorus_version.proofs.Places.{layout_on, place_on, turn_on, Within, CommandWithin, CallerWithin, MembersWithin, CargoWithin, has-same, actor-same, group-same, act-on, work-on}
+use Rattle.chorus_version.proofs.Pasts.{both-have, EntryWithin, members-within, caller-within, here-within}
 use Rattle.chorus_version.proofs.Packets.{tried-site, told-site}
 
 abbrev pub net_on : ℕ → List PlaceState → NetState → NetState

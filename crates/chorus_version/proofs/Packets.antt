@@ -1,12 +1,10 @@
 -- A packet that tries a message, or tells its verdict, is about a port of a site of the layout.
 -- l is a layout, net a network, x an id, q a port. A past has its newest entry first.
-use Rattle.std.proofs.Common.{ℕ, ◌≡◌, ◌==◌, Bool, true, false, ◌&&◌, cond, List, [], ◌∷◌, Option, Some, None, refl, sym, ◌∙◌, ap, subst}
-use Rattle.std.proofs.lemmas.Bool.{false≢true}
+use Rattle.std.proofs.Common.{ℕ, ◌≡◌, ◌==◌, Bool, true, false, ◌&&◌, cond, List, [], ◌∷◌, Option, Some, None, refl, ◌∙◌, ap, subst}
 use Rattle.chorus_ui.specs.declared.ui.Ui.{Ui}
 use Rattle.chorus_ui.specs.declared.layout.Layout.{Layout}
 use Rattle.chorus_ui.specs.Layout.{IsLayout, has_site}
 use Rattle.chorus_ui.specs.Name.{same_ui}
-use Rattle.chorus_ui.proofs.Names.{from_same_ui}
 use Rattle.chorus_entry.specs.declared.entry.Entry.{Entry}
 use Rattle.chorus_entry.specs.declared.id.MsgId.{MsgId}
 use Rattle.chorus_entry.specs.declared.message.Message.{Message}
@@ -16,7 +14,6 @@ use Rattle.chorus_entry.specs.declared.answer.Answer.{Answer}
 use Rattle.chorus_entry.specs.declared.act.Act.{Act}
 use Rattle.chorus_entry.specs.declared.act.Act.TheVariants as acts
 use Rattle.chorus_entry.specs.declared.packet.Packet.{Packet}
-use Rattle.chorus_entry.specs.declared.packet.Cargo.{Cargo}
 use Rattle.chorus_entry.specs.declared.packet.Cargo.TheVariants as cargos
 use Rattle.chorus_entry.specs.Act.{port_of, answer_of}
 use Rattle.chorus_entry.specs.Answer.{is_final}
@@ -30,13 +27,13 @@ use Rattle.chorus_world.specs.Steps.{is_legal}
 use Rattle.chorus_world.specs.Order.{IsCausal}
 use Rattle.chorus_world.proofs.Steps.LegalLemmas.{legal_parts}
 use Rattle.chorus_world.proofs.Ports.MadePorts.{causal-older}
-use Rattle.chorus_world.proofs.Messages.Ranged.{ProgressFits, AllFit, all-fit}
+use Rattle.chorus_world.proofs.Messages.Ranged.{ProgressFits, all-fit}
 use Rattle.chorus_law.specs.Packets.{first_on}
 use Rattle.chorus_law.specs.Network.{NetState}
 use Rattle.chorus_law.specs.UnderWay.{carries}
 use Rattle.chorus_law.specs.Stands.{Stands}
 use Rattle.chorus_law.proofs.Links.UnderWays.{Seen, SeesTry, sees-try}
-use Rattle.chorus_law.proofs.Draining.Fronts.{legal-past, seen-here, IsTold, is-told}
+use Rattle.chorus_law.proofs.Draining.Fronts.{legal-past, seen-here, is-told}
 
 module _ (l : Layout) where
   -- the port for which a message was tried, or where it was decided, is on a site

@@ -1,11 +1,11 @@
 -- What stands in a past, and so what a caller, a place and a packet name: where each post and each port that joins is within, so
 -- are the outstanding call, the hand, and the members of each group.
 -- l is a layout, n a number of sites. A past has its newest entry first.
-use Rattle.std.proofs.Common.{ℕ, zero, suc, ◌≡◌, ◌≤◌, ◌+◌, ◌==◌, nat_le, Bool, true, false, ◌&&◌, not, cond, List, [], ◌∷◌, ◌++◌, take, drop, Option, Some, None, refl, sym, ◌∙◌, ap, subst, arith}
+use Rattle.std.proofs.Common.{ℕ, suc, ◌≡◌, ◌≤◌, ◌==◌, nat_le, Bool, true, false, cond, List, [], ◌∷◌, ◌++◌, take, drop, Option, Some, None, sym, subst, arith}
 use Rattle.std.specs.Option.{option_or}
 use Rattle.std.specs.List.{All, filter}
-use Rattle.std.proofs.lemmas.Bool.{and_parts, and_from, leb-true, le-leb, false≢true, true≢false}
-use Rattle.std.proofs.lemmas.List.Elements.{All-nil, All-cons, All-head, All-tail, All-append, All-drop, All-take, All-filter, All-weaker}
+use Rattle.std.proofs.lemmas.Bool.{and_parts, and_from, leb-true, le-leb, false≢true}
+use Rattle.std.proofs.lemmas.List.Elements.{All-nil, All-cons, All-head, All-tail, All-append, All-drop, All-take, All-filter}
 use Rattle.chorus_ui.specs.declared.ui.Ui.{Ui}
 use Rattle.chorus_ui.specs.declared.layout.Layout.{Layout}
 use Rattle.chorus_ui.specs.Layout.{has_site}
@@ -17,7 +17,6 @@ use Rattle.chorus_entry.specs.declared.tag.Tag.{Tag}
 use Rattle.chorus_entry.specs.declared.tag.Tag.TheVariants as tags
 use Rattle.chorus_entry.specs.declared.dest.Dest.{Dest}
 use Rattle.chorus_entry.specs.declared.dest.Dest.TheVariants as dests
-use Rattle.chorus_entry.specs.declared.message.Message.{Message}
 use Rattle.chorus_entry.specs.declared.act.Act.{Act}
 use Rattle.chorus_entry.specs.declared.act.Act.TheVariants as acts
 use Rattle.chorus_entry.specs.Act.{is_command_entry}
@@ -29,9 +28,9 @@ use Rattle.chorus_world.specs.Posts.{Posted, posted_by, posted_in, post_of, sour
 use Rattle.chorus_world.specs.Groups.{members_after, members}
 use Rattle.chorus_world.specs.Seats as seats
 use Rattle.chorus_calls.specs.Callers.{Seated}
-use Rattle.chorus_law.specs.Records.{as_called, outstanding_as, outstanding}
+use Rattle.chorus_law.specs.Records.{as_called, outstanding_as}
 use Rattle.chorus_law.specs.Stands.{IsCaller}
-use Rattle.chorus_version.proofs.Places.{layout_on, BothHave, Within, DestWithin, TagWithin, ActWithin, CallWithin, HandWithin, CallerWithin}
+use Rattle.chorus_version.proofs.Places.{BothHave, Within, DestWithin, TagWithin, ActWithin, CallWithin, HandWithin, CallerWithin}
 
 -- a site of a layout is one with more sites too
 pub both-have : (n : ℕ) (l : Layout) (site : ℕ) → l.sites ≤ n → has_site l site ≡ true → BothHave n l site
@@ -50,7 +49,6 @@ follows-within n l (acts.Join g q) h = absurd (false≢true (sym h))
 follows-within n l a h = tt
 
 module _ (n : ℕ) (l : Layout) where
-
   view-within : (p : Entry → Bool) (past : List Entry) → All (EntryWithin n l) past → All (EntryWithin n l) (filter p past)
   view-within p past h = All-filter p (EntryWithin n l) past h
 

@@ -1,7 +1,7 @@
 -- The place machine with more sites: what a turn does at a place of one layout it does at the same place of a layout of more
 -- sites, where each name that it tests is of a site that both have.
 -- l is a layout, n a number of sites, s a place, t a turn, q a port, g a group, k a port and route.
-use Rattle.std.proofs.Common.{ℕ, ◌≡◌, ◌+◌, ◌-◌, ◌==◌, nat_lt, nat_le, Bool, true, false, ◌&&◌, not, cond, List, [], ◌∷◌, ◌++◌, find, drop, take, length, Option, Some, None, unwrap_or, refl, sym, ◌∙◌, ap, subst}
+use Rattle.std.proofs.Common.{ℕ, ◌≡◌, ◌+◌, ◌==◌, nat_le, Bool, true, false, ◌&&◌, not, cond, List, [], ◌∷◌, find, drop, take, length, Option, Some, None, unwrap_or, refl, sym, ◌∙◌, ap, subst}
 use Rattle.std.specs.List.{All}
 use Rattle.std.proofs.lemmas.List.Elements.{All-nil, All-cons, All-head, All-tail, All-append, All-drop, All-take, All-weaker}
 use Rattle.chorus_ui.specs.declared.ui.Ui.{Ui}
@@ -24,13 +24,13 @@ use Rattle.chorus_entry.specs.declared.packet.Packet.{Packet}
 use Rattle.chorus_entry.specs.declared.packet.Cargo.{Cargo}
 use Rattle.chorus_entry.specs.declared.packet.Cargo.TheVariants as cargos
 use Rattle.chorus_entry.specs.declared.record.PortRecord.{PortRecord}
-use Rattle.chorus_entry.specs.Members.{first_of, is_member, listed, round_from}
+use Rattle.chorus_entry.specs.Members.{first_of, is_member, listed}
 use Rattle.chorus_world.specs.Views.{is_group}
 use Rattle.chorus_world.specs.declared.place.Location.{Location}
-use Rattle.chorus_world.specs.Places.{named_location, is_deleted, taught}
+use Rattle.chorus_world.specs.Places.{is_deleted, taught}
 use Rattle.chorus_world.specs.Posts.{is_on_site}
 use Rattle.chorus_world.specs.Groups.{groups_made, members, rotation, in_turn}
-use Rattle.chorus_world.specs.Steps.{is_beyond, is_full_of_ports}
+use Rattle.chorus_world.specs.Steps.{is_full_of_ports}
 use Rattle.chorus_ports.specs.declared.taking.Taken.{Taken}
 use Rattle.chorus_ports.specs.declared.taking.Taken.TheVariants as takes
 use Rattle.chorus_ports.specs.Table.{find as find_port, replace}
@@ -40,11 +40,11 @@ use Rattle.chorus_calls.specs.Callers.{Seated, with_client}
 use Rattle.chorus_waits.specs.declared.wait.Key.{Key}
 use Rattle.chorus_waits.specs.declared.wait.Wait.{Wait}
 use Rattle.chorus_waits.specs.Queues.{changed, with_last}
-use Rattle.chorus_machine.specs.PlaceState.{PlaceState, Turn, Change, location, newest, unchanged, say, note}
+use Rattle.chorus_machine.specs.PlaceState.{PlaceState, Turn, location, newest, unchanged, say, note}
 use Rattle.chorus_machine.specs.Deciding.{answer_away, answer_of, decide}
-use Rattle.chorus_machine.specs.Trying.{settles_here, tries_at, verdict_here, tries, goes_on, goes_unless, go}
-use Rattle.chorus_machine.specs.Choosing.{is_at_site, choice, by_group, all_go, finds_no_member, chooses_all, chooses_these, chooses}
-use Rattle.chorus_machine.specs.Own.{own, next_port, make_act, next_group, group_act, take_act, held_by, move_act, delete_act, next_message, call_act, retry_act, cancel_act, reply_act}
+use Rattle.chorus_machine.specs.Trying.{settles_here, verdict_here, tries, goes_on, goes_unless, go}
+use Rattle.chorus_machine.specs.Choosing.{is_at_site, choice, by_group, all_go, chooses_all, chooses_these, chooses}
+use Rattle.chorus_machine.specs.Own.{own, next_port, next_group, take_act, held_by, move_act, delete_act, call_act, retry_act, cancel_act, reply_act}
 use Rattle.chorus_machine.specs.Doing.{direct, post, poster, choosing_place, chooses_own, asks, posts_to_group, posts, holding, first_message, ends_call, ends, takes as takes_of, does}
 use Rattle.chorus_machine.specs.Working.{answers_try, taught_of, told, report_of, answers_ask, opens}
 use Rattle.chorus_machine.specs.PlaceMachine.{act, work}

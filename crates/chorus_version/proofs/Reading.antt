@@ -1,6 +1,6 @@
 -- A text of version 1 says the same for layouts of any number of sites from 8 on.
 -- l is a layout, n a number of sites, c a scenario, s, t and u are states of reading, x is a line.
-use Rattle.std.proofs.Common.{ℕ, ◌≡◌, ◌≤◌, ◌<◌, ◌+◌, ◌==◌, Bool, true, false, ◌&&◌, ◌||◌, not, cond, nat_lt, nat_le, List, [], ◌∷◌, ◌++◌, length, ◌⊎◌, inl, inr, Option, Some, None, Result, Ok, Err, refl, sym, ◌∙◌, ap, subst, arith}
+use Rattle.std.proofs.Common.{ℕ, ◌≡◌, ◌≤◌, ◌==◌, Bool, true, false, ◌&&◌, ◌||◌, not, cond, nat_lt, List, [], ◌∷◌, ◌++◌, length, ◌⊎◌, inl, inr, Option, Result, Ok, Err, refl, sym, ◌∙◌, ap, subst, arith}
 use Rattle.std.proofs.lemmas.Bool.{ltb-true, ltb-false}
 use Rattle.std.proofs.lemmas.Bool.Decides.{nat_tests}
 use Rattle.chorus_ui.specs.declared.ui.Ui.{Ui}
@@ -18,7 +18,7 @@ use Rattle.chorus_scene.specs.Text.{cut, lines, is_text, is_skipped}
 use Rattle.chorus_scene.specs.Scene.{Scene}
 use Rattle.chorus_scene.specs.Making.{next_port, next_group, makes, made_after, is_among}
 use Rattle.chorus_scene.specs.Line.{Line, VersionLine, SitesLine, PortLine, GroupLine, MemberLine, ScriptLine, CommandLine, ScheduleLine, StepLine, EndLine}
-use Rattle.chorus_scene.specs.Grammar.{State, opening, made, most_sites, is_beyond, command_is_unknown, names_unknown, repeats, is_not_given, cannot_go, is_unscheduled, is_far, judge_line, judge_word, judge_head, is_head, judge_bytes, after, then_after, next, is_ended, read_scene}
+use Rattle.chorus_scene.specs.Grammar.{State, opening, made, most_sites, is_beyond, command_is_unknown, names_unknown, repeats, is_not_given, cannot_go, is_unscheduled, is_far, judge_line, judge_word, judge_head, is_head, judge_bytes, after, then_after, next, read_scene}
 use Rattle.chorus_scene.specs.Laws.{Pass}
 use Rattle.chorus_scene.proofs.Law.{Tidy, Said, line_said, inv_text, inv_judge}
 use Rattle.chorus_scene.proofs.Order.{accepted}

@@ -1,31 +1,30 @@
 -- Schedules on more sites: where all that is named is within, a schedule leaves what its events that are near leave on fewer
 -- sites, with the places of the further sites as they were started.
 -- l is a layout, n a number of sites, `more` the places of the further sites, es and fs are events, the latest first.
-use Rattle.std.proofs.Common.{ℕ, ◌≡◌, ◌≤◌, ◌<◌, ◌+◌, Bool, true, false, ◌&&◌, cond, List, [], ◌∷◌, ◌++◌, Option, Some, None, slice_get, refl, sym, ◌∙◌, ap, subst}
-use Rattle.std.specs.List.{All, filter}
-use Rattle.std.proofs.lemmas.Bool.{false≢true, and_parts, and_from}
+use Rattle.std.proofs.Common.{ℕ, ◌≡◌, ◌≤◌, Bool, true, false, cond, List, [], ◌∷◌, Option, Some, None, slice_get, refl, sym, ◌∙◌, ap, subst}
+use Rattle.std.specs.List.{All}
+use Rattle.std.proofs.lemmas.Bool.{and_parts, and_from}
 use Rattle.std.proofs.lemmas.List.Elements.{All-nil, All-cons, All-head, All-tail, All-append, All-weaker}
 use Rattle.chorus_ui.specs.declared.layout.Layout.{Layout}
-use Rattle.chorus_ui.specs.Layout.{IsLayout, has_place}
+use Rattle.chorus_ui.specs.Layout.{IsLayout}
 use Rattle.chorus_entry.specs.declared.entry.Entry.{Entry}
 use Rattle.chorus_entry.specs.declared.command.Command.{Command}
 use Rattle.chorus_entry.specs.declared.packet.Packet.{Packet}
 use Rattle.chorus_entry.specs.Act.{is_command_entry}
 use Rattle.chorus_world.specs.Views.{by}
 use Rattle.chorus_calls.specs.Callers.{Seated}
-use Rattle.chorus_machine.specs.PlaceState.{PlaceState, Turn, greatest_clock, next_entry}
+use Rattle.chorus_machine.specs.PlaceState.{PlaceState, next_entry}
 use Rattle.chorus_machine.specs.Own.{own}
-use Rattle.chorus_machine.specs.PlaceMachine.{begun_by, act, work}
+use Rattle.chorus_machine.specs.PlaceMachine.{begun_by}
 use Rattle.chorus_law.specs.Packets.{first_on}
 use Rattle.chorus_law.specs.Network.{NetState, place, turn_for, Event, Enter, Act, Deliver, happened, opening, schedule}
-use Rattle.chorus_law.specs.Calls.{compared_with, compared_on}
 use Rattle.chorus_law.specs.Schedules.{may_happen, may_be}
-use Rattle.chorus_law.specs.Stands.{Stands, IsCaller}
+use Rattle.chorus_law.specs.Stands.{IsCaller}
 use Rattle.chorus_law.specs.History.{said_by, history}
 use Rattle.chorus_law.proofs.Places.Layouts.{schedule-keeps}
 use Rattle.chorus_law.proofs.Events.InOrder.{in-order}
 use Rattle.chorus_law.proofs.Events.Said.{said_with, said_on, said_at, act-goes, work-goes, said-act, said-work}
-use Rattle.chorus_version.proofs.Places.{layout_on, BothHave, Within, CommandWithin, CallerWithin, own-within}
+use Rattle.chorus_version.proofs.Places.{layout_on, CommandWithin, CallerWithin, own-within}
 use Rattle.chorus_version.proofs.Pasts.{EntryWithin, follows-within, caller-within}
 use Rattle.chorus_version.proofs.Nets.{net_on, EventWithin, is_near, near, IsWithin, happened-on, far-nothing, may-down}
 

@@ -1,6 +1,6 @@
 -- What a scenario leaves on more sites, and that version one stays.
 -- l is a layout, n a number of sites, `more` the places of the further sites, c and d are scenarios.
-use Rattle.std.proofs.Common.{ℕ, zero, suc, ◌≡◌, ◌≤◌, ◌+◌, Bool, true, false, ◌&&◌, cond, List, [], ◌∷◌, ◌++◌, map, reverse, Option, Some, None, Result, Ok, slice_get, refl, sym, ◌∙◌, ap, subst, append_assoc, arith}
+use Rattle.std.proofs.Common.{ℕ, ◌≡◌, ◌≤◌, true, cond, List, [], ◌∷◌, ◌++◌, map, reverse, Option, Result, Ok, slice_get, refl, sym, ◌∙◌, ap, subst, append_assoc, arith}
 use Rattle.std.specs.List.{All}
 use Rattle.std.proofs.lemmas.List.{map-append, reverse-append}
 use Rattle.std.proofs.lemmas.List.Elements.{All-nil, All-cons, All-head, All-tail, All-weaker}
@@ -11,7 +11,7 @@ use Rattle.chorus_calls.specs.Callers.{Seated}
 use Rattle.chorus_machine.specs.PlaceState.{PlaceState, started}
 use Rattle.chorus_merge.specs.Merge.{merged}
 use Rattle.chorus_law.specs.Left.{journals, merge}
-use Rattle.chorus_law.specs.Network.{NetState, Event, Enter, Act, numbers, opening, schedule, round, rounds}
+use Rattle.chorus_law.specs.Network.{NetState, Event, Enter, numbers, opening, schedule, round, rounds}
 use Rattle.chorus_law.specs.Calls.{starting, last_of}
 use Rattle.chorus_law.specs.Schedules.{may_be}
 use Rattle.chorus_law.specs.Tasks.{Task, Do, Drain, CarryOut}
@@ -19,7 +19,6 @@ use Rattle.chorus_law.proofs.Draining.Drains.{carried-out-once}
 use Rattle.chorus_law.proofs.Draining.Ending.{tasks-carried-out}
 use Rattle.chorus_law.proofs.Merge.Parts.{All-reverse}
 use Rattle.chorus_net.specs.declared.closed.Closed.{Closed}
-use Rattle.chorus_net.specs.Closing.{journals_of, IsClosed}
 use Rattle.chorus_scene.specs.Scene.{Scene, Script}
 use Rattle.chorus_scene.specs.Grammar.{read_scene}
 use Rattle.chorus_scene.specs.Limits.{Keeps}
@@ -28,15 +27,15 @@ use Rattle.chorus_scene.proofs.Law.{printed_again}
 use Rattle.chorus_show.specs.declared.status.Status.{Status}
 use Rattle.chorus_show.specs.Journal.{journal_text}
 use Rattle.chorus_show.specs.Summary.{summary_text}
-use Rattle.chorus_run.specs.Order.{setup_commands, in_setup, after_setup, set_up, in_schedule, left_from, order, tasks}
-use Rattle.chorus_run.specs.Headline.{merge_of, IsOrdered}
+use Rattle.chorus_run.specs.Order.{in_setup, set_up, in_schedule, left_from, tasks}
+use Rattle.chorus_run.specs.Headline.{bytes_read, merge_of, IsOrdered}
 use Rattle.chorus_run.specs.Laws.{worn_clock}
 use Rattle.chorus_run.specs.Performing.{to_enter}
 use Rattle.chorus_run.proofs.Loops.{order-is}
 use Rattle.chorus_run.proofs.May.{tasks-may}
 use Rattle.chorus_run.proofs.Once.{Ends, All-done, Worn-at, ends-as, one-end}
 use Rattle.chorus_run.proofs.Stepping.{may-suffix}
-use Rattle.chorus_version.specs.Version.{eight, sixteen, with_layout, SaysTheSame, IsOfVersionOne, MergesTheSame, AreAlike, ReplaysTheSame}
+use Rattle.chorus_version.specs.Version.{eight, sixteen, with_layout, SaysTheSame, IsOfVersionOne, MergesTheSame, AreAlike, ClosesTheSame, WritesTheSame}
 use Rattle.chorus_version.proofs.Places.{layout_on, place_on}
 use Rattle.chorus_version.proofs.Nets.{net_on, EventWithin, is_near, near}
 use Rattle.chorus_version.proofs.Schedules.{Agree, agree}
@@ -75,6 +74,12 @@ carry-done : (l : Layout) (es fs : List Event) → CarryOut l (map Do es) fs →
 carry-done l [] fs c = c
 carry-done l (e ∷ es) fs c = c.1.0 ∙ ap (λ (xs : List Event). e ∷ xs) (carry-done l es c.0 c.1.1)
 
+-- the last of a scenario's tasks are its setup
+set-up-last : (c : Scene) → tasks c ≡ reverse (to_enter c) ++ map Do (reverse (starting ∷ in_setup c))
+set-up-last c =
+    let first : List Event = starting ∷ in_setup c in
+    ap reverse (order-is c) ∙ reverse-append (map Do first) (to_enter c) ∙ ap (λ (ts : List Task). reverse (to_enter c) ++ ts) (reverse-map Do first)
+
 -- A scenario on more sites.
 
 module _ (n : ℕ) (more : List PlaceState) (c : Scene) (shape : IsLayout c.layout) (shape_on : IsLayout (layout_on n c.layout)) (wider : c.layout.sites ≤ n)
@@ -90,9 +95,7 @@ module _ (n : ℕ) (more : List PlaceState) (c : Scene) (shape : IsLayout c.layo
       let wide = layout_on n c.layout in
       let d = scene_on n c in
       let done = tasks-carried-out wide (tasks d) shape_on (tasks-may d shape_on keeps_on) in
-      let split : tasks d ≡ reverse (to_enter d) ++ map Do set_up_events =
-      ap reverse (order-is d) ∙ reverse-append (map Do (starting ∷ in_setup c)) (to_enter d) ∙ ap (λ (ts : List Task). reverse (to_enter d) ++ ts) (reverse-map Do (starting ∷ in_setup c)) in
-      let end = carry-end wide (reverse (to_enter d)) (map Do set_up_events) done.0 (subst (λ (ts : List Task). CarryOut wide ts done.0) split done.1.0) in
+      let end = carry-end wide (reverse (to_enter d)) (map Do set_up_events) done.0 (subst (λ (ts : List Task). CarryOut wide ts done.0) (set-up-last d) done.1.0) in
       let is = carry-done wide set_up_events end.0 end.1.0 in
       ap (may_be wide) (sym is) ∙ may-suffix wide end.1.1.0 end.0 (ap (may_be wide) (sym end.1.1.1) ∙ done.1.1)
 
@@ -237,5 +240,14 @@ module _ (text : List ℕ) (c d : Scene) (v : IsOfVersionOne text c d) where
 pub merges-the-same : MergesTheSame
 merges-the-same text c d es fs v these those = text-merges text c d v es fs these those
 
-pub replays-the-same : ReplaysTheSame
-replays-the-same text c d s t one other v a b = text-replays text c d v s t one other a b
+pub closes-the-same : ClosesTheSame
+closes-the-same text c d s t one other v a b = text-replays text c d v s t one other a b
+
+pub writes-the-same : WritesTheSame
+writes-the-same input s t one other these those version =
+    let v : IsOfVersionOne (bytes_read input) these.scene those.scene = record {
+      eight = ap (read_scene eight) (sym (these.given).read) ∙ (these.given).given;
+      sixteen = ap (read_scene sixteen) (sym (those.given).read) ∙ (those.given).given;
+      one = version;
+    } in
+    closes-the-same (bytes_read input) these.scene those.scene s t one other v these.ordered those.ordered

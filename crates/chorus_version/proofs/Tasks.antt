@@ -1,6 +1,6 @@
 -- The tasks of a scenario that was read name sites of its layout alone.
 -- l is a layout, n a number of sites from that of l on, m the sites of the scenario, c a scenario.
-use Rattle.std.proofs.Common.{ℕ, zero, suc, ◌≡◌, ◌≤◌, ◌<◌, ◌==◌, ◌+◌, ◌-◌, ◌*◌, nat_le, nat_lt, Bool, true, false, not, ◌&&◌, List, [], ◌∷◌, ◌++◌, length, map, drop, reverse, count_by, option_to_list, Option, Some, None, slice_get, refl, sym, ◌∙◌, ap, subst, arith}
+use Rattle.std.proofs.Common.{ℕ, ◌≡◌, ◌≤◌, ◌==◌, ◌+◌, ◌-◌, nat_le, nat_lt, true, not, ◌&&◌, List, [], ◌∷◌, ◌++◌, length, map, drop, count_by, option_to_list, Option, Some, None, slice_get, refl, arith}
 use Rattle.std.specs.List.{All, list_all}
 use Rattle.std.specs.Option.{option_map}
 use Rattle.std.proofs.lemmas.Bool.{and_parts, and_from, leb-true, le-leb}
@@ -9,7 +9,7 @@ use Rattle.std.proofs.lemmas.List.Elements.{All-nil, All-cons, All-append, All-m
 use Rattle.chorus_ui.specs.declared.ui.Ui.{Ui}
 use Rattle.chorus_ui.specs.declared.layout.Layout.{Layout}
 use Rattle.chorus_ui.specs.declared.limits.TheConstants.{PORTS_PER_SITE_LIMIT, GROUPS_PER_SITE_LIMIT, MEMBERS_LIMIT}
-use Rattle.chorus_ui.specs.Layout.{IsLayout, has_actor, has_place, has_site, places}
+use Rattle.chorus_ui.specs.Layout.{IsLayout, has_actor, has_place}
 use Rattle.chorus_entry.specs.declared.dest.Dest.{Dest}
 use Rattle.chorus_entry.specs.declared.dest.Dest.TheVariants as dests
 use Rattle.chorus_entry.specs.declared.command.Command.{Command}
@@ -28,7 +28,7 @@ use Rattle.chorus_scene.specs.Scene.{Scene, Script}
 use Rattle.chorus_scene.specs.Making.{next_port, next_group, made_after, is_among, members_of}
 use Rattle.chorus_scene.specs.Grammar.{most_bytes, script_at, no_script, is_step}
 use Rattle.chorus_scene.specs.Limits.{Keeps, is_site, is_actor_of, is_place_of, dest_is_of, command_is_of, bytes_sent, is_of_version, command_keeps, script_keeps, setup_line_keeps, setup_keeps, step_keeps, schedule_keeps}
-use Rattle.chorus_run.specs.Order.{setup_command, setup_commands, in_setup, set_up, entering, step_tasks, in_schedule, then_drain, left_from, order, tasks}
+use Rattle.chorus_run.specs.Order.{setup_command, in_setup, set_up, entering, step_tasks, in_schedule, then_drain, left_from, order, tasks}
 use Rattle.chorus_run.proofs.May.{all-get, all-drop, place-fits}
 use Rattle.chorus_version.proofs.Places.{BothHave, Within, DestWithin, CommandWithin}
 use Rattle.chorus_version.proofs.Pasts.{both-have}

@@ -1,11 +1,10 @@
 -- Clocks that are worn, on more sites: what an event compares is the same, so the events stop at the same clock.
 -- l is a layout, n a number of sites, `more` the places of the further sites, ts are tasks, es and fs events, the latest first.
-use Rattle.std.proofs.Common.{ℕ, ◌≡◌, ◌≤◌, ◌+◌, Bool, true, false, ◌&&◌, cond, List, [], ◌∷◌, ◌++◌, Option, Some, None, slice_get, inl, inr, refl, sym, ◌∙◌, ap, subst}
-use Rattle.std.specs.List.{All, filter}
-use Rattle.std.proofs.lemmas.Bool.{and_parts, false≢true}
+use Rattle.std.proofs.Common.{ℕ, ◌≡◌, ◌≤◌, Bool, true, false, ◌&&◌, cond, List, [], ◌∷◌, ◌++◌, Option, Some, None, slice_get, inl, inr, refl, sym, ◌∙◌, ap, subst}
+use Rattle.std.specs.List.{All}
+use Rattle.std.proofs.lemmas.Bool.{and_parts}
 use Rattle.std.proofs.lemmas.List.Elements.{All-head, All-tail, All-append, filter-append}
 use Rattle.chorus_ui.specs.declared.layout.Layout.{Layout}
-use Rattle.chorus_ui.specs.declared.limits.TheConstants.{CLOCK_LIMIT}
 use Rattle.chorus_ui.specs.Layout.{IsLayout, has_place}
 use Rattle.chorus_entry.specs.declared.entry.Entry.{Entry}
 use Rattle.chorus_entry.specs.declared.command.Command.{Command}
@@ -13,13 +12,13 @@ use Rattle.chorus_entry.specs.declared.packet.Packet.{Packet}
 use Rattle.chorus_calls.specs.Callers.{Seated}
 use Rattle.chorus_machine.specs.PlaceState.{PlaceState, Turn, greatest_clock}
 use Rattle.chorus_law.specs.Packets.{first_on}
-use Rattle.chorus_law.specs.Network.{NetState, Event, Enter, Act, Deliver, happened, after, opening, schedule, round, rounds}
+use Rattle.chorus_law.specs.Network.{NetState, Event, Enter, Act, Deliver, opening, schedule, round}
 use Rattle.chorus_law.specs.Calls.{compared_with, compared_on}
-use Rattle.chorus_law.specs.Schedules.{may_happen, may_be}
-use Rattle.chorus_law.specs.Tasks.{Task, Do, Drain, CarryOut}
+use Rattle.chorus_law.specs.Schedules.{may_be}
+use Rattle.chorus_law.specs.Tasks.{Task, Do, Drain}
 use Rattle.chorus_law.specs.History.{history}
 use Rattle.chorus_law.proofs.Places.Layouts.{schedule-keeps}
-use Rattle.chorus_net.specs.Worn.{compared_by, IsUnworn, AreUnworn, IsInRounds}
+use Rattle.chorus_net.specs.Worn.{compared_by, IsUnworn, AreUnworn}
 use Rattle.chorus_run.specs.Worn.{ComesNext, AreWornBy}
 use Rattle.chorus_run.proofs.Stepping.{may-suffix}
 use Rattle.chorus_version.proofs.Places.{layout_on, CommandWithin}

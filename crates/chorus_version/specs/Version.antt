@@ -1,6 +1,6 @@
 -- Version one stays: a text of version 1 says the same on 8 and on 16 sites of one place each, and it is replayed the same.
 -- c and d are scenarios, es and fs are events, s and t are statuses.
-use Rattle.std.specs.Prelude.{ℕ, ◌≡◌, List, Ok}
+use Rattle.std.specs.Prelude.{ℕ, ◌≡◌, List, Some, Ok}
 use Rattle.chorus_ui.specs.declared.layout.Layout.{Layout}
 use Rattle.chorus_law.specs.Left.{merge}
 use Rattle.chorus_law.specs.Network.{Event, schedule}
@@ -10,7 +10,7 @@ use Rattle.chorus_scene.specs.Scene.{Scene}
 use Rattle.chorus_scene.specs.Grammar.{read_scene}
 use Rattle.chorus_show.specs.declared.status.Status.{Status}
 use Rattle.chorus_run.specs.Order.{tasks}
-use Rattle.chorus_run.specs.Headline.{merge_of, IsOrdered}
+use Rattle.chorus_run.specs.Headline.{merge_of, IsOrdered, Replays}
 use Rattle.chorus_run.specs.Laws.{worn_clock}
 use Rattle.chorus_run.specs.Output.{report}
 
@@ -51,8 +51,14 @@ pub record AreAlike (s t : Status) (one other : Closed) : Type 0 where
   pub merge : merge_of one ≡ merge_of other
   pub text : report one ≡ report other
 
--- so do two replays that close the sites, also where a clock is worn
-abbrev pub ReplaysTheSame : Type 0
-ReplaysTheSame =
+-- so it is with two replays in the order of the scenario, also where a clock is worn
+abbrev pub ClosesTheSame : Type 0
+ClosesTheSame =
     (text : List ℕ) (c d : Scene) (s t : Status) (one other : Closed) → IsOfVersionOne text c d →
     IsOrdered eight (tasks c) s one → IsOrdered sixteen (tasks d) t other → AreAlike s t one other
+
+-- and with what `replay` promises of two sources that give the same bytes
+abbrev pub WritesTheSame : Type 0
+WritesTheSame =
+    (input : List ℕ) (s t : Status) (one other : Closed) (these : Replays eight (Some input) s one) (those : Replays sixteen (Some input) t other) →
+    (these.scene).version ≡ 1 → AreAlike s t one other

@@ -1,21 +1,23 @@
-//! Version one stays: a text of version 1 says the same on 8 and on 16 sites, and is replayed the same.
+//! Version one stays: a text of version 1 says the same on 8 and on 16 sites of one place each, and is replayed the same.
 //!
-//! The program rests on [`version_one_stays`]: who wrote a scenario of version 1 for 8 sites of one place each gets the same bytes from
-//! `replay` on 16. The crate has no code but the law, which makes no call.
+//! The crate has no code but the law [`version_one_stays`], which makes no call: who wrote a scenario of version 1 gets the same bytes
+//! from `replay` on either. Nothing in the proof but the last file of `proofs/` speaks of 8 and 16: an event does on more sites what it
+//! does on fewer, where all names are of sites that both have.
 //!
-//! Begin with `specs/Version.antt`.
+//! Begin with `specs/Version.antt`; of the proofs with `Places` (a turn), then `Nets` (the network), `Carrying` (tasks) and `Stays`.
 #![tactic(auto)]
 
-ghost use Rattle.chorus_version.specs.Version.{MergesTheSame, ReplaysTheSame, SaysTheSame};
+ghost use Rattle.chorus_version.specs.Version.{ClosesTheSame, MergesTheSame, SaysTheSame, WritesTheSame};
 
-/// A text of version 1 that the grammar accepts on 8 sites of one place each, or on 16, is accepted on both and says the same; and
-/// its replays leave the same merge.
+/// A text of version 1 is replayed the same on 8 and on 16 sites of one place each.
 ///
-/// Whatever numbers of rounds their drains take, the events that carry out the tasks of its replay on 8 sites and on 16 leave journals
-/// with one merge (`merges`). So two replays that close their sites, one on 8 and one on 16, wear the same clock or none, and the merge of
-/// what they close, and the text of it, are the same (`replays`). The law makes no call.
+/// The grammar accepts it on both or on neither, and it says the same but for the layout (`says`). Whatever numbers of rounds the drains
+/// take, the events that carry out the tasks of its replay leave journals with one merge (`merges`). Two replays in that order wear the same
+/// clock or none, and what they close has one merge, and so one text (`closes`). So it is with what `replay` promises of two sources that
+/// give the same bytes (`writes`), so what it writes where both are done is the same. The law makes no call.
 pub fn version_one_stays()
     ensures says { SaysTheSame }
     ensures merges { MergesTheSame }
-    ensures replays { ReplaysTheSame }
+    ensures closes { ClosesTheSame }
+    ensures writes { WritesTheSame }
 {}
