@@ -170,23 +170,19 @@ module _ (n : ℕ) (l : Layout) (wider : l.sites ≤ n) (version m : ℕ) (sites
 
 -- All of it.
 module _ (n : ℕ) (c : Scene) (shape : IsLayout c.layout) (wider : c.layout.sites ≤ n) (keeps : Keeps c) where
-  start-fits : EventFits n c.layout starting
-  start-fits =
-      let low = shape.sites_from_one in
-      (both-have n c.layout 1 wider (and_from (nat_le 1 1) (nat_le 1 c.layout.sites) refl (le-leb 1 c.layout.sites low)), refl)
-
   pub setup-fits : All (EventFits n c.layout) (starting ∷ in_setup c)
-  setup-fits = All-cons (EventFits n c.layout) starting (in_setup c) start-fits (setup-within n c.layout wider c.version c.sites keeps.sites_of_layout [] c.setup keeps.setup)
+  setup-fits =
+      let low = shape.sites_from_one in
+      let start : EventFits n c.layout starting = (both-have n c.layout 1 wider (and_from (nat_le 1 1) (nat_le 1 c.layout.sites) refl (le-leb 1 c.layout.sites low)), refl) in
+      All-cons (EventFits n c.layout) starting (in_setup c) start (setup-within n c.layout wider c.version c.sites keeps.sites_of_layout [] c.setup keeps.setup)
 
-  order-within : (last : ℕ) → All (EventFits n c.layout) (starting ∷ in_setup c ++ map (λ (script : Script). Enter script.actor last) c.scripts)
-  order-within last =
-      let enters = map (λ (script : Script). Enter script.actor last) c.scripts in
-      All-cons (EventFits n c.layout) starting (in_setup c ++ enters) start-fits
-      (All-append (EventFits n c.layout) (in_setup c) enters (setup-within n c.layout wider c.version c.sites keeps.sites_of_layout [] c.setup keeps.setup) (entering-within n c.layout wider c.version c.sites keeps.sites_of_layout last c.scripts keeps.scripts))
+  order-within : All (EventFits n c.layout) (starting ∷ in_setup c ++ entering c)
+  order-within =
+      All-append (EventFits n c.layout) (starting ∷ in_setup c) (entering c) setup-fits
+      (entering-within n c.layout wider c.version c.sites keeps.sites_of_layout (last_of (slice_get (set_up c).callers 0)) c.scripts keeps.scripts)
 
   pub tasks-within : All (TaskWithin n c.layout) (tasks c)
   tasks-within =
-      let last = last_of (slice_get (set_up c).callers 0) in
       let first = starting ∷ in_setup c ++ entering c in
       let scheduled = in_schedule c.scripts [] c.schedule in
       let rest = left_from c.schedule 1 c.scripts in
@@ -194,6 +190,6 @@ module _ (n : ℕ) (c : Scene) (shape : IsLayout c.layout) (wider : c.layout.sit
       All-reverse P (order c)
       (All-append P (map Do first ++ scheduled ++ rest) (Drain 0 ∷ [])
       (All-append P (map Do first ++ scheduled) rest
-      (All-append P (map Do first) scheduled (All-map P Do first (order-within last)) (schedule-within n c.layout wider c.version c.sites keeps.sites_of_layout c.scripts keeps.scripts [] c.schedule keeps.schedule))
+      (All-append P (map Do first) scheduled (All-map P Do first order-within) (schedule-within n c.layout wider c.version c.sites keeps.sites_of_layout c.scripts keeps.scripts [] c.schedule keeps.schedule))
       (left-within n c.layout wider c.version c.sites keeps.sites_of_layout c.schedule 1 c.scripts keeps.scripts))
       (All-cons P (Drain 0) [] tt (All-nil P)))
