@@ -1,7 +1,7 @@
 //! Version one stays: a text of version 1 says the same on 8 and on 16 sites of one place each, and is replayed the same.
 //!
 //! The crate has no code but the law [`version_one_stays`], which makes no call: who wrote a scenario of version 1 gets the same bytes
-//! from `replay` on either. Nothing in the proof but the last file of `proofs/` speaks of 8 and 16: an event does on more sites what it
+//! from `replay` on either. The proofs speak of any layout and of more sites, but for the last file: an event does on more sites what it
 //! does on fewer, where all names are of sites that both have.
 //!
 //! Begin with `specs/Version.antt`; of the proofs with `Places` (a turn), then `Nets` (the network), `Carrying` (tasks) and `Stays`.
