@@ -1,10 +1,11 @@
 -- What waits to go, and what a place keeps, is within the ranges of packets.
-use Rattle.std.proofs.Common.{◌≡◌, ◌+◌, max, arith, ℕ, zero, suc, true, List, [], ◌∷◌, ◌++◌, drop, replicate, slice_get, IfSome, sym, ◌∙◌, ap, subst, All}
+use Rattle.std.proofs.Common.{◌≡◌, ◌+◌, max, arith, ℕ, zero, suc, true, List, [], ◌∷◌, ◌++◌, drop, replicate, slice_get, Option, IfSome, IsTrue, sym, ◌∙◌, ap, subst, All}
 use Rattle.std.proofs.lemmas.List.Elements.{All-nil, All-cons, All-head, All-tail, All-set, All-push, All-drop}
 use Rattle.chorus_entry.specs.declared.command.Command.{Command}
 use Rattle.chorus_entry.specs.declared.packet.Packet.{Packet}
 use Rattle.chorus_ui.specs.declared.layout.Layout.{Layout}
 use Rattle.chorus_ui.specs.Layout.{IsLayout, has_place}
+use Rattle.chorus_entry.specs.Ranges.{has_ranges}
 use Rattle.chorus_entry.specs.Command.{meets_conditions, has_body_in_limit}
 use Rattle.chorus_calls.specs.Callers.{Seated, after_tick}
 use Rattle.chorus_out.specs.Waiting.{nothing_to, list_to, with_last, with_first, without_first}
@@ -37,8 +38,8 @@ pub rest-within : (p : ℕ) (lists : List (List Packet)) → AreWaitingWithin li
 rest-within p lists h = All-set (All HasRanges) lists p (drop 1 (list_to p lists)) (All-drop HasRanges 1 (list_to p lists) (list-within p lists h)) h
 
 -- the packet that is taken out
-pub taken-within : (p : ℕ) (lists : List (List Packet)) → AreWaitingWithin lists → IfSome (slice_get (list_to p lists) 0) HasRanges
-taken-within p lists h = by (list_to p lists) (list-within p lists h)
+pub taken_within : (p : ℕ) (old : Tables) (o : Option Packet) → IsAtRest old → o ≡ slice_get (list_to p old.out.lists) 0 → IfSome o (λ packet. IsTrue (has_ranges packet))
+taken_within p old o h e = subst (λ z. IfSome z HasRanges) (sym e) (by (list_to p old.out.lists) (list-within p old.out.lists h.waits))
   where
     by : (l : List Packet) → All HasRanges l → IfSome (slice_get l 0) HasRanges
     by [] k = tt
@@ -74,8 +75,8 @@ still-at-rest old new h none same waits =
     record { none = none; within = subst IsWithin (sym same) h.within; waits = subst AreWaitingWithin (sym waits) h.waits }
 
 -- a packet was taken out
-pub out-at-rest : (p : ℕ) (old new : Tables) → IsAtRest old → new.puts ≡ old.puts → state new ≡ state old → new.out.lists ≡ without_first p old.out.lists → IsAtRest new
-out-at-rest p old new h puts same waits =
+pub out_at_rest : (p : ℕ) (old new : Tables) → IsAtRest old → new.puts ≡ old.puts → state new ≡ state old → new.out.lists ≡ without_first p old.out.lists → IsAtRest new
+out_at_rest p old new h puts same waits =
     record { none = puts ∙ h.none; within = subst IsWithin (sym same) h.within; waits = subst AreWaitingWithin (sym waits) (rest-within p old.out.lists h.waits) }
 
 -- one was put back

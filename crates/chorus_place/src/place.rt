@@ -203,6 +203,7 @@ impl Place {
 
     /// Takes out the first packet that waits to go to the place; None exactly where none waits, and then nothing changes. The packet
     /// is within its ranges, so it has a frame.
+    #[tactic(auto, using(crate::proofs::Bounded::out_at_rest, crate::proofs::Bounded::taken_within))]
     pub fn out(&mut self, to: u16) -> Option<Packet>
         ensures value { result ≡ slice_get (list_to to self.old.out.lists) 0 }
         ensures state { state self.new ≡ state self.old }
