@@ -1,5 +1,5 @@
 -- What a part of a round counts.
-use Rattle.std.proofs.Common.{◌≡◌, ℕ, zero, suc, ◌+◌, ◌*◌, ◌%◌, ◌<◌, ◌≤◌, Bool, true, false, cond, List, [], ◌∷◌, length, Option, None, Some, refl, sym, ◌∙◌, ap, arith}
+use Rattle.std.proofs.Common.{◌≡◌, ℕ, zero, suc, ◌+◌, ◌%◌, ◌≤◌, Bool, true, false, cond, List, [], ◌∷◌, length, Option, None, Some, refl, arith}
 use Rattle.std.specs.Prelude.{◌==◌, is_some}
 use Rattle.std.specs.List.{prefix_len}
 use Rattle.chorus_draw.specs.Draws.{next_state, number_of}
@@ -7,7 +7,7 @@ use Rattle.chorus_transport.specs.Sending.{emitted}
 use Rattle.chorus_transport.specs.declared.chunk.Chunk.{Chunk}
 use Rattle.chorus_transport.specs.Receiving.{next_chunk, ack_of}
 use Rattle.chorus_lossy.specs.Line.{Hear}
-use Rattle.chorus_lossy.specs.Rounds.{Moment, happened, arrived, held_back, one_lost, is_lost, room, puts, filled, sent, sent_if_kept, emission, emissions, all_sent, releases, released, given, deliveries, all_delivered, heard, acknowledged, is_done, unless_done, round, opening, after_rounds}
+use Rattle.chorus_lossy.specs.Rounds.{Moment, happened, arrived, held_back, one_lost, is_lost, room, puts, filled, sent, sent_if_kept, emission, emissions, all_sent, releases, released, given, deliveries, all_delivered, heard, acknowledged, is_done, round}
 
 -- at most so many more were emitted and lost
 pub record Counts (emitted lost : ℕ) (m later : Moment) : Type 0 where

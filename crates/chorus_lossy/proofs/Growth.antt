@@ -1,13 +1,13 @@
 -- What happens in a part of the run is added to what happened before.
-use Rattle.std.proofs.Common.{◌≡◌, ℕ, zero, suc, ◌+◌, ◌%◌, Bool, true, false, cond, List, [], ◌∷◌, ◌++◌, length, append_assoc, Option, None, Some, refl, sym, ◌∙◌, ap, append-nil}
+use Rattle.std.proofs.Common.{◌≡◌, ℕ, zero, suc, ◌+◌, ◌%◌, Bool, true, false, cond, List, [], ◌∷◌, ◌++◌, length, append_assoc, Option, None, Some, refl, sym, ◌∙◌, ap}
 use Rattle.std.specs.Prelude.{◌==◌, is_some}
 use Rattle.std.specs.List.{prefix_len}
 use Rattle.chorus_transport.specs.declared.chunk.Chunk.{Chunk}
 use Rattle.chorus_transport.specs.Sending.{emitted}
 use Rattle.chorus_transport.specs.Receiving.{next_chunk, ack_of}
 use Rattle.chorus_draw.specs.Draws.{next_state, number_of}
-use Rattle.chorus_lossy.specs.Line.{Ends, Event, Put, Arrive, Deliver, Hear, new_ends, happens, after}
-use Rattle.chorus_lossy.specs.Rounds.{Moment, happened, arrived, held_back, one_lost, is_lost, room, put_next, puts, filled, sent, sent_if_kept, emission, emissions, all_sent, releases, released, given, deliveries, all_delivered, heard, acknowledged, is_done, unless_done, round, opening, after_rounds}
+use Rattle.chorus_lossy.specs.Line.{Ends, Event, Arrive, Deliver, Hear, happens, after}
+use Rattle.chorus_lossy.specs.Rounds.{Moment, happened, arrived, held_back, one_lost, is_lost, room, puts, filled, sent, sent_if_kept, emission, emissions, all_sent, releases, released, given, deliveries, all_delivered, heard, acknowledged, is_done, unless_done, round, opening, after_rounds}
 use Rattle.chorus_lossy.specs.Running.{Grows, IsBetween}
 
 after-append : (x y : List Event) (e : Ends) → after (x ++ y) e ≡ after x (after y e)

@@ -1,16 +1,15 @@
 -- What the parts of a round keep, and that a chunk which is not lost becomes known.
-use Rattle.std.proofs.Common.{◌≡◌, ℕ, zero, suc, ◌+◌, ◌-◌, ◌%◌, ◌<◌, ◌≤◌, ◌⊎◌, inl, inr, ⊎_elim, Bool, true, false, cond, List, [], ◌∷◌, ◌++◌, length, get_or, min, Option, None, Some, is_some, refl, sym, ◌∙◌, ap, subst, arith, add-zero, length-append}
+use Rattle.std.proofs.Common.{◌≡◌, ℕ, zero, suc, ◌+◌, ◌%◌, ◌<◌, ◌≤◌, ◌⊎◌, inl, inr, ⊎_elim, Bool, true, false, cond, List, [], ◌∷◌, ◌++◌, length, Option, None, Some, is_some, refl, sym, ◌∙◌, ap, subst, arith, add-zero, length-append}
 use Rattle.std.specs.Prelude.{◌==◌, IsSome}
 use Rattle.std.specs.List.{prefix_len}
-use Rattle.std.proofs.lemmas.Bool.{cond_both, cond-false, cond-true, cases_lt}
-use Rattle.std.proofs.lemmas.List.Sums.{prefix_len-le-length, prefix_len_passes}
-use Rattle.std.proofs.lemmas.Option.{none-some, slice_get_past}
+use Rattle.std.proofs.lemmas.Bool.{cond_both}
+use Rattle.std.proofs.lemmas.List.Sums.{prefix_len_passes}
 use Rattle.chorus_transport.specs.declared.chunk.Chunk.{Chunk}
-use Rattle.chorus_transport.specs.Sending.{Sending, next_number, emitted}
+use Rattle.chorus_transport.specs.Sending.{next_number, emitted}
 use Rattle.chorus_transport.specs.Receiving.{Receiving, after_arrival, next_chunk, passed, after_next, ack_of}
 use Rattle.chorus_draw.specs.Draws.{next_state, number_of}
-use Rattle.chorus_lossy.specs.Line.{Ends, ends, chunk_at, chunk_count}
-use Rattle.chorus_lossy.specs.Rounds.{Moment, happened, arrived, held_back, one_lost, is_lost, room, put_next, puts, filled, sent, sent_if_kept, emission, emissions, all_sent, releases, released, given, deliveries, all_delivered}
+use Rattle.chorus_lossy.specs.Line.{ends, chunk_at, chunk_count}
+use Rattle.chorus_lossy.specs.Rounds.{Moment, arrived, held_back, one_lost, is_lost, room, puts, filled, sent, sent_if_kept, emission, emissions, all_sent, releases, released, given, deliveries, all_delivered}
 use Rattle.chorus_lossy.proofs.Soundness.{IsSound, put_sound, arrival_sound, delivery_sound, emitted_sound, prefix_len-slid}
 use Rattle.chorus_lossy.proofs.Arrivals.{arrival_delivered, arrival_ack, arrival_known, delivery_ack}
 
@@ -241,9 +240,9 @@ given_delivered bytes k (Some c) m h e q rest =
     let sound : IsSound bytes next.ends next.delivered = subst (λ x. IsSound bytes (ends m.ends.sender x) (m.delivered ++ c)) (sym is) (delivery_sound bytes m.ends m.delivered c h q) in
     let ack : ack_of next.ends.receiver ≡ ack_of r = ap ack_of is ∙ delivery_ack r c q in
     let fewer : k ≡ prefix_len is_some next.ends.receiver.ahead =
-        let slid = prefix_len-slid r.ahead c q in
-        let at : prefix_len is_some next.ends.receiver.ahead ≡ prefix_len is_some (passed r (Some c)).ahead = ap (λ x. prefix_len is_some x.ahead) is in
-        omega arith in
+    let slid = prefix_len-slid r.ahead c q in
+    let at : prefix_len is_some next.ends.receiver.ahead ≡ prefix_len is_some (passed r (Some c)).ahead = ap (λ x. prefix_len is_some x.ahead) is in
+    omega arith in
     let then = rest next sound fewer in
     record { sound = then.sound; sender = then.sender; held = then.held; ack = then.ack ∙ ack; empty = then.empty }
 

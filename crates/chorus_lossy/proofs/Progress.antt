@@ -1,24 +1,22 @@
 -- The run ends, and what it has delivered then.
-use Rattle.std.proofs.Common.{◌≡◌, ℕ, zero, suc, ◌+◌, ◌-◌, ◌*◌, ◌/◌, ◌%◌, ◌<◌, ◌≤◌, ⊎_elim, Bool, true, false, cond, List, [], ◌∷◌, length, get_or, min, Option, None, Some, is_some, take, refl, sym, ◌∙◌, ap, subst, arith}
-use Rattle.std.specs.Prelude.{IsSome, slice_get, ◌==◌, ◌&&◌, not}
+use Rattle.std.proofs.Common.{◌≡◌, ℕ, zero, suc, ◌+◌, ◌-◌, ◌*◌, ◌/◌, ◌%◌, ◌<◌, ◌≤◌, ⊎_elim, Bool, true, false, cond, List, [], ◌∷◌, length, get_or, min, Option, None, Some, is_some, refl, sym, ◌∙◌, ap, subst, arith}
+use Rattle.std.specs.Prelude.{IsSome, slice_get, ◌==◌, not}
 use Rattle.std.specs.List.{prefix_len}
-use Rattle.std.specs.Int.{div_ceil}
 use Rattle.std.proofs.lemmas.Bool.{cond_both, cond-false, cond-true, cases_lt, cases_eq, and_right, not_from_true, eqb-true, eq-eqb, le-ltb, lt-leb, le-leb}
-use Rattle.std.proofs.lemmas.Bool.Decides.{nat_tests}
 use Rattle.std.proofs.lemmas.Grind.{div_ceil_times}
 use Rattle.std.proofs.lemmas.List.{length-take, take_all}
-use Rattle.std.proofs.lemmas.List.Sums.{prefix_len-le-length, prefix_len_passes}
+use Rattle.std.proofs.lemmas.List.Sums.{prefix_len_passes}
 use Rattle.chorus_transport.specs.declared.chunk.Chunk.{Chunk}
 use Rattle.chorus_draw.specs.Draws.{next_state, number_of}
 use Rattle.chorus_transport.specs.Sending.{Sending, next_number, emitted, answer_to, after_ack, moved}
 use Rattle.chorus_transport.specs.declared.sender.Acked.{Acked}
 use Rattle.chorus_transport.specs.declared.sender.Acked.TheVariants as acked
-use Rattle.chorus_transport.specs.Receiving.{Receiving, ack_of}
-use Rattle.chorus_lossy.specs.Line.{Ends, Hear, ends, chunk_at, chunk_count}
-use Rattle.chorus_lossy.specs.Rounds.{Moment, happened, one_lost, is_lost, room, filled, emissions, all_sent, released, all_delivered, heard, acknowledged, is_done, unless_done, round, opening, after_rounds}
-use Rattle.chorus_lossy.proofs.Counts.{Counts, counts-then, counts-round}
+use Rattle.chorus_transport.specs.Receiving.{ack_of}
+use Rattle.chorus_lossy.specs.Line.{Ends, Hear, chunk_count}
+use Rattle.chorus_lossy.specs.Rounds.{Moment, happened, one_lost, is_lost, filled, all_sent, released, all_delivered, heard, acknowledged, is_done, unless_done, round, opening, after_rounds}
+use Rattle.chorus_lossy.proofs.Counts.{Counts, counts-round}
 use Rattle.chorus_lossy.proofs.Soundness.{IsSound, opening_sound, ack_sound}
-use Rattle.chorus_lossy.proofs.Parts.{ArePut, filled_put, IsGood, AreRight, IsOn, Moves, all_sent_moves, all_sent_on, AreReleased, released_released, released_known, released_none, AreDelivered, all_delivered_delivered}
+use Rattle.chorus_lossy.proofs.Parts.{filled_put, IsGood, AreRight, all_sent_moves, all_sent_on, released_released, released_known, released_none, all_delivered_delivered}
 
 -- What is delivered, by its count.
 
@@ -283,4 +281,3 @@ rounds_count first bytes (suc k) =
     unless (Counts (8 * suc k) (9 * suc k) (opening first)) bytes (round bytes (suc k)) m
     (λ _. record { emissions = omega (arith, before.emissions); losses = omega (arith, before.losses) })
     (λ _. record { emissions = omega (arith, before.emissions, here.emissions); losses = omega (arith, before.losses, here.losses) })
-

@@ -1,17 +1,14 @@
 -- What the caller of the rounds needs of them.
-use Rattle.std.proofs.Common.{◌≡◌, ◌≢◌, ℕ, zero, suc, ◌+◌, ◌-◌, ◌*◌, ◌<◌, ◌≤◌, true, false, List, [], ◌∷◌, ◌++◌, length, refl, sym, ◌∙◌, ap, subst, arith, append-nil}
-use Rattle.std.specs.Prelude.{◌==◌}
+use Rattle.std.proofs.Common.{◌≡◌, ◌≢◌, ℕ, zero, suc, ◌+◌, ◌-◌, ◌*◌, ◌<◌, ◌≤◌, true, false, List, [], length, refl, sym, ◌∙◌, ap, subst, arith, append-nil}
 use Rattle.std.proofs.lemmas.Bool.{cond-false, cond-true, eq-eqb, ne_eqb}
 use Rattle.chorus_transport.specs.Sending.{Sending, next_number}
 use Rattle.chorus_transport.specs.Receiving.{Receiving, ack_of}
 use Rattle.chorus_lossy.specs.declared.rounds.Run.{Run}
 use Rattle.chorus_lossy.specs.Line.{Ends, Event, ends, new_ends, after, chunk_count}
-use Rattle.chorus_lossy.specs.Rounds.{Moment, filled, all_sent, released, all_delivered, acknowledged, is_done, unless_done, round, opening, after_rounds}
-use Rattle.chorus_lossy.specs.Running.{at, IsAt, Grows, IsBetween}
+use Rattle.chorus_lossy.specs.Rounds.{Moment, filled, all_sent, released, all_delivered, acknowledged, is_done, round, opening, after_rounds}
+use Rattle.chorus_lossy.specs.Running.{IsAt, IsBetween}
 use Rattle.chorus_lossy.specs.Carrying.{IsCarried, IsWithin}
 use Rattle.chorus_lossy.proofs.Growth.{grows-then, grows-rounds}
-use Rattle.chorus_lossy.proofs.Counts.{Counts}
-use Rattle.chorus_lossy.proofs.Soundness.{IsSound}
 use Rattle.chorus_lossy.proofs.Progress.{rounds_begin, rounds_end, rounds_count, done_bytes, done_put, done_ack}
 use Rattle.chorus_lossy.proofs.Running.{at-from}
 

@@ -1,9 +1,9 @@
 -- How the code's values go from moment to moment.
-use Rattle.std.proofs.Common.{◌≡◌, ◌≢◌, ℕ, zero, suc, ◌+◌, ◌-◌, ◌%◌, ◌<◌, ◌≤◌, ⊎_elim, Bool, true, false, cond, List, [], ◌∷◌, ◌++◌, length, min, reverse, Option, None, Some, is_some, refl, sym, ◌∙◌, ap, ap₂, subst, arith, add-one, append-nil, get_or, take, drop, length-append, length-drop}
+use Rattle.std.proofs.Common.{◌≡◌, ◌≢◌, ℕ, zero, suc, ◌+◌, ◌-◌, ◌%◌, ◌<◌, ◌≤◌, true, false, List, [], ◌∷◌, ◌++◌, length, min, reverse, Option, None, Some, is_some, refl, sym, ◌∙◌, ap, ap₂, subst, arith, add-one, append-nil, get_or, take, drop, length-append, length-drop}
 use Rattle.std.specs.Option.{option_to_list}
 use Rattle.std.specs.Prelude.{◌==◌, OnErr, Result, Ok, Err}
 use Rattle.std.specs.List.{prefix_len}
-use Rattle.std.proofs.lemmas.Bool.{cond-false, cond-true, cases_lt, eq-eqb, ne_eqb}
+use Rattle.std.proofs.lemmas.Bool.{cond-false, cond-true, eq-eqb, ne_eqb}
 use Rattle.std.proofs.lemmas.List.{reverse-append, take_min}
 use Rattle.std.proofs.lemmas.Option.{none-some}
 use Rattle.chorus_transport.specs.declared.chunk.Chunk.{Chunk}
@@ -11,8 +11,8 @@ use Rattle.chorus_transport.specs.Sending.{Sending, next_number, after_put, afte
 use Rattle.chorus_transport.specs.Receiving.{Receiving, after_arrival, next_chunk, passed, after_next, ack_of}
 use Rattle.chorus_draw.specs.Draws.{next_state, number_of}
 use Rattle.chorus_lossy.specs.declared.rounds.Run.{Run}
-use Rattle.chorus_lossy.specs.Line.{Ends, Event, Put, Arrive, Deliver, Hear, ends, chunk_at, chunk_count}
-use Rattle.chorus_lossy.specs.Rounds.{Moment, happened, arrived, held_back, one_lost, is_lost, room, put_next, puts, filled, sent, sent_if_kept, emission, emissions, all_sent, releases, released, given, deliveries, all_delivered, heard, acknowledged, is_done, unless_done, round}
+use Rattle.chorus_lossy.specs.Line.{Ends, Event, Put, Arrive, Deliver, Hear, ends, chunk_at}
+use Rattle.chorus_lossy.specs.Rounds.{Moment, arrived, is_lost, room, put_next, puts, filled, sent, sent_if_kept, emission, emissions, all_sent, releases, released, given, deliveries, all_delivered, heard, acknowledged}
 use Rattle.chorus_lossy.specs.Running.{at, IsAt, Grows, IsBetween}
 use Rattle.chorus_lossy.proofs.Growth.{grows-same, grows-then, grows-event, grows-puts, grows-emissions, grows-emission, grows-releases, grows-deliveries, grows-given}
 use Rattle.chorus_lossy.proofs.Soundness.{prefix_len-slid}
@@ -90,9 +90,9 @@ sent_held n i fate whole run after s r chunk events e safe two same is =
     let other : fate ≢ 1 = λ (one : fate ≡ 1). omega arith in
     let items = ap reverse is ∙ reverse-append run.held.items ((i, chunk) ∷ []) in
     let now : IsAt whole (record run { held = after.held }) s r =
-        at-from whole (record run { held = after.held }) s r events
-        (e ∙ cond-false (is_lost n fate) _ _ safe ∙ cond-false (fate == 1) _ _ (ne_eqb fate 1 other) ∙ cond-true (fate == 2) _ _ (eq-eqb fate 2 two)
-        ∙ ap (λ h. record (at run s r events) { held = h }) (sym items)) in
+    at-from whole (record run { held = after.held }) s r events
+    (e ∙ cond-false (is_lost n fate) _ _ safe ∙ cond-false (fate == 1) _ _ (ne_eqb fate 1 other) ∙ cond-true (fate == 2) _ _ (eq-eqb fate 2 two)
+    ∙ ap (λ h. record (at run s r events) { held = h }) (sym items)) in
     subst (λ x. IsAt whole x s r) (sym same) now
 
 pub sent_once : (n i fate : ℕ) (whole : Moment) (run : Run) (s : Sending) (r after : Receiving) (chunk : Chunk) (events : List Event) → whole ≡ sent n fate i chunk (at run s r events) → is_lost n fate ≡ false → fate ≢ 1 → fate ≢ 2 → after ≡ after_arrival r i chunk → IsAt whole run s after

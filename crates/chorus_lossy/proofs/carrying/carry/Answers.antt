@@ -1,4 +1,4 @@
-use Rattle.std.proofs.Common.{◌≡◌, ◌≢◌, ◌-◌, ◌+◌, length, sym, ◌∙◌, ap, subst, arith}
+use Rattle.std.proofs.Common.{◌≡◌, ◌≢◌, ◌-◌, length, subst, arith}
 use Rattle.chorus_lossy.specs.Line.{ends}
 use Rattle.chorus_lossy.specs.Rounds.{after_rounds}
 use Rattle.chorus_lossy.specs.Running.{IsAt}

@@ -1,4 +1,4 @@
-use Rattle.std.proofs.Common.{◌≡◌, ◌++◌, refl, sym, ◌∙◌, ap}
+use Rattle.std.proofs.Common.{◌++◌, refl, sym, ◌∙◌, ap}
 use Rattle.chorus_lossy.proofs.Running.{on_err, none_of, delivering_begins, delivering_next, delivered_all, delivered_between, less_ready}
 use Rattle.chorus_lossy.proofs.rounds.deliver.Goals as goal
 

@@ -1,11 +1,7 @@
-use Rattle.std.proofs.Common.{◌≡◌, ◌⊎◌, ⊎_elim, refl, sym, ◌∙◌, ap, Some, false}
+use Rattle.std.proofs.Common.{◌≡◌, ⊎_elim, refl, sym, ◌∙◌}
 use Rattle.std.proofs.lemmas.Result.{on_ok_weaker, on_err_weaker}
-use Rattle.chorus_transport.specs.Sending.{emitted}
 use Rattle.chorus_transport.specs.Receiving.{after_arrival}
-use Rattle.chorus_lossy.specs.Line.{ends}
-use Rattle.chorus_lossy.specs.Rounds.{Moment, emission, is_lost}
-use Rattle.chorus_lossy.specs.Running.{IsBetween, IsAt, Grows}
-use Rattle.chorus_lossy.proofs.Growth.{grows-same, grows-emission}
+use Rattle.chorus_lossy.specs.Rounds.{emission}
 use Rattle.chorus_lossy.proofs.Running.{on_err, unchanged, sent_as, sent_lost, sent_twice, sent_held, sent_once, twice_between}
 use Rattle.chorus_lossy.proofs.rounds.emit.Goals as goal
 

@@ -1,5 +1,5 @@
 use Rattle.std.proofs.Common.{◌≡◌, ◌≤◌, sym, ◌∙◌, ap, subst, arith}
-use Rattle.chorus_transport.specs.Sending.{Sending, after_put, next_number}
+use Rattle.chorus_transport.specs.Sending.{Sending, after_put}
 use Rattle.chorus_lossy.specs.Line.{ends, chunk_at}
 use Rattle.chorus_lossy.specs.Rounds.{filled}
 use Rattle.chorus_lossy.specs.Running.{IsAt, IsBetween}

@@ -1,4 +1,4 @@
-use Rattle.std.proofs.Common.{◌≡◌, ◌≢◌, length, refl, sym, ◌∙◌, ap, subst, arith}
+use Rattle.std.proofs.Common.{◌≡◌, ◌≢◌, length, refl, subst, arith}
 use Rattle.chorus_lossy.specs.Line.{ends}
 use Rattle.chorus_lossy.specs.Rounds.{filled, all_sent, released, all_delivered}
 use Rattle.chorus_lossy.specs.Running.{IsAt}

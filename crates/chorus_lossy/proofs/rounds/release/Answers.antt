@@ -4,7 +4,7 @@ use Rattle.std.proofs.lemmas.List.Elements.{All-pop}
 use Rattle.chorus_transport.specs.declared.chunk.Chunk.{Chunk}
 use Rattle.chorus_lossy.specs.Line.{ends}
 use Rattle.chorus_lossy.specs.Rounds.{released}
-use Rattle.chorus_lossy.specs.Running.{IsAt, IsBetween}
+use Rattle.chorus_lossy.specs.Running.{IsBetween}
 use Rattle.chorus_lossy.proofs.Running.{on_err, none_of_pair, none_held, same_held, releasing_begins, releasing_next, released_all, released_between}
 use Rattle.chorus_lossy.proofs.rounds.release.Goals as goal
 

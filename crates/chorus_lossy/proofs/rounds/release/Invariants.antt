@@ -1,4 +1,4 @@
-use Rattle.std.proofs.Common.{◌≡◌, length}
+use Rattle.std.proofs.Common.{◌≡◌}
 use Rattle.chorus_transport.specs.Sending.{Sending}
 use Rattle.chorus_lossy.specs.Rounds.{Moment}
 use Rattle.chorus_lossy.specs.Running.{IsAt, AreSmall}

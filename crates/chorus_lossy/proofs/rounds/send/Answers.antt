@@ -1,4 +1,4 @@
-use Rattle.std.proofs.Common.{◌≡◌, ◌<◌, ◌-◌, length, sym, ◌∙◌, ap, subst, arith}
+use Rattle.std.proofs.Common.{◌≡◌, ◌<◌, ◌-◌, length, subst, arith}
 use Rattle.chorus_transport.specs.Sending.{next_number}
 use Rattle.chorus_lossy.specs.Line.{ends}
 use Rattle.chorus_lossy.specs.Rounds.{emissions}
@@ -9,7 +9,7 @@ use Rattle.chorus_lossy.proofs.rounds.send.Goals as goal
 pub returns-in_err-emit-clause-err : goal.returns-in_err-emit-clause-err
 returns-in_err-emit-clause-err c = λ m e.
     let s = c.args.sender.now in
-    let below : c.loop-number.number < next_number s = omega (arith, c.next.ensures.value) in
+    let below : c.loop-number.number < next_number s = omega (arith, c.next-number-end.ensures.value) in
     let so_far = emissions c.args.round s.base (c.loop-number.number - s.base) m in
     on_err c.from_residual.result
     (emissions_failed c.args.round c.loop-number.number m c.args.run.now s c.args.receiver.now (ends s c.emit.new.receiver) e c.loop-number.invariant.above below
@@ -34,5 +34,5 @@ returns-clause-ok c = λ m e.
     let s = c.args.sender.now in
     let inv = c.loop-number.invariant in
     let k = c.loop-number.number - s.base in
-    let all : k ≡ length s.kept = omega (arith, inv.above, c.next.ensures.value, c.base.ensures) in
+    let all : k ≡ length s.kept = omega (arith, inv.above, c.next-number-end.ensures.value, c.base-number.ensures) in
     subst (λ x. IsAt x c.loop-number.run s c.loop-number.receiver) (emissions_all c.args.round k m c.args.run.now s c.args.receiver.now e all) (inv.at m e)
