@@ -12,7 +12,8 @@ use Rattle.chorus_scene.specs.declared.scenario.Step.TheVariants as steps
 use Rattle.chorus_scene.specs.Scene.{Scene, scene_with}
 use Rattle.chorus_run.specs.Order.{order}
 use Rattle.chorus_run.specs.Headline.{callers_of, commands_by}
-use Rattle.chorus_run.specs.Load.{next_state, number_of, load_actor, load_group, draws, load_callers, load_commands}
+use Rattle.chorus_draw.specs.Draws.{next_state, number_of}
+use Rattle.chorus_run.specs.Load.{load_actor, load_group, draws, load_callers, load_commands}
 
 abbrev other : Ui
 other = record { site = 2; kind = kinds.Actor; number = 1 }

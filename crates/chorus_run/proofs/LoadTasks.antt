@@ -26,7 +26,8 @@ use Rattle.chorus_run.specs.Laws.{LoadsOnce}
 use Rattle.chorus_run.specs.Headline.{IsOrdered}
 use Rattle.chorus_run.specs.Order.{after_setup}
 use Rattle.chorus_run.specs.Performing.{AreLeft}
-use Rattle.chorus_run.specs.Load.{load_layout, load_actor, load_port, load_group, next_state, number_of, site_by, drawn_command, drawn, draws, make_port, join_port, load_setup, enter_site, load_entering, turn_tasks, turns, to_draw, to_enter, load_order, load_tasks, load_callers, drawn_for, load_commands, Loads}
+use Rattle.chorus_draw.specs.Draws.{next_state, number_of}
+use Rattle.chorus_run.specs.Load.{load_layout, load_actor, load_port, load_group, site_by, drawn_command, drawn, draws, make_port, join_port, load_setup, enter_site, load_entering, turn_tasks, turns, to_draw, to_enter, load_order, load_tasks, load_callers, drawn_for, load_commands, Loads}
 use Rattle.chorus_run.proofs.Given.{commands-append, commands-reverse, own-acts, other-acts}
 use Rattle.chorus_run.proofs.Callers.{AreComers, actors_by, actors-append, actors-reverse, acts-none, get-front}
 use Rattle.chorus_run.proofs.Needs.{HasAll, NeedsOn, not-false, all-of, on-append, on-still, may-all}

@@ -1,6 +1,7 @@
 -- The load: commands that are drawn from a first number, for eight seats, one on each of eight sites.
 -- x is what the generator has come to, r what it draws, i the number of a command, from 1; k is a seat.
-use Rattle.std.specs.Prelude.{ℕ, zero, suc, ◌+◌, ◌-◌, ◌*◌, ◌/◌, ◌%◌, ◌^◌, ◌==◌, nat_lt, if◌then◌else◌, List, [], ◌∷◌, ◌++◌, map, reverse, decimal, Option, Some, slice_get}
+use Rattle.std.specs.Prelude.{ℕ, zero, suc, ◌+◌, ◌-◌, ◌/◌, ◌%◌, ◌==◌, nat_lt, if◌then◌else◌, List, [], ◌∷◌, ◌++◌, map, reverse, decimal, Option, Some, slice_get}
+use Rattle.chorus_draw.specs.Draws.{next_state, number_of}
 use Rattle.chorus_ui.specs.declared.kind.Kind.TheVariants as kinds
 use Rattle.chorus_ui.specs.declared.ui.Ui.{Ui}
 use Rattle.chorus_ui.specs.declared.layout.Layout.{Layout}
@@ -13,7 +14,7 @@ use Rattle.chorus_law.specs.Tasks.{Task, Do, Drain}
 use Rattle.chorus_net.specs.declared.closed.Closed.{Closed}
 use Rattle.chorus_show.specs.declared.status.Status.{Status}
 use Rattle.chorus_run.specs.declared.drawing.Draw.{Draw}
-use Rattle.chorus_run.specs.declared.drawing.TheConstants.{LOAD_SITES, FACTOR, INCREMENT}
+use Rattle.chorus_run.specs.declared.drawing.TheConstants.{LOAD_SITES}
 use Rattle.chorus_run.specs.Order.{after_setup}
 use Rattle.chorus_run.specs.Headline.{Plays, IsOrdered}
 
@@ -31,12 +32,6 @@ abbrev pub load_group : Ui
 load_group = record { site = 1; kind = kinds.Group; number = 1 }
 
 -- The draws.
-
-abbrev pub next_state : ℕ → ℕ
-next_state x = (x * FACTOR + INCREMENT) % 2 ^ 64
-
-abbrev pub number_of : ℕ → ℕ
-number_of x = x / 2 ^ 33
 
 -- a site by the last digit of a number in base eight
 abbrev pub site_by : ℕ → ℕ

@@ -2,8 +2,10 @@
 
 ghost use Rattle.std.specs.Prelude.{◌≡◌, ◌≤◌, ◌<◌, IfOk, Some, slice_get, decimal};
 ghost use Rattle.chorus_run.specs.declared.drawing.TheConstants.{SETUP_COMMANDS};
-ghost use Rattle.chorus_run.specs.Load.{next_state, number_of, site_by, drawn, drawn_command, load_actor, load_port, load_group, load_setup};
+ghost use Rattle.chorus_draw.specs.Draws.{number_of};
+ghost use Rattle.chorus_run.specs.Load.{site_by, drawn, drawn_command, load_actor, load_port, load_group, load_setup};
 
+use chorus_draw::number_of;
 use chorus_entry::{Body, Command, Dest};
 use chorus_ui::{Kind, PENDING_LIMIT, Ui, push_decimal};
 use std::alloc::{AllocError, Global};
@@ -13,11 +15,6 @@ pub const LOAD_SITES: u16 = 8;
 
 /// The commands of the setup: a port on each site, the group, and a member for each port.
 pub(crate) const SETUP_COMMANDS: u16 = 2 * LOAD_SITES + 1;
-
-// The generator: a state times the one and plus the other, modulo 2^64.
-const FACTOR: u64 = 6_364_136_223_846_793_005;
-
-const INCREMENT: u64 = 1_442_695_040_888_963_407;
 
 /// What is drawn for a command.
 #[derive(Debug, Drop)]
@@ -50,19 +47,12 @@ pub(crate) fn setup_command(index: u16) -> Command
     }
 }
 
-/// What the generator comes to next.
-pub(crate) fn next_state(state: u64) -> u64
-    ensures { result ≡ next_state state }
-{
-    state.wrapping_mul(FACTOR).wrapping_add(INCREMENT)
-}
-
 /// What is drawn for the command of this number, from 1, where the generator has come to this state.
 pub(crate) fn draw_for(alloc: Global, number: u32, state: u64) -> Result<Draw, AllocError>
     requires { 1 ≤ number }
     ensures { IfOk result (λ draw. draw ≡ drawn number (number_of state)) }
 {
-    let drawn = state >> 33;
+    let drawn = number_of(state);
     Ok(Draw {
         seat: u32::from(site_by(u64::from(number - 1))),
         command: drawn_command(alloc, number, drawn)?,

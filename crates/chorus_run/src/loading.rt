@@ -14,11 +14,10 @@ ghost use Rattle.chorus_run.specs.Order.{after_setup};
 ghost use Rattle.chorus_run.specs.Load.{Loads, load_layout, load_order, load_setup, to_enter, to_draw};
 ghost use Rattle.chorus_run.specs.Output.{Writes, HandsOut, EndsUnread, summary, summary_of};
 
-use crate::drawing::{
-    Draw, LOAD_SITES, SETUP_COMMANDS, draw_for, load_actor, next_state, setup_command,
-};
+use crate::drawing::{Draw, LOAD_SITES, SETUP_COMMANDS, draw_for, load_actor, setup_command};
 use crate::ending::{Played, close, gave_up, print};
 use crate::finished::Finished;
+use chorus_draw::next_state;
 use chorus_io::Sink;
 use chorus_merge::merge;
 use chorus_net::{Closed, EnterFault, Sites};
