@@ -1,4 +1,5 @@
 pub mod CallIndex
+pub mod GroupLemmas
 pub mod ListLemmas
 pub mod PortLemmas
 pub mod ReadLemmas

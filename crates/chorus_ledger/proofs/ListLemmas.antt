@@ -22,7 +22,7 @@ use Rattle.chorus_world.specs.Ports.{PortState, fate_after}
 use Rattle.chorus_rows.specs.Lines.{sent_by_line}
 use Rattle.chorus_rows.specs.Keys.{same_line}
 use Rattle.chorus_ledger.specs.Asks.{asked_by, direct}
-use Rattle.chorus_rows.specs.Groups.{GroupRow, joined_here}
+use Rattle.chorus_ledger.specs.Groups.{GroupRow, joined_here}
 use Rattle.chorus_rows.proofs.KeyLemmas.{ui_sym}
 use Rattle.chorus_ledger.specs.Ties.{grows}
 use Rattle.chorus_rows.specs.declared.keys.NameAt.{NameAt}

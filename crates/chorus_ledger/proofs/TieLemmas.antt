@@ -31,7 +31,7 @@ use Rattle.chorus_rows.specs.Locations.{location_in, location_after}
 use Rattle.chorus_rows.specs.Places.{no_place, place_in, place_after, HasFewMade}
 use Rattle.chorus_ledger.specs.Ports.{fate_in}
 use Rattle.chorus_rows.specs.Seats.{HasTag, no_seat, seat_in, seat_after}
-use Rattle.chorus_rows.specs.Groups.{group_in, group_after}
+use Rattle.chorus_ledger.specs.Groups.{group_in, group_after}
 use Rattle.chorus_rows.specs.Clients.{kept_in, kept_by, clients_in, clients_by}
 use Rattle.chorus_ledger.specs.Ties.{choosing_at, IsAskedOf, Follows, HasFew, HasRoom, HasSameRows, ListsAfter, RowsAfter, sent_at, message_sent, tag_in, tag_by, act_tag}
 use Rattle.chorus_rows.specs.declared.keys.MessageAt.{MessageAt}
@@ -44,7 +44,7 @@ use Rattle.chorus_rows.proofs.LocationLemmas.{FindsSent, location_grows}
 use Rattle.chorus_rows.proofs.OpenLines.{narrower, longer, line_grows}
 use Rattle.chorus_rows.proofs.PlaceLemmas.{place_grows, few_ports, few_groups}
 use Rattle.chorus_rows.proofs.SeatLemmas.{seat_grows, few_posts}
-use Rattle.chorus_rows.proofs.GroupLemmas.{group_grows, both_are}
+use Rattle.chorus_ledger.proofs.GroupLemmas.{group_grows, both_are}
 use Rattle.chorus_rows.proofs.ClientLemmas.{kept_grows, clients_grow, few_clients}
 
 -- each message that a legal past names was posted

@@ -1,4 +1,5 @@
 pub mod Asks
+pub mod Groups
 pub mod Ports
 pub mod Ties
 pub mod Worlds

@@ -31,7 +31,7 @@ use Rattle.chorus_ledger.specs.Asks.{asked_row, asked_by, unchosen_at}
 use Rattle.chorus_rows.specs.Locations.{location_in, location_row, LocationsAfter}
 use Rattle.chorus_rows.specs.Places.{place_in, place_row, PlacesAfter, HasFewMade}
 use Rattle.chorus_rows.specs.Seats.{seat_in, seat_row, SeatsAfter}
-use Rattle.chorus_rows.specs.Groups.{group_in, group_row, GroupsJoined, GroupsChanged}
+use Rattle.chorus_ledger.specs.Groups.{group_in, group_row, GroupsJoined, GroupsChanged}
 use Rattle.chorus_rows.specs.Clients.{kept_in, kept_row, KeptAfter, clients_in, clients_row, ClientsAfter}
 use Rattle.chorus_rows.specs.declared.posting.Posting.{Posting}
 use Rattle.chorus_rows.specs.declared.keys.MessageAt.{MessageAt}

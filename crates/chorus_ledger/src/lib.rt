@@ -5,11 +5,12 @@
 //! that its contract names, read from all entries. `append` adds an entry that may come next, and an error leaves the ledger
 //! as it was.
 //!
-//! Begin with `ledger`. `tables` has all tables of `chorus_rows`; that they say what the entries say is one equation for each
-//! key of each table (`specs/Ties.antt`).
+//! Begin with `ledger`. `tables` has all tables: those of `chorus_rows`, and those of `ports` and `groups`, whose rows own lists.
+//! That they say what the entries say is one equation for each key of each table (`specs/Ties.antt`).
 #![tactic(auto)]
 
 mod fate;
+mod groups;
 mod ledger;
 mod ports;
 mod tables;

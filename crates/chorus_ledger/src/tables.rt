@@ -11,10 +11,10 @@ ghost use Rattle.chorus_ledger.specs.Ports.{fate_in, MakeFits, TakesFit};
 ghost use Rattle.chorus_ledger.specs.Ties.{Follows, HasSameRows, HasRoom, HasFew, ListsAfter, RowsAfter, StillFollow, message_sent, tag_by, act_tag, choosing_at, grows};
 
 use crate::fate::PortFate;
+use crate::groups::{Group, follow_groups, join_group};
 use crate::ports::follow_ports;
 use chorus_entry::{Act, Dest, Entry, MEMBERS_LIMIT, MsgId, Tag};
 use chorus_rows::clients::{follow_clients, follow_kept};
-use chorus_rows::groups::{Group, follow_groups, join_group};
 use chorus_rows::keys::{ClientOf, Line, MessageAt, NameAt, PortKey};
 use chorus_rows::lines::{End, follow_lines, push, shorten_line};
 use chorus_rows::locations::follow_locations;
@@ -260,7 +260,8 @@ impl Tables {
 
     /// Takes out of the line of the group's posts, made at the place of this post, the first ones that have their choice.
     fn shorten_asked(&mut self, layout: Layout, id: MsgId, group: Ui)
-        ensures { (past : List Entry) → Follows layout past self.old → Follows layout past self.new }
+        ensures { (past : List Entry) →
+            Follows layout past self.old → Follows layout past self.new }
     {
         if let Some(post) = message_in(&self.messages, id).post {
             let line = asked_line(post.place, group);
@@ -272,7 +273,8 @@ impl Tables {
 
     /// Takes out of the lines of the entry's message the first ones that have met their end.
     pub(crate) fn shorten(&mut self, layout: Layout, entry: &Entry)
-        ensures { (past : List Entry) → Follows layout past self.old → Follows layout past self.new }
+        ensures { (past : List Entry) →
+            Follows layout past self.old → Follows layout past self.new }
     {
         self.shorten_sent(entry);
         match &entry.act {

@@ -1,5 +1,4 @@
 pub mod ClientLemmas
-pub mod GroupLemmas
 pub mod Keeping
 pub mod KeyLemmas
 pub mod LineChanges

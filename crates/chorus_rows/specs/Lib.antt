@@ -1,5 +1,4 @@
 pub mod Clients
-pub mod Groups
 pub mod Keys
 pub mod Lines
 pub mod Locations

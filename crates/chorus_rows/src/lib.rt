@@ -9,8 +9,7 @@
 #![tactic(auto)]
 
 pub mod clients;
-pub mod groups;
-mod keep;
+pub mod keep;
 pub mod keys;
 pub mod lines;
 pub mod locations;

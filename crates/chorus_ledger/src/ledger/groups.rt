@@ -6,10 +6,10 @@ ghost use Rattle.chorus_world.specs.Groups.{members, rotation};
 ghost use Rattle.chorus_world.specs.Views.{at, is_group};
 ghost use Rattle.chorus_ledger.specs.Worlds.{next_to};
 
+use crate::groups::group_at;
 use crate::ledger::Ledger;
 use crate::tables::asked_line;
 use chorus_entry::MsgId;
-use chorus_rows::groups::group_at;
 use chorus_rows::lines::{End, first_open};
 use chorus_ui::Ui;
 

@@ -1,6 +1,6 @@
 -- In each arm one table's lists grow, by the call there, and the others stay.
 use Rattle.std.proofs.Common.{ap, sym, ◌∙◌, refl, arith}
-use Rattle.chorus_rows.specs.Groups.{group_in}
+use Rattle.chorus_ledger.specs.Groups.{group_in}
 use Rattle.chorus_rows.specs.Lines.{line_in}
 use Rattle.chorus_ledger.specs.Ports.{fate_in}
 use Rattle.chorus_rows.proofs.LineChanges.{on_err}

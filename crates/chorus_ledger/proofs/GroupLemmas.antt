@@ -10,7 +10,7 @@ use Rattle.chorus_entry.specs.Members.{without, turned, turned_back}
 use Rattle.chorus_world.specs.Views.{at, is_group}
 use Rattle.chorus_world.specs.Groups.{members, rotation}
 use Rattle.chorus_rows.specs.Keys.{same_name_at}
-use Rattle.chorus_rows.specs.Groups.{GroupRow, group_row, group_here, joined_here, changed_here, changed_own, changed_group, group_after}
+use Rattle.chorus_ledger.specs.Groups.{GroupRow, group_row, group_here, joined_here, changed_here, changed_own, changed_group, group_after}
 use Rattle.chorus_rows.specs.declared.keys.NameAt.{NameAt}
 
 abbrev row_of : Ui → List Entry → GroupRow

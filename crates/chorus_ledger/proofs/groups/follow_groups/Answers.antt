@@ -5,12 +5,12 @@ use Rattle.std.specs.HashMap.{get}
 use Rattle.std.proofs.lemmas.Bool.{eq-eqb}
 use Rattle.chorus_ui.proofs.Names.{same_ui-self}
 use Rattle.chorus_rows.specs.Keys.{same_name_at}
-use Rattle.chorus_rows.specs.Groups.{no_group, changed_here, changed_own, group_in}
+use Rattle.chorus_ledger.specs.Groups.{no_group, changed_here, changed_own, group_in}
 use Rattle.chorus_rows.specs.declared.keys.NameAt.{NameAt}
 use Rattle.chorus_rows.proofs.KeyLemmas.{from_same_name_at}
 use Rattle.chorus_rows.proofs.Keeping.{put_row}
-use Rattle.chorus_rows.proofs.GroupLemmas.{changes_own, changes_other}
-use Rattle.chorus_rows.proofs.groups.follow_groups.Goals as goal
+use Rattle.chorus_ledger.proofs.GroupLemmas.{changes_own, changes_other}
+use Rattle.chorus_ledger.proofs.groups.follow_groups.Goals as goal
 
 pub returns-in-Some-get_mut : goal.returns-in-Some-get_mut
 returns-in-Some-get_mut c =

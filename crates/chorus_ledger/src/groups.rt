@@ -2,14 +2,14 @@
 
 ghost use Rattle.std.specs.Prelude.{◌≡◌, ◌<◌, ◌≤◌, ◌+◌, length, OnOk, OnErr};
 ghost use Rattle.chorus_entry.specs.Members.{index_of, wrapped};
-ghost use Rattle.chorus_rows.specs.Groups.{IsGroupRow, no_group, group_in, joined, left, turned_by, changed_own, changed_group, GroupsJoined, GroupsChanged, GroupsStay};
+ghost use Rattle.chorus_ledger.specs.Groups.{IsGroupRow, no_group, group_in, joined, left, turned_by, changed_own, changed_group, GroupsJoined, GroupsChanged, GroupsStay};
 ghost use Rattle.std.specs.Option.{option_copied};
 ghost use Rattle.std.specs.HashMap.{get, spare};
 ghost use Rattle.chorus_rows.specs.Keys.{same_name_at};
 
-use crate::keep::put;
-use crate::keys::NameAt;
 use chorus_entry::{Act, Entry};
+use chorus_rows::keep::put;
+use chorus_rows::keys::NameAt;
 use chorus_ui::Ui;
 use std::alloc::{AllocError, Global};
 use std::collections::HashMap;
@@ -41,22 +41,20 @@ fn wrapped(len: usize, at: usize) -> usize
 
 /// A group as the entries of its place leave it.
 #[derive(Debug, Drop)]
-pub struct Group {
+pub(crate) struct Group {
     made: bool,
     members: Vec<Ui>,
     rotation: usize,
 }
 
 impl Model for Group {
-    ghost use Rattle.chorus_rows.specs.Groups.{GroupRow, IsGroupRow};
+    ghost use Rattle.chorus_ledger.specs.Groups.{GroupRow, IsGroupRow, group_state};
 
     ghost Value = { GroupRow };
 
-    ghost view = { λ g. record { made = g.made; members = g.members.items; rotation = g.rotation } };
+    ghost view = { λ g. group_state g.made g.members.items g.rotation };
 
-    ghost invariant = { λ g.
-        let row : GroupRow = record { made = g.made; members = g.members.items; rotation = g.rotation } in
-        IsGroupRow row };
+    ghost invariant = { λ g. IsGroupRow (group_state g.made g.members.items g.rotation) };
 }
 
 impl Group {
@@ -72,14 +70,14 @@ impl Group {
     }
 
     /// Whether it was made at the place.
-    pub fn is_made(&self) -> bool
+    pub(crate) fn is_made(&self) -> bool
         ensures { result ≡ self.now.made }
     {
         self.made
     }
 
     /// Its members, in the order in which they joined.
-    pub fn members(&self) -> &[Ui]
+    pub(crate) fn members(&self) -> &[Ui]
         ensures value { result.now ≡ self.now.members }
         ensures row { IsGroupRow self.now }
     {
@@ -87,7 +85,7 @@ impl Group {
     }
 
     /// Its rotation place.
-    pub fn rotation(&self) -> usize
+    pub(crate) fn rotation(&self) -> usize
         ensures { result ≡ self.now.rotation }
     {
         self.rotation
@@ -153,7 +151,7 @@ fn changed_group(act: &Act) -> Option<Ui>
 }
 
 /// The row of a group at a place; None where no entry of the place names it.
-pub fn group_at(groups: &HashMap<NameAt, Group>, place: u16, group: Ui) -> Option<&Group>
+pub(crate) fn group_at(groups: &HashMap<NameAt, Group>, place: u16, group: Ui) -> Option<&Group>
     ensures { option_copied result ≡
         get same_name_at groups.now (record { place = place; name = group }) }
 {
@@ -161,7 +159,7 @@ pub fn group_at(groups: &HashMap<NameAt, Group>, place: u16, group: Ui) -> Optio
 }
 
 /// The groups after the entry, where it has a port join one. An error leaves them as they were.
-pub fn join_group(
+pub(crate) fn join_group(
     groups: &mut HashMap<NameAt, Group>,
     alloc: Global,
     entry: &Entry,
@@ -187,7 +185,7 @@ pub fn join_group(
 }
 
 /// The groups after the entry, but for a port that joins one.
-pub fn follow_groups(groups: &mut HashMap<NameAt, Group>, alloc: Global, entry: &Entry)
+pub(crate) fn follow_groups(groups: &mut HashMap<NameAt, Group>, alloc: Global, entry: &Entry)
     requires { 0 < spare groups.old }
     ensures { GroupsChanged entry.now (group_in groups.old) (group_in groups.new) }
 {

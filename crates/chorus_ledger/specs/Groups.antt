@@ -18,6 +18,11 @@ pub record GroupRow : Type 0 where
   pub members : List Ui
   pub rotation : ℕ
 
+-- what the fields of a group stand for
+abbrev pub group_state : Bool → List Ui → ℕ → GroupRow
+group_state made members rotation = record { made = made; members = members; rotation = rotation }
+
+-- its rotation place is within its members, or just behind them
 abbrev pub IsGroupRow : GroupRow → Type 0
 IsGroupRow r = r.rotation ≤ length r.members
 
