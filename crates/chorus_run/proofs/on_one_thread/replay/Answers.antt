@@ -1,6 +1,7 @@
-use Rattle.std.proofs.Common.{◌≡◌, Some, Ok, sym, ◌∙◌, ap, subst}
+use Rattle.std.proofs.Common.{ℕ, ◌≡◌, Some, Ok, Err, sym, ◌∙◌, ap, subst}
 use Rattle.chorus_ui.specs.Layout.{IsLayout}
 use Rattle.chorus_show.specs.declared.status.Status.{Status}
+use Rattle.chorus_run.specs.declared.finished.Finished.{Finished}
 use Rattle.chorus_run.specs.Headline.{IsGiven, Replays}
 use Rattle.chorus_run.specs.Output.{text_of}
 use Rattle.chorus_run.specs.Performing.{IsPlayed}
@@ -8,6 +9,22 @@ use Rattle.chorus_net.specs.Sites.{net}
 use Rattle.chorus_run.proofs.Plays.{replays-as}
 use Rattle.chorus_run.proofs.Stepping.{can, ordered-all, ordered-worn, printed, prints-text, none-of, worn-high, worn-has}
 use Rattle.chorus_run.proofs.on_one_thread.replay.Goals as goal
+
+no-refusal : (s : Status) (line reason : ℕ) → s ≡ Status.Memory → s ≡ Status.Scenario line reason → ⊥
+no-refusal s line reason e f = cc
+
+pub returns-in-Err-clause-scenario : goal.returns-in-Err-clause-scenario
+returns-in-Err-clause-scenario g c line reason is =
+    let status = sym (ap (λ (f : Finished). f.status) c.gave_up.ensures) ∙ is in
+    subst (λ l. IsGiven l (g.S.Source.left c.args.source.now) (Err (line, reason))) c.layout.ensures.value (c.in-Err.ensures.refused line reason (ap Err status))
+
+pub returns-in_default-clause-scenario : goal.returns-in_default-clause-scenario
+returns-in_default-clause-scenario g c line reason is =
+    absurd (no-refusal _ line reason (ap (λ (f : Finished). f.status) c.gave_up-in_default.ensures) is)
+
+pub returns-in_default-text_of-clause-scenario : goal.returns-in_default-text_of-clause-scenario
+returns-in_default-text_of-clause-scenario g c line reason is =
+    absurd (no-refusal _ line reason (ap (λ (f : Finished). f.status) c.gave_up-in_default-text_of.ensures) is)
 
 pub returns-in-Some-clause-replays : goal.returns-in-Some-clause-replays
 returns-in-Some-clause-replays g c =
