@@ -5,7 +5,8 @@
 //! rounds in which the measured things take turns.
 #![tactic(auto)]
 
-use chorus_scene::{Scenario, print, read};
+use chorus_print::print;
+use chorus_scene::{Scenario, read};
 use chorus_ui::{Layout, push_decimal};
 use std::alloc::{AllocError, Global};
 use std::time::{Clock, Instant};

@@ -1,27 +1,10 @@
-//! The program `chorus`: it hands its words and the three standard streams to [`program`] and [`ended`].
+//! The program `chorus`.
 
 #![tactic(auto)]
 
-use chorus_io::{StdErrors, StdSink, StdSource};
-use chorus_program::{ended, program, without_words};
-use chorus_show::Status;
+use chorus_program::process;
 use std::process::ExitCode;
-use std::{env, io};
 
 fn main(rt: HostRuntime) -> ExitCode {
-    let status = match run(&rt) {
-        Ok(status) => status,
-        Err(fault) => without_words(&fault),
-    };
-    ExitCode::from(ended(status, &mut StdErrors::new(rt.stderr())))
-}
-
-/// Does what the words after the program's name say. An error is want of memory for them, or a word that is no text.
-fn run(rt: &HostRuntime) -> io::Result<Status> {
-    let alloc = rt.alloc();
-    let words: Vec<String> = env::args(rt)?.skip(1).collect(alloc)?;
-    let words: Vec<&str> = words.iter().map(|word| word.as_str()).collect(alloc)?;
-    let mut source = StdSource::new(rt.stdin());
-    let mut sink = StdSink::new(rt.stdout());
-    Ok(program(alloc, &words, &mut source, &mut sink).status)
+    process(&rt)
 }

@@ -12,6 +12,8 @@ pub mod Refusals
 pub mod Clients
 pub mod Views
 pub mod Standing
+pub mod Holdings
+pub mod Quiet
 pub mod Packets
 pub mod Ended
 pub mod Deciding

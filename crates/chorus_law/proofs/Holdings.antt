@@ -2,3 +2,4 @@ pub mod Shows
 pub mod Packets
 pub mod Closed
 pub mod Passing
+pub mod EachMessage

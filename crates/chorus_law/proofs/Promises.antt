@@ -1,5 +1,4 @@
 pub mod Rests
-pub mod Accepted
 pub mod Puts
 pub mod Carrying
 pub mod Few

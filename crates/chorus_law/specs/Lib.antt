@@ -14,3 +14,4 @@ pub mod Tasks
 pub mod Promises
 pub mod Answering
 pub mod Merging
+pub mod EachMessage

@@ -5,7 +5,7 @@ use Rattle.std.specs.List.{All, filter}
 use Rattle.chorus_entry.specs.declared.entry.Entry.{Entry}
 use Rattle.chorus_entry.specs.Order.{is_at}
 use Rattle.chorus_world.specs.Views.{at}
-use Rattle.chorus_world.specs.Order.{IsCausal, sort}
+use Rattle.chorus_world.specs.Order.{sort}
 use Rattle.chorus_merge.specs.Merge.{all_entries, merged}
 use Rattle.chorus_merge.specs.Order.{ClocksRise}
 use Rattle.chorus_merge.specs.Laws.{AreOfPlaces}
@@ -19,5 +19,4 @@ pub record AreJournalsOf (past : List Entry) (journals : List (List Entry)) : Ty
 -- then their merge is the sorted past
 abbrev pub MergesAsSorted : Type 0
 MergesAsSorted =
-    (past : List Entry) (journals : List (List Entry)) → IsCausal past → AreJournalsOf past journals →
-    merged journals ≡ reverse (sort past)
+    (past : List Entry) (journals : List (List Entry)) → AreJournalsOf past journals → merged journals ≡ reverse (sort past)

@@ -92,11 +92,11 @@ pub record Promises (l : Layout) (es : List Event) (n : NetState) : Type 0 where
   pub quiet : Rests l es n
   pub receives : Always ReceivesInOrder (merged_past n)
   pub fates : Always KeepsEachMessage (merged_past n)
-  pub sender_order : KeepsSenderOrder (merged_past n)
-  pub once : AcceptsRequestsOnce (merged_past n)
-  pub one_member : ReachesOneMember (merged_past n)
+  pub sender_order : Always KeepsSenderOrder (merged_past n)
+  pub once : Always AcceptsRequestsOnce (merged_past n)
+  pub one_member : Always ReachesOneMember (merged_past n)
   pub on_site : EachEntry (AcceptsOnSite l) (merged_past n)
-  pub choice_order : KeepsChoiceOrder (merged_past n)
+  pub choice_order : Always KeepsChoiceOrder (merged_past n)
   pub few_packets : CarriesFew l es n
 
 abbrev pub SchedulesKeepPromises : Type 0

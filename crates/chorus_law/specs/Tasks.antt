@@ -1,16 +1,15 @@
 -- Tasks: an event, or a drain. A drain is whole rounds of deliveries, so many that one more would serve nothing.
 -- l is a layout, es are events and ts are tasks, both with the latest first, o is a packet with the place that it goes to.
-use Rattle.std.specs.Prelude.{ℕ, ◌≡◌, ◌==◌, ◌⊎◌, true, false, List, [], ◌∷◌, ◌++◌, Some, is_some, slice_get}
+use Rattle.std.specs.Prelude.{ℕ, ◌≡◌, ◌⊎◌, true, List, [], ◌∷◌, ◌++◌, Some, is_some, slice_get}
 use Rattle.std.specs.List.{All}
 use Rattle.chorus_ui.specs.declared.ui.Ui.{Ui}
 use Rattle.chorus_ui.specs.declared.layout.Layout.{Layout}
-use Rattle.chorus_ui.specs.Layout.{IsLayout, has_place}
+use Rattle.chorus_ui.specs.Layout.{IsLayout}
 use Rattle.chorus_entry.specs.declared.command.Command.{Command}
 use Rattle.chorus_world.specs.Commands.{performs}
-use Rattle.chorus_machine.specs.PlaceState.{Outgoing}
 use Rattle.chorus_law.specs.Network.{NetState, Event, Deliver, schedule, round, rounds, served, drained}
 use Rattle.chorus_law.specs.Stands.{actor_of}
-use Rattle.chorus_law.specs.Schedules.{command_in, commands_of, may_happen, may_be, OfSchedules}
+use Rattle.chorus_law.specs.Schedules.{command_in, may_happen, may_be, OfSchedules}
 use Rattle.chorus_law.specs.Left.{packets_left, merged_past}
 use Rattle.chorus_law.specs.Quiet.{IsQuiet}
 
@@ -56,15 +55,6 @@ abbrev pub DrainsEnd : Type 0
 DrainsEnd = OfSchedules (λ l es n. (seat : ℕ) → is_some (slice_get n.callers seat) ≡ true →
     (most : ℕ) × ((drained seat most n).packets ≡ []))
 
--- each packet goes between two different places of the layout
-pub record IsBetweenPlaces (l : Layout) (o : Outgoing) : Type 0 where
-  pub has_from : has_place l o.packet.from ≡ true
-  pub has_to : has_place l o.to ≡ true
-  pub apart : (o.packet.from == o.to) ≡ false
-
-abbrev pub PacketsLieBetween : Type 0
-PacketsLieBetween = OfSchedules (λ l es n. All (IsBetweenPlaces l) n.packets)
-
 -- so a drain leaves no packet
 abbrev pub DrainsLeaveNothing : Type 0
 DrainsLeaveNothing =
@@ -90,12 +80,7 @@ CarryFront l (Do event ∷ ts) es = CarryOut l (Do event ∷ ts) es ⊎ CarryFro
 CarryFront l (Drain seat ∷ ts) es =
     ((done : List Event) × ((older : List Event) × ((es ≡ done ++ older) × AreDeliveries seat done × CarryOut l ts older))) ⊎ CarryFront l ts es
 
--- so the commands that were given are the first of those of the tasks, both with the latest first
-abbrev pub FrontsGiveFronts : Type 0
-FrontsGiveFronts =
-    (l : Layout) (ts : List Task) (es : List Event) (seat : ℕ) → CarryFront l ts es → (later : List Command) × (commands_in seat ts ≡ later ++ commands_of seat es)
-
--- and the merge performs them
+-- so the merge performs the first of the commands of the tasks, both lists with the latest first
 pub record PerformsFront (l : Layout) (ts : List Task) (n : NetState) (seat : ℕ) (actor : Ui) : Type 0 where
   pub done : List Command
   pub later : List Command

@@ -1,9 +1,10 @@
 //! The network of place machines, of definitions, and its laws: it refines the world in which each port has one holder.
 //!
 //! The layers above rest on the definitions of `specs/`: the network and its events (`Network`, `Packets`), which schedules may be
-//! (`Schedules`), drains and tasks (`Tasks`), what a network stands for (`Stands`), and what is left of it when it is closed (`Left`,
-//! `Holdings`, `Quiet`). And on what holds of each schedule: [`network_refines_world`] and [`drains_leave_nothing_to_do`]. The
-//! crate has no code but the laws, which make no call, and the types that definitions name.
+//! (`Schedules`), drains and tasks (`Tasks`), what a network stands for (`Stands`), what is left of it when it is closed (`Left`,
+//! `Holdings`, `Quiet`), and how what is held has each message (`EachMessage`). And on what holds of each schedule:
+//! [`network_refines_world`], [`each_message_stands_once`] and [`drains_leave_nothing_to_do`]. The crate has no code but the
+//! laws, which make no call, and the types that definitions name.
 //!
 //! Begin with `specs/Network.antt`, then `network`.
 #![tactic(auto)]
@@ -14,6 +15,6 @@ mod network;
 mod placed;
 
 pub use delivery::{Delivered, Quiet};
-pub use merging::merge_is_the_sorted_list;
-pub use network::{drains_leave_nothing_to_do, network_refines_world};
+pub use merging::merge_is_the_sorted_past;
+pub use network::{drains_leave_nothing_to_do, each_message_stands_once, network_refines_world};
 pub use placed::Placed;

@@ -2,8 +2,8 @@
 
 ghost use Rattle.chorus_law.specs.Merging.{MergesAsSorted};
 
-/// Where clock and place rise along each view of a list, and journals, one for each place, in which clocks rise, have at each
-/// place what the list has there, their merge is the list sorted by clock and place.
-pub fn merge_is_the_sorted_list()
+/// Where journals, one for each place from 1 on, in which clocks rise, have at each place what a past has there, their merge is
+/// the past sorted by clock and place.
+pub fn merge_is_the_sorted_past()
     ensures { MergesAsSorted }
 {}

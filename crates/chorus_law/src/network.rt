@@ -1,5 +1,6 @@
 //! The laws of the network. They speak of the definitions alone and make no call.
 
+ghost use Rattle.chorus_law.specs.EachMessage.{ClosedHoldEach, HoldingsHoldEach, NetworksHoldEach};
 ghost use Rattle.chorus_law.specs.History.{EventsStand, SchedulesStandInOrder};
 ghost use Rattle.chorus_law.specs.Promises.{SchedulesKeepPromises};
 ghost use Rattle.chorus_law.specs.Tasks.{CarriedOutOnce, DrainsEnd, DrainsLeaveNothing, DrainsRest, FrontsPerformed, TasksCarriedOut};
@@ -17,11 +18,12 @@ ghost use Rattle.chorus_law.specs.Tasks.{CarriedOutOnce, DrainsEnd, DrainsLeaveN
 /// (`performed`). Each packet that is worked off next is lawful at its place (`lawful`). The records held and the ports under
 /// way stand for the ports of the merge (`stands`), also when the network is closed (`left`). Where no packet is left, nothing
 /// is left to be done (`quiet`). What a port gives out is always what it accepted first, in order (`receives`), and each
-/// accepted message always stands at one position of one port, with one fate (`fates`). A port accepts the messages of one
-/// sender by one route in the order in which they were sent (`sender_order`), and a request at most once (`once`). A functional
-/// post is accepted by at most one member (`one_member`), on the site that it asks for (`on_site`). The copies of a group's
-/// posts stand in each port in the order of their choices (`choice_order`). A direct post is carried by at most 2 (h + 1)
-/// packets that try it or tell its verdict, where h is how often its port departed (`few_packets`).
+/// accepted message always stands at one position of one port, with one fate (`fates`). A port always has the messages of
+/// one sender by one route in the order in which they were sent (`sender_order`), and a request at most once (`once`). A
+/// functional post is always accepted by at most one member (`one_member`), on the site that it asks for (`on_site`). The
+/// copies of a group's posts always stand in each port in the order of their choices (`choice_order`). A direct post is
+/// carried by at most 2 (h + 1) packets that try it or tell its verdict, where h is how often its port departed
+/// (`few_packets`).
 pub fn network_refines_world()
     ensures events { EventsStand }
     ensures stands { SchedulesStandInOrder }
@@ -41,4 +43,16 @@ pub fn drains_leave_nothing_to_do()
     ensures empty { DrainsLeaveNothing }
     ensures rests { DrainsRest }
     ensures front { FrontsPerformed }
+{}
+
+/// Each accepted message was received, was discarded with its deleted port, or is held by exactly one queue or Transfer.
+///
+/// Where holdings stand for a past in which each accepted message has one fate, a message that is queued by its fate waits in
+/// the record of its port at one place, and one that is under way in one Transfer: there alone, once, at its position behind
+/// those taken. One that was received or discarded waits in none. And nothing else waits in them (`holdings`). So it is of what
+/// a network holds after each schedule, for the merge of its journals (`network`), also when it is closed (`closed`).
+pub fn each_message_stands_once()
+    ensures holdings { HoldingsHoldEach }
+    ensures network { NetworksHoldEach }
+    ensures closed { ClosedHoldEach }
 {}

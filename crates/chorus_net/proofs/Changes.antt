@@ -1,18 +1,16 @@
 -- One place, or one caller, of the sites is changed.
-use Rattle.std.proofs.Common.{ℕ, zero, suc, ◌≡◌, ◌≢◌, ◌+◌, ◌<◌, ◌≤◌, ◌==◌, Bool, true, false, cond, List, [], ◌∷◌, ◌++◌, length, map, get_or, set, Option, Some, None, slice_get, refl, sym, ◌∙◌, ap, subst, arith}
+use Rattle.std.proofs.Common.{ℕ, zero, suc, ◌≡◌, ◌+◌, ◌<◌, Bool, true, false, cond, List, [], ◌∷◌, length, map, get_or, set, refl, sym, ◌∙◌, ap, subst, arith}
 use Rattle.std.specs.List.{All}
-use Rattle.std.proofs.lemmas.Bool.{eqb-true, eq-eqb, ne_eqb}
-use Rattle.std.proofs.lemmas.List.{length-map, map-set, get_or-set_same, set-get_or, get_or_default}
+use Rattle.std.proofs.lemmas.Bool.{eq-eqb, ne_eqb}
 use Rattle.std.proofs.lemmas.List.Elements.{All-nil, All-cons, All-head, All-tail}
 use Rattle.chorus_ui.specs.declared.layout.Layout.{Layout}
 use Rattle.chorus_ui.specs.Layout.{places}
-use Rattle.chorus_entry.specs.declared.packet.Packet.{Packet}
-use Rattle.chorus_machine.specs.PlaceState.{PlaceState, Outgoing}
+use Rattle.chorus_machine.specs.PlaceState.{Outgoing}
 use Rattle.chorus_law.specs.Packets.{is_link_before, put, put_all}
 use Rattle.chorus_law.specs.Network.{place_in, with_place}
 use Rattle.chorus_place.specs.Calls.{Place, state}
-use Rattle.chorus_net.specs.Sites.{boxes, AllFrom, IsPlaceOf, ArePlaces}
-use Rattle.chorus_net.proofs.Boxes.{AreBoxes, IsPut}
+use Rattle.chorus_net.specs.Sites.{boxes, IsPlaceOf, ArePlaces}
+use Rattle.chorus_net.proofs.Boxes.{AreBoxes}
 
 -- the place at an index
 pub place-of : (l : Layout) (k i : ℕ) (ps : List Place) (d : Place) → ArePlaces l k ps → i < length ps → IsPlaceOf l (k + i) (get_or ps i d)

@@ -1,5 +1,5 @@
 -- A delivery: a packet is taken out at one place, and worked off at another, or put back.
-use Rattle.std.proofs.Common.{ℕ, zero, suc, ◌≡◌, ◌≢◌, ◌+◌, ◌<◌, ◌≤◌, ◌==◌, nat_lt, Bool, true, false, ◌&&◌, not, List, [], ◌∷◌, length, map, drop, get_or, set, Option, Some, None, is_some, slice_get, Result, Ok, Err, ◌↔◌, refl, sym, ◌∙◌, ap, subst, arith}
+use Rattle.std.proofs.Common.{ℕ, zero, suc, ◌≡◌, ◌≢◌, ◌+◌, ◌<◌, ◌≤◌, ◌==◌, nat_lt, Bool, true, false, ◌&&◌, not, List, [], ◌∷◌, length, map, get_or, set, Option, Some, None, is_some, slice_get, Result, Ok, Err, ◌↔◌, refl, sym, ◌∙◌, ap, subst, arith}
 use Rattle.std.specs.List.{All}
 use Rattle.std.proofs.lemmas.Option.{same_Some, none-some}
 use Rattle.chorus_ui.specs.declared.limits.TheConstants.{CLOCK_LIMIT}
@@ -7,29 +7,35 @@ use Rattle.chorus_place.specs.declared.fault.PlaceFault.{PlaceFault}
 use Rattle.chorus_place.specs.declared.fault.PlaceFault.TheVariants as faults
 use Rattle.std.proofs.lemmas.Bool.{and_parts, and_from, ne_eqb, eqb-true, ltb-true, ltb-false}
 use Rattle.std.proofs.lemmas.List.{length-set, set-get_or, set-set, get_or-set_same, get_or-set_other}
-use Rattle.chorus_ui.specs.declared.layout.Layout.{Layout}
 use Rattle.chorus_ui.specs.Layout.{has_place, places}
 use Rattle.chorus_entry.specs.declared.packet.Packet.{Packet}
 use Rattle.chorus_entry.specs.Ranges.{has_ranges}
 use Rattle.chorus_calls.specs.Callers.{Seated}
 use Rattle.chorus_out.specs.Waiting.{list_to, with_first, without_first}
-use Rattle.chorus_machine.specs.PlaceState.{PlaceState, Outgoing, Turn, greatest_clock}
+use Rattle.chorus_machine.specs.PlaceState.{PlaceState, Outgoing, greatest_clock}
 use Rattle.chorus_machine.specs.PlaceMachine.{begun_by, work}
 use Rattle.chorus_machine.specs.Lawful.{is_lawful, is_lawful_cargo}
 use Rattle.chorus_machine.proofs.Machine.Stays.{work-stays}
 use Rattle.chorus_law.specs.declared.delivery.Delivered.{Delivered}
 use Rattle.chorus_law.specs.Packets.{put_all, first_on, rest_on}
-use Rattle.chorus_law.specs.Network.{NetState, Event, Deliver, place, place_in, with_place, ended, works_off, delivered, delivery, delivery_of, happened, schedule}
+use Rattle.chorus_law.specs.Network.{NetState, Deliver, place, place_in, with_place, ended, works_off, delivered, delivery, delivery_of, happened}
 use Rattle.chorus_law.specs.History.{put_by, put_in, taken_at, taken_on}
 use Rattle.chorus_law.specs.Schedules.{may_happen}
 use Rattle.chorus_law.specs.Calls.{compared_at, compared_on}
 use Rattle.chorus_law.proofs.Promises.AllPromises.{delivers-lawfully}
 use Rattle.chorus_place.specs.Calls.{Place, state, Ended, Stays}
-use Rattle.chorus_net.specs.Sites.{SitesState, waiting_in, boxes, net, AllFrom, IsPlaceOf, ArePlaces, IsScheduled, IsSites}
+use Rattle.chorus_net.specs.Sites.{SitesState, waiting_in, boxes, net, AllFrom, IsPlaceOf, ArePlaces, IsSites}
 use Rattle.chorus_net.proofs.Boxes.{IsPut, first-is, rest-is, put-back-is, without-keeps}
-use Rattle.chorus_net.proofs.Changes.{place-of, are-set, finds, replaces, still, are-boxes, box-of, boxes-set-is, length-boxes}
+use Rattle.chorus_net.proofs.Changes.{place-of, are-set, finds, still, are-boxes, box-of, boxes-set-is, length-boxes}
 use Rattle.chorus_net.proofs.Events.{next-event, next-between, are-put, turned-are, turned-places, turned-packets, stayed-are, stayed-boxes}
 use Rattle.chorus_net.proofs.Puts.{work-from, work-ticks}
+use Rattle.chorus_net.specs.Room.{UsesRoom, count_from, puts_in}
+use Rattle.chorus_net.proofs.Rooms.{uses-set, uses-on, turn-uses}
+
+-- one of two places is as it was set, where the other one was set behind it
+pub set-apart : (ps : List Place) (a b i j : ℕ) (p q d : Place) → a ≡ 1 + i → b ≡ 1 + j → i < length ps → a ≢ b → get_or (set (set ps i p) j q) i d ≡ p
+set-apart ps a b i j p q d from to lt apart =
+    get_or-set_other (set ps i p) j i q d (λ e. apart (let f : a ≡ b = omega (arith, from, to, e) in f)) ∙ get_or-set_same ps i p d lt
 
 none-without : (b : ℕ) (ls : List (List Packet)) → slice_get (list_to b ls) 0 ≡ None → without_first b ls ≡ ls
 none-without b [] h = refl
@@ -82,6 +88,11 @@ module _ (s : SitesState) (a b i j : ℕ) (x : Seated) (p p' : Place) (h : IsSit
       let one = and_from (is_some (slice_get s.callers 0)) (has_place s.layout a) (ap is_some found) has in
       let two = and_from (is_some (slice_get s.callers 0) && has_place s.layout a) (has_place s.layout b) one has' in
       and_from (is_some (slice_get s.callers 0) && has_place s.layout a && has_place s.layout b) (not (a == b)) two (ap not (ne_eqb a b apart))
+
+  pub taken-uses : (f : ℕ → ℕ) → p.spare ≤ p'.spare → UsesRoom f s.places (set s.places i p')
+  taken-uses f room =
+      uses-set f s.places i p p' at (ap (λ (z : PlaceState). z.number) st)
+      (let j = ap (λ (z : PlaceState). length z.journal) st in omega (arith, j, room))
 
   -- Nothing waits.
 
@@ -195,6 +206,13 @@ module _ (s : SitesState) (a b i j : ℕ) (x : Seated) (p p' : Place) (h : IsSit
         few_seats = (let n = length-set s.callers 0 y in let o = h.few_seats in omega (arith, n, o));
       }
 
+      -- the room that it uses
+      pub worked-uses : p.spare ≤ p'.spare → UsesRoom (puts_in (Deliver 0 a b) (net s)) s.places (set (set s.places i p') j q)
+      worked-uses room =
+          uses-on (puts_in (Deliver 0 a b) (net s)) s.places (set s.places i p') (set (set s.places i p') j q) (taken-uses (λ n. 0) room)
+          (subst (λ os. UsesRoom (λ n. count_from n os) (set s.places i p') (set (set s.places i p') j q)) (sym worked-puts)
+          (turn-uses (work k (begun_by (state r) x k)) (set s.places i p') j r q y rt e stays (work-from k (begun_by (state r) x k) refl)))
+
       -- the caller's clock has risen
       pub risen : x.last < y.last
       risen =
@@ -209,8 +227,7 @@ module _ (s : SitesState) (a b i j : ℕ) (x : Seated) (p p' : Place) (h : IsSit
     module _ (q p2 r2 : Place) (y : Seated) (stays : Stays r q) (same : y ≡ x) (here : x ≡ get_or s.callers 0 x) (at2 : p2 ≡ get_or (set (set s.places i p') j q) i p2)
         (st2 : state r2 ≡ state p2) (back : r2.out.lists ≡ with_first b k p2.out.lists) where
       p2-is : p2 ≡ p'
-      p2-is =
-          at2 ∙ get_or-set_other (set s.places i p') j i q p2 (λ e. apart (let f : a ≡ b = omega (arith, from, to, e) in f)) ∙ get_or-set_same s.places i p' p2 lt
+      p2-is = at2 ∙ set-apart s.places a b i j p' q p2 from to lt apart
 
       lt2 : i < length (set (set s.places i p') j q)
       lt2 = let m = length-set (set s.places i p') j q in let n = length-set s.places i p' in omega (arith, m, n, lt)

@@ -1,15 +1,12 @@
 -- What happens on the sites is an event of the network.
-use Rattle.std.proofs.Common.{ℕ, zero, suc, ◌≡◌, ◌≢◌, ◌+◌, ◌-◌, ◌<◌, ◌≤◌, ◌==◌, nat_le, nat_lt, Bool, true, false, ◌&&◌, ◌||◌, not, cond, List, [], ◌∷◌, ◌++◌, length, map, get_or, set, Option, Some, None, is_some, slice_get, Result, Ok, Err, IfOk, OnOk, OnErr, refl, sym, ◌∙◌, ap, subst, arith}
+use Rattle.std.proofs.Common.{ℕ, zero, suc, ◌≡◌, ◌+◌, ◌-◌, ◌<◌, nat_le, nat_lt, Bool, true, false, ◌&&◌, ◌||◌, not, cond, List, [], ◌∷◌, length, map, get_or, set, Some, None, is_some, slice_get, Result, Ok, Err, IfOk, OnErr, refl, sym, ◌∙◌, ap, subst, arith}
 use Rattle.std.specs.List.{All}
 use Rattle.std.specs.Option.{option_map}
-use Rattle.std.proofs.lemmas.Bool.{and_parts, and_from, false≢true, le-leb, leb-true, ltb-true, eqb-true}
+use Rattle.std.proofs.lemmas.Bool.{and_parts, and_from, false≢true, le-leb, leb-true, ltb-true}
 use Rattle.std.proofs.lemmas.List.{length-set, set-get_or}
-use Rattle.std.proofs.lemmas.Option.{same_Some}
-use Rattle.chorus_ui.specs.declared.ui.Ui.{Ui}
 use Rattle.chorus_ui.specs.declared.layout.Layout.{Layout}
 use Rattle.chorus_ui.specs.Layout.{IsLayout, has_site, has_actor, has_place, places}
 use Rattle.chorus_entry.specs.declared.command.Command.{Command}
-use Rattle.chorus_entry.specs.declared.packet.Packet.{Packet}
 use Rattle.chorus_entry.specs.Command.{meets_conditions, has_body_in_limit, is_post}
 use Rattle.chorus_entry.specs.Kinds.{names_actor}
 use Rattle.chorus_entry.specs.Places.{place_for}
@@ -20,20 +17,20 @@ use Rattle.chorus_machine.specs.PlaceMachine.{begun, act}
 use Rattle.chorus_machine.specs.Replies.{reply}
 use Rattle.chorus_machine.proofs.Machine.Stays.{act-stays}
 use Rattle.chorus_law.specs.Packets.{put_all}
-use Rattle.chorus_law.specs.Network.{NetState, Event, Act, Enter, place, place_in, with_place, ended, commanded, replied, happened, schedule}
+use Rattle.chorus_law.specs.Network.{NetState, Event, Act, place, with_place, ended, commanded, replied, happened, schedule}
 use Rattle.chorus_law.specs.History.{put_by, put_in, taken_with}
 use Rattle.chorus_law.specs.Schedules.{may_give, has_number_left, may_happen, may_be}
-use Rattle.chorus_law.specs.Tasks.{IsBetweenPlaces}
-use Rattle.chorus_law.specs.Calls.{starting, first_actor}
-use Rattle.chorus_law.proofs.Holdings.Passing.{packets-lie-between}
+use Rattle.chorus_law.specs.Calls.{first_actor}
+use Rattle.chorus_law.proofs.Holdings.Passing.{IsBetweenPlaces, packets-lie-between}
 use Rattle.chorus_law.proofs.Places.Layouts.{schedule-keeps}
 use Rattle.chorus_law.proofs.Promises.Promised.{stands-at}
-use Rattle.chorus_law.specs.Stands.{IsCaller}
-use Rattle.chorus_place.specs.Calls.{Place, state, Ended, Called, MayCall, Stays, with_all}
+use Rattle.chorus_place.specs.Calls.{Place, state, Ended, MayCall, Stays, with_all}
 use Rattle.chorus_net.specs.Sites.{SitesState, waiting_in, boxes, net, AllFrom, IsPlaceOf, ArePlaces, IsScheduled, IsSites}
 use Rattle.chorus_net.proofs.Boxes.{IsPut, put-all-is, with-all-keeps}
 use Rattle.chorus_net.proofs.Changes.{place-of, are-set, finds, replaces, still, are-boxes, box-of, boxes-set-is, length-boxes, all-put-parts, both}
 use Rattle.chorus_net.proofs.Puts.{act-from}
+use Rattle.chorus_net.specs.Room.{UsesRoom, count_from, puts_in}
+use Rattle.chorus_net.proofs.Rooms.{turn-uses}
 
 -- Schedules.
 
@@ -166,6 +163,12 @@ module _ (s : SitesState) (k i : ℕ) (c : Command) (x : Seated) (p : Place) (h 
       some_seat = (let n = length-set s.callers k y in let o = h.some_seat in omega (arith, n, o));
       few_seats = (let n = length-set s.callers k y in let o = h.few_seats in omega (arith, n, o));
     }
+
+    -- the room that it uses
+    pub acted-uses : UsesRoom (puts_in (Act k c) (net s)) s.places (set s.places i q)
+    acted-uses =
+        subst (λ os. UsesRoom (λ n. count_from n os) s.places (set s.places i q)) (sym acted-puts)
+        (turn-uses (act c (begun (state p) x)) s.places i p q y at e stays (act-from c (begun (state p) x) refl))
 
     pub acted-reply : (r : Reply) → r ≡ reply c (begun (state p) x) → Some r ≡ replied k c (net s)
     acted-reply r is =

@@ -1,13 +1,12 @@
 -- Places on which nothing happened yet.
-use Rattle.std.proofs.Common.{ℕ, zero, suc, ◌≡◌, ◌+◌, ◌≤◌, List, [], ◌∷◌, ◌++◌, length, map, replicate, refl, sym, ◌∙◌, ap, subst, arith}
+use Rattle.std.proofs.Common.{ℕ, zero, suc, ◌≡◌, ◌+◌, List, [], ◌∷◌, ◌++◌, length, map, replicate, refl, sym, ◌∙◌, ap, subst, arith}
 use Rattle.std.proofs.lemmas.List.{length-replicate}
 use Rattle.chorus_ui.specs.declared.layout.Layout.{Layout}
-use Rattle.chorus_ui.specs.Layout.{places, IsLayout}
-use Rattle.chorus_entry.specs.declared.packet.Packet.{Packet}
-use Rattle.chorus_machine.specs.PlaceState.{PlaceState, Outgoing, started}
-use Rattle.chorus_law.specs.Network.{numbers, place_numbers}
+use Rattle.chorus_ui.specs.Layout.{places}
+use Rattle.chorus_machine.specs.PlaceState.{PlaceState, started}
+use Rattle.chorus_law.specs.Network.{numbers}
 use Rattle.chorus_place.specs.Calls.{Place, state}
-use Rattle.chorus_net.specs.Sites.{to_place, waiting_from, waiting_in, boxes, AllFrom, IsPlaceOf, ArePlaces}
+use Rattle.chorus_net.specs.Sites.{waiting_from, waiting_in, boxes, AllFrom, ArePlaces}
 use Rattle.chorus_net.specs.Starting.{HasStarted, HaveStarted}
 
 pub one-more : (l : Layout) (k n : ℕ) (ps : List Place) (p : Place) → HaveStarted l k ps → k + length ps ≡ n → HasStarted l n p → HaveStarted l k (ps ++ p ∷ [])

@@ -1,9 +1,9 @@
 -- A caller's client gave at most as many call numbers as the caller posted messages, in each schedule.
 -- t is the turn before, u the turn after, m a message, q a port, c the caller.
-use Rattle.std.proofs.Common.{◌≡◌, ℕ, zero, suc, ◌+◌, ◌<◌, ◌≤◌, ◌==◌, nat_lt, ◌&&◌, ◌||◌, not, Bool, true, false, cond, Option, Some, None, List, [], ◌∷◌, ◌++◌, length, set, slice_get, refl, sym, ◌∙◌, ap, subst, arith}
+use Rattle.std.proofs.Common.{◌≡◌, ℕ, zero, suc, ◌+◌, ◌<◌, ◌≤◌, ◌==◌, nat_lt, ◌&&◌, ◌||◌, not, Bool, true, false, cond, Option, Some, None, List, [], ◌∷◌, length, slice_get, refl, sym, ◌∙◌, ap, subst, arith}
 use Rattle.std.specs.List.{All}
 use Rattle.std.proofs.lemmas.Bool.{and_parts, ltb-true, false≢true}
-use Rattle.std.proofs.lemmas.List.Elements.{All-nil, All-cons, All-set, All-push, All-head, All-tail}
+use Rattle.std.proofs.lemmas.List.Elements.{All-nil, All-set, All-push, All-head, All-tail}
 use Rattle.chorus_ui.specs.declared.ui.Ui.{Ui}
 use Rattle.chorus_ui.specs.declared.layout.Layout.{Layout}
 use Rattle.chorus_entry.specs.declared.id.MsgId.{MsgId}
@@ -19,7 +19,7 @@ use Rattle.chorus_entry.specs.declared.packet.Packet.{Packet}
 use Rattle.chorus_entry.specs.declared.packet.Cargo.{Cargo}
 use Rattle.chorus_entry.specs.Command.{meets_conditions, has_body_in_limit, is_post}
 use Rattle.chorus_world.specs.Places.{taught}
-use Rattle.chorus_calls.specs.Clients.{Call, Calling, is_outstanding, with_call as client_with, after_begin, after_cancel}
+use Rattle.chorus_calls.specs.Clients.{Call, Calling, is_outstanding, with_call as client_with, after_cancel}
 use Rattle.chorus_calls.specs.Callers.{Seated, new_caller, with_client, after_post}
 use Rattle.chorus_ports.specs.Table.{find, replace}
 use Rattle.chorus_ports.specs.Taking.{after_take}
@@ -34,7 +34,7 @@ use Rattle.chorus_machine.specs.Choosing.{choice, by_group, all_go, chooses, cho
 use Rattle.chorus_machine.specs.Trying.{verdict_here, tries, settles_here, goes_on, goes_unless, go}
 use Rattle.chorus_machine.specs.Working.{opens, taught_of, told, report_of}
 use Rattle.chorus_law.specs.Packets.{first_on}
-use Rattle.chorus_law.specs.Network.{NetState, Event, Enter, Deliver, commanded, works_off, delivered, happened, schedule}
+use Rattle.chorus_law.specs.Network.{NetState, Event, Enter, Deliver, commanded, works_off, delivered, schedule}
 use Rattle.chorus_law.specs.Network.{Act as Acts}
 use Rattle.chorus_law.specs.Schedules.{has_number_left, may_give}
 use Rattle.chorus_place.specs.Calls.{is_call}

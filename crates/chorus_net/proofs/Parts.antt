@@ -1,17 +1,14 @@
 -- What places have, and what the network has of it.
-use Rattle.std.proofs.Common.{ℕ, zero, suc, ◌≡◌, ◌+◌, ◌<◌, ◌≤◌, List, [], ◌∷◌, ◌++◌, length, map, reverse, Option, Some, None, refl, sym, ◌∙◌, ap, subst, arith, append_assoc, length-append}
-use Rattle.std.proofs.lemmas.List.{map-append, reverse-append, append-nil, reverse-reverse}
-use Rattle.std.specs.Global.{Vec}
-use Rattle.chorus_entry.specs.declared.entry.Entry.{Entry}
+use Rattle.std.proofs.Common.{ℕ, suc, ◌≡◌, ◌+◌, List, [], ◌∷◌, ◌++◌, length, map, reverse, Some, None, refl, ◌∙◌, ap, arith, append_assoc, length-append}
+use Rattle.std.proofs.lemmas.List.{map-append, reverse-append}
 use Rattle.chorus_entry.specs.declared.packet.Packet.{Packet}
 use Rattle.chorus_entry.specs.declared.record.PortRecord.{PortRecord}
 use Rattle.chorus_out.specs.Waiting.{count, next, after_next}
-use Rattle.chorus_law.specs.declared.placed.Placed.{Placed}
 use Rattle.chorus_law.specs.Left.{placed_at, placed_in}
 use Rattle.chorus_machine.specs.PlaceState.{PlaceState, Outgoing}
 use Rattle.chorus_place.specs.Calls.{Place, state}
 use Rattle.chorus_net.specs.Sites.{to_place, waiting_from, waiting_in, boxes}
-use Rattle.chorus_net.specs.Closing.{flat, journals_in, packets_of, ports_of, total_waiting, total_held}
+use Rattle.chorus_net.specs.Closing.{flat, journals_in, packets_of, ports_of}
 
 -- The next packet of an outbox.
 

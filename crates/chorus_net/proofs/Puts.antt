@@ -1,12 +1,11 @@
 -- What a turn puts comes from its place; and a turn with a lawful packet ticks its caller.
-use Rattle.std.proofs.Common.{ℕ, ◌≡◌, ◌+◌, ◌<◌, ◌≤◌, ◌==◌, max, Bool, true, false, ◌&&◌, not, cond, List, [], ◌∷◌, ◌++◌, map, Option, Some, None, refl, sym, ◌∙◌, ap, subst, arith}
+use Rattle.std.proofs.Common.{ℕ, ◌≡◌, ◌<◌, ◌≤◌, true, false, List, [], ◌∷◌, map, refl, sym, subst, arith}
 use Rattle.std.specs.List.{All}
-use Rattle.std.proofs.lemmas.Bool.{and_parts, false≢true}
-use Rattle.std.proofs.lemmas.List.Elements.{All-nil, All-cons, All-head, All-tail, All-append}
+use Rattle.std.proofs.lemmas.Bool.{false≢true}
+use Rattle.std.proofs.lemmas.List.Elements.{All-nil, All-cons, All-append}
 use Rattle.chorus_ui.specs.declared.ui.Ui.{Ui}
 use Rattle.chorus_entry.specs.declared.act.Act.{Act}
 use Rattle.chorus_entry.specs.declared.act.Act.TheVariants as acts
-use Rattle.chorus_entry.specs.declared.answer.Answer.{Answer}
 use Rattle.chorus_entry.specs.declared.command.Command.{Command}
 use Rattle.chorus_entry.specs.declared.dest.Dest.{Dest}
 use Rattle.chorus_entry.specs.declared.dest.Dest.TheVariants as dests
@@ -18,14 +17,11 @@ use Rattle.chorus_entry.specs.Act.{is_command_entry}
 use Rattle.chorus_world.specs.Places.{taught}
 use Rattle.chorus_waits.specs.Queues.{changed}
 use Rattle.chorus_entry.specs.Dest.{group_in}
-use Rattle.chorus_entry.specs.Ranges.{has_ranges}
-use Rattle.chorus_ui.specs.Layout.{has_place}
-use Rattle.chorus_calls.specs.Callers.{Seated}
-use Rattle.chorus_machine.specs.PlaceState.{PlaceState, Outgoing, Turn, Change, packed, say, unchanged, next_clock, greatest_clock}
-use Rattle.chorus_machine.specs.PlaceMachine.{begun_by, act, work}
-use Rattle.chorus_machine.specs.Choosing.{choice, chooses_all, chooses_these, chooses, all_go}
+use Rattle.chorus_machine.specs.PlaceState.{Outgoing, Turn, Change, packed, say, unchanged}
+use Rattle.chorus_machine.specs.PlaceMachine.{act, work}
+use Rattle.chorus_machine.specs.Choosing.{choice, chooses_all, chooses_these}
 use Rattle.chorus_machine.specs.Working.{opens, taught_of, told, report_of}
-use Rattle.chorus_machine.specs.Lawful.{is_asked_here, is_lawful_cargo, is_lawful}
+use Rattle.chorus_machine.specs.Lawful.{is_asked_here, is_lawful_cargo}
 use Rattle.chorus_machine.proofs.Machine.Chains.{act-keeps, work-keeps}
 use Rattle.chorus_machine.proofs.Machine.Follows.{IsSame, go-keeps, all-go-keeps}
 

@@ -1,9 +1,7 @@
 -- Rounds of deliveries, one after the other.
-use Rattle.std.proofs.Common.{ℕ, zero, suc, ◌≡◌, ◌≢◌, ◌+◌, ◌-◌, ◌<◌, ◌≤◌, ◌==◌, nat_le, Bool, true, false, ◌&&◌, cond, List, [], ◌∷◌, ◌++◌, length, reverse, map, get_or, Option, Some, None, is_some, slice_get, refl, sym, ◌∙◌, ap, subst, arith, append_assoc}
-use Rattle.std.specs.List.{All}
+use Rattle.std.proofs.Common.{ℕ, zero, suc, ◌≡◌, ◌≢◌, ◌+◌, ◌-◌, ◌<◌, ◌≤◌, ◌==◌, nat_le, Bool, true, false, ◌&&◌, cond, List, [], ◌∷◌, ◌++◌, length, reverse, get_or, Option, Some, None, is_some, slice_get, refl, sym, ◌∙◌, ap, subst, arith, append_assoc}
 use Rattle.std.proofs.lemmas.Bool.{and_from, and_parts, le-leb, leb-true, eq-eqb, ne_eqb}
 use Rattle.std.proofs.lemmas.List.{reverse-append, append-nil}
-use Rattle.std.proofs.lemmas.List.Elements.{All-nil, All-cons, All-append, All-head, All-tail}
 use Rattle.chorus_ui.specs.declared.layout.Layout.{Layout}
 use Rattle.chorus_ui.specs.declared.limits.TheConstants.{CLOCK_LIMIT}
 use Rattle.chorus_ui.specs.Layout.{has_place, places}
@@ -12,22 +10,20 @@ use Rattle.chorus_calls.specs.Callers.{Seated}
 use Rattle.chorus_out.specs.Waiting.{count, list_to}
 use Rattle.chorus_law.specs.declared.delivery.Delivered.{Delivered}
 use Rattle.chorus_law.specs.Packets.{first_on}
-use Rattle.chorus_law.specs.Network.{NetState, Event, Deliver, numbers, place_numbers, happened, after, from_one, from_each, round, rounds, one_if, serves, served, delivered, delivery, delivery_of, schedule}
-use Rattle.chorus_law.specs.Tasks.{AreDeliveries, IsDrain}
-use Rattle.chorus_law.specs.Calls.{last_of, draining, compared_at}
-use Rattle.chorus_law.proofs.Merge.Parts.{All-reverse}
-use Rattle.chorus_law.proofs.Draining.Drains.{idle, idle-event, after-append, round-deliveries}
+use Rattle.chorus_law.specs.Network.{NetState, Event, Deliver, numbers, place_numbers, happened, after, from_one, from_each, round, rounds, one_if, serves, served, delivered, delivery, delivery_of}
+use Rattle.chorus_law.specs.Tasks.{IsDrain}
+use Rattle.chorus_law.specs.Calls.{draining, compared_at}
+use Rattle.chorus_law.proofs.Draining.Drains.{idle, idle-event, after-append}
 use Rattle.chorus_law.proofs.Draining.Emptied.{drains-leave-nothing}
 use Rattle.chorus_place.specs.Calls.{Place}
-use Rattle.chorus_net.specs.Drains.{seat_clock, Ticks, forward, serves_all, Goes, GoesRound, GoesRounds, Drains, Stops, IsWornAmong}
+use Rattle.chorus_net.specs.Drains.{seat_clock, Ticks, forward, serves_all, puts_forward, Goes, GoesRound, GoesRounds, RoundsUse, Drains, Stops, StopsAmong, ComparesWorn}
+use Rattle.chorus_net.specs.Room.{UsesRoom, UsesRoomInRounds, puts_in, puts_of}
+use Rattle.chorus_net.proofs.Rooms.{uses-self, uses-one, uses-forward, uses-after, uses-reverse}
 use Rattle.chorus_net.specs.Sites.{SitesState, net, boxes, waiting_in, IsSites}
-use Rattle.chorus_net.specs.Worn.{compared_by, IsUnworn, AreUnworn, ComeUnworn, IsInRounds, IsWornIn}
+use Rattle.chorus_net.specs.Worn.{IsUnworn, AreUnworn, ComeUnworn, IsWornIn}
 use Rattle.chorus_net.proofs.Boxes.{first-is, none-first}
 use Rattle.chorus_net.proofs.Changes.{are-boxes, box-of, length-boxes}
 use Rattle.chorus_net.proofs.Worn.{unworn-append, come-append, unworn-reverse, nothing-unworn}
-
-abbrev IsDelivery : Event → Type 0
-IsDelivery e = (a : ℕ) × ((b : ℕ) × (e ≡ Deliver 0 a b))
 
 -- Events one after the other.
 
@@ -63,7 +59,6 @@ served-reverse (e ∷ es) n =
 
 pub goes-none : (n : NetState) → Goes [] n n 0
 goes-none n = record {
-  deliveries = All-nil IsDelivery;
   forward = refl;
   unworn = tt;
   total = refl;
@@ -73,7 +68,6 @@ goes-none n = record {
 
 pub goes-on : (es fs : List Event) (n m k : NetState) (i j : ℕ) → Goes es n m i → Goes fs m k j → Goes (es ++ fs) n k (i + j)
 goes-on es fs n m k i j g h = record {
-  deliveries = All-append IsDelivery es fs g.deliveries h.deliveries;
   forward = h.forward ∙ ap (forward fs) g.forward ∙ sym (forward-append es fs n);
   unworn = come-append es fs n g.unworn (subst (λ z. ComeUnworn fs z) g.forward h.unworn);
   total = (let a = g.total in let b = h.total in let c = serves-append es fs n in let d : serves_all fs m ≡ serves_all fs (forward es n) = ap (serves_all fs) g.forward in omega (arith, a, b, c, d));
@@ -84,17 +78,6 @@ goes-on es fs n m k i j g h = record {
     last-of : (i j a b : ℕ) → a + i ≤ b → (1 ≤ i → a + i ≤ CLOCK_LIMIT) → (1 ≤ j → b + j ≤ CLOCK_LIMIT) → 1 ≤ i + j → a + (i + j) ≤ CLOCK_LIMIT
     last-of i zero a b r f g h = (let e = f (omega (arith, h)) in omega (arith, e))
     last-of i (suc j) a b r f g h = (let e = g (omega arith) in omega (arith, e, r))
-
--- a call that stopped behind them
-pub stops-behind : (es : List Event) (n m k : NetState) (i : ℕ) → Goes es n m i → Stops m k → Stops n k
-stops-behind es n m k i g s = record {
-  done = s.done ++ reverse es;
-  deliveries = All-append IsDelivery s.done (reverse es) s.deliveries (All-reverse IsDelivery es g.deliveries);
-  after = s.after ∙ ap (after s.done) (g.forward ∙ sym (after-reverse es n)) ∙ sym (after-append s.done (reverse es) n);
-}
-
-pub stops-here : (n m : NetState) → m ≡ n → Stops n m
-stops-here n m e = record { done = []; deliveries = All-nil IsDelivery; after = e }
 
 -- The places in their order.
 
@@ -155,7 +138,6 @@ first-of (Some k) false h = absurd (cc)
 pub serves-one : (a b : ℕ) (n m : NetState) → a ≢ b → is_some (slice_get n.callers 0) ≡ true → m ≡ happened (Deliver 0 a b) n → Delivered.Served ≡ delivery a b n → Ticks n m
     → IsUnworn (compared_at 0 a b n) → Goes (from_one 0 a (b ∷ [])) n m 1
 serves-one a b n m ne who is answer ticks free = subst (λ es. Goes es n m 1) (sym (one-list a b (ne_eqb a b ne))) record {
-  deliveries = All-cons IsDelivery (Deliver 0 a b) [] (a, (b, refl)) (All-nil IsDelivery);
   forward = is;
   unworn = (free, tt);
   total = (let one : serves (Deliver 0 a b) n ≡ 1 = ap one_if (and_from (is_some (slice_get n.callers 0)) (is_some (first_on a b n.packets)) who (first-of (first_on a b n.packets) true (sym answer))) in omega (arith, one));
@@ -175,7 +157,6 @@ serves-none a b n m ne is answer =
     let none = idle-serves a b n (first-of (first_on a b n.packets) false (sym answer)) in
     let still : m ≡ n = is ∙ idle-event (Deliver 0 a b) n none in
     subst (λ es. Goes es n m 0) (sym (one-list a b (ne_eqb a b ne))) record {
-      deliveries = All-cons IsDelivery (Deliver 0 a b) [] (a, (b, refl)) (All-nil IsDelivery);
       forward = is;
       unworn = (nothing-unworn a b n (first-of (first_on a b n.packets) false (sym answer)), tt);
       total = omega (arith, none);
@@ -199,7 +180,6 @@ idle-row l a n (suc k) c none low high =
     go false =
         let zero-served = idle-serves a c n (ap is_some (none c has)) in
         record {
-          deliveries = All-cons IsDelivery (Deliver 0 a c) [] (a, (c, refl)) (All-nil IsDelivery);
           forward = sym (idle-event (Deliver 0 a c) n zero-served);
           unworn = (nothing-unworn a c n (ap is_some (none c has)), tt);
           total = omega (arith, zero-served);
@@ -220,12 +200,11 @@ idle-first s a b i p h e lt at has none =
 -- Rounds.
 
 pub rounds-none : (l : Layout) (n : NetState) → GoesRounds l n n 0
-rounds-none l n = record { count = 0; deliveries = All-nil IsDelivery; after = refl; unworn = tt; total = refl; risen = omega arith; last = λ h. absurd (omega (arith, h)) }
+rounds-none l n = record { count = 0; after = refl; unworn = tt; total = refl; risen = omega arith; last = λ h. absurd (omega (arith, h)) }
 
 pub rounds-on : (l : Layout) (n m k : NetState) (i j : ℕ) → GoesRounds l n m i → GoesRound l m k j → GoesRounds l n k (i + j)
 rounds-on l n m k i j g h = record {
   count = suc g.count;
-  deliveries = All-append IsDelivery (round l 0) (draining l g.count) (round-deliveries l 0) g.deliveries;
   after = h.after ∙ ap (after (round l 0)) g.after ∙ sym (after-append (round l 0) (rounds l 0 g.count) n);
   unworn = unworn-append (round l 0) (rounds l 0 g.count) n (subst (λ z. AreUnworn (round l 0) z) g.after h.unworn) g.unworn;
   total = (
@@ -241,13 +220,6 @@ rounds-on l n m k i j g h = record {
     last-of : (i j a b : ℕ) → a + i ≤ b → (1 ≤ i → a + i ≤ CLOCK_LIMIT) → (1 ≤ j → b + j ≤ CLOCK_LIMIT) → 1 ≤ i + j → a + (i + j) ≤ CLOCK_LIMIT
     last-of i zero a b r f g h = (let e = f (omega (arith, h)) in omega (arith, e))
     last-of i (suc j) a b r f g h = (let e = g (omega arith) in omega (arith, e, r))
-
-pub stops-behind-rounds : (l : Layout) (n m k : NetState) (i : ℕ) → GoesRounds l n m i → Stops m k → Stops n k
-stops-behind-rounds l n m k i g s = record {
-  done = s.done ++ draining l g.count;
-  deliveries = All-append IsDelivery s.done (draining l g.count) s.deliveries g.deliveries;
-  after = s.after ∙ ap (after s.done) g.after ∙ sym (after-append s.done (draining l g.count) n);
-}
 
 -- a round that serves nothing changes nothing, and nothing is left
 pub dry-round : (s : SitesState) (m : NetState) (i : ℕ) → IsSites s → GoesRound s.layout (net s) m i → i ≡ 0 → m.packets ≡ []
@@ -293,31 +265,33 @@ who-of a b n m e t = go (slice_get n.callers 0) refl
         absurd (omega (arith, same, up))
     go (Some x) f = ap is_some f
 
--- Where a delivery is refused as worn.
+-- Where a delivery is refused, for a cause P.
 
-pub worn-here : (a b clock : ℕ) (n m : NetState) → a ≢ b → m ≡ n → compared_at 0 a b n ≡ Some clock → CLOCK_LIMIT ≤ clock → IsWornAmong (from_one 0 a (b ∷ [])) clock n m
-worn-here a b clock n m ne e at limit = subst (λ es. IsWornAmong es clock n m) (sym (one-list a b (ne_eqb a b ne))) record {
+pub stops-here : (P : Event → NetState → Type 0) (a b : ℕ) (s t : SitesState) → a ≢ b → net t ≡ net s → UsesRoom (λ p. 0) s.places t.places → P (Deliver 0 a b) (net t)
+    → StopsAmong (from_one 0 a (b ∷ [])) P s t
+stops-here P a b s t ne e room why = subst (λ es. StopsAmong es P s t) (sym (one-list a b (ne_eqb a b ne))) record {
   done = [];
   next = Deliver 0 a b;
   later = [];
   are = refl;
   is = e;
   unworn = tt;
-  compares = ap (compared_at 0 a b) e ∙ at;
-  worn = limit;
+  room = room;
+  because = why;
 }
 
-worn-behind : (es fs gs : List Event) (n m k : NetState) (i clock : ℕ) → Goes es n m i → IsWornAmong fs clock m k → IsWornAmong (es ++ (fs ++ gs)) clock n k
-worn-behind es fs gs n m k i clock g w = record {
+stops-behind : (P : Event → NetState → Type 0) (es fs gs : List Event) (s t u : SitesState) (i : ℕ) → Goes es (net s) (net t) i → UsesRoom (puts_forward es (net s)) s.places t.places
+    → StopsAmong fs P t u → StopsAmong (es ++ (fs ++ gs)) P s u
+stops-behind P es fs gs s t u i g room w = record {
   done = es ++ w.done;
   next = w.next;
   later = w.later ++ gs;
   are = ap (λ z. es ++ (z ++ gs)) w.are ∙ ap (λ z. es ++ z) (append_assoc w.done (w.next ∷ w.later) gs)
       ∙ sym (append_assoc es w.done (w.next ∷ (w.later ++ gs)));
-  is = w.is ∙ ap (forward w.done) g.forward ∙ sym (forward-append es w.done n);
-  unworn = come-append es w.done n g.unworn (subst (λ z. ComeUnworn w.done z) g.forward w.unworn);
-  compares = w.compares;
-  worn = w.worn;
+  is = w.is ∙ ap (forward w.done) g.forward ∙ sym (forward-append es w.done (net s));
+  unworn = come-append es w.done (net s) g.unworn (subst (λ z. ComeUnworn w.done z) g.forward w.unworn);
+  room = uses-forward es w.done (net s) (net t) s.places t.places u.places g.forward room w.room;
+  because = w.because;
 }
 
 numbers-split : (n m k : ℕ) → numbers (n + suc m) k ≡ numbers n k ++ (k + n) ∷ numbers m ((k + n) + 1)
@@ -336,37 +310,107 @@ split-at n b p is le =
     ap (λ x. numbers x 1) e ∙ numbers-split n (p - b) 1 ∙ ap (λ x. numbers n 1 ++ x ∷ numbers (p - b) (x + 1)) (sym is))
 
 -- in a row, in a round and in rounds
-pub row-worn : (a n b p clock : ℕ) (m k o : NetState) (i : ℕ) → b ≡ 1 + n → b ≤ p → Goes (from_one 0 a (numbers n 1)) m k i → IsWornAmong (from_one 0 a (b ∷ [])) clock k o
-    → IsWornAmong (from_one 0 a (numbers p 1)) clock m o
-row-worn a n b p clock m k o i is le g w =
+pub row-stops : (P : Event → NetState → Type 0) (a n b p : ℕ) (s t u : SitesState) (i : ℕ) → b ≡ 1 + n → b ≤ p → Goes (from_one 0 a (numbers n 1)) (net s) (net t) i
+    → UsesRoom (puts_forward (from_one 0 a (numbers n 1)) (net s)) s.places t.places → StopsAmong (from_one 0 a (b ∷ [])) P t u → StopsAmong (from_one 0 a (numbers p 1)) P s u
+row-stops P a n b p s t u i is le g room w =
     let rest = numbers (p - b) (b + 1) in
-    subst (λ es. IsWornAmong es clock m o)
+    subst (λ es. StopsAmong es P s u)
     (sym (ap (from_one 0 a) (split-at n b p is le) ∙ one-append a (numbers n 1) (b ∷ rest) ∙ ap (λ es. from_one 0 a (numbers n 1) ++ es) (one-append a (b ∷ []) rest)))
-    (worn-behind (from_one 0 a (numbers n 1)) (from_one 0 a (b ∷ [])) (from_one 0 a rest) m k o i clock g w)
+    (stops-behind P (from_one 0 a (numbers n 1)) (from_one 0 a (b ∷ [])) (from_one 0 a rest) s t u i g room w)
 
-pub round-worn : (bs : List ℕ) (n a p clock : ℕ) (m k o : NetState) (i : ℕ) → a ≡ 1 + n → a ≤ p → Goes (from_each 0 (numbers n 1) bs) m k i → IsWornAmong (from_one 0 a bs) clock k o
-    → IsWornAmong (from_each 0 (numbers p 1) bs) clock m o
-round-worn bs n a p clock m k o i is le g w =
+pub round-stops : (P : Event → NetState → Type 0) (bs : List ℕ) (n a p : ℕ) (s t u : SitesState) (i : ℕ) → a ≡ 1 + n → a ≤ p → Goes (from_each 0 (numbers n 1) bs) (net s) (net t) i
+    → UsesRoom (puts_forward (from_each 0 (numbers n 1) bs) (net s)) s.places t.places → StopsAmong (from_one 0 a bs) P t u → StopsAmong (from_each 0 (numbers p 1) bs) P s u
+round-stops P bs n a p s t u i is le g room w =
     let rest = numbers (p - a) (a + 1) in
-    subst (λ es. IsWornAmong es clock m o)
+    subst (λ es. StopsAmong es P s u)
     (sym (ap (λ xs. from_each 0 xs bs) (split-at n a p is le) ∙ each-append (numbers n 1) (a ∷ rest) bs))
-    (worn-behind (from_each 0 (numbers n 1) bs) (from_one 0 a bs) (from_each 0 rest bs) m k o i clock g w)
+    (stops-behind P (from_each 0 (numbers n 1) bs) (from_one 0 a bs) (from_each 0 rest bs) s t u i g room w)
 
-pub rounds-worn : (n m k : NetState) (i clock : ℕ) → GoesRounds n.layout n m i → IsWornAmong (from_each 0 (place_numbers n.layout) (place_numbers n.layout)) clock m k → IsWornIn clock n k
-rounds-worn n m k i clock g w =
+-- the events of a round that stopped, behind whole rounds
+turned-round : (es done later before : List Event) (next : Event) → es ≡ done ++ next ∷ later → reverse es ++ before ≡ reverse later ++ next ∷ (reverse done ++ before)
+turned-round es done later before next are =
+    let turned : reverse (done ++ next ∷ later) ≡ reverse later ++ next ∷ reverse done =
+    reverse-append done (next ∷ later) ∙ ap (λ z. z ++ reverse done) (reverse-more next later) ∙ append_assoc (reverse later) (next ∷ []) (reverse done) in
+    ap (λ z. reverse z ++ before) are ∙ ap (λ z. z ++ before) turned ∙ append_assoc (reverse later) (next ∷ reverse done) before
+
+behind-rounds : (done before : List Event) (n m k : NetState) → m ≡ after before n → k ≡ forward done m → k ≡ after (reverse done ++ before) n
+behind-rounds done before n m k g is = is ∙ sym (after-reverse done m) ∙ ap (after (reverse done)) g ∙ sym (after-append (reverse done) before n)
+
+unworn-behind : (done before : List Event) (n m : NetState) → m ≡ after before n → ComeUnworn done m → AreUnworn before n → AreUnworn (reverse done ++ before) n
+unworn-behind done before n m g u v = unworn-append (reverse done) before n (subst (λ z. AreUnworn (reverse done) z) g (unworn-reverse done m u)) v
+
+pub rounds-stop : (P : Event → NetState → Type 0) (n : NetState) (t u : SitesState) (i : ℕ) → GoesRounds n.layout n (net t) i
+    → StopsAmong (from_each 0 (place_numbers n.layout) (place_numbers n.layout)) P t u → Stops n (net u)
+rounds-stop P n t u i g w =
     let before = rounds n.layout 0 g.count in
-    let turned : reverse (w.done ++ w.next ∷ w.later) ≡ reverse w.later ++ w.next ∷ reverse w.done =
-    reverse-append w.done (w.next ∷ w.later) ∙ ap (λ z. z ++ reverse w.done) (reverse-more w.next w.later) ∙ append_assoc (reverse w.later) (w.next ∷ []) (reverse w.done) in
     record {
       next = w.next;
       done = reverse w.done ++ before;
-      comes = record {
-        count = suc g.count;
-        later = reverse w.later;
-        are = ap (λ z. reverse z ++ before) w.are ∙ ap (λ z. z ++ before) turned ∙ append_assoc (reverse w.later) (w.next ∷ reverse w.done) before;
-      };
-      is = w.is ∙ sym (after-reverse w.done m) ∙ ap (after (reverse w.done)) g.after ∙ sym (after-append (reverse w.done) before n);
-      unworn = unworn-append (reverse w.done) before n (subst (λ z. AreUnworn (reverse w.done) z) g.after (unworn-reverse w.done m w.unworn)) g.unworn;
-      compares = w.compares;
-      worn = w.worn;
+      comes = record { count = suc g.count; later = reverse w.later; are = turned-round (from_each 0 (place_numbers n.layout) (place_numbers n.layout)) w.done w.later before w.next w.are };
+      is = behind-rounds w.done before n (net t) (net u) g.after w.is;
+      unworn = unworn-behind w.done before n (net t) g.after w.unworn g.unworn;
+    }
+
+pub rounds-worn : (n : NetState) (t u : SitesState) (i clock : ℕ) → GoesRounds n.layout n (net t) i
+    → StopsAmong (from_each 0 (place_numbers n.layout) (place_numbers n.layout)) (ComparesWorn clock) t u → IsWornIn clock n (net u)
+rounds-worn n t u i clock g w =
+    let before = rounds n.layout 0 g.count in
+    record {
+      next = w.next;
+      done = reverse w.done ++ before;
+      comes = record { count = suc g.count; later = reverse w.later; are = turned-round (from_each 0 (place_numbers n.layout) (place_numbers n.layout)) w.done w.later before w.next w.are };
+      is = behind-rounds w.done before n (net t) (net u) g.after w.is;
+      unworn = unworn-behind w.done before n (net t) g.after w.unworn g.unworn;
+      compares = w.because.0;
+      worn = w.because.1;
+    }
+
+-- The room that rounds use.
+
+pub uses-delivery : (a b : ℕ) (s t : SitesState) → a ≢ b → UsesRoom (puts_in (Deliver 0 a b) (net s)) s.places t.places → UsesRoom (puts_forward (from_one 0 a (b ∷ [])) (net s)) s.places t.places
+uses-delivery a b s t ne h =
+    subst (λ es. UsesRoom (puts_forward es (net s)) s.places t.places) (sym (one-list a b (ne_eqb a b ne))) (uses-one (Deliver 0 a b) (net s) s.places t.places h)
+
+pub uses-none : (s : SitesState) → RoundsUse s s
+uses-none s = record { count = 0; is = refl; room = uses-self (λ p. 0) s.places }
+
+-- one place more of a row, and one row more of a round
+pub uses-row : (a n b i : ℕ) (s t u : SitesState) → b ≡ 1 + n → Goes (from_one 0 a (numbers n 1)) (net s) (net t) i → UsesRoom (puts_forward (from_one 0 a (numbers n 1)) (net s)) s.places t.places
+    → UsesRoom (puts_forward (from_one 0 a (b ∷ [])) (net t)) t.places u.places → UsesRoom (puts_forward (from_one 0 a (numbers (suc n) 1)) (net s)) s.places u.places
+uses-row a n b i s t u e g h k =
+    subst (λ es. UsesRoom (puts_forward es (net s)) s.places u.places)
+    (sym (one-append a (numbers n 1) (b ∷ [])) ∙ ap (λ x. from_one 0 a (numbers n 1 ++ x ∷ [])) e ∙ ap (from_one 0 a) (numbers-more n 1))
+    (uses-forward (from_one 0 a (numbers n 1)) (from_one 0 a (b ∷ [])) (net s) (net t) s.places t.places u.places g.forward h k)
+
+pub uses-round : (bs : List ℕ) (n a i : ℕ) (s t u : SitesState) → a ≡ 1 + n → Goes (from_each 0 (numbers n 1) bs) (net s) (net t) i → UsesRoom (puts_forward (from_each 0 (numbers n 1) bs) (net s)) s.places t.places
+    → UsesRoom (puts_forward (from_one 0 a bs) (net t)) t.places u.places → UsesRoom (puts_forward (from_each 0 (numbers (suc n) 1) bs) (net s)) s.places u.places
+uses-round bs n a i s t u e g h k =
+    subst (λ es. UsesRoom (puts_forward es (net s)) s.places u.places)
+    (ap (λ es. from_each 0 (numbers n 1) bs ++ es) (sym (append-nil (from_one 0 a bs))) ∙ sym (each-append (numbers n 1) (a ∷ []) bs)
+    ∙ ap (λ x. from_each 0 (numbers n 1 ++ x ∷ []) bs) e ∙ ap (λ xs. from_each 0 xs bs) (numbers-more n 1))
+    (uses-forward (from_each 0 (numbers n 1) bs) (from_one 0 a bs) (net s) (net t) s.places t.places u.places g.forward h k)
+
+-- one round more
+pub uses-rounds : (s t u : SitesState) (i : ℕ) → t.layout ≡ s.layout → RoundsUse s t → GoesRound s.layout (net t) (net u) i → UsesRoom (puts_of (round s.layout 0) (net t)) t.places u.places → RoundsUse s u
+uses-rounds s t u i same g r h = record {
+  count = suc g.count;
+  is = r.after ∙ ap (after (round s.layout 0)) g.is ∙ sym (after-append (round s.layout 0) (draining s.layout g.count) (net s));
+  room = uses-after (round s.layout 0) (draining s.layout g.count) (net s) (net t) s.places t.places u.places g.is g.room h;
+}
+
+-- so much is used when it ends, and when it stops
+pub used-in-rounds : (s t : SitesState) → RoundsUse s t → UsesRoomInRounds s t
+used-in-rounds s t g = record { count = g.count; later = []; done = draining s.layout g.count; are = refl; is = g.is; room = g.room }
+
+pub used-to-a-stop : (P : Event → NetState → Type 0) (s t u : SitesState) → RoundsUse s t → StopsAmong (from_each 0 (place_numbers s.layout) (place_numbers s.layout)) P t u → UsesRoomInRounds s u
+used-to-a-stop P s t u g w =
+    let before = draining s.layout g.count in
+    record {
+      count = suc g.count;
+      later = reverse w.later ++ w.next ∷ [];
+      done = reverse w.done ++ before;
+      are = turned-round (from_each 0 (place_numbers s.layout) (place_numbers s.layout)) w.done w.later before w.next w.are
+          ∙ sym (append_assoc (reverse w.later) (w.next ∷ []) (reverse w.done ++ before));
+      is = behind-rounds w.done before (net s) (net t) (net u) g.is w.is;
+      room = uses-after (reverse w.done) before (net s) (net t) s.places t.places u.places g.is g.room (uses-reverse w.done (net t) t.places u.places w.room);
     }

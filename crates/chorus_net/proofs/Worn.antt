@@ -1,5 +1,5 @@
 -- Deliveries that compare no clock from 2^62 on.
-use Rattle.std.proofs.Common.{ℕ, ◌≡◌, ◌≤◌, ◌<◌, ◌↔◌, nat_lt, Bool, true, false, List, [], ◌∷◌, ◌++◌, reverse, Option, Some, None, is_some, slice_get, Result, Ok, Err, refl, sym, ◌∙◌, ap, subst, arith}
+use Rattle.std.proofs.Common.{ℕ, ◌≡◌, ◌≤◌, ◌<◌, ◌↔◌, nat_lt, Bool, true, false, List, [], ◌∷◌, ◌++◌, reverse, Option, Some, None, is_some, slice_get, Result, Ok, Err, refl, sym, subst}
 use Rattle.std.proofs.lemmas.Bool.{ltb-true, ltb-false}
 use Rattle.std.proofs.lemmas.List.{reverse-append}
 use Rattle.chorus_ui.specs.declared.limits.TheConstants.{CLOCK_LIMIT}

@@ -1,6 +1,6 @@
 -- What closing gives.
 -- n is the network.
-use Rattle.std.specs.Prelude.{ℕ, ◌≡◌, ◌+◌, List, [], ◌∷◌, ◌++◌, length, map, reverse}
+use Rattle.std.specs.Prelude.{ℕ, ◌≡◌, ◌+◌, List, [], ◌∷◌, ◌++◌, length, map, reverse, Option, None}
 use Rattle.std.specs.Global.{Vec}
 use Rattle.chorus_entry.specs.declared.entry.Entry.{Entry}
 use Rattle.chorus_entry.specs.declared.packet.Packet.{Packet}
@@ -9,6 +9,8 @@ use Rattle.chorus_law.specs.declared.placed.Placed.{Placed}
 use Rattle.chorus_law.specs.Network.{NetState}
 use Rattle.chorus_law.specs.Left.{journals, packets_left, placed_at, placed}
 use Rattle.chorus_place.specs.Calls.{Place}
+use Rattle.chorus_turn.specs.declared.close.Spent.{Spent}
+use Rattle.chorus_closing.specs.Places.{PlaceNote}
 use Rattle.chorus_net.specs.declared.closed.Closed.{Closed}
 use Rattle.chorus_net.specs.declared.closed.Origin.{Origin}
 
@@ -22,6 +24,22 @@ journals_of closed = journal_items closed.journals.items
 -- it was made by closing sites
 abbrev pub IsOfSites : Closed → Type 0
 IsOfSites closed = closed.origin ≡ Origin.Sites
+
+-- it was made of places that a pass closed, of which this is left, and which was first refused as worn at this clock
+abbrev pub IsOfTurns : Spent PlaceNote → Option ℕ → Closed → Type 0
+IsOfTurns spent worn closed = closed.origin ≡ Origin.Turns spent worn
+
+-- these are its parts
+abbrev pub HasParts : Vec (Vec Entry) → Vec Packet → Vec Placed → Closed → Type 0
+HasParts journals rest ports closed = (closed.journals ≡ journals) × (closed.rest ≡ rest) × (closed.ports ≡ ports)
+
+-- the clock at which the pass that closed it was first refused as worn
+abbrev pub worn_in : Origin → Option ℕ
+worn_in Origin.Sites = None
+worn_in (Origin.Turns spent worn) = worn
+
+abbrev pub worn_of : Closed → Option ℕ
+worn_of closed = worn_in closed.origin
 
 -- the journals of the places, the packets that were put and not worked off, and the ports that are held, by closing sites
 pub record IsClosed (n : NetState) (closed : Closed) : Type 0 where

@@ -7,7 +7,7 @@ use Rattle.chorus_ui.specs.Layout as layouts
 use Rattle.chorus_ui.specs.Layout.{IsLayout}
 use Rattle.chorus_entry.specs.declared.packet.Packet.{Packet}
 use Rattle.chorus_calls.specs.Callers.{Seated}
-use Rattle.chorus_machine.specs.PlaceState.{PlaceState, Outgoing}
+use Rattle.chorus_machine.specs.PlaceState.{Outgoing}
 use Rattle.chorus_law.specs.Network.{NetState, Event, schedule}
 use Rattle.chorus_law.specs.Schedules.{may_be}
 use Rattle.chorus_place.specs.Calls.{Place, state}

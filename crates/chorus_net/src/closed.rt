@@ -1,9 +1,19 @@
-//! What is left when the sites are closed.
+//! What is left when the sites are closed, or the places at which threads took turns.
 
-use chorus_entry::{Entry, Packet};
+ghost use Rattle.std.specs.Prelude.{◌≡◌};
+ghost use Rattle.chorus_net.specs.Closing.{worn_of, HasParts, IsOfTurns};
+
+use chorus_calls::Caller;
+use chorus_closing::Noted;
+use chorus_entry::{Command, Entry, Packet};
 use chorus_law::Placed;
+use chorus_turn::Spent;
+use std::fmt::{self, Debug, Formatter};
 
-/// What is left when the sites are closed. Only [`Sites::close`](crate::Sites::close) makes one, since its origin is private.
+/// What is left when the sites, or the places at which threads took turns, are closed.
+///
+/// Its origin is private: [`Sites::close`](crate::Sites::close) alone makes one of sites, and [`Closed::of`] one of places at which
+/// passes took turns, which needs what is left of the pass that closed them.
 #[derive(Debug, Drop)]
 pub struct Closed {
     /// The journal of each place, by place, in order.
@@ -17,8 +27,54 @@ pub struct Closed {
 }
 
 /// What a `Closed` was made by.
-#[derive(Clone, Copy, Debug)]
+#[derive(Drop)]
 pub(crate) enum Origin {
     /// `Sites::close`.
     Sites,
+    /// `Closed::of`, of the pass that closed the places, and the clock of the first call of it that was refused as worn.
+    Turns {
+        spent: Spent<Noted<Caller, Command, Packet>>,
+        worn: Option<u64>,
+    },
+}
+
+impl Debug for Origin {
+    fn fmt<W: fmt::Write>(&self, f: &mut Formatter<W>) -> fmt::Result {
+        match self {
+            Origin::Sites => f.write_str("Sites"),
+            Origin::Turns { .. } => f.write_str("Turns"),
+        }
+    }
+}
+
+impl Closed {
+    /// What is left of places at which passes took turns, of these parts: what is left of the pass that closed them, which
+    /// `Turns::close` gave, and the clock of its first call that was refused as worn, if one was. It takes no memory.
+    pub fn of(
+        journals: Vec<Vec<Entry>>,
+        rest: Vec<Packet>,
+        ports: Vec<Placed>,
+        spent: Spent<Noted<Caller, Command, Packet>>,
+        worn: Option<u64>,
+    ) -> Closed
+        ensures parts { HasParts journals rest ports result }
+        ensures origin { IsOfTurns spent worn result }
+    {
+        Closed {
+            journals,
+            rest,
+            ports,
+            origin: Origin::Turns { spent, worn },
+        }
+    }
+
+    /// The clock of the closing pass's first call that was refused as worn. None where none was, and None for sites.
+    pub fn worn(&self) -> Option<u64>
+        ensures { result ≡ worn_of self.now }
+    {
+        match &self.origin {
+            Origin::Sites => None,
+            Origin::Turns { worn, .. } => *worn,
+        }
+    }
 }

@@ -5,13 +5,12 @@ ghost use Rattle.chorus_ui.specs.Layout.{IsLayout, has_actor, has_place};
 ghost use Rattle.chorus_ui.specs.declared.limits.TheConstants.{CLOCK_LIMIT, SEATS_LIMIT};
 ghost use Rattle.chorus_entry.specs.Kinds.{names_actor};
 ghost use Rattle.chorus_law.specs.Packets.{first_on};
-ghost use Rattle.chorus_law.specs.Network.{Act, happened, replied, delivery, place_numbers, from_one, from_each};
-ghost use Rattle.chorus_law.specs.History.{put_by};
+ghost use Rattle.chorus_law.specs.Network.{Act, happened, replied, delivery, place_numbers, from_one, from_each, round};
 ghost use Rattle.chorus_law.specs.Schedules.{may_happen};
 ghost use Rattle.chorus_law.specs.Calls.{just_started, entering, delivering, posts_of, compared, compared_at};
 ghost use Rattle.chorus_net.specs.Closing.{IsClosed};
-ghost use Rattle.chorus_net.specs.Drains.{Ticks, Goes, GoesRound, Drains, Stops, IsWornAmong, row_from};
-ghost use Rattle.chorus_net.specs.Room.{HaveRoom, HasRoomAt, KeepRoom, HasReserved, UsesRoom, TakesNoneAt};
+ghost use Rattle.chorus_net.specs.Drains.{Ticks, Goes, GoesRound, Drains, Stops, StopsAmong, AnyCause, ComparesWorn, row_from, puts_forward};
+ghost use Rattle.chorus_net.specs.Room.{HaveRoom, HasRoomAt, KeepRoom, HasReserved, UsesRoom, UsesRoomInRounds, TakesNoneAt, puts_in, puts_of};
 ghost use Rattle.chorus_net.specs.Sites.{net, IsScheduled};
 ghost use Rattle.chorus_net.specs.Worn.{IsWornIn};
 
@@ -132,7 +131,7 @@ impl Sites {
             × (clock ≡ compared seat command (net self.old))) }
         ensures refused { OnErr result (net self.new ≡ net self.old) }
         ensures room { OnOk result (UsesRoom
-            (length (put_by (Act seat command) (net self.old))) self.old.places self.new.places) }
+            (puts_in (Act seat command) (net self.old)) self.old.places self.new.places) }
         ensures kept { OnErr result (KeepRoom self.old.places self.new.places) }
         ensures takes_no_memory { TakesNoneAt command (slice_get self.old.callers seat) self.old →
             compared seat command (net self.old) < CLOCK_LIMIT → IsOk result }
@@ -162,7 +161,7 @@ impl Sites {
         ensures layout { self.new.layout ≡ self.old.layout }
         ensures refused { OnErr result (net self.new ≡ net self.old) }
         ensures room { OnOk result (UsesRoom
-            (length (put_by (delivering from to) (net self.old))) self.old.places self.new.places) }
+            (puts_in (delivering from to) (net self.old)) self.old.places self.new.places) }
         ensures kept { OnErr result (KeepRoom self.old.places self.new.places) }
     {
         let Some(packet) = self.places[usize::from(from) - 1].out(to) else {
@@ -182,13 +181,14 @@ impl Sites {
     /// rising. The last round serves nothing.
     ///
     /// It is refused as worn only where the next delivery of a round is, and else only for want of memory. After a refusal the
-    /// deliveries before it stand.
+    /// deliveries before it stand, in the order of the rounds. It uses no more room than for what it appends and puts.
     pub fn drain(&mut self) -> Result<Quiet, PlaceFault>
         ensures ok { IfOk result (λ quiet.
             Drains self.old.layout (net self.old) (net self.new) quiet.served) }
         ensures stopped { OnErr result (Stops (net self.old) (net self.new)) }
         ensures worn { (clock : ℕ) → IsErrOf result (PlaceFault.Worn clock) →
             IsWornIn clock (net self.old) (net self.new) }
+        ensures room { UsesRoomInRounds self.old self.new }
         ensures layout { self.new.layout ≡ self.old.layout }
     {
         let mut served = 0;
@@ -259,11 +259,14 @@ impl Sites {
     fn round(&mut self) -> Result<u64, PlaceFault>
         ensures ok { IfOk result (λ number.
             GoesRound self.old.layout (net self.old) (net self.new) number) }
-        ensures stopped { OnErr result (Stops (net self.old) (net self.new)) }
-        ensures worn { (clock : ℕ) → IsErrOf result (PlaceFault.Worn clock) →
-            IsWornAmong
+        ensures room { OnOk result (UsesRoom (puts_of (round self.old.layout 0) (net self.old))
+            self.old.places self.new.places) }
+        ensures stopped { OnErr result (StopsAmong
             (from_each 0 (place_numbers self.old.layout) (place_numbers self.old.layout))
-            clock (net self.old) (net self.new) }
+            AnyCause self.old self.new) }
+        ensures worn { (clock : ℕ) → IsErrOf result (PlaceFault.Worn clock) → StopsAmong
+            (from_each 0 (place_numbers self.old.layout) (place_numbers self.old.layout))
+            (ComparesWorn clock) self.old self.new }
         ensures layout { self.new.layout ≡ self.old.layout }
         ensures dry { result ≡ Ok 0 → (net self.new).packets ≡ [] }
     {
@@ -283,9 +286,13 @@ impl Sites {
         requires { has_place self.old.layout from ≡ true }
         ensures ok { IfOk result (λ number. Goes
             (row_from self.old.layout from) (net self.old) (net self.new) number) }
-        ensures stopped { OnErr result (Stops (net self.old) (net self.new)) }
-        ensures worn { (clock : ℕ) → IsErrOf result (PlaceFault.Worn clock) →
-            IsWornAmong (row_from self.old.layout from) clock (net self.old) (net self.new) }
+        ensures room { OnOk result (UsesRoom
+            (puts_forward (row_from self.old.layout from) (net self.old))
+            self.old.places self.new.places) }
+        ensures stopped { OnErr result (StopsAmong
+            (row_from self.old.layout from) AnyCause self.old self.new) }
+        ensures worn { (clock : ℕ) → IsErrOf result (PlaceFault.Worn clock) → StopsAmong
+            (row_from self.old.layout from) (ComparesWorn clock) self.old self.new }
         ensures layout { self.new.layout ≡ self.old.layout }
     {
         if self.is_idle(from) {
@@ -316,9 +323,13 @@ impl Sites {
         requires to { has_place self.old.layout to ≡ true }
         ensures ok { IfOk result (λ number.
             Goes (from_one 0 from (to ∷ [])) (net self.old) (net self.new) number) }
-        ensures stopped { OnErr result (net self.new ≡ net self.old) }
-        ensures worn { (clock : ℕ) → IsErrOf result (PlaceFault.Worn clock) →
-            IsWornAmong (from_one 0 from (to ∷ [])) clock (net self.old) (net self.new) }
+        ensures room { OnOk result (UsesRoom
+            (puts_forward (from_one 0 from (to ∷ [])) (net self.old))
+            self.old.places self.new.places) }
+        ensures stopped { OnErr result (StopsAmong
+            (from_one 0 from (to ∷ [])) AnyCause self.old self.new) }
+        ensures worn { (clock : ℕ) → IsErrOf result (PlaceFault.Worn clock) → StopsAmong
+            (from_one 0 from (to ∷ [])) (ComparesWorn clock) self.old self.new }
         ensures layout { self.new.layout ≡ self.old.layout }
     {
         if from == to {

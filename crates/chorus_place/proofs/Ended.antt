@@ -28,7 +28,7 @@ none-put (p ∷ ps) h = absurd (cc)
 pub still-none : (old new : Tables) (before after : Seated) → old.puts ≡ [] → turn new after ≡ turn old before → new.puts ≡ []
 still-none old new before after none same = none-put new.puts (ap (λ t. t.puts) same ∙ ap (λ (ps : List Parcel). map outgoing ps) none)
 
-sends : (ps : List Parcel) (lists : List (List Packet)) → sending.with_all ps lists ≡ calls.with_all (map outgoing ps) lists
+pub sends : (ps : List Parcel) (lists : List (List Packet)) → sending.with_all ps lists ≡ calls.with_all (map outgoing ps) lists
 sends [] lists = refl
 sends (p ∷ ps) lists = sends ps (with_last p.to p.packet lists)
 

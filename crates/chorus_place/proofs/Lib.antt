@@ -7,3 +7,4 @@ pub mod CallTurns
 pub mod GroupTurns
 pub mod Openable
 pub mod Ended
+pub mod Bounded

@@ -24,7 +24,8 @@ use Rattle.chorus_machine.specs.PlaceState.{PlaceState, Outgoing, Turn, greatest
 use Rattle.chorus_machine.specs.PlaceMachine.{begun, begun_by, act, work}
 use Rattle.chorus_machine.specs.Own.{held_by}
 use Rattle.chorus_machine.specs.Replies.{reply}
-use Rattle.chorus_steps.specs.Tables.{Tables}
+use Rattle.chorus_bounds.specs.Bounds.{IsWithin, AreWaitingWithin}
+use Rattle.chorus_steps.specs.Tables.{Tables, state as state_of}
 
 -- a place: its layout and number; its journal, the newest entry first; its tables; the packets that wait to go to other places,
 -- by these; and how many entries and packets need no memory
@@ -53,6 +54,12 @@ place_of p =
       out = p.out;
       spare = min p.journal.spare p.room;
     }
+
+-- between turns nothing is put, and what the place keeps and each packet that waits is within the ranges of packets
+pub record IsAtRest (p : Tables) : Type 0 where
+  pub none : p.puts ≡ []
+  pub within : IsWithin (state_of p)
+  pub waits : AreWaitingWithin p.out.lists
 
 -- the state that they stand for
 abbrev pub state : Place → PlaceState

@@ -1,22 +1,25 @@
 //! A place of a layout.
 
-ghost use Rattle.std.specs.Prelude.{◌≡◌, ℕ, ◌<◌, ◌≤◌, ◌↔◌, true, length, reverse, slice_get, IfOk, IfErr, IfSome, OnOk, OnErr, IsOk, IsErrOf};
+ghost use Rattle.std.specs.Prelude.{◌≡◌, ℕ, ◌<◌, ◌≤◌, ◌↔◌, true, length, reverse, slice_get, IfOk, IfErr, IfSome, OnOk, OnErr, IsOk, IsTrue, IsErrOf};
 ghost use Rattle.chorus_ui.specs.declared.kind.Kind.TheVariants as Kind;
 ghost use Rattle.chorus_ui.specs.declared.limits.TheConstants.{CLOCK_LIMIT};
 ghost use Rattle.chorus_ui.specs.Layout.{has_site, has_place, places, IsLayout};
 ghost use Rattle.chorus_entry.specs.Command.{is_post};
+ghost use Rattle.chorus_entry.specs.Ranges.{has_ranges};
 ghost use Rattle.chorus_world.specs.Places.{last_clock};
 ghost use Rattle.chorus_out.specs.Waiting.{nothing_to, list_to, without_first, with_first, count, MayPutBack};
 ghost use Rattle.chorus_machine.specs.PlaceState.{started, newest, greatest_clock};
 ghost use Rattle.chorus_machine.specs.PlaceMachine.{begun, begun_by};
 ghost use Rattle.chorus_machine.specs.Lawful.{is_lawful};
 ghost use Rattle.chorus_machine.specs.Outcomes.{outcome};
+ghost use Rattle.chorus_bounds.specs.Bounds.{AreWaitingWithin};
 ghost use Rattle.chorus_place.specs.Calls.{state, is_call, Called, IsWornAt, IsWornBack, MayCall, Stays, TakesNone, WorkedOff};
 
 use crate::fault::PlaceFault;
 use crate::open::open;
 use crate::outcome::outcome_in;
 use crate::perform::perform;
+use chorus_bounds::are_within;
 use chorus_calls::Caller;
 use chorus_entry::{Command, Entry, MsgId, Packet};
 use chorus_machine::{Outcome, Reply};
@@ -34,14 +37,13 @@ pub struct Place {
 }
 
 impl Model for Place {
-    ghost use Rattle.std.specs.Prelude.{◌≡◌, []};
     ghost use Rattle.chorus_place.specs.Calls as calls;
 
     ghost Value = { calls.Place };
 
     ghost view = { λ p. calls.place_of p.tables };
 
-    ghost invariant = { λ p. p.tables.puts ≡ [] };
+    ghost invariant = { λ p. calls.IsAtRest p.tables };
 }
 
 impl Place {
@@ -155,6 +157,7 @@ impl Place {
         if clock >= CLOCK_LIMIT {
             return Err(PlaceFault::Worn { clock });
         }
+        are_within(caller, &command);
         let reply = perform(&mut self.tables, command, caller)?;
         self.tables.send_out();
         Ok(reply)
@@ -198,20 +201,25 @@ impl Place {
         }
     }
 
-    /// Takes out the first packet that waits to go to the place; None exactly where none waits, and then nothing changes.
+    /// Takes out the first packet that waits to go to the place; None exactly where none waits, and then nothing changes. The packet
+    /// is within its ranges, so it has a frame.
+    #[tactic(auto, using(crate::proofs::Bounded::out_at_rest, crate::proofs::Bounded::taken_within))]
     pub fn out(&mut self, to: u16) -> Option<Packet>
         ensures value { result ≡ slice_get (list_to to self.old.out.lists) 0 }
         ensures state { state self.new ≡ state self.old }
         ensures waits { self.new.out.lists ≡ without_first to self.old.out.lists }
         ensures spare { self.old.spare ≤ self.new.spare }
+        ensures ranges { IfSome result (λ packet. IsTrue (has_ranges packet)) }
         ensures taken { IfSome result (λ packet. MayPutBack to self.new.out) }
     {
         self.tables.take_out(to)
     }
 
-    /// Puts a packet that was taken out last back, in front of those that wait to go to the place.
+    /// Puts a packet that was taken out last back, in front of those that wait to go to the place. It is within its ranges, as each
+    /// packet that is taken out.
     pub fn put_back(&mut self, to: u16, packet: Packet)
-        requires { MayPutBack to self.old.out }
+        requires back { MayPutBack to self.old.out }
+        requires ranges { IsTrue (has_ranges packet) }
         ensures state { state self.new ≡ state self.old }
         ensures waits { self.new.out.lists ≡ with_first to packet self.old.out.lists }
         ensures spare { self.old.spare ≤ self.new.spare }
@@ -219,10 +227,12 @@ impl Place {
         self.tables.put_back(to, packet);
     }
 
-    /// Takes the place apart: its journal, in order, the packets that wait to go, and the ports that it holds.
+    /// Takes the place apart: its journal, in order, the packets that wait to go, each within its ranges, and the ports that it
+    /// holds.
     pub fn finish(self) -> (Vec<Entry>, Outbox, Ports)
         ensures journal { reverse result.0.items ≡ self.journal }
         ensures out { result.1.lists ≡ self.out.lists }
+        ensures ranges { AreWaitingWithin result.1.lists }
         ensures ports { result.2.records ≡ self.ports }
     {
         self.tables.finish()

@@ -1,14 +1,16 @@
-//! The program, but for what a process alone can do.
+//! The program.
 //!
 //! [`program`] does what the words say, between a source and a sink, and [`ended`] makes the exit status of how it ended, and the
-//! line that says what went wrong. `main` rests on both, and has only the streams and the words of the process to hand to them.
+//! line that says what went wrong. [`process`] hands them the words and the streams of the process: it is all that `main` calls.
 //!
 //! Begin with [`program`].
 
 #![tactic(auto)]
 
 mod ending;
+mod process;
 mod running;
 
 pub use ending::{ended, without_words};
+pub use process::process;
 pub use running::{REPLAY_SITES, program};

@@ -5,7 +5,7 @@ ghost use Rattle.chorus_io.specs.Count.{Rose};
 ghost use Rattle.chorus_ui.specs.declared.limits.TheConstants.{CLOCK_LIMIT};
 ghost use Rattle.chorus_ui.specs.Layout.{IsLayout};
 ghost use Rattle.chorus_net.specs.Sites.{net};
-ghost use Rattle.chorus_run.specs.Headline.{AreJustStarted, Gives, IsRead, ReadsNoFurther, Replays, merge_of};
+ghost use Rattle.chorus_run.specs.Headline.{AreJustStarted, IsGiven, IsRead, ReadsNoFurther, Replays, merge_of};
 ghost use Rattle.chorus_run.specs.Load.{load_layout, Loads};
 ghost use Rattle.chorus_run.specs.Output.{EndsUnread, HandsOut, Writes, summary_of, text_of};
 ghost use Rattle.chorus_run.specs.Worn.{HasClock};
@@ -41,8 +41,7 @@ pub fn program<'a, S: Source, K: Sink>(
     ensures untouched { result.status ≡ Status.Usage →
         (source.new ≡ source.old) × (sink.new ≡ sink.old) }
     ensures scenario { (line reason : ℕ) → result.status ≡ Status.Scenario line reason →
-        IsSome (S.left source.old) →
-        Gives replay_layout (S.left source.old) (Err (line, reason)) }
+        IsGiven replay_layout (S.left source.old) (Err (line, reason)) }
     ensures read_fault { result.status ≡ Status.ReadFault →
         Rose (S.faults source.old) (S.faults source.new) }
     ensures reliable { S.reliable source.old → S.faults source.new ≡ S.faults source.old }
@@ -88,8 +87,7 @@ pub fn program<'a, S: Source, K: Sink>(
 fn start_replay<S: Source, K: Sink>(alloc: Global, source: &mut S, sink: &mut K) -> Finished
     ensures usage { result.status ≢ Status.Usage }
     ensures scenario { (line reason : ℕ) → result.status ≡ Status.Scenario line reason →
-        IsSome (S.left source.old) →
-        Gives replay_layout (S.left source.old) (Err (line, reason)) }
+        IsGiven replay_layout (S.left source.old) (Err (line, reason)) }
     ensures read_fault { result.status ≡ Status.ReadFault →
         Rose (S.faults source.old) (S.faults source.new) }
     ensures reliable { S.reliable source.old → S.faults source.new ≡ S.faults source.old }

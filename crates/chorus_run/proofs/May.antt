@@ -32,14 +32,14 @@ use Rattle.chorus_run.proofs.Needs.{Needs, HasAll, NeedsOn, not-false, all-of, o
 
 -- What the limits of a scenario say.
 
-all-get : {X : Type 0} (p : X → Bool) (xs : List X) (i : ℕ) (x : X) → list_all p xs ≡ true → slice_get xs i ≡ Some x → p x ≡ true
+pub all-get : {X : Type 0} (p : X → Bool) (xs : List X) (i : ℕ) (x : X) → list_all p xs ≡ true → slice_get xs i ≡ Some x → p x ≡ true
 all-get p [] i x all found = cc
 all-get p (y ∷ ys) zero x all found =
     let e : y ≡ x = cc in
     ap p (sym e) ∙ (and_parts (p y) (list_all p ys) all).0
 all-get p (y ∷ ys) (suc i) x all found = all-get p ys i x (and_parts (p y) (list_all p ys) all).1 found
 
-all-drop : {X : Type 0} (p : X → Bool) (n : ℕ) (xs : List X) → list_all p xs ≡ true → list_all p (drop n xs) ≡ true
+pub all-drop : {X : Type 0} (p : X → Bool) (n : ℕ) (xs : List X) → list_all p xs ≡ true → list_all p (drop n xs) ≡ true
 all-drop p zero xs all = all
 all-drop p (suc n) [] all = refl
 all-drop p (suc n) (x ∷ xs) all = all-drop p n xs (and_parts (p x) (list_all p xs) all).1
@@ -60,7 +60,7 @@ command-fits version (Command.Call port back body) h = body-fits version (length
 command-fits version (Command.Reply body) h = body-fits version (length body) h
 command-fits version c h = refl
 
-place-fits : (l : Layout) (n p : ℕ) → n ≤ l.sites → is_place_of l n p ≡ true → has_place l p ≡ true
+pub place-fits : (l : Layout) (n p : ℕ) → n ≤ l.sites → is_place_of l n p ≡ true → has_place l p ≡ true
 place-fits l n p h is =
     let two = and_parts (nat_le 1 p) (nat_le p (n * l.turns)) is in
     let high = leb-true p (n * l.turns) two.1 in

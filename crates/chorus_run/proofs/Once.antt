@@ -229,7 +229,7 @@ pub data Ends (l : Layout) (ts : List Task) (es : List Event) : Option ℕ → T
   All-done : CarryOut l ts es → Ends l ts es None
   Worn-at : (clock : ℕ) → AreWornBy l ts es clock → Ends l ts es (Some clock)
 
-ends-as : (l : Layout) (ts : List Task) (s : Status) (es : List Event) → CarryAsFar s l ts es → Ends l ts es (worn_clock s)
+pub ends-as : (l : Layout) (ts : List Task) (s : Status) (es : List Event) → CarryAsFar s l ts es → Ends l ts es (worn_clock s)
 ends-as l ts Status.Done es c = All-done c
 ends-as l ts Status.Usage es c = All-done c
 ends-as l ts (Status.Scenario line reason) es c = All-done c
@@ -238,7 +238,7 @@ ends-as l ts Status.WriteFault es c = All-done c
 ends-as l ts Status.Memory es c = All-done c
 ends-as l ts (Status.Worn clock) es c = Worn-at clock c
 
-one-end : (l : Layout) (ts : List Task) (es fs : List Event) (o p : Option ℕ) → IsLayout l → may_be l es ≡ true → may_be l fs ≡ true → AreUnworn es (opening l) → AreUnworn fs (opening l)
+pub one-end : (l : Layout) (ts : List Task) (es fs : List Event) (o p : Option ℕ) → IsLayout l → may_be l es ≡ true → may_be l fs ≡ true → AreUnworn es (opening l) → AreUnworn fs (opening l)
     → Ends l ts es o → Ends l ts fs p → (o ≡ p) × (schedule l es ≡ schedule l fs)
 one-end l ts es fs _ _ shape may can free loose (All-done c) (All-done d) = (refl, carried-out-once l ts es fs c d)
 one-end l ts es fs _ _ shape may can free loose (All-done c) (Worn-at time w) = absurd (carry-stop l shape ts es fs w.next time may c free w.comes loose w.is w.worn)

@@ -1,5 +1,5 @@
 -- What was closed in the order of tasks plays what their callers give.
-use Rattle.std.proofs.Common.{ℕ, zero, suc, ◌≡◌, ◌==◌, ◌+◌, Bool, true, false, not, ◌&&◌, cond, List, [], ◌∷◌, ◌++◌, length, map, reverse, Option, Some, None, is_some, slice_get, refl, sym, ◌∙◌, ap, ap₂, subst, inl, inr, arith}
+use Rattle.std.proofs.Common.{ℕ, zero, suc, ◌≡◌, ◌==◌, ◌+◌, Bool, true, false, not, ◌&&◌, cond, List, [], ◌∷◌, ◌++◌, length, map, reverse, Option, Some, None, is_some, slice_get, Ok, refl, sym, ◌∙◌, ap, ap₂, subst, inl, inr, arith}
 use Rattle.std.specs.Option.{option_map}
 use Rattle.std.proofs.lemmas.Bool.{and_parts, eqb-true, false≢true}
 use Rattle.std.proofs.lemmas.List.{reverse-append, reverse-reverse, length-map}
@@ -281,7 +281,7 @@ are-of-scene c keeps =
     }
 
 -- so what was closed in the order of a scenario that was given replays it
-pub replays-as : (c : Scene) → IsLayout c.layout → Keeps c → (m : Layout) (told : Option (List ℕ)) (status : Status) (closed : Closed) → c.layout ≡ m → IsGiven m told c → IsOrdered c.layout (tasks c) status closed → Replays m told status closed
+pub replays-as : (c : Scene) → IsLayout c.layout → Keeps c → (m : Layout) (told : Option (List ℕ)) (status : Status) (closed : Closed) → c.layout ≡ m → IsGiven m told (Ok c) → IsOrdered c.layout (tasks c) status closed → Replays m told status closed
 replays-as c shape keeps m told status closed same given is = record {
   scene = c;
   given = given;

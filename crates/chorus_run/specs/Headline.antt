@@ -41,10 +41,12 @@ AreJustStarted n = n ≡ just_started n.layout
 abbrev pub bytes_read : List ℕ → List ℕ
 bytes_read input = take (TEXT_LIMIT + 1) input
 
--- the input is told, and gives this: its scenario, or the line and the reason of the refusal
-abbrev pub Gives : Layout → Option (List ℕ) → Result Scene (ℕ × ℕ) → Type 0
-Gives l None outcome = ⊥
-Gives l (Some input) outcome = read_scene l (bytes_read input) ≡ outcome
+-- there are bytes of which the grammar gives this outcome, a scenario, or the line and the reason of a refusal: those that are read
+-- of the source, where it tells them
+pub record IsGiven (l : Layout) (told : Option (List ℕ)) (outcome : Result Scene (ℕ × ℕ)) : Type 0 where
+  pub bytes : List ℕ
+  pub read : IfSome told (λ input. bytes ≡ bytes_read input)
+  pub given : read_scene l bytes ≡ outcome
 
 -- the source was read to its end, or to one byte more than the limit
 pub record IsRead (old new : Option (List ℕ)) : Type 0 where
@@ -121,15 +123,9 @@ callers_of c k = slice_get (first_actor ∷ map (λ (script : Script). script.ac
 abbrev pub commands_by : Scene → ℕ → Option (List Command)
 commands_by c k = slice_get (setup_commands c ∷ map (λ (script : Script). script.commands) c.scripts) k
 
--- there are bytes of which the grammar gives the scenario: those that are read of the source, where it tells them
-pub record IsGiven (l : Layout) (told : Option (List ℕ)) (c : Scene) : Type 0 where
-  pub bytes : List ℕ
-  pub read : IfSome told (λ input. bytes ≡ bytes_read input)
-  pub given : read_scene l bytes ≡ Ok c
-
 -- there is a scenario that the source gives, and what was closed plays it, in the order of a replay
 pub record Replays (l : Layout) (told : Option (List ℕ)) (status : Status) (closed : Closed) : Type 0 where
   pub scene : Scene
-  pub given : IsGiven l told scene
+  pub given : IsGiven l told (Ok scene)
   pub plays : Plays l (callers_of scene) (commands_by scene) status closed
   pub ordered : IsOrdered l (tasks scene) status closed

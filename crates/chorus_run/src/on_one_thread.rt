@@ -1,13 +1,14 @@
 //! A scenario on one thread.
 
-ghost use Rattle.std.specs.Prelude.{◌≡◌, ◌≢◌, ◌↔◌, ◌⊎◌, ℕ, ◌≤◌, IfOk, IfErr, IsErrOf, IfSome, IsSome, Some, None, Err};
+ghost use Rattle.std.specs.Prelude.{◌≡◌, ◌≢◌, ◌↔◌, ◌⊎◌, ℕ, ◌≤◌, IfOk, IfErr, IsErrOf, IfSome, IsSome, Some, None, Ok, Err};
 ghost use Rattle.chorus_io.specs.Count.{Rose};
 ghost use Rattle.chorus_ui.specs.Layout.{IsLayout};
 ghost use Rattle.chorus_ui.specs.declared.limits.TheConstants.{CLOCK_LIMIT};
 ghost use Rattle.chorus_scene.specs.Limits.{Keeps};
+ghost use Rattle.chorus_show.specs.Report.{report};
 ghost use Rattle.chorus_run.specs.Worn.{HasClock};
-ghost use Rattle.chorus_run.specs.Headline.{AreJustStarted, Gives, IsGiven, IsRead, ReadsNoFurther, Replays, merge_of};
-ghost use Rattle.chorus_run.specs.Output.{Writes, HandsOut, GivesUp, report, text_of};
+ghost use Rattle.chorus_run.specs.Headline.{AreJustStarted, IsGiven, IsRead, ReadsNoFurther, Replays, merge_of};
+ghost use Rattle.chorus_run.specs.Output.{Writes, HandsOut, GivesUp, text_of};
 ghost use Rattle.chorus_run.specs.Performing.{IsPlayed};
 ghost use Rattle.chorus_net.specs.Sites.{net};
 
@@ -36,8 +37,7 @@ pub fn replay<S: Source, K: Sink>(
     // Why it ended. Want of memory is the one free answer.
     ensures usage { result.status ≢ Status.Usage }
     ensures scenario { (line reason : ℕ) → result.status ≡ Status.Scenario line reason →
-        IsSome (S.left source.old) →
-        Gives (net sites).layout (S.left source.old) (Err (line, reason)) }
+        IsGiven (net sites).layout (S.left source.old) (Err (line, reason)) }
     ensures read_fault { result.status ≡ Status.ReadFault →
         Rose (S.faults source.old) (S.faults source.new) }
     ensures reliable { S.reliable source.old → S.faults source.new ≡ S.faults source.old }
@@ -84,9 +84,9 @@ fn read_scenario<S: Source>(
     layout: Layout,
 ) -> Result<Scenario, Status>
     ensures ok { IfOk result (λ c. (c.layout ≡ layout) × Keeps c) }
-    ensures given { IfOk result (λ c. IsGiven layout (S.left source.old) c) }
+    ensures given { IfOk result (λ c. IsGiven layout (S.left source.old) (Ok c)) }
     ensures refused { (line reason : ℕ) → IsErrOf result (Status.Scenario line reason) →
-        IsSome (S.left source.old) → Gives layout (S.left source.old) (Err (line, reason)) }
+        IsGiven layout (S.left source.old) (Err (line, reason)) }
     ensures err { IfErr result GivesUp }
     ensures read_fault { IsErrOf result Status.ReadFault →
         Rose (S.faults source.old) (S.faults source.new) }
@@ -123,7 +123,7 @@ fn play(alloc: Global, mut sites: Sites, scenario: &Scenario) -> Result<Played, 
 
 /// The journal text and the summary text of what was closed.
 fn text_of(alloc: Global, closed: &Closed) -> Result<Vec<u8>, AllocError>
-    ensures { IfOk result (λ text. text.items ≡ report closed.now) }
+    ensures { IfOk result (λ text. text.items ≡ report (merge_of closed.now)) }
 {
     let entries = merge(alloc, &closed.journals)?;
     let mut text = Vec::new(alloc);

@@ -10,22 +10,22 @@ use Rattle.chorus_entry.specs.declared.dest.Dest.TheVariants as dests
 use Rattle.chorus_entry.specs.declared.command.Command.{Command}
 use Rattle.chorus_entry.specs.declared.command.Command.TheVariants as commands
 use Rattle.chorus_scene.specs.declared.scenario.Step.TheVariants as steps
-use Rattle.chorus_scene.specs.declared.word.Target.{Target}
-use Rattle.chorus_scene.specs.declared.word.Target.TheVariants as targets
-use Rattle.chorus_scene.specs.declared.word.Verb.{Verb}
-use Rattle.chorus_scene.specs.declared.word.Verb.TheVariants as verbs
-use Rattle.chorus_scene.specs.declared.word.Word.{Word}
-use Rattle.chorus_scene.specs.declared.word.Word.TheVariants as words
-use Rattle.chorus_scene.specs.declared.word.Reason.{Reason}
-use Rattle.chorus_scene.specs.declared.word.Reason.TheVariants as reasons
-use Rattle.chorus_scene.specs.Text.{are_fields, some_empty, each_byte, is_plain, number_in}
-use Rattle.chorus_scene.specs.Body.{body_in, body_text, begins_a_body}
+use Rattle.chorus_lines.specs.declared.word.Target.{Target}
+use Rattle.chorus_lines.specs.declared.word.Target.TheVariants as targets
+use Rattle.chorus_lines.specs.declared.word.Verb.{Verb}
+use Rattle.chorus_lines.specs.declared.word.Verb.TheVariants as verbs
+use Rattle.chorus_lines.specs.declared.word.Word.{Word}
+use Rattle.chorus_lines.specs.declared.word.Word.TheVariants as words
+use Rattle.chorus_lines.specs.declared.word.Reason.{Reason}
+use Rattle.chorus_lines.specs.declared.word.Reason.TheVariants as reasons
+use Rattle.chorus_lines.specs.Text.{are_fields, some_empty, each_byte, is_plain, number_in}
+use Rattle.chorus_lines.specs.Body.{body_in, body_text, begins_a_body}
 use Rattle.chorus_scene.specs.Scene.{Scene}
 use Rattle.chorus_scene.specs.Line.{Line, SitesLine, PortLine, GroupLine, MemberLine, ScriptLine, CommandLine, ScheduleLine, StepLine, EndLine, wants, has_body, is_misshapen, field, with_two, with_three, name_in, target_kind, dest_of, line_of}
 use Rattle.chorus_scene.specs.Grammar.{judge_fields, judge_line, unless, known, is_beyond, names_unknown, repeats, is_not_given, is_unscheduled, is_huge, is_no_capacity, most_sites, most_bytes, last_is_full, command_is_beyond}
 use Rattle.chorus_scene.specs.Print.{behind, command_text, text_of}
 use Rattle.chorus_scene.proofs.Spelled.{both, spelled_name}
-use Rattle.chorus_scene.proofs.Numbers.{spelled_number}
+use Rattle.chorus_lines.proofs.Numbers.{spelled_number}
 use Rattle.chorus_scene.proofs.Bodies.{reprints}
 use Rattle.chorus_scene.proofs.Reprint.{reprint, last_reprinted}
 use Rattle.chorus_scene.proofs.Words.{verb_text, word_text}

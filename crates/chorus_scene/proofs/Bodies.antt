@@ -2,10 +2,10 @@
 use Rattle.std.proofs.Common.{◌≡◌, ℕ, ◌+◌, ◌*◌, ◌/◌, ◌%◌, ◌<◌, Bool, true, false, ◌&&◌, ◌||◌, cond, eqb, List, [], ◌∷◌, length, Option, Some, None, refl, sym, ap, ◌∙◌, subst, arith, ◌≤◌}
 use Rattle.std.specs.Prelude.{nat_lt}
 use Rattle.std.proofs.lemmas.Bool.Decides.{nat_tests}
-use Rattle.chorus_scene.specs.Text.{each_byte, is_plain}
-use Rattle.chorus_scene.specs.Body.{pairs, is_hex, hex_value, is_hex_text, bytes_of_hex, body_in, begins_a_body, hex_digit, hex_text, body_text}
+use Rattle.chorus_lines.specs.Text.{each_byte, is_plain}
+use Rattle.chorus_lines.specs.Body.{pairs, is_hex, hex_value, is_hex_text, bytes_of_hex, body_in, begins_a_body, hex_digit, hex_text, body_text}
 use Rattle.chorus_scene.proofs.Spelled.{both}
-use Rattle.chorus_scene.proofs.Hex.{pairs_len}
+use Rattle.chorus_lines.proofs.Hex.{pairs_len}
 
 abbrev is_byte : ℕ → Bool
 is_byte x = nat_lt x 256

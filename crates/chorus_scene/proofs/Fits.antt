@@ -18,19 +18,20 @@ use Rattle.chorus_entry.specs.Kinds.{has_kinds_in_dest}
 use Rattle.chorus_entry.specs.Command.{is_capacity, meets_conditions, demands_a_site}
 use Rattle.chorus_scene.specs.declared.scenario.SetupLine.TheVariants as setups
 use Rattle.chorus_scene.specs.declared.scenario.Step.TheVariants as steps
-use Rattle.chorus_scene.specs.declared.word.Target.{Target}
-use Rattle.chorus_scene.specs.declared.word.Target.TheVariants as targets
-use Rattle.chorus_scene.specs.declared.word.Verb.{Verb}
-use Rattle.chorus_scene.specs.declared.word.Verb.TheVariants as verbs
-use Rattle.chorus_scene.specs.declared.word.Word.{Word}
-use Rattle.chorus_scene.specs.declared.word.Word.TheVariants as words
-use Rattle.chorus_scene.specs.declared.word.Reason.{Reason}
-use Rattle.chorus_scene.specs.declared.word.Reason.TheVariants as reasons
-use Rattle.chorus_scene.specs.Text.{number_in}
-use Rattle.chorus_scene.specs.Body.{body_in}
+use Rattle.chorus_lines.specs.declared.word.Target.{Target}
+use Rattle.chorus_lines.specs.declared.word.Target.TheVariants as targets
+use Rattle.chorus_lines.specs.declared.word.Verb.{Verb}
+use Rattle.chorus_lines.specs.declared.word.Verb.TheVariants as verbs
+use Rattle.chorus_lines.specs.declared.word.Word.{Word}
+use Rattle.chorus_lines.specs.declared.word.Word.TheVariants as words
+use Rattle.chorus_lines.specs.declared.word.Reason.{Reason}
+use Rattle.chorus_lines.specs.declared.word.Reason.TheVariants as reasons
+use Rattle.chorus_lines.specs.Text.{number_in}
+use Rattle.chorus_lines.specs.Body.{body_in}
 use Rattle.chorus_scene.specs.Scene.{Scene}
 use Rattle.chorus_scene.specs.Making.{next_port, next_group, is_among, members_of}
-use Rattle.chorus_scene.specs.Line.{Line, VersionLine, SitesLine, PortLine, GroupLine, MemberLine, ScriptLine, CommandLine, ScheduleLine, StepLine, EndLine, word_of, line_of, command_of, name_in, if_of_kind, target_kind, dest_of, field}
+use Rattle.chorus_scene.specs.Line.{Line, VersionLine, SitesLine, PortLine, GroupLine, MemberLine, ScriptLine, CommandLine, ScheduleLine, StepLine, EndLine, line_of, command_of, name_in, if_of_kind, target_kind, dest_of, field}
+use Rattle.chorus_lines.specs.Words.{word_of}
 use Rattle.chorus_scene.specs.Grammar.{made, judge_line, unless, is_beyond, names_unknown, repeats, is_not_given, is_unscheduled, is_far, is_no_actor, is_no_site, is_known, is_no_capacity, is_huge, dest_is_huge, dest_is_unknown, command_is_beyond, command_is_unknown, last_is_full, last_script, most_sites, most_bytes, script_at, is_step}
 use Rattle.chorus_scene.specs.Limits.{is_site, is_actor_of, dest_is_of, command_is_of, bytes_sent, is_of_version, command_keeps, setup_line_keeps, step_keeps}
 use Rattle.chorus_scene.proofs.Again.{Passes, inv_unless, inv_map, inv_two, inv_three, and_join, or_first, or_second}

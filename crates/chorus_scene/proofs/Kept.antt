@@ -9,9 +9,9 @@ use Rattle.chorus_entry.specs.declared.command.Command.{Command}
 use Rattle.chorus_scene.specs.declared.scenario.SetupLine.{SetupLine}
 use Rattle.chorus_scene.specs.declared.scenario.SetupLine.TheVariants as setups
 use Rattle.chorus_scene.specs.declared.scenario.Step as step
-use Rattle.chorus_scene.specs.declared.word.Section.{Section}
-use Rattle.chorus_scene.specs.declared.word.Section.TheVariants as sections
-use Rattle.chorus_scene.specs.Text.{lines, is_text, is_skipped}
+use Rattle.chorus_lines.specs.declared.word.Section.{Section}
+use Rattle.chorus_lines.specs.declared.word.Section.TheVariants as sections
+use Rattle.chorus_lines.specs.Text.{lines, is_text, is_skipped}
 use Rattle.chorus_scene.specs.Scene.{Scene, Script}
 use Rattle.chorus_scene.specs.Line.{Line, VersionLine, SitesLine, PortLine, GroupLine, MemberLine, ScriptLine, CommandLine, ScheduleLine, StepLine, EndLine}
 use Rattle.chorus_scene.specs.Grammar.{State, opening, after, with_command, last_script, no_script}

@@ -11,18 +11,19 @@ use Rattle.chorus_ui.specs.declared.layout.Layout.{Layout}
 use Rattle.chorus_ui.proofs.Names.{from_same_ui}
 use Rattle.chorus_entry.specs.declared.command.Command.{Command}
 use Rattle.chorus_scene.specs.declared.scenario.Step.TheVariants as steps
-use Rattle.chorus_scene.specs.declared.word.Verb.{Verb}
-use Rattle.chorus_scene.specs.declared.word.Verb.TheVariants as verbs
-use Rattle.chorus_scene.specs.declared.word.Word.{Word}
-use Rattle.chorus_scene.specs.declared.word.Word.TheVariants as words
-use Rattle.chorus_scene.specs.declared.word.Section.{Section}
-use Rattle.chorus_scene.specs.declared.word.Section.TheVariants as sections
-use Rattle.chorus_scene.specs.declared.word.Reason.{Reason}
-use Rattle.chorus_scene.specs.declared.word.Reason.TheVariants as reasons
-use Rattle.chorus_scene.specs.Text.{cut, lines, fields, number_in, each_byte, is_plain, is_text, is_skipped}
+use Rattle.chorus_lines.specs.declared.word.Verb.{Verb}
+use Rattle.chorus_lines.specs.declared.word.Verb.TheVariants as verbs
+use Rattle.chorus_lines.specs.declared.word.Word.{Word}
+use Rattle.chorus_lines.specs.declared.word.Word.TheVariants as words
+use Rattle.chorus_lines.specs.declared.word.Section.{Section}
+use Rattle.chorus_lines.specs.declared.word.Section.TheVariants as sections
+use Rattle.chorus_lines.specs.declared.word.Reason.{Reason}
+use Rattle.chorus_lines.specs.declared.word.Reason.TheVariants as reasons
+use Rattle.chorus_lines.specs.Text.{cut, lines, fields, number_in, each_byte, is_plain, is_text, is_skipped}
 use Rattle.chorus_scene.specs.Scene.{Scene}
 use Rattle.chorus_scene.specs.Making.{next_port, next_group}
-use Rattle.chorus_scene.specs.Line.{Line, VersionLine, SitesLine, PortLine, GroupLine, MemberLine, ScriptLine, CommandLine, ScheduleLine, StepLine, EndLine, name_in, command_of, word_of, line_of, cuts, may_stand, wants, has_body, field}
+use Rattle.chorus_scene.specs.Line.{Line, VersionLine, SitesLine, PortLine, GroupLine, MemberLine, ScriptLine, CommandLine, ScheduleLine, StepLine, EndLine, name_in, command_of, line_of, cuts, wants, has_body, field}
+use Rattle.chorus_lines.specs.Words.{word_of, may_stand}
 use Rattle.chorus_ui.specs.declared.kind.Kind.TheVariants as kinds
 use Rattle.chorus_scene.specs.Grammar.{State, opening, made, or_at, judge, read_scene, is_ended, judge_fields, judge_line, judge_head, judge_word, unless, is_head, next, then_after, after, with_command, last_script, is_not_given}
 use Rattle.chorus_scene.specs.Laws.{Pass, PrintedAgain}

@@ -1,6 +1,3 @@
-pub mod Texts
-pub mod Hex
-pub mod Numbers
 pub mod Tables
 pub mod Counts
 pub mod Next
@@ -17,4 +14,3 @@ pub mod Sofar
 pub mod Law
 pub mod Keeping
 pub mod Kept
-pub mod PrintedLines

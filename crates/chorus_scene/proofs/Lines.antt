@@ -1,16 +1,17 @@
 -- The first line of a text, and the lines behind it.
-use Rattle.std.proofs.Common.{◌≡◌, ℕ, ◌+◌, ◌<◌, ◌≤◌, Bool, true, false, cond, eqb, ltb, List, [], ◌∷◌, length, Option, Some, None, Result, Ok, Err, refl, sym, ap, ◌∙◌, arith, subst}
-use Rattle.std.specs.Prelude.{unwrap_or}
+use Rattle.std.proofs.Common.{◌≡◌, ℕ, ◌+◌, ◌<◌, ◌≤◌, Bool, true, false, cond, eqb, ltb, List, [], ◌∷◌, length, Option, Some, None, Result, Ok, Err, refl, sym, ap, ◌∙◌, arith, subst, zero, suc, take, drop, add-one}
+use Rattle.std.specs.Prelude.{unwrap_or, slice_index, ◌==◌}
 use Rattle.chorus_ui.specs.declared.layout.Layout.{Layout}
-use Rattle.chorus_scene.specs.declared.fault.Stop.{Stop}
-use Rattle.chorus_scene.specs.declared.fault.Stop.TheVariants as stops
-use Rattle.chorus_scene.specs.Reader.{Fails, fault_at}
+use Rattle.chorus_lines.specs.declared.fault.Stop.{Stop}
+use Rattle.chorus_lines.specs.declared.fault.Stop.TheVariants as stops
+use Rattle.chorus_scene.specs.Reader.{Fails}
+use Rattle.chorus_lines.specs.Reasons.{fault_at}
 use Rattle.chorus_scene.specs.Scene.{Scene}
-use Rattle.chorus_scene.specs.Text.{cut, lines, in_front}
+use Rattle.chorus_lines.specs.Text.{cut, lines, in_front}
 use Rattle.chorus_scene.specs.Grammar.{State, next, judge, is_ended, read_scene, opening, Refuses}
 use Rattle.std.proofs.lemmas.Bool.Decides.{nat_tests}
-use Rattle.chorus_scene.specs.declared.word.Section.{Section}
-use Rattle.chorus_scene.specs.declared.word.Section.TheVariants as sections
+use Rattle.chorus_lines.specs.declared.word.Section.{Section}
+use Rattle.chorus_lines.specs.declared.word.Section.TheVariants as sections
 
 -- what stands behind the first line
 abbrev pub behind : List ℕ × Option (List ℕ) → List ℕ
@@ -57,6 +58,28 @@ pub judge_end : (n : ℕ) (s : State) (text : List ℕ) (total : Result Scene (�
 unfolding judge lines
 judge_end n s [] total none so_far = sym so_far
 judge_end n s (c ∷ cs) total none so_far = absurd (omega arith)
+
+not_so : (t : Bool) → (t ≡ true → ⊥) → t ≡ false
+not_so true h = absurd (h refl)
+not_so false h = refl
+
+-- a mark that no earlier byte is cuts the text there
+pub cut_at : (mark : ℕ) (text : List ℕ) (k : ℕ) → k < length text → ((j : ℕ) → j < k → (slice_index text j == mark) ≡ true → ⊥) → (slice_index text k == mark) ≡ true → (take k text, Some (drop (k + 1) text)) ≡ cut mark text
+unfolding cut
+cut_at mark [] k lt before is = absurd (omega arith)
+cut_at mark (c ∷ cs) zero lt before is = rw is refl
+cut_at mark (c ∷ cs) (suc k) lt before is =
+    let other : eqb c mark ≡ false = not_so (eqb c mark) (before 0 (omega arith)) in
+    let rest = cut_at mark cs k (omega arith) (λ j below. before (suc j) (omega arith)) is in
+    rw (other, add-one (suc k)) (ap (λ p. (c ∷ p.0, p.1)) (rw (add-one k) at rest))
+
+pub cut_none : (mark : ℕ) (text : List ℕ) → ((j : ℕ) → j < length text → (slice_index text j == mark) ≡ true → ⊥) → (text, None) ≡ cut mark text
+unfolding cut
+cut_none mark [] never = refl
+cut_none mark (c ∷ cs) never =
+    let other : eqb c mark ≡ false = not_so (eqb c mark) (never 0 (omega arith)) in
+    let rest = cut_none mark cs (λ j below. never (suc j) (omega arith)) in
+    rw other (ap (λ p. (c ∷ p.0, p.1)) rest)
 
 pub first_some : (text line rest : List ℕ) → 0 < length text → (line, Some rest) ≡ cut 10 text → (lines text ≡ line ∷ lines rest) × (length rest < length text)
 first_some text line rest some e =

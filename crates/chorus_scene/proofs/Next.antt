@@ -7,16 +7,17 @@ use Rattle.chorus_ui.specs.declared.kind.Kind.TheVariants as kinds
 use Rattle.chorus_ui.specs.Name.{same_ui}
 use Rattle.chorus_ui.specs.declared.ui.Ui.{Ui}
 use Rattle.chorus_scene.specs.declared.scenario.SetupLine.TheVariants as setups
-use Rattle.chorus_scene.specs.declared.word.Word.{Word}
-use Rattle.chorus_scene.specs.declared.word.Word.TheVariants as words
-use Rattle.chorus_scene.specs.declared.word.Section.{Section}
-use Rattle.chorus_scene.specs.declared.word.Section.TheVariants as sections
-use Rattle.chorus_scene.specs.declared.word.Reason.{Reason}
-use Rattle.chorus_scene.specs.declared.word.Reason.TheVariants as reasons
-use Rattle.chorus_scene.specs.Text.{cut, is_text, is_skipped, fields, are_fields, number_in}
-use Rattle.chorus_scene.specs.Body.{begins_a_body}
+use Rattle.chorus_lines.specs.declared.word.Word.{Word}
+use Rattle.chorus_lines.specs.declared.word.Word.TheVariants as words
+use Rattle.chorus_lines.specs.declared.word.Section.{Section}
+use Rattle.chorus_lines.specs.declared.word.Section.TheVariants as sections
+use Rattle.chorus_lines.specs.declared.word.Reason.{Reason}
+use Rattle.chorus_lines.specs.declared.word.Reason.TheVariants as reasons
+use Rattle.chorus_lines.specs.Text.{cut, is_text, is_skipped, fields, are_fields, number_in}
+use Rattle.chorus_lines.specs.Body.{begins_a_body}
 use Rattle.chorus_scene.specs.Making.{next_name, is_among}
-use Rattle.chorus_scene.specs.Line.{Line, PortLine, GroupLine, word_of, may_stand, cuts, is_misshapen, line_of, name_in, with_three}
+use Rattle.chorus_scene.specs.Line.{Line, PortLine, GroupLine, cuts, is_misshapen, line_of, name_in, with_three}
+use Rattle.chorus_lines.specs.Words.{word_of, may_stand}
 use Rattle.chorus_scene.specs.Grammar.{State, made, next, then_after, judge_fields, is_head, unless, after, with_setup, is_far, is_no_actor, is_beyond, names_unknown, repeats, is_not_given, is_unscheduled}
 
 not_head : (s : Section) → (s ≡ sections.Head → ⊥) → is_head s ≡ false

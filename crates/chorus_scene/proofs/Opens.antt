@@ -1,6 +1,6 @@
 -- A reader that has read nothing.
 use Rattle.std.proofs.Common.{◌≡◌, true, [], length, refl, arith}
-use Rattle.chorus_scene.specs.declared.word.Section.TheVariants as sections
+use Rattle.chorus_lines.specs.declared.word.Section.TheVariants as sections
 use Rattle.chorus_scene.specs.declared.reader.Reader.{Reader}
 use Rattle.chorus_scene.specs.Reader.{IsSetup, Stands, is_in_scripts}
 

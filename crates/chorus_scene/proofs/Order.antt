@@ -3,8 +3,9 @@ use Rattle.std.proofs.Common.{◌≡◌, ℕ, ◌+◌, ◌≤◌, List, [], ◌�
 use Rattle.std.proofs.lemmas.List.{append-nil}
 use Rattle.chorus_ui.specs.declared.layout.Layout.{Layout}
 use Rattle.chorus_scene.specs.Scene.{Scene}
-use Rattle.chorus_scene.specs.Text.{lines}
-use Rattle.chorus_scene.specs.Grammar.{State, opening, judge, read_scene, reason_number, is_ended}
+use Rattle.chorus_lines.specs.Text.{lines}
+use Rattle.chorus_scene.specs.Grammar.{State, opening, judge, read_scene, is_ended}
+use Rattle.chorus_lines.specs.Reasons.{reason_number}
 use Rattle.chorus_scene.specs.Laws.{Pass, FirstFault, NoEnd, Accepted}
 use Rattle.chorus_scene.proofs.Lines.{read_is}
 

@@ -1,8 +1,8 @@
 -- The fields of a line, with its body printed in the one way, are cut off as before.
 use Rattle.std.proofs.Common.{◌≡◌, ℕ, zero, suc, ◌+◌, ◌<◌, true, List, [], ◌∷◌, ◌++◌, length, Option, Some, None, refl, sym, ap, ◌∙◌, arith}
 use Rattle.std.specs.Prelude.{unwrap_or}
-use Rattle.chorus_scene.specs.Text.{cut, fields, each_byte}
-use Rattle.chorus_scene.specs.Body.{body_in, body_text}
+use Rattle.chorus_lines.specs.Text.{cut, fields, each_byte}
+use Rattle.chorus_lines.specs.Body.{body_in, body_text}
 use Rattle.chorus_scene.proofs.Spelled.{lacks, cut_join, cut_lacks}
 
 -- a body in its one way

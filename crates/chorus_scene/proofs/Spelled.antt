@@ -7,7 +7,7 @@ use Rattle.chorus_ui.specs.Kind.{same_kind}
 use Rattle.chorus_ui.specs.declared.ui.Ui.{Ui}
 use Rattle.chorus_ui.specs.Text.{name_text, parse_name}
 use Rattle.chorus_ui.proofs.Texts.{parse_name_some}
-use Rattle.chorus_scene.specs.Text.{cut, fields, lines, in_front, each_byte}
+use Rattle.chorus_lines.specs.Text.{cut, fields, lines, in_front, each_byte}
 use Rattle.chorus_scene.specs.Line.{if_of_kind, name_in}
 use Rattle.chorus_scene.specs.Print.{behind, joined}
 

@@ -3,12 +3,12 @@ use Rattle.std.proofs.Common.{◌≡◌, ℕ, ◌<◌, Bool, true, false, cond, 
 use Rattle.std.specs.Prelude.{codes, ◌==◌, if◌then◌else◌}
 use Rattle.std.specs.Str.{bytes_eq}
 use Rattle.std.proofs.lemmas.Slice.Eq.{bytes_eq-Decides}
-use Rattle.chorus_scene.specs.declared.word.Target.TheVariants as targets
-use Rattle.chorus_scene.specs.declared.word.Verb.{Verb}
-use Rattle.chorus_scene.specs.declared.word.Verb.TheVariants as verbs
-use Rattle.chorus_scene.specs.declared.word.Word.{Word}
-use Rattle.chorus_scene.specs.declared.word.Word.TheVariants as words
-use Rattle.chorus_scene.specs.Line.{verb_of, word_of}
+use Rattle.chorus_lines.specs.declared.word.Target.TheVariants as targets
+use Rattle.chorus_lines.specs.declared.word.Verb.{Verb}
+use Rattle.chorus_lines.specs.declared.word.Verb.TheVariants as verbs
+use Rattle.chorus_lines.specs.declared.word.Word.{Word}
+use Rattle.chorus_lines.specs.declared.word.Word.TheVariants as words
+use Rattle.chorus_lines.specs.Words.{verb_of, word_of}
 
 abbrev pub verb_text : Verb → List ℕ
 verb_text (verbs.Send targets.Port) = codes "send"

@@ -13,19 +13,21 @@ use Rattle.chorus_scene.specs.declared.scenario.SetupLine.{SetupLine}
 use Rattle.chorus_scene.specs.declared.scenario.SetupLine.TheVariants as setups
 use Rattle.chorus_scene.specs.declared.scenario.Step as step
 use Rattle.chorus_scene.specs.declared.scenario.Step.TheVariants as steps
-use Rattle.chorus_scene.specs.declared.word.Word.{Word}
-use Rattle.chorus_scene.specs.declared.word.Section.{Section}
-use Rattle.chorus_scene.specs.declared.word.Section.TheVariants as sections
-use Rattle.chorus_scene.specs.declared.word.Reason.{Reason}
-use Rattle.chorus_scene.specs.declared.word.Reason.TheVariants as reasons
+use Rattle.chorus_lines.specs.declared.word.Word.{Word}
+use Rattle.chorus_lines.specs.declared.word.Section.{Section}
+use Rattle.chorus_lines.specs.declared.word.Section.TheVariants as sections
+use Rattle.chorus_lines.specs.declared.word.Reason.{Reason}
+use Rattle.chorus_lines.specs.declared.word.Reason.TheVariants as reasons
 use Rattle.chorus_ui.specs.declared.limits.TheConstants.{SITES_LIMIT, ACTORS_PER_SITE_LIMIT, PORTS_PER_SITE_LIMIT, GROUPS_PER_SITE_LIMIT, BODY_LIMIT, MEMBERS_LIMIT, PENDING_LIMIT}
 use Rattle.chorus_scene.specs.declared.limits.TheConstants.{TEXT_LIMIT, VERSION_ONE_SITES, VERSION_ONE_BODY, SCRIPTS_LIMIT, COMMANDS_LIMIT, STEPS_LIMIT}
-use Rattle.chorus_scene.specs.declared.fault.ReadFault.{ReadFault}
-use Rattle.chorus_scene.specs.declared.fault.ReadFault.TheVariants as faults
-use Rattle.chorus_scene.specs.Text.{cut, fields, lines, is_text, is_skipped}
+use Rattle.chorus_lines.specs.declared.fault.ReadFault.{ReadFault}
+use Rattle.chorus_lines.specs.declared.fault.ReadFault.TheVariants as faults
+use Rattle.chorus_lines.specs.Text.{cut, fields, lines, is_text, is_skipped}
+use Rattle.chorus_lines.specs.Reasons.{reason_number}
 use Rattle.chorus_scene.specs.Scene.{Scene, Script}
 use Rattle.chorus_scene.specs.Making.{next_port, next_group, made_after, is_among, members_of}
-use Rattle.chorus_scene.specs.Line.{Line, VersionLine, SitesLine, PortLine, GroupLine, MemberLine, ScriptLine, CommandLine, ScheduleLine, StepLine, EndLine, word_of, may_stand, cuts, is_misshapen, line_of}
+use Rattle.chorus_scene.specs.Line.{Line, VersionLine, SitesLine, PortLine, GroupLine, MemberLine, ScriptLine, CommandLine, ScheduleLine, StepLine, EndLine, cuts, is_misshapen, line_of}
+use Rattle.chorus_lines.specs.Words.{word_of, may_stand}
 
 -- what the lines so far have said, and the section that they came to
 pub record State : Type 0 where
@@ -248,19 +250,6 @@ next s bytes = unless (not (is_text bytes)) reasons.Text (if is_skipped bytes th
 abbrev pub is_ended : Section → Bool
 is_ended sections.Ended = true
 is_ended _ = false
-
--- the reason's number in a fault
-abbrev pub reason_number : Reason → ℕ
-reason_number reasons.Header = 1
-reason_number reasons.Word = 2
-reason_number reasons.Number = 3
-reason_number reasons.Unknown = 4
-reason_number reasons.Twice = 5
-reason_number reasons.Limit = 6
-reason_number reasons.Order = 7
-reason_number reasons.Text = 8
-reason_number reasons.Unfinished = 9
-reason_number reasons.Schedule = 10
 
 abbrev pub or_at : {A B : Type 0} → ℕ → Result A Reason → (A → Result B (ℕ × ℕ)) → Result B (ℕ × ℕ)
 or_at n (Ok a) goes_on = goes_on a

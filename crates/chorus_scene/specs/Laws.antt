@@ -1,10 +1,11 @@
 -- What holds of every text.
 use Rattle.std.specs.Prelude.{◌≡◌, ℕ, ◌+◌, ◌≤◌, ◌<◌, List, [], ◌∷◌, ◌++◌, length, true, false, Ok, Err}
-use Rattle.chorus_scene.specs.declared.word.Reason.{Reason}
+use Rattle.chorus_lines.specs.declared.word.Reason.{Reason}
 use Rattle.chorus_ui.specs.declared.layout.Layout.{Layout}
 use Rattle.chorus_scene.specs.declared.limits.TheConstants.{TEXT_LIMIT}
-use Rattle.chorus_scene.specs.Text.{lines}
-use Rattle.chorus_scene.specs.Grammar.{State, opening, next, read_scene, reason_number, is_ended}
+use Rattle.chorus_lines.specs.Text.{lines}
+use Rattle.chorus_scene.specs.Grammar.{State, opening, next, read_scene, is_ended}
+use Rattle.chorus_lines.specs.Reasons.{reason_number}
 use Rattle.chorus_scene.specs.Scene.{Scene}
 use Rattle.chorus_scene.specs.Print.{printed, IsReadAgain}
 

@@ -1,5 +1,3 @@
-pub mod Text
-pub mod Body
 pub mod Scene
 pub mod Making
 pub mod Line

@@ -6,26 +6,24 @@ use Rattle.chorus_ui.specs.Kind.{same_kind}
 use Rattle.chorus_ui.specs.declared.ui.Ui.{Ui}
 use Rattle.chorus_ui.specs.declared.layout.Layout.{Layout}
 use Rattle.chorus_entry.specs.declared.command.Command.{Command}
-use Rattle.chorus_scene.specs.declared.word.Word.{Word}
-use Rattle.chorus_scene.specs.declared.word.Word.TheVariants as words
-use Rattle.chorus_scene.specs.declared.word.Verb.{Verb}
-use Rattle.chorus_scene.specs.declared.word.Section.{Section}
-use Rattle.chorus_scene.specs.declared.word.Section.TheVariants as sections
-use Rattle.chorus_scene.specs.declared.word.Reason.{Reason}
+use Rattle.chorus_lines.specs.declared.word.Word.{Word}
+use Rattle.chorus_lines.specs.declared.word.Word.TheVariants as words
+use Rattle.chorus_lines.specs.declared.word.Verb.{Verb}
+use Rattle.chorus_lines.specs.declared.word.Section.{Section}
+use Rattle.chorus_lines.specs.declared.word.Section.TheVariants as sections
+use Rattle.chorus_lines.specs.declared.word.Reason.{Reason}
 use Rattle.chorus_scene.specs.declared.setup.Setup.{Setup}
 use Rattle.chorus_scene.specs.declared.reader.Reader.{Reader}
-use Rattle.chorus_scene.specs.declared.fault.Stop.{Stop}
-use Rattle.chorus_scene.specs.declared.fault.Stop.TheVariants as stops
-use Rattle.chorus_scene.specs.declared.fault.ReadFault.{ReadFault}
-use Rattle.chorus_scene.specs.declared.fault.ReadFault.TheVariants as faults
+use Rattle.chorus_lines.specs.declared.fault.Stop.{Stop}
+use Rattle.chorus_lines.specs.declared.fault.Stop.TheVariants as stops
 use Rattle.chorus_ui.specs.declared.limits.TheConstants.{SITES_LIMIT, PORTS_PER_SITE_LIMIT, GROUPS_PER_SITE_LIMIT}
 use Rattle.chorus_scene.specs.declared.limits.TheConstants.{SCRIPTS_LIMIT}
 use Rattle.chorus_scene.specs.declared.setup.TheConstants.{SITE_COUNTS, PORT_COUNTS, COUNTS, SITE_LISTS, LISTS}
-use Rattle.chorus_scene.specs.Text.{fields}
+use Rattle.chorus_lines.specs.Text.{fields}
 use Rattle.chorus_scene.specs.Scene.{Scene}
 use Rattle.chorus_scene.specs.Making.{stride, shares_place, made_after, names_said, is_among, members_of}
 use Rattle.chorus_scene.specs.Line.{Line, CommandLine, cuts}
-use Rattle.chorus_scene.specs.Grammar.{State, judge_fields, then_after, is_step, reason_number}
+use Rattle.chorus_scene.specs.Grammar.{State, judge_fields, then_after, is_step}
 
 -- where the table of a setup counts what one place has given: four places for each site, ports and then groups
 abbrev pub count_at : Layout → Kind → ℕ → ℕ → ℕ
@@ -116,7 +114,3 @@ pub record Stands (r : Reader) : Type 0 where
   pub early : is_early r.section ≡ true → r.schedule.items ≡ []
   pub some_script : is_in_scripts r.section ≡ true → 0 < length r.scripts.items
   pub few_scripts : length r.scripts.items ≤ SCRIPTS_LIMIT
-
-abbrev pub fault_at : ℕ → Stop → ReadFault
-fault_at line (stops.Memory error) = faults.Memory error
-fault_at line (stops.Fault reason) = faults.Scene (record { line = line; reason = reason_number reason })

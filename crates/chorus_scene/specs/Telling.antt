@@ -1,8 +1,8 @@
 -- What a function returned that reads the fields of more than one command.
 use Rattle.std.specs.Prelude.{◌≡◌, Result, Ok, Err}
 use Rattle.chorus_entry.specs.declared.command.Command.{Command}
-use Rattle.chorus_scene.specs.declared.word.Reason.{Reason}
-use Rattle.chorus_scene.specs.declared.fault.Stop.{Stop}
+use Rattle.chorus_lines.specs.declared.word.Reason.{Reason}
+use Rattle.chorus_lines.specs.declared.fault.Stop.{Stop}
 use Rattle.chorus_scene.specs.Line.{Line, CommandLine}
 use Rattle.chorus_scene.specs.Reader.{Fails}
 

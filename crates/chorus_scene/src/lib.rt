@@ -1,37 +1,29 @@
 //! Scenario texts: what happens to a nucleus, written down. The text is this project's own.
 //!
 //! A scenario of version 1 or 2 says which ports and groups there are, what each caller does, and in which order.
-//! [`read`] gives what a text says, or its first line that fails a test, with the reason; [`print`] writes a scenario so
-//! that it is read again. The layers above rest on the definition `read_scene` of `specs/Grammar.antt`, which is the tests
-//! from top to bottom, and on the three laws of `laws`: the lines are tested in order, a scenario that was read keeps the limits of
-//! `specs/Limits.antt`, and what is printed of it says the same.
+//! [`read`] gives what a text says, or its first line that fails a test, with the reason. The layers above rest on the definition
+//! `read_scene` of `specs/Grammar.antt`, which is the tests from top to bottom, and on the three laws of `laws`: the lines are
+//! tested in order, a scenario that was read keeps the limits of `specs/Limits.antt`, and what is printed of it says the same.
 //!
 //! Begin with `scenario`, what a text says. `reading` goes over the lines; `reader` takes one line, with its parts
-//! `setup_lines`, `commands` and `steps`; `setup` has the tables by which no earlier line is searched; `text`, `fields`,
-//! `body` and `word` take a line apart; `limits` has the numbers, and `fault` the reasons.
+//! `setup_lines`, `commands` and `steps`; `setup` has the tables by which no earlier line is searched; `limits` has the numbers.
+//! A line is taken apart by `chorus_lines`, and a scenario is printed by `chorus_print`.
 #![tactic(auto)]
 
-mod body;
-mod fault;
-mod fields;
 mod laws;
 mod limits;
-mod printing;
 mod reader;
 mod reading;
 mod scenario;
 mod setup;
-mod text;
-mod word;
 
 pub use chorus_entry::Command;
-pub use fault::{ReadFault, SceneFault, TOO_LONG};
+pub use chorus_lines::{ReadFault, SceneFault, TOO_LONG};
 pub use laws::{
     a_scenario_keeps_its_limits, lines_are_tested_in_order, what_is_printed_is_read_again,
 };
 pub use limits::{
     COMMANDS_LIMIT, SCRIPTS_LIMIT, STEPS_LIMIT, TEXT_LIMIT, VERSION_ONE_BODY, VERSION_ONE_SITES,
 };
-pub use printing::print;
 pub use reading::read;
 pub use scenario::{Scenario, Script, SetupLine, Step};

@@ -3,7 +3,8 @@
 ghost use Rattle.std.specs.Prelude.{◌≡◌, ◌<◌, true, length, OnOk, IfOk, IfErr, IfSome};
 ghost use Rattle.std.specs.Option.{option_copied};
 ghost use Rattle.chorus_scene.specs.Grammar.{judge_head, opening, then_after, next, after, is_far, is_no_actor};
-ghost use Rattle.chorus_scene.specs.Line.{may_stand, name_in, ScriptLine};
+ghost use Rattle.chorus_scene.specs.Line.{name_in, ScriptLine};
+ghost use Rattle.chorus_lines.specs.Words.{may_stand};
 ghost use Rattle.chorus_scene.specs.Print.{IsReadAgain};
 ghost use Rattle.chorus_scene.specs.declared.limits.TheConstants.{SCRIPTS_LIMIT};
 ghost use Rattle.chorus_scene.specs.Limits.{Keeps};
@@ -13,13 +14,13 @@ mod commands;
 mod setup_lines;
 mod steps;
 
-use crate::fault::Stop;
-use crate::fields::{none, one};
 use crate::limits::{SCRIPTS_LIMIT, VERSION_ONE_SITES};
 use crate::scenario::{Scenario, Script, Step};
 use crate::setup::Setup;
-use crate::text::{cut, is_skipped, is_text, number_in};
-use crate::word::{Reason, Section, Word, may_stand, word_of};
+use chorus_lines::fields::{none, one};
+use chorus_lines::{
+    Reason, Section, Stop, Word, cut, is_skipped, is_text, may_stand, number_in, word_of,
+};
 use chorus_ui::{ACTORS_PER_SITE_LIMIT, Kind, Layout, SITES_LIMIT, Ui};
 use std::alloc::{AllocError, Global};
 

@@ -1,16 +1,15 @@
 //! Reading a whole text.
 
 ghost use Rattle.std.specs.Prelude.{◌≡◌, ◌<◌, ◌∷◌, length};
-ghost use Rattle.chorus_scene.specs.Text.{lines};
+ghost use Rattle.chorus_lines.specs.Text.{lines};
 ghost use Rattle.chorus_scene.specs.Grammar.{read_scene, Reads};
 
-use crate::fault::{ReadFault, SceneFault, TOO_LONG, fault_at, reason_number};
 use crate::limits::TEXT_LIMIT;
 use crate::reader::Reader;
 use crate::scenario::Scenario;
-use crate::text::cut;
-use crate::word::{Reason, Section};
+use chorus_lines::{ReadFault, Reason, SceneFault, Section, TOO_LONG, fault_at, reason_number};
 use chorus_ui::Layout;
+use memchr::memchr;
 use std::alloc::Global;
 
 /// Reads a scenario text, of either version, for a layout.
@@ -51,9 +50,8 @@ fn first_line(text: &[u8]) -> (&[u8], &[u8])
     ensures first { lines text.now ≡ result.0.now ∷ lines result.1.now }
     ensures shorter { length result.1.now < length text.now }
 {
-    let (line, rest) = cut(b'\n', text);
-    match rest {
-        Some(rest) => (line, rest),
-        None => (line, &[]),
+    match memchr(b'\n', text) {
+        Some(end) => (&text[..end], &text[end + 1..]),
+        None => (text, &[]),
     }
 }

@@ -166,7 +166,7 @@ impl Scenario {
     }
 
     /// The name that each line of the setup begins with: of what it makes, or of the group that is joined.
-    pub(crate) fn names(&self) -> &[Ui]
+    pub fn names(&self) -> &[Ui]
         ensures names { result.now ≡ names_said self.now.layout [] self.now.setup }
         ensures again { IsReadAgain self.now }
     {

@@ -2,7 +2,8 @@
 
 ghost use Rattle.std.specs.Prelude.{◌≡◌, ◌==◌, ◌&&◌, ◌||◌, not, nat_le, true, is_none};
 ghost use Rattle.chorus_ui.specs.Layout.{has_site, has_place, has_actor, can_make_port, creation_place, group_place, place_at, site_of};
-ghost use Rattle.chorus_entry.specs.Ranges.{has_ranges};
+ghost use Rattle.chorus_entry.specs.Kinds.{names_port};
+ghost use Rattle.chorus_entry.specs.Ranges.{has_ranges_of_record, has_ranges_of_cargo, has_ranges};
 ghost use Rattle.chorus_entry.specs.Same.{is_number};
 ghost use Rattle.chorus_ports.specs.Table.{find};
 ghost use Rattle.chorus_waits.specs.Queues.{queue};
@@ -13,22 +14,8 @@ ghost use Rattle.chorus_steps.specs.Tables.{state, end_of};
 use crate::tables::Tables;
 use chorus_entry::{Answer, Cargo, MsgId, Packet, PortRecord};
 use chorus_ranges::has_ranges;
-use chorus_ui::{ACTORS_PER_SITE_LIMIT, Layout, PORTS_PER_SITE_LIMIT, Ui};
+use chorus_ui::{Layout, Ui};
 use chorus_waits::Key;
-
-/// Whether the layout can make the port.
-fn can_make_port(layout: Layout, port: Ui) -> bool
-    ensures { result ≡ can_make_port layout port }
-{
-    layout.has_site(port.site()) && port.number() <= PORTS_PER_SITE_LIMIT
-}
-
-/// Whether the layout has the actor.
-fn has_actor(layout: Layout, actor: Ui) -> bool
-    ensures { result ≡ has_actor layout actor }
-{
-    layout.has_site(actor.site()) && actor.number() <= ACTORS_PER_SITE_LIMIT
-}
 
 /// Whether the place that an answer names is one of the layout.
 fn is_known_answer(layout: Layout, answer: Answer) -> bool
@@ -42,11 +29,12 @@ fn is_known_answer(layout: Layout, answer: Answer) -> bool
 
 /// Whether what an answer teaches of the port may be learned: the layout can make the port, and the hop is at least 1.
 fn may_teach(layout: Layout, port: Ui, answer: Answer) -> bool
+    requires { names_port port ≡ true }
     ensures { result ≡ may_teach layout port answer }
 {
     match answer {
         Answer::Stale { hop, .. } | Answer::Elsewhere { hop, .. } => {
-            can_make_port(layout, port) && 1 <= hop
+            layout.can_make_port(port) && 1 <= hop
         }
         _ => true,
     }
@@ -72,8 +60,9 @@ impl Tables {
             && self.is_lawful_cargo(packet.clock, from, &packet.cargo)
     }
 
-    /// Whether the contents of a packet of the place `from`, with this clock, may be worked off.
+    /// Whether the contents of a packet of the place `from`, with this clock and within their ranges, may be worked off.
     fn is_lawful_cargo(&self, clock: u64, from: u16, cargo: &Cargo) -> bool
+        requires { has_ranges_of_cargo clock cargo.now ≡ true }
         ensures { result ≡ is_lawful_cargo clock from cargo.now (state self.now) }
     {
         match cargo {
@@ -130,14 +119,15 @@ impl Tables {
     /// Whether the port may be held here: this is its place on this site, it is not held here, and it was made here if
     /// anywhere; its actor is one of this site; it moved at least once; and no position of its messages is above the clock.
     fn may_receive(&self, clock: u64, port: &PortRecord) -> bool
+        requires { has_ranges_of_record clock port.now ≡ true }
         ensures { result ≡ may_receive clock port.now (state self.now) }
     {
-        if !can_make_port(self.layout, port.ui) {
+        if !self.layout.can_make_port(port.ui) {
             return false;
         }
         self.stands_here(port.ui)
             && self.is_absent(port.ui)
-            && has_actor(self.layout, port.actor)
+            && self.layout.home(port.actor).is_some()
             && self.is_own_site(port.actor.site())
             && 1 <= port.hop
             && self.is_made_if_own(port.ui)

@@ -3,19 +3,20 @@
 use Rattle.std.specs.Prelude.{ℕ, ◌≡◌, ◌≢◌, ◌<◌, ◌⊎◌, true, false, List, length, Option, Some, None, slice_get}
 use Rattle.chorus_ui.specs.declared.ui.Ui.{Ui}
 use Rattle.chorus_ui.specs.declared.layout.Layout.{Layout}
-use Rattle.chorus_ui.specs.Layout.{site_of}
+use Rattle.chorus_ui.specs.Layout.{has_site, site_of}
 use Rattle.chorus_entry.specs.declared.entry.Entry.{Entry}
 use Rattle.chorus_entry.specs.declared.id.MsgId.{MsgId}
 use Rattle.chorus_entry.specs.declared.answer.Answer.{Answer}
 use Rattle.chorus_entry.specs.declared.act.Act.{Act}
 use Rattle.chorus_entry.specs.declared.act.Act.TheVariants.{Accept, Full, Already, ClientsFull, Stale, Elsewhere, Told, Heard}
+use Rattle.chorus_entry.specs.Act.{is_decision, message_of}
 use Rattle.chorus_entry.specs.Answer.{is_final}
 use Rattle.chorus_world.specs.declared.message.Progress.TheVariants.{Tried}
 use Rattle.chorus_world.specs.Views.{at, on, about}
 use Rattle.chorus_world.specs.Ports.{PortState, fate, is_held_at, waiting}
 use Rattle.chorus_world.specs.Posts.{site_asked}
 use Rattle.chorus_world.specs.Messages.{progress, verdict}
-use Rattle.chorus_world.specs.Places.{located}
+use Rattle.chorus_world.specs.Places.{is_first, located}
 use Rattle.chorus_world.specs.LocationLaws.{path_of}
 use Rattle.chorus_world.specs.GroupLaws.{copies_of}
 
@@ -43,32 +44,50 @@ FullWithoutRoom past e =
     (x : MsgId) (q : Ui) (n : ℕ) → e.act ≡ Full x q n →
     (f : PortState) × (fate (on q past) ≡ Some f) × (waiting f ≡ f.capacity) × (n ≡ f.capacity)
 
--- a Stale stands only where the port is not held, and names where its place locates the port: another place, which is on the
--- port's path at a later hop than the message was tried with
+-- The place of e was tried too late for the port q: x stands tried there with a hop, and the place does not hold the port, and
+-- locates it at another place, `to`, by a later hop.
+pub record IsPassed (l : Layout) (past : List Entry) (e : Entry) (x : MsgId) (q : Ui) (tried to hop : ℕ) : Type 0 where
+  pub from : ℕ
+  pub is : progress (about x past) ≡ Tried from q e.place tried
+  pub away : is_held_at e.place (fate (on q past)) ≡ false
+  pub known : located l q (at e.place past) ≡ record { to = to; hop = hop }
+  pub elsewhere : to ≢ e.place
+  pub later : tried < hop
+
+-- x is the next to be tried for the port q from the place of e, which locates the port off the site
+pub record IsOffSite (l : Layout) (past : List Entry) (e : Entry) (x : MsgId) (q : Ui) (to hop site : ℕ) : Type 0 where
+  pub first : is_first x q (at e.place past) ≡ true
+  pub within : has_site l q.site ≡ true
+  pub known : located l q (at e.place past) ≡ record { to = to; hop = hop }
+  pub off : site_of l to ≢ site
+
+-- a Stale stands only where a place was tried too late, for a message that asks for no site, and names where the place locates
+-- the port, which is on the port's path at that hop
 abbrev pub StaleNamesLater : Layout → List Entry → Entry → Type 0
 StaleNamesLater l past e =
     (x : MsgId) (q : Ui) (tried to hop : ℕ) → e.act ≡ Stale x q tried to hop →
-    (is_held_at e.place (fate (on q past)) ≡ false) × (tried < hop) × (to ≢ e.place)
-    × (located l q (at e.place past) ≡ record { to = to; hop = hop })
+    IsPassed l past e x q tried to hop × (site_asked x past ≡ None)
     × (slice_get (path_of l q (fate (on q past))) hop ≡ Some to)
 
--- x was tried for the port q at this place with an earlier hop, the port is not held here, and the place `to` is another one
-pub record IsPassed (past : List Entry) (e : Entry) (x : MsgId) (q : Ui) (to hop : ℕ) : Type 0 where
-  pub from : ℕ
-  pub tried : ℕ
-  pub is : progress (about x past) ≡ Tried from q e.place tried
-  pub later : tried < hop
-  pub away : is_held_at e.place (fate (on q past)) ≡ false
-  pub elsewhere : to ≢ e.place
-
 -- an Elsewhere stands only for a message that asks for a site, and names where its place locates the port, which is on the
--- port's path at that hop: a place that is not on the site, or another one by a later hop than the message was tried with
+-- port's path at that hop: off the site, where the message is the next to be tried, or as a Stale does
 abbrev pub ElsewhereNamesPath : Layout → List Entry → Entry → Type 0
 ElsewhereNamesPath l past e =
     (x : MsgId) (q : Ui) (to hop : ℕ) → e.act ≡ Elsewhere x q to hop →
-    (site : ℕ) × (site_asked x past ≡ Some site) × (located l q (at e.place past) ≡ record { to = to; hop = hop })
-    × (slice_get (path_of l q (fate (on q past))) hop ≡ Some to)
-    × ((site_of l to ≢ site) ⊎ IsPassed past e x q to hop)
+    (site : ℕ) × (site_asked x past ≡ Some site) × (slice_get (path_of l q (fate (on q past))) hop ≡ Some to)
+    × (IsOffSite l past e x q to hop site ⊎ ((tried : ℕ) × IsPassed l past e x q tried to hop))
+
+-- the decision that names where a port is
+abbrev pub naming_decision : Option ℕ → MsgId → Ui → ℕ → ℕ → ℕ → Act
+naming_decision None x q tried to hop = Stale x q tried to hop
+naming_decision (Some site) x q tried to hop = Elsewhere x q to hop
+
+-- and a place that was tried too late answers so: its decision on the message is Stale, or Elsewhere where the message asks for
+-- a site, and names where the place locates the port
+abbrev pub AnswersNewer : Layout → List Entry → Entry → Type 0
+AnswersNewer l past e =
+    (x : MsgId) (q : Ui) (tried to hop : ℕ) → is_decision e.act ≡ true → message_of e.act ≡ Some x →
+    IsPassed l past e x q tried to hop → e.act ≡ naming_decision (site_asked x past) x q tried to hop
 
 -- a Told other than Stale says the verdict of its message
 abbrev pub TellsTheVerdict : List Entry → Entry → Type 0

@@ -3,7 +3,7 @@
 ghost use Rattle.chorus_world.specs.Always.{LayoutAlways, LayoutEntries, LegalAlways, LegalEntries, RunAlways, RunsAreLegal};
 ghost use Rattle.chorus_world.specs.Answering.{OneActAnswers, OneActAtMost};
 ghost use Rattle.chorus_world.specs.AcceptedLaws.{AcceptedGrows, DiscardedByFate, DiscardsTheRest, EndsWithDelete, HasOneVerdict, KeepsEachMessage, KeepsToCapacity, ReceivedByFate, ReceivesInOrder};
-ghost use Rattle.chorus_world.specs.DecisionLaws.{AcceptsWithRoom, ElsewhereNamesPath, FullWithoutRoom, HearsTheEnd, MeetsWhereHeld, StaleNamesLater, TellsTheVerdict};
+ghost use Rattle.chorus_world.specs.DecisionLaws.{AcceptsWithRoom, AnswersNewer, ElsewhereNamesPath, FullWithoutRoom, HearsTheEnd, MeetsWhereHeld, StaleNamesLater, TellsTheVerdict};
 ghost use Rattle.chorus_world.specs.SentLaws.{AcceptsWhatWasSent};
 ghost use Rattle.chorus_world.specs.RequestLaws.{AcceptsRequestsOnce, RequestsRise};
 ghost use Rattle.chorus_world.specs.SenderLaws.{KeepsSenderOrder};
@@ -61,7 +61,8 @@ pub fn entries_tell_each_fate()
     ensures discarded { LayoutAlways DiscardedByFate }
 {}
 
-/// What a port accepted was posted: to that port, or to a group whose choice made a copy for it.
+/// What a port accepted was posted to it, or is the copy that a Choose made for it, of a post that was posted before to the
+/// group which the Choose names.
 pub fn port_accepts_what_was_sent()
     ensures { LegalAlways AcceptsWhatWasSent }
 {}
@@ -74,12 +75,15 @@ pub fn only_the_holder_accepts()
     ensures full { LegalEntries (λ l. FullWithoutRoom) }
 {}
 
-/// A Stale stands only where the port is not held, and names another place that the port came to by a later hop than the
-/// message was tried with. An Elsewhere names a place of the port's path: one off the site that was asked for, or another one
-/// by a later hop.
+/// A place was tried too late where a message stands tried at it with a hop, and it does not hold the port, and locates it at
+/// another place by a later hop. A Stale stands only there, for a message that asks for no site, and names that other place. An
+/// Elsewhere stands only for a message that asks for a site, and names where its place locates the port: there as well, or from
+/// where the message is the next to be tried, off the site. What they name is on the port's path. And a place that was tried too
+/// late decides nothing else: Stale, or Elsewhere for a message that asks for a site.
 pub fn stale_names_a_later_place()
     ensures stale { LayoutEntries StaleNamesLater }
     ensures elsewhere { LayoutEntries ElsewhereNamesPath }
+    ensures newer { LayoutEntries AnswersNewer }
 {}
 
 /// What a place is told of a message, unless it is Stale, is the message's verdict; what it hears is the verdict, or how many

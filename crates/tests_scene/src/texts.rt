@@ -1,6 +1,7 @@
 // Texts that are read and printed, and the first rows of those that are refused.
 
-use chorus_scene::{ReadFault, print, read};
+use chorus_print::print;
+use chorus_scene::{ReadFault, read};
 use chorus_ui::Layout;
 use std::alloc::{AllocError, Global};
 use std::test::*;

@@ -11,10 +11,10 @@ use Rattle.chorus_merge.proofs.Places.{All-append_parts}
 use Rattle.chorus_machine.specs.PlaceState.{Outgoing}
 use Rattle.chorus_law.specs.Packets.{is_link, first_on}
 use Rattle.chorus_law.specs.Network.{NetState, Event, Deliver, numbers, place_numbers, after, schedule, from_one, from_each, round, one_if, serves, served}
-use Rattle.chorus_law.specs.Tasks.{IsBetweenPlaces, DrainsLeaveNothing}
+use Rattle.chorus_law.specs.Tasks.{DrainsLeaveNothing}
 use Rattle.chorus_law.proofs.Merge.Parts.{All-reverse}
 use Rattle.chorus_law.proofs.Draining.Drains.{idle}
-use Rattle.chorus_law.proofs.Holdings.Passing.{packets-lie-between}
+use Rattle.chorus_law.proofs.Holdings.Passing.{IsBetweenPlaces, packets-lie-between}
 
 each-idle : (es : List Event) (n : NetState) → served es n ≡ 0 → All (λ (e : Event). serves e n ≡ 0) es
 each-idle [] n h = All-nil (λ (e : Event). serves e n ≡ 0)

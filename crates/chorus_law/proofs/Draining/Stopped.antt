@@ -1,10 +1,11 @@
 -- Where a call stops before its tasks are carried out, the merge performs the first of their commands.
 use Rattle.std.proofs.Common.{ℕ, ◌≡◌, Bool, true, false, ◌==◌, cond, List, [], ◌∷◌, ◌++◌, refl, sym, ◌∙◌, ap, inl, inr}
 use Rattle.std.proofs.lemmas.List.Elements.{All-head, All-tail}
+use Rattle.chorus_ui.specs.declared.layout.Layout.{Layout}
 use Rattle.chorus_entry.specs.declared.command.Command.{Command}
 use Rattle.chorus_law.specs.Network.{Event, Enter, Act, Deliver}
 use Rattle.chorus_law.specs.Schedules.{command_in, commands_of}
-use Rattle.chorus_law.specs.Tasks.{Do, Drain, commands_in, AreDeliveries, FrontsGiveFronts, FrontsPerformed}
+use Rattle.chorus_law.specs.Tasks.{Task, Do, Drain, commands_in, AreDeliveries, CarryFront, FrontsPerformed}
 use Rattle.chorus_law.proofs.Draining.Drains.{carried-commands}
 use Rattle.chorus_law.proofs.Promises.Promised.{performs-at}
 
@@ -26,7 +27,8 @@ given-more seat (Act k c) cs ds h = go (k == seat)
     go true = (c ∷ h.0, ap (λ zs. c ∷ zs) h.1)
     go false = h
 
-pub fronts-give-fronts : FrontsGiveFronts
+-- the commands that were given are the first of those of the tasks, both with the latest first
+pub fronts-give-fronts : (l : Layout) (ts : List Task) (es : List Event) (seat : ℕ) → CarryFront l ts es → (later : List Command) × (commands_in seat ts ≡ later ++ commands_of seat es)
 fronts-give-fronts l [] es seat h = ([], sym (ap (commands_of seat) h))
 fronts-give-fronts l (Do e ∷ ts) es seat (inl all) = ([], sym (carried-commands l seat (Do e ∷ ts) es all))
 fronts-give-fronts l (Do e ∷ ts) es seat (inr less) = given-more seat e (commands_in seat ts) (commands_of seat es) (fronts-give-fronts l ts es seat less)

@@ -30,12 +30,18 @@ use Rattle.chorus_law.specs.UnderWay.{carries, moves, is_of, is_with, other_plac
 use Rattle.chorus_law.specs.Stands.{Stands, actor_of}
 use Rattle.chorus_law.proofs.Places.Layouts.{schedule-keeps}
 use Rattle.chorus_law.specs.History.{history}
-use Rattle.chorus_law.specs.Tasks.{IsBetweenPlaces, PacketsLieBetween}
+use Rattle.chorus_law.specs.Schedules.{OfSchedules}
 use Rattle.chorus_world.proofs.Ports.Sites.{first-inside}
 use Rattle.chorus_world.proofs.Ports.Paths.{PathIn, Moves, path-in}
 use Rattle.chorus_world.proofs.Messages.Ways.{Has, Passes, passes, all-places, posted-place}
 use Rattle.chorus_law.proofs.Events.InOrder.{in-order}
 use Rattle.chorus_law.proofs.Holdings.Packets.{IsIn, in-view, from-in, moving-to}
+
+-- the packet goes between two different places of the layout
+pub record IsBetweenPlaces (l : Layout) (o : Outgoing) : Type 0 where
+  pub has_from : has_place l o.packet.from ≡ true
+  pub has_to : has_place l o.to ≡ true
+  pub apart : (o.packet.from == o.to) ≡ false
 
 -- Packets.
 
@@ -129,7 +135,7 @@ packets-between n past shape s = from-in (IsBetweenPlaces n.layout) n.packets (�
     go o (cargos.Ask m d) e i = about-message o m.id (ap (carries m.id) e ∙ same_id-self m.id) i
     go o (cargos.Report x a) e i = about-message o x (ap (carries x) e ∙ same_id-self x) i
 
-pub packets-lie-between : PacketsLieBetween
+pub packets-lie-between : OfSchedules (λ l es n. All (IsBetweenPlaces l) n.packets)
 packets-lie-between l es shape may =
     let layout = (schedule-keeps l es).layout in
     subst (λ (m : Layout). All (IsBetweenPlaces m) (schedule l es).packets) layout

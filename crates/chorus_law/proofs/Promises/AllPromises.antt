@@ -1,11 +1,14 @@
--- All that holds of each schedule, in one record.
-use Rattle.std.proofs.Common.{◌≡◌, true, refl}
+-- All that holds of each schedule, in one record; and that its holdings hold each message.
+use Rattle.std.proofs.Common.{[], refl}
+use Rattle.chorus_world.proofs.Moments.{always-in-order, always-once, always-one-member, always-by-choice, entries-on-site}
 use Rattle.chorus_law.specs.Network.{schedule}
 use Rattle.chorus_law.specs.Schedules.{OfSchedules}
-use Rattle.chorus_law.specs.Left.{merged_past}
+use Rattle.chorus_law.specs.Left.{placed, packets_left, merged_past}
+use Rattle.chorus_law.specs.Holdings.{holdings_in, holdings_left}
+use Rattle.chorus_law.specs.EachMessage.{NetworksHoldEach, ClosedHoldEach}
 use Rattle.chorus_law.specs.History.{history}
 use Rattle.chorus_law.specs.Promises.{DeliversLawfully, SchedulesKeepPromises}
-use Rattle.chorus_law.proofs.Promises.Accepted.{in-sender-order, requests-once, one-member, on-site, in-choice-order}
+use Rattle.chorus_law.proofs.Holdings.EachMessage.{holdings-hold-each}
 use Rattle.chorus_law.proofs.Promises.Promised.{stands-at, shape-at, legal-merge, runs-at, journals-at, performs-at, tables-at, closes-at, quiet-at, receives-at, fates-at}
 use Rattle.chorus_law.proofs.Promises.Posts.{history-fits}
 use Rattle.chorus_law.proofs.Promises.Lawful.{lawful-here}
@@ -29,10 +32,20 @@ keeps-promises l es shape may =
       quiet = quiet-at l es shape may;
       receives = receives-at l es shape may;
       fates = fates-at l es shape may;
-      sender_order = in-sender-order l past legal;
-      once = requests-once l past legal;
-      one_member = one-member l past legal;
-      on_site = on-site l past legal;
-      choice_order = in-choice-order l past legal;
+      sender_order = always-in-order l past legal;
+      once = always-once l past legal;
+      one_member = always-one-member l past legal;
+      on_site = entries-on-site l past legal;
+      choice_order = always-by-choice l past legal;
       few_packets = carries-few l es shape may;
     }
+
+pub networks-hold-each : NetworksHoldEach
+networks-hold-each l es shape may =
+    let n = schedule l es in
+    holdings-hold-each (merged_past n) (holdings_in n) (tables-at l es shape may) (fates-at l es shape may [] (merged_past n) refl)
+
+pub closed-hold-each : ClosedHoldEach
+closed-hold-each l es shape may =
+    let n = schedule l es in
+    holdings-hold-each (merged_past n) (holdings_left l (placed n) (packets_left n)) (closes-at l es shape may) (fates-at l es shape may [] (merged_past n) refl)

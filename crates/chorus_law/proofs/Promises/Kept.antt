@@ -1,10 +1,9 @@
 -- What a port keeps is within its range: the ids that it accepted, and the clients that it remembers.
-use Rattle.std.proofs.Common.{ℕ, zero, suc, ◌≡◌, ◌≤◌, ◌<◌, ◌+◌, ◌==◌, nat_le, Bool, true, false, ◌&&◌, not, cond, if◌then◌else◌, List, [], ◌∷◌, ◌++◌, map, length, Option, Some, None, is_some, is_none, refl, sym, ◌∙◌, ap, subst, inl, inr, arith}
-use Rattle.std.specs.List.{All, filter, list_all}
-use Rattle.std.specs.Option.{option_or}
-use Rattle.std.proofs.lemmas.Bool.{and_parts, and_from, le-leb, leb-true, leb-false, eqb-true, false≢true, true≢false, not-true}
+use Rattle.std.proofs.Common.{ℕ, ◌≡◌, ◌≤◌, ◌==◌, nat_le, Bool, true, false, ◌&&◌, not, cond, if◌then◌else◌, List, [], ◌∷◌, ◌++◌, length, Option, Some, None, is_some, refl, sym, ◌∙◌, ap, subst, arith}
+use Rattle.std.specs.List.{All, list_all}
+use Rattle.std.proofs.lemmas.Bool.{and_parts, and_from, le-leb, leb-true, leb-false, true≢false, not-true}
 use Rattle.std.proofs.lemmas.List.{length-map, length_push}
-use Rattle.std.proofs.lemmas.List.Elements.{All-nil, All-cons, All-head, All-tail, All-push, All-weaker}
+use Rattle.std.proofs.lemmas.List.Elements.{All-nil, All-tail, All-push, All-weaker}
 use Rattle.chorus_ui.specs.declared.ui.Ui.{Ui}
 use Rattle.chorus_ui.specs.declared.layout.Layout.{Layout}
 use Rattle.chorus_ui.specs.Layout.{IsLayout}
@@ -18,10 +17,10 @@ use Rattle.chorus_ui.specs.declared.limits.TheConstants.{CLIENTS_LIMIT}
 use Rattle.chorus_entry.specs.ClientTable.{number_of, are_distinct, renumbered, with_number}
 use Rattle.chorus_entry.specs.Act.{held_port_of}
 use Rattle.chorus_entry.specs.Command.{demands_a_site}
-use Rattle.chorus_entry.specs.Ranges.{has_range_of_id, has_range_of_tag, has_range_of_client, has_ranges_of_clients}
-use Rattle.chorus_world.specs.Views.{views, at, on, is_on}
-use Rattle.chorus_world.specs.Posts.{Posted, post_of, tag_from, tag_of}
-use Rattle.chorus_world.specs.Ports.{PortState, fate, fate_after, changed, has_room}
+use Rattle.chorus_entry.specs.Ranges.{has_range_of_id, has_range_of_tag, has_range_of_client}
+use Rattle.chorus_world.specs.Views.{views, on, is_on}
+use Rattle.chorus_world.specs.Posts.{tag_from, tag_of}
+use Rattle.chorus_world.specs.Ports.{PortState, fate, fate_after, has_room}
 use Rattle.chorus_world.specs.Clients.{finds_clients_full, is_already, clients_kept, clients_after}
 use Rattle.chorus_world.specs.AcceptedLaws.{accepted_from, accepted_by}
 use Rattle.chorus_world.specs.Order.{IsCausal}

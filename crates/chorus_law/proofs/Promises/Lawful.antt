@@ -1,8 +1,8 @@
 -- A packet that is worked off next is lawful at its place.
 use Rattle.chorus_world.specs.Clients.{clients_kept}
-use Rattle.std.proofs.Common.{ℕ, zero, suc, ◌≡◌, ◌≢◌, ◌≤◌, ◌<◌, ◌+◌, ◌-◌, ◌==◌, nat_le, Bool, true, false, ◌&&◌, ◌||◌, not, cond, List, [], ◌∷◌, ◌++◌, map, drop, length, Option, Some, None, is_none, refl, sym, ◌∙◌, ap, subst, inl, inr, arith, length-append, length-drop}
-use Rattle.std.specs.List.{All, filter, list_all}
-use Rattle.std.proofs.lemmas.Bool.{cases_Bool, and_parts, and_from, or_left, or_right, or_cases, le-leb, leb-true, eqb-true, eq-eqb, false≢true, true≢false, not_from_false}
+use Rattle.std.proofs.Common.{ℕ, ◌≡◌, ◌≤◌, ◌+◌, ◌-◌, ◌==◌, nat_le, Bool, true, false, ◌&&◌, ◌||◌, not, cond, List, [], ◌∷◌, map, drop, length, Option, Some, None, is_none, refl, sym, ◌∙◌, ap, subst, inl, inr, arith, length-append, length-drop}
+use Rattle.std.specs.List.{All, list_all}
+use Rattle.std.proofs.lemmas.Bool.{and_parts, and_from, or_left, or_right, or_cases, le-leb, eqb-true, eq-eqb, false≢true}
 use Rattle.std.proofs.lemmas.List.{length-map}
 use Rattle.std.proofs.lemmas.List.Elements.{All-head, All-tail, All-drop}
 use Rattle.chorus_ui.specs.declared.ui.Ui.{Ui}
@@ -10,7 +10,7 @@ use Rattle.chorus_ui.specs.declared.layout.Layout.{Layout}
 use Rattle.chorus_ui.specs.declared.limits.TheConstants.{ACTORS_PER_SITE_LIMIT}
 use Rattle.chorus_ui.specs.Layout.{IsLayout, has_site, has_place, has_actor, can_make_port, creation_place, place_at, site_of, group_place}
 use Rattle.chorus_ui.specs.Name.{same_ui}
-use Rattle.chorus_ui.proofs.Names.{same_ui-self, from_same_ui}
+use Rattle.chorus_ui.proofs.Names.{same_ui-self}
 use Rattle.chorus_entry.specs.declared.entry.Entry.{Entry}
 use Rattle.chorus_entry.specs.declared.id.MsgId.{MsgId}
 use Rattle.chorus_entry.specs.declared.message.Message.{Message}
@@ -35,22 +35,21 @@ use Rattle.chorus_entry.specs.ClientTable.{are_distinct}
 use Rattle.chorus_world.specs.declared.port.Spot.{Spot}
 use Rattle.chorus_world.specs.declared.port.Spot.TheVariants as spots
 use Rattle.chorus_world.specs.declared.place.Sent.{Sent}
-use Rattle.chorus_world.specs.declared.message.Progress.{Progress}
-use Rattle.chorus_world.specs.declared.message.Progress.TheVariants.{Idle, Asked, Tried, Decided, Settled, Reported}
+use Rattle.chorus_world.specs.declared.message.Progress.TheVariants.{Tried, Decided, Settled, Reported}
 use Rattle.chorus_world.specs.Views.{views, at, on, about, is_on, is_about}
 use Rattle.chorus_entry.specs.Order.{is_at}
 use Rattle.chorus_entry.specs.Same.{is_number, are_same}
 use Rattle.chorus_world.specs.Messages.{progress, progress_after}
 use Rattle.chorus_world.specs.Ports.{PortState, fate, fate_after, last_of}
-use Rattle.chorus_world.specs.Posts.{Posted, post_of, source, site_from, site_asked, as_posted}
-use Rattle.chorus_world.specs.Places.{last_clock, sent, find_sent, makes, is_made_here, hears, is_heard}
+use Rattle.chorus_world.specs.Posts.{Posted, post_of, site_from, as_posted}
+use Rattle.chorus_world.specs.Places.{last_clock, makes, is_made_here, hears, is_heard}
 use Rattle.chorus_world.specs.Groups.{is_group_place}
-use Rattle.chorus_world.specs.AcceptedLaws.{accepted_from, taken_from, accepted_by, taken_by}
+use Rattle.chorus_world.specs.AcceptedLaws.{accepted_from, taken_from}
 use Rattle.chorus_world.specs.Steps.{act_may, is_legal, is_asking_place, is_asked_from}
-use Rattle.chorus_world.proofs.Steps.LegalLemmas.{legal_parts, keeps, skips, on_is}
+use Rattle.chorus_world.proofs.Steps.LegalLemmas.{legal_parts, keeps, on_is}
 use Rattle.chorus_world.proofs.Ports.LineLemmas.{none_some}
 use Rattle.chorus_world.proofs.Messages.SendingLemmas.{some_is, sent_as}
-use Rattle.chorus_world.proofs.Messages.StageLemmas.{Stage, HasOrigin}
+use Rattle.chorus_world.proofs.Messages.StageLemmas.{Stage}
 use Rattle.chorus_world.proofs.Messages.Posted.{IsPosted, busy_posted, is_idle}
 use Rattle.chorus_world.proofs.Ports.PortMoves.{make_new}
 use Rattle.chorus_world.proofs.Ports.PortLaws.{keeps_to_capacity, receives_in_order}
@@ -62,28 +61,27 @@ use Rattle.chorus_world.proofs.Messages.StageFacts.{StageFacts, keeps-stages}
 use Rattle.chorus_world.proofs.Ports.Sites.{place-site}
 use Rattle.chorus_world.proofs.Ports.Paths.{PathIn, Moves, path-in, IsOnItsWay}
 use Rattle.chorus_world.proofs.Ports.MadePorts.{IsWellMade, MadeWell, ActorFits, made-well}
-use Rattle.chorus_world.proofs.Messages.Ranged.{NamesPlaces, Teaches, AnswerFits, ProgressFits, AllFit, all-fit, place-number}
+use Rattle.chorus_world.proofs.Messages.Ranged.{NamesPlaces, Teaches, ProgressFits, AllFit, all-fit, place-number}
 use Rattle.chorus_world.proofs.Messages.Hearings.{stays-reported}
 use Rattle.chorus_ports.specs.Table.{find}
-use Rattle.chorus_machine.specs.PlaceState.{PlaceState, Outgoing}
-use Rattle.chorus_machine.specs.Lawful.{is_first_of, is_under_way, is_known_answer, may_teach, may_receive, is_asked_here, is_lawful_cargo, is_lawful}
+use Rattle.chorus_machine.specs.PlaceState.{Outgoing}
+use Rattle.chorus_machine.specs.Lawful.{is_under_way, is_known_answer, may_teach, may_receive, is_asked_here, is_lawful_cargo, is_lawful}
 use Rattle.chorus_law.specs.Packets.{first_on}
 use Rattle.chorus_law.specs.Network.{NetState, place}
-use Rattle.chorus_law.specs.Records.{message, record_for, record_held, record_here, record_at, is_unheard, as_wait}
-use Rattle.chorus_law.specs.UnderWay.{carries, moves, is_with, other_place, far_place, route_in, route, transfer_in, transfer_of, transfer}
-use Rattle.chorus_law.specs.Stands.{Stands, actor_of}
+use Rattle.chorus_law.specs.Records.{message, record_for, record_held, record_here}
+use Rattle.chorus_law.specs.UnderWay.{carries, moves, is_with, other_place, far_place, route_in, transfer_in, transfer_of, transfer}
+use Rattle.chorus_law.specs.Stands.{Stands}
 use Rattle.chorus_law.proofs.Standing.Grows.{message-id}
 use Rattle.chorus_law.proofs.Standing.Turning.{layout-is, number-is}
 use Rattle.chorus_law.proofs.Links.UnderWays.{Seen, SeesTry, sees-try}
 use Rattle.chorus_law.proofs.Groups.Asking.{SeesAsk, sees-ask}
 use Rattle.chorus_law.proofs.Packets.Reporting.{SeesReport, sees-report, asking}
 use Rattle.chorus_world.proofs.Ports.PortNames.{line-named}
-use Rattle.chorus_law.specs.Tasks.{IsBetweenPlaces}
 use Rattle.chorus_law.proofs.Holdings.Packets.{IsIn, IsOn, first-is-on, in-view, moving-to}
-use Rattle.chorus_law.proofs.Holdings.Passing.{packets-between}
-use Rattle.chorus_law.proofs.Draining.Fronts.{legal-past, seen-here, IsTold, is-told, told-queue}
-use Rattle.chorus_law.proofs.Promises.Posts.{PostsFit, fits_in_post, post-fits}
-use Rattle.chorus_law.proofs.Promises.Kept.{IsKnown, accepted-known, TableFits, table-fits}
+use Rattle.chorus_law.proofs.Holdings.Passing.{IsBetweenPlaces, packets-between}
+use Rattle.chorus_law.proofs.Draining.Fronts.{legal-past, seen-here, is-told, told-queue}
+use Rattle.chorus_law.proofs.Promises.Posts.{PostsFit, post-fits}
+use Rattle.chorus_law.proofs.Promises.Kept.{IsKnown, accepted-known, table-fits}
 
 -- What the parts of a packet are, by what was posted.
 

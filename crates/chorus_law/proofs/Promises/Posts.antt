@@ -1,8 +1,7 @@
 -- Over a schedule, what is posted is within its range: the number of its request or reply, its body, and the site that it demands.
-use Rattle.std.proofs.Common.{ℕ, zero, suc, ◌≡◌, ◌≤◌, ◌+◌, ◌==◌, nat_le, Bool, true, false, ◌&&◌, not, cond, List, [], ◌∷◌, ◌++◌, length, Option, Some, None, slice_get, refl, sym, ◌∙◌, ap, subst, inl, inr, arith}
-use Rattle.std.specs.List.{All, filter}
-use Rattle.std.specs.Option.{option_or}
-use Rattle.std.proofs.lemmas.Bool.{and_parts, and_from, le-leb, leb-true, eqb-true, false≢true, true≢false}
+use Rattle.std.proofs.Common.{ℕ, ◌≡◌, ◌≤◌, ◌+◌, ◌==◌, nat_le, Bool, true, false, ◌&&◌, not, cond, List, [], ◌∷◌, length, Option, Some, None, slice_get, refl, sym, ◌∙◌, ap, subst, inl, inr, arith}
+use Rattle.std.specs.List.{All}
+use Rattle.std.proofs.lemmas.Bool.{and_parts, and_from, le-leb, leb-true, eqb-true, true≢false}
 use Rattle.std.proofs.lemmas.List.Elements.{All-nil, All-cons, All-head, All-tail, All-append, All-filter, All-weaker}
 use Rattle.chorus_ui.specs.declared.ui.Ui.{Ui}
 use Rattle.chorus_ui.specs.declared.layout.Layout.{Layout}
@@ -25,12 +24,11 @@ use Rattle.chorus_entry.specs.declared.record.PortRecord.{PortRecord}
 use Rattle.chorus_entry.specs.Act.{is_command_entry}
 use Rattle.chorus_entry.specs.Command.{meets_conditions, demands_a_site, has_body_in_limit}
 use Rattle.chorus_entry.specs.Kinds.{has_kinds_in_dest}
-use Rattle.chorus_entry.specs.MsgId.{same_id}
 use Rattle.chorus_entry.specs.Ranges.{has_range_of_tag}
-use Rattle.chorus_world.specs.Views.{by, at, is_by, is_group}
+use Rattle.chorus_world.specs.Views.{by, is_by, is_group}
 use Rattle.chorus_world.specs.Groups.{groups_made, members}
 use Rattle.chorus_entry.specs.Members.{is_member}
-use Rattle.chorus_world.specs.Posts.{Posted, post_of, posted_in, posted_by, source, tag_from, tag_of}
+use Rattle.chorus_world.specs.Posts.{Posted, post_of, posted_in, posted_by, source, tag_from}
 use Rattle.chorus_world.specs.Seats as seats
 use Rattle.chorus_world.specs.Steps.{is_full_of_ports}
 use Rattle.chorus_world.proofs.Messages.SendingLemmas.{from_or}
@@ -41,9 +39,9 @@ use Rattle.chorus_ports.specs.Table.{find}
 use Rattle.chorus_ports.specs.Taking.{taken}
 use Rattle.chorus_calls.specs.Clients.{Call}
 use Rattle.chorus_calls.specs.Callers.{Seated}
-use Rattle.chorus_machine.specs.PlaceState.{PlaceState, Turn, next_entry}
+use Rattle.chorus_machine.specs.PlaceState.{PlaceState, next_entry}
 use Rattle.chorus_machine.specs.Own.{own, next_port, next_group, take_act, move_act, delete_act, held_by, call_act, retry_act, cancel_act, reply_act, next_message}
-use Rattle.chorus_machine.specs.PlaceMachine.{begun_by, act, work}
+use Rattle.chorus_machine.specs.PlaceMachine.{begun_by}
 use Rattle.chorus_law.specs.Packets.{first_on}
 use Rattle.chorus_law.specs.Network.{NetState, Event, Enter, Act as Acts, Deliver, place, turn_for, schedule}
 use Rattle.chorus_law.specs.Records.{as_called, outstanding_as, outstanding}

@@ -3,18 +3,18 @@
 ghost use Rattle.std.specs.Prelude.{◌≡◌, ◌<◌, true, length, OnOk, IfErr};
 ghost use Rattle.std.specs.Option.{option_copied};
 ghost use Rattle.chorus_scene.specs.Grammar.{after, last_is_full, most_bytes};
-ghost use Rattle.chorus_scene.specs.Line.{may_stand, target_kind, dest_of, CommandLine};
+ghost use Rattle.chorus_scene.specs.Line.{target_kind, dest_of, CommandLine};
+ghost use Rattle.chorus_lines.specs.Words.{may_stand};
 ghost use Rattle.chorus_scene.specs.Telling.{TellsAs};
 ghost use Rattle.chorus_scene.specs.Reader.{Gives, Tells, Stands, IsMemory, is_early, read_with, command_with, state_of, scene_of};
 
-use crate::body::{begins_a_body, body_in, body_len};
-use crate::fault::Stop;
-use crate::fields::{body_alone, none, one, one_and_body, two, two_and_body};
 use crate::limits::{COMMANDS_LIMIT, VERSION_ONE_BODY};
 use crate::reader::{Reader, name_in};
-use crate::text::{BEYOND, number_in};
-use crate::word::{Reason, Section, Target, Verb, Word};
 use chorus_entry::{BODY_LIMIT, Command, Dest, PENDING_LIMIT};
+use chorus_lines::fields::{body_alone, none, one, one_and_body, two, two_and_body};
+use chorus_lines::{
+    BEYOND, Reason, Section, Stop, Target, Verb, Word, begins_a_body, body_in, body_len, number_in,
+};
 use chorus_ui::{Kind, Ui};
 use std::alloc::Global;
 

@@ -7,16 +7,14 @@ ghost use Rattle.chorus_ui.specs.Name.{same_ui};
 ghost use Rattle.chorus_ui.specs.declared.ui.Ui.{Ui};
 ghost use Rattle.chorus_scene.specs.Making.{makes, name_said, next_name, members_of};
 ghost use Rattle.chorus_scene.specs.Grammar.{is_known, made, unless, with_setup};
-ghost use Rattle.chorus_scene.specs.Line.{may_stand};
+ghost use Rattle.chorus_lines.specs.Words.{may_stand};
 ghost use Rattle.chorus_scene.specs.Reader.{Gives, Stands, IsMemory, read_with, state_of, scene_of, is_actor, most_number};
 
-use crate::fault::Stop;
-use crate::fields::{one, three, two};
 use crate::reader::{Reader, name_in};
 use crate::scenario::SetupLine;
-use crate::text::number_in;
-use crate::word::{Reason, Section, Word};
 use chorus_entry::{MEMBERS_LIMIT, PENDING_LIMIT};
+use chorus_lines::fields::{one, three, two};
+use chorus_lines::{Reason, Section, Stop, Word, number_in};
 use chorus_ui::{GROUPS_PER_SITE_LIMIT, Kind, PORTS_PER_SITE_LIMIT, Ui};
 
 impl Reader {

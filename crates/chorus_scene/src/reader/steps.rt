@@ -4,16 +4,15 @@ ghost use Rattle.std.specs.Prelude.{◌≡◌, ◌≤◌, ◌<◌, true, length,
 ghost use Rattle.std.specs.Option.{option_copied};
 ghost use Rattle.chorus_scene.specs.declared.limits.TheConstants.{STEPS_LIMIT};
 ghost use Rattle.chorus_scene.specs.Grammar.{after, is_done};
-ghost use Rattle.chorus_scene.specs.Line.{may_stand, StepLine};
+ghost use Rattle.chorus_scene.specs.Line.{StepLine};
+ghost use Rattle.chorus_lines.specs.Words.{may_stand};
 ghost use Rattle.chorus_scene.specs.Reader.{Gives, Stands, IsMemory, read_with, state_of, scene_of};
 
-use crate::fault::Stop;
-use crate::fields::{none, one, two};
 use crate::limits::STEPS_LIMIT;
 use crate::reader::Reader;
 use crate::scenario::Step;
-use crate::text::{BEYOND, number_in};
-use crate::word::{Reason, Section, Word};
+use chorus_lines::fields::{none, one, two};
+use chorus_lines::{BEYOND, Reason, Section, Stop, Word, number_in};
 
 impl Reader {
     pub(crate) fn step_line(&mut self, rest: Option<&[u8]>) -> Result<(), Stop>

@@ -1,10 +1,15 @@
 -- The limits, each at its number and one below or above it: a site makes 4 groups and a place its share of 32 ports, a group
 -- has 32 members, a port room for 1 to 64 messages, and a site 8 actors.
 use Rattle.std.proofs.Common.{ℕ, zero, suc, ◌≡◌, ◌+◌, Bool, true, false, List, [], ◌∷◌, refl}
+use Rattle.chorus_ui.specs.declared.limits.TheConstants.{BODY_LIMIT, CLIENTS_LIMIT, CLOCK_LIMIT, LINK_LIMIT, SEATS_LIMIT, SITES_LIMIT}
 use Rattle.chorus_entry.specs.declared.entry.Entry.{Entry}
 use Rattle.chorus_entry.specs.declared.act.Act.{Act}
 use Rattle.chorus_world.specs.Steps.{is_legal, may}
 use Rattle.chorus_world.proofs.Examples.Names.{actor, group, now, port, two_sites}
+
+-- those of sites, clients, bodies, seats, links and clocks
+numbers : (SITES_LIMIT ≡ 16) × (CLIENTS_LIMIT ≡ 64) × (BODY_LIMIT ≡ 4096) × (SEATS_LIMIT ≡ 1048576) × (LINK_LIMIT ≡ 32) × (CLOCK_LIMIT ≡ 4611686018427387904)
+numbers = (refl, refl, refl, refl, refl, refl)
 
 -- the act may come next at the first place, at a late clock
 abbrev may_come : List Entry → Act → Bool

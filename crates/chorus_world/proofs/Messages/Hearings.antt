@@ -1,23 +1,21 @@
 -- A fact of legal lists: a message that was heard of is reported, and nothing more becomes of it.
-use Rattle.std.proofs.Common.{ℕ, ◌≡◌, ◌<◌, ◌+◌, ◌==◌, Bool, true, false, ◌&&◌, not, cond, List, [], ◌∷◌, Some, None, refl, sym, ◌∙◌, ap, subst, inl, inr, arith}
+use Rattle.std.proofs.Common.{◌≡◌, ◌<◌, Bool, true, false, cond, List, [], ◌∷◌, Some, refl, sym, ◌∙◌, ap, subst, inl, inr, arith}
 use Rattle.std.proofs.lemmas.Bool.{and_parts, false≢true}
 use Rattle.chorus_ui.specs.declared.ui.Ui.{Ui}
 use Rattle.chorus_ui.specs.declared.layout.Layout.{Layout}
 use Rattle.chorus_entry.specs.declared.entry.Entry.{Entry}
 use Rattle.chorus_entry.specs.declared.id.MsgId.{MsgId}
-use Rattle.chorus_entry.specs.declared.answer.Answer.{Answer}
 use Rattle.chorus_entry.specs.declared.act.Act.{Act}
 use Rattle.chorus_entry.specs.declared.act.Act.TheVariants.{Post, Accept, Full, Already, ClientsFull, Stale, Early, NoPort, Elsewhere, NoMember, Choose, Try, Told, Heard, Gone}
 use Rattle.chorus_entry.specs.Act.{message_of, port_of, is_decision}
-use Rattle.chorus_world.specs.declared.message.Progress.{Progress}
-use Rattle.chorus_world.specs.declared.message.Progress.TheVariants.{Idle, Asked, Tried, Decided, Settled, Reported}
+use Rattle.chorus_world.specs.declared.message.Progress.TheVariants.{Idle, Asked, Tried, Decided, Reported}
 use Rattle.chorus_world.specs.Views.{views, at, by, about, is_about}
-use Rattle.chorus_world.specs.Messages.{progress, progress_after, is_to_be_heard}
+use Rattle.chorus_world.specs.Messages.{progress, is_to_be_heard}
 use Rattle.chorus_world.specs.Places.{is_first}
 use Rattle.chorus_world.specs.Seats.{posts}
 use Rattle.chorus_world.specs.Steps.{act_may, is_legal, is_asked_from}
 use Rattle.chorus_world.specs.Posts.{post_of}
-use Rattle.chorus_world.proofs.Steps.LegalLemmas.{legal_parts, keeps, skips}
+use Rattle.chorus_world.proofs.Steps.LegalLemmas.{legal_parts}
 use Rattle.chorus_world.proofs.Ports.LineLemmas.{none_some, id_is}
 use Rattle.chorus_world.proofs.Messages.SendingLemmas.{some_is, first_here}
 use Rattle.chorus_world.proofs.Messages.StageLemmas.{MessageFacts, first_is_idle}

@@ -1,24 +1,21 @@
 -- Facts of legal lists: the ids of what was posted and sent are within their ranges.
-use Rattle.std.proofs.Common.{ℕ, zero, suc, ◌≡◌, ◌≤◌, ◌<◌, ◌+◌, ◌==◌, nat_le, nat_lt, Bool, true, false, ◌&&◌, cond, List, [], ◌∷◌, length, take, drop, Option, Some, None, refl, sym, ◌∙◌, ap, subst, inl, inr, arith, length-append, length-drop}
+use Rattle.std.proofs.Common.{ℕ, ◌≡◌, ◌≤◌, ◌+◌, nat_le, Bool, true, false, cond, List, [], ◌∷◌, length, Option, Some, None, sym, ◌∙◌, ap, subst, inl, inr, arith}
 use Rattle.std.specs.Prelude.{find}
-use Rattle.std.proofs.lemmas.Bool.{cases_Bool, and_parts, and_from, le-leb, leb-true, eqb-true}
-use Rattle.std.proofs.lemmas.List.{length-take}
+use Rattle.std.proofs.lemmas.Bool.{cases_Bool, and_from, le-leb}
 use Rattle.chorus_ui.specs.declared.ui.Ui.{Ui}
 use Rattle.chorus_ui.specs.declared.layout.Layout.{Layout}
 use Rattle.chorus_entry.specs.declared.entry.Entry.{Entry}
 use Rattle.chorus_entry.specs.declared.id.MsgId.{MsgId}
-use Rattle.chorus_entry.specs.declared.message.Message.{Message}
 use Rattle.chorus_entry.specs.declared.dest.Dest.{Dest}
 use Rattle.chorus_entry.specs.declared.dest.Dest.TheVariants as dests
-use Rattle.chorus_ui.specs.declared.limits.TheConstants.{MEMBERS_LIMIT}
 use Rattle.chorus_entry.specs.declared.act.Act.{Act}
 use Rattle.chorus_entry.specs.declared.act.Act.TheVariants.{Post, Choose}
 use Rattle.chorus_entry.specs.Ranges.{has_range_of_id}
 use Rattle.chorus_world.specs.declared.place.Sent.{Sent}
-use Rattle.chorus_world.specs.Views.{views, at, by, about, is_by}
+use Rattle.chorus_world.specs.Views.{views, at, is_by}
 use Rattle.chorus_entry.specs.Order.{is_at}
 use Rattle.chorus_world.specs.Posts.{Posted, post_of, posted_in, posted_by, source}
-use Rattle.chorus_world.specs.Groups.{members, in_turn, rotation, is_at_site, choice}
+use Rattle.chorus_world.specs.Groups.{in_turn, is_at_site, choice}
 use Rattle.chorus_entry.specs.Members.{first_of, listed}
 use Rattle.chorus_world.specs.Places.{sent, sent_by, copies}
 use Rattle.chorus_world.specs.Steps.{act_may, is_legal}

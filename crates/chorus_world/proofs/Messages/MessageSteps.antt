@@ -236,6 +236,7 @@ inv_none l =
         unmade = λ h. refl;
         located = λ p. refl;
         left = λ p n h lt. absurd (let one : n + 1 < 1 = lt in omega arith);
+        rests = λ h. absurd (false≢true h);
         made = λ h. absurd (false≢true h);
       };
       messages = λ x. tt;

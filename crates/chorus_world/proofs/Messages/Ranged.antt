@@ -1,8 +1,8 @@
 -- Facts of legal lists: what a message that is under way names is within its range: no hop and no position is above the clock of
 -- the last entry about it, and each place is one of the layout.
-use Rattle.std.proofs.Common.{ℕ, zero, suc, ◌≡◌, ◌≢◌, ◌<◌, ◌≤◌, ◌+◌, ◌-◌, ◌*◌, ◌==◌, nat_le, nat_lt, Bool, true, false, ◌&&◌, ◌||◌, not, cond, List, [], ◌∷◌, length, Option, Some, None, is_none, is_some, slice_get, refl, sym, ◌∙◌, ap, subst, inl, inr, ◌⊎◌, arith}
-use Rattle.std.specs.List.{All, filter}
-use Rattle.std.proofs.lemmas.Bool.{cases_Bool, eqb-true, eq-eqb, and_parts, and_from, or_cases, leb-true, le-leb, ltb-true, false≢true, not-true, cond_both}
+use Rattle.std.proofs.Common.{ℕ, zero, suc, ◌≡◌, ◌≢◌, ◌<◌, ◌≤◌, ◌+◌, ◌*◌, ◌==◌, nat_le, nat_lt, Bool, true, false, ◌&&◌, not, cond, List, [], ◌∷◌, length, Option, Some, None, is_none, is_some, slice_get, refl, sym, ◌∙◌, ap, subst, inl, inr, ◌⊎◌, arith}
+use Rattle.std.specs.List.{All}
+use Rattle.std.proofs.lemmas.Bool.{eqb-true, eq-eqb, and_parts, and_from, or_cases, leb-true, le-leb, ltb-true, false≢true, cond_both}
 use Rattle.std.proofs.lemmas.List.Elements.{All-head, All-tail}
 use Rattle.chorus_ui.specs.declared.ui.Ui.{Ui}
 use Rattle.chorus_ui.specs.Name.{same_ui}
@@ -10,10 +10,8 @@ use Rattle.chorus_ui.proofs.Names.{from_same_ui, same_ui-self}
 use Rattle.chorus_ui.specs.declared.layout.Layout.{Layout}
 use Rattle.chorus_ui.specs.Layout as layout
 use Rattle.chorus_ui.specs.Layout.{IsLayout, has_site, has_place, has_actor, can_make_port, place_at, site_of}
-use Rattle.chorus_ui.specs.declared.limits.TheConstants.{PORTS_PER_SITE_LIMIT}
 use Rattle.chorus_entry.specs.declared.entry.Entry.{Entry}
 use Rattle.chorus_entry.specs.declared.id.MsgId.{MsgId}
-use Rattle.chorus_entry.specs.declared.dest.Dest.{Dest}
 use Rattle.chorus_entry.specs.declared.dest.Dest.TheVariants as D
 use Rattle.chorus_entry.specs.declared.answer.Answer.{Answer}
 use Rattle.chorus_entry.specs.declared.answer.Answer.TheVariants as A
@@ -23,7 +21,7 @@ use Rattle.chorus_entry.specs.Act.{message_of, held_port_of, port_of, is_decisio
 use Rattle.chorus_entry.specs.MsgId.{same_id}
 use Rattle.chorus_entry.proofs.Same.{from_same_id, same_id-self}
 use Rattle.chorus_entry.specs.Answer.{is_final}
-use Rattle.chorus_entry.specs.Ranges.{is_from, is_place_number, has_range_of_id, has_ranges_of_answer, is_told}
+use Rattle.chorus_entry.specs.Ranges.{is_place_number, has_range_of_id, has_ranges_of_answer, is_told}
 use Rattle.chorus_world.specs.declared.place.Location.{Location}
 use Rattle.chorus_world.specs.declared.place.Sent.{Sent}
 use Rattle.chorus_world.specs.declared.message.Progress.{Progress}
@@ -31,22 +29,22 @@ use Rattle.chorus_world.specs.declared.message.Progress.TheVariants.{Idle, Asked
 use Rattle.chorus_world.specs.declared.step.Due.{Due}
 use Rattle.chorus_world.specs.declared.step.Due.TheVariants.{NotDue, ByTry, AtHome}
 use Rattle.chorus_world.specs.Views.{Views, views, at, on, about, is_on, is_about}
-use Rattle.chorus_entry.specs.Order.{is_at, IsRising}
+use Rattle.chorus_entry.specs.Order.{is_at}
 use Rattle.chorus_entry.specs.Same.{are_same}
-use Rattle.chorus_world.specs.Messages.{progress, progress_after, decided, told, settled, posted}
+use Rattle.chorus_world.specs.Messages.{progress, progress_after, decided, told, settled}
 use Rattle.chorus_world.specs.Ports.{PortState, fate, is_held_at, is_coming, is_next_hop, is_full, has_room, waiting}
 use Rattle.chorus_world.specs.Posts.{site_asked, is_on_site}
 use Rattle.chorus_world.specs.Places.{last_clock, located, named_location, learned, farther, is_location, sent, taught, is_sent_to, find_sent, is_first}
 use Rattle.chorus_world.specs.Groups.{choice}
-use Rattle.chorus_world.specs.Steps.{act_may, is_legal, is_to_go, is_beyond, due, due_by_try, due_at_home, is_due_with, is_tried_with, is_early, suits, may_enter, meets, is_elsewhere, may_choose}
+use Rattle.chorus_world.specs.Steps.{act_may, is_legal, is_to_go, due, due_by_try, due_at_home, is_due_with, is_tried_with, is_early, suits, may_enter, is_elsewhere}
 use Rattle.chorus_world.specs.LocationLaws.{path_of}
 use Rattle.chorus_world.specs.Order.{IsCausal}
-use Rattle.chorus_world.proofs.Steps.LegalLemmas.{legal_parts, keeps, skips, on_is}
-use Rattle.chorus_world.proofs.Ports.LineLemmas.{none_some, id_is, needs}
-use Rattle.chorus_world.proofs.Messages.SendingLemmas.{some_is, first_here, sent_as, FirstHere}
-use Rattle.chorus_world.proofs.Messages.StageLemmas.{Stage, MessageFacts, first_is_idle}
-use Rattle.chorus_world.proofs.Messages.PostLemmas.{post_needs, choose_needs, no_member_needs, asked_facts}
-use Rattle.chorus_world.proofs.Ports.PortMoves.{held_fate, coming_fate}
+use Rattle.chorus_world.proofs.Steps.LegalLemmas.{legal_parts}
+use Rattle.chorus_world.proofs.Ports.LineLemmas.{none_some, id_is}
+use Rattle.chorus_world.proofs.Messages.SendingLemmas.{some_is, first_here}
+use Rattle.chorus_world.proofs.Messages.StageLemmas.{MessageFacts, first_is_idle}
+use Rattle.chorus_world.proofs.Messages.PostLemmas.{post_needs, choose_needs, no_member_needs}
+use Rattle.chorus_world.proofs.Ports.PortMoves.{coming_fate}
 use Rattle.chorus_world.proofs.Ports.PortLaws.{keeps_to_capacity}
 use Rattle.chorus_world.proofs.Messages.DueLemmas.{IsDue}
 use Rattle.chorus_world.proofs.Messages.VerdictLemmas.{decision_due}
@@ -57,7 +55,7 @@ use Rattle.chorus_world.proofs.Ports.Paths.{PathIn, path-in}
 use Rattle.chorus_world.proofs.Messages.Ways.{Has, located-in}
 use Rattle.chorus_world.proofs.Ports.MadePorts.{rising-le, rising-view, causal-older, clock-some, IsWellMade, MadeWell, made-well}
 use Rattle.chorus_world.proofs.Groups.Members.{choose-names}
-use Rattle.chorus_world.proofs.Messages.Ids.{posted-number, range-of-id, choice-few, sent-ranged}
+use Rattle.chorus_world.proofs.Messages.Ids.{range-of-id, choice-few, sent-ranged}
 
 -- Places.
 

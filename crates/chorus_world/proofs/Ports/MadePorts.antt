@@ -1,19 +1,17 @@
 -- Facts of legal lists: what is so of a port that was made. Its name is one that the layout can make, who holds it is an actor of
 -- the layout, and the clock of the last entry on its line is at least the number of its places and of what it accepted.
-use Rattle.std.proofs.Common.{ℕ, zero, suc, ◌≡◌, ◌≢◌, ◌<◌, ◌≤◌, ◌+◌, ◌-◌, ◌*◌, ◌/◌, ◌%◌, ◌==◌, nat_le, nat_lt, Bool, true, false, ◌&&◌, ◌||◌, not, cond, List, [], ◌∷◌, ◌++◌, length, Option, Some, None, refl, sym, ◌∙◌, ap, subst, inl, inr, arith}
-use Rattle.std.specs.List.{All, filter}
-use Rattle.std.proofs.lemmas.Bool.{eqb-true, and_parts, and_from, or_cases, leb-true, leb-false, le-leb, ltb-true, false≢true, not-true}
+use Rattle.std.proofs.Common.{ℕ, zero, suc, ◌≡◌, ◌≢◌, ◌<◌, ◌≤◌, ◌+◌, ◌-◌, ◌*◌, ◌/◌, ◌%◌, ◌==◌, nat_le, nat_lt, Bool, true, false, ◌&&◌, not, cond, List, [], ◌∷◌, length, Option, Some, None, refl, sym, ◌∙◌, ap, subst, inl, inr, arith}
+use Rattle.std.specs.List.{filter}
+use Rattle.std.proofs.lemmas.Bool.{eqb-true, and_parts, and_from, or_cases, leb-false, le-leb, ltb-true, false≢true, not-true}
 use Rattle.std.proofs.lemmas.List.{length_push}
 use Rattle.std.proofs.lemmas.List.Elements.{All-head}
 use Rattle.chorus_ui.specs.declared.ui.Ui.{Ui}
 use Rattle.chorus_ui.specs.declared.layout.Layout.{Layout}
 use Rattle.chorus_ui.specs.declared.limits.TheConstants.{PORTS_PER_SITE_LIMIT, ACTORS_PER_SITE_LIMIT}
-use Rattle.chorus_ui.specs.Layout as layout
 use Rattle.chorus_ui.specs.Layout.{IsLayout, has_site, has_place, has_actor, can_make_port, place_at, site_of}
 use Rattle.chorus_ui.specs.Name.{same_ui}
 use Rattle.chorus_ui.proofs.Names.{from_same_ui}
 use Rattle.chorus_entry.specs.declared.entry.Entry.{Entry}
-use Rattle.chorus_entry.specs.declared.id.MsgId.{MsgId}
 use Rattle.chorus_entry.specs.declared.act.Act.{Act}
 use Rattle.chorus_entry.specs.declared.act.Act.TheVariants.{Make, Accept, Full, Already, ClientsFull, Take, Empty, Rehome, Depart, Arrive, Delete}
 use Rattle.chorus_entry.specs.Act.{held_port_of}
@@ -27,7 +25,7 @@ use Rattle.chorus_world.specs.Ports.{PortState, fate, fate_after, changed, arriv
 use Rattle.chorus_world.specs.Places.{last_clock, ports_made}
 use Rattle.chorus_world.specs.Steps.{act_may, may, is_legal, is_home, is_full_of_ports, next_number, is_timely, act_follows}
 use Rattle.chorus_world.specs.Order.{IsCausal}
-use Rattle.chorus_world.proofs.Steps.LegalLemmas.{legal_parts, on_is, keeps, skips}
+use Rattle.chorus_world.proofs.Steps.LegalLemmas.{legal_parts, on_is}
 use Rattle.chorus_world.proofs.Ports.LineLemmas.{none_some, needs}
 use Rattle.chorus_world.proofs.Ports.PortMoves.{held_fate, coming_fate}
 use Rattle.chorus_world.proofs.Messages.SentFacts.{legal-kinds}

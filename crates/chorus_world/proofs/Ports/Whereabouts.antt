@@ -1,7 +1,7 @@
 -- What is so of one port in every legal past, and how each change of the port keeps it: s is its spot, if it is made, ps
 -- its path, k whether each place keeps it, d whether each place saw it deleted, at where each place locates it, and m the
 -- number of the next port that its creation place makes.
-use Rattle.std.proofs.Common.{ℕ, ◌≡◌, ◌+◌, ◌-◌, ◌<◌, ◌≤◌, inl, inr, zero, suc, Bool, true, false, ◌&&◌, cond, ◌==◌, List, [], ◌∷◌, ◌++◌, length, Option, Some, None, is_some, ltb, refl, sym, ◌∙◌, ap, subst, arith}
+use Rattle.std.proofs.Common.{ℕ, ◌≡◌, ◌+◌, ◌-◌, ◌<◌, ◌≤◌, inl, inr, zero, suc, Bool, true, false, ◌&&◌, ◌||◌, cond, ◌==◌, List, [], ◌∷◌, ◌++◌, length, Option, Some, None, is_some, ltb, refl, sym, ◌∙◌, ap, subst, arith}
 use Rattle.std.specs.List.{slice_get}
 use Rattle.std.proofs.lemmas.List.{length_push}
 use Rattle.std.proofs.lemmas.Bool.{eq-eqb, ltb-true, ltb-false, cond_both, cases_eq, false≢true, true≢false}
@@ -34,6 +34,8 @@ pub record Facts (q : Ui) (s : Option Spot) (ps : List ℕ) (k d : ℕ → Bool)
   pub located : (p : ℕ) → slice_get ps (at p).hop ≡ Some (at p).to
   -- a place that the port left knows so
   pub left : (p n : ℕ) → slice_get ps n ≡ Some p → n + 1 < length ps → n < (at p).hop
+  -- and the place that holds it, or where it ended, knows it by its last hop
+  pub rests : holds s || has_ended s ≡ true → (at (last_of 0 ps)).hop + 1 ≡ length ps
   pub made : is_some s ≡ true → q.number < m
 
 pub facts_same : {q : Ui} {s t : Option Spot} {ps qs : List ℕ} {k j d c : ℕ → Bool} {at now : ℕ → Location} {m n : ℕ} → Facts q s ps k d at m → s ≡ t → ps ≡ qs → ((p : ℕ) → j p ≡ k p) → ((p : ℕ) → c p ≡ d p) → ((p : ℕ) → now p ≡ at p) → m ≤ n → Facts q t qs j c now n
@@ -46,6 +48,7 @@ facts_same {q} {s} {t} {ps} {qs} {k} {j} {d} {c} {at} {now} {m} {n} f es ep ek e
       unmade = λ h. subst (λ x. length x ≡ 1) ep (f.unmade (ap is_some es ∙ h));
       located = λ p. cc (f.located p, ep, ea p);
       left = λ p i x y. subst (λ z. i < z.hop) (sym (ea p)) (f.left p i (ap (λ z. slice_get z i) ep ∙ x) (subst (λ z. i + 1 < length z) (sym ep) y));
+      rests = λ h. ap (λ z. z.hop + 1) (ea (last_of 0 qs)) ∙ (ap (λ z. (at (last_of 0 z)).hop + 1) (sym ep) ∙ (f.rests (ap (λ z. holds z || has_ended z) es ∙ h) ∙ ap (λ z. length z) ep));
       made = λ h. let lt : q.number < m = f.made (ap is_some es ∙ h) in omega arith;
     }
 
@@ -105,6 +108,16 @@ left_depart ps p to r i b x last pos old at lt same =
       | inr ne ↦ (let less : i < x.hop = old was (omega arith) in omega arith)
     ]
 
+-- what is known by the last hop stays known by it
+within_path : (ps : List ℕ) (x : Location) → slice_get ps x.hop ≡ Some x.to → x.hop < length ps
+within_path ps x h = slice_get_within ps x.hop x.to h
+
+learns_last : (ps : List ℕ) (b : Bool) (x y : Location) → slice_get ps x.hop ≡ Some x.to → slice_get ps y.hop ≡ Some y.to → x.hop + 1 ≡ length ps → (cond b (farther x (Some y)) x).hop + 1 ≡ length ps
+learns_last ps b x y g h e =
+    let far = farther_far b x y in
+    let lt = within_path ps (cond b (farther x (Some y)) x) (farther_known ps b x y g h) in
+    omega arith
+
 -- a place learns where the port was
 pub facts_learn : {q : Ui} {s : Option Spot} {ps : List ℕ} {k d : ℕ → Bool} {at : ℕ → Location} {m : ℕ} (p : ℕ) (y : Location) → Facts q s ps k d at m → slice_get ps y.hop ≡ Some y.to → Facts q s ps k d (λ r. cond (p == r) (farther (at r) (Some y)) (at r)) m
 facts_learn {q} {s} {ps} {k} {d} {at} {m} p y f h =
@@ -116,6 +129,7 @@ facts_learn {q} {s} {ps} {k} {d} {at} {m} p y f h =
       unmade = f.unmade;
       located = λ r. farther_known ps (p == r) (at r) y (f.located r) h;
       left = λ r i x z. let lt : i < (at r).hop = f.left r i x z in let le = farther_far (p == r) (at r) y in omega arith;
+      rests = λ e. learns_last ps (p == last_of 0 ps) (at (last_of 0 ps)) y (f.located (last_of 0 ps)) h (f.rests e);
       made = f.made;
     }
 
@@ -137,6 +151,10 @@ facts_make {q} {ps} {k} {d} {at} {m} p a n f e lt =
       unmade = λ h. absurd (true≢false h);
       located = f.located;
       left = λ r i x z. absurd (let one : length ps ≡ 1 = f.unmade refl in omega arith);
+      rests = λ h.
+          let one : length ps ≡ 1 = f.unmade refl in
+          let within = within_path ps (at (last_of 0 ps)) (f.located (last_of 0 ps)) in
+          omega arith;
       made = λ h. lt;
     }
 
@@ -150,6 +168,7 @@ facts_rehome a b f =
       unmade = λ h. absurd (true≢false h);
       located = f.located;
       left = f.left;
+      rests = λ h. f.rests refl;
       made = λ h. f.made refl;
     }
 
@@ -167,8 +186,17 @@ facts_depart {q} {ps} {k} {d} {at} {m} p to a b f e =
       unmade = λ h. absurd (true≢false h);
       located = λ r. farther_known (ps ++ to ∷ []) (p == r) (at r) y (known_push ps to (at r).hop (at r).to (f.located r)) (get_push_at ps to (length ps) refl);
       left = λ r i x z. left_depart ps p to r i (p == r) (at r) last pos (f.left r i) x (omega arith) (eq-eqb p r);
+      rests = λ h. absurd (false≢true h);
       made = λ h. f.made refl;
     }
+
+arrives_last : (ps : List ℕ) (p hop : ℕ) (b : Bool) → b ≡ true → (x : Location) → slice_get ps x.hop ≡ Some x.to → slice_get ps hop ≡ Some p → hop ≡ length ps - 1 → 0 < length ps → (cond b (farther x (Some (record { to = p; hop = hop }))) x).hop + 1 ≡ length ps
+arrives_last ps p hop false t x g h n pos = absurd (false≢true t)
+arrives_last ps p hop true t x g h n pos =
+    let y : Location = record { to = p; hop = hop } in
+    let new : hop ≤ (farther x (Some y)).hop = farther_new x y in
+    let lt = within_path ps (farther x (Some y)) (farther_known ps true x y g h) in
+    omega arith
 
 pub facts_arrive : {q : Ui} {ps : List ℕ} {k d : ℕ → Bool} {at : ℕ → Location} {m : ℕ} (p hop : ℕ) (b : Ui) → Facts q (Some (Moving b)) ps k d at m → last_of 0 ps ≡ p → hop ≡ length ps - 1 → Facts q (Some (Held b)) ps (λ r. cond (p == r) true (k r)) d (λ r. cond (p == r) (farther (at r) (Some (record { to = p; hop = hop }))) (at r)) m
 facts_arrive {q} {ps} {k} {d} {at} {m} p hop b f e n =
@@ -184,6 +212,7 @@ facts_arrive {q} {ps} {k} {d} {at} {m} p hop b f e n =
       unmade = λ h. absurd (true≢false h);
       located = g.located;
       left = g.left;
+      rests = λ h. arrives_last ps p hop (p == last_of 0 ps) (eq-eqb p (last_of 0 ps) (sym e)) (at (last_of 0 ps)) (f.located (last_of 0 ps)) known n pos;
       made = λ h. f.made refl;
     }
 
@@ -197,5 +226,6 @@ facts_delete {q} {ps} {k} {d} {at} {m} p b f e =
       unmade = λ h. absurd (true≢false h);
       located = f.located;
       left = f.left;
+      rests = λ h. f.rests refl;
       made = λ h. f.made refl;
     }

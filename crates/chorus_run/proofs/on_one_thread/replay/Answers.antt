@@ -1,4 +1,4 @@
-use Rattle.std.proofs.Common.{◌≡◌, Some, sym, ◌∙◌, ap, subst}
+use Rattle.std.proofs.Common.{◌≡◌, Some, Ok, sym, ◌∙◌, ap, subst}
 use Rattle.chorus_ui.specs.Layout.{IsLayout}
 use Rattle.chorus_show.specs.declared.status.Status.{Status}
 use Rattle.chorus_run.specs.Headline.{IsGiven, Replays}
@@ -18,7 +18,7 @@ returns-in-Some-clause-replays g c =
     let closed = c.in-Ok-play.played.closed in
     let played = subst (λ worn. IsPlayed scene worn closed) c.in-Some.is c.in-Ok-play.ensures in
     replays-as scene shape ok.1 (net c.args.sites).layout (g.S.Source.left c.args.source.now) (Status.Worn c.in-Some.clock) closed (ok.0 ∙ value)
-    (subst (λ l. IsGiven l (g.S.Source.left c.args.source.now) scene) value c.in-Ok.ensures.given)
+    (subst (λ l. IsGiven l (g.S.Source.left c.args.source.now) (Ok scene)) value c.in-Ok.ensures.given)
     (ordered-worn (can scene shape ok.1) c.in-Some.clock closed played)
 
 pub returns-clause-replays : goal.returns-clause-replays
@@ -30,7 +30,7 @@ returns-clause-replays g c =
     let closed = c.in-Ok-play.played.closed in
     let told = g.S.Source.left c.args.source.now in
     let worn = none-of c.in-Ok-play.played.worn c.in_default-worn.not-Some in
-    let given = subst (λ l. IsGiven l told scene) value c.in-Ok.ensures.given in
+    let given = subst (λ l. IsGiven l told (Ok scene)) value c.in-Ok.ensures.given in
     let ordered = ordered-all (can scene shape ok.1) closed (subst (λ w. IsPlayed scene w closed) worn c.in-Ok-play.ensures) in
     printed (λ s o. Replays (net c.args.sites).layout told s o) c.print.result.status c.print.result.closed closed c.print.ensures.closed c.print.ensures.status
     (replays-as scene shape ok.1 (net c.args.sites).layout told Status.Done closed (ok.0 ∙ value) given ordered.0, replays-as scene shape ok.1 (net c.args.sites).layout told Status.WriteFault closed (ok.0 ∙ value) given ordered.1)

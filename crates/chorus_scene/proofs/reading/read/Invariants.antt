@@ -1,5 +1,5 @@
 use Rattle.std.proofs.Common.{◌≡◌, ◌≤◌, ◌+◌, length}
-use Rattle.chorus_scene.specs.Text.{lines}
+use Rattle.chorus_lines.specs.Text.{lines}
 use Rattle.chorus_scene.specs.Grammar.{judge, opening}
 use Rattle.chorus_scene.specs.Reader.{Stands, state_of}
 use Rattle.chorus_scene.proofs.reading.read.Given as goal

@@ -1,23 +1,21 @@
-use Rattle.std.proofs.Common.{◌≡◌, ◌+◌, ◌-◌, ◌<◌, ◌≤◌, ◌↔◌, nat_le, ◌&&◌, List, length, set, get_or, slice_get, Some, true, IsErrOf, refl, sym, ◌∙◌, ap, subst, arith}
+use Rattle.std.proofs.Common.{◌≡◌, ◌+◌, ◌-◌, ◌<◌, ◌≤◌, ◌↔◌, nat_le, ◌&&◌, length, set, slice_get, Some, true, IsErrOf, refl, sym, ◌∙◌, ap, subst, arith}
 use Rattle.std.proofs.lemmas.Bool.{and_parts}
 use Rattle.std.proofs.lemmas.Option.{slice_get_read}
 use Rattle.chorus_ui.specs.declared.ui.Ui.{Ui}
 use Rattle.chorus_ui.specs.declared.limits.TheConstants.{CLOCK_LIMIT}
-use Rattle.chorus_ui.specs.Layout.{has_site, has_actor}
+use Rattle.chorus_ui.specs.Layout.{has_site}
 use Rattle.chorus_entry.specs.Places.{place_for}
 use Rattle.chorus_place.specs.declared.fault.PlaceFault.TheVariants as fault
 use Rattle.chorus_machine.specs.PlaceState.{greatest_clock}
-use Rattle.chorus_machine.specs.PlaceMachine.{begun, act}
+use Rattle.chorus_machine.specs.PlaceMachine.{begun}
 use Rattle.chorus_law.specs.Network.{Act, happened, replied}
 use Rattle.chorus_law.specs.Schedules.{may_happen, may_give}
 use Rattle.chorus_law.specs.Calls.{compared, compared_with}
 use Rattle.chorus_place.specs.Calls.{state, TakesNone}
-use Rattle.chorus_net.specs.Room.{UsesRoom, KeepRoom, TakesNoneAt}
-use Rattle.chorus_net.proofs.Rooms.{uses-set, keep-set, room-found}
-use Rattle.chorus_machine.specs.PlaceState.{Outgoing}
-use Rattle.chorus_law.specs.History.{put_by}
-use Rattle.chorus_net.specs.Sites.{SitesState, net, IsSites}
-use Rattle.chorus_net.proofs.Events.{acted-puts, caller-of, seat-given, stands-at-index, given-may, given-posts, place-found, acted-net, acted-sites, acted-reply, refused-net, refused-sites, by-result, if-ok, on-err}
+use Rattle.chorus_net.specs.Room.{UsesRoom, KeepRoom, TakesNoneAt, puts_in}
+use Rattle.chorus_net.proofs.Rooms.{keep-set, room-found}
+use Rattle.chorus_net.specs.Sites.{SitesState, net}
+use Rattle.chorus_net.proofs.Events.{acted-uses, caller-of, seat-given, stands-at-index, given-may, given-posts, place-found, acted-net, acted-sites, acted-reply, refused-net, refused-sites, by-result, if-ok, on-err}
 use Rattle.chorus_net.proofs.Numbers.{call-left}
 use Rattle.chorus_net.proofs.sites.Sites.act.Goals as goal
 
@@ -149,13 +147,8 @@ returns-clause-room c =
     let stands = stands-at-index c.self.inside.layout c.place_for-number.result c.from.result (length c.self.inside.places.items) c.place_for-number.ensures.in_layout c.from.ensures c.self.invariant.all in
     let number : place_for c.self.inside.layout c.index_mut-caller.result.now.actor c.args.command ≡ 1 + (c.from.result - 1) = ap (λ (a : Ui). place_for c.self.inside.layout a c.args.command) (sym c.actor.ensures) ∙ sym c.place_for-number.ensures.value ∙ stands.0 in
     if-ok c.act.result _ _ c.act.ensures.called
-    (λ r h.
-    let le = h.ended.spare in
-    let one = uses-set (length (act c.args.command (begun (state c.index_mut-place.result.now) c.index_mut-caller.result.now)).puts) c.self.inside.places.items i p c.act.new.self c.index_mut-place.ensures.value le in
-    let n : length (act c.args.command (begun (state c.index_mut-place.result.now) c.index_mut-caller.result.now)).puts ≡ length (put_by (Act c.args.seat c.args.command) (net c.args.self.now)) =
-    ap (λ (os : List Outgoing). length os) (sym (acted-puts s c.args.seat i c.args.command x p c.self.invariant may found number stands.1 c.index_mut-place.ensures.value) ∙ ap (λ (v : SitesState). put_by (Act c.args.seat c.args.command) (net v)) c.self.view_is) in
-    subst (λ (v : SitesState). UsesRoom (length (put_by (Act c.args.seat c.args.command) (net c.args.self.now))) v.places (set c.self.inside.places.items (c.from.result - 1) c.act.new.self)) c.self.view_is
-    (subst (λ m. UsesRoom m c.self.inside.places.items (set c.self.inside.places.items (c.from.result - 1) c.act.new.self)) n one))
+    (λ r h. subst (λ (v : SitesState). UsesRoom (puts_in (Act c.args.seat c.args.command) (net v)) v.places (set c.self.inside.places.items (c.from.result - 1) c.act.new.self)) c.self.view_is
+    (acted-uses s c.args.seat i c.args.command x p c.self.invariant may found number stands.1 c.index_mut-place.ensures.value c.act.new.self c.act.new.caller h.ended))
 
 pub returns-clause-kept : goal.returns-clause-kept
 returns-clause-kept c =

@@ -1,23 +1,21 @@
-use Rattle.std.proofs.Common.{◌≡◌, ◌≢◌, ◌+◌, ◌-◌, ◌<◌, ◌≤◌, ◌↔◌, List, length, set, get_or, slice_get, Some, None, true, IsErrOf, refl, sym, ◌∙◌, ap, subst, arith}
+use Rattle.std.proofs.Common.{◌≡◌, ◌-◌, length, set, get_or, slice_get, Some, None, true, refl, sym, ◌∙◌, ap, subst, arith}
 use Rattle.std.proofs.lemmas.Option.{slice_get_read}
-use Rattle.chorus_ui.specs.declared.limits.TheConstants.{CLOCK_LIMIT}
 use Rattle.chorus_ui.specs.Layout.{has_place}
-use Rattle.chorus_out.specs.Waiting.{list_to, with_first}
+use Rattle.chorus_out.specs.Waiting.{list_to, with_first, MayPutBack}
 use Rattle.chorus_machine.specs.PlaceState.{greatest_clock}
-use Rattle.chorus_machine.specs.PlaceMachine.{begun_by, work}
+use Rattle.chorus_machine.specs.PlaceMachine.{begun_by}
 use Rattle.chorus_law.specs.declared.delivery.Delivered.{Delivered}
 use Rattle.chorus_law.specs.Network.{Deliver, happened, delivery}
 use Rattle.chorus_law.specs.Calls.{compared_at}
 use Rattle.chorus_law.specs.Calls.{last_of}
 use Rattle.chorus_net.specs.Drains.{seat_clock}
 use Rattle.std.proofs.lemmas.List.{length-set}
-use Rattle.chorus_machine.specs.PlaceState.{PlaceState, Outgoing}
-use Rattle.chorus_law.specs.History.{put_by}
-use Rattle.chorus_net.specs.Room.{UsesRoom, KeepRoom}
-use Rattle.chorus_net.proofs.Rooms.{uses-set, uses-on, keep-set, keep-on}
-use Rattle.chorus_place.specs.Calls.{state}
+use Rattle.chorus_machine.specs.PlaceState.{PlaceState}
+use Rattle.chorus_net.specs.Room.{UsesRoom, KeepRoom, puts_in}
+use Rattle.chorus_net.proofs.Rooms.{uses-set, keep-set, keep-on}
+use Rattle.chorus_place.specs.Calls.{Place, state}
 use Rattle.chorus_net.specs.Sites.{SitesState, net, IsSites}
-use Rattle.chorus_net.proofs.Deliveries.{worked-puts, first-caller, idle-net, idle-sites, idle-event, idle-answer, idle-compared, lawful, served-answer, served-compared, worked-net, worked-sites, restored-net, restored-sites, not-worn, why-worn, nobody-worn, risen, below-limit, slice_get-set}
+use Rattle.chorus_net.proofs.Deliveries.{worked-uses, first-caller, idle-net, idle-sites, idle-event, idle-answer, idle-compared, lawful, served-answer, served-compared, worked-net, worked-sites, restored-net, restored-sites, not-worn, set-apart, why-worn, nobody-worn, risen, below-limit, slice_get-set}
 use Rattle.chorus_net.proofs.Events.{stands-at-index}
 use Rattle.chorus_net.proofs.sites.Sites.deliver.Goals as goal
 
@@ -229,6 +227,18 @@ returns-in-Err-clause-worn c clock =
     let some : slice_get (list_to c.args.to c.index_mut.result.now.out.lists) 0 ≡ Some c.in-Some.packet = sym c.out.ensures.value ∙ c.in-Some.is in
     why-worn c.work.result c.in-Err.packet c.in-Some.packet c.in-Err.fault clock (greatest_clock (begun_by (state c.index_mut-2.result.now) c.index_mut-caller.result.now c.in-Some.packet)) (compared_at 0 c.args.from c.args.to (net c.args.self.now)) c.in-Err.is (sym (ap (λ (v : SitesState). compared_at 0 c.args.from c.args.to (net v)) c.self.view_is) ∙ served-compared s a b i j x p p' h fi.0 fj.0 fi.1 fj.1 c.requires.apart c.index_mut.ensures.value found has has' c.out.ensures.state c.out.ensures.waits k r some c.index_mut-2.ensures.value) c.work.ensures.worn
 
+pub put_back-requires-clause-back : goal.put_back-requires-clause-back
+put_back-requires-clause-back c =
+    let h = c.self.invariant in
+    let has : has_place c.self.inside.layout c.args.from ≡ true = ap (λ (v : SitesState). has_place v.layout c.args.from) c.self.view_is ∙ c.requires.from in
+    let fi = stands-at-index c.self.inside.layout c.args.from c.from.result (length c.self.inside.places.items) has c.from.ensures h.all in
+    let there = stands-at-index c.self.inside.layout c.args.to c.from-2.result (length c.self.inside.places.items) (ap (λ (v : SitesState). has_place v.layout c.args.to) c.self.view_is ∙ c.requires.to) c.from-2.ensures h.all in
+    let n : c.from-in-Err.result ≡ c.from.result = c.from-in-Err.ensures ∙ sym c.from.ensures in
+    let taken : c.index_mut-in-Err.result.now ≡ c.out.new.self =
+    c.index_mut-in-Err.ensures.value ∙ ap (λ m. get_or (set (set c.self.inside.places.items (c.from.result - 1) c.out.new.self) (c.from-2.result - 1) c.work.new.self) (m - 1) c.index_mut-in-Err.result.now) n
+    ∙ set-apart c.self.inside.places.items c.args.from c.args.to (c.from.result - 1) (c.from-2.result - 1) c.out.new.self c.work.new.self c.index_mut-in-Err.result.now fi.0 there.0 fi.1 c.requires.apart in
+    subst (λ (q : Place). MayPutBack c.args.to q.out) (sym taken) c.in-Some.ensures.taken
+
 pub invariant_of-self-in-Err : goal.invariant_of-self-in-Err
 invariant_of-self-in-Err c =
     let s : SitesState = record { layout = c.self.inside.layout; places = c.self.inside.places.items; callers = c.self.inside.callers.items } in
@@ -312,9 +322,9 @@ returns-in-Ok-clause-ticks c = λ ok.
 
 pub returns-in_default-clause-room : goal.returns-in_default-clause-room
 returns-in_default-clause-room c =
-    let n = length (put_by (Deliver 0 c.args.from c.args.to) (net c.args.self.now)) in
-    subst (λ (v : SitesState). UsesRoom (length (put_by (Deliver 0 c.args.from c.args.to) (net c.args.self.now))) v.places (set c.self.inside.places.items (c.from.result - 1) c.out.new.self)) c.self.view_is
-    (uses-set n c.self.inside.places.items (c.from.result - 1) c.index_mut.result.now c.out.new.self c.index_mut.ensures.value
+    subst (λ (v : SitesState). UsesRoom (puts_in (Deliver 0 c.args.from c.args.to) (net c.args.self.now)) v.places (set c.self.inside.places.items (c.from.result - 1) c.out.new.self)) c.self.view_is
+    (uses-set (puts_in (Deliver 0 c.args.from c.args.to) (net c.args.self.now)) c.self.inside.places.items (c.from.result - 1) c.index_mut.result.now c.out.new.self c.index_mut.ensures.value
+    (ap (λ (z : PlaceState). z.number) c.out.ensures.state)
     (let a = c.out.ensures.spare in let b = ap (λ (z : PlaceState). length z.journal) c.out.ensures.state in omega (arith, a, b)))
 
 pub returns-in-Ok-clause-room : goal.returns-in-Ok-clause-room
@@ -337,14 +347,9 @@ returns-in-Ok-clause-room c =
     let r = c.index_mut-2.result.now in
     let found : slice_get c.self.inside.callers.items 0 ≡ Some c.index_mut-caller.result.now = slice_get_read c.self.inside.callers.items _ 0 c.index_mut-caller.result.now refl h.some_seat c.index_mut-caller.ensures.value in
     let some : slice_get (list_to c.args.to c.index_mut.result.now.out.lists) 0 ≡ Some c.in-Some.packet = sym c.out.ensures.value ∙ c.in-Some.is in
-    let n : length (work c.in-Some.packet (begun_by (state c.index_mut-2.result.now) c.index_mut-caller.result.now c.in-Some.packet)).puts ≡ length (put_by (Deliver 0 c.args.from c.args.to) (net c.args.self.now)) =
-    ap (λ (os : List Outgoing). length os) (sym (worked-puts s a b i j x p p' h fi.0 fj.0 fi.1 fj.1 c.requires.apart c.index_mut.ensures.value found has has' c.out.ensures.state c.out.ensures.waits k r some c.index_mut-2.ensures.value) ∙ ap (λ (v : SitesState). put_by (Deliver 0 c.args.from c.args.to) (net v)) c.self.view_is) in
-    let one = uses-set 0 c.self.inside.places.items i p p' c.index_mut.ensures.value (let a = c.out.ensures.spare in let b = ap (λ (z : PlaceState). length z.journal) c.out.ensures.state in omega (arith, a, b)) in
-    let two = uses-set (length (work c.in-Some.packet (begun_by (state c.index_mut-2.result.now) c.index_mut-caller.result.now c.in-Some.packet)).puts) (set c.self.inside.places.items (c.from.result - 1) c.out.new.self) j r c.work.new.self c.index_mut-2.ensures.value c.in-Ok.ensures.worked.spare in
-    let m = length-set c.self.inside.places.items (c.from.result - 1) c.out.new.self in
-    let both = uses-on _ c.self.inside.places.items (set c.self.inside.places.items (c.from.result - 1) c.out.new.self) _ (sym m) one two in
-    subst (λ (v : SitesState). UsesRoom (length (put_by (Deliver 0 c.args.from c.args.to) (net c.args.self.now))) v.places (set (set c.self.inside.places.items (c.from.result - 1) c.out.new.self) (c.from-2.result - 1) c.work.new.self)) c.self.view_is
-    (subst (λ k. UsesRoom k c.self.inside.places.items (set (set c.self.inside.places.items (c.from.result - 1) c.out.new.self) (c.from-2.result - 1) c.work.new.self)) n both)
+    subst (λ (v : SitesState). UsesRoom (puts_in (Deliver 0 c.args.from c.args.to) (net v)) v.places (set (set c.self.inside.places.items (c.from.result - 1) c.out.new.self) (c.from-2.result - 1) c.work.new.self)) c.self.view_is
+    (worked-uses s a b i j x p p' h fi.0 fj.0 fi.1 fj.1 c.requires.apart c.index_mut.ensures.value found has has' c.out.ensures.state c.out.ensures.waits k r some c.index_mut-2.ensures.value
+    c.work.new.self c.work.new.caller c.in-Ok.ensures.worked c.out.ensures.spare)
 
 pub returns-in-Err-clause-kept : goal.returns-in-Err-clause-kept
 returns-in-Err-clause-kept c =

@@ -1,6 +1,7 @@
 use Rattle.std.proofs.Common.{◌≡◌, ◌+◌, ◌-◌, ◌≤◌}
 use Rattle.chorus_law.specs.Network.{from_one, numbers}
-use Rattle.chorus_net.specs.Drains.{Goes}
+use Rattle.chorus_net.specs.Drains.{Goes, puts_forward}
+use Rattle.chorus_net.specs.Room.{UsesRoom}
 use Rattle.chorus_net.specs.Sites.{net}
 use Rattle.chorus_net.proofs.sites.Sites.deliver_from.Given as goal
 
@@ -9,6 +10,7 @@ invariant-loop-to l = record {
   low : 1 ≤ l.to;
   high : l.to ≤ l.count + 1;
   goes : Goes (from_one 0 l.from (numbers (l.to - 1) 1)) (net l.initial.self) (net l.self) l.served;
+  room : UsesRoom (puts_forward (from_one 0 l.from (numbers (l.to - 1) 1)) (net l.initial.self)) l.initial.self.places l.self.places;
   layout : l.self.layout ≡ l.initial.self.layout;
 }
 

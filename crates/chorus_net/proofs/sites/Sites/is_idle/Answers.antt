@@ -1,15 +1,11 @@
-use Rattle.std.proofs.Common.{◌≡◌, ◌≢◌, ◌+◌, ◌-◌, ◌<◌, ◌≤◌, ◌==◌, ℕ, suc, Result, Ok, true, length, refl, sym, ◌∙◌, ap, subst, arith}
+use Rattle.std.proofs.Common.{◌≡◌, ◌-◌, true, length, sym, ◌∙◌, ap}
 use Rattle.std.proofs.lemmas.Bool.{eqb-true}
-use Rattle.std.proofs.lemmas.Result.{MatchResult-from_err}
-use Rattle.chorus_ui.specs.Layout.{has_place, places}
+use Rattle.chorus_ui.specs.Layout.{has_place}
 use Rattle.chorus_out.specs.Waiting.{count}
 use Rattle.chorus_law.specs.Packets.{first_on}
-use Rattle.chorus_law.specs.declared.delivery.Delivered.{Delivered}
-use Rattle.chorus_law.specs.Network.{Deliver, happened, delivery, numbers, place_numbers, from_one, from_each}
-use Rattle.chorus_net.specs.Drains.{Goes, GoesRound, GoesRounds, Ticks}
-use Rattle.chorus_net.specs.Sites.{SitesState, net, IsSites, boxes, waiting_in}
+use Rattle.chorus_net.specs.Sites.{SitesState, boxes, waiting_in}
 use Rattle.chorus_net.proofs.Events.{stands-at-index}
-use Rattle.chorus_net.proofs.Rounds.{same-place, serves-one, serves-none, who-of, idle-first, idle-place, goes-none, row-on, round-on, round-done, stops-behind, stops-here, dry-round, drained, rounds-on, rounds-none, stops-behind-rounds}
+use Rattle.chorus_net.proofs.Rounds.{idle-first}
 use Rattle.chorus_net.proofs.sites.Sites.is_idle.Goals as goal
 
 pub returns : goal.returns

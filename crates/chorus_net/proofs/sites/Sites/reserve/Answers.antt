@@ -1,8 +1,8 @@
-use Rattle.std.proofs.Common.{◌≡◌, ◌+◌, ◌<◌, ◌≤◌, List, suc, length, take, set, refl, sym, ◌∙◌, ap, subst, arith}
+use Rattle.std.proofs.Common.{◌≡◌, ◌+◌, List, suc, length, take, refl, sym, ◌∙◌, ap, subst, arith}
 use Rattle.std.proofs.lemmas.List.{length-set}
 use Rattle.chorus_place.specs.Calls.{Place}
-use Rattle.chorus_net.specs.Room.{HaveRoom, KeepRoom, HasReserved}
-use Rattle.chorus_net.specs.Sites.{SitesState, net, IsSites}
+use Rattle.chorus_net.specs.Room.{HaveRoom}
+use Rattle.chorus_net.specs.Sites.{SitesState}
 use Rattle.chorus_net.proofs.Rooms.{keep-self, keep-on, room-on, room-before}
 use Rattle.chorus_net.proofs.sites.Sites.reserve.Goals as goal
 

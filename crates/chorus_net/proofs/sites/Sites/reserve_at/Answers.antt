@@ -1,6 +1,6 @@
-use Rattle.std.proofs.Common.{◌≡◌, ◌<◌, ◌≤◌, length, set, refl, sym, ◌∙◌, ap, subst, arith}
-use Rattle.chorus_net.specs.Room.{KeepRoom, HasReserved}
-use Rattle.chorus_net.specs.Sites.{SitesState, net, IsSites}
+use Rattle.std.proofs.Common.{◌<◌, length, set, ◌∙◌, ap, subst, arith}
+use Rattle.chorus_net.specs.Room.{KeepRoom}
+use Rattle.chorus_net.specs.Sites.{SitesState, net}
 use Rattle.chorus_net.proofs.Events.{kept-net, kept-sites, if-ok}
 use Rattle.chorus_net.proofs.Rooms.{keep-set, room-set}
 use Rattle.chorus_net.proofs.sites.Sites.reserve_at.Goals as goal

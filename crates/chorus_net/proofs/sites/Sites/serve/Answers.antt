@@ -1,18 +1,14 @@
-use Rattle.std.proofs.Common.{◌≡◌, ◌≢◌, ◌+◌, ◌-◌, ◌<◌, ◌≤◌, ◌==◌, ℕ, suc, Result, Ok, Err, true, length, refl, sym, ◌∙◌, ap, subst, arith}
-use Rattle.std.proofs.lemmas.Bool.{eqb-true}
+use Rattle.std.proofs.Common.{◌≡◌, ◌≢◌, Ok, Err, sym, ◌∙◌, ap}
 use Rattle.std.proofs.lemmas.Result.{MatchResult-from_err, err_from_is_err_and}
 use Rattle.chorus_place.specs.declared.fault.PlaceFault.TheVariants as faults
 use Rattle.chorus_law.specs.Calls.{compared_at}
-use Rattle.chorus_ui.specs.Layout.{has_place, places}
-use Rattle.chorus_out.specs.Waiting.{count}
-use Rattle.chorus_law.specs.Packets.{first_on}
 use Rattle.chorus_law.specs.declared.delivery.Delivered.{Delivered}
-use Rattle.chorus_law.specs.Network.{Deliver, happened, delivery, numbers, place_numbers, from_one, from_each}
-use Rattle.chorus_net.specs.Drains.{Goes, GoesRound, GoesRounds, Ticks}
-use Rattle.chorus_net.specs.Sites.{SitesState, net, IsSites, boxes, waiting_in}
+use Rattle.chorus_law.specs.Network.{NetState, Deliver, happened, delivery}
+use Rattle.chorus_net.specs.Drains.{Ticks, AnyCause, ComparesWorn}
+use Rattle.chorus_net.specs.Sites.{net}
 use Rattle.chorus_net.proofs.Deliveries.{fault-in}
-use Rattle.chorus_net.proofs.Events.{stands-at-index}
-use Rattle.chorus_net.proofs.Rounds.{worn-here, same-place, serves-one, serves-none, who-of, idle-first, idle-place, goes-none, row-on, round-on, round-done, stops-behind, stops-here, dry-round, drained, rounds-on, rounds-none, stops-behind-rounds}
+use Rattle.chorus_net.proofs.Rooms.{kept-uses}
+use Rattle.chorus_net.proofs.Rounds.{stops-here, serves-one, serves-none, uses-delivery, who-of}
 use Rattle.chorus_net.proofs.Worn.{done-unworn}
 use Rattle.chorus_net.proofs.sites.Sites.serve.Goals as goal
 
@@ -35,6 +31,19 @@ returns-in-Nothing-clause-ok c =
     let ne : c.args.from ≢ c.args.to = c.if-from-to.false in
     serves-none c.args.from c.args.to n m ne c.in_ok-deliver.ensures.ok answer
 
+pub returns-in-Served-clause-room : goal.returns-in-Served-clause-room
+returns-in-Served-clause-room c = uses-delivery c.args.from c.args.to c.args.self.now c.deliver.new.self c.if-from-to.false c.in_ok-deliver.ensures.room
+
+pub returns-in-Nothing-clause-room : goal.returns-in-Nothing-clause-room
+returns-in-Nothing-clause-room c = uses-delivery c.args.from c.args.to c.args.self.now c.deliver.new.self c.if-from-to.false c.in_ok-deliver.ensures.room
+
+pub returns-in_err-deliver-clause-stopped : goal.returns-in_err-deliver-clause-stopped
+returns-in_err-deliver-clause-stopped c =
+    MatchResult-from_err c.from_residual.result _ _ c.from_residual.ensures.0 (λ _.
+    let same : net c.deliver.new.self ≡ net c.args.self.now = c.in_err-deliver.ensures.refused in
+    let room = kept-uses c.args.self.now.places c.deliver.new.self.places (ap (λ (n : NetState). n.places) (sym same)) c.in_err-deliver.ensures.kept in
+    stops-here AnyCause c.args.from c.args.to c.args.self.now c.deliver.new.self c.if-from-to.false same room tt)
+
 pub returns-in_err-deliver-clause-worn : goal.returns-in_err-deliver-clause-worn
 returns-in_err-deliver-clause-worn c = λ clock e.
     let p = err_from_is_err_and c.from_residual.result c.from_residual.ensures.1 in
@@ -43,6 +52,6 @@ returns-in_err-deliver-clause-worn c = λ clock e.
     let was = c.in_err-deliver.was in
     let w : c.deliver.result ≡ Err (faults.Worn clock) = was ∙ ap Err (sym b ∙ ap (λ z. fault-in z (faults.Worn clock)) (sym a ∙ e)) in
     let both = (c.deliver.ensures.worn clock).0 w in
-    let same = c.in_err-deliver.ensures.refused in
-    let ne : c.args.from ≢ c.args.to = c.if-from-to.false in
-    worn-here c.args.from c.args.to clock (net c.args.self.now) (net c.deliver.new.self) ne same both.1 both.0
+    let same : net c.deliver.new.self ≡ net c.args.self.now = c.in_err-deliver.ensures.refused in
+    let room = kept-uses c.args.self.now.places c.deliver.new.self.places (ap (λ (n : NetState). n.places) (sym same)) c.in_err-deliver.ensures.kept in
+    stops-here (ComparesWorn clock) c.args.from c.args.to c.args.self.now c.deliver.new.self c.if-from-to.false same room (ap (compared_at 0 c.args.from c.args.to) same ∙ both.1, both.0)

@@ -1,14 +1,10 @@
-use Rattle.std.proofs.Common.{◌≡◌, ◌+◌, ◌≤◌, List, [], ◌∷◌, ◌++◌, length, map, Some, true, refl, sym, ◌∙◌, ap, arith}
+use Rattle.std.proofs.Common.{◌≡◌, List, [], ◌∷◌, ◌++◌, length, true, refl, sym, ◌∙◌, ap, arith}
 use Rattle.std.proofs.lemmas.Bool.{and_from}
 use Rattle.std.proofs.lemmas.Option.{same_Some}
 use Rattle.chorus_ui.specs.declared.ui.Ui.{Ui}
 use Rattle.chorus_ui.specs.Layout.{has_actor, places}
 use Rattle.chorus_calls.specs.Callers.{Seated, new_caller}
-use Rattle.chorus_machine.specs.PlaceState.{started}
-use Rattle.chorus_law.specs.Network.{NetState, opening, place_numbers}
-use Rattle.chorus_law.specs.Calls.{starting, just_started, first_actor}
-use Rattle.chorus_place.specs.Calls.{state}
-use Rattle.chorus_net.specs.Sites.{net, IsSites, waiting_in, boxes}
+use Rattle.chorus_law.specs.Calls.{starting, first_actor}
 use Rattle.chorus_net.proofs.Events.{first-may}
 use Rattle.chorus_net.proofs.Fresh.{are-places, none-waiting, all-started}
 use Rattle.chorus_net.proofs.sites.Sites.start.Goals as goal

@@ -2,19 +2,26 @@ use Rattle.std.proofs.Common.{ap, subst}
 use Rattle.chorus_place.specs.Calls.{Called, Stays}
 use Rattle.chorus_place.specs.Calls as calls
 use Rattle.chorus_place.proofs.CallTurns.{on_err}
-use Rattle.chorus_place.proofs.Ended.{still-none, called, stays}
+use Rattle.chorus_place.proofs.Ended.{called, stays}
+use Rattle.chorus_place.proofs.Bounded.{refused-at-rest, acts-at-rest}
 use Rattle.chorus_place.proofs.place.Place.act.Goals as goal
 
 pub invariant_of-self : goal.invariant_of-self
 invariant_of-self c =
-    still-none c.self.inside.tables c.perform.new.tables c.args.caller.now c.perform.new.caller c.self.invariant c.in_err-reply.ensures.refused
+    refused-at-rest c.self.inside.tables c.perform.new.tables c.args.caller.now c.perform.new.caller c.self.invariant c.in_err-reply.ensures.refused c.perform.ensures.out
+
+pub invariant_of-self-2 : goal.invariant_of-self-2
+invariant_of-self-2 c =
+    let sent = c.send_out.ensures in
+    acts-at-rest c.args.command c.self.inside.tables c.perform.new.tables c.send_out.new.self c.args.caller.now c.perform.new.caller c.self.invariant c.in_ok-reply.ensures.performed.done c.perform.ensures.out
+    (record { state = sent.state; lists = sent.lists; spare = ap (λ j. j.spare) sent.journal; room = sent.room }) sent.none c.requires.may.conditions c.are_within.ensures.body c.are_within.ensures.caller
 
 pub returns-in_err-reply-clause-refused : goal.returns-in_err-reply-clause-refused
 returns-in_err-reply-clause-refused c =
     let same = c.in_err-reply.ensures.refused in
     on_err c.from_residual.result _ (
       subst (λ p. Stays p (calls.place_of c.perform.new.tables)) c.self.view_is
-          (stays c.self.inside.tables c.perform.new.tables c.args.caller.now c.perform.new.caller c.self.invariant same c.perform.ensures.out c.perform.ensures.kept),
+          (stays c.self.inside.tables c.perform.new.tables c.args.caller.now c.perform.new.caller c.self.invariant.none same c.perform.ensures.out c.perform.ensures.kept),
       ap (λ t. t.caller) same,
     )
 
@@ -22,6 +29,6 @@ pub returns-clause-called : goal.returns-clause-called
 returns-clause-called c =
     let sent = c.send_out.ensures in
     subst (λ p. Called p (calls.place_of c.send_out.new.self) c.args.caller.now c.perform.new.caller c.args.command c.in_ok-reply.reply) c.self.view_is
-    (called c.self.inside.tables c.perform.new.tables c.send_out.new.self c.args.caller.now c.perform.new.caller c.args.command c.in_ok-reply.reply c.self.invariant
+    (called c.self.inside.tables c.perform.new.tables c.send_out.new.self c.args.caller.now c.perform.new.caller c.args.command c.in_ok-reply.reply c.self.invariant.none
     c.in_ok-reply.ensures.performed c.perform.ensures.out c.perform.ensures.kept
     (record { state = sent.state; lists = sent.lists; spare = ap (λ j. j.spare) sent.journal; room = sent.room }))

@@ -1,5 +1,5 @@
 use Rattle.std.proofs.Common.{sym, ap, ◌∙◌, subst, arith}
-use Rattle.chorus_scene.specs.declared.word.Word.TheVariants as words
+use Rattle.chorus_lines.specs.declared.word.Word.TheVariants as words
 use Rattle.chorus_scene.specs.Grammar.{judge_fields, then_after}
 use Rattle.chorus_scene.specs.Reader.{Gives, state_of, scene_of}
 use Rattle.chorus_scene.proofs.Next.{port_read}

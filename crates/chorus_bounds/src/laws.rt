@@ -1,0 +1,11 @@
+//! The law of the ranges. It speaks of the definitions alone and makes no call.
+
+ghost use Rattle.chorus_bounds.specs.Laws.{StartsWithin, ActsStayWithin, WorksStayWithin};
+
+/// What a place keeps is within the ranges of packets when it starts, and stays so with each command and each lawful packet; and
+/// each packet that is put then is within its ranges, so that it has a frame.
+pub fn turns_stay_within()
+    ensures start { StartsWithin }
+    ensures act { ActsStayWithin }
+    ensures work { WorksStayWithin }
+{}

@@ -1,0 +1,4 @@
+pub mod Text
+pub mod Body
+pub mod Words
+pub mod Reasons

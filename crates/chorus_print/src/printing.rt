@@ -1,0 +1,250 @@
+//! Printing scenarios.
+
+ghost use Rattle.std.specs.Prelude.{◌≡◌, ◌<◌, ℕ, List, [], ◌∷◌, ◌++◌, length, OnOk, OnErr, codes, decimal, map};
+ghost use Rattle.std.specs.List.{flat_map};
+ghost use Rattle.chorus_ui.specs.Text.{name_text};
+ghost use Rattle.chorus_lines.specs.Body.{hex_digit, hex_text, body_text};
+ghost use Rattle.chorus_scene.specs.Print.{behind, dest_text, command_text, version_text, sites_text, said_text, said_texts, script_texts, step_text, all_ended, printed, IsReadAgain};
+
+use chorus_entry::{Command, Dest};
+use chorus_lines::is_text;
+use chorus_scene::{Scenario, Script, SetupLine, Step};
+use chorus_ui::{Ui, push_decimal};
+use std::alloc::AllocError;
+
+/// Appends the text of a scenario, which says the same scenario for the same layout.
+///
+/// The version is kept. There is one space between fields, LF behind each line but the last, and no skipped line. A body
+/// is printed with `=` where all its bytes are 0x20 to 0x7E, else with `x`. The text is no longer than the one that was
+/// read. An error leaves `out` as it was.
+pub fn print(scenario: &Scenario, out: &mut Vec<u8>) -> Result<(), AllocError>
+    ensures text { OnOk result (out.new.items ≡ out.old.items ++ printed scenario.now) }
+    ensures again { IsReadAgain scenario.now }
+    ensures err { OnErr result (out.new.items ≡ out.old.items) }
+{
+    let mut text = Vec::new(*out.allocator());
+    push_scenario(scenario, &mut text)?;
+    out.extend_from_slice(&text)
+}
+
+fn push_scenario(scenario: &Scenario, out: &mut Vec<u8>) -> Result<(), AllocError>
+    ensures text { OnOk result (out.new.items ≡ out.old.items ++ printed scenario.now) }
+    ensures again { IsReadAgain scenario.now }
+{
+    let names = scenario.names();
+    push_head(scenario.version(), scenario.sites(), out)?;
+    push_setup(scenario.setup(), names, out)?;
+    push_scripts(scenario.scripts(), out)?;
+    push_schedule(scenario.schedule(), out)?;
+    out.extend_from_slice(b"end")?;
+    Ok(())
+}
+
+fn push_head(version: u8, sites: u16, out: &mut Vec<u8>) -> Result<(), AllocError>
+    ensures { OnOk result
+        (out.new.items
+        ≡ out.old.items ++ all_ended (version_text version ∷ sites_text sites ∷ [])) }
+{
+    push_numbered(b"chorus", u64::from(version), out)?;
+    end_line(out)?;
+    push_numbered(b"sites", u64::from(sites), out)?;
+    end_line(out)
+}
+
+/// Appends the lines of a setup, where these are the names that they begin with.
+fn push_setup(lines: &[SetupLine], names: &[Ui], out: &mut Vec<u8>) -> Result<(), AllocError>
+    requires { length names.now ≡ length lines.now }
+    ensures { OnOk result
+        (out.new.items ≡ out.old.items ++ all_ended (said_texts names.now lines.now)) }
+{
+    for (at, line) in lines.iter().enumerate() {
+        push_setup_line(names[at], line, out)?;
+        end_line(out)?;
+    }
+    Ok(())
+}
+
+fn push_setup_line(name: Ui, line: &SetupLine, out: &mut Vec<u8>) -> Result<(), AllocError>
+    ensures { OnOk result (out.new.items ≡ out.old.items ++ said_text name line.now) }
+{
+    match line {
+        SetupLine::Port { actor, capacity } => {
+            push_two_named(b"port", name, *actor, out)?;
+            push_number(u64::from(*capacity), out)
+        }
+        SetupLine::Group { .. } => push_named(b"group", name, out),
+        SetupLine::Member { port, .. } => push_two_named(b"member", name, *port, out),
+    }
+}
+
+fn push_scripts(scripts: &[Script], out: &mut Vec<u8>) -> Result<(), AllocError>
+    ensures { OnOk result
+        (out.new.items ≡ out.old.items ++ all_ended (flat_map script_texts scripts.now)) }
+{
+    for script in scripts {
+        push_script(script, out)?;
+    }
+    Ok(())
+}
+
+fn push_script(script: &Script, out: &mut Vec<u8>) -> Result<(), AllocError>
+    ensures { OnOk result (out.new.items ≡ out.old.items ++ all_ended (script_texts script.now)) }
+{
+    push_named(b"script", script.actor(), out)?;
+    end_line(out)?;
+    for command in script.commands() {
+        push_command(command, out)?;
+        end_line(out)?;
+    }
+    Ok(())
+}
+
+fn push_command(command: &Command, out: &mut Vec<u8>) -> Result<(), AllocError>
+    ensures { OnOk result (out.new.items ≡ out.old.items ++ command_text command.now) }
+{
+    match command {
+        Command::Send { dest, body } => {
+            push_dest(dest, out)?;
+            push_body(body.bytes(), out)
+        }
+        Command::Call { port, back, body } => {
+            push_two_named(b"call", *port, *back, out)?;
+            push_body(body.bytes(), out)
+        }
+        Command::Retry => out.extend_from_slice(b"retry"),
+        Command::Cancel => out.extend_from_slice(b"cancel"),
+        Command::Reply { body } => {
+            out.extend_from_slice(b"reply")?;
+            push_body(body.bytes(), out)
+        }
+        Command::Take { port } => push_named(b"take", *port, out),
+        Command::Move { port, actor } => push_two_named(b"move", *port, *actor, out),
+        Command::Delete { port } => push_named(b"delete", *port, out),
+        Command::Make { actor, capacity } => {
+            push_named(b"newport", *actor, out)?;
+            push_number(u64::from(*capacity), out)
+        }
+        Command::GroupMake { site } => push_numbered(b"newgroup", u64::from(*site), out),
+        Command::Join { group, port } => push_two_named(b"join", *group, *port, out),
+        Command::Leave { group, port } => push_two_named(b"leave", *group, *port, out),
+    }
+}
+
+/// Appends the word and the fields of a send, before its body.
+fn push_dest(dest: &Dest, out: &mut Vec<u8>) -> Result<(), AllocError>
+    ensures { OnOk result
+        ((body : List ℕ) → out.new.items ++ 32 ∷ body ≡ out.old.items ++ dest_text dest.now body) }
+{
+    match dest {
+        Dest::Port(port) => push_named(b"send", *port, out),
+        Dest::All(group) => push_named(b"all", *group, out),
+        Dest::One(group) => push_named(b"one", *group, out),
+        Dest::OneAt(group, site) => {
+            push_named(b"at", *group, out)?;
+            push_number(u64::from(*site), out)
+        }
+    }
+}
+
+fn push_schedule(steps: &[Step], out: &mut Vec<u8>) -> Result<(), AllocError>
+    ensures { OnOk result
+        (out.new.items ≡ out.old.items ++ all_ended (codes "schedule" ∷ map step_text steps.now)) }
+{
+    out.extend_from_slice(b"schedule\n")?;
+    for step in steps {
+        push_step(*step, out)?;
+        end_line(out)?;
+    }
+    Ok(())
+}
+
+fn push_step(step: Step, out: &mut Vec<u8>) -> Result<(), AllocError>
+    ensures { OnOk result (out.new.items ≡ out.old.items ++ step_text step) }
+{
+    match step {
+        Step::Step(script) => push_numbered(b"step", u64::from(script), out),
+        Step::Deliver(from, to) => {
+            push_numbered(b"deliver", u64::from(from), out)?;
+            push_number(u64::from(to), out)
+        }
+        Step::Drain => out.extend_from_slice(b"drain"),
+    }
+}
+
+/// Appends a word and a name.
+fn push_named(word: &[u8], name: Ui, out: &mut Vec<u8>) -> Result<(), AllocError>
+    ensures { OnOk result
+        (out.new.items ≡ out.old.items ++ (word.now ++ behind (name_text name ∷ []))) }
+{
+    out.extend_from_slice(word)?;
+    push_name(name, out)
+}
+
+/// Appends a word and two names.
+fn push_two_named(word: &[u8], first: Ui, second: Ui, out: &mut Vec<u8>) -> Result<(), AllocError>
+    ensures { OnOk result
+        (out.new.items
+        ≡ out.old.items ++ (word.now ++ behind (name_text first ∷ name_text second ∷ []))) }
+{
+    out.extend_from_slice(word)?;
+    push_name(first, out)?;
+    push_name(second, out)
+}
+
+/// Appends a word and a number.
+fn push_numbered(word: &[u8], number: u64, out: &mut Vec<u8>) -> Result<(), AllocError>
+    ensures { OnOk result
+        (out.new.items ≡ out.old.items ++ (word.now ++ behind (decimal number ∷ []))) }
+{
+    out.extend_from_slice(word)?;
+    push_number(number, out)
+}
+
+fn push_name(name: Ui, out: &mut Vec<u8>) -> Result<(), AllocError>
+    ensures { OnOk result (out.new.items ≡ out.old.items ++ 32 ∷ name_text name) }
+{
+    out.push(b' ')?;
+    name.text(out)
+}
+
+fn push_number(number: u64, out: &mut Vec<u8>) -> Result<(), AllocError>
+    ensures { OnOk result (out.new.items ≡ out.old.items ++ 32 ∷ decimal number) }
+{
+    out.push(b' ')?;
+    push_decimal(number, out)
+}
+
+fn push_body(bytes: &[u8], out: &mut Vec<u8>) -> Result<(), AllocError>
+    ensures { OnOk result (out.new.items ≡ out.old.items ++ 32 ∷ body_text bytes.now) }
+{
+    if is_text(bytes) {
+        out.extend_from_slice(b" =")?;
+        out.extend_from_slice(bytes)
+    } else {
+        out.extend_from_slice(b" x")?;
+        push_hex(bytes, out)
+    }
+}
+
+fn push_hex(bytes: &[u8], out: &mut Vec<u8>) -> Result<(), AllocError>
+    ensures { OnOk result (out.new.items ≡ out.old.items ++ hex_text bytes.now) }
+{
+    for b in bytes {
+        out.push(hex_digit(*b / 16))?;
+        out.push(hex_digit(*b % 16))?;
+    }
+    Ok(())
+}
+
+fn hex_digit(n: u8) -> u8
+    requires { n < 16 }
+    ensures { result ≡ hex_digit n }
+{
+    if n < 10 { b'0' + n } else { b'a' - 10 + n }
+}
+
+fn end_line(out: &mut Vec<u8>) -> Result<(), AllocError>
+    ensures { OnOk result (out.new.items ≡ out.old.items ++ 10 ∷ []) }
+{
+    Ok(out.push(b'\n')?)
+}
