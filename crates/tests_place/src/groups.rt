@@ -1,0 +1,228 @@
+//! Posts to groups, in the three ways, over one site and two.
+
+use crate::playing::assert_rows;
+
+const GROUPS: &str = "\
+functional_send_rotates: 1 1
+port 1.p.1 1.a.1 1
+port 1.p.2 1.a.1 1
+port 1.p.3 1.a.1 1
+group 1.g.1
+group 1.g.2
+member 1.g.1 1.p.1
+member 1.g.1 1.p.2
+member 1.g.1 1.p.3
+script 1.a.1
+one 1.g.2 =z
+one 1.g.1 =a
+one 1.g.1 =b
+one 1.g.1 =c
+one 1.g.1 =d
+schedule
+journal
+9 1 1 post 1:1:0 one 1.g.2 plain =z
+10 1 1 no-member 1:1:0 1.g.2
+11 1 1 post 1:2:0 one 1.g.1 plain =a
+12 1 1 choose 1:2:0 1.g.1 1.p.1
+13 1 1 accept 1:2:1 1.p.1 0
+14 1 1 post 1:3:0 one 1.g.1 plain =b
+15 1 1 choose 1:3:0 1.g.1 1.p.2
+16 1 1 accept 1:3:1 1.p.2 0
+17 1 1 post 1:4:0 one 1.g.1 plain =c
+18 1 1 choose 1:4:0 1.g.1 1.p.3
+19 1 1 accept 1:4:1 1.p.3 0
+20 1 1 post 1:5:0 one 1.g.1 plain =d
+21 1 1 choose 1:5:0 1.g.1 1.p.1
+22 1 1 full 1:5:1 1.p.1 1
+told
+1 no-member 1:1:0
+1 chosen 1:2:0 1
+1 chosen 1:3:0 1
+1 chosen 1:4:0 1
+1 chosen 1:5:0 1
+end
+functional_at_a_site: 3 1
+port 2.p.1 2.a.1 4
+group 1.g.1
+member 1.g.1 2.p.1
+script 1.a.1
+at 1.g.1 2 =x
+script 2.a.1
+move 2.p.1 3.a.1
+schedule
+step 1
+step 2
+deliver 1 2
+drain
+journal
+4 1 1 post 1:1:0 at 1.g.1 2 plain =x
+4 2 2 depart 2.p.1 3 3.a.1 1
+5 1 1 choose 1:1:0 1.g.1 2.p.1
+6 1 1 try 1:1:1 2.p.1 2 0
+7 2 0 elsewhere 1:1:1 2.p.1 3 1
+8 1 0 told 1:1:1 elsewhere 3 1
+9 3 0 arrive 2.p.1 1
+told
+0 joined
+1 chosen 1:1:0 1
+2 departed 1
+end
+the port comes to the group's place while a second post waits: 2 1
+port 2.p.1 2.a.1 4
+group 1.g.1
+member 1.g.1 2.p.1
+script 1.a.1
+at 1.g.1 2 =x
+at 1.g.1 2 =y
+script 2.a.1
+move 2.p.1 1.a.1
+schedule
+step 1
+step 1
+step 2
+deliver 2 1
+deliver 1 2
+deliver 2 1
+journal
+9 1 0 arrive 2.p.1 1
+10 2 0 elsewhere 1:1:1 2.p.1 1 1
+11 1 0 told 1:1:1 elsewhere 1 1
+12 1 0 elsewhere 1:2:1 2.p.1 1 1
+told
+1 chosen 1:1:0 1
+1 chosen 1:2:0 1
+2 departed 1
+end
+broadcast_meets_full: 1 1
+port 1.p.1 1.a.1 2
+port 1.p.2 1.a.1 1
+port 1.p.3 1.a.1 2
+group 1.g.1
+member 1.g.1 1.p.1
+member 1.g.1 1.p.2
+member 1.g.1 1.p.3
+script 1.a.1
+send 1.p.2 =f
+all 1.g.1 =b
+schedule
+journal
+10 1 1 post 1:2:0 all 1.g.1 plain =b
+11 1 1 choose 1:2:0 1.g.1 1.p.1 1.p.2 1.p.3
+12 1 1 accept 1:2:1 1.p.1 0
+13 1 1 full 1:2:2 1.p.2 1
+14 1 1 accept 1:2:3 1.p.3 0
+told
+1 accepted 1:1:0 0
+1 chosen 1:2:0 3
+end
+report_reaches_the_home_place: 2 1
+port 2.p.1 2.a.1 4
+group 1.g.1
+member 1.g.1 2.p.1
+script 2.a.1
+one 1.g.1 =k
+schedule
+journal
+4 2 1 post 1:1:0 one 1.g.1 plain =k
+5 1 0 choose 1:1:0 1.g.1 2.p.1
+6 1 0 try 1:1:1 2.p.1 2 0
+7 2 0 heard 1:1:0 chosen 1
+8 2 0 accept 1:1:1 2.p.1 0
+9 1 0 told 1:1:1 accepted 0
+10 2 0 heard 1:1:1 accepted 0
+told
+0 joined
+1 posted 1:1:0
+end
+a broadcast from another site: 2 1
+port 1.p.1 1.a.1 1
+port 2.p.1 2.a.1 1
+group 1.g.1
+member 1.g.1 1.p.1
+member 1.g.1 2.p.1
+script 2.a.1
+all 1.g.1 =k
+schedule
+journal
+6 2 1 post 1:1:0 all 1.g.1 plain =k
+7 1 0 choose 1:1:0 1.g.1 1.p.1 2.p.1
+8 1 0 accept 1:1:1 1.p.1 0
+9 1 0 try 1:1:2 2.p.1 2 0
+10 2 0 heard 1:1:0 chosen 2
+11 2 0 heard 1:1:1 accepted 0
+12 2 0 accept 1:1:2 2.p.1 0
+13 1 0 told 1:1:2 accepted 0
+14 2 0 heard 1:1:2 accepted 0
+told
+1 posted 1:1:0
+end
+groups with no member to choose: 2 1
+group 1.g.1
+script 2.a.1
+all 1.g.2 =k
+one 5.g.1 =l
+at 1.g.1 2 =m
+schedule
+journal
+2 2 1 post 1:1:0 all 1.g.2 plain =k
+3 1 0 no-member 1:1:0 1.g.2
+4 2 0 heard 1:1:0 no-member
+5 2 1 post 1:2:0 one 5.g.1 plain =l
+6 2 1 no-member 1:2:0 5.g.1
+7 2 1 post 1:3:0 at 1.g.1 2 plain =m
+8 1 0 no-member 1:3:0 1.g.1
+9 2 0 heard 1:3:0 no-member
+told
+1 posted 1:1:0
+1 no-member 1:2:0
+1 posted 1:3:0
+end
+one rotation for both functional ways: 2 1
+port 1.p.1 1.a.1 4
+port 1.p.2 1.a.1 4
+port 2.p.1 2.a.1 4
+group 1.g.1
+member 1.g.1 1.p.1
+member 1.g.1 2.p.1
+member 1.g.1 1.p.2
+script 1.a.1
+at 1.g.1 1 =a
+at 1.g.1 1 =b
+one 1.g.1 =c
+leave 1.g.1 1.p.1
+one 1.g.1 =d
+at 1.g.1 2 =e
+schedule
+journal
+8 1 1 post 1:1:0 at 1.g.1 1 plain =a
+9 1 1 choose 1:1:0 1.g.1 1.p.1
+10 1 1 accept 1:1:1 1.p.1 0
+11 1 1 post 1:2:0 at 1.g.1 1 plain =b
+12 1 1 choose 1:2:0 1.g.1 1.p.2
+13 1 1 accept 1:2:1 1.p.2 0
+14 1 1 post 1:3:0 one 1.g.1 plain =c
+15 1 1 choose 1:3:0 1.g.1 1.p.1
+16 1 1 accept 1:3:1 1.p.1 1
+17 1 1 leave 1.g.1 1.p.1
+18 1 1 post 1:4:0 one 1.g.1 plain =d
+19 1 1 choose 1:4:0 1.g.1 2.p.1
+20 1 1 try 1:4:1 2.p.1 2 0
+21 2 0 accept 1:4:1 2.p.1 0
+22 1 0 told 1:4:1 accepted 0
+23 1 1 post 1:5:0 at 1.g.1 2 plain =e
+24 1 1 choose 1:5:0 1.g.1 2.p.1
+25 1 1 try 1:5:1 2.p.1 2 0
+26 2 0 accept 1:5:1 2.p.1 1
+27 1 0 told 1:5:1 accepted 1
+told
+1 chosen 1:3:0 1
+1 left
+1 chosen 1:4:0 1
+1 chosen 1:5:0 1
+end
+";
+
+#[test]
+fn members_are_chosen_and_reported(rt: HostRuntime) {
+    assert_rows(&rt, rt.alloc(), GROUPS);
+}

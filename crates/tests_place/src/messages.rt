@@ -1,0 +1,427 @@
+//! Messages to ports, and remote calls.
+
+use crate::playing::assert_rows;
+
+const MESSAGES: &str = "\
+full_then_taken_then_empty: 1 1
+port 1.p.1 1.a.1 1
+script 1.a.1
+send 1.p.1 =a
+send 1.p.1 =b
+take 1.p.1
+take 1.p.1
+take 1.p.1
+schedule
+journal
+1 1 0 make 1.p.1 1.a.1 1
+2 1 1 post 1:1:0 port 1.p.1 plain =a
+3 1 1 accept 1:1:0 1.p.1 0
+4 1 1 post 1:2:0 port 1.p.1 plain =b
+5 1 1 full 1:2:0 1.p.1 1
+6 1 1 take 1.p.1 0 1:1:0
+7 1 1 empty 1.p.1
+8 1 1 empty 1.p.1
+told
+0 made 1.p.1
+1 accepted 1:1:0 0
+1 full 1:2:0 1
+1 taken 0 1:1:0 plain =a
+1 empty
+1 empty
+end
+two_sites_send_to_one_port: 2 1
+port 2.p.1 2.a.1 4
+script 1.a.1
+send 2.p.1 =hi
+script 2.a.1
+send 2.p.1 =yo
+schedule
+step 1
+step 2
+deliver 1 2
+deliver 2 1
+journal
+1 2 0 make 2.p.1 2.a.1 4
+2 1 1 post 1:1:0 port 2.p.1 plain =hi
+2 2 2 post 2:1:0 port 2.p.1 plain =yo
+3 1 1 try 1:1:0 2.p.1 2 0
+3 2 2 accept 2:1:0 2.p.1 0
+4 2 0 accept 1:1:0 2.p.1 1
+5 1 0 told 1:1:0 accepted 1
+told
+0 made 2.p.1
+1 posted 1:1:0
+2 accepted 2:1:0 0
+end
+no_port: 1 1
+port 1.p.1 1.a.1 2
+script 1.a.1
+send 1.p.9 =x
+send 1.p.1 =y
+schedule
+journal
+2 1 1 post 1:1:0 port 1.p.9 plain =x
+3 1 1 no-port 1:1:0 1.p.9
+4 1 1 post 1:2:0 port 1.p.1 plain =y
+5 1 1 accept 1:2:0 1.p.1 0
+told
+1 no-port 1:1:0
+1 accepted 1:2:0 0
+end
+no port of another site, and none of a site that is not there: 2 1
+script 1.a.1
+send 2.p.1 =x
+send 5.p.1 =y
+schedule
+journal
+1 1 1 post 1:1:0 port 2.p.1 plain =x
+2 1 1 try 1:1:0 2.p.1 2 0
+3 2 0 no-port 1:1:0 2.p.1
+4 1 0 told 1:1:0 no-port
+5 1 1 post 1:2:0 port 5.p.1 plain =y
+6 1 1 no-port 1:2:0 5.p.1
+told
+1 posted 1:1:0
+1 no-port 1:2:0
+end
+delete_discards: 1 1
+port 1.p.1 1.a.1 2
+script 1.a.1
+send 1.p.1 =a
+send 1.p.1 =b
+take 1.p.1
+delete 1.p.1
+send 1.p.1 =c
+take 1.p.1
+schedule
+journal
+6 1 1 take 1.p.1 0 1:1:0
+7 1 1 delete 1.p.1 1:2:0
+8 1 1 post 1:3:0 port 1.p.1 plain =c
+9 1 1 gone 1:3:0 1.p.1
+10 1 1 not-here 1.p.1
+told
+0 made 1.p.1
+1 accepted 1:1:0 0
+1 accepted 1:2:0 1
+1 taken 0 1:1:0 plain =a
+1 deleted 1
+1 gone 1:3:0
+1 not-here
+end
+one_message_under_way_per_route: 3 1
+port 1.p.1 1.a.1 4
+script 3.a.1
+send 1.p.1 =x
+send 1.p.1 =y
+script 1.a.1
+move 1.p.1 2.a.1
+schedule
+step 2
+step 1
+step 1
+deliver 3 1
+deliver 1 3
+deliver 1 2
+deliver 3 2
+deliver 2 3
+deliver 3 2
+journal
+1 1 0 make 1.p.1 1.a.1 4
+2 1 2 depart 1.p.1 2 2.a.1 1
+2 3 1 post 1:1:0 port 1.p.1 plain =x
+3 3 1 try 1:1:0 1.p.1 1 0
+4 1 0 stale 1:1:0 1.p.1 0 2 1
+4 3 1 post 1:2:0 port 1.p.1 plain =y
+5 3 0 told 1:1:0 stale 2 1
+6 3 0 try 1:1:0 1.p.1 2 1
+7 2 0 arrive 1.p.1 1
+8 2 0 accept 1:1:0 1.p.1 0
+9 3 0 told 1:1:0 accepted 0
+10 3 0 try 1:2:0 1.p.1 2 1
+11 2 0 accept 1:2:0 1.p.1 1
+12 3 0 told 1:2:0 accepted 1
+told
+2 departed 1
+1 posted 1:1:0
+1 posted 1:2:0
+end
+";
+
+#[test]
+fn messages_are_decided_where_the_port_is(rt: HostRuntime) {
+    assert_rows(&rt, rt.alloc(), MESSAGES);
+}
+
+const CALLS: &str = "\
+call_and_reply_on_one_site: 1 1
+port 1.p.1 1.a.1 4
+script 1.a.1
+call 1.p.1 1.p.1 =q
+call 1.p.1 1.p.1 =r
+take 1.p.1
+reply =s
+take 1.p.1
+retry
+reply =t
+schedule
+journal
+2 1 1 post 1:1:0 port 1.p.1 request 1 1.p.1 =q
+3 1 1 accept 1:1:0 1.p.1 0
+4 1 1 outstanding 1
+5 1 1 take 1.p.1 0 1:1:0
+6 1 1 post 1:2:0 port 1.p.1 reply 1 1 =s
+7 1 1 accept 1:2:0 1.p.1 1
+8 1 1 take 1.p.1 1 1:2:0
+9 1 1 done 1
+10 1 1 no-call
+11 1 1 no-request
+told
+0 made 1.p.1
+1 accepted 1:1:0 0
+1 outstanding 1
+1 taken 0 1:1:0 request 1 1.p.1 =q
+1 accepted 1:2:0 1
+1 taken 1 1:2:0 reply 1 1 =s done
+1 no-call
+1 no-request
+end
+retry_across_a_move_is_accepted_once: 3 1
+port 1.p.1 1.a.1 4
+port 2.p.1 2.a.1 4
+script 2.a.1
+call 1.p.1 2.p.1 =q
+retry
+cancel
+call 1.p.1 2.p.1 =r
+take 2.p.1
+script 1.a.1
+move 1.p.1 3.a.1
+script 3.a.1
+take 1.p.1
+reply =ans
+schedule
+step 1
+deliver 2 1
+deliver 1 2
+step 2
+deliver 1 3
+step 1
+deliver 2 1
+deliver 1 2
+deliver 2 3
+deliver 3 2
+step 3
+step 1
+step 1
+step 3
+drain
+journal
+1 1 0 make 1.p.1 1.a.1 4
+2 2 0 make 2.p.1 2.a.1 4
+3 2 1 post 1:1:0 port 1.p.1 request 1 2.p.1 =q
+4 2 1 try 1:1:0 1.p.1 1 0
+5 1 0 accept 1:1:0 1.p.1 0
+6 1 2 depart 1.p.1 3 3.a.1 1
+6 2 0 told 1:1:0 accepted 0
+7 2 1 post 1:2:0 port 1.p.1 request 1 2.p.1 =q
+7 3 0 arrive 1.p.1 1
+8 2 1 try 1:2:0 1.p.1 1 0
+9 1 0 stale 1:2:0 1.p.1 0 3 1
+10 2 0 told 1:2:0 stale 3 1
+11 2 0 try 1:2:0 1.p.1 3 1
+12 3 0 already 1:2:0 1.p.1
+13 2 0 told 1:2:0 already
+13 3 3 take 1.p.1 0 1:1:0
+14 2 1 cancel 1
+14 3 3 post 3:1:0 port 2.p.1 reply 1 1 =ans
+15 2 1 post 1:3:0 port 1.p.1 request 2 2.p.1 =r
+15 3 3 try 3:1:0 2.p.1 2 0
+16 2 1 try 1:3:0 1.p.1 3 1
+17 3 0 accept 1:3:0 1.p.1 1
+18 2 0 accept 3:1:0 2.p.1 0
+19 3 0 told 3:1:0 accepted 0
+20 2 0 told 1:3:0 accepted 1
+21 2 1 take 2.p.1 0 3:1:0
+22 2 1 late 1
+told
+1 posted 1:1:0
+2 departed 1
+1 posted 1:2:0
+3 taken 0 1:1:0 request 1 2.p.1 =q
+1 cancelled 1
+1 posted 1:3:0
+3 posted 3:1:0
+1 taken 0 3:1:0 reply 1 1 =ans late
+end
+the request taken last is in hand, and a reply taken by another seat is late: 1 1
+port 1.p.1 1.a.1 4
+port 1.p.2 1.a.1 4
+script 1.a.1
+call 1.p.1 1.p.2 =q
+script 1.a.1
+call 1.p.1 1.p.2 =r
+take 1.p.2
+script 1.a.1
+reply =no
+take 1.p.1
+take 1.p.1
+reply =yes
+reply =no
+schedule
+step 1
+step 2
+step 3
+step 3
+step 3
+step 3
+step 3
+step 2
+drain
+journal
+3 1 1 post 1:1:0 port 1.p.1 request 1 1.p.2 =q
+4 1 1 accept 1:1:0 1.p.1 0
+5 1 2 post 2:1:0 port 1.p.1 request 1 1.p.2 =r
+6 1 2 accept 2:1:0 1.p.1 1
+7 1 3 no-request
+8 1 3 take 1.p.1 0 1:1:0
+9 1 3 take 1.p.1 1 2:1:0
+10 1 3 post 3:1:0 port 1.p.2 reply 2 1 =yes
+11 1 3 accept 3:1:0 1.p.2 0
+12 1 3 no-request
+13 1 2 take 1.p.2 0 3:1:0
+14 1 2 done 1
+told
+3 no-request
+3 taken 0 1:1:0 request 1 1.p.2 =q
+3 taken 1 2:1:0 request 1 1.p.2 =r
+3 accepted 3:1:0 0
+3 no-request
+2 taken 0 3:1:0 reply 2 1 =yes done
+end
+a reply taken by another seat of the actor is late: 1 1
+port 1.p.1 1.a.1 4
+port 1.p.2 1.a.1 4
+script 1.a.1
+call 1.p.1 1.p.2 =q
+retry
+cancel
+cancel
+script 1.a.1
+take 1.p.1
+reply =s
+take 1.p.2
+schedule
+step 1
+step 2
+step 2
+step 2
+step 1
+step 1
+step 1
+journal
+3 1 1 post 1:1:0 port 1.p.1 request 1 1.p.2 =q
+4 1 1 accept 1:1:0 1.p.1 0
+5 1 2 take 1.p.1 0 1:1:0
+6 1 2 post 2:1:0 port 1.p.2 reply 1 1 =s
+7 1 2 accept 2:1:0 1.p.2 0
+8 1 2 take 1.p.2 0 2:1:0
+9 1 2 late 1
+10 1 1 post 1:2:0 port 1.p.1 request 1 1.p.2 =q
+11 1 1 already 1:2:0 1.p.1
+12 1 1 cancel 1
+13 1 1 no-call
+told
+2 taken 0 2:1:0 reply 1 1 =s late
+1 already 1:2:0
+1 cancelled 1
+1 no-call
+end
+calls and posts to a group over two sites: 2 1
+script 1.a.1
+newport 1.a.1 2
+newgroup 1
+join 1.g.1 1.p.1
+join 1.g.1 2.p.1
+call 2.p.1 1.p.1 =q
+retry
+move 1.p.1 2.a.1
+script 2.a.1
+newport 2.a.1 2
+all 1.g.1 =x
+take 2.p.1
+take 2.p.1
+reply =a
+delete 1.p.1
+schedule
+step 1
+step 2
+step 1
+step 1
+step 1
+step 2
+drain
+step 1
+drain
+step 2
+step 2
+step 2
+drain
+step 1
+drain
+step 1
+drain
+step 2
+journal
+1 1 1 make 1.p.1 1.a.1 2
+1 2 2 make 2.p.1 2.a.1 2
+2 1 1 group 1.g.1
+2 2 2 post 2:1:0 all 1.g.1 plain =x
+3 1 1 join 1.g.1 1.p.1
+4 1 1 join 1.g.1 2.p.1
+5 1 0 choose 2:1:0 1.g.1 1.p.1 2.p.1
+6 1 0 accept 2:1:1 1.p.1 0
+7 1 0 try 2:1:2 2.p.1 2 0
+8 2 0 heard 2:1:0 chosen 2
+9 2 0 heard 2:1:1 accepted 0
+10 2 0 accept 2:1:2 2.p.1 0
+11 1 0 told 2:1:2 accepted 0
+12 1 1 post 1:1:0 port 2.p.1 request 1 1.p.1 =q
+12 2 0 heard 2:1:2 accepted 0
+13 1 1 try 1:1:0 2.p.1 2 0
+14 2 0 accept 1:1:0 2.p.1 1
+15 1 0 told 1:1:0 accepted 1
+15 2 2 take 2.p.1 0 2:1:2
+16 2 2 take 2.p.1 1 1:1:0
+17 2 2 post 2:2:0 port 1.p.1 reply 1 1 =a
+18 2 2 try 2:2:0 1.p.1 1 0
+19 1 0 accept 2:2:0 1.p.1 1
+20 1 1 post 1:2:0 port 2.p.1 request 1 1.p.1 =q
+20 2 0 told 2:2:0 accepted 1
+21 1 1 try 1:2:0 2.p.1 2 0
+22 2 0 already 1:2:0 2.p.1
+23 1 0 told 1:2:0 already
+24 1 1 depart 1.p.1 2 2.a.1 1
+25 2 0 arrive 1.p.1 1
+26 2 2 delete 1.p.1 2:1:1 2:2:0
+told
+1 made 1.p.1
+2 made 2.p.1
+1 made 1.g.1
+1 joined
+1 joined
+2 posted 2:1:0
+1 posted 1:1:0
+2 taken 0 2:1:2 plain =x
+2 taken 1 1:1:0 request 1 1.p.1 =q
+2 posted 2:2:0
+1 posted 1:2:0
+1 departed 1
+2 deleted 2
+end
+";
+
+#[test]
+fn calls_are_answered_once(rt: HostRuntime) {
+    assert_rows(&rt, rt.alloc(), CALLS);
+}
