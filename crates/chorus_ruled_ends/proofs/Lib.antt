@@ -1,0 +1,4 @@
+pub mod Lists
+pub mod Moving
+pub mod Slots
+pub mod Rows

@@ -1,0 +1,3 @@
+pub mod Ruled
+pub mod Sides
+pub mod Linked
