@@ -1,9 +1,9 @@
 -- What a top call did to its source and sink, by its status.
-use Rattle.std.specs.Prelude.{◌≡◌, ℕ, List, [], ◌++◌, Option, Some, None}
+use Rattle.std.specs.Prelude.{◌≡◌, ℕ, List, [], Option, Some, None}
 use Rattle.std.specs.Io.KnownBytes.{Appends}
 use Rattle.chorus_io.specs.Bytes.{AppendsPrefix}
-use Rattle.chorus_show.specs.Journal.{journal_text}
 use Rattle.chorus_show.specs.Summary.{summary_text}
+use Rattle.chorus_show.specs.Report.{report}
 use Rattle.chorus_net.specs.declared.closed.Closed.{Closed}
 use Rattle.chorus_run.specs.Headline.{merge_of}
 use Rattle.chorus_show.specs.declared.status.Status.{Status}
@@ -37,13 +37,10 @@ EndsUnread Memory = Unit {0}
 EndsUnread (Worn clock) = Unit {0}
 EndsUnread _ = ⊥
 
--- the text of what was closed: the journal text and the summary text of the merge of its journals
-abbrev pub report : Closed → List ℕ
-report closed = journal_text (merge_of closed) ++ summary_text (merge_of closed)
-
+-- the text of what was closed: the report of the merge of its journals
 abbrev pub text_of : Option Closed → List ℕ
 text_of None = []
-text_of (Some closed) = report closed
+text_of (Some closed) = report (merge_of closed)
 
 -- or the summary text alone
 abbrev pub summary : Closed → List ℕ

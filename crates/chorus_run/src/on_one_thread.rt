@@ -5,9 +5,10 @@ ghost use Rattle.chorus_io.specs.Count.{Rose};
 ghost use Rattle.chorus_ui.specs.Layout.{IsLayout};
 ghost use Rattle.chorus_ui.specs.declared.limits.TheConstants.{CLOCK_LIMIT};
 ghost use Rattle.chorus_scene.specs.Limits.{Keeps};
+ghost use Rattle.chorus_show.specs.Report.{report};
 ghost use Rattle.chorus_run.specs.Worn.{HasClock};
 ghost use Rattle.chorus_run.specs.Headline.{AreJustStarted, Gives, IsGiven, IsRead, ReadsNoFurther, Replays, merge_of};
-ghost use Rattle.chorus_run.specs.Output.{Writes, HandsOut, GivesUp, report, text_of};
+ghost use Rattle.chorus_run.specs.Output.{Writes, HandsOut, GivesUp, text_of};
 ghost use Rattle.chorus_run.specs.Performing.{IsPlayed};
 ghost use Rattle.chorus_net.specs.Sites.{net};
 
@@ -123,7 +124,7 @@ fn play(alloc: Global, mut sites: Sites, scenario: &Scenario) -> Result<Played, 
 
 /// The journal text and the summary text of what was closed.
 fn text_of(alloc: Global, closed: &Closed) -> Result<Vec<u8>, AllocError>
-    ensures { IfOk result (λ text. text.items ≡ report closed.now) }
+    ensures { IfOk result (λ text. text.items ≡ report (merge_of closed.now)) }
 {
     let entries = merge(alloc, &closed.journals)?;
     let mut text = Vec::new(alloc);

@@ -1,4 +1,3 @@
 pub mod PortSums
 pub mod Waiting
-pub mod ReadBack
 pub mod LineBack

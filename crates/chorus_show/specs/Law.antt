@@ -1,5 +1,5 @@
--- A line has one entry.
-use Rattle.std.specs.Prelude.{◌≡◌, ℕ, ◌<◌, ◌^◌, List, [], ◌∷◌}
+-- A line has one entry, and is read back.
+use Rattle.std.specs.Prelude.{◌≡◌, ℕ, ◌<◌, ◌^◌, List, [], ◌∷◌, ◌++◌, Some}
 use Rattle.chorus_ui.specs.declared.ui.Ui.{Ui}
 use Rattle.chorus_ui.specs.Name.{IsName}
 use Rattle.chorus_entry.specs.declared.id.MsgId.{MsgId}
@@ -14,6 +14,7 @@ use Rattle.chorus_entry.specs.declared.act.Act.{Act}
 use Rattle.chorus_entry.specs.declared.act.Act.TheVariants.{Make, MakeFull, NoActor, NoSite, Post, Accept, Full, Already, ClientsFull, Stale, Early, NoPort, Elsewhere, NoMember, Choose, Try, Told, Heard, Take, Done, Late, Empty, NotHere, Rehome, Depart, Arrive, GroupMake, GroupsFull, Join, Leave, NoGroup, There, NotThere, MembersFull, Outstanding, NoCall, NoRequest, Cancel, Delete, Gone}
 use Rattle.chorus_entry.specs.declared.entry.Entry.{Entry}
 use Rattle.chorus_show.specs.Lines.{entry_text}
+use Rattle.chorus_show.specs.Reading.{parts, entry_in}
 
 abbrev pub Is8 : ℕ → Type 0
 Is8 n = n < 2 ^ 8
@@ -126,3 +127,7 @@ pub record IsEntry (e : Entry) : Type 0 where
 -- two such entries with one line are one
 abbrev pub LinesTellEntries : Type 0
 LinesTellEntries = (d e : Entry) → IsEntry d → IsEntry e → entry_text d ≡ entry_text e → d ≡ e
+
+-- and what the words of its line say, without the LF, is the entry
+abbrev pub LinesAreReadBack : Type 0
+LinesAreReadBack = (e : Entry) (text : List ℕ) → IsEntry e → entry_text e ≡ text ++ 10 ∷ [] → entry_in (parts 32 text) ≡ Some e

@@ -1,7 +1,9 @@
 pub mod Phrases
 pub mod Lines
 pub mod Law
+pub mod Reading
 pub mod Journal
 pub mod Summary
+pub mod Report
 pub mod Tally
 pub mod Faults

@@ -2,7 +2,7 @@
 //!
 //! Each text has one definition, `specs/Lines.antt` for the forty lines of a journal above all, and the calls here append
 //! exactly its bytes, or nothing where there is no memory. The program prints with these calls, and the reader of a printed
-//! journal stands on the law that a line has one entry.
+//! journal stands on the laws that a line has one entry and is read back.
 //!
 //! Begin with [`entry_line`].
 
@@ -19,7 +19,7 @@ mod status;
 mod summary;
 
 pub use journal::{entry_line, journal_text};
-pub use law::a_line_has_one_entry;
+pub use law::{a_line_has_one_entry, a_line_is_read_back};
 pub use queues::Spot;
 pub use status::{Status, fault_text};
 pub use summary::summary_text;
