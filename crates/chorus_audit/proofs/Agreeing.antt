@@ -1,5 +1,5 @@
 -- Two ways to find the entries of a text agree, as far as both go.
-use Rattle.std.proofs.Common.{◌≡◌, ◌≢◌, ℕ, ◌+◌, ◌*◌, ◌^◌, ◌<◌, ◌≤◌, Bool, true, false, ◌&&◌, unwrap_or, List, [], ◌∷◌, ◌++◌, length, drop, reverse, codes, decimal, refl, sym, ap, ◌∙◌, subst, append_assoc, append-nil, arith}
+use Rattle.std.proofs.Common.{◌≡◌, ℕ, ◌^◌, ◌<◌, true, unwrap_or, List, [], ◌∷◌, ◌++◌, length, drop, reverse, codes, decimal, refl, sym, ap, ◌∙◌, append_assoc, arith}
 use Rattle.std.specs.List.{flat_map}
 use Rattle.std.proofs.lemmas.Bool.{and_parts}
 use Rattle.std.proofs.lemmas.List.{reverse-append, length-append, append_cancel_right}
@@ -11,7 +11,6 @@ use Rattle.chorus_world.specs.Steps.{may, is_legal}
 use Rattle.chorus_show.specs.Lines.{entry_text}
 use Rattle.chorus_show.specs.Law.{IsEntry}
 use Rattle.chorus_show.specs.Phrases.{phrase}
-use Rattle.chorus_show.specs.Reading.{lacks}
 use Rattle.chorus_show.proofs.LineBack.{line, entry_line, lines_tell_entries, count_lacks}
 use Rattle.chorus_audit.specs.Bounds.{IsWithin, AreWithin}
 use Rattle.chorus_audit.specs.Tests.{head}

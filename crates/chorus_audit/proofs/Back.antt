@@ -1,5 +1,5 @@
 -- What is read of an entry's line is the entry.
-use Rattle.std.proofs.Common.{◌≡◌, ◌≢◌, ℕ, Bool, true, false, if◌then◌else◌, Option, Some, None, option_map, unwrap_or, List, [], ◌∷◌, ◌++◌, refl, sym, ap, ◌∙◌, subst, arith}
+use Rattle.std.proofs.Common.{◌≡◌, ◌≢◌, ℕ, Bool, true, false, if◌then◌else◌, Option, Some, None, option_map, unwrap_or, List, [], ◌∷◌, ◌++◌, refl, sym, ap, ◌∙◌, arith}
 use Rattle.std.specs.Str.{bytes_eq}
 use Rattle.std.proofs.lemmas.Bool.{false≢true}
 use Rattle.std.proofs.lemmas.List.{append_cancel_right}
@@ -8,7 +8,7 @@ use Rattle.chorus_entry.specs.declared.act.Act.{Act}
 use Rattle.chorus_entry.specs.declared.entry.Entry.{Entry}
 use Rattle.chorus_show.specs.Lines.{entry_text}
 use Rattle.chorus_ui.specs.Decimals.{parse_decimal}
-use Rattle.chorus_show.specs.Reading.{parts, first, second, third, rest, u16_in, u32_in, act_in, four, entry_of, entry_in}
+use Rattle.chorus_show.specs.Reading.{parts, first, second, third, rest, u16_in, u32_in, act_in, four, entry_of}
 use Rattle.chorus_show.proofs.LineBack.{line, entry_back}
 use Rattle.chorus_audit.specs.Bounds.{has_room, IsWithin}
 use Rattle.chorus_audit.specs.Calls.{held, entry_held}

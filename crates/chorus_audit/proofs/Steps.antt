@@ -1,11 +1,8 @@
 -- The steps of an audit.
-use Rattle.std.proofs.Common.{◌≡◌, ◌≢◌, ℕ, ◌+◌, ◌^◌, ◌<◌, ◌≤◌, ◌==◌, Bool, true, false, not, ◌&&◌, if◌then◌else◌, Option, Some, None, unwrap_or, List, [], ◌∷◌, ◌++◌, length, reverse, codes, decimal, refl, sym, ap, ◌∙◌, subst, append_assoc, append-nil, arith, inl, inr, length-append}
+use Rattle.std.proofs.Common.{◌≡◌, ◌≢◌, ℕ, ◌+◌, ◌^◌, ◌<◌, ◌≤◌, ◌==◌, Bool, true, false, not, if◌then◌else◌, Option, Some, None, unwrap_or, List, [], ◌∷◌, ◌++◌, length, reverse, codes, decimal, refl, sym, ap, ◌∙◌, subst, append_assoc, append-nil, arith, inl, inr, length-append}
 use Rattle.std.specs.Prelude.{◌⊎◌}
-use Rattle.std.specs.List.{flat_map}
-use Rattle.std.specs.Str.{bytes_eq}
 use Rattle.std.proofs.lemmas.Bool.{and_parts, false≢true}
 use Rattle.std.proofs.lemmas.List.{reverse-append, reverse-reverse, length-reverse}
-use Rattle.std.proofs.lemmas.Slice.Eq.{bytes_eq-Decides}
 use Rattle.chorus_ui.specs.declared.layout.Layout.{Layout}
 use Rattle.chorus_ui.specs.Decimals.{parse_decimal}
 use Rattle.chorus_ui.proofs.Decimals.{parse_decimal_is}
@@ -17,13 +14,10 @@ use Rattle.chorus_show.specs.Lines.{entry_text}
 use Rattle.chorus_show.specs.Summary.{summary_text}
 use Rattle.chorus_show.specs.Reading.{lacks, below, u32_in}
 use Rattle.chorus_show.proofs.LineBack.{line, entry_line, count_lacks, back_n32}
-use Rattle.chorus_audit.specs.declared.judging.Audit.{Audit}
 use Rattle.chorus_audit.specs.declared.judging.Audit.TheVariants.{Legal, Wrong}
-use Rattle.chorus_audit.specs.declared.limits.TheConstants.{NO_LINE}
 use Rattle.chorus_audit.specs.Bounds.{IsWithin, AreWithin}
 use Rattle.chorus_audit.specs.Calls.{behind}
-use Rattle.chorus_audit.specs.Report.{IsReport}
-use Rattle.chorus_audit.specs.Tests.{head, FailsAtHead, Begins, IsNoEntry, IsUnlawful, FailsAtEntry, lines_shared, FailsAtSummary, IsWrong, AtHead, AtEntry, AtSummary, IsVerdict}
+use Rattle.chorus_audit.specs.Tests.{head, Begins, IsNoEntry, IsUnlawful, lines_shared, AtHead, AtEntry, AtSummary, IsVerdict}
 use Rattle.chorus_audit.specs.declared.judging.Stop.{Stop}
 use Rattle.chorus_audit.specs.declared.judging.Stop.TheVariants.{Rule, Memory}
 use Rattle.chorus_audit.specs.Stops.{IsRefused, IsStop, TakesEntry}

@@ -1,21 +1,18 @@
 -- A text has one verdict.
-use Rattle.std.proofs.Common.{◌≡◌, ◌≢◌, ℕ, ◌+◌, ◌<◌, ◌≤◌, Bool, true, false, List, [], ◌∷◌, ◌++◌, length, reverse, codes, refl, sym, ap, ◌∙◌, subst, append_assoc, arith, inl, inr}
+use Rattle.std.proofs.Common.{◌≡◌, ◌≢◌, ℕ, ◌+◌, ◌<◌, Bool, true, false, List, ◌∷◌, ◌++◌, length, reverse, refl, sym, ap, ◌∙◌, subst, append_assoc, arith, inl, inr}
 use Rattle.std.specs.Prelude.{◌⊎◌, ◌↔◌}
-use Rattle.std.specs.List.{flat_map}
-use Rattle.std.proofs.lemmas.List.{length-append}
 use Rattle.chorus_ui.specs.declared.layout.Layout.{Layout}
 use Rattle.chorus_entry.specs.declared.entry.Entry.{Entry}
 use Rattle.chorus_world.specs.Steps.{may, is_legal}
 use Rattle.chorus_checker.specs.Rules.{rule_of}
 use Rattle.chorus_show.specs.Lines.{entry_text}
-use Rattle.chorus_show.specs.Journal.{journal_text}
 use Rattle.chorus_show.specs.Summary.{summary_text}
 use Rattle.chorus_audit.specs.declared.judging.Audit.{Audit}
 use Rattle.chorus_audit.specs.declared.judging.Audit.TheVariants.{Legal, Wrong}
 use Rattle.chorus_audit.specs.declared.limits.TheConstants.{NO_LINE}
 use Rattle.chorus_audit.specs.Bounds.{IsWithin, AreWithin}
 use Rattle.chorus_audit.specs.Report.{IsReport}
-use Rattle.chorus_audit.specs.Tests.{head, FailsAtHead, Begins, IsNoEntry, IsUnlawful, FailsAtEntry, lines_shared, FailsAtSummary, IsWrong, AtHead, AtEntry, AtSummary, IsVerdict, TextsHaveOneVerdict}
+use Rattle.chorus_audit.specs.Tests.{head, FailsAtHead, Begins, IsNoEntry, IsUnlawful, lines_shared, IsWrong, AtHead, AtEntry, AtSummary, IsVerdict, TextsHaveOneVerdict}
 use Rattle.chorus_audit.proofs.Agreeing.{lines, one_entry, one_head, Compared, Same, Fewer, More, compared, legal_next, within_next, length_next}
 
 true_false : (b : Bool) → b ≡ true → b ≡ false → ⊥

@@ -1,5 +1,5 @@
 -- What a call of the reader answers, beside what the words say.
-use Rattle.std.specs.Prelude.{◌≡◌, ◌<◌, ◌≤◌, ℕ, Bool, true, nat_le, List, [], ◌∷◌, length, Option, Some, None, option_map, Result, Ok, Err, if◌then◌else◌}
+use Rattle.std.specs.Prelude.{◌≡◌, ◌<◌, ◌≤◌, ℕ, nat_le, List, [], ◌∷◌, length, Option, Some, None, option_map, Result, Ok, Err, if◌then◌else◌}
 use Rattle.chorus_ui.specs.declared.limits.TheConstants.{BODY_LIMIT}
 use Rattle.chorus_ui.specs.Decimals.{parse_decimal}
 use Rattle.chorus_entry.specs.declared.act.Act.{Act}

@@ -7,8 +7,10 @@
 
 #![tactic(auto)]
 
+mod circle;
 mod ending;
 mod running;
 
+pub use circle::what_is_replayed_is_legal;
 pub use ending::{ended, without_words};
 pub use running::{REPLAY_SITES, program};

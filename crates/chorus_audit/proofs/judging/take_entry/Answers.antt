@@ -1,4 +1,4 @@
-use Rattle.std.proofs.Common.{rules, ◌≡◌, ◌++◌, ◌∙◌, ap, inl, is_some}
+use Rattle.std.proofs.Common.{rules, ◌++◌, ◌∙◌, ap, inl, is_some}
 use Rattle.std.specs.Option.{option_copied}
 use Rattle.chorus_audit.specs.Calls.{behind}
 use Rattle.chorus_audit.proofs.Steps.{no_entry_line, refused_stop}
