@@ -160,12 +160,21 @@ fn world_refuses_and_follows_a_move(rt: HostRuntime) -> Result<(), Fail> {
     let stale: &[u8] = b"4 1 0 stale 1:1:0 1.p.1 0 2 1\n5 3 0 told 1:1:0 stale 2 1\n";
     let again: &[u8] = b"6 3 0 try 1:1:0 1.p.1 2 1\n7 2 0 arrive 1.p.1 1\n";
     let accepted: &[u8] = b"8 2 0 accept 1:1:0 1.p.1 0\n9 3 0 told 1:1:0 accepted 0\n";
-    let summary: &[u8] = b"summary\nposted 1\naccepted 1\ntaken 0\nqueued 1\nmoving 0\nrefused 0\nstale 1\ndeparts 1\nend\n";
+    let summary: &[u8] =
+        b"summary\nposted 1\naccepted 1\ntaken 0\nqueued 1\nmoving 0\nrefused 0\nstale 1\ndeparts 1\nend\n";
     assert_eq!(rt;
         found(
             alloc,
             1,
-            &[b"journal 10\n", moved, tried, stale, again, accepted, summary]
+            &[
+                b"journal 10\n",
+                moved,
+                tried,
+                stale,
+                again,
+                accepted,
+                summary
+            ]
         )?,
         Audit::Legal { entries: 10 }
     );
