@@ -7,10 +7,12 @@
 
 #![tactic(auto)]
 
+mod circle;
 mod ending;
 mod process;
 mod running;
 
+pub use circle::what_is_replayed_is_legal;
 pub use ending::{ended, without_words};
 pub use process::process;
 pub use running::{REPLAY_SITES, program};

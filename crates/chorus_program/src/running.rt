@@ -4,16 +4,18 @@ ghost use Rattle.std.specs.Prelude.{◌≡◌, ◌≢◌, ◌↔◌, ◌⊎◌, 
 ghost use Rattle.chorus_io.specs.Count.{Rose};
 ghost use Rattle.chorus_ui.specs.declared.limits.TheConstants.{CLOCK_LIMIT};
 ghost use Rattle.chorus_ui.specs.Layout.{IsLayout};
+ghost use Rattle.chorus_audit.specs.Output.{Prints, ReadsBy, ReadsUpToLimit};
 ghost use Rattle.chorus_net.specs.Sites.{net};
 ghost use Rattle.chorus_run.specs.Headline.{AreJustStarted, IsGiven, IsRead, ReadsNoFurther, Replays, merge_of};
 ghost use Rattle.chorus_run.specs.Load.{load_layout, Loads};
 ghost use Rattle.chorus_run.specs.Output.{EndsUnread, HandsOut, Writes, summary_of, text_of};
 ghost use Rattle.chorus_run.specs.Worn.{HasClock};
 ghost use Rattle.chorus_words.specs.declared.words.TheConstants.{COMMANDS_LIMIT};
-ghost use Rattle.chorus_words.specs.declared.words.Words.TheVariants.{Load, Replay};
+ghost use Rattle.chorus_words.specs.declared.words.Words.TheVariants.{Audit, Load, Replay};
 ghost use Rattle.chorus_words.specs.Words.{Ask};
-ghost use Rattle.chorus_program.specs.Running.{one_place_each, replay_layout};
+ghost use Rattle.chorus_program.specs.Running.{HandsOutBy, one_place_each, places_each, replay_layout};
 
+use chorus_audit::audit;
 use chorus_io::{Sink, Source};
 use chorus_net::Sites;
 use chorus_run::{Finished, LOAD_SITES, load, replay};
@@ -25,8 +27,9 @@ use std::alloc::{AllocError, Global};
 /// The sites of a replay, each with one place.
 pub const REPLAY_SITES: u16 = 16;
 
-/// Does what the words say, on sites that are started for it: `replay` replays the scenario that the source gives, and
-/// `load FIRST COMMANDS` performs the commands that are drawn. Any other words are Usage, and then nothing is read or written.
+/// Does what the words say: `replay` replays the scenario that the source gives, and `load FIRST COMMANDS` performs the commands
+/// that are drawn, both on sites that are started for it; `audit SITES TURNS` audits the printed journal that the source gives.
+/// Any other words are Usage, and then nothing is read or written.
 pub fn program<'a, S: Source, K: Sink>(
     alloc: Global,
     words: &'a [&'a str],
@@ -40,8 +43,6 @@ pub fn program<'a, S: Source, K: Sink>(
         (result.status ≡ Status.Usage) ⊎ (result.status ≡ Status.Memory) }
     ensures untouched { result.status ≡ Status.Usage →
         (source.new ≡ source.old) × (sink.new ≡ sink.old) }
-    ensures scenario { (line reason : ℕ) → result.status ≡ Status.Scenario line reason →
-        IsGiven replay_layout (S.left source.old) (Err (line, reason)) }
     ensures read_fault { result.status ≡ Status.ReadFault →
         Rose (S.faults source.old) (S.faults source.new) }
     ensures reliable { S.reliable source.old → S.faults source.new ≡ S.faults source.old }
@@ -49,11 +50,16 @@ pub fn program<'a, S: Source, K: Sink>(
         Rose (K.faults sink.old) (K.faults sink.new) }
     ensures worn { (clock : ℕ) → result.status ≡ Status.Worn clock → (CLOCK_LIMIT ≤ clock)
         × IfSome result.closed (λ closed. HasClock clock (merge_of closed)) }
-    ensures closed { IsSome result.closed ↔ HandsOut result.status }
+    ensures closed { IsSome result.closed → HandsOut result.status }
+    ensures hands_out { (asked : Words) → Ask (map (λ word. word.now) words.now) asked →
+        HandsOutBy asked result.status → IsSome result.closed }
     ensures unwritten { result.status ≢ Status.Done → result.status ≢ Status.WriteFault →
         sink.new ≡ sink.old }
 
     // What `replay` did.
+    ensures scenario { Ask (map (λ word. word.now) words.now) Replay →
+        (line reason : ℕ) → result.status ≡ Status.Scenario line reason →
+        IsGiven replay_layout (S.left source.old) (Err (line, reason)) }
     ensures reads { Ask (map (λ word. word.now) words.now) Replay →
         result.status ≢ Status.ReadFault → result.status ≢ Status.Memory →
         IsRead (S.left source.old) (S.left source.new) }
@@ -74,10 +80,23 @@ pub fn program<'a, S: Source, K: Sink>(
     ensures loads { (first commands : ℕ) →
         Ask (map (λ word. word.now) words.now) (Load first commands) →
         IfSome result.closed (Loads first commands result.status) }
+
+    // What `audit SITES TURNS` did.
+    ensures audit_reads { (sites turns : ℕ) →
+        Ask (map (λ word. word.now) words.now) (Audit sites turns) →
+        ReadsBy result.status (S.left source.old) (S.left source.new) }
+    ensures audit_reads_at_most { (sites turns : ℕ) →
+        Ask (map (λ word. word.now) words.now) (Audit sites turns) →
+        ReadsUpToLimit (S.left source.old) (S.left source.new) }
+    ensures audits { (sites turns : ℕ) →
+        Ask (map (λ word. word.now) words.now) (Audit sites turns) →
+        (result.closed ≡ None) × Prints (places_each sites turns) result.status
+        (S.left source.old) (K.held sink.old) (K.held sink.new) }
 {
     match read_words(alloc, words) {
         Ok(Some(Words::Replay)) => start_replay(alloc, source, sink),
         Ok(Some(Words::Load { first, commands })) => start_load(alloc, first, commands, sink),
+        Ok(Some(Words::Audit { sites, turns })) => start_audit(alloc, sites, turns, source, sink),
         Ok(None) => gave_up(Status::Usage),
         Err(_) => gave_up(Status::Memory),
     }
@@ -131,6 +150,32 @@ fn start_load<K: Sink>(alloc: Global, first: u64, commands: u32, sink: &mut K) -
         Ok(sites) => load(alloc, first, commands, sink, sites),
         Err(_) => gave_up(Status::Memory),
     }
+}
+
+/// Audits what the source gives, for so many sites with so many places each.
+fn start_audit<S: Source, K: Sink>(
+    alloc: Global,
+    sites: u16,
+    turns: u16,
+    source: &mut S,
+    sink: &mut K,
+) -> Finished
+    requires { IsLayout (places_each sites turns) }
+    ensures closed { result.closed ≡ None }
+    ensures read_fault { result.status ≡ Status.ReadFault →
+        Rose (S.faults source.old) (S.faults source.new) }
+    ensures reliable { S.reliable source.old → S.faults source.new ≡ S.faults source.old }
+    ensures write_fault { result.status ≡ Status.WriteFault →
+        Rose (K.faults sink.old) (K.faults sink.new) }
+    ensures reads { ReadsBy result.status (S.left source.old) (S.left source.new) }
+    ensures reads_at_most { ReadsUpToLimit (S.left source.old) (S.left source.new) }
+    ensures prints { Prints (places_each sites turns) result.status (S.left source.old)
+        (K.held sink.old) (K.held sink.new) }
+    ensures unwritten { result.status ≢ Status.Done → result.status ≢ Status.WriteFault →
+        sink.new ≡ sink.old }
+{
+    let layout = Layout::new(sites, turns).unwrap();
+    gave_up(audit(alloc, layout, source, sink))
 }
 
 /// Starts so many sites, with one place each.

@@ -1,11 +1,13 @@
 -- The words of the list are values, and are known by their first three.
-use Rattle.std.proofs.Common.{◌≡◌, ◌∙◌, ◌^◌, ◌<◌, ◌≤◌, ℕ, zero, suc, true, true≢false, List, [], ◌∷◌, Option, Some, None, refl, sym, ap, ap₂, arith, decimal, get_or, length, slice_get}
+use Rattle.std.proofs.Common.{◌≡◌, ◌≢◌, ◌∙◌, ◌^◌, ◌<◌, ◌≤◌, ◌==◌, ◌&&◌, ◌||◌, Bool, false, nat_le, if◌then◌else◌, subst, ℕ, zero, suc, true, true≢false, List, [], ◌∷◌, Option, Some, None, refl, sym, ap, ap₂, arith, codes, decimal, get_or, length, slice_get}
 use Rattle.std.specs.List.{list_all}
 use Rattle.std.proofs.lemmas.Grind.{common_steps}
 use Rattle.std.proofs.lemmas.Fmt.{decimal_digit, decimal_injective, first_decimal}
 use Rattle.std.specs.Option.{IfSome, IsNone, is_some, unwrap_or}
+use Rattle.std.proofs.lemmas.Bool.Decides.{nat_tests}
+use Rattle.chorus_ui.specs.Layout.{IsLayout, Shape, is_layout, new_layout}
 use Rattle.chorus_words.specs.declared.words.Words.{Words}
-use Rattle.chorus_words.specs.declared.words.Words.TheVariants.{Replay, Load}
+use Rattle.chorus_words.specs.declared.words.Words.TheVariants.{Replay, Load, Audit}
 use Rattle.chorus_words.specs.Words.{Ask, IsWithin, spelled}
 use Rattle.chorus_words.specs.Cutting.{AskByThree, is_value}
 
@@ -20,6 +22,8 @@ decimal_value (suc n) h = digit_value (decimal (suc n)) (omega (arith, first_dec
 pub spelled_values : (asked : Words) → IsWithin asked → list_all is_value (spelled asked) ≡ true
 spelled_values Replay w = refl
 spelled_values (Load first commands) w = rw (decimal_value first w.0, decimal_value commands (omega (arith, w.1))) refl
+spelled_values (Audit sites turns) w =
+    rw (decimal_value sites (omega (arith, w.sites_to_max)), decimal_value turns (omega (arith, w.turns_to_four))) refl
 
 no_word : {X : Type 0} (x : X) → None ≡ Some x → ⊥
 no_word x e = true≢false (sym (ap is_some e))
@@ -46,6 +50,7 @@ same_three xs (y ∷ y' ∷ y'' ∷ y''' ∷ ys) lx ly e f g = absurd (omega ari
 few_words : (asked : Words) → length (spelled asked) ≤ 3
 few_words Replay = omega arith
 few_words (Load first commands) = omega arith
+few_words (Audit sites turns) = omega arith
 
 -- at most three words, of which the first three ask this, ask it
 pub asks : (ws : List (List ℕ)) (what first second : Option (List ℕ)) (asked : Words) → length ws ≤ 3
@@ -64,13 +69,23 @@ asks_if (Some asked) ws what first second l e f g by = asks ws what first second
 same_number : (m n : ℕ) → m < 2 ^ 64 → n < 2 ^ 64 → Some (decimal m) ≡ Some (decimal n) → m ≡ n
 same_number m n h k e = decimal_injective m n h k (the_word (decimal m) (decimal n) e)
 
+other_word : Some (codes "load") ≡ Some (codes "audit") → ⊥
+other_word e = true≢false (ap (λ (w : List ℕ). length w == 4) (the_word (codes "load") (codes "audit") e))
+
 one_spelling : (a b : Words) → IsWithin a → IsWithin b → spelled a ≡ spelled b → a ≡ b
 one_spelling Replay Replay w v e = refl
 one_spelling Replay (Load first commands) w v e = absurd (no_word (decimal first) (ap (λ l. slice_get l 1) e))
+one_spelling Replay (Audit sites turns) w v e = absurd (no_word (decimal sites) (ap (λ l. slice_get l 1) e))
 one_spelling (Load first commands) Replay w v e = absurd (no_word (decimal first) (sym (ap (λ l. slice_get l 1) e)))
 one_spelling (Load first commands) (Load f c) w v e = ap₂ Load
     (same_number first f w.0 v.0 (ap (λ l. slice_get l 1) e))
     (same_number commands c (omega (arith, w.1)) (omega (arith, v.1)) (ap (λ l. slice_get l 2) e))
+one_spelling (Load first commands) (Audit sites turns) w v e = absurd (other_word (ap (λ l. slice_get l 0) e))
+one_spelling (Audit sites turns) Replay w v e = absurd (no_word (decimal sites) (sym (ap (λ l. slice_get l 1) e)))
+one_spelling (Audit sites turns) (Load first commands) w v e = absurd (other_word (sym (ap (λ l. slice_get l 0) e)))
+one_spelling (Audit sites turns) (Audit s t) w v e = ap₂ Audit
+    (same_number sites s (omega (arith, w.sites_to_max)) (omega (arith, v.sites_to_max)) (ap (λ l. slice_get l 1) e))
+    (same_number turns t (omega (arith, w.turns_to_four)) (omega (arith, v.turns_to_four)) (ap (λ l. slice_get l 2) e))
 
 pub ask_once : (ws : List (List ℕ)) (a b : Words) → Ask ws a → Ask ws b → a ≡ b
 ask_once ws a b m n = one_spelling a b m.1 n.1 (sym m.0 ∙ n.0)
@@ -88,3 +103,43 @@ by_three ws what first second asked e f g ask =
 -- the list has no row of more than three words
 pub too_long : (ws : List (List ℕ)) (asked : Words) → 3 < length ws → Ask ws asked → ⊥
 too_long ws asked l ask = let same : length ws ≡ length (spelled asked) = ap length ask.0 in absurd (omega (arith, few_words asked, same, l))
+
+-- Words that give no layout.
+
+turns_fit : (t : ℕ) → 1 ≤ t → t ≤ 4 → t ≢ 3 → ((t == 1) || (t == 2) || (t == 4)) ≡ true
+turns_fit t a b c = grind (arith, nat_tests)
+
+sites_fit : (s : ℕ) → 1 ≤ s → s ≤ 16 → (nat_le 1 s && nat_le s 16) ≡ true
+sites_fit s a b = grind (arith, nat_tests)
+
+all_three : (a b c : Bool) → (a && b) ≡ true → c ≡ true → (a && b && c) ≡ true
+all_three true b c h k = rw (h, k) refl
+all_three false b c h k = h
+
+layout_fits : (l : Shape) → IsLayout l → is_layout l ≡ true
+layout_fits l h =
+    all_three (nat_le 1 l.sites) (nat_le l.sites 16) ((l.turns == 1) || (l.turns == 2) || (l.turns == 4))
+    (sites_fit l.sites h.sites_from_one h.sites_to_max) (turns_fit l.turns h.turns_from_one h.turns_to_four h.turns_not_three)
+
+some_if : {X : Type 0} (b : Bool) (x : X) → b ≡ true → IsNone (if b then Some x else None) → ⊥
+some_if true x h none = true≢false none
+some_if false x h none = true≢false (sym h)
+
+pub no_layout_read : (m n : ℕ) (sites turns : List ℕ) → sites ≡ decimal m → turns ≡ decimal n → m < 2 ^ 16 → n < 2 ^ 16
+    → IsNone (new_layout m n) → (l : Shape) → IsLayout l → sites ≡ decimal l.sites → turns ≡ decimal l.turns → ⊥
+no_layout_read m n sites turns e f small less none l h p q =
+    let s : l.sites ≡ m = decimal_injective l.sites m (omega (arith, h.sites_to_max)) (omega (arith, small)) (sym p ∙ e) in
+    let t : l.turns ≡ n = decimal_injective l.turns n (omega (arith, h.turns_to_four)) (omega (arith, less)) (sym q ∙ f) in
+    some_if (is_layout l) l (layout_fits l h) (subst (λ k. IsNone (new_layout l.sites k)) (sym t) (subst (λ k. IsNone (new_layout k n)) (sym s) none))
+
+no_audit_of : (sites turns : List ℕ) → ((l : Shape) → IsLayout l → sites ≡ decimal l.sites → turns ≡ decimal l.turns → ⊥)
+    → (asked : Words) → AskByThree (Some (codes "audit")) (Some sites) (Some turns) asked → ⊥
+no_audit_of sites turns none Replay by = no_word sites (sym by.1)
+no_audit_of sites turns none (Load first commands) by = other_word (sym by.0)
+no_audit_of sites turns none (Audit s t) by = none (record { sites = s; turns = t }) by.3 (the_word sites (decimal s) by.1) (the_word turns (decimal t) by.2)
+
+pub no_audit : (sites turns : List ℕ) (what first second : Option (List ℕ)) → what ≡ Some (codes "audit") → first ≡ Some sites → second ≡ Some turns
+    → ((l : Shape) → IsLayout l → sites ≡ decimal l.sites → turns ≡ decimal l.turns → ⊥)
+    → (asked : Words) → AskByThree what first second asked → ⊥
+no_audit sites turns what first second e f g none asked by =
+    no_audit_of sites turns none asked (sym e ∙ by.0, sym f ∙ by.1, sym g ∙ by.2, by.3)

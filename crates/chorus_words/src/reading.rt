@@ -2,13 +2,14 @@
 
 ghost use Rattle.std.specs.Prelude.{◌≡◌, ◌^◌, ◌<◌, ◌≤◌, ℕ, map, option_map, decimal, IfOk, IfSome, IsNone, Some};
 ghost use Rattle.std.specs.List.{list_all};
+ghost use Rattle.chorus_ui.specs.Layout.{IsLayout, Shape};
 ghost use Rattle.chorus_words.specs.declared.words.TheConstants.{COMMANDS_LIMIT};
 ghost use Rattle.chorus_words.specs.Words.{Ask};
 ghost use Rattle.chorus_words.specs.Cutting.{is_value, AskByThree};
 
 use crate::cutting::{FIRST, SECOND, WHAT, cut};
 use crate::words::{COMMANDS_LIMIT, Words};
-use chorus_ui::parse_decimal;
+use chorus_ui::{Layout, parse_decimal};
 use std::alloc::{AllocError, Global};
 
 /// What the words ask. None exactly where they are not in the list; want of memory is the one error.
@@ -56,6 +57,34 @@ fn asked_by(what: Option<&str>, first: Option<&str>, second: Option<&str>) -> Op
             first: parse_decimal(first.as_bytes())?,
             commands: commands_of(commands)?,
         }),
+        ("audit", Some(sites), Some(turns)) => {
+            let layout = layout_of(sites, turns)?;
+            Some(Words::Audit {
+                sites: layout.sites(),
+                turns: layout.turns(),
+            })
+        }
+        _ => None,
+    }
+}
+
+/// The layout whose sites and places per site these decimals are. None exactly where there is none.
+fn layout_of(sites: &str, turns: &str) -> Option<Layout>
+    ensures some { IfSome result (λ l. (sites.now ≡ decimal l.sites) × (turns.now ≡ decimal l.turns)
+        × IsLayout l) }
+    ensures none { IsNone result → (l : Shape) → IsLayout l →
+        sites.now ≡ decimal l.sites → ¬ (turns.now ≡ decimal l.turns) }
+{
+    Layout::new(small_decimal(sites)?, small_decimal(turns)?)
+}
+
+/// The number whose decimal the word is. None exactly where it is that of no number of 16 bits.
+fn small_decimal(word: &str) -> Option<u16>
+    ensures some { IfSome result (λ n. word.now ≡ decimal n) }
+    ensures none { IsNone result → (n : ℕ) → n < 2 ^ 16 → ¬ (word.now ≡ decimal n) }
+{
+    match parse_decimal(word.as_bytes()) {
+        Some(number) if number <= u64::from(u16::MAX) => Some(number as u16),
         _ => None,
     }
 }

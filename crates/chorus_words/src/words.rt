@@ -10,4 +10,6 @@ pub enum Words {
     Replay,
     /// `load FIRST COMMANDS`: so many commands, at most [`COMMANDS_LIMIT`], are drawn from the first state on.
     Load { first: u64, commands: u32 },
+    /// `audit SITES TURNS`: a printed journal is audited, for so many sites with so many places each: a layout that exists.
+    Audit { sites: u16, turns: u16 },
 }

@@ -1,6 +1,8 @@
 use Rattle.std.proofs.Common.{◌≡◌, IfSome, subst₂}
 use Rattle.chorus_run.specs.Load.{Loads}
-use Rattle.chorus_words.specs.declared.words.Words.TheVariants.{Load, Replay}
+use Rattle.chorus_audit.specs.Output.{Prints}
+use Rattle.chorus_words.specs.declared.words.Words.TheVariants.{Audit, Load, Replay}
+use Rattle.chorus_program.specs.Running.{places_each}
 use Rattle.chorus_program.proofs.running.program.Goals as goal
 
 -- words that are in the list are read as what they ask
@@ -18,3 +20,17 @@ returns-in-Ok-None-clause-reads g c asks =
 pub returns-in-Ok-None-clause-unread : goal.returns-in-Ok-None-clause-unread
 returns-in-Ok-None-clause-unread g c first commands asks =
     absurd (cc (c.in-Ok-None.ensures.listed (Load first commands) asks, c.in-Ok-None.field-0-is))
+
+pub returns-in-Ok-Some-Audit-clause-audits : goal.returns-in-Ok-Some-Audit-clause-audits
+returns-in-Ok-Some-Audit-clause-audits g c sites turns asks =
+    let read = c.in-Ok-Some-Audit.ensures.listed (Audit sites turns) asks in
+    let one : c.in-Ok-Some-Audit.sites ≡ sites = cc (read, c.in-Ok-Some-Audit.field-0-is, c.in-Ok-Some-Audit.field-0-0-is) in
+    let two : c.in-Ok-Some-Audit.turns ≡ turns = cc (read, c.in-Ok-Some-Audit.field-0-is, c.in-Ok-Some-Audit.field-0-0-is) in (
+      c.start_audit.ensures.closed,
+      subst₂ (λ s t. Prints (places_each s t) c.start_audit.result.status (g.S.Source.left c.args.source.now) (g.K.Sink.held c.args.sink.now) (g.K.Sink.held c.start_audit.new.sink))
+          one two c.start_audit.ensures.prints,
+    )
+
+pub returns-in-Ok-None-clause-audit_reads : goal.returns-in-Ok-None-clause-audit_reads
+returns-in-Ok-None-clause-audit_reads g c sites turns asks =
+    absurd (cc (c.in-Ok-None.ensures.listed (Audit sites turns) asks, c.in-Ok-None.field-0-is))

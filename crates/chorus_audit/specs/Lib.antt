@@ -1,0 +1,6 @@
+pub mod Bounds
+pub mod Calls
+pub mod Report
+pub mod Tests
+pub mod Stops
+pub mod Output

@@ -1,0 +1,171 @@
+//! A whole text, tested line by line.
+
+ghost use Rattle.std.specs.Prelude.{◌≡◌, ◌≢◌, ◌≤◌, ◌<◌, ◌↔◌, ◌^◌, ◌++◌, ℕ, List, length, IfOk, Some, MatchOption, MatchResult};
+ghost use Rattle.chorus_entry.specs.declared.entry.Entry.{Entry};
+ghost use Rattle.chorus_show.specs.Summary.{summary_text};
+ghost use Rattle.chorus_audit.specs.declared.limits.TheConstants.{AUDIT_LIMIT};
+ghost use Rattle.chorus_audit.specs.declared.judging.Audit.TheVariants.{Legal, Wrong};
+ghost use Rattle.chorus_audit.specs.Report.{IsReport};
+ghost use Rattle.chorus_audit.specs.Tests.{head, lines_shared, IsWrong, IsVerdict};
+ghost use Rattle.chorus_audit.specs.Stops.{IsRefused, IsStop, TakesEntry};
+ghost use Rattle.chorus_world.specs.Steps.{next};
+
+use crate::cut::cut;
+use crate::entries::parse_entry;
+use crate::field::Field;
+use crate::limits::{AUDIT_LIMIT, NO_LINE};
+use chorus_checker::{World, WorldFault};
+use chorus_entry::Entry;
+use chorus_show::summary_text;
+use chorus_ui::Layout;
+use std::alloc::{AllocError, Global};
+
+/// What an audit finds.
+#[derive(Clone, Copy, Debug, PartialEq, Eq)]
+pub enum Audit {
+    /// The text is the journal text and the summary text of a legal list of so many entries.
+    Legal { entries: u32 },
+    /// It is that of none. `line` is the first line that fails, from 1. `rule` is [`NO_LINE`] where that line is missing, lacks
+    /// its LF or is none that may stand there; else the line is an entry's that may not come next, and `rule` is the one that
+    /// refuses it: 0 for its place or its clock, and from 1 to 40 the number of its act.
+    Wrong { line: u32, rule: u8 },
+}
+
+/// Why the tests stop at a line.
+#[derive(Clone, Copy, Debug)]
+pub(crate) enum Stop {
+    /// The line fails by this rule.
+    Rule(u8),
+    /// There was no memory.
+    Memory(AllocError),
+}
+
+/// Tests the text, line by line: whether it is the journal text and the summary text of a list of entries that is legal for the
+/// layout.
+pub fn audit_text(alloc: Global, layout: Layout, text: &[u8]) -> Result<Audit, AllocError>
+    requires { length text.now ≤ AUDIT_LIMIT }
+    ensures legal { IfOk result (λ audit. (n : ℕ) → (audit ≡ Legal n)
+        ↔ ((es : List Entry) × IsReport layout text.now es × (length es ≡ n))) }
+    ensures wrong { IfOk result (λ audit. (line rule : ℕ) → (audit ≡ Wrong line rule)
+        ↔ IsWrong layout text.now line rule) }
+{
+    judged(alloc, layout, text)
+}
+
+/// Tests the lines in order.
+fn judged(alloc: Global, layout: Layout, text: &[u8]) -> Result<Audit, AllocError>
+    requires { length text.now ≤ AUDIT_LIMIT }
+    ensures { IfOk result (IsVerdict layout text.now) }
+{
+    let Some((count, mut rest)) = told(text) else {
+        return Ok(Audit::Wrong {
+            line: 1,
+            rule: NO_LINE,
+        });
+    };
+    let mut world = World::opening(alloc, layout)?;
+    for taken in 0..count {
+        match take_entry(alloc, &mut world, rest) {
+            Ok(behind) => rest = behind,
+            Err(Stop::Rule(rule)) => {
+                return Ok(Audit::Wrong {
+                    line: taken + 2,
+                    rule,
+                });
+            }
+            Err(Stop::Memory(error)) => return Err(error),
+        }
+    }
+    match summary_fault(alloc, world.entries(), rest)? {
+        None => Ok(Audit::Legal { entries: count }),
+        Some(shared) => Ok(Audit::Wrong {
+            line: count + 2 + shared,
+            rule: NO_LINE,
+        }),
+    }
+}
+
+/// The number of entries that the first line tells, and the text behind that line. None exactly where the first line tells none.
+fn told(text: &[u8]) -> Option<(u32, &[u8])>
+    ensures { MatchOption result
+        ((n : ℕ) (rest : List ℕ) → n < 2 ^ 32 → text.now ≢ head n ++ rest)
+        (λ x. text.now ≡ head x.0 ++ x.1.now) }
+{
+    let (line, rest) = cut(b'\n', text);
+    let (word, number) = cut(b' ', line);
+    if word != b"journal".as_slice() {
+        return None;
+    }
+    let count = u32::read(number?)?;
+    Some((count, rest?))
+}
+
+/// Takes the entry of the next line into the world, and gives the text behind that line.
+fn take_entry<'a>(alloc: Global, world: &mut World, text: &'a [u8]) -> Result<&'a [u8], Stop>
+    ensures { MatchResult result
+        (λ rest. TakesEntry world.old world.new text.now rest.now)
+        (IsStop world.old text.now) }
+{
+    let (line, rest) = cut(b'\n', text);
+    let Some(rest) = rest else {
+        return Err(Stop::Rule(NO_LINE));
+    };
+    match parse_entry(alloc, line) {
+        Ok(Some(entry)) => {
+            take(world, entry)?;
+            Ok(rest)
+        }
+        Ok(None) => Err(Stop::Rule(NO_LINE)),
+        Err(error) => Err(Stop::Memory(error)),
+    }
+}
+
+/// Takes the entry into the world.
+fn take(world: &mut World, entry: Entry) -> Result<(), Stop>
+    ensures { MatchResult result
+        (λ _. next world.old entry ≡ Some world.new)
+        (IsRefused world.old entry) }
+{
+    match world.apply(entry) {
+        Ok(()) => Ok(()),
+        Err(WorldFault::NotLegal { rule }) => Err(Stop::Rule(rule)),
+        Err(WorldFault::Memory(error)) => Err(Stop::Memory(error)),
+    }
+}
+
+/// How many lines the text shares with the summary of the entries before it differs. None exactly where it is that summary.
+fn summary_fault(alloc: Global, entries: &[Entry], text: &[u8]) -> Result<Option<u32>, AllocError>
+    requires { length text.now ≤ AUDIT_LIMIT }
+    ensures { IfOk result (λ fault. MatchOption fault
+        (text.now ≡ summary_text entries.now)
+        (λ shared. (text.now ≢ summary_text entries.now)
+        × (shared ≡ lines_shared text.now (summary_text entries.now))
+        × (shared ≤ length text.now))) }
+{
+    let mut summary = Vec::new(alloc);
+    summary_text(entries, &mut summary)?;
+    if text == summary.as_slice() {
+        Ok(None)
+    } else {
+        Ok(Some(lines_shared(text, &summary)))
+    }
+}
+
+/// How many lines, each with its LF, the two texts share before they differ.
+fn lines_shared(one: &[u8], other: &[u8]) -> u32
+    requires { length one.now ≤ AUDIT_LIMIT }
+    ensures value { result ≡ lines_shared one.now other.now }
+    ensures bound { result ≤ length one.now }
+{
+    let [c, cs @ ..] = one else {
+        return 0;
+    };
+    let [d, ds @ ..] = other else {
+        return 0;
+    };
+    if *c != *d {
+        return 0;
+    }
+    let shared = lines_shared(cs, ds);
+    if *c == b'\n' { 1 + shared } else { shared }
+}

@@ -1,0 +1,166 @@
+//! The parts of an act that have several forms: destinations, tags, answers and bodies.
+
+ghost use Rattle.std.specs.Prelude.{◌≡◌, ◌∷◌, [], ◌<◌, OnOk, IfOk, IfSome, None, Some, MatchOption, MatchResult, length};
+ghost use Rattle.chorus_show.specs.Reading.{dest_in, behind_dest, tag_in, behind_tag, answer_in, body_in, unescape, digit_in};
+ghost use Rattle.chorus_show.specs.Law.{IsDest, IsTag, IsAnswer, AreBytes};
+ghost use Rattle.chorus_audit.specs.Calls.{IsLong, IsUnescaped, Reads, short};
+
+use crate::fault::Unread;
+use crate::words::Words;
+use chorus_entry::{Answer, BODY_LIMIT, Body, Dest, Tag};
+use std::alloc::Global;
+
+/// Where a message is posted to.
+#[tactic(auto, unfolding(chorus_show::specs::Reading::dest_in))]
+pub(crate) fn dest(words: &mut Words<'_>) -> Result<Dest, Unread>
+    ensures reads { Reads result (dest_in words.old) }
+    ensures left { OnOk result (words.new ≡ behind_dest words.old) }
+    ensures allowed { IfOk result IsDest }
+{
+    let form = words.next();
+    if form == b"port".as_slice() {
+        Ok(Dest::Port(words.one()?))
+    } else if form == b"all".as_slice() {
+        Ok(Dest::All(words.one()?))
+    } else if form == b"one".as_slice() {
+        Ok(Dest::One(words.one()?))
+    } else if form == b"at".as_slice() {
+        let (group, site) = words.two()?;
+        Ok(Dest::OneAt(group, site))
+    } else {
+        Err(Unread::NoEntry)
+    }
+}
+
+/// Whether a message is a request, a reply or neither.
+#[tactic(auto, unfolding(chorus_show::specs::Reading::tag_in))]
+pub(crate) fn tag(words: &mut Words<'_>) -> Result<Tag, Unread>
+    ensures reads { Reads result (tag_in words.old) }
+    ensures left { OnOk result (words.new ≡ behind_tag words.old) }
+    ensures allowed { IfOk result IsTag }
+{
+    let form = words.next();
+    if form == b"plain".as_slice() {
+        Ok(Tag::Plain)
+    } else if form == b"request".as_slice() {
+        let (number, back) = words.two()?;
+        Ok(Tag::Request { number, back })
+    } else if form == b"reply".as_slice() {
+        let (client, number) = words.two()?;
+        Ok(Tag::Reply { client, number })
+    } else {
+        Err(Unread::NoEntry)
+    }
+}
+
+/// What was decided.
+#[tactic(auto, unfolding(chorus_show::specs::Reading::answer_in))]
+pub(crate) fn answer(words: &mut Words<'_>) -> Result<Answer, Unread>
+    ensures reads { Reads result (answer_in words.old) }
+    ensures allowed { IfOk result IsAnswer }
+{
+    let form = words.next();
+    if form == b"accepted".as_slice() {
+        Ok(Answer::Accepted { pos: words.one()? })
+    } else if form == b"full".as_slice() {
+        Ok(Answer::Full { len: words.one()? })
+    } else if form == b"stale".as_slice() {
+        let (to, hop) = words.two()?;
+        Ok(Answer::Stale { to, hop })
+    } else if form == b"early".as_slice() {
+        Ok(Answer::Early { hop: words.one()? })
+    } else if form == b"no-port".as_slice() {
+        Ok(Answer::NoPort)
+    } else if form == b"already".as_slice() {
+        Ok(Answer::Already)
+    } else if form == b"clients-full".as_slice() {
+        Ok(Answer::ClientsFull)
+    } else if form == b"elsewhere".as_slice() {
+        let (to, hop) = words.two()?;
+        Ok(Answer::Elsewhere { to, hop })
+    } else if form == b"no-member".as_slice() {
+        Ok(Answer::NoMember)
+    } else if form == b"chosen".as_slice() {
+        Ok(Answer::Chosen {
+            count: words.one()?,
+        })
+    } else if form == b"gone".as_slice() {
+        Ok(Answer::Gone)
+    } else {
+        Err(Unread::NoEntry)
+    }
+}
+
+/// The bytes of a body.
+#[tactic(auto, using(crate::proofs::Bodies::short_some, crate::proofs::Bodies::short_none))]
+pub(crate) fn body(alloc: Global, text: &[u8]) -> Result<Body, Unread>
+    ensures reads { Reads result (short (body_in text.now)) }
+    ensures allowed { IfOk result AreBytes }
+{
+    match text {
+        [b'=', escaped @ ..] => {
+            let bytes = unescaped(alloc, escaped)?;
+            Ok(Body::new(alloc, &bytes)?)
+        }
+        _ => Err(Unread::NoEntry),
+    }
+}
+
+/// The bytes of an escaped text, where they are few enough for a body.
+fn unescaped(alloc: Global, text: &[u8]) -> Result<Vec<u8>, Unread>
+    ensures { MatchResult result
+        (λ bytes. IsUnescaped bytes.items text.now)
+        (λ fault. IsLong fault (unescape None text.now)) }
+{
+    let mut bytes = Vec::new(alloc);
+    let mut left = text;
+    while let Some((byte, rest)) = next_byte(left) {
+        if bytes.len() == BODY_LIMIT {
+            return Err(Unread::NoEntry);
+        }
+        bytes.push(byte)?;
+        left = rest;
+    }
+    Ok(bytes)
+}
+
+/// The first byte of an escaped text, and the text behind it. None where the text ends, also within an escape.
+fn next_byte(text: &[u8]) -> Option<(u8, &[u8])>
+    ensures byte { MatchOption result
+        (unescape None text.now ≡ [])
+        (λ x. unescape None text.now ≡ x.0 ∷ unescape None x.1.now) }
+    ensures shorter { IfSome result (λ x. length x.1.now < length text.now) }
+    ensures small { IfSome result (λ x. x.0 < 256) }
+{
+    match text {
+        [] => None,
+        [b'%', digits @ ..] => escaped_byte(digits),
+        [byte, rest @ ..] => Some((*byte, rest)),
+    }
+}
+
+/// The byte of the two digits, and the text behind them. None where there are fewer.
+fn escaped_byte(digits: &[u8]) -> Option<(u8, &[u8])>
+    ensures byte { MatchOption result
+        (unescape (Some None) digits.now ≡ [])
+        (λ x. unescape (Some None) digits.now ≡ x.0 ∷ unescape None x.1.now) }
+    ensures shorter { IfSome result (λ x. length x.1.now < length digits.now) }
+    ensures small { IfSome result (λ x. x.0 < 256) }
+{
+    match digits {
+        [high, low, rest @ ..] => Some((digit_in(*high) * 16 + digit_in(*low), rest)),
+        _ => None,
+    }
+}
+
+/// The value of a hexadecimal digit, and 0 of another byte.
+fn digit_in(c: u8) -> u8
+    ensures value { result ≡ digit_in c }
+    ensures small { result < 16 }
+{
+    match c {
+        b'0'..=b'9' => c - b'0',
+        b'a'..=b'f' => c - b'a' + 10,
+        _ => 0,
+    }
+}
