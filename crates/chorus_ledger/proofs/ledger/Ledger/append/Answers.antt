@@ -31,7 +31,7 @@ grow_rows-requires-clause-few c =
     let l = c.self.inside.layout in
     let past = reverse c.self.inside.entries.items in
     let r = c.make_room.new.self in
-    let few : length past < 2 ^ 63 = omega (arith, length-reverse c.self.inside.entries.items, c.in_ok-reserve.ensures.items, ap length c.in_ok-reserve.ensures.items) in
+    let few : length past < 2 ^ 63 = omega (arith, length-reverse c.self.inside.entries.items, ap length c.in_ok-reserve.ensures.items) in
     let f = same_rows l past c.self.inside.tables r c.in_ok-make_room.ensures.rows c.self.invariant.1 in
     few_stays c.args.entry r c.grow_lists.new.self c.in_ok-grow_lists.ensures.ok (has_few l past r c.args.entry f few)
 
