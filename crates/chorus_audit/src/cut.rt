@@ -10,7 +10,8 @@ ghost use Rattle.chorus_audit.specs.Calls.{behind, parts_behind};
 pub(crate) fn cut(mark: u8, text: &[u8]) -> (&[u8], Option<&[u8]>)
     ensures before { lacks mark result.0.now ≡ true }
     ensures whole { text.now ≡ result.0.now ++ behind mark (option_copied result.1) }
-    ensures parts { parts mark text.now ≡ result.0.now ∷ parts_behind mark (option_copied result.1) }
+    ensures parts { parts mark text.now
+        ≡ result.0.now ∷ parts_behind mark (option_copied result.1) }
 {
     match place_of(mark, text) {
         Some(at) => (&text[..at], Some(&text[at + 1..])),

@@ -135,7 +135,8 @@ fn emit(
     sender: &Sender,
     receiver: &mut Receiver,
 ) -> Result<(), AllocError>
-    requires kept { (sender.now.base ≤ number) × (number < sender.now.base + length sender.now.kept) }
+    requires kept { (sender.now.base ≤ number)
+        × (number < sender.now.base + length sender.now.kept) }
     requires small { number < 2 ^ 64 - 1 }
     requires emitted { run.old.emitted + 1 < 2 ^ 64 }
     requires lost { run.old.lost + 1 < 2 ^ 64 }

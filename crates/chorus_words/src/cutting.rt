@@ -25,7 +25,8 @@ pub(crate) fn cut<'a>(
     words: &'a [&'a str],
 ) -> Result<Option<ArgMatches<'a>>, AllocError>
     requires values { list_all (λ word. is_value word.now) words.now ≡ true }
-    ensures some { IfOk result (λ matches. IfSome matches (IsCut (map (λ word. word.now) words.now))) }
+    ensures some { IfOk result
+        (λ matches. IfSome matches (IsCut (map (λ word. word.now) words.now))) }
     ensures none { IfOk result (λ matches. IsNone matches → 3 < length words.now) }
 {
     match command(alloc)?.try_get_matches_from(words) {

@@ -48,7 +48,8 @@ fn is_value(word: &str) -> bool
 fn asked_by(what: Option<&str>, first: Option<&str>, second: Option<&str>) -> Option<Words>
     ensures some { IfSome result (AskByThree (option_map (λ w. w.now) what.entry)
         (option_map (λ w. w.now) first.entry) (option_map (λ w. w.now) second.entry)) }
-    ensures none { IsNone result → (asked : Words) → ¬ (AskByThree (option_map (λ w. w.now) what.entry)
+    ensures none { IsNone result → (asked : Words) →
+        ¬ (AskByThree (option_map (λ w. w.now) what.entry)
         (option_map (λ w. w.now) first.entry) (option_map (λ w. w.now) second.entry) asked) }
 {
     match (what?, first, second) {
