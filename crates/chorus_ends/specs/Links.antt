@@ -18,10 +18,6 @@ pub record Links : Type 0 where
 abbrev pub with_packet : ℕ → Packet → ℕ → List Packet → List Packet
 with_packet place packet p l = if p == place then l ++ packet ∷ [] else l
 
--- a count rose from one moment to another, which is also said of a count that stands at the end of its type
-abbrev pub Rose : ℕ → ℕ → Type 0
-Rose before now = before < 2 ^ 64 - 1 → before < now
-
 -- they are the same ends, they reach the same places, and no count fell
 pub record Counts (old new : Links) : Type 0 where
   pub name : new.name ≡ old.name

@@ -41,10 +41,6 @@ IsSame old new = (p : ℕ) → to_place p new ≡ to_place p old
 abbrev pub GoesTo : ℕ → Packet → List (List Packet) → List (List Packet) → Type 0
 GoesTo place packet old new = (p : ℕ) → to_place p new ≡ with_packet place packet p (to_place p old)
 
--- the count after one more: at the end of its type it stays
-abbrev pub raised : ℕ → ℕ
-raised count = if nat_lt count (2 ^ 64 - 1) then count + 1 else count
-
 -- nothing of the place comes up to here
 abbrev pub NoneFrom : ℕ → ℕ → List Packet → Type 0
 NoneFrom p at packets = from_place p (take at packets) ≡ []

@@ -3,7 +3,8 @@
 ghost use Rattle.std.specs.Prelude.{◌≡◌, ℕ, true, IfOk, IfErr, OnOk, OnErr, IfSome, IfNone};
 ghost use Rattle.chorus_entry.specs.declared.packet.Packet.{Packet};
 ghost use Rattle.chorus_entry.specs.Ranges.{has_ranges};
-ghost use Rattle.chorus_ends.specs.Links.{Links, Rose, Counts, Sends, Receives, MovesNothing};
+ghost use Rattle.chorus_io.specs.Count.{Rose};
+ghost use Rattle.chorus_ends.specs.Links.{Links, Counts, Sends, Receives, MovesNothing};
 ghost use Rattle.chorus_ends.specs.declared.ends.PushFault.TheVariants as PushFault;
 
 use chorus_entry::Packet;

@@ -3,7 +3,8 @@
 ghost use Rattle.std.specs.Prelude.{◌≡◌, ◌≢◌, ℕ, ◌<◌, ◌++◌, [], ◌∷◌, map, true, vec_len, Ok, IfOk, IfErr, OnOk, OnErr, IfSome, IfNone};
 ghost use Rattle.chorus_entry.specs.Ranges.{has_ranges};
 ghost use Rattle.chorus_ends.specs.Links.{Sends, MovesNothing};
-ghost use Rattle.chorus_ends.specs.Memory.{links, from_place, to_place, raised, IsFirstFrom, Gets, GoesTo, IsSame};
+ghost use Rattle.chorus_io.specs.Count.{raised};
+ghost use Rattle.chorus_ends.specs.Memory.{links, from_place, to_place, IsFirstFrom, Gets, GoesTo, IsSame};
 ghost use Rattle.chorus_ends.specs.declared.ends.PushFault.TheVariants as PushFault;
 
 use crate::ends::{Ends, Moves, PushFault};

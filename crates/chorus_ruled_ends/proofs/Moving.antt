@@ -8,7 +8,8 @@ use Rattle.chorus_link.specs.declared.ends.SendEnd.{SendEnd}
 use Rattle.chorus_link.specs.declared.ends.RecvEnd.{RecvEnd}
 use Rattle.chorus_link.specs.declared.name.LinkName.{LinkName}
 use Rattle.chorus_ends.specs.declared.ends.EndsName.{EndsName}
-use Rattle.chorus_ends.specs.Links.{Links, Rose, Counts, Sends, Receives, MovesNothing}
+use Rattle.chorus_io.specs.Count.{Rose}
+use Rattle.chorus_ends.specs.Links.{Links, Counts, Sends, Receives, MovesNothing}
 use Rattle.chorus_ruled_ends.specs.Ruled.{Ruled, end_to, end_from, sent_by, received_by, fulls_by, empties_by, name_to, name_from, links}
 use Rattle.chorus_ruled_ends.proofs.Lists.{shown, shown-kept, all-kept, most-kept, within}
 

@@ -4,7 +4,8 @@ use Rattle.std.specs.Prelude.{ℕ, List, Option}
 use Rattle.chorus_entry.specs.declared.packet.Packet.{Packet}
 use Rattle.chorus_link.specs.declared.ends.SendEnd.{SendEnd}
 use Rattle.chorus_link.specs.declared.ends.RecvEnd.{RecvEnd}
-use Rattle.chorus_ends.specs.Links.{Links, Rose, Counts, Sends, Receives, MovesNothing}
+use Rattle.chorus_io.specs.Count.{Rose}
+use Rattle.chorus_ends.specs.Links.{Links, Counts, Sends, Receives, MovesNothing}
 use Rattle.chorus_ruled_ends.specs.Ruled.{Ruled, links}
 
 abbrev pub Outs : Type 0

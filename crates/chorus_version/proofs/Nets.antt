@@ -25,11 +25,10 @@ use Rattle.chorus_law.specs.Packets.{put_all, is_link, first_on, rest_on}
 use Rattle.chorus_law.specs.Network.{NetState, place_in, place, with_place, ended, turn_for, commanded, works_off, delivered, Event, Enter, Act, Deliver, happened}
 use Rattle.chorus_law.specs.Schedules.{may_happen}
 use Rattle.chorus_law.specs.Stands.{Stands}
-use Rattle.chorus_law.specs.Tasks.{IsBetweenPlaces}
 use Rattle.chorus_law.proofs.Places.PlacesStay.{stands_in}
 use Rattle.chorus_law.proofs.Standing.Turning.{number-is, layout-is, stands-there}
 use Rattle.chorus_law.proofs.Events.HavePlaces.{have-places}
-use Rattle.chorus_law.proofs.Holdings.Passing.{packets-between}
+use Rattle.chorus_law.proofs.Holdings.Passing.{IsBetweenPlaces, packets-between}
 use Rattle.chorus_version.proofs.Places.{layout_on, place_on, turn_on, Within, CommandWithin, CallerWithin, MembersWithin, CargoWithin, has-same, actor-same, group-same, act-on, work-on}
 use Rattle.chorus_version.proofs.Pasts.{both-have, EntryWithin, members-within, caller-within, here-within}
 use Rattle.chorus_version.proofs.Packets.{tried-site, told-site}

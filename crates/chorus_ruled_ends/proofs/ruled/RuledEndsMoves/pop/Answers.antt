@@ -1,5 +1,6 @@
 use Rattle.std.proofs.Common.{◌≡◌, ℕ, subst, arith}
-use Rattle.chorus_ends.specs.Links.{Rose, Receives}
+use Rattle.chorus_io.specs.Count.{Rose}
+use Rattle.chorus_ends.specs.Links.{Receives}
 use Rattle.chorus_ruled_ends.specs.Ruled.{Ruled, links, end_from, empties_by}
 use Rattle.chorus_ruled_ends.proofs.Lists.{if-some, if-none}
 use Rattle.chorus_ruled_ends.proofs.ruled.RuledEndsMoves.pop.Goals as goal

@@ -1,5 +1,5 @@
 use Rattle.std.proofs.Common.{◌≡◌, ℕ, subst, arith}
-use Rattle.chorus_ends.specs.Links.{Rose}
+use Rattle.chorus_io.specs.Count.{Rose}
 use Rattle.chorus_ruled_ends.specs.Ruled.{Ruled, end_to, fulls_by}
 use Rattle.chorus_ruled_ends.proofs.ruled.RuledEndsMoves.push.Goals.{in-Ok-send_to, in-Err-send_to}
 use Rattle.chorus_ruled_ends.proofs.ruled.RuledEndsMoves.push.Goals as goal
