@@ -5,10 +5,11 @@ use chorus_ends::{Ends, Moves, PushFault};
 use chorus_ranges::has_ranges;
 use chorus_ruled_ends::{LINK_CAPACITY, RuledEnds};
 use chorus_ui::Layout;
+use std::sync::Wait;
 use std::test::Fail;
 
 /// Sends a packet with this clock to place 2. Gives the clock of a packet that came back.
-fn send(rt: &HostRuntime, ends: &mut RuledEnds, clock: u64) -> Result<Option<u64>, Fail> {
+fn send<R: Wait>(rt: &R, ends: &mut RuledEnds, clock: u64) -> Result<Option<u64>, Fail> {
     let packet = report(clock, 1);
     if !ends.reaches(2) || !has_ranges(&packet) {
         return Err("a condition")?;
@@ -21,7 +22,7 @@ fn send(rt: &HostRuntime, ends: &mut RuledEnds, clock: u64) -> Result<Option<u64
 }
 
 /// Receives the next packet from place 1, and gives its clock.
-fn receive(rt: &HostRuntime, ends: &mut RuledEnds) -> Result<Option<u64>, Fail> {
+fn receive<R: Wait>(rt: &R, ends: &mut RuledEnds) -> Result<Option<u64>, Fail> {
     if !ends.reaches(1) {
         return Err("a condition")?;
     }
