@@ -30,6 +30,14 @@ fn clock_of(packet: Option<&Packet>) -> u64 {
     }
 }
 
+/// Why a push failed.
+pub(crate) fn cause(fault: PushFault) -> Fail {
+    match fault {
+        PushFault::Full => Fail::from("full"),
+        PushFault::Memory(none) => Fail::from(none),
+    }
+}
+
 #[test]
 fn ends_in_memory_give_each_place_its_packets(rt: HostRuntime) -> Result<(), Fail> {
     let mut packets = Vec::new(rt.alloc());
@@ -55,8 +63,7 @@ fn ends_in_memory_keep_what_was_sent(rt: HostRuntime) -> Result<(), Fail> {
         }
         match ends.push(&(), to, packet) {
             Ok(()) => {}
-            Err((_packet, PushFault::Full)) => return Err("full")?,
-            Err((_packet, PushFault::Memory(none))) => return Err(none)?,
+            Err((_packet, fault)) => return Err(cause(fault)),
         }
     }
     let sent = ends.sent(3);

@@ -16,8 +16,10 @@ fn send<R: Wait>(rt: &R, ends: &mut RuledEnds, clock: u64) -> Result<Option<u64>
     }
     match ends.push(rt, 2, packet) {
         Ok(()) => Ok(None),
-        Err((packet, PushFault::Full)) => Ok(Some(packet.clock)),
-        Err((_packet, PushFault::Memory(none))) => Err(none)?,
+        Err((packet, fault)) => match fault {
+            PushFault::Full => Ok(Some(packet.clock)),
+            PushFault::Memory(none) => Err(none)?,
+        },
     }
 }
 
