@@ -1,0 +1,4 @@
+pub mod Line
+pub mod Rounds
+pub mod Running
+pub mod Carrying
