@@ -6,3 +6,4 @@ pub mod Parts
 pub mod Progress
 pub mod Running
 pub mod Promised
+pub mod Printed

@@ -10,7 +10,9 @@
 
 mod carrying;
 mod line;
+mod printing;
 mod rounds;
 
 pub use carrying::{Carried, carry};
 pub use line::{CHUNK_BYTES, WINDOW};
+pub use printing::{INPUT_LIMIT, LossyFault, lossy};

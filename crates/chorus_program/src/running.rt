@@ -10,14 +10,16 @@ ghost use Rattle.chorus_run.specs.Load.{load_layout, Loads};
 ghost use Rattle.chorus_run.specs.Output.{EndsUnread, HandsOut, Writes, summary_of, text_of};
 ghost use Rattle.chorus_run.specs.Worn.{HasClock};
 ghost use Rattle.chorus_words.specs.declared.words.TheConstants.{COMMANDS_LIMIT};
-ghost use Rattle.chorus_words.specs.declared.words.Words.TheVariants.{Load, Replay};
+ghost use Rattle.chorus_words.specs.declared.words.Words.TheVariants.{Load, Lossy, Replay};
 ghost use Rattle.chorus_words.specs.Words.{Ask};
-ghost use Rattle.chorus_program.specs.Running.{one_place_each, replay_layout};
+ghost use Rattle.chorus_program.specs.Running.{CarriesInput, one_place_each, replay_layout};
 
 use chorus_io::{Sink, Source};
+use chorus_lossy::{LossyFault, WINDOW, lossy};
 use chorus_net::Sites;
 use chorus_run::{Finished, LOAD_SITES, load, replay};
 use chorus_show::Status;
+use chorus_transport::{Receiver, Sender};
 use chorus_ui::Layout;
 use chorus_words::{Words, read_words};
 use std::alloc::{AllocError, Global};
@@ -25,8 +27,9 @@ use std::alloc::{AllocError, Global};
 /// The sites of a replay, each with one place.
 pub const REPLAY_SITES: u16 = 16;
 
-/// Does what the words say, on sites that are started for it: `replay` replays the scenario that the source gives, and
-/// `load FIRST COMMANDS` performs the commands that are drawn. Any other words are Usage, and then nothing is read or written.
+/// Does what the words say: `replay` replays the scenario that the source gives, and `load FIRST COMMANDS` performs the commands
+/// that are drawn, each on sites that are started for it; `lossy FIRST` carries the input over a line that loses. Any other words
+/// are Usage, and then nothing is read or written.
 pub fn program<'a, S: Source, K: Sink>(
     alloc: Global,
     words: &'a [&'a str],
@@ -50,7 +53,8 @@ pub fn program<'a, S: Source, K: Sink>(
         Rose (K.faults sink.old) (K.faults sink.new) }
     ensures worn { (clock : ℕ) → result.status ≡ Status.Worn clock → (CLOCK_LIMIT ≤ clock)
         × IfSome result.closed (λ closed. HasClock clock (merge_of closed)) }
-    ensures closed { IsSome result.closed ↔ HandsOut result.status }
+    ensures closed { ((first : ℕ) → ¬ (Ask (map (λ word. word.now) words.now) (Lossy first))) →
+        IsSome result.closed ↔ HandsOut result.status }
     ensures unwritten { result.status ≢ Status.Done → result.status ≢ Status.WriteFault →
         sink.new ≡ sink.old }
 
@@ -75,10 +79,18 @@ pub fn program<'a, S: Source, K: Sink>(
     ensures loads { (first commands : ℕ) →
         Ask (map (λ word. word.now) words.now) (Load first commands) →
         IfSome result.closed (Loads first commands result.status) }
+
+    // What `lossy FIRST` did.
+    ensures unclosed { (first : ℕ) → Ask (map (λ word. word.now) words.now) (Lossy first) →
+        result.closed ≡ None }
+    ensures carries { (first : ℕ) → Ask (map (λ word. word.now) words.now) (Lossy first) →
+        CarriesInput result.status first (S.left source.old) (S.left source.new)
+            (K.held sink.old) (K.held sink.new) }
 {
     match read_words(alloc, words) {
         Ok(Some(Words::Replay)) => start_replay(alloc, source, sink),
         Ok(Some(Words::Load { first, commands })) => start_load(alloc, first, commands, sink),
+        Ok(Some(Words::Lossy { first })) => start_lossy(alloc, first, source, sink),
         Ok(None) => gave_up(Status::Usage),
         Err(_) => gave_up(Status::Memory),
     }
@@ -133,6 +145,38 @@ fn start_load<K: Sink>(alloc: Global, first: u64, commands: u32, sink: &mut K) -
         Ok(sites) => load(alloc, first, commands, sink, sites),
         Err(_) => gave_up(Status::Memory),
     }
+}
+
+/// Carries the input over two ends that are made for it.
+fn start_lossy<S: Source, K: Sink>(
+    alloc: Global,
+    first: u64,
+    source: &mut S,
+    sink: &mut K,
+) -> Finished
+    ensures usage { result.status ≢ Status.Usage }
+    ensures read_fault { result.status ≡ Status.ReadFault →
+        Rose (S.faults source.old) (S.faults source.new) }
+    ensures reliable { S.reliable source.old → S.faults source.new ≡ S.faults source.old }
+    ensures write_fault { result.status ≡ Status.WriteFault →
+        Rose (K.faults sink.old) (K.faults sink.new) }
+    ensures unwritten { result.status ≢ Status.Done → result.status ≢ Status.WriteFault →
+        sink.new ≡ sink.old }
+    ensures unclosed { result.closed ≡ None }
+    ensures carries { CarriesInput result.status first (S.left source.old) (S.left source.new)
+        (K.held sink.old) (K.held sink.new) }
+{
+    let mut sender = Sender::new(alloc, WINDOW).unwrap();
+    let mut receiver = Receiver::new(alloc, WINDOW).unwrap();
+    gave_up(
+        match lossy(alloc, first, source, sink, &mut sender, &mut receiver) {
+            Ok(()) => Status::Done,
+            Err(LossyFault::TooLong) => Status::Scenario { line: 0, reason: 6 },
+            Err(LossyFault::Read) => Status::ReadFault,
+            Err(LossyFault::Write) => Status::WriteFault,
+            Err(LossyFault::Memory(_)) => Status::Memory,
+        },
+    )
 }
 
 /// Starts so many sites, with one place each.

@@ -5,7 +5,7 @@ use Rattle.std.proofs.lemmas.Grind.{common_steps}
 use Rattle.std.proofs.lemmas.Fmt.{decimal_digit, decimal_injective, first_decimal}
 use Rattle.std.specs.Option.{IfSome, IsNone, is_some, unwrap_or}
 use Rattle.chorus_words.specs.declared.words.Words.{Words}
-use Rattle.chorus_words.specs.declared.words.Words.TheVariants.{Replay, Load}
+use Rattle.chorus_words.specs.declared.words.Words.TheVariants.{Replay, Load, Lossy}
 use Rattle.chorus_words.specs.Words.{Ask, IsWithin, spelled}
 use Rattle.chorus_words.specs.Cutting.{AskByThree, is_value}
 
@@ -20,6 +20,7 @@ decimal_value (suc n) h = digit_value (decimal (suc n)) (omega (arith, first_dec
 pub spelled_values : (asked : Words) → IsWithin asked → list_all is_value (spelled asked) ≡ true
 spelled_values Replay w = refl
 spelled_values (Load first commands) w = rw (decimal_value first w.0, decimal_value commands (omega (arith, w.1))) refl
+spelled_values (Lossy first) w = rw (decimal_value first w) refl
 
 no_word : {X : Type 0} (x : X) → None ≡ Some x → ⊥
 no_word x e = true≢false (sym (ap is_some e))
@@ -46,6 +47,7 @@ same_three xs (y ∷ y' ∷ y'' ∷ y''' ∷ ys) lx ly e f g = absurd (omega ari
 few_words : (asked : Words) → length (spelled asked) ≤ 3
 few_words Replay = omega arith
 few_words (Load first commands) = omega arith
+few_words (Lossy first) = omega arith
 
 -- at most three words, of which the first three ask this, ask it
 pub asks : (ws : List (List ℕ)) (what first second : Option (List ℕ)) (asked : Words) → length ws ≤ 3
@@ -67,10 +69,15 @@ same_number m n h k e = decimal_injective m n h k (the_word (decimal m) (decimal
 one_spelling : (a b : Words) → IsWithin a → IsWithin b → spelled a ≡ spelled b → a ≡ b
 one_spelling Replay Replay w v e = refl
 one_spelling Replay (Load first commands) w v e = absurd (no_word (decimal first) (ap (λ l. slice_get l 1) e))
+one_spelling Replay (Lossy first) w v e = absurd (no_word (decimal first) (ap (λ l. slice_get l 1) e))
 one_spelling (Load first commands) Replay w v e = absurd (no_word (decimal first) (sym (ap (λ l. slice_get l 1) e)))
 one_spelling (Load first commands) (Load f c) w v e = ap₂ Load
     (same_number first f w.0 v.0 (ap (λ l. slice_get l 1) e))
     (same_number commands c (omega (arith, w.1)) (omega (arith, v.1)) (ap (λ l. slice_get l 2) e))
+one_spelling (Load first commands) (Lossy f) w v e = absurd (no_word (decimal commands) (sym (ap (λ l. slice_get l 2) e)))
+one_spelling (Lossy first) Replay w v e = absurd (no_word (decimal first) (sym (ap (λ l. slice_get l 1) e)))
+one_spelling (Lossy first) (Load f c) w v e = absurd (no_word (decimal c) (ap (λ l. slice_get l 2) e))
+one_spelling (Lossy first) (Lossy f) w v e = ap Lossy (same_number first f w v (ap (λ l. slice_get l 1) e))
 
 pub ask_once : (ws : List (List ℕ)) (a b : Words) → Ask ws a → Ask ws b → a ≡ b
 ask_once ws a b m n = one_spelling a b m.1 n.1 (sym m.0 ∙ n.0)

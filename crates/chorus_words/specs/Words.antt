@@ -2,16 +2,18 @@
 use Rattle.std.specs.Prelude.{ℕ, ◌≡◌, ◌^◌, ◌<◌, ◌≤◌, List, [], ◌∷◌, codes, decimal}
 use Rattle.chorus_words.specs.declared.words.TheConstants.{COMMANDS_LIMIT}
 use Rattle.chorus_words.specs.declared.words.Words.{Words}
-use Rattle.chorus_words.specs.declared.words.Words.TheVariants.{Replay, Load}
+use Rattle.chorus_words.specs.declared.words.Words.TheVariants.{Replay, Load, Lossy}
 
 abbrev pub spelled : Words → List (List ℕ)
 spelled Replay = codes "replay" ∷ []
 spelled (Load first commands) = codes "load" ∷ decimal first ∷ decimal commands ∷ []
+spelled (Lossy first) = codes "lossy" ∷ decimal first ∷ []
 
 -- each number is within its limit
 abbrev pub IsWithin : Words → Type 0
 IsWithin Replay = Unit {0}
 IsWithin (Load first commands) = (first < 2 ^ 64) × (commands ≤ COMMANDS_LIMIT)
+IsWithin (Lossy first) = first < 2 ^ 64
 
 -- these words ask this
 abbrev pub Ask : List (List ℕ) → Words → Type 0

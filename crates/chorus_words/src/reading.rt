@@ -56,6 +56,9 @@ fn asked_by(what: Option<&str>, first: Option<&str>, second: Option<&str>) -> Op
             first: parse_decimal(first.as_bytes())?,
             commands: commands_of(commands)?,
         }),
+        ("lossy", Some(first), None) => Some(Words::Lossy {
+            first: parse_decimal(first.as_bytes())?,
+        }),
         _ => None,
     }
 }

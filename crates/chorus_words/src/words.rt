@@ -10,4 +10,6 @@ pub enum Words {
     Replay,
     /// `load FIRST COMMANDS`: so many commands, at most [`COMMANDS_LIMIT`], are drawn from the first state on.
     Load { first: u64, commands: u32 },
+    /// `lossy FIRST`: the input is carried over a line whose losses are drawn from the first state on.
+    Lossy { first: u64 },
 }
