@@ -9,10 +9,10 @@
 
 mod circle;
 mod ending;
-mod process;
 mod running;
+mod standard;
 
 pub use circle::what_is_replayed_is_legal;
 pub use ending::{ended, without_words};
-pub use process::process;
 pub use running::{REPLAY_SITES, program};
+pub use standard::process;
