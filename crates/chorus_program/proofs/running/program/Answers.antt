@@ -1,9 +1,30 @@
-use Rattle.std.proofs.Common.{◌≡◌, IfSome, subst₂}
+use Rattle.std.proofs.Common.{◌≡◌, ℕ, IfSome, ap, subst₂}
+use Rattle.chorus_show.specs.declared.status.Status.{Status}
+use Rattle.chorus_run.specs.declared.finished.Finished.{Finished}
 use Rattle.chorus_run.specs.Load.{Loads}
 use Rattle.chorus_audit.specs.Output.{Prints}
 use Rattle.chorus_words.specs.declared.words.Words.TheVariants.{Audit, Load, Replay}
 use Rattle.chorus_program.specs.Running.{places_each}
 use Rattle.chorus_program.proofs.running.program.Goals as goal
+
+no-refusal : (s : Status) (line reason : ℕ) → s ≡ Status.Memory → s ≡ Status.Scenario line reason → ⊥
+no-refusal s line reason e f = cc
+
+pub returns-in-Ok-Some-Load-clause-scenario : goal.returns-in-Ok-Some-Load-clause-scenario
+returns-in-Ok-Some-Load-clause-scenario g c asks =
+    absurd (cc (c.in-Ok-Some-Load.ensures.listed Replay asks, c.in-Ok-Some-Load.field-0-is, c.in-Ok-Some-Load.field-0-0-is))
+
+pub returns-in-Ok-Some-Audit-clause-scenario : goal.returns-in-Ok-Some-Audit-clause-scenario
+returns-in-Ok-Some-Audit-clause-scenario g c asks =
+    absurd (cc (c.in-Ok-Some-Audit.ensures.listed Replay asks, c.in-Ok-Some-Audit.field-0-is, c.in-Ok-Some-Audit.field-0-0-is))
+
+pub returns-in-Ok-None-clause-scenario : goal.returns-in-Ok-None-clause-scenario
+returns-in-Ok-None-clause-scenario g c asks =
+    absurd (cc (c.in-Ok-None.ensures.listed Replay asks, c.in-Ok-None.field-0-is))
+
+pub returns-in-Err-clause-scenario : goal.returns-in-Err-clause-scenario
+returns-in-Err-clause-scenario g c asks line reason is =
+    absurd (no-refusal _ line reason (ap (λ (f : Finished). f.status) c.gave_up-in-Err.ensures) is)
 
 -- words that are in the list are read as what they ask
 pub returns-in-Ok-Some-Load-clause-loads : goal.returns-in-Ok-Some-Load-clause-loads

@@ -1,0 +1,16 @@
+use Rattle.std.proofs.Common.{◌≡◌, ℕ, Err, ap, subst}
+use Rattle.chorus_show.specs.declared.status.Status.{Status}
+use Rattle.chorus_run.specs.declared.finished.Finished.{Finished}
+use Rattle.chorus_run.specs.Headline.{IsGiven}
+use Rattle.chorus_program.proofs.running.start_replay.Goals as goal
+
+no-refusal : (s : Status) (line reason : ℕ) → s ≡ Status.Memory → s ≡ Status.Scenario line reason → ⊥
+no-refusal s line reason e f = cc
+
+pub returns-in-Ok-clause-scenario : goal.returns-in-Ok-clause-scenario
+returns-in-Ok-clause-scenario g c line reason is =
+    subst (λ l. IsGiven l (g.S.Source.left c.args.source.now) (Err (line, reason))) c.in-Ok.ensures.1 (c.replay.ensures.scenario line reason is)
+
+pub returns-in-Err-clause-scenario : goal.returns-in-Err-clause-scenario
+returns-in-Err-clause-scenario g c line reason is =
+    absurd (no-refusal _ line reason (ap (λ (f : Finished). f.status) c.gave_up.ensures) is)
