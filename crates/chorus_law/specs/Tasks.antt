@@ -7,9 +7,9 @@ use Rattle.chorus_ui.specs.declared.layout.Layout.{Layout}
 use Rattle.chorus_ui.specs.Layout.{IsLayout}
 use Rattle.chorus_entry.specs.declared.command.Command.{Command}
 use Rattle.chorus_world.specs.Commands.{performs}
-use Rattle.chorus_law.specs.Network.{NetState, Event, Deliver, schedule, round, rounds, served, drained}
+use Rattle.chorus_law.specs.Network.{Event, Deliver, schedule, round, rounds, served, drained}
 use Rattle.chorus_law.specs.Stands.{actor_of}
-use Rattle.chorus_law.specs.Schedules.{command_in, may_happen, may_be, OfSchedules}
+use Rattle.chorus_law.specs.Schedules.{command_in, commands_of, may_happen, may_be, OfSchedules}
 use Rattle.chorus_law.specs.Left.{packets_left, merged_past}
 use Rattle.chorus_law.specs.Quiet.{IsQuiet}
 
@@ -80,14 +80,13 @@ CarryFront l (Do event ∷ ts) es = CarryOut l (Do event ∷ ts) es ⊎ CarryFro
 CarryFront l (Drain seat ∷ ts) es =
     ((done : List Event) × ((older : List Event) × ((es ≡ done ++ older) × AreDeliveries seat done × CarryOut l ts older))) ⊎ CarryFront l ts es
 
--- so the merge performs the first of the commands of the tasks, both lists with the latest first
-pub record PerformsFront (l : Layout) (ts : List Task) (n : NetState) (seat : ℕ) (actor : Ui) : Type 0 where
-  pub done : List Command
+-- so the commands that the events gave are the first of those of the tasks, and the merge performs them; both with the latest first
+pub record PerformsFront (l : Layout) (ts : List Task) (es : List Event) (seat : ℕ) (actor : Ui) : Type 0 where
   pub later : List Command
-  pub front : commands_in seat ts ≡ later ++ done
-  pub performed : performs l seat actor (merged_past n) done ≡ true
+  pub front : commands_in seat ts ≡ later ++ commands_of seat es
+  pub performed : performs l seat actor (merged_past (schedule l es)) (commands_of seat es) ≡ true
 
 abbrev pub FrontsPerformed : Type 0
 FrontsPerformed =
     (l : Layout) (ts : List Task) (es : List Event) (seat : ℕ) (actor : Ui) → IsLayout l → may_be l es ≡ true → CarryFront l ts es →
-    actor_of (schedule l es) seat ≡ Some actor → PerformsFront l ts (schedule l es) seat actor
+    actor_of (schedule l es) seat ≡ Some actor → PerformsFront l ts es seat actor

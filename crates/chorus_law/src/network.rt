@@ -19,11 +19,11 @@ ghost use Rattle.chorus_law.specs.Tasks.{CarriedOutOnce, DrainsEnd, DrainsLeaveN
 /// way stand for the ports of the merge (`stands`), also when the network is closed (`left`). Where no packet is left, nothing
 /// is left to be done (`quiet`). What a port gives out is always what it accepted first, in order (`receives`), and each
 /// accepted message always stands at one position of one port, with one fate (`fates`). A port always has the messages of
-/// one sender by one route in the order in which they were sent (`sender_order`), and a request at most once (`once`). A
-/// functional post is always accepted by at most one member (`one_member`), on the site that it asks for (`on_site`). The
-/// copies of a group's posts always stand in each port in the order of their choices (`choice_order`). A direct post is
-/// carried by at most 2 (h + 1) packets that try it or tell its verdict, where h is how often its port departed
-/// (`few_packets`).
+/// one sender by one route in the order in which they were sent (`sender_order`). A request is always accepted at most once,
+/// by all ports together (`once`). A functional post is always accepted by at most one member (`one_member`), on the site that
+/// it asks for (`on_site`). The copies of a group's posts always stand in each port in the order of their choices
+/// (`choice_order`). A direct post is carried by at most 2 (h + 1) packets that try it or tell its verdict, where h is how often
+/// its port departed (`few_packets`).
 pub fn network_refines_world()
     ensures events { EventsStand }
     ensures stands { SchedulesStandInOrder }

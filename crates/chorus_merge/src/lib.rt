@@ -1,6 +1,6 @@
 //! The merge of the journals of all places into one list, by clock and then by place.
 //!
-//! The layers above rest on [`merge`], which is exactly the merge of `specs/Merge.antt`, and on the laws of that merge: it
+//! The layers above rest on [`merge`] and [`merge_lent`], which give exactly the merge of `specs/Merge.antt`, and on its laws: it
 //! keeps each journal's order and loses nothing, and where clocks rise and no two journals share a place it is the one
 //! sorted list of these entries. Begin with `specs/Merge.antt`, then `merging`; `laws` has the laws, which make no call.
 //!
@@ -14,4 +14,4 @@ mod merging;
 pub use laws::{
     merge_is_the_sorted_list, merge_keeps_journals, merge_keeps_places, merge_puts_the_next_entry,
 };
-pub use merging::merge;
+pub use merging::{merge, merge_lent};

@@ -12,12 +12,12 @@ use std::alloc::{AllocError, Global};
 /// with the least clock, of several such that of the least place, of several such that of the earliest journal (the total
 /// order of Lamport, 1978).
 ///
-/// The work grows with the number of entries times the logarithm of the number of journals, and each entry is copied once.
-/// The only error is want of memory.
+/// The work grows with the number of entries times the logarithm of the number of journals, and each entry is copied once;
+/// [`merge_lent`] copies none. The only error is want of memory.
 pub fn merge(alloc: Global, journals: &[Vec<Entry>]) -> Result<Vec<Entry>, AllocError>
     ensures { IfOk result (λ entries. entries.items ≡ merged (journals_of journals.now)) }
 {
-    let in_order = merge_all(alloc, journals)?;
+    let in_order = merge_lent(alloc, journals)?;
     let mut entries = Vec::with_capacity(alloc, in_order.len())?;
     for entry in &in_order {
         entries.push(entry.copied()?)?;
@@ -25,7 +25,11 @@ pub fn merge(alloc: Global, journals: &[Vec<Entry>]) -> Result<Vec<Entry>, Alloc
     Ok(entries)
 }
 
-fn merge_all<'a>(alloc: Global, journals: &'a [Vec<Entry>]) -> Result<Vec<&'a Entry>, AllocError>
+/// The same list, of references to the entries of the journals: no entry is copied. The only error is want of memory.
+pub fn merge_lent<'a>(
+    alloc: Global,
+    journals: &'a [Vec<Entry>],
+) -> Result<Vec<&'a Entry>, AllocError>
     ensures { IfOk result (λ entries. lent entries.items ≡ merged (journals_of journals.now)) }
 {
     match journals {
@@ -33,8 +37,8 @@ fn merge_all<'a>(alloc: Global, journals: &'a [Vec<Entry>]) -> Result<Vec<&'a En
         [journal] => borrow_all(alloc, journal),
         _ => {
             let (front, back) = journals.split_at(journals.len() / 2);
-            let front = merge_all(alloc, front)?;
-            let back = merge_all(alloc, back)?;
+            let front = merge_lent(alloc, front)?;
+            let back = merge_lent(alloc, back)?;
             merge_two(alloc, &front, &back)
         }
     }

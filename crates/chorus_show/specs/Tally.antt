@@ -12,6 +12,7 @@ use Rattle.chorus_show.specs.declared.queues.Spot.TheVariants.{Held, Moving, End
 use Rattle.chorus_show.specs.declared.queues.Queue.{Queue}
 use Rattle.chorus_show.specs.declared.queues.Queues.{Queues}
 use Rattle.chorus_show.specs.declared.counts.Counts.{Counts}
+use Rattle.chorus_show.specs.declared.summary.Summary.{Summary}
 use Rattle.chorus_show.specs.Summary.{count, accepts, gives, last_spot, same_spot, waiting_at, is_post, is_accept, is_take, is_refusal, is_stale, is_depart, is_delete, discarded}
 
 -- the messages of a queue, where its port is there
@@ -61,3 +62,8 @@ pub record AreCounts (c : Counts) (entries : List Entry) : Type 0 where
   pub deletes : c.deletes ≡ count is_delete entries
   pub discarded : c.discarded ≡ discarded entries
   pub fits : c.discarded ≤ length entries * 2 ^ 64
+
+-- the numbers of a summary are those of these entries
+pub record Tells (numbers : Summary) (entries : List Entry) : Type 0 where
+  pub counts : AreCounts numbers.counts entries
+  pub queues : AreQueues numbers.queues entries

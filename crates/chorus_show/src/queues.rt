@@ -1,6 +1,6 @@
 //! How many messages wait at the ports that are held, and at those that move.
 
-ghost use Rattle.std.specs.Prelude.{◌≡◌, ◌+◌, ◌<◌, ◌^◌, List, [], ◌∷◌, length, OnOk};
+ghost use Rattle.std.specs.Prelude.{◌≡◌, ◌+◌, ◌<◌, ◌^◌, List, [], ◌∷◌, length, OnOk, OnErr};
 ghost use Rattle.chorus_entry.specs.declared.entry.Entry.{Entry};
 ghost use Rattle.chorus_show.specs.Tally.{news_of, put};
 
@@ -88,12 +88,14 @@ impl Queues {
         }
     }
 
-    /// Puts one more entry before those that were seen.
+    /// Puts one more entry before those that were seen. An error leaves what the queues tell as it was.
     pub(crate) fn add(&mut self, entry: &Entry) -> Result<(), AllocError>
         requires { (later : List Entry) × AreQueues self.old later × (length later < 2 ^ 63) }
-        ensures { OnOk result
+        ensures ok { OnOk result
             ((later : List Entry) → AreQueues self.old later →
             AreQueues self.new (entry.now ∷ later)) }
+        ensures err { OnErr result ((later : List Entry) → AreQueues self.old later →
+            AreQueues self.new later) }
     {
         let Some((port, news)) = news_of(&entry.act) else {
             return Ok(());

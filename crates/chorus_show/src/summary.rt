@@ -1,6 +1,6 @@
 //! The summary text.
 
-ghost use Rattle.std.specs.Prelude.{◌≡◌, ◌++◌, List, OnOk, OnErr};
+ghost use Rattle.std.specs.Prelude.{◌≡◌, ◌<◌, ◌^◌, ◌++◌, List, [], ◌∷◌, length, OnOk, OnErr};
 ghost use Rattle.chorus_entry.specs.declared.entry.Entry.{Entry};
 ghost use Rattle.chorus_show.specs.Summary.{summary_text, message_lines, discarded_line, other_lines};
 ghost use Rattle.chorus_show.specs.Tally.{AreCounts, AreQueues};
@@ -9,27 +9,68 @@ use crate::counts::Counts;
 use crate::phrases::{push_count, push_word};
 use crate::queues::Queues;
 use chorus_entry::Entry;
-use std::alloc::AllocError;
+use std::alloc::{AllocError, Global};
 
-/// Appends the summary text: the line `summary`, eight lines `WORD NUMBER`, and the line `end`. Exactly where an entry deletes
-/// a port, a ninth line `discarded NUMBER` stands behind `moving`. What the numbers are is said for every list of entries. An
-/// error leaves `out` as it was.
+/// The numbers of a summary, while the entries are counted from the last one to the first: the last one that puts a port
+/// somewhere says where it is.
+#[derive(Drop)]
+pub struct Summary {
+    counts: Counts,
+    queues: Queues,
+}
+
+impl Summary {
+    ghost use Rattle.chorus_show.specs.Tally.{Tells};
+
+    /// The numbers of no entries.
+    pub fn new(alloc: Global) -> Summary
+        ensures { Tells result [] }
+    {
+        Summary {
+            counts: Counts::new(),
+            queues: Queues::new(alloc),
+        }
+    }
+
+    /// Counts the entry that stands before those that were counted. An error leaves the numbers as they were.
+    pub fn add_before(&mut self, entry: &Entry) -> Result<(), AllocError>
+        requires { (later : List Entry) × Tells self.old later × (length later < 2 ^ 63) }
+        ensures ok { OnOk result ((later : List Entry) → Tells self.old later →
+            Tells self.new (entry.now ∷ later)) }
+        ensures err { OnErr result ((later : List Entry) → Tells self.old later →
+            Tells self.new later) }
+    {
+        self.queues.add(entry)?;
+        self.counts.add(entry);
+        Ok(())
+    }
+
+    /// Appends the summary text of the entries that were counted: the line `summary`, eight lines `WORD NUMBER`, and the line
+    /// `end`. Exactly where an entry deletes a port, a ninth line `discarded NUMBER` stands behind `moving`. An error leaves
+    /// `out` as it was.
+    pub fn write(&self, out: &mut Vec<u8>) -> Result<(), AllocError>
+        ensures ok { OnOk result ((entries : List Entry) → Tells self.now entries →
+            out.new.items ≡ out.old.items ++ summary_text entries) }
+        ensures err { OnErr result (out.new.items ≡ out.old.items) }
+    {
+        let mut text = Vec::new(*out.allocator());
+        push_summary(&self.counts, &self.queues, &mut text)?;
+        out.extend_from_slice(&text)
+    }
+}
+
+/// Appends the summary text of the entries, as [`Summary::write`] does. An error leaves `out` as it was.
 pub fn summary_text(entries: &[Entry], out: &mut Vec<u8>) -> Result<(), AllocError>
     ensures ok { OnOk result (out.new.items ≡ out.old.items ++ summary_text entries.now) }
     ensures err { OnErr result (out.new.items ≡ out.old.items) }
 {
-    let mut counts = Counts::new();
-    let mut queues = Queues::new(*out.allocator());
+    let mut summary = Summary::new(*out.allocator());
     let mut rest = entries;
-    // From the last entry to the first: the last one that puts a port somewhere says where it is.
     while let [before @ .., entry] = rest {
-        counts.add(entry);
-        queues.add(entry)?;
+        summary.add_before(entry)?;
         rest = before;
     }
-    let mut text = Vec::new(*out.allocator());
-    push_summary(&counts, &queues, &mut text)?;
-    out.extend_from_slice(&text)
+    summary.write(out)
 }
 
 /// Appends the text of a summary with these numbers. After an error a part of it may stand there.

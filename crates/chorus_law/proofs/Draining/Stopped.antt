@@ -41,4 +41,4 @@ fronts-give-fronts l (Drain k ∷ ts) es seat (inr less) = fronts-give-fronts l 
 pub fronts-performed : FrontsPerformed
 fronts-performed l ts es seat actor shape may front who =
     let f = fronts-give-fronts l ts es seat front in
-    record { done = commands_of seat es; later = f.0; front = f.1; performed = performs-at l es shape may seat actor who }
+    record { later = f.0; front = f.1; performed = performs-at l es shape may seat actor who }

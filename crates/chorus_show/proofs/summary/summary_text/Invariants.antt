@@ -1,11 +1,11 @@
 use Rattle.std.proofs.Common.{◌≡◌, List, ◌++◌, length}
 use Rattle.chorus_entry.specs.declared.entry.Entry.{Entry}
-use Rattle.chorus_show.specs.Tally.{AreCounts, AreQueues}
+use Rattle.chorus_show.specs.Tally.{Tells}
 use Rattle.chorus_show.proofs.summary.summary_text.Given as goal
 
 -- the entries that were counted stand behind the rest
 abbrev pub invariant-loop-rest : goal.invariant-loop-rest
-invariant-loop-rest l = (later : List Entry) × (l.entries ≡ l.rest ++ later) × AreCounts l.counts later × AreQueues l.queues later
+invariant-loop-rest l = (later : List Entry) × (l.entries ≡ l.rest ++ later) × Tells l.summary later
 
 abbrev pub decreases-loop-rest : goal.decreases-loop-rest
 decreases-loop-rest l = length l.rest

@@ -4,7 +4,7 @@ use Rattle.chorus_entry.specs.declared.entry.Entry.{Entry}
 use Rattle.chorus_merge.specs.Merge.{merged}
 use Rattle.chorus_merge.specs.Steps.{journals_of, lent, merge_two}
 use Rattle.chorus_merge.proofs.Folds.{merged_single, merged_halves}
-use Rattle.chorus_merge.proofs.merging.+merge_all.Goals as goal
+use Rattle.chorus_merge.proofs.merging.+merge_lent.Goals as goal
 
 pub returns-in-len1 : goal.returns-in-len1
 returns-in-len1 t c =
