@@ -5,9 +5,7 @@ ghost use Rattle.chorus_io.specs.Count.{Rose};
 ghost use Rattle.chorus_ui.specs.declared.limits.TheConstants.{CLOCK_LIMIT};
 ghost use Rattle.chorus_law.specs.Calls.{just_started};
 ghost use Rattle.chorus_law.specs.Tasks.{Drain};
-ghost use Rattle.chorus_merge.specs.Steps.{lent};
 ghost use Rattle.chorus_net.specs.Sites.{net};
-ghost use Rattle.chorus_show.specs.Tally.{Tells};
 ghost use Rattle.chorus_run.specs.declared.loading.TheConstants.{LOAD_LIMIT};
 ghost use Rattle.chorus_run.specs.Worn.{HasClock};
 ghost use Rattle.chorus_run.specs.Headline.{AreJustStarted, merge_of};
@@ -20,12 +18,11 @@ use crate::drawing::{Draw, LOAD_SITES, SETUP_COMMANDS, draw_for, load_actor, set
 use crate::ending::{Played, close, gave_up, print};
 use crate::finished::Finished;
 use chorus_draw::next_state;
-use chorus_entry::Entry;
 use chorus_io::Sink;
 use chorus_merge::merge_lent;
 use chorus_net::{Closed, EnterFault, Sites};
 use chorus_place::PlaceFault;
-use chorus_show::{Status, Summary};
+use chorus_show::{Status, lent_summary_text};
 use std::alloc::{AllocError, Global};
 
 /// The most commands of a load.
@@ -84,21 +81,8 @@ fn summary_of(alloc: Global, closed: &Closed) -> Result<Vec<u8>, AllocError>
 {
     let entries = merge_lent(alloc, &closed.journals)?;
     let mut text = Vec::new(alloc);
-    summary_of_lent(alloc, &entries)?.write(&mut text)?;
+    lent_summary_text(&entries, &mut text)?;
     Ok(text)
-}
-
-/// The numbers of the summary of the entries, which are counted from the last one to the first.
-fn summary_of_lent(alloc: Global, entries: &[&Entry]) -> Result<Summary, AllocError>
-    ensures { IfOk result (λ numbers. Tells numbers (lent entries.now)) }
-{
-    let mut numbers = Summary::new(alloc);
-    let mut rest = entries;
-    while let [before @ .., entry] = rest {
-        numbers.add_before(entry)?;
-        rest = before;
-    }
-    Ok(numbers)
 }
 
 /// Performs the load, and closes the sites.

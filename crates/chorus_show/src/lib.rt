@@ -22,4 +22,4 @@ pub use journal::{entry_line, journal_text};
 pub use law::{a_line_has_one_entry, a_line_is_read_back};
 pub use queues::Spot;
 pub use status::{Status, fault_text};
-pub use summary::{Summary, summary_text};
+pub use summary::{lent_summary_text, summary_text};

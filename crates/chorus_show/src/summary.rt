@@ -1,6 +1,7 @@
 //! The summary text.
 
-ghost use Rattle.std.specs.Prelude.{◌≡◌, ◌<◌, ◌^◌, ◌++◌, List, [], ◌∷◌, length, OnOk, OnErr};
+ghost use Rattle.std.specs.Prelude.{◌≡◌, ◌<◌, ◌^◌, ◌++◌, List, [], ◌∷◌, length, map, OnOk, OnErr};
+ghost use Rattle.std.specs.Borrow.{Bor};
 ghost use Rattle.chorus_entry.specs.declared.entry.Entry.{Entry};
 ghost use Rattle.chorus_show.specs.Summary.{summary_text, message_lines, discarded_line, other_lines};
 ghost use Rattle.chorus_show.specs.Tally.{AreCounts, AreQueues};
@@ -14,7 +15,7 @@ use std::alloc::{AllocError, Global};
 /// The numbers of a summary, while the entries are counted from the last one to the first: the last one that puts a port
 /// somewhere says where it is.
 #[derive(Drop)]
-pub struct Summary {
+struct Summary {
     counts: Counts,
     queues: Queues,
 }
@@ -23,7 +24,7 @@ impl Summary {
     ghost use Rattle.chorus_show.specs.Tally.{Tells};
 
     /// The numbers of no entries.
-    pub fn new(alloc: Global) -> Summary
+    fn new(alloc: Global) -> Summary
         ensures { Tells result [] }
     {
         Summary {
@@ -33,7 +34,7 @@ impl Summary {
     }
 
     /// Counts the entry that stands before those that were counted. An error leaves the numbers as they were.
-    pub fn add_before(&mut self, entry: &Entry) -> Result<(), AllocError>
+    fn add_before(&mut self, entry: &Entry) -> Result<(), AllocError>
         requires { (later : List Entry) × Tells self.old later × (length later < 2 ^ 63) }
         ensures ok { OnOk result ((later : List Entry) → Tells self.old later →
             Tells self.new (entry.now ∷ later)) }
@@ -45,10 +46,8 @@ impl Summary {
         Ok(())
     }
 
-    /// Appends the summary text of the entries that were counted: the line `summary`, eight lines `WORD NUMBER`, and the line
-    /// `end`. Exactly where an entry deletes a port, a ninth line `discarded NUMBER` stands behind `moving`. An error leaves
-    /// `out` as it was.
-    pub fn write(&self, out: &mut Vec<u8>) -> Result<(), AllocError>
+    /// Appends the summary text of the entries that were counted. An error leaves `out` as it was.
+    fn write(&self, out: &mut Vec<u8>) -> Result<(), AllocError>
         ensures ok { OnOk result ((entries : List Entry) → Tells self.now entries →
             out.new.items ≡ out.old.items ++ summary_text entries) }
         ensures err { OnErr result (out.new.items ≡ out.old.items) }
@@ -59,7 +58,9 @@ impl Summary {
     }
 }
 
-/// Appends the summary text of the entries, as [`Summary::write`] does. An error leaves `out` as it was.
+/// Appends the summary text: the line `summary`, eight lines `WORD NUMBER`, and the line `end`. Exactly where an entry deletes
+/// a port, a ninth line `discarded NUMBER` stands behind `moving`. What the numbers are is said for every list of entries. An
+/// error leaves `out` as it was.
 pub fn summary_text(entries: &[Entry], out: &mut Vec<u8>) -> Result<(), AllocError>
     ensures ok { OnOk result (out.new.items ≡ out.old.items ++ summary_text entries.now) }
     ensures err { OnErr result (out.new.items ≡ out.old.items) }
@@ -69,6 +70,21 @@ pub fn summary_text(entries: &[Entry], out: &mut Vec<u8>) -> Result<(), AllocErr
     while let [before @ .., entry] = rest {
         summary.add_before(entry)?;
         rest = before;
+    }
+    summary.write(out)
+}
+
+/// Appends the summary text of the entries that are lent, as [`summary_text`] does.
+pub fn lent_summary_text(entries: &[&Entry], out: &mut Vec<u8>) -> Result<(), AllocError>
+    ensures ok { OnOk result (out.new.items ≡ out.old.items
+        ++ summary_text (map (λ (entry : Bor Entry). entry.now) entries.now)) }
+    ensures err { OnErr result (out.new.items ≡ out.old.items) }
+{
+    let mut summary = Summary::new(*out.allocator());
+    let mut rest = entries;
+    while let [earlier @ .., entry] = rest {
+        summary.add_before(entry)?;
+        rest = earlier;
     }
     summary.write(out)
 }
