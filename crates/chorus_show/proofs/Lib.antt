@@ -1,3 +1,4 @@
 pub mod PortSums
 pub mod Waiting
 pub mod LineBack
+pub mod Bounds

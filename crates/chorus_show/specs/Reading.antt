@@ -4,7 +4,6 @@
 use Rattle.std.specs.Prelude.{ℕ, ◌+◌, ◌-◌, ◌*◌, ◌^◌, ◌==◌, nat_lt, nat_le, ◌&&◌, Bool, not, if◌then◌else◌, Option, Some, None, option_map, List, [], ◌∷◌, codes}
 use Rattle.std.specs.List.{slice_split, join_with_byte, list_all}
 use Rattle.std.specs.Str.{bytes_eq}
-use Rattle.chorus_ui.specs.declared.ui.Ui.{Ui}
 use Rattle.chorus_ui.specs.Decimals.{parse_decimal}
 use Rattle.chorus_ui.specs.Text.{parse_name}
 use Rattle.chorus_entry.specs.declared.id.MsgId.{MsgId}
