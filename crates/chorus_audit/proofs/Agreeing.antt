@@ -9,10 +9,9 @@ use Rattle.chorus_ui.specs.Decimals.{parse_decimal}
 use Rattle.chorus_entry.specs.declared.entry.Entry.{Entry}
 use Rattle.chorus_world.specs.Steps.{may, is_legal}
 use Rattle.chorus_show.specs.Lines.{entry_text}
-use Rattle.chorus_show.specs.Law.{IsEntry}
+use Rattle.chorus_show.specs.Bounds.{IsEntry, IsWithin, AreWithin}
 use Rattle.chorus_show.specs.Phrases.{phrase}
 use Rattle.chorus_show.proofs.LineBack.{line, entry_line, lines_tell_entries, count_lacks}
-use Rattle.chorus_audit.specs.Bounds.{IsWithin, AreWithin}
 use Rattle.chorus_audit.specs.Tests.{head}
 use Rattle.chorus_audit.proofs.Cutting.{cut_once}
 

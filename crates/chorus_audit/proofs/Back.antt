@@ -10,7 +10,7 @@ use Rattle.chorus_show.specs.Lines.{entry_text}
 use Rattle.chorus_ui.specs.Decimals.{parse_decimal}
 use Rattle.chorus_show.specs.Reading.{parts, first, second, third, rest, u16_in, u32_in, act_in, four, entry_of}
 use Rattle.chorus_show.proofs.LineBack.{line, entry_back}
-use Rattle.chorus_audit.specs.Bounds.{has_room, IsWithin}
+use Rattle.chorus_show.specs.Bounds.{has_room, IsWithin}
 use Rattle.chorus_audit.specs.Calls.{held, entry_held}
 
 some_same : (d e : Entry) → Some d ≡ Some e → d ≡ e

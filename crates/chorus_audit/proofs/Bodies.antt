@@ -2,7 +2,7 @@
 use Rattle.std.proofs.Common.{◌≡◌, ◌≢◌, ℕ, ◌<◌, ◌≤◌, Bool, true, false, nat_le, if◌then◌else◌, Some, None, List, [], ◌∷◌, ◌++◌, length, refl, sym, ap, ◌∙◌, append_assoc, append-nil, length-append, arith}
 use Rattle.std.proofs.lemmas.Bool.Decides.{nat_tests}
 use Rattle.chorus_ui.specs.declared.limits.TheConstants.{BODY_LIMIT}
-use Rattle.chorus_show.specs.Law.{Is8, AreBytes}
+use Rattle.chorus_show.specs.Bounds.{Is8, AreBytes}
 use Rattle.chorus_show.specs.Reading.{unescape}
 use Rattle.chorus_audit.specs.Calls.{short, IsUnescaped}
 

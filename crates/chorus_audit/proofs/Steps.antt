@@ -15,7 +15,7 @@ use Rattle.chorus_show.specs.Summary.{summary_text}
 use Rattle.chorus_show.specs.Reading.{lacks, below, u32_in}
 use Rattle.chorus_show.proofs.LineBack.{line, entry_line, count_lacks, back_n32}
 use Rattle.chorus_audit.specs.declared.judging.Audit.TheVariants.{Legal, Wrong}
-use Rattle.chorus_audit.specs.Bounds.{IsWithin, AreWithin}
+use Rattle.chorus_show.specs.Bounds.{IsWithin, AreWithin}
 use Rattle.chorus_audit.specs.Calls.{behind}
 use Rattle.chorus_audit.specs.Tests.{head, Begins, IsNoEntry, IsUnlawful, lines_shared, AtHead, AtEntry, AtSummary, IsVerdict}
 use Rattle.chorus_audit.specs.declared.judging.Stop.{Stop}

@@ -10,7 +10,7 @@ use Rattle.chorus_show.specs.Summary.{summary_text}
 use Rattle.chorus_audit.specs.declared.judging.Audit.{Audit}
 use Rattle.chorus_audit.specs.declared.judging.Audit.TheVariants.{Legal, Wrong}
 use Rattle.chorus_audit.specs.declared.limits.TheConstants.{NO_LINE}
-use Rattle.chorus_audit.specs.Bounds.{IsWithin, AreWithin}
+use Rattle.chorus_show.specs.Bounds.{IsWithin, AreWithin}
 use Rattle.chorus_audit.specs.Report.{IsReport}
 use Rattle.chorus_audit.specs.Tests.{head, FailsAtHead, Begins, IsNoEntry, IsUnlawful, lines_shared, IsWrong, AtHead, AtEntry, AtSummary, IsVerdict, TextsHaveOneVerdict}
 use Rattle.chorus_audit.proofs.Agreeing.{lines, one_entry, one_head, Compared, Same, Fewer, More, compared, legal_next, within_next, length_next}

@@ -2,11 +2,7 @@
 use Rattle.std.proofs.Common.{◌≡◌, ℕ, ◌==◌, Bool, true, false, cond, Option, Some, None, option_map, List, [], ◌∷◌, ◌++◌, length, refl, sym, ap, ◌∙◌, append_assoc, append-nil, arith}
 use Rattle.std.specs.List.{All, onto_first}
 use Rattle.std.proofs.lemmas.Bool.{eqb-true}
-use Rattle.std.proofs.lemmas.List.Elements.{All-append, All-cons, All-head, All-tail}
-use Rattle.chorus_ui.specs.declared.ui.Ui.{Ui}
-use Rattle.chorus_ui.specs.Name.{IsName}
-use Rattle.chorus_entry.specs.declared.id.MsgId.{MsgId}
-use Rattle.chorus_show.specs.Law.{IsId, AreNames, AreIds}
+use Rattle.std.proofs.lemmas.List.Elements.{All-append, All-cons}
 use Rattle.chorus_show.specs.Reading.{parts, first, rest, onto, each}
 
 onto_cons : (c : ℕ) (ps : List (List ℕ)) → onto_first c ps ≡ first (onto_first c ps) ∷ rest (onto_first c ps)
@@ -74,12 +70,3 @@ module _ {A : Type 0} (said : List ℕ → Option A) (allowed : A → Type 0) wh
   pub none_left : (ws : List (List ℕ)) → (length ws == 0) ≡ true → ws ≡ []
   none_left [] h = refl
   none_left (w ∷ ws) h = absurd (omega (arith, eqb-true (length (w ∷ ws)) 0 h))
-
--- each of them is a name, or an id
-pub are_names : (qs : List Ui) → All IsName qs → AreNames qs
-are_names [] h = tt
-are_names (q ∷ qs) h = (All-head IsName q qs h, are_names qs (All-tail IsName q qs h))
-
-pub are_ids : (xs : List MsgId) → All IsId xs → AreIds xs
-are_ids [] h = tt
-are_ids (x ∷ xs) h = (All-head IsId x xs h, are_ids xs (All-tail IsId x xs h))

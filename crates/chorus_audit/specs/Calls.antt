@@ -5,8 +5,7 @@ use Rattle.chorus_ui.specs.Decimals.{parse_decimal}
 use Rattle.chorus_entry.specs.declared.act.Act.{Act}
 use Rattle.chorus_entry.specs.declared.entry.Entry.{Entry}
 use Rattle.chorus_show.specs.Reading.{parts, first, second, third, rest, four, u16_in, u32_in, unescape, act_in, entry_of}
-use Rattle.chorus_show.specs.Law.{AreBytes}
-use Rattle.chorus_audit.specs.Bounds.{has_room}
+use Rattle.chorus_show.specs.Bounds.{AreBytes, has_room}
 use Rattle.chorus_audit.specs.declared.fault.Unread.{Unread}
 use Rattle.chorus_audit.specs.declared.fault.Unread.TheVariants.{NoEntry, Memory}
 

@@ -1,4 +1,3 @@
-pub mod Bounds
 pub mod Calls
 pub mod Report
 pub mod Tests

@@ -6,7 +6,7 @@ use Rattle.chorus_checker.specs.Rules.{rule_of}
 use Rattle.chorus_show.specs.Lines.{entry_text}
 use Rattle.chorus_audit.specs.declared.judging.Stop.{Stop}
 use Rattle.chorus_audit.specs.declared.judging.Stop.TheVariants.{Rule, Memory}
-use Rattle.chorus_audit.specs.Bounds.{IsWithin}
+use Rattle.chorus_show.specs.Bounds.{IsWithin}
 use Rattle.chorus_audit.specs.Tests.{IsNoEntry, IsUnlawful}
 
 -- the text begins with the line of an entry, which the world takes

@@ -12,7 +12,7 @@ use Rattle.chorus_show.specs.Summary.{summary_text}
 use Rattle.chorus_audit.specs.declared.limits.TheConstants.{NO_LINE}
 use Rattle.chorus_audit.specs.declared.judging.Audit.{Audit}
 use Rattle.chorus_audit.specs.declared.judging.Audit.TheVariants.{Legal, Wrong}
-use Rattle.chorus_audit.specs.Bounds.{IsWithin, AreWithin}
+use Rattle.chorus_show.specs.Bounds.{IsWithin, AreWithin}
 use Rattle.chorus_audit.specs.Report.{IsReport}
 
 -- the line `journal N`, N being below 2^32

@@ -6,7 +6,7 @@ ghost use Rattle.chorus_entry.specs.declared.entry.Entry.{Entry};
 ghost use Rattle.chorus_show.specs.Lines.{entry_text};
 ghost use Rattle.chorus_show.specs.Reading.{parts};
 ghost use Rattle.chorus_audit.specs.Calls.{Reads, entry_held};
-ghost use Rattle.chorus_audit.specs.Bounds.{IsWithin};
+ghost use Rattle.chorus_show.specs.Bounds.{IsWithin};
 
 use crate::acts::act;
 use crate::fault::Unread;

@@ -3,7 +3,7 @@
 ghost use Rattle.std.specs.Prelude.{◌≡◌, ℕ, List, Option, IfSome};
 ghost use Rattle.chorus_ui.specs.Decimals.{parse_decimal};
 ghost use Rattle.chorus_ui.specs.Name.{IsName};
-ghost use Rattle.chorus_show.specs.Law.{Is8, Is16, Is32, Is64, IsId};
+ghost use Rattle.chorus_show.specs.Bounds.{Is8, Is16, Is32, Is64, IsId};
 
 use crate::cut::next_part;
 use chorus_entry::MsgId;

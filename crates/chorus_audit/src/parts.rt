@@ -2,7 +2,7 @@
 
 ghost use Rattle.std.specs.Prelude.{◌≡◌, ◌∷◌, [], ◌<◌, OnOk, IfOk, IfSome, None, Some, MatchOption, MatchResult, length};
 ghost use Rattle.chorus_show.specs.Reading.{dest_in, behind_dest, tag_in, behind_tag, answer_in, body_in, unescape, digit_in};
-ghost use Rattle.chorus_show.specs.Law.{IsDest, IsTag, IsAnswer, AreBytes};
+ghost use Rattle.chorus_show.specs.Bounds.{IsDest, IsTag, IsAnswer, AreBytes};
 ghost use Rattle.chorus_audit.specs.Calls.{IsLong, IsUnescaped, Reads, short};
 
 use crate::fault::Unread;

@@ -2,3 +2,4 @@ pub mod PortSums
 pub mod Waiting
 pub mod LineBack
 pub mod Counting
+pub mod Bounds

@@ -28,7 +28,8 @@ use Rattle.chorus_show.specs.Lines.{dest_text, tag_text, answer_text, act_text}
 use Rattle.chorus_ui.specs.Decimals.{all_digits, parse_decimal}
 use Rattle.chorus_ui.specs.Text.{name_text, parse_name}
 use Rattle.chorus_show.specs.Phrases.{spaced, phrase, id_text, stands_for_itself, hex_digit, byte_text, escaped_body}
-use Rattle.chorus_show.specs.Law.{Is8, Is16, Is32, Is64, IsId, AreNames, AreIds, AreBytes, IsDest, IsTag, IsMessage, IsAnswer, IsAct, IsEntry, LinesAreReadBack, LinesTellEntries}
+use Rattle.chorus_show.specs.Bounds.{Is8, Is16, Is32, Is64, IsId, AreNames, AreIds, AreBytes, IsDest, IsTag, IsMessage, IsAnswer, IsAct, IsEntry}
+use Rattle.chorus_show.specs.Law.{LinesAreReadBack, LinesTellEntries}
 use Rattle.chorus_show.specs.Reading.{lacks, parts, two, three, four, five, onto, each, below, u8_in, u16_in, u32_in, id_of, id_in_parts, id_in, digit_in, unescape, body_in, dest_in, behind_dest, tag_in, behind_tag, post_of, answer_in, act_of, decision_of, news_of, port_of, group_of, call_of, act_in, entry_of, entry_in}
 
 -- a text that lacks the byte at which texts are cut

@@ -1,5 +1,6 @@
 pub mod Phrases
 pub mod Lines
+pub mod Bounds
 pub mod Law
 pub mod Reading
 pub mod Journal

@@ -1,6 +1,7 @@
 //! Entries, and what is in them.
 
 ghost use Rattle.std.specs.Prelude.{◌≡◌, ◌++◌, OnOk};
+ghost use Rattle.chorus_show.specs.Bounds.{IsDest, IsTag, IsAnswer, IsActWithin, IsWithin};
 ghost use Rattle.chorus_show.specs.Lines.{act_text, entry_text};
 
 use crate::fields::Field;
@@ -14,6 +15,8 @@ impl Field for Dest {
     ghost use Rattle.chorus_show.specs.Lines.{dest_text};
 
     ghost text = { dest_text };
+
+    ghost fits = { IsDest };
 
     fn push(&self, out: &mut Vec<u8>) -> Result<(), AllocError> {
         match self {
@@ -30,6 +33,8 @@ impl Field for Tag {
 
     ghost text = { tag_text };
 
+    ghost fits = { IsTag };
+
     fn push(&self, out: &mut Vec<u8>) -> Result<(), AllocError> {
         match self {
             Tag::Plain => push_word("plain", out),
@@ -43,6 +48,8 @@ impl Field for Answer {
     ghost use Rattle.chorus_show.specs.Lines.{answer_text};
 
     ghost text = { answer_text };
+
+    ghost fits = { IsAnswer };
 
     fn push(&self, out: &mut Vec<u8>) -> Result<(), AllocError> {
         match self {
@@ -65,6 +72,8 @@ impl Field for Act {
     ghost use Rattle.chorus_show.specs.Lines.{act_text};
 
     ghost text = { act_text };
+
+    ghost fits = { IsActWithin };
 
     fn push(&self, out: &mut Vec<u8>) -> Result<(), AllocError> {
         match self {
@@ -147,7 +156,8 @@ impl Field for Act {
 
 /// Appends the line of the entry. After an error a part of it may stand there.
 pub(crate) fn push_entry(entry: &Entry, out: &mut Vec<u8>) -> Result<(), AllocError>
-    ensures { OnOk result (out.new.items ≡ out.old.items ++ entry_text entry.now) }
+    ensures text { OnOk result (out.new.items ≡ out.old.items ++ entry_text entry.now) }
+    ensures within { OnOk result (IsWithin entry.now) }
 {
     entry.clock.push(out)?;
     push_field(&entry.place, out)?;

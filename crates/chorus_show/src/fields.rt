@@ -2,7 +2,9 @@
 
 ghost use Rattle.std.specs.Prelude.{◌≡◌, ◌<◌, ℕ, List, ◌++◌, OnOk, decimal};
 ghost use Rattle.std.specs.List.{flat_map};
+ghost use Rattle.chorus_ui.specs.Name.{IsName};
 ghost use Rattle.chorus_ui.specs.Text.{name_text};
+ghost use Rattle.chorus_show.specs.Bounds.{Is8, Is16, Is32, Is64, IsId, AreBytes, IsBody};
 ghost use Rattle.chorus_show.specs.Phrases.{byte_text, hex_digit};
 
 use chorus_entry::{Body, MsgId};
@@ -14,13 +16,19 @@ pub(crate) trait Field {
     /// Its text.
     ghost text: { Self → List ℕ };
 
+    /// What its type keeps of it.
+    ghost fits: { Self → Type 0 };
+
     /// Appends its text. After an error a part of it may stand there.
     fn push(&self, out: &mut Vec<u8>) -> Result<(), AllocError>
-        ensures { OnOk result (out.new.items ≡ out.old.items ++ text self.now) };
+        ensures text { OnOk result (out.new.items ≡ out.old.items ++ text self.now) }
+        ensures fits { OnOk result (fits self.now) };
 }
 
 impl Field for u8 {
     ghost text = { decimal };
+
+    ghost fits = { Is8 };
 
     fn push(&self, out: &mut Vec<u8>) -> Result<(), AllocError> {
         push_decimal(u64::from(*self), out)
@@ -30,6 +38,8 @@ impl Field for u8 {
 impl Field for u16 {
     ghost text = { decimal };
 
+    ghost fits = { Is16 };
+
     fn push(&self, out: &mut Vec<u8>) -> Result<(), AllocError> {
         push_decimal(u64::from(*self), out)
     }
@@ -37,6 +47,8 @@ impl Field for u16 {
 
 impl Field for u32 {
     ghost text = { decimal };
+
+    ghost fits = { Is32 };
 
     fn push(&self, out: &mut Vec<u8>) -> Result<(), AllocError> {
         push_decimal(u64::from(*self), out)
@@ -46,6 +58,8 @@ impl Field for u32 {
 impl Field for u64 {
     ghost text = { decimal };
 
+    ghost fits = { Is64 };
+
     fn push(&self, out: &mut Vec<u8>) -> Result<(), AllocError> {
         push_decimal(*self, out)
     }
@@ -53,6 +67,8 @@ impl Field for u64 {
 
 impl Field for u128 {
     ghost text = { decimal };
+
+    ghost fits = { λ n. Unit {0} };
 
     fn push(&self, out: &mut Vec<u8>) -> Result<(), AllocError> {
         let mut buffer = itoa::Buffer::new();
@@ -63,7 +79,10 @@ impl Field for u128 {
 impl Field for Ui {
     ghost text = { name_text };
 
+    ghost fits = { IsName };
+
     fn push(&self, out: &mut Vec<u8>) -> Result<(), AllocError> {
+        let _bits = self.bits();
         self.text(out)
     }
 }
@@ -72,6 +91,8 @@ impl Field for MsgId {
     ghost use Rattle.chorus_show.specs.Phrases.{id_text};
 
     ghost text = { id_text };
+
+    ghost fits = { IsId };
 
     fn push(&self, out: &mut Vec<u8>) -> Result<(), AllocError> {
         push_decimal(u64::from(self.seat), out)?;
@@ -87,6 +108,8 @@ impl Field for Body {
 
     ghost text = { escaped_body };
 
+    ghost fits = { IsBody };
+
     fn push(&self, out: &mut Vec<u8>) -> Result<(), AllocError> {
         out.push(b'=')?;
         push_escaped(self.bytes(), out)
@@ -94,7 +117,8 @@ impl Field for Body {
 }
 
 fn push_escaped(bytes: &[u8], out: &mut Vec<u8>) -> Result<(), AllocError>
-    ensures { OnOk result (out.new.items ≡ out.old.items ++ flat_map byte_text bytes.now) }
+    ensures text { OnOk result (out.new.items ≡ out.old.items ++ flat_map byte_text bytes.now) }
+    ensures fits { OnOk result (AreBytes bytes.now) }
 {
     for byte in bytes {
         push_byte(*byte, out)?;

@@ -1,6 +1,7 @@
 //! The journal text.
 
 ghost use Rattle.std.specs.Prelude.{◌≡◌, ◌++◌, OnOk, OnErr, take, length};
+ghost use Rattle.chorus_show.specs.Bounds.{IsWithin, AreWithin};
 ghost use Rattle.chorus_show.specs.Lines.{entry_text};
 ghost use Rattle.chorus_show.specs.Journal.{journal_text};
 
@@ -12,6 +13,7 @@ use std::alloc::AllocError;
 /// Appends the line of the entry, with its LF. An error leaves `out` as it was.
 pub fn entry_line(entry: &Entry, out: &mut Vec<u8>) -> Result<(), AllocError>
     ensures ok { OnOk result (out.new.items ≡ out.old.items ++ entry_text entry.now) }
+    ensures within { OnOk result (IsWithin entry.now) }
     ensures err { OnErr result (out.new.items ≡ out.old.items) }
 {
     let mut line = Vec::new(*out.allocator());
@@ -23,6 +25,7 @@ pub fn entry_line(entry: &Entry, out: &mut Vec<u8>) -> Result<(), AllocError>
 /// it was.
 pub fn journal_text(entries: &[Entry], out: &mut Vec<u8>) -> Result<(), AllocError>
     ensures ok { OnOk result (out.new.items ≡ out.old.items ++ journal_text entries.now) }
+    ensures within { OnOk result (AreWithin entries.now) }
     ensures err { OnErr result (out.new.items ≡ out.old.items) }
 {
     let before = out.len();
@@ -36,6 +39,7 @@ pub fn journal_text(entries: &[Entry], out: &mut Vec<u8>) -> Result<(), AllocErr
 /// Appends the journal text, or a front of it for want of memory.
 fn push_journal(entries: &[Entry], out: &mut Vec<u8>) -> Result<(), AllocError>
     ensures ok { OnOk result (out.new.items ≡ out.old.items ++ journal_text entries.now) }
+    ensures within { OnOk result (AreWithin entries.now) }
     ensures err { OnErr result (take (length out.old.items) out.new.items ≡ out.old.items) }
 {
     let mut line = Vec::new(*out.allocator());

@@ -1,6 +1,7 @@
 //! Phrases: a word, and the fields that go with it.
 
 ghost use Rattle.std.specs.Prelude.{◌≡◌, [], ◌∷◌, ◌++◌, OnOk, map};
+ghost use Rattle.std.specs.List.{All};
 ghost use Rattle.chorus_show.specs.Phrases.{phrase, spaced};
 
 use crate::fields::Field;
@@ -19,7 +20,9 @@ pub(crate) fn push_with_one<A: Field>(
     a: &A,
     out: &mut Vec<u8>,
 ) -> Result<(), AllocError>
-    ensures { OnOk result (out.new.items ≡ out.old.items ++ phrase word.now (A.text a.now ∷ [])) }
+    ensures text { OnOk result
+        (out.new.items ≡ out.old.items ++ phrase word.now (A.text a.now ∷ [])) }
+    ensures fits { OnOk result (A.fits a.now) }
 {
     push_word(word, out)?;
     push_field(a, out)
@@ -32,8 +35,9 @@ pub(crate) fn push_with_two<A: Field, B: Field>(
     b: &B,
     out: &mut Vec<u8>,
 ) -> Result<(), AllocError>
-    ensures { OnOk result
+    ensures text { OnOk result
         (out.new.items ≡ out.old.items ++ phrase word.now (A.text a.now ∷ B.text b.now ∷ [])) }
+    ensures fits { OnOk result (A.fits a.now × B.fits b.now) }
 {
     push_with_one(word, a, out)?;
     push_field(b, out)
@@ -47,9 +51,10 @@ pub(crate) fn push_with_three<A: Field, B: Field, C: Field>(
     c: &C,
     out: &mut Vec<u8>,
 ) -> Result<(), AllocError>
-    ensures { OnOk result
+    ensures text { OnOk result
         (out.new.items
         ≡ out.old.items ++ phrase word.now (A.text a.now ∷ B.text b.now ∷ C.text c.now ∷ [])) }
+    ensures fits { OnOk result (A.fits a.now × B.fits b.now × C.fits c.now) }
 {
     push_with_two(word, a, b, out)?;
     push_field(c, out)
@@ -64,10 +69,11 @@ pub(crate) fn push_with_four<A: Field, B: Field, C: Field, D: Field>(
     d: &D,
     out: &mut Vec<u8>,
 ) -> Result<(), AllocError>
-    ensures { OnOk result
+    ensures text { OnOk result
         (out.new.items
         ≡ out.old.items
         ++ phrase word.now (A.text a.now ∷ B.text b.now ∷ C.text c.now ∷ D.text d.now ∷ [])) }
+    ensures fits { OnOk result (A.fits a.now × B.fits b.now × C.fits c.now × D.fits d.now) }
 {
     push_with_three(word, a, b, c, out)?;
     push_field(d, out)
@@ -75,7 +81,8 @@ pub(crate) fn push_with_four<A: Field, B: Field, C: Field, D: Field>(
 
 /// Appends the fields, each behind a space.
 pub(crate) fn push_each<T: Field>(fields: &[T], out: &mut Vec<u8>) -> Result<(), AllocError>
-    ensures { OnOk result (out.new.items ≡ out.old.items ++ spaced (map T.text fields.now)) }
+    ensures text { OnOk result (out.new.items ≡ out.old.items ++ spaced (map T.text fields.now)) }
+    ensures fits { OnOk result (All T.fits fields.now) }
 {
     for field in fields {
         push_field(field, out)?;
@@ -85,7 +92,8 @@ pub(crate) fn push_each<T: Field>(fields: &[T], out: &mut Vec<u8>) -> Result<(),
 
 /// Appends the field behind a space.
 pub(crate) fn push_field<T: Field>(field: &T, out: &mut Vec<u8>) -> Result<(), AllocError>
-    ensures { OnOk result (out.new.items ≡ out.old.items ++ 32 ∷ T.text field.now) }
+    ensures text { OnOk result (out.new.items ≡ out.old.items ++ 32 ∷ T.text field.now) }
+    ensures fits { OnOk result (T.fits field.now) }
 {
     out.push(b' ')?;
     field.push(out)

@@ -1,6 +1,6 @@
 use Rattle.std.proofs.Common.{sym, ◌∙◌, subst}
-use Rattle.chorus_show.specs.Law.{AreNames}
-use Rattle.chorus_audit.proofs.WordLists.{are_names}
+use Rattle.chorus_show.specs.Bounds.{AreNames}
+use Rattle.chorus_show.proofs.Bounds.{are_names}
 use Rattle.chorus_audit.proofs.acts.choose.Goals as goal
 
 pub returns-clause-allowed : goal.returns-clause-allowed

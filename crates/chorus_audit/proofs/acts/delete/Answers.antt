@@ -1,6 +1,6 @@
 use Rattle.std.proofs.Common.{sym, ◌∙◌, subst}
-use Rattle.chorus_show.specs.Law.{AreIds}
-use Rattle.chorus_audit.proofs.WordLists.{are_ids}
+use Rattle.chorus_show.specs.Bounds.{AreIds}
+use Rattle.chorus_show.proofs.Bounds.{are_ids}
 use Rattle.chorus_audit.proofs.acts.delete.Goals as goal
 
 pub returns-clause-allowed : goal.returns-clause-allowed
