@@ -1,5 +1,5 @@
 -- The run as a whole: once all is delivered, nothing changes any more.
-use Rattle.std.proofs.Common.{◌≡◌, ℕ, zero, suc, ◌+◌, ◌*◌, ◌<◌, ◌≤◌, ⊎_elim, Bool, true, false, List, [], ◌++◌, refl, sym, ◌∙◌, ap, ap₂, arith, append-nil}
+use Rattle.std.proofs.Common.{◌≡◌, ℕ, zero, suc, ◌+◌, ◌*◌, ◌<◌, ◌≤◌, ⊎_elim, Bool, true, false, List, [], refl, sym, ◌∙◌, ap, ap₂, arith, append-nil}
 use Rattle.std.proofs.lemmas.Bool.{cond-true, cases_lt}
 use Rattle.chorus_transport.specs.Sending.{next_number}
 use Rattle.chorus_transport.specs.Receiving.{ack_of}

@@ -25,8 +25,7 @@ within left rest fault error is r =
 
 pub returns-in-Err-Memory-clause-carries : goal.returns-in-Err-Memory-clause-carries
 returns-in-Err-Memory-clause-carries g c =
-    let read = c.in-Err-Memory.ensures.given in
-    (
+    let read = c.in-Err-Memory.ensures.given in (
       read.given,
       (read.consumed, within _ _ _ _ c.in-Err-Memory.field-0-is read),
       refl,
