@@ -6,3 +6,5 @@ pub mod Parts
 pub mod Progress
 pub mod Running
 pub mod Promised
+pub mod Whole
+mod Examples

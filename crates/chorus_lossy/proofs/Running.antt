@@ -1,7 +1,7 @@
 -- How the code's values go from moment to moment.
 use Rattle.std.proofs.Common.{◌≡◌, ◌≢◌, ℕ, zero, suc, ◌+◌, ◌-◌, ◌%◌, ◌<◌, ◌≤◌, true, false, List, [], ◌∷◌, ◌++◌, length, min, reverse, Option, None, Some, is_some, refl, sym, ◌∙◌, ap, ap₂, subst, arith, add-one, append-nil, get_or, take, drop, length-append, length-drop}
 use Rattle.std.specs.Option.{option_to_list}
-use Rattle.std.specs.Prelude.{◌==◌, OnErr, Result, Ok, Err}
+use Rattle.std.specs.Prelude.{◌==◌, OnErr, OnOk, Result, Ok, Err}
 use Rattle.std.specs.List.{prefix_len}
 use Rattle.std.proofs.lemmas.Bool.{cond-false, cond-true, eq-eqb, ne_eqb}
 use Rattle.std.proofs.lemmas.List.{reverse-append, take_min}
@@ -31,6 +31,10 @@ between-at {m} {later} mid run s r from to e = record { mid = mid; from = from; 
 pub on_err : {T E P : Type 0} (r : Result T E) → P → OnErr r P
 on_err (Ok x) p = tt
 on_err (Err e) p = p
+
+pub on_ok : {T E P : Type 0} (r : Result T E) → P → OnOk r P
+on_ok (Ok x) p = p
+on_ok (Err e) p = tt
 
 -- nothing happened to the ends in an emission
 pub unchanged : (n i : ℕ) (m : Moment) (run : Run) (s : Sending) (r now : Receiving) → IsAt m run s r → now ≡ r → IsBetween m (emission n i m) (ends s now)

@@ -2,3 +2,4 @@ pub mod Line
 pub mod Rounds
 pub mod Running
 pub mod Carrying
+pub mod Output

@@ -2,7 +2,8 @@
 //!
 //! [`carry`] runs the two ends of `chorus_transport` in rounds, over a line whose losses, repeats and delays are drawn from a
 //! number. What has to be believed is `specs/Rounds.antt`, which says what happens in a round. The layer above rests on this:
-//! what is delivered is what was carried, and what is counted is that of the run.
+//! what is delivered is what was carried, and what is counted is that of the run. [`lossy`] carries what a source gives, and writes
+//! that text (`specs/Output.antt`).
 //!
 //! Begin with [`carry`].
 
@@ -10,7 +11,9 @@
 
 mod carrying;
 mod line;
+mod printing;
 mod rounds;
 
 pub use carrying::{Carried, carry};
 pub use line::{CHUNK_BYTES, WINDOW};
+pub use printing::{INPUT_LIMIT, lossy};

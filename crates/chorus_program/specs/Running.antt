@@ -4,7 +4,7 @@ use Rattle.chorus_ui.specs.declared.layout.Layout.{Layout}
 use Rattle.chorus_show.specs.declared.status.Status.{Status}
 use Rattle.chorus_run.specs.Output.{HandsOut}
 use Rattle.chorus_words.specs.declared.words.Words.{Words}
-use Rattle.chorus_words.specs.declared.words.Words.TheVariants.{Audit}
+use Rattle.chorus_words.specs.declared.words.Words.TheVariants.{Audit, Lossy}
 use Rattle.chorus_program.specs.declared.running.TheConstants.{REPLAY_SITES}
 
 -- so many sites, with so many places each
@@ -18,7 +18,8 @@ one_place_each sites = places_each sites 1
 abbrev pub replay_layout : Layout
 replay_layout = one_place_each REPLAY_SITES
 
--- what was closed is handed out; an audit closes nothing
+-- what was closed is handed out; an audit closes nothing, and nor does what carries the input
 abbrev pub HandsOutBy : Words → Status → Type 0
 HandsOutBy (Audit sites turns) status = ⊥
+HandsOutBy (Lossy first) status = ⊥
 HandsOutBy asked status = HandsOut status

@@ -5,21 +5,24 @@ ghost use Rattle.chorus_io.specs.Count.{Rose};
 ghost use Rattle.chorus_ui.specs.declared.limits.TheConstants.{CLOCK_LIMIT};
 ghost use Rattle.chorus_ui.specs.Layout.{IsLayout};
 ghost use Rattle.chorus_audit.specs.Output.{Prints, ReadsBy, ReadsUpToLimit};
+ghost use Rattle.chorus_lossy.specs.Output.{CarriesInput};
 ghost use Rattle.chorus_net.specs.Sites.{net};
 ghost use Rattle.chorus_run.specs.Headline.{AreJustStarted, IsGiven, IsRead, ReadsNoFurther, Replays, merge_of};
 ghost use Rattle.chorus_run.specs.Load.{load_layout, Loads};
 ghost use Rattle.chorus_run.specs.Output.{EndsUnread, HandsOut, Writes, summary_of, text_of};
 ghost use Rattle.chorus_run.specs.Worn.{HasClock};
 ghost use Rattle.chorus_words.specs.declared.words.TheConstants.{COMMANDS_LIMIT};
-ghost use Rattle.chorus_words.specs.declared.words.Words.TheVariants.{Audit, Load, Replay};
+ghost use Rattle.chorus_words.specs.declared.words.Words.TheVariants.{Audit, Load, Lossy, Replay};
 ghost use Rattle.chorus_words.specs.Words.{Ask};
 ghost use Rattle.chorus_program.specs.Running.{HandsOutBy, one_place_each, places_each, replay_layout};
 
 use chorus_audit::audit;
 use chorus_io::{Sink, Source};
+use chorus_lossy::{WINDOW, lossy};
 use chorus_net::Sites;
 use chorus_run::{Finished, LOAD_SITES, load, replay};
 use chorus_show::Status;
+use chorus_transport::{Receiver, Sender};
 use chorus_ui::Layout;
 use chorus_words::{Words, read_words};
 use std::alloc::{AllocError, Global};
@@ -28,8 +31,9 @@ use std::alloc::{AllocError, Global};
 pub const REPLAY_SITES: u16 = 16;
 
 /// Does what the words say: `replay` replays the scenario that the source gives, and `load FIRST COMMANDS` performs the commands
-/// that are drawn, both on sites that are started for it; `audit SITES TURNS` audits the printed journal that the source gives.
-/// Any other words are Usage, and then nothing is read or written.
+/// that are drawn, both on sites that are started for it; `audit SITES TURNS` audits the printed journal that the source gives;
+/// `lossy FIRST` carries what the source gives over a line that loses. Any other words are Usage, and then nothing is read or
+/// written.
 pub fn program<'a, S: Source, K: Sink>(
     alloc: Global,
     words: &'a [&'a str],
@@ -92,11 +96,17 @@ pub fn program<'a, S: Source, K: Sink>(
         Ask (map (λ word. word.now) words.now) (Audit sites turns) →
         (result.closed ≡ None) × Prints (places_each sites turns) result.status
         (S.left source.old) (K.held sink.old) (K.held sink.new) }
+
+    // What `lossy FIRST` did.
+    ensures carries { (first : ℕ) → Ask (map (λ word. word.now) words.now) (Lossy first) →
+        (result.closed ≡ None) × CarriesInput first result.status
+        (S.left source.old) (S.left source.new) (K.held sink.old) (K.held sink.new) }
 {
     match read_words(alloc, words) {
         Ok(Some(Words::Replay)) => start_replay(alloc, source, sink),
         Ok(Some(Words::Load { first, commands })) => start_load(alloc, first, commands, sink),
         Ok(Some(Words::Audit { sites, turns })) => start_audit(alloc, sites, turns, source, sink),
+        Ok(Some(Words::Lossy { first })) => start_lossy(alloc, first, source, sink),
         Ok(None) => gave_up(Status::Usage),
         Err(_) => gave_up(Status::Memory),
     }
@@ -176,6 +186,29 @@ fn start_audit<S: Source, K: Sink>(
 {
     let layout = Layout::new(sites, turns).unwrap();
     gave_up(audit(alloc, layout, source, sink))
+}
+
+/// Carries what the source gives over two ends that are made for it.
+fn start_lossy<S: Source, K: Sink>(
+    alloc: Global,
+    first: u64,
+    source: &mut S,
+    sink: &mut K,
+) -> Finished
+    ensures closed { result.closed ≡ None }
+    ensures read_fault { result.status ≡ Status.ReadFault →
+        Rose (S.faults source.old) (S.faults source.new) }
+    ensures reliable { S.reliable source.old → S.faults source.new ≡ S.faults source.old }
+    ensures write_fault { result.status ≡ Status.WriteFault →
+        Rose (K.faults sink.old) (K.faults sink.new) }
+    ensures carries { CarriesInput first result.status
+        (S.left source.old) (S.left source.new) (K.held sink.old) (K.held sink.new) }
+    ensures unwritten { result.status ≢ Status.Done → result.status ≢ Status.WriteFault →
+        sink.new ≡ sink.old }
+{
+    let mut sender = Sender::new(alloc, WINDOW).unwrap();
+    let mut receiver = Receiver::new(alloc, WINDOW).unwrap();
+    gave_up(lossy(alloc, first, source, sink, &mut sender, &mut receiver))
 }
 
 /// Starts so many sites, with one place each.

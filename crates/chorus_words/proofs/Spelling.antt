@@ -7,7 +7,7 @@ use Rattle.std.specs.Option.{IfSome, IsNone, is_some, unwrap_or}
 use Rattle.std.proofs.lemmas.Bool.Decides.{nat_tests}
 use Rattle.chorus_ui.specs.Layout.{IsLayout, Shape, is_layout, new_layout}
 use Rattle.chorus_words.specs.declared.words.Words.{Words}
-use Rattle.chorus_words.specs.declared.words.Words.TheVariants.{Replay, Load, Audit}
+use Rattle.chorus_words.specs.declared.words.Words.TheVariants.{Replay, Load, Audit, Lossy}
 use Rattle.chorus_words.specs.Words.{Ask, IsWithin, spelled}
 use Rattle.chorus_words.specs.Cutting.{AskByThree, is_value}
 
@@ -24,6 +24,7 @@ spelled_values Replay w = refl
 spelled_values (Load first commands) w = rw (decimal_value first w.0, decimal_value commands (omega (arith, w.1))) refl
 spelled_values (Audit sites turns) w =
     rw (decimal_value sites (omega (arith, w.sites_to_max)), decimal_value turns (omega (arith, w.turns_to_four))) refl
+spelled_values (Lossy first) w = rw (decimal_value first w) refl
 
 no_word : {X : Type 0} (x : X) → None ≡ Some x → ⊥
 no_word x e = true≢false (sym (ap is_some e))
@@ -51,6 +52,7 @@ few_words : (asked : Words) → length (spelled asked) ≤ 3
 few_words Replay = omega arith
 few_words (Load first commands) = omega arith
 few_words (Audit sites turns) = omega arith
+few_words (Lossy first) = omega arith
 
 -- at most three words, of which the first three ask this, ask it
 pub asks : (ws : List (List ℕ)) (what first second : Option (List ℕ)) (asked : Words) → length ws ≤ 3
@@ -76,16 +78,23 @@ one_spelling : (a b : Words) → IsWithin a → IsWithin b → spelled a ≡ spe
 one_spelling Replay Replay w v e = refl
 one_spelling Replay (Load first commands) w v e = absurd (no_word (decimal first) (ap (λ l. slice_get l 1) e))
 one_spelling Replay (Audit sites turns) w v e = absurd (no_word (decimal sites) (ap (λ l. slice_get l 1) e))
+one_spelling Replay (Lossy first) w v e = absurd (no_word (decimal first) (ap (λ l. slice_get l 1) e))
 one_spelling (Load first commands) Replay w v e = absurd (no_word (decimal first) (sym (ap (λ l. slice_get l 1) e)))
 one_spelling (Load first commands) (Load f c) w v e = ap₂ Load
     (same_number first f w.0 v.0 (ap (λ l. slice_get l 1) e))
     (same_number commands c (omega (arith, w.1)) (omega (arith, v.1)) (ap (λ l. slice_get l 2) e))
 one_spelling (Load first commands) (Audit sites turns) w v e = absurd (other_word (ap (λ l. slice_get l 0) e))
+one_spelling (Load first commands) (Lossy f) w v e = absurd (no_word (decimal commands) (sym (ap (λ l. slice_get l 2) e)))
 one_spelling (Audit sites turns) Replay w v e = absurd (no_word (decimal sites) (sym (ap (λ l. slice_get l 1) e)))
 one_spelling (Audit sites turns) (Load first commands) w v e = absurd (other_word (sym (ap (λ l. slice_get l 0) e)))
 one_spelling (Audit sites turns) (Audit s t) w v e = ap₂ Audit
     (same_number sites s (omega (arith, w.sites_to_max)) (omega (arith, v.sites_to_max)) (ap (λ l. slice_get l 1) e))
     (same_number turns t (omega (arith, w.turns_to_four)) (omega (arith, v.turns_to_four)) (ap (λ l. slice_get l 2) e))
+one_spelling (Audit sites turns) (Lossy first) w v e = absurd (no_word (decimal turns) (sym (ap (λ l. slice_get l 2) e)))
+one_spelling (Lossy first) Replay w v e = absurd (no_word (decimal first) (sym (ap (λ l. slice_get l 1) e)))
+one_spelling (Lossy first) (Load f commands) w v e = absurd (no_word (decimal commands) (ap (λ l. slice_get l 2) e))
+one_spelling (Lossy first) (Audit sites turns) w v e = absurd (no_word (decimal turns) (ap (λ l. slice_get l 2) e))
+one_spelling (Lossy first) (Lossy f) w v e = ap Lossy (same_number first f w v (ap (λ l. slice_get l 1) e))
 
 pub ask_once : (ws : List (List ℕ)) (a b : Words) → Ask ws a → Ask ws b → a ≡ b
 ask_once ws a b m n = one_spelling a b m.1 n.1 (sym m.0 ∙ n.0)
@@ -136,6 +145,7 @@ no_audit_of : (sites turns : List ℕ) → ((l : Shape) → IsLayout l → sites
     → (asked : Words) → AskByThree (Some (codes "audit")) (Some sites) (Some turns) asked → ⊥
 no_audit_of sites turns none Replay by = no_word sites (sym by.1)
 no_audit_of sites turns none (Load first commands) by = other_word (sym by.0)
+no_audit_of sites turns none (Lossy first) by = no_word turns (sym by.2)
 no_audit_of sites turns none (Audit s t) by = none (record { sites = s; turns = t }) by.3 (the_word sites (decimal s) by.1) (the_word turns (decimal t) by.2)
 
 pub no_audit : (sites turns : List ℕ) (what first second : Option (List ℕ)) → what ≡ Some (codes "audit") → first ≡ Some sites → second ≡ Some turns

@@ -3,18 +3,20 @@ use Rattle.std.specs.Prelude.{ℕ, ◌≡◌, ◌^◌, ◌<◌, ◌≤◌, List,
 use Rattle.chorus_ui.specs.Layout.{IsLayout}
 use Rattle.chorus_words.specs.declared.words.TheConstants.{COMMANDS_LIMIT}
 use Rattle.chorus_words.specs.declared.words.Words.{Words}
-use Rattle.chorus_words.specs.declared.words.Words.TheVariants.{Replay, Load, Audit}
+use Rattle.chorus_words.specs.declared.words.Words.TheVariants.{Replay, Load, Audit, Lossy}
 
 abbrev pub spelled : Words → List (List ℕ)
 spelled Replay = codes "replay" ∷ []
 spelled (Load first commands) = codes "load" ∷ decimal first ∷ decimal commands ∷ []
 spelled (Audit sites turns) = codes "audit" ∷ decimal sites ∷ decimal turns ∷ []
+spelled (Lossy first) = codes "lossy" ∷ decimal first ∷ []
 
 -- each number is within its limit, and the sites and their places are a layout
 abbrev pub IsWithin : Words → Type 0
 IsWithin Replay = Unit {0}
 IsWithin (Load first commands) = (first < 2 ^ 64) × (commands ≤ COMMANDS_LIMIT)
 IsWithin (Audit sites turns) = IsLayout (record { sites = sites; turns = turns })
+IsWithin (Lossy first) = first < 2 ^ 64
 
 -- these words ask this
 abbrev pub Ask : List (List ℕ) → Words → Type 0

@@ -65,6 +65,9 @@ fn asked_by(what: Option<&str>, first: Option<&str>, second: Option<&str>) -> Op
                 turns: layout.turns(),
             })
         }
+        ("lossy", Some(first), None) => Some(Words::Lossy {
+            first: parse_decimal(first.as_bytes())?,
+        }),
         _ => None,
     }
 }

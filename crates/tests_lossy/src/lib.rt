@@ -1,5 +1,7 @@
-//! Tests of `chorus_lossy`: what is counted while bytes are carried.
+//! Tests of `chorus_lossy`: what is counted while bytes are carried, and what is written.
 #![tactic(auto)]
 
 #[cfg(test)]
 mod carrying;
+#[cfg(test)]
+mod printing;

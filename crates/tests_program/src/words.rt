@@ -26,6 +26,7 @@ fn the_list_and_nothing_else(rt: HostRuntime) -> Result<(), Fail> {
         assert!(rt; read_words(alloc, &words)? == Some(commands), "{first}");
     }
     assert!(rt; read_words(alloc, &["replay"])? == Some(Words::Replay));
+    assert!(rt; read_words(alloc, &["lossy", most])? == Some(Words::Lossy { first: u64::MAX }));
     for number in [
         "",
         "-1",
@@ -39,6 +40,7 @@ fn the_list_and_nothing_else(rt: HostRuntime) -> Result<(), Fail> {
     ] {
         assert!(rt; read_words(alloc, &["load", number, "1"])?.is_none());
         assert!(rt; read_words(alloc, &["load", "1", number])?.is_none());
+        assert!(rt; read_words(alloc, &["lossy", number])?.is_none());
     }
     assert!(rt; read_words(alloc, &["load", "7", "65537"])?.is_none());
     Ok(())
@@ -55,12 +57,14 @@ fn ends(alloc: Global, words: &[&str]) -> Result<(Status, MemSink), Fail> {
 #[test]
 fn words_of_the_program(rt: HostRuntime) -> Result<(), Fail> {
     let alloc = rt.alloc();
-    let refused: [&[&str]; 7] = [
+    let refused: [&[&str]; 9] = [
         &[],
         &["load", "7"],
         &["load", "07", "1"],
         &["load", "7", "1", "1"],
         &["replay", "x"],
+        &["lossy"],
+        &["lossy", "7", "1"],
         &["--help"],
         &["run"],
     ];
@@ -72,6 +76,9 @@ fn words_of_the_program(rt: HostRuntime) -> Result<(), Fail> {
     let (status, sink) = ends(alloc, &["replay"])?;
     assert_eq!(rt; status, Status::Scenario { line: 1, reason: 9 });
     assert_eq!(rt; sink.bytes().len(), 0);
+    let (status, sink) = ends(alloc, &["lossy", "7"])?;
+    assert_eq!(rt; status, Status::Done);
+    assert_eq!(rt; sink.bytes(), b"\nwire 0 0\n".as_slice());
     for (commands, printed) in [("0", LOADS_NOTHING), ("1", LOADS_ONE_COMMAND)] {
         let (status, sink) = ends(alloc, &["load", "7", commands])?;
         assert_eq!(rt; status, Status::Done);

@@ -1,10 +1,12 @@
-use Rattle.std.proofs.Common.{◌≡◌, ℕ, IfSome, ap, subst₂}
+use Rattle.std.proofs.Common.{◌≡◌, ℕ, IfSome, ap, subst, subst₂}
 use Rattle.chorus_show.specs.declared.status.Status.{Status}
 use Rattle.chorus_run.specs.declared.finished.Finished.{Finished}
 use Rattle.chorus_run.specs.Load.{Loads}
 use Rattle.chorus_audit.specs.Output.{Prints}
-use Rattle.chorus_words.specs.declared.words.Words.TheVariants.{Audit, Load, Replay}
+use Rattle.chorus_lossy.specs.Output.{CarriesInput}
+use Rattle.chorus_words.specs.declared.words.Words.TheVariants.{Audit, Load, Lossy, Replay}
 use Rattle.chorus_program.specs.Running.{places_each}
+use Rattle.chorus_program.proofs.Carried.{nothing_carried}
 use Rattle.chorus_program.proofs.running.program.Goals as goal
 
 no-refusal : (s : Status) (line reason : ℕ) → s ≡ Status.Memory → s ≡ Status.Scenario line reason → ⊥
@@ -17,6 +19,10 @@ returns-in-Ok-Some-Load-clause-scenario g c asks =
 pub returns-in-Ok-Some-Audit-clause-scenario : goal.returns-in-Ok-Some-Audit-clause-scenario
 returns-in-Ok-Some-Audit-clause-scenario g c asks =
     absurd (cc (c.in-Ok-Some-Audit.ensures.listed Replay asks, c.in-Ok-Some-Audit.field-0-is, c.in-Ok-Some-Audit.field-0-0-is))
+
+pub returns-in-Ok-Some-Lossy-clause-scenario : goal.returns-in-Ok-Some-Lossy-clause-scenario
+returns-in-Ok-Some-Lossy-clause-scenario g c asks =
+    absurd (cc (c.in-Ok-Some-Lossy.ensures.listed Replay asks, c.in-Ok-Some-Lossy.field-0-is, c.in-Ok-Some-Lossy.field-0-0-is))
 
 pub returns-in-Ok-None-clause-scenario : goal.returns-in-Ok-None-clause-scenario
 returns-in-Ok-None-clause-scenario g c asks =
@@ -55,3 +61,20 @@ returns-in-Ok-Some-Audit-clause-audits g c sites turns asks =
 pub returns-in-Ok-None-clause-audit_reads : goal.returns-in-Ok-None-clause-audit_reads
 returns-in-Ok-None-clause-audit_reads g c sites turns asks =
     absurd (cc (c.in-Ok-None.ensures.listed (Audit sites turns) asks, c.in-Ok-None.field-0-is))
+
+pub returns-in-Ok-Some-Lossy-clause-carries : goal.returns-in-Ok-Some-Lossy-clause-carries
+returns-in-Ok-Some-Lossy-clause-carries g c first asks =
+    let read = c.in-Ok-Some-Lossy.ensures.listed (Lossy first) asks in
+    let one : c.in-Ok-Some-Lossy.first ≡ first = cc (read, c.in-Ok-Some-Lossy.field-0-is, c.in-Ok-Some-Lossy.field-0-0-is) in (
+      c.start_lossy.ensures.closed,
+      subst (λ f. CarriesInput f c.start_lossy.result.status (g.S.Source.left c.args.source.now) (g.S.Source.left c.start_lossy.new.source)
+          (g.K.Sink.held c.args.sink.now) (g.K.Sink.held c.start_lossy.new.sink))
+          one c.start_lossy.ensures.carries,
+    )
+
+pub returns-in-Ok-None-clause-carries : goal.returns-in-Ok-None-clause-carries
+returns-in-Ok-None-clause-carries g c first asks =
+    absurd (cc (c.in-Ok-None.ensures.listed (Lossy first) asks, c.in-Ok-None.field-0-is))
+
+pub returns-in-Err-clause-carries : goal.returns-in-Err-clause-carries
+returns-in-Err-clause-carries g c first asks = nothing_carried first c.gave_up-in-Err.result _ _ c.gave_up-in-Err.ensures

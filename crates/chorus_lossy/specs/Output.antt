@@ -1,0 +1,62 @@
+-- What `lossy` read, wrote and left, by its status. The bytes are those that were read of the source.
+use Rattle.std.specs.Prelude.{◌≡◌, ℕ, ◌+◌, ◌*◌, ◌≤◌, List, [], ◌∷◌, ◌++◌, length, codes, decimal, Option}
+use Rattle.std.specs.Io.KnownBytes.{Appends, Consumes, IsAtEnd}
+use Rattle.chorus_io.specs.Bytes.{AppendsPrefix}
+use Rattle.chorus_show.specs.Phrases.{phrase}
+use Rattle.chorus_show.specs.declared.status.Status.{Status}
+use Rattle.chorus_show.specs.declared.status.Status.TheVariants.{Done, Usage, Scenario, ReadFault, WriteFault, Memory, Worn}
+use Rattle.chorus_transport.specs.Sending.{next_number}
+use Rattle.chorus_transport.specs.Receiving.{ack_of}
+use Rattle.chorus_lossy.specs.declared.printing.TheConstants.{INPUT_LIMIT}
+use Rattle.chorus_lossy.specs.Line.{Ends, new_ends, chunk_count}
+use Rattle.chorus_lossy.specs.Rounds.{Moment, after_rounds}
+use Rattle.chorus_lossy.specs.Carrying.{IsWithin}
+
+-- after so many rounds all is delivered, whatever the draws
+abbrev pub whole_run : ℕ → List ℕ → Moment
+whole_run first bytes = after_rounds first bytes (8 * chunk_count bytes + 4)
+
+-- the line `wire EMITTED LOST`
+abbrev pub wire_line : ℕ → ℕ → List ℕ
+wire_line emitted lost = phrase (codes "wire") (decimal emitted ∷ decimal lost ∷ []) ++ 10 ∷ []
+
+-- the bytes, the end of their line, and that line
+abbrev pub text_with : List ℕ → ℕ → ℕ → List ℕ
+text_with bytes emitted lost = bytes ++ 10 ∷ wire_line emitted lost
+
+abbrev pub lossy_text : ℕ → List ℕ → List ℕ
+lossy_text first bytes = text_with bytes (whole_run first bytes).emitted (whole_run first bytes).lost
+
+-- The source was read to its end, or one byte more than the limit was read of it, and that exactly at Scenario.
+abbrev pub ReadsBy : Status → List ℕ → Option (List ℕ) → Option (List ℕ) → Type 0
+ReadsBy Done bytes old new = Consumes old new bytes × IsAtEnd new × (length bytes ≤ INPUT_LIMIT)
+ReadsBy WriteFault bytes old new = Consumes old new bytes × IsAtEnd new × (length bytes ≤ INPUT_LIMIT)
+ReadsBy (Scenario line reason) bytes old new = (line ≡ 0) × (reason ≡ 6) × Consumes old new bytes × (length bytes ≡ INPUT_LIMIT + 1)
+ReadsBy ReadFault bytes old new = Consumes old new bytes × (length bytes ≤ INPUT_LIMIT)
+ReadsBy Memory bytes old new = Consumes old new bytes × (length bytes ≤ INPUT_LIMIT)
+ReadsBy Usage bytes old new = ⊥
+ReadsBy (Worn clock) bytes old new = ⊥
+
+-- the sink took the text at Done, a prefix of it at WriteFault, and nothing with any other status
+abbrev pub Prints : ℕ → Status → List ℕ → Option (List ℕ) → Option (List ℕ) → Type 0
+Prints first Done bytes old new = Appends old new (lossy_text first bytes)
+Prints first WriteFault bytes old new = AppendsPrefix old new (lossy_text first bytes)
+Prints first _ bytes old new = new ≡ old
+
+-- the ends are those of the whole run, and all chunks were put and acknowledged
+pub record HasCarried (first : ℕ) (bytes : List ℕ) (e : Ends) : Type 0 where
+  pub ends : e ≡ (whole_run first bytes).ends
+  pub put : next_number e.sender ≡ chunk_count bytes
+  pub acknowledged : ack_of e.receiver ≡ chunk_count bytes
+
+-- how the two ends stand then: without memory after a first part of the run, and where nothing was carried as they were made
+abbrev pub Leaves : ℕ → Status → List ℕ → Ends → Type 0
+Leaves first Done bytes e = HasCarried first bytes e
+Leaves first WriteFault bytes e = HasCarried first bytes e
+Leaves first Memory bytes e = IsWithin first bytes e
+Leaves first _ bytes e = e ≡ new_ends
+
+-- what is seen of it without the ends
+abbrev pub CarriesInput : ℕ → Status → Option (List ℕ) → Option (List ℕ) → Option (List ℕ) → Option (List ℕ) → Type 0
+CarriesInput first status left rest old new =
+    (bytes : List ℕ) × ReadsBy status bytes left rest × Prints first status bytes old new
