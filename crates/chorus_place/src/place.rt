@@ -52,6 +52,7 @@ impl Place {
         requires { has_place layout number ≡ true }
         ensures state { IfOk result (λ place. state place ≡ started layout number) }
         ensures out { IfOk result (λ place. place.out.lists ≡ nothing_to (places layout)) }
+        ensures puts { IfOk result (λ place. place.out.puts ≡ 0) }
         ensures layout { IfOk result (λ place. IsLayout layout) }
     {
         let tables = Tables::start(alloc, layout, number)?;
@@ -99,6 +100,13 @@ impl Place {
         ensures { result ≡ count self.now.out.lists }
     {
         self.tables.waiting()
+    }
+
+    /// How many packets its turns have put so far. Between two readings it grows by the packets that the turns in between put.
+    pub fn puts(&self) -> u64
+        ensures { result ≡ self.now.out.puts }
+    {
+        self.tables.puts_before()
     }
 
     /// The newest location of a port that the place knows: the place where the port is, and its hop.
@@ -208,6 +216,7 @@ impl Place {
         ensures value { result ≡ slice_get (list_to to self.old.out.lists) 0 }
         ensures state { state self.new ≡ state self.old }
         ensures waits { self.new.out.lists ≡ without_first to self.old.out.lists }
+        ensures puts { self.new.out.puts ≡ self.old.out.puts }
         ensures spare { self.old.spare ≤ self.new.spare }
         ensures ranges { IfSome result (λ packet. IsTrue (has_ranges packet)) }
         ensures taken { IfSome result (λ packet. MayPutBack to self.new.out) }
@@ -222,6 +231,7 @@ impl Place {
         requires ranges { IsTrue (has_ranges packet) }
         ensures state { state self.new ≡ state self.old }
         ensures waits { self.new.out.lists ≡ with_first to packet self.old.out.lists }
+        ensures puts { self.new.out.puts ≡ self.old.out.puts }
         ensures spare { self.old.spare ≤ self.new.spare }
     {
         self.tables.put_back(to, packet);

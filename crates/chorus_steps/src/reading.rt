@@ -134,6 +134,13 @@ impl Tables {
         self.out.waiting()
     }
 
+    /// How many packets the turns put that have ended.
+    pub fn puts_before(&self) -> u64
+        ensures { result ≡ self.now.out.puts }
+    {
+        self.out.puts()
+    }
+
     /// How many ports are held here.
     pub fn held(&self) -> u16
         ensures { result ≡ length (state self.now).ports }

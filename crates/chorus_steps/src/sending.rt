@@ -38,6 +38,7 @@ impl Tables {
         ensures state { state self.new ≡ state self.old }
         ensures journal { self.new.journal ≡ self.old.journal }
         ensures spare { self.old.out.spare ≤ self.new.out.spare + length self.old.puts }
+        ensures count { self.new.out.puts ≡ self.old.out.puts + length self.old.puts }
         ensures room { self.old.room ≤ self.new.room }
     {
         // No more packets were put than the clock shows, so their number has 64 bits.
@@ -50,6 +51,7 @@ impl Tables {
         ensures value { result ≡ slice_get (list_to to self.old.out.lists) 0 }
         ensures lists { self.new.out.lists ≡ without_first to self.old.out.lists }
         ensures puts { self.new.puts ≡ self.old.puts }
+        ensures count { self.new.out.puts ≡ self.old.out.puts }
         ensures state { state self.new ≡ state self.old }
         ensures spare { self.new.journal.spare ≡ self.old.journal.spare }
         ensures room { self.old.room ≤ self.new.room }
@@ -63,6 +65,7 @@ impl Tables {
         requires { MayPutBack to self.old.out }
         ensures lists { self.new.out.lists ≡ with_first to packet self.old.out.lists }
         ensures puts { self.new.puts ≡ self.old.puts }
+        ensures count { self.new.out.puts ≡ self.old.out.puts }
         ensures state { state self.new ≡ state self.old }
         ensures spare { self.new.journal.spare ≡ self.old.journal.spare }
         ensures room { self.new.room ≡ self.old.room }

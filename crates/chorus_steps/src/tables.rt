@@ -64,6 +64,7 @@ impl Tables {
         ensures state { IfOk result (λ place. state place ≡ started layout number) }
         ensures out { IfOk result (λ place. place.out.lists ≡ nothing_to (places layout)) }
         ensures puts { IfOk result (λ place. place.puts ≡ []) }
+        ensures count { IfOk result (λ place. place.out.puts ≡ 0) }
         ensures layout { IfOk result (λ place. IsLayout layout) }
     {
         let most = PORTS_PER_SITE_LIMIT / u64::from(layout.turns());
