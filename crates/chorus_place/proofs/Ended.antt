@@ -9,11 +9,11 @@ use Rattle.chorus_machine.specs.declared.reply.Reply.{Reply}
 use Rattle.chorus_machine.specs.PlaceState.{Turn, Outgoing}
 use Rattle.chorus_machine.specs.PlaceMachine.{begun, act}
 use Rattle.chorus_machine.specs.Replies.{reply}
-use Rattle.chorus_steps.specs.declared.parcel.Parcel.{Parcel}
-use Rattle.chorus_steps.specs.Tables.{Tables, state, turn, outgoing}
-use Rattle.chorus_place.specs.Commands.{Performed, StaysOut}
-use Rattle.chorus_steps.specs.Room.{KeepsRoom}
-use Rattle.chorus_steps.specs.Sending as sending
+use Rattle.chorus_parts.specs.declared.parcel.Parcel.{Parcel}
+use Rattle.chorus_parts.specs.Tables.{Tables, state, turn, outgoing}
+use Rattle.chorus_parts.specs.Commands.{Performed, StaysOut}
+use Rattle.chorus_parts.specs.Room.{KeepsRoom}
+use Rattle.chorus_parts.specs.Sending as sending
 use Rattle.chorus_place.specs.Calls as calls
 
 -- between turns nothing is put

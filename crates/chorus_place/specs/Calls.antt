@@ -25,7 +25,7 @@ use Rattle.chorus_machine.specs.PlaceMachine.{begun, begun_by, act, work}
 use Rattle.chorus_machine.specs.Own.{held_by}
 use Rattle.chorus_machine.specs.Replies.{reply}
 use Rattle.chorus_bounds.specs.Bounds.{IsWithin, AreWaitingWithin}
-use Rattle.chorus_steps.specs.Tables.{Tables, state as state_of}
+use Rattle.chorus_parts.specs.Tables.{Tables, state as state_of}
 
 -- a place: its layout and number; its journal, the newest entry first; its tables; the packets that wait to go to other places,
 -- by these; and how many entries and packets need no memory

@@ -17,14 +17,15 @@ ghost use Rattle.chorus_place.specs.Calls.{state, is_call, Called, IsWornAt, IsW
 
 use crate::fault::PlaceFault;
 use crate::open::open;
-use crate::outcome::outcome_in;
 use crate::perform::perform;
 use chorus_bounds::are_within;
 use chorus_calls::Caller;
 use chorus_entry::{Command, Entry, MsgId, Packet};
 use chorus_machine::{Outcome, Reply};
 use chorus_out::Outbox;
+use chorus_outcome::outcome_in;
 use chorus_ports::Ports;
+use chorus_routes::is_lawful;
 use chorus_steps::Tables;
 use chorus_ui::{CLOCK_LIMIT, Layout, Ui};
 use std::alloc::{AllocError, Global};
@@ -175,7 +176,7 @@ impl Place {
     pub fn lawful(&self, from: u16, packet: &Packet) -> bool
         ensures { result ≡ is_lawful from packet.now (state self.now) }
     {
-        self.tables.lawful(from, packet)
+        is_lawful(&self.tables, from, packet)
     }
 
     /// Works off a lawful packet, for a caller whose clock is then at least the packet's. The packets that it causes wait to go.
