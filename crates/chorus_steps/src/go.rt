@@ -1,16 +1,14 @@
 //! The messages of a port and route go, one after the other.
 
-ghost use Rattle.std.specs.Prelude.{◌≡◌, ◌+◌, ◌-◌, ◌^◌, ◌<◌, ◌≤◌, ◌++◌, true, false, None, length, drop, IfOk, option_to_list};
-ghost use Rattle.std.specs.Option.{option_copied};
+ghost use Rattle.std.specs.Prelude.{◌≡◌, ◌+◌, ◌-◌, ◌^◌, ◌<◌, ◌≤◌, true, false, None, length};
 ghost use Rattle.chorus_ui.specs.declared.kind.Kind.TheVariants as Kind;
-ghost use Rattle.chorus_ui.specs.Layout.{has_place};
 ghost use Rattle.chorus_world.specs.Posts.{is_on_site};
 ghost use Rattle.chorus_waits.specs.Queues.{queue};
 ghost use Rattle.chorus_machine.specs.PlaceState.{greatest_clock};
 ghost use Rattle.chorus_machine.specs.Trying.{goes_on, go};
 ghost use Rattle.chorus_parts.specs.Room.{KeepsRoom};
 ghost use Rattle.chorus_parts.specs.Tables.{state, turn};
-ghost use Rattle.chorus_parts.specs.Going.{GoesOn, Stops, first_to, leaving, reports_for, waits_for};
+ghost use Rattle.chorus_parts.specs.Going.{GoesOn, Stops, leaving, reports_for, waits_for};
 
 use crate::tables::Tables;
 use chorus_calls::Caller;

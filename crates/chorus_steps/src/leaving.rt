@@ -1,17 +1,15 @@
 //! The messages that will be tried at other places, and how many packets a turn may put: both are looked for before it changes
 //! anything.
 
-ghost use Rattle.std.specs.Prelude.{◌≡◌, ◌+◌, ◌^◌, ◌<◌, ◌≤◌, true, All, length, IfOk};
+ghost use Rattle.std.specs.Prelude.{◌≡◌, ◌^◌, ◌<◌, ◌≤◌, true, length, IfOk};
 ghost use Rattle.std.specs.Option.{option_copied};
 ghost use Rattle.chorus_ui.specs.declared.kind.Kind.TheVariants as Kind;
 ghost use Rattle.chorus_ui.specs.Layout.{has_site, has_place};
 ghost use Rattle.chorus_world.specs.Places.{taught};
 ghost use Rattle.chorus_hints.specs.Known.{kept, newest_of};
 ghost use Rattle.chorus_machine.specs.Working.{taught_of};
-ghost use Rattle.chorus_waits.specs.Queues.{queue};
 ghost use Rattle.chorus_parts.specs.Going.{waits_for, reports_for, leaving_after};
 ghost use Rattle.chorus_parts.specs.Steps.{MayTeach};
-ghost use Rattle.chorus_parts.specs.Tables.{state};
 
 use crate::tables::Tables;
 use chorus_entry::Answer;

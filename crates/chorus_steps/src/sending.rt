@@ -1,9 +1,8 @@
 //! The end of a turn: what it put waits for its places.
 
-ghost use Rattle.std.specs.Prelude.{◌≡◌, ◌+◌, ◌^◌, ◌<◌, ◌≤◌, [], length, slice_get, IfSome, All};
-ghost use Rattle.std.specs.VecDeque.{deque_capacity};
+ghost use Rattle.std.specs.Prelude.{◌≡◌, ◌+◌, ◌<◌, ◌≤◌, [], length, slice_get, IfSome};
 ghost use Rattle.chorus_out.specs.Waiting.{list_to, with_first, without_first, MayPutBack};
-ghost use Rattle.chorus_parts.specs.Sending.{IsFor, with_all};
+ghost use Rattle.chorus_parts.specs.Sending.{with_all};
 ghost use Rattle.chorus_parts.specs.Tables.{state};
 
 use crate::tables::Tables;

@@ -13,8 +13,7 @@ ghost use Rattle.chorus_machine.specs.Doing.{does, asks};
 ghost use Rattle.chorus_machine.specs.Choosing.{all_go};
 ghost use Rattle.chorus_entry.specs.Members.{are_distinct};
 ghost use Rattle.chorus_waits.specs.declared.wait.Key.{Key};
-ghost use Rattle.chorus_waits.specs.Queues.{queue};
-ghost use Rattle.chorus_parts.specs.Groups.{AllGoing, HaveLines, IsCopy, ports_of, members_of, with_each, no_member, chosen, posted_alone};
+ghost use Rattle.chorus_parts.specs.Groups.{AllGoing, HaveLines, IsCopy, ports_of, members_of, no_member, chosen, posted_alone};
 ghost use Rattle.chorus_parts.specs.Room.{KeepsRoom};
 ghost use Rattle.chorus_parts.specs.Tables.{turn};
 

@@ -1,6 +1,6 @@
 //! The steps of messages: each appends one entry.
 
-ghost use Rattle.std.specs.Prelude.{◌≡◌, ◌+◌, ◌-◌, ◌^◌, ◌<◌, ◌≤◌, true, None, Some, IsNone, IsSome, IfSome, length};
+ghost use Rattle.std.specs.Prelude.{◌≡◌, ◌+◌, ◌-◌, ◌^◌, ◌<◌, ◌≤◌, true, None, Some, IsNone, IsSome, IfSome};
 ghost use Rattle.chorus_ui.specs.declared.kind.Kind.TheVariants as Kind;
 ghost use Rattle.chorus_ui.specs.Layout.{has_site, has_place};
 ghost use Rattle.chorus_machine.specs.PlaceState.{greatest_clock};
@@ -8,12 +8,11 @@ ghost use Rattle.chorus_machine.specs.PlaceState.{note};
 ghost use Rattle.chorus_machine.specs.Trying.{tries_at};
 ghost use Rattle.chorus_machine.specs.Doing.{post};
 ghost use Rattle.chorus_ui.specs.declared.limits.TheConstants.{MEMBERS_LIMIT};
-ghost use Rattle.chorus_machine.specs.Working.{hears, taught_of, told};
-ghost use Rattle.chorus_ui.specs.declared.ui.Ui.{Ui};
+ghost use Rattle.chorus_machine.specs.Working.{hears};
 ghost use Rattle.chorus_world.specs.Places.{taught};
 ghost use Rattle.chorus_hints.specs.Known.{kept};
 ghost use Rattle.chorus_waits.specs.declared.wait.Key.{Key};
-ghost use Rattle.chorus_waits.specs.Queues.{queue, room, changed};
+ghost use Rattle.chorus_waits.specs.Queues.{room};
 ghost use Rattle.chorus_parts.specs.Plain.{is_plain};
 ghost use Rattle.chorus_parts.specs.Steps.{MayTeach, posted, told_by, answered};
 ghost use Rattle.chorus_parts.specs.Room.{KeepsRoom};
@@ -25,7 +24,6 @@ use crate::tables::Tables;
 use chorus_calls::Caller;
 use chorus_entry::{Act, Answer, Cargo, Dest, Message, MsgId};
 use chorus_parts::{decide, decide_unless, decision, pass, put, put_report, say, teach, trying};
-use chorus_ui::Ui;
 use chorus_waits::{Key, Wait};
 
 impl Tables {
