@@ -17,8 +17,8 @@ use Rattle.chorus_world.specs.Places.{is_made_here}
 use Rattle.chorus_ports.specs.Table.{find}
 use Rattle.chorus_machine.specs.PlaceState.{PlaceState, Turn, greatest_clock}
 use Rattle.chorus_machine.specs.Lawful.{may_receive, is_lawful}
-use Rattle.chorus_steps.specs.Tables.{IsSound}
-use Rattle.chorus_steps.specs.Ports.{MayArrive}
+use Rattle.chorus_parts.specs.Tables.{IsSound}
+use Rattle.chorus_parts.specs.Ports.{MayArrive}
 
 all-sound : (ms : List Message) → list_all has_ranges_of_message ms ≡ true → All IsSound ms
 all-sound [] h = All-nil IsSound

@@ -16,8 +16,8 @@ use Rattle.chorus_bounds.specs.Bounds.{IsWithin, IsCallerWithin, HasRanges, IsTu
 use Rattle.chorus_bounds.proofs.Starting.{start-within}
 use Rattle.chorus_bounds.proofs.Commands.{act-within}
 use Rattle.chorus_bounds.proofs.Packets.{work-within}
-use Rattle.chorus_steps.specs.Tables.{Tables, state, turn}
-use Rattle.chorus_place.specs.Commands.{StaysOut}
+use Rattle.chorus_parts.specs.Tables.{Tables, state, turn}
+use Rattle.chorus_parts.specs.Commands.{StaysOut}
 use Rattle.chorus_place.specs.Calls.{IsAtRest, with_all}
 use Rattle.chorus_place.proofs.Ended.{Sent, begins, still-none, sends}
 

@@ -28,9 +28,9 @@ use Rattle.chorus_machine.specs.Choosing.{choice, by_group, all_go, chooses, cho
 use Rattle.chorus_machine.specs.Trying.{verdict_here, tries, settles_here, goes_on, goes_unless, go}
 use Rattle.chorus_machine.specs.Working.{opens}
 use Rattle.chorus_machine.specs.Replies.{post_reply}
-use Rattle.chorus_place.specs.Commands.{Performed}
-use Rattle.chorus_steps.specs.Steps.{posted, told_by}
-use Rattle.chorus_steps.specs.Tables.{Tables, turn}
+use Rattle.chorus_parts.specs.Commands.{Performed}
+use Rattle.chorus_parts.specs.Steps.{posted, told_by}
+use Rattle.chorus_parts.specs.Tables.{Tables, turn}
 use Rattle.chorus_place.specs.CallTurns.{with_call, GaveWithinPosts}
 use Rattle.chorus_place.proofs.Turns.{post-performs}
 

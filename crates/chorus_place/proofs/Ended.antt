@@ -9,11 +9,11 @@ use Rattle.chorus_machine.specs.declared.reply.Reply.{Reply}
 use Rattle.chorus_machine.specs.PlaceState.{Turn, Outgoing}
 use Rattle.chorus_machine.specs.PlaceMachine.{begun, act}
 use Rattle.chorus_machine.specs.Replies.{reply}
-use Rattle.chorus_steps.specs.declared.parcel.Parcel.{Parcel}
-use Rattle.chorus_steps.specs.Tables.{Tables, state, turn, outgoing}
-use Rattle.chorus_place.specs.Commands.{Performed, StaysOut}
-use Rattle.chorus_steps.specs.Room.{KeepsRoom}
-use Rattle.chorus_steps.specs.Sending as sending
+use Rattle.chorus_parts.specs.declared.parcel.Parcel.{Parcel}
+use Rattle.chorus_parts.specs.Tables.{Tables, state, turn, outgoing}
+use Rattle.chorus_parts.specs.Commands.{Performed, StaysOut}
+use Rattle.chorus_parts.specs.Room.{KeepsRoom}
+use Rattle.chorus_parts.specs.Sending as sending
 use Rattle.chorus_place.specs.Calls as calls
 
 -- between turns nothing is put
@@ -36,6 +36,7 @@ sends (p ∷ ps) lists = sends ps (with_last p.to p.packet lists)
 pub record Sent (mid new : Tables) : Type 0 where
   pub state : state new ≡ state mid
   pub lists : new.out.lists ≡ sending.with_all mid.puts mid.out.lists
+  pub count : new.out.puts ≡ mid.out.puts + length mid.puts
   pub spare : new.journal.spare ≡ mid.journal.spare
   pub room : mid.room ≤ new.room
 
@@ -47,9 +48,17 @@ ended t old mid new after none done out keeps sent =
       caller_is = ap (λ u. u.caller) done;
       waits = sent.lists ∙ sends mid.puts mid.out.lists ∙ ap (λ (os : List Outgoing). calls.with_all os mid.out.lists) (ap (λ u. u.puts) done)
           ∙ ap (λ ls. calls.with_all t.puts ls) out.lists;
+      puts = count;
       spare = room;
     }
   where
+    count : new.out.puts ≡ old.out.puts + length t.puts
+    count =
+        let more = sent.count in
+        let same = out.puts in
+        let puts = sym (length-map mid.puts outgoing) ∙ ap (λ u. length u.puts) done in
+        omega (arith, more, same, puts)
+
     room : min old.journal.spare old.room + length old.journal.past ≤ min new.journal.spare new.room + length new.journal.past + length t.puts
     room =
         let entries = keeps.entries in
@@ -74,7 +83,7 @@ called old mid new before after c r none performed out keeps sent =
 pub stays : (old new : Tables) (before after : Seated) → old.puts ≡ [] → turn new after ≡ turn old before → StaysOut old.out new.out → KeepsRoom old new
     → calls.Stays (calls.place_of old) (calls.place_of new)
 stays old new before after none same out keeps =
-    record { state = ap (λ t. t.place) same; waits = out.lists; spare = room }
+    record { state = ap (λ t. t.place) same; waits = out.lists; puts = out.puts; spare = room }
   where
     room : min old.journal.spare old.room ≤ min new.journal.spare new.room
     room =

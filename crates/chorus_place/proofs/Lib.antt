@@ -2,9 +2,7 @@ pub mod Performing
 pub mod MovePort
 pub mod Arriving
 pub mod Turns
-pub mod Passing
 pub mod CallTurns
-pub mod GroupTurns
 pub mod Openable
 pub mod Ended
 pub mod Bounded

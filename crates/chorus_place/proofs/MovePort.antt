@@ -12,7 +12,7 @@ use Rattle.chorus_machine.specs.declared.reply.Reply.{Reply}
 use Rattle.chorus_machine.specs.PlaceState.{PlaceState, Turn}
 use Rattle.chorus_machine.specs.Own.{held_by, move_act}
 use Rattle.chorus_machine.specs.Doing.{does}
-use Rattle.chorus_place.specs.Commands.{Performed}
+use Rattle.chorus_parts.specs.Commands.{Performed}
 use Rattle.chorus_place.proofs.Performing.{performs, has-home}
 
 same-number : (m n : ℕ) → m ≡ n → (m == n) ≡ true

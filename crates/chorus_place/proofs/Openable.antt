@@ -18,7 +18,7 @@ use Rattle.chorus_world.specs.Places.{taught}
 use Rattle.chorus_waits.specs.declared.wait.Wait.{Wait}
 use Rattle.chorus_machine.specs.PlaceState.{PlaceState, Turn, greatest_clock}
 use Rattle.chorus_machine.specs.Lawful.{is_first_of, is_under_way, is_known_answer, may_teach, is_lawful_cargo, is_lawful}
-use Rattle.chorus_steps.specs.Steps.{MayTeach}
+use Rattle.chorus_parts.specs.Steps.{MayTeach}
 use Rattle.chorus_place.specs.Opening.{MayOpen}
 use Rattle.chorus_place.proofs.Arriving.{may-arrive}
 

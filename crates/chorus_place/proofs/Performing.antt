@@ -25,8 +25,8 @@ use Rattle.chorus_machine.specs.PlaceState.{PlaceState, Turn, next_clock}
 use Rattle.chorus_machine.specs.Own.{own, make_act, next_port, take_act, held_by, delete_act}
 use Rattle.chorus_machine.specs.Doing.{does, takes, with_ports, first_message, ends, holding}
 use Rattle.chorus_machine.specs.Replies.{reply_to, settling, taken_reply}
-use Rattle.chorus_steps.specs.Ports.{takes_from, ids_of}
-use Rattle.chorus_place.specs.Commands.{Performed}
+use Rattle.chorus_parts.specs.Ports.{takes_from, ids_of}
+use Rattle.chorus_parts.specs.Commands.{Performed}
 
 pub on_err : {A E : Type 0} (r : Result A E) (P : Type 0) → P → OnErr r P
 on_err (Ok a) P p = tt

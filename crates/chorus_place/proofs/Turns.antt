@@ -25,14 +25,14 @@ use Rattle.chorus_entry.specs.declared.command.Command.{Command}
 use Rattle.chorus_entry.specs.declared.message.Message.{Message}
 use Rattle.chorus_machine.specs.declared.reply.Reply.{Reply}
 use Rattle.chorus_machine.specs.Replies.{reply_to, post_reply}
-use Rattle.chorus_place.specs.Commands.{Performed}
+use Rattle.chorus_parts.specs.Commands.{Performed}
 use Rattle.chorus_calls.specs.Callers.{after_post}
 use Rattle.chorus_machine.specs.Working.{hears_verdict, taught_of, told}
-use Rattle.chorus_steps.specs.Going.{first_to, leaving_to, leaving}
+use Rattle.chorus_parts.specs.Going.{first_to, leaving_to, leaving}
 use Rattle.chorus_place.specs.Posting.{settled_by}
-use Rattle.chorus_steps.specs.Steps.{told_by, posted}
-use Rattle.chorus_steps.proofs.Deciding.{located}
-use Rattle.chorus_steps.proofs.Reports.{at-key}
+use Rattle.chorus_parts.specs.Steps.{told_by, posted}
+use Rattle.chorus_parts.proofs.Deciding.{located}
+use Rattle.chorus_parts.proofs.Reports.{at-key}
 
 max-same : (n : ℕ) → max n n ≡ n
 max-same n = omega arith

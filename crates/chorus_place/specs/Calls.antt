@@ -25,7 +25,7 @@ use Rattle.chorus_machine.specs.PlaceMachine.{begun, begun_by, act, work}
 use Rattle.chorus_machine.specs.Own.{held_by}
 use Rattle.chorus_machine.specs.Replies.{reply}
 use Rattle.chorus_bounds.specs.Bounds.{IsWithin, AreWaitingWithin}
-use Rattle.chorus_steps.specs.Tables.{Tables, state as state_of}
+use Rattle.chorus_parts.specs.Tables.{Tables, state as state_of}
 
 -- a place: its layout and number; its journal, the newest entry first; its tables; the packets that wait to go to other places,
 -- by these; and how many entries and packets need no memory
@@ -89,12 +89,13 @@ abbrev pub is_call : Command → Bool
 is_call (Call q back body) = true
 is_call _ = false
 
--- the place and the caller are as the turn left them, what it put waits behind what waited, and no more room is taken than
--- that of the entries and packets
+-- the place and the caller are as the turn left them, what it put waits behind what waited and is counted, and no more room is
+-- taken than that of the entries and packets
 pub record Ended (t : Turn) (old new : Place) (caller : Seated) : Type 0 where
   pub state : state new ≡ t.place
   pub caller_is : caller ≡ t.caller
   pub waits : new.out.lists ≡ with_all t.puts old.out.lists
+  pub puts : new.out.puts ≡ old.out.puts + length t.puts
   pub spare : old.spare + length old.journal ≤ new.spare + length new.journal + length t.puts
 
 -- the call did what the machine does, and gave its reply
@@ -118,6 +119,7 @@ IsWornBack clock back packet t = (CLOCK_LIMIT ≤ greatest_clock t) × (clock �
 pub record Stays (old new : Place) : Type 0 where
   pub state : state new ≡ state old
   pub waits : new.out.lists ≡ old.out.lists
+  pub puts : new.out.puts ≡ old.out.puts
   pub spare : old.spare ≤ new.spare
 
 -- a command that takes no memory where there is room for two: receiving, moving, and a Delete of a port that is not held

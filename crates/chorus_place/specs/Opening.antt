@@ -15,9 +15,9 @@ use Rattle.chorus_world.specs.Places.{taught}
 use Rattle.chorus_waits.specs.declared.wait.Key.{Key}
 use Rattle.chorus_machine.specs.PlaceState.{Turn}
 use Rattle.chorus_machine.specs.Lawful.{is_asked_here}
-use Rattle.chorus_steps.specs.Tables.{IsSound}
-use Rattle.chorus_steps.specs.Ports.{MayArrive}
-use Rattle.chorus_steps.specs.Steps.{MayTeach}
+use Rattle.chorus_parts.specs.Tables.{IsSound}
+use Rattle.chorus_parts.specs.Ports.{MayArrive}
+use Rattle.chorus_parts.specs.Steps.{MayTeach}
 
 -- a message that another place tried may be decided here
 pub record MayTry (from : ℕ) (m : Message) (q : Ui) (t : Turn) : Type 0 where

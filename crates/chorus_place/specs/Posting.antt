@@ -9,8 +9,8 @@ use Rattle.chorus_entry.specs.declared.entry.Entry.{Entry}
 use Rattle.chorus_waits.specs.Queues.{room}
 use Rattle.chorus_machine.specs.Doing.{direct, post}
 use Rattle.chorus_place.specs.declared.turns_messages.Ready.{Ready}
-use Rattle.chorus_steps.specs.Tables.{Tables, IsSound}
-use Rattle.chorus_steps.specs.Going.{waits_for, reports_for, leaving_after}
+use Rattle.chorus_parts.specs.Tables.{Tables, IsSound}
+use Rattle.chorus_parts.specs.Going.{waits_for, reports_for, leaving_after}
 
 -- how many messages an answer settles
 abbrev pub settled_by : Answer → ℕ

@@ -5,21 +5,19 @@
 //! changes nothing, and says why.
 //!
 //! Begin with `place`, then `perform` and `open`, which choose the turn of a command and of a packet. A turn (`turns_*`) takes first
-//! all that can fail, and then goes step by step. The tables and the steps, with an entry each, are those of `chorus_steps`.
+//! all that can fail, and then goes step by step; those with groups are in `chorus_routes`. The tables and the steps, with an entry
+//! each, are those of `chorus_steps`.
 #![tactic(auto)]
 
-mod commands;
 mod fault;
 mod open;
-mod outcome;
 mod perform;
 mod place;
 mod turns_calls;
-mod turns_groups;
 mod turns_messages;
 mod turns_ports;
 
 pub use chorus_machine::{Outcome, Reply};
-pub use commands::place_for;
+pub use chorus_outcome::place_for;
 pub use fault::PlaceFault;
 pub use place::Place;

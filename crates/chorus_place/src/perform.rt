@@ -8,17 +8,17 @@ ghost use Rattle.chorus_entry.specs.Kinds.{has_kinds_in_dest};
 ghost use Rattle.chorus_entry.specs.Places.{place_for};
 ghost use Rattle.chorus_machine.specs.PlaceState.{greatest_clock};
 ghost use Rattle.chorus_place.specs.Calls.{is_call, TakesNone};
-ghost use Rattle.chorus_place.specs.Commands.{Performed, StaysOut};
-ghost use Rattle.chorus_steps.specs.Room.{KeepsRoom};
-ghost use Rattle.chorus_steps.specs.Tables.{state, turn};
+ghost use Rattle.chorus_parts.specs.Commands.{Performed, StaysOut};
+ghost use Rattle.chorus_parts.specs.Room.{KeepsRoom};
+ghost use Rattle.chorus_parts.specs.Tables.{state, turn};
 
 use crate::turns_calls::{call, cancel, retry, send_reply};
-use crate::turns_groups::{join, leave, make_group, post_to_group};
 use crate::turns_messages::send_to_port;
 use crate::turns_ports::{delete, make, move_port, take};
 use chorus_calls::Caller;
 use chorus_entry::{Body, Command, Dest};
 use chorus_machine::Reply;
+use chorus_routes::{join, leave, make_group, post_to_group};
 use chorus_steps::Tables;
 use std::alloc::AllocError;
 

@@ -17,14 +17,15 @@ ghost use Rattle.chorus_place.specs.Calls.{state, is_call, Called, IsWornAt, IsW
 
 use crate::fault::PlaceFault;
 use crate::open::open;
-use crate::outcome::outcome_in;
 use crate::perform::perform;
 use chorus_bounds::are_within;
 use chorus_calls::Caller;
 use chorus_entry::{Command, Entry, MsgId, Packet};
 use chorus_machine::{Outcome, Reply};
 use chorus_out::Outbox;
+use chorus_outcome::outcome_in;
 use chorus_ports::Ports;
+use chorus_routes::is_lawful;
 use chorus_steps::Tables;
 use chorus_ui::{CLOCK_LIMIT, Layout, Ui};
 use std::alloc::{AllocError, Global};
@@ -52,6 +53,7 @@ impl Place {
         requires { has_place layout number ≡ true }
         ensures state { IfOk result (λ place. state place ≡ started layout number) }
         ensures out { IfOk result (λ place. place.out.lists ≡ nothing_to (places layout)) }
+        ensures puts { IfOk result (λ place. place.out.puts ≡ 0) }
         ensures layout { IfOk result (λ place. IsLayout layout) }
     {
         let tables = Tables::start(alloc, layout, number)?;
@@ -99,6 +101,13 @@ impl Place {
         ensures { result ≡ count self.now.out.lists }
     {
         self.tables.waiting()
+    }
+
+    /// How many packets its turns have put so far. Between two readings it grows by the packets that the turns in between put.
+    pub fn puts(&self) -> u64
+        ensures { result ≡ self.now.out.puts }
+    {
+        self.tables.puts_before()
     }
 
     /// The newest location of a port that the place knows: the place where the port is, and its hop.
@@ -167,7 +176,7 @@ impl Place {
     pub fn lawful(&self, from: u16, packet: &Packet) -> bool
         ensures { result ≡ is_lawful from packet.now (state self.now) }
     {
-        self.tables.lawful(from, packet)
+        is_lawful(&self.tables, from, packet)
     }
 
     /// Works off a lawful packet, for a caller whose clock is then at least the packet's. The packets that it causes wait to go.
@@ -208,6 +217,7 @@ impl Place {
         ensures value { result ≡ slice_get (list_to to self.old.out.lists) 0 }
         ensures state { state self.new ≡ state self.old }
         ensures waits { self.new.out.lists ≡ without_first to self.old.out.lists }
+        ensures puts { self.new.out.puts ≡ self.old.out.puts }
         ensures spare { self.old.spare ≤ self.new.spare }
         ensures ranges { IfSome result (λ packet. IsTrue (has_ranges packet)) }
         ensures taken { IfSome result (λ packet. MayPutBack to self.new.out) }
@@ -222,6 +232,7 @@ impl Place {
         requires ranges { IsTrue (has_ranges packet) }
         ensures state { state self.new ≡ state self.old }
         ensures waits { self.new.out.lists ≡ with_first to packet self.old.out.lists }
+        ensures puts { self.new.out.puts ≡ self.old.out.puts }
         ensures spare { self.old.spare ≤ self.new.spare }
     {
         self.tables.put_back(to, packet);

@@ -5,10 +5,10 @@ ghost use Rattle.chorus_ui.specs.declared.kind.Kind.TheVariants as Kind;
 ghost use Rattle.chorus_ui.specs.declared.limits.TheConstants.{BODY_LIMIT, CLOCK_LIMIT};
 ghost use Rattle.chorus_entry.specs.declared.command.Command.TheVariants as Command;
 ghost use Rattle.chorus_machine.specs.PlaceState.{greatest_clock, note};
-ghost use Rattle.chorus_steps.specs.Plain.{is_plain};
-ghost use Rattle.chorus_steps.specs.Room.{KeepsRoom};
-ghost use Rattle.chorus_steps.specs.Tables.{turn};
-ghost use Rattle.chorus_place.specs.Commands.{Performed, StaysOut};
+ghost use Rattle.chorus_parts.specs.Plain.{is_plain};
+ghost use Rattle.chorus_parts.specs.Room.{KeepsRoom};
+ghost use Rattle.chorus_parts.specs.Tables.{turn};
+ghost use Rattle.chorus_parts.specs.Commands.{Performed, StaysOut};
 ghost use Rattle.chorus_place.specs.CallTurns.{outstanding_number, with_call, without_call};
 
 use crate::turns_messages::{post_prepared, post_reply, ready_post};

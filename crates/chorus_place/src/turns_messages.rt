@@ -17,16 +17,17 @@ ghost use Rattle.chorus_machine.specs.Doing.{direct};
 ghost use Rattle.chorus_machine.specs.Replies.{verdict_reply, post_reply};
 ghost use Rattle.chorus_calls.specs.Callers.{Seated};
 ghost use Rattle.chorus_waits.specs.declared.wait.Key.{Key};
-ghost use Rattle.chorus_steps.specs.Room.{KeepsRoom};
-ghost use Rattle.chorus_steps.specs.Tables.{turn, IsSound};
-ghost use Rattle.chorus_steps.specs.Steps.{MayTeach, posted, answered};
-ghost use Rattle.chorus_place.specs.Commands.{Performed, StaysOut};
-ghost use Rattle.chorus_steps.specs.Going.{first_for};
+ghost use Rattle.chorus_parts.specs.Room.{KeepsRoom};
+ghost use Rattle.chorus_parts.specs.Tables.{turn, IsSound};
+ghost use Rattle.chorus_parts.specs.Steps.{MayTeach, posted, answered};
+ghost use Rattle.chorus_parts.specs.Commands.{Performed, StaysOut};
+ghost use Rattle.chorus_parts.specs.Going.{first_for};
 ghost use Rattle.chorus_place.specs.Posting.{settled_by, last_answer, IsReady};
 
 use chorus_calls::Caller;
 use chorus_entry::{Answer, Body, Entry, Message, MsgId, Tag};
 use chorus_machine::Reply;
+use chorus_parts::next_message;
 use chorus_steps::Tables;
 use chorus_ui::Ui;
 use chorus_waits::{Key, Wait};
@@ -78,19 +79,6 @@ fn last_answer(entries: &[Entry]) -> Option<Answer>
         return None;
     }
     entries[len - 1].act.answer()
-}
-
-/// The caller's next message.
-pub(crate) fn next_message(caller: &Caller, tag: Tag, body: Body) -> Message
-    requires { caller.now.posts < u32.MAX }
-    ensures { result ≡ next_message tag body caller.now }
-{
-    let id = MsgId {
-        seat: caller.seat(),
-        number: caller.posts() + 1,
-        copy: 0,
-    };
-    Message { id, tag, body }
 }
 
 /// Works off the verdict of the message of this port and route that is under way.

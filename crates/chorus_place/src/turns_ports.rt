@@ -10,15 +10,16 @@ ghost use Rattle.chorus_calls.specs.Callers.{Seated};
 ghost use Rattle.chorus_machine.specs.PlaceState.{greatest_clock};
 ghost use Rattle.chorus_machine.specs.Own.{held_by, next_port};
 ghost use Rattle.chorus_machine.specs.Working.{receives_port};
-ghost use Rattle.chorus_place.specs.Commands.{Performed, StaysOut};
-ghost use Rattle.chorus_steps.specs.Ports.{MayArrive};
-ghost use Rattle.chorus_steps.specs.Room.{KeepsRoom};
-ghost use Rattle.chorus_steps.specs.Tables.{turn};
+ghost use Rattle.chorus_parts.specs.Commands.{Performed, StaysOut};
+ghost use Rattle.chorus_parts.specs.Ports.{MayArrive};
+ghost use Rattle.chorus_parts.specs.Room.{KeepsRoom};
+ghost use Rattle.chorus_parts.specs.Tables.{turn};
 
 use chorus_calls::Caller;
 use chorus_entry::{Act, PortRecord};
 use chorus_machine::Reply;
 use chorus_ports::Taken;
+use chorus_routes::{has_made_all, next_port};
 use chorus_steps::Tables;
 use chorus_ui::{Kind, Ui};
 use std::alloc::AllocError;
@@ -48,12 +49,12 @@ pub(crate) fn make(
         tables.note(Act::NoActor { actor }, caller);
         return Ok(Reply::NoActor);
     }
-    if tables.has_made_all() {
+    if has_made_all(tables) {
         tables.note(Act::MakeFull { actor }, caller);
         return Ok(Reply::MakeFull);
     }
     tables.make_port_room()?;
-    let port = tables.next_port(actor);
+    let port = next_port(tables, actor);
     tables.make_port(port, actor, capacity, caller)?;
     Ok(Reply::Made(port))
 }

@@ -1,69 +1,20 @@
 //! The messages of a port and route go, one after the other.
 
-ghost use Rattle.std.specs.Prelude.{◌≡◌, ◌+◌, ◌-◌, ◌^◌, ◌<◌, ◌≤◌, ◌++◌, true, false, None, length, drop, IfOk, option_to_list};
-ghost use Rattle.std.specs.Option.{option_copied};
+ghost use Rattle.std.specs.Prelude.{◌≡◌, ◌+◌, ◌-◌, ◌^◌, ◌<◌, ◌≤◌, true, false, None, length};
 ghost use Rattle.chorus_ui.specs.declared.kind.Kind.TheVariants as Kind;
-ghost use Rattle.chorus_ui.specs.Layout.{has_place};
 ghost use Rattle.chorus_world.specs.Posts.{is_on_site};
 ghost use Rattle.chorus_waits.specs.Queues.{queue};
 ghost use Rattle.chorus_machine.specs.PlaceState.{greatest_clock};
 ghost use Rattle.chorus_machine.specs.Trying.{goes_on, go};
-ghost use Rattle.chorus_steps.specs.Room.{KeepsRoom};
-ghost use Rattle.chorus_steps.specs.Tables.{state, turn};
-ghost use Rattle.chorus_steps.specs.Going.{GoesOn, Stops, first_to, leaving, reports_for, waits_for};
+ghost use Rattle.chorus_parts.specs.Room.{KeepsRoom};
+ghost use Rattle.chorus_parts.specs.Tables.{state, turn};
+ghost use Rattle.chorus_parts.specs.Going.{GoesOn, Stops, leaving, reports_for, waits_for};
 
 use crate::tables::Tables;
 use chorus_calls::Caller;
 use chorus_entry::Answer;
-use chorus_ui::Layout;
-use chorus_waits::{Key, Wait, Waits};
-use std::alloc::AllocError;
-
-/// Whether the place is on the site, where one is demanded.
-pub(crate) fn is_on_site(layout: Layout, only: Option<u16>, place: u16) -> bool
-    requires { has_place layout place ≡ true }
-    ensures { result ≡ is_on_site layout only place }
-{
-    match only {
-        Some(site) => layout.site_of(place) == site,
-        None => true,
-    }
-}
-
-/// A copy of the first message that may be tried at the place `to`: of those of a port and route, from the one at `start` on,
-/// and then of `last`.
-pub(crate) fn first_to(
-    layout: Layout,
-    waits: &Waits,
-    key: &Key,
-    start: usize,
-    last: Option<&Wait>,
-    to: u16,
-) -> Result<Option<Wait>, AllocError>
-    requires start { start ≤ length (queue waits.now key.now).waits }
-    requires place { has_place layout to ≡ true }
-    ensures { IfOk result (λ again. again ≡ first_to layout to
-        (drop start (queue waits.now key.now).waits ++ option_to_list (option_copied last.entry))) }
-{
-    let len = waits.len(key);
-    for at in start..len {
-        let Some(wait) = waits.get(key, at) else {
-            unreachable!()
-        };
-        if is_on_site(layout, wait.only, to) {
-            let again = wait.copied()?;
-            return Ok(Some(again));
-        }
-    }
-    let Some(wait) = last else {
-        return Ok(None);
-    };
-    if is_on_site(layout, wait.only, to) {
-        let again = wait.copied()?;
-        return Ok(Some(again));
-    }
-    Ok(None)
-}
+use chorus_parts::is_on_site;
+use chorus_waits::{Key, Wait};
 
 impl Tables {
     /// Settles the first message of a port and route by one entry, where it is not to be tried at another place. Answers

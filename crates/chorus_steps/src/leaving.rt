@@ -1,30 +1,22 @@
 //! The messages that will be tried at other places, and how many packets a turn may put: both are looked for before it changes
 //! anything.
 
-ghost use Rattle.std.specs.Prelude.{◌≡◌, ◌+◌, ◌^◌, ◌<◌, ◌≤◌, true, All, length, IfOk};
+ghost use Rattle.std.specs.Prelude.{◌≡◌, ◌^◌, ◌<◌, ◌≤◌, true, length, IfOk};
 ghost use Rattle.std.specs.Option.{option_copied};
 ghost use Rattle.chorus_ui.specs.declared.kind.Kind.TheVariants as Kind;
 ghost use Rattle.chorus_ui.specs.Layout.{has_site, has_place};
 ghost use Rattle.chorus_world.specs.Places.{taught};
 ghost use Rattle.chorus_hints.specs.Known.{kept, newest_of};
 ghost use Rattle.chorus_machine.specs.Working.{taught_of};
-ghost use Rattle.chorus_waits.specs.Queues.{queue};
-ghost use Rattle.chorus_steps.specs.Going.{waits_for, reports_for, leaving_after};
-ghost use Rattle.chorus_steps.specs.Groups.{members_of, leaving_with, courses_of, waiting_for};
-ghost use Rattle.chorus_steps.specs.Steps.{MayTeach};
-ghost use Rattle.chorus_steps.specs.Tables.{state, IsPort};
+ghost use Rattle.chorus_parts.specs.Going.{waits_for, reports_for, leaving_after};
+ghost use Rattle.chorus_parts.specs.Steps.{MayTeach};
 
-use crate::go::first_to;
-use crate::steps_groups::{Course, MemberCopy};
 use crate::tables::Tables;
 use chorus_entry::Answer;
+use chorus_parts::first_to;
 use chorus_ui::Ui;
 use chorus_waits::{Key, Wait};
 use std::alloc::AllocError;
-use std::collections::VecDeque;
-
-/// No memory holds so many messages.
-const MESSAGES_LIMIT: usize = 1 << 62;
 
 impl Tables {
     /// How many packets the messages of a port and route may report: none where the messages are direct.
@@ -78,65 +70,5 @@ impl Tables {
             return Ok(None);
         }
         first_to(self.layout, &self.waits, key, start, last, to)
-    }
-
-    /// A copy of the message for this port and route that is tried at another place once `last` waits there too. None where one
-    /// is under way.
-    fn copy_free(&self, key: &Key, last: &Wait) -> Result<Option<Wait>, AllocError>
-        requires kind { key.now.port.kind ≡ Kind.Port }
-        ensures { IfOk result (λ again. again ≡ leaving_with key.now last.now (state self.now)) }
-    {
-        if self.waits.tried(key).is_some() {
-            return Ok(None);
-        }
-        self.copy_leaving(key, 0, Some(last), Answer::NoPort)
-    }
-
-    /// Of each of these copies, the message that is tried at another place once the copy waits.
-    pub fn courses_for(
-        &self,
-        group: Ui,
-        copies: &VecDeque<MemberCopy>,
-    ) -> Result<VecDeque<Course>, AllocError>
-        requires kinds { All IsPort (members_of copies.now.items) }
-        ensures { IfOk result (λ made.
-            made.items ≡ courses_of group (state self.now) copies.now.items) }
-    {
-        let len = copies.len();
-        let mut made = VecDeque::with_capacity(*self.puts.allocator(), len)?;
-        for at in 0..len {
-            let Some(copy) = copies.get(at) else {
-                unreachable!()
-            };
-            let port = copy.port;
-            let key = Key {
-                port,
-                route: Some(group),
-            };
-            let again = self.copy_free(&key, &copy.wait)?;
-            made.push_back_reserved(Course { port, again });
-        }
-        Ok(made)
-    }
-
-    /// How many messages wait for these members by the group's route, with one more for each. Want of memory where no memory
-    /// holds so many.
-    pub fn count_waiting(&self, group: Ui, members: &[Ui]) -> Result<usize, AllocError>
-        ensures value { IfOk result (λ count. count ≡
-            waiting_for group members.now (queue self.now.waits) + length members.now) }
-        ensures within { IfOk result (λ count. count ≤ 2 ^ 62) }
-    {
-        let mut count = 0;
-        for at in 0..members.len() {
-            let key = Key {
-                port: members[at],
-                route: Some(group),
-            };
-            count += self.waits.len(&key) + 1;
-            if count > MESSAGES_LIMIT {
-                return Err(AllocError);
-            }
-        }
-        Ok(count)
     }
 }

@@ -1,21 +1,17 @@
 //! The tables of a place, and the steps of its turns: each step appends one entry, changes what it says, and puts its packets.
 //!
 //! The layer above rests on this: each step does exactly what the place machine does (`chorus_machine`) with that entry, in room
-//! that was taken before, and keeps what the tables keep. What a turn has to look for before it changes anything is here too: who
-//! is chosen, which messages will be tried at other places, and whether a packet may be worked off.
+//! that was taken before, and keeps what the tables keep. What a turn has to look for in several tables before it changes anything
+//! is here too: who is chosen, and which messages will be tried at other places.
 //!
-//! Begin with `tables`; `specs/Tables.antt` has what they stand for and what they keep. `turn` has the parts of a step, `steps_*`
-//! and `go` have the steps, `decision` decides on a message, `room` takes room, `reading`, `naming`, `members`, `leaving` and
-//! `lawful` read, and `sending` ends a turn.
+//! Begin with `tables`; `specs/Tables.antt` of `chorus_parts` has what they stand for and what they keep. `steps_*` and `go` have
+//! the steps, over the parts of `chorus_parts`; `room` takes room, `reading`, `members` and `leaving` read, and `sending` ends a
+//! turn.
 #![tactic(auto)]
 
-mod decision;
 mod go;
-mod lawful;
 mod leaving;
 mod members;
-mod naming;
-mod parcel;
 mod reading;
 mod room;
 mod sending;
@@ -23,8 +19,6 @@ mod steps_groups;
 mod steps_messages;
 mod steps_ports;
 mod tables;
-mod turn;
 
-pub use parcel::Parcel;
-pub use steps_groups::{Course, MemberCopy};
+pub use chorus_parts::{Course, MemberCopy, Parcel};
 pub use tables::Tables;

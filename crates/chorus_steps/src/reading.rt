@@ -5,7 +5,7 @@ ghost use Rattle.chorus_ui.specs.declared.ui.Ui.{Ui};
 ghost use Rattle.chorus_ui.specs.declared.kind.Kind.TheVariants as Kind;
 ghost use Rattle.chorus_ui.specs.declared.limits.TheConstants.{PENDING_LIMIT};
 ghost use Rattle.chorus_ui.specs.Layout.{has_site, has_place};
-ghost use Rattle.chorus_world.specs.Places.{last_clock};
+ghost use Rattle.chorus_world.specs.Places.{last_clock, is_made_here, ports_made};
 ghost use Rattle.chorus_world.specs.Views.{is_group};
 ghost use Rattle.chorus_world.specs.Groups.{groups_made};
 ghost use Rattle.chorus_world.specs.Groups as world;
@@ -14,34 +14,19 @@ ghost use Rattle.chorus_ports.specs.Table.{find};
 ghost use Rattle.chorus_out.specs.Waiting.{count};
 ghost use Rattle.chorus_machine.specs.Own.{held_by};
 ghost use Rattle.chorus_machine.specs.PlaceState.{newest};
-ghost use Rattle.chorus_steps.specs.Going.{waits_for};
-ghost use Rattle.chorus_steps.specs.Ports.{ids_of};
-ghost use Rattle.chorus_steps.specs.Tables.{state};
+ghost use Rattle.chorus_parts.specs.Going.{waits_for};
+ghost use Rattle.chorus_parts.specs.Ports.{ids_of};
+ghost use Rattle.chorus_parts.specs.Tables.{state};
 
 use crate::tables::Tables;
-use chorus_entry::{Entry, Ids, Pending};
+use chorus_entry::{Entry, Ids};
 use chorus_groups::Groups;
 use chorus_out::Outbox;
+use chorus_parts::ids_of;
 use chorus_ports::Ports;
 use chorus_ui::{Layout, Ui};
-use chorus_waits::Key;
+use chorus_waits::{Key, Unheard, Waits};
 use std::alloc::{AllocError, Global};
-
-/// The ids of the messages, in order.
-fn ids_of(alloc: Global, pending: &Pending) -> Result<Ids, AllocError>
-    ensures ids { IfOk result (λ ids. ids ≡ ids_of pending.now) }
-    ensures few { IfOk result (λ ids. length ids ≤ PENDING_LIMIT) }
-{
-    let len = pending.len();
-    let mut ids = Vec::with_capacity(alloc, len)?;
-    for at in 0..len {
-        let Some(message) = pending.get(at) else {
-            unreachable!()
-        };
-        ids.push_reserved(message.id);
-    }
-    Ids::of(alloc, &ids)
-}
 
 impl Tables {
     /// Its layout.
@@ -54,6 +39,41 @@ impl Tables {
     /// Where its memory comes from.
     pub fn allocator(&self) -> Global {
         *self.puts.allocator()
+    }
+
+    /// The records of the ports that are held here.
+    pub fn ports(&self) -> &Ports
+        ensures { result.now ≡ self.now.ports }
+    {
+        &self.ports
+    }
+
+    /// The messages that wait, by port and route.
+    pub fn waits(&self) -> &Waits
+        ensures { result.now ≡ self.now.waits }
+    {
+        &self.waits
+    }
+
+    /// The posts that may still be heard of.
+    pub fn unheard(&self) -> &Unheard
+        ensures { result.now ≡ self.now.unheard }
+    {
+        &self.unheard
+    }
+
+    /// Whether the port was made here.
+    pub fn is_made(&self, port: Ui) -> bool
+        ensures { result ≡ is_made_here port self.now.journal.past }
+    {
+        self.journal.is_made(port)
+    }
+
+    /// How many ports were made here.
+    pub fn ports_made(&self) -> u64
+        ensures { result ≡ ports_made self.now.journal.past }
+    {
+        self.journal.ports_made()
     }
 
     /// How many groups were made here.
@@ -132,6 +152,13 @@ impl Tables {
         ensures { result ≡ count self.now.out.lists }
     {
         self.out.waiting()
+    }
+
+    /// How many packets the turns put that have ended.
+    pub fn puts_before(&self) -> u64
+        ensures { result ≡ self.now.out.puts }
+    {
+        self.out.puts()
     }
 
     /// How many ports are held here.

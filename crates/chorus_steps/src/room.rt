@@ -4,29 +4,15 @@ ghost use Rattle.std.specs.Prelude.{◌≡◌, ◌<◌, ◌≤◌, IsOk, OnOk};
 ghost use Rattle.chorus_waits.specs.declared.wait.Key.{Key};
 ghost use Rattle.chorus_waits.specs.Queues.{queue, room};
 ghost use Rattle.chorus_calls.specs.Callers.{Seated};
-ghost use Rattle.chorus_steps.specs.Groups.{HaveLines};
-ghost use Rattle.chorus_steps.specs.Tables.{turn};
-ghost use Rattle.chorus_steps.specs.Room.{KeepsRoom, Roomier};
+ghost use Rattle.chorus_parts.specs.Groups.{HaveLines};
+ghost use Rattle.chorus_parts.specs.Tables.{turn};
+ghost use Rattle.chorus_parts.specs.Room.{KeepsRoom, Roomier};
 
 use crate::tables::Tables;
+use chorus_parts::make_lines;
 use chorus_ui::Ui;
-use chorus_waits::{Key, Waits};
+use chorus_waits::Key;
 use std::alloc::AllocError;
-
-/// Takes room for one message more for each of these members. Changes no queue, whatever the answer.
-fn make_lines(waits: &mut Waits, group: Ui, members: &[Ui]) -> Result<(), AllocError>
-    ensures queues { (k : Key) → queue waits.new k ≡ queue waits.old k }
-    ensures lines { OnOk result (HaveLines group waits.new members.now) }
-{
-    for at in 0..members.len() {
-        let key = Key {
-            port: members[at],
-            route: Some(group),
-        };
-        waits.reserve(&key)?;
-    }
-    Ok(())
-}
 
 impl Tables {
     /// Takes room for so many entries and packets more. All else stays, whatever the answer. Takes no memory where that room is

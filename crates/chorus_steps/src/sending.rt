@@ -1,33 +1,13 @@
 //! The end of a turn: what it put waits for its places.
 
-ghost use Rattle.std.specs.Prelude.{◌≡◌, ◌+◌, ◌^◌, ◌<◌, ◌≤◌, [], length, slice_get, IfSome, All};
-ghost use Rattle.std.specs.VecDeque.{deque_capacity};
+ghost use Rattle.std.specs.Prelude.{◌≡◌, ◌+◌, ◌<◌, ◌≤◌, [], length, slice_get, IfSome};
 ghost use Rattle.chorus_out.specs.Waiting.{list_to, with_first, without_first, MayPutBack};
-ghost use Rattle.chorus_steps.specs.Sending.{IsFor, with_all};
-ghost use Rattle.chorus_steps.specs.Tables.{state};
+ghost use Rattle.chorus_parts.specs.Sending.{with_all};
+ghost use Rattle.chorus_parts.specs.Tables.{state};
 
-use crate::parcel::Parcel;
 use crate::tables::Tables;
 use chorus_entry::Packet;
-use chorus_out::Outbox;
-use std::collections::VecDeque;
-
-/// Moves the packets into the outbox, in order, in the room that is there. Takes no memory.
-fn move_all(puts: &mut VecDeque<Parcel>, out: &mut Outbox)
-    requires places { All (IsFor out.old) puts.old.items }
-    requires room { length puts.old.items ≤ out.old.spare }
-    requires count { out.old.puts + length puts.old.items < 2 ^ 64 }
-    ensures lists { out.new.lists ≡ with_all puts.old.items out.old.lists }
-    ensures none { puts.new.items ≡ [] }
-    ensures spare { out.old.spare ≤ out.new.spare + length puts.old.items }
-    ensures count { out.new.puts ≡ out.old.puts + length puts.old.items }
-    ensures capacity { deque_capacity puts.new ≡ deque_capacity puts.old }
-{
-    while let Some(parcel) = puts.pop_front() {
-        let Parcel { to, packet } = parcel;
-        out.put(to, packet);
-    }
-}
+use chorus_parts::move_all;
 
 impl Tables {
     /// Moves the packets that the turn has put into the outbox, in order, in the room that is there: the turn ends. Takes no
@@ -38,6 +18,7 @@ impl Tables {
         ensures state { state self.new ≡ state self.old }
         ensures journal { self.new.journal ≡ self.old.journal }
         ensures spare { self.old.out.spare ≤ self.new.out.spare + length self.old.puts }
+        ensures count { self.new.out.puts ≡ self.old.out.puts + length self.old.puts }
         ensures room { self.old.room ≤ self.new.room }
     {
         // No more packets were put than the clock shows, so their number has 64 bits.
@@ -50,6 +31,7 @@ impl Tables {
         ensures value { result ≡ slice_get (list_to to self.old.out.lists) 0 }
         ensures lists { self.new.out.lists ≡ without_first to self.old.out.lists }
         ensures puts { self.new.puts ≡ self.old.puts }
+        ensures count { self.new.out.puts ≡ self.old.out.puts }
         ensures state { state self.new ≡ state self.old }
         ensures spare { self.new.journal.spare ≡ self.old.journal.spare }
         ensures room { self.old.room ≤ self.new.room }
@@ -63,6 +45,7 @@ impl Tables {
         requires { MayPutBack to self.old.out }
         ensures lists { self.new.out.lists ≡ with_first to packet self.old.out.lists }
         ensures puts { self.new.puts ≡ self.old.puts }
+        ensures count { self.new.out.puts ≡ self.old.out.puts }
         ensures state { state self.new ≡ state self.old }
         ensures spare { self.new.journal.spare ≡ self.old.journal.spare }
         ensures room { self.new.room ≡ self.old.room }

@@ -13,49 +13,18 @@ ghost use Rattle.chorus_machine.specs.Doing.{does, asks};
 ghost use Rattle.chorus_machine.specs.Choosing.{all_go};
 ghost use Rattle.chorus_entry.specs.Members.{are_distinct};
 ghost use Rattle.chorus_waits.specs.declared.wait.Key.{Key};
-ghost use Rattle.chorus_waits.specs.Queues.{queue};
-ghost use Rattle.chorus_steps.specs.Groups.{AllGoing, HaveLines, IsCopy, ports_of, members_of, with_each, no_member, chosen, posted_alone};
-ghost use Rattle.chorus_steps.specs.Room.{KeepsRoom};
-ghost use Rattle.chorus_steps.specs.Tables.{turn};
+ghost use Rattle.chorus_parts.specs.Groups.{AllGoing, HaveLines, IsCopy, ports_of, members_of, no_member, chosen, posted_alone};
+ghost use Rattle.chorus_parts.specs.Room.{KeepsRoom};
+ghost use Rattle.chorus_parts.specs.Tables.{turn};
 
 use crate::tables::Tables;
-use crate::turn::{next_entry, put, put_report, say};
 use chorus_calls::Caller;
 use chorus_entry::{Act, Answer, Cargo, Dest, Members, Message, MsgId};
+use chorus_parts::{Course, MemberCopy, next_entry, put, put_copies, put_report, say};
 use chorus_ui::Ui;
-use chorus_waits::{Key, Wait, Waits};
+use chorus_waits::Key;
 use std::alloc::AllocError;
 use std::collections::VecDeque;
-
-/// A member for which messages go, and a copy of the one of them that is tried at another place.
-#[derive(Debug, Drop)]
-pub struct Course {
-    pub port: Ui,
-    pub again: Option<Wait>,
-}
-
-/// A member that is chosen for a post, and its copy of the post.
-#[derive(Debug, Drop)]
-pub struct MemberCopy {
-    pub port: Ui,
-    pub wait: Wait,
-}
-
-/// Puts each copy behind the other messages for its member, in the room that is there.
-fn put_copies(waits: &mut Waits, group: Ui, copies: VecDeque<MemberCopy>)
-    requires distinct { are_distinct (members_of copies.items) ≡ true }
-    requires lines { HaveLines group waits.old (members_of copies.items) }
-    ensures { (k : Key) → queue waits.new k ≡ with_each group copies.items (queue waits.old) k }
-{
-    let mut left = copies;
-    while let Some(copy) = left.pop_front() {
-        let key = Key {
-            port: copy.port,
-            route: Some(group),
-        };
-        waits.push(&key, copy.wait);
-    }
-}
 
 impl Tables {
     /// Makes the next group of the place. It takes the room of the group's members; an error changes nothing.

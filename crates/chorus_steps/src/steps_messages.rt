@@ -1,6 +1,6 @@
 //! The steps of messages: each appends one entry.
 
-ghost use Rattle.std.specs.Prelude.{◌≡◌, ◌+◌, ◌-◌, ◌^◌, ◌<◌, ◌≤◌, true, None, Some, IsNone, IsSome, IfSome, length};
+ghost use Rattle.std.specs.Prelude.{◌≡◌, ◌+◌, ◌-◌, ◌^◌, ◌<◌, ◌≤◌, true, None, Some, IsNone, IsSome, IfSome};
 ghost use Rattle.chorus_ui.specs.declared.kind.Kind.TheVariants as Kind;
 ghost use Rattle.chorus_ui.specs.Layout.{has_site, has_place};
 ghost use Rattle.chorus_machine.specs.PlaceState.{greatest_clock};
@@ -8,69 +8,23 @@ ghost use Rattle.chorus_machine.specs.PlaceState.{note};
 ghost use Rattle.chorus_machine.specs.Trying.{tries_at};
 ghost use Rattle.chorus_machine.specs.Doing.{post};
 ghost use Rattle.chorus_ui.specs.declared.limits.TheConstants.{MEMBERS_LIMIT};
-ghost use Rattle.chorus_machine.specs.Working.{hears, taught_of, told};
-ghost use Rattle.chorus_ui.specs.declared.ui.Ui.{Ui};
+ghost use Rattle.chorus_machine.specs.Working.{hears};
 ghost use Rattle.chorus_world.specs.Places.{taught};
 ghost use Rattle.chorus_hints.specs.Known.{kept};
 ghost use Rattle.chorus_waits.specs.declared.wait.Key.{Key};
-ghost use Rattle.chorus_waits.specs.Queues.{queue, room, changed};
-ghost use Rattle.chorus_steps.specs.Plain.{is_plain};
-ghost use Rattle.chorus_steps.specs.Steps.{MayTeach, posted, told_by, answered};
-ghost use Rattle.chorus_steps.specs.Room.{KeepsRoom};
-ghost use Rattle.chorus_steps.specs.Tables.{turn, IsSound};
+ghost use Rattle.chorus_waits.specs.Queues.{room};
+ghost use Rattle.chorus_parts.specs.Plain.{is_plain};
+ghost use Rattle.chorus_parts.specs.Steps.{MayTeach, posted, told_by, answered};
+ghost use Rattle.chorus_parts.specs.Room.{KeepsRoom};
+ghost use Rattle.chorus_parts.specs.Tables.{turn, IsSound};
 ghost use Rattle.chorus_entry.specs.declared.packet.Cargo.TheVariants as Cargo;
-ghost use Rattle.chorus_steps.specs.Going.{LeavesRecords, first_for, settles, reports_for};
+ghost use Rattle.chorus_parts.specs.Going.{LeavesRecords, first_for, settles, reports_for};
 
-use crate::decision::{decide, decide_unless, decision};
 use crate::tables::Tables;
-use crate::turn::{put, put_report, say};
 use chorus_calls::Caller;
 use chorus_entry::{Act, Answer, Cargo, Dest, Message, MsgId};
-use chorus_hints::Hints;
-use chorus_ui::Ui;
-use chorus_waits::{Key, Wait, Waits};
-
-/// What is sent to the place where a message is tried with this hop.
-fn trying(key: &Key, wait: Wait, hop: u64) -> Cargo
-    ensures { result ≡ Cargo.Try wait.message key.now.port key.now.route wait.only hop }
-{
-    let Wait { message, only, .. } = wait;
-    Cargo::Try {
-        message,
-        port: key.port,
-        route: key.route,
-        only,
-        hop,
-    }
-}
-
-/// Learns where an answer says that the port is.
-fn teach(hints: &mut Hints, port: Ui, answer: Answer)
-    requires kind { port.kind ≡ Kind.Port }
-    requires teaches { MayTeach hints.old.layout port (taught answer) }
-    ensures pairs { (q : Ui) →
-        kept hints.new q ≡ taught_of port (taught answer) (kept hints.old) q }
-    ensures layout { hints.new.layout ≡ hints.old.layout }
-{
-    match answer {
-        Answer::Stale { to, hop } | Answer::Elsewhere { to, hop } => {
-            hints.learn(port, to, hop);
-        }
-        _ => {}
-    }
-}
-
-/// Settles the first message of a port and route, or lets it be tried again.
-fn pass(waits: &mut Waits, key: &Key, answer: Answer)
-    requires { 0 < length (queue waits.old key.now).waits }
-    ensures { (k : Key) → queue waits.new k ≡ changed key.now (told answer) (queue waits.old) k }
-{
-    if let Answer::Stale { .. } = answer {
-        waits.set_tried(key, None);
-    } else {
-        let _ = waits.pop(key);
-    }
-}
+use chorus_parts::{decide, decide_unless, decision, pass, put, put_report, say, teach, trying};
+use chorus_waits::{Key, Wait};
 
 impl Tables {
     /// Settles the first message of a port and route here, where it was tried with the hop `tried`: by the answer that is

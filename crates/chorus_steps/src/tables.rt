@@ -4,12 +4,12 @@ ghost use Rattle.std.specs.Prelude.{◌≡◌, [], true, IfOk};
 ghost use Rattle.chorus_ui.specs.Layout.{has_place, places, IsLayout};
 ghost use Rattle.chorus_out.specs.Waiting.{nothing_to};
 ghost use Rattle.chorus_machine.specs.PlaceState.{started};
-ghost use Rattle.chorus_steps.specs.Tables.{state};
+ghost use Rattle.chorus_parts.specs.Tables.{state};
 
-use crate::parcel::Parcel;
 use chorus_hints::Hints;
 use chorus_journal::Journal;
 use chorus_out::Outbox;
+use chorus_parts::Parcel;
 use chorus_ports::Ports;
 use chorus_ui::{Layout, PORTS_PER_SITE_LIMIT};
 use chorus_waits::{Unheard, Waits};
@@ -34,7 +34,7 @@ pub struct Tables {
 impl Model for Tables {
     ghost use Rattle.std.specs.Prelude.{◌≡◌, ◌-◌, min, length};
     ghost use Rattle.std.specs.VecDeque.{deque_capacity};
-    ghost use Rattle.chorus_steps.specs.Tables as tables;
+    ghost use Rattle.chorus_parts.specs.Tables as tables;
 
     ghost Value = { tables.Tables };
 
@@ -64,6 +64,7 @@ impl Tables {
         ensures state { IfOk result (λ place. state place ≡ started layout number) }
         ensures out { IfOk result (λ place. place.out.lists ≡ nothing_to (places layout)) }
         ensures puts { IfOk result (λ place. place.puts ≡ []) }
+        ensures count { IfOk result (λ place. place.out.puts ≡ 0) }
         ensures layout { IfOk result (λ place. IsLayout layout) }
     {
         let most = PORTS_PER_SITE_LIMIT / u64::from(layout.turns());

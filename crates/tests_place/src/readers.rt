@@ -80,6 +80,7 @@ fn packets_are_put_back_in_front(rt: HostRuntime) {
         assert_eq!(rt; packet.clock, clock);
     }
     assert!(rt; place.out(1).is_none());
+    assert_eq!(rt; place.puts(), 2);
 }
 
 #[test]

@@ -6,7 +6,7 @@ use Rattle.chorus_calls.specs.Again.{call_again}
 use Rattle.chorus_calls.specs.Clients.{Calling}
 use Rattle.chorus_machine.specs.PlaceState.{greatest_clock}
 use Rattle.chorus_machine.specs.Own.{next_message, retry_act}
-use Rattle.chorus_steps.specs.Tables.{turn}
+use Rattle.chorus_parts.specs.Tables.{turn}
 use Rattle.chorus_place.proofs.CallTurns.{on_err, post-done, same-call}
 use Rattle.chorus_place.proofs.turns_calls.retry.Goals as goal
 

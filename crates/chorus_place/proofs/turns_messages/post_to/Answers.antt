@@ -3,8 +3,8 @@ use Rattle.chorus_machine.specs.Doing.{direct}
 use Rattle.chorus_machine.specs.Own.{next_message}
 use Rattle.chorus_machine.specs.PlaceState.{greatest_clock}
 use Rattle.chorus_machine.specs.Trying.{go}
-use Rattle.chorus_steps.specs.Steps.{posted}
-use Rattle.chorus_steps.specs.Tables.{turn}
+use Rattle.chorus_parts.specs.Steps.{posted}
+use Rattle.chorus_parts.specs.Tables.{turn}
 use Rattle.chorus_place.proofs.Turns.{on-err}
 use Rattle.chorus_place.proofs.turns_messages.post_to.Goals as goal
 

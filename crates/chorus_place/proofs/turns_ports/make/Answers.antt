@@ -5,7 +5,7 @@ use Rattle.chorus_entry.specs.declared.act.Act.TheVariants as Act
 use Rattle.chorus_world.specs.Steps.{is_full_of_ports}
 use Rattle.chorus_machine.specs.declared.reply.Reply.{Reply}
 use Rattle.chorus_machine.specs.Own.{next_port}
-use Rattle.chorus_steps.specs.Tables.{turn}
+use Rattle.chorus_parts.specs.Tables.{turn}
 use Rattle.chorus_place.proofs.Performing.{on_err, performs, making, home-here, has-home}
 use Rattle.chorus_place.proofs.turns_ports.make.Goals as goal
 

@@ -4,8 +4,8 @@ use Rattle.chorus_entry.specs.declared.command.Command.TheVariants as Command
 use Rattle.chorus_ports.specs.Table.{find}
 use Rattle.chorus_machine.specs.declared.reply.Reply.{Reply}
 use Rattle.chorus_machine.specs.Own.{held_by}
-use Rattle.chorus_place.specs.Commands.{Performed}
-use Rattle.chorus_steps.specs.Tables.{turn}
+use Rattle.chorus_parts.specs.Commands.{Performed}
+use Rattle.chorus_parts.specs.Tables.{turn}
 use Rattle.chorus_place.proofs.MovePort.{rehoming, departing}
 use Rattle.chorus_place.proofs.turns_ports.move_port.Goals as goal
 

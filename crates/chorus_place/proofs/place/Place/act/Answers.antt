@@ -14,7 +14,7 @@ pub invariant_of-self-2 : goal.invariant_of-self-2
 invariant_of-self-2 c =
     let sent = c.send_out.ensures in
     acts-at-rest c.args.command c.self.inside.tables c.perform.new.tables c.send_out.new.self c.args.caller.now c.perform.new.caller c.self.invariant c.in_ok-reply.ensures.performed.done c.perform.ensures.out
-    (record { state = sent.state; lists = sent.lists; spare = ap (λ j. j.spare) sent.journal; room = sent.room }) sent.none c.requires.may.conditions c.are_within.ensures.body c.are_within.ensures.caller
+    (record { state = sent.state; lists = sent.lists; count = sent.count; spare = ap (λ j. j.spare) sent.journal; room = sent.room }) sent.none c.requires.may.conditions c.are_within.ensures.body c.are_within.ensures.caller
 
 pub returns-in_err-reply-clause-refused : goal.returns-in_err-reply-clause-refused
 returns-in_err-reply-clause-refused c =
@@ -31,4 +31,4 @@ returns-clause-called c =
     subst (λ p. Called p (calls.place_of c.send_out.new.self) c.args.caller.now c.perform.new.caller c.args.command c.in_ok-reply.reply) c.self.view_is
     (called c.self.inside.tables c.perform.new.tables c.send_out.new.self c.args.caller.now c.perform.new.caller c.args.command c.in_ok-reply.reply c.self.invariant.none
     c.in_ok-reply.ensures.performed c.perform.ensures.out c.perform.ensures.kept
-    (record { state = sent.state; lists = sent.lists; spare = ap (λ j. j.spare) sent.journal; room = sent.room }))
+    (record { state = sent.state; lists = sent.lists; count = sent.count; spare = ap (λ j. j.spare) sent.journal; room = sent.room }))

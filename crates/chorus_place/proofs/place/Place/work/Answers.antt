@@ -2,7 +2,7 @@ use Rattle.std.proofs.Common.{ap, subst, max, ◌∙◌}
 use Rattle.chorus_machine.specs.Lawful.{is_lawful}
 use Rattle.chorus_machine.specs.PlaceMachine.{work, begun, begun_by}
 use Rattle.chorus_calls.specs.Callers.{after_tick}
-use Rattle.chorus_steps.specs.Tables.{state}
+use Rattle.chorus_parts.specs.Tables.{state}
 use Rattle.chorus_place.specs.Calls as calls
 use Rattle.chorus_place.proofs.Ended.{begins, ended}
 use Rattle.chorus_place.proofs.Bounded.{works-at-rest}
@@ -15,7 +15,7 @@ invariant_of-self c =
     let sent = c.send_out.ensures in
     let heard = c.max-heard.ensures ∙ ap (λ n. max n packet.clock) c.last-last.ensures in
     works-at-rest packet c.self.inside.tables c.open.new.tables c.send_out.new.self caller c.tick.new.self c.open.new.caller c.self.invariant (c.tick.ensures ∙ ap (after_tick caller) heard) c.in-Ok.ensures.ok c.open.ensures.out
-    (record { state = sent.state; lists = sent.lists; spare = ap (λ j. j.spare) sent.journal; room = sent.room }) sent.none
+    (record { state = sent.state; lists = sent.lists; count = sent.count; spare = ap (λ j. j.spare) sent.journal; room = sent.room }) sent.none
     (ap (λ q. is_lawful packet.from packet (calls.state q)) c.self.view_is ∙ c.requires)
 
 pub returns-in-Ok-clause-worked : goal.returns-in-Ok-clause-worked
@@ -28,4 +28,4 @@ returns-in-Ok-clause-worked c =
     let done = c.in-Ok.ensures.ok ∙ ap (work packet) (begins p c.tick.new.self c.self.invariant.none ∙ ap (begun (state p)) (c.tick.ensures ∙ ap (after_tick caller) heard)) in
     subst (λ q. calls.Ended (work packet (begun_by (calls.state q) caller packet)) q (calls.place_of c.send_out.new.self) c.open.new.caller) c.self.view_is
     (ended (work packet (begun_by (state p) caller packet)) p c.open.new.tables c.send_out.new.self c.open.new.caller c.self.invariant.none done c.open.ensures.out c.open.ensures.kept
-    (record { state = sent.state; lists = sent.lists; spare = ap (λ j. j.spare) sent.journal; room = sent.room }))
+    (record { state = sent.state; lists = sent.lists; count = sent.count; spare = ap (λ j. j.spare) sent.journal; room = sent.room }))

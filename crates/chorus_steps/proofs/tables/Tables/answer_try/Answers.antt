@@ -6,13 +6,13 @@ use Rattle.chorus_ports.specs.Table.{find}
 use Rattle.chorus_machine.specs.PlaceState.{location, greatest_clock}
 use Rattle.chorus_machine.specs.Deciding.{decision, records_after}
 use Rattle.chorus_steps.specs.contracts.tables.Tables.{the_view}
-use Rattle.chorus_steps.specs.Tables.{turn, state, seen}
-use Rattle.chorus_steps.specs.Turns.{parcel}
-use Rattle.chorus_steps.proofs.Plain.{may_follow}
-use Rattle.chorus_steps.proofs.States.{same_turn, put-loads, said-as, said-at}
-use Rattle.chorus_steps.proofs.Kept.{said-by, positions-fit, held-answered, numbered-plain, grouped-plain, boxed-more, sent-one}
-use Rattle.chorus_steps.proofs.Deciding.{same-answer}
-use Rattle.chorus_steps.proofs.Counted.{counted-more}
+use Rattle.chorus_parts.specs.Tables.{turn, state, seen}
+use Rattle.chorus_parts.specs.Turns.{parcel}
+use Rattle.chorus_parts.proofs.Plain.{may_follow}
+use Rattle.chorus_parts.proofs.States.{same_turn, put-loads, said-as, said-at}
+use Rattle.chorus_parts.proofs.Kept.{said-by, positions-fit, held-answered, numbered-plain, grouped-plain, boxed-more, sent-one}
+use Rattle.chorus_parts.proofs.Deciding.{same-answer}
+use Rattle.chorus_parts.proofs.Counted.{counted-more}
 use Rattle.chorus_steps.proofs.tables.Tables.answer_try.Goals as goal
 
 pub decide-answer-requires-clause-positions : goal.decide-answer-requires-clause-positions

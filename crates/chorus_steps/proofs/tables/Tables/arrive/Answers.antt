@@ -4,11 +4,11 @@ use Rattle.chorus_entry.specs.declared.act.Act.TheVariants as Act
 use Rattle.chorus_world.specs.Places.{last_clock, is_made_here}
 use Rattle.chorus_ports.specs.Table.{find}
 use Rattle.chorus_machine.specs.PlaceState.{greatest_clock}
-use Rattle.chorus_steps.specs.Tables.{turn}
-use Rattle.chorus_steps.proofs.States.{same_turn}
-use Rattle.chorus_steps.proofs.Kept.{said-by, kept-plain, made-more}
-use Rattle.chorus_steps.proofs.Ports.{kept-ports, kept-learned, held-came, no-more}
-use Rattle.chorus_steps.proofs.Counted.{counted-later}
+use Rattle.chorus_parts.specs.Tables.{turn}
+use Rattle.chorus_parts.proofs.States.{same_turn}
+use Rattle.chorus_parts.proofs.Kept.{said-by, kept-plain, made-more}
+use Rattle.chorus_parts.proofs.Ports.{kept-ports, kept-learned, held-came, no-more}
+use Rattle.chorus_parts.proofs.Counted.{counted-later}
 use Rattle.chorus_steps.proofs.tables.Tables.arrive.Goals as goal
 
 pub invariant_of-self : goal.invariant_of-self

@@ -4,12 +4,12 @@ use Rattle.chorus_entry.specs.declared.packet.Cargo.TheVariants as Cargo
 use Rattle.chorus_entry.specs.declared.act.Act.TheVariants as Act
 use Rattle.chorus_calls.specs.Callers.{after_post, after_tick}
 use Rattle.chorus_steps.specs.contracts.tables.Tables.{the_view}
-use Rattle.chorus_steps.specs.Tables.{turn}
-use Rattle.chorus_steps.specs.Turns.{parcel, next_clock}
-use Rattle.chorus_steps.proofs.States.{same_turn, put-loads, said-at}
-use Rattle.chorus_steps.proofs.Kept.{said-by, kept-plain, kept-put, boxed-more}
-use Rattle.chorus_steps.proofs.Choosing.{no-port}
-use Rattle.chorus_steps.proofs.Counted.{counted-more}
+use Rattle.chorus_parts.specs.Tables.{turn}
+use Rattle.chorus_parts.specs.Turns.{parcel, next_clock}
+use Rattle.chorus_parts.proofs.States.{same_turn, put-loads, said-at}
+use Rattle.chorus_parts.proofs.Kept.{said-by, kept-plain, kept-put, boxed-more}
+use Rattle.chorus_parts.proofs.Choosing.{no-port}
+use Rattle.chorus_parts.proofs.Counted.{counted-more}
 use Rattle.chorus_steps.proofs.tables.Tables.ask.Goals as goal
 
 pub invariant_of-self-2 : goal.invariant_of-self-2

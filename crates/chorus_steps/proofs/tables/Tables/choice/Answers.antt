@@ -2,9 +2,9 @@ use Rattle.std.proofs.Common.{All, ap, subst, ◌∙◌, map}
 use Rattle.chorus_groups.specs.Choosing.{choice as table_choice}
 use Rattle.chorus_machine.specs.Choosing.{choice}
 use Rattle.chorus_world.specs.Groups as world
-use Rattle.chorus_steps.specs.Tables.{Tables, IsPort, state}
-use Rattle.chorus_steps.specs.Groups.{site_at}
-use Rattle.chorus_steps.proofs.Choosing.{chosen-same, chosen-as, all-chosen}
+use Rattle.chorus_parts.specs.Tables.{Tables, IsPort, state}
+use Rattle.chorus_parts.specs.Groups.{site_at}
+use Rattle.chorus_parts.proofs.Choosing.{chosen-same, chosen-as, all-chosen}
 use Rattle.chorus_steps.proofs.tables.Tables.choice.Goals as goal
 
 pub returns-clause-value : goal.returns-clause-value

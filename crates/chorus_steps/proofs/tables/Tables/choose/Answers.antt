@@ -5,14 +5,14 @@ use Rattle.chorus_entry.specs.declared.act.Act.TheVariants as Act
 use Rattle.chorus_entry.specs.declared.answer.Answer.TheVariants as A
 use Rattle.chorus_machine.specs.Trying.{report}
 use Rattle.chorus_steps.specs.contracts.tables.Tables.{the_view}
-use Rattle.chorus_steps.specs.Tables.{turn}
-use Rattle.chorus_steps.specs.Turns.{parcels}
-use Rattle.chorus_steps.specs.Groups.{members_of}
-use Rattle.chorus_steps.proofs.States.{same_turn, put-loads, said-as, said-at}
-use Rattle.chorus_steps.proofs.Kept.{said-by, sent-more, sent-report, boxed-more}
-use Rattle.chorus_steps.proofs.Reports.{length-parcels}
-use Rattle.chorus_steps.proofs.Groups.{report-one, kept-chosen, waiting-each}
-use Rattle.chorus_steps.proofs.Counted.{counted-more, report-one as parcel-one}
+use Rattle.chorus_parts.specs.Tables.{turn}
+use Rattle.chorus_parts.specs.Turns.{parcels}
+use Rattle.chorus_parts.specs.Groups.{members_of}
+use Rattle.chorus_parts.proofs.States.{same_turn, put-loads, said-as, said-at}
+use Rattle.chorus_parts.proofs.Kept.{said-by, sent-more, sent-report, boxed-more}
+use Rattle.chorus_parts.proofs.Reports.{length-parcels}
+use Rattle.chorus_parts.proofs.Groups.{report-one, kept-chosen, waiting-each}
+use Rattle.chorus_parts.proofs.Counted.{counted-more, report-one as parcel-one}
 use Rattle.chorus_steps.proofs.tables.Tables.choose.Goals as goal
 
 pub put_report-requires : goal.put_report-requires

@@ -2,9 +2,9 @@ use Rattle.std.proofs.Common.{ap, refl, ◌∙◌, is_some}
 use Rattle.chorus_ports.specs.Table.{find}
 use Rattle.chorus_entry.specs.declared.act.Act.TheVariants as Act
 use Rattle.chorus_ui.specs.Layout.{can_make_port}
-use Rattle.chorus_steps.proofs.Kept.{said-by}
-use Rattle.chorus_steps.proofs.Ports.{kept-deleted, may-hold, listed}
-use Rattle.chorus_steps.proofs.Counted.{counted-later}
+use Rattle.chorus_parts.proofs.Kept.{said-by}
+use Rattle.chorus_parts.proofs.Ports.{kept-deleted, may-hold, listed}
+use Rattle.chorus_parts.proofs.Counted.{counted-later}
 use Rattle.chorus_steps.proofs.tables.Tables.delete_port.Goals as goal
 
 pub say-requires-clause-follows : goal.say-requires-clause-follows

@@ -8,12 +8,12 @@ use Rattle.chorus_ports.specs.History.{migrated}
 use Rattle.chorus_machine.specs.PlaceState.{greatest_clock}
 use Rattle.chorus_machine.specs.Doing.{transfer_to}
 use Rattle.chorus_steps.specs.contracts.tables.Tables.{the_view}
-use Rattle.chorus_steps.specs.Tables.{turn}
-use Rattle.chorus_steps.specs.Turns.{parcel}
-use Rattle.chorus_steps.proofs.States.{same_turn, put-loads, said-at}
-use Rattle.chorus_steps.proofs.Kept.{said-by, kept-plain, kept-put, boxed-more}
-use Rattle.chorus_steps.proofs.Ports.{kept-ports, kept-learned, held-left}
-use Rattle.chorus_steps.proofs.Counted.{counted-more}
+use Rattle.chorus_parts.specs.Tables.{turn}
+use Rattle.chorus_parts.specs.Turns.{parcel}
+use Rattle.chorus_parts.proofs.States.{same_turn, put-loads, said-at}
+use Rattle.chorus_parts.proofs.Kept.{said-by, kept-plain, kept-put, boxed-more}
+use Rattle.chorus_parts.proofs.Ports.{kept-ports, kept-learned, held-left}
+use Rattle.chorus_parts.proofs.Counted.{counted-more}
 use Rattle.chorus_steps.proofs.tables.Tables.depart.Goals as goal
 
 pub overflow_add-record : goal.overflow_add-record

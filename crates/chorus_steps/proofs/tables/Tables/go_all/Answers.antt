@@ -2,10 +2,10 @@ use Rattle.std.proofs.Common.{◌∙◌, subst, arith}
 use Rattle.std.proofs.lemmas.List.Elements.{All-head}
 use Rattle.chorus_waits.specs.Queues.{queue}
 use Rattle.chorus_machine.specs.Choosing.{by_group}
-use Rattle.chorus_steps.specs.Tables.{state, turn, IsPort}
-use Rattle.chorus_steps.specs.Groups.{AllGoing, ports_of}
-use Rattle.chorus_steps.proofs.Groups.{reports-within, all-next, course-free}
-use Rattle.chorus_steps.proofs.Rooms.{kept-then}
+use Rattle.chorus_parts.specs.Tables.{state, turn, IsPort}
+use Rattle.chorus_parts.specs.Groups.{AllGoing, ports_of}
+use Rattle.chorus_parts.proofs.Groups.{reports-within, all-next, course-free}
+use Rattle.chorus_parts.proofs.Rooms.{kept-then}
 use Rattle.chorus_steps.proofs.tables.Tables.go_all.Goals as goal
 
 pub go-requires-clause-kind : goal.go-requires-clause-kind

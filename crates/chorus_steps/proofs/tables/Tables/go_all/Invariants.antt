@@ -1,7 +1,7 @@
 use Rattle.std.proofs.Common.{◌≡◌, length}
-use Rattle.chorus_steps.specs.Tables.{turn}
-use Rattle.chorus_steps.specs.Groups.{AllGoing, ports_of}
-use Rattle.chorus_steps.specs.Room.{KeepsRoom}
+use Rattle.chorus_parts.specs.Tables.{turn}
+use Rattle.chorus_parts.specs.Groups.{AllGoing, ports_of}
+use Rattle.chorus_parts.specs.Room.{KeepsRoom}
 use Rattle.chorus_steps.proofs.tables.Tables.go_all.Given as goal
 
 abbrev pub invariant-loop-course : goal.invariant-loop-course

@@ -1,7 +1,7 @@
 use Rattle.std.proofs.Common.{ap, sym, ◌∙◌}
 use Rattle.chorus_ui.specs.Layout.{has_place}
 use Rattle.chorus_hints.specs.Known.{kept}
-use Rattle.chorus_steps.proofs.Going.{located-in_layout}
+use Rattle.chorus_parts.proofs.Going.{located-in_layout}
 use Rattle.chorus_steps.proofs.tables.Tables.go_on.Goals as goal
 
 pub try_first-requires-clause-place : goal.try_first-requires-clause-place

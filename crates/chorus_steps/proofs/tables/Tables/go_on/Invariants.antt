@@ -1,7 +1,7 @@
 use Rattle.std.proofs.Common.{◌≡◌, ◌+◌, ◌≤◌, length}
-use Rattle.chorus_steps.specs.Tables.{turn}
-use Rattle.chorus_steps.specs.Going.{Going, waits_for, reports_for}
-use Rattle.chorus_steps.specs.Room.{KeepsRoom}
+use Rattle.chorus_parts.specs.Tables.{turn}
+use Rattle.chorus_parts.specs.Going.{Going, waits_for, reports_for}
+use Rattle.chorus_parts.specs.Room.{KeepsRoom}
 use Rattle.chorus_steps.proofs.tables.Tables.go_on.Given as goal
 
 abbrev pub invariant-loop : goal.invariant-loop

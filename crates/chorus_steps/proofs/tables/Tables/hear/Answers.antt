@@ -1,7 +1,7 @@
 use Rattle.std.proofs.Common.{ap, refl, ◌∙◌}
 use Rattle.chorus_entry.specs.declared.act.Act.TheVariants as Act
-use Rattle.chorus_steps.proofs.Kept.{said-by, kept-plain}
-use Rattle.chorus_steps.proofs.Counted.{counted-later}
+use Rattle.chorus_parts.proofs.Kept.{said-by, kept-plain}
+use Rattle.chorus_parts.proofs.Counted.{counted-later}
 use Rattle.chorus_steps.proofs.tables.Tables.hear.Goals as goal
 
 pub invariant_of-self : goal.invariant_of-self

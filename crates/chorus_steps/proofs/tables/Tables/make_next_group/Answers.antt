@@ -1,7 +1,7 @@
 use Rattle.std.proofs.Common.{ap, refl, ◌∙◌}
 use Rattle.chorus_entry.specs.declared.act.Act.TheVariants as Act
-use Rattle.chorus_steps.proofs.Groups.{said-group, kept-grouped, grouped-same}
-use Rattle.chorus_steps.proofs.Counted.{counted-later}
+use Rattle.chorus_parts.proofs.Groups.{said-group, kept-grouped, grouped-same}
+use Rattle.chorus_parts.proofs.Counted.{counted-later}
 use Rattle.chorus_steps.proofs.tables.Tables.make_next_group.Goals as goal
 
 pub invariant_of-self-2 : goal.invariant_of-self-2

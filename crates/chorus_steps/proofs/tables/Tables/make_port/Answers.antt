@@ -3,10 +3,10 @@ use Rattle.chorus_ui.specs.Layout.{has_actor, can_make_port, creation_place}
 use Rattle.chorus_entry.specs.declared.act.Act.TheVariants as Act
 use Rattle.chorus_world.specs.Steps.{is_full_of_ports}
 use Rattle.chorus_machine.specs.Own.{next_port}
-use Rattle.chorus_steps.specs.Tables.{state}
-use Rattle.chorus_steps.proofs.Kept.{said-by}
-use Rattle.chorus_steps.proofs.Ports.{kept-made, absent-next, creation-next, can-make-next, listed, some-turns}
-use Rattle.chorus_steps.proofs.Counted.{counted-later}
+use Rattle.chorus_parts.specs.Tables.{state}
+use Rattle.chorus_parts.proofs.Kept.{said-by}
+use Rattle.chorus_parts.proofs.Ports.{kept-made, absent-next, creation-next, can-make-next, listed, some-turns}
+use Rattle.chorus_parts.proofs.Counted.{counted-later}
 use Rattle.chorus_steps.proofs.tables.Tables.make_port.Goals as goal
 
 pub make-requires-clause-not_held : goal.make-requires-clause-not_held

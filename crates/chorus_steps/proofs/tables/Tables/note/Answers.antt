@@ -1,6 +1,6 @@
 use Rattle.std.proofs.Common.{ap, ◌∙◌}
-use Rattle.chorus_steps.proofs.Kept.{said-by, kept-plain}
-use Rattle.chorus_steps.proofs.Counted.{counted-later}
+use Rattle.chorus_parts.proofs.Kept.{said-by, kept-plain}
+use Rattle.chorus_parts.proofs.Counted.{counted-later}
 use Rattle.chorus_steps.proofs.tables.Tables.note.Goals as goal
 
 pub invariant_of-self : goal.invariant_of-self

@@ -6,11 +6,11 @@ use Rattle.chorus_entry.specs.declared.act.Act.TheVariants as Act
 use Rattle.chorus_calls.specs.Callers.{after_post}
 use Rattle.chorus_waits.specs.Queues.{queue, changed, with_last}
 use Rattle.chorus_machine.specs.Doing.{post}
-use Rattle.chorus_steps.specs.Tables.{Tables, IsSound}
-use Rattle.chorus_steps.proofs.States.{same_turn}
-use Rattle.chorus_steps.proofs.Reports.{reports-own}
-use Rattle.chorus_steps.proofs.Kept.{said-by, kept-plain, kept-waits, waiting-last}
-use Rattle.chorus_steps.proofs.Counted.{counted-later}
+use Rattle.chorus_parts.specs.Tables.{Tables, IsSound}
+use Rattle.chorus_parts.proofs.States.{same_turn}
+use Rattle.chorus_parts.proofs.Reports.{reports-own}
+use Rattle.chorus_parts.proofs.Kept.{said-by, kept-plain, kept-waits, waiting-last}
+use Rattle.chorus_parts.proofs.Counted.{counted-later}
 use Rattle.chorus_steps.proofs.tables.Tables.post.Goals as goal
 
 pub invariant_of-self : goal.invariant_of-self

@@ -1,9 +1,9 @@
 use Rattle.std.proofs.Common.{ap, refl, ◌∙◌}
 use Rattle.chorus_entry.specs.declared.act.Act.TheVariants as Act
 use Rattle.chorus_ports.specs.Taking.{rehomed}
-use Rattle.chorus_steps.proofs.Kept.{said-by, kept-plain, rehomed-raises}
-use Rattle.chorus_steps.proofs.Ports.{kept-ports, held-changed}
-use Rattle.chorus_steps.proofs.Counted.{counted-later}
+use Rattle.chorus_parts.proofs.Kept.{said-by, kept-plain, rehomed-raises}
+use Rattle.chorus_parts.proofs.Ports.{kept-ports, held-changed}
+use Rattle.chorus_parts.proofs.Counted.{counted-later}
 use Rattle.chorus_steps.proofs.tables.Tables.rehome.Goals as goal
 
 pub invariant_of-self : goal.invariant_of-self

@@ -1,7 +1,7 @@
 use Rattle.std.proofs.Common.{ap, arith}
 use Rattle.chorus_waits.specs.Queues.{queue}
-use Rattle.chorus_steps.specs.Going.{reports_for}
-use Rattle.chorus_steps.proofs.Reports.{reports-direct, reports-most}
+use Rattle.chorus_parts.specs.Going.{reports_for}
+use Rattle.chorus_parts.proofs.Reports.{reports-direct, reports-most}
 use Rattle.chorus_steps.proofs.tables.Tables.reports.Goals as goal
 
 pub returns-in-None-clause-enough : goal.returns-in-None-clause-enough

@@ -1,7 +1,7 @@
 use Rattle.std.proofs.Common.{ap, ◌∙◌, [], length, arith}
 use Rattle.std.proofs.lemmas.List.Elements.{All-nil, All-same}
-use Rattle.chorus_steps.specs.Tables.{GoesTo}
-use Rattle.chorus_steps.proofs.SentPackets.{all-places, places-for}
+use Rattle.chorus_parts.specs.Tables.{GoesTo}
+use Rattle.chorus_parts.proofs.SentPackets.{all-places, places-for}
 use Rattle.chorus_steps.proofs.tables.Tables.send_out.Goals as goal
 
 pub move_all-requires-clause-places : goal.move_all-requires-clause-places

@@ -5,15 +5,15 @@ use Rattle.chorus_machine.specs.Deciding.{decision, records_after}
 use Rattle.chorus_machine.specs.Trying.{report}
 use Rattle.chorus_hints.specs.Known.{kept}
 use Rattle.chorus_steps.specs.contracts.tables.Tables.{the_view}
-use Rattle.chorus_steps.specs.Tables.{turn, state, seen, MayWait}
-use Rattle.chorus_steps.specs.Turns.{parcels}
-use Rattle.chorus_steps.specs.Going.{reports_for}
-use Rattle.chorus_steps.proofs.States.{same_turn, put-loads, said-as, said-at}
-use Rattle.chorus_steps.proofs.Kept.{said-by, positions-fit, held-answered, numbered-plain, grouped-plain, waiting-passed, all-first, sent-more, sent-report, boxed-more}
-use Rattle.chorus_steps.proofs.Plain.{may_follow}
-use Rattle.chorus_steps.proofs.Deciding.{same-answer}
-use Rattle.chorus_steps.proofs.Reports.{report-length, reports-passed, room-left, if-first, length-parcels}
-use Rattle.chorus_steps.proofs.Counted.{counted-more, report-one}
+use Rattle.chorus_parts.specs.Tables.{turn, state, seen, MayWait}
+use Rattle.chorus_parts.specs.Turns.{parcels}
+use Rattle.chorus_parts.specs.Going.{reports_for}
+use Rattle.chorus_parts.proofs.States.{same_turn, put-loads, said-as, said-at}
+use Rattle.chorus_parts.proofs.Kept.{said-by, positions-fit, held-answered, numbered-plain, grouped-plain, waiting-passed, all-first, sent-more, sent-report, boxed-more}
+use Rattle.chorus_parts.proofs.Plain.{may_follow}
+use Rattle.chorus_parts.proofs.Deciding.{same-answer}
+use Rattle.chorus_parts.proofs.Reports.{report-length, reports-passed, room-left, if-first, length-parcels}
+use Rattle.chorus_parts.proofs.Counted.{counted-more, report-one}
 use Rattle.chorus_steps.proofs.tables.Tables.settle_first.Goals as goal
 
 pub decide_unless-answer-requires-clause-positions : goal.decide_unless-answer-requires-clause-positions

@@ -1,7 +1,7 @@
 use Rattle.std.proofs.Common.{◌≡◌, ◌≤◌, take, map}
 use Rattle.std.specs.Prelude.{vec_len, vec_capacity}
-use Rattle.chorus_steps.specs.Tables.{state}
-use Rattle.chorus_steps.specs.Groups.{site_at}
+use Rattle.chorus_parts.specs.Tables.{state}
+use Rattle.chorus_parts.specs.Groups.{site_at}
 use Rattle.chorus_steps.proofs.tables.Tables.sites_of.Given as goal
 
 abbrev pub invariant-loop-at : goal.invariant-loop-at

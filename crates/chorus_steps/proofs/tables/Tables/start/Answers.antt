@@ -1,7 +1,7 @@
 use Rattle.std.proofs.Common.{ap, refl, ◌∙◌, length, ◌+◌, [], arith}
 use Rattle.std.proofs.lemmas.List.{length-replicate}
-use Rattle.chorus_steps.proofs.States.{same_place}
-use Rattle.chorus_steps.proofs.Kept.{kept-start}
+use Rattle.chorus_parts.proofs.States.{same_place}
+use Rattle.chorus_parts.proofs.Kept.{kept-start}
 use Rattle.chorus_steps.proofs.tables.Tables.start.Goals as goal
 
 pub invariant_of-result : goal.invariant_of-result

@@ -1,10 +1,10 @@
 use Rattle.std.proofs.Common.{ap, sym, subst, ◌∙◌}
 use Rattle.chorus_ports.specs.Table.{find}
-use Rattle.chorus_steps.specs.Ports.{IsSoundTaken}
+use Rattle.chorus_parts.specs.Ports.{IsSoundTaken}
 use Rattle.chorus_ports.specs.Taking.{after_take}
-use Rattle.chorus_steps.proofs.Kept.{said-by, kept-plain, take-raises}
-use Rattle.chorus_steps.proofs.Ports.{kept-ports, held-changed, sound-taken}
-use Rattle.chorus_steps.proofs.Counted.{counted-later}
+use Rattle.chorus_parts.proofs.Kept.{said-by, kept-plain, take-raises}
+use Rattle.chorus_parts.proofs.Ports.{kept-ports, held-changed, sound-taken}
+use Rattle.chorus_parts.proofs.Counted.{counted-later}
 use Rattle.chorus_steps.proofs.tables.Tables.take_message.Goals as goal
 
 pub invariant_of-self : goal.invariant_of-self

@@ -3,15 +3,15 @@ use Rattle.chorus_entry.specs.declared.act.Act.TheVariants as Act
 use Rattle.chorus_world.specs.Places.{taught}
 use Rattle.chorus_machine.specs.Trying.{report}
 use Rattle.chorus_steps.specs.contracts.tables.Tables.{the_view}
-use Rattle.chorus_steps.specs.Tables.{turn, MayWait}
-use Rattle.chorus_steps.specs.Turns.{parcels}
-use Rattle.chorus_steps.specs.Going.{reports_for}
-use Rattle.chorus_steps.specs.Steps.{MayTeach}
-use Rattle.chorus_steps.proofs.States.{same_turn, put-loads, said-at}
-use Rattle.chorus_steps.proofs.Kept.{said-by, held-later, numbered-plain, grouped-plain, all-first, sent-more, sent-report, boxed-more}
-use Rattle.chorus_steps.proofs.Reports.{length-parcels}
-use Rattle.chorus_steps.proofs.Telling.{report-first, waiting-told, located-taught, reports-told, room-kept}
-use Rattle.chorus_steps.proofs.Counted.{counted-more, report-one}
+use Rattle.chorus_parts.specs.Tables.{turn, MayWait}
+use Rattle.chorus_parts.specs.Turns.{parcels}
+use Rattle.chorus_parts.specs.Going.{reports_for}
+use Rattle.chorus_parts.specs.Steps.{MayTeach}
+use Rattle.chorus_parts.proofs.States.{same_turn, put-loads, said-at}
+use Rattle.chorus_parts.proofs.Kept.{said-by, held-later, numbered-plain, grouped-plain, all-first, sent-more, sent-report, boxed-more}
+use Rattle.chorus_parts.proofs.Reports.{length-parcels}
+use Rattle.chorus_parts.proofs.Telling.{report-first, waiting-told, located-taught, reports-told, room-kept}
+use Rattle.chorus_parts.proofs.Counted.{counted-more, report-one}
 use Rattle.chorus_steps.proofs.tables.Tables.tell.Goals as goal
 
 pub invariant_of-self : goal.invariant_of-self

@@ -1,12 +1,12 @@
 use Rattle.std.proofs.Common.{ap, refl, ◌∙◌, [], ◌∷◌, Some, arith}
 use Rattle.chorus_entry.specs.declared.act.Act.TheVariants as Act
 use Rattle.chorus_steps.specs.contracts.tables.Tables.{the_view}
-use Rattle.chorus_steps.specs.Tables.{turn}
-use Rattle.chorus_steps.specs.Turns.{parcel}
+use Rattle.chorus_parts.specs.Tables.{turn}
+use Rattle.chorus_parts.specs.Turns.{parcel}
 use Rattle.chorus_ui.specs.Layout.{has_place}
-use Rattle.chorus_steps.proofs.States.{same_turn, put-loads, said-at}
-use Rattle.chorus_steps.proofs.Kept.{said-by, kept-plain, kept-waits, kept-put, waiting-at, boxed-more}
-use Rattle.chorus_steps.proofs.Counted.{counted-more}
+use Rattle.chorus_parts.proofs.States.{same_turn, put-loads, said-at}
+use Rattle.chorus_parts.proofs.Kept.{said-by, kept-plain, kept-waits, kept-put, waiting-at, boxed-more}
+use Rattle.chorus_parts.proofs.Counted.{counted-more}
 use Rattle.chorus_steps.proofs.tables.Tables.try_first.Goals as goal
 
 pub invariant_of-self : goal.invariant_of-self
