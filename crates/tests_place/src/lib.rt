@@ -1,5 +1,5 @@
 //! Tests of a place, by public items alone: what callers are told and what journals say, over places that are handed packets one by
-//! one; which packets are lawful; and packets and commands that are drawn. They stand apart, so that no crate below is proved twice.
+//! one; and which packets are lawful. They stand apart, so that no crate below is proved twice.
 //!
 //! A scenario's text says what happens, and tables of them are texts too (`playing`). `net` has the places and callers; `lines`
 //! writes what callers are told, one line for each; `packets` reads packets from words.
@@ -7,10 +7,6 @@
 
 #[cfg(test)]
 mod conditions;
-#[cfg(test)]
-mod drawing;
-#[cfg(test)]
-mod generating;
 #[cfg(test)]
 mod groups;
 #[cfg(test)]

@@ -24,19 +24,19 @@ pub(crate) struct Net {
 
 /// What is seen of a place and a caller without memory.
 #[derive(Clone, Copy, Debug, PartialEq, Eq)]
-pub(crate) struct Seen {
-    pub(crate) entries: usize,
-    pub(crate) clock: u64,
-    pub(crate) waiting: u64,
-    pub(crate) held: u16,
-    pub(crate) last: u64,
-    pub(crate) posts: u32,
-    pub(crate) given: u32,
-    pub(crate) hand: Option<Hand>,
+struct Seen {
+    entries: usize,
+    clock: u64,
+    waiting: u64,
+    held: u16,
+    last: u64,
+    posts: u32,
+    given: u32,
+    hand: Option<Hand>,
 }
 
 /// What is seen of them now.
-pub(crate) fn look(place: &Place, caller: &Caller) -> Seen {
+fn look(place: &Place, caller: &Caller) -> Seen {
     Seen {
         entries: place.journal().len(),
         clock: place.clock(),
@@ -50,19 +50,19 @@ pub(crate) fn look(place: &Place, caller: &Caller) -> Seen {
 }
 
 /// Where the place of this number stands.
-pub(crate) fn index(rt: &impl Abort, number: u16) -> usize {
+fn index(rt: &impl Abort, number: u16) -> usize {
     usize::from(number.checked_sub(1).expect(rt, "a place"))
 }
 
 /// The number of the place where the command of a caller in the actor is carried out.
-pub(crate) fn number_for(rt: &impl Abort, layout: Layout, actor: Ui, command: &Command) -> u16 {
+fn number_for(rt: &impl Abort, layout: Layout, actor: Ui, command: &Command) -> u16 {
     assert!(rt; layout.has_site(actor.site()));
     assert!(rt; meets_conditions(command));
     place_for(layout, actor, command)
 }
 
 /// Gives the place a command of the caller. A refusal changes nothing.
-pub(crate) fn act_at(
+fn act_at(
     rt: &impl Abort,
     place: &mut Place,
     caller: &mut Caller,
@@ -83,7 +83,7 @@ pub(crate) fn act_at(
 }
 
 /// Hands the place a packet that is lawful there. A refusal changes nothing.
-pub(crate) fn work_at(
+fn work_at(
     rt: &impl Abort,
     place: &mut Place,
     caller: &mut Caller,

@@ -72,7 +72,7 @@ fn cargo_in<R: Abort>(alloc: Global, words: &mut Words<'_, R>) -> Cargo {
 }
 
 /// A message with the body `x`.
-pub(crate) fn message_of(rt: &impl Abort, alloc: Global, id: MsgId, tag: Tag) -> Message {
+fn message_of(rt: &impl Abort, alloc: Global, id: MsgId, tag: Tag) -> Message {
     let body = Body::new(alloc, b"x").expect(rt, "memory");
     Message { id, tag, body }
 }
@@ -161,13 +161,7 @@ fn push_client(rt: &impl Abort, port: &mut PortRecord, number: u32) {
 }
 
 /// A message more waits in the port.
-pub(crate) fn push_message(
-    rt: &impl Abort,
-    alloc: Global,
-    port: &mut PortRecord,
-    id: MsgId,
-    tag: Tag,
-) {
+fn push_message(rt: &impl Abort, alloc: Global, port: &mut PortRecord, id: MsgId, tag: Tag) {
     let message = message_of(rt, alloc, id, tag);
     assert!(rt; port.pending.len() < 64);
     port.pending.push(message);

@@ -1,6 +1,6 @@
 //! Names, messages, answers, commands and packets that are drawn: mostly such as four places of two sites have, seldom others.
 
-use crate::packets::{message_of, push_message};
+use crate::net::{message_of, push_message};
 use chorus_entry::{Act, Answer, Cargo, Command, Dest, Message, MsgId, Packet, PortRecord, Tag};
 use chorus_place::Place;
 use chorus_ui::{CLOCK_LIMIT, Kind, Ui};
