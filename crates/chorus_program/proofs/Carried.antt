@@ -1,5 +1,5 @@
 -- Where there is no memory for the words, nothing was read or written.
-use Rattle.std.proofs.Common.{◌≡◌, ◌≤◌, ℕ, [], List, Option, None, refl, sym, subst, arith}
+use Rattle.std.proofs.Common.{◌≡◌, ℕ, [], List, Option, None, refl, sym, subst, arith}
 use Rattle.std.proofs.KnownBytes.{Consumes-nil}
 use Rattle.chorus_show.specs.declared.status.Status.TheVariants.{Memory}
 use Rattle.chorus_run.specs.declared.finished.Finished.{Finished}

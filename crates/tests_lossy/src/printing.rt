@@ -25,14 +25,7 @@ fn run(
     let mut sink = MemSink::new(alloc, most, Vec::from_slice(alloc, writes)?);
     let mut sender = Sender::new(alloc, WINDOW).ok_or("a window")?;
     let mut receiver = Receiver::new(alloc, WINDOW).ok_or("a window")?;
-    let status = lossy(
-        alloc,
-        7,
-        &mut source,
-        &mut sink,
-        &mut sender,
-        &mut receiver,
-    );
+    let status = lossy(alloc, 7, &mut source, &mut sink, &mut sender, &mut receiver);
     Ok((status, sink))
 }
 
@@ -60,7 +53,11 @@ fn faults_end_it(rt: HostRuntime) -> Result<(), Fail> {
     ] {
         let (status, sink) = run(alloc, b"hello", &[read], 64, &[])?;
         assert_eq!(rt; status, ended, "read {read}");
-        assert_eq!(rt; sink.bytes().is_empty(), ended != Status::Done, "read {read}");
+        assert_eq!(rt;
+            sink.bytes().is_empty(),
+            ended != Status::Done,
+            "read {read}"
+        );
     }
     for (i, _) in written.bytes().enumerate() {
         let (status, sink) = run(alloc, b"hello", &[], 1, &[i as u64 + 1])?;

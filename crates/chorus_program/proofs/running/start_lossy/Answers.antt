@@ -7,5 +7,5 @@ pub returns-clause-carries : goal.returns-clause-carries
 returns-clause-carries g c =
     let h = c.lossy.ensures.carries in
     subst (λ (f : Finished). CarriesInput c.args.first f.status (g.S.Source.left c.args.source.now) (g.S.Source.left c.lossy.new.source)
-        (g.K.Sink.held c.args.sink.now) (g.K.Sink.held c.lossy.new.sink))
-        (sym c.gave_up.ensures) (h.0, h.1, h.2)
+    (g.K.Sink.held c.args.sink.now) (g.K.Sink.held c.lossy.new.sink))
+    (sym c.gave_up.ensures) (h.0, h.1, h.2)
