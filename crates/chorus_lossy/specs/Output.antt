@@ -25,13 +25,21 @@ abbrev pub text_with : List ℕ → ℕ → ℕ → List ℕ
 text_with bytes emitted lost = bytes ++ 10 ∷ wire_line emitted lost
 
 abbrev pub lossy_text : ℕ → List ℕ → List ℕ
-lossy_text first bytes = text_with bytes (whole_run first bytes).emitted (whole_run first bytes).lost
+lossy_text first bytes =
+    text_with bytes (whole_run first bytes).emitted (whole_run first bytes).lost
 
--- The source was read to its end, or one byte more than the limit was read of it, and that exactly at Scenario.
+-- the bytes are all of the source, or its first ones to one byte more than the limit
+abbrev pub IsReadWhole : List ℕ → Option (List ℕ) → Option (List ℕ) → Type 0
+IsReadWhole bytes old new = Consumes old new bytes × IsAtEnd new × (length bytes ≤ INPUT_LIMIT)
+
+abbrev pub IsTooLong : List ℕ → Option (List ℕ) → Option (List ℕ) → Type 0
+IsTooLong bytes old new = Consumes old new bytes × (length bytes ≡ INPUT_LIMIT + 1)
+
+-- how a call ends, and what it read: the byte above the limit exactly at Scenario
 abbrev pub ReadsBy : Status → List ℕ → Option (List ℕ) → Option (List ℕ) → Type 0
-ReadsBy Done bytes old new = Consumes old new bytes × IsAtEnd new × (length bytes ≤ INPUT_LIMIT)
-ReadsBy WriteFault bytes old new = Consumes old new bytes × IsAtEnd new × (length bytes ≤ INPUT_LIMIT)
-ReadsBy (Scenario line reason) bytes old new = (line ≡ 0) × (reason ≡ 6) × Consumes old new bytes × (length bytes ≡ INPUT_LIMIT + 1)
+ReadsBy Done bytes old new = IsReadWhole bytes old new
+ReadsBy WriteFault bytes old new = IsReadWhole bytes old new
+ReadsBy (Scenario line reason) bytes old new = (line ≡ 0) × (reason ≡ 6) × IsTooLong bytes old new
 ReadsBy ReadFault bytes old new = Consumes old new bytes × (length bytes ≤ INPUT_LIMIT)
 ReadsBy Memory bytes old new = Consumes old new bytes × (length bytes ≤ INPUT_LIMIT)
 ReadsBy Usage bytes old new = ⊥
@@ -57,6 +65,7 @@ Leaves first Memory bytes e = IsWithin first bytes e
 Leaves first _ bytes e = e ≡ new_ends
 
 -- what is seen of it without the ends
-abbrev pub CarriesInput : ℕ → Status → Option (List ℕ) → Option (List ℕ) → Option (List ℕ) → Option (List ℕ) → Type 0
+abbrev pub CarriesInput : ℕ → Status → Option (List ℕ) → Option (List ℕ)
+    → Option (List ℕ) → Option (List ℕ) → Type 0
 CarriesInput first status left rest old new =
     (bytes : List ℕ) × ReadsBy status bytes left rest × Prints first status bytes old new

@@ -2,8 +2,8 @@
 //!
 //! [`carry`] runs the two ends of `chorus_transport` in rounds, over a line whose losses, repeats and delays are drawn from a
 //! number. What has to be believed is `specs/Rounds.antt`, which says what happens in a round. The layer above rests on this:
-//! what is delivered is what was carried, and what is counted is that of the run. [`lossy`] carries what a source gives, and writes
-//! that text (`specs/Output.antt`).
+//! what is delivered is what was carried, and what is counted is that of the run. [`lossy`] carries what a source gives, and
+//! writes what came of it (`specs/Output.antt`).
 //!
 //! Begin with [`carry`].
 

@@ -22,8 +22,8 @@ const TOO_LONG: Status = Status::Scenario { line: 0, reason: 6 };
 /// Reads the source to its end, carries its bytes by [`carry`] over the two ends, which were just made with a window of
 /// [`WINDOW`](crate::WINDOW), and writes what was delivered, LF, and the line `wire EMITTED LOST` with what was counted.
 ///
-/// Where the input is too long or a read fails, the ends are as they were made. Where there is no memory they stand as [`carry`]
-/// says.
+/// Where the input is too long or a read fails, the ends are as they were made. Where there is no memory they stand as
+/// [`carry`] says.
 pub fn lossy<S: Source, K: Sink>(
     alloc: Global,
     first: u64,
@@ -41,7 +41,8 @@ pub fn lossy<S: Source, K: Sink>(
         Rose (K.faults sink.old) (K.faults sink.new) }
 
     // What it did with the bytes that it read.
-    ensures carries { (bytes : List ℕ) × ReadsBy result bytes (S.left source.old) (S.left source.new)
+    ensures carries { (bytes : List ℕ)
+        × ReadsBy result bytes (S.left source.old) (S.left source.new)
         × Prints first result bytes (K.held sink.old) (K.held sink.new)
         × Leaves first result bytes (ends sender.new receiver.new) }
     ensures unwritten { result ≢ Status.Done → result ≢ Status.WriteFault → sink.new ≡ sink.old }

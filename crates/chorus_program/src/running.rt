@@ -30,10 +30,10 @@ use std::alloc::{AllocError, Global};
 /// The sites of a replay, each with one place.
 pub const REPLAY_SITES: u16 = 16;
 
-/// Does what the words say: `replay` replays the scenario that the source gives, and `load FIRST COMMANDS` performs the commands
-/// that are drawn, both on sites that are started for it; `audit SITES TURNS` audits the printed journal that the source gives;
-/// `lossy FIRST` carries what the source gives over a line that loses. Any other words are Usage, and then nothing is read or
-/// written.
+/// Does what the words say: `replay` replays the scenario that the source gives, and `load FIRST COMMANDS` performs the
+/// commands that are drawn, both on sites that are started for it; `audit SITES TURNS` audits the printed journal that the
+/// source gives; `lossy FIRST` carries what the source gives over a line that loses. Any other words are Usage, and then
+/// nothing is read or written.
 pub fn program<'a, S: Source, K: Sink>(
     alloc: Global,
     words: &'a [&'a str],

@@ -1,5 +1,5 @@
-//! The program with a stored run: the words `lossy 1`. Its input is 692 bytes, 11 chunks. The output is that of a script, which follows the
-//! rounds over lists.
+//! The program with a stored run: the words `lossy 1`. Its input is 692 bytes, which are 11 chunks. What it has to write was
+//! worked out by a script, which follows the rounds over lists.
 
 #![tactic(auto)]
 

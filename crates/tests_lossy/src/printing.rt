@@ -1,5 +1,5 @@
-//! What `lossy` writes, and how sources and sinks end it. The counts are those of another program, which follows the rounds over
-//! lists.
+//! What `lossy` writes, and how sources and sinks end it. The counts are those of another program, which follows the rounds
+//! over lists.
 
 ghost use Rattle.std.specs.Prelude.{◌≤◌};
 

@@ -1,5 +1,11 @@
+use Rattle.std.proofs.Common.{sym, subst}
+use Rattle.chorus_run.specs.declared.finished.Finished.{Finished}
+use Rattle.chorus_lossy.specs.Output.{CarriesInput}
 use Rattle.chorus_program.proofs.running.start_lossy.Goals as goal
 
 pub returns-clause-carries : goal.returns-clause-carries
 returns-clause-carries g c =
-    let h = c.lossy.ensures.carries in (h.0, h.1.0, h.1.1.0)
+    let h = c.lossy.ensures.carries in
+    subst (λ (f : Finished). CarriesInput c.args.first f.status (g.S.Source.left c.args.source.now) (g.S.Source.left c.lossy.new.source)
+    (g.K.Sink.held c.args.sink.now) (g.K.Sink.held c.lossy.new.sink))
+    (sym c.gave_up.ensures) (h.0, h.1, h.2)
