@@ -45,7 +45,7 @@ use Rattle.chorus_run.specs.Order.{in_setup, entering, in_schedule, left_from, t
 use Rattle.chorus_net.specs.Worn.{IsInRounds}
 use Rattle.chorus_run.specs.Worn.{ComesNext}
 use Rattle.chorus_net.specs.Closing.{IsClosed}
-use Rattle.chorus_run.specs.Headline.{past_of, PerformsAll, PerformsFirst, PerformsUnless, IsQuietUnless, Plays, IsOrdered, IsGiven, Replays, callers_of, commands_by}
+use Rattle.chorus_run.specs.Headline.{past_of, PerformsAll, PerformsFirst, PerformsUnless, IsQuietUnless, Plays, IsOrdered, IsGiven, AreWithinUnless, Replays, callers_of, commands_by}
 use Rattle.chorus_run.proofs.Given.{commands-given}
 use Rattle.chorus_run.proofs.Callers.{AreComers, actors_in, actor-after, are-comers, callers-given, callers-so-far, get-front}
 
@@ -281,10 +281,11 @@ are-of-scene c keeps =
     }
 
 -- so what was closed in the order of a scenario that was given replays it
-pub replays-as : (c : Scene) → IsLayout c.layout → Keeps c → (m : Layout) (told : Option (List ℕ)) (status : Status) (closed : Closed) → c.layout ≡ m → IsGiven m told (Ok c) → IsOrdered c.layout (tasks c) status closed → Replays m told status closed
-replays-as c shape keeps m told status closed same given is = record {
+pub replays-as : (c : Scene) → IsLayout c.layout → Keeps c → (m : Layout) (told : Option (List ℕ)) (status : Status) (closed : Closed) → c.layout ≡ m → IsGiven m told (Ok c) → IsOrdered c.layout (tasks c) status closed → AreWithinUnless status closed → Replays m told status closed
+replays-as c shape keeps m told status closed same given is within = record {
   scene = c;
   given = given;
   plays = subst (λ (z : Layout). Plays z (callers_of c) (commands_by c) status closed) same (plays c.layout (tasks c) (callers_of c) (commands_by c) (are-of-scene c keeps) shape status closed is);
   ordered = subst (λ (z : Layout). IsOrdered z (tasks c) status closed) same is;
+  within = within;
 }

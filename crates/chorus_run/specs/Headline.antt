@@ -21,6 +21,7 @@ use Rattle.chorus_law.specs.Network.{NetState, Event, opening, schedule}
 use Rattle.chorus_law.specs.Quiet.{IsQuiet}
 use Rattle.chorus_law.specs.Schedules.{may_be}
 use Rattle.chorus_law.specs.Tasks.{Task, CarryOut}
+use Rattle.chorus_show.specs.Bounds.{AreWithin}
 use Rattle.chorus_show.specs.declared.status.Status.{Status}
 use Rattle.chorus_show.specs.declared.status.Status.TheVariants.{Worn}
 use Rattle.chorus_scene.specs.declared.limits.TheConstants.{TEXT_LIMIT}
@@ -123,9 +124,15 @@ callers_of c k = slice_get (first_actor ∷ map (λ (script : Script). script.ac
 abbrev pub commands_by : Scene → ℕ → Option (List Command)
 commands_by c k = slice_get (setup_commands c ∷ map (λ (script : Script). script.commands) c.scripts) k
 
--- there is a scenario that the source gives, and what was closed plays it, in the order of a replay
+-- each entry is within the bounds of a line, unless a clock was worn: then none was printed
+abbrev pub AreWithinUnless : Status → Closed → Type 0
+AreWithinUnless (Worn clock) closed = Unit {0}
+AreWithinUnless status closed = AreWithin (merge_of closed)
+
+-- there is a scenario that the source gives, and what was closed plays it, in the order of a replay; its entries have lines
 pub record Replays (l : Layout) (told : Option (List ℕ)) (status : Status) (closed : Closed) : Type 0 where
   pub scene : Scene
   pub given : IsGiven l told (Ok scene)
   pub plays : Plays l (callers_of scene) (commands_by scene) status closed
   pub ordered : IsOrdered l (tasks scene) status closed
+  pub within : AreWithinUnless status closed

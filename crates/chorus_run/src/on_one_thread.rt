@@ -5,6 +5,7 @@ ghost use Rattle.chorus_io.specs.Count.{Rose};
 ghost use Rattle.chorus_ui.specs.Layout.{IsLayout};
 ghost use Rattle.chorus_ui.specs.declared.limits.TheConstants.{CLOCK_LIMIT};
 ghost use Rattle.chorus_scene.specs.Limits.{Keeps};
+ghost use Rattle.chorus_show.specs.Bounds.{AreWithin};
 ghost use Rattle.chorus_show.specs.Report.{report};
 ghost use Rattle.chorus_run.specs.Worn.{HasClock};
 ghost use Rattle.chorus_run.specs.Headline.{AreJustStarted, IsGiven, IsRead, ReadsNoFurther, Replays, merge_of};
@@ -123,7 +124,8 @@ fn play(alloc: Global, mut sites: Sites, scenario: &Scenario) -> Result<Played, 
 
 /// The journal text and the summary text of what was closed.
 fn text_of(alloc: Global, closed: &Closed) -> Result<Vec<u8>, AllocError>
-    ensures { IfOk result (λ text. text.items ≡ report (merge_of closed.now)) }
+    ensures text { IfOk result (λ text. text.items ≡ report (merge_of closed.now)) }
+    ensures within { IfOk result (λ text. AreWithin (merge_of closed.now)) }
 {
     let entries = merge(alloc, &closed.journals)?;
     let mut text = Vec::new(alloc);

@@ -82,6 +82,7 @@ impl Field for Ui {
     ghost fits = { IsName };
 
     fn push(&self, out: &mut Vec<u8>) -> Result<(), AllocError> {
+        // That it is a name is told by its bits.
         let _bits = self.bits();
         self.text(out)
     }

@@ -10,7 +10,8 @@ use crate::phrases::push_count;
 use chorus_entry::Entry;
 use std::alloc::AllocError;
 
-/// Appends the line of the entry, with its LF. An error leaves `out` as it was.
+/// Appends the line of the entry, with its LF: an entry within the bounds of a line, as its type keeps it. An error leaves `out`
+/// as it was.
 pub fn entry_line(entry: &Entry, out: &mut Vec<u8>) -> Result<(), AllocError>
     ensures ok { OnOk result (out.new.items ≡ out.old.items ++ entry_text entry.now) }
     ensures within { OnOk result (IsWithin entry.now) }
@@ -21,8 +22,8 @@ pub fn entry_line(entry: &Entry, out: &mut Vec<u8>) -> Result<(), AllocError>
     out.extend_from_slice(&line)
 }
 
-/// Appends the journal text: the line `journal N`, N being the number of entries, and their lines. An error leaves `out` as
-/// it was.
+/// Appends the journal text: the line `journal N`, N being the number of entries, and their lines, each of them that of an entry
+/// within the bounds of a line. An error leaves `out` as it was.
 pub fn journal_text(entries: &[Entry], out: &mut Vec<u8>) -> Result<(), AllocError>
     ensures ok { OnOk result (out.new.items ≡ out.old.items ++ journal_text entries.now) }
     ensures within { OnOk result (AreWithin entries.now) }

@@ -36,7 +36,7 @@ returns-in-Some-clause-replays g c =
     let played = subst (λ worn. IsPlayed scene worn closed) c.in-Some.is c.in-Ok-play.ensures in
     replays-as scene shape ok.1 (net c.args.sites).layout (g.S.Source.left c.args.source.now) (Status.Worn c.in-Some.clock) closed (ok.0 ∙ value)
     (subst (λ l. IsGiven l (g.S.Source.left c.args.source.now) (Ok scene)) value c.in-Ok.ensures.given)
-    (ordered-worn (can scene shape ok.1) c.in-Some.clock closed played)
+    (ordered-worn (can scene shape ok.1) c.in-Some.clock closed played) tt
 
 pub returns-clause-replays : goal.returns-clause-replays
 returns-clause-replays g c =
@@ -48,9 +48,12 @@ returns-clause-replays g c =
     let told = g.S.Source.left c.args.source.now in
     let worn = none-of c.in-Ok-play.played.worn c.in_default-worn.not-Some in
     let given = subst (λ l. IsGiven l told (Ok scene)) value c.in-Ok.ensures.given in
+    let within = c.in-Ok-text_of.ensures.within in
     let ordered = ordered-all (can scene shape ok.1) closed (subst (λ w. IsPlayed scene w closed) worn c.in-Ok-play.ensures) in
-    printed (λ s o. Replays (net c.args.sites).layout told s o) c.print.result.status c.print.result.closed closed c.print.ensures.closed c.print.ensures.status
-    (replays-as scene shape ok.1 (net c.args.sites).layout told Status.Done closed (ok.0 ∙ value) given ordered.0, replays-as scene shape ok.1 (net c.args.sites).layout told Status.WriteFault closed (ok.0 ∙ value) given ordered.1)
+    printed (λ s o. Replays (net c.args.sites).layout told s o) c.print.result.status c.print.result.closed closed c.print.ensures.closed c.print.ensures.status (
+      replays-as scene shape ok.1 (net c.args.sites).layout told Status.Done closed (ok.0 ∙ value) given ordered.0 within,
+      replays-as scene shape ok.1 (net c.args.sites).layout told Status.WriteFault closed (ok.0 ∙ value) given ordered.1 within,
+    )
 
 pub returns-in-Some-clause-worn : goal.returns-in-Some-clause-worn
 returns-in-Some-clause-worn g c clock is =
@@ -63,4 +66,4 @@ returns-in-Some-clause-worn g c clock is =
 
 pub returns-clause-prints : goal.returns-clause-prints
 returns-clause-prints g c =
-    prints-text text_of c.print.result.status c.print.result.closed c.in-Ok-play.played.closed _ _ _ _ c.print.ensures.closed c.deref.ensures.value c.in-Ok-text_of.ensures c.print.ensures.prints
+    prints-text text_of c.print.result.status c.print.result.closed c.in-Ok-play.played.closed _ _ _ _ c.print.ensures.closed c.deref.ensures.value c.in-Ok-text_of.ensures.text c.print.ensures.prints
