@@ -7,7 +7,7 @@ use Rattle.std.proofs.lemmas.List.{append-nil, length-set, get_or-set_same, get_
 use Rattle.chorus_ui.specs.declared.layout.Layout.{Layout}
 use Rattle.chorus_entry.specs.declared.packet.Packet.{Packet}
 use Rattle.chorus_out.specs.Waiting.{list_to, with_last, with_first, without_first}
-use Rattle.chorus_machine.specs.PlaceState.{Outgoing}
+use Rattle.chorus_machine.specs.PlaceState.{PlaceState, Outgoing}
 use Rattle.chorus_place.specs.Calls.{Place, state, with_all}
 use Rattle.chorus_io.specs.Count.{Rose}
 use Rattle.chorus_ends.specs.Links.{Links, Counts, Sends, Receives, MovesNothing, with_packet}
@@ -190,6 +190,20 @@ full-on p ls ms k l m g c (inr rose) = inr (rose-on (k.fulls p) (l.fulls p) (m.f
 pub full-behind : (p : ℕ) (ms : List (List Packet)) (k l m : Links) → Counts k l → Counts l m → KeepsAtFull p ms l m → KeepsAtFull p ms k m
 full-behind p ms k l m b c (inl none) = inl none
 full-behind p ms k l m b c (inr rose) = inr (rose-behind (k.fulls p) (l.fulls p) (m.fulls p) (b.fulls p) (c.fulls p) rose)
+
+-- the same of all places below the next one
+pub full-more : (to : ℕ) (q r s : Place) (k l m : Links) → Pushes q r k l → Pushes r s l m
+    → ((p : ℕ) → IsOther q.layout q.number p → p < to → KeepsAtFull p r.out.lists k l)
+    → (to ≢ r.number → KeepsAtFull to s.out.lists l m)
+    → (p : ℕ) → IsOther q.layout q.number p → p < to + 1 → KeepsAtFull p s.out.lists k m
+full-more to q r s k l m a b before here p o lt = by (p == to) refl
+  where
+    by : (t : Bool) → (p == to) ≡ t → KeepsAtFull p s.out.lists k m
+    by true e =
+        let is = eqb-true p to e in
+        full-behind p s.out.lists k l m a.counts b.counts
+        (subst (λ n. KeepsAtFull n s.out.lists l m) (sym is) (here (λ same. o.other (is ∙ same ∙ ap (λ (z : PlaceState). z.number) a.state))))
+    by false e = full-on p r.out.lists s.out.lists k l m (b.out p) b.counts (before p o (let ne = eqb-false p to e in omega (arith, lt, ne)))
 
 -- What a turn puts waits behind what waited.
 

@@ -1,7 +1,7 @@
 -- The parts of a call of `serve`, put together.
 -- a, b, c, d and e are the desk before it, when what waited was sent, when a packet is in hand, when it is taken out, and at the
 -- end; w and x are the caller before and after, k is the packet.
-use Rattle.std.proofs.Common.{ℕ, ◌≡◌, ◌+◌, ◌<◌, ◌≤◌, ◌==◌, ◌⊎◌, nat_le, Bool, true, false, ◌&&◌, not, length, List, [], ◌∷◌, ◌++◌, Option, Some, None, refl, sym, ◌∙◌, ap, subst, inl, inr, arith}
+use Rattle.std.proofs.Common.{ℕ, ◌≡◌, ◌+◌, ◌<◌, ◌≤◌, ◌==◌, ◌⊎◌, nat_le, Bool, true, false, ◌&&◌, not, length, List, [], ◌∷◌, ◌++◌, Option, Some, None, refl, sym, ◌∙◌, ap, subst, inl, inr, arith, Result, Ok, Err, IfOk, OnOk, OnErr, max}
 use Rattle.std.specs.Prelude.{option_to_list}
 use Rattle.std.proofs.lemmas.Bool.{and_from, and_parts, le-leb, leb-true, eqb-true}
 use Rattle.std.proofs.lemmas.List.{append-nil, length-replicate}
@@ -17,14 +17,19 @@ use Rattle.chorus_machine.specs.PlaceState.{PlaceState, Outgoing, greatest_clock
 use Rattle.chorus_machine.specs.PlaceMachine.{begun, begun_by, act, work}
 use Rattle.chorus_machine.specs.Lawful.{is_lawful, is_lawful_cargo}
 use Rattle.chorus_machine.proofs.Machine.Stays.{act-stays, work-stays}
-use Rattle.chorus_place.specs.Calls.{Place, state, with_all}
+use Rattle.chorus_machine.specs.declared.reply.Reply.{Reply}
+use Rattle.chorus_place.specs.Calls.{Place, state, with_all, Called, WorkedOff, IsWornBack, Stays}
+use Rattle.chorus_place.specs.declared.fault.PlaceFault.{PlaceFault}
+use Rattle.chorus_serve.specs.declared.pump.Pump.{Pump}
+use Rattle.chorus_serve.specs.declared.pump.Pump.TheVariants as pumps
 use Rattle.chorus_io.specs.Count.{raised}
 use Rattle.chorus_ends.specs.Links.{Links, Counts}
-use Rattle.chorus_serve.specs.Flows.{IsOther, GoesOut, KeepsAtFull, EmptiesOrFull, WasEmpty, ComesNext, Takes, puts_to, from_place, last_from}
-use Rattle.chorus_serve.specs.Desks.{DeskState, IsDesk}
-use Rattle.chorus_serve.specs.Working.{begins_with, AreCounted, Holds, IsWorkedOff, IsHeldBack, Waits, IsWornAt}
-use Rattle.chorus_serve.specs.Serving.{Moved, Rests, WorksOff, KeepsInHand, IsIdle, IsWornBy, SendsOut, TakesUp, FindsNone, LaysDown}
-use Rattle.chorus_serve.proofs.Flowing.{counts-on, rose-on, rose-behind, comes-behind, goes-nothing, goes-on, all-length, all-wait}
+use Rattle.chorus_serve.specs.Flows.{IsOther, Pushes, GoesOut, KeepsAtFull, EmptiesOrFull, WasEmpty, ComesNext, Takes, puts_to, from_place, last_from}
+use Rattle.chorus_serve.specs.Desks.{DeskState, IsDesk, in_hand}
+use Rattle.chorus_serve.specs.declared.held.Held.{Held}
+use Rattle.chorus_serve.specs.Working.{begins_with, AreCounted, Holds, IsWorkedOff, IsHeldBack, DealsWith, Waits, IsWornAt}
+use Rattle.chorus_serve.specs.Serving.{Moved, Rests, WorksOff, KeepsInHand, IsIdle, Answers, IsWornBy, SendsOut, TakesUp, FindsNone, LaysDown}
+use Rattle.chorus_serve.proofs.Flowing.{counts-self, counts-on, rose-on, rose-behind, comes-behind, goes-nothing, goes-on, all-length, all-wait}
 
 -- what was sent is as it was
 goes-kept : (p : ℕ) (put : List Packet) (ls ms : List (List Packet)) (k l m : Links) → GoesOut p put ls ms k l → m.sent p ≡ l.sent p → GoesOut p put ls ms k m
@@ -42,6 +47,22 @@ counted-on os a b c x y = record {
   puts = (let p = x.puts in let q = y.puts in omega (arith, p, q));
   spare = (let p = x.spare in let q = y.spare in omega (arith, p, q));
 }
+
+-- all that waited was sent, or a link was found full
+pub emptied : (p : ℕ) (ls ms : List (List Packet)) (k l : Links) → GoesOut p [] ls ms k l → KeepsAtFull p ms k l → EmptiesOrFull p ls k l
+emptied p ls ms k l g (inl none) =
+    inl (g.sent ∙ ap (λ xs. k.sent p ++ xs) (sym (append-nil g.pushed) ∙ sym (ap (λ xs. g.pushed ++ xs) none) ∙ g.waits ∙ append-nil _))
+emptied p ls ms k l g (inr rose) = inr rose
+
+pub all-emptied : {A E : Type 0} (result : Result A E) (q r : Place) (k l : Links) → Pushes q r k l
+    → OnOk result ((p : ℕ) → IsOther q.layout q.number p → KeepsAtFull p r.out.lists k l)
+    → OnOk result ((p : ℕ) → IsOther q.layout q.number p → EmptiesOrFull p q.out.lists k l)
+all-emptied (Ok a) q r k l s h = λ p o. emptied p q.out.lists r.out.lists k l (s.out p) (h p o)
+all-emptied (Err e) q r k l s h = tt
+
+pub emptied-on : (p : ℕ) (ls : List (List Packet)) (k l m : Links) → m.sent p ≡ l.sent p → l.fulls p ≤ m.fulls p → EmptiesOrFull p ls k l → EmptiesOrFull p ls k m
+emptied-on p ls k l m e le (inl sent) = inl (e ∙ sent)
+emptied-on p ls k l m e le (inr rose) = inr (rose-on (k.fulls p) (l.fulls p) (m.fulls p) rose le)
 
 -- where only what waited was sent
 pub sent-moved : (a b : DeskState) → SendsOut a b → Moved None [] a b
@@ -94,10 +115,10 @@ module _ (a b c : DeskState) (s : SendsOut a b) (t : TakesUp b c) where
       (subst (λ (z : PlaceState). ComesNext z.layout z.number b.last t.popped b.links c.links) s.state t.next))
 
   -- whatever was done with the packet in hand
-  pub all-moved : (e : DeskState) (done : Option (ℕ × Packet)) (puts : List Outgoing)
+  pub all-moved : (e : DeskState) (served : Option (ℕ × Packet)) (puts : List Outgoing)
       → ((p : ℕ) → has_place a.place.layout p ≡ true → GoesOut p (puts_to p puts) c.place.out.lists e.place.out.lists c.links e.links)
-      → e.links ≡ c.links → e.last ≡ c.last → AreCounted puts c e → option_to_list done ++ option_to_list e.hand ≡ option_to_list c.hand → Moved done puts a e
-  all-moved e done puts waits links last counted hand = record {
+      → e.links ≡ c.links → e.last ≡ c.last → AreCounted puts c e → option_to_list served ++ option_to_list e.hand ≡ option_to_list c.hand → Moved served puts a e
+  all-moved e served puts waits links last counted hand = record {
     out = λ p h. goes-on p [] (puts_to p puts) a.place.out.lists c.place.out.lists e.place.out.lists a.links c.links e.links (taken-out p) (waits p h);
     popped = t.popped;
     received = λ p. ap (λ (l : Links). l.received p) links ∙ t.takes.received p ∙ ap (λ xs. xs ++ from_place p t.popped) (s.received p);
@@ -203,15 +224,37 @@ module _ (a b c : DeskState) (s : SendsOut a b) (t : TakesUp b c) where
       emptied = sent;
     }
 
--- all that waited was sent, or a link was found full
-pub emptied : (p : ℕ) (ls ms : List (List Packet)) (k l : Links) → GoesOut p [] ls ms k l → KeepsAtFull p ms k l → EmptiesOrFull p ls k l
-emptied p ls ms k l g (inl none) =
-    inl (g.sent ∙ ap (λ xs. k.sent p ++ xs) (sym (append-nil g.pushed) ∙ sym (ap (λ xs. g.pushed ++ xs) none) ∙ g.waits ∙ append-nil _))
-emptied p ls ms k l g (inr rose) = inr rose
+    pub dealt-answers : (pump : Pump) → DealsWith pump from k d e w x → Answers pump a e w x
+    dealt-answers (pumps.Served served) h = (k, subst (λ n. WorksOff n k a e w x ⊎ KeepsInHand n k a e w x) (sym h.0) (by h.2))
+      where
+        by : IsWorkedOff from k d e w x ⊎ IsHeldBack from k d e w x → WorksOff from k a e w x ⊎ KeepsInHand from k a e w x
+        by (inl worked) = inl (worked-off h.1 worked)
+        by (inr held) = inr (held-back h.1 held)
+    dealt-answers (pumps.Idle put worked) h = absurd h
 
-pub emptied-on : (p : ℕ) (ls : List (List Packet)) (k l m : Links) → m.sent p ≡ l.sent p → l.fulls p ≤ m.fulls p → EmptiesOrFull p ls k l → EmptiesOrFull p ls k m
-emptied-on p ls k l m e le (inl sent) = inl (e ∙ sent)
-emptied-on p ls k l m e le (inr rose) = inr (rose-on (k.fulls p) (l.fulls p) (m.fulls p) rose le)
+    dealt-links : (pump : Pump) → DealsWith pump from k d e w x → e.links ≡ d.links
+    dealt-links (pumps.Served served) h = by h.2
+      where
+        by : IsWorkedOff from k d e w x ⊎ IsHeldBack from k d e w x → e.links ≡ d.links
+        by (inl worked) = worked.links
+        by (inr held) = held.holds.links
+    dealt-links (pumps.Idle put worked) h = absurd h
+
+    module _ (before : (p : ℕ) → IsOther a.place.layout a.place.number p → EmptiesOrFull p a.place.out.lists a.links b.links) where
+      still-emptied : e.links ≡ d.links → (p : ℕ) → IsOther a.place.layout a.place.number p → EmptiesOrFull p a.place.out.lists a.links e.links
+      still-emptied same p o =
+          subst (λ m. EmptiesOrFull p a.place.out.lists a.links m) (sym (same ∙ l.links))
+          (emptied-on p a.place.out.lists a.links b.links c.links (t.takes.sent p) (t.takes.counts.fulls p) (before p o))
+
+      pub ok-emptied : (result : Result Pump PlaceFault) → IfOk result (λ pump. DealsWith pump from k d e w x)
+          → OnOk result ((p : ℕ) → IsOther a.place.layout a.place.number p → EmptiesOrFull p a.place.out.lists a.links e.links)
+      ok-emptied (Ok pump) h = still-emptied (dealt-links pump h)
+      ok-emptied (Err fault) h = tt
+
+      pub err-worn : (result : Result Pump PlaceFault) (fault : PlaceFault) (clock : ℕ) → result ≡ Err fault → IsWornAt clock k d w → OnErr result (Holds from k d e w x) → IsWornBy clock a e w
+      err-worn result fault clock is worn refused =
+          let holds : Holds from k d e w x = subst (λ r. OnErr r (Holds from k d e w x)) is refused in
+          worn-by clock worn holds (still-emptied holds.links)
 
 -- Places of a layout.
 
@@ -262,6 +305,12 @@ desk-acted q r k x w h st lists = record {
     number : r.number ≡ q.number
     number = ap (λ (z : PlaceState). z.number) st ∙ (act-stays x (begun (state q) w)).number
 
+-- after its answer
+pub desk-called : (result : Result Reply PlaceFault) (q r : Place) (k : Links) (x : Command) (w v : Seated) → IsDesk q k
+    → IfOk result (λ reply. Called q r w v x reply) → OnErr result (Stays q r × (v ≡ w)) → IsDesk r k
+desk-called (Ok reply) q r k x w v h ok refused = desk-acted q r k x w h ok.ended.state ok.ended.waits
+desk-called (Err fault) q r k x w v h ok refused = desk-kept q r k k h refused.0.state (ap length refused.0.waits) (counts-self k)
+
 -- a new desk
 pub new-lists : (l : Layout) (q : Place) (s : ℕ) → q.out.lists ≡ nothing_to (places l) → state q ≡ started l s → length q.out.lists ≡ places q.layout + 1
 new-lists l q s lists st = ap length lists ∙ length-replicate (places l + 1) [] ∙ ap (λ (z : PlaceState). places z.layout + 1) (sym st)
@@ -290,3 +339,42 @@ lawful-own from k s h = subst (λ n. is_lawful n k s ≡ true) (sym is) h
 
     is : k.from ≡ from
     is = eqb-true k.from from (and_parts (k.from == from) (not (from == s.number)) with_other).0
+
+-- The packet in hand.
+
+pub in-none : {P : Type 0} (packet : P → Packet) (o : Option (Held P)) → in_hand packet o ≡ None → o ≡ None
+in-none packet None e = refl
+in-none packet (Some held) e = absurd (cc)
+
+pub on-err : {T E Q : Type 0} (result : Result T E) → Q → OnErr result Q
+on-err (Ok x) q = tt
+on-err (Err e) q = q
+
+-- what the code compares is the greatest of three clocks
+pub compares : (own last heard : ℕ) (a b c d : ℕ) → a ≡ own → b ≡ last → c ≡ max b heard → d ≡ max a c → d ≡ max own (max last heard)
+compares own last heard a b c d x y z v = v ∙ ap (λ n. max n c) x ∙ ap (max own) (z ∙ ap (λ n. max n heard) y)
+
+pub deals-worked : (from : ℕ) (k : Packet) (q r : Place) (links : Links) (was : Option (ℕ × Packet)) (last count more : ℕ) (w x : Seated)
+    → IsDesk q links → was ≡ None → is_lawful from k (state q) ≡ true → greatest_clock (begun_by (state q) w k) < CLOCK_LIMIT → WorkedOff q r w x k → more ≡ raised count
+    → DealsWith (pumps.Served from) from k (record { place = q; links = links; hand = was; last = last; worked = count })
+    (record { place = r; links = links; hand = was; last = last; worked = more }) w x
+deals-worked from k q r links was last count more w x h none lawful unworn done counted =
+    (refl, unworn, inl (record {
+      lawful = lawful;
+      state = done.state;
+      caller = done.caller_is;
+      waits = turn-waits q r links (work k (begun_by (state q) w k)).puts h done.waits;
+      counted = record { puts = done.puts; spare = done.spare };
+      links = refl;
+      hand = none;
+      last = refl;
+      worked = counted;
+    }))
+
+-- a turn with it that was refused as worn
+abbrev pub with_back : Packet → Result Pump PlaceFault → Result (Unit {0}) (Packet × PlaceFault)
+with_back k (Ok pump) = Ok tt
+with_back k (Err fault) = Err (k, fault)
+
+pub work-worn : (k back : Packet) (d : DeskState) (w : Seated) (clock : ℕ) → IsWornBack clock back k (begins_with k d w) → IsWornAt clock k d w
+work-worn k back d w clock h = record { greatest = h.1; worn = subst (λ n. CLOCK_LIMIT ≤ n) (sym h.1) h.0 }
