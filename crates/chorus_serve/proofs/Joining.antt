@@ -312,8 +312,14 @@ desk-called (Ok reply) q r k x w v h ok refused = desk-acted q r k x w h ok.ende
 desk-called (Err fault) q r k x w v h ok refused = desk-kept q r k k h refused.0.state (ap length refused.0.waits) (counts-self k)
 
 -- a new desk
-pub new-lists : (l : Layout) (q : Place) (s : ℕ) → q.out.lists ≡ nothing_to (places l) → state q ≡ started l s → length q.out.lists ≡ places q.layout + 1
+new-lists : (l : Layout) (q : Place) (s : ℕ) → q.out.lists ≡ nothing_to (places l) → state q ≡ started l s → length q.out.lists ≡ places q.layout + 1
 new-lists l q s lists st = ap length lists ∙ length-replicate (places l + 1) [] ∙ ap (λ (z : PlaceState). places z.layout + 1) (sym st)
+
+pub desk-started : (l : Layout) (n : ℕ) (q : Place) (k : Links) → ((p : ℕ) → IsOther l n p → k.reaches p ≡ true) → state q ≡ started l n → q.out.lists ≡ nothing_to (places l) → IsDesk q k
+desk-started l n q k reaches st lists = record {
+  reaches = λ p o. reaches p (subst (λ (z : PlaceState). IsOther z.layout z.number p) st o);
+  lists = new-lists l q n lists st;
+}
 
 -- what was put in a turn with a packet waits
 pub turn-waits : (q r : Place) (k : Links) (os : List Outgoing) → IsDesk q k → r.out.lists ≡ with_all os q.out.lists → (p : ℕ) → has_place q.layout p ≡ true
