@@ -1,6 +1,6 @@
 -- What goes out and what comes in, step by step.
 -- p is a place, ls, ms and ns are the packets that wait, by place; k, l and m are what the ends show, one after the other.
-use Rattle.std.proofs.Common.{ℕ, zero, suc, ◌≡◌, ◌≢◌, ◌+◌, ◌-◌, ◌^◌, ◌<◌, ◌≤◌, ◌==◌, ◌⊎◌, Bool, true, false, nat_lt, cond, List, [], ◌∷◌, ◌++◌, length, drop, get_or, set, Option, Some, None, slice_get, refl, sym, ◌∙◌, ap, subst, inl, inr, arith, append_assoc}
+use Rattle.std.proofs.Common.{ℕ, zero, suc, ◌≡◌, ◌≢◌, ◌+◌, ◌-◌, ◌^◌, ◌<◌, ◌≤◌, ◌==◌, Bool, true, false, nat_lt, cond, List, [], ◌∷◌, ◌++◌, length, drop, Option, Some, None, slice_get, refl, sym, ◌∙◌, ap, subst, inl, inr, arith, append_assoc}
 use Rattle.std.proofs.lemmas.Bool.{eq-eqb, ne_eqb, eqb-true, eqb-false, ltb-true, ltb-false}
 use Rattle.std.specs.Option.{unwrap_or}
 use Rattle.std.proofs.lemmas.List.{append-nil, length-set, get_or-set_same, get_or-set_other}
@@ -10,8 +10,8 @@ use Rattle.chorus_out.specs.Waiting.{list_to, with_last, with_first, without_fir
 use Rattle.chorus_machine.specs.PlaceState.{PlaceState, Outgoing}
 use Rattle.chorus_place.specs.Calls.{Place, state, with_all}
 use Rattle.chorus_io.specs.Count.{Rose}
-use Rattle.chorus_ends.specs.Links.{Links, Counts, Sends, Receives, MovesNothing, with_packet}
-use Rattle.chorus_serve.specs.Flows.{puts_to, from_place, last_from, IsNext, ComesNext, IsOther, GoesOut, Pushes, KeepsAtFull, EmptiesOrFull, WasEmpty, Takes}
+use Rattle.chorus_ends.specs.Links.{Links, Counts, Sends, Receives, MovesNothing}
+use Rattle.chorus_serve.specs.Flows.{puts_to, from_place, ComesNext, IsOther, GoesOut, Pushes, KeepsAtFull, Takes}
 
 -- Counts.
 

@@ -1,7 +1,7 @@
 -- The parts of a call of `serve`, put together.
 -- a, b, c, d and e are the desk before it, when what waited was sent, when a packet is in hand, when it is taken out, and at the
 -- end; w and x are the caller before and after, k is the packet.
-use Rattle.std.proofs.Common.{ℕ, ◌≡◌, ◌+◌, ◌<◌, ◌≤◌, ◌==◌, ◌⊎◌, nat_le, Bool, true, false, ◌&&◌, not, length, List, [], ◌∷◌, ◌++◌, Option, Some, None, refl, sym, ◌∙◌, ap, subst, inl, inr, arith, Result, Ok, Err, IfOk, OnOk, OnErr, max}
+use Rattle.std.proofs.Common.{ℕ, ◌≡◌, ◌+◌, ◌<◌, ◌≤◌, ◌==◌, ◌⊎◌, nat_le, true, ◌&&◌, not, length, List, [], ◌∷◌, ◌++◌, Option, Some, None, refl, sym, ◌∙◌, ap, subst, inl, inr, arith, Result, Ok, Err, IfOk, OnOk, OnErr, max}
 use Rattle.std.specs.Prelude.{option_to_list}
 use Rattle.std.proofs.lemmas.Bool.{and_from, and_parts, le-leb, leb-true, eqb-true}
 use Rattle.std.proofs.lemmas.List.{append-nil, length-replicate}
@@ -24,10 +24,10 @@ use Rattle.chorus_serve.specs.declared.pump.Pump.{Pump}
 use Rattle.chorus_serve.specs.declared.pump.Pump.TheVariants as pumps
 use Rattle.chorus_io.specs.Count.{raised}
 use Rattle.chorus_ends.specs.Links.{Links, Counts}
-use Rattle.chorus_serve.specs.Flows.{IsOther, Pushes, GoesOut, KeepsAtFull, EmptiesOrFull, WasEmpty, ComesNext, Takes, puts_to, from_place, last_from}
+use Rattle.chorus_serve.specs.Flows.{IsOther, Pushes, GoesOut, KeepsAtFull, EmptiesOrFull, WasEmpty, ComesNext, puts_to, from_place, last_from}
 use Rattle.chorus_serve.specs.Desks.{DeskState, IsDesk, in_hand}
 use Rattle.chorus_serve.specs.declared.held.Held.{Held}
-use Rattle.chorus_serve.specs.Working.{begins_with, AreCounted, Holds, IsWorkedOff, IsHeldBack, DealsWith, Waits, IsWornAt}
+use Rattle.chorus_serve.specs.Working.{begins_with, AreCounted, Holds, IsWorkedOff, IsHeldBack, DealsWith, IsWornAt}
 use Rattle.chorus_serve.specs.Serving.{Moved, Rests, WorksOff, KeepsInHand, IsIdle, Answers, IsWornBy, SendsOut, TakesUp, FindsNone, LaysDown}
 use Rattle.chorus_serve.proofs.Flowing.{counts-self, counts-on, rose-on, rose-behind, comes-behind, goes-nothing, goes-on, all-length, all-wait}
 
@@ -364,18 +364,21 @@ pub deals-worked : (from : ℕ) (k : Packet) (q r : Place) (links : Links) (was 
     → IsDesk q links → was ≡ None → is_lawful from k (state q) ≡ true → greatest_clock (begun_by (state q) w k) < CLOCK_LIMIT → WorkedOff q r w x k → more ≡ raised count
     → DealsWith (pumps.Served from) from k (record { place = q; links = links; hand = was; last = last; worked = count })
     (record { place = r; links = links; hand = was; last = last; worked = more }) w x
-deals-worked from k q r links was last count more w x h none lawful unworn done counted =
-    (refl, unworn, inl (record {
-      lawful = lawful;
-      state = done.state;
-      caller = done.caller_is;
-      waits = turn-waits q r links (work k (begun_by (state q) w k)).puts h done.waits;
-      counted = record { puts = done.puts; spare = done.spare };
-      links = refl;
-      hand = none;
-      last = refl;
-      worked = counted;
-    }))
+deals-worked from k q r links was last count more w x h none lawful unworn done counted = (
+  refl,
+  unworn,
+  inl (record {
+    lawful = lawful;
+    state = done.state;
+    caller = done.caller_is;
+    waits = turn-waits q r links (work k (begun_by (state q) w k)).puts h done.waits;
+    counted = record { puts = done.puts; spare = done.spare };
+    links = refl;
+    hand = none;
+    last = refl;
+    worked = counted;
+  }),
+)
 
 -- a turn with it that was refused as worn
 abbrev pub with_back : Packet → Result Pump PlaceFault → Result (Unit {0}) (Packet × PlaceFault)

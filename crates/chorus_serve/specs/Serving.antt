@@ -1,6 +1,6 @@
 -- What a call of `serve` does.
 -- old and new are the desk, before and after the caller, k is a packet, from the place that it came from.
-use Rattle.std.specs.Prelude.{ℕ, ◌≡◌, ◌≤◌, ◌<◌, ◌⊎◌, true, false, List, [], ◌∷◌, ◌++◌, Option, Some, None, option_to_list}
+use Rattle.std.specs.Prelude.{ℕ, ◌≡◌, ◌≤◌, ◌<◌, ◌⊎◌, true, false, List, [], ◌++◌, Option, Some, None, option_to_list}
 use Rattle.chorus_ui.specs.declared.limits.TheConstants.{CLOCK_LIMIT}
 use Rattle.chorus_ui.specs.Layout.{has_place}
 use Rattle.chorus_entry.specs.declared.packet.Packet.{Packet}

@@ -93,12 +93,7 @@ fn split_hand<P>(hand: Option<Held<P>>) -> (Option<Packet>, Option<P>)
 impl<E: Ends> Desk<E> {
     /// The place of this number, one of the layout, on which nothing happened yet, at these ends, which reach each other place.
     /// The only error is want of memory.
-    pub fn start(
-        alloc: Global,
-        layout: Layout,
-        number: u16,
-        ends: E,
-    ) -> Result<Desk<E>, AllocError>
+    pub fn start(alloc: Global, layout: Layout, number: u16, ends: E) -> Result<Desk<E>, AllocError>
         requires place { has_place layout number ≡ true }
         requires reaches { (p : ℕ) → IsOther layout number p → (E.links ends).reaches p ≡ true }
         ensures state { IfOk result (λ desk. state desk.place ≡ started layout number) }

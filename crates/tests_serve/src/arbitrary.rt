@@ -28,7 +28,9 @@ impl<'a, R: Abort> Draws<'a, R> {
             .state
             .wrapping_mul(6_364_136_223_846_793_005)
             .wrapping_add(1_442_695_040_888_963_407);
-        let drawn = (self.state >> 33).checked_rem(u64::from(count)).unwrap_or(0);
+        let drawn = (self.state >> 33)
+            .checked_rem(u64::from(count))
+            .unwrap_or(0);
         u16::try_from(drawn).unwrap_or(0)
     }
 
@@ -82,7 +84,9 @@ impl<'a, R: Abort> Draws<'a, R> {
     /// A port with nothing in it.
     fn record(&mut self) -> PortRecord {
         let (port, actor) = (self.name(Kind::Port), self.name(Kind::Actor));
-        let mut record = PortRecord::with_room(self.alloc, port, actor, 2).expect(self.rt, "memory");
+        let mut record = PortRecord::with_room(self.alloc, port, actor, 2).expect(
+            self.rt, "memory",
+        );
         record.hop = u64::from(self.below(3));
         record
     }
@@ -154,7 +158,8 @@ fn hand_over(rt: &impl Abort, alloc: Global, packet: Packet) -> End {
     let second = serve(&mut desk, &(), &mut caller);
     let stays = first == second && desk.is_holding() && desk.place().journal().len() == entries;
     match first {
-        Ok(Pump::Served { from: 2 }) if !holds && entries > 0 && desk.worked() == 1 => End::WorkedOff,
+        Ok(Pump::Served { from: 2 }) if !holds && entries > 0 && desk.worked() == 1 =>
+            End::WorkedOff,
         Ok(Pump::Served { from: 2 }) if holds && entries == 0 && stays => End::Held,
         Err(PlaceFault::Worn { .. }) if holds && entries == 0 && stays => End::Worn,
         Ok(Pump::Idle { .. }) if !holds && entries == 0 => End::NotReached,

@@ -52,14 +52,16 @@ pub(crate) fn holding(rt: &impl Abort, alloc: Global, packets: Vec<Packet>) -> D
 /// Whether the packet is from place 1, and tells place 2 that there is no port.
 fn tells_no_port(packet: Option<&Packet>) -> bool {
     match packet {
-        Some(Packet {
-            from: 1,
-            cargo: Cargo::Verdict {
-                answer: Answer::NoPort,
+        Some(
+            Packet {
+                from: 1,
+                cargo: Cargo::Verdict {
+                    answer: Answer::NoPort,
+                    ..
+                },
                 ..
             },
-            ..
-        }) => true,
+        ) => true,
         _ => false,
     }
 }
@@ -71,9 +73,15 @@ fn what_is_tried_is_answered(rt: HostRuntime) -> Result<(), Fail> {
     packets.push(tried(&rt, rt.alloc(), 5))?;
     let mut desk = holding(&rt, rt.alloc(), packets);
     let mut caller = Caller::new(0, name(&rt, "1.a.1"), 0);
-    assert_eq!(rt; serve(&mut desk, &(), &mut caller), Ok(Pump::Served { from: 2 }));
+    assert_eq!(rt;
+        serve(&mut desk, &(), &mut caller),
+        Ok(Pump::Served { from: 2 })
+    );
     assert!(rt; desk.ends().sent(2).is_empty());
-    assert_eq!(rt; serve(&mut desk, &(), &mut caller), Ok(Pump::Served { from: 2 }));
+    assert_eq!(rt;
+        serve(&mut desk, &(), &mut caller),
+        Ok(Pump::Served { from: 2 })
+    );
     assert_eq!(rt; desk.ends().sent(2).len(), 1);
     let idle = Pump::Idle { put: 2, worked: 2 };
     assert_eq!(rt; serve(&mut desk, &(), &mut caller), Ok(idle));
@@ -92,9 +100,17 @@ fn a_port_that_is_held_does_not_come_again(rt: HostRuntime) -> Result<(), Fail> 
     packets.push(from_two(9, Cargo::Transfer { port: record }))?;
     let mut desk = holding(&rt, rt.alloc(), packets);
     let mut caller = Caller::new(0, actor, 0);
-    act(&rt, &mut desk, &mut caller, Command::Make { actor, capacity: 2 });
+    act(
+        &rt,
+        &mut desk,
+        &mut caller,
+        Command::Make { actor, capacity: 2 },
+    );
     for _again in 0..2 {
-        assert_eq!(rt; serve(&mut desk, &(), &mut caller), Ok(Pump::Served { from: 2 }));
+        assert_eq!(rt;
+            serve(&mut desk, &(), &mut caller),
+            Ok(Pump::Served { from: 2 })
+        );
         assert!(rt; desk.is_holding());
         assert_eq!(rt; (desk.waiting(), desk.held(), desk.worked()), (1, 1, 0));
         assert_eq!(rt; desk.place().journal().len(), 1);

@@ -33,8 +33,14 @@ fn journal_of(rt: &impl Abort, desk: Desk<RuledEnds>) -> Vec<Entry> {
 fn lines(rt: &impl Abort, alloc: Global, pair: Pair) -> Vec<u8> {
     let Pair { here, there } = pair;
     let mut journals = Vec::new(alloc);
-    journals.push(journal_of(rt, here)).ok().expect(rt, "memory");
-    journals.push(journal_of(rt, there)).ok().expect(rt, "memory");
+    journals
+        .push(journal_of(rt, here))
+        .ok()
+        .expect(rt, "memory");
+    journals
+        .push(journal_of(rt, there))
+        .ok()
+        .expect(rt, "memory");
     let mut out = Vec::new(alloc);
     for entry in &merge(alloc, &journals).expect(rt, "memory") {
         entry_line(entry, &mut out).expect(rt, "memory");
@@ -69,10 +75,22 @@ fn ruled_ends_carry_packets(rt: HostRuntime) -> Result<(), Fail> {
     act(&rt, &mut pair.there, &mut keeper, make);
     send(&rt, alloc, &mut pair.here, (1, "1.a.1"), "hi");
     send(&rt, alloc, &mut pair.there, (2, "2.a.1"), "yo");
-    assert_eq!(rt; pump(&rt, &mut pair.here, &mut keeper), Pump::Idle { put: 1, worked: 0 });
-    assert_eq!(rt; pump(&rt, &mut pair.there, &mut keeper), Pump::Served { from: 1 });
-    assert_eq!(rt; pump(&rt, &mut pair.there, &mut keeper), Pump::Idle { put: 1, worked: 1 });
-    assert_eq!(rt; pump(&rt, &mut pair.here, &mut keeper), Pump::Served { from: 2 });
+    assert_eq!(rt;
+        pump(&rt, &mut pair.here, &mut keeper),
+        Pump::Idle { put: 1, worked: 0 }
+    );
+    assert_eq!(rt;
+        pump(&rt, &mut pair.there, &mut keeper),
+        Pump::Served { from: 1 }
+    );
+    assert_eq!(rt;
+        pump(&rt, &mut pair.there, &mut keeper),
+        Pump::Idle { put: 1, worked: 1 }
+    );
+    assert_eq!(rt;
+        pump(&rt, &mut pair.here, &mut keeper),
+        Pump::Served { from: 2 }
+    );
     let lines = lines(&rt, alloc, pair);
     assert!(rt; lines.as_slice() == LINES.as_bytes());
     Ok(())

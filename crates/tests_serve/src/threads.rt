@@ -34,14 +34,24 @@ fn work<R: Abort + Wait>(rt: &R, alloc: Global, side: &mut Side) {
     for message in 0..MESSAGES {
         let body = Body::new(alloc, b"body").expect(rt, "memory");
         let dest = Dest::Port(port);
-        act(rt, &mut side.desk, &mut side.caller, Command::Send { dest, body });
+        act(
+            rt,
+            &mut side.desk,
+            &mut side.caller,
+            Command::Send { dest, body },
+        );
         pump(rt, &mut side.desk, &mut side.caller);
         if message % 4 == 0 {
             act(rt, &mut side.desk, &mut side.caller, Command::Take { port });
         }
         if message % 16 == 0 {
             let actor = side.far;
-            act(rt, &mut side.desk, &mut side.caller, Command::Move { port, actor });
+            act(
+                rt,
+                &mut side.desk,
+                &mut side.caller,
+                Command::Move { port, actor },
+            );
         }
     }
     for _round in 0..ROUNDS {
@@ -63,8 +73,13 @@ fn drain<R: Abort + Wait>(rt: &R, near: &mut Side, far: &mut Side) {
 /// Whether nothing is left where these are the answers of the two places.
 fn are_at_rest(one: Pump, other: Pump) -> bool {
     match (one, other) {
-        (Pump::Idle { put, worked }, Pump::Idle { put: more, worked: too }) =>
-            put.saturating_add(more) == worked.saturating_add(too),
+        (
+            Pump::Idle { put, worked },
+            Pump::Idle {
+                put: more,
+                worked: too,
+            },
+        ) => put.saturating_add(more) == worked.saturating_add(too),
         _ => false,
     }
 }

@@ -1,4 +1,4 @@
-use Rattle.std.proofs.Common.{◌≡◌, ◌∙◌, sym}
+use Rattle.std.proofs.Common.{◌∙◌, sym}
 use Rattle.chorus_serve.proofs.Flowing.{none-pushes, one-pushes, back-pushes}
 use Rattle.chorus_serve.proofs.pushing.push_one.Goals as goal
 

@@ -8,7 +8,7 @@ pub returns-clause-emptied : goal.returns-clause-emptied
 returns-clause-emptied g c =
     subst
     (λ (d : DeskOf _ _). OnOk c.push_all.result ((p : ℕ) → IsOther d.place.layout d.place.number p
-        → EmptiesOrFull p d.place.out.lists (g.E.Ends.links d.ends) (g.E.Ends.links c.push_all.new.ends)))
+    → EmptiesOrFull p d.place.out.lists (g.E.Ends.links d.ends) (g.E.Ends.links c.push_all.new.ends)))
     c.desk.view_is
     (all-emptied c.push_all.result c.desk.inside.place c.push_all.new.place (g.E.Ends.links c.desk.inside.ends) (g.E.Ends.links c.push_all.new.ends) c.push_all.ensures.pushes
     c.push_all.ensures.emptied)

@@ -1,9 +1,9 @@
-use Rattle.std.proofs.Common.{◌≡◌, sym, ◌∙◌, ap, refl}
+use Rattle.std.proofs.Common.{sym, ◌∙◌, ap}
 use Rattle.std.proofs.lemmas.Result.{IfOk-weaker, on_err_weaker}
 use Rattle.chorus_serve.specs.Desks.{DeskOf, in_hand, seen}
 use Rattle.chorus_serve.specs.Serving.{Answers}
 use Rattle.chorus_serve.specs.Working.{DealsWith}
-use Rattle.chorus_serve.proofs.Joining.{sealed-rests, none-idle, held-rests, dealt-answers, ok-emptied, err-worn, in-none, on-err}
+use Rattle.chorus_serve.proofs.Joining.{sealed-rests, none-idle, held-rests, dealt-answers, ok-emptied, in-none, on-err}
 use Rattle.chorus_serve.proofs.serving.serve.Goals as goal
 
 pub returns-in_err-from-clause-refused : goal.returns-in_err-from-clause-refused
@@ -15,11 +15,13 @@ returns-in_err-from-clause-refused g c =
 
 pub returns-in_default-clause-ok : goal.returns-in_default-clause-ok
 returns-in_default-clause-ok g c =
-    let none = sym c.in_ok-from.ensures.packet ∙ c.in_default.is in
-    (none-idle (seen g.E.Ends.links g.E.Ends.packet c.args.desk.now) (seen g.E.Ends.links g.E.Ends.packet c.send_out.new.desk) (seen g.E.Ends.links g.E.Ends.packet c.take_up.new.desk)
-    c.send_out.ensures.sends c.take_up.ensures.took (seen g.E.Ends.links g.E.Ends.packet c.lay_down.new.desk) c.args.caller.now c.lay_down.ensures.same none
-    (ap (in_hand g.E.Ends.packet) c.in_ok-from.ensures.none) (c.take_up.ensures.none (in-none g.E.Ends.packet c.take_up.new.desk.hand none)),
-    c.puts-put.ensures ∙ ap (λ (d : DeskOf _ _). d.place.out.puts) c.desk.view_is, ap (λ (d : DeskOf _ _). d.worked) c.desk.view_is)
+    let none = sym c.in_ok-from.ensures.packet ∙ c.in_default.is in (
+      none-idle (seen g.E.Ends.links g.E.Ends.packet c.args.desk.now) (seen g.E.Ends.links g.E.Ends.packet c.send_out.new.desk) (seen g.E.Ends.links g.E.Ends.packet c.take_up.new.desk)
+          c.send_out.ensures.sends c.take_up.ensures.took (seen g.E.Ends.links g.E.Ends.packet c.lay_down.new.desk) c.args.caller.now c.lay_down.ensures.same none
+          (ap (in_hand g.E.Ends.packet) c.in_ok-from.ensures.none) (c.take_up.ensures.none (in-none g.E.Ends.packet c.take_up.new.desk.hand none)),
+      c.puts-put.ensures ∙ ap (λ (d : DeskOf _ _). d.place.out.puts) c.desk.view_is,
+      ap (λ (d : DeskOf _ _). d.worked) c.desk.view_is,
+    )
 
 pub returns-clause-ok : goal.returns-clause-ok
 returns-clause-ok g c =

@@ -1,4 +1,4 @@
-use Rattle.std.proofs.Common.{ℕ, ◌≡◌, ◌≢◌, ◌+◌, ◌-◌, ◌<◌, ◌≤◌, None}
+use Rattle.std.proofs.Common.{ℕ, ◌≢◌, ◌+◌, ◌-◌, ◌<◌, ◌≤◌, None}
 use Rattle.chorus_serve.specs.Flows.{Takes, WasEmpty}
 use Rattle.chorus_serve.proofs.taking.take_between.Given as goal
 

@@ -1,8 +1,6 @@
-use Rattle.std.proofs.Common.{rules, ℕ, ◌≡◌, sym, ◌∙◌, ap, subst, Some, None, IsErrOf, Err}
-use Rattle.chorus_entry.specs.declared.packet.Packet.{Packet}
+use Rattle.std.proofs.Common.{rules, ◌∙◌, ap, subst}
 use Rattle.chorus_serve.specs.Desks.{DeskOf, in_hand, seen}
 use Rattle.chorus_serve.specs.Working.{DealsWith, IsWornAt}
-use Rattle.chorus_place.specs.declared.fault.PlaceFault.TheVariants as PlaceFault
 use Rattle.chorus_serve.specs.declared.pump.Pump.TheVariants as pumps
 use Rattle.chorus_serve.proofs.Joining.{desk-worked, compares, deals-worked, with_back, work-worn}
 use Rattle.chorus_serve.proofs.working.deal_with.Goals as goal
@@ -18,8 +16,8 @@ returns-in-Ok-clause-ok g c =
     let clock = compares _ c.args.caller.now.last c.args.packet.clock c.clock.result c.last.result c.max.result c.max-clock.result c.clock.ensures c.last.ensures c.max.ensures c.max-clock.ensures in
     subst
     (λ (d : DeskOf _ _). DealsWith (pumps.Served c.args.from) c.args.from c.args.packet (seen g.E.Ends.links g.E.Ends.packet d)
-        (record { place = c.work.new.self; links = g.E.Ends.links c.desk.inside.ends; hand = in_hand g.E.Ends.packet c.desk.inside.hand; last = c.desk.inside.last; worked = c.saturating_add-desk-inside.result })
-        c.args.caller.now c.work.new.caller)
+    (record { place = c.work.new.self; links = g.E.Ends.links c.desk.inside.ends; hand = in_hand g.E.Ends.packet c.desk.inside.hand; last = c.desk.inside.last; worked = c.saturating_add-desk-inside.result })
+    c.args.caller.now c.work.new.caller)
     c.desk.view_is
     (deals-worked c.args.from c.args.packet q c.work.new.self (g.E.Ends.links c.desk.inside.ends) (in_hand g.E.Ends.packet c.desk.inside.hand) c.desk.inside.last c.desk.inside.worked
     c.saturating_add-desk-inside.result c.args.caller.now c.work.new.caller c.desk.invariant none (search rules) (search rules) c.in-Ok.ensures.worked (search rules))
@@ -27,7 +25,7 @@ returns-in-Ok-clause-ok g c =
 pub returns-in-Err-clause-worn : goal.returns-in-Err-clause-worn
 returns-in-Err-clause-worn g c =
     λ clock e.
-        subst (λ (d : DeskOf _ _). IsWornAt clock c.args.packet (seen g.E.Ends.links g.E.Ends.packet d) c.args.caller.now) c.desk.view_is
-        (work-worn c.args.packet c.in-Err.packet
-        (record { place = c.desk.inside.place; links = g.E.Ends.links c.desk.inside.ends; hand = in_hand g.E.Ends.packet c.desk.inside.hand; last = c.desk.inside.last; worked = c.desk.inside.worked })
-        c.args.caller.now clock ((c.work.ensures.worn c.in-Err.packet clock).0 (c.in-Err.is ∙ ap (with_back c.in-Err.packet) e)))
+    subst (λ (d : DeskOf _ _). IsWornAt clock c.args.packet (seen g.E.Ends.links g.E.Ends.packet d) c.args.caller.now) c.desk.view_is
+    (work-worn c.args.packet c.in-Err.packet
+    (record { place = c.desk.inside.place; links = g.E.Ends.links c.desk.inside.ends; hand = in_hand g.E.Ends.packet c.desk.inside.hand; last = c.desk.inside.last; worked = c.desk.inside.worked })
+    c.args.caller.now clock ((c.work.ensures.worn c.in-Err.packet clock).0 (c.in-Err.is ∙ ap (with_back c.in-Err.packet) e)))

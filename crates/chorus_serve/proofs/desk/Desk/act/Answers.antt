@@ -17,5 +17,5 @@ pub returns-clause-worn : goal.returns-clause-worn
 returns-clause-worn g c =
     subst
     (λ (q : Place). (clock : ℕ) → IsErrOf c.act.result (PlaceFault.Worn clock)
-        ↔ ((CLOCK_LIMIT ≤ greatest_clock (begun (state q) c.args.caller.now)) × (clock ≡ greatest_clock (begun (state q) c.args.caller.now))))
+    ↔ ((CLOCK_LIMIT ≤ greatest_clock (begun (state q) c.args.caller.now)) × (clock ≡ greatest_clock (begun (state q) c.args.caller.now))))
     (ap (λ (d : DeskOf _ _). d.place) c.self.view_is) c.act.ensures.worn
