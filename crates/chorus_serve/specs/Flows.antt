@@ -1,0 +1,89 @@
+-- What goes out, and what comes in.
+-- p is a place, ls are the packets that wait, by the places that they go to; old and new are what the ends show.
+use Rattle.std.specs.Prelude.{ℕ, ◌≡◌, ◌≢◌, ◌<◌, ◌≤◌, ◌==◌, ◌⊎◌, if◌then◌else◌, Bool, true, false, List, [], ◌∷◌, ◌++◌, length, Option, Some, None}
+use Rattle.chorus_ui.specs.declared.layout.Layout.{Layout}
+use Rattle.chorus_ui.specs.Layout.{has_place}
+use Rattle.chorus_entry.specs.declared.packet.Packet.{Packet}
+use Rattle.chorus_out.specs.Waiting.{list_to}
+use Rattle.chorus_machine.specs.PlaceState.{Outgoing}
+use Rattle.chorus_place.specs.Calls.{Place, state}
+use Rattle.chorus_io.specs.Count.{Rose}
+use Rattle.chorus_ends.specs.Links.{Links, Counts}
+
+-- another place than this one
+pub record IsOther (l : Layout) (number p : ℕ) : Type 0 where
+  pub place : has_place l p ≡ true
+  pub other : p ≢ number
+
+-- of packets that are put, those for the place
+abbrev pub puts_to : ℕ → List Outgoing → List Packet
+puts_to p [] = []
+puts_to p (o ∷ os) = if p == o.to then o.packet ∷ puts_to p os else puts_to p os
+
+-- the packet, if there is one, where it came from the place
+abbrev pub from_place : ℕ → Option (ℕ × Packet) → List Packet
+from_place p None = []
+from_place p (Some (from, packet)) = if p == from then packet ∷ [] else []
+
+-- what was sent to the place, followed by what then waits for it, is what waited followed by what was put
+pub record GoesOut (p : ℕ) (put : List Packet) (before after : List (List Packet)) (old new : Links) : Type 0 where
+  pub pushed : List Packet
+  pub sent : new.sent p ≡ old.sent p ++ pushed
+  pub waits : pushed ++ list_to p after ≡ list_to p before ++ put
+
+-- a packet that waits for the place is kept only where a link to it was found full
+abbrev pub KeepsAtFull : ℕ → List (List Packet) → Links → Links → Type 0
+KeepsAtFull p after old new = (list_to p after ≡ []) ⊎ Rose (old.fulls p) (new.fulls p)
+
+-- all that waited for the place was sent, or a link to it was found full
+abbrev pub EmptiesOrFull : ℕ → List (List Packet) → Links → Links → Type 0
+EmptiesOrFull p before old new = (new.sent p ≡ old.sent p ++ list_to p before) ⊎ Rose (old.fulls p) (new.fulls p)
+
+-- a link from the place was found empty
+abbrev pub WasEmpty : ℕ → Links → Links → Type 0
+WasEmpty p old new = Rose (old.empties p) (new.empties p)
+
+-- at most this packet was received, and nothing was sent
+pub record Takes (popped : Option (ℕ × Packet)) (old new : Links) : Type 0 where
+  pub received : (p : ℕ) → new.received p ≡ old.received p ++ from_place p popped
+  pub sent : (p : ℕ) → new.sent p ≡ old.sent p
+  pub counts : Counts old new
+
+-- places are asked from the one behind `last` on and around: p before `from`
+abbrev pub IsAskedBefore : ℕ → ℕ → ℕ → Type 0
+IsAskedBefore from last p = ((last < p) × (p < from)) ⊎ ((from ≤ last) × ((last < p) ⊎ (p < from)))
+
+-- it is another place, and a link from each place that is asked before it was found empty
+pub record IsNext (l : Layout) (number last from : ℕ) (old new : Links) : Type 0 where
+  pub other : IsOther l number from
+  pub empties : (p : ℕ) → IsOther l number p → IsAskedBefore from last p → WasEmpty p old new
+
+-- so the packet, if there is one, came from the next place
+abbrev pub ComesNext : Layout → ℕ → ℕ → Option (ℕ × Packet) → Links → Links → Type 0
+ComesNext l number last None old new = Unit {0}
+ComesNext l number last (Some (from, packet)) old new = IsNext l number last from old new
+
+-- the place from which the last packet was received
+abbrev pub last_from : ℕ → Option (ℕ × Packet) → ℕ
+last_from last None = last
+last_from last (Some (from, packet)) = from
+
+-- where one more packet was sent to the place, fewer wait
+abbrev pub HasFewer : Bool → ℕ → List (List Packet) → List (List Packet) → Type 0
+HasFewer true to before after = length (list_to to after) < length (list_to to before)
+HasFewer false to before after = Unit {0}
+
+-- where none was sent, none waits or a link was found full
+abbrev pub StopsAtFull : Bool → ℕ → List (List Packet) → Links → Links → Type 0
+StopsAtFull true to after old new = Unit {0}
+StopsAtFull false to after old new = KeepsAtFull to after old new
+
+-- some of what waited was sent, and nothing else changed
+pub record Pushes (old new : Place) (k l : Links) : Type 0 where
+  pub state : state new ≡ state old
+  pub out : (p : ℕ) → GoesOut p [] old.out.lists new.out.lists k l
+  pub received : (p : ℕ) → l.received p ≡ k.received p
+  pub counts : Counts k l
+  pub lists : length new.out.lists ≡ length old.out.lists
+  pub puts : new.out.puts ≡ old.out.puts
+  pub spare : old.spare ≤ new.spare

@@ -1,0 +1,4 @@
+pub mod Flows
+pub mod Desks
+pub mod Working
+pub mod Serving

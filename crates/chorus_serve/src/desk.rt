@@ -1,0 +1,218 @@
+//! A place at the ends of its links.
+
+ghost use Rattle.std.specs.Prelude.{◌≡◌, ℕ, ◌<◌, ◌≤◌, ◌↔◌, true, None, is_some, length, reverse, IfOk, OnOk, OnErr, IsErrOf, IsOk};
+ghost use Rattle.chorus_ui.specs.declared.limits.TheConstants.{CLOCK_LIMIT};
+ghost use Rattle.chorus_ui.specs.Layout.{has_place, places};
+ghost use Rattle.chorus_entry.specs.Command.{is_post};
+ghost use Rattle.chorus_out.specs.Waiting.{nothing_to, count};
+ghost use Rattle.chorus_machine.specs.PlaceState.{started, greatest_clock};
+ghost use Rattle.chorus_machine.specs.PlaceMachine.{begun};
+ghost use Rattle.chorus_place.specs.Calls.{state, is_call, Called, MayCall, Stays, TakesNone};
+ghost use Rattle.chorus_place.specs.declared.fault.PlaceFault.TheVariants as PlaceFault;
+ghost use Rattle.chorus_serve.specs.Desks.{SameHands, opened_in, sealed_in, packet_of, parcel_of, with_hand};
+ghost use Rattle.chorus_serve.specs.Flows.{IsOther};
+
+use crate::held::{Content, Held};
+use chorus_calls::Caller;
+use chorus_ends::Ends;
+use chorus_entry::{Command, Entry, Packet};
+use chorus_machine::Reply;
+use chorus_out::Outbox;
+use chorus_place::{Place, PlaceFault};
+use chorus_ports::Ports;
+use chorus_ui::Layout;
+use std::alloc::{AllocError, Global};
+use std::marker::Model;
+
+/// A place at the ends of its links, and the packet that it has in hand.
+#[derive(Drop)]
+pub struct Desk<E: Ends> {
+    pub(crate) place: Place,
+    pub(crate) ends: E,
+    pub(crate) hand: Option<Held<E::Parcel>>,
+    /// The place from which the last packet was taken, or 0.
+    pub(crate) last: u16,
+    /// How many packets were worked off, up to 2^64 - 1.
+    pub(crate) worked: u64,
+}
+
+impl<E: Ends> Model for Desk<E> {
+    ghost use Rattle.chorus_serve.specs.Desks as desks;
+
+    ghost Value = { desks.DeskOf E E.Parcel };
+
+    ghost view = { λ d. record {
+      place = d.place;
+      ends = d.ends;
+      hand = d.hand;
+      last = d.last;
+      worked = d.worked;
+    } };
+
+    ghost invariant = { λ d. desks.IsDesk d.place (E.links d.ends) };
+}
+
+/// What is left of a desk at its end.
+#[derive(Drop)]
+pub struct Parts<E: Ends> {
+    /// The journal, in order.
+    pub journal: Vec<Entry>,
+    /// The packets that wait to go to other places.
+    pub out: Outbox,
+    /// The packet in hand, where it was opened.
+    pub hand: Option<Packet>,
+    /// What was in hand, where it was not opened.
+    pub parcel: Option<E::Parcel>,
+    /// The ports that the place holds.
+    pub ports: Ports,
+    pub ends: E,
+}
+
+/// The packet, where it is opened, or else the parcel.
+fn split<P>(content: Content<P>) -> (Option<Packet>, Option<P>)
+    ensures packet { result.0 ≡ packet_of content }
+    ensures parcel { result.1 ≡ parcel_of content }
+{
+    match content {
+        Content::Sealed(parcel) => (None, Some(parcel)),
+        Content::Opened(packet) => (Some(packet), None),
+    }
+}
+
+/// The same of what is in hand, if anything.
+fn split_hand<P>(hand: Option<Held<P>>) -> (Option<Packet>, Option<P>)
+    ensures packet { result.0 ≡ opened_in hand }
+    ensures parcel { result.1 ≡ sealed_in hand }
+{
+    match hand {
+        Some(Held { from: _, content }) => split(content),
+        None => (None, None),
+    }
+}
+
+impl<E: Ends> Desk<E> {
+    /// The place of this number, one of the layout, on which nothing happened yet, at these ends, which reach each other place.
+    /// The only error is want of memory.
+    pub fn start(alloc: Global, layout: Layout, number: u16, ends: E) -> Result<Desk<E>, AllocError>
+        requires place { has_place layout number ≡ true }
+        requires reaches { (p : ℕ) → IsOther layout number p → (E.links ends).reaches p ≡ true }
+        ensures state { IfOk result (λ desk. state desk.place ≡ started layout number) }
+        ensures out { IfOk result (λ desk. desk.place.out.lists ≡ nothing_to (places layout)) }
+        ensures puts { IfOk result (λ desk. desk.place.out.puts ≡ 0) }
+        ensures ends { IfOk result (λ desk. desk.ends ≡ ends) }
+        ensures hand { IfOk result (λ desk. desk.hand ≡ None) }
+        ensures worked { IfOk result (λ desk. desk.worked ≡ 0) }
+    {
+        let place = Place::start(alloc, layout, number)?;
+        Ok(Desk {
+            place,
+            ends,
+            hand: None,
+            last: 0,
+            worked: 0,
+        })
+    }
+
+    /// The place.
+    pub fn place(&self) -> &Place
+        ensures { result.now ≡ self.now.place }
+    {
+        &self.place
+    }
+
+    /// The ends.
+    pub fn ends(&self) -> &E
+        ensures { result.now ≡ self.now.ends }
+    {
+        &self.ends
+    }
+
+    /// Whether a packet is in hand.
+    pub fn is_holding(&self) -> bool
+        ensures { result ≡ is_some self.now.hand }
+    {
+        self.hand.is_some()
+    }
+
+    /// How many packets were worked off so far, up to 2^64 - 1.
+    pub fn worked(&self) -> u64
+        ensures { result ≡ self.now.worked }
+    {
+        self.worked
+    }
+
+    /// How many packets wait to go or are in hand, up to 2^64 - 1.
+    pub fn waiting(&self) -> u64
+        ensures { result ≡ with_hand self.now.hand (count self.now.place.out.lists) }
+    {
+        let waiting = self.place.waiting();
+        match &self.hand {
+            Some(_) => waiting.saturating_add(1),
+            None => waiting,
+        }
+    }
+
+    /// How many ports the place holds.
+    pub fn held(&self) -> u16
+        ensures { result ≡ length self.now.place.ports }
+    {
+        self.place.held()
+    }
+
+    /// Makes room for at least so many entries and packets. Nothing else changes, whatever the answer.
+    pub fn reserve(&mut self, more: u32) -> Result<(), AllocError>
+        ensures place { Stays self.old.place self.new.place }
+        ensures ok { OnOk result (more ≤ self.new.place.spare) }
+        ensures hands { SameHands self.old self.new }
+    {
+        self.place.reserve(more)
+    }
+
+    /// Performs a caller's command as [`Place::act`] does. It touches no link.
+    pub fn act(&mut self, caller: &mut Caller, command: Command) -> Result<Reply, PlaceFault>
+        requires may { MayCall (state self.old.place) caller.old command }
+        requires posts { is_post command ≡ true → caller.old.posts < u32.MAX }
+        requires given { is_call command ≡ true → caller.old.client.given < u32.MAX }
+        ensures called { IfOk result (λ r.
+            Called self.old.place self.new.place caller.old caller.new command r) }
+        ensures worn { (clock : ℕ) → IsErrOf result (PlaceFault.Worn clock) ↔
+            ((CLOCK_LIMIT ≤ greatest_clock (begun (state self.old.place) caller.old))
+            × (clock ≡ greatest_clock (begun (state self.old.place) caller.old))) }
+        ensures refused { OnErr result
+            (Stays self.old.place self.new.place × (caller.new ≡ caller.old)) }
+        ensures takes_no_memory { TakesNone command (state self.old.place) caller.old →
+            2 ≤ self.old.place.spare →
+            greatest_clock (begun (state self.old.place) caller.old) < CLOCK_LIMIT → IsOk result }
+        ensures hands { SameHands self.old self.new }
+    {
+        self.place.act(caller, command)
+    }
+
+    /// Takes the desk apart.
+    pub fn finish(self) -> Parts<E>
+        ensures journal { reverse result.journal.items ≡ self.place.journal }
+        ensures out { result.out.lists ≡ self.place.out.lists }
+        ensures ports { result.ports.records ≡ self.place.ports }
+        ensures hand { result.hand ≡ opened_in self.hand }
+        ensures parcel { result.parcel ≡ sealed_in self.hand }
+        ensures ends { result.ends ≡ self.ends }
+    {
+        let Desk {
+            place,
+            ends,
+            hand,
+            last: _,
+            worked: _,
+        } = self;
+        let (journal, out, ports) = place.finish();
+        let (hand, parcel) = split_hand(hand);
+        Parts {
+            journal,
+            out,
+            hand,
+            parcel,
+            ports,
+            ends,
+        }
+    }
+}
