@@ -6,7 +6,7 @@ use std::alloc::{AllocError, Global};
 use std::test::Fail;
 
 /// The bytes that are carried: so many, of which no two neighbouring chunks are the same.
-fn bytes_of(alloc: Global, len: usize) -> Result<Vec<u8>, AllocError> {
+pub(crate) fn bytes_of(alloc: Global, len: usize) -> Result<Vec<u8>, AllocError> {
     let mut bytes = Vec::new(alloc);
     for i in 0..len {
         bytes.push((i % 251) as u8)?;

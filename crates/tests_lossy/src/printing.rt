@@ -3,6 +3,7 @@
 
 ghost use Rattle.std.specs.Prelude.{◌≤◌};
 
+use crate::carrying::bytes_of;
 use chorus_io::{MemSink, MemSource};
 use chorus_lossy::{INPUT_LIMIT, WINDOW, lossy};
 use chorus_show::Status;
@@ -71,11 +72,11 @@ fn faults_end_it(rt: HostRuntime) -> Result<(), Fail> {
 #[test]
 fn inputs_up_to_the_limit(rt: HostRuntime) -> Result<(), Fail> {
     let alloc = rt.alloc();
-    let mut bytes = vec![in alloc; b'x'; INPUT_LIMIT]?;
+    let mut bytes = bytes_of(alloc, INPUT_LIMIT)?;
     let (status, sink) = run(alloc, &bytes, &[], 65_536, &[])?;
     assert_eq!(rt; status, Status::Done);
     assert!(rt; sink.bytes().starts_with(&bytes));
-    assert!(rt; sink.bytes().ends_with(b"x\nwire 123001 25987\n"));
+    assert!(rt; sink.bytes().ends_with(b"\nwire 123001 25987\n"));
     bytes.push(b'x')?;
     let (status, sink) = run(alloc, &bytes, &[], 65_536, &[])?;
     assert_eq!(rt; status, Status::Scenario { line: 0, reason: 6 });
