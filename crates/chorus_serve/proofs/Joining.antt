@@ -205,7 +205,7 @@ module _ (a b c : DeskState) (s : SendsOut a b) (t : TakesUp b c) where
             subst (λ z. GoesOut p (puts_to p (work k (begun_by z w k)).puts) c.place.out.lists e.place.out.lists c.links e.links) laid-state
             (subst (λ (q : Place). GoesOut p (puts_to p (work k (begins_with k d w)).puts) q.out.lists e.place.out.lists c.links e.links) l.place
             (subst (λ m. GoesOut p (puts_to p (work k (begins_with k d w)).puts) d.place.out.lists e.place.out.lists m e.links) l.links
-            (h.waits p (subst (λ (z : PlaceState). has_place z.layout p ≡ true) (sym laid-state) here))))
+            (h.out p (subst (λ (z : PlaceState). has_place z.layout p ≡ true) (sym laid-state) here))))
 
         counted : AreCounted (work k (begins_with k a w)).puts c e
         counted = subst (λ z. AreCounted (work k (begun_by z w k)).puts c e) laid-state (counted-from (work k (begins_with k d w)).puts c d e l.place h.counted)
@@ -371,7 +371,7 @@ deals-worked from k q r links was last count more w x h none lawful unworn done 
     lawful = lawful;
     state = done.state;
     caller = done.caller_is;
-    waits = turn-waits q r links (work k (begun_by (state q) w k)).puts h done.waits;
+    out = turn-waits q r links (work k (begun_by (state q) w k)).puts h done.waits;
     counted = record { puts = done.puts; spare = done.spare };
     links = refl;
     hand = none;

@@ -2,7 +2,6 @@
 -- old and new are the desk, before and after the caller, k is a packet, from the place that it came from.
 use Rattle.std.specs.Prelude.{ℕ, ◌≡◌, ◌≤◌, ◌<◌, ◌⊎◌, true, false, List, [], ◌++◌, Option, Some, None, option_to_list}
 use Rattle.chorus_ui.specs.declared.limits.TheConstants.{CLOCK_LIMIT}
-use Rattle.chorus_ui.specs.Layout.{has_place}
 use Rattle.chorus_entry.specs.declared.packet.Packet.{Packet}
 use Rattle.chorus_calls.specs.Callers.{Seated}
 use Rattle.chorus_machine.specs.PlaceState.{Outgoing, greatest_clock}
@@ -13,15 +12,15 @@ use Rattle.chorus_io.specs.Count.{raised}
 use Rattle.chorus_ends.specs.Links.{Counts}
 use Rattle.chorus_serve.specs.declared.pump.Pump.{Pump}
 use Rattle.chorus_serve.specs.declared.pump.Pump.TheVariants as pumps
-use Rattle.chorus_serve.specs.Flows.{IsOther, GoesOut, EmptiesOrFull, Takes, WasEmpty, ComesNext, last_from, puts_to, from_place}
+use Rattle.chorus_serve.specs.Flows.{IsOther, GoesOut, EmptiesOrFull, Takes, WasEmpty, ComesNext, last_from, from_place}
 use Rattle.chorus_serve.specs.Desks.{DeskState}
-use Rattle.chorus_serve.specs.Working.{begins_with, AreCounted}
+use Rattle.chorus_serve.specs.Working.{begins_with, GoOut, AreCounted}
 
--- what the call moved: each packet that was put, and no other, waits or was sent, in order; at most one packet was received, of the
--- next place that had one; and what was worked off, if anything, followed by what is then in hand, is what was in hand followed
--- by what was received
+-- what the call moved: each packet that was put, and no other, waits or was sent, in order; at most one packet was received, of
+-- the next place that had one; and what was worked off, if anything, followed by what is then in hand, is what was in hand
+-- followed by what was received
 pub record Moved (done : Option (ℕ × Packet)) (puts : List Outgoing) (old new : DeskState) : Type 0 where
-  pub out : (p : ℕ) → has_place old.place.layout p ≡ true → GoesOut p (puts_to p puts) old.place.out.lists new.place.out.lists old.links new.links
+  pub out : GoOut puts old new
   pub popped : Option (ℕ × Packet)
   pub received : (p : ℕ) → new.links.received p ≡ old.links.received p ++ from_place p popped
   pub hand : option_to_list done ++ option_to_list new.hand ≡ option_to_list old.hand ++ option_to_list popped
@@ -65,7 +64,14 @@ pub record IsIdle (old new : DeskState) (before after : Seated) : Type 0 where
 abbrev pub Answers : Pump → DeskState → DeskState → Seated → Seated → Type 0
 Answers (pumps.Served from) old new before after =
     (k : Packet) × (WorksOff from k old new before after ⊎ KeepsInHand from k old new before after)
-Answers (pumps.Idle put worked) old new before after = IsIdle old new before after × (put ≡ new.place.out.puts) × (worked ≡ new.worked)
+Answers (pumps.Idle put worked) old new before after =
+    IsIdle old new before after × (put ≡ new.place.out.puts) × (worked ≡ new.worked)
+
+-- all that waited for a place was sent, or a link to it was found full
+abbrev pub AreEmptied : DeskState → DeskState → Type 0
+AreEmptied old new =
+    (p : ℕ) → IsOther old.place.layout old.place.number p
+    → EmptiesOrFull p old.place.out.lists old.links new.links
 
 -- the packet in hand, with the place and the caller, compares this clock, from 2^62 on; what waited was sent before
 pub record IsWornBy (clock : ℕ) (old new : DeskState) (before : Seated) : Type 0 where
@@ -74,7 +80,7 @@ pub record IsWornBy (clock : ℕ) (old new : DeskState) (before : Seated) : Type
   pub hand : new.hand ≡ Some (from, packet)
   pub greatest : clock ≡ greatest_clock (begins_with packet old before)
   pub worn : CLOCK_LIMIT ≤ clock
-  pub emptied : (p : ℕ) → IsOther old.place.layout old.place.number p → EmptiesOrFull p old.place.out.lists old.links new.links
+  pub emptied : AreEmptied old new
 
 -- The parts of a call, one after the other.
 

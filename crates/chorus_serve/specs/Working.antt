@@ -1,6 +1,6 @@
 -- What becomes of a packet that is in hand.
--- k is the packet, from the place that it came from; os are the packets that were put; old and new are the desk, before and after
--- the caller.
+-- k is the packet, from the place that it came from; os are the packets that were put; old and new are the desk, before and
+-- after the caller.
 use Rattle.std.specs.Prelude.{ℕ, ◌≡◌, ◌+◌, ◌≤◌, ◌<◌, ◌⊎◌, true, false, List, length, Some, None}
 use Rattle.chorus_ui.specs.declared.limits.TheConstants.{CLOCK_LIMIT}
 use Rattle.chorus_ui.specs.Layout.{has_place}
@@ -20,9 +20,11 @@ use Rattle.chorus_serve.specs.Flows.{GoesOut, puts_to}
 abbrev pub begins_with : Packet → DeskState → Seated → Turn
 begins_with k d caller = begun_by (state d.place) caller k
 
--- what was put waits behind what waited
-abbrev pub Waits : List Outgoing → DeskState → DeskState → Type 0
-Waits puts old new = (p : ℕ) → has_place old.place.layout p ≡ true → GoesOut p (puts_to p puts) old.place.out.lists new.place.out.lists old.links new.links
+-- what was put, and no other packet, waits behind what waited, or was sent
+abbrev pub GoOut : List Outgoing → DeskState → DeskState → Type 0
+GoOut os old new =
+    (p : ℕ) → has_place old.place.layout p ≡ true
+    → GoesOut p (puts_to p os) old.place.out.lists new.place.out.lists old.links new.links
 
 -- the packets that were put are counted, and no more room is taken than that of the entries and packets
 pub record AreCounted (os : List Outgoing) (old new : DeskState) : Type 0 where
@@ -46,7 +48,7 @@ pub record IsWorkedOff (from : ℕ) (k : Packet) (old new : DeskState) (before a
   pub lawful : is_lawful from k (state old.place) ≡ true
   pub state : state new.place ≡ (work k (begins_with k old before)).place
   pub caller : after ≡ (work k (begins_with k old before)).caller
-  pub waits : Waits (work k (begins_with k old before)).puts old new
+  pub out : GoOut (work k (begins_with k old before)).puts old new
   pub counted : AreCounted (work k (begins_with k old before)).puts old new
   pub links : new.links ≡ old.links
   pub hand : new.hand ≡ None

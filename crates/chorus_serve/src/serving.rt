@@ -64,13 +64,13 @@ fn lay_down<E: Ends>(desk: &mut Desk<E>) -> Result<Option<(u16, Packet)>, AllocE
 
 /// Serves the links of a place.
 ///
-/// It first sends what waits for other places, as far as the links have room. Then it takes the packet in hand; where none is in
-/// hand it asks the links from the other places, from the one behind the place served last on and around, and takes the first
+/// It first sends what waits for other places, as far as the links have room. Then it takes the packet in hand; where none is
+/// in hand it asks the links from the other places, from the one behind the place served last on and around, and takes the first
 /// packet that one gives. It works that packet off as the place machine does, where it is lawful; an unlawful one stays in hand.
 ///
-/// Memory comes where a packet on its way, its opening or its turn finds none, and Worn exactly where the greatest of the clocks of
-/// the place, the caller and the packet is at least 2^62. Each leaves the journal, the tables and the caller as they were; packets
-/// may have been sent, and one taken into the hand.
+/// Memory comes where a packet on its way, its opening or its turn finds none, and Worn exactly where the greatest of the clocks
+/// of the place, the caller and the packet is at least 2^62. Each leaves the journal, the tables and the caller as they were;
+/// packets may have been sent, and one taken into the hand.
 pub fn serve<G, E: Moves<G>>(
     desk: &mut Desk<E>,
     ground: &G,
@@ -83,7 +83,8 @@ pub fn serve<G, E: Moves<G>>(
     ensures refused { OnErr result (Rests (seen E.links E.packet desk.old)
         (seen E.links E.packet desk.new) caller.old caller.new) }
     ensures worn { (clock : ℕ) → IsErrOf result (PlaceFault.Worn clock) →
-        IsWornBy clock (seen E.links E.packet desk.old) (seen E.links E.packet desk.new) caller.old }
+        IsWornBy clock (seen E.links E.packet desk.old)
+        (seen E.links E.packet desk.new) caller.old }
 {
     send_out(desk, ground)?;
     take_up(desk, ground);
