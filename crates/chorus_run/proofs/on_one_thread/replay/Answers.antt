@@ -1,4 +1,4 @@
-use Rattle.std.proofs.Common.{ℕ, ◌≡◌, Some, Ok, Err, sym, ◌∙◌, ap, subst}
+use Rattle.std.proofs.Common.{ℕ, ◌≡◌, ◌⊎◌, inl, inr, Some, Ok, Err, sym, ◌∙◌, ap, subst}
 use Rattle.chorus_ui.specs.Layout.{IsLayout}
 use Rattle.chorus_show.specs.declared.status.Status.{Status}
 use Rattle.chorus_run.specs.declared.finished.Finished.{Finished}
@@ -13,6 +13,10 @@ use Rattle.chorus_run.proofs.on_one_thread.replay.Goals as goal
 no-refusal : (s : Status) (line reason : ℕ) → s ≡ Status.Memory → s ≡ Status.Scenario line reason → ⊥
 no-refusal s line reason e f = cc
 
+not-refused : (s : Status) (line reason : ℕ) → (s ≡ Status.Done) ⊎ (s ≡ Status.WriteFault) → s ≡ Status.Scenario line reason → ⊥
+not-refused s line reason (inl done) is = cc
+not-refused s line reason (inr failed) is = cc
+
 pub returns-in-Err-clause-scenario : goal.returns-in-Err-clause-scenario
 returns-in-Err-clause-scenario g c line reason is =
     let status = sym (ap (λ (f : Finished). f.status) c.gave_up.ensures) ∙ is in
@@ -25,6 +29,9 @@ returns-in_default-clause-scenario g c line reason is =
 pub returns-in_default-text_of-clause-scenario : goal.returns-in_default-text_of-clause-scenario
 returns-in_default-text_of-clause-scenario g c line reason is =
     absurd (no-refusal _ line reason (ap (λ (f : Finished). f.status) c.gave_up-in_default-text_of.ensures) is)
+
+pub returns-clause-scenario : goal.returns-clause-scenario
+returns-clause-scenario g c line reason is = absurd (not-refused _ line reason c.print.ensures.status is)
 
 pub returns-in-Some-clause-replays : goal.returns-in-Some-clause-replays
 returns-in-Some-clause-replays g c =
