@@ -96,8 +96,8 @@ fn play(alloc: Global, mut sites: Sites, first: u64, commands: u32) -> Result<Pl
     close(alloc, sites, worn)
 }
 
-/// Performs the load on the sites, which were just started, and gives the clock that was worn, if one was. All room that the
-/// commands need in the journals is taken ahead.
+/// Performs the load on the sites, which were just started, and gives the clock that was worn, if one was. Room is taken as it
+/// is needed: each site would take that of all commands ahead.
 fn perform(
     alloc: Global,
     sites: &mut Sites,
@@ -109,7 +109,6 @@ fn perform(
     ensures { IfOk result (λ worn.
         ArePerformed load_layout (load_order first commands) worn (net sites.new)) }
 {
-    sites.reserve(u32::from(SETUP_COMMANDS) + commands)?;
     match perform_tasks(alloc, sites, first, commands) {
         Ok(()) => Ok(None),
         Err(PlaceFault::Worn { clock }) => Ok(Some(clock)),
