@@ -92,17 +92,21 @@ fn sent<E: Ends>(alloc: Global, near: Desk<E>, far: Desk<E>) -> Option<Pair<E>> 
 /// Sends a message to the port; None where the caller may not, or finds no memory.
 fn send<E: Ends>(near: &mut Desk<E>, caller: &mut Caller, port: Ui, body: Body) -> Option<()> {
     let layout = near.place().layout();
-    if port.kind() != Kind::Port || !layout.has_site(caller.actor().site()) {
+    if port.kind() != Kind::Port {
+        return None;
+    }
+    if !layout.has_site(caller.actor().site()) {
         return None;
     }
     let dest = Dest::Port(port);
     let command = Command::Send { dest, body };
-    if place_for(layout, caller.actor(), &command) != near.place().number()
-        || caller.posts() == u32::MAX
-    {
+    if place_for(layout, caller.actor(), &command) != near.place().number() {
         return None;
     }
-    let _ = near.act(caller, command).ok()?;
+    if caller.posts() == u32::MAX {
+        return None;
+    }
+    near.act(caller, command).ok()?;
     Some(())
 }
 
