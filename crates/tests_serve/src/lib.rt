@@ -1,0 +1,9 @@
+//! Tests of places at the ends of their links (`chorus_ends`, `chorus_ruled_ends`, `chorus_serve`), by public items alone.
+#![tactic(auto)]
+
+#[cfg(test)]
+mod conditions;
+#[cfg(test)]
+mod pair;
+#[cfg(test)]
+mod ruled;
