@@ -7,3 +7,5 @@ mod conditions;
 mod pair;
 #[cfg(test)]
 mod ruled;
+#[cfg(test)]
+mod threads;
