@@ -2,7 +2,13 @@
 #![tactic(auto)]
 
 #[cfg(test)]
+mod arbitrary;
+#[cfg(test)]
 mod conditions;
+#[cfg(test)]
+mod drawing;
+#[cfg(test)]
+mod memory;
 #[cfg(test)]
 mod pair;
 #[cfg(test)]
