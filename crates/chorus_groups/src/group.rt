@@ -33,7 +33,8 @@ impl Model for Group {
     ghost view = { λ g. record { ui = g.ui; members = g.members.items; rotation = g.rotation } };
 
     ghost invariant = { λ g.
-        let group : Group = record { ui = g.ui; members = g.members.items; rotation = g.rotation } in
+        let group : Group =
+        record { ui = g.ui; members = g.members.items; rotation = g.rotation } in
         (vec_capacity g.members ≡ MEMBERS_LIMIT) × IsGroup group };
 }
 

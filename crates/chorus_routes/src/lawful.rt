@@ -142,7 +142,8 @@ fn is_own_site(tables: &Tables, site: u16) -> bool
 
 /// Whether a thing of this name stands at this place of its site.
 fn stands_here(tables: &Tables, port: Ui) -> bool
-    ensures { result ≡ (place_at tables.now.layout (site_of tables.now.layout tables.now.number) port
+    ensures { result ≡
+        (place_at tables.now.layout (site_of tables.now.layout tables.now.number) port
         == tables.now.number) }
 {
     let site = tables.layout().site_of(tables.number());

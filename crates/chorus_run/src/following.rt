@@ -45,13 +45,15 @@ fn take_step(
 ) -> Result<(), PlaceFault>
     requires index { index < length scenario.now.schedule }
     requires before { IsBefore scenario.now
-        (in_schedule scenario.now.scripts (take index scenario.now.schedule) (drop index scenario.now.schedule)
+        (in_schedule scenario.now.scripts (take index scenario.now.schedule)
+        (drop index scenario.now.schedule)
         ++ to_finish scenario.now) (net sites.old) }
     requires next { AreNext scenario.now.scripts (take index scenario.now.schedule) next.old.items }
     requires keeps { Keeps scenario.now }
     requires shape { IsLayout scenario.now.layout }
     ensures ok { OnOk result (IsBefore scenario.now
-        (in_schedule scenario.now.scripts (take (index + 1) scenario.now.schedule) (drop (index + 1) scenario.now.schedule)
+        (in_schedule scenario.now.scripts (take (index + 1) scenario.now.schedule)
+        (drop (index + 1) scenario.now.schedule)
         ++ to_finish scenario.now) (net sites.new)) }
     ensures next { OnOk result
         (AreNext scenario.now.scripts (take (index + 1) scenario.now.schedule) next.new.items) }
@@ -106,12 +108,14 @@ fn finish_script(
     requires index { index < length scenario.now.scripts }
     requires first { first ≡ count_by (is_step (index + 1)) scenario.now.schedule }
     requires before { IsBefore scenario.now
-        (left_from scenario.now.schedule (index + 1) (drop index scenario.now.scripts) ++ Drain 0 ∷ [])
+        (left_from scenario.now.schedule (index + 1) (drop index scenario.now.scripts)
+        ++ Drain 0 ∷ [])
         (net sites.old) }
     requires keeps { Keeps scenario.now }
     requires shape { IsLayout scenario.now.layout }
     ensures ok { OnOk result (IsBefore scenario.now
-        (left_from scenario.now.schedule (index + 1 + 1) (drop (index + 1) scenario.now.scripts) ++ Drain 0 ∷ [])
+        (left_from scenario.now.schedule (index + 1 + 1) (drop (index + 1) scenario.now.scripts)
+        ++ Drain 0 ∷ [])
         (net sites.new)) }
     ensures worn { (clock : ℕ) → IsErrOf result (PlaceFault.Worn clock) →
         IsWornAt scenario.now clock (net sites.new) }

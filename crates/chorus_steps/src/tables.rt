@@ -53,7 +53,8 @@ impl Model for Tables {
 
     ghost invariant = { λ p. (p.journal.layout ≡ p.layout)
         × tables.IsBoxed p.layout p.puts.items p.out
-        × tables.IsKept p.layout p.number p.journal.past p.ports.records p.hints p.waits p.puts.items
+        × tables.IsKept p.layout p.number p.journal.past p.ports.records p.hints p.waits
+        p.puts.items
         × tables.AreCounted p.journal.past p.puts.items p.out };
 }
 

@@ -82,7 +82,8 @@ impl Ledger {
     /// The first message that was sent from the place to the port by the route and is not settled there.
     fn first_for(&self, place: u16, port: Ui, route: Option<Ui>) -> Option<MsgId>
         ensures { result ≡
-            first_for port route (unsettled (at place self.now.past) (sent (at place self.now.past))) }
+            first_for port route
+            (unsettled (at place self.now.past) (sent (at place self.now.past))) }
     {
         let line = Line {
             place,
