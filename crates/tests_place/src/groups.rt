@@ -1,6 +1,7 @@
 //! Posts to groups, in the three ways, over one site and two.
 
-use crate::playing::assert_rows;
+use crate::ground::Ground;
+use tests_ground::assert_rows;
 
 const GROUPS: &str = "\
 functional_send_rotates: 1 1
@@ -224,5 +225,5 @@ end
 
 #[test]
 fn members_are_chosen_and_reported(rt: HostRuntime) {
-    assert_rows(&rt, rt.alloc(), GROUPS);
+    assert_rows(&Ground { rt: &rt }, rt.alloc(), GROUPS);
 }

@@ -1,6 +1,7 @@
 //! Messages to ports, and remote calls.
 
-use crate::playing::assert_rows;
+use crate::ground::Ground;
+use tests_ground::assert_rows;
 
 const MESSAGES: &str = "\
 full_then_taken_then_empty: 1 1
@@ -150,7 +151,7 @@ end
 
 #[test]
 fn messages_are_decided_where_the_port_is(rt: HostRuntime) {
-    assert_rows(&rt, rt.alloc(), MESSAGES);
+    assert_rows(&Ground { rt: &rt }, rt.alloc(), MESSAGES);
 }
 
 const CALLS: &str = "\
@@ -423,5 +424,5 @@ end
 
 #[test]
 fn calls_are_answered_once(rt: HostRuntime) {
-    assert_rows(&rt, rt.alloc(), CALLS);
+    assert_rows(&Ground { rt: &rt }, rt.alloc(), CALLS);
 }

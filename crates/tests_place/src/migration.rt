@@ -1,6 +1,7 @@
 //! Ports that migrate, and messages that come before and behind them.
 
-use crate::playing::assert_rows;
+use crate::ground::Ground;
+use tests_ground::assert_rows;
 
 const MOVES: &str = "\
 migration_keeps_waiting_messages: 2 1
@@ -287,5 +288,5 @@ end
 
 #[test]
 fn messages_find_ports_that_move(rt: HostRuntime) {
-    assert_rows(&rt, rt.alloc(), MOVES);
+    assert_rows(&Ground { rt: &rt }, rt.alloc(), MOVES);
 }

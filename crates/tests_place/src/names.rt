@@ -1,6 +1,7 @@
 //! Names and limits, and members of groups.
 
-use crate::playing::assert_rows;
+use crate::ground::Ground;
+use tests_ground::assert_rows;
 
 const NAMES: &str = "\
 membership: 2 1
@@ -94,5 +95,5 @@ end
 
 #[test]
 fn names_and_limits(rt: HostRuntime) {
-    assert_rows(&rt, rt.alloc(), NAMES);
+    assert_rows(&Ground { rt: &rt }, rt.alloc(), NAMES);
 }

@@ -1,21 +1,24 @@
 //! Packets that are shown to places: of each kind one that is lawful, and next to it those that are not, by one thing each.
 //!
-//! A line has `lawful`, `unlawful` or `worked` (lawful, and then worked off), the number of the place that the packet is shown to,
-//! the place that it is said to come from, and the packet: the place that it names, its clock and its cargo. Each message is plain
-//! with a body of one byte, where no tag stands; of a port there are its name, its holder, its capacity, hop and first position,
-//! the number of client 7 or `-`, and the ids that wait in it.
+//! A row of the table has a scenario, and behind `packets` a line for each packet, which is shown after the schedule: `lawful`,
+//! `unlawful` or `worked` (lawful, and then worked off), the number of the place that the packet is shown to, the place that it is said
+//! to come from, and the packet: the place that it names, its clock and its cargo. Each message is plain with a body of one byte, where
+//! no tag stands; of a port there are its name, its holder, its capacity, hop and first position, the number of client 7 or `-`, and
+//! the ids that wait in it.
 
-use crate::net::Net;
-use crate::playing::assert_rows;
+use crate::ground::Ground;
 use crate::words::Words;
-use chorus_entry::{Answer, Body, Cargo, Dest, Message, MsgId, Packet, PortRecord, Tag};
+use chorus_entry::{Answer, Cargo, Dest, Message, Packet, PortRecord, Tag};
 use std::alloc::Global;
 use std::process::Abort;
+use tests_ground::{Net, Row, begin, message_of, push_message, rows_of};
 
-/// Shows each packet to its place, as its line says.
-pub(crate) fn assert_packets<R: Abort>(rt: &R, alloc: Global, net: &mut Net, lines: &str) {
-    for line in lines.lines() {
-        assert_packet(rt, alloc, net, line);
+/// Plays the scenario of the row, and then shows each packet to its place, as its line says.
+fn assert_row<R: Abort>(rt: &R, alloc: Global, row: &Row<'_>) {
+    let (lines, packets) = row.lines.split_once("packets\n").expect(rt, "packets");
+    let mut net = begin(&Ground { rt }, alloc, row.sites, row.turns, lines);
+    for line in packets.lines() {
+        assert_packet(rt, alloc, &mut net, line);
     }
 }
 
@@ -26,10 +29,10 @@ fn assert_packet<R: Abort>(rt: &R, alloc: Global, net: &mut Net, line: &str) {
     let from: u16 = words.read();
     let packet = packet_in(alloc, &mut words);
     assert!(rt; words.is_empty(), "more than a packet: {line}");
-    let is_lawful = net.place(rt, to).lawful(from, &packet);
+    let is_lawful = net.place(&Ground { rt }, to).lawful(from, &packet);
     assert_eq!(rt; is_lawful, want != "unlawful", "{line}");
     if want == "worked" {
-        net.hand(rt, to, packet);
+        net.hand(&Ground { rt }, to, packet);
     }
 }
 
@@ -71,16 +74,11 @@ fn cargo_in<R: Abort>(alloc: Global, words: &mut Words<'_, R>) -> Cargo {
     }
 }
 
-/// A message with the body `x`.
-fn message_of(rt: &impl Abort, alloc: Global, id: MsgId, tag: Tag) -> Message {
-    let body = Body::new(alloc, b"x").expect(rt, "memory");
-    Message { id, tag, body }
-}
-
 fn message_in<R: Abort>(alloc: Global, words: &mut Words<'_, R>) -> Message {
     let id = words.read();
     let tag = tag_in(words);
-    message_of(words.rt, alloc, id, tag)
+    let ground = Ground { rt: words.rt };
+    message_of(&ground, alloc, id, tag)
 }
 
 fn tag_in<R: Abort>(words: &mut Words<'_, R>) -> Tag {
@@ -147,7 +145,9 @@ fn port_in<R: Abort>(alloc: Global, words: &mut Words<'_, R>) -> PortRecord {
     }
     for _ in 0..8 {
         if !words.is_empty() {
-            push_message(words.rt, alloc, &mut port, words.read(), Tag::Plain);
+            let id = words.read();
+            let ground = Ground { rt: words.rt };
+            push_message(&ground, alloc, &mut port, id, Tag::Plain);
         }
     }
     port
@@ -158,13 +158,6 @@ fn push_client(rt: &impl Abort, port: &mut PortRecord, number: u32) {
     assert!(rt; port.clients.len() < 64);
     assert!(rt; port.clients.number_of(7).is_none());
     port.clients.push(7, number);
-}
-
-/// A message more waits in the port.
-fn push_message(rt: &impl Abort, alloc: Global, port: &mut PortRecord, id: MsgId, tag: Tag) {
-    let message = message_of(rt, alloc, id, tag);
-    assert!(rt; port.pending.len() < 64);
-    port.pending.push(message);
 }
 
 /// From place 2 seat 1 has 1:1:0 for 1.p.1 and 1:2:0 for 1.p.40, which nothing makes, under way to place 1. In the row of
@@ -318,5 +311,7 @@ end
 
 #[test]
 fn packets_are_lawful_or_not(rt: HostRuntime) {
-    assert_rows(&rt, rt.alloc(), PACKETS);
+    for row in &rows_of(&Ground { rt: &rt }, rt.alloc(), PACKETS) {
+        assert_row(&rt, rt.alloc(), row);
+    }
 }

@@ -50,7 +50,7 @@ fn demands_a_site(dest: Dest) -> bool
 }
 
 /// Whether the command meets its conditions.
-pub(crate) fn meets_conditions(command: &Command) -> bool
+pub fn meets_conditions(command: &Command) -> bool
     ensures { result ≡ conditions.meets_conditions command.now }
 {
     match command {

@@ -1,0 +1,241 @@
+//! The places of a layout and their callers, and packets that are handed over one by one. What is not as it is to be ends the test.
+
+ghost use Rattle.std.specs.Prelude.{◌≡◌, true, IsTrue};
+
+use crate::conditions::meets_conditions;
+use crate::judge::{Judge, check, must};
+use crate::lines::push_told;
+use chorus_calls::Caller;
+use chorus_entry::{Command, Entry, Hand, Packet};
+use chorus_merge::merge;
+use chorus_place::{Place, PlaceFault, Reply, place_for};
+use chorus_show::entry_line;
+use chorus_ui::{Layout, Ui};
+use std::alloc::Global;
+
+/// The places of a layout, their callers, and what these were told, one line for each reply.
+#[derive(Drop)]
+pub struct Net {
+    pub layout: Layout,
+    pub places: Vec<Place>,
+    pub callers: Vec<Caller>,
+    pub told: Vec<u8>,
+}
+
+/// What is seen of a place and a caller without memory.
+#[derive(Clone, Copy, Debug, PartialEq, Eq)]
+pub struct Seen {
+    pub entries: usize,
+    pub clock: u64,
+    pub waiting: u64,
+    pub held: u16,
+    pub last: u64,
+    pub posts: u32,
+    pub given: u32,
+    pub hand: Option<Hand>,
+}
+
+/// What is seen of them now.
+pub fn look(place: &Place, caller: &Caller) -> Seen {
+    Seen {
+        entries: place.journal().len(),
+        clock: place.clock(),
+        waiting: place.waiting(),
+        held: place.held(),
+        last: caller.last(),
+        posts: caller.posts(),
+        given: caller.client().given(),
+        hand: caller.hand(),
+    }
+}
+
+/// Where the place of this number stands.
+pub fn index(judge: &impl Judge, number: u16) -> usize {
+    usize::from(must(judge, number.checked_sub(1), "a place"))
+}
+
+/// The number of the place where the command of a caller in the actor is carried out.
+pub fn number_for(judge: &impl Judge, layout: Layout, actor: Ui, command: &Command) -> u16 {
+    if !layout.has_site(actor.site()) {
+        match judge.fail("an actor of the layout", "") {}
+    }
+    if !meets_conditions(command) {
+        match judge.fail("a command that meets its conditions", "") {}
+    }
+    place_for(layout, actor, command)
+}
+
+/// Gives the place a command of the caller. A refusal changes nothing.
+pub fn act_at(
+    judge: &impl Judge,
+    place: &mut Place,
+    caller: &mut Caller,
+    command: Command,
+) -> Result<Reply, PlaceFault> {
+    let before = look(place, caller);
+    let layout = place.layout();
+    if !layout.has_site(caller.actor().site()) {
+        match judge.fail("a caller of the layout", "") {}
+    }
+    if !meets_conditions(&command) {
+        match judge.fail("a command that meets its conditions", "") {}
+    }
+    if place_for(layout, caller.actor(), &command) != place.number() {
+        match judge.fail("the place of the command", "") {}
+    }
+    if caller.posts() >= u32::MAX {
+        match judge.fail("a number for a post", "") {}
+    }
+    if caller.client().given() >= u32::MAX {
+        match judge.fail("a number for a call", "") {}
+    }
+    let told = place.act(caller, command);
+    if told.is_err() {
+        let stays = look(place, caller) == before;
+        check(judge, stays, "a refusal that changes nothing", "");
+    }
+    told
+}
+
+/// Hands the place a packet that is lawful there. A refusal changes nothing.
+pub fn work_at(
+    judge: &impl Judge,
+    place: &mut Place,
+    caller: &mut Caller,
+    packet: Packet,
+) -> Result<(), (Packet, PlaceFault)> {
+    let before = look(place, caller);
+    if !place.lawful(packet.from, &packet) {
+        match judge.fail("a lawful packet", "") {}
+    }
+    let told = place.work(caller, packet);
+    if told.is_err() {
+        let stays = look(place, caller) == before;
+        check(judge, stays, "a refusal that changes nothing", "");
+    }
+    told
+}
+
+impl Net {
+    /// The places of so many sites, and seat 0 in the first actor.
+    pub fn start(judge: &impl Judge, alloc: Global, sites: u16, turns: u16) -> Net {
+        let layout = must(judge, Layout::new(sites, turns), "a layout");
+        let mut places = Vec::new(alloc);
+        for number in 1..=layout.places() {
+            if !layout.has_place(number) {
+                match judge.fail("a place of the layout", "") {}
+            }
+            let place = must(judge, Place::start(alloc, layout, number).ok(), "memory");
+            must(judge, places.push(place).ok(), "memory");
+        }
+        let mut net = Net {
+            layout,
+            places,
+            callers: Vec::new(alloc),
+            told: Vec::new(alloc),
+        };
+        net.enter(judge, must(judge, Ui::parse(b"1.a.1"), "a name"));
+        net
+    }
+
+    /// Gives the next seat, to a caller in the actor, whose last clock is that of seat 0.
+    pub fn enter(&mut self, judge: &impl Judge, actor: Ui) {
+        let seat = must(judge, u32::try_from(self.callers.len()).ok(), "a seat");
+        let last = match self.callers.get(0) {
+            Some(first) => first.last(),
+            None => 0,
+        };
+        let caller = Caller::new(seat, actor, last);
+        must(judge, self.callers.push(caller).ok(), "memory");
+    }
+
+    /// The place of this number.
+    pub fn place(&mut self, judge: &impl Judge, number: u16) -> &mut Place {
+        let at = index(judge, number);
+        must(judge, self.places.get_mut(at), "a place")
+    }
+
+    /// Performs a command of the seat, and notes what it is told.
+    pub fn act(&mut self, judge: &impl Judge, seat: u32, command: Command) {
+        let caller = must(judge, self.callers.get_mut(seat as usize), "a caller");
+        let number = number_for(judge, self.layout, caller.actor(), &command);
+        let place = must(judge, self.places.get_mut(index(judge, number)), "a place");
+        let told = act_at(judge, place, caller, command);
+        must(judge, push_told(&mut self.told, seat, &told).ok(), "memory");
+    }
+
+    /// Hands the first packet from one place to another, by seat 0; false where none waits. A packet that a place puts is lawful
+    /// where it goes.
+    pub fn deliver(&mut self, judge: &impl Judge, from: u16, to: u16) -> bool {
+        match self.place(judge, from).out(to) {
+            Some(packet) => {
+                self.hand(judge, to, packet);
+                true
+            }
+            None => false,
+        }
+    }
+
+    /// Hands a packet to a place, by seat 0.
+    pub fn hand(&mut self, judge: &impl Judge, to: u16, packet: Packet) {
+        let caller = must(judge, self.callers.get_mut(0), "a caller");
+        let place = must(judge, self.places.get_mut(index(judge, to)), "a place");
+        let worked = work_at(judge, place, caller, packet).is_ok();
+        check(judge, worked, "a packet that is worked off", "");
+    }
+
+    /// Delivers in rounds over all pairs of places, until a round serves nothing.
+    pub fn drain(&mut self, judge: &impl Judge) {
+        for _ in 0..1_000 {
+            if !self.round(judge) {
+                return;
+            }
+        }
+        check(judge, false, "places that come to rest", "");
+    }
+
+    fn round(&mut self, judge: &impl Judge) -> bool {
+        let places = self.layout.places();
+        let mut served = false;
+        for from in 1..=places {
+            for to in 1..=places {
+                if from != to && self.deliver(judge, from, to) {
+                    served = true;
+                }
+            }
+        }
+        served
+    }
+
+    /// How many packets wait to go.
+    pub fn waiting(&self) -> u64 {
+        let mut sum: u64 = 0;
+        for place in &self.places {
+            sum = sum.saturating_add(place.waiting());
+        }
+        sum
+    }
+
+    /// The lines of all journals, by clock and then by place.
+    pub fn lines(&self, judge: &impl Judge, alloc: Global) -> Vec<u8> {
+        let mut journals = Vec::new(alloc);
+        for place in &self.places {
+            let journal = copied(judge, alloc, place.journal());
+            must(judge, journals.push(journal).ok(), "memory");
+        }
+        let mut out = Vec::new(alloc);
+        for entry in &must(judge, merge(alloc, &journals).ok(), "memory") {
+            must(judge, entry_line(entry, &mut out).ok(), "memory");
+        }
+        out
+    }
+}
+
+fn copied(judge: &impl Judge, alloc: Global, journal: &[Entry]) -> Vec<Entry> {
+    let mut entries = Vec::new(alloc);
+    for entry in journal {
+        let entry = must(judge, entry.copied().ok(), "memory");
+        must(judge, entries.push(entry).ok(), "memory");
+    }
+    entries
+}

@@ -1,0 +1,156 @@
+//! Scenarios, played over places, and tables of them.
+//!
+//! A row of a table is a text: its name with the numbers of sites and of turns, and the lines of a scenario between the first and `end`
+//! (they may name sixteen sites). Behind these stand `journal` and `told` with the last lines of the journals, by clock and then by
+//! place, and of what callers are told; a test may have other rows, with what it likes in their place. A line `end` ends the row.
+
+use crate::judge::{Judge, check, must};
+use crate::net::Net;
+use chorus_entry::Command;
+use chorus_scene::{Scenario, Script, SetupLine, Step, read};
+use chorus_ui::Layout;
+use std::alloc::Global;
+
+/// A row of a table: its name, how many sites and turns there are, and its other lines.
+#[derive(Clone, Copy, Debug)]
+pub struct Row<'a> {
+    pub name: &'a str,
+    pub sites: u16,
+    pub turns: u16,
+    pub lines: &'a str,
+}
+
+/// The rows of the table.
+pub fn rows_of<'a>(judge: &impl Judge, alloc: Global, table: &'a str) -> Vec<Row<'a>> {
+    let mut rows = Vec::new(alloc);
+    let mut rest = table;
+    for _ in 0..table.len() {
+        let Some((row, others)) = rest.split_once("end\n") else {
+            break;
+        };
+        must(judge, rows.push(row_of(judge, row)).ok(), "memory");
+        rest = others;
+    }
+    check(judge, rest.is_empty(), "rows alone", rest);
+    rows
+}
+
+fn row_of<'a>(judge: &impl Judge, row: &'a str) -> Row<'a> {
+    let (name, rest) = must(judge, row.split_once(": "), "a name");
+    let (sites, rest) = must(judge, rest.split_once(' '), "sites");
+    let (turns, lines) = must(judge, rest.split_once('\n'), "turns");
+    Row {
+        name,
+        sites: must(judge, sites.parse::<u16>().ok(), "a number"),
+        turns: must(judge, turns.parse::<u16>().ok(), "a number"),
+        lines,
+    }
+}
+
+/// Plays each row of the table. The journals and what callers are told end as the row says, and no packet is left.
+pub fn assert_rows(judge: &impl Judge, alloc: Global, table: &str) {
+    for row in &rows_of(judge, alloc, table) {
+        let net = play(judge, alloc, row.sites, row.turns, row.lines);
+        assert_ends(judge, alloc, row.name, &net, row.lines);
+    }
+}
+
+/// The journals and what callers were told end as these lines of a row say, and no packet is left.
+pub fn assert_ends(judge: &impl Judge, alloc: Global, name: &str, net: &Net, lines: &str) {
+    let (_, rest) = must(judge, lines.split_once("journal\n"), "a journal");
+    let (journal, told) = must(judge, rest.split_once("told\n"), "what is told");
+    let entries = net.lines(judge, alloc);
+    let ends = entries.as_slice().ends_with(journal.as_bytes());
+    check(judge, ends, "the journal", name);
+    let ends = net.told.as_slice().ends_with(told.as_bytes());
+    check(judge, ends, "what is told", name);
+    check(judge, net.waiting() == 0, "no packet that waits", name);
+}
+
+/// The scenario of the lines, up to a journal's.
+fn scenario_of(judge: &impl Judge, alloc: Global, lines: &str, turns: u16) -> Scenario {
+    let lines = match lines.split_once("journal\n") {
+        Some((lines, _)) => lines,
+        None => lines,
+    };
+    let layout = must(judge, Layout::new(16, turns), "a layout");
+    let text = format!(in alloc; "chorus 2\nsites 16\n{lines}end\n");
+    let text = must(judge, text.ok(), "memory");
+    let scenario = read(alloc, text.as_bytes(), layout);
+    must(judge, scenario.ok(), "a scenario")
+}
+
+fn command_of(line: SetupLine) -> Command {
+    match line {
+        SetupLine::Port { actor, capacity } => Command::Make { actor, capacity },
+        SetupLine::Group { site } => Command::GroupMake { site },
+        SetupLine::Member { group, port } => Command::Join { group, port },
+    }
+}
+
+/// Performs the next command of the script of this number, where one is left.
+fn step(judge: &impl Judge, net: &mut Net, scripts: &[Script], done: &mut [usize], number: u32) {
+    let at = must(judge, (number as usize).checked_sub(1), "a script");
+    let script = must(judge, scripts.get(at), "a script");
+    let done = must(judge, done.get_mut(at), "a script");
+    if let Some(command) = script.commands().get(*done) {
+        *done = done.saturating_add(1);
+        perform(judge, net, number, command);
+    }
+}
+
+fn perform(judge: &impl Judge, net: &mut Net, seat: u32, command: &Command) {
+    net.act(judge, seat, must(judge, command.copied().ok(), "memory"));
+}
+
+/// Performs the commands of a script that are left, of which `done` were performed, each followed by a drain.
+fn perform_all(judge: &impl Judge, net: &mut Net, seat: u32, script: &Script, done: usize) {
+    for command in script.commands().iter().skip(done) {
+        perform(judge, net, seat, command);
+        net.drain(judge);
+    }
+}
+
+/// Performs the setup by seat 0 and then the schedule. Gives how many commands of each script were performed.
+fn follow(judge: &impl Judge, alloc: Global, net: &mut Net, scenario: &Scenario) -> Vec<usize> {
+    for line in scenario.setup() {
+        net.act(judge, 0, command_of(*line));
+    }
+    let mut done: Vec<usize> = Vec::new(alloc);
+    for script in scenario.scripts() {
+        net.enter(judge, script.actor());
+        must(judge, done.push(0).ok(), "memory");
+    }
+    for item in scenario.schedule() {
+        match item {
+            Step::Step(number) => step(judge, net, scenario.scripts(), &mut done, *number),
+            Step::Deliver(from, to) => {
+                net.deliver(judge, *from, *to);
+            }
+            Step::Drain => net.drain(judge),
+        }
+    }
+    done
+}
+
+/// The places after the scenario of these lines: the setup by seat 0, and the schedule. What it leaves is not performed.
+pub fn begin(judge: &impl Judge, alloc: Global, sites: u16, turns: u16, lines: &str) -> Net {
+    let scenario = scenario_of(judge, alloc, lines, turns);
+    let mut net = Net::start(judge, alloc, sites, turns);
+    follow(judge, alloc, &mut net, &scenario);
+    net
+}
+
+/// The places after the scenario of these lines: the setup by seat 0, the schedule, the commands that it leaves, and a drain.
+fn play(judge: &impl Judge, alloc: Global, sites: u16, turns: u16, lines: &str) -> Net {
+    let scenario = scenario_of(judge, alloc, lines, turns);
+    let mut net = Net::start(judge, alloc, sites, turns);
+    let done = follow(judge, alloc, &mut net, &scenario);
+    let mut seat: u32 = 0;
+    for (script, done) in scenario.scripts().iter().zip(done.iter()) {
+        seat = seat.saturating_add(1);
+        perform_all(judge, &mut net, seat, script, *done);
+    }
+    net.drain(judge);
+    net
+}
