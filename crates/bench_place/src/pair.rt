@@ -1,0 +1,154 @@
+//! Two places, a caller at each, and packets that are handed over.
+
+ghost use Rattle.std.specs.Prelude.{◌≡◌, ◌<◌, true, IfSome};
+ghost use Rattle.chorus_ui.specs.declared.kind.Kind.TheVariants as kinds;
+ghost use Rattle.chorus_entry.specs.Command.{meets_conditions, demands_a_site};
+ghost use Rattle.chorus_entry.specs.Kinds.{has_kinds_in_dest};
+ghost use Rattle.chorus_place.specs.Calls.{state, MayCall};
+
+use chorus_calls::Caller;
+use chorus_entry::{Body, Command, Dest, Packet};
+use chorus_place::{Place, place_for};
+use chorus_ui::{Kind, Layout, Ui};
+use std::alloc::Global;
+
+/// A place, and a caller in the first actor of its site.
+#[derive(Drop)]
+pub(crate) struct Side {
+    place: Place,
+    caller: Caller,
+}
+
+/// The places of two sites.
+#[derive(Drop)]
+pub(crate) struct Pair {
+    pub(crate) one: Side,
+    pub(crate) two: Side,
+}
+
+/// The first name of this kind of the site.
+fn first(kind: Kind, site: u16) -> Option<Ui>
+    ensures { IfSome result (λ ui. ui.kind ≡ kind) }
+{
+    let ui = Ui::new(site, kind, 1)?;
+    if ui.kind() == kind { Some(ui) } else { None }
+}
+
+/// The first port of the site.
+pub(crate) fn port_of(site: u16) -> Option<Ui>
+    ensures { IfSome result (λ port. port.kind ≡ kinds.Port) }
+{
+    first(Kind::Port, site)
+}
+
+/// The first actor of the site.
+pub(crate) fn actor_of(site: u16) -> Option<Ui>
+    ensures { IfSome result (λ actor. actor.kind ≡ kinds.Actor) }
+{
+    first(Kind::Actor, site)
+}
+
+/// The first group of site 1.
+pub(crate) fn first_group() -> Option<Ui>
+    ensures { IfSome result (λ group. group.kind ≡ kinds.Group) }
+{
+    first(Kind::Group, 1)
+}
+
+/// The one place of the site, on which nothing happened yet.
+fn place_of(alloc: Global, layout: Layout, site: u16) -> Option<Place> {
+    if !layout.has_place(site) {
+        return None;
+    }
+    Place::start(alloc, layout, site).ok()
+}
+
+/// Whether the caller may give the place the command.
+fn may_act(place: &Place, caller: &Caller, command: &Command) -> bool
+    requires { meets_conditions command.now ≡ true }
+    ensures may { result ≡ true → MayCall (state place.now) caller.now command.now }
+    ensures posts { result ≡ true → caller.now.posts < u32.MAX }
+    ensures given { result ≡ true → caller.now.client.given < u32.MAX }
+{
+    let (layout, actor) = (place.layout(), caller.actor());
+    if !layout.has_site(actor.site()) {
+        return false;
+    }
+    if caller.posts() == u32::MAX || caller.client().given() == u32::MAX {
+        return false;
+    }
+    place_for(layout, actor, command) == place.number()
+}
+
+impl Side {
+    /// The place of the site, where the caller made a port of capacity 64.
+    fn start(alloc: Global, layout: Layout, site: u16) -> Option<Side> {
+        let actor = actor_of(site)?;
+        let place = place_of(alloc, layout, site)?;
+        let caller = Caller::new(u32::from(site), actor, 0);
+        let mut side = Side { place, caller };
+        let capacity = 64;
+        side.act(Command::Make { actor, capacity })?;
+        Some(side)
+    }
+
+    /// Performs a command of the caller.
+    pub(crate) fn act(&mut self, command: Command) -> Option<()>
+        requires { meets_conditions command ≡ true }
+    {
+        if !may_act(&self.place, &self.caller, &command) {
+            return None;
+        }
+        self.place.act(&mut self.caller, command).ok()?;
+        Some(())
+    }
+
+    /// Sends a body of sixteen bytes.
+    pub(crate) fn send(&mut self, alloc: Global, dest: Dest) -> Option<()>
+        requires kinds { has_kinds_in_dest dest ≡ true }
+        requires site { demands_a_site dest ≡ true }
+    {
+        let body = Body::new(alloc, b"sixteen bytes...").ok()?;
+        self.act(Command::Send { dest, body })
+    }
+
+    /// Works off a packet, which is to be lawful here.
+    fn work(&mut self, packet: Packet) -> Option<()> {
+        if !self.place.lawful(packet.from, &packet) {
+            return None;
+        }
+        self.place.work(&mut self.caller, packet).ok()
+    }
+
+    /// Takes away the first packet that goes to the place, so that its message stays under way.
+    pub(crate) fn lose(&mut self, to: u16) {
+        let _lost = self.place.out(to);
+    }
+
+    fn entries(&self) -> usize {
+        self.place.journal().len()
+    }
+}
+
+/// Hands the first packet from one place to the other, where one waits.
+pub(crate) fn deliver(from: &mut Side, to: &mut Side) -> Option<()> {
+    match from.place.out(to.place.number()) {
+        Some(packet) => to.work(packet),
+        None => Some(()),
+    }
+}
+
+impl Pair {
+    /// The two places, with a port of capacity 64 at each.
+    pub(crate) fn start(alloc: Global) -> Option<Pair> {
+        let layout = Layout::new(2, 1)?;
+        let one = Side::start(alloc, layout, 1)?;
+        let two = Side::start(alloc, layout, 2)?;
+        Some(Pair { one, two })
+    }
+
+    /// How many entries there are.
+    pub(crate) fn entries(&self) -> usize {
+        self.one.entries().saturating_add(self.two.entries())
+    }
+}
