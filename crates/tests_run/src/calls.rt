@@ -1,7 +1,6 @@
 //! What scenarios with groups and calls print.
 
-use crate::replays::assert_prints;
-use std::test::Fail;
+use crate::running::assert_prints;
 
 const FUNCTIONAL_SEND_ROTATES: &str =
     "chorus 1\nsites 1\nport 1.p.1 1.a.1 1\nport 1.p.2 1.a.1 1\nport 1.p.3 1.a.1 1\ngroup 1.g.1\ngroup 1.g.2\nmember 1.g.1 1.p.1\nmember 1.g.1 1.p.2\nmember 1.g.1 1.p.3\nscript 1.a.1\none 1.g.2 =z\none 1.g.1 =a\none 1.g.1 =b\none 1.g.1 =c\none 1.g.1 =d\nschedule\nend\n";
@@ -102,31 +101,31 @@ end
 ";
 
 #[test]
-fn functional_send_rotates(rt: HostRuntime) -> Result<(), Fail> {
+fn functional_send_rotates(rt: HostRuntime) {
     assert_prints(
         &rt,
         rt.alloc(),
         FUNCTIONAL_SEND_ROTATES,
         PRINTS_FUNCTIONAL_SEND_ROTATES,
-    )
+    );
 }
 
 #[test]
-fn broadcast_meets_full(rt: HostRuntime) -> Result<(), Fail> {
+fn broadcast_meets_full(rt: HostRuntime) {
     assert_prints(
         &rt,
         rt.alloc(),
         BROADCAST_MEETS_FULL,
         PRINTS_BROADCAST_MEETS_FULL,
-    )
+    );
 }
 
 #[test]
-fn call_and_reply_on_one_site(rt: HostRuntime) -> Result<(), Fail> {
+fn call_and_reply_on_one_site(rt: HostRuntime) {
     assert_prints(
         &rt,
         rt.alloc(),
         CALL_AND_REPLY_ON_ONE_SITE,
         PRINTS_CALL_AND_REPLY_ON_ONE_SITE,
-    )
+    );
 }

@@ -10,4 +10,6 @@ mod network;
 #[cfg(test)]
 mod replays;
 #[cfg(test)]
+mod running;
+#[cfg(test)]
 mod version_two;

@@ -1,15 +1,14 @@
 //! What loads write.
 
-ghost use Rattle.std.specs.Prelude.{◌≤◌};
-ghost use Rattle.chorus_run.specs.declared.loading.TheConstants.{LOAD_LIMIT};
 
-use chorus_io::MemSink;
+use crate::running::{Run, assert_done, assert_ended, run_of, sink_of};
+use chorus_io::Sink;
 use chorus_net::Sites;
-use chorus_run::{Finished, LOAD_SITES, load};
+use chorus_run::{LOAD_LIMIT, LOAD_SITES, load};
 use chorus_show::Status;
 use chorus_ui::Layout;
 use std::alloc::Global;
-use std::test::Fail;
+use std::process::Abort;
 
 const POSTS_NOTHING: &str =
     "summary\nposted 0\naccepted 0\ntaken 0\nqueued 0\nmoving 0\nrefused 0\nstale 0\ndeparts 0\nend\n";
@@ -17,65 +16,79 @@ const POSTS_NOTHING: &str =
 const POSTS_ONE: &str =
     "summary\nposted 1\naccepted 1\ntaken 0\nqueued 1\nmoving 0\nrefused 0\nstale 0\ndeparts 0\nend\n";
 
-/// Runs `load`, with writes that fail as listed.
-fn run(
+/// Performs a load on sites that are started for it. Gives how that ended, and whether it handed out what it closed.
+fn load_on<K: Sink>(
+    rt: &impl Abort,
     alloc: Global,
     first: u64,
     commands: u32,
-    writes: &[u64],
-) -> Result<(Finished, MemSink), Fail>
-    requires { commands ≤ LOAD_LIMIT }
-{
-    let mut sink = MemSink::new(alloc, 4096, Vec::from_slice(alloc, writes)?);
+    sink: &mut K,
+) -> (Status, bool) {
+    assert!(rt; commands <= LOAD_LIMIT);
     let Some(layout) = Layout::new(LOAD_SITES, 1) else {
-        return Err(Fail::from("a layout"));
+        panic!(rt; "a layout")
     };
-    let sites = Sites::start(alloc, layout)?;
-    let finished = load(alloc, first, commands, &mut sink, sites);
-    Ok((finished, sink))
+    let Ok(sites) = Sites::start(alloc, layout) else {
+        panic!(rt; "memory")
+    };
+    let finished = load(alloc, first, commands, sink, sites);
+    (finished.status, finished.closed.is_some())
+}
+
+/// Performs a load, with writes that fail as listed.
+fn loaded(rt: &impl Abort, alloc: Global, first: u64, commands: u32, writes: &[u64]) -> Run {
+    let mut sink = sink_of(rt, alloc, 4096, writes);
+    let (status, closed) = load_on(rt, alloc, first, commands, &mut sink);
+    run_of(rt, alloc, status, closed, &sink)
+}
+
+fn assert_loads(rt: &impl Abort, alloc: Global, commands: u32, summary: &str) {
+    let run = loaded(rt, alloc, 7, commands, &[]);
+    assert_done(rt, &run, summary, "a load");
+}
+
+fn assert_write_fails(rt: &impl Abort, alloc: Global) {
+    let run = loaded(rt, alloc, 7, 1, &[1]);
+    assert_ended(rt, &run, Status::WriteFault, "", "a sink that fails");
+    assert!(rt; run.closed);
 }
 
 #[test]
-fn load_writes_its_summary(rt: HostRuntime) -> Result<(), Fail> {
-    for (commands, summary) in [(0, POSTS_NOTHING), (1, POSTS_ONE)] {
-        let (finished, sink) = run(rt.alloc(), 7, commands, &[])?;
-        assert_eq!(rt; finished.status, Status::Done, "{commands}");
-        assert_eq!(rt; sink.bytes(), summary.as_bytes(), "{commands}");
-        assert!(rt; finished.closed.is_some(), "{commands}");
-    }
-    let (finished, sink) = run(rt.alloc(), 7, 1, &[1])?;
-    assert_eq!(rt; finished.status, Status::WriteFault);
-    assert_eq!(rt; sink.bytes().len(), 0);
-    assert!(rt; finished.closed.is_some());
-    Ok(())
+fn load_writes_its_summary(rt: HostRuntime) {
+    assert_loads(&rt, rt.alloc(), 0, POSTS_NOTHING);
+    assert_loads(&rt, rt.alloc(), 1, POSTS_ONE);
+    assert_write_fails(&rt, rt.alloc());
 }
 
-/// The number behind the word in a summary.
-fn number(summary: &str, word: &str) -> Result<u64, Fail> {
+/// The number behind the word, with its blank, in a summary.
+fn number(rt: &impl Abort, summary: &str, word: &str) -> u64 {
     for line in summary.lines() {
-        if let Some((name, text)) = line.split_once(' ') {
-            if name == word {
-                return text.parse::<u64>().map_err(|_| Fail::from("a number"));
-            }
+        if let Some(text) = line.strip_prefix(word) {
+            return text.parse().ok().expect(rt, "a number");
         }
     }
-    Err(Fail::from("no such line"))
+    panic!(rt; "no line {word}")
+}
+
+/// Asserts that what was accepted or refused was posted, that what was accepted waits or was taken, and that nothing moves.
+fn assert_adds_up(rt: &impl Abort, summary: &str) {
+    let accepted = number(rt, summary, "accepted ");
+    let settled = accepted.saturating_add(number(rt, summary, "refused "));
+    assert_eq!(rt; number(rt, summary, "posted "), settled);
+    let received = number(rt, summary, "queued ").saturating_add(number(rt, summary, "taken "));
+    assert_eq!(rt; accepted, received);
+    assert_eq!(rt; number(rt, summary, "moving "), 0);
+}
+
+fn assert_repeatable(rt: &impl Abort, alloc: Global) {
+    let run = loaded(rt, alloc, 1, 65_536, &[]);
+    let again = loaded(rt, alloc, 1, 65_536, &[]);
+    assert_eq!(rt; run.status, Status::Done);
+    assert_ended(rt, &again, Status::Done, run.written.as_str(), "again");
+    assert_adds_up(rt, run.written.as_str());
 }
 
 #[test]
-fn load_is_repeatable(rt: HostRuntime) -> Result<(), Fail> {
-    let (finished, sink) = run(rt.alloc(), 1, 65_536, &[])?;
-    let (again, other) = run(rt.alloc(), 1, 65_536, &[])?;
-    assert_eq!(rt; finished.status, Status::Done);
-    assert_eq!(rt; again.status, Status::Done);
-    assert_eq!(rt; sink.bytes(), other.bytes());
-    let text = String::from_utf8(Vec::from_slice(rt.alloc(), sink.bytes())?)?;
-    let summary = text.as_str();
-    let accepted = number(summary, "accepted")?;
-    let settled = accepted.saturating_add(number(summary, "refused")?);
-    assert_eq!(rt; number(summary, "posted")?, settled);
-    let received = number(summary, "queued")?.saturating_add(number(summary, "taken")?);
-    assert_eq!(rt; accepted, received);
-    assert_eq!(rt; number(summary, "moving")?, 0);
-    Ok(())
+fn load_is_repeatable(rt: HostRuntime) {
+    assert_repeatable(&rt, rt.alloc());
 }

@@ -1,16 +1,12 @@
-//! What scenarios print, and how texts, sources and sinks end a run.
+//! What scenarios of one site print, and how texts, sources and sinks end a run.
 
-ghost use Rattle.std.specs.Prelude.{◌≤◌};
-
-use chorus_io::{MemSink, MemSource};
-use chorus_net::Sites;
-use chorus_run::{Finished, replay};
+use crate::running::{
+    assert_done, assert_ended, assert_prints, assert_refused, replayed, replayed_on_two_places_each,
+};
 use chorus_show::Status;
-use chorus_ui::Layout;
 use std::alloc::Global;
 use std::fmt::Write;
 use std::process::Abort;
-use std::test::Fail;
 
 const NOTHING: &str = "chorus 1\nsites 1\nscript 1.a.1\nschedule\nend";
 
@@ -182,218 +178,227 @@ departs 0
 end
 ";
 
-/// Runs `replay` on the text, with reads and writes that fail as listed and writes of at most `most` bytes.
-pub(crate) fn run(
-    alloc: Global,
-    text: &[u8],
-    reads: &[u64],
-    most: usize,
-    writes: &[u64],
-) -> Result<(Finished, MemSink), Fail>
-    requires { 1 ≤ most }
-{
-    let bytes = Vec::from_slice(alloc, text)?;
-    let mut source = MemSource::new(bytes, Vec::from_slice(alloc, reads)?);
-    let mut sink = MemSink::new(alloc, most, Vec::from_slice(alloc, writes)?);
-    let layout = Layout::new(16, 1).ok_or("a layout")?;
-    let sites = Sites::start(alloc, layout)?;
-    let finished = replay(alloc, &mut source, &mut sink, sites);
-    Ok((finished, sink))
-}
+/// The port of another actor, and one that there is not.
+const ANOTHER_ACTORS_PORT: &str =
+    "chorus 1\nsites 1\nport 1.p.1 1.a.1 1\nscript 1.a.2\ntake 1.p.1\ntake 1.p.2\nschedule\nend";
 
-/// Asserts that the text is replayed and this is printed, whatever a write takes.
-pub(crate) fn assert_prints(
-    rt: &impl Abort,
-    alloc: Global,
-    text: &str,
-    printed: &str,
-) -> Result<(), Fail> {
-    for most in [1, 64, 4096] {
-        let (finished, sink) = run(alloc, text.as_bytes(), &[], most, &[])?;
-        assert_eq!(rt; finished.status, Status::Done, "{text}");
-        assert_eq!(rt; sink.bytes(), printed.as_bytes(), "{text}");
-        assert!(rt; finished.closed.is_some(), "{text}");
-    }
-    Ok(())
+const PRINTS_ANOTHER_ACTORS_PORT: &str = "\
+journal 3
+1 1 0 make 1.p.1 1.a.1 1
+2 1 1 not-here 1.p.1
+3 1 1 not-here 1.p.2
+summary
+posted 0
+accepted 0
+taken 0
+queued 0
+moving 0
+refused 0
+stale 0
+departs 0
+end
+";
+
+const ENDS_SIXTY_FIVE_SENDS: &str = "
+131 1 1 full 1:65:0 1.p.1 64
+summary
+posted 65
+accepted 64
+taken 0
+queued 64
+moving 0
+refused 1
+stale 0
+departs 0
+end
+";
+
+#[test]
+fn empty_scenario(rt: HostRuntime) {
+    assert_prints(&rt, rt.alloc(), NOTHING, PRINTS_NOTHING);
 }
 
 #[test]
-fn empty_scenario(rt: HostRuntime) -> Result<(), Fail> {
-    assert_prints(&rt, rt.alloc(), NOTHING, PRINTS_NOTHING)
+fn full_then_taken_then_empty(rt: HostRuntime) {
+    assert_prints(&rt, rt.alloc(), TAKEN_THEN_EMPTY, PRINTS_TAKEN_THEN_EMPTY);
 }
 
 #[test]
-fn full_then_taken_then_empty(rt: HostRuntime) -> Result<(), Fail> {
-    assert_prints(&rt, rt.alloc(), TAKEN_THEN_EMPTY, PRINTS_TAKEN_THEN_EMPTY)
+fn no_port(rt: HostRuntime) {
+    assert_prints(&rt, rt.alloc(), NO_PORT, PRINTS_NO_PORT);
 }
 
 #[test]
-fn no_port(rt: HostRuntime) -> Result<(), Fail> {
-    assert_prints(&rt, rt.alloc(), NO_PORT, PRINTS_NO_PORT)
+fn percent_is_escaped(rt: HostRuntime) {
+    assert_prints(&rt, rt.alloc(), PERCENT, PRINTS_PERCENT);
 }
 
 #[test]
-fn percent_is_escaped(rt: HostRuntime) -> Result<(), Fail> {
-    assert_prints(&rt, rt.alloc(), PERCENT, PRINTS_PERCENT)
+fn scripts_are_interleaved(rt: HostRuntime) {
+    assert_prints(&rt, rt.alloc(), INTERLEAVED, PRINTS_INTERLEAVED);
 }
 
 #[test]
-fn scripts_are_interleaved(rt: HostRuntime) -> Result<(), Fail> {
-    assert_prints(&rt, rt.alloc(), INTERLEAVED, PRINTS_INTERLEAVED)
-}
-
-#[test]
-fn another_actor_holds_the_port(rt: HostRuntime) -> Result<(), Fail> {
+fn another_actor_holds_the_port(rt: HostRuntime) {
     assert_prints(
         &rt,
         rt.alloc(),
-        "chorus 1\nsites 1\nport 1.p.1 1.a.1 1\nscript 1.a.2\ntake 1.p.1\ntake 1.p.2\nschedule\nend",
-        "journal 3\n1 1 0 make 1.p.1 1.a.1 1\n2 1 1 not-here 1.p.1\n3 1 1 not-here 1.p.2\nsummary\nposted 0\naccepted 0\ntaken 0\nqueued 0\nmoving 0\nrefused 0\nstale 0\ndeparts 0\nend\n",
-    )
+        ANOTHER_ACTORS_PORT,
+        PRINTS_ANOTHER_ACTORS_PORT,
+    );
 }
 
-#[test]
-fn fills_to_capacity(rt: HostRuntime) -> Result<(), Fail> {
-    let body = String::from_utf8(Vec::from_slice(rt.alloc(), &[b'b'; 240])?)?;
-    let mut text = String::from_str(
-        rt.alloc(),
-        "chorus 1\nsites 1\nport 1.p.1 1.a.1 64\nscript 1.a.1\n",
-    )?;
-    for _ in 0..65 {
-        writeln!(text, "send 1.p.1 ={body}")?;
+/// So many letters.
+fn letters(rt: &impl Abort, alloc: Global, count: usize) -> String {
+    let mut text = String::new(alloc);
+    for _ in 0..count {
+        text.push('b').expect(rt, "memory");
     }
-    text.push_str("schedule\nend\n")?;
-    let (finished, sink) = run(rt.alloc(), text.as_bytes(), &[], 4096, &[])?;
-    assert_eq!(rt; finished.status, Status::Done);
-    let printed = String::from_utf8(Vec::from_slice(rt.alloc(), sink.bytes())?)?;
+    text
+}
+
+/// A scenario with a port of capacity 64, and 65 sends of 240 bytes to it.
+fn sixty_five_sends(rt: &impl Abort, alloc: Global) -> String {
+    let body = letters(rt, alloc, 240);
+    let mut text = String::new(alloc);
+    text.push_str("chorus 1\nsites 1\nport 1.p.1 1.a.1 64\nscript 1.a.1\n")
+        .expect(rt, "memory");
+    for _ in 0..65 {
+        writeln!(text, "send 1.p.1 ={body}").expect(rt, "memory");
+    }
+    text.push_str("schedule\nend\n").expect(rt, "memory");
+    text
+}
+
+/// Asserts that the first 64 sends are accepted in their order.
+fn assert_sixty_four_accepted(rt: &impl Abort, alloc: Global, printed: &str) {
     for pos in 0..64_u64 {
         let clock = 2 * pos + 3;
         let number = pos + 1;
-        let line = format!(in rt.alloc(); "\n{clock} 1 1 accept 1:{number}:0 1.p.1 {pos}\n")?;
-        assert!(rt; printed.as_str().contains(line.as_str()), "{line}");
+        let line = format!(in alloc; "\n{clock} 1 1 accept 1:{number}:0 1.p.1 {pos}\n").expect(
+            rt, "memory",
+        );
+        assert!(rt; printed.contains(line.as_str()), "{line}");
     }
-    let end =
-        "\n131 1 1 full 1:65:0 1.p.1 64\nsummary\nposted 65\naccepted 64\ntaken 0\nqueued 64\nmoving 0\nrefused 1\nstale 0\ndeparts 0\nend\n";
-    assert!(rt; printed.as_str().ends_with(end));
-    Ok(())
 }
 
-/// Asserts that the text is refused with this line and reason, and nothing is written or closed.
-pub(crate) fn assert_refused(
-    rt: &impl Abort,
-    alloc: Global,
-    text: &str,
-    line: u32,
-    reason: u8,
-) -> Result<(), Fail> {
-    let (finished, sink) = run(alloc, text.as_bytes(), &[], 4096, &[])?;
-    assert_eq!(rt;
-        finished.status,
-        Status::Scenario { line, reason },
-        "{text}"
-    );
-    assert_eq!(rt; sink.bytes().len(), 0, "{text}");
-    assert!(rt; finished.closed.is_none(), "{text}");
-    Ok(())
+fn assert_fills(rt: &impl Abort, alloc: Global) {
+    let text = sixty_five_sends(rt, alloc);
+    let run = replayed(rt, alloc, text.as_bytes(), &[], 4096, &[]);
+    assert_eq!(rt; run.status, Status::Done);
+    assert_sixty_four_accepted(rt, alloc, run.written.as_str());
+    assert!(rt; run.written.as_str().ends_with(ENDS_SIXTY_FIVE_SENDS));
 }
 
 #[test]
-fn limits_are_refused_with_line_and_reason(rt: HostRuntime) -> Result<(), Fail> {
-    let body = String::from_utf8(Vec::from_slice(rt.alloc(), &[b'b'; 241])?)?;
-    let long = format!(in rt.alloc();
+fn fills_to_capacity(rt: HostRuntime) {
+    assert_fills(&rt, rt.alloc());
+}
+
+/// Asserts that a body of 241 bytes is refused.
+fn assert_long_body_is_refused(rt: &impl Abort, alloc: Global) {
+    let body = letters(rt, alloc, 241);
+    let text = format!(in alloc;
         "chorus 1\nsites 1\nscript 1.a.1\nsend 1.p.1 ={body}\nschedule\nend"
-    )?;
-    for (text, line) in [
-        (long.as_str(), 4),
-        ("chorus 1\nsites 1\nport 1.p.1 1.a.1 0\nschedule\nend", 3),
-        ("chorus 1\nsites 1\nport 1.p.1 1.a.1 65\nschedule\nend", 3),
-    ] {
-        assert_refused(&rt, rt.alloc(), text, line, 6)?;
-    }
-    Ok(())
+    ).expect(rt, "memory");
+    assert_refused(rt, alloc, text.as_str(), 4, 6);
 }
 
 #[test]
-fn unfinished_and_unknown_texts(rt: HostRuntime) -> Result<(), Fail> {
-    for (text, line, reason) in [
-        ("chorus 1\nsites 1\nschedule\n", 4, 9),
-        ("chorus 1\nsites 2\nscript 3.a.1\nschedule\nend", 3, 4),
-        (
-            "chorus 1\nsites 1\nscript 1.a.1\nschedule\nstep 1\nend",
-            5,
-            10,
-        ),
-        ("", 1, 9),
-    ] {
-        assert_refused(&rt, rt.alloc(), text, line, reason)?;
-    }
-    Ok(())
+fn limits_are_refused_with_line_and_reason(rt: HostRuntime) {
+    assert_long_body_is_refused(&rt, rt.alloc());
+    let none = "chorus 1\nsites 1\nport 1.p.1 1.a.1 0\nschedule\nend";
+    assert_refused(&rt, rt.alloc(), none, 3, 6);
+    let many = "chorus 1\nsites 1\nport 1.p.1 1.a.1 65\nschedule\nend";
+    assert_refused(&rt, rt.alloc(), many, 3, 6);
 }
 
 #[test]
-fn two_turns_per_site(rt: HostRuntime) -> Result<(), Fail> {
-    let alloc = rt.alloc();
-    for (text, printed) in [
-        (TWO_TURNS, PRINTS_TWO_TURNS),
-        (MOVE_TO_ANOTHER_SITE, PRINTS_MOVE_TO_ANOTHER_SITE),
-    ] {
-        let mut source = MemSource::new(Vec::from_slice(alloc, text.as_bytes())?, Vec::new(alloc));
-        let mut sink = MemSink::new(alloc, 4096, Vec::new(alloc));
-        let layout = Layout::new(2, 2).ok_or("a layout")?;
-        let sites = Sites::start(alloc, layout)?;
-        let finished = replay(alloc, &mut source, &mut sink, sites);
-        assert_eq!(rt; finished.status, Status::Done, "{text}");
-        assert_eq!(rt; sink.bytes(), printed.as_bytes(), "{text}");
-        assert!(rt; finished.closed.is_some(), "{text}");
-    }
-    Ok(())
+fn unfinished_and_unknown_texts(rt: HostRuntime) {
+    let unfinished = "chorus 1\nsites 1\nschedule\n";
+    assert_refused(&rt, rt.alloc(), unfinished, 4, 9);
+    let no_site = "chorus 1\nsites 2\nscript 3.a.1\nschedule\nend";
+    assert_refused(&rt, rt.alloc(), no_site, 3, 4);
+    let no_step = "chorus 1\nsites 1\nscript 1.a.1\nschedule\nstep 1\nend";
+    assert_refused(&rt, rt.alloc(), no_step, 5, 10);
+    assert_refused(&rt, rt.alloc(), "", 1, 9);
+}
+
+fn assert_prints_on_two_places_each(rt: &impl Abort, alloc: Global, text: &str, printed: &str) {
+    let run = replayed_on_two_places_each(rt, alloc, text);
+    assert_done(rt, &run, printed, text);
 }
 
 #[test]
-fn long_texts_are_refused(rt: HostRuntime) -> Result<(), Fail> {
-    for (len, line, reason) in [(4_194_304, 4_194_305, 9), (4_194_305, 0, 6)] {
-        let text = vec![in rt.alloc(); b'\n'; len]?;
-        let (finished, _) = run(rt.alloc(), &text, &[], 4096, &[])?;
-        assert_eq!(rt; finished.status, Status::Scenario { line, reason }, "{len}");
-    }
-    Ok(())
-}
-
-#[test]
-fn short_sink_fails_midway(rt: HostRuntime) -> Result<(), Fail> {
-    let (finished, sink) = run(rt.alloc(), TAKEN_THEN_EMPTY.as_bytes(), &[], 5, &[2])?;
-    assert_eq!(rt; finished.status, Status::WriteFault);
-    assert_eq!(rt; sink.bytes(), b"journ".as_slice());
-    assert!(rt; finished.closed.is_some());
-    Ok(())
-}
-
-#[test]
-fn faults_of_source_and_sink(rt: HostRuntime) -> Result<(), Fail> {
-    for call in [1, 2] {
-        let (finished, sink) = run(rt.alloc(), TAKEN_THEN_EMPTY.as_bytes(), &[call], 4096, &[])?;
-        assert_eq!(rt; finished.status, Status::ReadFault, "at {call}");
-        assert_eq!(rt; sink.bytes().len(), 0, "at {call}");
-    }
-    let (finished, sink) = run(
+fn two_turns_per_site(rt: HostRuntime) {
+    assert_prints_on_two_places_each(&rt, rt.alloc(), TWO_TURNS, PRINTS_TWO_TURNS);
+    assert_prints_on_two_places_each(
+        &rt,
         rt.alloc(),
-        TAKEN_THEN_EMPTY.as_bytes(),
-        &[1_000_000],
-        4096,
-        &[],
-    )?;
-    assert_eq!(rt; finished.status, Status::Done);
-    assert_eq!(rt; sink.bytes(), PRINTS_TAKEN_THEN_EMPTY.as_bytes());
-    for call in 1..98_u64 {
-        let (finished, sink) = run(rt.alloc(), NOTHING.as_bytes(), &[], 1, &[call])?;
-        let most = PRINTS_NOTHING.len() as u64;
-        let status = if call <= most {
-            Status::WriteFault
-        } else {
-            Status::Done
-        };
-        assert_eq!(rt; finished.status, status, "at {call}");
-        assert_eq!(rt; sink.bytes().len() as u64, most.min(call - 1), "at {call}");
+        MOVE_TO_ANOTHER_SITE,
+        PRINTS_MOVE_TO_ANOTHER_SITE,
+    );
+}
+
+/// Asserts that a text of so many empty lines is refused with this line and reason.
+fn assert_lines_are_refused(rt: &impl Abort, alloc: Global, count: usize, line: u32, reason: u8) {
+    let text = vec![in alloc; b'\n'; count].expect(rt, "memory");
+    let run = replayed(rt, alloc, &text, &[], 4096, &[]);
+    assert_eq!(rt; run.status, Status::Scenario { line, reason }, "{count}");
+}
+
+#[test]
+fn long_texts_are_refused(rt: HostRuntime) {
+    assert_lines_are_refused(&rt, rt.alloc(), 4_194_304, 4_194_305, 9);
+    assert_lines_are_refused(&rt, rt.alloc(), 4_194_305, 0, 6);
+}
+
+fn assert_short_sink_fails(rt: &impl Abort, alloc: Global) {
+    let run = replayed(rt, alloc, TAKEN_THEN_EMPTY.as_bytes(), &[], 5, &[2]);
+    assert_ended(rt, &run, Status::WriteFault, "journ", "a short sink");
+    assert!(rt; run.closed);
+}
+
+#[test]
+fn short_sink_fails_midway(rt: HostRuntime) {
+    assert_short_sink_fails(&rt, rt.alloc());
+}
+
+/// Asserts how the run ends where this read fails, and what it wrote.
+fn assert_read_fails(rt: &impl Abort, alloc: Global, call: u64, status: Status, written: &str) {
+    let text = TAKEN_THEN_EMPTY.as_bytes();
+    let run = replayed(rt, alloc, text, &[call], 4096, &[]);
+    assert_ended(rt, &run, status, written, "a source that fails");
+}
+
+/// Asserts how the run ends where this write of one byte fails, and how many bytes it wrote.
+fn assert_write_fails(rt: &impl Abort, alloc: Global, call: u64, status: Status, count: u64) {
+    let run = replayed(rt, alloc, NOTHING.as_bytes(), &[], 1, &[call]);
+    assert_eq!(rt; run.status, status, "at {call}");
+    assert_eq!(rt; run.written.len() as u64, count, "at {call}");
+    assert!(rt;
+        PRINTS_NOTHING.starts_with(run.written.as_str()),
+        "at {call}"
+    );
+}
+
+fn assert_each_write_fails(rt: &impl Abort, alloc: Global) {
+    for count in 0..96_u64 {
+        assert_write_fails(rt, alloc, count + 1, Status::WriteFault, count);
     }
-    Ok(())
+    assert_write_fails(rt, alloc, 97, Status::Done, 96);
+}
+
+#[test]
+fn faults_of_source_and_sink(rt: HostRuntime) {
+    assert_read_fails(&rt, rt.alloc(), 1, Status::ReadFault, "");
+    assert_read_fails(&rt, rt.alloc(), 2, Status::ReadFault, "");
+    assert_read_fails(
+        &rt,
+        rt.alloc(),
+        1_000_000,
+        Status::Done,
+        PRINTS_TAKEN_THEN_EMPTY,
+    );
+    assert_each_write_fails(&rt, rt.alloc());
 }

@@ -1,7 +1,6 @@
 //! What scenarios of version 2 print, and what version 1 refuses of them.
 
-use crate::replays::{assert_prints, assert_refused};
-use std::test::Fail;
+use crate::running::{assert_prints, assert_refused};
 
 const BINARY_BODIES: &str =
     "chorus 2\nsites 1\nport 1.p.1 1.a.1 1\nscript 1.a.1\nsend 1.p.1 x00ff\nschedule\nend\n";
@@ -80,28 +79,28 @@ departs 1
 end
 ";
 
+/// The scenario of `DELETE_AFTER_A_MOVE` under the head of version 1.
+const DELETE_IN_VERSION_ONE: &str =
+    "chorus 1\nsites 3\nport 1.p.1 1.a.1 4\nscript 3.a.1\nsend 1.p.1 =x\nscript 1.a.1\nmove 1.p.1 2.a.1\nscript 2.a.1\ndelete 1.p.1\nschedule\nstep 2\ndeliver 1 2\nstep 3\nstep 1\ndeliver 3 1\ndeliver 1 3\ndeliver 3 2\ndeliver 2 3\nend\n";
+
 #[test]
-fn binary_bodies(rt: HostRuntime) -> Result<(), Fail> {
-    assert_prints(&rt, rt.alloc(), BINARY_BODIES, PRINTS_BINARY_BODIES)?;
-    for text in [
-        "chorus 2\nsites 1\nport 1.p.1 1.a.1 1\nscript 1.a.1\nsend 1.p.1 x0\nschedule\nend\n",
-        "chorus 2\nsites 1\nport 1.p.1 1.a.1 1\nscript 1.a.1\nsend 1.p.1 x0F\nschedule\nend\n",
-    ] {
-        assert_refused(&rt, rt.alloc(), text, 5, 3)?;
-    }
-    Ok(())
+fn binary_bodies(rt: HostRuntime) {
+    assert_prints(&rt, rt.alloc(), BINARY_BODIES, PRINTS_BINARY_BODIES);
+    let odd = "chorus 2\nsites 1\nport 1.p.1 1.a.1 1\nscript 1.a.1\nsend 1.p.1 x0\nschedule\nend\n";
+    assert_refused(&rt, rt.alloc(), odd, 5, 3);
+    let capital =
+        "chorus 2\nsites 1\nport 1.p.1 1.a.1 1\nscript 1.a.1\nsend 1.p.1 x0F\nschedule\nend\n";
+    assert_refused(&rt, rt.alloc(), capital, 5, 3);
 }
 
 #[test]
-fn delete_in_scenarios(rt: HostRuntime) -> Result<(), Fail> {
-    assert_prints(&rt, rt.alloc(), DELETE_DISCARDS, PRINTS_DELETE_DISCARDS)?;
+fn delete_in_scenarios(rt: HostRuntime) {
+    assert_prints(&rt, rt.alloc(), DELETE_DISCARDS, PRINTS_DELETE_DISCARDS);
     assert_prints(
         &rt,
         rt.alloc(),
         DELETE_AFTER_A_MOVE,
         PRINTS_DELETE_AFTER_A_MOVE,
-    )?;
-    let version_one =
-        "chorus 1\nsites 3\nport 1.p.1 1.a.1 4\nscript 3.a.1\nsend 1.p.1 =x\nscript 1.a.1\nmove 1.p.1 2.a.1\nscript 2.a.1\ndelete 1.p.1\nschedule\nstep 2\ndeliver 1 2\nstep 3\nstep 1\ndeliver 3 1\ndeliver 1 3\ndeliver 3 2\ndeliver 2 3\nend\n";
-    assert_refused(&rt, rt.alloc(), version_one, 9, 2)
+    );
+    assert_refused(&rt, rt.alloc(), DELETE_IN_VERSION_ONE, 9, 2);
 }

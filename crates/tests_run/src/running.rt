@@ -1,0 +1,131 @@
+//! Runs of `replay` over memory, and what is asserted of them. What is not as it is to be ends the test.
+//!
+//! The contract of `replay` is long, so it is called in one function, which is generic in its source and sink, and what it did is kept
+//! as plain values ([`Run`]), of which nothing is known.
+
+use chorus_io::{MemSink, MemSource, Sink, Source};
+use chorus_net::Sites;
+use chorus_run::replay;
+use chorus_show::Status;
+use chorus_ui::Layout;
+use std::alloc::Global;
+use std::process::Abort;
+
+/// How a run ended, whether it handed out what it closed, and what it wrote.
+#[derive(Drop)]
+pub(crate) struct Run {
+    pub(crate) status: Status,
+    pub(crate) closed: bool,
+    pub(crate) written: String,
+}
+
+/// A source of these bytes. `failing` lists the reads that fail.
+fn source_of(rt: &impl Abort, alloc: Global, bytes: &[u8], failing: &[u64]) -> MemSource {
+    let bytes = Vec::from_slice(alloc, bytes).expect(rt, "memory");
+    MemSource::new(bytes, Vec::from_slice(alloc, failing).expect(rt, "memory"))
+}
+
+/// A sink of which one write takes at most `most` bytes. `failing` lists the writes that fail.
+pub(crate) fn sink_of(rt: &impl Abort, alloc: Global, most: usize, failing: &[u64]) -> MemSink {
+    assert!(rt; most > 0);
+    MemSink::new(
+        alloc,
+        most,
+        Vec::from_slice(alloc, failing).expect(rt, "memory"),
+    )
+}
+
+/// The run that ended so and wrote what the sink holds.
+pub(crate) fn run_of(
+    rt: &impl Abort,
+    alloc: Global,
+    status: Status,
+    closed: bool,
+    sink: &MemSink,
+) -> Run {
+    let bytes = Vec::from_slice(alloc, sink.bytes()).expect(rt, "memory");
+    let written = String::from_utf8(bytes).ok().expect(rt, "a text");
+    Run {
+        status,
+        closed,
+        written,
+    }
+}
+
+/// Replays what the source gives on so many sites, each with so many places. Gives how that ended, and whether it handed out what
+/// it closed.
+fn replay_on<S: Source, K: Sink>(
+    rt: &impl Abort,
+    alloc: Global,
+    sites: u16,
+    turns: u16,
+    source: &mut S,
+    sink: &mut K,
+) -> (Status, bool) {
+    let layout = Layout::new(sites, turns).expect(rt, "a layout");
+    let Ok(sites) = Sites::start(alloc, layout) else {
+        panic!(rt; "memory")
+    };
+    let finished = replay(alloc, source, sink, sites);
+    (finished.status, finished.closed.is_some())
+}
+
+/// Replays the text on sixteen sites, each with one place, with reads and writes that fail as listed and writes of at most `most`
+/// bytes.
+pub(crate) fn replayed(
+    rt: &impl Abort,
+    alloc: Global,
+    text: &[u8],
+    reads: &[u64],
+    most: usize,
+    writes: &[u64],
+) -> Run {
+    let mut source = source_of(rt, alloc, text, reads);
+    let mut sink = sink_of(rt, alloc, most, writes);
+    let (status, closed) = replay_on(rt, alloc, 16, 1, &mut source, &mut sink);
+    run_of(rt, alloc, status, closed, &sink)
+}
+
+/// Replays the text on two sites, each with two places.
+pub(crate) fn replayed_on_two_places_each(rt: &impl Abort, alloc: Global, text: &str) -> Run {
+    let mut source = source_of(rt, alloc, text.as_bytes(), &[]);
+    let mut sink = sink_of(rt, alloc, 4096, &[]);
+    let (status, closed) = replay_on(rt, alloc, 2, 2, &mut source, &mut sink);
+    run_of(rt, alloc, status, closed, &sink)
+}
+
+/// Asserts that the run of this name ended so and wrote this.
+pub(crate) fn assert_ended(rt: &impl Abort, run: &Run, status: Status, written: &str, name: &str) {
+    assert_eq!(rt; run.status, status, "{name}");
+    assert_eq!(rt; run.written.as_str(), written, "{name}");
+}
+
+/// Asserts that the run of this name did all, wrote this, and handed out what it closed.
+pub(crate) fn assert_done(rt: &impl Abort, run: &Run, written: &str, name: &str) {
+    assert_ended(rt, run, Status::Done, written, name);
+    assert!(rt; run.closed, "{name}");
+}
+
+/// Asserts that the text is replayed and this is printed, whatever a write takes.
+pub(crate) fn assert_prints(rt: &impl Abort, alloc: Global, text: &str, printed: &str) {
+    for most in [1, 64, 4096] {
+        let run = replayed(rt, alloc, text.as_bytes(), &[], most, &[]);
+        assert_done(rt, &run, printed, text);
+    }
+}
+
+/// Asserts that the text is replayed and each of the parts stands in what is printed.
+pub(crate) fn assert_prints_parts(rt: &impl Abort, alloc: Global, text: &str, parts: &[&str]) {
+    let run = replayed(rt, alloc, text.as_bytes(), &[], 4096, &[]);
+    assert_eq!(rt; run.status, Status::Done, "{text}");
+    for part in parts.iter() {
+        assert!(rt; run.written.as_str().contains(*part), "{part}");
+    }
+}
+
+/// Asserts that the text is refused with this line and reason, and nothing is written or closed.
+pub(crate) fn assert_refused(rt: &impl Abort, alloc: Global, text: &str, line: u32, reason: u8) {
+    let run = replayed(rt, alloc, text.as_bytes(), &[], 4096, &[]);
+    assert_ended(rt, &run, Status::Scenario { line, reason }, "", text);
+    assert!(rt; !run.closed, "{text}");
+}
