@@ -60,6 +60,7 @@ newport 1.a.5 1
 newport 1.a.2 2
 newport 3.a.1 2
 move 1.p.2 3.a.1
+take 1.p.2
 move 1.p.1 1.a.1
 script 1.a.5
 move 1.p.1 3.a.1
@@ -71,9 +72,10 @@ journal
 10 2 1 make 1.p.2 1.a.2 2
 11 1 1 no-actor 3.a.1
 12 2 1 not-here 1.p.2
-13 1 1 not-here 1.p.1
-14 1 2 no-actor 3.a.1
-15 1 2 rehome 1.p.1 1.a.2
+13 2 1 not-here 1.p.2
+14 1 1 not-here 1.p.1
+15 1 2 no-actor 3.a.1
+16 1 2 rehome 1.p.1 1.a.2
 told
 1 made 1.p.1
 1 made 1.p.5
@@ -86,6 +88,7 @@ told
 1 make-full
 1 made 1.p.2
 1 no-actor
+1 not-here
 1 not-here
 1 not-here
 2 no-actor
