@@ -7,7 +7,7 @@ ghost use Rattle.chorus_run.specs.Load.{site_by, drawn, drawn_command, load_acto
 
 use chorus_draw::number_of;
 use chorus_entry::{Body, Command, Dest};
-use chorus_ui::{Kind, PENDING_LIMIT, Ui, push_decimal};
+use chorus_ui::{Kind, PENDING_LIMIT, Ui};
 use std::alloc::{AllocError, Global};
 
 /// The sites of a load, each with one place.
@@ -94,9 +94,8 @@ fn drawn_command(alloc: Global, number: u32, drawn: u64) -> Result<Command, Allo
 fn numbered(alloc: Global, number: u32) -> Result<Body, AllocError>
     ensures { IfOk result (λ body. body ≡ decimal number) }
 {
-    let mut text = Vec::new(alloc);
-    push_decimal(u64::from(number), &mut text)?;
-    Body::new(alloc, &text)
+    let mut buffer = itoa::Buffer::new();
+    Body::new(alloc, buffer.format(number).as_bytes())
 }
 
 /// The actor of a site, from 1.

@@ -5,9 +5,9 @@ ghost use Rattle.tests_io.specs.declared.above.Stop.TheVariants.{WriteFault};
 ghost use Rattle.chorus_io.specs.Count.{Rose};
 ghost use Rattle.chorus_io.specs.Bytes.{AppendsPrefix};
 
-use chorus_io::{Failed, MemSink, MemSource, ReadAll, Sink, Source, read_all, write_all};
+use crate::bytes::{sink_of, source_of};
+use chorus_io::{Failed, MemSource, ReadAll, Sink, Source, read_all, write_all};
 use std::alloc::Global;
-use std::test::Fail;
 
 #[derive(Clone, Copy, Debug, PartialEq, Eq)]
 enum Stop {
@@ -62,25 +62,25 @@ fn read_reliable(alloc: Global, source: &mut MemSource) -> Result<Vec<u8>, ReadA
 }
 
 #[test]
-fn copies_until_the_sink_fails(rt: HostRuntime) -> Result<(), Fail> {
+fn copies_until_the_sink_fails(rt: HostRuntime) {
     for (failing, result, held) in [
         (9, Ok(()), b"#0123456789".as_slice()),
         (3, Err(Stop::WriteFault), b"#01234".as_slice()),
         (1, Err(Stop::WriteFault), b"".as_slice()),
     ] {
-        let input = b"0123456789".to_vec(rt.alloc())?;
-        let mut source = MemSource::new(input, Vec::new(rt.alloc()));
-        let mut sink = MemSink::new(rt.alloc(), 5, [failing].to_vec(rt.alloc())?);
+        let mut source = source_of(&rt, rt.alloc(), b"0123456789", &[]);
+        let mut sink = sink_of(&rt, rt.alloc(), 5, &[failing]);
         assert_eq!(rt; copy(rt.alloc(), &mut source, &mut sink, b"#"), result);
         assert_eq!(rt; sink.bytes(), held);
     }
-    Ok(())
 }
 
 #[test]
-fn reads_a_reliable_source(rt: HostRuntime) -> Result<(), Fail> {
-    let mut source = MemSource::new(b"0123".to_vec(rt.alloc())?, Vec::new(rt.alloc()));
-    let input = read_reliable(rt.alloc(), &mut source)?;
-    assert_eq!(rt; input.as_slice(), b"0123".as_slice());
-    Ok(())
+fn reads_a_reliable_source(rt: HostRuntime) {
+    let input = b"0123".to_vec(rt.alloc()).expect(&rt, "memory");
+    let mut source = MemSource::new(input, Vec::new(rt.alloc()));
+    let read = read_reliable(rt.alloc(), &mut source)
+        .ok()
+        .expect(&rt, "the input");
+    assert_eq!(rt; read.as_slice(), b"0123".as_slice());
 }

@@ -3,37 +3,64 @@ use chorus_transport::{Acked, Chunk, Got, PutFault, Receiver, Sender};
 use std::alloc::Global;
 use std::mem;
 use std::process::Abort;
-use std::test::Fail;
 
 #[test]
-fn windows_and_acknowledgements(rt: HostRuntime) -> Result<(), Fail> {
-    let alloc = rt.alloc();
-    let mut sender = Sender::new(alloc, 1).ok_or("a window of 1")?;
-    assert!(rt; sender.put(Chunk::new(alloc, b"first")?).is_ok());
-    let (second, fault) = sender
-        .put(Chunk::new(alloc, b"second")?)
+fn windows_and_acknowledgements(rt: HostRuntime) {
+    let (first, second) = fill_window(&rt, rt.alloc());
+    receive_in_window(&rt, rt.alloc(), first, second);
+}
+
+/// A window of one takes the first chunk, which is emitted and acknowledged, and hands the second back.
+fn fill_window(rt: &impl Abort, alloc: Global) -> (Chunk, Chunk) {
+    let mut sender = Sender::new(alloc, 1).expect(rt, "a window of 1");
+    assert!(rt; put(rt, alloc, &mut sender, b"first").is_ok());
+    let (second, fault) = put(rt, alloc, &mut sender, b"second")
         .err()
-        .ok_or("a full window")?;
+        .expect(rt, "a full window");
     assert_eq!(rt; fault, PutFault::WindowFull { base: 0, next: 1 });
-    let first = sender.emit(alloc, 0)?.ok_or("the chunk")?;
+    let first = emitted(rt, alloc, &sender, 0).expect(rt, "the chunk");
     assert_eq!(rt; first.bytes(), b"first".as_slice());
-    assert!(rt; sender.emit(alloc, 1)?.is_none());
+    assert!(rt; emitted(rt, alloc, &sender, 1).is_none());
     assert_eq!(rt; sender.acked(0), Acked::Old);
     assert_eq!(rt; sender.acked(2), Acked::Beyond);
     assert_eq!(rt; sender.acked(1), Acked::Moved { by: 1 });
+    (first, second)
+}
 
-    let mut receiver = Receiver::new(alloc, 1).ok_or("a window of 1")?;
-    assert_eq!(rt; receiver.arrived(1, second)?, Got::Far);
-    assert_eq!(rt; receiver.arrived(0, first)?, Got::Kept);
-    assert_eq!(rt;
-        receiver.arrived(0, Chunk::new(alloc, b"again")?)?,
-        Got::Old
-    );
+/// A window of one keeps the first chunk alone, hands it out once, and acknowledges it.
+fn receive_in_window(rt: &impl Abort, alloc: Global, first: Chunk, second: Chunk) {
+    let mut receiver = Receiver::new(alloc, 1).expect(rt, "a window of 1");
+    assert_eq!(rt; arrive(rt, &mut receiver, 1, second), Got::Far);
+    assert_eq!(rt; arrive(rt, &mut receiver, 0, first), Got::Kept);
+    let again = chunk(rt, alloc, b"again");
+    assert_eq!(rt; arrive(rt, &mut receiver, 0, again), Got::Old);
     assert_eq!(rt; receiver.ack(), 1);
-    let next = receiver.next().ok_or("the chunk")?;
+    let next = receiver.next().expect(rt, "the chunk");
     assert_eq!(rt; next.bytes(), b"first".as_slice());
     assert!(rt; receiver.next().is_none());
-    Ok(())
+}
+
+fn chunk(rt: &impl Abort, alloc: Global, bytes: &[u8]) -> Chunk {
+    Chunk::new(alloc, bytes).expect(rt, "memory")
+}
+
+fn put(
+    rt: &impl Abort,
+    alloc: Global,
+    sender: &mut Sender,
+    bytes: &[u8],
+) -> Result<(), (Chunk, PutFault)> {
+    assert!(rt; sender.next() < u64::MAX);
+    sender.put(chunk(rt, alloc, bytes))
+}
+
+fn emitted(rt: &impl Abort, alloc: Global, sender: &Sender, number: u64) -> Option<Chunk> {
+    sender.emit(alloc, number).ok().expect(rt, "memory")
+}
+
+fn arrive(rt: &impl Abort, receiver: &mut Receiver, number: u64, chunk: Chunk) -> Got {
+    assert!(rt; number < u64::MAX);
+    receiver.arrived(number, chunk).ok().expect(rt, "memory")
 }
 
 /// How many chunks a long run carries.
@@ -92,56 +119,51 @@ impl BadLine {
     }
 
     /// Puts chunks while the window has room.
-    fn fill(&mut self, rt: &impl Abort, alloc: Global) -> Result<(), Fail> {
+    fn fill(&mut self, rt: &impl Abort, alloc: Global) {
         for number in self.sender.next()..CHUNKS {
-            assert!(rt; self.sender.next() < u64::MAX);
-            match self.sender.put(Chunk::new(alloc, &number.to_be_bytes())?) {
+            match put(rt, alloc, &mut self.sender, &number.to_be_bytes()) {
                 Ok(()) => {}
-                Err((_, PutFault::WindowFull { .. })) => return Ok(()),
-                Err((_, fault)) => return Err(fault.into()),
+                Err((_, fault)) => {
+                    assert!(rt; matches!(fault, PutFault::WindowFull { .. }));
+                    return;
+                }
             }
         }
-        Ok(())
     }
 
     /// Emits all that is kept, and lets what was late arrive behind it, the last first.
-    fn emit_all(&mut self, rt: &impl Abort, alloc: Global, loses: bool) -> Result<(), Fail> {
+    fn emit_all(&mut self, rt: &impl Abort, alloc: Global, loses: bool) {
         let late = mem::replace(&mut self.late, Vec::new(alloc));
         for number in self.sender.base()..self.sender.next() {
-            self.emit(rt, alloc, number, loses)?;
+            let fate = self.fate(loses);
+            let chunk = emitted(rt, alloc, &self.sender, number).expect(rt, "the chunk");
+            self.carry(rt, alloc, fate, number, chunk);
         }
         for (number, chunk) in late.into_iter().rev() {
-            self.arrive(rt, number, chunk)?;
+            arrive(rt, &mut self.receiver, number, chunk);
         }
-        Ok(())
     }
 
-    fn emit(
-        &mut self,
-        rt: &impl Abort,
-        alloc: Global,
-        number: u64,
-        loses: bool,
-    ) -> Result<(), Fail> {
-        let fate = self.fate(loses);
-        let chunk = self.sender.emit(alloc, number)?.ok_or("the chunk")?;
+    fn carry(&mut self, rt: &impl Abort, alloc: Global, fate: Fate, number: u64, chunk: Chunk) {
         match fate {
             Fate::Lost => {}
-            Fate::Late => self.late.push((number, chunk))?,
-            Fate::Once => self.arrive(rt, number, chunk)?,
+            Fate::Late => self.late.push((number, chunk)).ok().expect(rt, "memory"),
+            Fate::Once => self.arrive(rt, number, chunk),
             Fate::Twice => {
-                let again = self.sender.emit(alloc, number)?.ok_or("the chunk")?;
-                self.arrive(rt, number, chunk)?;
-                self.arrive(rt, number, again)?;
+                self.arrive(rt, number, chunk);
+                self.repeat(rt, alloc, number);
             }
         }
-        Ok(())
     }
 
-    fn arrive(&mut self, rt: &impl Abort, number: u64, chunk: Chunk) -> Result<(), Fail> {
-        assert!(rt; number < u64::MAX);
-        self.receiver.arrived(number, chunk)?;
-        Ok(())
+    /// Emits a chunk again, which arrives at once.
+    fn repeat(&mut self, rt: &impl Abort, alloc: Global, number: u64) {
+        let again = emitted(rt, alloc, &self.sender, number).expect(rt, "the chunk");
+        self.arrive(rt, number, again);
+    }
+
+    fn arrive(&mut self, rt: &impl Abort, number: u64, chunk: Chunk) {
+        arrive(rt, &mut self.receiver, number, chunk);
     }
 
     /// Compares what is delivered with what was put.
@@ -159,35 +181,43 @@ impl BadLine {
     fn acknowledge(&mut self, rt: &impl Abort, loses: bool) {
         let ack = self.receiver.ack();
         let fate = self.fate(loses);
-        let late = if fate == Fate::Late { Some(ack) } else { None };
-        if fate == Fate::Once || fate == Fate::Twice {
-            assert!(rt; self.sender.acked(ack) != Acked::Beyond);
+        if matches!(fate, Fate::Once | Fate::Twice) {
+            self.hear(rt, ack);
         }
-        if let Some(ack) = self.late_ack {
-            assert!(rt; self.sender.acked(ack) != Acked::Beyond);
+        if let Some(late) = self.late_ack {
+            self.hear(rt, late);
         }
-        self.late_ack = late;
+        self.late_ack = (fate == Fate::Late).then_some(ack);
+    }
+
+    fn go_round(&mut self, rt: &impl Abort, alloc: Global, loses: bool) {
+        self.fill(rt, alloc);
+        self.emit_all(rt, alloc, loses);
+        self.deliver(rt);
+        self.acknowledge(rt, loses);
+    }
+
+    fn hear(&mut self, rt: &impl Abort, ack: u64) {
+        assert!(rt; self.sender.acked(ack) != Acked::Beyond);
     }
 }
 
 #[test]
-fn a_bad_line_delivers_ten_thousand_chunks(rt: HostRuntime) -> Result<(), Fail> {
-    let alloc = rt.alloc();
+fn a_bad_line_delivers_ten_thousand_chunks(rt: HostRuntime) {
     for window in [1, 7, 64] {
-        let mut line = BadLine::new(alloc, window, 1988).ok_or("a window")?;
-        for round in 0..ROUNDS {
-            if line.delivered == CHUNKS {
-                break;
-            }
-            let loses = round % 4 != 0;
-            line.fill(&rt, alloc)?;
-            line.emit_all(&rt, alloc, loses)?;
-            line.deliver(&rt);
-            line.acknowledge(&rt, loses);
-        }
-        assert_eq!(rt; line.delivered, CHUNKS, "with a window of {window}");
-        assert_eq!(rt; line.receiver.ack(), CHUNKS);
-        assert_eq!(rt; line.sender.next(), CHUNKS);
+        carry_all(&rt, rt.alloc(), window);
     }
-    Ok(())
+}
+
+fn carry_all(rt: &impl Abort, alloc: Global, window: u16) {
+    let mut line = BadLine::new(alloc, window, 1988).expect(rt, "a window");
+    for round in 0..ROUNDS {
+        if line.delivered == CHUNKS {
+            break;
+        }
+        line.go_round(rt, alloc, round % 4 != 0);
+    }
+    assert_eq!(rt; line.delivered, CHUNKS, "with a window of {window}");
+    assert_eq!(rt; line.receiver.ack(), CHUNKS);
+    assert_eq!(rt; line.sender.next(), CHUNKS);
 }
