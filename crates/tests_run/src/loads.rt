@@ -1,6 +1,5 @@
 //! What loads write.
 
-
 use crate::running::{Run, assert_done, assert_ended, run_of, sink_of};
 use chorus_io::Sink;
 use chorus_net::Sites;
