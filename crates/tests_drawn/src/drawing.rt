@@ -1,11 +1,30 @@
-//! Names, messages, answers, commands and packets that are drawn: mostly such as four places of two sites have, seldom others.
+//! Names, messages, answers, commands and packets that are drawn: mostly such as four places of two sites have, seldom others. Each
+//! number is seldom at an edge: 0, its limit, one above it, or the greatest of its type.
 
-use crate::net::{message_of, push_message};
-use chorus_entry::{Act, Answer, Cargo, Command, Dest, Message, MsgId, Packet, PortRecord, Tag};
+use chorus_draw::{next_state, number_of};
+use chorus_entry::{
+    Act, Answer, BODY_LIMIT, Body, CLIENTS_LIMIT, Cargo, ClientTable, Command, Dest, Message,
+    MsgId, PENDING_LIMIT, Packet, Pending, PortRecord, Tag,
+};
 use chorus_place::Place;
-use chorus_ui::{CLOCK_LIMIT, Kind, Ui};
+use chorus_ui::{
+    ACTORS_PER_SITE_LIMIT, CLOCK_LIMIT, GROUPS_PER_SITE_LIMIT, Kind, PLACES_LIMIT,
+    PORTS_PER_SITE_LIMIT, SEATS_LIMIT, SITES_LIMIT, Ui,
+};
 use std::alloc::Global;
 use std::process::Abort;
+
+/// The greatest number in a name.
+const NUMBERS_LIMIT: u64 = (1 << 40) - 1;
+
+/// The greatest capacity of a port, and so the most messages that wait there.
+const LONGEST: u8 = 64;
+
+/// The most clients that a port remembers.
+const MOST_CLIENTS: u32 = 64;
+
+/// The most members of a group, and so the greatest number of a copy.
+const MOST_MEMBERS: u16 = 32;
 
 /// Numbers that are drawn.
 #[derive(Drop)]
@@ -18,11 +37,8 @@ pub(crate) struct Draws<'a, R: Abort> {
 impl<'a, R: Abort> Draws<'a, R> {
     /// A number below `count`; 0 where that is 0.
     fn wide(&mut self, count: u64) -> u64 {
-        self.state = self
-            .state
-            .wrapping_mul(6_364_136_223_846_793_005)
-            .wrapping_add(1_442_695_040_888_963_407);
-        (self.state >> 33).checked_rem(count).unwrap_or(0)
+        self.state = next_state(self.state);
+        number_of(self.state).checked_rem(count).unwrap_or(0)
     }
 
     /// A number below `count`; 0 where that is 0.
@@ -35,29 +51,54 @@ impl<'a, R: Abort> Draws<'a, R> {
         self.below(count) == 0
     }
 
-    /// A number from 1 to `most`; seldom 0, or one above.
-    fn near(&mut self, most: u16) -> u16 {
-        match self.below(60) {
+    /// A number from 1 to `most`; seldom 0, one above `most`, the limit, one above that, or the greatest.
+    fn near(&mut self, most: u64, limit: u64) -> u64 {
+        match self.below(80) {
             0 => 0,
             1 => most.saturating_add(1),
-            2 => self.below(80),
-            _ => self.below(most).saturating_add(1),
+            2 => limit,
+            3 => limit.saturating_add(1),
+            4 => u64::MAX,
+            _ => self.wide(most).saturating_add(1),
         }
     }
 
-    /// As `near`.
-    fn near_byte(&mut self, most: u16) -> u8 {
-        u8::try_from(self.near(most)).unwrap_or(0)
+    /// As `near`, in 32 bits.
+    fn near_u32(&mut self, most: u64, limit: u32) -> u32 {
+        u32::try_from(self.near(most, u64::from(limit))).unwrap_or(u32::MAX)
     }
 
-    /// As `near`.
-    fn near_number(&mut self, most: u16) -> u32 {
-        u32::from(self.near(most))
+    /// As `near`, in 16 bits.
+    fn near_u16(&mut self, most: u64, limit: u16) -> u16 {
+        u16::try_from(self.near(most, u64::from(limit))).unwrap_or(u16::MAX)
+    }
+
+    /// As `near`, in 8 bits.
+    fn near_u8(&mut self, most: u64, limit: u8) -> u8 {
+        u8::try_from(self.near(most, u64::from(limit))).unwrap_or(u8::MAX)
+    }
+
+    /// A number up to the clock; seldom one above it, or the greatest.
+    fn up_to(&mut self, clock: u64) -> u64 {
+        match self.below(40) {
+            0 => clock,
+            1 => clock.saturating_add(1),
+            2 => u64::MAX,
+            _ => self.wide(clock.saturating_add(1)),
+        }
+    }
+
+    /// As `up_to`, often below 8.
+    fn hop(&mut self, clock: u64) -> u64 {
+        if self.hits(2) {
+            return self.wide(8);
+        }
+        self.up_to(clock)
     }
 
     /// A place from 1 to 4 other than this one; seldom any number.
     fn other(&mut self, place: u16) -> u16 {
-        let other = self.near(4);
+        let other = self.near_u16(4, PLACES_LIMIT);
         if other == place && !self.hits(20) {
             return if place == 1 { 2 } else { 1 };
         }
@@ -65,28 +106,28 @@ impl<'a, R: Abort> Draws<'a, R> {
     }
 
     /// A name of this kind; seldom of another one.
-    fn name(&mut self, kind: Kind, most: u16) -> Ui {
+    fn name(&mut self, kind: Kind, most: u64, limit: u64) -> Ui {
         let kind = match self.below(90) {
             0 => Kind::Actor,
             1 => Kind::Port,
             2 => Kind::Group,
             _ => kind,
         };
-        let site = self.near(2);
-        let number = u64::from(self.near(most));
+        let site = self.near_u16(2, SITES_LIMIT);
+        let number = self.near(most, limit).min(NUMBERS_LIMIT);
         Ui::new(site.max(1), kind, number.max(1)).expect(self.rt, "a name")
     }
 
     fn port(&mut self) -> Ui {
-        self.name(Kind::Port, 4)
+        self.name(Kind::Port, 4, PORTS_PER_SITE_LIMIT)
     }
 
     fn group(&mut self) -> Ui {
-        self.name(Kind::Group, 2)
+        self.name(Kind::Group, 2, GROUPS_PER_SITE_LIMIT)
     }
 
     fn actor(&mut self) -> Ui {
-        self.name(Kind::Actor, 2)
+        self.name(Kind::Actor, 2, ACTORS_PER_SITE_LIMIT)
     }
 
     /// An actor of the place's site; seldom of another one.
@@ -107,28 +148,33 @@ impl<'a, R: Abort> Draws<'a, R> {
 
     fn only(&mut self) -> Option<u16> {
         if self.hits(3) {
-            return Some(self.near(2));
+            return Some(self.near_u16(2, SITES_LIMIT));
         }
         None
     }
 
+    /// A seat from 0 to 4; seldom another one.
+    fn seat(&mut self) -> u32 {
+        self.near_u32(5, SEATS_LIMIT).saturating_sub(1)
+    }
+
     fn id(&mut self) -> MsgId {
         MsgId {
-            seat: u32::from(self.below(5)),
-            number: self.near_number(6),
-            copy: self.below(4),
+            seat: self.seat(),
+            number: self.near_u32(6, u32::MAX),
+            copy: self.near_u16(4, MOST_MEMBERS + 1).saturating_sub(1),
         }
     }
 
     fn tag(&mut self) -> Tag {
         match self.below(4) {
             0 => Tag::Request {
-                number: self.near_number(4),
+                number: self.near_u32(4, u32::MAX),
                 back: self.port(),
             },
             1 => Tag::Reply {
-                client: u32::from(self.below(5)),
-                number: self.near_number(4),
+                client: self.seat(),
+                number: self.near_u32(4, u32::MAX),
             },
             _ => Tag::Plain,
         }
@@ -137,16 +183,27 @@ impl<'a, R: Abort> Draws<'a, R> {
     fn message(&mut self) -> Message {
         let id = self.id();
         let tag = self.tag();
-        message_of(self.rt, self.alloc, id, tag)
+        let body = self.body();
+        Message { id, tag, body }
+    }
+
+    /// A body of one byte; seldom an empty one, or a longest one.
+    fn body(&mut self) -> Body {
+        let length = match self.below(40) {
+            0 => 0,
+            1 => BODY_LIMIT,
+            _ => 1,
+        };
+        body_of(self.rt, self.alloc, length)
     }
 
     fn answer(&mut self, clock: u64) -> Answer {
-        let number = self.wide(clock.saturating_add(2));
-        let to = self.near(4);
-        match self.below(11) {
+        let number = self.up_to(clock);
+        let to = self.near_u16(4, PLACES_LIMIT);
+        match self.below(12) {
             0 => Answer::Accepted { pos: number },
             1 => Answer::Full {
-                len: self.near_byte(64),
+                len: self.near_u8(64, LONGEST),
             },
             2 | 3 => Answer::Stale { to, hop: number },
             4 => Answer::Early { hop: number },
@@ -155,8 +212,9 @@ impl<'a, R: Abort> Draws<'a, R> {
             7 => Answer::Elsewhere { to, hop: number },
             8 => Answer::NoMember,
             9 => Answer::Chosen {
-                count: self.near(32),
+                count: self.near_u16(32, MOST_MEMBERS),
             },
+            10 => Answer::ClientsFull,
             _ => Answer::Gone,
         }
     }
@@ -171,10 +229,11 @@ impl<'a, R: Abort> Draws<'a, R> {
     }
 
     fn dest(&mut self) -> Dest {
-        match self.below(3) {
-            0 => Dest::All(self.group()),
-            1 => Dest::One(self.group()),
-            _ => Dest::OneAt(self.group(), self.near(2)),
+        match self.below(13) {
+            0 => Dest::Port(self.port()),
+            1..=4 => Dest::All(self.group()),
+            5..=8 => Dest::One(self.group()),
+            _ => Dest::OneAt(self.group(), self.near_u16(2, SITES_LIMIT)),
         }
     }
 
@@ -182,24 +241,24 @@ impl<'a, R: Abort> Draws<'a, R> {
         match self.below(20) {
             0 => Command::Make {
                 actor: self.actor(),
-                capacity: self.near_byte(3),
+                capacity: self.near_u8(3, LONGEST),
             },
             1 | 2 | 3 => Command::Take { port: self.port() },
             4 => Command::Call {
                 port: self.port(),
                 back: self.port(),
-                body: self.message().body,
+                body: self.body(),
             },
             5 => Command::Retry,
             6 => Command::Cancel,
-            7 => Command::Reply {
-                body: self.message().body,
-            },
+            7 => Command::Reply { body: self.body() },
             8 | 9 | 16 | 17 => Command::Move {
                 port: self.port(),
                 actor: self.actor(),
             },
-            10 => Command::GroupMake { site: self.near(2) },
+            10 => Command::GroupMake {
+                site: self.near_u16(2, SITES_LIMIT),
+            },
             11 => Command::Join {
                 group: self.group(),
                 port: self.port(),
@@ -211,13 +270,32 @@ impl<'a, R: Abort> Draws<'a, R> {
             },
             14 | 15 => Command::Send {
                 dest: self.dest(),
-                body: self.message().body,
+                body: self.body(),
             },
             _ => Command::Send {
                 dest: Dest::Port(self.port()),
-                body: self.message().body,
+                body: self.body(),
             },
         }
+    }
+
+    /// The last clock of a caller; seldom one that is worn, or nearly so.
+    pub(crate) fn last_clock(&mut self) -> u64 {
+        match self.below(150) {
+            0 => CLOCK_LIMIT - 1,
+            1 => CLOCK_LIMIT,
+            2 => u64::MAX,
+            _ => self.wide(9),
+        }
+    }
+
+    /// As `packet`; seldom with the greatest clock that is not worn, behind which the place is.
+    pub(crate) fn wearing_packet(&mut self, place: &Place) -> Packet {
+        let mut packet = self.packet(place);
+        if self.hits(50) {
+            packet.clock = CLOCK_LIMIT - 1;
+        }
+        packet
     }
 
     /// A packet for the place.
@@ -233,7 +311,7 @@ impl<'a, R: Abort> Draws<'a, R> {
             0 => Packet {
                 clock,
                 from,
-                cargo: self.try_of_message(),
+                cargo: self.try_of_message(clock),
             },
             1..=3 => self.verdict(place, clock),
             4 | 5 => Packet {
@@ -257,13 +335,13 @@ impl<'a, R: Abort> Draws<'a, R> {
         }
     }
 
-    fn try_of_message(&mut self) -> Cargo {
+    fn try_of_message(&mut self, clock: u64) -> Cargo {
         Cargo::Try {
             message: self.message(),
             port: self.port(),
             route: self.route(),
             only: self.only(),
-            hop: u64::from(self.below(8)),
+            hop: self.hop(clock),
         }
     }
 
@@ -271,7 +349,7 @@ impl<'a, R: Abort> Draws<'a, R> {
     fn verdict(&mut self, place: &Place, clock: u64) -> Packet {
         let answer = self.decision(clock);
         let route = self.route();
-        let mut from = self.near(4);
+        let mut from = self.near_u16(4, PLACES_LIMIT);
         let mut message = self.id();
         let mut held = self.port();
         if let Some(Act::Try { id, port, to, .. }) = self.last_act(place, true) {
@@ -306,15 +384,35 @@ impl<'a, R: Abort> Draws<'a, R> {
         let actor = self.actor_of(place.number());
         let made = PortRecord::with_room(self.alloc, ui, actor, 2);
         let mut port = made.expect(self.rt, "memory");
-        port.capacity = self.near_byte(4);
-        port.hop = u64::from(self.below(8));
-        port.first = self.wide(clock.saturating_add(1));
-        for _ in 0..self.below(3) {
-            let id = self.id();
-            let tag = self.tag();
-            push_message(self.rt, self.alloc, &mut port, id, tag);
-        }
+        port.capacity = self.near_u8(4, LONGEST);
+        port.hop = self.hop(clock);
+        port.first = self.up_to(clock);
+        self.fill(&mut port);
+        self.remember(&mut port);
         Cargo::Transfer { port }
+    }
+
+    /// Mostly a few messages wait in the port, seldom as many as it holds.
+    fn fill(&mut self, port: &mut PortRecord) {
+        let most = u16::from(port.capacity.min(LONGEST));
+        let count = if self.hits(20) { most } else { self.below(3) };
+        for _ in 0..count {
+            let message = self.message();
+            push_message(self.rt, &mut port.pending, message);
+        }
+    }
+
+    /// Mostly the port remembers a few clients, seldom as many as it may.
+    fn remember(&mut self, port: &mut PortRecord) {
+        let count = if self.hits(20) {
+            MOST_CLIENTS
+        } else {
+            u32::from(self.below(3))
+        };
+        for client in 0..count {
+            let number = self.near_u32(4, u32::MAX);
+            push_client(self.rt, &mut port.clients, client, number);
+        }
     }
 
     /// The last try or post to a group among some of the place's last acts.
@@ -330,6 +428,29 @@ impl<'a, R: Abort> Draws<'a, R> {
         }
         None
     }
+}
+
+/// A body of so many bytes.
+fn body_of(rt: &impl Abort, alloc: Global, length: usize) -> Body {
+    let mut bytes = Vec::new(alloc);
+    for _ in 0..length {
+        bytes.push(b'x').ok().expect(rt, "memory");
+    }
+    assert!(rt; bytes.len() <= BODY_LIMIT);
+    Body::new(alloc, &bytes).expect(rt, "memory")
+}
+
+/// A message more waits.
+fn push_message(rt: &impl Abort, pending: &mut Pending, message: Message) {
+    assert!(rt; pending.len() < PENDING_LIMIT);
+    pending.push(message);
+}
+
+/// A client more is remembered.
+fn push_client(rt: &impl Abort, clients: &mut ClientTable, client: u32, number: u32) {
+    assert!(rt; clients.len() < CLIENTS_LIMIT);
+    assert!(rt; clients.number_of(client).is_none());
+    clients.push(client, number);
 }
 
 /// Whether it is a try, or else a post to a group.

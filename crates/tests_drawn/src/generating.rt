@@ -1,109 +1,36 @@
 //! Packets that are drawn: lawful ones, nearly lawful ones and arbitrary ones, between commands and packets of the places themselves.
 
 use crate::conditions::meets_conditions;
+use crate::counting::{
+    Counts, assert_acted, assert_both, assert_worked_off, count, effect_of, kind_of, look_before,
+    no_counts,
+};
 use crate::drawing::Draws;
-use crate::net::{Net, Seen, act_at, index, look, number_for, work_at};
+use crate::net::{Net, act_at, index, look, number_for, work_at};
 use chorus_calls::Caller;
-use chorus_entry::{Cargo, Packet};
+use chorus_entry::Packet;
 use chorus_place::{Place, PlaceFault};
-use chorus_ui::{CLOCK_LIMIT, Ui};
-use std::alloc::Global;
+use chorus_ui::CLOCK_LIMIT;
 use std::process::Abort;
 
 const ROUNDS: u64 = 8;
 
 const STEPS: u32 = 1_000;
 
-/// Asserts of a turn that ended: its entries have the next clocks, the place's number and the caller's seat, and no more room was
-/// taken than that of its entries and packets. Gives how many these are.
-fn assert_counted(
-    rt: &impl Abort,
-    place: &Place,
-    caller: &Caller,
-    before: &Seen,
-    heard: u64,
-    spare: u64,
-) -> (u64, u64) {
-    let after = look(place, caller);
-    let entries = after
-        .entries
-        .checked_sub(before.entries)
-        .expect(rt, "no entry is lost") as u64;
-    let packets = after
-        .waiting
-        .checked_sub(before.waiting)
-        .expect(rt, "no packet is lost");
-    assert!(rt; entries >= 1);
-    let mut clock = before.clock.max(before.last).max(heard);
-    for entry in place.journal().iter().skip(before.entries) {
-        clock = clock.saturating_add(1);
-        assert_eq!(rt; entry.clock, clock);
-        assert_eq!(rt; entry.place, place.number());
-        assert_eq!(rt; entry.seat, caller.seat());
-    }
-    assert_eq!(rt; after.clock, clock);
-    assert_eq!(rt; after.last, clock);
-    let left = place
-        .spare()
-        .saturating_add(entries)
-        .saturating_add(packets);
-    assert!(rt; spare <= left);
-    (entries, packets)
-}
-
-/// How many entries and packets the cargo leads to at least and at most, and whether a port comes.
-fn bounds(cargo: &Cargo) -> (u64, u64, u64, u64, u16) {
-    match cargo {
-        Cargo::Try { .. } => (1, 1, 1, 1, 0),
-        Cargo::Transfer { .. } => (1, 1, 0, 0, 1),
-        Cargo::Report { .. } => (1, 1, 0, 0, 0),
-        _ => (1, u64::MAX, 0, u64::MAX, 0),
-    }
-}
-
-/// The number of the cargo's kind, from 0.
-fn kind_of(cargo: &Cargo) -> usize {
-    match cargo {
-        Cargo::Try { .. } => 0,
-        Cargo::Verdict { .. } => 1,
-        Cargo::Transfer { .. } => 2,
-        Cargo::Ask { .. } => 3,
-        Cargo::Report { .. } => 4,
-    }
-}
-
-/// How many packets of each kind were shown, and how many of these were worked off.
-#[derive(Drop)]
-struct Counts {
-    shown: Vec<u32>,
-    worked: Vec<u32>,
-}
-
-/// Counts one of this kind.
-fn count(counts: &mut [u32], kind: usize) {
-    if let Some(count) = counts.get_mut(kind) {
-        *count = count.saturating_add(1);
-    }
-}
-
 /// Shows a packet to the place, and hands it over where it is lawful; whether it was worked off. One that is not lawful changes
 /// nothing, and one that is refused comes back.
 fn show(rt: &impl Abort, place: &mut Place, caller: &mut Caller, packet: Packet) -> bool {
-    let before = look(place, caller);
+    let old = look_before(place, caller);
     let is_lawful = place.lawful(packet.from, &packet);
-    assert_eq!(rt; look(place, caller), before);
+    assert_eq!(rt; look(place, caller), old.seen);
     if !is_lawful {
         return false;
     }
-    let spare = place.spare();
     let (from, clock) = (packet.from, packet.clock);
-    let (least, most, no_fewer, no_more, came) = bounds(&packet.cargo);
+    let effect = effect_of(&packet);
     match work_at(rt, place, caller, packet) {
         Ok(()) => {
-            let (entries, packets) = assert_counted(rt, place, caller, &before, clock, spare);
-            assert!(rt; least <= entries && entries <= most);
-            assert!(rt; no_fewer <= packets && packets <= no_more);
-            assert_eq!(rt; place.held(), before.held.saturating_add(came));
+            assert_worked_off(rt, place, caller, &old, effect);
             true
         }
         Err((back, fault)) => {
@@ -126,11 +53,9 @@ fn command<R: Abort>(draws: &mut Draws<'_, R>, net: &mut Net) {
     let caller = net.callers.get_mut(seat).expect(rt, "a caller");
     let number = number_for(rt, net.layout, caller.actor(), &command);
     let place = net.places.get_mut(index(rt, number)).expect(rt, "a place");
-    let before = look(place, caller);
-    let spare = place.spare();
+    let old = look_before(place, caller);
     let told = act_at(rt, place, caller, command);
-    assert!(rt; told.is_ok());
-    assert_counted(rt, place, caller, &before, 0, spare);
+    assert_acted(rt, place, caller, &old, told);
 }
 
 /// Shows a packet to a place and counts it: one that waits to go there from another place, or one that is drawn.
@@ -159,29 +84,13 @@ fn packet_comes<R: Abort>(
     }
 }
 
-/// Four places of two sites, and a caller beside seat 0 at each.
-fn four_places(rt: &impl Abort, alloc: Global) -> Net {
-    let mut net = Net::start(rt, alloc, 2, 2);
-    for actor in ["1.a.1", "1.a.2", "2.a.1", "2.a.2"] {
-        net.enter(rt, Ui::parse(actor.as_bytes()).expect(rt, "a name"));
-    }
-    net
-}
-
-fn no_counts(rt: &impl Abort, alloc: Global) -> Counts {
-    Counts {
-        shown: Vec::from_slice(alloc, &[0; 5]).expect(rt, "memory"),
-        worked: Vec::from_slice(alloc, &[0; 5]).expect(rt, "memory"),
-    }
-}
-
 #[test]
 fn lawful_packets_are_worked_off(rt: HostRuntime) {
     let alloc = rt.alloc();
     let mut drawn = no_counts(&rt, alloc);
     let mut sent = no_counts(&rt, alloc);
     for state in 1..=ROUNDS {
-        let mut net = four_places(&rt, alloc);
+        let mut net = Net::start(&rt, alloc);
         let mut draws = Draws {
             rt: &rt,
             alloc,
@@ -195,13 +104,7 @@ fn lawful_packets_are_worked_off(rt: HostRuntime) {
             }
         }
     }
-    for (worked, shown) in drawn.worked.iter().zip(drawn.shown.iter()) {
-        assert!(rt; *worked >= 50, "of each kind some are lawful");
-        assert!(rt;
-            shown.saturating_sub(*worked) >= 50,
-            "of each kind some are not lawful"
-        );
-    }
+    assert_both(&rt, &drawn, 50);
     for worked in &sent.worked {
         assert!(rt; *worked >= 1, "of each kind some are sent");
     }

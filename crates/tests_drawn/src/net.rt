@@ -1,16 +1,20 @@
-//! Places and their callers, and what is seen of them. What is not as it is to be ends the test.
+//! The places of a layout and their callers, and what is seen of them. What is not as it is to be ends the test.
 
-ghost use Rattle.std.specs.Prelude.{◌≡◌, true, IsTrue};
+ghost use Rattle.std.specs.Prelude.{◌≡◌, ◌<◌, true, IsTrue};
+ghost use Rattle.chorus_place.specs.Calls.{state, MayCall};
 
 use crate::conditions::meets_conditions;
 use chorus_calls::Caller;
-use chorus_entry::{Body, Command, Hand, Message, MsgId, Packet, PortRecord, Tag};
+use chorus_entry::{Command, Hand, Packet};
 use chorus_place::{Place, PlaceFault, Reply, place_for};
 use chorus_ui::{Layout, Ui};
 use std::alloc::Global;
 use std::process::Abort;
 
-/// The places of a layout, and their callers.
+/// How many places there are.
+pub(crate) const PLACES: u16 = 4;
+
+/// The places of two sites, and their callers.
 #[derive(Drop)]
 pub(crate) struct Net {
     pub(crate) layout: Layout,
@@ -24,6 +28,7 @@ pub(crate) struct Seen {
     pub(crate) entries: usize,
     pub(crate) clock: u64,
     pub(crate) waiting: u64,
+    pub(crate) puts: u64,
     pub(crate) held: u16,
     pub(crate) last: u64,
     pub(crate) posts: u32,
@@ -37,6 +42,7 @@ pub(crate) fn look(place: &Place, caller: &Caller) -> Seen {
         entries: place.journal().len(),
         clock: place.clock(),
         waiting: place.waiting(),
+        puts: place.puts(),
         held: place.held(),
         last: caller.last(),
         posts: caller.posts(),
@@ -57,25 +63,29 @@ pub(crate) fn number_for(rt: &impl Abort, layout: Layout, actor: Ui, command: &C
     place_for(layout, actor, command)
 }
 
-/// Gives the place a command of the caller. A refusal changes nothing.
+/// Asserts that the caller may give the place the command.
+pub(crate) fn assert_may(rt: &impl Abort, place: &Place, caller: &Caller, command: &Command)
+    ensures may { MayCall (state place.now) caller.now command.now }
+    ensures posts { caller.now.posts < u32.MAX }
+    ensures given { caller.now.client.given < u32.MAX }
+{
+    let layout = place.layout();
+    assert!(rt; layout.has_site(caller.actor().site()));
+    assert!(rt; meets_conditions(command));
+    assert!(rt; place_for(layout, caller.actor(), command) == place.number());
+    assert!(rt; caller.posts() < u32::MAX);
+    assert!(rt; caller.client().given() < u32::MAX);
+}
+
+/// Gives the place a command of the caller.
 pub(crate) fn act_at(
     rt: &impl Abort,
     place: &mut Place,
     caller: &mut Caller,
     command: Command,
 ) -> Result<Reply, PlaceFault> {
-    let before = look(place, caller);
-    let layout = place.layout();
-    assert!(rt; layout.has_site(caller.actor().site()));
-    assert!(rt; meets_conditions(&command));
-    assert!(rt; place_for(layout, caller.actor(), &command) == place.number());
-    assert!(rt; caller.posts() < u32::MAX);
-    assert!(rt; caller.client().given() < u32::MAX);
-    let told = place.act(caller, command);
-    if told.is_err() {
-        assert_eq!(rt; look(place, caller), before);
-    }
-    told
+    assert_may(rt, place, caller, &command);
+    place.act(caller, command)
 }
 
 /// Hands the place a packet that is lawful there. A refusal changes nothing.
@@ -94,57 +104,43 @@ pub(crate) fn work_at(
     told
 }
 
+/// The layout of the places.
+pub(crate) fn four_places(rt: &impl Abort) -> Layout {
+    Layout::new(2, 2).expect(rt, "a layout")
+}
+
+/// Seat 0 in the first actor, and one more caller in two actors of each site. Their last clocks are 0.
+pub(crate) fn five_callers(rt: &impl Abort, alloc: Global) -> Vec<Caller> {
+    let mut callers = Vec::new(alloc);
+    let mut seat = 0u32;
+    for actor in ["1.a.1", "1.a.1", "1.a.2", "2.a.1", "2.a.2"] {
+        let actor = Ui::parse(actor.as_bytes()).expect(rt, "a name");
+        let caller = Caller::new(seat, actor, 0);
+        callers.push(caller).ok().expect(rt, "memory");
+        seat = seat.saturating_add(1);
+    }
+    callers
+}
+
 impl Net {
-    /// The places of so many sites, and seat 0 in the first actor.
-    pub(crate) fn start(rt: &impl Abort, alloc: Global, sites: u16, turns: u16) -> Net {
-        let layout = Layout::new(sites, turns).expect(rt, "a layout");
+    /// The places, on which nothing happened yet, and the callers.
+    pub(crate) fn start(rt: &impl Abort, alloc: Global) -> Net {
+        let layout = four_places(rt);
         let mut places = Vec::new(alloc);
         for number in 1..=layout.places() {
             assert!(rt; layout.has_place(number));
             let place = Place::start(alloc, layout, number).expect(rt, "memory");
             places.push(place).ok().expect(rt, "memory");
         }
-        let mut net = Net {
+        Net {
             layout,
             places,
-            callers: Vec::new(alloc),
-        };
-        net.enter(rt, Ui::parse(b"1.a.1").expect(rt, "a name"));
-        net
-    }
-
-    /// Gives the next seat, to a caller in the actor, whose last clock is that of seat 0.
-    pub(crate) fn enter(&mut self, rt: &impl Abort, actor: Ui) {
-        let seat = u32::try_from(self.callers.len()).expect(rt, "a seat");
-        let last = match self.callers.get(0) {
-            Some(first) => first.last(),
-            None => 0,
-        };
-        let caller = Caller::new(seat, actor, last);
-        self.callers.push(caller).ok().expect(rt, "memory");
+            callers: five_callers(rt, alloc),
+        }
     }
 
     /// The place of this number.
     pub(crate) fn place(&mut self, rt: &impl Abort, number: u16) -> &mut Place {
         self.places.get_mut(index(rt, number)).expect(rt, "a place")
     }
-}
-
-/// A message with the body `x`.
-pub(crate) fn message_of(rt: &impl Abort, alloc: Global, id: MsgId, tag: Tag) -> Message {
-    let body = Body::new(alloc, b"x").expect(rt, "memory");
-    Message { id, tag, body }
-}
-
-/// A message more waits in the port.
-pub(crate) fn push_message(
-    rt: &impl Abort,
-    alloc: Global,
-    port: &mut PortRecord,
-    id: MsgId,
-    tag: Tag,
-) {
-    let message = message_of(rt, alloc, id, tag);
-    assert!(rt; port.pending.len() < 64);
-    port.pending.push(message);
 }

@@ -1,0 +1,167 @@
+//! How many entries a turn appends and how many packets it puts, and how many packets of each kind came.
+
+use crate::net::{Seen, look};
+use chorus_calls::Caller;
+use chorus_entry::{Cargo, Packet};
+use chorus_place::{Place, PlaceFault, Reply};
+use chorus_ui::CLOCK_LIMIT;
+use std::alloc::Global;
+use std::process::Abort;
+
+/// A place and a caller before a turn: what was seen of them, and how many entries and packets needed no memory.
+#[derive(Clone, Copy)]
+pub(crate) struct Before {
+    pub(crate) seen: Seen,
+    pub(crate) spare: u64,
+}
+
+/// The two now, before a turn.
+pub(crate) fn look_before(place: &Place, caller: &Caller) -> Before {
+    Before {
+        seen: look(place, caller),
+        spare: place.spare(),
+    }
+}
+
+/// Asserts of a turn that ended: its entries have the next clocks, the place's number and the caller's seat, its packets wait, and no
+/// more room was taken than that of its entries and packets. Gives how many these are. `heard` is the clock of the packet, or 0.
+fn assert_counted(
+    rt: &impl Abort,
+    place: &Place,
+    caller: &Caller,
+    before: &Before,
+    heard: u64,
+) -> (u64, u64) {
+    let (old, new) = (before.seen, look(place, caller));
+    let entries = new.entries.checked_sub(old.entries);
+    let entries = entries.expect(rt, "no entry is lost") as u64;
+    let packets = new.puts.checked_sub(old.puts).expect(rt, "a count");
+    assert!(rt; entries >= 1);
+    assert_eq!(rt; new.waiting, old.waiting.saturating_add(packets));
+    let mut clock = old.clock.max(old.last).max(heard);
+    for entry in place.journal().iter().skip(old.entries) {
+        clock = clock.saturating_add(1);
+        assert_eq!(rt; entry.clock, clock);
+        assert_eq!(rt; entry.place, place.number());
+        assert_eq!(rt; entry.seat, caller.seat());
+    }
+    assert_eq!(rt; new.clock, clock);
+    assert_eq!(rt; new.last, clock);
+    let left = place
+        .spare()
+        .saturating_add(entries)
+        .saturating_add(packets);
+    assert!(rt; before.spare <= left);
+    (entries, packets)
+}
+
+/// Asserts of a command what came of it: it was worn exactly where a clock is, and then nothing changed; else its turn ended.
+pub(crate) fn assert_acted(
+    rt: &impl Abort,
+    place: &Place,
+    caller: &Caller,
+    before: &Before,
+    told: Result<Reply, PlaceFault>,
+) {
+    let clock = before.seen.clock.max(before.seen.last);
+    if clock >= CLOCK_LIMIT {
+        assert_eq!(rt; told.err(), Some(PlaceFault::Worn { clock }));
+        assert_eq!(rt; look(place, caller), before.seen);
+    } else {
+        assert!(rt; told.is_ok());
+        assert_counted(rt, place, caller, before, 0);
+    }
+}
+
+/// What a packet leads to: how many entries and packets at least and at most, and how many ports come.
+#[derive(Clone, Copy)]
+pub(crate) struct Effect {
+    clock: u64,
+    entries: (u64, u64),
+    packets: (u64, u64),
+    ports: u16,
+}
+
+/// What the packet leads to. A try is decided and answered, a port arrives, a report is heard. A verdict is told, and the next message
+/// may go. An ask is answered, and its copies go.
+pub(crate) fn effect_of(packet: &Packet) -> Effect {
+    let (entries, packets, ports) = match &packet.cargo {
+        Cargo::Try { .. } => ((1, 1), (1, 1), 0),
+        Cargo::Transfer { .. } => ((1, 1), (0, 0), 1),
+        Cargo::Report { .. } => ((1, 1), (0, 0), 0),
+        Cargo::Verdict { .. } => ((1, u64::MAX), (0, u64::MAX), 0),
+        Cargo::Ask { .. } => ((1, u64::MAX), (1, u64::MAX), 0),
+    };
+    Effect {
+        clock: packet.clock,
+        entries,
+        packets,
+        ports,
+    }
+}
+
+/// Asserts that the number is from one to the other.
+fn assert_between(rt: &impl Abort, number: u64, bounds: (u64, u64)) {
+    assert!(rt; bounds.0 <= number && number <= bounds.1);
+}
+
+/// Asserts of a packet that was worked off that its turn ended and did what the packet leads to, and that nothing else of the caller
+/// changed.
+pub(crate) fn assert_worked_off(
+    rt: &impl Abort,
+    place: &Place,
+    caller: &Caller,
+    before: &Before,
+    effect: Effect,
+) {
+    let (entries, packets) = assert_counted(rt, place, caller, before, effect.clock);
+    assert_between(rt, entries, effect.entries);
+    assert_between(rt, packets, effect.packets);
+    let (old, new) = (before.seen, look(place, caller));
+    assert_eq!(rt; new.held, old.held.saturating_add(effect.ports));
+    assert_eq!(rt;
+        (new.posts, new.given, new.hand),
+        (old.posts, old.given, old.hand)
+    );
+}
+
+/// The number of the cargo's kind, from 0.
+pub(crate) fn kind_of(cargo: &Cargo) -> usize {
+    match cargo {
+        Cargo::Try { .. } => 0,
+        Cargo::Verdict { .. } => 1,
+        Cargo::Transfer { .. } => 2,
+        Cargo::Ask { .. } => 3,
+        Cargo::Report { .. } => 4,
+    }
+}
+
+/// How many packets of each kind came, and how many of these were worked off.
+#[derive(Drop)]
+pub(crate) struct Counts {
+    pub(crate) shown: Vec<u32>,
+    pub(crate) worked: Vec<u32>,
+}
+
+/// Counts one more at the index.
+pub(crate) fn count(counts: &mut [u32], at: usize) {
+    if let Some(count) = counts.get_mut(at) {
+        *count = count.saturating_add(1);
+    }
+}
+
+pub(crate) fn no_counts(rt: &impl Abort, alloc: Global) -> Counts {
+    Counts {
+        shown: Vec::from_slice(alloc, &[0; 5]).expect(rt, "memory"),
+        worked: Vec::from_slice(alloc, &[0; 5]).expect(rt, "memory"),
+    }
+}
+
+/// Asserts that of each kind at least so many were worked off, and so many were not.
+pub(crate) fn assert_both(rt: &impl Abort, counts: &Counts, least: u32) {
+    for (worked, shown) in counts.worked.iter().zip(counts.shown.iter()) {
+        let not_worked = shown.saturating_sub(*worked);
+        assert!(rt; *worked >= least, "{worked} of {shown} were lawful");
+        assert!(rt; not_worked >= least, "{not_worked} of {shown} were not");
+    }
+}

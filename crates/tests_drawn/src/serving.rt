@@ -1,0 +1,465 @@
+//! Any packet at all, handed to a place that serves its links: lawful ones, nearly lawful ones and arbitrary ones.
+//!
+//! A place on which some commands were performed is to receive a few packets that are drawn, most of them from other places, and is
+//! served, by one caller or another, with commands in between. What has to come of each call of `serve` is read from the rules:
+//!
+//! - What waited before the call is sent and nothing else, each packet with the clock of the entry that caused it, in their order;
+//!   a try and a port go where their entries say, and as many verdicts go to a place as messages were decided that it had tried.
+//! - The packet in hand is dealt with. Where none is in hand, it is the first one of the next place around that has one, and no link
+//!   is asked where one is.
+//! - Where the greatest clock of the place, the caller and the packet is 2^62 or above, the answer is Worn with that clock.
+//! - Else, where the packet is unlawful, the answer is Served. In both cases the packet is in hand, and nothing else changed.
+//! - Else the answer is Served too, nothing is in hand, and the packet was worked off: its entries have the clocks behind the greatest
+//!   one, and there are as many entries, packets and ports as a packet of its kind leads to.
+//! - Where there is no packet, a link was found empty, the answer is Idle with the two counts, and nothing changed.
+//!
+//! In the end the place is taken apart, and has in hand what it is to have in hand.
+
+use crate::conditions::meets_conditions;
+use crate::counting::{
+    Before, Counts, assert_acted, assert_both, assert_worked_off, count, effect_of, kind_of,
+    look_before, no_counts,
+};
+use crate::drawing::Draws;
+use crate::inbox::Inbox;
+use crate::net::{PLACES, assert_may, five_callers, four_places, look, number_for};
+use chorus_calls::Caller;
+use chorus_ends::{Ends, MemEnds, Moves};
+use chorus_entry::{Act, Cargo, Command, Entry, Packet};
+use chorus_place::{Place, PlaceFault};
+use chorus_serve::{Desk, Pump, serve};
+use chorus_ui::CLOCK_LIMIT;
+use std::alloc::Global;
+use std::process::Abort;
+
+/// How many places are served.
+const ROUNDS: u64 = 1_500;
+
+/// How many commands are drawn before the packets are; about a fourth of them is for the place.
+const COMMANDS: u16 = 40;
+
+/// How many packets a place is to receive, at most.
+const PACKETS: u16 = 5;
+
+/// How often a place is served or given a command.
+const STEPS: u16 = 10;
+
+/// A place at the ends of its links, its callers, and what it is to receive.
+#[derive(Drop)]
+struct Side<E: Ends> {
+    desk: Desk<E>,
+    callers: Vec<Caller>,
+    inbox: Inbox,
+    /// How many messages were decided that a place had tried, by the number of that place.
+    decided: Vec<u32>,
+}
+
+/// What was found in all rounds.
+#[derive(Drop)]
+struct Tally {
+    counts: Counts,
+    idle: u32,
+    worn: u32,
+}
+
+/// What is to become of the packet that is in hand.
+#[derive(Clone, Copy, Debug, PartialEq, Eq)]
+enum Fate {
+    /// There is none.
+    Idle,
+    Worn { clock: u64 },
+    Kept { from: u16 },
+    WorkedOff { from: u16 },
+}
+
+/// What is to become of the packet, where this is the greatest clock.
+fn fate_of(place: &Place, packet: &Packet, clock: u64) -> Fate {
+    let from = packet.from;
+    if clock >= CLOCK_LIMIT {
+        return Fate::Worn { clock };
+    }
+    if place.lawful(from, packet) {
+        return Fate::WorkedOff { from };
+    }
+    Fate::Kept { from }
+}
+
+/// What is to become of the packet in hand, when the place is served.
+fn fate_of_hand(place: &Place, caller: &Caller, hand: Option<&Packet>) -> Fate {
+    match hand {
+        Some(packet) => {
+            let clock = place.clock().max(caller.last()).max(packet.clock);
+            fate_of(place, packet, clock)
+        }
+        None => Fate::Idle,
+    }
+}
+
+/// The answer of a place that has put and worked off so many packets before.
+fn answer(fate: Fate, put: u64, worked: u64) -> Result<Pump, PlaceFault> {
+    match fate {
+        Fate::Idle => Ok(Pump::Idle { put, worked }),
+        Fate::Worn { clock } => Err(PlaceFault::Worn { clock }),
+        Fate::Kept { from } | Fate::WorkedOff { from } => Ok(Pump::Served { from }),
+    }
+}
+
+/// Asserts that the packet was worked off.
+fn assert_done<E: Ends>(
+    rt: &impl Abort,
+    desk: &Desk<E>,
+    caller: &Caller,
+    old: &Before,
+    packet: Option<&Packet>,
+) {
+    let effect = effect_of(packet.expect(rt, "a packet"));
+    assert_worked_off(rt, desk.place(), caller, old, effect);
+    assert!(rt; !desk.is_holding());
+}
+
+/// Asserts that nothing changed, and whether a packet is in hand.
+fn assert_rests<E: Ends>(
+    rt: &impl Abort,
+    desk: &Desk<E>,
+    caller: &Caller,
+    old: &Before,
+    is_holding: bool,
+) {
+    assert_eq!(rt; look(desk.place(), caller), old.seen);
+    assert!(rt; old.spare <= desk.place().spare());
+    assert_eq!(rt; desk.is_holding(), is_holding);
+}
+
+/// Asserts what became of the packet in hand.
+fn assert_became<E: Ends>(
+    rt: &impl Abort,
+    desk: &Desk<E>,
+    caller: &Caller,
+    old: &Before,
+    packet: Option<&Packet>,
+    fate: Fate,
+) {
+    match fate {
+        Fate::WorkedOff { .. } => assert_done(rt, desk, caller, old, packet),
+        _ => assert_rests(rt, desk, caller, old, packet.is_some()),
+    }
+}
+
+/// Asserts what the desk tells of its place and its hand, and how many packets it worked off.
+fn assert_told<E: Ends>(rt: &impl Abort, desk: &Desk<E>, worked: u64) {
+    let waiting = desk.place().waiting();
+    let in_hand = u64::from(desk.is_holding());
+    assert_eq!(rt; desk.waiting(), waiting.saturating_add(in_hand));
+    assert_eq!(rt; desk.held(), desk.place().held());
+    assert_eq!(rt; desk.worked(), worked);
+}
+
+/// How many packets the place has worked off then, of so many before.
+fn worked_then(fate: Fate, worked: u64) -> u64 {
+    match fate {
+        Fate::WorkedOff { .. } => worked.saturating_add(1),
+        _ => worked,
+    }
+}
+
+/// Serves the links, in the name of the caller, where this packet is to be in hand. Gives what became of it.
+fn serve_once<E: Moves<()>>(
+    rt: &impl Abort,
+    desk: &mut Desk<E>,
+    caller: &mut Caller,
+    packet: Option<&Packet>,
+) -> Fate {
+    let mut old = look_before(desk.place(), caller);
+    old.seen.waiting = 0;
+    let worked = desk.worked();
+    let fate = fate_of_hand(desk.place(), caller, packet);
+    let told = serve(desk, &(), caller);
+    assert_eq!(rt; told, answer(fate, old.seen.puts, worked));
+    assert_became(rt, desk, caller, &old, packet, fate);
+    assert_told(rt, desk, worked_then(fate, worked));
+    fate
+}
+
+/// The place to which the act sends a message or a port.
+fn sends_to(act: &Act) -> Option<u16> {
+    match act {
+        Act::Try { to, .. } | Act::Depart { to, .. } => Some(*to),
+        _ => None,
+    }
+}
+
+/// Whether it carries a message that is tried or a port.
+fn is_sent_by_act(cargo: &Cargo) -> bool {
+    matches!(cargo, Cargo::Try { .. } | Cargo::Transfer { .. })
+}
+
+/// Whether the entry caused the packet that was sent to the place.
+fn caused(entry: &Entry, packet: &Packet, to: u16) -> bool {
+    let goes_there = sends_to(&entry.act) == Some(to);
+    entry.clock == packet.clock && goes_there == is_sent_by_act(&packet.cargo)
+}
+
+/// Whether one of the entries caused the packet that was sent to the place.
+fn is_caused(journal: &[Entry], packet: &Packet, to: u16) -> bool {
+    for entry in journal {
+        if caused(entry, packet, to) {
+            return true;
+        }
+    }
+    false
+}
+
+/// How many of the packets are verdicts.
+fn verdicts(packets: &[Packet]) -> u32 {
+    let mut count = 0u32;
+    for packet in packets {
+        if matches!(packet.cargo, Cargo::Verdict { .. }) {
+            count = count.saturating_add(1);
+        }
+    }
+    count
+}
+
+/// Asserts of the packets that were sent to a place that they are of this place, and that each was caused by an entry, in their order.
+fn assert_caused(rt: &impl Abort, place: &Place, to: u16, packets: &[Packet]) {
+    let mut clock = 0;
+    for packet in packets {
+        assert_eq!(rt; packet.from, place.number());
+        assert!(rt; packet.clock > clock);
+        assert!(rt; is_caused(place.journal(), packet, to));
+        clock = packet.clock;
+    }
+}
+
+/// Asserts of the packets that were sent to a place that they are as they are to be, so many of them verdicts.
+fn assert_sent_to(
+    rt: &impl Abort,
+    place: &Place,
+    to: u16,
+    packets: &[Packet],
+    decided: Option<&u32>,
+) {
+    assert_caused(rt, place, to, packets);
+    assert_eq!(rt; Some(verdicts(packets)), decided.copied());
+}
+
+/// Asserts that so many packets were sent, none of them to the place itself.
+fn assert_sent(rt: &impl Abort, place: &Place, ends: &MemEnds, decided: &[u32], put: u64) {
+    let mut count = 0usize;
+    for to in 0..=PLACES {
+        let packets = ends.sent(to);
+        assert_sent_to(rt, place, to, packets, decided.get(usize::from(to)));
+        count = count.saturating_add(packets.len());
+    }
+    assert_eq!(rt; count as u64, put);
+    assert!(rt; ends.sent(place.number()).is_empty());
+}
+
+/// Asserts that a link was found empty where there was no packet, and that none was asked where one was in hand.
+fn assert_asked(rt: &impl Abort, fate: Fate, was_holding: bool, empties: (u64, u64)) {
+    let (old, new) = empties;
+    assert!(rt; fate != Fate::Idle || old < new);
+    assert!(rt; !was_holding || old == new);
+}
+
+/// Notes which packet is to be in hand.
+fn take_up<E: Ends>(side: &mut Side<E>, shown: &mut [u32]) {
+    if side.inbox.take_up(side.desk.place().number()) {
+        if let Some(packet) = side.inbox.hand() {
+            count(shown, kind_of(&packet.cargo));
+        }
+    }
+}
+
+/// Notes that the packet in hand was worked off. Where it was a try, its message was decided.
+fn note_worked_off<E: Ends>(side: &mut Side<E>, worked: &mut [u32]) {
+    let Some(packet) = side.inbox.take_hand() else {
+        return;
+    };
+    count(worked, kind_of(&packet.cargo));
+    if matches!(packet.cargo, Cargo::Try { .. }) {
+        count(&mut side.decided, usize::from(packet.from));
+    }
+}
+
+/// Notes what became of the packet in hand.
+fn note<E: Ends>(side: &mut Side<E>, tally: &mut Tally, fate: Fate) {
+    match fate {
+        Fate::Idle => tally.idle = tally.idle.saturating_add(1),
+        Fate::Worn { .. } => tally.worn = tally.worn.saturating_add(1),
+        Fate::Kept { .. } => {}
+        Fate::WorkedOff { .. } => note_worked_off(side, &mut tally.counts.worked),
+    }
+}
+
+/// Serves the links once, in the name of the caller of this seat. Gives what became of the packet in hand.
+fn serve_side<E: Moves<()>>(
+    rt: &impl Abort,
+    side: &mut Side<E>,
+    seat: usize,
+    shown: &mut [u32],
+) -> Fate {
+    let was_holding = side.desk.is_holding();
+    let empties = side.desk.ends().empties(1);
+    take_up(side, shown);
+    let caller = side.callers.get_mut(seat).expect(rt, "a caller");
+    let fate = serve_once(rt, &mut side.desk, caller, side.inbox.hand());
+    let found = side.desk.ends().empties(1);
+    assert_asked(rt, fate, was_holding, (empties, found));
+    fate
+}
+
+/// Serves the links once, and asserts what was sent.
+fn serve_step(rt: &impl Abort, side: &mut Side<MemEnds>, seat: usize, tally: &mut Tally) {
+    let put = side.desk.place().puts();
+    let fate = serve_side(rt, side, seat, &mut tally.counts.shown);
+    assert_sent(rt, side.desk.place(), side.desk.ends(), &side.decided, put);
+    note(side, tally, fate);
+}
+
+/// Whether the command may be performed at the place.
+fn is_for(rt: &impl Abort, place: &Place, caller: &Caller, command: &Command) -> bool {
+    meets_conditions(command)
+        && number_for(rt, place.layout(), caller.actor(), command) == place.number()
+}
+
+/// Performs the command at the place. What is in hand stays there.
+fn act<E: Ends>(rt: &impl Abort, desk: &mut Desk<E>, caller: &mut Caller, command: Command) {
+    let hands = (desk.is_holding(), desk.worked());
+    let old = look_before(desk.place(), caller);
+    assert_may(rt, desk.place(), caller, &command);
+    let told = desk.act(caller, command);
+    assert_acted(rt, desk.place(), caller, &old, told);
+    assert_eq!(rt; (desk.is_holding(), desk.worked()), hands);
+}
+
+/// Performs a command that is drawn, where it is for the place.
+fn command<R: Abort, E: Ends>(draws: &mut Draws<'_, R>, side: &mut Side<E>) {
+    let seat = usize::from(draws.below(5));
+    let command = draws.command();
+    let rt = draws.rt;
+    let caller = side.callers.get_mut(seat).expect(rt, "a caller");
+    if is_for(rt, side.desk.place(), caller, &command) {
+        act(rt, &mut side.desk, caller, command);
+    }
+}
+
+/// Performs commands that are drawn.
+fn perform_some<R: Abort, E: Ends>(draws: &mut Draws<'_, R>, side: &mut Side<E>) {
+    for _ in 0..COMMANDS {
+        command(draws, side);
+    }
+}
+
+/// The place of this number, at ends that hold these packets.
+fn desk_at(rt: &impl Abort, alloc: Global, number: u16, packets: Vec<Packet>) -> Desk<MemEnds> {
+    let layout = four_places(rt);
+    assert!(rt; layout.has_place(number));
+    let ends = MemEnds::holding(alloc, packets).expect(rt, "memory");
+    Desk::start(alloc, layout, number, ends).expect(rt, "memory")
+}
+
+/// The callers, with last clocks that are drawn.
+fn callers<R: Abort>(draws: &mut Draws<'_, R>) -> Vec<Caller> {
+    let mut callers = five_callers(draws.rt, draws.alloc);
+    for caller in callers.iter_mut() {
+        caller.tick(draws.last_clock());
+    }
+    callers
+}
+
+/// A place on which commands that are drawn were performed, at ends that hold these packets.
+fn prepare<R: Abort>(draws: &mut Draws<'_, R>, number: u16, packets: Vec<Packet>) -> Side<MemEnds> {
+    let (rt, alloc) = (draws.rt, draws.alloc);
+    let mut side = Side {
+        desk: desk_at(rt, alloc, number, packets),
+        callers: callers(draws),
+        inbox: Inbox::holding(Vec::new(alloc)),
+        decided: Vec::from_slice(alloc, &[0; 5]).expect(rt, "memory"),
+    };
+    perform_some(draws, &mut side);
+    side
+}
+
+/// Some packets for the place, or none.
+fn packets<R: Abort>(mut draws: Draws<'_, R>, place: &Place) -> Vec<Packet> {
+    let mut packets = Vec::new(draws.alloc);
+    for _ in 0..draws.below(PACKETS + 1) {
+        let packet = draws.wearing_packet(place);
+        packets.push(packet).ok().expect(draws.rt, "memory");
+    }
+    packets
+}
+
+/// Whether both are the same packet, or both are none.
+fn are_same(one: Option<&Packet>, other: Option<&Packet>) -> bool {
+    match (one, other) {
+        (Some(one), Some(other)) => {
+            one.clock == other.clock
+                && one.from == other.from
+                && kind_of(&one.cargo) == kind_of(&other.cargo)
+        }
+        (None, None) => true,
+        _ => false,
+    }
+}
+
+/// Takes the place apart, and asserts what is left of it.
+fn finish<E: Ends>(rt: &impl Abort, desk: Desk<E>, hand: Option<&Packet>) {
+    let place = desk.place();
+    let seen = (place.journal().len(), place.waiting(), place.held());
+    let parts = desk.finish();
+    let left = (parts.journal.len(), parts.out.waiting(), parts.ports.len());
+    assert_eq!(rt; left, seen);
+    assert!(rt; are_same(parts.hand.as_ref(), hand));
+    assert!(rt; parts.parcel.is_none());
+}
+
+/// Serves a place and performs commands there, as they are drawn.
+fn serve_on<R: Abort>(draws: &mut Draws<'_, R>, side: &mut Side<MemEnds>, tally: &mut Tally) {
+    for _ in 0..STEPS {
+        let seat = usize::from(draws.below(5));
+        match draws.below(4) {
+            0 => command(draws, side),
+            _ => serve_step(draws.rt, side, seat, tally),
+        }
+    }
+}
+
+/// What is drawn from this state.
+fn draws_from<R: Abort>(rt: &R, alloc: Global, state: u64) -> Draws<'_, R> {
+    Draws { rt, alloc, state }
+}
+
+/// Draws the packets twice, for a place to receive and to look at them here, and serves it.
+fn round<R: Abort>(rt: &R, alloc: Global, state: u64, tally: &mut Tally) {
+    let mut draws = draws_from(rt, alloc, state);
+    let number = draws.below(PLACES).saturating_add(1);
+    let start = draws.state;
+    let rehearsal = prepare(&mut draws, number, Vec::new(alloc));
+    let place = rehearsal.desk.place();
+    let left = packets(draws_from(rt, alloc, u64::MAX - state), place);
+    let received = packets(draws_from(rt, alloc, u64::MAX - state), place);
+    draws.state = start;
+    let mut side = prepare(&mut draws, number, received);
+    side.inbox = Inbox::holding(left);
+    serve_on(&mut draws, &mut side, tally);
+    let Side { desk, inbox, .. } = side;
+    finish(rt, desk, inbox.hand());
+}
+
+#[test]
+fn any_packet_is_worked_off_or_stays_in_hand(rt: HostRuntime) {
+    let alloc = rt.alloc();
+    let mut tally = Tally {
+        counts: no_counts(&rt, alloc),
+        idle: 0,
+        worn: 0,
+    };
+    for state in 1..=ROUNDS {
+        round(&rt, alloc, state, &mut tally);
+    }
+    assert_both(&rt, &tally.counts, 10);
+    let (idle, worn) = (tally.idle, tally.worn);
+    assert!(rt; idle >= 50 && worn >= 50, "{idle} idle, {worn} worn");
+}
