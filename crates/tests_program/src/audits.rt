@@ -1,10 +1,9 @@
 //! What the program prints is audited by the program.
 
-use chorus_io::{MemSink, MemSource};
-use chorus_program::program;
+use crate::running::{Run, assert_prints, run_on};
 use chorus_show::Status;
 use std::alloc::Global;
-use std::test::Fail;
+use std::process::Abort;
 
 const NOTHING: &str = "chorus 1\nsites 1\nscript 1.a.1\nschedule\nend\n";
 
@@ -44,36 +43,32 @@ drain
 end
 ";
 
-/// What the program prints for these words and this input.
-fn printed(alloc: Global, words: &[&str], input: &[u8]) -> Result<Vec<u8>, Fail> {
-    let mut source = MemSource::new(Vec::from_slice(alloc, input)?, Vec::new(alloc));
-    let mut sink = MemSink::new(alloc, 4096, Vec::new(alloc));
-    let finished = program(alloc, words, &mut source, &mut sink);
-    if finished.status != Status::Done {
-        return Err("the status is not Done".into());
-    }
-    Ok(Vec::from_slice(alloc, sink.bytes())?)
+/// What the program prints for the scenario.
+fn replayed(rt: &impl Abort, alloc: Global, scenario: &str) -> String {
+    let Run { status, written } = run_on(rt, alloc, &["replay"], scenario);
+    assert_eq!(rt; status, Status::Done, "{scenario}");
+    written
+}
+
+fn assert_audited(rt: &impl Abort, alloc: Global, journal: &str, verdict: &str) {
+    assert_prints(rt, alloc, &["audit", "16", "1"], journal, verdict);
+}
+
+/// Audits what is printed for no entry, and that without its last line.
+fn assert_nothing_is_audited(rt: &impl Abort, alloc: Global) {
+    let nothing = replayed(rt, alloc, NOTHING);
+    assert_audited(rt, alloc, nothing.as_str(), "legal 0\n");
+    let cut = nothing.as_str().strip_suffix("end\n").expect(rt, "an end");
+    assert_audited(rt, alloc, cut, "wrong line 11 rule 99\n");
+}
+
+fn assert_a_move_is_audited(rt: &impl Abort, alloc: Global) {
+    let moved = replayed(rt, alloc, RETRY_ACROSS_A_MOVE);
+    assert_audited(rt, alloc, moved.as_str(), "legal 27\n");
 }
 
 #[test]
-fn audit_of_real_outputs(rt: HostRuntime) -> Result<(), Fail> {
-    let alloc = rt.alloc();
-    let audit = ["audit", "16", "1"];
-    let mut nothing = printed(alloc, &["replay"], NOTHING.as_bytes())?;
-    assert_eq!(rt;
-        printed(alloc, &audit, &nothing)?.as_slice(),
-        b"legal 0\n".as_slice()
-    );
-    let without_end = nothing.len().saturating_sub(4);
-    nothing.truncate(without_end);
-    assert_eq!(rt;
-        printed(alloc, &audit, &nothing)?.as_slice(),
-        b"wrong line 11 rule 99\n".as_slice()
-    );
-    let moved = printed(alloc, &["replay"], RETRY_ACROSS_A_MOVE.as_bytes())?;
-    assert_eq!(rt;
-        printed(alloc, &audit, &moved)?.as_slice(),
-        b"legal 27\n".as_slice()
-    );
-    Ok(())
+fn audit_of_real_outputs(rt: HostRuntime) {
+    assert_nothing_is_audited(&rt, rt.alloc());
+    assert_a_move_is_audited(&rt, rt.alloc());
 }

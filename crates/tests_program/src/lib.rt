@@ -7,4 +7,6 @@ mod audits;
 #[cfg(test)]
 mod endings;
 #[cfg(test)]
+mod running;
+#[cfg(test)]
 mod words;

@@ -1,11 +1,10 @@
 //! What the program does with its words.
 
-use chorus_io::{MemSink, MemSource};
-use chorus_program::program;
+use crate::running::{assert_prints, run_on};
 use chorus_show::Status;
 use chorus_words::{Words, read_words};
 use std::alloc::Global;
-use std::test::Fail;
+use std::process::Abort;
 
 const LOADS_NOTHING: &str =
     "summary\nposted 0\naccepted 0\ntaken 0\nqueued 0\nmoving 0\nrefused 0\nstale 0\ndeparts 0\nend\n";
@@ -13,21 +12,33 @@ const LOADS_NOTHING: &str =
 const LOADS_ONE_COMMAND: &str =
     "summary\nposted 1\naccepted 1\ntaken 0\nqueued 1\nmoving 0\nrefused 0\nstale 0\ndeparts 0\nend\n";
 
-#[test]
-fn the_list_and_nothing_else(rt: HostRuntime) -> Result<(), Fail> {
-    let alloc = rt.alloc();
-    let most = "18446744073709551615";
-    for (first, text) in [(0, "0"), (7, "7"), (u64::MAX, most)] {
-        let commands = Words::Load {
-            first,
-            commands: 65_536,
-        };
-        let words = ["load", text, "65536"];
-        assert!(rt; read_words(alloc, &words)? == Some(commands), "{first}");
-    }
-    assert!(rt; read_words(alloc, &["replay"])? == Some(Words::Replay));
-    assert!(rt; read_words(alloc, &["lossy", most])? == Some(Words::Lossy { first: u64::MAX }));
-    for number in [
+fn asked_by(rt: &impl Abort, alloc: Global, words: &[&str]) -> Option<Words> {
+    read_words(alloc, words).expect(rt, "memory")
+}
+
+fn assert_reads(rt: &impl Abort, alloc: Global, words: &[&str], asked: Option<Words>) {
+    let read = asked_by(rt, alloc, words);
+    assert!(rt; read == asked, "{words:?}");
+}
+
+/// Asserts that the text is read as this first number of a load.
+fn assert_first(rt: &impl Abort, alloc: Global, text: &str, first: u64) {
+    let commands = Words::Load {
+        first,
+        commands: 65_536,
+    };
+    assert_reads(rt, alloc, &["load", text, "65536"], Some(commands));
+}
+
+/// Asserts that the text is read as no number, wherever one stands.
+fn assert_no_number(rt: &impl Abort, alloc: Global, text: &str) {
+    assert_reads(rt, alloc, &["load", text, "1"], None);
+    assert_reads(rt, alloc, &["load", "1", text], None);
+    assert_reads(rt, alloc, &["lossy", text], None);
+}
+
+fn assert_no_numbers(rt: &impl Abort, alloc: Global) {
+    for text in [
         "",
         "-1",
         "+1",
@@ -38,25 +49,32 @@ fn the_list_and_nothing_else(rt: HostRuntime) -> Result<(), Fail> {
         "x",
         "18446744073709551616",
     ] {
-        assert!(rt; read_words(alloc, &["load", number, "1"])?.is_none());
-        assert!(rt; read_words(alloc, &["load", "1", number])?.is_none());
-        assert!(rt; read_words(alloc, &["lossy", number])?.is_none());
+        assert_no_number(rt, alloc, text);
     }
-    assert!(rt; read_words(alloc, &["load", "7", "65537"])?.is_none());
-    Ok(())
-}
-
-/// How the program ends on an empty text, and what it wrote.
-fn ends(alloc: Global, words: &[&str]) -> Result<(Status, MemSink), Fail> {
-    let mut source = MemSource::new(Vec::new(alloc), Vec::new(alloc));
-    let mut sink = MemSink::new(alloc, 64, Vec::new(alloc));
-    let finished = program(alloc, words, &mut source, &mut sink);
-    Ok((finished.status, sink))
 }
 
 #[test]
-fn words_of_the_program(rt: HostRuntime) -> Result<(), Fail> {
+fn the_list_and_nothing_else(rt: HostRuntime) {
     let alloc = rt.alloc();
+    let most = "18446744073709551615";
+    assert_first(&rt, alloc, "0", 0);
+    assert_first(&rt, alloc, "7", 7);
+    assert_first(&rt, alloc, most, u64::MAX);
+    assert_reads(&rt, alloc, &["replay"], Some(Words::Replay));
+    let lossy = Words::Lossy { first: u64::MAX };
+    assert_reads(&rt, alloc, &["lossy", most], Some(lossy));
+    assert_no_numbers(&rt, alloc);
+    assert_reads(&rt, alloc, &["load", "7", "65537"], None);
+}
+
+/// Asserts how the program ends on an empty text, and that it writes nothing.
+fn assert_ends(rt: &impl Abort, alloc: Global, words: &[&str], status: Status) {
+    let run = run_on(rt, alloc, words, "");
+    assert_eq!(rt; run.status, status, "{words:?}");
+    assert!(rt; run.written.is_empty(), "{words:?}");
+}
+
+fn assert_no_words(rt: &impl Abort, alloc: Global) {
     let refused: [&[&str]; 9] = [
         &[],
         &["load", "7"],
@@ -69,20 +87,17 @@ fn words_of_the_program(rt: HostRuntime) -> Result<(), Fail> {
         &["run"],
     ];
     for words in refused {
-        let (status, sink) = ends(alloc, words)?;
-        assert_eq!(rt; status, Status::Usage);
-        assert_eq!(rt; sink.bytes().len(), 0);
+        assert_ends(rt, alloc, words, Status::Usage);
     }
-    let (status, sink) = ends(alloc, &["replay"])?;
-    assert_eq!(rt; status, Status::Scenario { line: 1, reason: 9 });
-    assert_eq!(rt; sink.bytes().len(), 0);
-    let (status, sink) = ends(alloc, &["lossy", "7"])?;
-    assert_eq!(rt; status, Status::Done);
-    assert_eq!(rt; sink.bytes(), b"\nwire 0 0\n".as_slice());
-    for (commands, printed) in [("0", LOADS_NOTHING), ("1", LOADS_ONE_COMMAND)] {
-        let (status, sink) = ends(alloc, &["load", "7", commands])?;
-        assert_eq!(rt; status, Status::Done);
-        assert_eq!(rt; sink.bytes(), printed.as_bytes());
-    }
-    Ok(())
+}
+
+#[test]
+fn words_of_the_program(rt: HostRuntime) {
+    let alloc = rt.alloc();
+    assert_no_words(&rt, alloc);
+    let empty = Status::Scenario { line: 1, reason: 9 };
+    assert_ends(&rt, alloc, &["replay"], empty);
+    assert_prints(&rt, alloc, &["lossy", "7"], "", "\nwire 0 0\n");
+    assert_prints(&rt, alloc, &["load", "7", "0"], "", LOADS_NOTHING);
+    assert_prints(&rt, alloc, &["load", "7", "1"], "", LOADS_ONE_COMMAND);
 }

@@ -1,0 +1,62 @@
+//! Runs of the program over memory, of which plain values are kept. What is not as it is to be ends the test.
+//!
+//! The contract of `program` is long, so it is called in one function, which is generic in its source and sink.
+
+use chorus_io::{MemSink, MemSource, Sink, Source};
+use chorus_program::program;
+use chorus_show::Status;
+use std::alloc::Global;
+use std::process::Abort;
+
+/// How the program ended, and what it wrote.
+#[derive(Drop)]
+pub(crate) struct Run {
+    pub(crate) status: Status,
+    pub(crate) written: String,
+}
+
+fn ends_with<S: Source, K: Sink>(
+    alloc: Global,
+    words: &[&str],
+    source: &mut S,
+    sink: &mut K,
+) -> Status {
+    program(alloc, words, source, sink).status
+}
+
+/// An empty sink. `failing` lists the writes that fail.
+pub(crate) fn sink_of(rt: &impl Abort, alloc: Global, failing: &[u64]) -> MemSink {
+    let failing = Vec::from_slice(alloc, failing).expect(rt, "memory");
+    MemSink::new(alloc, 64, failing)
+}
+
+/// What the sink holds.
+pub(crate) fn text_in(rt: &impl Abort, alloc: Global, sink: &MemSink) -> String {
+    let bytes = Vec::from_slice(alloc, sink.bytes()).expect(rt, "memory");
+    String::from_utf8(bytes).ok().expect(rt, "a text")
+}
+
+/// What the program does for these words and this input.
+pub(crate) fn run_on(rt: &impl Abort, alloc: Global, words: &[&str], input: &str) -> Run {
+    let bytes = Vec::from_slice(alloc, input.as_bytes()).expect(rt, "memory");
+    let mut source = MemSource::new(bytes, Vec::new(alloc));
+    let mut sink = sink_of(rt, alloc, &[]);
+    let status = ends_with(alloc, words, &mut source, &mut sink);
+    Run {
+        status,
+        written: text_in(rt, alloc, &sink),
+    }
+}
+
+/// Asserts that for these words and this input the program does all, and writes this.
+pub(crate) fn assert_prints(
+    rt: &impl Abort,
+    alloc: Global,
+    words: &[&str],
+    input: &str,
+    printed: &str,
+) {
+    let run = run_on(rt, alloc, words, input);
+    assert_eq!(rt; run.status, Status::Done, "{words:?}");
+    assert_eq!(rt; run.written.as_str(), printed, "{words:?}");
+}
