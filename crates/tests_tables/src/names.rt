@@ -1,55 +1,47 @@
 //! Names, decimals and the places of a layout.
 
+use crate::making::named;
 use chorus_ui::{Kind, Layout, Ui, is_decimal, parse_decimal, push_decimal};
-use std::test::Fail;
+use std::alloc::Global;
+use std::process::Abort;
 
-fn named(text: &[u8]) -> Result<Ui, Fail> {
-    Ok(Ui::parse(text).ok_or("no name has this text")?)
+/// Asserts that the name with this text has these parts and bits, and that it is made of each.
+fn assert_named(rt: &impl Abort, text: &str, parts: (u16, Kind, u64), bits: u64) {
+    let name = named(rt, text);
+    let (site, kind, number) = parts;
+    assert_eq!(rt; (name.site(), name.kind(), name.number()), parts);
+    assert_eq!(rt; name.bits(), bits, "{text}");
+    assert_eq!(rt; Ui::of_bits(bits), Some(name), "{text}");
+    assert_eq!(rt; Ui::new(site, kind, number), Some(name), "{text}");
 }
 
-#[test]
-fn names_are_parsed_one_way(rt: HostRuntime) -> Result<(), Fail> {
-    let names: [(&[u8], u16, Kind, u64, u64); 3] = [
-        (b"2.p.7", 2, Kind::Port, 7, 565_148_976_676_871),
-        (b"1.a.1", 1, Kind::Actor, 1, 0x0001_01_0000000001),
-        (
-            b"65535.g.1099511627775",
-            65_535,
-            Kind::Group,
-            1_099_511_627_775,
-            0xffff_03_ffffffffff,
-        ),
-    ];
-    for (text, site, kind, number, bits) in names {
-        let name = named(text)?;
-        assert_eq!(rt;
-            (name.site(), name.kind(), name.number()),
-            (site, kind, number)
-        );
-        assert_eq!(rt; name.bits(), bits);
-        assert_eq!(rt; Ui::of_bits(bits), Some(name));
-        assert_eq!(rt; Ui::new(site, kind, number), Some(name));
-        let mut out = Vec::from_slice(rt.alloc(), b"> ")?;
-        name.text(&mut out)?;
-        assert_eq!(rt; &out.as_slice()[2..], text);
+/// Asserts that `appended` is the text of the name behind two bytes that were there.
+fn assert_written(rt: &impl Abort, alloc: Global, text: &str, appended: &str) {
+    let mut out = Vec::from_slice(alloc, b"> ").expect(rt, "memory");
+    named(rt, text).text(&mut out).expect(rt, "memory");
+    assert_eq!(rt; out.as_slice(), appended.as_bytes());
+}
+
+fn assert_no_names(rt: &impl Abort) {
+    for text in [
+        "0.p.1",
+        "1.p.0",
+        "1.p.01",
+        "65536.a.1",
+        "1.x.1",
+        "1.p.1099511627776",
+        "",
+        "1.p.1 ",
+        "1.p",
+        "1.p.1.",
+        "1.pp.1",
+        "+1.p.1",
+    ] {
+        assert_eq!(rt; Ui::parse(text.as_bytes()), None, "{text}");
     }
-    let no_names: [&[u8]; 12] = [
-        b"0.p.1",
-        b"1.p.0",
-        b"1.p.01",
-        b"65536.a.1",
-        b"1.x.1",
-        b"1.p.1099511627776",
-        b"",
-        b"1.p.1 ",
-        b"1.p",
-        b"1.p.1.",
-        b"1.pp.1",
-        b"+1.p.1",
-    ];
-    for text in no_names {
-        assert_eq!(rt; Ui::parse(text), None);
-    }
+}
+
+fn assert_no_bits(rt: &impl Abort) {
     for bits in [
         0,
         7,
@@ -60,129 +52,195 @@ fn names_are_parsed_one_way(rt: HostRuntime) -> Result<(), Fail> {
     ] {
         assert_eq!(rt; Ui::of_bits(bits), None, "at {bits}");
     }
-    Ok(())
 }
 
 #[test]
-fn names_are_ordered_by_site_kind_and_number(rt: HostRuntime) -> Result<(), Fail> {
-    let mut names = Vec::new(rt.alloc());
-    for text in [b"2.a.1".as_slice(), b"1.g.1", b"1.p.2", b"1.a.9", b"1.p.1"] {
-        names.push(named(text)?)?;
-    }
-    names.sort()?;
-    let ordered = [
-        named(b"1.a.9")?,
-        named(b"1.p.1")?,
-        named(b"1.p.2")?,
-        named(b"1.g.1")?,
-        named(b"2.a.1")?,
-    ];
-    assert_eq!(rt; names.as_slice(), ordered.as_slice());
-    Ok(())
-}
-
-#[test]
-fn decimals_have_one_spelling(rt: HostRuntime) -> Result<(), Fail> {
-    let numbers: [(&[u8], u64); 5] = [
-        (b"0", 0),
-        (b"7", 7),
-        (b"10", 10),
-        (b"1099511627776", 1_099_511_627_776),
-        (b"18446744073709551615", u64::MAX),
-    ];
-    for (text, number) in numbers {
-        assert_eq!(rt; parse_decimal(text), Some(number));
-        let mut out = Vec::from_slice(rt.alloc(), b"> ")?;
-        push_decimal(number, &mut out)?;
-        assert_eq!(rt; &out.as_slice()[2..], text);
-    }
-    let beyond: [&[u8]; 3] = [
-        b"18446744073709551616",
-        b"18446744073709551620",
-        b"99999999999999999999999",
-    ];
-    for text in beyond {
-        assert!(rt; is_decimal(text));
-        assert_eq!(rt; parse_decimal(text), None);
-    }
-    let no_decimals: [&[u8]; 7] = [
-        b"",
-        b"00",
-        b"07",
-        b"+1",
-        b"-1",
-        b"1 ",
-        b"000000000000000000000000",
-    ];
-    for text in no_decimals {
-        assert!(rt; !is_decimal(text));
-        assert_eq!(rt; parse_decimal(text), None);
-    }
-    Ok(())
-}
-
-#[test]
-fn places_and_turns(rt: HostRuntime) -> Result<(), Fail> {
-    // turns; the first and last place of the sites 1, 2 and 8; the home of 2.a.3; where 1.p.4 is on site 2; the
-    // place of 2.g.1
-    let rows = [
-        (1, [(1, 1), (2, 2), (8, 8)], 2, 2, 2),
-        (2, [(1, 2), (3, 4), (15, 16)], 3, 4, 3),
-        (4, [(1, 4), (5, 8), (29, 32)], 7, 8, 5),
-    ];
-    let (actor, port, group) = (named(b"2.a.3")?, named(b"1.p.4")?, named(b"2.g.1")?);
-    assert!(rt;
-        actor.kind() == Kind::Actor && port.kind() == Kind::Port && group.kind() == Kind::Group
+fn names_are_parsed_one_way(rt: HostRuntime) {
+    let port = (2, Kind::Port, 7);
+    assert_named(&rt, "2.p.7", port, 565_148_976_676_871);
+    let actor = (1, Kind::Actor, 1);
+    assert_named(&rt, "1.a.1", actor, 0x0001_01_0000000001);
+    let group = (65_535, Kind::Group, 1_099_511_627_775);
+    assert_named(&rt, "65535.g.1099511627775", group, 0xffff_03_ffffffffff);
+    assert_written(&rt, rt.alloc(), "2.p.7", "> 2.p.7");
+    assert_written(&rt, rt.alloc(), "1.a.1", "> 1.a.1");
+    assert_written(
+        &rt,
+        rt.alloc(),
+        "65535.g.1099511627775",
+        "> 65535.g.1099511627775",
     );
-    for (turns, sites, home, at, group_place) in rows {
-        let layout = Layout::new(8, turns).ok_or("a layout")?;
-        assert_eq!(rt;
-            (layout.sites(), layout.turns(), layout.places()),
-            (8, turns, 8 * turns)
-        );
-        for (site, (first, last)) in [1, 2, 8].into_iter().zip(sites) {
-            assert!(rt; layout.has_place(first) && layout.has_place(last));
-            assert_eq!(rt; (layout.site_of(first), layout.site_of(last)), (site, site));
-        }
-        assert_eq!(rt; layout.home(actor), Some(home));
-        assert!(rt; layout.has_site(2));
-        assert_eq!(rt; layout.place_at(2, port), at);
-        assert_eq!(rt; layout.group_place(group), Some(group_place));
-        assert_eq!(rt; layout.first_place(2), group_place);
+    assert_no_names(&rt);
+    assert_no_bits(&rt);
+}
+
+fn names_in(rt: &impl Abort, alloc: Global, texts: &[&str]) -> Vec<Ui> {
+    let mut names = Vec::new(alloc);
+    for text in texts.iter() {
+        names.push(named(rt, *text)).ok().expect(rt, "memory");
     }
-    Ok(())
+    names
+}
+
+fn assert_sorts(rt: &impl Abort, alloc: Global, texts: &[&str], sorted: &[&str]) {
+    let mut names = names_in(rt, alloc, texts);
+    names.sort().expect(rt, "memory");
+    let want = names_in(rt, alloc, sorted);
+    assert_eq!(rt; names.as_slice(), want.as_slice());
 }
 
 #[test]
-fn names_outside_a_layout(rt: HostRuntime) -> Result<(), Fail> {
-    for (sites, turns) in [(0, 1), (17, 1), (1, 0), (1, 3), (1, 5)] {
-        assert!(rt; Layout::new(sites, turns).is_none());
+fn names_are_ordered_by_site_kind_and_number(rt: HostRuntime) {
+    assert_sorts(
+        &rt,
+        rt.alloc(),
+        &["2.a.1", "1.g.1", "1.p.2", "1.a.9", "1.p.1"],
+        &["1.a.9", "1.p.1", "1.p.2", "1.g.1", "2.a.1"],
+    );
+}
+
+/// Asserts that the text is the one decimal of the number, and that `appended` is this text behind two bytes that were there.
+fn assert_decimal(rt: &impl Abort, alloc: Global, text: &str, number: u64, appended: &str) {
+    assert_eq!(rt; parse_decimal(text.as_bytes()), Some(number));
+    let mut out = Vec::from_slice(alloc, b"> ").expect(rt, "memory");
+    push_decimal(number, &mut out).expect(rt, "memory");
+    assert_eq!(rt; out.as_slice(), appended.as_bytes());
+}
+
+/// Asserts that the texts are decimals, or are not, and that no number of 64 bits has one of them.
+fn assert_no_numbers(rt: &impl Abort, texts: &[&str], are_decimals: bool) {
+    for text in texts.iter() {
+        assert_eq!(rt; is_decimal(text.as_bytes()), are_decimals, "{text}");
+        assert_eq!(rt; parse_decimal(text.as_bytes()), None, "{text}");
     }
-    let layout = Layout::new(16, 4).ok_or("a layout")?;
-    assert!(rt; layout.has_site(16) && !layout.has_site(17) && !layout.has_site(0));
-    assert!(rt; layout.has_place(64) && !layout.has_place(65) && !layout.has_place(0));
-    let actors: [(&[u8], Option<u16>); 4] = [
-        (b"16.a.8", Some(64)),
-        (b"16.a.9", None),
-        (b"17.a.1", None),
-        (b"1.a.1", Some(1)),
+}
+
+#[test]
+fn decimals_have_one_spelling(rt: HostRuntime) {
+    let alloc = rt.alloc();
+    assert_decimal(&rt, alloc, "0", 0, "> 0");
+    assert_decimal(&rt, alloc, "7", 7, "> 7");
+    assert_decimal(&rt, alloc, "10", 10, "> 10");
+    let wide = "1099511627776";
+    assert_decimal(&rt, alloc, wide, 1_099_511_627_776, "> 1099511627776");
+    let most = "18446744073709551615";
+    assert_decimal(&rt, alloc, most, u64::MAX, "> 18446744073709551615");
+    let beyond = [
+        "18446744073709551616",
+        "18446744073709551620",
+        "99999999999999999999999",
     ];
-    for (text, home) in actors {
-        let actor = named(text)?;
-        assert!(rt; actor.kind() == Kind::Actor);
-        assert_eq!(rt; layout.home(actor), home);
+    assert_no_numbers(&rt, &beyond, true);
+    let others = ["", "00", "07", "+1", "-1", "1 ", "000000000000000000000000"];
+    assert_no_numbers(&rt, &others, false);
+}
+
+fn actor_home(rt: &impl Abort, layout: Layout, actor: &str) -> Option<u16> {
+    let actor = named(rt, actor);
+    assert!(rt; actor.kind() == Kind::Actor);
+    layout.home(actor)
+}
+
+fn can_make_port(rt: &impl Abort, layout: Layout, port: &str) -> bool {
+    let port = named(rt, port);
+    assert!(rt; port.kind() == Kind::Port);
+    layout.can_make_port(port)
+}
+
+fn group_place(rt: &impl Abort, layout: Layout, group: &str) -> Option<u16> {
+    let group = named(rt, group);
+    assert!(rt; group.kind() == Kind::Group);
+    layout.group_place(group)
+}
+
+fn place_at(rt: &impl Abort, layout: Layout, site: u16, ui: &str) -> u16 {
+    assert!(rt; layout.has_site(site));
+    layout.place_at(site, named(rt, ui))
+}
+
+fn first_place(rt: &impl Abort, layout: Layout, site: u16) -> u16 {
+    assert!(rt; layout.has_site(site));
+    layout.first_place(site)
+}
+
+fn site_of(rt: &impl Abort, layout: Layout, place: u16) -> u16 {
+    assert!(rt; layout.has_place(place));
+    layout.site_of(place)
+}
+
+/// Asserts that these are places of the sites 1, 2 and 8, the first and the last of each.
+fn assert_sites(rt: &impl Abort, layout: Layout, places: [u16; 6]) {
+    for (place, site) in places.into_iter().zip([1, 1, 2, 2, 8, 8]) {
+        assert_eq!(rt; site_of(rt, layout, place), site, "{place}");
     }
-    let ports: [(&[u8], bool); 3] = [(b"16.p.32", true), (b"16.p.33", false), (b"17.p.1", false)];
-    for (text, can_be_made) in ports {
-        let port = named(text)?;
-        assert!(rt; port.kind() == Kind::Port);
-        assert_eq!(rt; layout.can_make_port(port), can_be_made);
+}
+
+/// Asserts the home of an actor, where a port is on a site, and the place of a group.
+fn assert_stand(rt: &impl Abort, layout: Layout, home: u16, at: u16, first: u16) {
+    assert_eq!(rt; actor_home(rt, layout, "2.a.3"), Some(home));
+    assert_eq!(rt; place_at(rt, layout, 2, "1.p.4"), at);
+    assert_eq!(rt; group_place(rt, layout, "2.g.1"), Some(first));
+    assert_eq!(rt; first_place(rt, layout, 2), first);
+}
+
+/// The layout of eight sites with so many places each.
+fn eight_sites(rt: &impl Abort, turns: u16, places: u16) -> Layout {
+    let layout = Layout::new(8, turns).expect(rt, "a layout");
+    assert_eq!(rt; layout.sites(), 8);
+    assert_eq!(rt; layout.turns(), turns);
+    assert_eq!(rt; layout.places(), places);
+    layout
+}
+
+#[test]
+fn places_and_turns(rt: HostRuntime) {
+    let one = eight_sites(&rt, 1, 8);
+    assert_sites(&rt, one, [1, 1, 2, 2, 8, 8]);
+    assert_stand(&rt, one, 2, 2, 2);
+    let two = eight_sites(&rt, 2, 16);
+    assert_sites(&rt, two, [1, 2, 3, 4, 15, 16]);
+    assert_stand(&rt, two, 3, 4, 3);
+    let four = eight_sites(&rt, 4, 32);
+    assert_sites(&rt, four, [1, 4, 5, 8, 29, 32]);
+    assert_stand(&rt, four, 7, 8, 5);
+}
+
+fn assert_no_layouts(rt: &impl Abort) {
+    for (sites, turns) in [(0, 1), (17, 1), (1, 0), (1, 3), (1, 5)] {
+        assert!(rt; Layout::new(sites, turns).is_none(), "{sites} {turns}");
     }
-    let groups: [(&[u8], Option<u16>); 2] = [(b"16.g.5", Some(61)), (b"17.g.1", None)];
-    for (text, place) in groups {
-        let group = named(text)?;
-        assert!(rt; group.kind() == Kind::Group);
-        assert_eq!(rt; layout.group_place(group), place);
+}
+
+fn assert_sites_and_places_end(rt: &impl Abort, layout: Layout) {
+    for (site, is_there) in [(16, true), (17, false), (0, false)] {
+        assert_eq!(rt; layout.has_site(site), is_there, "{site}");
     }
-    Ok(())
+    for (place, is_there) in [(64, true), (65, false), (0, false)] {
+        assert_eq!(rt; layout.has_place(place), is_there, "{place}");
+    }
+}
+
+fn assert_names_end(rt: &impl Abort, layout: Layout) {
+    for (actor, home) in [
+        ("16.a.8", Some(64)),
+        ("16.a.9", None),
+        ("17.a.1", None),
+        ("1.a.1", Some(1)),
+    ] {
+        assert_eq!(rt; actor_home(rt, layout, actor), home, "{actor}");
+    }
+    for (port, can_be_made) in [("16.p.32", true), ("16.p.33", false), ("17.p.1", false)] {
+        assert_eq!(rt; can_make_port(rt, layout, port), can_be_made, "{port}");
+    }
+    for (group, place) in [("16.g.5", Some(61)), ("17.g.1", None)] {
+        assert_eq!(rt; group_place(rt, layout, group), place, "{group}");
+    }
+}
+
+#[test]
+fn names_outside_a_layout(rt: HostRuntime) {
+    assert_no_layouts(&rt);
+    let layout = Layout::new(16, 4).expect(&rt, "a layout");
+    assert_sites_and_places_end(&rt, layout);
+    assert_names_end(&rt, layout);
 }
