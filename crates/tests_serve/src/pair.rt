@@ -1,6 +1,5 @@
 //! Two places, of two sites, whose links have ruled ends. What is not as it is to be ends the test.
 
-use crate::conditions::meets_conditions;
 use chorus_calls::Caller;
 use chorus_ends::{Ends, Moves};
 use chorus_entry::Command;
@@ -10,6 +9,7 @@ use chorus_serve::{Desk, Pump, serve};
 use chorus_ui::{Layout, Ui};
 use std::alloc::Global;
 use std::process::Abort;
+use tests_ground::meets_conditions;
 
 /// The two places.
 #[derive(Drop)]
