@@ -10,7 +10,8 @@ mod sending;
 mod words;
 
 use acts::entry_in;
-use chorus_checker::{World, WorldFault};
+use chorus_checker::{PortFate, World, WorldFault};
+use chorus_entry::Entry;
 use chorus_ui::{Layout, Ui};
 use std::alloc::Global;
 use std::process::Abort;
@@ -18,6 +19,16 @@ use std::process::Abort;
 /// The name with this text.
 fn named(rt: &impl Abort, text: &str) -> Ui {
     Ui::parse(text.as_bytes()).expect(rt, "a name")
+}
+
+/// What became of the port with this name, which is made.
+fn fate_of<'a>(rt: &impl Abort, world: &'a World, name: &str) -> &'a PortFate {
+    world.port(named(rt, name)).expect(rt, "the port is made")
+}
+
+/// The journal is that of so many sites, each with so many places.
+fn assert_follows(rt: &impl Abort, alloc: Global, sites: u16, turns: u16, journal: &str) {
+    replay(rt, alloc, sites, turns, journal);
 }
 
 /// The world of so many sites, each with so many places, after the journal.
@@ -32,27 +43,36 @@ fn replay(rt: &impl Abort, alloc: Global, sites: u16, turns: u16, journal: &str)
 fn follow(rt: &impl Abort, alloc: Global, world: &mut World, journal: &str) {
     for line in journal.lines() {
         let line = line.trim();
-        match line.strip_prefix("! ") {
-            Some(refused) => refuses(rt, alloc, world, refused),
-            None if line.is_empty() => {}
-            None => takes(rt, alloc, world, line),
+        if !line.is_empty() {
+            follow_line(rt, alloc, world, line);
         }
     }
 }
 
-/// The world takes the entry of the line.
-fn takes(rt: &impl Abort, alloc: Global, world: &mut World, line: &str) {
-    let answer = world.apply(entry_in(rt, alloc, line));
-    assert!(rt; answer.is_ok(), "{line}: {answer:?}");
+/// The world takes or refuses the entry of the line, as the line says.
+fn follow_line(rt: &impl Abort, alloc: Global, world: &mut World, line: &str) {
+    let (rule, line) = rule_in(rt, line);
+    let refused = refusal(rt, world, entry_in(rt, alloc, line));
+    assert_eq!(rt; refused, rule, "{line}");
 }
 
-/// The world refuses the entry of the line by the rule that stands before it.
-fn refuses(rt: &impl Abort, alloc: Global, world: &mut World, refused: &str) {
-    let (rule, line) = refused.split_once(": ").expect(rt, "a rule");
-    match world.apply(entry_in(rt, alloc, line)) {
-        Err(WorldFault::NotLegal { rule: named }) => {
-            assert_eq!(rt; rule.parse().ok(), Some(named), "{line}");
+/// The rule that refuses the entry of the line, None where the entry is taken, and what says the entry.
+fn rule_in<'a>(rt: &impl Abort, line: &'a str) -> (Option<u8>, &'a str) {
+    match line.strip_prefix("! ") {
+        Some(refused) => {
+            let (rule, line) = refused.split_once(": ").expect(rt, "a rule");
+            let rule: u8 = rule.parse().ok().expect(rt, "a number");
+            (Some(rule), line)
         }
-        other => assert!(rt; false, "{line}: {other:?}"),
+        None => (None, line),
+    }
+}
+
+/// The rule by which the world refuses the entry. None where it takes it.
+fn refusal(rt: &impl Abort, world: &mut World, entry: Entry) -> Option<u8> {
+    match world.apply(entry) {
+        Ok(()) => None,
+        Err(WorldFault::NotLegal { rule }) => Some(rule),
+        Err(WorldFault::Memory(_)) => panic!(rt; "memory"),
     }
 }

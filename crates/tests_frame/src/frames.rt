@@ -1,11 +1,10 @@
 //! Frames that were worked out by hand, and what is wrong with damaged ones.
 
-use chorus_entry::{Answer, Cargo, Dest, MsgId, Packet, Tag};
-use chorus_frame::*;
+use chorus_entry::{Answer, Cargo, Dest, MsgId, Packet, PortRecord, Tag};
+use chorus_frame::{DecodeFault, Frame, decode, encode};
 use chorus_ui::{Kind, Ui};
-use std::alloc::{AllocError, Global};
+use std::alloc::Global;
 use std::process::Abort;
-use std::test::Fail;
 
 /// The beginning of a frame of this kind: for a Verdict and a Report all but the answer, for a Transfer all but the second
 /// client, and for a Try and an Ask the clock 9 and the place.
@@ -20,115 +19,84 @@ fn begin(kind: u8) -> &'static str {
     }
 }
 
-/// Damaged ends of such frames, and the fault.
-fn damage(at: u8) -> Option<(u8, &'static str, DecodeFault)> {
-    Some(match at {
-        // A kind, tag, mode or code that may not stand there.
-        0 => (2, "ff", DecodeFault::Kind),
-        1 => (5, "03 0001 0000000000000001", DecodeFault::Kind),
-        2 => (2, "09", DecodeFault::Kind),
-        3 => (2, "0a 0001", DecodeFault::Kind),
-        4 => (4, "04", DecodeFault::Kind),
-        5 => (
-            4,
-            "02 0002030000000001 0000 00000003 00000007 0000 03",
-            DecodeFault::Kind,
-        ),
-        // Out of range: a position, how many were chosen, a place, a port as route, site 17, a hop.
-        6 => (5, "01 0000000000000006", DecodeFault::Range),
-        7 => (5, "0a 0021", DecodeFault::Range),
-        8 => (2, "08 0041", DecodeFault::Range),
-        9 => (1, "0001020000000001", DecodeFault::Range),
-        10 => (1, "0000000000000000 0011", DecodeFault::Range),
-        11 => (
-            1,
-            "0000000000000000 0010 000000000000000a",
-            DecodeFault::Range,
-        ),
-        // An id's number 0 though its copy is cut off; a body's length above 4,096, and one of 4,096 with a byte there.
-        12 => (
-            4,
-            "02 0002030000000001 0000 00000003 00000000",
-            DecodeFault::Range,
-        ),
-        13 => (
-            4,
-            "02 0002030000000001 0000 00000003 00000007 0000 00 1001",
-            DecodeFault::Range,
-        ),
-        14 => (
-            4,
-            "02 0002030000000001 0000 00000003 00000007 0000 00 1000 68",
-            DecodeFault::Short,
-        ),
-        // A site with mode 1, and none with mode 3.
-        15 => (4, "01 0002030000000001 0001", DecodeFault::Range),
-        16 => (4, "03 0002030000000001 0000", DecodeFault::Range),
-        // A client's number 0, a client that is there already, also with its number cut off, and a byte too many.
-        17 => (3, "00000000 00000000", DecodeFault::Range),
-        18 => (3, "00000005 00000002", DecodeFault::Range),
-        19 => (3, "00000005", DecodeFault::Range),
-        20 => (3, "00000000 00000007 00", DecodeFault::Trailing),
-        21 => (5, "", DecodeFault::Short),
-        _ => return None,
-    })
-}
+/// Damaged ends of frames, each behind the kind of its frame: a kind, tag, mode or code that may not stand there.
+const UNKNOWN: &str = "
+    2: ff
+    5: 03 0001 0000000000000001
+    2: 09
+    2: 0a 0001
+    4: 04
+    4: 02 0002030000000001 0000 00000003 00000007 0000 03
+";
 
-/// Ends of Verdicts, and the answers that they tell.
-fn told(at: u8) -> Option<(&'static str, Answer)> {
-    Some(match at {
-        0 => ("01 0000000000000009", Answer::Accepted { pos: 9 }),
-        1 => ("02 40", Answer::Full { len: 64 }),
-        2 => ("03 0040 0000000000000001", Answer::Stale { to: 64, hop: 1 }),
-        3 => ("04 0000000000000000", Answer::Early { hop: 0 }),
-        4 => ("05", Answer::NoPort),
-        5 => ("06", Answer::Already),
-        6 => ("07", Answer::ClientsFull),
-        7 => (
-            "08 0002 0000000000000009",
-            Answer::Elsewhere { to: 2, hop: 9 },
-        ),
-        8 => ("0b", Answer::Gone),
-        _ => return None,
-    })
-}
+/// Out of range: a position, how many were chosen, a place, a port as route, site 17, a hop; an id's number 0 though its copy is
+/// cut off, a body's length above 4,096; a site with mode 1, none with mode 3; a client's number 0, a client that is there
+/// already, also with its number cut off.
+const OUT_OF_RANGE: &str = "
+    5: 01 0000000000000006
+    5: 0a 0021
+    2: 08 0041
+    1: 0001020000000001
+    1: 0000000000000000 0011
+    1: 0000000000000000 0010 000000000000000a
 
-/// The same of Reports.
-fn reported(at: u8) -> Option<(&'static str, Answer)> {
-    Some(match at {
-        0 => ("09", Answer::NoMember),
-        1 => ("0a 0020", Answer::Chosen { count: 32 }),
-        2 => ("0b", Answer::Gone),
-        3 => ("01 0000000000000005", Answer::Accepted { pos: 5 }),
-        _ => return None,
-    })
+    4: 02 0002030000000001 0000 00000003 00000000
+    4: 02 0002030000000001 0000 00000003 00000007 0000 00 1001
+
+    4: 01 0002030000000001 0001
+    4: 03 0002030000000001 0000
+
+    3: 00000000 00000000
+    3: 00000005 00000002
+    3: 00000005
+";
+
+/// Cut off: a body of 4,096 bytes with one byte there, and a Report before its answer.
+const SHORT: &str = "
+    4: 02 0002030000000001 0000 00000003 00000007 0000 00 1000 68
+    5:
+";
+
+/// A byte too many.
+const TRAILING: &str = "
+    3: 00000000 00000007 00
+";
+
+/// What the hexadecimal digit stands for. None where it is none.
+fn digit(c: u8) -> Option<u8> {
+    match c {
+        b'0'..=b'9' => Some(c - b'0'),
+        b'a'..=b'f' => Some(c - b'a' + 10),
+        _ => None,
+    }
 }
 
 /// Appends the bytes of hexadecimal digits, two for each; what is no digit parts them for the eye.
-fn push_hex(text: &str, bytes: &mut Vec<u8>) -> Result<(), AllocError> {
-    let mut high = None;
+fn push_hex(rt: &impl Abort, text: &str, bytes: &mut Vec<u8>) {
+    let mut first = None;
     for c in text.as_bytes() {
-        let digit = match c {
-            b'0'..=b'9' => *c - b'0',
-            b'a'..=b'f' => *c - b'a' + 10,
-            _ => continue,
-        };
-        match high {
-            None => high = Some(digit),
-            Some(first) => {
-                bytes.push(first % 16 * 16 + digit % 16)?;
-                high = None;
-            }
+        if let Some(value) = digit(*c) {
+            first = push_digit(rt, first, value, bytes);
         }
     }
-    Ok(())
 }
 
-fn bytes_of(alloc: Global, kind: u8, end: &str) -> Result<Vec<u8>, AllocError> {
+/// Appends the byte of two digits. Gives the first one back where it is the only one so far.
+fn push_digit(rt: &impl Abort, first: Option<u8>, digit: u8, bytes: &mut Vec<u8>) -> Option<u8> {
+    let Some(high) = first else {
+        return Some(digit);
+    };
+    let byte = high % 16 * 16 + digit % 16;
+    bytes.push(byte).ok().expect(rt, "memory");
+    None
+}
+
+/// The bytes of the frame of this kind that ends so.
+fn bytes_of(rt: &impl Abort, alloc: Global, kind: u8, end: &str) -> Vec<u8> {
     let mut bytes = Vec::new(alloc);
-    push_hex(begin(kind), &mut bytes)?;
-    push_hex(end, &mut bytes)?;
-    Ok(bytes)
+    push_hex(rt, begin(kind), &mut bytes);
+    push_hex(rt, end, &mut bytes);
+    bytes
 }
 
 /// Why these bytes are no packet, where they are none.
@@ -136,24 +104,66 @@ fn fault_of(alloc: Global, bytes: &[u8]) -> Option<DecodeFault> {
     decode(alloc, bytes).err()
 }
 
-/// The packet of a frame. Each proper prefix of the frame is short, and the packet put into a frame has these bytes again.
-fn packet_in(rt: &impl Abort, alloc: Global, bytes: &[u8]) -> Result<Packet, Fail> {
-    for len in 0..bytes.len() {
-        assert_eq!(rt;
-            fault_of(alloc, &bytes[..len]),
-            Some(DecodeFault::Short),
-            "the first {len} bytes"
-        );
-    }
-    let packet = decode(alloc, bytes)?;
-    let frame = Frame::of(alloc, &packet)?;
-    assert_eq!(rt; frame.bytes(), bytes);
-    Ok(frame.unpack()?)
+/// Asserts why these bytes, which are of the frame that ends so, are no packet.
+fn assert_fault(rt: &impl Abort, alloc: Global, bytes: &[u8], fault: DecodeFault, end: &str) {
+    let len = bytes.len();
+    assert_eq!(rt;
+        fault_of(alloc, bytes),
+        Some(fault),
+        "{len} bytes, to {end}"
+    );
 }
 
-#[test]
-fn report_frame_bytes(rt: HostRuntime) -> Result<(), Fail> {
-    let alloc = rt.alloc();
+/// Asserts why a frame of this kind that ends so is no packet.
+fn assert_damaged(rt: &impl Abort, alloc: Global, kind: u8, end: &str, fault: DecodeFault) {
+    let bytes = bytes_of(rt, alloc, kind, end);
+    assert_fault(rt, alloc, &bytes, fault, end);
+}
+
+/// Asserts why the frame of the line is no packet.
+fn assert_line_damaged(rt: &impl Abort, alloc: Global, line: &str, fault: DecodeFault) {
+    let (kind, end) = line.split_once(':').expect(rt, "a kind");
+    let kind: u8 = kind.parse().ok().expect(rt, "a kind");
+    assert_damaged(rt, alloc, kind, end, fault);
+}
+
+/// Asserts why the frame of each line is no packet.
+fn assert_each_damaged(rt: &impl Abort, alloc: Global, lines: &str, fault: DecodeFault) {
+    for line in lines.lines() {
+        let line = line.trim();
+        if !line.is_empty() {
+            assert_line_damaged(rt, alloc, line, fault);
+        }
+    }
+}
+
+/// Asserts that each proper prefix of the frame is short.
+fn assert_prefixes_are_short(rt: &impl Abort, alloc: Global, bytes: &[u8]) {
+    for len in 0..bytes.len() {
+        assert_fault(rt, alloc, &bytes[..len], DecodeFault::Short, "a prefix");
+    }
+}
+
+/// The packet of these bytes, which is put into a frame of the same bytes and taken out again.
+fn unpacked(rt: &impl Abort, alloc: Global, bytes: &[u8]) -> Packet {
+    let Ok(packet) = decode(alloc, bytes) else {
+        panic!(rt; "a packet")
+    };
+    let frame = Frame::of(alloc, &packet).expect(rt, "memory");
+    assert_eq!(rt; frame.bytes(), bytes);
+    frame.unpack().expect(rt, "memory")
+}
+
+/// The packet of the frame of this kind that ends so. Each proper prefix of the frame is short, and the packet put into a frame
+/// has its bytes again.
+fn packet_in(rt: &impl Abort, alloc: Global, kind: u8, end: &str) -> Packet {
+    let bytes = bytes_of(rt, alloc, kind, end);
+    assert_prefixes_are_short(rt, alloc, &bytes);
+    unpacked(rt, alloc, &bytes)
+}
+
+/// The bytes of a Report that no member was there.
+fn encoded_report(rt: &impl Abort, alloc: Global) -> Vec<u8> {
     let id = MsgId {
         seat: 1,
         number: 2,
@@ -168,144 +178,197 @@ fn report_frame_bytes(rt: HostRuntime) -> Result<(), Fail> {
         },
     };
     let mut written = Vec::new(alloc);
-    encode(&packet, &mut written)?;
-    let bytes = bytes_of(alloc, 5, "09")?;
+    encode(&packet, &mut written).expect(rt, "memory");
+    written
+}
+
+fn assert_report_is_encoded(rt: &impl Abort, alloc: Global) {
+    let written = encoded_report(rt, alloc);
+    let bytes = bytes_of(rt, alloc, 5, "09");
     assert_eq!(rt; written.as_slice(), bytes.as_slice());
     assert_eq!(rt; bytes.len(), 22);
-    let packet = packet_in(&rt, alloc, &bytes)?;
+}
+
+fn assert_report_is_read(rt: &impl Abort, alloc: Global) {
+    let packet = packet_in(rt, alloc, 5, "09");
     assert_eq!(rt; (packet.clock, packet.from), (5, 1));
-    assert_eq!(rt;
-        fault_of(alloc, &bytes_of(alloc, 5, "ff")?),
-        Some(DecodeFault::Kind)
+}
+
+#[test]
+fn report_frame_bytes(rt: HostRuntime) {
+    assert_report_is_encoded(&rt, rt.alloc());
+    assert_report_is_read(&rt, rt.alloc());
+    assert_damaged(&rt, rt.alloc(), 5, "ff", DecodeFault::Kind);
+    assert_damaged(&rt, rt.alloc(), 5, "09 00", DecodeFault::Trailing);
+}
+
+/// Asserts that a Verdict that ends so tells this answer.
+fn assert_told(rt: &impl Abort, alloc: Global, end: &str, expected: Answer) {
+    let packet = packet_in(rt, alloc, 2, end);
+    assert!(rt;
+        matches!(&packet.cargo, Cargo::Verdict { answer, .. } if *answer == expected),
+        "{end}"
     );
-    assert_eq!(rt;
-        fault_of(alloc, &bytes_of(alloc, 5, "09 00")?),
-        Some(DecodeFault::Trailing)
+}
+
+/// Asserts that a Report that ends so tells this answer.
+fn assert_reported(rt: &impl Abort, alloc: Global, end: &str, expected: Answer) {
+    let packet = packet_in(rt, alloc, 5, end);
+    assert!(rt;
+        matches!(&packet.cargo, Cargo::Report { answer, .. } if *answer == expected),
+        "{end}"
     );
-    Ok(())
+}
+
+/// The answers with numbers in them.
+fn assert_numbers_told(rt: &impl Abort, alloc: Global) {
+    let accepted = Answer::Accepted { pos: 9 };
+    assert_told(rt, alloc, "01 0000000000000009", accepted);
+    assert_told(rt, alloc, "02 40", Answer::Full { len: 64 });
+    let stale = Answer::Stale { to: 64, hop: 1 };
+    assert_told(rt, alloc, "03 0040 0000000000000001", stale);
+    assert_told(rt, alloc, "04 0000000000000000", Answer::Early { hop: 0 });
+    let elsewhere = Answer::Elsewhere { to: 2, hop: 9 };
+    assert_told(rt, alloc, "08 0002 0000000000000009", elsewhere);
+}
+
+fn assert_others_told(rt: &impl Abort, alloc: Global) {
+    assert_told(rt, alloc, "05", Answer::NoPort);
+    assert_told(rt, alloc, "06", Answer::Already);
+    assert_told(rt, alloc, "07", Answer::ClientsFull);
+    assert_told(rt, alloc, "0b", Answer::Gone);
+}
+
+fn assert_all_reported(rt: &impl Abort, alloc: Global) {
+    assert_reported(rt, alloc, "09", Answer::NoMember);
+    assert_reported(rt, alloc, "0a 0020", Answer::Chosen { count: 32 });
+    assert_reported(rt, alloc, "0b", Answer::Gone);
+    let accepted = Answer::Accepted { pos: 5 };
+    assert_reported(rt, alloc, "01 0000000000000005", accepted);
 }
 
 #[test]
-fn each_answer_has_its_code(rt: HostRuntime) -> Result<(), Fail> {
-    let alloc = rt.alloc();
-    for at in 0..=u8::MAX {
-        if let Some((end, expected)) = told(at) {
-            let packet = packet_in(&rt, alloc, &bytes_of(alloc, 2, end)?)?;
-            assert!(rt;
-                matches!(&packet.cargo, Cargo::Verdict { answer, .. } if *answer == expected),
-                "{end}"
-            );
-        }
-        if let Some((end, expected)) = reported(at) {
-            let packet = packet_in(&rt, alloc, &bytes_of(alloc, 5, end)?)?;
-            assert!(rt;
-                matches!(&packet.cargo, Cargo::Report { answer, .. } if *answer == expected),
-                "{end}"
-            );
-        }
-    }
-    Ok(())
+fn each_answer_has_its_code(rt: HostRuntime) {
+    assert_numbers_told(&rt, rt.alloc());
+    assert_others_told(&rt, rt.alloc());
+    assert_all_reported(&rt, rt.alloc());
 }
 
 #[test]
-fn the_first_field_at_fault_is_named(rt: HostRuntime) -> Result<(), Fail> {
+fn the_first_field_at_fault_is_named(rt: HostRuntime) {
     let alloc = rt.alloc();
-    for at in 0..=u8::MAX {
-        if let Some((kind, end, fault)) = damage(at) {
-            assert_eq!(rt;
-                fault_of(alloc, &bytes_of(alloc, kind, end)?),
-                Some(fault),
-                "{kind} {end}"
-            );
-        }
-    }
-    Ok(())
+    assert_each_damaged(&rt, alloc, UNKNOWN, DecodeFault::Kind);
+    assert_each_damaged(&rt, alloc, OUT_OF_RANGE, DecodeFault::Range);
+    assert_each_damaged(&rt, alloc, SHORT, DecodeFault::Short);
+    assert_each_damaged(&rt, alloc, TRAILING, DecodeFault::Trailing);
 }
 
-#[test]
-fn a_message_is_tried(rt: HostRuntime) -> Result<(), Fail> {
-    let alloc = rt.alloc();
-    let port = Ui::new(1, Kind::Port, 1);
-    let back = Ui::new(1, Kind::Port, 2).ok_or("a port")?;
-    let group = Ui::new(2, Kind::Group, 1);
-    let end =
-        "0002030000000001 0010 0000000000000003 0001020000000001 00000003 00000007 0001 01 00000004 0001020000000002 0002 6869";
-    let packet = packet_in(&rt, alloc, &bytes_of(alloc, 1, end)?)?;
-    match &packet.cargo {
-        Cargo::Try {
-            message,
-            port: to,
-            route,
-            only,
-            hop,
-        } => {
-            assert_eq!(rt; (*route, *only, *hop), (group, Some(16), 3));
-            assert_eq!(rt; Some(*to), port);
-            assert_eq!(rt; message.tag, Tag::Request { number: 4, back });
-            assert_eq!(rt; message.body.bytes(), b"hi".as_slice());
-        }
-        _ => return Err("no Try".into()),
-    }
-    Ok(())
+fn port(rt: &impl Abort, number: u64) -> Ui {
+    Ui::new(1, Kind::Port, number).expect(rt, "a port")
 }
 
-#[test]
-fn a_site_is_demanded_without_a_route(rt: HostRuntime) -> Result<(), Fail> {
-    let alloc = rt.alloc();
-    let end =
-        "0000000000000000 0010 0000000000000003 0001020000000001 00000003 00000007 0000 00 0000";
-    let packet = packet_in(&rt, alloc, &bytes_of(alloc, 1, end)?)?;
-    match &packet.cargo {
+fn group(rt: &impl Abort) -> Ui {
+    Ui::new(2, Kind::Group, 1).expect(rt, "a group")
+}
+
+/// Asserts that a message is tried by this route at site 16 alone, with hop 3.
+fn assert_tried(rt: &impl Abort, cargo: &Cargo, expected: Option<Ui>) {
+    match cargo {
         Cargo::Try {
             route,
             only,
             hop,
             ..
-        } => assert_eq!(rt; (*route, *only, *hop), (None, Some(16), 3)),
-        _ => return Err("no Try".into()),
+        } => assert_eq!(rt; (*route, *only, *hop), (expected, Some(16), 3)),
+        _ => panic!(rt; "no Try"),
     }
-    Ok(())
 }
 
-#[test]
-fn a_message_is_asked(rt: HostRuntime) -> Result<(), Fail> {
-    let alloc = rt.alloc();
-    let group = Ui::new(2, Kind::Group, 1).ok_or("a group")?;
-    for (mode, to) in [
-        ("01 0002030000000001 0000", Dest::All(group)),
-        ("02 0002030000000001 0000", Dest::One(group)),
-        ("03 0002030000000001 0010", Dest::OneAt(group, 16)),
-    ] {
-        let mut bytes = bytes_of(alloc, 4, mode)?;
-        push_hex(
-            "00000003 00000007 0000 02 00000005 00000004 0000",
-            &mut bytes,
-        )?;
-        let packet = packet_in(&rt, alloc, &bytes)?;
-        assert!(rt;
-            matches!(&packet.cargo, Cargo::Ask { dest, .. } if *dest == to),
-            "{mode}"
-        );
-    }
-    Ok(())
-}
-
-#[test]
-fn a_port_is_transferred(rt: HostRuntime) -> Result<(), Fail> {
-    let alloc = rt.alloc();
-    let packet = packet_in(&rt, alloc, &bytes_of(alloc, 3, "00000000 00000007")?)?;
-    match &packet.cargo {
-        Cargo::Transfer { port } => {
-            assert_eq!(rt;
-                (Some(port.ui), port.capacity),
-                (Ui::new(1, Kind::Port, 1), 2)
-            );
-            assert_eq!(rt; (port.hop, port.first), (9, 4));
-            assert_eq!(rt; (port.pending.len(), port.clients.len()), (2, 2));
-            assert_eq!(rt; port.pending.get(1).map(|m| m.id.number), Some(8));
-            assert_eq!(rt; port.clients.get(1), Some((0, 7)));
+/// Asserts the message that is tried, and its port.
+fn assert_asks(rt: &impl Abort, cargo: &Cargo) {
+    match cargo {
+        Cargo::Try {
+            message,
+            port: to,
+            ..
+        } => {
+            let back = port(rt, 2);
+            assert_eq!(rt; *to, port(rt, 1));
+            assert_eq!(rt; message.tag, Tag::Request { number: 4, back });
+            assert_eq!(rt; message.body.bytes(), b"hi".as_slice());
         }
-        _ => return Err("no Transfer".into()),
+        _ => panic!(rt; "no Try"),
     }
-    Ok(())
+}
+
+fn assert_message_is_tried(rt: &impl Abort, alloc: Global) {
+    let end =
+        "0002030000000001 0010 0000000000000003 0001020000000001 00000003 00000007 0001 01 00000004 0001020000000002 0002 6869";
+    let packet = packet_in(rt, alloc, 1, end);
+    assert_tried(rt, &packet.cargo, Some(group(rt)));
+    assert_asks(rt, &packet.cargo);
+}
+
+#[test]
+fn a_message_is_tried(rt: HostRuntime) {
+    assert_message_is_tried(&rt, rt.alloc());
+}
+
+fn assert_tried_without_a_route(rt: &impl Abort, alloc: Global) {
+    let end =
+        "0000000000000000 0010 0000000000000003 0001020000000001 00000003 00000007 0000 00 0000";
+    let packet = packet_in(rt, alloc, 1, end);
+    assert_tried(rt, &packet.cargo, None);
+}
+
+#[test]
+fn a_site_is_demanded_without_a_route(rt: HostRuntime) {
+    assert_tried_without_a_route(&rt, rt.alloc());
+}
+
+/// Asserts that an Ask that ends so is for this destination.
+fn assert_asked(rt: &impl Abort, alloc: Global, end: &str, to: &Dest) {
+    let packet = packet_in(rt, alloc, 4, end);
+    assert!(rt;
+        matches!(&packet.cargo, Cargo::Ask { dest, .. } if *dest == *to),
+        "{end}"
+    );
+}
+
+fn assert_each_mode_is_asked(rt: &impl Abort, alloc: Global) {
+    let to = group(rt);
+    let all = "01 0002030000000001 0000 00000003 00000007 0000 02 00000005 00000004 0000";
+    assert_asked(rt, alloc, all, &Dest::All(to));
+    let one = "02 0002030000000001 0000 00000003 00000007 0000 02 00000005 00000004 0000";
+    assert_asked(rt, alloc, one, &Dest::One(to));
+    let at = "03 0002030000000001 0010 00000003 00000007 0000 02 00000005 00000004 0000";
+    assert_asked(rt, alloc, at, &Dest::OneAt(to, 16));
+}
+
+#[test]
+fn a_message_is_asked(rt: HostRuntime) {
+    assert_each_mode_is_asked(&rt, rt.alloc());
+}
+
+/// Asserts what the record of the port that is transferred says.
+fn assert_record(rt: &impl Abort, record: &PortRecord) {
+    assert_eq!(rt; record.ui, port(rt, 1));
+    assert_eq!(rt; record.capacity, 2);
+    assert_eq!(rt; (record.hop, record.first), (9, 4));
+    assert_eq!(rt; (record.pending.len(), record.clients.len()), (2, 2));
+    assert_eq!(rt; record.pending.get(1).map(|m| m.id.number), Some(8));
+    assert_eq!(rt; record.clients.get(1), Some((0, 7)));
+}
+
+fn assert_transferred(rt: &impl Abort, alloc: Global) {
+    let packet = packet_in(rt, alloc, 3, "00000000 00000007");
+    match &packet.cargo {
+        Cargo::Transfer { port } => assert_record(rt, port),
+        _ => panic!(rt; "no Transfer"),
+    }
+}
+
+#[test]
+fn a_port_is_transferred(rt: HostRuntime) {
+    assert_transferred(&rt, rt.alloc());
 }

@@ -29,21 +29,26 @@ pub(super) fn entry_in<R: Abort>(rt: &R, alloc: Global, line: &str) -> Entry {
     }
 }
 
-/// The post that the next words say. Its body is taken as it stands: no byte of it is escaped.
+/// The post that the next words say.
 fn post_in<R: Abort>(alloc: Global, words: &mut Words<'_, R>) -> Act {
     let id = words.read();
     let dest = dest_in(words);
     let tag = tag_in(words);
+    let body = body_in(alloc, words);
+    Act::Post {
+        message: Message { id, tag, body },
+        dest,
+    }
+}
+
+/// The body that the rest of the line says. It is taken as it stands: no byte of it is escaped.
+fn body_in<R: Abort>(alloc: Global, words: &mut Words<'_, R>) -> Body {
     let text = words
         .take_rest()
         .strip_prefix('=')
         .expect(words.rt, "a body");
     assert!(words.rt; text.len() <= BODY_LIMIT);
-    let body = Body::new(alloc, text.as_bytes()).expect(words.rt, "memory");
-    Act::Post {
-        message: Message { id, tag, body },
-        dest,
-    }
+    Body::new(alloc, text.as_bytes()).expect(words.rt, "memory")
 }
 
 /// The destination that the next words say.
@@ -77,12 +82,18 @@ fn tag_in<R: Abort>(words: &mut Words<'_, R>) -> Tag {
 
 /// The choice of members that the next words say.
 fn choice_in<R: Abort>(alloc: Global, words: &mut Words<'_, R>) -> Act {
-    let id = words.read();
-    let group = words.read();
+    Act::Choose {
+        id: words.read(),
+        group: words.read(),
+        members: members_in(alloc, words),
+    }
+}
+
+/// The members that the rest of the line says.
+fn members_in<R: Abort>(alloc: Global, words: &mut Words<'_, R>) -> Members {
     let uis: Vec<Ui> = words.read_each(alloc);
     assert!(words.rt; uis.len() <= MEMBERS_LIMIT);
-    let members = Members::of(alloc, uis.as_slice()).expect(words.rt, "memory");
-    Act::Choose { id, group, members }
+    Members::of(alloc, uis.as_slice()).expect(words.rt, "memory")
 }
 
 /// The deletion that the next words say.

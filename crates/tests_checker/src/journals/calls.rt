@@ -1,8 +1,9 @@
 //! Calls and replies, and ports that are deleted.
 
-use super::{follow, named, replay};
+use super::{assert_follows, fate_of, follow, replay};
 use chorus_world::Spot;
-use std::test::Fail;
+use std::alloc::Global;
+use std::process::Abort;
 
 #[test]
 fn call_and_reply_on_one_site(rt: HostRuntime) {
@@ -29,7 +30,7 @@ fn call_and_reply_on_one_site(rt: HostRuntime) {
         10 1 1 no-call
         11 1 1 no-request
     ";
-    replay(&rt, rt.alloc(), 1, 1, journal);
+    assert_follows(&rt, rt.alloc(), 1, 1, journal);
 }
 
 #[test]
@@ -66,56 +67,69 @@ fn retry_across_a_move_is_accepted_once(rt: HostRuntime) {
         ! 20: 22 2 1 done 1
         22 2 1 late 1
     ";
-    replay(&rt, rt.alloc(), 3, 1, journal);
+    assert_follows(&rt, rt.alloc(), 3, 1, journal);
+}
+
+/// What follows the requests of 64 clients.
+const BEHIND_64_CLIENTS: &str = "
+    130 1 64 post 64:2:0 port 1.p.1 request 1 1.p.1 =q
+    131 1 64 already 64:2:0 1.p.1
+    132 1 65 post 65:1:0 port 1.p.1 request 1 1.p.1 =q
+    133 1 65 clients-full 65:1:0 1.p.1
+    134 1 1 cancel 1
+    135 1 1 post 1:2:0 port 1.p.1 request 2 1.p.1 =q
+    136 1 1 full 1:2:0 1.p.1 64
+";
+
+/// The first request of client `at + 1`, which the port accepts at position `at`.
+fn request_at(rt: &impl Abort, alloc: Global, at: u32) -> String {
+    assert!(rt; at < 64);
+    let client = at + 1;
+    let clock = 2 * client;
+    let next = clock + 1;
+    format!(in alloc;
+        "{clock} 1 {client} post {client}:1:0 port 1.p.1 request 1 1.p.1 =q
+         {next} 1 {client} accept {client}:1:0 1.p.1 {at}"
+    )
+    .expect(rt, "memory")
+}
+
+fn assert_table_fills(rt: &impl Abort, alloc: Global) {
+    let mut world = replay(rt, alloc, 1, 1, "1 1 0 make 1.p.1 1.a.1 64");
+    for at in 0..64_u32 {
+        let journal = request_at(rt, alloc, at);
+        follow(rt, alloc, &mut world, journal.as_str());
+    }
+    follow(rt, alloc, &mut world, BEHIND_64_CLIENTS);
 }
 
 #[test]
-fn at_most_once_table_fills(rt: HostRuntime) -> Result<(), Fail> {
-    let alloc = rt.alloc();
-    let mut world = replay(&rt, alloc, 1, 1, "1 1 0 make 1.p.1 1.a.1 64");
-    for at in 0..64u32 {
-        let client = at + 1;
-        let clock = 2 * client;
-        let next = clock + 1;
-        let journal = format!(in alloc;
-            "{clock} 1 {client} post {client}:1:0 port 1.p.1 request 1 1.p.1 =q
-             {next} 1 {client} accept {client}:1:0 1.p.1 {at}"
-        )?;
-        follow(&rt, alloc, &mut world, journal.as_str());
-    }
-    let journal = "
-        130 1 64 post 64:2:0 port 1.p.1 request 1 1.p.1 =q
-        131 1 64 already 64:2:0 1.p.1
-        132 1 65 post 65:1:0 port 1.p.1 request 1 1.p.1 =q
-        133 1 65 clients-full 65:1:0 1.p.1
-        134 1 1 cancel 1
-        135 1 1 post 1:2:0 port 1.p.1 request 2 1.p.1 =q
-        136 1 1 full 1:2:0 1.p.1 64
-    ";
-    follow(&rt, alloc, &mut world, journal);
-    Ok(())
+fn at_most_once_table_fills(rt: HostRuntime) {
+    assert_table_fills(&rt, rt.alloc());
+}
+
+const DELETED: &str = "
+    1 1 0 make 1.p.1 1.a.1 2
+    2 1 1 post 1:1:0 port 1.p.1 plain =a
+    3 1 1 accept 1:1:0 1.p.1 0
+    4 1 1 post 1:2:0 port 1.p.1 plain =b
+    5 1 1 accept 1:2:0 1.p.1 1
+    6 1 1 take 1.p.1 0 1:1:0
+    ! 39: 7 1 1 delete 1.p.1 1:1:0
+    7 1 1 delete 1.p.1 1:2:0
+    8 1 1 post 1:3:0 port 1.p.1 plain =c
+    9 1 1 gone 1:3:0 1.p.1
+    10 1 1 not-here 1.p.1
+";
+
+fn assert_deleted(rt: &impl Abort, alloc: Global) {
+    let world = replay(rt, alloc, 1, 1, DELETED);
+    assert!(rt; fate_of(rt, &world, "1.p.1").spot() == Spot::Ended);
 }
 
 #[test]
 fn delete_discards(rt: HostRuntime) {
-    let journal = "
-        1 1 0 make 1.p.1 1.a.1 2
-        2 1 1 post 1:1:0 port 1.p.1 plain =a
-        3 1 1 accept 1:1:0 1.p.1 0
-        4 1 1 post 1:2:0 port 1.p.1 plain =b
-        5 1 1 accept 1:2:0 1.p.1 1
-        6 1 1 take 1.p.1 0 1:1:0
-        ! 39: 7 1 1 delete 1.p.1 1:1:0
-        7 1 1 delete 1.p.1 1:2:0
-        8 1 1 post 1:3:0 port 1.p.1 plain =c
-        9 1 1 gone 1:3:0 1.p.1
-        10 1 1 not-here 1.p.1
-    ";
-    let world = replay(&rt, rt.alloc(), 1, 1, journal);
-    match world.port(named(&rt, "1.p.1")) {
-        Some(fate) => assert!(rt; fate.spot() == Spot::Ended),
-        None => assert!(rt; false, "the port is made"),
-    }
+    assert_deleted(&rt, rt.alloc());
 }
 
 #[test]
@@ -134,5 +148,5 @@ fn delete_after_a_move(rt: HostRuntime) {
         7 2 0 gone 1:1:0 1.p.1
         8 3 0 told 1:1:0 gone
     ";
-    replay(&rt, rt.alloc(), 3, 1, journal);
+    assert_follows(&rt, rt.alloc(), 3, 1, journal);
 }

@@ -1,7 +1,8 @@
 //! Groups: choices, copies and reports.
 
-use super::{follow, replay};
-use std::test::Fail;
+use super::{assert_follows, follow, replay};
+use std::alloc::Global;
+use std::process::Abort;
 
 #[test]
 fn functional_at_a_site(rt: HostRuntime) {
@@ -21,7 +22,7 @@ fn functional_at_a_site(rt: HostRuntime) {
         8 1 0 told 1:1:1 elsewhere 3 1
         9 3 0 arrive 2.p.1 1
     ";
-    replay(&rt, rt.alloc(), 3, 1, journal);
+    assert_follows(&rt, rt.alloc(), 3, 1, journal);
 }
 
 #[test]
@@ -40,7 +41,7 @@ fn report_reaches_the_home_place(rt: HostRuntime) {
         9 1 0 told 1:1:1 accepted 0
         10 2 0 heard 1:1:1 accepted 0
     ";
-    replay(&rt, rt.alloc(), 2, 1, journal);
+    assert_follows(&rt, rt.alloc(), 2, 1, journal);
 }
 
 #[test]
@@ -77,7 +78,7 @@ fn functional_send_rotates(rt: HostRuntime) {
         21 1 1 choose 1:5:0 1.g.1 1.p.1
         22 1 1 full 1:5:1 1.p.1 1
     ";
-    replay(&rt, rt.alloc(), 1, 1, journal);
+    assert_follows(&rt, rt.alloc(), 1, 1, journal);
 }
 
 #[test]
@@ -99,7 +100,7 @@ fn a_port_comes_to_the_groups_place(rt: HostRuntime) {
         ! 6: 12 1 0 accept 1:2:1 2.p.1 0
         12 1 0 elsewhere 1:2:1 2.p.1 1 1
     ";
-    replay(&rt, rt.alloc(), 2, 1, journal);
+    assert_follows(&rt, rt.alloc(), 2, 1, journal);
 }
 
 #[test]
@@ -121,7 +122,7 @@ fn broadcast_meets_full(rt: HostRuntime) {
         13 1 1 full 1:2:2 1.p.2 1
         14 1 1 accept 1:2:3 1.p.3 0
     ";
-    replay(&rt, rt.alloc(), 1, 1, journal);
+    assert_follows(&rt, rt.alloc(), 1, 1, journal);
 }
 
 #[test]
@@ -159,33 +160,45 @@ fn members_take_turns_as_they_join_and_leave(rt: HostRuntime) {
         29 1 1 choose 1:6:0 1.g.1 1.p.3
         30 1 1 accept 1:6:1 1.p.3 0
     ";
-    replay(&rt, rt.alloc(), 1, 1, journal);
+    assert_follows(&rt, rt.alloc(), 1, 1, journal);
+}
+
+/// A site with four groups, as many as there may be.
+const FOUR_GROUPS: &str = "
+    1 1 1 no-group 1.g.1
+    2 1 0 group 1.g.1
+    3 1 0 group 1.g.2
+    4 1 0 group 1.g.3
+    5 1 0 group 1.g.4
+    ! 27: 6 1 0 group 1.g.5
+    6 1 1 groups-full 1
+    7 1 1 no-site 2
+";
+
+/// What follows where 32 members joined a group.
+const BEHIND_32_MEMBERS: &str = "
+    ! 29: 40 1 0 join 1.g.1 1.p.33
+    40 1 1 members-full 1.g.1
+    41 1 1 there 1.g.1 1.p.32
+";
+
+/// The port of this number joins the first group.
+fn joining(rt: &impl Abort, alloc: Global, number: u64) -> String {
+    assert!(rt; number < 33);
+    let clock = number + 7;
+    format!(in alloc; "{clock} 1 0 join 1.g.1 1.p.{number}").expect(rt, "memory")
+}
+
+fn assert_groups_fill(rt: &impl Abort, alloc: Global) {
+    let mut world = replay(rt, alloc, 1, 1, FOUR_GROUPS);
+    for number in 1..33_u64 {
+        let line = joining(rt, alloc, number);
+        follow(rt, alloc, &mut world, line.as_str());
+    }
+    follow(rt, alloc, &mut world, BEHIND_32_MEMBERS);
 }
 
 #[test]
-fn groups_and_members_have_a_limit(rt: HostRuntime) -> Result<(), Fail> {
-    let alloc = rt.alloc();
-    let journal = "
-        1 1 1 no-group 1.g.1
-        2 1 0 group 1.g.1
-        3 1 0 group 1.g.2
-        4 1 0 group 1.g.3
-        5 1 0 group 1.g.4
-        ! 27: 6 1 0 group 1.g.5
-        6 1 1 groups-full 1
-        7 1 1 no-site 2
-    ";
-    let mut world = replay(&rt, alloc, 1, 1, journal);
-    for number in 1..33u64 {
-        let clock = number + 7;
-        let line = format!(in alloc; "{clock} 1 0 join 1.g.1 1.p.{number}")?;
-        follow(&rt, alloc, &mut world, line.as_str());
-    }
-    let journal = "
-        ! 29: 40 1 0 join 1.g.1 1.p.33
-        40 1 1 members-full 1.g.1
-        41 1 1 there 1.g.1 1.p.32
-    ";
-    follow(&rt, alloc, &mut world, journal);
-    Ok(())
+fn groups_and_members_have_a_limit(rt: HostRuntime) {
+    assert_groups_fill(&rt, rt.alloc());
 }

@@ -1,47 +1,62 @@
 //! Sending, receiving and migration.
 
-use super::{follow, named, replay};
+use super::{assert_follows, fate_of, follow, named, replay};
+use chorus_checker::{PortFate, World};
 use chorus_entry::{Answer, MsgId};
 use chorus_world::Spot;
+use std::alloc::Global;
+use std::process::Abort;
 
-#[test]
-fn world_refuses_and_follows_a_move(rt: HostRuntime) {
-    let alloc = rt.alloc();
-    let journal = "
-        ! 6: 1 1 0 accept 1:1:0 1.p.1 0
-        1 1 0 make 1.p.1 1.a.1 4
-        2 1 2 depart 1.p.1 2 2.a.1 1
-        2 3 1 post 1:1:0 port 1.p.1 plain =x
-        3 3 1 try 1:1:0 1.p.1 1 0
-        ! 10: 4 1 0 stale 1:1:0 1.p.1 0 1 0
-        4 1 0 stale 1:1:0 1.p.1 0 2 1
-        5 3 0 told 1:1:0 stale 2 1
-        6 3 0 try 1:1:0 1.p.1 2 1
-        ! 6: 7 2 0 accept 1:1:0 1.p.1 0
-        7 2 0 arrive 1.p.1 1
-        ! 0: 7 2 0 accept 1:1:0 1.p.1 0
-        ! 0: 8 4 0 accept 1:1:0 1.p.1 0
-        8 2 0 accept 1:1:0 1.p.1 0
-    ";
-    let mut world = replay(&rt, alloc, 3, 1, journal);
+const ACCEPTED_BEHIND_A_MOVE: &str = "
+    ! 6: 1 1 0 accept 1:1:0 1.p.1 0
+    1 1 0 make 1.p.1 1.a.1 4
+    2 1 2 depart 1.p.1 2 2.a.1 1
+    2 3 1 post 1:1:0 port 1.p.1 plain =x
+    3 3 1 try 1:1:0 1.p.1 1 0
+    ! 10: 4 1 0 stale 1:1:0 1.p.1 0 1 0
+    4 1 0 stale 1:1:0 1.p.1 0 2 1
+    5 3 0 told 1:1:0 stale 2 1
+    6 3 0 try 1:1:0 1.p.1 2 1
+    ! 6: 7 2 0 accept 1:1:0 1.p.1 0
+    7 2 0 arrive 1.p.1 1
+    ! 0: 7 2 0 accept 1:1:0 1.p.1 0
+    ! 0: 8 4 0 accept 1:1:0 1.p.1 0
+    8 2 0 accept 1:1:0 1.p.1 0
+";
+
+fn assert_verdict(rt: &impl Abort, world: &World, id: MsgId, answer: Answer) {
+    assert_eq!(rt; world.verdict(id), Some(answer));
+}
+
+/// Asserts that the port moved from place 1 to the actor at place 2, and accepted this message alone.
+fn assert_moved(rt: &impl Abort, fate: &PortFate, id: MsgId) {
+    assert_eq!(rt; fate.path(), [1, 2].as_slice());
+    assert!(rt; fate.spot() == Spot::Held(named(rt, "2.a.1")));
+    assert_eq!(rt; fate.capacity(), 4);
+    assert_eq!(rt; fate.accepted(), [id].as_slice());
+    assert_eq!(rt; fate.taken(), 0);
+}
+
+fn assert_not_made(rt: &impl Abort, world: &World, name: &str) {
+    assert!(rt; world.port(named(rt, name)).is_none());
+}
+
+fn assert_follows_a_move(rt: &impl Abort, alloc: Global) {
+    let mut world = replay(rt, alloc, 3, 1, ACCEPTED_BEHIND_A_MOVE);
     let id = MsgId {
         seat: 1,
         number: 1,
         copy: 0,
     };
-    assert_eq!(rt; world.verdict(id), Some(Answer::Accepted { pos: 0 }));
-    follow(&rt, alloc, &mut world, "9 3 0 told 1:1:0 accepted 0");
-    match world.port(named(&rt, "1.p.1")) {
-        Some(fate) => {
-            assert_eq!(rt; fate.path(), [1, 2].as_slice());
-            assert!(rt; fate.spot() == Spot::Held(named(&rt, "2.a.1")));
-            assert_eq!(rt; fate.capacity(), 4);
-            assert_eq!(rt; fate.accepted(), [id].as_slice());
-            assert_eq!(rt; fate.taken(), 0);
-        }
-        None => assert!(rt; false, "the port is made"),
-    }
-    assert!(rt; world.port(named(&rt, "1.p.2")).is_none());
+    assert_verdict(rt, &world, id, Answer::Accepted { pos: 0 });
+    follow(rt, alloc, &mut world, "9 3 0 told 1:1:0 accepted 0");
+    assert_moved(rt, fate_of(rt, &world, "1.p.1"), id);
+    assert_not_made(rt, &world, "1.p.2");
+}
+
+#[test]
+fn world_refuses_and_follows_a_move(rt: HostRuntime) {
+    assert_follows_a_move(&rt, rt.alloc());
 }
 
 #[test]
@@ -67,7 +82,7 @@ fn full_then_taken_then_empty(rt: HostRuntime) {
         8 1 1 empty 1.p.1
         ! 23: 9 1 1 not-here 1.a.1
     ";
-    replay(&rt, rt.alloc(), 1, 1, journal);
+    assert_follows(&rt, rt.alloc(), 1, 1, journal);
 }
 
 #[test]
@@ -83,7 +98,7 @@ fn two_sites_send_to_one_port(rt: HostRuntime) {
         ! 17: 5 1 0 told 1:1:0 no-port
         5 1 0 told 1:1:0 accepted 1
     ";
-    replay(&rt, rt.alloc(), 2, 1, journal);
+    assert_follows(&rt, rt.alloc(), 2, 1, journal);
 }
 
 #[test]
@@ -105,7 +120,7 @@ fn migration_keeps_waiting_messages(rt: HostRuntime) {
         11 2 2 take 1.p.1 1 1:2:0
         12 2 2 take 1.p.1 2 1:3:0
     ";
-    replay(&rt, rt.alloc(), 2, 1, journal);
+    assert_follows(&rt, rt.alloc(), 2, 1, journal);
 }
 
 #[test]
@@ -127,7 +142,7 @@ fn early_then_arrive(rt: HostRuntime) {
         11 2 0 accept 1:2:0 1.p.1 0
         12 3 0 told 1:2:0 accepted 0
     ";
-    replay(&rt, rt.alloc(), 3, 1, journal);
+    assert_follows(&rt, rt.alloc(), 3, 1, journal);
 }
 
 #[test]
@@ -143,7 +158,7 @@ fn no_port(rt: HostRuntime) {
         6 1 1 post 1:3:0 port 2.p.1 plain =z
         7 1 1 no-port 1:3:0 2.p.1
     ";
-    replay(&rt, rt.alloc(), 1, 1, journal);
+    assert_follows(&rt, rt.alloc(), 1, 1, journal);
 }
 
 #[test]
@@ -156,7 +171,7 @@ fn two_turns_per_site(rt: HostRuntime) {
         5 1 0 told 1:1:0 accepted 0
         6 2 1 depart 1.p.2 4 2.a.1 1
     ";
-    replay(&rt, rt.alloc(), 2, 2, journal);
+    assert_follows(&rt, rt.alloc(), 2, 2, journal);
 }
 
 #[test]
@@ -178,7 +193,7 @@ fn one_message_under_way_per_route(rt: HostRuntime) {
         11 2 0 accept 1:2:0 1.p.1 1
         12 3 0 told 1:2:0 accepted 1
     ";
-    replay(&rt, rt.alloc(), 3, 1, journal);
+    assert_follows(&rt, rt.alloc(), 3, 1, journal);
 }
 
 #[test]
@@ -191,7 +206,7 @@ fn rehome_on_one_site(rt: HostRuntime) {
         5 1 1 not-here 1.p.1
         6 1 2 take 1.p.1 0 1:1:0
     ";
-    replay(&rt, rt.alloc(), 1, 1, journal);
+    assert_follows(&rt, rt.alloc(), 1, 1, journal);
 }
 
 #[test]
@@ -218,5 +233,5 @@ fn a_place_makes_its_share_of_the_ports(rt: HostRuntime) {
         1 2 1 make 1.p.2 1.a.2 1
         10 1 1 no-actor 1.a.9
     ";
-    replay(&rt, rt.alloc(), 1, 4, journal);
+    assert_follows(&rt, rt.alloc(), 1, 4, journal);
 }
