@@ -1,22 +1,50 @@
 //! What is counted while bytes are carried. The counts are those of another program, which follows the rounds over lists.
 
-use chorus_lossy::{WINDOW, carry};
+use chorus_lossy::{Carried, WINDOW, carry};
 use chorus_transport::{Receiver, Sender};
-use std::alloc::{AllocError, Global};
-use std::test::Fail;
+use std::alloc::Global;
+use std::process::Abort;
 
 /// The bytes that are carried: so many, of which no two neighbouring chunks are the same.
-pub(crate) fn bytes_of(alloc: Global, len: usize) -> Result<Vec<u8>, AllocError> {
+pub(crate) fn bytes_of(rt: &impl Abort, alloc: Global, len: usize) -> Vec<u8> {
     let mut bytes = Vec::new(alloc);
     for i in 0..len {
-        bytes.push((i % 251) as u8)?;
+        bytes.push((i % 251) as u8).expect(rt, "memory");
     }
-    Ok(bytes)
+    bytes
 }
 
-#[test]
-fn texts_are_carried(rt: HostRuntime) -> Result<(), Fail> {
-    let alloc = rt.alloc();
+/// Carries the bytes. Gives what was carried, and how many chunks were put and acknowledged.
+fn carry_through(rt: &impl Abort, alloc: Global, first: u64, bytes: &[u8]) -> (Carried, u64, u64) {
+    let Some(mut sender) = Sender::new(alloc, WINDOW) else {
+        panic!(rt; "a window")
+    };
+    let Some(mut receiver) = Receiver::new(alloc, WINDOW) else {
+        panic!(rt; "a window")
+    };
+    let carried = carry(alloc, first, bytes, &mut sender, &mut receiver).expect(rt, "memory");
+    (carried, sender.next(), receiver.ack())
+}
+
+fn assert_count(rt: &impl Abort, found: u64, count: u64, name: &str) {
+    assert_eq!(rt; found, count, "{name}");
+}
+
+/// Asserts how often chunks are emitted, and how often something is lost, where so many bytes are carried.
+fn assert_carried(rt: &impl Abort, alloc: Global, first: u64, len: usize, emitted: u64, lost: u64) {
+    let name = format!(in alloc; "{len} from {first}").expect(rt, "memory");
+    let name = name.as_str();
+    let bytes = bytes_of(rt, alloc, len);
+    let (carried, put, acknowledged) = carry_through(rt, alloc, first, &bytes);
+    assert!(rt; carried.delivered == bytes, "{name}");
+    assert_count(rt, carried.emitted, emitted, name);
+    assert_count(rt, carried.lost, lost, name);
+    let chunks = len.div_ceil(64) as u64;
+    assert_count(rt, put, chunks, name);
+    assert_count(rt, acknowledged, chunks, name);
+}
+
+fn assert_texts(rt: &impl Abort, alloc: Global) {
     for (first, len, emitted, lost) in [
         (0, 0, 0, 0),
         (0, 1, 1, 0),
@@ -39,16 +67,11 @@ fn texts_are_carried(rt: HostRuntime) -> Result<(), Fail> {
         (u64::MAX, 513, 25, 8),
         (u64::MAX, 10_000, 352, 88),
     ] {
-        let bytes = bytes_of(alloc, len)?;
-        let mut sender = Sender::new(alloc, WINDOW).ok_or("a window")?;
-        let mut receiver = Receiver::new(alloc, WINDOW).ok_or("a window")?;
-        let carried = carry(alloc, first, &bytes, &mut sender, &mut receiver)?;
-        assert!(rt; carried.delivered == bytes, "{len} from {first}");
-        assert_eq!(rt; carried.emitted, emitted, "{len} from {first}");
-        assert_eq!(rt; carried.lost, lost, "{len} from {first}");
-        let chunks = len.div_ceil(64) as u64;
-        assert_eq!(rt; sender.next(), chunks, "{len} from {first}");
-        assert_eq!(rt; receiver.ack(), chunks, "{len} from {first}");
+        assert_carried(rt, alloc, first, len, emitted, lost);
     }
-    Ok(())
+}
+
+#[test]
+fn texts_are_carried(rt: HostRuntime) {
+    assert_texts(&rt, rt.alloc());
 }

@@ -1,85 +1,137 @@
 //! What `lossy` writes, and how sources and sinks end it. The counts are those of another program, which follows the rounds
 //! over lists.
-
-ghost use Rattle.std.specs.Prelude.{◌≤◌};
+//!
+//! The contract of `lossy` is long, so it is called in one function, which is generic in its source and sink.
 
 use crate::carrying::bytes_of;
-use chorus_io::{MemSink, MemSource};
+use chorus_io::{MemSink, MemSource, Sink, Source};
 use chorus_lossy::{INPUT_LIMIT, WINDOW, lossy};
 use chorus_show::Status;
 use chorus_transport::{Receiver, Sender};
 use std::alloc::Global;
-use std::test::Fail;
+use std::process::Abort;
+
+/// What `lossy` writes for `hello`.
+const HELLO: &str = "hello\nwire 1 0\n";
+
+/// How `lossy` ended, and what it wrote.
+#[derive(Drop)]
+struct Run {
+    status: Status,
+    written: Vec<u8>,
+}
+
+fn lossy_on<S: Source, K: Sink>(
+    rt: &impl Abort,
+    alloc: Global,
+    source: &mut S,
+    sink: &mut K,
+) -> Status {
+    let Some(mut sender) = Sender::new(alloc, WINDOW) else {
+        panic!(rt; "a window")
+    };
+    let Some(mut receiver) = Receiver::new(alloc, WINDOW) else {
+        panic!(rt; "a window")
+    };
+    lossy(alloc, 7, source, sink, &mut sender, &mut receiver)
+}
+
+fn source_of(rt: &impl Abort, alloc: Global, bytes: &[u8], failing: &[u64]) -> MemSource {
+    let bytes = Vec::from_slice(alloc, bytes).expect(rt, "memory");
+    MemSource::new(bytes, Vec::from_slice(alloc, failing).expect(rt, "memory"))
+}
+
+fn sink_of(rt: &impl Abort, alloc: Global, most: usize, failing: &[u64]) -> MemSink {
+    assert!(rt; most > 0);
+    let failing = Vec::from_slice(alloc, failing).expect(rt, "memory");
+    MemSink::new(alloc, most, failing)
+}
 
 /// Runs `lossy` from 7 on, with reads and writes that fail as listed and writes of at most `most` bytes.
-fn run(
+fn run_on(
+    rt: &impl Abort,
     alloc: Global,
     bytes: &[u8],
     reads: &[u64],
     most: usize,
     writes: &[u64],
-) -> Result<(Status, MemSink), Fail>
-    requires { 1 ≤ most }
-{
-    let bytes = Vec::from_slice(alloc, bytes)?;
-    let mut source = MemSource::new(bytes, Vec::from_slice(alloc, reads)?);
-    let mut sink = MemSink::new(alloc, most, Vec::from_slice(alloc, writes)?);
-    let mut sender = Sender::new(alloc, WINDOW).ok_or("a window")?;
-    let mut receiver = Receiver::new(alloc, WINDOW).ok_or("a window")?;
-    let status = lossy(alloc, 7, &mut source, &mut sink, &mut sender, &mut receiver);
-    Ok((status, sink))
+) -> Run {
+    let mut source = source_of(rt, alloc, bytes, reads);
+    let mut sink = sink_of(rt, alloc, most, writes);
+    let status = lossy_on(rt, alloc, &mut source, &mut sink);
+    Run {
+        status,
+        written: Vec::from_slice(alloc, sink.bytes()).expect(rt, "memory"),
+    }
+}
+
+/// Asserts that the run of this name ended so and wrote this.
+fn assert_ended(rt: &impl Abort, run: &Run, status: Status, written: &str, name: &str) {
+    assert_eq!(rt; run.status, status, "{name}");
+    assert!(rt; run.written.as_slice() == written.as_bytes(), "{name}");
+}
+
+/// Asserts what is written for the text, whatever a write takes.
+fn assert_writes(rt: &impl Abort, alloc: Global, text: &str, written: &str) {
+    for most in [1, 4, 64] {
+        let run = run_on(rt, alloc, text.as_bytes(), &[], most, &[]);
+        assert_ended(rt, &run, Status::Done, written, text);
+    }
 }
 
 #[test]
-fn lossy_line_carries_hello(rt: HostRuntime) -> Result<(), Fail> {
-    let alloc = rt.alloc();
-    for (text, written) in [("hello", "hello\nwire 1 0\n"), ("", "\nwire 0 0\n")] {
-        for most in [1, 4, 64] {
-            let (status, sink) = run(alloc, text.as_bytes(), &[], most, &[])?;
-            assert_eq!(rt; status, Status::Done, "{text}");
-            assert_eq!(rt; sink.bytes(), written.as_bytes(), "{text}");
-        }
+fn lossy_line_carries_hello(rt: HostRuntime) {
+    assert_writes(&rt, rt.alloc(), "hello", HELLO);
+    assert_writes(&rt, rt.alloc(), "", "\nwire 0 0\n");
+}
+
+/// Asserts how it ends where this read fails, and what it wrote.
+fn assert_read_fails(rt: &impl Abort, alloc: Global, read: u64, status: Status, written: &str) {
+    let run = run_on(rt, alloc, b"hello", &[read], 64, &[]);
+    assert_ended(rt, &run, status, written, "a source that fails");
+}
+
+/// Asserts how it ends where this write of one byte fails, and how many bytes it wrote.
+fn assert_write_fails(rt: &impl Abort, alloc: Global, write: u64, status: Status, count: u64) {
+    let run = run_on(rt, alloc, b"hello", &[], 1, &[write]);
+    assert_eq!(rt; run.status, status, "at {write}");
+    assert_eq!(rt; run.written.len() as u64, count, "at {write}");
+    assert!(rt; HELLO.as_bytes().starts_with(&run.written), "at {write}");
+}
+
+fn assert_each_write_fails(rt: &impl Abort, alloc: Global) {
+    for count in 0..15_u64 {
+        assert_write_fails(rt, alloc, count + 1, Status::WriteFault, count);
     }
-    Ok(())
+    assert_write_fails(rt, alloc, 16, Status::Done, 15);
 }
 
 #[test]
-fn faults_end_it(rt: HostRuntime) -> Result<(), Fail> {
-    let alloc = rt.alloc();
-    let written = "hello\nwire 1 0\n";
-    for (read, ended) in [
-        (1, Status::ReadFault),
-        (2, Status::ReadFault),
-        (3, Status::Done),
-    ] {
-        let (status, sink) = run(alloc, b"hello", &[read], 64, &[])?;
-        assert_eq!(rt; status, ended, "read {read}");
-        assert_eq!(rt;
-            sink.bytes().is_empty(),
-            ended != Status::Done,
-            "read {read}"
-        );
-    }
-    for (i, _) in written.bytes().enumerate() {
-        let (status, sink) = run(alloc, b"hello", &[], 1, &[i as u64 + 1])?;
-        assert_eq!(rt; status, Status::WriteFault, "after {i}");
-        assert_eq!(rt; sink.bytes().len(), i);
-        assert!(rt; written.as_bytes().starts_with(sink.bytes()), "after {i}");
-    }
-    Ok(())
+fn faults_end_it(rt: HostRuntime) {
+    assert_read_fails(&rt, rt.alloc(), 1, Status::ReadFault, "");
+    assert_read_fails(&rt, rt.alloc(), 2, Status::ReadFault, "");
+    assert_read_fails(&rt, rt.alloc(), 3, Status::Done, HELLO);
+    assert_each_write_fails(&rt, rt.alloc());
+}
+
+fn assert_longest(rt: &impl Abort, alloc: Global) {
+    let bytes = bytes_of(rt, alloc, INPUT_LIMIT);
+    let run = run_on(rt, alloc, &bytes, &[], 65_536, &[]);
+    assert_eq!(rt; run.status, Status::Done);
+    assert!(rt; run.written.starts_with(&bytes));
+    assert!(rt; run.written.ends_with(b"\nwire 123001 25987\n"));
+}
+
+fn assert_longer(rt: &impl Abort, alloc: Global) {
+    let mut bytes = bytes_of(rt, alloc, INPUT_LIMIT);
+    bytes.push(b'x').expect(rt, "memory");
+    let run = run_on(rt, alloc, &bytes, &[], 65_536, &[]);
+    let refused = Status::Scenario { line: 0, reason: 6 };
+    assert_ended(rt, &run, refused, "", "a longer input");
 }
 
 #[test]
-fn inputs_up_to_the_limit(rt: HostRuntime) -> Result<(), Fail> {
-    let alloc = rt.alloc();
-    let mut bytes = bytes_of(alloc, INPUT_LIMIT)?;
-    let (status, sink) = run(alloc, &bytes, &[], 65_536, &[])?;
-    assert_eq!(rt; status, Status::Done);
-    assert!(rt; sink.bytes().starts_with(&bytes));
-    assert!(rt; sink.bytes().ends_with(b"\nwire 123001 25987\n"));
-    bytes.push(b'x')?;
-    let (status, sink) = run(alloc, &bytes, &[], 65_536, &[])?;
-    assert_eq!(rt; status, Status::Scenario { line: 0, reason: 6 });
-    assert!(rt; sink.bytes().is_empty());
-    Ok(())
+fn inputs_up_to_the_limit(rt: HostRuntime) {
+    assert_longest(&rt, rt.alloc());
+    assert_longer(&rt, rt.alloc());
 }

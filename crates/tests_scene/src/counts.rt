@@ -1,169 +1,128 @@
-// The last that is taken and the first that is not, of all that is counted.
+//! The last that is taken and the first that is not, of all that is counted, as rows (see [`crate::texts`]).
 
-use crate::texts::{ending_in, fault};
-use chorus_ui::{Layout, push_decimal};
-use std::alloc::{AllocError, Global};
-use std::test::*;
-
-/// A text that begins with this, has a line many times, and ends with that.
-fn repeated(
-    alloc: Global,
-    front: &[u8],
-    line: &[u8],
-    count: usize,
-    back: &[u8],
-) -> Result<Vec<u8>, AllocError> {
-    let mut text = Vec::from_slice(alloc, front)?;
-    for _ in 0..count {
-        text.extend_from_slice(line)?;
-    }
-    text.extend_from_slice(back)?;
-    Ok(text)
-}
+use crate::texts::{assert_rows, assert_rows_behind, layout_of};
+use std::alloc::Global;
+use std::process::Abort;
 
 /// A text of two sites with the 32 ports of the first.
-fn all_ports(alloc: Global) -> Result<Vec<u8>, AllocError> {
-    let mut text = Vec::from_slice(alloc, b"chorus 1\nsites 2\n")?;
-    for number in 1..=32 {
-        text.extend_from_slice(b"port 1.p.")?;
-        push_decimal(number, &mut text)?;
-        text.extend_from_slice(b" 1.a.1 1\n")?;
+fn all_ports(rt: &impl Abort, alloc: Global) -> String {
+    let mut text = String::new(alloc);
+    text.push_str("chorus 1\nsites 2\n").expect(rt, "memory");
+    for number in 1..=32_u64 {
+        writeln!(text, "port 1.p.{number} 1.a.1 1").expect(rt, "memory");
     }
-    Ok(text)
+    text
 }
 
 /// The same, with the first port of the second site, and a group of which the ports of the first are members.
-fn all_members(alloc: Global) -> Result<Vec<u8>, AllocError> {
-    let mut text = all_ports(alloc)?;
-    text.extend_from_slice(b"port 2.p.1 2.a.1 1\ngroup 1.g.1\n")?;
-    for number in 1..=32 {
-        text.extend_from_slice(b"member 1.g.1 1.p.")?;
-        push_decimal(number, &mut text)?;
-        text.extend_from_slice(b"\n")?;
+fn all_members(rt: &impl Abort, alloc: Global) -> String {
+    let mut text = all_ports(rt, alloc);
+    text.push_str("port 2.p.1 2.a.1 1\ngroup 1.g.1\n")
+        .expect(rt, "memory");
+    for number in 1..=32_u64 {
+        writeln!(text, "member 1.g.1 1.p.{number}").expect(rt, "memory");
     }
-    Ok(text)
+    text
 }
 
-/// The fault of a text that goes on with these lines.
-fn fault_with(
-    alloc: Global,
-    front: &[u8],
-    back: &[u8],
-    layout: Layout,
-) -> Result<Option<(u32, u8)>, AllocError> {
-    let text = repeated(alloc, front, b"", 0, back)?;
-    Ok(fault(alloc, &text, layout))
+const BEHIND_PORTS: &str = "\
+schedule;end|read
+port 1.p.33 1.a.1 1|35 6
+port 1.p.1 1.a.1 1|35 5
+";
+
+const BEHIND_MEMBERS: &str = "\
+schedule;end|read
+member 1.g.1 2.p.1|69 6
+member 1.g.1 1.p.1|69 6
+member 1.g.1 9.p.1|69 6
+";
+
+fn assert_ports_and_members(rt: &impl Abort, alloc: Global) {
+    let eight = layout_of(rt, 8, 1);
+    let ports = all_ports(rt, alloc);
+    assert_rows(rt, alloc, eight, ports.as_str(), BEHIND_PORTS);
+    let members = all_members(rt, alloc);
+    assert_rows(rt, alloc, eight, members.as_str(), BEHIND_MEMBERS);
 }
 
 #[test]
 fn ports_and_members(rt: HostRuntime) {
-    let eight = Layout::new(8, 1).expect(&rt, "a layout");
-    let ports = all_ports(rt.alloc()).expect(&rt, "memory");
-    let behind_ports: [(&[u8], Option<(u32, u8)>); 3] = [
-        (b"schedule\nend", None),
-        (b"port 1.p.33 1.a.1 1", Some((35, 6))),
-        (b"port 1.p.1 1.a.1 1", Some((35, 5))),
-    ];
-    for (back, want) in behind_ports {
-        let got = fault_with(rt.alloc(), &ports, back, eight).expect(&rt, "memory");
-        assert_eq!(rt; got, want);
-    }
-    let members = all_members(rt.alloc()).expect(&rt, "memory");
-    let behind_members: [(&[u8], Option<(u32, u8)>); 4] = [
-        (b"schedule\nend", None),
-        (b"member 1.g.1 2.p.1", Some((69, 6))),
-        (b"member 1.g.1 1.p.1", Some((69, 6))),
-        (b"member 1.g.1 9.p.1", Some((69, 6))),
-    ];
-    for (back, want) in behind_members {
-        let got = fault_with(rt.alloc(), &members, back, eight).expect(&rt, "memory");
-        assert_eq!(rt; got, want);
-    }
+    assert_ports_and_members(&rt, rt.alloc());
+}
+
+/// Asserts what the rows say behind so many of these lines, on eight sites.
+fn assert_lines(rt: &impl Abort, alloc: Global, front: &str, line: &str, count: usize, rows: &str) {
+    let eight = layout_of(rt, 8, 1);
+    assert_rows_behind(rt, alloc, eight, front, line, count, rows);
+}
+
+const BEHIND_SCRIPTS: &str = "\
+schedule;end|read
+script 1.a.9|19 6
+";
+
+const BEHIND_COMMANDS: &str = "\
+schedule;end|read
+take 9.p.1|4100 6
+take 1.p.01|4100 3
+";
+
+const BEHIND_STEPS: &str = "\
+end|read
+drain|131076 6
+step 9|131076 6
+";
+
+fn assert_scripts_commands_and_steps(rt: &impl Abort, alloc: Global) {
+    let head = "chorus 1\nsites 2\n";
+    assert_lines(rt, alloc, head, "script 1.a.1\n", 16, BEHIND_SCRIPTS);
+    let script = "chorus 1\nsites 2\nscript 1.a.1\n";
+    assert_lines(rt, alloc, script, "take 1.p.1\n", 4_096, BEHIND_COMMANDS);
+    let schedule = "chorus 1\nsites 2\nschedule\n";
+    assert_lines(rt, alloc, schedule, "drain\n", 131_072, BEHIND_STEPS);
 }
 
 #[test]
 fn scripts_commands_and_steps(rt: HostRuntime) {
-    let eight = Layout::new(8, 1).expect(&rt, "a layout");
-    let head = b"chorus 1\nsites 2\n";
-    let script = b"chorus 1\nsites 2\nscript 1.a.1\n";
-    let schedule = b"chorus 1\nsites 2\nschedule\n";
-    let texts: [(&[u8], &[u8], usize, &[u8], Option<(u32, u8)>); 8] = [
-        (head, b"script 1.a.1\n", 16, b"schedule\nend", None),
-        (head, b"script 1.a.1\n", 16, b"script 1.a.9", Some((19, 6))),
-        (script, b"take 1.p.1\n", 4_096, b"schedule\nend", None),
-        (
-            script,
-            b"take 1.p.1\n",
-            4_096,
-            b"take 9.p.1",
-            Some((4_100, 6)),
-        ),
-        (
-            script,
-            b"take 1.p.1\n",
-            4_096,
-            b"take 1.p.01",
-            Some((4_100, 3)),
-        ),
-        (schedule, b"drain\n", 131_072, b"end", None),
-        (schedule, b"drain\n", 131_072, b"drain", Some((131_076, 6))),
-        (schedule, b"drain\n", 131_072, b"step 9", Some((131_076, 6))),
-    ];
-    for (front, line, count, back, want) in texts {
-        let text = repeated(rt.alloc(), front, line, count, back).expect(&rt, "memory");
-        assert_eq!(rt; fault(rt.alloc(), &text, eight), want);
-    }
+    assert_scripts_commands_and_steps(&rt, rt.alloc());
+}
+
+/// Asserts what is told of a text that ends in so many of this letter, on sixteen sites.
+fn assert_letters(
+    rt: &impl Abort,
+    alloc: Global,
+    front: &str,
+    letter: &str,
+    count: usize,
+    row: &str,
+) {
+    let sixteen = layout_of(rt, 16, 1);
+    assert_rows_behind(rt, alloc, sixteen, front, letter, count, row);
+}
+
+/// The lengths of bodies in version 2.
+fn assert_long_bodies(rt: &impl Abort, alloc: Global) {
+    let bytes = "chorus 2\nsites 2\nscript 1.a.1\nsend 1.p.1 =";
+    assert_letters(rt, alloc, bytes, "x", 4_096, "|5 9");
+    let no_site = "chorus 2\nsites 2\nscript 1.a.1\nsend 9.p.1 =";
+    assert_letters(rt, alloc, no_site, "x", 4_097, "|4 6");
+    let digits = "chorus 2\nsites 2\nscript 1.a.1\nsend 1.p.1 x";
+    assert_letters(rt, alloc, digits, "0", 8_192, "|5 9");
+    assert_letters(rt, alloc, digits, "0", 8_193, "|4 3");
+    assert_letters(rt, alloc, digits, "0", 8_194, "|4 6");
+}
+
+/// The lengths of bodies in version 1.
+fn assert_bodies(rt: &impl Abort, alloc: Global) {
+    let one = "chorus 1\nsites 2\nscript 1.a.1\none 1.p.1 =";
+    assert_letters(rt, alloc, one, "x", 241, "|4 3");
+    let at = "chorus 1\nsites 2\nscript 1.a.1\nat 1.g.1 3 =";
+    assert_letters(rt, alloc, at, "x", 241, "|4 6");
 }
 
 #[test]
 fn bytes_and_digits(rt: HostRuntime) {
-    let sixteen = Layout::new(16, 1).expect(&rt, "a layout");
-    let texts: [(&[u8], u8, usize, (u32, u8)); 7] = [
-        (
-            b"chorus 2\nsites 2\nscript 1.a.1\nsend 1.p.1 =",
-            b'x',
-            4_096,
-            (5, 9),
-        ),
-        (
-            b"chorus 2\nsites 2\nscript 1.a.1\nsend 9.p.1 =",
-            b'x',
-            4_097,
-            (4, 6),
-        ),
-        (
-            b"chorus 2\nsites 2\nscript 1.a.1\nsend 1.p.1 x",
-            b'0',
-            8_192,
-            (5, 9),
-        ),
-        (
-            b"chorus 2\nsites 2\nscript 1.a.1\nsend 1.p.1 x",
-            b'0',
-            8_193,
-            (4, 3),
-        ),
-        (
-            b"chorus 2\nsites 2\nscript 1.a.1\nsend 1.p.1 x",
-            b'0',
-            8_194,
-            (4, 6),
-        ),
-        (
-            b"chorus 1\nsites 2\nscript 1.a.1\none 1.p.1 =",
-            b'x',
-            241,
-            (4, 3),
-        ),
-        (
-            b"chorus 1\nsites 2\nscript 1.a.1\nat 1.g.1 3 =",
-            b'x',
-            241,
-            (4, 6),
-        ),
-    ];
-    for (front, byte, count, want) in texts {
-        let text = ending_in(rt.alloc(), front, byte, count).expect(&rt, "memory");
-        assert_eq!(rt; fault(rt.alloc(), &text, sixteen), Some(want));
-    }
+    assert_long_bodies(&rt, rt.alloc());
+    assert_bodies(&rt, rt.alloc());
 }

@@ -1,214 +1,253 @@
-// Journals with their summaries, and the lines of faults.
+//! Journals with their summaries, and the lines of faults.
 
-use crate::lines::{entry, named_things};
-use chorus_entry::{Act, Body, Dest, Entry, Ids, Message, Tag};
+use crate::lines::{Things, assert_text, body_of, entry, ids_of, name, named_things, text_of};
+use chorus_entry::{Act, Dest, Entry, Message, MsgId, Tag};
 use chorus_show::{Status, fault_text, journal_text, summary_text};
 use chorus_ui::{Kind, Ui};
 use std::alloc::Global;
-use std::test::Fail;
+use std::process::Abort;
 
-#[test]
-fn empty_scenario(rt: HostRuntime) -> Result<(), Fail> {
-    let mut out = Vec::new(rt.alloc());
-    journal_text(&[], &mut out)?;
-    summary_text(&[], &mut out)?;
-    assert_eq!(rt;
-        out.as_slice(),
-        b"journal 0\nsummary\nposted 0\naccepted 0\ntaken 0\nqueued 0\nmoving 0\nrefused 0\nstale 0\ndeparts 0\nend\n".as_slice()
-    );
-    Ok(())
+/// The text with the journal behind it.
+fn with_journal(rt: &impl Abort, alloc: Global, text: &str, entries: &[Entry]) -> String {
+    let mut out = Vec::from_slice(alloc, text.as_bytes()).expect(rt, "memory");
+    journal_text(entries, &mut out).expect(rt, "memory");
+    text_of(rt, out)
 }
 
-fn entries_of(alloc: Global, acts: Vec<Act>) -> Result<Vec<Entry>, Fail> {
+/// The text with the summary behind it.
+fn with_summary(rt: &impl Abort, alloc: Global, text: &str, entries: &[Entry]) -> String {
+    let mut out = Vec::from_slice(alloc, text.as_bytes()).expect(rt, "memory");
+    summary_text(entries, &mut out).expect(rt, "memory");
+    text_of(rt, out)
+}
+
+fn add(rt: &impl Abort, entries: &mut Vec<Entry>, act: Act) {
+    entries.push(entry(5, act)).expect(rt, "memory");
+}
+
+fn assert_empty(rt: &impl Abort, alloc: Global) {
+    let journal = with_journal(rt, alloc, "", &[]);
+    let both = with_summary(rt, alloc, journal.as_str(), &[]);
+    let text =
+        "journal 0\nsummary\nposted 0\naccepted 0\ntaken 0\nqueued 0\nmoving 0\nrefused 0\nstale 0\ndeparts 0\nend\n";
+    assert_text(rt, both.as_str(), text);
+}
+
+#[test]
+fn empty_scenario(rt: HostRuntime) {
+    assert_empty(&rt, rt.alloc());
+}
+
+fn assert_two_lines(rt: &impl Abort, alloc: Global) {
     let mut entries = Vec::new(alloc);
-    for act in acts {
-        entries.push(entry(5, act))?;
-    }
-    Ok(entries)
+    add(rt, &mut entries, Act::NoCall);
+    add(rt, &mut entries, Act::Late { number: 2 });
+    let journal = with_journal(rt, alloc, "> ", &entries);
+    let text = "> journal 2\n5 2 30 no-call\n5 2 30 late 2\n";
+    assert_text(rt, journal.as_str(), text);
 }
 
 #[test]
-fn journals_have_a_line_for_each_entry(rt: HostRuntime) -> Result<(), Fail> {
-    let acts = Vec::from_array(rt.alloc(), [Act::NoCall, Act::Late { number: 2 }])?;
-    let entries = entries_of(rt.alloc(), acts)?;
-    let mut out = Vec::from_slice(rt.alloc(), b"> ")?;
-    journal_text(&entries, &mut out)?;
-    assert_eq!(rt;
-        out.as_slice(),
-        b"> journal 2\n5 2 30 no-call\n5 2 30 late 2\n".as_slice()
-    );
-    Ok(())
+fn journals_have_a_line_for_each_entry(rt: HostRuntime) {
+    assert_two_lines(&rt, rt.alloc());
 }
 
-fn port(number: u64) -> Result<Ui, Fail> {
-    Ok(Ui::new(1, Kind::Port, number).ok_or("a port")?)
+fn port(rt: &impl Abort, number: u64) -> Ui {
+    name(rt, 1, Kind::Port, number)
 }
 
-/// Port 1 moves with two messages. Port 2 is held, and more was taken than accepted. Port 3 came back and holds one. Port 4 is
-/// deleted, with two discarded, and port 6, with none. Port 5 was never made.
-#[test]
-fn summaries_count_where_ports_are(rt: HostRuntime) -> Result<(), Fail> {
-    let things = named_things(rt.alloc())?;
-    let (alloc, actor, id, to, hop, pos, len, capacity) = (
-        things.alloc,
-        things.actor,
-        things.id,
-        2,
-        1,
-        0,
-        4,
-        4,
-    );
-    let (one, two, three, four, five) = (port(1)?, port(2)?, port(3)?, port(4)?, port(5)?);
-    let six = port(6)?;
+fn make(rt: &impl Abort, entries: &mut Vec<Entry>, port: Ui) {
+    let make = Act::Make {
+        port,
+        actor: named_things(rt).actor,
+        capacity: 4,
+    };
+    add(rt, entries, make);
+}
+
+fn post(rt: &impl Abort, alloc: Global, entries: &mut Vec<Entry>, port: Ui) {
     let message = Message {
-        id,
+        id: named_things(rt).id,
         tag: Tag::Plain,
-        body: Body::new(alloc, b"")?,
+        body: body_of(rt, alloc, b""),
     };
-    let tried = 0;
-    let none = Ids::of(alloc, &[])?;
-    let discarded = Ids::of(alloc, &[id, id])?;
-    let acts = Vec::from_array(
-        alloc,
-        [
-            Act::Post {
-                message,
-                dest: Dest::Port(one),
-            },
-            Act::Make {
-                port: one,
-                actor,
-                capacity,
-            },
-            Act::Accept { id, port: one, pos },
-            Act::Accept { id, port: one, pos },
-            Act::Take { port: one, pos, id },
-            Act::Depart {
-                port: one,
-                to,
-                actor,
-                hop,
-            },
-            Act::Accept { id, port: one, pos },
-            Act::Arrive { port: two, hop },
-            Act::Accept { id, port: two, pos },
-            Act::Take { port: two, pos, id },
-            Act::Take { port: two, pos, id },
-            Act::Full { id, port: two, len },
-            Act::Depart {
-                port: three,
-                to,
-                actor,
-                hop,
-            },
-            Act::Arrive { port: three, hop },
-            Act::Accept {
-                id,
-                port: three,
-                pos,
-            },
-            Act::Rehome { port: three, actor },
-            Act::Make {
-                port: four,
-                actor,
-                capacity,
-            },
-            Act::Accept {
-                id,
-                port: four,
-                pos,
-            },
-            Act::Delete {
-                port: four,
-                discarded,
-            },
-            Act::Gone { id, port: four },
-            Act::Delete {
-                port: six,
-                discarded: none,
-            },
-            Act::Stale {
-                id,
-                port: six,
-                tried,
-                to,
-                hop,
-            },
-            Act::Stale {
-                id,
-                port: one,
-                tried,
-                to,
-                hop,
-            },
-            Act::Accept {
-                id,
-                port: five,
-                pos,
-            },
-        ],
-    )?;
-    let entries = entries_of(alloc, acts)?;
-    let mut out = Vec::from_slice(alloc, b"> ")?;
-    summary_text(&entries, &mut out)?;
-    assert_eq!(rt;
-        out.as_slice(),
-        b"> summary\nposted 1\naccepted 7\ntaken 3\nqueued 1\nmoving 2\ndiscarded 2\nrefused 2\nstale 2\ndeparts 2\nend\n".as_slice()
+    let dest = Dest::Port(port);
+    add(rt, entries, Act::Post { message, dest });
+}
+
+fn accept(rt: &impl Abort, entries: &mut Vec<Entry>, port: Ui) {
+    let id = named_things(rt).id;
+    add(rt, entries, Act::Accept { id, port, pos: 0 });
+}
+
+fn take(rt: &impl Abort, entries: &mut Vec<Entry>, port: Ui) {
+    let id = named_things(rt).id;
+    add(rt, entries, Act::Take { port, pos: 0, id });
+}
+
+fn depart(rt: &impl Abort, entries: &mut Vec<Entry>, port: Ui) {
+    let depart = Act::Depart {
+        port,
+        to: 2,
+        actor: named_things(rt).actor,
+        hop: 1,
+    };
+    add(rt, entries, depart);
+}
+
+fn stale(rt: &impl Abort, entries: &mut Vec<Entry>, port: Ui) {
+    let stale = Act::Stale {
+        id: named_things(rt).id,
+        port,
+        tried: 0,
+        to: 2,
+        hop: 1,
+    };
+    add(rt, entries, stale);
+}
+
+fn delete(rt: &impl Abort, alloc: Global, entries: &mut Vec<Entry>, port: Ui, ids: &[MsgId]) {
+    let discarded = ids_of(rt, alloc, ids);
+    add(rt, entries, Act::Delete { port, discarded });
+}
+
+/// Port 1 moves with two messages.
+fn add_port_one(rt: &impl Abort, alloc: Global, entries: &mut Vec<Entry>) {
+    let one = port(rt, 1);
+    post(rt, alloc, entries, one);
+    make(rt, entries, one);
+    accept(rt, entries, one);
+    accept(rt, entries, one);
+    take(rt, entries, one);
+    depart(rt, entries, one);
+    accept(rt, entries, one);
+}
+
+/// Port 2 is held, and more was taken than accepted.
+fn add_port_two(rt: &impl Abort, entries: &mut Vec<Entry>) {
+    let two = port(rt, 2);
+    add(rt, entries, Act::Arrive { port: two, hop: 1 });
+    accept(rt, entries, two);
+    take(rt, entries, two);
+    take(rt, entries, two);
+    let full = Act::Full {
+        id: named_things(rt).id,
+        port: two,
+        len: 4,
+    };
+    add(rt, entries, full);
+}
+
+/// Port 3 came back and holds one.
+fn add_port_three(rt: &impl Abort, entries: &mut Vec<Entry>) {
+    let three = port(rt, 3);
+    depart(rt, entries, three);
+    add(
+        rt,
+        entries,
+        Act::Arrive {
+            port: three,
+            hop: 1,
+        },
     );
-    Ok(())
+    accept(rt, entries, three);
+    let rehome = Act::Rehome {
+        port: three,
+        actor: named_things(rt).actor,
+    };
+    add(rt, entries, rehome);
+}
+
+/// Port 4 is deleted, with two discarded.
+fn add_port_four(rt: &impl Abort, alloc: Global, entries: &mut Vec<Entry>) {
+    let Things { id, .. } = named_things(rt);
+    let four = port(rt, 4);
+    make(rt, entries, four);
+    accept(rt, entries, four);
+    delete(rt, alloc, entries, four, &[id, id]);
+    add(rt, entries, Act::Gone { id, port: four });
+}
+
+/// Port 6 is deleted, with none discarded. A message for it was stale, and one for port 1. Port 5 was never made.
+fn add_port_six(rt: &impl Abort, alloc: Global, entries: &mut Vec<Entry>) {
+    let six = port(rt, 6);
+    delete(rt, alloc, entries, six, &[]);
+    stale(rt, entries, six);
+    stale(rt, entries, port(rt, 1));
+    accept(rt, entries, port(rt, 5));
+}
+
+fn assert_six_ports(rt: &impl Abort, alloc: Global) {
+    let mut entries = Vec::new(alloc);
+    add_port_one(rt, alloc, &mut entries);
+    add_port_two(rt, &mut entries);
+    add_port_three(rt, &mut entries);
+    add_port_four(rt, alloc, &mut entries);
+    add_port_six(rt, alloc, &mut entries);
+    let summary = with_summary(rt, alloc, "> ", &entries);
+    let text =
+        "> summary\nposted 1\naccepted 7\ntaken 3\nqueued 1\nmoving 2\ndiscarded 2\nrefused 2\nstale 2\ndeparts 2\nend\n";
+    assert_text(rt, summary.as_str(), text);
 }
 
 #[test]
-fn deletes_without_ids_have_their_line(rt: HostRuntime) -> Result<(), Fail> {
-    let discarded = Ids::of(rt.alloc(), &[])?;
-    let delete = Act::Delete {
-        port: port(6)?,
-        discarded,
-    };
-    let entries = entries_of(rt.alloc(), Vec::from_array(rt.alloc(), [delete])?)?;
-    let mut out = Vec::new(rt.alloc());
-    summary_text(&entries, &mut out)?;
-    assert_eq!(rt;
-        out.as_slice(),
-        b"summary\nposted 0\naccepted 0\ntaken 0\nqueued 0\nmoving 0\ndiscarded 0\nrefused 0\nstale 0\ndeparts 0\nend\n".as_slice()
-    );
-    Ok(())
+fn summaries_count_where_ports_are(rt: HostRuntime) {
+    assert_six_ports(&rt, rt.alloc());
+}
+
+fn assert_deleted_alone(rt: &impl Abort, alloc: Global) {
+    let mut entries = Vec::new(alloc);
+    delete(rt, alloc, &mut entries, port(rt, 6), &[]);
+    let summary = with_summary(rt, alloc, "", &entries);
+    let text =
+        "summary\nposted 0\naccepted 0\ntaken 0\nqueued 0\nmoving 0\ndiscarded 0\nrefused 0\nstale 0\ndeparts 0\nend\n";
+    assert_text(rt, summary.as_str(), text);
 }
 
 #[test]
-fn faults_have_one_line(rt: HostRuntime) -> Result<(), Fail> {
-    let rows: [(Status, u8, &[u8]); 7] = [
-        (Status::Done, 0, b"> "),
-        (
-            Status::Usage,
-            1,
-            b"> chorus: usage: chorus replay, run, or load FIRST COMMANDS\n",
-        ),
-        (
-            Status::Scenario {
-                line: 11,
-                reason: 9,
-            },
-            2,
-            b"> chorus: scenario line 11 reason 9\n",
-        ),
-        (Status::ReadFault, 3, b"> chorus: read fault\n"),
-        (Status::WriteFault, 4, b"> chorus: write fault\n"),
-        (Status::Memory, 5, b"> chorus: out of memory\n"),
-        (
-            Status::Worn {
-                clock: 4_611_686_018_427_387_904,
-            },
-            6,
-            b"> chorus: worn at clock 4611686018427387904\n",
-        ),
-    ];
-    for (status, number, line) in rows {
-        assert_eq!(rt; status.number(), number);
-        let mut out = Vec::from_slice(rt.alloc(), b"> ")?;
-        fault_text(status, &mut out)?;
-        assert_eq!(rt; out.as_slice(), line);
-    }
-    Ok(())
+fn deletes_without_ids_have_their_line(rt: HostRuntime) {
+    assert_deleted_alone(&rt, rt.alloc());
+}
+
+/// The line of the status, behind what was there.
+fn line_of(rt: &impl Abort, alloc: Global, status: Status) -> String {
+    let mut out = Vec::from_slice(alloc, b"> ").expect(rt, "memory");
+    fault_text(status, &mut out).expect(rt, "memory");
+    text_of(rt, out)
+}
+
+/// Asserts the number of the status, and its line behind what was there.
+fn assert_fault(rt: &impl Abort, alloc: Global, status: Status, number: u8, line: &str) {
+    assert_eq!(rt; status.number(), number);
+    let written = line_of(rt, alloc, status);
+    assert_text(rt, written.as_str(), line);
+}
+
+fn assert_faults_with_numbers(rt: &impl Abort, alloc: Global) {
+    let scenario = Status::Scenario {
+        line: 11,
+        reason: 9,
+    };
+    let line = "> chorus: scenario line 11 reason 9\n";
+    assert_fault(rt, alloc, scenario, 2, line);
+    let worn = Status::Worn {
+        clock: 4_611_686_018_427_387_904,
+    };
+    let line = "> chorus: worn at clock 4611686018427387904\n";
+    assert_fault(rt, alloc, worn, 6, line);
+}
+
+fn assert_faults(rt: &impl Abort, alloc: Global) {
+    assert_fault(rt, alloc, Status::Done, 0, "> ");
+    let usage = "> chorus: usage: chorus replay, run, or load FIRST COMMANDS\n";
+    assert_fault(rt, alloc, Status::Usage, 1, usage);
+    assert_fault(rt, alloc, Status::ReadFault, 3, "> chorus: read fault\n");
+    assert_fault(rt, alloc, Status::WriteFault, 4, "> chorus: write fault\n");
+    assert_fault(rt, alloc, Status::Memory, 5, "> chorus: out of memory\n");
+    assert_faults_with_numbers(rt, alloc);
+}
+
+#[test]
+fn faults_have_one_line(rt: HostRuntime) {
+    assert_faults(&rt, rt.alloc());
 }

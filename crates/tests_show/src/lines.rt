@@ -1,34 +1,35 @@
-// The line of each act.
+//! The line of each act.
 
 use chorus_entry::{Act, Answer, Body, Dest, Entry, Ids, Members, Message, MsgId, Tag};
 use chorus_show::entry_line;
 use chorus_ui::{Kind, Ui};
 use std::alloc::Global;
 use std::process::Abort;
-use std::test::Fail;
 
 /// What the tests speak of: the names `1.p.1`, `2.a.8` and `4.g.2`, and the message `3:7:1`.
 #[derive(Clone, Copy)]
 pub(crate) struct Things {
-    pub alloc: Global,
-    pub port: Ui,
-    pub actor: Ui,
-    pub group: Ui,
-    pub id: MsgId,
+    pub(crate) port: Ui,
+    pub(crate) actor: Ui,
+    pub(crate) group: Ui,
+    pub(crate) id: MsgId,
 }
 
-pub(crate) fn named_things(alloc: Global) -> Result<Things, Fail> {
-    Ok(Things {
-        alloc,
-        port: Ui::new(1, Kind::Port, 1).ok_or("a port")?,
-        actor: Ui::new(2, Kind::Actor, 8).ok_or("an actor")?,
-        group: Ui::new(4, Kind::Group, 2).ok_or("a group")?,
+pub(crate) fn name(rt: &impl Abort, site: u16, kind: Kind, number: u64) -> Ui {
+    Ui::new(site, kind, number).expect(rt, "a name")
+}
+
+pub(crate) fn named_things(rt: &impl Abort) -> Things {
+    Things {
+        port: name(rt, 1, Kind::Port, 1),
+        actor: name(rt, 2, Kind::Actor, 8),
+        group: name(rt, 4, Kind::Group, 2),
         id: MsgId {
             seat: 3,
             number: 7,
             copy: 1,
         },
-    })
+    }
 }
 
 pub(crate) fn entry(clock: u64, act: Act) -> Entry {
@@ -40,214 +41,271 @@ pub(crate) fn entry(clock: u64, act: Act) -> Entry {
     }
 }
 
-/// The line of each act, behind what was there, is the entry's numbers and this text.
-fn assert_lines(rt: &impl Abort, alloc: Global, rows: Vec<(Act, &str)>) -> Result<(), Fail> {
-    for (act, text) in rows {
-        let mut out = Vec::from_slice(alloc, b"> ")?;
-        entry_line(&entry(5, act), &mut out)?;
-        let line = format!(in alloc; "> 5 2 30 {text}\n")?;
-        assert_eq!(rt; out.as_slice(), line.as_bytes());
-    }
-    Ok(())
+pub(crate) fn ids_of(rt: &impl Abort, alloc: Global, ids: &[MsgId]) -> Ids {
+    Ids::of(alloc, ids).expect(rt, "memory")
+}
+
+pub(crate) fn body_of(rt: &impl Abort, alloc: Global, bytes: &[u8]) -> Body {
+    assert!(rt; bytes.len() <= 4096);
+    Body::new(alloc, bytes).expect(rt, "memory")
+}
+
+/// The text that these bytes are.
+pub(crate) fn text_of(rt: &impl Abort, bytes: Vec<u8>) -> String {
+    String::from_utf8(bytes).ok().expect(rt, "a text")
+}
+
+pub(crate) fn assert_text(rt: &impl Abort, written: &str, text: &str) {
+    assert_eq!(rt; written, text);
+}
+
+/// The line of the act, behind what was there.
+fn line_of(rt: &impl Abort, alloc: Global, act: Act) -> String {
+    let mut out = Vec::from_slice(alloc, b"> ").expect(rt, "memory");
+    entry_line(&entry(5, act), &mut out).expect(rt, "memory");
+    text_of(rt, out)
+}
+
+/// Asserts that the line of the act, behind what was there, is the entry's numbers and this text.
+fn assert_line(rt: &impl Abort, alloc: Global, act: Act, text: &str) {
+    let written = line_of(rt, alloc, act);
+    let line = format!(in alloc; "> 5 2 30 {text}\n").expect(rt, "memory");
+    assert_text(rt, written.as_str(), line.as_str());
+}
+
+fn assert_ports(rt: &impl Abort, alloc: Global) {
+    let Things { port, actor, .. } = named_things(rt);
+    let make = Act::Make {
+        port,
+        actor,
+        capacity: 64,
+    };
+    let depart = Act::Depart {
+        port,
+        to: 9,
+        actor,
+        hop: 6,
+    };
+    assert_line(rt, alloc, make, "make 1.p.1 2.a.8 64");
+    assert_line(rt, alloc, Act::MakeFull { actor }, "make-full 2.a.8");
+    assert_line(rt, alloc, Act::NoActor { actor }, "no-actor 2.a.8");
+    assert_line(rt, alloc, Act::NoSite { site: 17 }, "no-site 17");
+    assert_line(rt, alloc, Act::Empty { port }, "empty 1.p.1");
+    assert_line(rt, alloc, Act::NotHere { port }, "not-here 1.p.1");
+    let rehome = Act::Rehome { port, actor };
+    assert_line(rt, alloc, rehome, "rehome 1.p.1 2.a.8");
+    assert_line(rt, alloc, depart, "depart 1.p.1 9 2.a.8 6");
+    assert_line(rt, alloc, Act::Arrive { port, hop: 6 }, "arrive 1.p.1 6");
 }
 
 #[test]
-fn lines_of_ports(rt: HostRuntime) -> Result<(), Fail> {
-    let things = named_things(rt.alloc())?;
-    let (alloc, port, actor, to, hop) = (things.alloc, things.port, things.actor, 9, 6);
-    let capacity = 64;
-    let rows = [
-        (
-            Act::Make {
-                port,
-                actor,
-                capacity,
-            },
-            "make 1.p.1 2.a.8 64",
-        ),
-        (Act::MakeFull { actor }, "make-full 2.a.8"),
-        (Act::NoActor { actor }, "no-actor 2.a.8"),
-        (Act::NoSite { site: 17 }, "no-site 17"),
-        (Act::Empty { port }, "empty 1.p.1"),
-        (Act::NotHere { port }, "not-here 1.p.1"),
-        (Act::Rehome { port, actor }, "rehome 1.p.1 2.a.8"),
-        (
-            Act::Depart {
-                port,
-                to,
-                actor,
-                hop,
-            },
-            "depart 1.p.1 9 2.a.8 6",
-        ),
-        (Act::Arrive { port, hop }, "arrive 1.p.1 6"),
-    ];
-    assert_lines(&rt, alloc, Vec::from_array(alloc, rows)?)
+fn lines_of_ports(rt: HostRuntime) {
+    assert_ports(&rt, rt.alloc());
+}
+
+/// The lines of what becomes of a message at its port.
+fn assert_messages(rt: &impl Abort, alloc: Global) {
+    let Things { port, id, .. } = named_things(rt);
+    let accept = Act::Accept { id, port, pos: 11 };
+    assert_line(rt, alloc, accept, "accept 3:7:1 1.p.1 11");
+    let full = Act::Full { id, port, len: 64 };
+    assert_line(rt, alloc, full, "full 3:7:1 1.p.1 64");
+    let already = Act::Already { id, port };
+    assert_line(rt, alloc, already, "already 3:7:1 1.p.1");
+    let clients_full = Act::ClientsFull { id, port };
+    assert_line(rt, alloc, clients_full, "clients-full 3:7:1 1.p.1");
+    let take = Act::Take { port, pos: 0, id };
+    assert_line(rt, alloc, take, "take 1.p.1 0 3:7:1");
+    assert_line(rt, alloc, Act::Gone { id, port }, "gone 3:7:1 1.p.1");
+    assert_line(rt, alloc, Act::NoPort { id, port }, "no-port 3:7:1 1.p.1");
+}
+
+/// The lines of a message whose port is somewhere else.
+fn assert_messages_elsewhere(rt: &impl Abort, alloc: Global) {
+    let Things { port, id, .. } = named_things(rt);
+    let (to, hop) = (9, 6);
+    let stale = Act::Stale {
+        id,
+        port,
+        tried: 4,
+        to,
+        hop,
+    };
+    assert_line(rt, alloc, stale, "stale 3:7:1 1.p.1 4 9 6");
+    let early = Act::Early { id, port, hop };
+    assert_line(rt, alloc, early, "early 3:7:1 1.p.1 6");
+    let elsewhere = Act::Elsewhere { id, port, to, hop };
+    assert_line(rt, alloc, elsewhere, "elsewhere 3:7:1 1.p.1 9 6");
+    let tried = Act::Try { id, port, to, hop };
+    assert_line(rt, alloc, tried, "try 3:7:1 1.p.1 9 6");
 }
 
 #[test]
-fn lines_of_messages(rt: HostRuntime) -> Result<(), Fail> {
-    let things = named_things(rt.alloc())?;
-    let (alloc, port, id, to, hop) = (things.alloc, things.port, things.id, 9, 6);
-    let rows = [
-        (Act::Accept { id, port, pos: 11 }, "accept 3:7:1 1.p.1 11"),
-        (Act::Full { id, port, len: 64 }, "full 3:7:1 1.p.1 64"),
-        (Act::Already { id, port }, "already 3:7:1 1.p.1"),
-        (Act::ClientsFull { id, port }, "clients-full 3:7:1 1.p.1"),
-        (
-            Act::Stale {
-                id,
-                port,
-                tried: 4,
-                to,
-                hop,
-            },
-            "stale 3:7:1 1.p.1 4 9 6",
-        ),
-        (Act::Early { id, port, hop }, "early 3:7:1 1.p.1 6"),
-        (Act::NoPort { id, port }, "no-port 3:7:1 1.p.1"),
-        (
-            Act::Elsewhere { id, port, to, hop },
-            "elsewhere 3:7:1 1.p.1 9 6",
-        ),
-        (Act::Try { id, port, to, hop }, "try 3:7:1 1.p.1 9 6"),
-        (Act::Take { port, pos: 0, id }, "take 1.p.1 0 3:7:1"),
-        (Act::Gone { id, port }, "gone 3:7:1 1.p.1"),
-    ];
-    assert_lines(&rt, alloc, Vec::from_array(alloc, rows)?)
+fn lines_of_messages(rt: HostRuntime) {
+    assert_messages(&rt, rt.alloc());
+    assert_messages_elsewhere(&rt, rt.alloc());
+}
+
+fn assert_groups(rt: &impl Abort, alloc: Global) {
+    let Things {
+        port,
+        group,
+        id,
+        ..
+    } = named_things(rt);
+    let no_member = Act::NoMember { id, group };
+    assert_line(rt, alloc, no_member, "no-member 3:7:1 4.g.2");
+    assert_line(rt, alloc, Act::GroupMake { group }, "group 4.g.2");
+    assert_line(rt, alloc, Act::GroupsFull { site: 4 }, "groups-full 4");
+    assert_line(rt, alloc, Act::Join { group, port }, "join 4.g.2 1.p.1");
+    assert_line(rt, alloc, Act::Leave { group, port }, "leave 4.g.2 1.p.1");
+    assert_line(rt, alloc, Act::NoGroup { group }, "no-group 4.g.2");
+    assert_line(rt, alloc, Act::There { group, port }, "there 4.g.2 1.p.1");
+    let not_there = Act::NotThere { group, port };
+    assert_line(rt, alloc, not_there, "not-there 4.g.2 1.p.1");
+    assert_line(rt, alloc, Act::MembersFull { group }, "members-full 4.g.2");
 }
 
 #[test]
-fn lines_of_groups(rt: HostRuntime) -> Result<(), Fail> {
-    let things = named_things(rt.alloc())?;
-    let (alloc, port, group, id) = (things.alloc, things.port, things.group, things.id);
-    let rows = [
-        (Act::NoMember { id, group }, "no-member 3:7:1 4.g.2"),
-        (Act::GroupMake { group }, "group 4.g.2"),
-        (Act::GroupsFull { site: 4 }, "groups-full 4"),
-        (Act::Join { group, port }, "join 4.g.2 1.p.1"),
-        (Act::Leave { group, port }, "leave 4.g.2 1.p.1"),
-        (Act::NoGroup { group }, "no-group 4.g.2"),
-        (Act::There { group, port }, "there 4.g.2 1.p.1"),
-        (Act::NotThere { group, port }, "not-there 4.g.2 1.p.1"),
-        (Act::MembersFull { group }, "members-full 4.g.2"),
-    ];
-    assert_lines(&rt, alloc, Vec::from_array(alloc, rows)?)
+fn lines_of_groups(rt: HostRuntime) {
+    assert_groups(&rt, rt.alloc());
+}
+
+fn assert_calls(rt: &impl Abort, alloc: Global) {
+    let number = 12;
+    assert_line(rt, alloc, Act::Done { number }, "done 12");
+    assert_line(rt, alloc, Act::Late { number }, "late 12");
+    assert_line(rt, alloc, Act::Outstanding { number }, "outstanding 12");
+    assert_line(rt, alloc, Act::NoCall, "no-call");
+    assert_line(rt, alloc, Act::NoRequest, "no-request");
+    assert_line(rt, alloc, Act::Cancel { number }, "cancel 12");
+    let heard = Act::Heard {
+        id: named_things(rt).id,
+        answer: Answer::Accepted { pos: 0 },
+    };
+    assert_line(rt, alloc, heard, "heard 3:7:1 accepted 0");
 }
 
 #[test]
-fn lines_of_calls(rt: HostRuntime) -> Result<(), Fail> {
-    let things = named_things(rt.alloc())?;
-    let (alloc, id, number) = (things.alloc, things.id, 12);
-    let answer = Answer::Accepted { pos: 0 };
-    let rows = [
-        (Act::Done { number }, "done 12"),
-        (Act::Late { number }, "late 12"),
-        (Act::Outstanding { number }, "outstanding 12"),
-        (Act::NoCall, "no-call"),
-        (Act::NoRequest, "no-request"),
-        (Act::Cancel { number }, "cancel 12"),
-        (Act::Heard { id, answer }, "heard 3:7:1 accepted 0"),
-    ];
-    assert_lines(&rt, alloc, Vec::from_array(alloc, rows)?)
+fn lines_of_calls(rt: HostRuntime) {
+    assert_calls(&rt, rt.alloc());
+}
+
+/// Asserts the line of an answer that is told.
+fn assert_told(rt: &impl Abort, alloc: Global, answer: Answer, text: &str) {
+    let id = named_things(rt).id;
+    assert_line(rt, alloc, Act::Told { id, answer }, text);
+}
+
+fn assert_answers(rt: &impl Abort, alloc: Global) {
+    let (to, hop) = (9, 6);
+    let accepted = Answer::Accepted { pos: 8 };
+    assert_told(rt, alloc, accepted, "told 3:7:1 accepted 8");
+    assert_told(rt, alloc, Answer::Full { len: 1 }, "told 3:7:1 full 1");
+    let stale = Answer::Stale { to, hop };
+    assert_told(rt, alloc, stale, "told 3:7:1 stale 9 6");
+    assert_told(rt, alloc, Answer::Early { hop }, "told 3:7:1 early 6");
+    assert_told(rt, alloc, Answer::NoPort, "told 3:7:1 no-port");
+    assert_told(rt, alloc, Answer::Already, "told 3:7:1 already");
+    assert_told(rt, alloc, Answer::ClientsFull, "told 3:7:1 clients-full");
+    let elsewhere = Answer::Elsewhere { to, hop };
+    assert_told(rt, alloc, elsewhere, "told 3:7:1 elsewhere 9 6");
+    assert_told(rt, alloc, Answer::NoMember, "told 3:7:1 no-member");
+    let chosen = Answer::Chosen { count: 32 };
+    assert_told(rt, alloc, chosen, "told 3:7:1 chosen 32");
+    assert_told(rt, alloc, Answer::Gone, "told 3:7:1 gone");
 }
 
 #[test]
-fn lines_of_answers(rt: HostRuntime) -> Result<(), Fail> {
-    let things = named_things(rt.alloc())?;
-    let (alloc, id, to, hop) = (things.alloc, things.id, 9, 6);
-    let answers: [(Answer, &str); 11] = [
-        (Answer::Accepted { pos: 8 }, "told 3:7:1 accepted 8"),
-        (Answer::Full { len: 1 }, "told 3:7:1 full 1"),
-        (Answer::Stale { to, hop }, "told 3:7:1 stale 9 6"),
-        (Answer::Early { hop }, "told 3:7:1 early 6"),
-        (Answer::NoPort, "told 3:7:1 no-port"),
-        (Answer::Already, "told 3:7:1 already"),
-        (Answer::ClientsFull, "told 3:7:1 clients-full"),
-        (Answer::Elsewhere { to, hop }, "told 3:7:1 elsewhere 9 6"),
-        (Answer::NoMember, "told 3:7:1 no-member"),
-        (Answer::Chosen { count: 32 }, "told 3:7:1 chosen 32"),
-        (Answer::Gone, "told 3:7:1 gone"),
-    ];
-    let mut rows = Vec::new(alloc);
-    for (answer, text) in answers {
-        rows.push((Act::Told { id, answer }, text))?;
-    }
-    assert_lines(&rt, alloc, rows)
+fn lines_of_answers(rt: HostRuntime) {
+    assert_answers(&rt, rt.alloc());
 }
 
-#[test]
-fn lines_of_lists(rt: HostRuntime) -> Result<(), Fail> {
-    let things = named_things(rt.alloc())?;
-    let (alloc, port, group, id) = (things.alloc, things.port, things.group, things.id);
+fn members_of(rt: &impl Abort, alloc: Global, uis: &[Ui]) -> Members {
+    assert!(rt; uis.len() <= 32);
+    Members::of(alloc, uis).expect(rt, "memory")
+}
+
+fn assert_chosen(rt: &impl Abort, alloc: Global) {
+    let things = named_things(rt);
+    let choose = Act::Choose {
+        id: things.id,
+        group: things.group,
+        members: members_of(rt, alloc, &[things.port, things.actor]),
+    };
+    assert_line(rt, alloc, choose, "choose 3:7:1 4.g.2 1.p.1 2.a.8");
+}
+
+/// Asserts the line of the port's deletion, with these messages.
+fn assert_deleted(rt: &impl Abort, alloc: Global, ids: &[MsgId], text: &str) {
+    let delete = Act::Delete {
+        port: named_things(rt).port,
+        discarded: ids_of(rt, alloc, ids),
+    };
+    assert_line(rt, alloc, delete, text);
+}
+
+fn assert_lists(rt: &impl Abort, alloc: Global) {
+    assert_chosen(rt, alloc);
+    let id = named_things(rt).id;
     let other = MsgId {
         seat: 4_294_967_295,
         number: 10,
         copy: 32,
     };
-    let members = Members::of(alloc, &[port, things.actor])?;
-    let discarded = Ids::of(alloc, &[id, other])?;
-    let nothing = Ids::of(alloc, &[])?;
-    let rows = [
-        (
-            Act::Choose { id, group, members },
-            "choose 3:7:1 4.g.2 1.p.1 2.a.8",
-        ),
-        (
-            Act::Delete { port, discarded },
-            "delete 1.p.1 3:7:1 4294967295:10:32",
-        ),
-        (
-            Act::Delete {
-                port,
-                discarded: nothing,
-            },
-            "delete 1.p.1",
-        ),
-    ];
-    assert_lines(&rt, alloc, Vec::from_array(alloc, rows)?)
-}
-
-fn post(alloc: Global, id: MsgId, dest: Dest, tag: Tag, bytes: &[u8]) -> Result<Act, Fail> {
-    if bytes.len() > 4096 {
-        return Err("a long body".into());
-    }
-    let body = Body::new(alloc, bytes)?;
-    let message = Message { id, tag, body };
-    Ok(Act::Post { message, dest })
+    let text = "delete 1.p.1 3:7:1 4294967295:10:32";
+    assert_deleted(rt, alloc, &[id, other], text);
+    assert_deleted(rt, alloc, &[], "delete 1.p.1");
 }
 
 #[test]
-fn percent_is_escaped(rt: HostRuntime) -> Result<(), Fail> {
-    let things = named_things(rt.alloc())?;
-    let (alloc, id) = (things.alloc, things.id);
-    let act = post(alloc, id, Dest::Port(things.port), Tag::Plain, b"100%")?;
-    let rows = [(act, "post 3:7:1 port 1.p.1 plain =100%25")];
-    assert_lines(&rt, alloc, Vec::from_array(alloc, rows)?)
+fn lines_of_lists(rt: HostRuntime) {
+    assert_lists(&rt, rt.alloc());
 }
 
-#[test]
-fn lines_of_posts(rt: HostRuntime) -> Result<(), Fail> {
-    let things = named_things(rt.alloc())?;
-    let (alloc, group, id, number) = (things.alloc, things.group, things.id, 2);
-    let request = Tag::Request {
-        number,
-        back: things.port,
+/// Asserts the line of a post to the destination, with this tag and body.
+fn assert_post(rt: &impl Abort, alloc: Global, dest: &Dest, tag: &Tag, bytes: &[u8], text: &str) {
+    let message = Message {
+        id: named_things(rt).id,
+        tag: *tag,
+        body: body_of(rt, alloc, bytes),
     };
-    let reply = Tag::Reply { client: 5, number };
-    let all = post(alloc, id, Dest::All(group), request, b" ~=")?;
-    let one = post(alloc, id, Dest::One(group), reply, b"")?;
-    let at = post(
-        alloc,
-        id,
-        Dest::OneAt(group, 16),
-        Tag::Plain,
-        &[0, 10, 31, 127, 171, 255],
-    )?;
-    let rows = [
-        (all, "post 3:7:1 all 4.g.2 request 2 1.p.1 = ~="),
-        (one, "post 3:7:1 one 4.g.2 reply 5 2 ="),
-        (at, "post 3:7:1 at 4.g.2 16 plain =%00%0a%1f%7f%ab%ff"),
-    ];
-    assert_lines(&rt, alloc, Vec::from_array(alloc, rows)?)
+    let dest = *dest;
+    assert_line(rt, alloc, Act::Post { message, dest }, text);
+}
+
+fn assert_percent(rt: &impl Abort, alloc: Global) {
+    let port = Dest::Port(named_things(rt).port);
+    let text = "post 3:7:1 port 1.p.1 plain =100%25";
+    assert_post(rt, alloc, &port, &Tag::Plain, b"100%", text);
+}
+
+#[test]
+fn percent_is_escaped(rt: HostRuntime) {
+    assert_percent(&rt, rt.alloc());
+}
+
+fn assert_posts(rt: &impl Abort, alloc: Global) {
+    let Things { port, group, .. } = named_things(rt);
+    let request = Tag::Request {
+        number: 2,
+        back: port,
+    };
+    let text = "post 3:7:1 all 4.g.2 request 2 1.p.1 = ~=";
+    assert_post(rt, alloc, &Dest::All(group), &request, b" ~=", text);
+    let reply = Tag::Reply {
+        client: 5,
+        number: 2,
+    };
+    let text = "post 3:7:1 one 4.g.2 reply 5 2 =";
+    assert_post(rt, alloc, &Dest::One(group), &reply, b"", text);
+    let at = Dest::OneAt(group, 16);
+    let bytes = [0, 10, 31, 127, 171, 255];
+    let text = "post 3:7:1 at 4.g.2 16 plain =%00%0a%1f%7f%ab%ff";
+    assert_post(rt, alloc, &at, &Tag::Plain, &bytes, text);
+}
+
+#[test]
+fn lines_of_posts(rt: HostRuntime) {
+    assert_posts(&rt, rt.alloc());
 }

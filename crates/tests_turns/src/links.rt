@@ -1,52 +1,107 @@
+//! The tests of links. What is not as it is to be ends the test.
+
 ghost use Rattle.std.specs.Prelude.{◌≡◌};
 ghost use Rattle.chorus_link.specs.Ends.{send_link, recv_link};
 
-use chorus_link::{RecvEnd, SendEnd, link, settle};
+use chorus_link::{RecvEnd, Rest, SendEnd, link, settle};
+use std::alloc::Global;
+use std::process::Abort;
 use std::sync::Wait;
-use std::test::*;
 use std::thread;
 use std::thread::join_mut;
 
+/// Puts a packet. Gives it where it comes back.
+fn put<R: Wait, P: Drop>(rt: &R, send: &mut SendEnd<P>, packet: P) -> Option<P>
+    ensures { send_link send.new ≡ send_link send.old }
+{
+    send.push(rt, packet).err()
+}
+
+/// Gets the next packet.
+fn get<R: Wait, P: Drop>(rt: &R, recv: &mut RecvEnd<P>) -> Option<P>
+    ensures { recv_link recv.new ≡ recv_link recv.old }
+{
+    recv.pop(rt)
+}
+
+fn assert_two_fit<R: Abort + Wait>(rt: &R, send: &mut SendEnd<char>) {
+    assert!(rt; put(rt, send, 'a').is_none());
+    assert!(rt; put(rt, send, 'b').is_none());
+    assert!(rt; put(rt, send, 'c') == Some('c'));
+    assert!(rt; send.fulls() == 1);
+}
+
+fn assert_two_come<R: Abort + Wait>(rt: &R, recv: &mut RecvEnd<char>) {
+    assert!(rt; get(rt, recv) == Some('a'));
+    assert!(rt; get(rt, recv) == Some('b'));
+    assert!(rt; get(rt, recv).is_none());
+    assert!(rt; recv.empties() == 1);
+}
+
+fn assert_first_in_first_out<R: Abort + Wait>(rt: &R, alloc: Global) {
+    let (mut send, mut recv) = link(alloc, 2).expect(rt, "memory");
+    assert_two_fit(rt, &mut send);
+    assert_two_come(rt, &mut recv);
+}
+
 #[test]
-fn link_is_first_in_first_out(rt: HostRuntime) -> Result<(), Fail> {
-    let (mut send, mut recv) = link(rt.alloc(), 2)?;
-    assert_eq!(rt; send.push(&rt, 'a'), Ok(()));
-    assert_eq!(rt; send.push(&rt, 'b'), Ok(()));
-    assert_eq!(rt; send.push(&rt, 'c'), Err('c'));
-    assert_eq!(rt; send.fulls(), 1);
-    assert_eq!(rt; recv.pop(&rt), Some('a'));
-    assert_eq!(rt; recv.pop(&rt), Some('b'));
-    assert_eq!(rt; recv.pop(&rt), None);
-    assert_eq!(rt; recv.empties(), 1);
-    Ok(())
+fn link_is_first_in_first_out(rt: HostRuntime) {
+    assert_first_in_first_out(&rt, rt.alloc());
+}
+
+fn assert_round<R: Abort + Wait>(
+    rt: &R,
+    send: &mut SendEnd<u64>,
+    recv: &mut RecvEnd<u64>,
+    round: u64,
+) {
+    assert!(rt; get(rt, recv).is_none());
+    assert!(rt; put(rt, send, round).is_none());
+    assert!(rt; put(rt, send, 9) == Some(9));
+    assert!(rt; get(rt, recv) == Some(round));
+    assert!(rt; send.fulls() == round && recv.empties() == round);
+}
+
+fn assert_rounds<R: Abort + Wait>(rt: &R, alloc: Global) {
+    let (mut send, mut recv) = link(alloc, 1).expect(rt, "memory");
+    for round in 1..4u64 {
+        assert_round(rt, &mut send, &mut recv, round);
+    }
 }
 
 // A link that was filled and emptied takes a packet again, and one that holds a packet gives it.
 #[test]
-fn a_refusal_is_of_its_moment(rt: HostRuntime) -> Result<(), Fail> {
-    let (mut send, mut recv) = link(rt.alloc(), 1)?;
-    for round in 1..4u64 {
-        assert_eq!(rt; recv.pop(&rt), None);
-        assert_eq!(rt; send.push(&rt, round), Ok(()));
-        assert_eq!(rt; send.push(&rt, 9), Err(9));
-        assert_eq!(rt; recv.pop(&rt), Some(round));
-        assert_eq!(rt; (send.fulls(), recv.empties()), (round, round));
+fn a_refusal_is_of_its_moment(rt: HostRuntime) {
+    assert_rounds(&rt, rt.alloc());
+}
+
+fn assert_four_fit<R: Abort + Wait>(rt: &R, send: &mut SendEnd<u8>)
+    ensures { send_link send.new ≡ send_link send.old }
+{
+    assert!(rt; put(rt, send, 1).is_none());
+    assert!(rt; put(rt, send, 2).is_none());
+    assert!(rt; put(rt, send, 3).is_none());
+    assert!(rt; put(rt, send, 4).is_none());
+}
+
+fn assert_three_are_left<R: Abort + Wait>(rt: &R, mut rest: Rest<u8>) {
+    for packet in [Some(2), Some(3), Some(4), None, None] {
+        assert!(rt; rest.next(rt) == packet);
     }
-    Ok(())
+}
+
+fn assert_rest<R: Abort + Wait>(rt: &R, alloc: Global) {
+    let Ok((mut send, mut recv)) = link(alloc, 4) else {
+        panic!(rt; "memory")
+    };
+    assert_four_fit(rt, &mut send);
+    assert!(rt; get(rt, &mut recv) == Some(1));
+    assert_three_are_left(rt, settle(send, recv));
 }
 
 #[test]
-fn the_rest_is_what_was_put_and_not_got(rt: HostRuntime) -> Result<(), Fail> {
-    let (mut send, mut recv) = link(rt.alloc(), 4)?;
-    for packet in 1..5u8 {
-        assert_eq!(rt; send.push(&rt, packet), Ok(()));
-    }
-    assert_eq!(rt; recv.pop(&rt), Some(1));
-    let mut rest = settle(send, recv);
-    for packet in [Some(2), Some(3), Some(4), None, None] {
-        assert_eq!(rt; rest.next(&rt), packet);
-    }
-    Ok(())
+fn the_rest_is_what_was_put_and_not_got(rt: HostRuntime) {
+    assert_rest(&rt, rt.alloc());
 }
 
 const MANY: u32 = 100_000;
@@ -85,15 +140,20 @@ fn got_in_order<R: Wait>(rt: &R, recv: &mut RecvEnd<u32>) -> u32
     number
 }
 
+fn assert_nothing_is_left<R: Abort + Wait>(rt: &R, mut rest: Rest<u32>) {
+    assert!(rt; rest.next(rt).is_none());
+}
+
 #[test]
-fn two_threads_hand_over_all_in_order(rt: HostRuntime) -> Result<(), Fail> {
-    let (mut send, mut recv) = link(rt.alloc(), 32)?;
+fn two_threads_hand_over_all_in_order(rt: HostRuntime) {
+    let Ok((mut send, mut recv)) = link(rt.alloc(), 32) else {
+        panic!(rt; "memory")
+    };
     let ((), number) = join_mut(
         &rt,
         &mut || put_all(&rt, &mut send),
         &mut || got_in_order(&rt, &mut recv),
     );
     assert_eq!(rt; number, MANY);
-    assert_eq!(rt; settle(send, recv).next(&rt), None);
-    Ok(())
+    assert_nothing_is_left(&rt, settle(send, recv));
 }

@@ -1,17 +1,19 @@
-ghost use Rattle.std.specs.Prelude.{◌≡◌, ◌≤◌, true, []};
+//! The tests of turns. What is not as it is to be ends the test.
+
+ghost use Rattle.std.specs.Prelude.{◌≡◌, ◌≤◌, []};
 ghost use Rattle.std.specs.List.{All};
 ghost use Rattle.std.specs.Coded.{Coded-set};
 ghost use Rattle.atomic_table.specs.Seated.{table_id_coded};
 ghost use Rattle.chorus_turn.specs.Journals.{GrowsBy};
-ghost use Rattle.chorus_turn.specs.Passes.{known, places, table_of, IsPassOf, IsPlaceOf};
+ghost use Rattle.chorus_turn.specs.Passes.{places, table_of, IsPassOf, IsPlaceOf};
 
 use chorus_entry::{Act, Entry};
 use chorus_turn::{Busy, Job, Kept, NoSeat, Pass, PassesOut, Turns};
 use chorus_ui::SEATS_LIMIT;
 use std::alloc::Global;
 use std::cell::Cell;
-use std::test::Fail;
-use std::thread::join;
+use std::process::Abort;
+use std::thread::{Threads, join};
 
 // A journal alone. The cell takes no part: it keeps the state from being shared, though it may be sent.
 #[derive(Drop)]
@@ -104,73 +106,154 @@ impl<'a> Job<Log> for Inside<'a> {
     }
 }
 
-#[test]
-fn turns_refuse_the_second_caller(rt: HostRuntime) -> Result<(), Fail> {
-    let alloc = rt.alloc();
-    let states = vec![in alloc; Log::new(alloc), Log::new(alloc)]?;
-    let Ok((turns, mut first)) = Turns::start(alloc, states) else {
+/// One place, and the keeper's pass.
+fn start_one(rt: &impl Abort, alloc: Global) -> (Turns<Log>, Pass<u64>)
+    ensures { IsPassOf result.0 result.1 }
+{
+    let Ok(states) = vec![in alloc; Log::new(alloc)] else {
         panic!(rt; "no memory")
     };
-    let Ok(second) = turns.admit(&mut first) else {
+    let Ok(started) = Turns::start(alloc, states) else {
+        panic!(rt; "no memory")
+    };
+    started
+}
+
+/// Two places, and the keeper's pass.
+fn start_two(rt: &impl Abort, alloc: Global) -> (Turns<Log>, Pass<u64>)
+    ensures { IsPassOf result.0 result.1 × (2 ≤ places result.0) }
+{
+    let Ok(states) = vec![in alloc; Log::new(alloc), Log::new(alloc)] else {
+        panic!(rt; "no memory")
+    };
+    let Ok(started) = Turns::start(alloc, states) else {
+        panic!(rt; "no memory")
+    };
+    started
+}
+
+/// The next pass.
+fn admit(rt: &impl Abort, turns: &Turns<Log>, keeper: &mut Pass<u64>) -> Pass<u64>
+    requires { IsPassOf turns.now keeper.old }
+    ensures { IsPassOf turns.now keeper.new × IsPassOf turns.now result }
+{
+    assert!(rt; keeper.keeper());
+    let Ok(pass) = turns.admit(keeper) else {
         panic!(rt; "no number is left")
     };
-    assert!(rt; first.seat() == 0 && second.seat() == 1 && first.made() == 2);
-    let mut inside = Inside {
-        turns: &turns,
-        other: second,
-        refused: None,
-        elsewhere: false,
-    };
-    assert!(rt; turns.with(&mut first, 1, &mut inside).is_ok());
-    let Inside {
-        turns: _,
-        other: second,
-        refused,
-        elsewhere,
-    } = inside;
-    assert!(rt; refused == Some(Busy { by: 0 }) && elsewhere);
-    let Err((turns, mut first, out)) = turns.close(first) else {
-        panic!(rt; "a pass was out")
-    };
-    assert!(rt; out == PassesOut { made: 2, ended: 0 });
+    pass
+}
+
+/// Ends the second pass and then the places. Gives their states.
+fn finish(rt: &impl Abort, turns: Turns<Log>, mut first: Pass<u64>, second: Pass<u64>) -> Vec<Log>
+    requires { IsPassOf turns first × IsPassOf turns second }
+{
     turns.retire(second, &mut first);
     assert!(rt; first.ended() == 1 && first.keeper());
     let Ok((states, _spent)) = turns.close(first) else {
         panic!(rt; "no pass was out")
     };
+    states
+}
+
+/// Asserts that the state has one entry, of this seat and clock.
+fn assert_one_entry(rt: &impl Abort, state: Option<&Log>, seat: u32, clock: u64) {
+    let entries = &state.expect(rt, "a state").entries;
+    assert!(rt; entries.len() == 1);
+    assert!(rt; entries[0].seat == seat && entries[0].clock == clock);
+}
+
+/// Asserts that there are two states with one entry each, of seats 0 and 1 and of these clocks.
+fn assert_two_entries(rt: &impl Abort, states: &[Log], one: u64, two: u64) {
     assert!(rt; states.len() == 2);
-    let (one, two) = (&states[0].entries, &states[1].entries);
-    assert!(rt; one.len() == 1 && two.len() == 1);
-    assert!(rt; one[0].seat == 0 && one[0].clock == 7);
-    assert!(rt; two[0].seat == 1 && two[0].clock == 6);
-    Ok(())
+    assert_one_entry(rt, states.get(0), 0, one);
+    assert_one_entry(rt, states.get(1), 1, two);
+}
+
+/// While the first pass has place 1, the second one is refused there and has place 2.
+fn assert_refuses(
+    rt: &impl Abort,
+    turns: &Turns<Log>,
+    first: &mut Pass<u64>,
+    second: Pass<u64>,
+) -> Pass<u64>
+    requires first { IsPassOf turns.now first.old }
+    requires second { IsPassOf turns.now second × (2 ≤ places turns.now) }
+    ensures { IsPassOf turns.now first.new × IsPassOf turns.now result }
+{
+    let mut inside = Inside {
+        turns,
+        other: second,
+        refused: None,
+        elsewhere: false,
+    };
+    assert!(rt; turns.with(first, 1, &mut inside).is_ok());
+    let Inside {
+        turns: _,
+        other,
+        refused,
+        elsewhere,
+    } = inside;
+    assert!(rt; refused == Some(Busy { by: 0 }) && elsewhere);
+    other
+}
+
+/// Asserts that the places do not end while the second pass is out. They and the keeper come back as they were.
+fn assert_stays_open(
+    rt: &impl Abort,
+    turns: Turns<Log>,
+    first: Pass<u64>,
+) -> (Turns<Log>, Pass<u64>)
+    requires { IsPassOf turns first }
+    ensures { (result.0 ≡ turns) × (result.1 ≡ first) }
+{
+    assert!(rt; first.keeper());
+    let Err((turns, first, out)) = turns.close(first) else {
+        panic!(rt; "a pass was out")
+    };
+    assert!(rt; out == PassesOut { made: 2, ended: 0 });
+    (turns, first)
+}
+
+fn assert_refuses_and_stays_open(rt: &impl Abort, alloc: Global) {
+    let (turns, mut first) = start_two(rt, alloc);
+    let second = admit(rt, &turns, &mut first);
+    assert!(rt; first.seat() == 0 && second.seat() == 1 && first.made() == 2);
+    let second = assert_refuses(rt, &turns, &mut first, second);
+    let (turns, first) = assert_stays_open(rt, turns, first);
+    let states = finish(rt, turns, first, second);
+    assert_two_entries(rt, &states, 7, 6);
+}
+
+#[test]
+fn turns_refuse_the_second_caller(rt: HostRuntime) {
+    assert_refuses_and_stays_open(&rt, rt.alloc());
 }
 
 fn add_at(turns: &Turns<Log>, mut pass: Pass<u64>, place: u16, clock: u64) -> (bool, Pass<u64>)
     requires { IsPassOf turns.now pass × IsPlaceOf turns.now place }
-    ensures { IsPassOf turns.now result.1 × ((known result.1).keeper ≡ (known pass).keeper) }
+    ensures { IsPassOf turns.now result.1 }
 {
     let added = turns.with(&mut pass, place, &mut Add { clock }).is_ok();
     (added, pass)
 }
 
-#[test]
-fn two_passes_in_two_threads(rt: HostRuntime) -> Result<(), Fail> {
-    let alloc = rt.alloc();
-    let states = vec![in alloc; Log::new(alloc), Log::new(alloc)]?;
-    let Ok((turns, mut first)) = Turns::start(alloc, states) else {
-        panic!(rt; "no memory")
-    };
-    let Ok(second) = turns.admit(&mut first) else {
-        panic!(rt; "no number is left")
-    };
-    let shared = &turns;
-    let ((one, mut first), (two, second)) = join(
-        &rt,
+/// Each pass adds an entry at a place of its own, in a thread of its own.
+fn add_in_two_threads<R: Abort + Threads>(
+    rt: &R,
+    shared: &Turns<Log>,
+    first: Pass<u64>,
+    second: Pass<u64>,
+) -> (Pass<u64>, Pass<u64>)
+    requires passes { IsPassOf shared.now first × IsPassOf shared.now second }
+    requires places { 2 ≤ places shared.now }
+    ensures { IsPassOf shared.now result.0 × IsPassOf shared.now result.1 }
+{
+    let ((one, first), (two, second)) = join(
+        rt,
         move || -> (bool, Pass<u64>)
-            requires first { IsPassOf shared.now first × ((known first).keeper ≡ true) }
-            requires places { 2 ≤ places shared.now }
-            ensures { IsPassOf shared.entry.now result.1 × ((known result.1).keeper ≡ true) }
+            requires { IsPassOf shared.now first × (2 ≤ places shared.now) }
+            ensures { IsPassOf shared.entry.now result.1 }
         { add_at(shared, first, 1, 1) },
         move || -> (bool, Pass<u64>)
             requires { IsPassOf shared.now second × (2 ≤ places shared.now) }
@@ -178,30 +261,63 @@ fn two_passes_in_two_threads(rt: HostRuntime) -> Result<(), Fail> {
         { add_at(shared, second, 2, 2) },
     );
     assert!(rt; one && two);
-    turns.retire(second, &mut first);
-    assert!(rt; first.keeper());
-    let Ok((states, _spent)) = turns.close(first) else {
-        panic!(rt; "no pass was out")
-    };
-    assert!(rt; states.len() == 2);
-    assert!(rt; states[0].entries.len() == 1 && states[1].entries.len() == 1);
-    Ok(())
+    (first, second)
+}
+
+fn assert_two_threads_add<R: Abort + Threads>(rt: &R, alloc: Global) {
+    let (turns, mut first) = start_two(rt, alloc);
+    let second = admit(rt, &turns, &mut first);
+    let (first, second) = add_in_two_threads(rt, &turns, first, second);
+    let states = finish(rt, turns, first, second);
+    assert_two_entries(rt, &states, 1, 2);
 }
 
 #[test]
-fn every_number_is_drawn_once(rt: HostRuntime) -> Result<(), Fail> {
-    let alloc = rt.alloc();
-    let states = vec![in alloc; Log::new(alloc)]?;
-    let Ok((turns, mut first)) = Turns::start(alloc, states) else {
-        panic!(rt; "no memory")
+fn two_passes_in_two_threads(rt: HostRuntime) {
+    assert_two_threads_add(&rt, rt.alloc());
+}
+
+// The places and the pass that draws numbers. That the pass is theirs holds always, so no loop owes it.
+#[derive(Drop)]
+struct Keeper<'a> {
+    turns: &'a Turns<Log>,
+    pass: Pass<u64>,
+    ghost mine: { IsPassOf turns.now pass } by { Coded-set table_id_coded
+        pass.badge.table_id (table_of turns.now) },
+}
+
+impl<'a> Keeper<'a> {
+    // The next pass, where a number is left.
+    fn admit(&mut self, rt: &impl Abort) -> Result<Pass<u64>, NoSeat> {
+        assert!(rt; self.pass.keeper());
+        self.turns.admit(&mut self.pass)
+    }
+}
+
+fn assert_draws(rt: &impl Abort, keeper: &mut Keeper<'_>, number: u32) {
+    let pass = keeper.admit(rt).ok().expect(rt, "a number");
+    assert!(rt; pass.seat() == number && !pass.keeper() && pass.made() == 0);
+}
+
+fn assert_draws_no_more(rt: &impl Abort, keeper: &mut Keeper<'_>) {
+    let full = keeper.admit(rt).err();
+    assert!(rt; full == Some(NoSeat { made: SEATS_LIMIT }));
+    assert!(rt; keeper.pass.made() == SEATS_LIMIT);
+}
+
+fn assert_draws_each_once(rt: &impl Abort, alloc: Global) {
+    let (turns, pass) = start_one(rt, alloc);
+    let mut keeper = Keeper {
+        turns: &turns,
+        pass,
     };
     for number in 1..SEATS_LIMIT {
-        let Ok(pass) = turns.admit(&mut first) else {
-            panic!(rt; "no number is left")
-        };
-        assert!(rt; pass.seat() == number && !pass.keeper() && pass.made() == 0);
+        assert_draws(rt, &mut keeper, number);
     }
-    let full = turns.admit(&mut first).err();
-    assert!(rt; full == Some(NoSeat { made: SEATS_LIMIT }) && first.made() == SEATS_LIMIT);
-    Ok(())
+    assert_draws_no_more(rt, &mut keeper);
+}
+
+#[test]
+fn every_number_is_drawn_once(rt: HostRuntime) {
+    assert_draws_each_once(&rt, rt.alloc());
 }
