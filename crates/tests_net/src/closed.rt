@@ -9,7 +9,7 @@ use chorus_net::{Closed, Sites};
 use chorus_turn::{Kept, Turns};
 use chorus_ui::Layout;
 use std::alloc::Global;
-use std::test::Fail;
+use std::process::Abort;
 
 /// A place with a journal alone.
 #[derive(Drop)]
@@ -39,32 +39,60 @@ impl Log {
     }
 }
 
-#[test]
-fn closed_tells_what_was_worn(rt: HostRuntime) -> Result<(), Fail> {
-    let alloc = rt.alloc();
-    let limit: u64 = 4_611_686_018_427_387_904;
-    for worn in [None, Some(limit)] {
-        let states = vec![in alloc; Log::new(alloc)]?;
-        let Ok((turns, pass)) = Turns::start(alloc, states) else {
-            return Err(Fail::from("no memory"));
-        };
-        let Ok((states, spent)) = turns.close(pass) else {
-            return Err(Fail::from("a pass was out"));
-        };
-        let mut journals = Vec::new(alloc);
-        for Log { entries } in states {
-            journals.push(entries)?;
-        }
-        let closed = Closed::of(journals, Vec::new(alloc), Vec::new(alloc), spent, worn);
-        assert!(rt; closed.worn() == worn, "{worn:?}");
-        assert!(rt;
-            closed.journals.len() == 1 && closed.rest.len() == 0 && closed.ports.len() == 0
-        );
+/// So many sites, each with so many places, on which nothing happened.
+pub(crate) fn started(rt: &impl Abort, alloc: Global, sites: u16, turns: u16) -> Sites {
+    let layout = Layout::new(sites, turns).expect(rt, "a layout");
+    Sites::start(alloc, layout).expect(rt, "memory")
+}
+
+pub(crate) fn close(rt: &impl Abort, alloc: Global, sites: Sites) -> Closed {
+    sites.close(alloc).ok().expect(rt, "memory")
+}
+
+fn journals_of(rt: &impl Abort, alloc: Global, states: Vec<Log>) -> Vec<Vec<Entry>> {
+    let mut journals = Vec::new(alloc);
+    for Log { entries } in states {
+        journals.push(entries).expect(rt, "memory");
     }
-    let sites = Sites::start(alloc, Layout::new(2, 1).ok_or("a layout")?)?;
-    let Ok(closed) = sites.close(alloc) else {
-        return Err(Fail::from("no memory"));
+    journals
+}
+
+/// What is left of one place with a journal alone, of which the closing pass was first refused as worn at this clock.
+fn closed_turns(rt: &impl Abort, alloc: Global, worn: Option<u64>) -> Closed {
+    let Ok(states) = vec![in alloc; Log::new(alloc)] else {
+        panic!(rt; "memory")
     };
-    assert!(rt; closed.worn().is_none() && closed.journals.len() == 2);
-    Ok(())
+    let Ok((turns, pass)) = Turns::start(alloc, states) else {
+        panic!(rt; "memory")
+    };
+    let Ok((states, spent)) = turns.close(pass) else {
+        panic!(rt; "a pass was out")
+    };
+    let journals = journals_of(rt, alloc, states);
+    Closed::of(journals, Vec::new(alloc), Vec::new(alloc), spent, worn)
+}
+
+/// Asserts what is told, and how many journals there are.
+fn assert_tells(rt: &impl Abort, closed: &Closed, worn: Option<u64>, journals: usize) {
+    assert!(rt; closed.worn() == worn, "{worn:?}");
+    assert!(rt; closed.journals.len() == journals);
+}
+
+fn assert_turns_tell(rt: &impl Abort, alloc: Global, worn: Option<u64>) {
+    let closed = closed_turns(rt, alloc, worn);
+    assert_tells(rt, &closed, worn, 1);
+    assert!(rt; closed.rest.is_empty());
+    assert!(rt; closed.ports.is_empty());
+}
+
+fn assert_sites_tell(rt: &impl Abort, alloc: Global) {
+    let closed = close(rt, alloc, started(rt, alloc, 2, 1));
+    assert_tells(rt, &closed, None, 2);
+}
+
+#[test]
+fn closed_tells_what_was_worn(rt: HostRuntime) {
+    assert_turns_tell(&rt, rt.alloc(), None);
+    assert_turns_tell(&rt, rt.alloc(), Some(4_611_686_018_427_387_904));
+    assert_sites_tell(&rt, rt.alloc());
 }

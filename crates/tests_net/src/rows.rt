@@ -1,158 +1,185 @@
 //! Rows by calls of the sites, whose texts are worked out by hand.
+//!
+//! A call is a line of words: what is called, and with what. Names are as in texts, and a number in front of one is the seat that acts.
 
-ghost use Rattle.std.specs.Prelude.{◌≡◌, ◌&&◌, true, IfOk};
+ghost use Rattle.std.specs.Prelude.{◌≡◌, ◌&&◌, true};
 ghost use Rattle.chorus_entry.specs.Command.{meets_conditions, has_body_in_limit};
 
+use crate::closed::{close, started};
 use chorus_entry::{Body, Command, Dest};
 use chorus_merge::merge;
-use chorus_net::Sites;
+use chorus_net::{Closed, Sites};
 use chorus_show::{journal_text, summary_text};
-use chorus_ui::{Kind, Layout, Ui};
+use chorus_ui::{Kind, Ui};
 use std::alloc::Global;
-use std::test::Fail;
+use std::process::Abort;
 
-/// A call of the sites. Names are as in texts, and a number in front of one is the seat that acts.
-#[derive(Clone, Copy, Debug)]
-enum Call<'a> {
-    Enter(&'a str),
-    Make(u32, &'a str, u8),
-    Send(u32, &'a str, &'a str),
-    Take(u32, &'a str),
-    Move(u32, &'a str, &'a str),
-    Delete(u32, &'a str),
-    Deliver(u16, u16),
-    Drain,
+/// The first word, and what stands behind it.
+fn first(text: &str) -> (&str, &str) {
+    match text.split_once(' ') {
+        Some(parts) => parts,
+        None => (text, ""),
+    }
+}
+
+/// The number of a seat, and what stands behind it.
+fn first_seat<'a>(rt: &impl Abort, text: &'a str) -> (u32, &'a str) {
+    let (word, rest) = first(text);
+    let seat: u32 = word.parse().ok().expect(rt, "a seat");
+    (seat, rest)
+}
+
+fn place(rt: &impl Abort, text: &str) -> u16 {
+    text.parse().ok().expect(rt, "a place")
 }
 
 /// The name of this kind.
-fn name(text: &str, kind: Kind) -> Result<Ui, Fail>
-    ensures { IfOk result (λ ui. ui.kind ≡ kind) }
+fn name(rt: &impl Abort, text: &str, kind: Kind) -> Ui
+    ensures { result.kind ≡ kind }
 {
-    let Some(ui) = Ui::parse(text.as_bytes()) else {
-        return Err(Fail::from("a name"));
-    };
-    if ui.kind() != kind {
-        return Err(Fail::from("a name of another kind"));
-    }
-    Ok(ui)
+    let name = Ui::parse(text.as_bytes()).expect(rt, "a name");
+    assert!(rt; name.kind() == kind);
+    name
 }
 
-fn actor(text: &str) -> Result<Ui, Fail>
-    ensures { IfOk result (λ ui. ui.kind ≡ Kind.Actor) }
+fn actor(rt: &impl Abort, text: &str) -> Ui
+    ensures { result.kind ≡ Kind.Actor }
 {
-    name(text, Kind::Actor)
+    name(rt, text, Kind::Actor)
 }
 
-fn port(text: &str) -> Result<Ui, Fail>
-    ensures { IfOk result (λ ui. ui.kind ≡ Kind.Port) }
+fn port(rt: &impl Abort, text: &str) -> Ui
+    ensures { result.kind ≡ Kind.Port }
 {
-    name(text, Kind::Port)
+    name(rt, text, Kind::Port)
 }
 
 /// Performs a command of the seat.
-fn act(sites: &mut Sites, seat: u32, command: Command) -> Result<(), Fail>
+fn act(rt: &impl Abort, sites: &mut Sites, seat: u32, command: Command)
     requires conditions { meets_conditions command ≡ true }
     requires body { has_body_in_limit command ≡ true }
 {
-    if seat >= sites.seats() {
-        return Err(Fail::from("a seat"));
-    }
-    if sites.posts(seat) >= u32::MAX {
-        return Err(Fail::from("a number"));
-    }
-    sites.act(seat, command)?;
-    Ok(())
+    assert!(rt; seat < sites.seats());
+    assert!(rt; sites.posts(seat) < u32::MAX);
+    sites.act(seat, command).expect(rt, "a reply");
 }
 
-fn make(sites: &mut Sites, seat: u32, holder: &str, capacity: u8) -> Result<(), Fail> {
-    if capacity == 0 || capacity > 64 {
-        return Err(Fail::from("a capacity"));
-    }
-    let actor = actor(holder)?;
-    act(sites, seat, Command::Make { actor, capacity })
+fn enter(rt: &impl Abort, sites: &mut Sites, who: &str) {
+    let actor = actor(rt, who);
+    sites.enter(actor).expect(rt, "a seat");
 }
 
-fn send(alloc: Global, sites: &mut Sites, seat: u32, to: &str, text: &str) -> Result<(), Fail> {
-    if text.len() > 4096 {
-        return Err(Fail::from("a body"));
-    }
-    let body = Body::new(alloc, text.as_bytes())?;
-    let dest = Dest::Port(port(to)?);
-    act(sites, seat, Command::Send { dest, body })
+/// A seat, an actor and a capacity.
+fn make(rt: &impl Abort, sites: &mut Sites, words: &str) {
+    let (seat, words) = first_seat(rt, words);
+    let (holder, capacity) = first(words);
+    let actor = actor(rt, holder);
+    let capacity: u8 = capacity.parse().ok().expect(rt, "a capacity");
+    assert!(rt; capacity > 0);
+    assert!(rt; capacity <= 64);
+    act(rt, sites, seat, Command::Make { actor, capacity });
 }
 
-fn deliver(sites: &mut Sites, from: u16, to: u16) -> Result<(), Fail> {
+fn body_of(rt: &impl Abort, alloc: Global, text: &str) -> Body {
+    assert!(rt; text.len() <= 4096);
+    Body::new(alloc, text.as_bytes()).expect(rt, "memory")
+}
+
+/// A seat, a port and a text.
+fn send(rt: &impl Abort, alloc: Global, sites: &mut Sites, words: &str) {
+    let (seat, words) = first_seat(rt, words);
+    let (to, text) = first(words);
+    let dest = Dest::Port(port(rt, to));
+    let body = body_of(rt, alloc, text);
+    let _within = body.bytes();
+    act(rt, sites, seat, Command::Send { dest, body });
+}
+
+/// A seat and a port.
+fn take(rt: &impl Abort, sites: &mut Sites, words: &str) {
+    let (seat, from) = first_seat(rt, words);
+    let port = port(rt, from);
+    act(rt, sites, seat, Command::Take { port });
+}
+
+/// A seat, a port and an actor.
+fn move_port(rt: &impl Abort, sites: &mut Sites, words: &str) {
+    let (seat, words) = first_seat(rt, words);
+    let (which, to) = first(words);
+    let port = port(rt, which);
+    let actor = actor(rt, to);
+    act(rt, sites, seat, Command::Move { port, actor });
+}
+
+/// A seat and a port.
+fn delete(rt: &impl Abort, sites: &mut Sites, words: &str) {
+    let (seat, which) = first_seat(rt, words);
+    let port = port(rt, which);
+    act(rt, sites, seat, Command::Delete { port });
+}
+
+fn deliver_between(rt: &impl Abort, sites: &mut Sites, from: u16, to: u16) {
     let count = sites.layout().places();
-    if from == 0 || to == 0 || from > count || to > count || from == to {
-        return Err(Fail::from("two places"));
-    }
-    sites.deliver(from, to)?;
-    Ok(())
+    assert!(rt; from != 0);
+    assert!(rt; to != 0);
+    assert!(rt; from <= count);
+    assert!(rt; to <= count);
+    assert!(rt; from != to);
+    sites.deliver(from, to).expect(rt, "a delivery");
 }
 
-fn perform(alloc: Global, sites: &mut Sites, call: Call) -> Result<(), Fail> {
+/// Two places.
+fn deliver(rt: &impl Abort, sites: &mut Sites, words: &str) {
+    let (from, to) = first(words);
+    deliver_between(rt, sites, place(rt, from), place(rt, to));
+}
+
+fn drain(rt: &impl Abort, sites: &mut Sites) {
+    sites.drain().expect(rt, "quiet");
+}
+
+fn perform(rt: &impl Abort, alloc: Global, sites: &mut Sites, line: &str) {
+    let (call, words) = first(line);
     match call {
-        Call::Enter(who) => {
-            sites.enter(actor(who)?)?;
-            Ok(())
-        }
-        Call::Make(seat, holder, capacity) => make(sites, seat, holder, capacity),
-        Call::Send(seat, to, text) => send(alloc, sites, seat, to, text),
-        Call::Take(seat, from) => act(sites, seat, Command::Take { port: port(from)? }),
-        Call::Move(seat, which, to) => {
-            let port = port(which)?;
-            let actor = actor(to)?;
-            act(sites, seat, Command::Move { port, actor })
-        }
-        Call::Delete(seat, which) => act(sites, seat, Command::Delete { port: port(which)? }),
-        Call::Deliver(from, to) => deliver(sites, from, to),
-        Call::Drain => {
-            sites.drain()?;
-            Ok(())
-        }
+        "enter" => enter(rt, sites, words),
+        "make" => make(rt, sites, words),
+        "send" => send(rt, alloc, sites, words),
+        "take" => take(rt, sites, words),
+        "move" => move_port(rt, sites, words),
+        "delete" => delete(rt, sites, words),
+        "deliver" => deliver(rt, sites, words),
+        "drain" => drain(rt, sites),
+        _ => panic!(rt; "no such call: {line}"),
     }
 }
 
-/// Journal and summary of what the calls leave on sites of the layout.
-fn text_of(alloc: Global, layout: Layout, calls: &[Call]) -> Result<Vec<u8>, Fail> {
-    let mut sites = Sites::start(alloc, layout)?;
-    for call in calls {
-        perform(alloc, &mut sites, *call)?;
-    }
-    let Ok(closed) = sites.close(alloc) else {
-        return Err(Fail::from("no memory"));
-    };
-    let entries = merge(alloc, &closed.journals)?;
+/// Journal and summary of what was left.
+fn text_of(rt: &impl Abort, alloc: Global, closed: &Closed) -> String {
+    let entries = merge(alloc, &closed.journals).expect(rt, "memory");
     let mut text = Vec::new(alloc);
-    journal_text(&entries, &mut text)?;
-    summary_text(&entries, &mut text)?;
-    Ok(text)
+    journal_text(&entries, &mut text).expect(rt, "memory");
+    summary_text(&entries, &mut text).expect(rt, "memory");
+    String::from_utf8(text).ok().expect(rt, "a text")
 }
 
-#[test]
-fn two_turns_per_site(rt: HostRuntime) -> Result<(), Fail> {
-    let posts = [
-        Call::Make(0, "1.a.2", 4),
-        Call::Enter("1.a.1"),
-        Call::Send(1, "1.p.2", "x"),
-        Call::Drain,
-    ];
-    let moves = [
-        Call::Make(0, "1.a.2", 4),
-        Call::Enter("1.a.2"),
-        Call::Move(1, "1.p.2", "2.a.1"),
-        Call::Drain,
-    ];
-    for (calls, text) in [
-        (posts, POSTS_AT_ANOTHER_PLACE),
-        (moves, MOVES_TO_ANOTHER_SITE),
-    ] {
-        let layout = Layout::new(2, 2).ok_or("a layout")?;
-        let left = text_of(rt.alloc(), layout, &calls)?;
-        assert_eq!(rt; left.as_slice(), text.as_bytes(), "{text}");
+/// Asserts that the calls, on so many sites with so many places each, leave this journal and summary.
+fn assert_leaves(rt: &impl Abort, alloc: Global, layout: (u16, u16), calls: &str, text: &str) {
+    let (count, turns) = layout;
+    let mut sites = started(rt, alloc, count, turns);
+    for line in calls.lines() {
+        perform(rt, alloc, &mut sites, line);
     }
-    Ok(())
+    let closed = close(rt, alloc, sites);
+    let left = text_of(rt, alloc, &closed);
+    assert_eq!(rt; left.as_str(), text);
 }
+
+const POSTS: &str = "\
+make 0 1.a.2 4
+enter 1.a.1
+send 1 1.p.2 x
+drain
+";
 
 const POSTS_AT_ANOTHER_PLACE: &str = "\
 journal 5
@@ -173,6 +200,13 @@ departs 0
 end
 ";
 
+const MOVES: &str = "\
+make 0 1.a.2 4
+enter 1.a.2
+move 1 1.p.2 2.a.1
+drain
+";
+
 const MOVES_TO_ANOTHER_SITE: &str = "\
 journal 3
 1 2 0 make 1.p.2 1.a.2 4
@@ -191,22 +225,21 @@ end
 ";
 
 #[test]
-fn delete_discards(rt: HostRuntime) -> Result<(), Fail> {
-    let layout = Layout::new(1, 1).ok_or("a layout")?;
-    let calls = [
-        Call::Make(0, "1.a.1", 2),
-        Call::Enter("1.a.1"),
-        Call::Send(1, "1.p.1", "a"),
-        Call::Send(1, "1.p.1", "b"),
-        Call::Take(1, "1.p.1"),
-        Call::Delete(1, "1.p.1"),
-        Call::Send(1, "1.p.1", "c"),
-        Call::Take(1, "1.p.1"),
-    ];
-    let left = text_of(rt.alloc(), layout, &calls)?;
-    assert_eq!(rt; left.as_slice(), DELETES.as_bytes());
-    Ok(())
+fn two_turns_per_site(rt: HostRuntime) {
+    assert_leaves(&rt, rt.alloc(), (2, 2), POSTS, POSTS_AT_ANOTHER_PLACE);
+    assert_leaves(&rt, rt.alloc(), (2, 2), MOVES, MOVES_TO_ANOTHER_SITE);
 }
+
+const DISCARD: &str = "\
+make 0 1.a.1 2
+enter 1.a.1
+send 1 1.p.1 a
+send 1 1.p.1 b
+take 1 1.p.1
+delete 1 1.p.1
+send 1 1.p.1 c
+take 1 1.p.1
+";
 
 const DELETES: &str = "\
 journal 10
@@ -234,26 +267,24 @@ end
 ";
 
 #[test]
-fn delete_after_a_move(rt: HostRuntime) -> Result<(), Fail> {
-    let layout = Layout::new(3, 1).ok_or("a layout")?;
-    let calls = [
-        Call::Make(0, "1.a.1", 4),
-        Call::Enter("3.a.1"),
-        Call::Enter("1.a.1"),
-        Call::Enter("2.a.1"),
-        Call::Move(2, "1.p.1", "2.a.1"),
-        Call::Deliver(1, 2),
-        Call::Delete(3, "1.p.1"),
-        Call::Send(1, "1.p.1", "x"),
-        Call::Deliver(3, 1),
-        Call::Deliver(1, 3),
-        Call::Deliver(3, 2),
-        Call::Deliver(2, 3),
-    ];
-    let left = text_of(rt.alloc(), layout, &calls)?;
-    assert_eq!(rt; left.as_slice(), DELETES_AFTER_A_MOVE.as_bytes());
-    Ok(())
+fn delete_discards(rt: HostRuntime) {
+    assert_leaves(&rt, rt.alloc(), (1, 1), DISCARD, DELETES);
 }
+
+const DELETE_AFTER_A_MOVE: &str = "\
+make 0 1.a.1 4
+enter 3.a.1
+enter 1.a.1
+enter 2.a.1
+move 2 1.p.1 2.a.1
+deliver 1 2
+delete 3 1.p.1
+send 1 1.p.1 x
+deliver 3 1
+deliver 1 3
+deliver 3 2
+deliver 2 3
+";
 
 const DELETES_AFTER_A_MOVE: &str = "\
 journal 11
@@ -280,3 +311,14 @@ stale 1
 departs 1
 end
 ";
+
+#[test]
+fn delete_after_a_move(rt: HostRuntime) {
+    assert_leaves(
+        &rt,
+        rt.alloc(),
+        (3, 1),
+        DELETE_AFTER_A_MOVE,
+        DELETES_AFTER_A_MOVE,
+    );
+}

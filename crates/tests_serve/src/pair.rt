@@ -1,21 +1,26 @@
-//! Two places, of two sites, whose links have ruled ends. What is not as it is to be ends the test.
+//! Two places, of two sites, at the ends of their links. What is not as it is to be ends the test.
+//!
+//! All is generic in the ends, but for what makes ruled ones. The contracts of a desk's calls are long, so each is called in one function,
+//! which has no clauses.
 
-use crate::conditions::meets_conditions;
+ghost use Rattle.std.specs.Prelude.{◌≡◌, ◌-◌, true};
+
 use chorus_calls::Caller;
 use chorus_ends::{Ends, Moves};
-use chorus_entry::Command;
-use chorus_place::{Reply, place_for};
+use chorus_entry::{BODY_LIMIT, Body, Command, Dest};
+use chorus_place::place_for;
 use chorus_ruled_ends::RuledEnds;
 use chorus_serve::{Desk, Pump, serve};
 use chorus_ui::{Layout, Ui};
 use std::alloc::Global;
 use std::process::Abort;
+use tests_ground::meets_conditions;
 
 /// The two places.
 #[derive(Drop)]
-pub(crate) struct Pair {
-    pub(crate) here: Desk<RuledEnds>,
-    pub(crate) there: Desk<RuledEnds>,
+pub(crate) struct Pair<E: Ends> {
+    pub(crate) here: Desk<E>,
+    pub(crate) there: Desk<E>,
 }
 
 /// The name that the text is of.
@@ -23,9 +28,18 @@ pub(crate) fn name(rt: &impl Abort, text: &str) -> Ui {
     Ui::parse(text.as_bytes()).expect(rt, "a name")
 }
 
-/// The place of this number, at these ends.
+/// The place of this number, at ends that reach the other one.
 #[tactic(auto, using(crate::proofs::Others::reaches_others))]
-fn desk_at(
+fn desk_at<E: Ends>(rt: &impl Abort, alloc: Global, layout: Layout, number: u16, ends: E) -> Desk<E>
+    requires { (E.links ends).reaches (3 - number) ≡ true }
+{
+    assert!(rt; layout.places() == 2);
+    assert!(rt; layout.has_place(number));
+    Desk::start(alloc, layout, number, ends).expect(rt, "memory")
+}
+
+/// The place of this number, at these ruled ends.
+fn ruled_desk_at(
     rt: &impl Abort,
     alloc: Global,
     layout: Layout,
@@ -34,28 +48,26 @@ fn desk_at(
 ) -> Desk<RuledEnds> {
     let ends = ends.expect(rt, "ends");
     let other = 3u16.saturating_sub(number);
-    assert!(rt; layout.places() == 2);
-    assert!(rt; layout.has_place(number));
     assert!(rt; ends.reaches(other));
-    Desk::start(alloc, layout, number, ends).expect(rt, "memory")
+    desk_at(rt, alloc, layout, number, ends)
 }
 
-/// Two places on which nothing happened yet.
-pub(crate) fn start(rt: &impl Abort, alloc: Global) -> Pair {
+/// Two places over ruled ends, on which nothing happened yet.
+pub(crate) fn start(rt: &impl Abort, alloc: Global) -> Pair<RuledEnds> {
     let layout = Layout::new(2, 1).expect(rt, "a layout");
     let mut all = RuledEnds::all(alloc, layout).expect(rt, "memory");
-    let there = desk_at(rt, alloc, layout, 2, all.pop());
-    let here = desk_at(rt, alloc, layout, 1, all.pop());
+    let there = ruled_desk_at(rt, alloc, layout, 2, all.pop());
+    let here = ruled_desk_at(rt, alloc, layout, 1, all.pop());
     Pair { here, there }
 }
 
 /// Performs the caller's command at the place, where it is to be carried out.
-pub(crate) fn act<R: Abort, E: Ends>(
-    rt: &R,
+pub(crate) fn act<E: Ends>(
+    rt: &impl Abort,
     desk: &mut Desk<E>,
     caller: &mut Caller,
     command: Command,
-) -> Reply {
+) {
     let place = desk.place();
     let (layout, number) = (place.layout(), place.number());
     assert!(rt; layout.has_site(caller.actor().site()));
@@ -63,10 +75,35 @@ pub(crate) fn act<R: Abort, E: Ends>(
     assert!(rt; place_for(layout, caller.actor(), &command) == number);
     assert!(rt; caller.posts() < u32::MAX);
     assert!(rt; caller.client().given() < u32::MAX);
-    desk.act(caller, command).ok().expect(rt, "memory")
+    desk.act(caller, command).ok().expect(rt, "memory");
+}
+
+fn body_of(rt: &impl Abort, alloc: Global, text: &str) -> Body {
+    let text = text.as_bytes();
+    assert!(rt; text.len() <= BODY_LIMIT);
+    Body::new(alloc, text).expect(rt, "memory")
+}
+
+/// Sends the text to the port.
+pub(crate) fn send<E: Ends>(
+    rt: &impl Abort,
+    alloc: Global,
+    desk: &mut Desk<E>,
+    caller: &mut Caller,
+    port: Ui,
+    text: &str,
+) {
+    let body = body_of(rt, alloc, text);
+    let dest = Dest::Port(port);
+    act(rt, desk, caller, Command::Send { dest, body });
 }
 
 /// Serves the place's links once.
 pub(crate) fn pump<R: Abort, E: Moves<R>>(rt: &R, desk: &mut Desk<E>, caller: &mut Caller) -> Pump {
     serve(desk, rt, caller).ok().expect(rt, "memory")
+}
+
+/// Asserts that at the place no packet waits to go or is in hand.
+pub(crate) fn assert_nothing_waits<E: Ends>(rt: &impl Abort, desk: &Desk<E>) {
+    assert_eq!(rt; desk.waiting(), 0);
 }
