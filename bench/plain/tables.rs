@@ -5,14 +5,8 @@ use crate::entry::{
     Act, Answer, CLIENTS, Dest, Entry, GROUPS_PER_SITE, Layout, MEMBERS, Message, MsgId, PENDING, PORTS_PER_SITE, Tag,
     Ui,
 };
+use crate::world::{Hand, Seat, Spot};
 use std::collections::{HashMap, VecDeque};
-
-#[derive(Clone, Copy, Debug, PartialEq, Eq)]
-enum Spot {
-    Held(Ui),
-    Moving(Ui),
-    Ended,
-}
 
 #[derive(Debug)]
 struct Port {
@@ -127,23 +121,6 @@ struct PlaceRow {
     taken: Option<(u32, MsgId)>,
 }
 
-#[derive(Clone, Copy, Debug, PartialEq, Eq)]
-struct Hand {
-    client: u32,
-    number: u32,
-    back: Ui,
-}
-
-#[derive(Clone, Copy, Debug, Default)]
-struct SeatRow {
-    posts: u64,
-    place: Option<u16>,
-    requests: u32,
-    first: usize,
-    call: Option<u32>,
-    hand: Option<Hand>,
-}
-
 #[derive(Debug, Default)]
 struct Group {
     made: bool,
@@ -189,7 +166,7 @@ pub struct World {
     asks: HashMap<NameAt, VecDeque<MsgId>>,
     locations: HashMap<NameAt, Location>,
     places: HashMap<u16, PlaceRow>,
-    seats: HashMap<u32, SeatRow>,
+    seats: HashMap<u32, Seat>,
     groups: HashMap<NameAt, Group>,
     kept: HashMap<(Ui, u32), u32>,
     clients: HashMap<Ui, usize>,
@@ -310,7 +287,7 @@ impl World {
         self.places.get(&place).copied().unwrap_or_default()
     }
 
-    fn seat(&self, seat: u32) -> SeatRow {
+    fn seat(&self, seat: u32) -> Seat {
         self.seats.get(&seat).copied().unwrap_or_default()
     }
 

@@ -150,23 +150,26 @@ struct Place {
     taken: Option<TakenReply>,
 }
 
+/// The request that a caller took and did not answer yet.
 #[derive(Clone, Copy, Debug, PartialEq, Eq)]
-struct Hand {
-    client: u32,
-    number: u32,
-    back: Ui,
+pub struct Hand {
+    pub client: u32,
+    pub number: u32,
+    pub back: Ui,
 }
 
-#[derive(Debug, Default)]
-struct Seat {
-    posts: u64,
+/// What a caller did.
+#[derive(Clone, Copy, Debug, Default)]
+pub struct Seat {
+    pub posts: u64,
     /// Where it posted.
-    place: Option<u16>,
+    pub place: Option<u16>,
     /// The greatest request number that it posted, and where the first post of it stands.
-    requests: u32,
-    first: usize,
-    call: Option<u32>,
-    hand: Option<Hand>,
+    pub requests: u32,
+    pub first: usize,
+    /// The number of its outstanding call.
+    pub call: Option<u32>,
+    pub hand: Option<Hand>,
 }
 
 #[derive(Debug, Default)]

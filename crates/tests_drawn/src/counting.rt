@@ -1,12 +1,12 @@
 //! How many entries a turn appends and how many packets it puts, and how many packets of each kind came.
 
-use crate::net::{Seen, look};
 use chorus_calls::Caller;
 use chorus_entry::{Cargo, Packet};
 use chorus_place::{Place, PlaceFault, Reply};
 use chorus_ui::CLOCK_LIMIT;
 use std::alloc::Global;
 use std::process::Abort;
+use tests_ground::{Seen, look};
 
 /// A place and a caller before a turn: what was seen of them, and how many entries and packets needed no memory.
 #[derive(Clone, Copy)]

@@ -1,17 +1,17 @@
 //! Packets that are drawn: lawful ones, nearly lawful ones and arbitrary ones, between commands and packets of the places themselves.
 
-use crate::conditions::meets_conditions;
 use crate::counting::{
     Counts, assert_acted, assert_both, assert_worked_off, count, effect_of, kind_of, look_before,
     no_counts,
 };
 use crate::drawing::Draws;
-use crate::net::{Net, act_at, index, look, number_for, work_at};
+use crate::net::{Net, act_at, index, number_for, work_at};
 use chorus_calls::Caller;
 use chorus_entry::Packet;
 use chorus_place::{Place, PlaceFault};
 use chorus_ui::CLOCK_LIMIT;
 use std::process::Abort;
+use tests_ground::{look, meets_conditions};
 
 const ROUNDS: u64 = 8;
 

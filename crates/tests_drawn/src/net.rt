@@ -1,15 +1,15 @@
-//! The places of a layout and their callers, and what is seen of them. What is not as it is to be ends the test.
+//! The places of a layout and their callers. What is not as it is to be ends the test.
 
 ghost use Rattle.std.specs.Prelude.{◌≡◌, ◌<◌, true, IsTrue};
 ghost use Rattle.chorus_place.specs.Calls.{state, MayCall};
 
-use crate::conditions::meets_conditions;
 use chorus_calls::Caller;
-use chorus_entry::{Command, Hand, Packet};
+use chorus_entry::{Command, Packet};
 use chorus_place::{Place, PlaceFault, Reply, place_for};
 use chorus_ui::{Layout, Ui};
 use std::alloc::Global;
 use std::process::Abort;
+use tests_ground::{look, meets_conditions};
 
 /// How many places there are.
 pub(crate) const PLACES: u16 = 4;
@@ -20,35 +20,6 @@ pub(crate) struct Net {
     pub(crate) layout: Layout,
     pub(crate) places: Vec<Place>,
     pub(crate) callers: Vec<Caller>,
-}
-
-/// What is seen of a place and a caller without memory.
-#[derive(Clone, Copy, Debug, PartialEq, Eq)]
-pub(crate) struct Seen {
-    pub(crate) entries: usize,
-    pub(crate) clock: u64,
-    pub(crate) waiting: u64,
-    pub(crate) puts: u64,
-    pub(crate) held: u16,
-    pub(crate) last: u64,
-    pub(crate) posts: u32,
-    pub(crate) given: u32,
-    pub(crate) hand: Option<Hand>,
-}
-
-/// What is seen of them now.
-pub(crate) fn look(place: &Place, caller: &Caller) -> Seen {
-    Seen {
-        entries: place.journal().len(),
-        clock: place.clock(),
-        waiting: place.waiting(),
-        puts: place.puts(),
-        held: place.held(),
-        last: caller.last(),
-        posts: caller.posts(),
-        given: caller.client().given(),
-        hand: caller.hand(),
-    }
 }
 
 /// Where the place of this number stands.

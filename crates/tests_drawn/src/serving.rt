@@ -15,14 +15,13 @@
 //!
 //! In the end the place is taken apart, and has in hand what it is to have in hand.
 
-use crate::conditions::meets_conditions;
 use crate::counting::{
     Before, Counts, assert_acted, assert_both, assert_worked_off, count, effect_of, kind_of,
     look_before, no_counts,
 };
 use crate::drawing::Draws;
 use crate::inbox::Inbox;
-use crate::net::{PLACES, assert_may, five_callers, four_places, look, number_for};
+use crate::net::{PLACES, assert_may, five_callers, four_places, number_for};
 use chorus_calls::Caller;
 use chorus_ends::{Ends, MemEnds, Moves};
 use chorus_entry::{Act, Cargo, Command, Entry, Packet};
@@ -31,6 +30,7 @@ use chorus_serve::{Desk, Pump, serve};
 use chorus_ui::CLOCK_LIMIT;
 use std::alloc::Global;
 use std::process::Abort;
+use tests_ground::{look, meets_conditions};
 
 /// How many places are served.
 const ROUNDS: u64 = 1_500;
