@@ -1,47 +1,10 @@
 //! What the program prints is audited by the program.
 
 use crate::running::{Run, assert_prints, run_on};
+use crate::texts::{NOTHING, ON_ONE_SITE_PRINTED, RETRY_ACROSS_A_MOVE};
 use chorus_show::Status;
 use std::alloc::Global;
 use std::process::Abort;
-
-const NOTHING: &str = "chorus 1\nsites 1\nscript 1.a.1\nschedule\nend\n";
-
-/// A call is retried while its port moves to a third site.
-const RETRY_ACROSS_A_MOVE: &str = "\
-chorus 1
-sites 3
-port 1.p.1 1.a.1 4
-port 2.p.1 2.a.1 4
-script 2.a.1
-call 1.p.1 2.p.1 =q
-retry
-cancel
-call 1.p.1 2.p.1 =r
-take 2.p.1
-script 1.a.1
-move 1.p.1 3.a.1
-script 3.a.1
-take 1.p.1
-reply =ans
-schedule
-step 1
-deliver 2 1
-deliver 1 2
-step 2
-deliver 1 3
-step 1
-deliver 2 1
-deliver 1 2
-deliver 2 3
-deliver 3 2
-step 3
-step 1
-step 1
-step 3
-drain
-end
-";
 
 /// What the program prints for the scenario.
 fn replayed(rt: &impl Abort, alloc: Global, scenario: &str) -> String {
@@ -71,4 +34,6 @@ fn assert_a_move_is_audited(rt: &impl Abort, alloc: Global) {
 fn audit_of_real_outputs(rt: HostRuntime) {
     assert_nothing_is_audited(&rt, rt.alloc());
     assert_a_move_is_audited(&rt, rt.alloc());
+    let words = ["audit", "8", "1"];
+    assert_prints(&rt, rt.alloc(), &words, ON_ONE_SITE_PRINTED, "legal 8\n");
 }

@@ -20,7 +20,7 @@ fn assert_ended(
     number: u8,
     line: &str,
 ) {
-    let mut errors = sink_of(rt, alloc, failing);
+    let mut errors = sink_of(rt, alloc, 64, failing);
     let told = ended_with(status, &mut errors);
     assert_eq!(rt; told, number, "{status:?}");
     assert_eq!(rt; text_in(rt, alloc, &errors).as_str(), line, "{status:?}");

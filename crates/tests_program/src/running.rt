@@ -24,10 +24,17 @@ fn ends_with<S: Source, K: Sink>(
     program(alloc, words, source, sink).status
 }
 
-/// An empty sink. `failing` lists the writes that fail.
-pub(crate) fn sink_of(rt: &impl Abort, alloc: Global, failing: &[u64]) -> MemSink {
+/// A source of the text. `failing` lists the reads that fail.
+pub(crate) fn source_of(rt: &impl Abort, alloc: Global, text: &str, failing: &[u64]) -> MemSource {
+    let bytes = Vec::from_slice(alloc, text.as_bytes()).expect(rt, "memory");
+    MemSource::new(bytes, Vec::from_slice(alloc, failing).expect(rt, "memory"))
+}
+
+/// An empty sink that takes so many bytes at a write. `failing` lists the writes that fail.
+pub(crate) fn sink_of(rt: &impl Abort, alloc: Global, most: usize, failing: &[u64]) -> MemSink {
+    assert!(rt; most > 0);
     let failing = Vec::from_slice(alloc, failing).expect(rt, "memory");
-    MemSink::new(alloc, 64, failing)
+    MemSink::new(alloc, most, failing)
 }
 
 /// What the sink holds.
@@ -36,16 +43,27 @@ pub(crate) fn text_in(rt: &impl Abort, alloc: Global, sink: &MemSink) -> String 
     String::from_utf8(bytes).ok().expect(rt, "a text")
 }
 
-/// What the program does for these words and this input.
-pub(crate) fn run_on(rt: &impl Abort, alloc: Global, words: &[&str], input: &str) -> Run {
-    let bytes = Vec::from_slice(alloc, input.as_bytes()).expect(rt, "memory");
-    let mut source = MemSource::new(bytes, Vec::new(alloc));
-    let mut sink = sink_of(rt, alloc, &[]);
-    let status = ends_with(alloc, words, &mut source, &mut sink);
+/// What the program does for these words, over this source and a sink that takes so many bytes at a write and fails at these writes.
+pub(crate) fn run_over<S: Source>(
+    rt: &impl Abort,
+    alloc: Global,
+    words: &[&str],
+    source: &mut S,
+    most: usize,
+    failing: &[u64],
+) -> Run {
+    let mut sink = sink_of(rt, alloc, most, failing);
+    let status = ends_with(alloc, words, source, &mut sink);
     Run {
         status,
         written: text_in(rt, alloc, &sink),
     }
+}
+
+/// What the program does for these words and this input.
+pub(crate) fn run_on(rt: &impl Abort, alloc: Global, words: &[&str], input: &str) -> Run {
+    let mut source = source_of(rt, alloc, input, &[]);
+    run_over(rt, alloc, words, &mut source, 64, &[])
 }
 
 /// Asserts that for these words and this input the program does all, and writes this.

@@ -98,6 +98,7 @@ fn words_of_the_program(rt: HostRuntime) {
     let empty = Status::Scenario { line: 1, reason: 9 };
     assert_ends(&rt, alloc, &["replay"], empty);
     assert_prints(&rt, alloc, &["lossy", "7"], "", "\nwire 0 0\n");
+    assert_prints(&rt, alloc, &["lossy", "7"], "hello", "hello\nwire 1 0\n");
     assert_prints(&rt, alloc, &["load", "7", "0"], "", LOADS_NOTHING);
     assert_prints(&rt, alloc, &["load", "7", "1"], "", LOADS_ONE_COMMAND);
 }
