@@ -1,4 +1,4 @@
-//! A client that is kept waiting, and a caller whose client is changed in place.
+//! A client that is kept waiting, and a caller whose client is changed in place. What is not as it is to be ends the test.
 ghost use Rattle.std.specs.Prelude.{◌≡◌};
 ghost use Rattle.chorus_calls.specs.Clients.{answer_to, after_settle};
 ghost use Rattle.chorus_calls.specs.Callers.{with_client};
@@ -6,8 +6,8 @@ ghost use Rattle.chorus_calls.specs.Callers.{with_client};
 use chorus_calls::{Caller, Client, Outstanding, Settle};
 use chorus_entry::{Body, Hand};
 use chorus_ui::{Kind, Ui};
+use std::alloc::Global;
 use std::process::Abort;
-use std::test::Fail;
 
 /// A reply comes to the caller.
 fn take_reply(caller: &mut Caller, number: u32) -> Settle
@@ -30,41 +30,79 @@ fn is_sent_again(client: &Client, number: u32, port: Ui, back: Ui, bytes: &[u8])
     }
 }
 
-#[test]
-fn one_call_is_outstanding(rt: HostRuntime) -> Result<(), Fail> {
-    let alloc = rt.alloc();
-    let port = Ui::new(2, Kind::Port, 1).ok_or("a port")?;
-    let back = Ui::new(1, Kind::Port, 7).ok_or("a port")?;
-    let mut client = Client::new();
-    assert!(rt; client.again().is_none());
-    assert_eq!(rt; client.cancel(), None);
+/// The call of these bytes is begun: its number, and where another one is outstanding what comes back.
+fn begin(
+    rt: &impl Abort,
+    client: &mut Client,
+    ports: (Ui, Ui),
+    body: Body,
+) -> Result<u32, (Body, Outstanding)> {
+    let (port, back) = ports;
+    assert!(rt; port.kind() == Kind::Port && back.kind() == Kind::Port);
+    assert!(rt; client.given() < u32::MAX);
+    client.begin(port, back, body)
+}
 
-    let body = Body::new(alloc, b"first")?;
-    let first = client.begin(port, back, body);
-    assert!(rt; matches!(first, Ok(1)));
-    let body = Body::new(alloc, b"second")?;
-    let refusal = client.begin(port, back, body);
-    let (body, outstanding) = refusal.err().ok_or("a call that is outstanding")?;
-    assert_eq!(rt; body.bytes(), b"second".as_slice());
-    assert_eq!(rt; outstanding, Outstanding { number: 1 });
+/// A call is begun as the first one.
+fn assert_begins(rt: &impl Abort, alloc: Global, client: &mut Client, ports: (Ui, Ui)) {
+    let body = Body::new(alloc, b"first").expect(rt, "memory");
+    assert!(rt; matches!(begin(rt, client, ports, body), Ok(1)));
+}
 
-    assert!(rt; is_sent_again(&client, 1, port, back, b"first"));
+/// A call is refused, since the first one is outstanding.
+fn assert_refused(rt: &impl Abort, alloc: Global, client: &mut Client, ports: (Ui, Ui)) {
+    let body = Body::new(alloc, b"second").expect(rt, "memory");
+    let refusal = begin(rt, client, ports, body).err();
+    let (body, outstanding) = refusal.expect(rt, "a call that is outstanding");
+    assert!(rt; body.bytes() == b"second".as_slice());
+    assert!(rt; outstanding == Outstanding { number: 1 });
+}
+
+/// What comes of a reply to each of these numbers.
+fn assert_settled(rt: &impl Abort, client: &mut Client) {
     for (number, answer) in [(2, Settle::Late), (1, Settle::Done), (1, Settle::Late)] {
-        assert_eq!(rt; client.settle(number), answer, "at {number}");
+        assert!(rt; client.settle(number) == answer, "at {number}");
     }
-    assert_eq!(rt; client.given(), 1);
-    Ok(())
+}
+
+/// Nothing is outstanding.
+fn assert_idle(rt: &impl Abort, client: &mut Client) {
+    assert!(rt; client.again().is_none());
+    assert!(rt; client.cancel().is_none());
+}
+
+fn assert_one_call(rt: &impl Abort, alloc: Global) {
+    let port = Ui::new(2, Kind::Port, 1).expect(rt, "a port");
+    let back = Ui::new(1, Kind::Port, 7).expect(rt, "a port");
+    let mut client = Client::new();
+    assert_idle(rt, &mut client);
+    assert_begins(rt, alloc, &mut client, (port, back));
+    assert_refused(rt, alloc, &mut client, (port, back));
+    assert!(rt; is_sent_again(&client, 1, port, back, b"first"));
+    assert_settled(rt, &mut client);
+    assert!(rt; client.given() == 1);
 }
 
 #[test]
-fn a_caller_changes_one_field_at_a_time(rt: HostRuntime) -> Result<(), Fail> {
-    let alloc = rt.alloc();
-    let actor = Ui::new(1, Kind::Actor, 3).ok_or("an actor")?;
-    let port = Ui::new(1, Kind::Port, 1).ok_or("a port")?;
+fn one_call_is_outstanding(rt: HostRuntime) {
+    assert_one_call(&rt, rt.alloc());
+}
+
+/// The caller has its seat and actor, and these besides.
+fn assert_fields(rt: &impl Abort, caller: &Caller, actor: Ui, hand: Option<Hand>) {
+    assert!(rt; caller.seat() == 5 && caller.actor() == actor);
+    assert!(rt; caller.last() == 41 && caller.posts() == 1);
+    assert!(rt; caller.hand() == hand);
+    assert!(rt; caller.client().given() == 1);
+}
+
+fn assert_one_field_at_a_time(rt: &impl Abort, alloc: Global) {
+    let actor = Ui::new(1, Kind::Actor, 3).expect(rt, "an actor");
+    let port = Ui::new(1, Kind::Port, 1).expect(rt, "a port");
     let mut caller = Caller::new(5, actor, 40);
     caller.tick(41);
-    assert_eq!(rt; caller.posted(), 1);
-    let body = Body::new(alloc, b"")?;
+    assert!(rt; caller.posted() == 1);
+    let body = Body::new(alloc, b"").expect(rt, "memory");
     let call = caller.client_mut().begin(port, port, body);
     assert!(rt; matches!(call, Ok(1)));
     let hand = Some(Hand {
@@ -73,13 +111,12 @@ fn a_caller_changes_one_field_at_a_time(rt: HostRuntime) -> Result<(), Fail> {
         back: port,
     });
     caller.set_hand(hand);
-    assert_eq!(rt;
-        (caller.seat(), caller.actor(), caller.last(), caller.posts()),
-        (5, actor, 41, 1)
-    );
-    assert_eq!(rt; caller.hand(), hand);
-    assert_eq!(rt; caller.client().given(), 1);
-    assert_eq!(rt; take_reply(&mut caller, 1), Settle::Done);
-    assert_eq!(rt; take_reply(&mut caller, 1), Settle::Late);
-    Ok(())
+    assert_fields(rt, &caller, actor, hand);
+    assert!(rt; take_reply(&mut caller, 1) == Settle::Done);
+    assert!(rt; take_reply(&mut caller, 1) == Settle::Late);
+}
+
+#[test]
+fn a_caller_changes_one_field_at_a_time(rt: HostRuntime) {
+    assert_one_field_at_a_time(&rt, rt.alloc());
 }

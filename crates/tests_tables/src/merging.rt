@@ -1,9 +1,9 @@
-//! Merges of journals.
+//! Merges of journals. What is not as it is to be ends the test.
 
 use chorus_entry::{Act, Entry};
 use chorus_merge::merge;
-use std::alloc::{AllocError, Global};
-use std::test::Fail;
+use std::alloc::Global;
+use std::process::Abort;
 
 // An entry that tells by its seat where it stood.
 fn entry(clock: u64, place: u16, seat: u32) -> Entry {
@@ -15,45 +15,69 @@ fn entry(clock: u64, place: u16, seat: u32) -> Entry {
     }
 }
 
-fn journal(alloc: Global, entries: &[(u64, u16, u32)]) -> Result<Vec<Entry>, AllocError> {
+fn journal(rt: &impl Abort, alloc: Global, entries: &[(u64, u16, u32)]) -> Vec<Entry> {
     let mut journal = Vec::new(alloc);
-    for (clock, place, seat) in entries {
-        journal.push(entry(*clock, *place, *seat))?;
+    for (clock, place, seat) in entries.iter() {
+        journal
+            .push(entry(*clock, *place, *seat))
+            .expect(rt, "memory");
     }
-    Ok(journal)
+    journal
+}
+
+fn journals(rt: &impl Abort, alloc: Global, rows: &[&[(u64, u16, u32)]]) -> Vec<Vec<Entry>> {
+    let mut journals = Vec::new(alloc);
+    for entries in rows.iter() {
+        journals
+            .push(journal(rt, alloc, entries))
+            .expect(rt, "memory");
+    }
+    journals
+}
+
+/// The journals are merged into this one.
+fn assert_merged(
+    rt: &impl Abort,
+    alloc: Global,
+    rows: &[&[(u64, u16, u32)]],
+    want: &[(u64, u16, u32)],
+) {
+    let merged = merge(alloc, &journals(rt, alloc, rows)).expect(rt, "memory");
+    assert!(rt; merged.as_slice() == journal(rt, alloc, want).as_slice());
+}
+
+fn assert_by_clock(rt: &impl Abort, alloc: Global) {
+    let rows: [&[(u64, u16, u32)]; 2] = [&[(1, 1, 0), (4, 1, 0)], &[(1, 2, 0), (2, 2, 0)]];
+    let want = [(1, 1, 0), (1, 2, 0), (2, 2, 0), (4, 1, 0)];
+    assert_merged(rt, alloc, &rows, &want);
+    assert_merged(rt, alloc, &[], &[]);
 }
 
 #[test]
-fn merge_by_clock_then_place(rt: HostRuntime) -> Result<(), Fail> {
-    let alloc = rt.alloc();
-    let first = journal(alloc, &[(1, 1, 0), (4, 1, 0)])?;
-    let second = journal(alloc, &[(1, 2, 0), (2, 2, 0)])?;
-    let journals = vec![in alloc; first, second]?;
-    let want = journal(alloc, &[(1, 1, 0), (1, 2, 0), (2, 2, 0), (4, 1, 0)])?;
-    assert_eq!(rt; merge(alloc, &journals)?.as_slice(), want.as_slice());
-    assert_eq!(rt; merge(alloc, &[])?.len(), 0);
-    Ok(())
+fn merge_by_clock_then_place(rt: HostRuntime) {
+    assert_by_clock(&rt, rt.alloc());
+}
+
+fn assert_by_journal(rt: &impl Abort, alloc: Global) {
+    let rows: [&[(u64, u16, u32)]; 4] = [
+        &[(1, 1, 0), (3, 1, 0)],
+        &[(1, 1, 1), (1, 1, 2), (9, 1, 3)],
+        &[],
+        &[(2, 2, 4), (1, 1, 5)],
+    ];
+    let want = [
+        (1, 1, 0),
+        (1, 1, 1),
+        (1, 1, 2),
+        (2, 2, 4),
+        (1, 1, 5),
+        (3, 1, 0),
+        (9, 1, 3),
+    ];
+    assert_merged(rt, alloc, &rows, &want);
 }
 
 #[test]
-fn equal_heads_go_by_journal(rt: HostRuntime) -> Result<(), Fail> {
-    let alloc = rt.alloc();
-    let first = journal(alloc, &[(1, 1, 0), (3, 1, 0)])?;
-    let second = journal(alloc, &[(1, 1, 1), (1, 1, 2), (9, 1, 3)])?;
-    let third = journal(alloc, &[(2, 2, 4), (1, 1, 5)])?;
-    let journals = vec![in alloc; first, second, Vec::new(alloc), third]?;
-    let want = journal(
-        alloc,
-        &[
-            (1, 1, 0),
-            (1, 1, 1),
-            (1, 1, 2),
-            (2, 2, 4),
-            (1, 1, 5),
-            (3, 1, 0),
-            (9, 1, 3),
-        ],
-    )?;
-    assert_eq!(rt; merge(alloc, &journals)?.as_slice(), want.as_slice());
-    Ok(())
+fn equal_heads_go_by_journal(rt: HostRuntime) {
+    assert_by_journal(&rt, rt.alloc());
 }

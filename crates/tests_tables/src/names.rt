@@ -1,14 +1,36 @@
-//! Names, decimals and the places of a layout.
+//! Names, decimals and the places of a layout. What is not as it is to be ends the test.
 
 use chorus_ui::{Kind, Layout, Ui, is_decimal, parse_decimal, push_decimal};
-use std::test::Fail;
+use std::alloc::Global;
+use std::process::Abort;
 
-fn named(text: &[u8]) -> Result<Ui, Fail> {
-    Ok(Ui::parse(text).ok_or("no name has this text")?)
+fn named(rt: &impl Abort, text: &[u8]) -> Ui {
+    Ui::parse(text).expect(rt, "a name that has this text")
 }
 
-#[test]
-fn names_are_parsed_one_way(rt: HostRuntime) -> Result<(), Fail> {
+/// What was written behind two bytes is this text.
+fn assert_written(rt: &impl Abort, out: &[u8], text: &[u8]) {
+    assert!(rt; out.len() >= 2 && &out[2..] == text);
+}
+
+fn assert_name_written(rt: &impl Abort, alloc: Global, name: Ui, text: &[u8]) {
+    let mut out = Vec::from_slice(alloc, b"> ").expect(rt, "memory");
+    name.text(&mut out).expect(rt, "memory");
+    assert_written(rt, out.as_slice(), text);
+}
+
+/// The name has these parts, and they make it.
+fn assert_parts(rt: &impl Abort, name: Ui, site: u16, kind: Kind, number: u64) {
+    assert!(rt; name.site() == site && name.kind() == kind && name.number() == number);
+    assert!(rt; Ui::new(site, kind, number) == Some(name));
+}
+
+fn assert_bits(rt: &impl Abort, name: Ui, bits: u64) {
+    assert!(rt; name.bits() == bits);
+    assert!(rt; Ui::of_bits(bits) == Some(name));
+}
+
+fn assert_names(rt: &impl Abort, alloc: Global) {
     let names: [(&[u8], u16, Kind, u64, u64); 3] = [
         (b"2.p.7", 2, Kind::Port, 7, 565_148_976_676_871),
         (b"1.a.1", 1, Kind::Actor, 1, 0x0001_01_0000000001),
@@ -21,18 +43,14 @@ fn names_are_parsed_one_way(rt: HostRuntime) -> Result<(), Fail> {
         ),
     ];
     for (text, site, kind, number, bits) in names {
-        let name = named(text)?;
-        assert_eq!(rt;
-            (name.site(), name.kind(), name.number()),
-            (site, kind, number)
-        );
-        assert_eq!(rt; name.bits(), bits);
-        assert_eq!(rt; Ui::of_bits(bits), Some(name));
-        assert_eq!(rt; Ui::new(site, kind, number), Some(name));
-        let mut out = Vec::from_slice(rt.alloc(), b"> ")?;
-        name.text(&mut out)?;
-        assert_eq!(rt; &out.as_slice()[2..], text);
+        let name = named(rt, text);
+        assert_parts(rt, name, site, kind, number);
+        assert_bits(rt, name, bits);
+        assert_name_written(rt, alloc, name, text);
     }
+}
+
+fn assert_no_names(rt: &impl Abort) {
     let no_names: [&[u8]; 12] = [
         b"0.p.1",
         b"1.p.0",
@@ -48,8 +66,11 @@ fn names_are_parsed_one_way(rt: HostRuntime) -> Result<(), Fail> {
         b"+1.p.1",
     ];
     for text in no_names {
-        assert_eq!(rt; Ui::parse(text), None);
+        assert!(rt; Ui::parse(text).is_none());
     }
+}
+
+fn assert_no_bits(rt: &impl Abort) {
     for bits in [
         0,
         7,
@@ -58,31 +79,46 @@ fn names_are_parsed_one_way(rt: HostRuntime) -> Result<(), Fail> {
         0x0000_01_0000000001,
         0x0001_01_0000000000,
     ] {
-        assert_eq!(rt; Ui::of_bits(bits), None, "at {bits}");
+        assert!(rt; Ui::of_bits(bits).is_none(), "at {bits}");
     }
-    Ok(())
 }
 
 #[test]
-fn names_are_ordered_by_site_kind_and_number(rt: HostRuntime) -> Result<(), Fail> {
-    let mut names = Vec::new(rt.alloc());
-    for text in [b"2.a.1".as_slice(), b"1.g.1", b"1.p.2", b"1.a.9", b"1.p.1"] {
-        names.push(named(text)?)?;
+fn names_are_parsed_one_way(rt: HostRuntime) {
+    assert_names(&rt, rt.alloc());
+    assert_no_names(&rt);
+    assert_no_bits(&rt);
+}
+
+/// The names that have these texts.
+fn names_of(rt: &impl Abort, alloc: Global, texts: &[&[u8]]) -> Vec<Ui> {
+    let mut names = Vec::new(alloc);
+    for text in texts.iter() {
+        names.push(named(rt, text)).expect(rt, "memory");
     }
-    names.sort()?;
-    let ordered = [
-        named(b"1.a.9")?,
-        named(b"1.p.1")?,
-        named(b"1.p.2")?,
-        named(b"1.g.1")?,
-        named(b"2.a.1")?,
-    ];
-    assert_eq!(rt; names.as_slice(), ordered.as_slice());
-    Ok(())
+    names
+}
+
+fn assert_ordered(rt: &impl Abort, alloc: Global) {
+    let texts: [&[u8]; 5] = [b"2.a.1", b"1.g.1", b"1.p.2", b"1.a.9", b"1.p.1"];
+    let ordered: [&[u8]; 5] = [b"1.a.9", b"1.p.1", b"1.p.2", b"1.g.1", b"2.a.1"];
+    let mut names = names_of(rt, alloc, &texts);
+    names.sort().expect(rt, "memory");
+    assert!(rt; names.as_slice() == names_of(rt, alloc, &ordered).as_slice());
 }
 
 #[test]
-fn decimals_have_one_spelling(rt: HostRuntime) -> Result<(), Fail> {
+fn names_are_ordered_by_site_kind_and_number(rt: HostRuntime) {
+    assert_ordered(&rt, rt.alloc());
+}
+
+fn assert_number_written(rt: &impl Abort, alloc: Global, number: u64, text: &[u8]) {
+    let mut out = Vec::from_slice(alloc, b"> ").expect(rt, "memory");
+    push_decimal(number, &mut out).expect(rt, "memory");
+    assert_written(rt, out.as_slice(), text);
+}
+
+fn assert_decimals(rt: &impl Abort, alloc: Global) {
     let numbers: [(&[u8], u64); 5] = [
         (b"0", 0),
         (b"7", 7),
@@ -91,74 +127,118 @@ fn decimals_have_one_spelling(rt: HostRuntime) -> Result<(), Fail> {
         (b"18446744073709551615", u64::MAX),
     ];
     for (text, number) in numbers {
-        assert_eq!(rt; parse_decimal(text), Some(number));
-        let mut out = Vec::from_slice(rt.alloc(), b"> ")?;
-        push_decimal(number, &mut out)?;
-        assert_eq!(rt; &out.as_slice()[2..], text);
+        assert!(rt; parse_decimal(text) == Some(number));
+        assert_number_written(rt, alloc, number, text);
     }
-    let beyond: [&[u8]; 3] = [
-        b"18446744073709551616",
-        b"18446744073709551620",
-        b"99999999999999999999999",
+}
+
+/// No number has the text, which is a decimal all the same or is not.
+fn assert_no_number(rt: &impl Abort, text: &[u8], decimal: bool) {
+    assert!(rt; is_decimal(text) == decimal);
+    assert!(rt; parse_decimal(text).is_none());
+}
+
+fn assert_no_numbers(rt: &impl Abort) {
+    let texts: [(&[u8], bool); 10] = [
+        (b"18446744073709551616", true),
+        (b"18446744073709551620", true),
+        (b"99999999999999999999999", true),
+        (b"", false),
+        (b"00", false),
+        (b"07", false),
+        (b"+1", false),
+        (b"-1", false),
+        (b"1 ", false),
+        (b"000000000000000000000000", false),
     ];
-    for text in beyond {
-        assert!(rt; is_decimal(text));
-        assert_eq!(rt; parse_decimal(text), None);
+    for (text, decimal) in texts {
+        assert_no_number(rt, text, decimal);
     }
-    let no_decimals: [&[u8]; 7] = [
-        b"",
-        b"00",
-        b"07",
-        b"+1",
-        b"-1",
-        b"1 ",
-        b"000000000000000000000000",
-    ];
-    for text in no_decimals {
-        assert!(rt; !is_decimal(text));
-        assert_eq!(rt; parse_decimal(text), None);
-    }
-    Ok(())
 }
 
 #[test]
-fn places_and_turns(rt: HostRuntime) -> Result<(), Fail> {
+fn decimals_have_one_spelling(rt: HostRuntime) {
+    assert_decimals(&rt, rt.alloc());
+    assert_no_numbers(&rt);
+}
+
+fn layout(rt: &impl Abort, sites: u16, turns: u16) -> Layout {
+    Layout::new(sites, turns).expect(rt, "a layout")
+}
+
+/// Both places are on the site.
+fn assert_site(rt: &impl Abort, layout: Layout, site: u16, first: u16, last: u16) {
+    assert!(rt; layout.has_place(first) && layout.has_place(last));
+    assert!(rt; layout.site_of(first) == site && layout.site_of(last) == site);
+}
+
+/// The layout has 8 sites of so many turns, with these places.
+fn assert_size(rt: &impl Abort, layout: Layout, turns: u16, sites: [(u16, u16, u16); 3]) {
+    assert!(rt; layout.sites() == 8 && layout.turns() == turns);
+    assert!(rt; u32::from(layout.places()) == 8 * u32::from(turns));
+    for (site, first, last) in sites {
+        assert_site(rt, layout, site, first, last);
+    }
+}
+
+/// The home of the actor; None where it has none.
+fn assert_home(rt: &impl Abort, layout: Layout, actor: &[u8], home: Option<u16>) {
+    let actor = named(rt, actor);
+    assert!(rt; actor.kind() == Kind::Actor);
+    assert!(rt; layout.home(actor) == home);
+}
+
+/// The place of the group; None where it has none.
+fn assert_group_place(rt: &impl Abort, layout: Layout, group: &[u8], place: Option<u16>) {
+    let group = named(rt, group);
+    assert!(rt; group.kind() == Kind::Group);
+    assert!(rt; layout.group_place(group) == place);
+}
+
+/// Where the port is on site 2, and the first place there.
+fn assert_second_site(rt: &impl Abort, layout: Layout, at: u16, first: u16) {
+    let port = named(rt, b"1.p.4");
+    assert!(rt; port.kind() == Kind::Port);
+    assert!(rt; layout.has_site(2));
+    assert!(rt; layout.place_at(2, port) == at && layout.first_place(2) == first);
+}
+
+fn assert_places(rt: &impl Abort) {
     // turns; the first and last place of the sites 1, 2 and 8; the home of 2.a.3; where 1.p.4 is on site 2; the
     // place of 2.g.1
     let rows = [
-        (1, [(1, 1), (2, 2), (8, 8)], 2, 2, 2),
-        (2, [(1, 2), (3, 4), (15, 16)], 3, 4, 3),
-        (4, [(1, 4), (5, 8), (29, 32)], 7, 8, 5),
+        (1, [(1, 1, 1), (2, 2, 2), (8, 8, 8)], 2, 2, 2),
+        (2, [(1, 1, 2), (2, 3, 4), (8, 15, 16)], 3, 4, 3),
+        (4, [(1, 1, 4), (2, 5, 8), (8, 29, 32)], 7, 8, 5),
     ];
-    let (actor, port, group) = (named(b"2.a.3")?, named(b"1.p.4")?, named(b"2.g.1")?);
-    assert!(rt;
-        actor.kind() == Kind::Actor && port.kind() == Kind::Port && group.kind() == Kind::Group
-    );
     for (turns, sites, home, at, group_place) in rows {
-        let layout = Layout::new(8, turns).ok_or("a layout")?;
-        assert_eq!(rt;
-            (layout.sites(), layout.turns(), layout.places()),
-            (8, turns, 8 * turns)
-        );
-        for (site, (first, last)) in [1, 2, 8].into_iter().zip(sites) {
-            assert!(rt; layout.has_place(first) && layout.has_place(last));
-            assert_eq!(rt; (layout.site_of(first), layout.site_of(last)), (site, site));
-        }
-        assert_eq!(rt; layout.home(actor), Some(home));
-        assert!(rt; layout.has_site(2));
-        assert_eq!(rt; layout.place_at(2, port), at);
-        assert_eq!(rt; layout.group_place(group), Some(group_place));
-        assert_eq!(rt; layout.first_place(2), group_place);
+        let layout = layout(rt, 8, turns);
+        assert_size(rt, layout, turns, sites);
+        assert_home(rt, layout, b"2.a.3", Some(home));
+        assert_second_site(rt, layout, at, group_place);
+        assert_group_place(rt, layout, b"2.g.1", Some(group_place));
     }
-    Ok(())
 }
 
 #[test]
-fn names_outside_a_layout(rt: HostRuntime) -> Result<(), Fail> {
+fn places_and_turns(rt: HostRuntime) {
+    assert_places(&rt);
+}
+
+fn assert_no_layouts(rt: &impl Abort) {
     for (sites, turns) in [(0, 1), (17, 1), (1, 0), (1, 3), (1, 5)] {
         assert!(rt; Layout::new(sites, turns).is_none());
     }
-    let layout = Layout::new(16, 4).ok_or("a layout")?;
+}
+
+fn assert_port(rt: &impl Abort, layout: Layout, port: &[u8], can_be_made: bool) {
+    let port = named(rt, port);
+    assert!(rt; port.kind() == Kind::Port);
+    assert!(rt; layout.can_make_port(port) == can_be_made);
+}
+
+fn assert_limits(rt: &impl Abort) {
+    let layout = layout(rt, 16, 4);
     assert!(rt; layout.has_site(16) && !layout.has_site(17) && !layout.has_site(0));
     assert!(rt; layout.has_place(64) && !layout.has_place(65) && !layout.has_place(0));
     let actors: [(&[u8], Option<u16>); 4] = [
@@ -168,21 +248,20 @@ fn names_outside_a_layout(rt: HostRuntime) -> Result<(), Fail> {
         (b"1.a.1", Some(1)),
     ];
     for (text, home) in actors {
-        let actor = named(text)?;
-        assert!(rt; actor.kind() == Kind::Actor);
-        assert_eq!(rt; layout.home(actor), home);
+        assert_home(rt, layout, text, home);
     }
     let ports: [(&[u8], bool); 3] = [(b"16.p.32", true), (b"16.p.33", false), (b"17.p.1", false)];
     for (text, can_be_made) in ports {
-        let port = named(text)?;
-        assert!(rt; port.kind() == Kind::Port);
-        assert_eq!(rt; layout.can_make_port(port), can_be_made);
+        assert_port(rt, layout, text, can_be_made);
     }
     let groups: [(&[u8], Option<u16>); 2] = [(b"16.g.5", Some(61)), (b"17.g.1", None)];
     for (text, place) in groups {
-        let group = named(text)?;
-        assert!(rt; group.kind() == Kind::Group);
-        assert_eq!(rt; layout.group_place(group), place);
+        assert_group_place(rt, layout, text, place);
     }
-    Ok(())
+}
+
+#[test]
+fn names_outside_a_layout(rt: HostRuntime) {
+    assert_no_layouts(&rt);
+    assert_limits(&rt);
 }

@@ -1,10 +1,11 @@
-//! The packets that wait to go to other places.
+//! The packets that wait to go to other places. What is not as it is to be ends the test.
 
 ghost use Rattle.std.specs.Prelude.{◌≡◌, ◌<◌, length};
 
 use chorus_entry::{Answer, Cargo, MsgId, Packet};
 use chorus_out::Outbox;
-use std::test::Fail;
+use std::alloc::Global;
+use std::process::Abort;
 
 fn packet(clock: u64) -> Packet {
     let id = MsgId {
@@ -22,16 +23,24 @@ fn packet(clock: u64) -> Packet {
     }
 }
 
-/// Puts a packet with this clock, where there is room.
-fn put(outbox: &mut Outbox, place: u16, clock: u64) -> bool
+/// Puts a packet with this clock.
+fn put(rt: &impl Abort, outbox: &mut Outbox, place: u16, clock: u64)
     requires { place < length outbox.old.lists }
     ensures { length outbox.new.lists ≡ length outbox.old.lists }
 {
-    if outbox.spare() == 0 || outbox.puts() == u64::MAX {
-        return false;
-    }
+    assert!(rt; outbox.spare() > 0 && outbox.puts() < u64::MAX);
     outbox.put(place, packet(clock));
-    true
+}
+
+/// Puts five packets.
+fn put_five(rt: &impl Abort, outbox: &mut Outbox)
+    requires { 3 < length outbox.old.lists }
+{
+    put(rt, outbox, 3, 11);
+    put(rt, outbox, 2, 12);
+    put(rt, outbox, 3, 13);
+    put(rt, outbox, 1, 14);
+    put(rt, outbox, 3, 15);
 }
 
 /// The clock of the packet; 0 where there is none.
@@ -42,26 +51,37 @@ fn clock_of(packet: Option<Packet>) -> u64 {
     }
 }
 
-#[test]
-fn packets_leave_by_place_and_then_in_order(rt: HostRuntime) -> Result<(), Fail> {
-    let mut outbox = Outbox::with_places(rt.alloc(), 3)?;
-    assert!(rt; outbox.is_empty());
-    outbox.reserve(5)?;
-    assert!(rt; outbox.spare() >= 5);
-    assert!(rt; put(&mut outbox, 3, 11));
-    assert!(rt; put(&mut outbox, 2, 12));
-    assert!(rt; put(&mut outbox, 3, 13));
-    assert!(rt; put(&mut outbox, 1, 14));
-    assert!(rt; put(&mut outbox, 3, 15));
-    assert_eq!(rt; outbox.waiting(), 5);
-    assert_eq!(rt; clock_of(outbox.take(3)), 11);
-    assert_eq!(rt; clock_of(outbox.take(0)), 0);
-    assert_eq!(rt; clock_of(outbox.take(4)), 0);
-    assert_eq!(rt; outbox.waiting(), 4);
+/// The packets for these places, and how many wait then.
+fn assert_taken(rt: &impl Abort, outbox: &mut Outbox) {
+    assert!(rt; outbox.waiting() == 5);
+    for (place, want) in [(3, 11), (0, 0), (4, 0)] {
+        assert!(rt; clock_of(outbox.take(place)) == want);
+    }
+    assert!(rt; outbox.waiting() == 4);
+}
+
+/// The rest, by place and then in order.
+fn assert_rest(rt: &impl Abort, outbox: &mut Outbox) {
     for want in [14, 12, 13, 15, 0] {
-        assert_eq!(rt; clock_of(outbox.pop()), want);
+        assert!(rt; clock_of(outbox.pop()) == want);
     }
     assert!(rt; outbox.is_empty());
-    assert_eq!(rt; outbox.puts(), 5);
-    Ok(())
+    assert!(rt; outbox.puts() == 5);
+}
+
+fn assert_order(rt: &impl Abort, alloc: Global) {
+    let Ok(mut outbox) = Outbox::with_places(alloc, 3) else {
+        panic!(rt; "memory")
+    };
+    assert!(rt; outbox.is_empty());
+    outbox.reserve(5).expect(rt, "memory");
+    assert!(rt; outbox.spare() >= 5);
+    put_five(rt, &mut outbox);
+    assert_taken(rt, &mut outbox);
+    assert_rest(rt, &mut outbox);
+}
+
+#[test]
+fn packets_leave_by_place_and_then_in_order(rt: HostRuntime) {
+    assert_order(&rt, rt.alloc());
 }
