@@ -1,12 +1,15 @@
-//! Ends in memory.
+//! Ends in memory, and what is sent and received by ends of any type. What is not as it is to be ends the test.
+
+ghost use Rattle.std.specs.Prelude.{◌≡◌, true};
 
 use chorus_ends::{Ends, MemEnds, Moves, PushFault};
 use chorus_entry::{Answer, Cargo, MsgId, Packet};
 use chorus_ranges::has_ranges;
-use std::test::Fail;
+use std::alloc::Global;
+use std::process::Abort;
 
 /// A packet with this clock from this place.
-pub(crate) fn report(clock: u64, from: u16) -> Packet {
+fn report(clock: u64, from: u16) -> Packet {
     let id = MsgId {
         seat: 5,
         number: 1,
@@ -22,61 +25,104 @@ pub(crate) fn report(clock: u64, from: u16) -> Packet {
     }
 }
 
-/// The clock of a packet; 0 where there is none.
-fn clock_of(packet: Option<&Packet>) -> u64 {
-    match packet {
-        Some(packet) => packet.clock,
-        None => 0,
+/// Sends a packet with this clock from a place to another one. Gives the clock of a packet that came back.
+pub(crate) fn send<G, E: Moves<G>>(
+    rt: &impl Abort,
+    ground: &G,
+    ends: &mut E,
+    from: u16,
+    to: u16,
+    clock: u64,
+) -> Option<u64>
+    requires { (E.links ends.old).reaches to ≡ true }
+{
+    let packet = report(clock, from);
+    assert!(rt; has_ranges(&packet));
+    match ends.push(ground, to, packet) {
+        Ok(()) => None,
+        Err((packet, fault)) => {
+            assert!(rt; matches!(fault, PushFault::Full));
+            Some(packet.clock)
+        }
     }
 }
 
-/// Why a push failed.
-pub(crate) fn cause(fault: PushFault) -> Fail {
-    match fault {
-        PushFault::Full => Fail::from("full"),
-        PushFault::Memory(none) => Fail::from(none),
+/// Receives the next packet from the place, and gives its clock.
+pub(crate) fn receive<G, E: Moves<G>>(
+    rt: &impl Abort,
+    ground: &G,
+    ends: &mut E,
+    from: u16,
+) -> Option<u64>
+    requires { (E.links ends.old).reaches from ≡ true }
+{
+    match ends.pop(ground, from) {
+        Some(parcel) => Some(opened::<E>(rt, parcel).clock),
+        None => None,
     }
+}
+
+fn opened<E: Ends>(rt: &impl Abort, parcel: E::Parcel) -> Packet {
+    E::unpack(parcel).ok().expect(rt, "memory")
+}
+
+/// Asserts the clock of a packet, if there is one.
+pub(crate) fn assert_clock(rt: &impl Abort, clock: Option<u64>, expected: Option<u64>) {
+    assert_eq!(rt; clock, expected);
+}
+
+/// Ends that hold packets with these clocks from these places.
+fn holding(rt: &impl Abort, alloc: Global, rows: &[(u64, u16)]) -> MemEnds {
+    let mut packets = Vec::new(alloc);
+    for (clock, from) in rows {
+        packets
+            .push(report(*clock, *from))
+            .ok()
+            .expect(rt, "memory");
+    }
+    MemEnds::holding(alloc, packets).expect(rt, "memory")
+}
+
+fn assert_each_place_gets_its_packets(rt: &impl Abort, alloc: Global) {
+    let mut ends = holding(rt, alloc, &[(4, 2), (5, 3), (6, 2)]);
+    for (from, clock) in [
+        (2, Some(4)),
+        (2, Some(6)),
+        (2, None),
+        (3, Some(5)),
+        (3, None),
+    ] {
+        assert_clock(rt, receive(rt, &(), &mut ends, from), clock);
+    }
+    assert!(rt; ends.empties(3) == 2);
 }
 
 #[test]
-fn ends_in_memory_give_each_place_its_packets(rt: HostRuntime) -> Result<(), Fail> {
-    let mut packets = Vec::new(rt.alloc());
-    for (clock, from) in [(4, 2), (5, 3), (6, 2)] {
-        packets.push(report(clock, from))?;
-    }
-    let mut ends = MemEnds::holding(rt.alloc(), packets)?;
-    for (from, clock) in [(2, 4), (2, 6), (2, 0), (3, 5), (3, 0)] {
-        let packet = ends.pop(&(), from);
-        assert_eq!(rt; clock_of(packet.as_ref()), clock);
-    }
-    assert_eq!(rt; ends.empties(3), 2);
-    Ok(())
+fn ends_in_memory_give_each_place_its_packets(rt: HostRuntime) {
+    assert_each_place_gets_its_packets(&rt, rt.alloc());
 }
 
-#[test]
-fn ends_in_memory_keep_what_was_sent(rt: HostRuntime) -> Result<(), Fail> {
-    let mut ends = MemEnds::holding(rt.alloc(), Vec::new(rt.alloc()))?;
+/// Asserts that these packets have these clocks.
+fn assert_clocks(rt: &impl Abort, packets: &[Packet], clocks: &[u64]) {
+    assert!(rt; packets.len() == clocks.len());
+    for (at, packet) in packets.iter().enumerate() {
+        assert_clock(rt, Some(packet.clock), clocks.get(at).copied());
+    }
+}
+
+fn assert_sent_is_kept(rt: &impl Abort, alloc: Global) {
+    let mut ends = holding(rt, alloc, &[]);
     for (to, clock) in [(3, 4), (1, 5), (3, 6)] {
-        let packet = report(clock, 2);
-        if !has_ranges(&packet) {
-            return Err("ranges")?;
-        }
-        match ends.push(&(), to, packet) {
-            Ok(()) => {}
-            Err((_packet, fault)) => return Err(cause(fault)),
-        }
+        assert_clock(rt, send(rt, &(), &mut ends, 2, to, clock), None);
     }
-    let sent = ends.sent(3);
-    assert_eq!(rt;
-        (
-            clock_of(sent.first()),
-            clock_of(sent.get(1)),
-            clock_of(sent.get(2))
-        ),
-        (4, 6, 0)
-    );
-    assert_eq!(rt; clock_of(ends.sent(1).first()), 5);
-    assert!(rt; ends.sent(2).is_empty() && ends.sent(9).is_empty());
-    assert_eq!(rt; ends.fulls(3), 0);
-    Ok(())
+    assert_clocks(rt, ends.sent(3), &[4, 6]);
+    assert_clocks(rt, ends.sent(1), &[5]);
+    assert_clocks(rt, ends.sent(2), &[]);
+    assert_clocks(rt, ends.sent(9), &[]);
+    assert!(rt; ends.fulls(3) == 0);
+}
+
+#[test]
+fn ends_in_memory_keep_what_was_sent(rt: HostRuntime) {
+    assert_sent_is_kept(&rt, rt.alloc());
 }

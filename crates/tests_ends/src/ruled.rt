@@ -1,59 +1,58 @@
-//! Ends of links over which threads may meet.
+//! Ends of links over which threads may meet. What is not as it is to be ends the test.
 
-use crate::memory::report;
-use chorus_ends::{Ends, Moves, PushFault};
-use chorus_ranges::has_ranges;
+use crate::memory::{assert_clock, receive, send};
+use chorus_ends::Ends;
 use chorus_ruled_ends::{LINK_CAPACITY, RuledEnds};
 use chorus_ui::Layout;
+use std::alloc::Global;
+use std::process::Abort;
 use std::sync::Wait;
-use std::test::Fail;
 
-/// Sends a packet with this clock to place 2. Gives the clock of a packet that came back.
-fn send<R: Wait>(rt: &R, ends: &mut RuledEnds, clock: u64) -> Result<Option<u64>, Fail> {
-    let packet = report(clock, 1);
-    if !ends.reaches(2) || !has_ranges(&packet) {
-        return Err("a condition")?;
-    }
-    match ends.push(rt, 2, packet) {
-        Ok(()) => Ok(None),
-        Err((packet, fault)) => match fault {
-            PushFault::Full => Ok(Some(packet.clock)),
-            PushFault::Memory(none) => Err(none)?,
-        },
-    }
+/// The ends of place 1 and of place 2, on which nothing happened yet.
+fn two_places(rt: &impl Abort, alloc: Global) -> (RuledEnds, RuledEnds) {
+    let layout = Layout::new(2, 1).expect(rt, "a layout");
+    let mut all = RuledEnds::all(alloc, layout).expect(rt, "memory");
+    let second = all.pop().expect(rt, "ends");
+    let first = all.pop().expect(rt, "ends");
+    assert!(rt; all.is_empty());
+    (first, second)
 }
 
-/// Receives the next packet from place 1, and gives its clock.
-fn receive<R: Wait>(rt: &R, ends: &mut RuledEnds) -> Result<Option<u64>, Fail> {
-    if !ends.reaches(1) {
-        return Err("a condition")?;
+/// Asserts that a packet with this clock, sent to place 2, comes back with this clock, or goes.
+fn assert_sends<R: Abort + Wait>(rt: &R, ends: &mut RuledEnds, clock: u64, back: Option<u64>) {
+    assert!(rt; ends.reaches(2));
+    assert_clock(rt, send(rt, rt, ends, 1, 2, clock), back);
+}
+
+/// Asserts that the next packet from place 1, if there is one, has this clock.
+fn assert_receives<R: Abort + Wait>(rt: &R, ends: &mut RuledEnds, clock: Option<u64>) {
+    assert!(rt; ends.reaches(1));
+    assert_clock(rt, receive(rt, rt, ends, 1), clock);
+}
+
+/// Asserts how often the link from place 1 to place 2 was found full and found empty.
+fn assert_counts<E: Ends>(rt: &impl Abort, first: &E, second: &E, fulls: u64, empties: u64) {
+    assert!(rt; first.fulls(2) == fulls);
+    assert!(rt; second.empties(1) == empties);
+}
+
+fn assert_carry_in_order<R: Abort + Wait>(rt: &R, alloc: Global) {
+    let (mut first, mut second) = two_places(rt, alloc);
+    assert!(rt; !first.reaches(1) && !first.reaches(3));
+    let room = LINK_CAPACITY as u64;
+    for clock in 0..room {
+        assert_sends(rt, &mut first, clock, None);
     }
-    let Some(frame) = ends.pop(rt, 1) else {
-        return Ok(None);
-    };
-    match RuledEnds::unpack(frame) {
-        Ok(packet) => Ok(Some(packet.clock)),
-        Err((_frame, none)) => Err(none)?,
+    assert_sends(rt, &mut first, room, Some(room));
+    assert_counts(rt, &first, &second, 1, 0);
+    for clock in 0..room {
+        assert_receives(rt, &mut second, Some(clock));
     }
+    assert_receives(rt, &mut second, None);
+    assert_counts(rt, &first, &second, 1, 1);
 }
 
 #[test]
-fn ruled_ends_carry_packets_in_order(rt: HostRuntime) -> Result<(), Fail> {
-    let layout = Layout::new(2, 1).ok_or("a layout")?;
-    let mut all = RuledEnds::all(rt.alloc(), layout)?;
-    let mut second = all.pop().ok_or("ends")?;
-    let mut first = all.pop().ok_or("ends")?;
-    assert!(rt; all.is_empty() && !first.reaches(1) && !first.reaches(3));
-    let room = LINK_CAPACITY as u64;
-    for clock in 0..room {
-        assert_eq!(rt; send(&rt, &mut first, clock)?, None);
-    }
-    assert_eq!(rt; send(&rt, &mut first, room)?, Some(room));
-    assert_eq!(rt; (first.fulls(2), second.empties(1)), (1, 0));
-    for clock in 0..room {
-        assert_eq!(rt; receive(&rt, &mut second)?, Some(clock));
-    }
-    assert_eq!(rt; receive(&rt, &mut second)?, None);
-    assert_eq!(rt; (first.fulls(2), second.empties(1)), (1, 1));
-    Ok(())
+fn ruled_ends_carry_packets_in_order(rt: HostRuntime) {
+    assert_carry_in_order(&rt, rt.alloc());
 }

@@ -5,11 +5,11 @@ ghost use Rattle.tests_io.specs.declared.above.Stop.TheVariants.{WriteFault};
 ghost use Rattle.chorus_io.specs.Count.{Rose};
 ghost use Rattle.chorus_io.specs.Bytes.{AppendsPrefix};
 
-use crate::bytes::{sink_of, source_of};
+use crate::bytes::{assert_same, copied, sink_of, source_of};
 use chorus_io::{Failed, MemSource, ReadAll, Sink, Source, read_all, write_all};
 use std::alloc::Global;
 
-#[derive(Clone, Copy, Debug, PartialEq, Eq)]
+#[derive(Clone, Copy, PartialEq, Eq)]
 enum Stop {
     Input,
     ReadFault,
@@ -70,17 +70,17 @@ fn copies_until_the_sink_fails(rt: HostRuntime) {
     ] {
         let mut source = source_of(&rt, rt.alloc(), b"0123456789", &[]);
         let mut sink = sink_of(&rt, rt.alloc(), 5, &[failing]);
-        assert_eq!(rt; copy(rt.alloc(), &mut source, &mut sink, b"#"), result);
-        assert_eq!(rt; sink.bytes(), held);
+        assert!(rt; copy(rt.alloc(), &mut source, &mut sink, b"#") == result);
+        assert_same(&rt, sink.bytes(), held, 5);
     }
 }
 
 #[test]
 fn reads_a_reliable_source(rt: HostRuntime) {
-    let input = b"0123".to_vec(rt.alloc()).expect(&rt, "memory");
+    let input = copied(&rt, rt.alloc(), b"0123");
     let mut source = MemSource::new(input, Vec::new(rt.alloc()));
     let read = read_reliable(rt.alloc(), &mut source)
         .ok()
         .expect(&rt, "the input");
-    assert_eq!(rt; read.as_slice(), b"0123".as_slice());
+    assert_same(&rt, &read, b"0123", 100);
 }

@@ -14,30 +14,54 @@ fn windows_and_acknowledgements(rt: HostRuntime) {
 fn fill_window(rt: &impl Abort, alloc: Global) -> (Chunk, Chunk) {
     let mut sender = Sender::new(alloc, 1).expect(rt, "a window of 1");
     assert!(rt; put(rt, alloc, &mut sender, b"first").is_ok());
-    let (second, fault) = put(rt, alloc, &mut sender, b"second")
-        .err()
-        .expect(rt, "a full window");
-    assert_eq!(rt; fault, PutFault::WindowFull { base: 0, next: 1 });
+    let second = refused(rt, alloc, &mut sender, b"second");
     let first = emitted(rt, alloc, &sender, 0).expect(rt, "the chunk");
-    assert_eq!(rt; first.bytes(), b"first".as_slice());
     assert!(rt; emitted(rt, alloc, &sender, 1).is_none());
-    assert_eq!(rt; sender.acked(0), Acked::Old);
-    assert_eq!(rt; sender.acked(2), Acked::Beyond);
-    assert_eq!(rt; sender.acked(1), Acked::Moved { by: 1 });
+    assert_moves_once(rt, &mut sender);
     (first, second)
+}
+
+/// Gives the chunk that a full window hands back.
+fn refused(rt: &impl Abort, alloc: Global, sender: &mut Sender, bytes: &[u8]) -> Chunk {
+    let Err((chunk, fault)) = put(rt, alloc, sender, bytes) else {
+        panic!(rt; "a full window")
+    };
+    assert!(rt; matches!(fault, PutFault::WindowFull { base: 0, next: 1 }));
+    chunk
+}
+
+/// The one chunk that is kept is acknowledged once.
+fn assert_moves_once(rt: &impl Abort, sender: &mut Sender) {
+    for (upto, expected) in [
+        (0, Acked::Old),
+        (2, Acked::Beyond),
+        (1, Acked::Moved { by: 1 }),
+    ] {
+        assert!(rt; sender.acked(upto) == expected, "up to {upto}");
+    }
 }
 
 /// A window of one keeps the first chunk alone, hands it out once, and acknowledges it.
 fn receive_in_window(rt: &impl Abort, alloc: Global, first: Chunk, second: Chunk) {
+    assert_bytes(rt, &first, b"first");
     let mut receiver = Receiver::new(alloc, 1).expect(rt, "a window of 1");
-    assert_eq!(rt; arrive(rt, &mut receiver, 1, second), Got::Far);
-    assert_eq!(rt; arrive(rt, &mut receiver, 0, first), Got::Kept);
+    assert!(rt; arrive(rt, &mut receiver, 1, second) == Got::Far);
+    assert!(rt; arrive(rt, &mut receiver, 0, first) == Got::Kept);
     let again = chunk(rt, alloc, b"again");
-    assert_eq!(rt; arrive(rt, &mut receiver, 0, again), Got::Old);
-    assert_eq!(rt; receiver.ack(), 1);
-    let next = receiver.next().expect(rt, "the chunk");
-    assert_eq!(rt; next.bytes(), b"first".as_slice());
+    assert!(rt; arrive(rt, &mut receiver, 0, again) == Got::Old);
+    assert!(rt; receiver.ack() == 1);
+    assert_delivers(rt, &mut receiver, b"first");
     assert!(rt; receiver.next().is_none());
+}
+
+/// The next chunk has these bytes.
+fn assert_delivers(rt: &impl Abort, receiver: &mut Receiver, bytes: &[u8]) {
+    let next = receiver.next().expect(rt, "the chunk");
+    assert_bytes(rt, &next, bytes);
+}
+
+fn assert_bytes(rt: &impl Abort, chunk: &Chunk, bytes: &[u8]) {
+    assert!(rt; chunk.bytes() == bytes);
 }
 
 fn chunk(rt: &impl Abort, alloc: Global, bytes: &[u8]) -> Chunk {
@@ -70,7 +94,7 @@ const CHUNKS: u64 = 10_000;
 const ROUNDS: u32 = 50_000;
 
 /// What becomes of something on its way.
-#[derive(Clone, Copy, Debug, PartialEq, Eq)]
+#[derive(Clone, Copy)]
 enum Fate {
     Lost,
     Once,
@@ -93,15 +117,15 @@ struct BadLine {
 }
 
 impl BadLine {
-    fn new(alloc: Global, window: u16, seed: u64) -> Option<Self> {
-        Some(BadLine {
-            sender: Sender::new(alloc, window)?,
-            receiver: Receiver::new(alloc, window)?,
+    fn new(rt: &impl Abort, alloc: Global, window: u16, seed: u64) -> Self {
+        BadLine {
+            sender: Sender::new(alloc, window).expect(rt, "a window"),
+            receiver: Receiver::new(alloc, window).expect(rt, "a window"),
             seed,
             late: Vec::new(alloc),
             late_ack: None,
             delivered: 0,
-        })
+        }
     }
 
     /// The next fate, by Knuth's linear congruential generator.
@@ -133,13 +157,14 @@ impl BadLine {
 
     /// Emits all that is kept, and lets what was late arrive behind it, the last first.
     fn emit_all(&mut self, rt: &impl Abort, alloc: Global, loses: bool) {
-        let late = mem::replace(&mut self.late, Vec::new(alloc));
+        let mut late = mem::replace(&mut self.late, Vec::new(alloc));
         for number in self.sender.base()..self.sender.next() {
             let fate = self.fate(loses);
             let chunk = emitted(rt, alloc, &self.sender, number).expect(rt, "the chunk");
             self.carry(rt, alloc, fate, number, chunk);
         }
-        for (number, chunk) in late.into_iter().rev() {
+        for _ in 0..late.len() {
+            let (number, chunk) = late.pop().expect(rt, "what is late");
             arrive(rt, &mut self.receiver, number, chunk);
         }
     }
@@ -170,7 +195,7 @@ impl BadLine {
     fn deliver(&mut self, rt: &impl Abort) {
         for number in self.delivered..CHUNKS {
             match self.receiver.next() {
-                Some(chunk) => assert_eq!(rt; chunk.bytes(), number.to_be_bytes().as_slice()),
+                Some(chunk) => assert_bytes(rt, &chunk, &number.to_be_bytes()),
                 None => return,
             }
             self.delivered = number + 1;
@@ -187,7 +212,7 @@ impl BadLine {
         if let Some(late) = self.late_ack {
             self.hear(rt, late);
         }
-        self.late_ack = (fate == Fate::Late).then_some(ack);
+        self.late_ack = matches!(fate, Fate::Late).then_some(ack);
     }
 
     fn go_round(&mut self, rt: &impl Abort, alloc: Global, loses: bool) {
@@ -210,7 +235,7 @@ fn a_bad_line_delivers_ten_thousand_chunks(rt: HostRuntime) {
 }
 
 fn carry_all(rt: &impl Abort, alloc: Global, window: u16) {
-    let mut line = BadLine::new(alloc, window, 1988).expect(rt, "a window");
+    let mut line = BadLine::new(rt, alloc, window, 1988);
     for round in 0..ROUNDS {
         if line.delivered == CHUNKS {
             break;
