@@ -9,7 +9,3 @@ use Rattle.chorus_ui.specs.Layout.{has_site, has_place, can_make_port}
 abbrev pub IsWatched : Layout → Ui → Type 0
 IsWatched layout port = (port.kind ≡ Port) × (has_site layout port.site ≡ true) × (can_make_port layout port ≡ true)
     × (has_place layout 1 ≡ true)
-
--- the same in the layouts of two readers
-abbrev pub AreWatched : Layout → Layout → Ui → Type 0
-AreWatched layout other port = IsWatched layout port × IsWatched other port

@@ -1,10 +1,12 @@
 //! Reads from a board, while its writer publishes.
-ghost use Rattle.std.specs.Prelude.{◌≡◌, All, IfSome};
+ghost use Rattle.std.specs.Prelude.{◌≡◌, true, All};
 ghost use Rattle.std.specs.Thread.{IsSync};
 ghost use Rattle.chorus_board.specs.Boards.{book_of, layout_of, layout_read, IsNewBoard, IsNewIn};
-ghost use Rattle.bench_board.specs.Watched.{IsWatched, AreWatched};
+ghost use Rattle.chorus_ui.specs.declared.kind.Kind.TheVariants.{Port};
+ghost use Rattle.chorus_ui.specs.Layout.{has_site};
+ghost use Rattle.bench_board.specs.Watched.{IsWatched};
 
-use crate::readers::Readers;
+use crate::readers::{Readers, Source, Sources};
 use chorus_board::{Board, BoardReader};
 use chorus_ui::{Layout, Ui};
 use std::alloc::{AllocError, Global};
@@ -13,7 +15,22 @@ use std::sync::Wait;
 use std::sync::atomic::{AtomicBool, Ordering};
 use std::thread::{Threads, join};
 
-/// Reads where the port is, so many times with each reader, and gives how often it was answered.
+/// A reader, and the port whose place it reads.
+#[derive(Drop)]
+struct Sight {
+    reader: BoardReader,
+    port: Ui,
+    ghost kind: { port.kind ≡ Port },
+    ghost site: { has_site (layout_read reader) port.site ≡ true },
+}
+
+impl Source for Sight {
+    fn is_answered<R: Wait>(&mut self, _rt: &R) -> bool {
+        self.reader.newest(self.port).place > 0
+    }
+}
+
+/// Reads where the port is, so many times in all, and gives how often it was answered.
 pub fn from_board<R: Threads + Wait + Sync>(
     rt: &R,
     alloc: Global,
@@ -25,55 +42,64 @@ pub fn from_board<R: Threads + Wait + Sync>(
     requires { IsWatched layout port }
 {
     let (mut board, mut all) = Board::start(alloc, rt, layout)?;
-    let first = next_reader(&board, layout, &mut all);
-    let second = next_reader(&board, layout, &mut all);
-    let third = next_reader(&board, layout, &mut all);
-    let fourth = next_reader(&board, layout, &mut all);
-    let answered = match (readers, first, second, third, fourth) {
-        (Readers::One, Some(first), _, _, _) => by_one(rt, &mut board, port, first, count),
-        (Readers::Four, Some(first), Some(second), Some(third), Some(fourth)) => by_four(
-            rt,
-            &mut board,
-            port,
-            (first, second),
-            (third, fourth),
-            count / 4,
-        ),
-        _ => 0,
+    let answered = match sights(&board, port, &mut all, readers) {
+        Some(sights) => answers(rt, &mut board, port, sights, count),
+        None => 0,
     };
     board.end(rt);
     Ok(answered)
 }
 
-// The next reader.
-fn next_reader(board: &Board, layout: Layout, readers: &mut Vec<BoardReader>) -> Option<BoardReader>
-    requires { All (IsNewIn (book_of board.now) layout) readers.old.items }
-    ensures one { IfSome result (λ r. layout_read r ≡ layout) }
-    ensures rest { All (IsNewIn (book_of board.now) layout) readers.new.items }
+// What the first readers read.
+fn sights(
+    board: &Board,
+    port: Ui,
+    all: &mut Vec<BoardReader>,
+    readers: Readers,
+) -> Option<Sources<Sight>>
+    requires port { IsWatched (layout_of board.now) port }
+    requires new { All (IsNewIn (book_of board.now) (layout_of board.now)) all.old.items }
 {
-    let _ = board;
-    readers.pop()
+    let first = next_sight(board, port, all)?;
+    if let Readers::One = readers {
+        return Some(Sources::One(first));
+    }
+    let second = next_sight(board, port, all)?;
+    let third = next_sight(board, port, all)?;
+    let fourth = next_sight(board, port, all)?;
+    Some(Sources::Four((first, second), (third, fourth)))
 }
 
-fn by_one<R: Threads + Wait + Sync>(
+// What the next reader reads.
+fn next_sight(board: &Board, port: Ui, all: &mut Vec<BoardReader>) -> Option<Sight>
+    requires port { IsWatched (layout_of board.now) port }
+    requires new { All (IsNewIn (book_of board.now) (layout_of board.now)) all.old.items }
+    ensures { All (IsNewIn (book_of board.now) (layout_of board.now)) all.new.items }
+{
+    let _ = board;
+    let reader = all.pop()?;
+    Some(Sight { reader, port })
+}
+
+// Reads while another thread publishes, until all is read.
+fn answers<R: Threads + Wait + Sync>(
     rt: &R,
     board: &mut Board,
     port: Ui,
-    reader: BoardReader,
+    sights: Sources<Sight>,
     count: u64,
 ) -> u64
     requires port { IsWatched (layout_of board.old) port }
     requires new { IsNewBoard (layout_of board.old) board.old }
-    requires reader { IsWatched (layout_read reader) port }
 {
     let done = AtomicBool::new(false);
     let seen = &done;
     let (answered, ()) = join(
         rt,
         move || -> u64
-            requires { IsWatched (layout_read reader) port }
+            requires { IsSync R.row }
         {
-            let answered = read_many(reader, port, count);
+            let answered = sights.read(rt, count);
             seen.store(true, Ordering::SeqCst);
             answered
         },
@@ -82,81 +108,6 @@ fn by_one<R: Threads + Wait + Sync>(
             requires new { IsNewBoard (layout_of board.now) board.now }
         { publish_until(rt, board, port, seen) },
     );
-    answered
-}
-
-fn by_four<R: Threads + Wait + Sync>(
-    rt: &R,
-    board: &mut Board,
-    port: Ui,
-    one: (BoardReader, BoardReader),
-    other: (BoardReader, BoardReader),
-    count: u64,
-) -> u64
-    requires port { IsWatched (layout_of board.old) port }
-    requires new { IsNewBoard (layout_of board.old) board.old }
-    requires one { AreWatched (layout_read one.0) (layout_read one.1) port }
-    requires other { AreWatched (layout_read other.0) (layout_read other.1) port }
-{
-    let done = AtomicBool::new(false);
-    let seen = &done;
-    let (answered, ()) = join(
-        rt,
-        move || -> u64
-            requires rt { IsSync R.row }
-            requires one { AreWatched (layout_read one.0) (layout_read one.1) port }
-            requires other { AreWatched (layout_read other.0) (layout_read other.1) port }
-        {
-            let (first, second) = join(
-                rt,
-                move || -> u64
-                    requires { AreWatched (layout_read one.0) (layout_read one.1) port }
-                { by_two(rt, port, one, count) },
-                move || -> u64
-                    requires { AreWatched (layout_read other.0) (layout_read other.1) port }
-                { by_two(rt, port, other, count) },
-            );
-            seen.store(true, Ordering::SeqCst);
-            first.saturating_add(second)
-        },
-        move ||
-            requires port { IsWatched (layout_of board.now) port }
-            requires new { IsNewBoard (layout_of board.now) board.now }
-        { publish_until(rt, board, port, seen) },
-    );
-    answered
-}
-
-fn by_two<R: Threads + Sync>(
-    rt: &R,
-    port: Ui,
-    readers: (BoardReader, BoardReader),
-    count: u64,
-) -> u64
-    requires { AreWatched (layout_read readers.0) (layout_read readers.1) port }
-{
-    let (one, other) = readers;
-    let (first, second) = join(
-        rt,
-        move || -> u64
-            requires { IsWatched (layout_read one) port }
-        { read_many(one, port, count) },
-        move || -> u64
-            requires { IsWatched (layout_read other) port }
-        { read_many(other, port, count) },
-    );
-    first.saturating_add(second)
-}
-
-fn read_many(mut reader: BoardReader, port: Ui, count: u64) -> u64
-    requires { IsWatched (layout_read reader) port }
-{
-    let mut answered: u64 = 0;
-    for _ in 0..count {
-        if reader.newest(port).place > 0 {
-            answered = answered.saturating_add(1);
-        }
-    }
     answered
 }
 

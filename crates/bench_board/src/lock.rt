@@ -5,7 +5,7 @@ ghost use Rattle.chorus_ui.specs.declared.kind.Kind.TheVariants.{Port};
 ghost use Rattle.chorus_ui.specs.Layout.{has_site, has_place, can_make_port};
 ghost use Rattle.bench_board.specs.Watched.{IsWatched};
 
-use crate::readers::Readers;
+use crate::readers::{Readers, Source, Sources};
 use chorus_hints::Hints;
 use chorus_ui::{Layout, Ui};
 use std::alloc::{AllocError, Global};
@@ -34,7 +34,13 @@ impl Watched {
     }
 }
 
-/// Reads where the port is, so many times with each reader, and gives how often it was answered.
+impl Source for &RwLock<Watched> {
+    fn is_answered<R: Wait>(&mut self, rt: &R) -> bool {
+        self.read(rt).place() > 0
+    }
+}
+
+/// Reads where the port is, so many times in all, and gives how often it was answered.
 pub fn from_lock<R: Threads + Wait + Sync>(
     rt: &R,
     alloc: Global,
@@ -48,6 +54,20 @@ pub fn from_lock<R: Threads + Wait + Sync>(
     let hints = Hints::with_room(alloc, layout)?;
     let lock = RwLock::new(Watched { hints, port });
     let table = &lock;
+    let sources = match readers {
+        Readers::One => Sources::One(table),
+        Readers::Four => Sources::Four((table, table), (table, table)),
+    };
+    Ok(answers(rt, table, sources, count))
+}
+
+// Reads while another thread writes, until all is read.
+fn answers<R: Threads + Wait + Sync>(
+    rt: &R,
+    table: &RwLock<Watched>,
+    sources: Sources<&RwLock<Watched>>,
+    count: u64,
+) -> u64 {
     let done = AtomicBool::new(false);
     let seen = &done;
     let (answered, ()) = join(
@@ -55,39 +75,12 @@ pub fn from_lock<R: Threads + Wait + Sync>(
         move || -> u64
             requires { IsSync R.row }
         {
-            let answered = match readers {
-                Readers::One => read_many(rt, table, count),
-                Readers::Four => by_four(rt, table, count / 4),
-            };
+            let answered = sources.read(rt, count);
             seen.store(true, Ordering::SeqCst);
             answered
         },
         move || -> () { write_until(rt, table, seen) },
     );
-    Ok(answered)
-}
-
-fn by_four<R: Threads + Wait + Sync>(rt: &R, table: &RwLock<Watched>, count: u64) -> u64 {
-    let (first, second) = join(rt, || by_two(rt, table, count), || by_two(rt, table, count));
-    first.saturating_add(second)
-}
-
-fn by_two<R: Threads + Wait + Sync>(rt: &R, table: &RwLock<Watched>, count: u64) -> u64 {
-    let (first, second) = join(
-        rt,
-        || read_many(rt, table, count),
-        || read_many(rt, table, count),
-    );
-    first.saturating_add(second)
-}
-
-fn read_many<R: Wait>(rt: &R, table: &RwLock<Watched>, count: u64) -> u64 {
-    let mut answered: u64 = 0;
-    for _ in 0..count {
-        if table.read(rt).place() > 0 {
-            answered = answered.saturating_add(1);
-        }
-    }
     answered
 }
 

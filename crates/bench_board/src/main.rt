@@ -15,10 +15,11 @@ use chorus_ui::{Kind, Layout, Ui};
 use lock::from_lock;
 use readers::Readers;
 use std::alloc::{AllocError, Global};
+use std::env::Env;
+use std::io;
 use std::sync::Wait;
 use std::thread::Threads;
 use std::time::{Clock, Instant};
-use std::{env, io};
 
 const FEW: u64 = 1_000;
 
@@ -27,9 +28,7 @@ const MANY: u64 = 1_000_000;
 const ROUNDS: u32 = 5;
 
 fn main(rt: HostRuntime) -> io::Result<()> {
-    let timed = env::args(&rt)?
-        .nth(1)
-        .is_some_and(|word| word.as_str() == "time");
+    let timed = is_timed(&rt);
     let (Some(layout), Some(port)) = (Layout::new(2, 1), Ui::new(1, Kind::Port, 1)) else {
         return Ok(());
     };
@@ -41,6 +40,12 @@ fn main(rt: HostRuntime) -> io::Result<()> {
         return measure(&rt, rt.alloc(), layout, port, timed);
     }
     Ok(())
+}
+
+// Whether the first word is `time`.
+fn is_timed<R: Env>(rt: &R) -> bool {
+    let mut word = [0; 4];
+    rt.arg(1, &mut word).is_ok() && word == *b"time"
 }
 
 fn measure<R: Threads + Wait + Sync + Clock + Print>(

@@ -13,8 +13,9 @@ use chorus_entry::{Body, Cargo, Message, MsgId, Packet, Tag};
 use chorus_frame::Frame;
 use chorus_ui::{Kind, Ui};
 use std::alloc::{AllocError, Global};
+use std::env::Env;
+use std::io;
 use std::time::{Clock, Instant};
-use std::{env, io};
 
 const FEW: u32 = 100;
 
@@ -28,15 +29,30 @@ fn main(rt: HostRuntime) -> io::Result<()> {
         return Ok(());
     };
     let packet = try_packet(rt.alloc(), port)?;
-    let timed = env::args(&rt)?
-        .nth(1)
-        .is_some_and(|word| word.as_str() == "time");
-    if timed {
+    if is_timed(&rt) {
         return print_rates(&rt, rt.alloc(), &packet);
     }
-    let len = Frame::of(rt.alloc(), &packet)?.bytes().len();
-    let clocks = framed(rt.alloc(), &packet, FEW)?;
+    print_frames(&rt, rt.alloc(), &packet)
+}
+
+// Whether the first word is `time`.
+fn is_timed<R: Env>(rt: &R) -> bool {
+    let mut word = [0; 4];
+    rt.arg(1, &mut word).is_ok() && word == *b"time"
+}
+
+fn print_frames<R: Print>(rt: &R, alloc: Global, packet: &Packet) -> io::Result<()>
+    requires { IsTrue (has_ranges packet.now) }
+{
+    let len = frame_len(alloc, packet)?;
+    let clocks = framed(alloc, packet, FEW)?;
     println!(rt; "a frame of {len} bytes, {FEW} times: clocks add up to {clocks}")
+}
+
+fn frame_len(alloc: Global, packet: &Packet) -> Result<usize, AllocError>
+    requires { IsTrue (has_ranges packet.now) }
+{
+    Ok(Frame::of(alloc, packet)?.bytes().len())
 }
 
 fn print_rates<R: Clock + Print>(rt: &R, alloc: Global, packet: &Packet) -> io::Result<()>
@@ -69,21 +85,34 @@ fn framed(alloc: Global, packet: &Packet, times: u32) -> Result<u64, AllocError>
 {
     let mut clocks: u64 = 0;
     for _ in 0..times {
-        let frame = Frame::of(alloc, packet)?;
-        clocks = clocks.wrapping_add(frame.unpack()?.clock);
+        clocks = clocks.wrapping_add(clock_of_frame(alloc, packet)?);
     }
     Ok(clocks)
 }
 
+fn clock_of_frame(alloc: Global, packet: &Packet) -> Result<u64, AllocError>
+    requires { IsTrue (has_ranges packet.now) }
+{
+    Ok(Frame::of(alloc, packet)?.unpack()?.clock)
+}
+
 fn copied(packet: &Packet, times: u32) -> Result<u64, AllocError> {
+    match &packet.cargo {
+        Cargo::Try { message, .. } => messages_copied(message, times),
+        _ => Ok(0),
+    }
+}
+
+fn messages_copied(message: &Message, times: u32) -> Result<u64, AllocError> {
     let mut bytes: u64 = 0;
-    if let Cargo::Try { message, .. } = &packet.cargo {
-        for _ in 0..times {
-            let copy = message.copied(0)?;
-            bytes = bytes.wrapping_add(copy.body.bytes().len() as u64);
-        }
+    for _ in 0..times {
+        bytes = bytes.wrapping_add(len_of_copy(message)?);
     }
     Ok(bytes)
+}
+
+fn len_of_copy(message: &Message) -> Result<u64, AllocError> {
+    Ok(message.copied(0)?.body.bytes().len() as u64)
 }
 
 fn try_packet(alloc: Global, port: Ui) -> Result<Packet, AllocError>

@@ -44,11 +44,15 @@ impl Way {
 
 fn come_back<R: Wait>(rt: &R, front: &mut impl Front, back: &mut impl Back, packets: u64) -> bool {
     for number in 0..packets {
-        if !front.put(rt, number) || back.get(rt) != Some(number) {
+        if !comes_back(rt, front, back, number) {
             return false;
         }
     }
     true
+}
+
+fn comes_back<R: Wait>(rt: &R, front: &mut impl Front, back: &mut impl Back, number: u64) -> bool {
+    front.put(rt, number) && matches!(back.get(rt), Some(out) if out == number)
 }
 
 fn put_all<R: Wait>(rt: &R, front: &mut impl Front, packets: u64) {

@@ -12,10 +12,11 @@ use chorus_link::link;
 use course::Way;
 use crossbeam_queue::ArrayQueue;
 use std::alloc::{AllocError, Global};
+use std::env::Env;
+use std::io;
 use std::sync::Wait;
 use std::thread::Threads;
 use std::time::{Clock, Instant};
-use std::{env, io};
 
 // What a link between two places has room for.
 const CAPACITY: usize = 32;
@@ -27,30 +28,36 @@ const MANY: u64 = 2_000_000;
 const ROUNDS: u32 = 5;
 
 fn main(rt: HostRuntime) -> io::Result<()> {
-    let timed = env::args(&rt)?
-        .nth(1)
-        .is_some_and(|word| word.as_str() == "time");
+    let timed = is_timed(&rt);
     for way in [Way::OneThread, Way::TwoThreads] {
         if timed {
-            let (link, queue) = best_rates(&rt, rt.alloc(), way)?;
-            let share = link / queue;
-            println!(rt;
-                "{way}: link {link:.0} packets/s, bare queue {queue:.0} packets/s, ratio {share:.2}"
-            )?;
+            print_rates(&rt, rt.alloc(), way)?;
         } else {
-            let link = over_link(&rt, rt.alloc(), way, FEW)?;
-            let queue = over_queue(&rt, rt.alloc(), way, FEW)?;
-            println!(rt; "{way}: link in order {link}, bare queue in order {queue}")?;
+            print_order(&rt, rt.alloc(), way)?;
         }
     }
     Ok(())
 }
 
-fn best_rates<R: Threads + Wait + Sync + Clock>(
-    rt: &R,
-    alloc: Global,
-    way: Way,
-) -> io::Result<(f64, f64)> {
+// Whether the first word is `time`.
+fn is_timed<R: Env>(rt: &R) -> bool {
+    let mut word = [0; 4];
+    rt.arg(1, &mut word).is_ok() && word == *b"time"
+}
+
+fn print_order<R>(rt: &R, alloc: Global, way: Way) -> io::Result<()>
+where
+    R: Threads + Wait + Sync + Print,
+{
+    let link = over_link(rt, alloc, way, FEW)?;
+    let queue = over_queue(rt, alloc, way, FEW)?;
+    println!(rt; "{way}: link in order {link}, bare queue in order {queue}")
+}
+
+fn print_rates<R>(rt: &R, alloc: Global, way: Way) -> io::Result<()>
+where
+    R: Threads + Wait + Sync + Clock + Print,
+{
     let mut link: f64 = 0.0;
     let mut queue: f64 = 0.0;
     for _ in 0..ROUNDS {
@@ -61,7 +68,10 @@ fn best_rates<R: Threads + Wait + Sync + Clock>(
         let _ = over_queue(rt, alloc, way, MANY)?;
         queue = queue.max(rate_since(rt, start)?);
     }
-    Ok((link, queue))
+    let share = link / queue;
+    println!(rt;
+        "{way}: link {link:.0} packets/s, bare queue {queue:.0} packets/s, ratio {share:.2}"
+    )
 }
 
 fn rate_since<R: Clock>(rt: &R, start: Instant) -> io::Result<f64> {

@@ -9,8 +9,9 @@ use chorus_entry::{Act, Body, Dest, Entry, Message, MsgId, Tag};
 use chorus_merge::merge;
 use chorus_ui::{Kind, Ui};
 use std::alloc::{AllocError, Global};
+use std::env::Env;
+use std::io;
 use std::time::{Clock, Instant};
-use std::{env, io};
 
 const PLACES: u16 = 16;
 
@@ -28,29 +29,37 @@ fn main(rt: HostRuntime) -> io::Result<()> {
     let Some(port) = Ui::new(1, Kind::Port, 1) else {
         return Ok(());
     };
-    let timed = env::args(&rt)?
-        .nth(1)
-        .is_some_and(|word| word.as_str() == "time");
+    let timed = is_timed(&rt);
+    let each = if timed { MANY } else { FEW };
+    let journals = journals(rt.alloc(), port, each)?;
     if timed {
-        return print_rates(&rt, rt.alloc(), port);
+        return print_rates(&rt, rt.alloc(), &journals);
     }
-    let journals = journals(rt.alloc(), port, FEW)?;
-    let merged = merge(rt.alloc(), &journals)?;
+    print_merged(&rt, rt.alloc(), &journals)
+}
+
+// Whether the first word is `time`.
+fn is_timed<R: Env>(rt: &R) -> bool {
+    let mut word = [0; 4];
+    rt.arg(1, &mut word).is_ok() && word == *b"time"
+}
+
+fn print_merged<R: Print>(rt: &R, alloc: Global, journals: &[Vec<Entry>]) -> io::Result<()> {
+    let merged = merge(alloc, journals)?;
     let count = merged.len();
     let rising = clocks_rise(&merged);
     println!(rt; "{count} entries, clocks never fall: {rising}")
 }
 
-fn print_rates<R: Clock + Print>(rt: &R, alloc: Global, port: Ui) -> io::Result<()> {
-    let journals = journals(alloc, port, MANY)?;
+fn print_rates<R: Clock + Print>(rt: &R, alloc: Global, journals: &[Vec<Entry>]) -> io::Result<()> {
     let mut merging: f64 = 0.0;
     let mut copying: f64 = 0.0;
     for _ in 0..ROUNDS {
         let start = Instant::now(rt)?;
-        let _ = merge(alloc, &journals)?;
+        let _ = merge(alloc, journals)?;
         merging = merging.max(rate_since(rt, start)?);
         let start = Instant::now(rt)?;
-        let _ = copied(alloc, &journals)?;
+        let _ = copied(alloc, journals)?;
         copying = copying.max(rate_since(rt, start)?);
     }
     let share = merging / copying;

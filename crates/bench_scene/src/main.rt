@@ -9,8 +9,9 @@ use chorus_print::print;
 use chorus_scene::{Scenario, read};
 use chorus_ui::{Layout, push_decimal};
 use std::alloc::{AllocError, Global};
+use std::env::Env;
+use std::io;
 use std::time::{Clock, Instant};
-use std::{env, io};
 
 const SCRIPTS: u64 = 16;
 
@@ -37,49 +38,101 @@ fn main(rt: HostRuntime) -> io::Result<()> {
     let Some(layout) = Layout::new(16, 1) else {
         return Ok(());
     };
-    let timed = env::args(&rt)?
-        .nth(1)
-        .is_some_and(|word| word.as_str() == "time");
-    if timed {
+    if is_timed(&rt) {
         return print_rates(&rt, rt.alloc(), layout);
     }
-    let text = text(rt.alloc(), FEW)?;
-    let Ok(scenario) = read(rt.alloc(), &text, layout) else {
-        return println!(rt; "refused");
-    };
+    print_read(&rt, rt.alloc(), layout)
+}
+
+// Whether the first word is `time`.
+fn is_timed<R: Env>(rt: &R) -> bool {
+    let mut word = [0; 4];
+    rt.arg(1, &mut word).is_ok() && word == *b"time"
+}
+
+fn print_read<R: Print>(rt: &R, alloc: Global, layout: Layout) -> io::Result<()> {
+    let text = text(alloc, FEW)?;
+    match scenario(alloc, &text, layout) {
+        Some(scenario) => print_scenario(rt, alloc, &scenario, &text),
+        None => println!(rt; "refused"),
+    }
+}
+
+fn print_scenario<R: Print>(
+    rt: &R,
+    alloc: Global,
+    scenario: &Scenario,
+    text: &[u8],
+) -> io::Result<()> {
     let scripts = scenario.scripts().len();
     let steps = scenario.schedule().len();
-    let again = printed(rt.alloc(), &scenario)? == text;
+    let again = printed(alloc, scenario)?.as_slice() == text;
     println!(rt; "{scripts} scripts, {steps} steps, printed as read: {again}")
 }
 
 fn print_rates<R: Clock + Print>(rt: &R, alloc: Global, layout: Layout) -> io::Result<()> {
     let text = text(alloc, MANY)?;
     let comments = skipped(alloc)?;
+    print_best(rt, alloc, layout, &text, &comments)
+}
+
+fn print_best<R: Clock + Print>(
+    rt: &R,
+    alloc: Global,
+    layout: Layout,
+    text: &[u8],
+    comments: &[u8],
+) -> io::Result<()> {
     let mut reading: f64 = 0.0;
     let mut printing: f64 = 0.0;
     let mut skipping: f64 = 0.0;
     let mut passing: f64 = 0.0;
     let mut lines = 0;
     for _ in 0..ROUNDS {
+        let (read, printed) = scenario_rates(rt, alloc, layout, text)?;
+        reading = reading.max(read);
+        printing = printing.max(printed);
+        skipping = skipping.max(skip_rate(rt, alloc, layout, comments)?);
         let start = Instant::now(rt)?;
-        let scenario = read(alloc, &text, layout);
-        reading = reading.max(rate_since(rt, start, text.len())?);
-        if let Ok(scenario) = &scenario {
-            let start = Instant::now(rt)?;
-            let size = printed(alloc, scenario)?.len();
-            printing = printing.max(rate_since(rt, start, size)?);
-        }
-        let start = Instant::now(rt)?;
-        let _ = read(alloc, &comments, layout);
-        skipping = skipping.max(rate_since(rt, start, comments.len())?);
-        let start = Instant::now(rt)?;
-        lines = line_ends(&text);
+        lines = line_ends(text);
         passing = passing.max(rate_since(rt, start, text.len())?);
     }
     println!(rt;
         "{lines} line ends: read {reading:.0} MB/s, print {printing:.0} MB/s, read skipped lines {skipping:.0} MB/s, one pass {passing:.0} MB/s"
     )
+}
+
+// How fast the text is read, and printed. What was read is let go behind both.
+fn scenario_rates<R: Clock>(
+    rt: &R,
+    alloc: Global,
+    layout: Layout,
+    text: &[u8],
+) -> io::Result<(f64, f64)> {
+    let start = Instant::now(rt)?;
+    let scenario = scenario(alloc, text, layout);
+    let reading = rate_since(rt, start, text.len())?;
+    let printing = match &scenario {
+        Some(scenario) => print_rate(rt, alloc, scenario)?,
+        None => 0.0,
+    };
+    Ok((reading, printing))
+}
+
+fn print_rate<R: Clock>(rt: &R, alloc: Global, scenario: &Scenario) -> io::Result<f64> {
+    let start = Instant::now(rt)?;
+    let size = printed(alloc, scenario)?.len();
+    rate_since(rt, start, size)
+}
+
+fn skip_rate<R: Clock>(rt: &R, alloc: Global, layout: Layout, text: &[u8]) -> io::Result<f64> {
+    let start = Instant::now(rt)?;
+    let _ = scenario(alloc, text, layout);
+    rate_since(rt, start, text.len())
+}
+
+fn scenario(alloc: Global, text: &[u8], layout: Layout) -> Option<Scenario> {
+    read(alloc, text, layout).ok()
 }
 
 // Megabytes per second.
