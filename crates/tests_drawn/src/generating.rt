@@ -5,13 +5,15 @@ use crate::counting::{
     no_counts,
 };
 use crate::drawing::Draws;
-use crate::net::{Net, act_at, index, number_for, work_at};
+use crate::ground::Ground;
+use crate::net::five_callers;
 use chorus_calls::Caller;
 use chorus_entry::Packet;
 use chorus_place::{Place, PlaceFault};
 use chorus_ui::CLOCK_LIMIT;
+use std::alloc::Global;
 use std::process::Abort;
-use tests_ground::{look, meets_conditions};
+use tests_ground::{Net, act_at, index, look, meets_conditions, number_for, work_at};
 
 const ROUNDS: u64 = 8;
 
@@ -28,7 +30,7 @@ fn show(rt: &impl Abort, place: &mut Place, caller: &mut Caller, packet: Packet)
     }
     let (from, clock) = (packet.from, packet.clock);
     let effect = effect_of(&packet);
-    match work_at(rt, place, caller, packet) {
+    match work_at(&Ground { rt }, place, caller, packet) {
         Ok(()) => {
             assert_worked_off(rt, place, caller, &old, effect);
             true
@@ -51,10 +53,11 @@ fn command<R: Abort>(draws: &mut Draws<'_, R>, net: &mut Net) {
     }
     let rt = draws.rt;
     let caller = net.callers.get_mut(seat).expect(rt, "a caller");
-    let number = number_for(rt, net.layout, caller.actor(), &command);
-    let place = net.places.get_mut(index(rt, number)).expect(rt, "a place");
+    let number = number_for(&Ground { rt }, net.layout, caller.actor(), &command);
+    let at = index(&Ground { rt }, number);
+    let place = net.places.get_mut(at).expect(rt, "a place");
     let old = look_before(place, caller);
-    let told = act_at(rt, place, caller, command);
+    let told = act_at(&Ground { rt }, place, caller, command);
     assert_acted(rt, place, caller, &old, told);
 }
 
@@ -69,19 +72,27 @@ fn packet_comes<R: Abort>(
     let from = draws.below(4).saturating_add(1);
     let to = draws.below(4).saturating_add(1);
     let packet = if is_drawn {
-        Some(draws.packet(net.place(rt, to)))
+        Some(draws.packet(net.place(&Ground { rt }, to)))
     } else {
-        net.place(rt, from).out(to)
+        net.place(&Ground { rt }, from).out(to)
     };
     if let Some(packet) = packet {
         let kind = kind_of(&packet.cargo);
         count(&mut counts.shown, kind);
         let caller = net.callers.get_mut(0).expect(rt, "a caller");
-        let place = net.places.get_mut(index(rt, to)).expect(rt, "a place");
+        let at = index(&Ground { rt }, to);
+        let place = net.places.get_mut(at).expect(rt, "a place");
         if show(rt, place, caller, packet) {
             count(&mut counts.worked, kind);
         }
     }
+}
+
+/// The places of two sites, on which nothing happened yet, and their callers.
+fn start(rt: &impl Abort, alloc: Global) -> Net {
+    let mut net = Net::start(&Ground { rt }, alloc, 2, 2);
+    net.callers = five_callers(rt, alloc);
+    net
 }
 
 #[test]
@@ -90,7 +101,7 @@ fn lawful_packets_are_worked_off(rt: HostRuntime) {
     let mut drawn = no_counts(&rt, alloc);
     let mut sent = no_counts(&rt, alloc);
     for state in 1..=ROUNDS {
-        let mut net = Net::start(&rt, alloc);
+        let mut net = start(&rt, alloc);
         let mut draws = Draws {
             rt: &rt,
             alloc,

@@ -2,7 +2,8 @@
 //! below is proved twice.
 //!
 //! `generating` has the test of a place that is handed packets, `serving` that of a place that receives them by its links. `drawing`
-//! draws, `net` has the places and callers, `counting` what a turn leads to, and `inbox` what a place is to receive.
+//! draws, `net` has the callers, `ground` what ends a test, `counting` what a turn leads to, and `inbox` what a place is
+//! to receive.
 #![tactic(auto)]
 
 #[cfg(test)]
@@ -11,6 +12,8 @@ mod counting;
 mod drawing;
 #[cfg(test)]
 mod generating;
+#[cfg(test)]
+mod ground;
 #[cfg(test)]
 mod inbox;
 #[cfg(test)]

@@ -20,17 +20,18 @@ use crate::counting::{
     look_before, no_counts,
 };
 use crate::drawing::Draws;
+use crate::ground::Ground;
 use crate::inbox::Inbox;
-use crate::net::{PLACES, assert_may, five_callers, four_places, number_for};
+use crate::net::{PLACES, assert_may, five_callers};
 use chorus_calls::Caller;
 use chorus_ends::{Ends, MemEnds, Moves};
 use chorus_entry::{Act, Cargo, Command, Entry, Packet};
 use chorus_place::{Place, PlaceFault};
 use chorus_serve::{Desk, Pump, serve};
-use chorus_ui::CLOCK_LIMIT;
+use chorus_ui::{CLOCK_LIMIT, Layout};
 use std::alloc::Global;
 use std::process::Abort;
-use tests_ground::{look, meets_conditions};
+use tests_ground::{look, meets_conditions, number_for};
 
 /// How many places are served.
 const ROUNDS: u64 = 1_500;
@@ -320,7 +321,7 @@ fn serve_step(rt: &impl Abort, side: &mut Side<MemEnds>, seat: usize, tally: &mu
 /// Whether the command may be performed at the place.
 fn is_for(rt: &impl Abort, place: &Place, caller: &Caller, command: &Command) -> bool {
     meets_conditions(command)
-        && number_for(rt, place.layout(), caller.actor(), command) == place.number()
+        && number_for(&Ground { rt }, place.layout(), caller.actor(), command) == place.number()
 }
 
 /// Performs the command at the place. What is in hand stays there.
@@ -353,7 +354,7 @@ fn perform_some<R: Abort, E: Ends>(draws: &mut Draws<'_, R>, side: &mut Side<E>)
 
 /// The place of this number, at ends that hold these packets.
 fn desk_at(rt: &impl Abort, alloc: Global, number: u16, packets: Vec<Packet>) -> Desk<MemEnds> {
-    let layout = four_places(rt);
+    let layout = Layout::new(2, 2).expect(rt, "a layout");
     assert!(rt; layout.has_place(number));
     let ends = MemEnds::holding(alloc, packets).expect(rt, "memory");
     Desk::start(alloc, layout, number, ends).expect(rt, "memory")
@@ -426,20 +427,16 @@ fn serve_on<R: Abort>(draws: &mut Draws<'_, R>, side: &mut Side<MemEnds>, tally:
     }
 }
 
-/// What is drawn from this state.
-fn draws_from<R: Abort>(rt: &R, alloc: Global, state: u64) -> Draws<'_, R> {
-    Draws { rt, alloc, state }
-}
-
 /// Draws the packets twice, for a place to receive and to look at them here, and serves it.
 fn round<R: Abort>(rt: &R, alloc: Global, state: u64, tally: &mut Tally) {
-    let mut draws = draws_from(rt, alloc, state);
+    let mut draws = Draws { rt, alloc, state };
     let number = draws.below(PLACES).saturating_add(1);
     let start = draws.state;
     let rehearsal = prepare(&mut draws, number, Vec::new(alloc));
     let place = rehearsal.desk.place();
-    let left = packets(draws_from(rt, alloc, u64::MAX - state), place);
-    let received = packets(draws_from(rt, alloc, u64::MAX - state), place);
+    let state = u64::MAX - state;
+    let left = packets(Draws { rt, alloc, state }, place);
+    let received = packets(Draws { rt, alloc, state }, place);
     draws.state = start;
     let mut side = prepare(&mut draws, number, received);
     side.inbox = Inbox::holding(left);

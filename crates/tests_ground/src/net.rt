@@ -67,6 +67,18 @@ pub fn number_for(judge: &impl Judge, layout: Layout, actor: Ui, command: &Comma
     place_for(layout, actor, command)
 }
 
+/// Where the call was refused, what is seen is what was seen before.
+fn check_stays(
+    judge: &impl Judge,
+    is_refused: bool,
+    place: &Place,
+    caller: &Caller,
+    before: &Seen,
+) {
+    let stays = !is_refused || look(place, caller) == *before;
+    check(judge, stays, "a refusal that changes nothing", "");
+}
+
 /// Gives the place a command of the caller. A refusal changes nothing.
 pub fn act_at(
     judge: &impl Judge,
@@ -92,10 +104,7 @@ pub fn act_at(
         match judge.fail("a number for a call", "") {}
     }
     let told = place.act(caller, command);
-    if told.is_err() {
-        let stays = look(place, caller) == before;
-        check(judge, stays, "a refusal that changes nothing", "");
-    }
+    check_stays(judge, told.is_err(), place, caller, &before);
     told
 }
 
@@ -111,10 +120,7 @@ pub fn work_at(
         match judge.fail("a lawful packet", "") {}
     }
     let told = place.work(caller, packet);
-    if told.is_err() {
-        let stays = look(place, caller) == before;
-        check(judge, stays, "a refusal that changes nothing", "");
-    }
+    check_stays(judge, told.is_err(), place, caller, &before);
     told
 }
 

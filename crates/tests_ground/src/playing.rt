@@ -35,14 +35,23 @@ pub fn rows_of<'a>(judge: &impl Judge, alloc: Global, table: &'a str) -> Vec<Row
     rows
 }
 
+/// What stands before and behind the mark, where what is wanted ends there.
+fn parted<'a>(judge: &impl Judge, text: &'a str, mark: &str, wanted: &str) -> (&'a str, &'a str) {
+    must(judge, text.split_once(mark), wanted)
+}
+
+fn number_of(judge: &impl Judge, text: &str) -> u16 {
+    must(judge, text.parse::<u16>().ok(), "a number")
+}
+
 fn row_of<'a>(judge: &impl Judge, row: &'a str) -> Row<'a> {
-    let (name, rest) = must(judge, row.split_once(": "), "a name");
-    let (sites, rest) = must(judge, rest.split_once(' '), "sites");
-    let (turns, lines) = must(judge, rest.split_once('\n'), "turns");
+    let (name, rest) = parted(judge, row, ": ", "a name");
+    let (sites, rest) = parted(judge, rest, " ", "sites");
+    let (turns, lines) = parted(judge, rest, "\n", "turns");
     Row {
         name,
-        sites: must(judge, sites.parse::<u16>().ok(), "a number"),
-        turns: must(judge, turns.parse::<u16>().ok(), "a number"),
+        sites: number_of(judge, sites),
+        turns: number_of(judge, turns),
         lines,
     }
 }
@@ -57,8 +66,8 @@ pub fn assert_rows(judge: &impl Judge, alloc: Global, table: &str) {
 
 /// The journals and what callers were told end as these lines of a row say, and no packet is left.
 pub fn assert_ends(judge: &impl Judge, alloc: Global, name: &str, net: &Net, lines: &str) {
-    let (_, rest) = must(judge, lines.split_once("journal\n"), "a journal");
-    let (journal, told) = must(judge, rest.split_once("told\n"), "what is told");
+    let (_, rest) = parted(judge, lines, "journal\n", "a journal");
+    let (journal, told) = parted(judge, rest, "told\n", "what is told");
     let entries = net.lines(judge, alloc);
     let ends = entries.as_slice().ends_with(journal.as_bytes());
     check(judge, ends, "the journal", name);
