@@ -16,6 +16,7 @@ mod way;
 
 use chorus_ends::MemEnds;
 use chorus_ruled_ends::RuledEnds;
+use pair::Side;
 use rounds::run_rounds;
 use std::alloc::Global;
 use std::sync::Wait;
@@ -45,11 +46,11 @@ fn main(rt: HostRuntime) -> io::Result<()> {
 }
 
 fn over_links<R: Wait + Clock>(rt: &R, alloc: Global, count: u32) -> io::Result<(u64, Duration)> {
-    run_rounds::<R, R, RuledEnds>(rt, rt, alloc, count)
+    run_rounds::<R, R, Side<RuledEnds>>(rt, rt, alloc, count)
 }
 
 fn in_memory<R: Clock>(rt: &R, alloc: Global, count: u32) -> io::Result<(u64, Duration)> {
-    run_rounds::<R, (), MemEnds>(rt, &(), alloc, count)
+    run_rounds::<R, (), Side<MemEnds>>(rt, &(), alloc, count)
 }
 
 fn best_rates<R: Wait + Clock>(rt: &R, alloc: Global) -> io::Result<(f64, f64)> {

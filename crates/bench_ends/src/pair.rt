@@ -1,7 +1,6 @@
 //! Two places, a caller at each, and packets that go from one to the other.
 
 ghost use Rattle.std.specs.Prelude.{◌≡◌, ◌-◌, ◌<◌, true};
-ghost use Rattle.chorus_ui.specs.declared.kind.Kind.TheVariants as kinds;
 ghost use Rattle.chorus_entry.specs.Command.{meets_conditions};
 ghost use Rattle.chorus_place.specs.Calls.{state, MayCall};
 
@@ -25,11 +24,24 @@ pub(crate) struct Side<E: Ends> {
     caller: Caller,
 }
 
+/// What a place at the ends of its links does for its caller, on a ground of this type. The rounds are written over this, so that
+/// they know of a place no more than they ask.
+pub(crate) trait Works<G>: Drop {
+    /// The places of two sites that are linked, on which nothing happened yet.
+    fn both(alloc: Global) -> Option<(Self, Self)>;
+
+    /// Sends the message of this number.
+    fn send(&mut self, alloc: Global, number: u32) -> Option<()>;
+
+    /// Serves the place's links once. Gives how many packets were put and worked off so far, where the place is idle.
+    fn serve(&mut self, ground: &G) -> Option<(u64, u64)>;
+}
+
 /// The places of two sites.
 #[derive(Drop)]
-pub(crate) struct Pair<E: Ends> {
-    one: Side<E>,
-    two: Side<E>,
+pub(crate) struct Pair<S: Drop> {
+    one: S,
+    two: S,
 }
 
 /// Whether the caller may give the place the command.
@@ -84,57 +96,57 @@ impl<E: Ends> Side<E> {
         self.desk.act(&mut self.caller, command).ok()?;
         Some(())
     }
+}
 
-    /// Sends a message to the port.
-    fn send(&mut self, alloc: Global, port: Ui) -> Option<()>
-        requires { port.kind ≡ kinds.Port }
-    {
+/// The two places at the ends of their links.
+fn sides<E: Way>(alloc: Global) -> Option<(Side<E>, Side<E>)> {
+    let layout = Layout::new(2, 1)?;
+    let (one, two) = E::both(alloc, layout)?;
+    let one = Side::start(alloc, layout, 1, one)?;
+    let two = Side::start(alloc, layout, 2, two)?;
+    Some((one, two))
+}
+
+impl<G, E: Way + Moves<G>> Works<G> for Side<E> {
+    fn both(alloc: Global) -> Option<(Side<E>, Side<E>)> {
+        sides(alloc)
+    }
+
+    fn send(&mut self, alloc: Global, number: u32) -> Option<()> {
+        let dest = Dest::Port(port(number)?);
         let body = body(alloc)?;
-        let dest = Dest::Port(port);
         self.act(Command::Send { dest, body })
     }
 
-    /// Sends all messages.
-    fn send_all(&mut self, alloc: Global) -> Option<()> {
-        for number in 1..=MESSAGES {
-            self.send(alloc, port(number)?)?;
-        }
-        Some(())
+    fn serve(&mut self, ground: &G) -> Option<(u64, u64)> {
+        idle(serve(&mut self.desk, ground, &mut self.caller).ok())
     }
 }
 
-/// Serves the place's links once.
-fn serve_once<G, E: Moves<G>>(side: &mut Side<E>, ground: &G) -> Option<Pump> {
-    serve(&mut side.desk, ground, &mut side.caller).ok()
+/// Sends all messages.
+fn send_all<G, S: Works<G>>(alloc: Global, side: &mut S) -> Option<()> {
+    for number in 1..=MESSAGES {
+        side.send(alloc, number)?;
+    }
+    Some(())
 }
 
-impl<E: Way> Pair<E> {
-    /// The two places, on which nothing happened yet.
-    fn linked(alloc: Global) -> Option<Pair<E>> {
-        let layout = Layout::new(2, 1)?;
-        let (one, two) = E::both(alloc, layout)?;
-        let one = Side::start(alloc, layout, 1, one)?;
-        let two = Side::start(alloc, layout, 2, two)?;
-        Some(Pair { one, two })
-    }
-
-    /// The two places, where the first has sent all messages and no link was served. None where there is no memory.
-    pub(crate) fn start(alloc: Global) -> Option<Pair<E>> {
-        let mut pair: Pair<E> = Pair::linked(alloc)?;
-        pair.one.send_all(alloc)?;
-        Some(pair)
-    }
+/// The two places, where the first has sent all messages and no link was served. None where there is no memory.
+pub(crate) fn start<G, S: Works<G>>(alloc: Global) -> Option<Pair<S>> {
+    let (mut one, two) = S::both(alloc)?;
+    send_all::<G, S>(alloc, &mut one)?;
+    Some(Pair { one, two })
 }
 
 /// Serves both places once. Gives how many packets they worked off so far, where nothing is left then.
-fn serve_both<G, E: Moves<G>>(pair: &mut Pair<E>, ground: &G) -> Option<u64> {
-    let one = serve_once(&mut pair.one, ground);
-    let two = serve_once(&mut pair.two, ground);
+fn serve_both<G, S: Works<G>>(pair: &mut Pair<S>, ground: &G) -> Option<u64> {
+    let one = pair.one.serve(ground);
+    let two = pair.two.serve(ground);
     worked_at_rest(one, two)
 }
 
 /// Serves both places until nothing is left. Gives how many packets they worked off.
-pub(crate) fn exchange<G, E: Moves<G>>(pair: &mut Pair<E>, ground: &G) -> Option<u64> {
+pub(crate) fn exchange<G, S: Works<G>>(pair: &mut Pair<S>, ground: &G) -> Option<u64> {
     for _ in 0..TURNS {
         let worked = serve_both(pair, ground);
         if worked.is_some() {
@@ -152,11 +164,11 @@ fn idle(pump: Option<Pump>) -> Option<(u64, u64)> {
     }
 }
 
-/// How many packets two places worked off, where these are their answers and nothing is left: both are idle, and together they
-/// worked off as many packets as they put.
-fn worked_at_rest(one: Option<Pump>, two: Option<Pump>) -> Option<u64> {
-    let (put, worked) = idle(one)?;
-    let (more, too) = idle(two)?;
+/// How many packets two places worked off, where nothing is left: both are idle, and together they worked off as many packets as
+/// they put.
+fn worked_at_rest(one: Option<(u64, u64)>, two: Option<(u64, u64)>) -> Option<u64> {
+    let (put, worked) = one?;
+    let (more, too) = two?;
     let worked = worked.saturating_add(too);
     if put.saturating_add(more) == worked {
         Some(worked)

@@ -1,36 +1,34 @@
 //! Rounds of packets between two places.
 
-use crate::pair::{Pair, exchange};
-use crate::way::Way;
-use chorus_ends::Moves;
+use crate::pair::{Pair, Works, exchange, start};
 use std::alloc::{AllocError, Global};
 use std::io;
 use std::time::{Clock, Duration, Instant};
 
 /// Serves two places until nothing is left: how many packets they worked off, and how long that took.
-fn timed<R: Clock, G, E: Moves<G>>(
+fn timed<R: Clock, G, S: Works<G>>(
     rt: &R,
     ground: &G,
-    pair: &mut Pair<E>,
+    pair: &mut Pair<S>,
 ) -> io::Result<(u64, Duration)> {
-    let start = Instant::now(rt)?;
+    let began = Instant::now(rt)?;
     let worked = exchange(pair, ground).ok_or(AllocError)?;
-    let time = start.elapsed(rt)?;
+    let time = began.elapsed(rt)?;
     Ok((worked, time))
 }
 
 /// A round: two places are made, and served.
-fn round<R: Clock, G, E: Way + Moves<G>>(
+fn round<R: Clock, G, S: Works<G>>(
     rt: &R,
     ground: &G,
     alloc: Global,
 ) -> io::Result<(u64, Duration)> {
-    let mut pair: Pair<E> = Pair::start(alloc).ok_or(AllocError)?;
+    let mut pair = start::<G, S>(alloc).ok_or(AllocError)?;
     timed(rt, ground, &mut pair)
 }
 
 /// So many rounds, each between places of its own: how many packets were worked off, and how long the places were served.
-pub(crate) fn run_rounds<R: Clock, G, E: Way + Moves<G>>(
+pub(crate) fn run_rounds<R: Clock, G, S: Works<G>>(
     rt: &R,
     ground: &G,
     alloc: Global,
@@ -39,7 +37,7 @@ pub(crate) fn run_rounds<R: Clock, G, E: Way + Moves<G>>(
     let mut packets: u64 = 0;
     let mut time = Duration::ZERO;
     for _ in 0..count {
-        let (worked, lasted) = round::<R, G, E>(rt, ground, alloc)?;
+        let (worked, lasted) = round::<R, G, S>(rt, ground, alloc)?;
         packets = packets.saturating_add(worked);
         time = time.saturating_add(lasted);
     }

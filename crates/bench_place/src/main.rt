@@ -9,6 +9,7 @@ mod pair;
 mod times;
 mod work;
 
+use pair::{Pair, Side, Works};
 use std::alloc::{AllocError, Global};
 use std::time::Clock;
 use std::{env, io};
@@ -26,9 +27,9 @@ fn main(rt: HostRuntime) -> io::Result<()> {
         .is_some_and(|word| word.as_str() == "time");
     for work in Work::all() {
         if timed {
-            print_times(&rt, rt.alloc(), work)?;
+            print_times::<HostRuntime, Side>(&rt, rt.alloc(), work)?;
         } else {
-            let entries = entries_of(rt.alloc(), work).ok_or(AllocError)?;
+            let entries = entries_of::<Side>(rt.alloc(), work).ok_or(AllocError)?;
             println!(rt; "{work}: {entries} entries")?;
         }
     }
@@ -36,19 +37,19 @@ fn main(rt: HostRuntime) -> io::Result<()> {
 }
 
 // How many entries a little of the work leads to.
-fn entries_of(alloc: Global, work: Work) -> Option<usize> {
-    let mut pair = work.start(alloc, FEW)?;
+fn entries_of<S: Works>(alloc: Global, work: Work) -> Option<usize> {
+    let mut pair: Pair<S> = work.start(alloc, FEW)?;
     for _ in 0..FEW {
         work.round(alloc, &mut pair)?;
     }
     Some(pair.entries())
 }
 
-fn print_times<R: Clock + Print>(rt: &R, alloc: Global, work: Work) -> io::Result<()> {
-    let mut one = Timed::start(alloc, work, 1)?;
-    let mut some = Timed::start(alloc, work, 1_000)?;
-    let mut many = Timed::start(alloc, work, 100_000)?;
-    let mut behind = Timed::behind(alloc, work, 1_000_000)?;
+fn print_times<R: Clock + Print, S: Works>(rt: &R, alloc: Global, work: Work) -> io::Result<()> {
+    let mut one: Timed<S> = Timed::start(alloc, work, 1)?;
+    let mut some: Timed<S> = Timed::start(alloc, work, 1_000)?;
+    let mut many: Timed<S> = Timed::start(alloc, work, 100_000)?;
+    let mut behind: Timed<S> = Timed::behind(alloc, work, 1_000_000)?;
     for _ in 0..TRIES {
         one.time(rt, alloc)?;
         some.time(rt, alloc)?;

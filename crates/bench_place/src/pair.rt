@@ -19,11 +19,33 @@ pub(crate) struct Side {
     caller: Caller,
 }
 
+/// What a place and its caller do. The rounds are written over this, so that they know of a place no more than they ask.
+pub(crate) trait Works: Drop {
+    /// The place of the site and its caller, where nothing happened yet.
+    fn new(alloc: Global, layout: Layout, site: u16) -> Option<Self>;
+
+    /// Performs a command of the caller.
+    fn act(&mut self, command: Command) -> Option<()>
+        requires { meets_conditions command ≡ true };
+
+    /// Works off a packet, which is to be lawful here.
+    fn work(&mut self, packet: Packet) -> Option<()>;
+
+    /// Takes the first packet that goes to the place.
+    fn out(&mut self, to: u16) -> Option<Packet>;
+
+    /// The number of the place.
+    fn number(&self) -> u16;
+
+    /// How many entries there are.
+    fn entries(&self) -> usize;
+}
+
 /// The places of two sites.
 #[derive(Drop)]
-pub(crate) struct Pair {
-    pub(crate) one: Side,
-    pub(crate) two: Side,
+pub(crate) struct Pair<S: Works> {
+    pub(crate) one: S,
+    pub(crate) two: S,
 }
 
 /// The first name of this kind of the site.
@@ -80,22 +102,15 @@ fn may_act(place: &Place, caller: &Caller, command: &Command) -> bool
     place_for(layout, actor, command) == place.number()
 }
 
-impl Side {
-    /// The place of the site, where the caller made a port of capacity 64.
-    fn start(alloc: Global, layout: Layout, site: u16) -> Option<Side> {
+impl Works for Side {
+    fn new(alloc: Global, layout: Layout, site: u16) -> Option<Side> {
         let actor = actor_of(site)?;
         let place = place_of(alloc, layout, site)?;
         let caller = Caller::new(u32::from(site), actor, 0);
-        let mut side = Side { place, caller };
-        let capacity = 64;
-        side.act(Command::Make { actor, capacity })?;
-        Some(side)
+        Some(Side { place, caller })
     }
 
-    /// Performs a command of the caller.
-    pub(crate) fn act(&mut self, command: Command) -> Option<()>
-        requires { meets_conditions command ≡ true }
-    {
+    fn act(&mut self, command: Command) -> Option<()> {
         if !may_act(&self.place, &self.caller, &command) {
             return None;
         }
@@ -103,16 +118,6 @@ impl Side {
         Some(())
     }
 
-    /// Sends a body of sixteen bytes.
-    pub(crate) fn send(&mut self, alloc: Global, dest: Dest) -> Option<()>
-        requires kinds { has_kinds_in_dest dest ≡ true }
-        requires site { demands_a_site dest ≡ true }
-    {
-        let body = Body::new(alloc, b"sixteen bytes...").ok()?;
-        self.act(Command::Send { dest, body })
-    }
-
-    /// Works off a packet, which is to be lawful here.
     fn work(&mut self, packet: Packet) -> Option<()> {
         if !self.place.lawful(packet.from, &packet) {
             return None;
@@ -120,9 +125,12 @@ impl Side {
         self.place.work(&mut self.caller, packet).ok()
     }
 
-    /// Takes away the first packet that goes to the place, so that its message stays under way.
-    pub(crate) fn lose(&mut self, to: u16) {
-        let _lost = self.place.out(to);
+    fn out(&mut self, to: u16) -> Option<Packet> {
+        self.place.out(to)
+    }
+
+    fn number(&self) -> u16 {
+        self.place.number()
     }
 
     fn entries(&self) -> usize {
@@ -130,20 +138,43 @@ impl Side {
     }
 }
 
+/// The place of the site, where the caller made a port of capacity 64.
+fn start<S: Works>(alloc: Global, layout: Layout, site: u16) -> Option<S> {
+    let actor = actor_of(site)?;
+    let mut side = S::new(alloc, layout, site)?;
+    let capacity = 64;
+    side.act(Command::Make { actor, capacity })?;
+    Some(side)
+}
+
+/// Sends a body of sixteen bytes.
+pub(crate) fn send<S: Works>(alloc: Global, side: &mut S, dest: Dest) -> Option<()>
+    requires kinds { has_kinds_in_dest dest ≡ true }
+    requires site { demands_a_site dest ≡ true }
+{
+    let body = Body::new(alloc, b"sixteen bytes...").ok()?;
+    side.act(Command::Send { dest, body })
+}
+
+/// Takes away the first packet that goes to the place, so that its message stays under way.
+pub(crate) fn lose<S: Works>(side: &mut S, to: u16) {
+    let _lost = side.out(to);
+}
+
 /// Hands the first packet from one place to the other, where one waits.
-pub(crate) fn deliver(from: &mut Side, to: &mut Side) -> Option<()> {
-    match from.place.out(to.place.number()) {
+pub(crate) fn deliver<S: Works>(from: &mut S, to: &mut S) -> Option<()> {
+    match from.out(to.number()) {
         Some(packet) => to.work(packet),
         None => Some(()),
     }
 }
 
-impl Pair {
+impl<S: Works> Pair<S> {
     /// The two places, with a port of capacity 64 at each.
-    pub(crate) fn start(alloc: Global) -> Option<Pair> {
+    pub(crate) fn start(alloc: Global) -> Option<Pair<S>> {
         let layout = Layout::new(2, 1)?;
-        let one = Side::start(alloc, layout, 1)?;
-        let two = Side::start(alloc, layout, 2)?;
+        let one = start(alloc, layout, 1)?;
+        let two = start(alloc, layout, 2)?;
         Some(Pair { one, two })
     }
 

@@ -1,6 +1,6 @@
 //! How long a round takes.
 
-use crate::pair::Pair;
+use crate::pair::{Pair, Works};
 use crate::work::Work;
 use std::alloc::{AllocError, Global};
 use std::io;
@@ -11,23 +11,23 @@ const ROUNDS: u32 = 5_000;
 
 /// Two places, and the nanoseconds of a round there: the least mean so far.
 #[derive(Drop)]
-pub(crate) struct Timed {
+pub(crate) struct Timed<S: Works> {
     work: Work,
-    pair: Pair,
+    pair: Pair<S>,
     pub(crate) best: f64,
 }
 
-impl Timed {
+impl<S: Works> Timed<S> {
     /// Places where so many messages wait.
-    pub(crate) fn start(alloc: Global, work: Work, waiting: u32) -> io::Result<Timed> {
+    pub(crate) fn start(alloc: Global, work: Work, waiting: u32) -> io::Result<Timed<S>> {
         let pair = work.start(alloc, waiting).ok_or(AllocError)?;
         let best = f64::INFINITY;
         Ok(Timed { work, pair, best })
     }
 
     /// Places where one message waits, and so many rounds were done that there are this many entries.
-    pub(crate) fn behind(alloc: Global, work: Work, entries: u32) -> io::Result<Timed> {
-        let mut timed = Timed::start(alloc, work, 1)?;
+    pub(crate) fn behind(alloc: Global, work: Work, entries: u32) -> io::Result<Timed<S>> {
+        let mut timed: Timed<S> = Timed::start(alloc, work, 1)?;
         for _ in 0..entries {
             timed.go_on(alloc, entries)?;
         }
