@@ -3,6 +3,7 @@ ghost use Rattle.std.specs.Prelude.{◌≡◌};
 ghost use Rattle.chorus_calls.specs.Clients.{answer_to, after_settle};
 ghost use Rattle.chorus_calls.specs.Callers.{with_client};
 
+use crate::ground::{named, port};
 use chorus_calls::{Caller, Client, Outstanding, Settle};
 use chorus_entry::{Body, Hand};
 use chorus_ui::{Kind, Ui};
@@ -52,8 +53,9 @@ fn assert_begins(rt: &impl Abort, alloc: Global, client: &mut Client, ports: (Ui
 /// A call is refused, since the first one is outstanding.
 fn assert_refused(rt: &impl Abort, alloc: Global, client: &mut Client, ports: (Ui, Ui)) {
     let body = Body::new(alloc, b"second").expect(rt, "memory");
-    let refusal = begin(rt, client, ports, body).err();
-    let (body, outstanding) = refusal.expect(rt, "a call that is outstanding");
+    let Err((body, outstanding)) = begin(rt, client, ports, body) else {
+        panic!(rt; "a call that is outstanding")
+    };
     assert!(rt; body.bytes() == b"second".as_slice());
     assert!(rt; outstanding == Outstanding { number: 1 });
 }
@@ -72,8 +74,7 @@ fn assert_idle(rt: &impl Abort, client: &mut Client) {
 }
 
 fn assert_one_call(rt: &impl Abort, alloc: Global) {
-    let port = Ui::new(2, Kind::Port, 1).expect(rt, "a port");
-    let back = Ui::new(1, Kind::Port, 7).expect(rt, "a port");
+    let (port, back) = (named(rt, 2, Kind::Port, 1), port(rt, 7));
     let mut client = Client::new();
     assert_idle(rt, &mut client);
     assert_begins(rt, alloc, &mut client, (port, back));
@@ -97,7 +98,7 @@ fn assert_fields(rt: &impl Abort, caller: &Caller, actor: Ui, hand: Option<Hand>
 }
 
 fn assert_one_field_at_a_time(rt: &impl Abort, alloc: Global) {
-    let actor = Ui::new(1, Kind::Actor, 3).expect(rt, "an actor");
+    let actor = named(rt, 1, Kind::Actor, 3);
     let port = Ui::new(1, Kind::Port, 1).expect(rt, "a port");
     let mut caller = Caller::new(5, actor, 40);
     caller.tick(41);

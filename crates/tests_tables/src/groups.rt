@@ -1,17 +1,14 @@
 //! Groups whose members come and go, and the members that posts choose. What is not as it is to be ends the test.
 
+use crate::ground::{named, port};
 use chorus_entry::{Dest, MEMBERS_LIMIT};
-use chorus_groups::{Choice, Groups, JoinFault, LeaveFault};
+use chorus_groups::{Groups, JoinFault, LeaveFault};
 use chorus_ui::{Kind, Ui};
 use std::alloc::Global;
 use std::process::Abort;
 
-fn port(rt: &impl Abort, number: u64) -> Ui {
-    Ui::new(1, Kind::Port, number).expect(rt, "a port")
-}
-
 fn group(rt: &impl Abort, number: u64) -> Ui {
-    Ui::new(1, Kind::Group, number).expect(rt, "a group")
+    named(rt, 1, Kind::Group, number)
 }
 
 fn join(rt: &impl Abort, groups: &mut Groups, group: Ui, number: u64) {
@@ -31,12 +28,10 @@ fn grouped(rt: &impl Abort, alloc: Global, members: &[u64]) -> Groups {
 }
 
 /// The numbers of the members that are chosen.
-fn numbers(rt: &impl Abort, alloc: Global, choice: &Choice) -> Vec<u64> {
+fn numbers(rt: &impl Abort, alloc: Global, members: &[Ui]) -> Vec<u64> {
     let mut found = Vec::new(alloc);
-    if let Choice::Members(members) = choice {
-        for member in members.uis().iter() {
-            found.push(member.number()).expect(rt, "memory");
-        }
+    for member in members.iter() {
+        found.push(member.number()).expect(rt, "memory");
     }
     found
 }
@@ -58,9 +53,22 @@ fn assert_chosen(
     );
     let choice = groups.choose(alloc, dest, located).expect(rt, "memory");
     assert!(rt;
-        numbers(rt, alloc, &choice).as_slice() == chosen,
+        numbers(rt, alloc, choice.members()).as_slice() == chosen,
         "of {dest:?}"
     );
+}
+
+/// Posts to these destinations, one after another, choose these members.
+fn assert_rows(
+    rt: &impl Abort,
+    alloc: Global,
+    groups: &mut Groups,
+    located: &[u16],
+    rows: &[(Dest, &[u64])],
+) {
+    for (dest, chosen) in rows.iter() {
+        assert_chosen(rt, alloc, groups, dest, located, chosen);
+    }
 }
 
 fn assert_rotates(rt: &impl Abort, alloc: Global) {
@@ -75,9 +83,7 @@ fn assert_rotates(rt: &impl Abort, alloc: Global) {
         (Dest::One(three), &[3]),
         (Dest::One(three), &[1]),
     ];
-    for (dest, chosen) in rows.iter() {
-        assert_chosen(rt, alloc, &mut groups, dest, &[0, 0, 0], chosen);
-    }
+    assert_rows(rt, alloc, &mut groups, &[0, 0, 0], &rows);
 }
 
 #[test]
@@ -97,9 +103,7 @@ fn assert_round(rt: &impl Abort, alloc: Global) {
         (Dest::OneAt(four, 0), &[]),
         (Dest::One(four), &[3]),
     ];
-    for (dest, chosen) in rows.iter() {
-        assert_chosen(rt, alloc, &mut groups, dest, &[2, 1, 2, 0], chosen);
-    }
+    assert_rows(rt, alloc, &mut groups, &[2, 1, 2, 0], &rows);
 }
 
 #[test]

@@ -5,6 +5,8 @@
 #[cfg(test)]
 mod calls;
 #[cfg(test)]
+mod ground;
+#[cfg(test)]
 mod groups;
 #[cfg(test)]
 mod locations;

@@ -2,31 +2,22 @@
 
 ghost use Rattle.chorus_ports.specs.Limits.{IsWithinLimits};
 
-use chorus_entry::{Body, Message, MsgId, PENDING_LIMIT, PortRecord, Tag};
+use crate::ground::{named, numbered, port};
+use chorus_entry::{Message, PENDING_LIMIT, PortRecord, Tag};
 use chorus_ports::{Accept, Ports, Taken};
 use chorus_ui::{Kind, Ui};
 use std::alloc::Global;
 use std::process::Abort;
 
-fn port(rt: &impl Abort, number: u64) -> Ui {
-    Ui::new(1, Kind::Port, number).expect(rt, "a port")
-}
-
 fn actor(rt: &impl Abort, number: u64) -> Ui {
-    Ui::new(1, Kind::Actor, number).expect(rt, "an actor")
+    named(rt, 1, Kind::Actor, number)
 }
 
 /// The message with which the client asks under this number of its own.
 fn request(rt: &impl Abort, alloc: Global, back: Ui, client: u32, number: u32) -> Message {
-    Message {
-        id: MsgId {
-            seat: client,
-            number,
-            copy: 0,
-        },
-        tag: Tag::Request { number, back },
-        body: Body::new(alloc, b"ask").expect(rt, "memory"),
-    }
+    let mut message = numbered(rt, alloc, number, Tag::Request { number, back });
+    message.id.seat = client;
+    message
 }
 
 /// A table with this room.
@@ -98,18 +89,6 @@ fn at_most_once_table_fills(rt: HostRuntime) {
     assert_fills(&rt, rt.alloc());
 }
 
-fn plain(rt: &impl Abort, alloc: Global, number: u32) -> Message {
-    Message {
-        id: MsgId {
-            seat: 3,
-            number,
-            copy: 0,
-        },
-        tag: Tag::Plain,
-        body: Body::new(alloc, b"tell").expect(rt, "memory"),
-    }
-}
-
 /// What the actor takes, by position and number.
 fn taken(ports: &mut Ports, port: Ui, actor: Ui) -> Result<(u64, u32), &'static str> {
     match ports.take(port, actor) {
@@ -151,7 +130,8 @@ fn carry(rt: &impl Abort, here: &mut Ports, there: &mut Ports, port: Ui) {
 
 /// The port is the last one in the table.
 fn assert_last(rt: &impl Abort, ports: &mut Ports, port: Ui) {
-    assert!(rt; ports.pop().map(|record| record.ui) == Some(port));
+    let record = ports.pop().expect(rt, "a record");
+    assert!(rt; record.ui == port);
     assert!(rt; ports.is_empty() && ports.pop().is_none());
 }
 
@@ -162,7 +142,7 @@ fn two_ports(rt: &impl Abort, alloc: Global, moving: Ui, staying: Ui, old: Ui) -
     make(rt, &mut here, staying, old, 4);
     assert_len(rt, &here, 2, 0);
     for number in 1..=3 {
-        offer(&mut here, moving, plain(rt, alloc, number));
+        offer(&mut here, moving, numbered(rt, alloc, number, Tag::Plain));
     }
     here
 }

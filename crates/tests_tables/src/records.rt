@@ -1,34 +1,19 @@
 //! Copies of entries, and the record of a port. What is not as it is to be ends the test.
 
+use crate::ground::{named, numbered, port};
 use chorus_entry::{
-    Act, Answer, Body, CLIENTS_LIMIT, ClientTable, Dest, Entry, Ids, Members, Message, MsgId,
+    Act, Answer, CLIENTS_LIMIT, ClientTable, Dest, Entry, Ids, Members, Message, MsgId,
     PENDING_LIMIT, Pending, PortRecord, Tag,
 };
 use chorus_ui::{Kind, Ui};
 use std::alloc::Global;
 use std::process::Abort;
 
-fn named(rt: &impl Abort, site: u16, kind: Kind, number: u64) -> Ui {
-    Ui::new(site, kind, number).expect(rt, "a name")
-}
-
 fn id(copy: u16) -> MsgId {
     MsgId {
         seat: 3,
         number: 7,
         copy,
-    }
-}
-
-fn numbered(rt: &impl Abort, alloc: Global, number: u32) -> Message {
-    Message {
-        id: MsgId {
-            seat: 3,
-            number,
-            copy: 0,
-        },
-        tag: Tag::Plain,
-        body: Body::new(alloc, b"hello").expect(rt, "memory"),
     }
 }
 
@@ -64,7 +49,7 @@ fn discarded(rt: &impl Abort, alloc: Global) -> Ids {
 }
 
 fn assert_post_copied(rt: &impl Abort, alloc: Global, group: Ui) {
-    let message = numbered(rt, alloc, 7);
+    let message = numbered(rt, alloc, 7, Tag::Plain);
     assert_message_copied(rt, &message);
     let dest = Dest::OneAt(group, 2);
     assert_copied(rt, Act::Post { message, dest });
@@ -82,7 +67,7 @@ fn assert_delete_copied(rt: &impl Abort, alloc: Global, port: Ui) {
 }
 
 fn assert_copies(rt: &impl Abort, alloc: Global) {
-    let port = named(rt, 1, Kind::Port, 1);
+    let port = port(rt, 1);
     let group = named(rt, 2, Kind::Group, 1);
     assert_post_copied(rt, alloc, group);
     assert_choice_copied(rt, alloc, port, group);
@@ -129,7 +114,7 @@ fn assert_dest(rt: &impl Abort, group: Ui) {
 }
 
 fn assert_acts(rt: &impl Abort) {
-    let port = named(rt, 1, Kind::Port, 1);
+    let port = port(rt, 1);
     let group = named(rt, 2, Kind::Group, 1);
     assert_stale(rt, port);
     assert_accept(rt, port);
@@ -143,16 +128,22 @@ fn acts_name_what_they_are_about(rt: HostRuntime) {
     assert_acts(&rt);
 }
 
+/// The first message has this number, and is taken out.
+fn assert_first(rt: &impl Abort, pending: &mut Pending, number: u32) {
+    let message = pending.pop_first().expect(rt, "a message");
+    assert!(rt; message.id.number == number);
+}
+
 /// Puts messages with the numbers from 0 on, and takes them out.
 fn assert_filled_and_emptied(rt: &impl Abort, alloc: Global, pending: &mut Pending, most: u32) {
     for number in 0..most {
         assert!(rt; pending.len() < PENDING_LIMIT);
-        pending.push(numbered(rt, alloc, number));
+        pending.push(numbered(rt, alloc, number, Tag::Plain));
     }
-    assert!(rt; pending.get(7).map(|m| m.id.number) == Some(7));
+    assert!(rt; pending.get(7).expect(rt, "a message").id.number == 7);
     assert!(rt; pending.get(most as usize).is_none());
     for number in 0..most {
-        assert!(rt; pending.pop_first().map(|m| m.id.number) == Some(number));
+        assert_first(rt, pending, number);
     }
     assert!(rt; pending.pop_first().is_none());
 }
@@ -182,7 +173,7 @@ fn assert_clients(rt: &impl Abort, clients: &mut ClientTable) {
 }
 
 fn new_record(rt: &impl Abort, alloc: Global) -> PortRecord {
-    let port = named(rt, 1, Kind::Port, 1);
+    let port = port(rt, 1);
     let actor = named(rt, 2, Kind::Actor, 8);
     let record = PortRecord::with_room(alloc, port, actor, 3).expect(rt, "memory");
     assert!(rt; record.ui == port && record.actor == actor && record.capacity == 3);

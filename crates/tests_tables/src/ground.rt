@@ -1,0 +1,28 @@
+//! Names and a message, as the tests need them. What is not as it is to be ends the test.
+
+use chorus_entry::{Body, Message, MsgId, Tag};
+use chorus_ui::{Kind, Ui};
+use std::alloc::Global;
+use std::process::Abort;
+
+pub(crate) fn named(rt: &impl Abort, site: u16, kind: Kind, number: u64) -> Ui {
+    Ui::new(site, kind, number).expect(rt, "a name")
+}
+
+/// The port of site 1 with this number.
+pub(crate) fn port(rt: &impl Abort, number: u64) -> Ui {
+    named(rt, 1, Kind::Port, number)
+}
+
+/// The message of seat 3 under this number.
+pub(crate) fn numbered(rt: &impl Abort, alloc: Global, number: u32, tag: Tag) -> Message {
+    Message {
+        id: MsgId {
+            seat: 3,
+            number,
+            copy: 0,
+        },
+        tag,
+        body: Body::new(alloc, b"hello").expect(rt, "memory"),
+    }
+}
