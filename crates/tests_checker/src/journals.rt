@@ -15,10 +15,11 @@ use chorus_entry::Entry;
 use chorus_ui::{Layout, Ui};
 use std::alloc::Global;
 use std::process::Abort;
+use words::Field;
 
 /// The name with this text.
 fn named(rt: &impl Abort, text: &str) -> Ui {
-    Ui::parse(text.as_bytes()).expect(rt, "a name")
+    Field::of(text).expect(rt, "a name")
 }
 
 /// What became of the port with this name, which is made.
@@ -58,14 +59,18 @@ fn follow_line(rt: &impl Abort, alloc: Global, world: &mut World, line: &str) {
 
 /// The rule that refuses the entry of the line, None where the entry is taken, and what says the entry.
 fn rule_in<'a>(rt: &impl Abort, line: &'a str) -> (Option<u8>, &'a str) {
-    match line.strip_prefix("! ") {
+    match line.strip_prefix('!') {
         Some(refused) => {
-            let (rule, line) = refused.split_once(": ").expect(rt, "a rule");
-            let rule: u8 = rule.parse().ok().expect(rt, "a number");
-            (Some(rule), line)
+            let (rule, line) = refused.split_once(':').expect(rt, "a rule");
+            (Some(rule_of(rt, rule)), line.trim())
         }
         None => (None, line),
     }
+}
+
+/// The rule with this number.
+fn rule_of(rt: &impl Abort, number: &str) -> u8 {
+    Field::of(number.trim()).expect(rt, "a number")
 }
 
 /// The rule by which the world refuses the entry. None where it takes it.

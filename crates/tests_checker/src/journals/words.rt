@@ -106,10 +106,15 @@ impl Field for MsgId {
     fn of(word: &str) -> Option<MsgId> {
         let (seat, rest) = word.split_once(':')?;
         let (number, copy) = rest.split_once(':')?;
-        Some(MsgId {
-            seat: seat.parse().ok()?,
-            number: number.parse().ok()?,
-            copy: copy.parse().ok()?,
-        })
+        id_of(seat, number, copy)
     }
+}
+
+/// The id that these three words say.
+fn id_of(seat: &str, number: &str, copy: &str) -> Option<MsgId> {
+    Some(MsgId {
+        seat: Field::of(seat)?,
+        number: Field::of(number)?,
+        copy: Field::of(copy)?,
+    })
 }
