@@ -1,5 +1,5 @@
-//! Tests of the tables that a place keeps, and of what they are built from, by public items alone: names and places, entries
-//! and records, ports, groups, calls, locations and the merge. They stand apart, so that no crate below is proved twice.
+//! Tests of the tables that a place keeps, and of what they are built from, by public items alone: entries and records, ports,
+//! groups, calls, locations and the merge. They stand apart, so that no crate below is proved twice.
 #![tactic(auto)]
 
 #[cfg(test)]
@@ -12,8 +12,6 @@ mod groups;
 mod locations;
 #[cfg(test)]
 mod merging;
-#[cfg(test)]
-mod names;
 #[cfg(test)]
 mod ports;
 #[cfg(test)]
