@@ -5,8 +5,8 @@
 //! measured things take turns.
 #![tactic(auto)]
 
-use chorus_io::{MemSink, MemSource};
-use chorus_net::Sites;
+use chorus_io::{MemSink, MemSource, Sink, Source};
+use chorus_net::{Closed, Sites};
 use chorus_run::replay;
 use chorus_scene::read;
 use chorus_ui::{Layout, push_decimal};
@@ -64,16 +64,30 @@ fn rate_since<R: Clock>(rt: &R, start: Instant) -> io::Result<f64> {
     Ok(65_536.0 / start.elapsed(rt)?.as_secs_f64())
 }
 
+// How many entries the journal has: none where nothing was closed.
+fn entries_in(closed: Option<Closed>) -> usize {
+    match closed {
+        Some(closed) => closed.journals.first().map_or(0, |journal| journal.len()),
+        None => 0,
+    }
+}
+
+fn entries_on<S: Source, K: Sink>(
+    alloc: Global,
+    source: &mut S,
+    sink: &mut K,
+    layout: Layout,
+) -> Result<usize, AllocError> {
+    let sites = Sites::start(alloc, layout)?;
+    let finished = replay(alloc, source, sink, sites);
+    Ok(entries_in(finished.closed))
+}
+
 // How many entries the journal of the replay has: none where it is refused.
 fn entries_of(alloc: Global, text: &[u8], layout: Layout) -> Result<usize, AllocError> {
     let mut source = MemSource::new(Vec::from_slice(alloc, text)?, Vec::new(alloc));
     let mut sink = MemSink::new(alloc, usize::MAX, Vec::new(alloc));
-    let sites = Sites::start(alloc, layout)?;
-    let finished = replay(alloc, &mut source, &mut sink, sites);
-    let journals = finished.closed.map(|closed| closed.journals);
-    Ok(journals.map_or(0, |journals| {
-        journals.first().map_or(0, |journal| journal.len())
-    }))
+    entries_on(alloc, &mut source, &mut sink, layout)
 }
 
 // Sixteen ports and scripts in eight actors. Of ten commands six are sends, which go round the ports, and four take from

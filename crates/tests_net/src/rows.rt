@@ -54,30 +54,61 @@ fn port(rt: &impl Abort, text: &str) -> Ui
     name(rt, text, Kind::Port)
 }
 
-/// Performs a command of the seat.
-fn act(rt: &impl Abort, sites: &mut Sites, seat: u32, command: Command)
-    requires conditions { meets_conditions command ≡ true }
-    requires body { has_body_in_limit command ≡ true }
-{
-    assert!(rt; seat < sites.seats());
-    assert!(rt; sites.posts(seat) < u32::MAX);
-    sites.act(seat, command).expect(rt, "a reply");
+/// What the rows call. The words are read over this, so that no more is known there than a call asks.
+trait Calls {
+    /// Performs a command of the seat.
+    fn act(&mut self, rt: &impl Abort, seat: u32, command: Command)
+        requires conditions { meets_conditions command ≡ true }
+        requires body { has_body_in_limit command ≡ true };
+
+    fn enter(&mut self, rt: &impl Abort, actor: Ui)
+        requires { actor.kind ≡ Kind.Actor };
+
+    fn deliver(&mut self, rt: &impl Abort, from: u16, to: u16);
+
+    fn drain(&mut self, rt: &impl Abort);
 }
 
-fn enter(rt: &impl Abort, sites: &mut Sites, who: &str) {
+impl Calls for Sites {
+    fn act(&mut self, rt: &impl Abort, seat: u32, command: Command) {
+        assert!(rt; seat < self.seats());
+        assert!(rt; self.posts(seat) < u32::MAX);
+        Sites::act(self, seat, command).expect(rt, "a reply");
+    }
+
+    fn enter(&mut self, rt: &impl Abort, actor: Ui) {
+        Sites::enter(self, actor).expect(rt, "a seat");
+    }
+
+    fn deliver(&mut self, rt: &impl Abort, from: u16, to: u16) {
+        let count = self.layout().places();
+        assert!(rt; from != 0);
+        assert!(rt; to != 0);
+        assert!(rt; from <= count);
+        assert!(rt; to <= count);
+        assert!(rt; from != to);
+        Sites::deliver(self, from, to).expect(rt, "a delivery");
+    }
+
+    fn drain(&mut self, rt: &impl Abort) {
+        Sites::drain(self).expect(rt, "quiet");
+    }
+}
+
+fn enter<S: Calls>(rt: &impl Abort, sites: &mut S, who: &str) {
     let actor = actor(rt, who);
-    sites.enter(actor).expect(rt, "a seat");
+    sites.enter(rt, actor);
 }
 
 /// A seat, an actor and a capacity.
-fn make(rt: &impl Abort, sites: &mut Sites, words: &str) {
+fn make<S: Calls>(rt: &impl Abort, sites: &mut S, words: &str) {
     let (seat, words) = first_seat(rt, words);
     let (holder, capacity) = first(words);
     let actor = actor(rt, holder);
     let capacity: u8 = capacity.parse().ok().expect(rt, "a capacity");
     assert!(rt; capacity > 0);
     assert!(rt; capacity <= 64);
-    act(rt, sites, seat, Command::Make { actor, capacity });
+    sites.act(rt, seat, Command::Make { actor, capacity });
 }
 
 fn body_of(rt: &impl Abort, alloc: Global, text: &str) -> Body {
@@ -86,59 +117,45 @@ fn body_of(rt: &impl Abort, alloc: Global, text: &str) -> Body {
 }
 
 /// A seat, a port and a text.
-fn send(rt: &impl Abort, alloc: Global, sites: &mut Sites, words: &str) {
+fn send<S: Calls>(rt: &impl Abort, alloc: Global, sites: &mut S, words: &str) {
     let (seat, words) = first_seat(rt, words);
     let (to, text) = first(words);
     let dest = Dest::Port(port(rt, to));
     let body = body_of(rt, alloc, text);
     let _within = body.bytes();
-    act(rt, sites, seat, Command::Send { dest, body });
+    sites.act(rt, seat, Command::Send { dest, body });
 }
 
 /// A seat and a port.
-fn take(rt: &impl Abort, sites: &mut Sites, words: &str) {
+fn take<S: Calls>(rt: &impl Abort, sites: &mut S, words: &str) {
     let (seat, from) = first_seat(rt, words);
     let port = port(rt, from);
-    act(rt, sites, seat, Command::Take { port });
+    sites.act(rt, seat, Command::Take { port });
 }
 
 /// A seat, a port and an actor.
-fn move_port(rt: &impl Abort, sites: &mut Sites, words: &str) {
+fn move_port<S: Calls>(rt: &impl Abort, sites: &mut S, words: &str) {
     let (seat, words) = first_seat(rt, words);
     let (which, to) = first(words);
     let port = port(rt, which);
     let actor = actor(rt, to);
-    act(rt, sites, seat, Command::Move { port, actor });
+    sites.act(rt, seat, Command::Move { port, actor });
 }
 
 /// A seat and a port.
-fn delete(rt: &impl Abort, sites: &mut Sites, words: &str) {
+fn delete<S: Calls>(rt: &impl Abort, sites: &mut S, words: &str) {
     let (seat, which) = first_seat(rt, words);
     let port = port(rt, which);
-    act(rt, sites, seat, Command::Delete { port });
-}
-
-fn deliver_between(rt: &impl Abort, sites: &mut Sites, from: u16, to: u16) {
-    let count = sites.layout().places();
-    assert!(rt; from != 0);
-    assert!(rt; to != 0);
-    assert!(rt; from <= count);
-    assert!(rt; to <= count);
-    assert!(rt; from != to);
-    sites.deliver(from, to).expect(rt, "a delivery");
+    sites.act(rt, seat, Command::Delete { port });
 }
 
 /// Two places.
-fn deliver(rt: &impl Abort, sites: &mut Sites, words: &str) {
+fn deliver<S: Calls>(rt: &impl Abort, sites: &mut S, words: &str) {
     let (from, to) = first(words);
-    deliver_between(rt, sites, place(rt, from), place(rt, to));
+    sites.deliver(rt, place(rt, from), place(rt, to));
 }
 
-fn drain(rt: &impl Abort, sites: &mut Sites) {
-    sites.drain().expect(rt, "quiet");
-}
-
-fn perform(rt: &impl Abort, alloc: Global, sites: &mut Sites, line: &str) {
+fn perform<S: Calls>(rt: &impl Abort, alloc: Global, sites: &mut S, line: &str) {
     let (call, words) = first(line);
     match call {
         "enter" => enter(rt, sites, words),
@@ -148,8 +165,14 @@ fn perform(rt: &impl Abort, alloc: Global, sites: &mut Sites, line: &str) {
         "move" => move_port(rt, sites, words),
         "delete" => delete(rt, sites, words),
         "deliver" => deliver(rt, sites, words),
-        "drain" => drain(rt, sites),
+        "drain" => sites.drain(rt),
         _ => panic!(rt; "no such call: {line}"),
+    }
+}
+
+fn perform_all<S: Calls>(rt: &impl Abort, alloc: Global, sites: &mut S, calls: &str) {
+    for line in calls.lines() {
+        perform(rt, alloc, sites, line);
     }
 }
 
@@ -166,9 +189,7 @@ fn text_of(rt: &impl Abort, alloc: Global, closed: &Closed) -> String {
 fn assert_leaves(rt: &impl Abort, alloc: Global, layout: (u16, u16), calls: &str, text: &str) {
     let (count, turns) = layout;
     let mut sites = started(rt, alloc, count, turns);
-    for line in calls.lines() {
-        perform(rt, alloc, &mut sites, line);
-    }
+    perform_all(rt, alloc, &mut sites, calls);
     let closed = close(rt, alloc, sites);
     let left = text_of(rt, alloc, &closed);
     assert_eq!(rt; left.as_str(), text);
