@@ -15,9 +15,8 @@ use chorus_ui::Layout;
 use journal::journal_text;
 use scenario::scenario_text;
 use std::alloc::{AllocError, Global};
-use std::env::Env;
-use std::io;
 use std::time::{Clock, Instant};
+use std::{env, io};
 
 // Messages of each caller.
 const FEW: u32 = 25;
@@ -30,17 +29,14 @@ const COMMANDS: u64 = 4_096;
 const ROUNDS: u32 = 5;
 
 fn main(rt: HostRuntime) -> io::Result<()> {
-    if is_timed(&rt) {
+    let timed = env::args(&rt)?
+        .nth(1)
+        .is_some_and(|word| word.as_str() == "time");
+    if timed {
         return print_rates(&rt, rt.alloc());
     }
     let text = journal_text(rt.alloc(), FEW)?;
     print_found(&rt, found(rt.alloc(), &text)?)
-}
-
-// Whether the first word is `time`.
-fn is_timed<R: Env>(rt: &R) -> bool {
-    let mut word = [0; 4];
-    rt.arg(1, &mut word).is_ok() && word == *b"time"
 }
 
 fn print_found<R: Print>(rt: &R, audit: Option<Audit>) -> io::Result<()> {
@@ -64,33 +60,21 @@ fn found(alloc: Global, text: &[u8]) -> Result<Option<Audit>, AllocError> {
 
 // Whether the scenario is read, on sixteen sites.
 fn is_read(alloc: Global, text: &[u8]) -> bool {
-    match Layout::new(16, 1) {
-        Some(layout) => read(alloc, text, layout).is_ok(),
-        None => false,
-    }
+    Layout::new(16, 1).is_some_and(|layout| read(alloc, text, layout).is_ok())
 }
 
 fn print_rates<R: Clock + Print>(rt: &R, alloc: Global) -> io::Result<()> {
     let printed = journal_text(alloc, MANY)?;
     let asked = scenario_text(alloc, COMMANDS)?;
-    print_best(rt, alloc, &printed, &asked)
-}
-
-fn print_best<R: Clock + Print>(
-    rt: &R,
-    alloc: Global,
-    printed: &[u8],
-    asked: &[u8],
-) -> io::Result<()> {
     let mut auditing: f64 = 0.0;
     let mut reading: f64 = 0.0;
     let mut passing: f64 = 0.0;
     for _ in 0..ROUNDS {
-        auditing = auditing.max(audit_rate(rt, alloc, printed)?);
-        reading = reading.max(read_rate(rt, alloc, asked)?);
-        passing = passing.max(pass_rate(rt, printed)?);
+        auditing = auditing.max(audit_rate(rt, alloc, &printed)?);
+        reading = reading.max(read_rate(rt, alloc, &asked)?);
+        passing = passing.max(pass_rate(rt, &printed)?);
     }
-    print_found(rt, found(alloc, printed)?)?;
+    print_found(rt, found(alloc, &printed)?)?;
     let by_reading = reading / auditing;
     let by_pass = passing / auditing;
     println!(rt;

@@ -233,22 +233,11 @@ fn next_site(site: u16, from: u16) -> u16 {
 // The flow of the site's caller, at its start.
 fn start(from: u16) -> Option<Flow> {
     let site = next_site(from, from);
-    let port = name(site, Kind::Port, 1)?;
-    let back = name(from, Kind::Port, 2)?;
-    let group = name(from, Kind::Group, 1)?;
-    Some(opening(from, site, port, back, group))
-}
-
-fn name(site: u16, kind: Kind, number: u64) -> Option<Ui> {
-    Ui::new(site, kind, number)
-}
-
-fn opening(from: u16, site: u16, port: Ui, back: Ui, group: Ui) -> Flow {
-    Flow {
+    Some(Flow {
         from,
-        port,
-        back,
-        group,
+        port: Ui::new(site, Kind::Port, 1)?,
+        back: Ui::new(from, Kind::Port, 2)?,
+        group: Ui::new(from, Kind::Group, 1)?,
         holder: site,
         hop: 0,
         known: site,
@@ -257,7 +246,7 @@ fn opening(from: u16, site: u16, port: Ui, back: Ui, group: Ui) -> Flow {
         replies: 0,
         calls: 0,
         turn: 0,
-    }
+    })
 }
 
 /// A legal journal of about so many entries, and no fewer.

@@ -14,9 +14,8 @@ use chorus_entry::Entry;
 use chorus_ui::Layout;
 use journal::journal;
 use std::alloc::{AllocError, Global};
-use std::env::Env;
-use std::io;
 use std::time::{Clock, Instant};
+use std::{env, io};
 
 const FEW: usize = 1_024;
 
@@ -30,7 +29,10 @@ fn main(rt: HostRuntime) -> io::Result<()> {
     let Some(layout) = Layout::new(journal::SITES, 1) else {
         return Ok(());
     };
-    if is_timed(&rt) {
+    let timed = env::args(&rt)?
+        .nth(1)
+        .is_some_and(|word| word.as_str() == "time");
+    if timed {
         print_rates(&rt, rt.alloc(), layout, FEW)?;
         print_rates(&rt, rt.alloc(), layout, MANY)?;
         return print_rates(&rt, rt.alloc(), layout, MOST);
@@ -41,45 +43,31 @@ fn main(rt: HostRuntime) -> io::Result<()> {
     println!(rt; "{taken} of {many} entries taken")
 }
 
-// Whether the first word is `time`.
-fn is_timed<R: Env>(rt: &R) -> bool {
-    let mut word = [0; 4];
-    rt.arg(1, &mut word).is_ok() && word == *b"time"
-}
-
 // How many entries are taken.
 fn judge(alloc: Global, layout: Layout, entries: Vec<Entry>) -> Result<usize, AllocError> {
     let mut world = World::opening(alloc, layout)?;
     let mut taken: usize = 0;
     for entry in entries {
-        if takes(&mut world, entry) {
+        if world.apply(entry).is_ok() {
             taken = taken.wrapping_add(1);
         }
     }
     Ok(taken)
 }
 
-fn takes(world: &mut World, entry: Entry) -> bool {
-    world.apply(entry).is_ok()
-}
-
 // One pass over the entries: the sum of their clocks and of the messages that they are about.
 fn pass(entries: &[Entry]) -> u64 {
     let mut sum: u64 = 0;
     for entry in entries {
+        let number = match entry.act.message() {
+            Some(id) => id.number,
+            None => 0,
+        };
         sum = sum
             .wrapping_add(entry.clock)
-            .wrapping_add(u64::from(message_of(entry)));
+            .wrapping_add(u64::from(number));
     }
     sum
-}
-
-// The number of the message that the entry is about.
-fn message_of(entry: &Entry) -> u32 {
-    match entry.act.message() {
-        Some(id) => id.number,
-        None => 0,
-    }
 }
 
 fn print_rates<R: Clock + Print>(
