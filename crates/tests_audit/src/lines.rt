@@ -1,47 +1,61 @@
-// Single lines, and their entries.
+//! Single lines, and their entries.
 
 use chorus_audit::parse_entry;
 use chorus_entry::{Act, Entry};
-use std::test::Fail;
+use std::alloc::Global;
+use std::process::Abort;
 
-#[test]
-fn lines_have_their_entries(rt: HostRuntime) -> Result<(), Fail> {
-    assert_eq!(rt;
-        parse_entry(rt.alloc(), b"5 2 30 no-call")?,
-        Some(Entry {
-            clock: 5,
-            place: 2,
-            seat: 30,
-            act: Act::NoCall,
-        })
-    );
-    assert_eq!(rt;
-        parse_entry(rt.alloc(), b"18446744073709551615 65535 4294967295 late 0")?,
-        Some(Entry {
-            clock: u64::MAX,
-            place: u16::MAX,
-            seat: u32::MAX,
-            act: Act::Late { number: 0 },
-        })
-    );
-    Ok(())
+/// The entry of the line; None where it has none.
+fn entry_of(rt: &impl Abort, alloc: Global, line: &str) -> Option<Entry> {
+    parse_entry(alloc, line.as_bytes()).expect(rt, "memory")
+}
+
+/// Asserts that the line has this entry.
+fn assert_entry(rt: &impl Abort, alloc: Global, line: &str, entry: Entry) {
+    let found = entry_of(rt, alloc, line).expect(rt, "an entry");
+    assert!(rt; found == entry, "{line}");
+}
+
+fn assert_entries(rt: &impl Abort, alloc: Global) {
+    let no_call = Entry {
+        clock: 5,
+        place: 2,
+        seat: 30,
+        act: Act::NoCall,
+    };
+    assert_entry(rt, alloc, "5 2 30 no-call", no_call);
+    let late = Entry {
+        clock: u64::MAX,
+        place: u16::MAX,
+        seat: u32::MAX,
+        act: Act::Late { number: 0 },
+    };
+    let line = "18446744073709551615 65535 4294967295 late 0";
+    assert_entry(rt, alloc, line, late);
 }
 
 #[test]
-fn other_lines_have_none(rt: HostRuntime) -> Result<(), Fail> {
-    let lines: [&[u8]; 9] = [
-        b"",
-        b"5 2 30",
-        b"5 2 30 no-call ",
-        b"5 65536 30 no-call",
-        b"18446744073709551616 2 30 no-call",
-        b"05 2 30 no-call",
-        b"5 2 30 take 1.p.1 0 1:1",
-        b"5 2 30 take 1.p.1 0 1:1:0:0",
-        b"5 2 30 post 1:1:0 port 1.p.1 plain =%0A",
-    ];
-    for line in lines {
-        assert!(rt; parse_entry(rt.alloc(), line)?.is_none());
+fn lines_have_their_entries(rt: HostRuntime) {
+    assert_entries(&rt, rt.alloc());
+}
+
+fn assert_none(rt: &impl Abort, alloc: Global, line: &str) {
+    assert!(rt; entry_of(rt, alloc, line).is_none(), "{line}");
+}
+
+#[test]
+fn other_lines_have_none(rt: HostRuntime) {
+    for line in [
+        "",
+        "5 2 30",
+        "5 2 30 no-call ",
+        "5 65536 30 no-call",
+        "18446744073709551616 2 30 no-call",
+        "05 2 30 no-call",
+        "5 2 30 take 1.p.1 0 1:1",
+        "5 2 30 take 1.p.1 0 1:1:0:0",
+        "5 2 30 post 1:1:0 port 1.p.1 plain =%0A",
+    ] {
+        assert_none(&rt, rt.alloc(), line);
     }
-    Ok(())
 }

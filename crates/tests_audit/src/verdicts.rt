@@ -1,186 +1,137 @@
-// Whole texts, and what an audit finds.
+//! Whole texts, and what an audit finds.
+//!
+//! A row has a text, in which `;` stands for the end of a line and `$` for the summary of nothing, then `|`, and what an audit finds: `legal`
+//! and how many entries there are, or `wrong`, the line and the rule.
 
 use chorus_audit::{AUDIT_LIMIT, Audit, audit_text};
 use chorus_ui::Layout;
 use std::alloc::Global;
-use std::test::Fail;
+use std::process::Abort;
 
-const MADE: &[u8] = b"1 1 0 make 1.p.1 1.a.1 1\n2 1 1 post 1:1:0 port 1.p.1 plain =a\n";
-
-const TAKEN: &[u8] = b"6 1 1 take 1.p.1 0 1:1:0\n7 1 1 empty 1.p.1\n8 1 1 empty 1.p.1\n";
-
-const SUMMARY: &[u8] =
-    b"summary\nposted 2\naccepted 1\ntaken 1\nqueued 0\nmoving 0\nrefused 1\nstale 0\ndeparts 0\nend\n";
-
-const NOTHING: &[u8] =
-    b"summary\nposted 0\naccepted 0\ntaken 0\nqueued 0\nmoving 0\nrefused 0\nstale 0\ndeparts 0\nend\n";
-
-/// The text of these parts.
-fn joined(alloc: Global, parts: &[&[u8]]) -> Result<Vec<u8>, Fail> {
-    let mut text = Vec::new(alloc);
-    for part in parts {
-        text.extend_from_slice(part)?;
-    }
-    Ok(text)
-}
+const NOTHING: &str =
+    "summary\nposted 0\naccepted 0\ntaken 0\nqueued 0\nmoving 0\nrefused 0\nstale 0\ndeparts 0\nend\n";
 
 /// What an audit finds for eight sites with so many places each.
-fn found(alloc: Global, turns: u16, parts: &[&[u8]]) -> Result<Audit, Fail> {
-    let layout = Layout::new(8, turns).ok_or("a layout")?;
-    let text = joined(alloc, parts)?;
-    if text.len() > AUDIT_LIMIT {
-        return Err("a short text".into());
+fn found(rt: &impl Abort, alloc: Global, turns: u16, text: &[u8]) -> Audit {
+    let layout = Layout::new(8, turns).expect(rt, "a layout");
+    assert!(rt; text.len() <= AUDIT_LIMIT);
+    audit_text(alloc, layout, text).expect(rt, "memory")
+}
+
+/// What is found, as in a row.
+fn told_of(rt: &impl Abort, alloc: Global, turns: u16, text: &str) -> String {
+    let mut told = String::new(alloc);
+    match found(rt, alloc, turns, text.as_bytes()) {
+        Audit::Legal { entries } => write!(told, "legal {entries}").expect(rt, "memory"),
+        Audit::Wrong { line, rule } => write!(told, "wrong {line} {rule}").expect(rt, "memory"),
     }
-    Ok(audit_text(alloc, layout, &text)?)
+    told
+}
+
+/// Appends what the character of a row stands for.
+fn push_part(rt: &impl Abort, text: &mut String, c: char) {
+    let told = match c {
+        ';' => text.push('\n'),
+        '$' => text.push_str(NOTHING),
+        _ => text.push(c),
+    };
+    told.expect(rt, "memory");
+}
+
+/// The text of a row.
+fn text_of(rt: &impl Abort, alloc: Global, row: &str) -> String {
+    let mut text = String::new(alloc);
+    for c in row.chars() {
+        push_part(rt, &mut text, c);
+    }
+    text
+}
+
+fn assert_row(rt: &impl Abort, alloc: Global, turns: u16, row: &str) {
+    let (text, want) = row.split_once('|').expect(rt, "a row");
+    let text = text_of(rt, alloc, text);
+    let told = told_of(rt, alloc, turns, text.as_str());
+    assert_eq!(rt; told.as_str(), want, "{row}");
+}
+
+/// Asserts what each row says, for one place on each site.
+fn assert_rows(rt: &impl Abort, alloc: Global, rows: &str) {
+    for row in rows.lines() {
+        assert_row(rt, alloc, 1, row);
+    }
+}
+
+const FULL_PORT: &str = "\
+journal 8;1 1 0 make 1.p.1 1.a.1 1;2 1 1 post 1:1:0 port 1.p.1 plain =a;3 1 1 accept 1:1:0 1.p.1 0;4 1 1 post 1:2:0 port 1.p.1 plain =b;5 1 1 full 1:2:0 1.p.1 1;6 1 1 take 1.p.1 0 1:1:0;7 1 1 empty 1.p.1;8 1 1 empty 1.p.1;summary;posted 2;accepted 1;taken 1;queued 0;moving 0;refused 1;stale 0;departs 0;end;|legal 8
+journal 8;1 1 0 make 1.p.1 1.a.1 1;2 1 1 post 1:1:0 port 1.p.1 plain =a;3 1 1 accept 1:1:0 1.p.1 0;4 1 1 post 1:2:0 port 1.p.1 plain =b;5 1 1 accept 1:2:0 1.p.1 1;6 1 1 take 1.p.1 0 1:1:0;7 1 1 empty 1.p.1;8 1 1 empty 1.p.1;summary;posted 2;accepted 1;taken 1;queued 0;moving 0;refused 1;stale 0;departs 0;end;|wrong 6 6
+";
+
+#[test]
+fn audit_finds_the_line(rt: HostRuntime) {
+    assert_rows(&rt, rt.alloc(), FULL_PORT);
+}
+
+const FIRST_LINES: &str = "\
+journal 0;$|legal 0
+|wrong 1 99
+journal 0|wrong 1 99
+journal 0\r;$|wrong 1 99
+journal 00;$|wrong 1 99
+journal 4294967296;|wrong 1 99
+journal 4294967295;|wrong 2 99
+";
+
+#[test]
+fn first_lines(rt: HostRuntime) {
+    assert_rows(&rt, rt.alloc(), FIRST_LINES);
+}
+
+const ENTRIES: &str = "\
+journal 1;1  1 0 make 1.p.1 1.a.1 1;|wrong 2 99
+journal 1;1 1 0 make 1.p.1 1.a.1 1\r;|wrong 2 99
+journal 1;1 1 0 make 1.p.1 1.a.1 1|wrong 2 99
+journal 1;1 1 0 choose 1:1:0 1.g.1;|wrong 2 15
+journal 1;0 1 0 make 1.p.1 1.a.1 1;|wrong 2 0
+journal 2;1 1 0 make 1.p.1 1.a.1 1;2 1 1 post 1:1:0 port 1.p.1 plain =%41;|wrong 3 99
+";
+
+#[test]
+fn lines_of_entries(rt: HostRuntime) {
+    assert_rows(&rt, rt.alloc(), ENTRIES);
+}
+
+const SUMMARIES: &str = "\
+journal 0;summary;posted 0;accepted 0;taken 0;queued 0;moving 0;refused 0;stale 0;departs 0;|wrong 11 99
+journal 0;summary;posted 0;accepted 0;taken 0;queued 0;moving 0;refused 0;stale 0;departs 0;end|wrong 11 99
+journal 0;$;|wrong 12 99
+journal 0;$end;|wrong 12 99
+journal 0;summary;posted 2;accepted 1;taken 1;queued 0;moving 0;refused 1;stale 0;departs 0;end;|wrong 3 99
+";
+
+#[test]
+fn summaries(rt: HostRuntime) {
+    assert_rows(&rt, rt.alloc(), SUMMARIES);
 }
 
 #[test]
-fn audit_finds_the_line(rt: HostRuntime) -> Result<(), Fail> {
-    let rest: &[u8] = b"3 1 1 accept 1:1:0 1.p.1 0\n4 1 1 post 1:2:0 port 1.p.1 plain =b\n";
-    let full: &[u8] = b"5 1 1 full 1:2:0 1.p.1 1\n";
-    let accept: &[u8] = b"5 1 1 accept 1:2:0 1.p.1 1\n";
-    assert_eq!(rt;
-        found(
-            rt.alloc(),
-            1,
-            &[b"journal 8\n", MADE, rest, full, TAKEN, SUMMARY]
-        )?,
-        Audit::Legal { entries: 8 }
-    );
-    assert_eq!(rt;
-        found(
-            rt.alloc(),
-            1,
-            &[b"journal 8\n", MADE, rest, accept, TAKEN, SUMMARY]
-        )?,
-        Audit::Wrong { line: 6, rule: 6 }
-    );
-    Ok(())
+fn a_layout_judges_its_own_journals(rt: HostRuntime) {
+    for (turns, row) in [
+        (2, "journal 1;1 2 0 make 1.p.2 1.a.2 1;$|legal 1"),
+        (1, "journal 1;1 2 0 make 1.p.2 1.a.2 1;$|wrong 2 1"),
+        (4, "journal 1;1 3 0 make 1.p.3 1.a.3 1;$|legal 1"),
+        (2, "journal 1;1 3 0 make 1.p.3 1.a.3 1;$|wrong 2 1"),
+    ] {
+        assert_row(&rt, rt.alloc(), turns, row);
+    }
 }
 
-#[test]
-fn first_lines(rt: HostRuntime) -> Result<(), Fail> {
-    let alloc = rt.alloc();
-    let first = Audit::Wrong { line: 1, rule: 99 };
-    assert_eq!(rt;
-        found(alloc, 1, &[b"journal 0\n", NOTHING])?,
-        Audit::Legal { entries: 0 }
-    );
-    assert_eq!(rt; found(alloc, 1, &[])?, first);
-    assert_eq!(rt; found(alloc, 1, &[b"journal 0"])?, first);
-    assert_eq!(rt; found(alloc, 1, &[b"journal 0\r\n", NOTHING])?, first);
-    assert_eq!(rt; found(alloc, 1, &[b"journal 00\n", NOTHING])?, first);
-    assert_eq!(rt; found(alloc, 1, &[b"journal 4294967296\n"])?, first);
-    assert_eq!(rt;
-        found(alloc, 1, &[b"journal 4294967295\n"])?,
-        Audit::Wrong { line: 2, rule: 99 }
-    );
-    Ok(())
-}
+/// The ten entries of a message that a moved port's old place refuses, for eight sites; and an entry of no message.
+const MOVES: &str = "\
+journal 10;1 1 0 make 1.p.1 1.a.1 4;2 1 2 depart 1.p.1 2 2.a.1 1;2 3 1 post 1:1:0 port 1.p.1 plain =x;3 3 1 try 1:1:0 1.p.1 1 0;4 1 0 stale 1:1:0 1.p.1 0 2 1;5 3 0 told 1:1:0 stale 2 1;6 3 0 try 1:1:0 1.p.1 2 1;7 2 0 arrive 1.p.1 1;8 2 0 accept 1:1:0 1.p.1 0;9 3 0 told 1:1:0 accepted 0;summary;posted 1;accepted 1;taken 0;queued 1;moving 0;refused 0;stale 1;departs 1;end;|legal 10
+journal 1;1 1 0 accept 1:1:0 1.p.1 0;|wrong 2 6
+";
 
 #[test]
-fn lines_of_entries(rt: HostRuntime) -> Result<(), Fail> {
-    let alloc = rt.alloc();
-    let second = Audit::Wrong { line: 2, rule: 99 };
-    assert_eq!(rt;
-        found(alloc, 1, &[b"journal 1\n1  1 0 make 1.p.1 1.a.1 1\n"])?,
-        second
-    );
-    assert_eq!(rt;
-        found(alloc, 1, &[b"journal 1\n1 1 0 make 1.p.1 1.a.1 1\r\n"])?,
-        second
-    );
-    assert_eq!(rt;
-        found(alloc, 1, &[b"journal 1\n1 1 0 make 1.p.1 1.a.1 1"])?,
-        second
-    );
-    assert_eq!(rt;
-        found(alloc, 1, &[b"journal 1\n1 1 0 choose 1:1:0 1.g.1\n"])?,
-        Audit::Wrong { line: 2, rule: 15 }
-    );
-    assert_eq!(rt;
-        found(alloc, 1, &[b"journal 1\n0 1 0 make 1.p.1 1.a.1 1\n"])?,
-        Audit::Wrong { line: 2, rule: 0 }
-    );
-    let named: &[u8] =
-        b"journal 2\n1 1 0 make 1.p.1 1.a.1 1\n2 1 1 post 1:1:0 port 1.p.1 plain =%41\n";
-    assert_eq!(rt;
-        found(alloc, 1, &[named])?,
-        Audit::Wrong { line: 3, rule: 99 }
-    );
-    Ok(())
-}
-
-#[test]
-fn summaries(rt: HostRuntime) -> Result<(), Fail> {
-    let alloc = rt.alloc();
-    let cut: &[u8] =
-        b"summary\nposted 0\naccepted 0\ntaken 0\nqueued 0\nmoving 0\nrefused 0\nstale 0\ndeparts 0\n";
-    let last = Audit::Wrong { line: 11, rule: 99 };
-    let behind = Audit::Wrong { line: 12, rule: 99 };
-    assert_eq!(rt; found(alloc, 1, &[b"journal 0\n", cut])?, last);
-    assert_eq!(rt; found(alloc, 1, &[b"journal 0\n", cut, b"end"])?, last);
-    assert_eq!(rt; found(alloc, 1, &[b"journal 0\n", NOTHING, b"\n"])?, behind);
-    assert_eq!(rt;
-        found(alloc, 1, &[b"journal 0\n", NOTHING, b"end\n"])?,
-        behind
-    );
-    assert_eq!(rt;
-        found(alloc, 1, &[b"journal 0\n", SUMMARY])?,
-        Audit::Wrong { line: 3, rule: 99 }
-    );
-    Ok(())
-}
-
-#[test]
-fn a_layout_judges_its_own_journals(rt: HostRuntime) -> Result<(), Fail> {
-    let alloc = rt.alloc();
-    let by_two: &[u8] = b"journal 1\n1 2 0 make 1.p.2 1.a.2 1\n";
-    let by_four: &[u8] = b"journal 1\n1 3 0 make 1.p.3 1.a.3 1\n";
-    let wrong = Audit::Wrong { line: 2, rule: 1 };
-    assert_eq!(rt;
-        found(alloc, 2, &[by_two, NOTHING])?,
-        Audit::Legal { entries: 1 }
-    );
-    assert_eq!(rt; found(alloc, 1, &[by_two, NOTHING])?, wrong);
-    assert_eq!(rt;
-        found(alloc, 4, &[by_four, NOTHING])?,
-        Audit::Legal { entries: 1 }
-    );
-    assert_eq!(rt; found(alloc, 2, &[by_four, NOTHING])?, wrong);
-    Ok(())
-}
-
-/// The ten entries of a message that a moved port's old place refuses, for eight sites.
-#[test]
-fn world_refuses_and_follows_a_move(rt: HostRuntime) -> Result<(), Fail> {
-    let alloc = rt.alloc();
-    let moved: &[u8] = b"1 1 0 make 1.p.1 1.a.1 4\n2 1 2 depart 1.p.1 2 2.a.1 1\n";
-    let tried: &[u8] = b"2 3 1 post 1:1:0 port 1.p.1 plain =x\n3 3 1 try 1:1:0 1.p.1 1 0\n";
-    let stale: &[u8] = b"4 1 0 stale 1:1:0 1.p.1 0 2 1\n5 3 0 told 1:1:0 stale 2 1\n";
-    let again: &[u8] = b"6 3 0 try 1:1:0 1.p.1 2 1\n7 2 0 arrive 1.p.1 1\n";
-    let accepted: &[u8] = b"8 2 0 accept 1:1:0 1.p.1 0\n9 3 0 told 1:1:0 accepted 0\n";
-    let summary: &[u8] =
-        b"summary\nposted 1\naccepted 1\ntaken 0\nqueued 1\nmoving 0\nrefused 0\nstale 1\ndeparts 1\nend\n";
-    assert_eq!(rt;
-        found(
-            alloc,
-            1,
-            &[
-                b"journal 10\n",
-                moved,
-                tried,
-                stale,
-                again,
-                accepted,
-                summary
-            ]
-        )?,
-        Audit::Legal { entries: 10 }
-    );
-    assert_eq!(rt;
-        found(alloc, 1, &[b"journal 1\n1 1 0 accept 1:1:0 1.p.1 0\n"])?,
-        Audit::Wrong { line: 2, rule: 6 }
-    );
-    Ok(())
+fn world_refuses_and_follows_a_move(rt: HostRuntime) {
+    assert_rows(&rt, rt.alloc(), MOVES);
 }
