@@ -18,9 +18,21 @@ use tests_ground::meets_conditions;
 
 /// The two places.
 #[derive(Drop)]
-pub(crate) struct Pair<E: Ends> {
-    pub(crate) here: Desk<E>,
-    pub(crate) there: Desk<E>,
+pub(crate) struct Pair<D: Drop> {
+    pub(crate) here: D,
+    pub(crate) there: D,
+}
+
+/// Ends that say which places they reach.
+trait Reaches: Ends {
+    fn assert_reaches(&self, rt: &impl Abort, place: u16)
+        ensures { (Self.links self.now).reaches place ≡ true };
+}
+
+impl Reaches for RuledEnds {
+    fn assert_reaches(&self, rt: &impl Abort, place: u16) {
+        assert!(rt; self.reaches(place));
+    }
 }
 
 /// The name that the text is of.
@@ -38,27 +50,40 @@ fn desk_at<E: Ends>(rt: &impl Abort, alloc: Global, layout: Layout, number: u16,
     Desk::start(alloc, layout, number, ends).expect(rt, "memory")
 }
 
-/// The place of this number, at these ruled ends.
-fn ruled_desk_at(
+/// The place of this number, at ends that are to reach the other one.
+fn linked_desk<E: Reaches>(
     rt: &impl Abort,
     alloc: Global,
     layout: Layout,
     number: u16,
-    ends: Option<RuledEnds>,
-) -> Desk<RuledEnds> {
+    ends: Option<E>,
+) -> Desk<E> {
     let ends = ends.expect(rt, "ends");
-    let other = 3u16.saturating_sub(number);
-    assert!(rt; ends.reaches(other));
+    ends.assert_reaches(rt, 3u16.saturating_sub(number));
     desk_at(rt, alloc, layout, number, ends)
 }
 
-/// Two places over ruled ends, on which nothing happened yet.
-pub(crate) fn start(rt: &impl Abort, alloc: Global) -> Pair<RuledEnds> {
-    let layout = Layout::new(2, 1).expect(rt, "a layout");
-    let mut all = RuledEnds::all(alloc, layout).expect(rt, "memory");
-    let there = ruled_desk_at(rt, alloc, layout, 2, all.pop());
-    let here = ruled_desk_at(rt, alloc, layout, 1, all.pop());
+/// Two places at these ends, the first ones at the place here.
+fn linked<E: Reaches>(
+    rt: &impl Abort,
+    alloc: Global,
+    layout: Layout,
+    mut all: Vec<E>,
+) -> Pair<Desk<E>> {
+    let there = linked_desk(rt, alloc, layout, 2, all.pop());
+    let here = linked_desk(rt, alloc, layout, 1, all.pop());
     Pair { here, there }
+}
+
+/// The ruled ends of each place, in order.
+fn ruled_ends(rt: &impl Abort, alloc: Global, layout: Layout) -> Vec<RuledEnds> {
+    RuledEnds::all(alloc, layout).expect(rt, "memory")
+}
+
+/// Two places over ruled ends, on which nothing happened yet.
+pub(crate) fn start(rt: &impl Abort, alloc: Global) -> Pair<Desk<RuledEnds>> {
+    let layout = Layout::new(2, 1).expect(rt, "a layout");
+    linked(rt, alloc, layout, ruled_ends(rt, alloc, layout))
 }
 
 /// Performs the caller's command at the place, where it is to be carried out.
@@ -84,26 +109,14 @@ fn body_of(rt: &impl Abort, alloc: Global, text: &str) -> Body {
     Body::new(alloc, text).expect(rt, "memory")
 }
 
-/// Sends the text to the port.
-pub(crate) fn send<E: Ends>(
-    rt: &impl Abort,
-    alloc: Global,
-    desk: &mut Desk<E>,
-    caller: &mut Caller,
-    port: Ui,
-    text: &str,
-) {
+/// The command that sends the text to the port.
+pub(crate) fn send(rt: &impl Abort, alloc: Global, port: Ui, text: &str) -> Command {
     let body = body_of(rt, alloc, text);
     let dest = Dest::Port(port);
-    act(rt, desk, caller, Command::Send { dest, body });
+    Command::Send { dest, body }
 }
 
 /// Serves the place's links once.
 pub(crate) fn pump<R: Abort, E: Moves<R>>(rt: &R, desk: &mut Desk<E>, caller: &mut Caller) -> Pump {
     serve(desk, rt, caller).ok().expect(rt, "memory")
-}
-
-/// Asserts that at the place no packet waits to go or is in hand.
-pub(crate) fn assert_nothing_waits<E: Ends>(rt: &impl Abort, desk: &Desk<E>) {
-    assert_eq!(rt; desk.waiting(), 0);
 }

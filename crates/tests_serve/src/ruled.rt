@@ -1,8 +1,8 @@
 //! Two places over ruled ends, on one thread.
 
-use crate::pair::{Pair, act, assert_nothing_waits, name, pump, send, start};
+use crate::pair::{Pair, act, name, pump, send, start};
 use chorus_calls::Caller;
-use chorus_ends::{Ends, Moves};
+use chorus_ends::Moves;
 use chorus_entry::{Command, Entry};
 use chorus_merge::merge;
 use chorus_serve::{Desk, Pump};
@@ -20,56 +20,90 @@ const LINES: &str = "\
 5 1 0 told 1:1:0 accepted 1
 ";
 
+/// What a place does for callers, on a ground of this type. The rows are written over this, so that they know of a place no more than
+/// they ask.
+trait Works<R: Abort>: Drop {
+    /// Performs the caller's command.
+    fn act(&mut self, rt: &R, caller: &mut Caller, command: Command);
+
+    /// Serves the place's links once.
+    fn serve(&mut self, rt: &R, caller: &mut Caller) -> Pump;
+
+    /// The journal, where nothing is left, neither in hand nor on its way.
+    fn journal(self, rt: &R) -> Vec<Entry>;
+}
+
+impl<R: Abort, E: Moves<R>> Works<R> for Desk<E> {
+    fn act(&mut self, rt: &R, caller: &mut Caller, command: Command) {
+        act(rt, self, caller, command);
+    }
+
+    fn serve(&mut self, rt: &R, caller: &mut Caller) -> Pump {
+        pump(rt, self, caller)
+    }
+
+    fn journal(self, rt: &R) -> Vec<Entry> {
+        assert_eq!(rt; self.waiting(), 0);
+        self.finish().journal
+    }
+}
+
 /// Makes the port, in the name of the keeper.
-fn make<E: Ends>(rt: &impl Abort, desk: &mut Desk<E>, keeper: &mut Caller) {
+fn make<R: Abort, D: Works<R>>(rt: &R, desk: &mut D, keeper: &mut Caller) {
     let actor = name(rt, "2.a.1");
-    act(rt, desk, keeper, Command::Make { actor, capacity: 4 });
+    desk.act(rt, keeper, Command::Make { actor, capacity: 4 });
 }
 
 /// Sends the text to the port, in the name of a new caller of this seat in the actor.
-fn send_from<E: Ends>(
-    rt: &impl Abort,
+fn send_from<R: Abort, D: Works<R>>(
+    rt: &R,
     alloc: Global,
-    desk: &mut Desk<E>,
+    desk: &mut D,
     seat: u32,
     actor: &str,
     text: &str,
 ) {
     let mut caller = Caller::new(seat, name(rt, actor), 1);
-    send(rt, alloc, desk, &mut caller, name(rt, "2.p.1"), text);
+    let command = send(rt, alloc, name(rt, "2.p.1"), text);
+    desk.act(rt, &mut caller, command);
 }
 
 /// Makes the port at the second place, and sends it a message from each place.
-fn act_at_both<E: Ends>(rt: &impl Abort, alloc: Global, pair: &mut Pair<E>, keeper: &mut Caller) {
+fn act_at_both<R: Abort, D: Works<R>>(
+    rt: &R,
+    alloc: Global,
+    pair: &mut Pair<D>,
+    keeper: &mut Caller,
+) {
     make(rt, &mut pair.there, keeper);
     send_from(rt, alloc, &mut pair.here, 1, "1.a.1", "hi");
     send_from(rt, alloc, &mut pair.there, 2, "2.a.1", "yo");
 }
 
-/// Serves the place's links once, and asserts what it did.
-fn assert_serves<R: Abort, E: Moves<R>>(
+/// Serves the links of the place of this number once.
+fn serve_at<R: Abort, D: Works<R>>(
     rt: &R,
-    desk: &mut Desk<E>,
+    pair: &mut Pair<D>,
     keeper: &mut Caller,
-    done: Pump,
-) {
-    assert_eq!(rt; pump(rt, desk, keeper), done);
+    number: u16,
+) -> Pump {
+    if number == 1 {
+        pair.here.serve(rt, keeper)
+    } else {
+        pair.there.serve(rt, keeper)
+    }
 }
 
 /// One packet goes to the second place, which answers it by another one.
-fn assert_both_serve<R: Abort, E: Moves<R>>(rt: &R, pair: &mut Pair<E>, keeper: &mut Caller) {
-    let sent = Pump::Idle { put: 1, worked: 0 };
-    assert_serves(rt, &mut pair.here, keeper, sent);
-    assert_serves(rt, &mut pair.there, keeper, Pump::Served { from: 1 });
-    let answered = Pump::Idle { put: 1, worked: 1 };
-    assert_serves(rt, &mut pair.there, keeper, answered);
-    assert_serves(rt, &mut pair.here, keeper, Pump::Served { from: 2 });
-}
-
-/// The journal of a place of which nothing is left, neither in hand nor on its way.
-fn journal_of<E: Ends>(rt: &impl Abort, desk: Desk<E>) -> Vec<Entry> {
-    assert_nothing_waits(rt, &desk);
-    desk.finish().journal
+fn assert_both_serve<R: Abort, D: Works<R>>(rt: &R, pair: &mut Pair<D>, keeper: &mut Caller) {
+    for (number, done) in [
+        (1, Pump::Idle { put: 1, worked: 0 }),
+        (2, Pump::Served { from: 1 }),
+        (2, Pump::Idle { put: 1, worked: 1 }),
+        (1, Pump::Served { from: 2 }),
+    ] {
+        assert_eq!(rt; serve_at(rt, pair, keeper, number), done);
+    }
 }
 
 /// The lines of the journals, by clock and then by place.
@@ -81,20 +115,25 @@ fn lines_of(rt: &impl Abort, alloc: Global, journals: &[Vec<Entry>]) -> Vec<u8> 
     out
 }
 
-/// Asserts that nothing is left at the places, and that these are the lines of their journals.
-fn assert_lines<E: Ends>(rt: &impl Abort, alloc: Global, pair: Pair<E>, lines: &str) {
-    let Pair { here, there } = pair;
-    let (here, there) = (journal_of(rt, here), journal_of(rt, there));
-    let journals = vec![in alloc; here, there].expect(rt, "memory");
-    let written = lines_of(rt, alloc, &journals);
+/// Asserts that these are the lines of the journals.
+fn assert_lines(rt: &impl Abort, alloc: Global, journals: &[Vec<Entry>], lines: &str) {
+    let written = lines_of(rt, alloc, journals);
     assert!(rt; written.as_slice() == lines.as_bytes());
 }
 
-fn assert_packets_are_carried<R: Abort, E: Moves<R>>(rt: &R, alloc: Global, mut pair: Pair<E>) {
+/// Asserts that nothing is left at the places, and that these are the lines of their journals.
+fn assert_leave<R: Abort, D: Works<R>>(rt: &R, alloc: Global, pair: Pair<D>, lines: &str) {
+    let Pair { here, there } = pair;
+    let (here, there) = (here.journal(rt), there.journal(rt));
+    let journals = vec![in alloc; here, there].expect(rt, "memory");
+    assert_lines(rt, alloc, &journals, lines);
+}
+
+fn assert_packets_are_carried<R: Abort, D: Works<R>>(rt: &R, alloc: Global, mut pair: Pair<D>) {
     let mut keeper = Caller::new(0, name(rt, "1.a.1"), 0);
     act_at_both(rt, alloc, &mut pair, &mut keeper);
     assert_both_serve(rt, &mut pair, &mut keeper);
-    assert_lines(rt, alloc, pair, LINES);
+    assert_leave(rt, alloc, pair, LINES);
 }
 
 #[test]

@@ -1,6 +1,6 @@
 //! Two places over ruled ends, each served by a thread of its own.
 
-use crate::pair::{Pair, act, assert_nothing_waits, name, pump, send, start};
+use crate::pair::{Pair, act, name, pump, send, start};
 use chorus_calls::Caller;
 use chorus_ends::{Ends, Moves};
 use chorus_entry::{Command, MsgId};
@@ -9,7 +9,7 @@ use chorus_serve::{Desk, Pump};
 use chorus_ui::Ui;
 use std::alloc::Global;
 use std::process::Abort;
-use std::thread::join_mut;
+use std::thread::{Threads, join_mut};
 
 /// How many messages each place sends.
 const MESSAGES: u32 = 5_008;
@@ -28,52 +28,103 @@ struct Side<E: Ends> {
     far: Ui,
 }
 
-/// Performs the command of the side's caller.
-fn perform<E: Ends>(rt: &impl Abort, side: &mut Side<E>, command: Command) {
-    act(rt, &mut side.desk, &mut side.caller, command);
+/// What a place and its caller do, on a ground of this type. What the threads do is written over this, so that it knows of a place
+/// no more than it asks.
+trait Works<R: Abort>: Drop {
+    /// The actor at the other place.
+    fn far(&self) -> Ui;
+
+    /// Performs the command of the caller.
+    fn act(&mut self, rt: &R, command: Command);
+
+    /// Serves the place's links once.
+    fn serve(&mut self, rt: &R) -> Pump;
+
+    /// How many messages the caller sent.
+    fn posts(&self) -> u32;
+
+    /// Whether the caller's message of this number has its verdict.
+    fn has_verdict(&self, number: u32) -> bool;
+
+    /// How many packets wait to go or are in hand.
+    fn waiting(&self) -> u64;
+
+    /// How many packets were worked off.
+    fn worked(&self) -> u64;
+
+    /// How many ports the place holds.
+    fn held(&self) -> u16;
 }
 
-/// Serves the side's links once.
-fn serve_once<R: Abort, E: Moves<R>>(rt: &R, side: &mut Side<E>) -> Pump {
-    pump(rt, &mut side.desk, &mut side.caller)
-}
+impl<R: Abort, E: Moves<R>> Works<R> for Side<E> {
+    fn far(&self) -> Ui {
+        self.far
+    }
 
-/// Sends a message to the port.
-fn send_one<E: Ends>(rt: &impl Abort, alloc: Global, side: &mut Side<E>, port: Ui) {
-    send(rt, alloc, &mut side.desk, &mut side.caller, port, "body");
-}
+    fn act(&mut self, rt: &R, command: Command) {
+        act(rt, &mut self.desk, &mut self.caller, command);
+    }
 
-/// At each fourth message takes one.
-fn take_at_times<E: Ends>(rt: &impl Abort, side: &mut Side<E>, port: Ui, message: u32) {
-    if message % 4 == 0 {
-        perform(rt, side, Command::Take { port });
+    fn serve(&mut self, rt: &R) -> Pump {
+        pump(rt, &mut self.desk, &mut self.caller)
+    }
+
+    fn posts(&self) -> u32 {
+        self.caller.posts()
+    }
+
+    fn has_verdict(&self, number: u32) -> bool {
+        let id = MsgId {
+            seat: self.caller.seat(),
+            number,
+            copy: 0,
+        };
+        matches!(self.desk.place().outcome(id), Outcome::Answer(_))
+    }
+
+    fn waiting(&self) -> u64 {
+        self.desk.waiting()
+    }
+
+    fn worked(&self) -> u64 {
+        self.desk.worked()
+    }
+
+    fn held(&self) -> u16 {
+        self.desk.held()
     }
 }
 
+/// At each fourth message takes one.
+fn take_at_times<R: Abort, S: Works<R>>(rt: &R, side: &mut S, port: Ui, message: u32) {
+    if message % 4 == 0 {
+        side.act(rt, Command::Take { port });
+    }
+}
+
+/// Moves the port to the other place.
+fn move_over<R: Abort, S: Works<R>>(rt: &R, side: &mut S, port: Ui) {
+    let actor = side.far();
+    side.act(rt, Command::Move { port, actor });
+}
+
 /// At each sixteenth message moves the port to the other place, where it is held here.
-fn move_at_times<E: Ends>(rt: &impl Abort, side: &mut Side<E>, port: Ui, message: u32) {
+fn move_at_times<R: Abort, S: Works<R>>(rt: &R, side: &mut S, port: Ui, message: u32) {
     if message % 16 == 0 {
-        let actor = side.far;
-        perform(rt, side, Command::Move { port, actor });
+        move_over(rt, side, port);
     }
 }
 
 /// Sends a message and serves, and at times takes one and moves the port.
-fn work_once<R: Abort, E: Moves<R>>(
-    rt: &R,
-    alloc: Global,
-    side: &mut Side<E>,
-    port: Ui,
-    message: u32,
-) {
-    send_one(rt, alloc, side, port);
-    serve_once(rt, side);
+fn work_once<R: Abort, S: Works<R>>(rt: &R, alloc: Global, side: &mut S, port: Ui, message: u32) {
+    side.act(rt, send(rt, alloc, port, "body"));
+    side.serve(rt);
     take_at_times(rt, side, port, message);
     move_at_times(rt, side, port, message);
 }
 
 /// Sends all messages.
-fn send_all<R: Abort, E: Moves<R>>(rt: &R, alloc: Global, side: &mut Side<E>) {
+fn send_all<R: Abort, S: Works<R>>(rt: &R, alloc: Global, side: &mut S) {
     let port = name(rt, "1.p.1");
     for message in 0..MESSAGES {
         work_once(rt, alloc, side, port, message);
@@ -81,42 +132,46 @@ fn send_all<R: Abort, E: Moves<R>>(rt: &R, alloc: Global, side: &mut Side<E>) {
 }
 
 /// Serves the side's links for a while.
-fn serve_on<R: Abort, E: Moves<R>>(rt: &R, side: &mut Side<E>) {
+fn serve_on<R: Abort, S: Works<R>>(rt: &R, side: &mut S) {
     for _round in 0..ROUNDS {
-        serve_once(rt, side);
+        side.serve(rt);
     }
 }
 
 /// Sends all messages, and then goes on serving for a while.
-fn work<R: Abort, E: Moves<R>>(rt: &R, alloc: Global, side: &mut Side<E>) {
+fn work<R: Abort, S: Works<R>>(rt: &R, alloc: Global, side: &mut S) {
     send_all(rt, alloc, side);
     serve_on(rt, side);
+}
+
+/// How many packets were put and worked off so far, where the place is idle.
+fn idle(pump: Pump) -> Option<(u64, u64)> {
+    match pump {
+        Pump::Idle { put, worked } => Some((put, worked)),
+        Pump::Served { .. } => None,
+    }
 }
 
 /// Whether nothing is left where these are the answers of the two places: both are idle, and together they worked off as many
 /// packets as they put.
 fn are_at_rest(one: Pump, other: Pump) -> bool {
-    match (one, other) {
-        (
-            Pump::Idle { put, worked },
-            Pump::Idle {
-                put: more,
-                worked: too,
-            },
-        ) => put.saturating_add(more) == worked.saturating_add(too),
+    match (idle(one), idle(other)) {
+        (Some((put, worked)), Some((more, too))) => {
+            put.saturating_add(more) == worked.saturating_add(too)
+        }
         _ => false,
     }
 }
 
 /// Serves both places once. Whether nothing is left then.
-fn serve_both<R: Abort, E: Moves<R>>(rt: &R, near: &mut Side<E>, far: &mut Side<E>) -> bool {
-    let one = serve_once(rt, near);
-    let other = serve_once(rt, far);
+fn serve_both<R: Abort, S: Works<R>>(rt: &R, near: &mut S, far: &mut S) -> bool {
+    let one = near.serve(rt);
+    let other = far.serve(rt);
     are_at_rest(one, other)
 }
 
 /// Serves both places in turn until nothing is left, which is to come.
-fn drain<R: Abort, E: Moves<R>>(rt: &R, near: &mut Side<E>, far: &mut Side<E>) {
+fn drain<R: Abort, S: Works<R>>(rt: &R, near: &mut S, far: &mut S) {
     for _round in 0..LAST_ROUNDS {
         if serve_both(rt, near, far) {
             return;
@@ -125,37 +180,42 @@ fn drain<R: Abort, E: Moves<R>>(rt: &R, near: &mut Side<E>, far: &mut Side<E>) {
     panic!(rt; "places that do not come to rest")
 }
 
-/// Asserts that the side's message of this number has its verdict.
-fn assert_verdict<E: Ends>(rt: &impl Abort, side: &Side<E>, number: u32) {
-    let id = MsgId {
-        seat: side.caller.seat(),
-        number,
-        copy: 0,
-    };
-    assert!(rt; matches!(side.desk.place().outcome(id), Outcome::Answer(_)));
-}
-
 /// Asserts that nothing is left at the side, and that it sent all messages and each has its verdict.
-fn assert_settled<E: Ends>(rt: &impl Abort, side: &Side<E>) {
-    assert_nothing_waits(rt, &side.desk);
-    assert_eq!(rt; side.caller.posts(), MESSAGES);
+fn assert_settled<R: Abort, S: Works<R>>(rt: &R, side: &S) {
+    assert_eq!(rt; side.waiting(), 0);
+    assert_eq!(rt; side.posts(), MESSAGES);
     for number in 1..=MESSAGES {
-        assert_verdict(rt, side, number);
+        assert!(rt; side.has_verdict(number));
     }
 }
 
 /// Asserts that both places worked off packets, and one of them holds the port.
-fn assert_worked<E: Ends>(rt: &impl Abort, near: &Desk<E>, far: &Desk<E>) {
-    assert!(rt; near.worked() > 0 && far.worked() > 0);
+fn assert_worked<R: Abort, S: Works<R>>(rt: &R, near: &S, far: &S) {
+    assert!(rt; near.worked() > 0);
+    assert!(rt; far.worked() > 0);
     assert_eq!(rt; near.held().saturating_add(far.held()), 1);
 }
 
 /// Lets the places come to rest, and asserts what is so then.
-fn assert_all_arrives<R: Abort, E: Moves<R>>(rt: &R, mut near: Side<E>, mut far: Side<E>) {
-    drain(rt, &mut near, &mut far);
-    assert_settled(rt, &near);
-    assert_settled(rt, &far);
-    assert_worked(rt, &near.desk, &far.desk);
+fn assert_comes_to_rest<R: Abort, S: Works<R>>(rt: &R, near: &mut S, far: &mut S) {
+    drain(rt, near, far);
+    assert_settled(rt, near);
+    assert_settled(rt, far);
+    assert_worked(rt, near, far);
+}
+
+/// Lets a thread of its own work at each place, and asserts what is so when the places have come to rest.
+fn assert_all_arrives<R, S>(rt: &R, alloc: Global, mut near: S, mut far: S)
+where
+    R: Abort + Threads + Sync,
+    S: Works<R> + Send,
+{
+    join_mut(
+        rt,
+        &mut || work(rt, alloc, &mut near),
+        &mut || work(rt, alloc, &mut far),
+    );
+    assert_comes_to_rest(rt, &mut near, &mut far);
 }
 
 /// The place, with a caller of this seat in the actor.
@@ -164,25 +224,26 @@ fn side_of<E: Ends>(seat: u32, desk: Desk<E>, actor: Ui, far: Ui) -> Side<E> {
     Side { desk, caller, far }
 }
 
-/// The places, with a caller at each in the first actor of its site, after the caller at the first one made the port.
-fn sides_of<E: Ends>(rt: &impl Abort, pair: Pair<E>) -> (Side<E>, Side<E>) {
+/// The places, with a caller at each in the first actor of its site.
+fn sides_of<E: Ends>(rt: &impl Abort, pair: Pair<Desk<E>>) -> (Side<E>, Side<E>) {
     let Pair { here, there } = pair;
     let (actor, other) = (name(rt, "1.a.1"), name(rt, "2.a.1"));
-    let mut near = side_of(1, here, actor, other);
+    let near = side_of(1, here, actor, other);
     let far = side_of(2, there, other, actor);
-    let capacity = 64;
-    perform(rt, &mut near, Command::Make { actor, capacity });
     (near, far)
+}
+
+/// Makes the port, in the first actor of the first site.
+fn make<R: Abort, S: Works<R>>(rt: &R, side: &mut S) {
+    let actor = name(rt, "1.a.1");
+    let capacity = 64;
+    side.act(rt, Command::Make { actor, capacity });
 }
 
 #[test]
 fn two_threads_serve_two_places(rt: HostRuntime) {
     let alloc = rt.alloc();
-    let (mut near, mut far) = sides_of(&rt, start(&rt, alloc));
-    join_mut(
-        &rt,
-        &mut || work(&rt, alloc, &mut near),
-        &mut || work(&rt, alloc, &mut far),
-    );
-    assert_all_arrives(&rt, near, far);
+    let (mut near, far) = sides_of(&rt, start(&rt, alloc));
+    make(&rt, &mut near);
+    assert_all_arrives(&rt, alloc, near, far);
 }
