@@ -1,6 +1,6 @@
 //! What the program prints is audited by the program.
 
-use crate::running::{Run, assert_prints, run_on};
+use crate::running::{Run, assert_prints, assert_same, run_on};
 use crate::texts::{NOTHING, ON_ONE_SITE_PRINTED, RETRY_ACROSS_A_MOVE};
 use chorus_show::Status;
 use std::alloc::Global;
@@ -9,7 +9,7 @@ use std::process::Abort;
 /// What the program prints for the scenario.
 fn replayed(rt: &impl Abort, alloc: Global, scenario: &str) -> String {
     let Run { status, written } = run_on(rt, alloc, &["replay"], scenario);
-    assert_eq!(rt; status, Status::Done, "{scenario}");
+    assert_same(rt, status, Status::Done, scenario);
     written
 }
 
@@ -30,10 +30,14 @@ fn assert_a_move_is_audited(rt: &impl Abort, alloc: Global) {
     assert_audited(rt, alloc, moved.as_str(), "legal 27\n");
 }
 
+fn assert_eight_sites_are_audited(rt: &impl Abort, alloc: Global) {
+    let words = ["audit", "8", "1"];
+    assert_prints(rt, alloc, &words, ON_ONE_SITE_PRINTED, "legal 8\n");
+}
+
 #[test]
 fn audit_of_real_outputs(rt: HostRuntime) {
     assert_nothing_is_audited(&rt, rt.alloc());
     assert_a_move_is_audited(&rt, rt.alloc());
-    let words = ["audit", "8", "1"];
-    assert_prints(&rt, rt.alloc(), &words, ON_ONE_SITE_PRINTED, "legal 8\n");
+    assert_eight_sites_are_audited(&rt, rt.alloc());
 }

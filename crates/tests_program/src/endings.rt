@@ -1,6 +1,6 @@
 //! How the program ends, for the one who started it.
 
-use crate::running::{sink_of, text_in};
+use crate::running::{assert_same, sink_of, text_in};
 use chorus_io::Sink;
 use chorus_program::ended;
 use chorus_show::Status;
@@ -22,8 +22,8 @@ fn assert_ended(
 ) {
     let mut errors = sink_of(rt, alloc, 64, failing);
     let told = ended_with(status, &mut errors);
-    assert_eq!(rt; told, number, "{status:?}");
-    assert_eq!(rt; text_in(rt, alloc, &errors).as_str(), line, "{status:?}");
+    assert_same(rt, told, number, status);
+    assert_same(rt, text_in(rt, alloc, &errors).as_str(), line, status);
 }
 
 /// Asserts the exit status and the line that is written, and that a line that cannot be written changes no exit status.

@@ -3,7 +3,7 @@
 //! What a run without faults writes is what is right: where a write failed, the front of it that was written before; where a read
 //! failed, nothing.
 
-use crate::running::{Run, run_over, source_of};
+use crate::running::{Run, assert_same, run_over, source_of};
 use crate::short::Short;
 use crate::texts::RETRY_ACROSS_A_MOVE;
 use chorus_show::Status;
@@ -19,8 +19,8 @@ fn run(rt: &impl Abort, alloc: Global, words: &[&str], read: u64, write: u64) ->
 /// Asserts that a run with a fault ended with this status and a front of the whole output, of so many bytes.
 fn assert_ended(rt: &impl Abort, run: &Run, status: Status, whole: &str, count: u64) {
     let written = run.written.as_bytes();
-    assert_eq!(rt; run.status, status, "with {count} bytes");
-    assert_eq!(rt; written.len() as u64, count, "in bytes");
+    assert_same(rt, run.status, status, count);
+    assert_same(rt, written.len() as u64, count, "bytes");
     assert!(rt;
         whole.as_bytes().starts_with(written),
         "another text of {count} bytes"
@@ -30,7 +30,7 @@ fn assert_ended(rt: &impl Abort, run: &Run, status: Status, whole: &str, count: 
 /// What the words write where nothing fails.
 fn whole_of(rt: &impl Abort, alloc: Global, words: &[&str]) -> String {
     let Run { status, written } = run(rt, alloc, words, 0, 0);
-    assert_eq!(rt; status, Status::Done);
+    assert_same(rt, status, Status::Done, "the whole");
     assert!(rt; written.as_str().ends_with("end\n"));
     written
 }
@@ -70,10 +70,14 @@ fn assert_each_read_fails(rt: &impl Abort, alloc: Global) {
     assert_ended(rt, &run, Status::Done, whole.as_str(), whole.len() as u64);
 }
 
+/// Asserts that a load reads nothing: where the first read fails, it does all.
+fn assert_load_reads_nothing(rt: &impl Abort, alloc: Global) {
+    let load = run(rt, alloc, &["load", "7", "100"], 1, 0);
+    assert_same(rt, load.status, Status::Done, "a load reads nothing");
+}
+
 #[test]
 fn each_read_of_a_replay_fails(rt: HostRuntime) {
-    let alloc = rt.alloc();
-    assert_each_read_fails(&rt, alloc);
-    let load = run(&rt, alloc, &["load", "7", "100"], 1, 0);
-    assert_eq!(rt; load.status, Status::Done, "a load reads nothing");
+    assert_each_read_fails(&rt, rt.alloc());
+    assert_load_reads_nothing(&rt, rt.alloc());
 }

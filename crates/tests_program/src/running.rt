@@ -6,6 +6,7 @@ use chorus_io::{MemSink, MemSource, Sink, Source};
 use chorus_program::program;
 use chorus_show::Status;
 use std::alloc::Global;
+use std::fmt::Debug;
 use std::process::Abort;
 
 /// How the program ended, and what it wrote.
@@ -43,6 +44,16 @@ pub(crate) fn text_in(rt: &impl Abort, alloc: Global, sink: &MemSink) -> String 
     String::from_utf8(bytes).ok().expect(rt, "a text")
 }
 
+/// Asserts that what is told of this is what is wanted.
+pub(crate) fn assert_same<T: PartialEq + Debug + Copy, W: Debug + Copy>(
+    rt: &impl Abort,
+    told: T,
+    wanted: T,
+    of: W,
+) {
+    assert_eq!(rt; told, wanted, "{of:?}");
+}
+
 /// What the program does for these words, over this source and a sink that takes so many bytes at a write and fails at these writes.
 pub(crate) fn run_over<S: Source>(
     rt: &impl Abort,
@@ -75,6 +86,6 @@ pub(crate) fn assert_prints(
     printed: &str,
 ) {
     let run = run_on(rt, alloc, words, input);
-    assert_eq!(rt; run.status, Status::Done, "{words:?}");
-    assert_eq!(rt; run.written.as_str(), printed, "{words:?}");
+    assert_same(rt, run.status, Status::Done, words);
+    assert_same(rt, run.written.as_str(), printed, words);
 }

@@ -1,6 +1,6 @@
 //! What the program does with its words.
 
-use crate::running::{assert_prints, run_on};
+use crate::running::{assert_prints, assert_same, run_on};
 use chorus_show::Status;
 use chorus_words::{Words, read_words};
 use std::alloc::Global;
@@ -70,7 +70,7 @@ fn the_list_and_nothing_else(rt: HostRuntime) {
 /// Asserts how the program ends on an empty text, and that it writes nothing.
 fn assert_ends(rt: &impl Abort, alloc: Global, words: &[&str], status: Status) {
     let run = run_on(rt, alloc, words, "");
-    assert_eq!(rt; run.status, status, "{words:?}");
+    assert_same(rt, run.status, status, words);
     assert!(rt; run.written.is_empty(), "{words:?}");
 }
 
