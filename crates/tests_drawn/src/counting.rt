@@ -23,6 +23,30 @@ pub(crate) fn look_before(place: &Place, caller: &Caller) -> Before {
     }
 }
 
+/// Asserts that the number is the one that is wanted.
+pub(crate) fn assert_is(rt: &impl Abort, number: u64, wanted: u64) {
+    assert_eq!(rt; number, wanted);
+}
+
+/// Asserts that what is wanted is seen.
+pub(crate) fn assert_seen(rt: &impl Abort, seen: &Seen, wanted: &Seen) {
+    assert_eq!(rt; seen, wanted);
+}
+
+/// Asserts of the place's entries behind the first ones that they have the clocks behind this one, the place's number and the seat.
+/// Gives the last clock.
+fn assert_entries(rt: &impl Abort, place: &Place, first: usize, clock: u64, seat: u32) -> u64 {
+    let number = place.number();
+    let mut clock = clock;
+    for entry in place.journal().iter().skip(first) {
+        clock = clock.saturating_add(1);
+        assert_is(rt, entry.clock, clock);
+        assert_is(rt, u64::from(entry.place), u64::from(number));
+        assert_is(rt, u64::from(entry.seat), u64::from(seat));
+    }
+    clock
+}
+
 /// Asserts of a turn that ended: its entries have the next clocks, the place's number and the caller's seat, its packets wait, and no
 /// more room was taken than that of its entries and packets. Gives how many these are. `heard` is the clock of the packet, or 0.
 fn assert_counted(
@@ -37,16 +61,13 @@ fn assert_counted(
     let entries = entries.expect(rt, "no entry is lost") as u64;
     let packets = new.puts.checked_sub(old.puts).expect(rt, "a count");
     assert!(rt; entries >= 1);
-    assert_eq!(rt; new.waiting, old.waiting.saturating_add(packets));
-    let mut clock = old.clock.max(old.last).max(heard);
-    for entry in place.journal().iter().skip(old.entries) {
-        clock = clock.saturating_add(1);
-        assert_eq!(rt; entry.clock, clock);
-        assert_eq!(rt; entry.place, place.number());
-        assert_eq!(rt; entry.seat, caller.seat());
-    }
-    assert_eq!(rt; new.clock, clock);
-    assert_eq!(rt; new.last, clock);
+    let clock = old.clock.max(old.last).max(heard);
+    let clock = assert_entries(rt, place, old.entries, clock, caller.seat());
+    let mut wanted = new;
+    wanted.waiting = old.waiting.saturating_add(packets);
+    wanted.clock = clock;
+    wanted.last = clock;
+    assert_seen(rt, &new, &wanted);
     let left = place
         .spare()
         .saturating_add(entries)
@@ -66,7 +87,7 @@ pub(crate) fn assert_acted(
     let clock = before.seen.clock.max(before.seen.last);
     if clock >= CLOCK_LIMIT {
         assert_eq!(rt; told.err(), Some(PlaceFault::Worn { clock }));
-        assert_eq!(rt; look(place, caller), before.seen);
+        assert_seen(rt, &look(place, caller), &before.seen);
     } else {
         assert!(rt; told.is_ok());
         assert_counted(rt, place, caller, before, 0);
@@ -118,17 +139,21 @@ pub(crate) fn assert_worked_off(
     assert_between(rt, entries, effect.entries);
     assert_between(rt, packets, effect.packets);
     let (old, new) = (before.seen, look(place, caller));
-    assert_eq!(rt; new.held, old.held.saturating_add(effect.ports));
-    assert_eq!(rt;
-        (new.posts, new.given, new.hand),
-        (old.posts, old.given, old.hand)
-    );
+    let mut wanted = new;
+    wanted.held = old.held.saturating_add(effect.ports);
+    wanted.posts = old.posts;
+    wanted.given = old.given;
+    wanted.hand = old.hand;
+    assert_seen(rt, &new, &wanted);
 }
+
+/// The number of the kind of tries.
+pub(crate) const TRY: usize = 0;
 
 /// The number of the cargo's kind, from 0.
 pub(crate) fn kind_of(cargo: &Cargo) -> usize {
     match cargo {
-        Cargo::Try { .. } => 0,
+        Cargo::Try { .. } => TRY,
         Cargo::Verdict { .. } => 1,
         Cargo::Transfer { .. } => 2,
         Cargo::Ask { .. } => 3,

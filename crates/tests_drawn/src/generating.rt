@@ -1,8 +1,8 @@
 //! Packets that are drawn: lawful ones, nearly lawful ones and arbitrary ones, between commands and packets of the places themselves.
 
 use crate::counting::{
-    Counts, assert_acted, assert_both, assert_worked_off, count, effect_of, kind_of, look_before,
-    no_counts,
+    Before, Counts, assert_acted, assert_both, assert_seen, assert_worked_off, count, effect_of,
+    kind_of, look_before, no_counts,
 };
 use crate::drawing::Draws;
 use crate::ground::Ground;
@@ -19,29 +19,42 @@ const ROUNDS: u64 = 8;
 
 const STEPS: u32 = 1_000;
 
-/// Shows a packet to the place, and hands it over where it is lawful; whether it was worked off. One that is not lawful changes
-/// nothing, and one that is refused comes back.
-fn show(rt: &impl Abort, place: &mut Place, caller: &mut Caller, packet: Packet) -> bool {
-    let old = look_before(place, caller);
-    let is_lawful = place.lawful(packet.from, &packet);
-    assert_eq!(rt; look(place, caller), old.seen);
-    if !is_lawful {
-        return false;
-    }
+/// Asserts of a packet that came back, with this clock and from this place, that it was refused as worn, and that it is so.
+fn assert_worn(rt: &impl Abort, back: &Packet, fault: &PlaceFault, clock: u64, from: u16) {
+    assert!(rt; clock >= CLOCK_LIMIT);
+    assert!(rt; matches!(fault, PlaceFault::Worn { .. }));
+    assert!(rt; back.from == from && back.clock == clock);
+}
+
+/// Hands a lawful packet over to the place; whether it was worked off. One that is refused comes back.
+fn hand_over(
+    rt: &impl Abort,
+    place: &mut Place,
+    caller: &mut Caller,
+    old: &Before,
+    packet: Packet,
+) -> bool {
     let (from, clock) = (packet.from, packet.clock);
     let effect = effect_of(&packet);
     match work_at(&Ground { rt }, place, caller, packet) {
         Ok(()) => {
-            assert_worked_off(rt, place, caller, &old, effect);
+            assert_worked_off(rt, place, caller, old, effect);
             true
         }
         Err((back, fault)) => {
-            assert!(rt; clock >= CLOCK_LIMIT);
-            assert!(rt; matches!(fault, PlaceFault::Worn { .. }));
-            assert!(rt; back.from == from && back.clock == clock);
+            assert_worn(rt, &back, &fault, clock, from);
             false
         }
     }
+}
+
+/// Shows a packet to the place, and hands it over where it is lawful; whether it was worked off. One that is not lawful changes
+/// nothing.
+fn show(rt: &impl Abort, place: &mut Place, caller: &mut Caller, packet: Packet) -> bool {
+    let old = look_before(place, caller);
+    let is_lawful = place.lawful(packet.from, &packet);
+    assert_seen(rt, &look(place, caller), &old.seen);
+    is_lawful && hand_over(rt, place, caller, &old, packet)
 }
 
 /// Gives a command that is drawn to its place, where it meets its conditions.

@@ -1,5 +1,6 @@
 //! What a place is to receive, and which packet it is to have in hand.
 
+use crate::counting::kind_of;
 use crate::net::PLACES;
 use chorus_entry::Packet;
 
@@ -12,22 +13,14 @@ pub(crate) struct Inbox {
     last: u16,
 }
 
-/// Takes out the first packet from the place.
-fn take_from(left: &mut Vec<Packet>, from: u16) -> Option<Packet> {
+/// Takes out the first packet from the place, where it is another place than this one.
+fn take_from_other(left: &mut Vec<Packet>, number: u16, from: u16) -> Option<Packet> {
     for at in 0..left.len() {
-        if at < left.len() && left[at].from == from {
+        if from != number && at < left.len() && left[at].from == from {
             return Some(left.remove(at));
         }
     }
     None
-}
-
-/// Takes out the first packet from the place, where it is another place than this one.
-fn take_from_other(left: &mut Vec<Packet>, number: u16, from: u16) -> Option<Packet> {
-    if from == number {
-        return None;
-    }
-    take_from(left, from)
 }
 
 impl Inbox {
@@ -45,30 +38,32 @@ impl Inbox {
         self.hand.as_ref()
     }
 
-    /// Takes the packet out that is to be in hand.
-    pub(crate) fn take_hand(&mut self) -> Option<Packet> {
-        self.hand.take()
+    /// Lets the packet go that is to be in hand. Gives its kind, where there is one.
+    pub(crate) fn let_go(&mut self) -> Option<usize> {
+        let kind = match &self.hand {
+            Some(packet) => Some(kind_of(&packet.cargo)),
+            None => None,
+        };
+        self.hand = None;
+        kind
     }
 
-    /// Takes the next packet into the hand, the first one from the place behind the last one, on and around; false where there is none.
-    fn take_next(&mut self, number: u16) -> bool {
+    /// Takes the next packet into the hand of the place of this number, where nothing is in it: the first one from the place behind the
+    /// last one, on and around. Gives its kind, where it did.
+    pub(crate) fn take_next(&mut self, number: u16) -> Option<usize> {
+        if self.hand.is_some() {
+            return None;
+        }
         let mut from = self.last;
         for _asked in 0..PLACES {
             from = from % PLACES + 1;
             if let Some(packet) = take_from_other(&mut self.left, number, from) {
+                let kind = kind_of(&packet.cargo);
                 self.hand = Some(packet);
                 self.last = from;
-                return true;
+                return Some(kind);
             }
         }
-        false
-    }
-
-    /// Takes the next packet into the hand of the place of this number, where nothing is in it; whether it did.
-    pub(crate) fn take_up(&mut self, number: u16) -> bool {
-        if self.hand.is_some() {
-            return false;
-        }
-        self.take_next(number)
+        None
     }
 }

@@ -15,9 +15,11 @@
 //!
 //! In the end the place is taken apart, and has in hand what it is to have in hand.
 
+ghost use Rattle.std.specs.Prelude.{◌≡◌, ℕ, true};
+
 use crate::counting::{
-    Before, Counts, assert_acted, assert_both, assert_worked_off, count, effect_of, kind_of,
-    look_before, no_counts,
+    Before, Counts, TRY, assert_acted, assert_both, assert_is, assert_seen, assert_worked_off,
+    count, effect_of, kind_of, look_before, no_counts,
 };
 use crate::drawing::Draws;
 use crate::ground::Ground;
@@ -26,7 +28,7 @@ use crate::net::{PLACES, assert_may, five_callers};
 use chorus_calls::Caller;
 use chorus_ends::{Ends, MemEnds, Moves};
 use chorus_entry::{Act, Cargo, Command, Entry, Packet};
-use chorus_place::{Place, PlaceFault};
+use chorus_place::{Place, PlaceFault, Reply};
 use chorus_serve::{Desk, Pump, serve};
 use chorus_ui::{CLOCK_LIMIT, Layout};
 use std::alloc::Global;
@@ -64,7 +66,7 @@ struct Tally {
 }
 
 /// What is to become of the packet that is in hand.
-#[derive(Clone, Copy, Debug, PartialEq, Eq)]
+#[derive(Clone, Copy, PartialEq, Eq)]
 enum Fate {
     /// There is none.
     Idle,
@@ -73,13 +75,12 @@ enum Fate {
     WorkedOff { from: u16 },
 }
 
-/// What is to become of the packet, where this is the greatest clock.
-fn fate_of(place: &Place, packet: &Packet, clock: u64) -> Fate {
-    let from = packet.from;
+/// What is to become of a packet from the place, where this is the greatest clock.
+fn fate_of(clock: u64, from: u16, is_lawful: bool) -> Fate {
     if clock >= CLOCK_LIMIT {
         return Fate::Worn { clock };
     }
-    if place.lawful(from, packet) {
+    if is_lawful {
         return Fate::WorkedOff { from };
     }
     Fate::Kept { from }
@@ -90,7 +91,7 @@ fn fate_of_hand(place: &Place, caller: &Caller, hand: Option<&Packet>) -> Fate {
     match hand {
         Some(packet) => {
             let clock = place.clock().max(caller.last()).max(packet.clock);
-            fate_of(place, packet, clock)
+            fate_of(clock, packet.from, place.lawful(packet.from, packet))
         }
         None => Fate::Idle,
     }
@@ -126,7 +127,7 @@ fn assert_rests<E: Ends>(
     old: &Before,
     is_holding: bool,
 ) {
-    assert_eq!(rt; look(desk.place(), caller), old.seen);
+    assert_seen(rt, &look(desk.place(), caller), &old.seen);
     assert!(rt; old.spare <= desk.place().spare());
     assert_eq!(rt; desk.is_holding(), is_holding);
 }
@@ -148,11 +149,11 @@ fn assert_became<E: Ends>(
 
 /// Asserts what the desk tells of its place and its hand, and how many packets it worked off.
 fn assert_told<E: Ends>(rt: &impl Abort, desk: &Desk<E>, worked: u64) {
-    let waiting = desk.place().waiting();
+    let (waiting, held) = (desk.place().waiting(), desk.place().held());
     let in_hand = u64::from(desk.is_holding());
-    assert_eq!(rt; desk.waiting(), waiting.saturating_add(in_hand));
-    assert_eq!(rt; desk.held(), desk.place().held());
-    assert_eq!(rt; desk.worked(), worked);
+    assert_is(rt, desk.waiting(), waiting.saturating_add(in_hand));
+    assert_is(rt, u64::from(desk.held()), u64::from(held));
+    assert_is(rt, desk.worked(), worked);
 }
 
 /// How many packets the place has worked off then, of so many before.
@@ -181,23 +182,20 @@ fn serve_once<E: Moves<()>>(
     fate
 }
 
-/// The place to which the act sends a message or a port.
-fn sends_to(act: &Act) -> Option<u16> {
+/// Whether the act sends a message or a port to the place.
+fn sends_to(act: &Act, place: u16) -> bool {
     match act {
-        Act::Try { to, .. } | Act::Depart { to, .. } => Some(*to),
-        _ => None,
+        Act::Try { to, .. } => *to == place,
+        Act::Depart { to, .. } => *to == place,
+        _ => false,
     }
 }
 
-/// Whether it carries a message that is tried or a port.
-fn is_sent_by_act(cargo: &Cargo) -> bool {
-    matches!(cargo, Cargo::Try { .. } | Cargo::Transfer { .. })
-}
-
-/// Whether the entry caused the packet that was sent to the place.
+/// Whether the entry caused the packet that was sent to the place. A try and a port go where their entries say.
 fn caused(entry: &Entry, packet: &Packet, to: u16) -> bool {
-    let goes_there = sends_to(&entry.act) == Some(to);
-    entry.clock == packet.clock && goes_there == is_sent_by_act(&packet.cargo)
+    let is_sent_by_act = matches!(packet.cargo, Cargo::Try { .. } | Cargo::Transfer { .. });
+    let goes_there = sends_to(&entry.act, to);
+    entry.clock == packet.clock && goes_there == is_sent_by_act
 }
 
 /// Whether one of the entries caused the packet that was sent to the place.
@@ -221,18 +219,8 @@ fn verdicts(packets: &[Packet]) -> u32 {
     count
 }
 
-/// Asserts of the packets that were sent to a place that they are of this place, and that each was caused by an entry, in their order.
-fn assert_caused(rt: &impl Abort, place: &Place, to: u16, packets: &[Packet]) {
-    let mut clock = 0;
-    for packet in packets {
-        assert_eq!(rt; packet.from, place.number());
-        assert!(rt; packet.clock > clock);
-        assert!(rt; is_caused(place.journal(), packet, to));
-        clock = packet.clock;
-    }
-}
-
-/// Asserts of the packets that were sent to a place that they are as they are to be, so many of them verdicts.
+/// Asserts of the packets that were sent to a place that they are of this place, that each was caused by an entry, in their order, and
+/// that so many of them are verdicts.
 fn assert_sent_to(
     rt: &impl Abort,
     place: &Place,
@@ -240,7 +228,13 @@ fn assert_sent_to(
     packets: &[Packet],
     decided: Option<&u32>,
 ) {
-    assert_caused(rt, place, to, packets);
+    let mut clock = 0;
+    for packet in packets {
+        assert_eq!(rt; packet.from, place.number());
+        assert!(rt; packet.clock > clock);
+        assert!(rt; is_caused(place.journal(), packet, to));
+        clock = packet.clock;
+    }
     assert_eq!(rt; Some(verdicts(packets)), decided.copied());
 }
 
@@ -256,30 +250,21 @@ fn assert_sent(rt: &impl Abort, place: &Place, ends: &MemEnds, decided: &[u32], 
     assert!(rt; ends.sent(place.number()).is_empty());
 }
 
-/// Asserts that a link was found empty where there was no packet, and that none was asked where one was in hand.
-fn assert_asked(rt: &impl Abort, fate: Fate, was_holding: bool, empties: (u64, u64)) {
-    let (old, new) = empties;
-    assert!(rt; fate != Fate::Idle || old < new);
-    assert!(rt; !was_holding || old == new);
-}
-
-/// Notes which packet is to be in hand.
-fn take_up<E: Ends>(side: &mut Side<E>, shown: &mut [u32]) {
-    if side.inbox.take_up(side.desk.place().number()) {
-        if let Some(packet) = side.inbox.hand() {
-            count(shown, kind_of(&packet.cargo));
-        }
+/// Notes which packet is to be in the hand of the place of this number.
+fn take_up(inbox: &mut Inbox, number: u16, shown: &mut [u32]) {
+    if let Some(kind) = inbox.take_next(number) {
+        count(shown, kind);
     }
 }
 
-/// Notes that the packet in hand was worked off. Where it was a try, its message was decided.
-fn note_worked_off<E: Ends>(side: &mut Side<E>, worked: &mut [u32]) {
-    let Some(packet) = side.inbox.take_hand() else {
+/// Notes that the packet in hand, which came from this place, was worked off. Where it was a try, its message was decided.
+fn note_worked_off(inbox: &mut Inbox, decided: &mut [u32], worked: &mut [u32], from: u16) {
+    let Some(kind) = inbox.let_go() else {
         return;
     };
-    count(worked, kind_of(&packet.cargo));
-    if matches!(packet.cargo, Cargo::Try { .. }) {
-        count(&mut side.decided, usize::from(packet.from));
+    count(worked, kind);
+    if kind == TRY {
+        count(decided, usize::from(from));
     }
 }
 
@@ -289,11 +274,15 @@ fn note<E: Ends>(side: &mut Side<E>, tally: &mut Tally, fate: Fate) {
         Fate::Idle => tally.idle = tally.idle.saturating_add(1),
         Fate::Worn { .. } => tally.worn = tally.worn.saturating_add(1),
         Fate::Kept { .. } => {}
-        Fate::WorkedOff { .. } => note_worked_off(side, &mut tally.counts.worked),
+        Fate::WorkedOff { from } => {
+            let worked = &mut tally.counts.worked;
+            note_worked_off(&mut side.inbox, &mut side.decided, worked, from);
+        }
     }
 }
 
-/// Serves the links once, in the name of the caller of this seat. Gives what became of the packet in hand.
+/// Serves the links once, in the name of the caller of this seat. A link is found empty where there is no packet, and none is asked where
+/// one is in hand. Gives what became of it.
 fn serve_side<E: Moves<()>>(
     rt: &impl Abort,
     side: &mut Side<E>,
@@ -302,11 +291,13 @@ fn serve_side<E: Moves<()>>(
 ) -> Fate {
     let was_holding = side.desk.is_holding();
     let empties = side.desk.ends().empties(1);
-    take_up(side, shown);
+    let number = side.desk.place().number();
+    take_up(&mut side.inbox, number, shown);
     let caller = side.callers.get_mut(seat).expect(rt, "a caller");
     let fate = serve_once(rt, &mut side.desk, caller, side.inbox.hand());
     let found = side.desk.ends().empties(1);
-    assert_asked(rt, fate, was_holding, (empties, found));
+    assert!(rt; fate != Fate::Idle || empties < found);
+    assert!(rt; !was_holding || empties == found);
     fate
 }
 
@@ -320,18 +311,32 @@ fn serve_step(rt: &impl Abort, side: &mut Side<MemEnds>, seat: usize, tally: &mu
 
 /// Whether the command may be performed at the place.
 fn is_for(rt: &impl Abort, place: &Place, caller: &Caller, command: &Command) -> bool {
-    meets_conditions(command)
-        && number_for(&Ground { rt }, place.layout(), caller.actor(), command) == place.number()
+    if !meets_conditions(command) {
+        return false;
+    }
+    let number = number_for(&Ground { rt }, place.layout(), caller.actor(), command);
+    number == place.number()
+}
+
+/// Performs the command at the place.
+fn perform<E: Ends>(
+    rt: &impl Abort,
+    desk: &mut Desk<E>,
+    caller: &mut Caller,
+    command: Command,
+) -> Result<Reply, PlaceFault> {
+    assert_may(rt, desk.place(), caller, &command);
+    desk.act(caller, command)
 }
 
 /// Performs the command at the place. What is in hand stays there.
 fn act<E: Ends>(rt: &impl Abort, desk: &mut Desk<E>, caller: &mut Caller, command: Command) {
-    let hands = (desk.is_holding(), desk.worked());
+    let (was_holding, worked) = (desk.is_holding(), desk.worked());
     let old = look_before(desk.place(), caller);
-    assert_may(rt, desk.place(), caller, &command);
-    let told = desk.act(caller, command);
+    let told = perform(rt, desk, caller, command);
     assert_acted(rt, desk.place(), caller, &old, told);
-    assert_eq!(rt; (desk.is_holding(), desk.worked()), hands);
+    assert!(rt; desk.is_holding() == was_holding);
+    assert_is(rt, desk.worked(), worked);
 }
 
 /// Performs a command that is drawn, where it is for the place.
@@ -345,18 +350,12 @@ fn command<R: Abort, E: Ends>(draws: &mut Draws<'_, R>, side: &mut Side<E>) {
     }
 }
 
-/// Performs commands that are drawn.
-fn perform_some<R: Abort, E: Ends>(draws: &mut Draws<'_, R>, side: &mut Side<E>) {
-    for _ in 0..COMMANDS {
-        command(draws, side);
-    }
-}
-
-/// The place of this number, at ends that hold these packets.
-fn desk_at(rt: &impl Abort, alloc: Global, number: u16, packets: Vec<Packet>) -> Desk<MemEnds> {
+/// The place of this number, at these ends, which reach each place.
+fn desk_at<E: Ends>(rt: &impl Abort, alloc: Global, number: u16, ends: E) -> Desk<E>
+    requires { (p : ℕ) → (E.links ends).reaches p ≡ true }
+{
     let layout = Layout::new(2, 2).expect(rt, "a layout");
     assert!(rt; layout.has_place(number));
-    let ends = MemEnds::holding(alloc, packets).expect(rt, "memory");
     Desk::start(alloc, layout, number, ends).expect(rt, "memory")
 }
 
@@ -369,16 +368,20 @@ fn callers<R: Abort>(draws: &mut Draws<'_, R>) -> Vec<Caller> {
     callers
 }
 
-/// A place on which commands that are drawn were performed, at ends that hold these packets.
-fn prepare<R: Abort>(draws: &mut Draws<'_, R>, number: u16, packets: Vec<Packet>) -> Side<MemEnds> {
+/// A place on which commands that are drawn were performed, at these ends, which reach each place.
+fn prepare<R: Abort, E: Ends>(draws: &mut Draws<'_, R>, number: u16, ends: E) -> Side<E>
+    requires { (p : ℕ) → (E.links ends).reaches p ≡ true }
+{
     let (rt, alloc) = (draws.rt, draws.alloc);
     let mut side = Side {
-        desk: desk_at(rt, alloc, number, packets),
+        desk: desk_at(rt, alloc, number, ends),
         callers: callers(draws),
         inbox: Inbox::holding(Vec::new(alloc)),
         decided: Vec::from_slice(alloc, &[0; 5]).expect(rt, "memory"),
     };
-    perform_some(draws, &mut side);
+    for _ in 0..COMMANDS {
+        command(draws, &mut side);
+    }
     side
 }
 
@@ -392,16 +395,11 @@ fn packets<R: Abort>(mut draws: Draws<'_, R>, place: &Place) -> Vec<Packet> {
     packets
 }
 
-/// Whether both are the same packet, or both are none.
-fn are_same(one: Option<&Packet>, other: Option<&Packet>) -> bool {
-    match (one, other) {
-        (Some(one), Some(other)) => {
-            one.clock == other.clock
-                && one.from == other.from
-                && kind_of(&one.cargo) == kind_of(&other.cargo)
-        }
-        (None, None) => true,
-        _ => false,
+/// What packets are compared by: their kind, their clock, and where they come from.
+fn marks_of(packet: Option<&Packet>) -> Option<(usize, u64, u16)> {
+    match packet {
+        Some(packet) => Some((kind_of(&packet.cargo), packet.clock, packet.from)),
+        None => None,
     }
 }
 
@@ -412,7 +410,7 @@ fn finish<E: Ends>(rt: &impl Abort, desk: Desk<E>, hand: Option<&Packet>) {
     let parts = desk.finish();
     let left = (parts.journal.len(), parts.out.waiting(), parts.ports.len());
     assert_eq!(rt; left, seen);
-    assert!(rt; are_same(parts.hand.as_ref(), hand));
+    assert_eq!(rt; marks_of(parts.hand.as_ref()), marks_of(hand));
     assert!(rt; parts.parcel.is_none());
 }
 
@@ -427,18 +425,23 @@ fn serve_on<R: Abort>(draws: &mut Draws<'_, R>, side: &mut Side<MemEnds>, tally:
     }
 }
 
+/// Ends that hold these packets.
+fn holding(rt: &impl Abort, alloc: Global, packets: Vec<Packet>) -> MemEnds {
+    MemEnds::holding(alloc, packets).expect(rt, "memory")
+}
+
 /// Draws the packets twice, for a place to receive and to look at them here, and serves it.
 fn round<R: Abort>(rt: &R, alloc: Global, state: u64, tally: &mut Tally) {
     let mut draws = Draws { rt, alloc, state };
     let number = draws.below(PLACES).saturating_add(1);
     let start = draws.state;
-    let rehearsal = prepare(&mut draws, number, Vec::new(alloc));
+    let rehearsal = prepare(&mut draws, number, holding(rt, alloc, Vec::new(alloc)));
     let place = rehearsal.desk.place();
     let state = u64::MAX - state;
     let left = packets(Draws { rt, alloc, state }, place);
     let received = packets(Draws { rt, alloc, state }, place);
     draws.state = start;
-    let mut side = prepare(&mut draws, number, received);
+    let mut side = prepare(&mut draws, number, holding(rt, alloc, received));
     side.inbox = Inbox::holding(left);
     serve_on(&mut draws, &mut side, tally);
     let Side { desk, inbox, .. } = side;
