@@ -110,7 +110,7 @@ fn body_of(rt: &impl Abort, alloc: Global, text: &str) -> Body {
 }
 
 /// The command that sends the text to the port.
-pub(crate) fn send(rt: &impl Abort, alloc: Global, port: Ui, text: &str) -> Command {
+pub(crate) fn send_command(rt: &impl Abort, alloc: Global, port: Ui, text: &str) -> Command {
     let body = body_of(rt, alloc, text);
     let dest = Dest::Port(port);
     Command::Send { dest, body }

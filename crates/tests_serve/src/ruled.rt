@@ -1,6 +1,6 @@
 //! Two places over ruled ends, on one thread.
 
-use crate::pair::{Pair, act, name, pump, send, start};
+use crate::pair::{Pair, act, name, pump, send_command, start};
 use chorus_calls::Caller;
 use chorus_ends::Moves;
 use chorus_entry::{Command, Entry};
@@ -64,7 +64,7 @@ fn send_from<R: Abort, D: Works<R>>(
     text: &str,
 ) {
     let mut caller = Caller::new(seat, name(rt, actor), 1);
-    let command = send(rt, alloc, name(rt, "2.p.1"), text);
+    let command = send_command(rt, alloc, name(rt, "2.p.1"), text);
     desk.act(rt, &mut caller, command);
 }
 

@@ -1,6 +1,6 @@
 //! Two places over ruled ends, each served by a thread of its own.
 
-use crate::pair::{Pair, act, name, pump, send, start};
+use crate::pair::{Pair, act, name, pump, send_command, start};
 use chorus_calls::Caller;
 use chorus_ends::{Ends, Moves};
 use chorus_entry::{Command, MsgId};
@@ -117,7 +117,7 @@ fn move_at_times<R: Abort, S: Works<R>>(rt: &R, side: &mut S, port: Ui, message:
 
 /// Sends a message and serves, and at times takes one and moves the port.
 fn work_once<R: Abort, S: Works<R>>(rt: &R, alloc: Global, side: &mut S, port: Ui, message: u32) {
-    side.act(rt, send(rt, alloc, port, "body"));
+    side.act(rt, send_command(rt, alloc, port, "body"));
     side.serve(rt);
     take_at_times(rt, side, port, message);
     move_at_times(rt, side, port, message);
