@@ -1,6 +1,6 @@
 //! What loads write.
 
-use crate::running::{Run, assert_done, assert_ended, run_of, sink_of};
+use crate::running::{Run, assert_done, assert_ended, assert_same, run_of, sink_of};
 use chorus_io::Sink;
 use chorus_net::Sites;
 use chorus_run::{LOAD_LIMIT, LOAD_SITES, load};
@@ -73,16 +73,16 @@ fn number(rt: &impl Abort, summary: &str, word: &str) -> u64 {
 fn assert_adds_up(rt: &impl Abort, summary: &str) {
     let accepted = number(rt, summary, "accepted ");
     let settled = accepted.saturating_add(number(rt, summary, "refused "));
-    assert_eq!(rt; number(rt, summary, "posted "), settled);
+    assert_same(rt, number(rt, summary, "posted "), settled, "posted");
     let received = number(rt, summary, "queued ").saturating_add(number(rt, summary, "taken "));
-    assert_eq!(rt; accepted, received);
-    assert_eq!(rt; number(rt, summary, "moving "), 0);
+    assert_same(rt, accepted, received, "accepted");
+    assert_same(rt, number(rt, summary, "moving "), 0, "moving");
 }
 
 fn assert_repeatable(rt: &impl Abort, alloc: Global) {
     let run = loaded(rt, alloc, 1, 65_536, &[]);
     let again = loaded(rt, alloc, 1, 65_536, &[]);
-    assert_eq!(rt; run.status, Status::Done);
+    assert_same(rt, run.status, Status::Done, "a load");
     assert_ended(rt, &again, Status::Done, run.written.as_str(), "again");
     assert_adds_up(rt, run.written.as_str());
 }

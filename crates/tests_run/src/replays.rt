@@ -1,7 +1,8 @@
 //! What scenarios of one site print, and how texts, sources and sinks end a run.
 
 use crate::running::{
-    assert_done, assert_ended, assert_prints, assert_refused, replayed, replayed_on_two_places_each,
+    assert_done, assert_ended, assert_prints, assert_refused, assert_same, replayed,
+    replayed_on_two_places_each,
 };
 use chorus_show::Status;
 use std::alloc::Global;
@@ -285,7 +286,7 @@ fn assert_sixty_four_accepted(rt: &impl Abort, alloc: Global, printed: &str) {
 fn assert_fills(rt: &impl Abort, alloc: Global) {
     let text = sixty_five_sends(rt, alloc);
     let run = replayed(rt, alloc, text.as_bytes(), &[], 4096, &[]);
-    assert_eq!(rt; run.status, Status::Done);
+    assert_same(rt, run.status, Status::Done, "65 sends");
     assert_sixty_four_accepted(rt, alloc, run.written.as_str());
     assert!(rt; run.written.as_str().ends_with(ENDS_SIXTY_FIVE_SENDS));
 }
@@ -344,7 +345,7 @@ fn two_turns_per_site(rt: HostRuntime) {
 fn assert_lines_are_refused(rt: &impl Abort, alloc: Global, count: usize, line: u32, reason: u8) {
     let text = vec![in alloc; b'\n'; count].expect(rt, "memory");
     let run = replayed(rt, alloc, &text, &[], 4096, &[]);
-    assert_eq!(rt; run.status, Status::Scenario { line, reason }, "{count}");
+    assert_same(rt, run.status, Status::Scenario { line, reason }, count);
 }
 
 #[test]
@@ -374,8 +375,8 @@ fn assert_read_fails(rt: &impl Abort, alloc: Global, call: u64, status: Status, 
 /// Asserts how the run ends where this write of one byte fails, and how many bytes it wrote.
 fn assert_write_fails(rt: &impl Abort, alloc: Global, call: u64, status: Status, count: u64) {
     let run = replayed(rt, alloc, NOTHING.as_bytes(), &[], 1, &[call]);
-    assert_eq!(rt; run.status, status, "at {call}");
-    assert_eq!(rt; run.written.len() as u64, count, "at {call}");
+    assert_same(rt, run.status, status, call);
+    assert_same(rt, run.written.len() as u64, count, call);
     assert!(rt;
         PRINTS_NOTHING.starts_with(run.written.as_str()),
         "at {call}"

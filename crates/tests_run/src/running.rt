@@ -9,6 +9,7 @@ use chorus_run::replay;
 use chorus_show::Status;
 use chorus_ui::Layout;
 use std::alloc::Global;
+use std::fmt::Debug;
 use std::process::Abort;
 
 /// How a run ended, whether it handed out what it closed, and what it wrote.
@@ -94,10 +95,20 @@ pub(crate) fn replayed_on_two_places_each(rt: &impl Abort, alloc: Global, text: 
     run_of(rt, alloc, status, closed, &sink)
 }
 
+/// Asserts that what is told of this is what is wanted.
+pub(crate) fn assert_same<T: PartialEq + Debug + Copy, W: Debug + Copy>(
+    rt: &impl Abort,
+    told: T,
+    wanted: T,
+    of: W,
+) {
+    assert_eq!(rt; told, wanted, "{of:?}");
+}
+
 /// Asserts that the run of this name ended so and wrote this.
 pub(crate) fn assert_ended(rt: &impl Abort, run: &Run, status: Status, written: &str, name: &str) {
-    assert_eq!(rt; run.status, status, "{name}");
-    assert_eq!(rt; run.written.as_str(), written, "{name}");
+    assert_same(rt, run.status, status, name);
+    assert_same(rt, run.written.as_str(), written, name);
 }
 
 /// Asserts that the run of this name did all, wrote this, and handed out what it closed.
@@ -117,7 +128,7 @@ pub(crate) fn assert_prints(rt: &impl Abort, alloc: Global, text: &str, printed:
 /// Asserts that the text is replayed and each of the parts stands in what is printed.
 pub(crate) fn assert_prints_parts(rt: &impl Abort, alloc: Global, text: &str, parts: &[&str]) {
     let run = replayed(rt, alloc, text.as_bytes(), &[], 4096, &[]);
-    assert_eq!(rt; run.status, Status::Done, "{text}");
+    assert_same(rt, run.status, Status::Done, text);
     for part in parts.iter() {
         assert!(rt; run.written.as_str().contains(*part), "{part}");
     }
