@@ -17,10 +17,10 @@ use crate::ending::{Played, close, gave_up, print};
 use crate::finished::Finished;
 use crate::performing::perform;
 use chorus_io::{ReadAll, Sink, Source, read_all};
-use chorus_merge::merge;
+use chorus_merge::merge_lent;
 use chorus_net::{Closed, Sites};
 use chorus_scene::{ReadFault, Scenario, SceneFault, TEXT_LIMIT, TOO_LONG, read};
-use chorus_show::{Status, journal_text, summary_text};
+use chorus_show::{Status, lent_journal_text, lent_summary_text};
 use chorus_ui::Layout;
 use std::alloc::{AllocError, Global};
 
@@ -122,15 +122,15 @@ fn play(alloc: Global, mut sites: Sites, scenario: &Scenario) -> Result<Played, 
     close(alloc, sites, worn)
 }
 
-/// The journal text and the summary text of what was closed.
+/// The journal text and the summary text of what was closed. No entry is copied.
 fn text_of(alloc: Global, closed: &Closed) -> Result<Vec<u8>, AllocError>
     ensures text { IfOk result (λ text. text.items ≡ report (merge_of closed.now)) }
     ensures within { IfOk result (λ text. AreWithin (merge_of closed.now)) }
 {
-    let entries = merge(alloc, &closed.journals)?;
+    let entries = merge_lent(alloc, &closed.journals)?;
     let mut text = Vec::new(alloc);
-    journal_text(&entries, &mut text)?;
-    summary_text(&entries, &mut text)?;
+    lent_journal_text(&entries, &mut text)?;
+    lent_summary_text(&entries, &mut text)?;
     Ok(text)
 }
 

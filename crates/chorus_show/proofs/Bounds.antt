@@ -24,7 +24,7 @@ pub are_bytes : (bytes : List ℕ) → All Is8 bytes → AreBytes bytes
 are_bytes [] h = tt
 are_bytes (c ∷ cs) h = (All-head Is8 c cs h, are_bytes cs (All-tail Is8 c cs h))
 
-all_within : (es : List Entry) → All IsWithin es → AreWithin es
+pub all_within : (es : List Entry) → All IsWithin es → AreWithin es
 all_within [] h = tt
 all_within (e ∷ es) h = (All-head IsWithin e es h, all_within es (All-tail IsWithin e es h))
 

@@ -3,3 +3,4 @@ pub mod Waiting
 pub mod LineBack
 pub mod Counting
 pub mod Bounds
+pub mod Lent

@@ -1,9 +1,11 @@
 //! The journal text.
 
-ghost use Rattle.std.specs.Prelude.{◌≡◌, ◌++◌, OnOk, OnErr, take, length};
+ghost use Rattle.std.specs.Prelude.{◌≡◌, ◌++◌, OnOk, OnErr, take, length, map, codes};
+ghost use Rattle.std.specs.Borrow.{Bor};
+ghost use Rattle.chorus_entry.specs.declared.entry.Entry.{Entry};
 ghost use Rattle.chorus_show.specs.Bounds.{IsWithin, AreWithin};
 ghost use Rattle.chorus_show.specs.Lines.{entry_text};
-ghost use Rattle.chorus_show.specs.Journal.{journal_text};
+ghost use Rattle.chorus_show.specs.Journal.{count_line, journal_text};
 
 use crate::entries::push_entry;
 use crate::phrases::push_count;
@@ -18,8 +20,7 @@ pub fn entry_line(entry: &Entry, out: &mut Vec<u8>) -> Result<(), AllocError>
     ensures err { OnErr result (out.new.items ≡ out.old.items) }
 {
     let mut line = Vec::new(*out.allocator());
-    push_entry(entry, &mut line)?;
-    out.extend_from_slice(&line)
+    push_line(entry, &mut line, out)
 }
 
 /// Appends the journal text: the line `journal N`, N being the number of entries, and their lines, each of them that of an entry
@@ -37,6 +38,21 @@ pub fn journal_text(entries: &[Entry], out: &mut Vec<u8>) -> Result<(), AllocErr
     written
 }
 
+/// Appends the journal text of the entries that are lent, as [`journal_text`] does.
+pub fn lent_journal_text(entries: &[&Entry], out: &mut Vec<u8>) -> Result<(), AllocError>
+    ensures ok { OnOk result (out.new.items ≡ out.old.items
+        ++ journal_text (map (λ (entry : Bor Entry). entry.now) entries.now)) }
+    ensures within { OnOk result (AreWithin (map (λ (entry : Bor Entry). entry.now) entries.now)) }
+    ensures err { OnErr result (out.new.items ≡ out.old.items) }
+{
+    let start = out.len();
+    let written = push_lent_journal(entries, out);
+    if written.is_err() {
+        out.truncate(start);
+    }
+    written
+}
+
 /// Appends the journal text, or a front of it for want of memory.
 fn push_journal(entries: &[Entry], out: &mut Vec<u8>) -> Result<(), AllocError>
     ensures ok { OnOk result (out.new.items ≡ out.old.items ++ journal_text entries.now) }
@@ -44,12 +60,46 @@ fn push_journal(entries: &[Entry], out: &mut Vec<u8>) -> Result<(), AllocError>
     ensures err { OnErr result (take (length out.old.items) out.new.items ≡ out.old.items) }
 {
     let mut line = Vec::new(*out.allocator());
-    push_count("journal", &(entries.len() as u64), &mut line)?;
-    out.extend_from_slice(&line)?;
+    push_head(entries.len() as u64, &mut line, out)?;
     for entry in entries {
-        line.clear();
-        push_entry(entry, &mut line)?;
-        out.extend_from_slice(&line)?;
+        push_line(entry, &mut line, out)?;
     }
     Ok(())
+}
+
+/// Appends the journal text of the entries that are lent, or a front of it for want of memory.
+fn push_lent_journal(entries: &[&Entry], out: &mut Vec<u8>) -> Result<(), AllocError>
+    ensures ok { OnOk result (out.new.items ≡ out.old.items
+        ++ journal_text (map (λ (entry : Bor Entry). entry.now) entries.now)) }
+    ensures within { OnOk result (AreWithin (map (λ (entry : Bor Entry). entry.now) entries.now)) }
+    ensures err { OnErr result (take (length out.old.items) out.new.items ≡ out.old.items) }
+{
+    let mut line = Vec::new(*out.allocator());
+    push_head(entries.len() as u64, &mut line, out)?;
+    for entry in entries {
+        push_line(entry, &mut line, out)?;
+    }
+    Ok(())
+}
+
+/// Appends the line `journal N`, or nothing for want of memory. The buffer `line` is used again.
+fn push_head(count: u64, line: &mut Vec<u8>, out: &mut Vec<u8>) -> Result<(), AllocError>
+    ensures ok { OnOk result
+        (out.new.items ≡ out.old.items ++ count_line (codes "journal") count) }
+    ensures err { OnErr result (out.new.items ≡ out.old.items) }
+{
+    line.clear();
+    push_count("journal", &count, line)?;
+    out.extend_from_slice(line)
+}
+
+/// Appends the line of the entry, or nothing for want of memory. The buffer `line` is used again.
+fn push_line(entry: &Entry, line: &mut Vec<u8>, out: &mut Vec<u8>) -> Result<(), AllocError>
+    ensures ok { OnOk result (out.new.items ≡ out.old.items ++ entry_text entry.now) }
+    ensures within { OnOk result (IsWithin entry.now) }
+    ensures err { OnErr result (out.new.items ≡ out.old.items) }
+{
+    line.clear();
+    push_entry(entry, line)?;
+    out.extend_from_slice(line)
 }

@@ -18,7 +18,7 @@ mod queues;
 mod status;
 mod summary;
 
-pub use journal::{entry_line, journal_text};
+pub use journal::{entry_line, journal_text, lent_journal_text};
 pub use law::{a_line_has_one_entry, a_line_is_read_back};
 pub use queues::Spot;
 pub use status::{Status, fault_text};

@@ -12,7 +12,7 @@ loop-entry-preserved c =
     record {
       text = grind (arith, common_steps);
       within = AllWithin-more IsWithin entries 0 index c.loop-entry.invariant.within
-          (at_read entries IsWithin index c.entry-item.result c.loop-entry-test.true c.entry-item.is c.in_ok-push_entry.ensures.within);
+          (at_read entries IsWithin index c.entry-item.result c.loop-entry-test.true c.entry-item.is c.in_ok-push_line.ensures.within);
     }
 
 pub returns-clause-within : goal.returns-clause-within

@@ -1,12 +1,8 @@
-use Rattle.std.proofs.Common.{◌≡◌, ◌-◌, ◌∷◌, ◌++◌, [], length, take, sym, ap, ◌∙◌, subst, append_assoc, List, map}
-use Rattle.std.specs.Borrow.{Bor}
-use Rattle.chorus_entry.specs.declared.entry.Entry.{Entry}
+use Rattle.std.proofs.Common.{◌≡◌, ◌-◌, ◌∷◌, ◌++◌, [], length, take, sym, ap, ◌∙◌, subst, append_assoc}
 use Rattle.chorus_show.specs.Tally.{Tells}
 use Rattle.chorus_show.proofs.Counting.{cut_last, none_left, told}
+use Rattle.chorus_show.proofs.Lent.{lent}
 use Rattle.chorus_show.proofs.summary.lent_summary_text.Goals as goal
-
-abbrev lent : List (Bor Entry) → List Entry
-lent es = map (λ (e : Bor Entry). e.now) es
 
 pub loop-rest-preserved : goal.loop-rest-preserved
 loop-rest-preserved c =

@@ -1,0 +1,11 @@
+use Rattle.std.proofs.Common.{◌≡◌, ◌++◌, take, length, codes}
+use Rattle.std.specs.List.{flat_map, AllWithin}
+use Rattle.chorus_show.specs.Journal.{count_line}
+use Rattle.chorus_show.proofs.Lent.{lent_line, IsLentWithin}
+use Rattle.chorus_show.proofs.journal.push_lent_journal.Given as goal
+
+abbrev pub invariant-loop-entry : goal.invariant-loop-entry
+invariant-loop-entry l = record {
+  text : l.out.items ≡ l.fn.out.items ++ count_line (codes "journal") (length l.entries) ++ flat_map (λ e. lent_line e) (take l.entry-index l.entries);
+  within : AllWithin IsLentWithin l.entries 0 l.entry-index;
+}
