@@ -17,7 +17,8 @@ use chorus_place::PlaceFault;
 use chorus_scene::{Scenario, SetupLine};
 use std::alloc::{AllocError, Global};
 
-/// Performs the scenario on the sites, which were just started, and gives the clock that was worn, if one was.
+/// Performs the scenario on the sites, which were just started, and gives the clock that was worn, if one was. Room is taken as it
+/// is needed: each place would take that of all commands ahead.
 pub(crate) fn perform(
     alloc: Global,
     sites: &mut Sites,
@@ -29,21 +30,11 @@ pub(crate) fn perform(
     requires shape { IsLayout scenario.now.layout }
     ensures { IfOk result (λ worn. IsPerformed scenario.now worn (net sites.new)) }
 {
-    sites.reserve(room(scenario))?;
     match perform_tasks(alloc, sites, scenario) {
         Ok(()) => Ok(None),
         Err(PlaceFault::Worn { clock }) => Ok(Some(clock)),
         Err(PlaceFault::Memory(error)) => Err(error),
     }
-}
-
-/// How many entries the commands of the scenario begin: as many as it has lines of the setup and commands.
-fn room(scenario: &Scenario) -> u32 {
-    let mut room = scenario.setup().len();
-    for script in scenario.scripts() {
-        room = room.saturating_add(script.commands().len());
-    }
-    u32::try_from(room).unwrap_or(u32::MAX)
 }
 
 /// Performs the setup by seat 0, enters the callers of the scripts, does the steps of the schedule, performs the commands that
