@@ -1,10 +1,11 @@
 //! The top calls: what the program does between its input and its output.
 //!
 //! [`replay`] reads a scenario from a source, replays it on one thread, and writes the journal and the summary to a sink;
-//! [`load`] performs commands that it draws, and writes the summary alone. The program rests on this: what comes out is the text of the merge of the journals that are handed out; they are those of the network after the
-//! scenario's or the load's tasks in their order; that merge is a run of the one-holder world for the callers, in which each
-//! command stands once, in its caller's order, with the entry that answers it; the records and packets that are handed out stand
-//! for its ports; and each other ending but want of memory has its cause.
+//! [`load`] performs commands that it draws, and writes the summary alone. The program rests on this: what comes out is the
+//! text of the merge of the journals that are handed out; they are those of the network after the scenario's or the load's
+//! tasks in their order; that merge is a run of the one-holder world for the callers, in which each command stands once, in
+//! its caller's order, with the entry that answers it; the records and packets that are handed out stand for its ports; and
+//! each other ending but want of memory has its cause.
 //!
 //! Begin with `replay`.
 
