@@ -6,7 +6,7 @@ use Rattle.std.specs.Option.{unwrap_or}
 use Rattle.std.proofs.lemmas.List.{append-nil, length-set, get_or-set_same, get_or-set_other}
 use Rattle.chorus_ui.specs.declared.layout.Layout.{Layout}
 use Rattle.chorus_entry.specs.declared.packet.Packet.{Packet}
-use Rattle.chorus_out.specs.Waiting.{list_to, with_last, with_first, without_first}
+use Rattle.chorus_out.specs.Waiting.{list_to, with_last, with_first, without_first, count}
 use Rattle.chorus_machine.specs.PlaceState.{PlaceState, Outgoing}
 use Rattle.chorus_place.specs.Calls.{Place, state, with_all}
 use Rattle.chorus_io.specs.Count.{Rose}
@@ -111,6 +111,13 @@ pub none-out : (to : ℕ) (ls : List (List Packet)) → slice_get (list_to to ls
 none-out to [] e = refl
 none-out zero (l ∷ ls) e = ap (λ ys. drop 1 ys ∷ ls) (none-waits zero (l ∷ ls) e) ∙ ap (λ ys. ys ∷ ls) (sym (none-waits zero (l ∷ ls) e))
 none-out (suc to) (l ∷ ls) e = ap (λ ys. l ∷ ys) (none-out to ls e)
+
+-- where nothing waits at all, none waits for any place
+pub nothing-to : (p : ℕ) (ls : List (List Packet)) → count ls ≡ 0 → list_to p ls ≡ []
+nothing-to p [] e = refl
+nothing-to zero ([] ∷ ls) e = refl
+nothing-to zero ((x ∷ l) ∷ ls) e = absurd (omega (arith, e))
+nothing-to (suc p) (l ∷ ls) e = nothing-to p ls (omega (arith, e))
 
 -- Sending, packet by packet.
 
