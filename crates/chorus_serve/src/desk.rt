@@ -92,7 +92,7 @@ fn split_hand<P>(hand: Option<Held<P>>) -> (Option<Packet>, Option<P>)
 
 impl<E: Ends> Desk<E> {
     /// The place of this number, one of the layout, on which nothing happened yet, at these ends, which reach each other place.
-    /// The only error is want of memory.
+    /// The first packet is asked for from place 1 on. The only error is want of memory.
     pub fn start(alloc: Global, layout: Layout, number: u16, ends: E) -> Result<Desk<E>, AllocError>
         requires place { has_place layout number ≡ true }
         requires reaches { (p : ℕ) → IsOther layout number p → (E.links ends).reaches p ≡ true }
@@ -101,6 +101,7 @@ impl<E: Ends> Desk<E> {
         ensures puts { IfOk result (λ desk. desk.place.out.puts ≡ 0) }
         ensures ends { IfOk result (λ desk. desk.ends ≡ ends) }
         ensures hand { IfOk result (λ desk. desk.hand ≡ None) }
+        ensures last { IfOk result (λ desk. desk.last ≡ 0) }
         ensures worked { IfOk result (λ desk. desk.worked ≡ 0) }
     {
         let place = Place::start(alloc, layout, number)?;
