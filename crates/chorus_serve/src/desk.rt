@@ -7,6 +7,7 @@ ghost use Rattle.chorus_entry.specs.Command.{is_post};
 ghost use Rattle.chorus_out.specs.Waiting.{nothing_to, count};
 ghost use Rattle.chorus_machine.specs.PlaceState.{started, greatest_clock};
 ghost use Rattle.chorus_machine.specs.PlaceMachine.{begun};
+ghost use Rattle.chorus_bounds.specs.Bounds.{AreWaitingWithin};
 ghost use Rattle.chorus_place.specs.Calls.{state, is_call, Called, MayCall, Stays, TakesNone};
 ghost use Rattle.chorus_place.specs.declared.fault.PlaceFault.TheVariants as PlaceFault;
 ghost use Rattle.chorus_serve.specs.Desks.{SameHands, opened_in, sealed_in, packet_of, parcel_of, with_hand};
@@ -189,10 +190,11 @@ impl<E: Ends> Desk<E> {
         self.place.act(caller, command)
     }
 
-    /// Takes the desk apart.
+    /// Takes the desk apart. Each packet that waits to go is within its ranges.
     pub fn finish(self) -> Parts<E>
         ensures journal { reverse result.journal.items ≡ self.place.journal }
         ensures out { result.out.lists ≡ self.place.out.lists }
+        ensures ranges { AreWaitingWithin result.out.lists }
         ensures ports { result.ports.records ≡ self.place.ports }
         ensures hand { result.hand ≡ opened_in self.hand }
         ensures parcel { result.parcel ≡ sealed_in self.hand }

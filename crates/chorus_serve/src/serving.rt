@@ -68,9 +68,9 @@ fn lay_down<E: Ends>(desk: &mut Desk<E>) -> Result<Option<(u16, Packet)>, AllocE
 /// in hand it asks the links from the other places, from the one behind the place served last on and around, and takes the first
 /// packet that one gives. It works that packet off as the place machine does, where it is lawful; an unlawful one stays in hand.
 ///
-/// Memory comes where a packet on its way, its opening or its turn finds none, and Worn exactly where the greatest of the clocks
-/// of the place, the caller and the packet is at least 2^62. Each leaves the journal, the tables and the caller as they were;
-/// packets may have been sent, and one taken into the hand.
+/// Worn comes only where the greatest of the clocks of the place, the caller and the packet in hand is at least 2^62, and tells it;
+/// Served comes only where that clock is lower. Want of memory, for a packet on its way, its opening or its turn, may come first.
+/// Each error leaves the journal, the tables and the caller as they were; packets may have been sent, and one taken into the hand.
 pub fn serve<G, E: Moves<G>>(
     desk: &mut Desk<E>,
     ground: &G,
