@@ -8,7 +8,7 @@ use Rattle.chorus_entry.specs.declared.packet.Packet.{Packet}
 use Rattle.chorus_link.specs.declared.ends.SendEnd.{SendEnd}
 use Rattle.chorus_link.specs.declared.ends.RecvEnd.{RecvEnd}
 use Rattle.chorus_link.specs.Ends.{send_link, recv_link, fulls_of, empties_of, room, AreNew}
-use Rattle.chorus_ruled_ends.specs.declared.ruled.TheConstants.{LINK_CAPACITY}
+use Rattle.chorus_ui.specs.declared.limits.TheConstants.{LINK_LIMIT}
 use Rattle.chorus_ruled_ends.specs.Ruled.{Ruled, end_to, end_from}
 use Rattle.chorus_ruled_ends.specs.Linked.{no_ends, of_place, out_of, into_of, HasLink, AreLinked, AreLinkedBelow, HaveSlots, LinksOne, LinksBelow}
 
@@ -103,7 +103,7 @@ module _ (places a b : ℕ) (all : List Ruled) (slots : HaveSlots (places + 1) p
 
 -- both steps
 pub links-one : (places a b : ℕ) (all : List Ruled) (send : SendEnd Packet) (recv : RecvEnd Packet) → HaveSlots (places + 1) places all → 1 ≤ a → a ≤ places → 1 ≤ b → b ≤ places
-    → send_link send ≡ recv_link recv → room send ≡ LINK_CAPACITY → AreNew send recv → fulls_of send ≡ 0 → empties_of recv ≡ 0
+    → send_link send ≡ recv_link recv → room send ≡ LINK_LIMIT → AreNew send recv → fulls_of send ≡ 0 → empties_of recv ≡ 0
     → LinksOne a b all (after_into a b recv (after_out a b send all))
 links-one places a b all send recv slots a1 am b1 bm one_link room new fulls empties = record {
   has = λ _. record {

@@ -5,7 +5,7 @@ use Rattle.chorus_entry.specs.declared.packet.Packet.{Packet}
 use Rattle.chorus_link.specs.declared.ends.SendEnd.{SendEnd}
 use Rattle.chorus_link.specs.declared.ends.RecvEnd.{RecvEnd}
 use Rattle.chorus_link.specs.Ends.{send_name, recv_name, send_link, recv_link, fulls_of, empties_of, room, AreNew}
-use Rattle.chorus_ruled_ends.specs.declared.ruled.TheConstants.{LINK_CAPACITY}
+use Rattle.chorus_ui.specs.declared.limits.TheConstants.{LINK_LIMIT}
 use Rattle.chorus_ruled_ends.specs.Ruled.{Ruled, end_to, end_from}
 
 abbrev pub no_ends : Ruled
@@ -29,7 +29,7 @@ pub record HasLink (a b : ℕ) (all : List Ruled) : Type 0 where
   pub out : out_of a b all ≡ Some send
   pub into : into_of a b all ≡ Some recv
   pub one_link : send_link send ≡ recv_link recv
-  pub room : room send ≡ LINK_CAPACITY
+  pub room : room send ≡ LINK_LIMIT
   pub new : AreNew send recv
   pub fulls : fulls_of send ≡ 0
   pub empties : empties_of recv ≡ 0

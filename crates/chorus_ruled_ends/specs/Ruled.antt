@@ -9,7 +9,6 @@ use Rattle.chorus_link.specs.declared.ends.RecvEnd.{RecvEnd}
 use Rattle.chorus_link.specs.declared.name.LinkName.{LinkName}
 use Rattle.chorus_link.specs.Ends.{send_name, recv_name, send_link, recv_link, packets_put, packets_got, fulls_of, empties_of, room, AreNew}
 use Rattle.chorus_ends.specs.declared.ends.EndsName.{EndsName}
-use Rattle.chorus_ruled_ends.specs.declared.ruled.TheConstants.{LINK_CAPACITY}
 use Rattle.chorus_ends.specs.Links.{Links}
 
 -- the ends of the links, by the number of the place that they lead to or come from

@@ -13,4 +13,4 @@ mod linking;
 mod ruled;
 
 pub use linking::end_link;
-pub use ruled::{LINK_CAPACITY, RuledEnds};
+pub use ruled::RuledEnds;

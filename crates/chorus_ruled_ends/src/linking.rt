@@ -6,10 +6,10 @@ ghost use Rattle.chorus_link.specs.Ends.{packets_left};
 ghost use Rattle.chorus_ruled_ends.specs.Ruled.{Ruled, end_to, end_from, sent_by, received_by};
 ghost use Rattle.chorus_ruled_ends.specs.Linked.{HaveSlots, AreLinked, LinksBelow, LinksOne, AreOfOneLink, out_of, into_of, HasLink};
 
-use crate::ruled::{LINK_CAPACITY, RuledEnds};
+use crate::ruled::RuledEnds;
 use chorus_frame::Frame;
 use chorus_link::{RecvEnd, Rest, SendEnd, link, names_tell_links, settle};
-use chorus_ui::Layout;
+use chorus_ui::{LINK_LIMIT, Layout};
 use std::alloc::{AllocError, Global};
 
 /// So many slots in which nothing is.
@@ -94,7 +94,7 @@ fn link_one(
     if from == to {
         return Ok(());
     }
-    let (send, recv) = link(alloc, LINK_CAPACITY)?;
+    let (send, recv) = link(alloc, LINK_LIMIT)?;
     all[usize::from(from) - 1].set_out(usize::from(to), send);
     all[usize::from(to) - 1].set_into(usize::from(from), recv);
     Ok(())

@@ -12,9 +12,6 @@ use std::alloc::AllocError;
 use std::marker::Model;
 use std::sync::Wait;
 
-/// How many packets a link has room for.
-pub const LINK_CAPACITY: usize = 32;
-
 /// The ends, at one place, of a link to and a link from each other place. A packet goes as its frame, so what it held can be let go
 /// where it was sent.
 #[derive(Drop)]

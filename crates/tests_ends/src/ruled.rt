@@ -2,8 +2,8 @@
 
 use crate::memory::{assert_clock, receive, send};
 use chorus_ends::Ends;
-use chorus_ruled_ends::{LINK_CAPACITY, RuledEnds};
-use chorus_ui::Layout;
+use chorus_ruled_ends::RuledEnds;
+use chorus_ui::{LINK_LIMIT, Layout};
 use std::alloc::Global;
 use std::process::Abort;
 use std::sync::Wait;
@@ -39,7 +39,7 @@ fn assert_counts<E: Ends>(rt: &impl Abort, first: &E, second: &E, fulls: u64, em
 fn assert_carry_in_order<R: Abort + Wait>(rt: &R, alloc: Global) {
     let (mut first, mut second) = two_places(rt, alloc);
     assert!(rt; !first.reaches(1) && !first.reaches(3));
-    let room = LINK_CAPACITY as u64;
+    let room = LINK_LIMIT as u64;
     for clock in 0..room {
         assert_sends(rt, &mut first, clock, None);
     }
