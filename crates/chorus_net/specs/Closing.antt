@@ -25,7 +25,7 @@ journals_of closed = journal_items closed.journals.items
 abbrev pub IsOfSites : Closed → Type 0
 IsOfSites closed = closed.origin ≡ Origin.Sites
 
--- it was made of places that a pass closed, of which this is left, and which was first refused as worn at this clock
+-- it was made of places that a pass closed, of which this is left, with this clock, which the caller gave as worn
 abbrev pub IsOfTurns : Spent PlaceNote → Option ℕ → Closed → Type 0
 IsOfTurns spent worn closed = closed.origin ≡ Origin.Turns spent worn
 
@@ -33,7 +33,7 @@ IsOfTurns spent worn closed = closed.origin ≡ Origin.Turns spent worn
 abbrev pub HasParts : Vec (Vec Entry) → Vec Packet → Vec Placed → Closed → Type 0
 HasParts journals rest ports closed = (closed.journals ≡ journals) × (closed.rest ≡ rest) × (closed.ports ≡ ports)
 
--- the clock at which the pass that closed it was first refused as worn
+-- the clock that the caller gave as worn; none for sites
 abbrev pub worn_in : Origin → Option ℕ
 worn_in Origin.Sites = None
 worn_in (Origin.Turns spent worn) = worn

@@ -31,7 +31,7 @@ pub struct Closed {
 pub(crate) enum Origin {
     /// `Sites::close`.
     Sites,
-    /// `Closed::of`, of the pass that closed the places, and the clock of the first call of it that was refused as worn.
+    /// `Closed::of`, of the pass that closed the places, and the clock that the caller gave as worn.
     Turns {
         spent: Spent<Noted<Caller, Command, Packet>>,
         worn: Option<u64>,
@@ -49,7 +49,8 @@ impl Debug for Origin {
 
 impl Closed {
     /// What is left of places at which passes took turns, of these parts: what is left of the pass that closed them, which
-    /// `Turns::close` gave, and the clock of its first call that was refused as worn, if one was. It takes no memory.
+    /// `Turns::close` gave, and the clock that the caller gives as worn. Meant is that of the pass's first call that was refused as
+    /// worn, if one was; no clause asks for it. It takes no memory.
     pub fn of(
         journals: Vec<Vec<Entry>>,
         rest: Vec<Packet>,
@@ -68,7 +69,7 @@ impl Closed {
         }
     }
 
-    /// The clock of the closing pass's first call that was refused as worn. None where none was, and None for sites.
+    /// The clock that the caller of [`Closed::of`] gave as worn. None where none was given, and None for sites.
     pub fn worn(&self) -> Option<u64>
         ensures { result ≡ worn_of self.now }
     {
