@@ -103,7 +103,7 @@ pub(crate) fn asked_line(place: u16, group: Ui) -> Line
     }
 }
 
-/// The place where members are chosen for the posts of the line, which were made at `from`.
+/// The place where members are chosen for the posts of the line, which were made at the line's place.
 fn choosing_place(layout: Layout, line: &Line) -> u16
     ensures { result ≡ choosing_at layout line.now }
 {

@@ -74,6 +74,7 @@ fn send(
     ensures out { StaysOut tables.old.out tables.new.out }
     ensures kept { KeepsRoom tables.old tables.new }
 {
+    // That the body is within the limit is told by its bytes.
     let _within = body.bytes();
     match dest {
         Dest::Port(port) => send_to_port(tables, port, body, caller),

@@ -87,6 +87,7 @@ fn take_back(
     ensures { AreTakenBack place (copies post group 1 members.now)
         (line_in lines.old) (line_in lines.new) }
 {
+    // The post is for the contract alone.
     let mut left = members.len();
     while left > 0 {
         left -= 1;

@@ -28,6 +28,7 @@ impl World {
     pub(super) fn may_find_no_site(&self, place: u16, site: u16) -> bool
         ensures { result ≡ may_do self.now place 0 (Act.NoSite site) }
     {
+        // The place is for the contract alone.
         !self.layout().has_site(site)
     }
 
@@ -82,6 +83,7 @@ impl World {
     pub(super) fn may_find_no_group(&self, place: u16, group: Ui) -> bool
         ensures { result ≡ may_do self.now place 0 (Act.NoGroup group) }
     {
+        // The place is for the contract alone.
         !self.ledger.is_group(group)
     }
 }

@@ -38,6 +38,7 @@ impl World {
     fn suits(&self, place: u16, id: MsgId, port: Ui) -> bool
         ensures { result ≡ suits self.now.layout (seen self.now place id port) place id }
     {
+        // The port is for the contract alone.
         self.is_on_site(self.ledger.site_asked(id), place)
     }
 

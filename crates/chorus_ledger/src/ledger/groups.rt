@@ -28,6 +28,7 @@ impl Ledger {
     pub fn is_group(&self, group: Ui) -> bool
         ensures { result ≡ is_group group self.now.past }
     {
+        // That the layout has 1 to 16 sites of 1, 2 or 4 places is told by its turns.
         let _shape = self.layout.turns();
         let site = group.site();
         self.layout.has_site(site) && self.is_group_here(self.layout.first_place(site), group)
@@ -50,6 +51,7 @@ impl Ledger {
     {
         match group_at(&self.tables.groups, place, group) {
             Some(row) => {
+                // That the rotation place is within the members is told by these.
                 let _within = row.members();
                 row.rotation()
             }

@@ -29,6 +29,7 @@ impl Ledger {
         ensures value { result ≡ ports_made (at place self.now.past) }
         ensures few { result < 2 ^ 63 }
     {
+        // That the ports are few is told by the number of entries.
         let _few = self.entries.len();
         place_in(&self.tables.places, place).ports
     }
