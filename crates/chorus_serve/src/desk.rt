@@ -66,6 +66,7 @@ pub struct Parts<E: Ends> {
     pub parcel: Option<E::Parcel>,
     /// The ports that the place holds.
     pub ports: Ports,
+    /// The ends of the place's links.
     pub ends: E,
 }
 

@@ -16,7 +16,9 @@ use thiserror::Error;
 #[derive(Clone, Copy, Debug, Error, PartialEq, Eq)]
 #[error("of {made} passes {ended} have ended")]
 pub struct PassesOut {
+    /// How many numbers were drawn, the opening one included.
     pub made: u32,
+    /// How many passes were retired into the keeper, also through others.
     pub ended: u32,
 }
 

@@ -15,6 +15,7 @@ use thiserror::Error;
 #[derive(Clone, Copy, Debug, Error, PartialEq, Eq)]
 #[error("all {made} numbers are drawn")]
 pub struct NoSeat {
+    /// How many numbers were drawn: 1,048,576.
     pub made: u32,
 }
 

@@ -29,6 +29,7 @@ pub struct Turns<S: Kept> {
 #[derive(Clone, Copy, Debug, Error, PartialEq, Eq)]
 #[error("the pass with number {by} has the place")]
 pub struct Busy {
+    /// The number of the other pass, below 1,048,576.
     pub by: u32,
 }
 
