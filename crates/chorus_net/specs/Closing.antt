@@ -8,18 +8,16 @@ use Rattle.chorus_out.specs.Waiting.{count}
 use Rattle.chorus_law.specs.declared.placed.Placed.{Placed}
 use Rattle.chorus_law.specs.Network.{NetState}
 use Rattle.chorus_law.specs.Left.{journals, packets_left, placed_at, placed}
+use Rattle.chorus_merge.specs.Steps.{journals_of}
 use Rattle.chorus_place.specs.Calls.{Place}
 use Rattle.chorus_turn.specs.declared.close.Spent.{Spent}
 use Rattle.chorus_closing.specs.Places.{PlaceNote}
 use Rattle.chorus_net.specs.declared.closed.Closed.{Closed}
 use Rattle.chorus_net.specs.declared.closed.Origin.{Origin}
 
--- the journals, as lists
-abbrev pub journal_items : List (Vec Entry) → List (List Entry)
-journal_items journals = map (λ (journal : Vec Entry). journal.items) journals
-
-abbrev pub journals_of : Closed → List (List Entry)
-journals_of closed = journal_items closed.journals.items
+-- the journals in it, as lists
+abbrev pub closed_journals : Closed → List (List Entry)
+closed_journals closed = journals_of closed.journals.items
 
 -- it was made by closing sites
 abbrev pub IsOfSites : Closed → Type 0
@@ -43,7 +41,7 @@ worn_of closed = worn_in closed.origin
 
 -- the journals of the places, the packets that were put and not worked off, and the ports that are held, by closing sites
 pub record IsClosed (n : NetState) (closed : Closed) : Type 0 where
-  pub journals : journals_of closed ≡ journals n
+  pub journals : closed_journals closed ≡ journals n
   pub rest : closed.rest.items ≡ packets_left n
   pub ports : closed.ports.items ≡ placed n
   pub origin : IsOfSites closed

@@ -21,7 +21,7 @@ use Rattle.chorus_calls.specs.Callers.{Seated}
 use Rattle.chorus_net.specs.declared.closed.Closed.{Closed}
 use Rattle.chorus_law.specs.declared.placed.Placed.{Placed}
 use Rattle.chorus_law.specs.Calls.{starting}
-use Rattle.chorus_net.specs.Closing.{journals_of}
+use Rattle.chorus_net.specs.Closing.{closed_journals}
 use Rattle.chorus_law.specs.Holdings.{StandsFor, holdings_left}
 use Rattle.chorus_law.specs.History.{history}
 use Rattle.chorus_law.specs.Left.{journals, packets_left, merged_past}
@@ -167,14 +167,14 @@ module _ (l : Layout) (ts : List Task) (callers : ℕ → Option Ui) (commands :
   layout-is : n.layout ≡ l
   layout-is = (schedule-keeps l es).layout
 
-  parts-are : journals_of closed ≡ map (part (history l es)) (numbers (places n.layout) 1)
+  parts-are : closed_journals closed ≡ map (part (history l es)) (numbers (places n.layout) 1)
   parts-are = closes.journals ∙ journals-are n (history l es) (stands-at l es shape may)
 
-  places-of : length (journals_of closed) ≡ places l
+  places-of : length (closed_journals closed) ≡ places l
   places-of =
       ap length parts-are ∙ length-map (numbers (places n.layout) 1) (part (history l es)) ∙ count-numbers (places n.layout) 1 ∙ ap places layout-is
 
-  journals-of : (p : ℕ) (journal : List Entry) → slice_get (journals_of closed) p ≡ Some journal → journal ≡ reverse (at (p + 1) (past_of closed))
+  journals-of : (p : ℕ) (journal : List Entry) → slice_get (closed_journals closed) p ≡ Some journal → journal ≡ reverse (at (p + 1) (past_of closed))
   journals-of p journal h =
       get-number (part (history l es)) (places n.layout) 1 p journal (ap (λ js. slice_get js p) (sym parts-are) ∙ h)
       ∙ ap (λ q. reverse (at q (history l es))) (turned p)

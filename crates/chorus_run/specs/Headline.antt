@@ -14,7 +14,7 @@ use Rattle.chorus_world.specs.Commands.{performs}
 use Rattle.chorus_world.specs.Always.{Always}
 use Rattle.chorus_world.specs.AcceptedLaws.{ReceivesInOrder, KeepsEachMessage}
 use Rattle.chorus_net.specs.declared.closed.Closed.{Closed}
-use Rattle.chorus_net.specs.Closing.{journals_of}
+use Rattle.chorus_net.specs.Closing.{closed_journals}
 use Rattle.chorus_law.specs.Calls.{just_started, first_actor}
 use Rattle.chorus_law.specs.Holdings.{StandsFor, holdings_left}
 use Rattle.chorus_law.specs.Network.{NetState, Event, opening, schedule}
@@ -63,7 +63,7 @@ ReadsNoFurther old new = (bytes : List ℕ) × Consumes old new bytes × (length
 
 -- the merge of the journals, in order, and as a past of the world
 abbrev pub merge_of : Closed → List Entry
-merge_of closed = merged (journals_of closed)
+merge_of closed = merged (closed_journals closed)
 
 abbrev pub past_of : Closed → List Entry
 past_of closed = reverse (merge_of closed)
@@ -96,8 +96,8 @@ pub record Plays (l : Layout) (callers : ℕ → Option Ui) (commands : ℕ → 
   pub receives : Always ReceivesInOrder (past_of closed)
   pub fates : Always KeepsEachMessage (past_of closed)
   pub stands : StandsFor (past_of closed) (holdings_left l closed.ports.items closed.rest.items)
-  pub places_are : length (journals_of closed) ≡ places l
-  pub journals : (p : ℕ) (journal : List Entry) → slice_get (journals_of closed) p ≡ Some journal → journal ≡ reverse (at (p + 1) (past_of closed))
+  pub places_are : length (closed_journals closed) ≡ places l
+  pub journals : (p : ℕ) (journal : List Entry) → slice_get (closed_journals closed) p ≡ Some journal → journal ≡ reverse (at (p + 1) (past_of closed))
   pub quiet : IsQuietUnless status l closed
 
 -- The order: what was closed is the network after events that carry out the tasks.

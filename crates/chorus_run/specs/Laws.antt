@@ -4,7 +4,7 @@ use Rattle.std.specs.Prelude.{ℕ, ◌≡◌, List, Option, Some, None}
 use Rattle.chorus_ui.specs.declared.layout.Layout.{Layout}
 use Rattle.chorus_ui.specs.Layout.{IsLayout}
 use Rattle.chorus_net.specs.declared.closed.Closed.{Closed}
-use Rattle.chorus_net.specs.Closing.{journals_of}
+use Rattle.chorus_net.specs.Closing.{closed_journals}
 use Rattle.chorus_law.specs.Tasks.{Task}
 use Rattle.chorus_show.specs.declared.status.Status.{Status}
 use Rattle.chorus_show.specs.declared.status.Status.TheVariants.{Worn}
@@ -19,7 +19,7 @@ worn_clock _ = None
 
 -- the same journals were closed, the same packets and the same ports
 pub record AreClosedAlike (one other : Closed) : Type 0 where
-  pub journals : journals_of one ≡ journals_of other
+  pub journals : closed_journals one ≡ closed_journals other
   pub rest : one.rest.items ≡ other.rest.items
   pub ports : one.ports.items ≡ other.ports.items
 

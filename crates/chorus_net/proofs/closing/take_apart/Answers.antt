@@ -5,7 +5,8 @@ use Rattle.chorus_entry.specs.declared.entry.Entry.{Entry}
 use Rattle.chorus_out.specs.Waiting.{count}
 use Rattle.chorus_law.specs.Left.{placed_at}
 use Rattle.chorus_place.specs.Calls.{Place}
-use Rattle.chorus_net.specs.Closing.{journal_items, journals_in, flat, packets_of, ports_of, total_waiting, total_held}
+use Rattle.chorus_merge.specs.Steps.{journals_of}
+use Rattle.chorus_net.specs.Closing.{journals_in, flat, packets_of, ports_of, total_waiting, total_held}
 use Rattle.chorus_net.proofs.Parts.{last-first, one-more, length-flat, length-placed}
 use Rattle.chorus_net.proofs.closing.take_apart.Goals as goal
 
@@ -15,9 +16,9 @@ loop-place-preserved c =
     let p = c.in-Some.place in
     let rev : reverse c.loop-place.places.items ≡ c.in-Some.place ∷ reverse c.pop.new.self.items = last-first c.loop-place.places.items c.pop.new.self.items c.in-Some.place c.in-Some.ensures.items in
     let journal : c.finish-journal.result.0.items ≡ reverse c.in-Some.place.journal = sym (reverse-reverse c.finish-journal.result.0.items) ∙ ap reverse c.finish-journal.ensures.journal in
-    let journals : journal_items c.push_reserved.new.self.items ≡ journal_items c.loop-place.journals.items ++ reverse c.in-Some.place.journal ∷ [] =
-    ap journal_items c.push_reserved.ensures.items ∙ map-append (λ (j : Vec Entry). j.items) c.loop-place.journals.items (c.finish-journal.result.0 ∷ [])
-    ∙ ap (λ (j : List Entry). journal_items c.loop-place.journals.items ++ j ∷ []) journal in
+    let journals : journals_of c.push_reserved.new.self.items ≡ journals_of c.loop-place.journals.items ++ reverse c.in-Some.place.journal ∷ [] =
+    ap journals_of c.push_reserved.ensures.items ∙ map-append (λ (j : Vec Entry). j.items) c.loop-place.journals.items (c.finish-journal.result.0 ∷ [])
+    ∙ ap (λ (j : List Entry). journals_of c.loop-place.journals.items ++ j ∷ []) journal in
     let rest : c.take_packets.new.rest.items ≡ c.loop-place.rest.items ++ flat c.in-Some.place.out.lists =
     c.take_packets.ensures.items ∙ ap (λ ls. c.loop-place.rest.items ++ flat ls) c.finish-journal.ensures.out in
     let ports : c.take_ports.new.placed.items ≡ c.loop-place.ports.items ++ placed_at c.in-Some.place.number c.in-Some.place.ports =
@@ -42,8 +43,8 @@ loop-place-preserved c =
     let ok-ports = c.take_ports.new.placed.ok in
     let ok-ports-old = c.loop-place.ports.ok in
     record {
-      journals = one-more (journal_items c.loop-place.journals.items) (reverse c.in-Some.place.journal ∷ []) (journals_in (reverse c.pop.new.self.items)) _
-          (ap (λ ps. journal_items c.loop-place.journals.items ++ journals_in ps) (sym rev) ∙ i.journals) (journal_items c.push_reserved.new.self.items) journals;
+      journals = one-more (journals_of c.loop-place.journals.items) (reverse c.in-Some.place.journal ∷ []) (journals_in (reverse c.pop.new.self.items)) _
+          (ap (λ ps. journals_of c.loop-place.journals.items ++ journals_in ps) (sym rev) ∙ i.journals) (journals_of c.push_reserved.new.self.items) journals;
       rest = one-more c.loop-place.rest.items (flat c.in-Some.place.out.lists) (packets_of (reverse c.pop.new.self.items)) _
           (ap (λ ps. c.loop-place.rest.items ++ packets_of ps) (sym rev) ∙ i.rest) c.take_packets.new.rest.items rest;
       ports = one-more c.loop-place.ports.items (placed_at c.in-Some.place.number c.in-Some.place.ports) (ports_of (reverse c.pop.new.self.items)) _
