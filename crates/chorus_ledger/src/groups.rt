@@ -20,15 +20,12 @@ fn index_of(ports: &[Ui], port: Ui) -> usize
     ensures value { result ≡ index_of port ports.now }
     ensures within { result ≤ length ports.now }
 {
-    let mut at = 0;
-    let mut found = false;
-    for member in ports.iter() {
-        found = found || *member == port;
-        if !found {
-            at += 1;
+    for (i, member) in ports.iter().enumerate() {
+        if *member == port {
+            return i;
         }
     }
-    at
+    ports.len()
 }
 
 /// The position in a list of this length, or the first one where it comes to the end.

@@ -17,3 +17,4 @@ mod tables;
 
 pub use fate::PortFate;
 pub use ledger::Ledger;
+pub use tables::choosing_place;

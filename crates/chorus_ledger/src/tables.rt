@@ -1,14 +1,16 @@
 //! The tables beside the entries, and what an entry makes of them.
 
-ghost use Rattle.std.specs.Prelude.{◌≡◌, ◌<◌, ◌++◌, List, [], None, OnOk, OnErr};
+ghost use Rattle.std.specs.Prelude.{◌≡◌, ◌<◌, ◌++◌, List, [], None, OnOk, OnErr, unwrap_or};
 ghost use Rattle.std.specs.HashMap.{spare};
 ghost use Rattle.chorus_ui.specs.declared.layout.Layout.{Layout};
+ghost use Rattle.chorus_ui.specs.Layout.{group_place};
 ghost use Rattle.chorus_entry.specs.declared.entry.Entry.{Entry};
+ghost use Rattle.chorus_world.specs.Posts.{source};
 ghost use Rattle.chorus_rows.specs.declared.keys.Line.{Line};
 ghost use Rattle.chorus_rows.specs.Lines.{line_in, AreSame};
 ghost use Rattle.chorus_ledger.specs.Asks.{asked_by};
 ghost use Rattle.chorus_ledger.specs.Ports.{fate_in, MakeFits, TakesFit};
-ghost use Rattle.chorus_ledger.specs.Ties.{Follows, HasSameRows, HasRoom, HasFew, ListsAfter, RowsAfter, StillFollow, message_sent, tag_by, act_tag, choosing_at, grows};
+ghost use Rattle.chorus_ledger.specs.Ties.{Follows, HasSameRows, HasRoom, HasFew, ListsAfter, RowsAfter, StillFollow, message_sent, tag_by, act_tag, grows};
 
 use crate::fate::PortFate;
 use crate::groups::{Group, follow_groups, join_group};
@@ -103,14 +105,25 @@ pub(crate) fn asked_line(place: u16, group: Ui) -> Line
     }
 }
 
-/// The place where members are chosen for the posts of the line, which were made at the line's place.
-fn choosing_place(layout: Layout, line: &Line) -> u16
-    ensures { result ≡ choosing_at layout line.now }
+/// The place where members are chosen for a post to the group that was made at the place `from`.
+pub fn choosing_place(layout: Layout, group: Ui, from: u16) -> u16
+    ensures { result ≡ unwrap_or (group_place layout group) from }
 {
-    if layout.has_site(line.name.site()) {
-        layout.first_place(line.name.site())
+    if layout.has_site(group.site()) {
+        layout.first_place(group.site())
     } else {
-        line.place
+        from
+    }
+}
+
+/// The id of the post that the message is, or is a copy of.
+pub(crate) fn source(id: MsgId) -> MsgId
+    ensures { result ≡ source id }
+{
+    MsgId {
+        seat: id.seat,
+        number: id.number,
+        copy: 0,
     }
 }
 
@@ -192,12 +205,7 @@ impl Tables {
     pub(crate) fn tag_of(&self, id: MsgId) -> Tag
         ensures { result ≡ tag_by self.now id }
     {
-        let source = MsgId {
-            seat: id.seat,
-            number: id.number,
-            copy: 0,
-        };
-        match message_in(&self.messages, source).post {
+        match message_in(&self.messages, source(id)).post {
             Some(post) => post.tag,
             None => Tag::Plain,
         }
@@ -265,7 +273,7 @@ impl Tables {
     {
         if let Some(post) = message_in(&self.messages, id).post {
             let line = asked_line(post.place, group);
-            let place = choosing_place(layout, &line);
+            let place = choosing_place(layout, group, post.place);
             let end = End::Chosen;
             shorten_line(&mut self.asks, &self.marks, &line, place, end);
         }

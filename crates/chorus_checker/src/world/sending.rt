@@ -1,11 +1,10 @@
 //! The way of a message to its port: trying, deciding and telling, and the choice of a group's members.
 
-ghost use Rattle.std.specs.Prelude.{◌≡◌, unwrap_or};
+ghost use Rattle.std.specs.Prelude.{◌≡◌};
 ghost use Rattle.chorus_entry.specs.declared.act.Act.TheVariants as Act;
 ghost use Rattle.chorus_world.specs.Posts.{is_on_site, post_of};
 ghost use Rattle.chorus_world.specs.Steps.{is_beyond, is_to_go, suits, due_at_home, is_due, meets, may_enter, is_early, is_asked_from};
 ghost use Rattle.chorus_world.specs.Places.{is_location};
-ghost use Rattle.chorus_ui.specs.Layout.{group_place};
 ghost use Rattle.chorus_checker.specs.Worlds.{choice_in, due_in, finds_elsewhere, located_in, may_choose_in, may_do, seen};
 
 use crate::group::{choice, site_of};
@@ -13,6 +12,7 @@ use crate::message::{is_to_be_heard, is_to_be_told};
 use crate::port::{has_room, is_coming, is_ended_at, is_full, is_held_at, is_made};
 use crate::world::World;
 use chorus_entry::{Answer, Members, MsgId};
+use chorus_ledger::choosing_place;
 use chorus_ui::Ui;
 use chorus_world::{Due, Location, Progress};
 
@@ -246,24 +246,13 @@ impl World {
                     None => false,
                 };
                 named
-                    && self.choosing_place(group, *from) == place
+                    && choosing_place(self.layout(), group, *from) == place
                     && match self.ledger.first_unchosen(place, *from, group) {
                         Some(next) => id == next,
                         None => false,
                     }
             }
             _ => false,
-        }
-    }
-
-    /// The place where members are chosen for a post to the group that was made at the place `from`.
-    fn choosing_place(&self, group: Ui, from: u16) -> u16
-        ensures { result ≡ unwrap_or (group_place self.now.layout group) from }
-    {
-        if self.layout().has_site(group.site()) {
-            self.layout().first_place(group.site())
-        } else {
-            from
         }
     }
 

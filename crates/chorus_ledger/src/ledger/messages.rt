@@ -13,6 +13,7 @@ ghost use Rattle.chorus_rows.specs.Messages.{in_brief};
 use crate::fate::PortFate;
 use crate::ledger::Ledger;
 use crate::ports::fate_in;
+use crate::tables::source;
 use chorus_entry::{Answer, CLIENTS_LIMIT, MsgId, Tag};
 use chorus_rows::clients::{clients_in, kept_in};
 use chorus_rows::messages::message_in;
@@ -48,12 +49,7 @@ impl Ledger {
     pub fn post_of(&self, id: MsgId) -> Option<Posting>
         ensures { result ≡ in_brief (post_of id self.now.past) }
     {
-        let source = MsgId {
-            seat: id.seat,
-            number: id.number,
-            copy: 0,
-        };
-        message_in(&self.tables.messages, source).post
+        message_in(&self.tables.messages, source(id)).post
     }
 
     /// The tag of the message, which its copies share; Plain where it is not posted.
