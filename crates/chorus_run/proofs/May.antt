@@ -12,6 +12,7 @@ use Rattle.chorus_ui.specs.Layout.{IsLayout, has_actor, has_place, places}
 use Rattle.chorus_entry.specs.declared.command.Command.{Command}
 use Rattle.chorus_entry.specs.Kinds.{names_actor, names_group, names_port}
 use Rattle.chorus_entry.specs.Command.{is_capacity, has_body_in_limit, meets_conditions}
+use Rattle.chorus_entry.specs.Members.{is_member}
 use Rattle.chorus_law.specs.Network.{Enter, Act, schedule}
 use Rattle.chorus_law.specs.Calls.{starting, first_actor, last_of}
 use Rattle.chorus_law.specs.Tasks.{Do, Drain, MayAll, commands_in}
@@ -21,7 +22,7 @@ use Rattle.chorus_scene.specs.declared.scenario.Step as step
 use Rattle.chorus_scene.specs.declared.scenario.Step.TheVariants as steps
 use Rattle.chorus_scene.specs.declared.limits.TheConstants.{COMMANDS_LIMIT, VERSION_ONE_BODY}
 use Rattle.chorus_scene.specs.Scene.{Scene, Script}
-use Rattle.chorus_scene.specs.Making.{next_port, made_after, is_among, members_of}
+use Rattle.chorus_scene.specs.Making.{next_port, made_after, members_of}
 use Rattle.chorus_scene.specs.Grammar.{most_bytes, script_at, no_script, is_step}
 use Rattle.chorus_scene.specs.Limits.{Keeps, is_site, is_actor_of, is_place_of, command_is_of, bytes_sent, is_of_version, command_keeps, script_keeps, setup_line_keeps, setup_keeps, step_keeps, schedule_keeps}
 use Rattle.chorus_run.specs.Order.{setup_command, setup_commands, in_setup, set_up, entering, step_tasks, in_schedule, then_drain, left_from, order, tasks}
@@ -160,12 +161,12 @@ setup-needs l n before (setups.Member group port ∷ lines) keeps =
     let k = and_parts (setup_line_keeps l n before line) (setup_keeps l n (before ++ line ∷ []) lines) keeps in
     let two = names_group group && names_port port in
     let four = two && is_site n group.site && is_site n port.site in
-    let six = four && is_among group (made_after l [] before) && is_among port (made_after l [] before) in
+    let six = four && is_member group (made_after l [] before) && is_member port (made_after l [] before) in
     let seven = six && nat_lt (length (members_of group before)) MEMBERS_LIMIT in
-    let h7 = (and_parts seven (not (is_among port (members_of group before))) k.0).0 in
+    let h7 = (and_parts seven (not (is_member port (members_of group before))) k.0).0 in
     let h6 = (and_parts six (nat_lt (length (members_of group before)) MEMBERS_LIMIT) h7).0 in
-    let h5 = (and_parts (four && is_among group (made_after l [] before)) (is_among port (made_after l [] before)) h6).0 in
-    let h4 = (and_parts four (is_among group (made_after l [] before)) h5).0 in
+    let h5 = (and_parts (four && is_member group (made_after l [] before)) (is_member port (made_after l [] before)) h6).0 in
+    let h4 = (and_parts four (is_member group (made_after l [] before)) h5).0 in
     let h3 = (and_parts (two && is_site n group.site) (is_site n port.site) h4).0 in
     let h2 = (and_parts two (is_site n group.site) h3).0 in
     ((omega arith, (h2, (refl, inl refl))), setup-needs l n (before ++ line ∷ []) lines k.1)

@@ -16,6 +16,7 @@ use Rattle.chorus_entry.specs.declared.command.Command.{Command}
 use Rattle.chorus_entry.specs.declared.command.Command.TheVariants as commands
 use Rattle.chorus_entry.specs.Kinds.{has_kinds_in_dest}
 use Rattle.chorus_entry.specs.Command.{is_capacity, meets_conditions, demands_a_site}
+use Rattle.chorus_entry.specs.Members.{is_member}
 use Rattle.chorus_scene.specs.declared.scenario.SetupLine.TheVariants as setups
 use Rattle.chorus_scene.specs.declared.scenario.Step.TheVariants as steps
 use Rattle.chorus_lines.specs.declared.word.Target.{Target}
@@ -29,7 +30,7 @@ use Rattle.chorus_lines.specs.declared.word.Reason.TheVariants as reasons
 use Rattle.chorus_lines.specs.Text.{number_in}
 use Rattle.chorus_lines.specs.Body.{body_in}
 use Rattle.chorus_scene.specs.Scene.{Scene}
-use Rattle.chorus_scene.specs.Making.{next_port, next_group, is_among, members_of}
+use Rattle.chorus_scene.specs.Making.{next_port, next_group, members_of}
 use Rattle.chorus_scene.specs.Line.{Line, VersionLine, SitesLine, PortLine, GroupLine, MemberLine, ScriptLine, CommandLine, ScheduleLine, StepLine, EndLine, line_of, command_of, name_in, if_of_kind, target_kind, dest_of, field}
 use Rattle.chorus_lines.specs.Words.{word_of}
 use Rattle.chorus_scene.specs.Grammar.{made, judge_line, unless, is_beyond, names_unknown, repeats, is_not_given, is_unscheduled, is_far, is_no_actor, is_no_site, is_known, is_no_capacity, is_huge, dest_is_huge, dest_is_unknown, command_is_beyond, command_is_unknown, last_is_full, last_script, most_sites, most_bytes, script_at, is_step}
@@ -251,9 +252,9 @@ module _ (c : Scene) where
         command_by (commands.Leave q.0 q.1) (and_join _ _ (named kinds.Group (field 0 fs) q.0 q.2).0 (named kinds.Port (field 1 fs) q.1 q.3).0)
         (and_join _ _ (site_of kinds.Group (field 0 fs) q.0 q.2 (or_first (is_far c q.0) (is_far c q.1) unknown)) (site_of kinds.Port (field 1 fs) q.1 q.3 (or_second (is_far c q.0) (is_far c q.1) unknown))) no_bytes refl)
 
-  known_of : (kind : Kind) (text : List ℕ) (u : Ui) → name_in kind text ≡ Some u → not (is_known c u) ≡ false → (is_site c.sites u.site ≡ true) × (is_among u (made c) ≡ true)
+  known_of : (kind : Kind) (text : List ℕ) (u : Ui) → name_in kind text ≡ Some u → not (is_known c u) ≡ false → (is_site c.sites u.site ≡ true) × (is_member u (made c) ≡ true)
   known_of kind text u name known =
-      let p = both (not (is_far c u)) (is_among u (made c)) (not_so (is_known c u) known) in
+      let p = both (not (is_far c u)) (is_member u (made c)) (not_so (is_known c u) known) in
       (site_of kind text u name (un_not (is_far c u) p.0), p.1)
 
   line_fits : (w : Word) (fs : List (List ℕ)) (x : Line) → line_of w fs ≡ Some x → (w ≡ words.Command verbs.Delete → (c.version == 2) ≡ true) → Clear c x → Fits c x
@@ -277,7 +278,7 @@ module _ (c : Scene) where
       let g = known_of kinds.Group (field 0 fs) p.0 p.2 (or_first (not (is_known c p.0)) (not (is_known c p.1)) k.unknown) in
       let q = known_of kinds.Port (field 1 fs) p.1 p.3 (or_second (not (is_known c p.0)) (not (is_known c p.1)) k.unknown) in
       and_join _ _ (and_join _ _ (and_join _ _ (and_join _ _ (and_join _ _ (and_join _ _ (and_join _ _ (named kinds.Group (field 0 fs) p.0 p.2).0 (named kinds.Port (field 1 fs) p.1 p.3).0) g.0) q.0) g.1) q.1)
-      (fewer (length (members_of p.0 c.setup)) 32 k.limit)) (so_not (is_among p.1 (members_of p.0 c.setup)) k.twice))
+      (fewer (length (members_of p.0 c.setup)) 32 k.limit)) (so_not (is_member p.1 (members_of p.0 c.setup)) k.twice))
   line_fits words.Script fs x h two =
       let p = inv_map ScriptLine (name_in kinds.Actor (field 0 fs)) x h in
       subst (λ y. Clear c y → Fits c y) p.2 (λ k. (actor_of (field 0 fs) p.0 p.1 k.unknown, below (length c.scripts) 16 k.limit))

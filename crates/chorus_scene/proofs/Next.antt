@@ -6,6 +6,7 @@ use Rattle.chorus_ui.specs.declared.kind.Kind.{Kind}
 use Rattle.chorus_ui.specs.declared.kind.Kind.TheVariants as kinds
 use Rattle.chorus_ui.specs.Name.{same_ui}
 use Rattle.chorus_ui.specs.declared.ui.Ui.{Ui}
+use Rattle.chorus_entry.specs.Members.{is_member}
 use Rattle.chorus_scene.specs.declared.scenario.SetupLine.TheVariants as setups
 use Rattle.chorus_lines.specs.declared.word.Word.{Word}
 use Rattle.chorus_lines.specs.declared.word.Word.TheVariants as words
@@ -15,7 +16,7 @@ use Rattle.chorus_lines.specs.declared.word.Reason.{Reason}
 use Rattle.chorus_lines.specs.declared.word.Reason.TheVariants as reasons
 use Rattle.chorus_lines.specs.Text.{cut, is_text, is_skipped, fields, are_fields, number_in}
 use Rattle.chorus_lines.specs.Body.{begins_a_body}
-use Rattle.chorus_scene.specs.Making.{next_name, is_among}
+use Rattle.chorus_scene.specs.Making.{next_name}
 use Rattle.chorus_scene.specs.Line.{Line, PortLine, GroupLine, cuts, is_misshapen, line_of, name_in, with_three}
 use Rattle.chorus_lines.specs.Words.{word_of, may_stand}
 use Rattle.chorus_scene.specs.Grammar.{State, made, next, then_after, judge_fields, is_head, unless, after, with_setup, is_far, is_no_actor, is_beyond, names_unknown, repeats, is_not_given, is_unscheduled}
@@ -57,7 +58,7 @@ neither : (a b : Bool) → a ≡ false → b ≡ false → (a || b) ≡ false
 neither false b h k = k
 neither true b h k = h
 
-pub group_read : (s : State) (a : List ℕ) (g : Ui) (kind : Kind) (site : ℕ) → are_fields 1 (a ∷ []) ≡ true → Some g ≡ name_in kinds.Group a → g.number ≤ 4 → is_far s.scene g ≡ false → is_among g (made s.scene) ≡ false → kind ≡ kinds.Group → site ≡ g.site
+pub group_read : (s : State) (a : List ℕ) (g : Ui) (kind : Kind) (site : ℕ) → are_fields 1 (a ∷ []) ≡ true → Some g ≡ name_in kinds.Group a → g.number ≤ 4 → is_far s.scene g ≡ false → is_member g (made s.scene) ≡ false → kind ≡ kinds.Group → site ≡ g.site
     → unless (not (same_ui g (next_name s.scene.layout kind site 1 (made s.scene)))) reasons.Order (Ok (with_setup s (setups.Group site))) ≡ then_after s (judge_fields s.scene words.Group (a ∷ []))
 group_read s a g kind site shape name small near new is-kind is-site =
     ap (λ k. unless (not (same_ui g (next_name s.scene.layout k site 1 (made s.scene)))) reasons.Order (Ok (with_setup s (setups.Group site)))) is-kind
@@ -65,7 +66,7 @@ group_read s a g kind site shape name small near new is-kind is-site =
     ∙ made_line s words.Group (a ∷ []) (GroupLine g) (whole 1 s.scene.version (a ∷ []) a shape) (ap (option_map GroupLine) (sym name)) (few g.number 4 small) near new refl
 
 pub port_read : (s : State) (a b d : List ℕ) (u actor : Ui) (capacity : ℕ) (kind : Kind) (site number : ℕ) → are_fields 3 (a ∷ b ∷ d ∷ []) ≡ true → Some u ≡ name_in kinds.Port a → Some actor ≡ name_in kinds.Actor b → Some capacity ≡ number_in d
-    → capacity ≢ 0 → capacity ≤ 64 → u.number ≤ 32 → is_far s.scene u ≡ false → is_no_actor s.scene actor ≡ false → is_among u (made s.scene) ≡ false → kind ≡ kinds.Port → site ≡ actor.site → number ≡ actor.number
+    → capacity ≢ 0 → capacity ≤ 64 → u.number ≤ 32 → is_far s.scene u ≡ false → is_no_actor s.scene actor ≡ false → is_member u (made s.scene) ≡ false → kind ≡ kinds.Port → site ≡ actor.site → number ≡ actor.number
     → unless (not (same_ui u (next_name s.scene.layout kind site number (made s.scene)))) reasons.Order (Ok (with_setup s (setups.Port actor capacity))) ≡ then_after s (judge_fields s.scene words.Port (a ∷ b ∷ d ∷ []))
 port_read s a b d u actor capacity kind site number shape port-name actor-name count some most small near there new is-kind is-site is-number =
     let t : Result State Reason = Ok (with_setup s (setups.Port actor capacity)) in

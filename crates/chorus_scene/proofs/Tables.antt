@@ -16,9 +16,10 @@ use Rattle.chorus_ui.specs.declared.ui.Ui.{Ui}
 use Rattle.chorus_ui.specs.Layout.{IsLayout}
 use Rattle.chorus_ui.specs.declared.layout.Layout.{Layout}
 use Rattle.chorus_ui.proofs.Names.{from_same_kind, same_kind-self, from_same_ui, same_ui-self}
+use Rattle.chorus_entry.specs.Members.{is_member}
 use Rattle.chorus_scene.specs.declared.scenario.SetupLine.{SetupLine}
 use Rattle.chorus_scene.specs.declared.scenario.SetupLine.TheVariants as setups
-use Rattle.chorus_scene.specs.Making.{stride, shares_place, next_name, makes, made_after, name_said, names_said, is_among, members_of}
+use Rattle.chorus_scene.specs.Making.{stride, shares_place, next_name, makes, made_after, name_said, names_said, members_of}
 use Rattle.chorus_scene.specs.declared.setup.Setup.{Setup}
 use Rattle.chorus_scene.specs.Reader.{count_at, is_actor, is_listed, list_number, most_number, listed, made_by, IsSetup}
 
@@ -62,7 +63,7 @@ module _ (l : Layout) where
 
   -- the names that were made are counted by their places
   abbrev pub Counts : List Ui → Type 0
-  Counts made = (u : Ui) → is_actor u.kind ≡ false → 1 ≤ u.number → is_among u made ≡ ltb ((u.number - 1) / stride l u.kind) (count_by (shares_place l u.kind u.site u.number) made)
+  Counts made = (u : Ui) → is_actor u.kind ≡ false → 1 ≤ u.number → is_member u made ≡ ltb ((u.number - 1) / stride l u.kind) (count_by (shares_place l u.kind u.site u.number) made)
 
   same_count : (kind : Kind) (site number wsite wnumber : ℕ) (made : List Ui) → site ≡ wsite → (number - 1) % stride l kind ≡ (wnumber - 1) % stride l kind → count_by (shares_place l kind site number) made ≡ count_by (shares_place l kind wsite wnumber) made
   same_count kind site number wsite wnumber made e f =
@@ -179,9 +180,9 @@ is_true : (b : Bool) → (b || false) ≡ true → b ≡ true
 is_true true h = refl
 is_true false h = absurd cc
 
-among_more : (u v : Ui) (made : List Ui) → is_among u (made ++ v ∷ []) ≡ true → (is_among u made ≡ true) ⊎ (same_ui v u ≡ true)
+among_more : (u v : Ui) (made : List Ui) → is_member u (made ++ v ∷ []) ≡ true → (is_member u made ≡ true) ⊎ (same_ui v u ≡ true)
 among_more u v made h =
-    elim (or_parts (is_among u made) (same_ui v u || false) (sym (list_any-append (λ w. same_ui w u) made (v ∷ [])) ∙ h)) [
+    elim (or_parts (is_member u made) (same_ui v u || false) (sym (list_any-append (λ w. same_ui w u) made (v ∷ [])) ∙ h)) [
       | inl old ↦ inl old
       | inr new ↦ inr (is_true (same_ui v u) new)
     ]
@@ -239,7 +240,7 @@ module _ (l : Layout) (s t : Setup) (shape : IsLayout l) (h : IsSetup l s) (line
       members = λ g is-listed. ap (λ ms. get_or ms (list_number g) []) members ∙ h.members g is-listed ∙ sym (members_stay g);
       strangers = λ g not-listed. members_stay g ∙ h.strangers g not-listed;
       groups = λ g group among.
-          let old-or-new = among_more g (next_name l kind site number (made_by l s)) (made_by l s) (subst (λ ns. is_among g ns ≡ true) made_next among) in
+          let old-or-new = among_more g (next_name l kind site number (made_by l s)) (made_by l s) (subst (λ ns. is_member g ns ≡ true) made_next among) in
           elim old-or-new [
             | inl old ↦ h.groups g group old
             | inr new ↦
@@ -303,7 +304,7 @@ yes_or_no : (b : Bool) → (b ≡ true) ⊎ (b ≡ false)
 yes_or_no true = inl refl
 yes_or_no false = inr refl
 
-module _ (l : Layout) (s t : Setup) (h : IsSetup l s) (group port : Ui) (kind : group.kind ≡ kinds.Group) (made : is_among group (made_by l s) ≡ true)
+module _ (l : Layout) (s t : Setup) (h : IsSetup l s) (group port : Ui) (kind : group.kind ≡ kinds.Group) (made : is_member group (made_by l s) ≡ true)
     (lines : t.lines.items ≡ s.lines.items ++ setups.Member group port ∷ []) (grown : t.names.items ≡ s.names.items ++ group ∷ []) (counts : t.counts ≡ s.counts)
     (ms : List (List Ui)) (was : map (λ (x : Vec Ui). x.items) s.members.items ≡ ms)
     (members : map (λ (x : Vec Ui). x.items) t.members.items ≡ set ms (list_number group) (get_or ms (list_number group) [] ++ port ∷ [])) where
@@ -358,7 +359,7 @@ module _ (l : Layout) (s t : Setup) (h : IsSetup l s) (group port : Ui) (kind : 
     lists = len ∙ h.lists;
     members = listed_now;
     strangers = strangers_now;
-    groups = λ g is-group among. h.groups g is-group (subst (λ ns. is_among g ns ≡ true) made_same among);
+    groups = λ g is-group among. h.groups g is-group (subst (λ ns. is_member g ns ≡ true) made_same among);
   }
 
 -- no lines yet
@@ -375,5 +376,5 @@ no_tables l s lines names counts lists members = record {
   lists = lists;
   members = λ g listed-g. members (list_number g) ∙ sym (ap (members_of g) lines);
   strangers = λ g out. ap (members_of g) lines;
-  groups = λ g is-group among. absurd (let f : is_among g (made_after l [] []) ≡ true = subst (λ ls. is_among g (made_after l [] ls) ≡ true) lines among in let e : ◌≡◌ {A = Bool} false true = f in cc);
+  groups = λ g is-group among. absurd (let f : is_member g (made_after l [] []) ≡ true = subst (λ ls. is_member g (made_after l [] ls) ≡ true) lines among in let e : ◌≡◌ {A = Bool} false true = f in cc);
 }

@@ -9,6 +9,7 @@ use Rattle.chorus_entry.specs.declared.dest.Dest.{Dest}
 use Rattle.chorus_entry.specs.declared.dest.Dest.TheVariants as dests
 use Rattle.chorus_entry.specs.declared.command.Command.{Command}
 use Rattle.chorus_entry.specs.declared.command.Command.TheVariants as commands
+use Rattle.chorus_entry.specs.Members.{is_member}
 use Rattle.chorus_scene.specs.declared.scenario.SetupLine.{SetupLine}
 use Rattle.chorus_scene.specs.declared.scenario.SetupLine.TheVariants as setups
 use Rattle.chorus_scene.specs.declared.scenario.Step as step
@@ -25,7 +26,7 @@ use Rattle.chorus_lines.specs.declared.fault.ReadFault.TheVariants as faults
 use Rattle.chorus_lines.specs.Text.{cut, fields, lines, is_text, is_skipped}
 use Rattle.chorus_lines.specs.Reasons.{reason_number}
 use Rattle.chorus_scene.specs.Scene.{Scene, Script}
-use Rattle.chorus_scene.specs.Making.{next_port, next_group, made_after, is_among, members_of}
+use Rattle.chorus_scene.specs.Making.{next_port, next_group, made_after, members_of}
 use Rattle.chorus_scene.specs.Line.{Line, VersionLine, SitesLine, PortLine, GroupLine, MemberLine, ScriptLine, CommandLine, ScheduleLine, StepLine, EndLine, cuts, is_misshapen, line_of}
 use Rattle.chorus_lines.specs.Words.{word_of, may_stand}
 
@@ -113,7 +114,7 @@ is_no_site c site = (site == 0) || nat_lt c.sites site
 
 -- its site is one of the scenario's, and an earlier line made it
 abbrev pub is_known : Scene → Ui → Bool
-is_known c u = not (is_far c u) && is_among u (made c)
+is_known c u = not (is_far c u) && is_member u (made c)
 
 abbrev pub dest_is_unknown : Scene → Dest → Bool
 dest_is_unknown c (dests.Port port) = is_far c port
@@ -147,9 +148,9 @@ names_unknown c _ = false
 
 -- test 9: a setup line says again what an earlier one said
 abbrev pub repeats : Scene → Line → Bool
-repeats c (PortLine u actor capacity) = is_among u (made c)
-repeats c (GroupLine u) = is_among u (made c)
-repeats c (MemberLine group port) = is_among port (members_of group c.setup)
+repeats c (PortLine u actor capacity) = is_member u (made c)
+repeats c (GroupLine u) = is_member u (made c)
+repeats c (MemberLine group port) = is_member port (members_of group c.setup)
 repeats c _ = false
 
 -- test 10: the name is not the one that the making gives

@@ -11,13 +11,14 @@ use Rattle.chorus_entry.specs.declared.command.Command.{Command}
 use Rattle.chorus_entry.specs.declared.command.Command.TheVariants as commands
 use Rattle.chorus_entry.specs.Kinds.{names_actor, names_port, names_group}
 use Rattle.chorus_entry.specs.Command.{is_capacity, meets_conditions}
+use Rattle.chorus_entry.specs.Members.{is_member}
 use Rattle.chorus_scene.specs.declared.scenario.SetupLine.{SetupLine}
 use Rattle.chorus_scene.specs.declared.scenario.SetupLine.TheVariants as setups
 use Rattle.chorus_scene.specs.declared.scenario.Step as step
 use Rattle.chorus_scene.specs.declared.scenario.Step.TheVariants as steps
 use Rattle.chorus_scene.specs.declared.limits.TheConstants.{SCRIPTS_LIMIT, COMMANDS_LIMIT, STEPS_LIMIT}
 use Rattle.chorus_scene.specs.Scene.{Scene, Script}
-use Rattle.chorus_scene.specs.Making.{next_port, next_group, made_after, is_among, members_of}
+use Rattle.chorus_scene.specs.Making.{next_port, next_group, made_after, members_of}
 use Rattle.chorus_scene.specs.Grammar.{most_sites, most_bytes, script_at, is_step, read_scene}
 
 -- one of the sites 1 to n
@@ -83,8 +84,8 @@ setup_line_keeps l n before (setups.Group site) =
     is_site n site && nat_le (next_group l site (made_after l [] before)).number GROUPS_PER_SITE_LIMIT
 setup_line_keeps l n before (setups.Member group port) =
     names_group group && names_port port && is_site n group.site && is_site n port.site
-    && is_among group (made_after l [] before) && is_among port (made_after l [] before)
-    && nat_lt (length (members_of group before)) MEMBERS_LIMIT && not (is_among port (members_of group before))
+    && is_member group (made_after l [] before) && is_member port (made_after l [] before)
+    && nat_lt (length (members_of group before)) MEMBERS_LIMIT && not (is_member port (members_of group before))
 
 abbrev pub setup_keeps : Layout → ℕ → List SetupLine → List SetupLine → Bool
 setup_keeps l n before [] = true

@@ -1,6 +1,5 @@
 -- The names that setup lines make.
 use Rattle.std.specs.Prelude.{ℕ, ◌+◌, ◌*◌, ◌-◌, ◌%◌, Bool, ◌&&◌, List, [], ◌∷◌, ◌++◌, ◌==◌, if◌then◌else◌, count_by}
-use Rattle.std.specs.List.{list_any}
 use Rattle.chorus_ui.specs.declared.kind.Kind.{Kind}
 use Rattle.chorus_ui.specs.declared.kind.Kind.TheVariants as kinds
 use Rattle.chorus_ui.specs.Kind.{same_kind}
@@ -51,9 +50,6 @@ name_said l made (setups.Member group port) = group
 abbrev pub names_said : Layout → List Ui → List SetupLine → List Ui
 names_said l made [] = []
 names_said l made (line ∷ lines) = name_said l made line ∷ names_said l (made ++ makes l made line) lines
-
-abbrev pub is_among : Ui → List Ui → Bool
-is_among u names = list_any (λ v. same_ui v u) names
 
 -- the members that lines give a group, in the order of the lines
 abbrev pub members_of : Ui → List SetupLine → List Ui

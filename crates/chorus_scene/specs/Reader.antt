@@ -6,6 +6,7 @@ use Rattle.chorus_ui.specs.Kind.{same_kind}
 use Rattle.chorus_ui.specs.declared.ui.Ui.{Ui}
 use Rattle.chorus_ui.specs.declared.layout.Layout.{Layout}
 use Rattle.chorus_entry.specs.declared.command.Command.{Command}
+use Rattle.chorus_entry.specs.Members.{is_member}
 use Rattle.chorus_lines.specs.declared.word.Word.{Word}
 use Rattle.chorus_lines.specs.declared.word.Word.TheVariants as words
 use Rattle.chorus_lines.specs.declared.word.Verb.{Verb}
@@ -21,7 +22,7 @@ use Rattle.chorus_scene.specs.declared.limits.TheConstants.{SCRIPTS_LIMIT}
 use Rattle.chorus_scene.specs.declared.setup.TheConstants.{SITE_COUNTS, PORT_COUNTS, COUNTS, SITE_LISTS, LISTS}
 use Rattle.chorus_lines.specs.Text.{fields}
 use Rattle.chorus_scene.specs.Scene.{Scene}
-use Rattle.chorus_scene.specs.Making.{stride, shares_place, made_after, names_said, is_among, members_of}
+use Rattle.chorus_scene.specs.Making.{stride, shares_place, made_after, names_said, members_of}
 use Rattle.chorus_scene.specs.Line.{Line, CommandLine, cuts}
 use Rattle.chorus_scene.specs.Grammar.{State, judge_fields, then_after, is_step}
 
@@ -62,7 +63,7 @@ pub record IsSetup (l : Layout) (s : Setup) : Type 0 where
   pub lists : length s.members.items ≡ LISTS
   pub members : (g : Ui) → is_listed g ≡ true → listed s g ≡ members_of g s.lines.items
   pub strangers : (g : Ui) → is_listed g ≡ false → members_of g s.lines.items ≡ []
-  pub groups : (g : Ui) → same_kind g.kind kinds.Group ≡ true → is_among g (made_by l s) ≡ true → is_listed g ≡ true
+  pub groups : (g : Ui) → same_kind g.kind kinds.Group ≡ true → is_member g (made_by l s) ≡ true → is_listed g ≡ true
 
 abbrev pub scene_of : Reader → Scene
 scene_of r = record { layout = r.layout; version = r.version; sites = r.sites; setup = r.setup.lines.items; scripts = r.scripts.items; schedule = r.schedule.items }

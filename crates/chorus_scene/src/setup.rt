@@ -5,8 +5,9 @@ ghost use Rattle.chorus_ui.specs.declared.limits.TheConstants.{PLACES_PER_SITE_L
 ghost use Rattle.chorus_ui.specs.declared.ui.Ui.{Ui};
 ghost use Rattle.chorus_ui.specs.Layout.{IsLayout};
 ghost use Rattle.chorus_ui.specs.declared.layout.Layout.{Layout};
+ghost use Rattle.chorus_entry.specs.Members.{is_member};
 ghost use Rattle.chorus_scene.specs.declared.setup.TheConstants.{COUNTS, LISTS};
-ghost use Rattle.chorus_scene.specs.Making.{stride, next_name, makes, name_said, is_among, members_of};
+ghost use Rattle.chorus_scene.specs.Making.{stride, next_name, makes, name_said, members_of};
 ghost use Rattle.chorus_scene.specs.Reader.{count_at, is_actor, is_listed, list_number, most_number, made_by, IsSetup};
 
 use crate::scenario::SetupLine;
@@ -110,7 +111,7 @@ impl Setup {
         requires tables { IsSetup layout self.now }
         requires site { ui.site ≤ SITES_LIMIT }
         requires kind { is_actor ui.kind ≡ false }
-        ensures { result ≡ is_among ui (made_by layout self.now) }
+        ensures { result ≡ is_member ui (made_by layout self.now) }
     {
         let at = count_at(layout, ui.kind(), ui.site(), ui.number());
         (ui.number() - 1) / stride(layout, ui.kind()) < u64::from(self.counts[at])
@@ -180,7 +181,7 @@ impl Setup {
     ) -> Result<(), AllocError>
         requires tables { IsSetup layout self.old }
         requires kind { group.kind ≡ Kind.Group }
-        requires made { is_among group (made_by layout self.old) ≡ true }
+        requires made { is_member group (made_by layout self.old) ≡ true }
         ensures ok { OnOk result
             (self.new.lines.items ≡ self.old.lines.items ++ SetupLine.Member group port ∷ []) }
         ensures tables { OnOk result (IsSetup layout self.new) }

@@ -9,6 +9,7 @@ use Rattle.chorus_ui.specs.Name.{same_ui}
 use Rattle.chorus_entry.specs.declared.dest.Dest.{Dest}
 use Rattle.chorus_entry.specs.declared.dest.Dest.TheVariants as dests
 use Rattle.chorus_entry.specs.declared.command.Command.{Command}
+use Rattle.chorus_entry.specs.Members.{is_member}
 use Rattle.chorus_scene.specs.declared.scenario.SetupLine.{SetupLine}
 use Rattle.chorus_scene.specs.declared.scenario.SetupLine.TheVariants as setups
 use Rattle.chorus_scene.specs.declared.scenario.Step as step
@@ -16,7 +17,7 @@ use Rattle.chorus_scene.specs.declared.scenario.Step.TheVariants as steps
 use Rattle.chorus_scene.specs.declared.limits.TheConstants.{TEXT_LIMIT, VERSION_ONE_SITES}
 use Rattle.chorus_lines.specs.Text.{cut, lines, is_text, is_skipped}
 use Rattle.chorus_scene.specs.Scene.{Scene}
-use Rattle.chorus_scene.specs.Making.{next_port, next_group, makes, made_after, is_among}
+use Rattle.chorus_scene.specs.Making.{next_port, next_group, makes, made_after}
 use Rattle.chorus_scene.specs.Line.{Line, VersionLine, SitesLine, PortLine, GroupLine, MemberLine, ScriptLine, CommandLine, ScheduleLine, StepLine, EndLine}
 use Rattle.chorus_scene.specs.Grammar.{State, opening, made, most_sites, is_beyond, command_is_unknown, names_unknown, repeats, is_not_given, cannot_go, is_unscheduled, is_far, judge_line, judge_word, judge_head, is_head, judge_bytes, after, then_after, next, read_scene}
 use Rattle.chorus_scene.specs.Laws.{Pass}
@@ -99,7 +100,7 @@ module _ (n : ℕ) (eight : 8 ≤ n) where
 
     unknown-same : (x : Line) → names_unknown (scene_on n c) x ≡ names_unknown c x
     unknown-same (MemberLine group port) =
-        ap (λ (names : List Ui). not (not (is_far c group) && is_among group names) || not (not (is_far c port) && is_among port names)) made-is
+        ap (λ (names : List Ui). not (not (is_far c group) && is_member group names) || not (not (is_far c port) && is_member port names)) made-is
     unknown-same (CommandLine command) = command-same command
     unknown-same (SitesLine m) = refl
     unknown-same (VersionLine v) = refl
@@ -111,8 +112,8 @@ module _ (n : ℕ) (eight : 8 ≤ n) where
     unknown-same EndLine = refl
 
     repeats-same : (x : Line) → repeats (scene_on n c) x ≡ repeats c x
-    repeats-same (PortLine u actor capacity) = ap (is_among u) made-is
-    repeats-same (GroupLine u) = ap (is_among u) made-is
+    repeats-same (PortLine u actor capacity) = ap (is_member u) made-is
+    repeats-same (GroupLine u) = ap (is_member u) made-is
     repeats-same (MemberLine group port) = refl
     repeats-same (CommandLine command) = refl
     repeats-same (SitesLine m) = refl

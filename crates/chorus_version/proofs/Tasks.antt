@@ -15,6 +15,7 @@ use Rattle.chorus_entry.specs.declared.dest.Dest.TheVariants as dests
 use Rattle.chorus_entry.specs.declared.command.Command.{Command}
 use Rattle.chorus_entry.specs.Kinds.{names_actor, names_group, names_port}
 use Rattle.chorus_entry.specs.Command.{is_capacity, meets_conditions}
+use Rattle.chorus_entry.specs.Members.{is_member}
 use Rattle.chorus_law.specs.Network.{Event, Enter, Act, Deliver}
 use Rattle.chorus_law.specs.Calls.{starting, last_of}
 use Rattle.chorus_law.specs.Tasks.{Task, Do, Drain}
@@ -25,7 +26,7 @@ use Rattle.chorus_scene.specs.declared.scenario.Step as step
 use Rattle.chorus_scene.specs.declared.scenario.Step.TheVariants as steps
 use Rattle.chorus_scene.specs.declared.limits.TheConstants.{COMMANDS_LIMIT}
 use Rattle.chorus_scene.specs.Scene.{Scene, Script}
-use Rattle.chorus_scene.specs.Making.{next_port, next_group, made_after, is_among, members_of}
+use Rattle.chorus_scene.specs.Making.{next_port, next_group, made_after, members_of}
 use Rattle.chorus_scene.specs.Grammar.{most_bytes, script_at, no_script, is_step}
 use Rattle.chorus_scene.specs.Limits.{Keeps, is_site, is_actor_of, is_place_of, dest_is_of, command_is_of, bytes_sent, is_of_version, command_keeps, script_keeps, setup_line_keeps, setup_keeps, step_keeps, schedule_keeps}
 use Rattle.chorus_run.specs.Order.{setup_command, in_setup, set_up, entering, step_tasks, in_schedule, then_drain, left_from, order, tasks}
@@ -93,12 +94,12 @@ module _ (n : ℕ) (l : Layout) (wider : l.sites ≤ n) (version m : ℕ) (sites
   line-within before (setups.Member group port) keeps =
       let two = names_group group && names_port port in
       let four = two && is_site m group.site && is_site m port.site in
-      let six = four && is_among group (made_after l [] before) && is_among port (made_after l [] before) in
+      let six = four && is_member group (made_after l [] before) && is_member port (made_after l [] before) in
       let seven = six && nat_lt (length (members_of group before)) MEMBERS_LIMIT in
-      let h7 = (and_parts seven (not (is_among port (members_of group before))) keeps).0 in
+      let h7 = (and_parts seven (not (is_member port (members_of group before))) keeps).0 in
       let h6 = (and_parts six (nat_lt (length (members_of group before)) MEMBERS_LIMIT) h7).0 in
-      let h5 = (and_parts (four && is_among group (made_after l [] before)) (is_among port (made_after l [] before)) h6).0 in
-      let h4 = (and_parts four (is_among group (made_after l [] before)) h5).0 in
+      let h5 = (and_parts (four && is_member group (made_after l [] before)) (is_member port (made_after l [] before)) h6).0 in
+      let h4 = (and_parts four (is_member group (made_after l [] before)) h5).0 in
       let h3 = and_parts (two && is_site m group.site) (is_site m port.site) h4 in
       let h2 = and_parts two (is_site m group.site) h3.0 in
       (site-within group.site h2.1, site-within port.site h3.1)
