@@ -1,6 +1,6 @@
 -- What the machine does on a command with calls, by what its code found.
 -- t is the turn before, u the turn after, m a message, q a port, c the caller.
-use Rattle.std.proofs.Common.{◌≡◌, ℕ, ◌+◌, ◌≤◌, ◌==◌, ◌&&◌, Bool, true, false, cond, Option, Some, None, Result, Ok, Err, OnErr, List, [], ◌∷◌, refl, sym, ◌∙◌, ap, subst, arith}
+use Rattle.std.proofs.Common.{◌≡◌, ℕ, ◌+◌, ◌≤◌, ◌==◌, ◌&&◌, Bool, true, false, cond, Option, Some, None, List, [], ◌∷◌, refl, sym, ◌∙◌, ap, subst, arith}
 use Rattle.chorus_ui.specs.declared.ui.Ui.{Ui}
 use Rattle.chorus_entry.specs.declared.id.MsgId.{MsgId}
 use Rattle.chorus_entry.specs.declared.dest.Dest.{Dest}
@@ -33,10 +33,6 @@ use Rattle.chorus_parts.specs.Steps.{posted, told_by}
 use Rattle.chorus_parts.specs.Tables.{Tables, turn}
 use Rattle.chorus_place.specs.CallTurns.{with_call, GaveWithinPosts}
 use Rattle.chorus_place.proofs.Turns.{post-performs}
-
-pub on_err : {A E : Type 0} (r : Result A E) (P : Type 0) → P → OnErr r P
-on_err (Ok a) P p = tt
-on_err (Err e) P p = p
 
 -- p are the tables before room was made, r behind it, and d the caller as it posts the message n, which is m, to the port q
 pub post-done : (command : Command) (m n : Message) (q to : Ui) (p r : Tables) (c d : Seated) (u : Turn) (told : Reply) (id : MsgId)

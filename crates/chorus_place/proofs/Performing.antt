@@ -1,5 +1,5 @@
 -- What the machine does on a command at a port, by what its code found.
-use Rattle.std.proofs.Common.{◌≡◌, ℕ, Bool, true, false, not, cond, Option, Some, None, is_some, unwrap_or, IfSome, Result, Ok, Err, OnErr, List, [], ◌∷◌, refl, sym, ◌∙◌, ap}
+use Rattle.std.proofs.Common.{◌≡◌, ℕ, Bool, true, false, not, cond, Option, Some, None, is_some, unwrap_or, IfSome, List, [], ◌∷◌, refl, sym, ◌∙◌, ap}
 use Rattle.std.proofs.lemmas.Bool.{false≢true}
 use Rattle.chorus_ui.specs.declared.ui.Ui.{Ui}
 use Rattle.chorus_ui.specs.declared.layout.Layout.{Layout}
@@ -27,10 +27,6 @@ use Rattle.chorus_machine.specs.Doing.{does, takes, with_ports, first_message, e
 use Rattle.chorus_machine.specs.Replies.{reply_to, settling, taken_reply}
 use Rattle.chorus_parts.specs.Ports.{takes_from, ids_of}
 use Rattle.chorus_parts.specs.Commands.{Performed}
-
-pub on_err : {A E : Type 0} (r : Result A E) (P : Type 0) → P → OnErr r P
-on_err (Ok a) P p = tt
-on_err (Err e) P p = p
 
 -- the command's own act is this one, and it was done
 pub performs : (c : Command) (x : Act) (t mid u : Turn) (r : Reply) → mid ≡ t → own c t ≡ x → u ≡ does x mid → r ≡ reply_to x t (does x t) → Performed c t u r

@@ -105,9 +105,9 @@ posted-leaving q m t u o w e c h =
     ∙ sym (ap (λ (x : Turn). leaving (direct q) x.place) e
     ∙ ap (λ (x : Queue). leaving_to t.place.layout t.place.number q (newest t.place q).to x.waits) (at-key (direct q) (with_last (post m t.place.number)) t.place.waiting))
 
-pub on-err : {A E : Type 0} (r : Result A E) (P : Type 0) → P → OnErr r P
-on-err (Ok a) P p = tt
-on-err (Err e) P p = p
+pub on_err : {A E : Type 0} (r : Result A E) (P : Type 0) → P → OnErr r P
+on_err (Ok a) P p = tt
+on_err (Err e) P p = p
 
 -- any command that posts to a port
 pub post-performs : (command : Command) (m : Message) (q : Ui) (t u : Turn) (r : Reply) → own command t ≡ Act.Post m (Dest.Port q)

@@ -5,7 +5,8 @@ use Rattle.chorus_entry.specs.declared.tag.Tag.TheVariants as Tag
 use Rattle.chorus_machine.specs.PlaceState.{greatest_clock}
 use Rattle.chorus_machine.specs.Own.{next_message, reply_act}
 use Rattle.chorus_parts.specs.Tables.{turn}
-use Rattle.chorus_place.proofs.CallTurns.{on_err, post-done}
+use Rattle.chorus_place.proofs.Turns.{on_err}
+use Rattle.chorus_place.proofs.CallTurns.{post-done}
 use Rattle.chorus_place.proofs.turns_calls.answer_request.Goals as goal
 
 pub returns-in_err-ready-clause-refused : goal.returns-in_err-ready-clause-refused

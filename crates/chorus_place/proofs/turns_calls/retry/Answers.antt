@@ -7,7 +7,8 @@ use Rattle.chorus_calls.specs.Clients.{Calling}
 use Rattle.chorus_machine.specs.PlaceState.{greatest_clock}
 use Rattle.chorus_machine.specs.Own.{next_message, retry_act}
 use Rattle.chorus_parts.specs.Tables.{turn}
-use Rattle.chorus_place.proofs.CallTurns.{on_err, post-done, same-call}
+use Rattle.chorus_place.proofs.Turns.{on_err}
+use Rattle.chorus_place.proofs.CallTurns.{post-done, same-call}
 use Rattle.chorus_place.proofs.turns_calls.retry.Goals as goal
 
 pub returns-in_err-ready-clause-refused : goal.returns-in_err-ready-clause-refused

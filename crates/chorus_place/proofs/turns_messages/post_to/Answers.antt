@@ -5,11 +5,11 @@ use Rattle.chorus_machine.specs.PlaceState.{greatest_clock}
 use Rattle.chorus_machine.specs.Trying.{go}
 use Rattle.chorus_parts.specs.Steps.{posted}
 use Rattle.chorus_parts.specs.Tables.{turn}
-use Rattle.chorus_place.proofs.Turns.{on-err}
+use Rattle.chorus_place.proofs.Turns.{on_err}
 use Rattle.chorus_place.proofs.turns_messages.post_to.Goals as goal
 
 pub returns-in_err-ready-clause-refused : goal.returns-in_err-ready-clause-refused
-returns-in_err-ready-clause-refused c = on-err c.from_residual.result _ (c.ready_post.ensures.turn c.args.caller.now)
+returns-in_err-ready-clause-refused c = on_err c.from_residual.result _ (c.ready_post.ensures.turn c.args.caller.now)
 
 pub post_prepared-requires-clause-clock : goal.post_prepared-requires-clause-clock
 post_prepared-requires-clause-clock c =

@@ -6,7 +6,8 @@ use Rattle.chorus_world.specs.Steps.{is_full_of_ports}
 use Rattle.chorus_machine.specs.declared.reply.Reply.{Reply}
 use Rattle.chorus_machine.specs.Own.{next_port}
 use Rattle.chorus_parts.specs.Tables.{turn}
-use Rattle.chorus_place.proofs.Performing.{on_err, performs, making, home-here, has-home}
+use Rattle.chorus_place.proofs.Turns.{on_err}
+use Rattle.chorus_place.proofs.Performing.{performs, making, home-here, has-home}
 use Rattle.chorus_place.proofs.turns_ports.make.Goals as goal
 
 pub returns-in_err-make_port_room-clause-refused : goal.returns-in_err-make_port_room-clause-refused
