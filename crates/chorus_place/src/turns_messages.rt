@@ -138,7 +138,7 @@ pub(crate) fn hear_try(
 }
 
 /// Posts the caller's next message, with this tag, to a port, and lets it go. Gives its id.
-pub(crate) fn post_to(
+fn post_to(
     tables: &mut Tables,
     port: Ui,
     tag: Tag,
