@@ -1,8 +1,8 @@
 -- What an audit did to its source and sink, by its status.
-use Rattle.std.specs.Prelude.{◌≡◌, ℕ, ◌+◌, ◌≤◌, List, [], ◌∷◌, ◌++◌, length, codes, decimal, Option, IfSome}
-use Rattle.std.specs.Io.KnownBytes.{Appends, Consumes, IsAtEnd}
+use Rattle.std.specs.Prelude.{◌≡◌, ℕ, List, [], ◌∷◌, ◌++◌, codes, decimal, Option, IfSome}
+use Rattle.std.specs.Io.KnownBytes.{Appends}
 use Rattle.chorus_ui.specs.declared.layout.Layout.{Layout}
-use Rattle.chorus_io.specs.Bytes.{AppendsPrefix}
+use Rattle.chorus_io.specs.Bytes.{AppendsPrefix, IsReadWhole, IsReadWithin, IsTooLong}
 use Rattle.chorus_show.specs.Phrases.{phrase}
 use Rattle.chorus_show.specs.declared.status.Status.{Status}
 use Rattle.chorus_show.specs.declared.status.Status.TheVariants.{Done, Usage, Scenario, ReadFault, WriteFault, Memory, Worn}
@@ -16,24 +16,14 @@ abbrev pub verdict_text : Audit → List ℕ
 verdict_text (Legal n) = phrase (codes "legal") (decimal n ∷ []) ++ 10 ∷ []
 verdict_text (Wrong line rule) = phrase (codes "wrong line") (decimal line ∷ codes "rule" ∷ decimal rule ∷ []) ++ 10 ∷ []
 
--- the source was read to its end, or one byte more than the limit was read of it
-abbrev pub IsReadWhole : Option (List ℕ) → Option (List ℕ) → Type 0
-IsReadWhole old new = (bytes : List ℕ) × Consumes old new bytes × IsAtEnd new × (length bytes ≤ AUDIT_LIMIT)
-
-abbrev pub IsTooLong : Option (List ℕ) → Option (List ℕ) → Type 0
-IsTooLong old new = (bytes : List ℕ) × Consumes old new bytes × (length bytes ≡ AUDIT_LIMIT + 1)
-
--- no more than one byte more than the limit was read of the source, whatever came of it
-abbrev pub ReadsUpToLimit : Option (List ℕ) → Option (List ℕ) → Type 0
-ReadsUpToLimit old new = (bytes : List ℕ) × Consumes old new bytes × (length bytes ≤ AUDIT_LIMIT + 1)
-
--- how an audit ends, and what it read
+-- how an audit ends, and what it read: the byte above the limit exactly at Scenario
 abbrev pub ReadsBy : Status → Option (List ℕ) → Option (List ℕ) → Type 0
-ReadsBy Done old new = IsReadWhole old new
-ReadsBy WriteFault old new = IsReadWhole old new
-ReadsBy (Scenario line reason) old new = (line ≡ 0) × (reason ≡ 6) × IsTooLong old new
-ReadsBy ReadFault old new = Unit {0}
-ReadsBy Memory old new = Unit {0}
+ReadsBy Done old new = (bytes : List ℕ) × IsReadWhole AUDIT_LIMIT bytes old new
+ReadsBy WriteFault old new = (bytes : List ℕ) × IsReadWhole AUDIT_LIMIT bytes old new
+ReadsBy (Scenario line reason) old new =
+    (line ≡ 0) × (reason ≡ 6) × ((bytes : List ℕ) × IsTooLong AUDIT_LIMIT bytes old new)
+ReadsBy ReadFault old new = (bytes : List ℕ) × IsReadWithin AUDIT_LIMIT bytes old new
+ReadsBy Memory old new = (bytes : List ℕ) × IsReadWithin AUDIT_LIMIT bytes old new
 ReadsBy Usage old new = ⊥
 ReadsBy (Worn clock) old new = ⊥
 

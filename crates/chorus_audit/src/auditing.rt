@@ -5,7 +5,7 @@ ghost use Rattle.chorus_io.specs.Count.{Rose};
 ghost use Rattle.chorus_audit.specs.Tests.{IsVerdict};
 ghost use Rattle.chorus_audit.specs.declared.limits.TheConstants.{AUDIT_LIMIT};
 ghost use Rattle.chorus_audit.specs.declared.judging.Audit.{Audit};
-ghost use Rattle.chorus_audit.specs.Output.{Prints, ReadsBy, ReadsUpToLimit, verdict_text};
+ghost use Rattle.chorus_audit.specs.Output.{Prints, ReadsBy, verdict_text};
 
 use crate::judging::{Audit, audit_text};
 use crate::limits::AUDIT_LIMIT;
@@ -32,7 +32,6 @@ pub fn audit<S: Source, K: Sink>(
     ensures write_fault { result ≡ Status.WriteFault →
         Rose (K.faults sink.old) (K.faults sink.new) }
     ensures reads { ReadsBy result (S.left source.old) (S.left source.new) }
-    ensures reads_at_most { ReadsUpToLimit (S.left source.old) (S.left source.new) }
 
     // What it did.
     ensures prints { Prints layout result (S.left source.old) (K.held sink.old) (K.held sink.new) }

@@ -1,11 +1,9 @@
 -- What the loops of `read_all` and `write_all` keep, and what follows where they end.
-use Rattle.std.proofs.Common.{◌≡◌, ◌≢◌, ℕ, ◌+◌, ◌≤◌, List, ◌++◌, length, take, drop, Option, Err, refl, sym, subst, arith, length-append, take-append-drop}
+use Rattle.std.proofs.Common.{◌≡◌, ℕ, ◌+◌, ◌≤◌, List, ◌++◌, length, take, drop, Option, sym, subst, arith, length-append, take-append-drop}
 use Rattle.std.specs.Io.KnownBytes.{Appends, Consumes, Keeps}
 use Rattle.std.proofs.Math.Seq.{take-add}
 use Rattle.std.proofs.KnownBytes.{Appends-kept, Appends-trans, Consumes-trans}
-use Rattle.chorus_io.specs.declared.reading.ReadAll.{ReadAll}
-use Rattle.chorus_io.specs.declared.reading.ReadAll.TheVariants.{TooLong}
-use Rattle.chorus_io.specs.Bytes.{AppendsPrefix, ReadsUpTo}
+use Rattle.chorus_io.specs.Bytes.{AppendsPrefix, IsTooLong, IsReadWithin}
 
 -- these bytes were read so far
 pub record Read (left_old left_new : Option (List ℕ)) (bytes : List ℕ) (limit faults_old faults_new : ℕ) (reliable_old reliable_new : Type 0) : Type 0 where
@@ -14,31 +12,17 @@ pub record Read (left_old left_new : Option (List ℕ)) (bytes : List ℕ) (limi
   pub never_falls : faults_old ≤ faults_new
   pub reliable : reliable_old → reliable_new × (faults_new ≡ faults_old)
 
--- one byte too many was read
-pub ReadsUpTo-too_long : (old mid new : Option (List ℕ)) (bytes front : List ℕ) (limit : ℕ)
-    → Consumes old mid bytes → Consumes mid new front → length bytes + length front ≡ limit + 1 → ReadsUpTo old new limit (Err TooLong)
-ReadsUpTo-too_long old mid new bytes front limit before now count =
-    let long : length (bytes ++ front) ≡ limit + 1 = omega (arith, length-append bytes front) in
-    record {
-      given = bytes ++ front;
-      consumed = Consumes-trans old mid new bytes front before now;
-      most = omega arith;
-      too_long = (λ _. long, λ _. refl);
-      kept = tt;
-    }
+-- with those of one more read, one byte too many
+pub IsTooLong-with : (old mid new : Option (List ℕ)) (bytes front : List ℕ) (limit : ℕ)
+    → Consumes old mid bytes → Consumes mid new front → length bytes + length front ≡ limit + 1 → (all : List ℕ) × IsTooLong limit all old new
+IsTooLong-with old mid new bytes front limit before now count =
+    (bytes ++ front, (Consumes-trans old mid new bytes front before now, omega (arith, length-append bytes front)))
 
--- reading ended within the limit, by another error
-pub ReadsUpTo-other : (old mid new : Option (List ℕ)) (bytes front : List ℕ) (limit : ℕ) (error : ReadAll)
-    → Consumes old mid bytes → Consumes mid new front → length bytes + length front ≤ limit → error ≢ TooLong → ReadsUpTo old new limit (Err error)
-ReadsUpTo-other old mid new bytes front limit error before now within other =
-    let short : length (bytes ++ front) ≤ limit = omega (arith, length-append bytes front) in
-    record {
-      given = bytes ++ front;
-      consumed = Consumes-trans old mid new bytes front before now;
-      most = omega arith;
-      too_long = (λ is. absurd (other cc), λ long. absurd (omega arith));
-      kept = tt;
-    }
+-- or within the limit
+pub IsReadWithin-with : (old mid new : Option (List ℕ)) (bytes front : List ℕ) (limit : ℕ)
+    → Consumes old mid bytes → Consumes mid new front → length bytes + length front ≤ limit → (all : List ℕ) × IsReadWithin limit all old new
+IsReadWithin-with old mid new bytes front limit before now within =
+    (bytes ++ front, (Consumes-trans old mid new bytes front before now, omega (arith, length-append bytes front)))
 
 -- the bytes before this place were written so far
 pub record Wrote (held_old held_new : Option (List ℕ)) (bytes : List ℕ) (at faults_old faults_new : ℕ) : Type 0 where

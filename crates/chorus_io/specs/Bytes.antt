@@ -1,9 +1,8 @@
 -- What a source gave and a sink took, where they tell their bytes. Where one tells nothing, these say nothing of it.
-use Rattle.std.specs.Prelude.{◌≡◌, ℕ, ◌+◌, ◌≤◌, ◌↔◌, List, ◌++◌, length, Option, Result, IfOk, IsErrOf, Vec}
-use Rattle.std.specs.declared.alloc.Global.{Global}
-use Rattle.std.specs.Io.KnownBytes.{Appends, Consumes}
+use Rattle.std.specs.Prelude.{◌≡◌, ℕ, ◌+◌, ◌≤◌, List, ◌++◌, length, Option}
+use Rattle.std.specs.Io.KnownBytes.{Appends, Consumes, IsAtEnd}
 use Rattle.chorus_io.specs.declared.reading.ReadAll.{ReadAll}
-use Rattle.chorus_io.specs.declared.reading.ReadAll.TheVariants.{TooLong}
+use Rattle.chorus_io.specs.declared.reading.ReadAll.TheVariants.{Fault, TooLong, Memory}
 
 -- what is held grew by a prefix of the bytes
 pub record AppendsPrefix (old new : Option (List ℕ)) (bytes : List ℕ) : Type 0 where
@@ -12,10 +11,22 @@ pub record AppendsPrefix (old new : Option (List ℕ)) (bytes : List ℕ) : Type
   pub whole : bytes ≡ sent ++ unsent
   pub grown : Appends old new sent
 
--- these bytes were read, a front of what was left: at most limit + 1, and that many exactly where the input is too long
-pub record ReadsUpTo (old new : Option (List ℕ)) (limit : ℕ) (result : Result (Vec ℕ Global) ReadAll) : Type 0 where
-  pub given : List ℕ
-  pub consumed : Consumes old new given
-  pub most : length given ≤ limit + 1
-  pub too_long : IsErrOf result TooLong ↔ (length given ≡ limit + 1)
-  pub kept : IfOk result (λ v. v.items ≡ given)
+-- The bytes that were read, a front of what was left, and the limit of an input.
+
+-- the input was read to its end, and is within the limit
+abbrev pub IsReadWhole : ℕ → List ℕ → Option (List ℕ) → Option (List ℕ) → Type 0
+IsReadWhole limit bytes old new = Consumes old new bytes × IsAtEnd new × (length bytes ≤ limit)
+
+-- one byte more than the limit was read
+abbrev pub IsTooLong : ℕ → List ℕ → Option (List ℕ) → Option (List ℕ) → Type 0
+IsTooLong limit bytes old new = Consumes old new bytes × (length bytes ≡ limit + 1)
+
+-- no more than the limit was read
+abbrev pub IsReadWithin : ℕ → List ℕ → Option (List ℕ) → Option (List ℕ) → Type 0
+IsReadWithin limit bytes old new = Consumes old new bytes × (length bytes ≤ limit)
+
+-- what was read where there is no whole input, by its cause
+abbrev pub StopsBy : ReadAll → ℕ → List ℕ → Option (List ℕ) → Option (List ℕ) → Type 0
+StopsBy Fault limit bytes old new = IsReadWithin limit bytes old new
+StopsBy TooLong limit bytes old new = IsTooLong limit bytes old new
+StopsBy (Memory error) limit bytes old new = IsReadWithin limit bytes old new

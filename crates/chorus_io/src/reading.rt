@@ -1,9 +1,8 @@
 //! The whole input.
-ghost use Rattle.std.specs.Prelude.{◌≡◌, ◌≤◌, IfSome, IfOk, OnOk, IsErrOf, vec_len};
-ghost use Rattle.std.specs.Io.KnownBytes.{IsAtEnd};
+ghost use Rattle.std.specs.Prelude.{◌≡◌, ◌≤◌, ℕ, List, IfSome, IfOk, IfErr, IsErrOf};
 ghost use Rattle.chorus_io.specs.declared.reading.ReadAll.TheVariants.{Fault, Memory};
 ghost use Rattle.chorus_io.specs.Count.{Rose};
-ghost use Rattle.chorus_io.specs.Bytes.{ReadsUpTo};
+ghost use Rattle.chorus_io.specs.Bytes.{IsReadWhole, StopsBy};
 
 use crate::{Failed, Source};
 use std::alloc::{AllocError, Global};
@@ -46,9 +45,10 @@ impl From<AllocError> for ReadAll {
 /// source's count of faults rose in this call. At each answer the source has given the bytes that were read.
 pub fn read_all<S: Source>(alloc: Global, source: &mut S, limit: usize) -> Result<Vec<u8>, ReadAll>
     ensures whole { IfOk result (λ v. IfSome (S.left source.old) (λ input. v.items ≡ input)) }
-    ensures end { OnOk result (IsAtEnd (S.left source.new)) }
-    ensures within { IfOk result (λ v. vec_len v ≤ limit) }
-    ensures given { ReadsUpTo (S.left source.old) (S.left source.new) limit result }
+    ensures read { IfOk result (λ v.
+        IsReadWhole limit v.items (S.left source.old) (S.left source.new)) }
+    ensures stopped { IfErr result (λ cause. (bytes : List ℕ)
+        × StopsBy cause limit bytes (S.left source.old) (S.left source.new)) }
 
     ensures fault { IsErrOf result ReadAll.Fault →
         Rose (S.faults source.old) (S.faults source.new) }

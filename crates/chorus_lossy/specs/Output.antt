@@ -1,7 +1,7 @@
 -- What `lossy` read, wrote and left, by its status. The bytes are those that were read of the source.
-use Rattle.std.specs.Prelude.{◌≡◌, ℕ, ◌+◌, ◌*◌, ◌≤◌, List, [], ◌∷◌, ◌++◌, length, codes, decimal, Option}
-use Rattle.std.specs.Io.KnownBytes.{Appends, Consumes, IsAtEnd}
-use Rattle.chorus_io.specs.Bytes.{AppendsPrefix}
+use Rattle.std.specs.Prelude.{◌≡◌, ℕ, ◌+◌, ◌*◌, List, [], ◌∷◌, ◌++◌, codes, decimal, Option}
+use Rattle.std.specs.Io.KnownBytes.{Appends}
+use Rattle.chorus_io.specs.Bytes.{AppendsPrefix, IsReadWhole, IsReadWithin, IsTooLong}
 use Rattle.chorus_show.specs.Phrases.{phrase}
 use Rattle.chorus_show.specs.declared.status.Status.{Status}
 use Rattle.chorus_show.specs.declared.status.Status.TheVariants.{Done, Usage, Scenario, ReadFault, WriteFault, Memory, Worn}
@@ -28,20 +28,13 @@ abbrev pub lossy_text : ℕ → List ℕ → List ℕ
 lossy_text first bytes =
     text_with bytes (whole_run first bytes).emitted (whole_run first bytes).lost
 
--- the bytes are all of the source, or its first ones to one byte more than the limit
-abbrev pub IsReadWhole : List ℕ → Option (List ℕ) → Option (List ℕ) → Type 0
-IsReadWhole bytes old new = Consumes old new bytes × IsAtEnd new × (length bytes ≤ INPUT_LIMIT)
-
-abbrev pub IsTooLong : List ℕ → Option (List ℕ) → Option (List ℕ) → Type 0
-IsTooLong bytes old new = Consumes old new bytes × (length bytes ≡ INPUT_LIMIT + 1)
-
 -- how a call ends, and what it read: the byte above the limit exactly at Scenario
 abbrev pub ReadsBy : Status → List ℕ → Option (List ℕ) → Option (List ℕ) → Type 0
-ReadsBy Done bytes old new = IsReadWhole bytes old new
-ReadsBy WriteFault bytes old new = IsReadWhole bytes old new
-ReadsBy (Scenario line reason) bytes old new = (line ≡ 0) × (reason ≡ 6) × IsTooLong bytes old new
-ReadsBy ReadFault bytes old new = Consumes old new bytes × (length bytes ≤ INPUT_LIMIT)
-ReadsBy Memory bytes old new = Consumes old new bytes × (length bytes ≤ INPUT_LIMIT)
+ReadsBy Done bytes old new = IsReadWhole INPUT_LIMIT bytes old new
+ReadsBy WriteFault bytes old new = IsReadWhole INPUT_LIMIT bytes old new
+ReadsBy (Scenario line reason) bytes old new = (line ≡ 0) × (reason ≡ 6) × IsTooLong INPUT_LIMIT bytes old new
+ReadsBy ReadFault bytes old new = IsReadWithin INPUT_LIMIT bytes old new
+ReadsBy Memory bytes old new = IsReadWithin INPUT_LIMIT bytes old new
 ReadsBy Usage bytes old new = ⊥
 ReadsBy (Worn clock) bytes old new = ⊥
 

@@ -4,7 +4,7 @@ ghost use Rattle.std.specs.Prelude.{◌≡◌, ◌≢◌, ◌↔◌, ◌⊎◌, 
 ghost use Rattle.chorus_io.specs.Count.{Rose};
 ghost use Rattle.chorus_ui.specs.declared.limits.TheConstants.{CLOCK_LIMIT};
 ghost use Rattle.chorus_ui.specs.Layout.{IsLayout};
-ghost use Rattle.chorus_audit.specs.Output.{Prints, ReadsBy, ReadsUpToLimit};
+ghost use Rattle.chorus_audit.specs.Output.{Prints, ReadsBy};
 ghost use Rattle.chorus_lossy.specs.Output.{CarriesInput};
 ghost use Rattle.chorus_net.specs.Sites.{net};
 ghost use Rattle.chorus_run.specs.Headline.{AreJustStarted, IsGiven, IsRead, ReadsNoFurther, Replays, merge_of};
@@ -89,9 +89,6 @@ pub fn program<'a, S: Source, K: Sink>(
     ensures audit_reads { (sites turns : ℕ) →
         Ask (map (λ word. word.now) words.now) (Audit sites turns) →
         ReadsBy result.status (S.left source.old) (S.left source.new) }
-    ensures audit_reads_at_most { (sites turns : ℕ) →
-        Ask (map (λ word. word.now) words.now) (Audit sites turns) →
-        ReadsUpToLimit (S.left source.old) (S.left source.new) }
     ensures audits { (sites turns : ℕ) →
         Ask (map (λ word. word.now) words.now) (Audit sites turns) →
         (result.closed ≡ None) × Prints (places_each sites turns) result.status
@@ -178,7 +175,6 @@ fn start_audit<S: Source, K: Sink>(
     ensures write_fault { result.status ≡ Status.WriteFault →
         Rose (K.faults sink.old) (K.faults sink.new) }
     ensures reads { ReadsBy result.status (S.left source.old) (S.left source.new) }
-    ensures reads_at_most { ReadsUpToLimit (S.left source.old) (S.left source.new) }
     ensures prints { Prints (places_each sites turns) result.status (S.left source.old)
         (K.held sink.old) (K.held sink.new) }
     ensures unwritten { result.status ≢ Status.Done → result.status ≢ Status.WriteFault →

@@ -1,7 +1,7 @@
 -- What a top call promises: what it read, and what the journals are that it hands out.
 -- l is a layout, c a scenario, k a seat.
-use Rattle.std.specs.Prelude.{ℕ, ◌≡◌, ◌+◌, ◌≤◌, ◌⊎◌, true, List, ◌∷◌, ◌++◌, length, map, take, reverse, Option, Some, None, IfSome, Result, Ok, slice_get}
-use Rattle.std.specs.Io.KnownBytes.{Consumes, IsAtEnd}
+use Rattle.std.specs.Prelude.{ℕ, ◌≡◌, ◌+◌, ◌⊎◌, true, List, ◌∷◌, ◌++◌, length, map, take, reverse, Option, Some, None, IfSome, Result, Ok, slice_get}
+use Rattle.chorus_io.specs.Bytes.{IsReadWhole, IsReadWithin, IsTooLong}
 use Rattle.chorus_ui.specs.declared.ui.Ui.{Ui}
 use Rattle.chorus_ui.specs.declared.layout.Layout.{Layout}
 use Rattle.chorus_ui.specs.Layout.{places}
@@ -52,12 +52,11 @@ pub record IsGiven (l : Layout) (told : Option (List ℕ)) (outcome : Result Sce
 -- the source was read to its end, or to one byte more than the limit
 pub record IsRead (old new : Option (List ℕ)) : Type 0 where
   pub bytes : List ℕ
-  pub consumed : Consumes old new bytes
-  pub whole : (length bytes ≡ TEXT_LIMIT + 1) ⊎ (IsAtEnd new × (length bytes ≤ TEXT_LIMIT))
+  pub read : IsReadWhole TEXT_LIMIT bytes old new ⊎ IsTooLong TEXT_LIMIT bytes old new
 
 -- no more than one byte more than the limit was read of the source, whatever came of it
 abbrev pub ReadsNoFurther : Option (List ℕ) → Option (List ℕ) → Type 0
-ReadsNoFurther old new = (bytes : List ℕ) × Consumes old new bytes × (length bytes ≤ TEXT_LIMIT + 1)
+ReadsNoFurther old new = (bytes : List ℕ) × IsReadWithin (TEXT_LIMIT + 1) bytes old new
 
 -- What is handed out.
 

@@ -6,7 +6,7 @@ use Rattle.chorus_audit.specs.Output.{Prints}
 use Rattle.chorus_lossy.specs.Output.{CarriesInput}
 use Rattle.chorus_words.specs.declared.words.Words.TheVariants.{Audit, Load, Lossy, Replay}
 use Rattle.chorus_program.specs.Running.{places_each}
-use Rattle.chorus_program.proofs.Carried.{nothing_carried}
+use Rattle.chorus_program.proofs.Carried.{nothing_audited, nothing_carried}
 use Rattle.chorus_program.proofs.running.program.Goals as goal
 
 no-refusal : (s : Status) (line reason : ℕ) → s ≡ Status.Memory → s ≡ Status.Scenario line reason → ⊥
@@ -61,6 +61,9 @@ returns-in-Ok-Some-Audit-clause-audits g c sites turns asks =
 pub returns-in-Ok-None-clause-audit_reads : goal.returns-in-Ok-None-clause-audit_reads
 returns-in-Ok-None-clause-audit_reads g c sites turns asks =
     absurd (cc (c.in-Ok-None.ensures.listed (Audit sites turns) asks, c.in-Ok-None.field-0-is))
+
+pub returns-in-Err-clause-audit_reads : goal.returns-in-Err-clause-audit_reads
+returns-in-Err-clause-audit_reads g c sites turns asks = nothing_audited c.gave_up-in-Err.result _ c.gave_up-in-Err.ensures
 
 pub returns-in-Ok-Some-Lossy-clause-carries : goal.returns-in-Ok-Some-Lossy-clause-carries
 returns-in-Ok-Some-Lossy-clause-carries g c first asks =
