@@ -6,6 +6,7 @@ use Rattle.chorus_io.specs.Bytes.{AppendsPrefix, IsReadWhole, IsReadWithin, IsTo
 use Rattle.chorus_show.specs.Phrases.{phrase}
 use Rattle.chorus_show.specs.declared.status.Status.{Status}
 use Rattle.chorus_show.specs.declared.status.Status.TheVariants.{Done, Usage, Scenario, ReadFault, WriteFault, Memory, Worn}
+use Rattle.chorus_show.specs.declared.status.TheConstants.Status.{TOO_LONG}
 use Rattle.chorus_audit.specs.declared.judging.Audit.{Audit}
 use Rattle.chorus_audit.specs.declared.judging.Audit.TheVariants.{Legal, Wrong}
 use Rattle.chorus_audit.specs.declared.limits.TheConstants.{AUDIT_LIMIT}
@@ -21,7 +22,7 @@ abbrev pub ReadsBy : Status → Option (List ℕ) → Option (List ℕ) → Type
 ReadsBy Done old new = (bytes : List ℕ) × IsReadWhole AUDIT_LIMIT bytes old new
 ReadsBy WriteFault old new = (bytes : List ℕ) × IsReadWhole AUDIT_LIMIT bytes old new
 ReadsBy (Scenario line reason) old new =
-    (line ≡ 0) × (reason ≡ 6) × ((bytes : List ℕ) × IsTooLong AUDIT_LIMIT bytes old new)
+    (Scenario line reason ≡ TOO_LONG) × ((bytes : List ℕ) × IsTooLong AUDIT_LIMIT bytes old new)
 ReadsBy ReadFault old new = (bytes : List ℕ) × IsReadWithin AUDIT_LIMIT bytes old new
 ReadsBy Memory old new = (bytes : List ℕ) × IsReadWithin AUDIT_LIMIT bytes old new
 ReadsBy Usage old new = ⊥

@@ -14,11 +14,8 @@ use chorus_show::Status;
 use chorus_ui::{Layout, push_decimal};
 use std::alloc::{AllocError, Global};
 
-/// The status of a text that is longer than [`AUDIT_LIMIT`].
-const TOO_LONG: Status = Status::Scenario { line: 0, reason: 6 };
-
 /// Reads the source to its end, and writes the line `legal N` or `wrong line L rule R` that says what [`audit_text`] finds. The
-/// status is `Done` for both.
+/// status is `Done` for both. A text of more than [`AUDIT_LIMIT`] bytes is [`Status::TOO_LONG`].
 pub fn audit<S: Source, K: Sink>(
     alloc: Global,
     layout: Layout,
@@ -40,7 +37,7 @@ pub fn audit<S: Source, K: Sink>(
     let text = match read_all(alloc, source, AUDIT_LIMIT) {
         Ok(text) => text,
         Err(ReadAll::Fault) => return Status::ReadFault,
-        Err(ReadAll::TooLong) => return TOO_LONG,
+        Err(ReadAll::TooLong) => return Status::TOO_LONG,
         Err(ReadAll::Memory(_)) => return Status::Memory,
     };
     let Ok(line) = verdict_line(alloc, layout, &text) else {

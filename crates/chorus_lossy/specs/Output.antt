@@ -5,6 +5,7 @@ use Rattle.chorus_io.specs.Bytes.{AppendsPrefix, IsReadWhole, IsReadWithin, IsTo
 use Rattle.chorus_show.specs.Phrases.{phrase}
 use Rattle.chorus_show.specs.declared.status.Status.{Status}
 use Rattle.chorus_show.specs.declared.status.Status.TheVariants.{Done, Usage, Scenario, ReadFault, WriteFault, Memory, Worn}
+use Rattle.chorus_show.specs.declared.status.TheConstants.Status.{TOO_LONG}
 use Rattle.chorus_transport.specs.Sending.{next_number}
 use Rattle.chorus_transport.specs.Receiving.{ack_of}
 use Rattle.chorus_lossy.specs.declared.printing.TheConstants.{INPUT_LIMIT}
@@ -32,7 +33,7 @@ lossy_text first bytes =
 abbrev pub ReadsBy : Status → List ℕ → Option (List ℕ) → Option (List ℕ) → Type 0
 ReadsBy Done bytes old new = IsReadWhole INPUT_LIMIT bytes old new
 ReadsBy WriteFault bytes old new = IsReadWhole INPUT_LIMIT bytes old new
-ReadsBy (Scenario line reason) bytes old new = (line ≡ 0) × (reason ≡ 6) × IsTooLong INPUT_LIMIT bytes old new
+ReadsBy (Scenario line reason) bytes old new = (Scenario line reason ≡ TOO_LONG) × IsTooLong INPUT_LIMIT bytes old new
 ReadsBy ReadFault bytes old new = IsReadWithin INPUT_LIMIT bytes old new
 ReadsBy Memory bytes old new = IsReadWithin INPUT_LIMIT bytes old new
 ReadsBy Usage bytes old new = ⊥

@@ -16,14 +16,11 @@ use std::alloc::{AllocError, Global};
 /// The most bytes of an input that is carried.
 pub const INPUT_LIMIT: usize = 4_194_304;
 
-/// The status of an input that is longer than [`INPUT_LIMIT`].
-const TOO_LONG: Status = Status::Scenario { line: 0, reason: 6 };
-
 /// Reads the source to its end, carries its bytes by [`carry`] over the two ends, which were just made with a window of
 /// [`WINDOW`](crate::WINDOW), and writes what was delivered, LF, and the line `wire EMITTED LOST` with what was counted.
 ///
-/// Where the input is too long or a read fails, the ends are as they were made. Where there is no memory they stand as
-/// [`carry`] says.
+/// Where the input has more than [`INPUT_LIMIT`] bytes, which is [`Status::TOO_LONG`], or a read fails, the ends are as they were
+/// made. Where there is no memory they stand as [`carry`] says.
 pub fn lossy<S: Source, K: Sink>(
     alloc: Global,
     first: u64,
@@ -50,7 +47,7 @@ pub fn lossy<S: Source, K: Sink>(
     let bytes = match read_all(alloc, source, INPUT_LIMIT) {
         Ok(bytes) => bytes,
         Err(ReadAll::Fault) => return Status::ReadFault,
-        Err(ReadAll::TooLong) => return TOO_LONG,
+        Err(ReadAll::TooLong) => return Status::TOO_LONG,
         Err(ReadAll::Memory(_)) => return Status::Memory,
     };
     let Ok(text) = carried_text(alloc, first, &bytes, sender, receiver) else {

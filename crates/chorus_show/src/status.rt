@@ -15,7 +15,7 @@ pub enum Status {
     /// The words are none that the program has.
     Usage,
     /// The text that was read is no scenario. `line` is the first line that fails, from 1, or 0 where the text is too long,
-    /// and `reason` says why.
+    /// and `reason` says why. Any other input that is too long is refused so too, as [`Status::TOO_LONG`].
     Scenario { line: u32, reason: u8 },
     /// A read failed.
     ReadFault,
@@ -29,6 +29,9 @@ pub enum Status {
 
 impl Status {
     ghost use Rattle.chorus_show.specs.Faults.{status_number};
+
+    /// An input is longer than its limit: the line and the reason of a scenario's text that is too long.
+    pub const TOO_LONG: Status = Status::Scenario { line: 0, reason: 6 };
 
     /// The program's exit status, from 0 to 6.
     pub fn number(self) -> u8

@@ -5,7 +5,7 @@ pub returns-in-Err-Fault-clause-reads : goal.returns-in-Err-Fault-clause-reads
 returns-in-Err-Fault-clause-reads g c = rw c.in-Err-Fault.field-0-is at c.in-Err-Fault.ensures.stopped
 
 pub returns-in-Err-TooLong-clause-reads : goal.returns-in-Err-TooLong-clause-reads
-returns-in-Err-TooLong-clause-reads g c = (refl, refl, rw c.in-Err-TooLong.field-0-is at c.in-Err-TooLong.ensures.stopped)
+returns-in-Err-TooLong-clause-reads g c = (refl, rw c.in-Err-TooLong.field-0-is at c.in-Err-TooLong.ensures.stopped)
 
 pub returns-in-Err-Memory-clause-reads : goal.returns-in-Err-Memory-clause-reads
 returns-in-Err-Memory-clause-reads g c = rw c.in-Err-Memory.field-0-is at c.in-Err-Memory.ensures.stopped

@@ -10,7 +10,7 @@ returns-in-Err-Fault-clause-carries g c =
 pub returns-in-Err-TooLong-clause-carries : goal.returns-in-Err-TooLong-clause-carries
 returns-in-Err-TooLong-clause-carries g c =
     let stopped = rw c.in-Err-TooLong.field-0-is at c.in-Err-TooLong.ensures.stopped in
-    (stopped.0, (refl, refl, stopped.1), refl, c.requires)
+    (stopped.0, (refl, stopped.1), refl, c.requires)
 
 pub returns-in-Err-Memory-clause-carries : goal.returns-in-Err-Memory-clause-carries
 returns-in-Err-Memory-clause-carries g c =
