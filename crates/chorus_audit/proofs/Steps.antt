@@ -8,6 +8,9 @@ use Rattle.chorus_ui.specs.Decimals.{parse_decimal}
 use Rattle.chorus_ui.proofs.Decimals.{parse_decimal_is}
 use Rattle.chorus_entry.specs.declared.entry.Entry.{Entry}
 use Rattle.chorus_world.specs.Steps.{State, opening, may, is_legal, next}
+use Rattle.chorus_checker.specs.declared.fault.WorldFault.{WorldFault}
+use Rattle.chorus_checker.specs.declared.fault.WorldFault.TheVariants.{NotLegal, Memory}
+use Rattle.chorus_checker.specs.Refusals.{IsRefusal}
 use Rattle.chorus_checker.specs.Rules.{rule_of}
 use Rattle.chorus_show.specs.Phrases.{phrase}
 use Rattle.chorus_show.specs.Lines.{entry_text}
@@ -18,9 +21,7 @@ use Rattle.chorus_audit.specs.declared.judging.Audit.TheVariants.{Legal, Wrong}
 use Rattle.chorus_show.specs.Bounds.{IsWithin, AreWithin}
 use Rattle.chorus_audit.specs.Calls.{behind}
 use Rattle.chorus_audit.specs.Tests.{head, Begins, IsNoEntry, IsUnlawful, lines_shared, AtHead, AtEntry, AtSummary, IsVerdict}
-use Rattle.chorus_audit.specs.declared.judging.Stop.{Stop}
-use Rattle.chorus_audit.specs.declared.judging.Stop.TheVariants.{Rule, Memory}
-use Rattle.chorus_audit.specs.Stops.{IsRefused, IsStop, TakesEntry}
+use Rattle.chorus_audit.specs.Stops.{IsStop, TakesEntry}
 use Rattle.chorus_audit.proofs.Cutting.{cut_once}
 use Rattle.chorus_audit.proofs.Agreeing.{lines}
 
@@ -240,6 +241,6 @@ module _ (l : Layout) (text : List ℕ) (n : ℕ) (w : State) (rest : List ℕ) 
       })
 
 -- an entry that the world does not take
-pub refused_stop : (w : State) (text row rest : List ℕ) (e : Entry) (s : Stop) → text ≡ row ++ 10 ∷ rest → entry_text e ≡ row ++ 10 ∷ [] → IsWithin e → IsRefused w e s → IsStop w text s
-refused_stop w text row rest e (Rule rule) whole is within h = inr (unlawful w text row rest e rule whole is within h.0 h.1)
+pub refused_stop : (w : State) (text row rest : List ℕ) (e : Entry) (fault : WorldFault) → text ≡ row ++ 10 ∷ rest → entry_text e ≡ row ++ 10 ∷ [] → IsWithin e → IsRefusal w e fault → IsStop w text fault
+refused_stop w text row rest e (NotLegal rule) whole is within h = inr (unlawful w text row rest e rule whole is within h.0 h.1)
 refused_stop w text row rest e (Memory error) whole is within h = tt

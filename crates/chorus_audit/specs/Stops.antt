@@ -1,11 +1,10 @@
 -- What one more line of entries does to the world.
-use Rattle.std.specs.Prelude.{◌≡◌, ℕ, ◌⊎◌, List, ◌++◌, Some, None}
+use Rattle.std.specs.Prelude.{◌≡◌, ℕ, ◌⊎◌, List, ◌++◌, Some}
 use Rattle.chorus_entry.specs.declared.entry.Entry.{Entry}
 use Rattle.chorus_world.specs.Steps.{State, next}
-use Rattle.chorus_checker.specs.Rules.{rule_of}
+use Rattle.chorus_checker.specs.declared.fault.WorldFault.{WorldFault}
+use Rattle.chorus_checker.specs.declared.fault.WorldFault.TheVariants.{NotLegal, Memory}
 use Rattle.chorus_show.specs.Lines.{entry_text}
-use Rattle.chorus_audit.specs.declared.judging.Stop.{Stop}
-use Rattle.chorus_audit.specs.declared.judging.Stop.TheVariants.{Rule, Memory}
 use Rattle.chorus_show.specs.Bounds.{IsWithin}
 use Rattle.chorus_audit.specs.Tests.{IsNoEntry, IsUnlawful}
 
@@ -16,12 +15,7 @@ pub record TakesEntry (old new : State) (text rest : List ℕ) : Type 0 where
   pub is : text ≡ entry_text entry ++ rest
   pub next_is : next old entry ≡ Some new
 
--- the world does not take the entry
-abbrev pub IsRefused : State → Entry → Stop → Type 0
-IsRefused w e (Rule rule) = (next w e ≡ None) × (rule ≡ rule_of w.layout w.past e)
-IsRefused w e (Memory error) = Unit {0}
-
 -- the text begins with no line of an entry that the world takes
-abbrev pub IsStop : State → List ℕ → Stop → Type 0
-IsStop w text (Rule rule) = IsNoEntry text rule ⊎ IsUnlawful w.layout w.past text rule
+abbrev pub IsStop : State → List ℕ → WorldFault → Type 0
+IsStop w text (NotLegal rule) = IsNoEntry text rule ⊎ IsUnlawful w.layout w.past text rule
 IsStop w text (Memory error) = Unit {0}

@@ -1,14 +1,13 @@
 //! A whole text, tested line by line.
 
-ghost use Rattle.std.specs.Prelude.{◌≡◌, ◌≢◌, ◌≤◌, ◌<◌, ◌↔◌, ◌^◌, ◌++◌, ℕ, List, length, IfOk, Some, MatchOption, MatchResult};
+ghost use Rattle.std.specs.Prelude.{◌≡◌, ◌≢◌, ◌≤◌, ◌<◌, ◌↔◌, ◌^◌, ◌++◌, ℕ, List, length, IfOk, MatchOption, MatchResult};
 ghost use Rattle.chorus_entry.specs.declared.entry.Entry.{Entry};
 ghost use Rattle.chorus_show.specs.Summary.{summary_text};
 ghost use Rattle.chorus_audit.specs.declared.limits.TheConstants.{AUDIT_LIMIT};
 ghost use Rattle.chorus_audit.specs.declared.judging.Audit.TheVariants.{Legal, Wrong};
 ghost use Rattle.chorus_audit.specs.Report.{IsReport};
 ghost use Rattle.chorus_audit.specs.Tests.{head, lines_shared, IsWrong, IsVerdict};
-ghost use Rattle.chorus_audit.specs.Stops.{IsRefused, IsStop, TakesEntry};
-ghost use Rattle.chorus_world.specs.Steps.{next};
+ghost use Rattle.chorus_audit.specs.Stops.{IsStop, TakesEntry};
 
 use crate::cut::cut;
 use crate::entries::parse_entry;
@@ -29,15 +28,6 @@ pub enum Audit {
     /// its LF or is none that may stand there; else the line is an entry's that may not come next, and `rule` is the one that
     /// refuses it: 0 for its place or its clock, and from 1 to 40 the number of its act.
     Wrong { line: u32, rule: u8 },
-}
-
-/// Why the tests stop at a line.
-#[derive(Clone, Copy, Debug)]
-pub(crate) enum Stop {
-    /// The line fails by this rule.
-    Rule(u8),
-    /// There was no memory.
-    Memory(AllocError),
 }
 
 /// Tests the text, line by line: whether it is the journal text and the summary text of a list of entries that is legal for the
@@ -67,13 +57,13 @@ fn judged(alloc: Global, layout: Layout, text: &[u8]) -> Result<Audit, AllocErro
     for taken in 0..count {
         match take_entry(alloc, &mut world, rest) {
             Ok(behind) => rest = behind,
-            Err(Stop::Rule(rule)) => {
+            Err(WorldFault::NotLegal { rule }) => {
                 return Ok(Audit::Wrong {
                     line: taken + 2,
                     rule,
                 });
             }
-            Err(Stop::Memory(error)) => return Err(error),
+            Err(WorldFault::Memory(error)) => return Err(error),
         }
     }
     match summary_fault(alloc, world.entries(), rest)? {
@@ -100,36 +90,24 @@ fn told(text: &[u8]) -> Option<(u32, &[u8])>
     Some((count, rest?))
 }
 
-/// Takes the entry of the next line into the world, and gives the text behind that line.
-fn take_entry<'a>(alloc: Global, world: &mut World, text: &'a [u8]) -> Result<&'a [u8], Stop>
+/// Takes the entry of the next line into the world, and gives the text behind that line. A line of no entry is refused by the
+/// rule [`NO_LINE`].
+fn take_entry<'a>(alloc: Global, world: &mut World, text: &'a [u8]) -> Result<&'a [u8], WorldFault>
     ensures { MatchResult result
         (λ rest. TakesEntry world.old world.new text.now rest.now)
         (IsStop world.old text.now) }
 {
     let (line, rest) = cut(b'\n', text);
     let Some(rest) = rest else {
-        return Err(Stop::Rule(NO_LINE));
+        return Err(WorldFault::NotLegal { rule: NO_LINE });
     };
     match parse_entry(alloc, line) {
         Ok(Some(entry)) => {
-            take(world, entry)?;
+            world.apply(entry)?;
             Ok(rest)
         }
-        Ok(None) => Err(Stop::Rule(NO_LINE)),
-        Err(error) => Err(Stop::Memory(error)),
-    }
-}
-
-/// Takes the entry into the world.
-fn take(world: &mut World, entry: Entry) -> Result<(), Stop>
-    ensures { MatchResult result
-        (λ _. next world.old entry ≡ Some world.new)
-        (IsRefused world.old entry) }
-{
-    match world.apply(entry) {
-        Ok(()) => Ok(()),
-        Err(WorldFault::NotLegal { rule }) => Err(Stop::Rule(rule)),
-        Err(WorldFault::Memory(error)) => Err(Stop::Memory(error)),
+        Ok(None) => Err(WorldFault::NotLegal { rule: NO_LINE }),
+        Err(error) => Err(WorldFault::Memory(error)),
     }
 }
 

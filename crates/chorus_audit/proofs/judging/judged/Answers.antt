@@ -7,9 +7,9 @@ loop-taken-preserved c =
     found_next c.args.layout c.args.text.now c.in-Some.count c.loop-taken.world c.take_entry.new.world c.loop-taken.rest.now c.in-Ok.behind.now
     c.loop-taken.taken c.loop-taken.invariant (omega arith) c.in-Ok.ensures
 
-pub returns-in-Err-Rule : goal.returns-in-Err-Rule
-returns-in-Err-Rule c =
-    let stop = c.in-Err-Rule in
+pub returns-in-Err-NotLegal : goal.returns-in-Err-NotLegal
+returns-in-Err-NotLegal c =
+    let stop = c.in-Err-NotLegal in
     rw stop.field-0-is (stop_end c.args.layout c.args.text.now c.in-Some.count c.loop-taken.world c.loop-taken.rest.now c.loop-taken.taken stop.rule c.loop-taken.invariant (omega arith)
     (rw stop.field-0-is at stop.ensures))
 

@@ -4,13 +4,13 @@ use Rattle.chorus_audit.specs.Calls.{behind}
 use Rattle.chorus_audit.proofs.Steps.{no_entry_line, refused_stop}
 use Rattle.chorus_audit.proofs.judging.take_entry.Goals as goal
 
-pub returns-in_err-take-in-Ok-Some : goal.returns-in_err-take-in-Ok-Some
-returns-in_err-take-in-Ok-Some c =
+pub returns-in_err-apply-in-Ok-Some : goal.returns-in_err-apply-in-Ok-Some
+returns-in_err-apply-in-Ok-Some c =
     let line = c.cut.result.0.now in
     let whole = c.cut.ensures.whole ∙ ap (λ o. line ++ behind 10 (option_copied o)) c.in-Some.is in
     let read = rw c.in-Ok-Some.field-0-is at c.in-Ok-Some.ensures.some in
-    let stop = refused_stop c.args.world.now c.args.text.now line c.in-Some.rest.now c.in-Ok-Some.entry c.in_err-take-in-Ok-Some.field-0.0
-    whole read.1 read.0 c.in_err-take-in-Ok-Some.ensures in
+    let stop = refused_stop c.args.world.now c.args.text.now line c.in-Some.rest.now c.in-Ok-Some.entry c.in_err-apply-in-Ok-Some.field-0.0
+    whole read.1 read.0 c.in_err-apply-in-Ok-Some.ensures.refused in
     search (rules, stop)
 
 pub returns-in-Ok-None : goal.returns-in-Ok-None
