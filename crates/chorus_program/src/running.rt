@@ -11,7 +11,7 @@ ghost use Rattle.chorus_run.specs.Headline.{AreJustStarted, IsGiven, IsRead, Rea
 ghost use Rattle.chorus_run.specs.Load.{load_layout, Loads};
 ghost use Rattle.chorus_run.specs.Output.{EndsUnread, HandsOut, Writes, summary_of, text_of};
 ghost use Rattle.chorus_run.specs.Worn.{HasClock};
-ghost use Rattle.chorus_words.specs.declared.words.TheConstants.{COMMANDS_LIMIT};
+ghost use Rattle.chorus_words.specs.declared.words.TheConstants.{LOAD_LIMIT};
 ghost use Rattle.chorus_words.specs.declared.words.Words.TheVariants.{Audit, Load, Lossy, Replay};
 ghost use Rattle.chorus_words.specs.Words.{Ask};
 ghost use Rattle.chorus_program.specs.Running.{HandsOutBy, one_place_each, places_each, replay_layout};
@@ -26,6 +26,9 @@ use chorus_transport::{Receiver, Sender};
 use chorus_ui::Layout;
 use chorus_words::{Words, read_words};
 use std::alloc::{AllocError, Global};
+
+// A load performs as many commands as its words may ask.
+const _: () = prove!(chorus_words::LOAD_LIMIT == chorus_run::LOAD_LIMIT);
 
 /// The sites of a replay, each with one place.
 pub const REPLAY_SITES: u16 = 16;
@@ -140,7 +143,7 @@ fn start_replay<S: Source, K: Sink>(alloc: Global, source: &mut S, sink: &mut K)
 
 /// Performs a load on sites that are started for it.
 fn start_load<K: Sink>(alloc: Global, first: u64, commands: u32, sink: &mut K) -> Finished
-    requires { commands ≤ COMMANDS_LIMIT }
+    requires { commands ≤ LOAD_LIMIT }
     ensures status { EndsUnread result.status }
     ensures write_fault { result.status ≡ Status.WriteFault →
         Rose (K.faults sink.old) (K.faults sink.new) }

@@ -1,7 +1,7 @@
 -- The list of the program's words: each row has one spelling. A number stands as its decimal, with no sign and no leading zero.
 use Rattle.std.specs.Prelude.{ℕ, ◌≡◌, ◌^◌, ◌<◌, ◌≤◌, List, [], ◌∷◌, codes, decimal}
 use Rattle.chorus_ui.specs.Layout.{IsLayout}
-use Rattle.chorus_words.specs.declared.words.TheConstants.{COMMANDS_LIMIT}
+use Rattle.chorus_words.specs.declared.words.TheConstants.{LOAD_LIMIT}
 use Rattle.chorus_words.specs.declared.words.Words.{Words}
 use Rattle.chorus_words.specs.declared.words.Words.TheVariants.{Replay, Load, Audit, Lossy}
 
@@ -14,7 +14,7 @@ spelled (Lossy first) = codes "lossy" ∷ decimal first ∷ []
 -- each number is within its limit, and the sites and their places are a layout
 abbrev pub IsWithin : Words → Type 0
 IsWithin Replay = Unit {0}
-IsWithin (Load first commands) = (first < 2 ^ 64) × (commands ≤ COMMANDS_LIMIT)
+IsWithin (Load first commands) = (first < 2 ^ 64) × (commands ≤ LOAD_LIMIT)
 IsWithin (Audit sites turns) = IsLayout (record { sites = sites; turns = turns })
 IsWithin (Lossy first) = first < 2 ^ 64
 

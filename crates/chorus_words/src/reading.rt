@@ -3,12 +3,12 @@
 ghost use Rattle.std.specs.Prelude.{◌≡◌, ◌^◌, ◌<◌, ◌≤◌, ℕ, map, option_map, decimal, IfOk, IfSome, IsNone, Some};
 ghost use Rattle.std.specs.List.{list_all};
 ghost use Rattle.chorus_ui.specs.Layout.{IsLayout, Shape};
-ghost use Rattle.chorus_words.specs.declared.words.TheConstants.{COMMANDS_LIMIT};
+ghost use Rattle.chorus_words.specs.declared.words.TheConstants.{LOAD_LIMIT};
 ghost use Rattle.chorus_words.specs.Words.{Ask};
 ghost use Rattle.chorus_words.specs.Cutting.{is_value, AskByThree};
 
 use crate::cutting::{FIRST, SECOND, WHAT, cut};
-use crate::words::{COMMANDS_LIMIT, Words};
+use crate::words::{LOAD_LIMIT, Words};
 use chorus_ui::{Layout, parse_decimal};
 use std::alloc::{AllocError, Global};
 
@@ -95,11 +95,11 @@ fn small_decimal(word: &str) -> Option<u16>
 
 /// The number of commands whose decimal the word is. None exactly where there is none within the limit.
 fn commands_of(word: &str) -> Option<u32>
-    ensures some { IfSome result (λ n. (word.now ≡ decimal n) × (n ≤ COMMANDS_LIMIT)) }
-    ensures none { IsNone result → (n : ℕ) → n ≤ COMMANDS_LIMIT → ¬ (word.now ≡ decimal n) }
+    ensures some { IfSome result (λ n. (word.now ≡ decimal n) × (n ≤ LOAD_LIMIT)) }
+    ensures none { IsNone result → (n : ℕ) → n ≤ LOAD_LIMIT → ¬ (word.now ≡ decimal n) }
 {
     match parse_decimal(word.as_bytes()) {
-        Some(number) if number <= u64::from(COMMANDS_LIMIT) => Some(number as u32),
+        Some(number) if number <= u64::from(LOAD_LIMIT) => Some(number as u32),
         _ => None,
     }
 }

@@ -1,14 +1,14 @@
 //! What the program's words ask.
 
-/// The most commands of a load.
-pub const COMMANDS_LIMIT: u32 = 65_536;
+/// The most commands that the words of a load ask.
+pub const LOAD_LIMIT: u32 = 65_536;
 
 /// What the program's words ask.
 #[derive(Clone, Copy, Debug, PartialEq, Eq)]
 pub enum Words {
     /// `replay`: a scenario is replayed.
     Replay,
-    /// `load FIRST COMMANDS`: so many commands, at most [`COMMANDS_LIMIT`], are drawn from the first state on.
+    /// `load FIRST COMMANDS`: so many commands, at most [`LOAD_LIMIT`], are drawn from the first state on.
     Load { first: u64, commands: u32 },
     /// `audit SITES TURNS`: a printed journal is audited, for so many sites with so many places each: a layout that exists.
     Audit { sites: u16, turns: u16 },
