@@ -13,7 +13,8 @@ use Rattle.chorus_lossy.specs.Line.{Ends, new_ends, chunk_count}
 use Rattle.chorus_lossy.specs.Rounds.{Moment, after_rounds}
 use Rattle.chorus_lossy.specs.Carrying.{IsWithin}
 
--- after so many rounds all is delivered, whatever the draws
+-- After so many rounds all is delivered, whatever the draws: each fourth round loses nothing, and until all is delivered one chunk
+-- more is delivered or acknowledged by it. So eight rounds for each chunk are enough, and four are to spare.
 abbrev pub whole_run : ℕ → List ℕ → Moment
 whole_run first bytes = after_rounds first bytes (8 * chunk_count bytes + 4)
 

@@ -101,7 +101,7 @@ pub(crate) fn fill(alloc: Global, bytes: &[u8], sender: &mut Sender) -> Result<(
     Ok(())
 }
 
-/// Emits each chunk that the sender keeps.
+/// Emits each chunk that the sender keeps: at most a window of chunks, each of which may be lost.
 pub(crate) fn send(
     alloc: Global,
     round: u64,
@@ -109,14 +109,14 @@ pub(crate) fn send(
     sender: &Sender,
     receiver: &mut Receiver,
 ) -> Result<(), AllocError>
-    requires emitted { run.old.emitted + 64 < 2 ^ 64 }
-    requires lost { run.old.lost + 64 < 2 ^ 64 }
+    requires emitted { run.old.emitted + WINDOW < 2 ^ 64 }
+    requires lost { run.old.lost + WINDOW < 2 ^ 64 }
     requires held { run.old.held.items ≡ [] }
     requires window { sender.now.window ≡ WINDOW }
     ensures ok { (m : Moment) → IsAt m run.old sender.now receiver.old →
         OnOk result (IsAt (all_sent round m) run.new sender.now receiver.new) }
     ensures held { OnOk result (AreSmall run.new.held.items) }
-    ensures lost { run.new.lost ≤ run.old.lost + 64 }
+    ensures lost { run.new.lost ≤ run.old.lost + WINDOW }
     ensures err { (m : Moment) → IsAt m run.old sender.now receiver.old →
         OnErr result (IsBetween m (all_sent round m) (ends sender.now receiver.new)) }
 {
@@ -214,7 +214,7 @@ pub(crate) fn acknowledge(round: u64, run: &mut Run, sender: &mut Sender, receiv
     }
 }
 
-/// The round of that number, from 1.
+/// The round of that number, from 1. Beside the chunks that are sent it may lose the acknowledgement.
 pub(crate) fn play(
     alloc: Global,
     bytes: &[u8],
@@ -225,8 +225,8 @@ pub(crate) fn play(
 ) -> Result<(), AllocError>
     requires window { sender.old.window ≡ WINDOW }
     requires held { run.old.held.items ≡ [] }
-    requires emitted { run.old.emitted + 64 < 2 ^ 64 }
-    requires lost { run.old.lost + 65 < 2 ^ 64 }
+    requires emitted { run.old.emitted + WINDOW < 2 ^ 64 }
+    requires lost { run.old.lost + WINDOW + 1 < 2 ^ 64 }
     ensures ok { (m : Moment) → IsAt m run.old sender.old receiver.old →
         OnOk result (IsAt (round bytes.now number m) run.new sender.new receiver.new) }
     ensures held { OnOk result (run.new.held.items ≡ []) }
