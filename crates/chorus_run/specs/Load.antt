@@ -33,9 +33,9 @@ load_group = record { site = 1; kind = kinds.Group; number = 1 }
 
 -- The draws.
 
--- a site by the last digit of a number in base eight
+-- a site by what is left of a number where it is divided by how many there are
 abbrev pub site_by : ℕ → ℕ
-site_by n = n % 8 + 1
+site_by n = n % LOAD_SITES + 1
 
 -- the command of this number: half of them send to a port, a quarter take, the others send to one of the group or move a port
 abbrev pub drawn_command : ℕ → ℕ → Command

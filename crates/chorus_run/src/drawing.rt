@@ -61,11 +61,11 @@ pub(crate) fn draw_for(alloc: Global, number: u32, state: u64) -> Result<Draw, A
     })
 }
 
-/// A site, or its place, by the last digit of a number in base eight.
+/// A site, or its place, by what is left of a number where it is divided by how many there are.
 fn site_by(number: u64) -> u16
     ensures { result ≡ site_by number }
 {
-    (number % 8) as u16 + 1
+    (number % u64::from(LOAD_SITES)) as u16 + 1
 }
 
 /// The command of this number, where this was drawn.
