@@ -64,14 +64,20 @@ pub fn assert_rows(judge: &impl Judge, alloc: Global, table: &str) {
     }
 }
 
+/// Whether the text ends with these lines, the first of which begins where a line of the text does.
+fn ends_with_lines(text: &[u8], lines: &[u8]) -> bool {
+    let front = text.len().saturating_sub(lines.len());
+    text.ends_with(lines) && (front == 0 || text[front - 1] == b'\n')
+}
+
 /// The journals and what callers were told end as these lines of a row say, and no packet is left.
 pub fn assert_ends(judge: &impl Judge, alloc: Global, name: &str, net: &Net, lines: &str) {
     let (_, rest) = parted(judge, lines, "journal\n", "a journal");
     let (journal, told) = parted(judge, rest, "told\n", "what is told");
     let entries = net.lines(judge, alloc);
-    let ends = entries.as_slice().ends_with(journal.as_bytes());
+    let ends = ends_with_lines(&entries, journal.as_bytes());
     check(judge, ends, "the journal", name);
-    let ends = net.told.as_slice().ends_with(told.as_bytes());
+    let ends = ends_with_lines(&net.told, told.as_bytes());
     check(judge, ends, "what is told", name);
     check(judge, net.waiting() == 0, "no packet that waits", name);
 }
