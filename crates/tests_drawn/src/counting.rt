@@ -186,7 +186,7 @@ pub(crate) fn no_counts(rt: &impl Abort, alloc: Global) -> Counts {
 pub(crate) fn assert_both(rt: &impl Abort, counts: &Counts, least: u32) {
     for (worked, shown) in counts.worked.iter().zip(counts.shown.iter()) {
         let not_worked = shown.saturating_sub(*worked);
-        assert!(rt; *worked >= least, "{worked} of {shown} were lawful");
+        assert!(rt; *worked >= least, "{worked} of {shown} were worked off");
         assert!(rt; not_worked >= least, "{not_worked} of {shown} were not");
     }
 }

@@ -63,6 +63,8 @@ struct Tally {
     counts: Counts,
     idle: u32,
     worn: u32,
+    /// How often an unlawful packet stayed in hand.
+    kept: u32,
 }
 
 /// What is to become of the packet that is in hand.
@@ -273,7 +275,7 @@ fn note<E: Ends>(side: &mut Side<E>, tally: &mut Tally, fate: Fate) {
     match fate {
         Fate::Idle => tally.idle = tally.idle.saturating_add(1),
         Fate::Worn { .. } => tally.worn = tally.worn.saturating_add(1),
-        Fate::Kept { .. } => {}
+        Fate::Kept { .. } => tally.kept = tally.kept.saturating_add(1),
         Fate::WorkedOff { from } => {
             let worked = &mut tally.counts.worked;
             note_worked_off(&mut side.inbox, &mut side.decided, worked, from);
@@ -455,11 +457,14 @@ fn any_packet_is_worked_off_or_stays_in_hand(rt: HostRuntime) {
         counts: no_counts(&rt, alloc),
         idle: 0,
         worn: 0,
+        kept: 0,
     };
     for state in 1..=ROUNDS {
         round(&rt, alloc, state, &mut tally);
     }
     assert_both(&rt, &tally.counts, 10);
-    let (idle, worn) = (tally.idle, tally.worn);
-    assert!(rt; idle >= 50 && worn >= 50, "{idle} idle, {worn} worn");
+    let (idle, worn, kept) = (tally.idle, tally.worn, tally.kept);
+    for (found, fate) in [(idle, "idle"), (worn, "worn"), (kept, "kept")] {
+        assert!(rt; found >= 50, "{found} {fate}");
+    }
 }
