@@ -2,6 +2,8 @@
 #![tactic(auto)]
 
 #[cfg(test)]
+mod hand;
+#[cfg(test)]
 mod pair;
 #[cfg(test)]
 mod ruled;

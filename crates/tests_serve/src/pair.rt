@@ -1,13 +1,13 @@
 //! Two places, of two sites, at the ends of their links. What is not as it is to be ends the test.
 //!
-//! All is generic in the ends, but for what makes ruled ones. The contracts of a desk's calls are long, so each is called in one function,
+//! All is generic in the ends, but for what makes them. The contracts of a desk's calls are long, so each is called in one function,
 //! which has no clauses.
 
 ghost use Rattle.std.specs.Prelude.{◌≡◌, ◌-◌, true};
 
 use chorus_calls::Caller;
-use chorus_ends::{Ends, Moves};
-use chorus_entry::{BODY_LIMIT, Body, Command, Dest};
+use chorus_ends::{Ends, MemEnds, Moves};
+use chorus_entry::{BODY_LIMIT, Body, Command, Dest, Packet};
 use chorus_place::place_for;
 use chorus_ruled_ends::RuledEnds;
 use chorus_serve::{Desk, Pump, serve};
@@ -33,6 +33,11 @@ impl Reaches for RuledEnds {
     fn assert_reaches(&self, rt: &impl Abort, place: u16) {
         assert!(rt; self.reaches(place));
     }
+}
+
+/// They reach each place.
+impl Reaches for MemEnds {
+    fn assert_reaches(&self, _rt: &impl Abort, _place: u16) {}
 }
 
 /// The name that the text is of.
@@ -86,6 +91,17 @@ pub(crate) fn start(rt: &impl Abort, alloc: Global) -> Pair<Desk<RuledEnds>> {
     linked(rt, alloc, layout, ruled_ends(rt, alloc, layout))
 }
 
+/// The second of two places, on which nothing happened yet, over ends in memory that hold these packets.
+pub(crate) fn second_holding(
+    rt: &impl Abort,
+    alloc: Global,
+    packets: Vec<Packet>,
+) -> Desk<MemEnds> {
+    let layout = Layout::new(2, 1).expect(rt, "a layout");
+    let ends = MemEnds::holding(alloc, packets).expect(rt, "memory");
+    linked_desk(rt, alloc, layout, 2, Some(ends))
+}
+
 /// Performs the caller's command at the place, where it is to be carried out.
 pub(crate) fn act<E: Ends>(
     rt: &impl Abort,
@@ -116,7 +132,12 @@ pub(crate) fn send_command(rt: &impl Abort, alloc: Global, port: Ui, text: &str)
     Command::Send { dest, body }
 }
 
-/// Serves the place's links once.
-pub(crate) fn pump<R: Abort, E: Moves<R>>(rt: &R, desk: &mut Desk<E>, caller: &mut Caller) -> Pump {
-    serve(desk, rt, caller).ok().expect(rt, "memory")
+/// Serves the place's links once, on this ground.
+pub(crate) fn pump<G, E: Moves<G>>(
+    rt: &impl Abort,
+    ground: &G,
+    desk: &mut Desk<E>,
+    caller: &mut Caller,
+) -> Pump {
+    serve(desk, ground, caller).ok().expect(rt, "memory")
 }

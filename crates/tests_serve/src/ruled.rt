@@ -39,7 +39,7 @@ impl<R: Abort, E: Moves<R>> Works<R> for Desk<E> {
     }
 
     fn serve(&mut self, rt: &R, caller: &mut Caller) -> Pump {
-        pump(rt, self, caller)
+        pump(rt, rt, self, caller)
     }
 
     fn journal(self, rt: &R) -> Vec<Entry> {

@@ -66,7 +66,7 @@ impl<R: Abort, E: Moves<R>> Works<R> for Side<E> {
     }
 
     fn serve(&mut self, rt: &R) -> Pump {
-        pump(rt, &mut self.desk, &mut self.caller)
+        pump(rt, rt, &mut self.desk, &mut self.caller)
     }
 
     fn posts(&self) -> u32 {
