@@ -14,8 +14,8 @@ use std::thread::{Threads, join_mut};
 /// How many messages each place sends.
 const MESSAGES: u32 = 5_008;
 
-/// How often each thread serves its place when it has sent them.
-const ROUNDS: u32 = 20_000;
+/// How often each thread serves its place, at least, when it has sent them.
+const ROUNDS: u64 = 20_000;
 
 /// How often the two places are served in turn, at most, when the threads have ended.
 const LAST_ROUNDS: u32 = 1_000_000;
@@ -131,14 +131,23 @@ fn send_all<R: Abort, S: Works<R>>(rt: &R, alloc: Global, side: &mut S) {
     }
 }
 
-/// Serves the side's links for a while.
+/// Whether the side has served long enough after so many rounds, and worked off a packet.
+fn has_served<R: Abort, S: Works<R>>(side: &S, rounds: u64) -> bool {
+    rounds >= ROUNDS && side.worked() > 0
+}
+
+/// Serves the side's links for a while, and until a packet was worked off. That comes, on any schedule: the near side moves the port over
+/// with its first message, and the far side tries its own first one there, before it has received anything.
 fn serve_on<R: Abort, S: Works<R>>(rt: &R, side: &mut S) {
-    for _round in 0..ROUNDS {
+    for rounds in 0..u64::MAX {
+        if has_served(side, rounds) {
+            return;
+        }
         side.serve(rt);
     }
 }
 
-/// Sends all messages, and then goes on serving for a while.
+/// Sends all messages, and then goes on serving for a while, and until a packet was worked off.
 fn work<R: Abort, S: Works<R>>(rt: &R, alloc: Global, side: &mut S) {
     send_all(rt, alloc, side);
     serve_on(rt, side);
@@ -189,22 +198,22 @@ fn assert_settled<R: Abort, S: Works<R>>(rt: &R, side: &S) {
     }
 }
 
-/// Asserts that both places worked off packets, and one of them holds the port.
+/// Asserts that both places worked off packets.
 fn assert_worked<R: Abort, S: Works<R>>(rt: &R, near: &S, far: &S) {
     assert!(rt; near.worked() > 0);
     assert!(rt; far.worked() > 0);
-    assert_eq!(rt; near.held().saturating_add(far.held()), 1);
 }
 
-/// Lets the places come to rest, and asserts what is so then.
+/// Lets the places come to rest, and asserts what is so then, and that one of them holds the port.
 fn assert_comes_to_rest<R: Abort, S: Works<R>>(rt: &R, near: &mut S, far: &mut S) {
     drain(rt, near, far);
     assert_settled(rt, near);
     assert_settled(rt, far);
-    assert_worked(rt, near, far);
+    assert_eq!(rt; near.held().saturating_add(far.held()), 1);
 }
 
-/// Lets a thread of its own work at each place, and asserts what is so when the places have come to rest.
+/// Lets a thread of its own work at each place, and asserts that packets were worked off at both by then, and what is so when the places
+/// have come to rest.
 fn assert_all_arrives<R, S>(rt: &R, alloc: Global, mut near: S, mut far: S)
 where
     R: Abort + Threads + Sync,
@@ -215,6 +224,7 @@ where
         &mut || work(rt, alloc, &mut near),
         &mut || work(rt, alloc, &mut far),
     );
+    assert_worked(rt, &near, &far);
     assert_comes_to_rest(rt, &mut near, &mut far);
 }
 
