@@ -7,9 +7,10 @@ use std::alloc::Global;
 use std::process::Abort;
 
 /// The beginning of a frame of this kind: for a Verdict and a Report all but the answer, for a Transfer all but the second
-/// client, and for a Try and an Ask the clock 9 and the place.
+/// client, and for a Try and an Ask the clock 9 and the place. With 0 for the kind nothing.
 fn begin(kind: u8) -> &'static str {
     match kind {
+        0 => "",
         1 => "01 0000000000000009 0002",
         2 => "02 0000000000000009 0001 00000003 00000007 0002 0001020000000001 0002030000000001",
         3 =>
@@ -19,8 +20,12 @@ fn begin(kind: u8) -> &'static str {
     }
 }
 
-/// Damaged ends of frames, each behind the kind of its frame: a kind, tag, mode or code that may not stand there.
+/// Damaged ends of frames, each behind the kind of its frame, or whole frames behind 0: a kind, tag, mode or code that may not stand there.
 const UNKNOWN: &str = "
+    0: 00 0000000000000005 0001 00000001 00000002 0000 09
+    0: 06 0000000000000005 0001 00000001 00000002 0000 09
+    0: 06
+
     2: ff
     5: 03 0001 0000000000000001
     2: 09
@@ -31,7 +36,8 @@ const UNKNOWN: &str = "
 
 /// Out of range: a position, how many were chosen, a place, a port as route, site 17, a hop; an id's number 0 though its copy is
 /// cut off, a body's length above 4,096; a site with mode 1, none with mode 3; a client's number 0, a client that is there
-/// already, also with its number cut off.
+/// already, also with its number cut off; the sending place 0 and 65, copy 33, a request's number 0, the capacities 0 and 65, a message
+/// more than the capacity.
 const OUT_OF_RANGE: &str = "
     5: 01 0000000000000006
     5: 0a 0021
@@ -49,6 +55,14 @@ const OUT_OF_RANGE: &str = "
     3: 00000000 00000000
     3: 00000005 00000002
     3: 00000005
+
+    0: 05 0000000000000005 0000 00000001 00000002 0000 09
+    0: 05 0000000000000005 0041 00000001 00000002 0000 09
+    0: 05 0000000000000005 0001 00000001 00000002 0021 09
+    4: 02 0002030000000001 0000 00000003 00000007 0000 01 00000000
+    0: 03 0000000000000009 0001 0001020000000001 0002010000000008 00
+    0: 03 0000000000000009 0001 0001020000000001 0002010000000008 41
+    0: 03 0000000000000009 0001 0001020000000001 0002010000000008 02 0000000000000009 0000000000000004 03
 ";
 
 /// Cut off: a body of 4,096 bytes with one byte there, and a Report before its answer.
