@@ -22,6 +22,15 @@ fn assert_row<R: Abort>(rt: &R, alloc: Global, row: &Row<'_>) {
     }
 }
 
+/// Whether a packet is lawful that has this word in its line.
+fn says_lawful(rt: &impl Abort, want: &str) -> bool {
+    match want {
+        "lawful" | "worked" => true,
+        "unlawful" => false,
+        _ => panic!(rt; "no such word: {want}"),
+    }
+}
+
 fn assert_packet<R: Abort>(rt: &R, alloc: Global, net: &mut Net, line: &str) {
     let mut words = Words::of(rt, line);
     let want = words.next();
@@ -30,7 +39,7 @@ fn assert_packet<R: Abort>(rt: &R, alloc: Global, net: &mut Net, line: &str) {
     let packet = packet_in(alloc, &mut words);
     assert!(rt; words.is_empty(), "more than a packet: {line}");
     let is_lawful = net.place(&Ground { rt }, to).lawful(from, &packet);
-    assert_eq!(rt; is_lawful, want != "unlawful", "{line}");
+    assert_eq!(rt; is_lawful, says_lawful(rt, want), "{line}");
     if want == "worked" {
         net.hand(&Ground { rt }, to, packet);
     }

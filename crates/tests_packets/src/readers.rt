@@ -73,9 +73,10 @@ fn packets_are_put_back_in_front(rt: HostRuntime) {
     let mut net = begin(&ground, rt.alloc(), 2, 1, LINES);
     let place = net.place(&ground, 2);
     assert!(rt; place.out(2).is_none());
-    if let Some(first) = place.out(1) {
-        place.put_back(1, first);
-    }
+    let Some(first) = place.out(1) else {
+        panic!(rt; "a packet")
+    };
+    place.put_back(1, first);
     assert_eq!(rt; place.waiting(), 2);
     for clock in [7, 8] {
         let packet = place.out(1).expect(&rt, "a packet");
