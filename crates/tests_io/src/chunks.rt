@@ -114,6 +114,10 @@ struct BadLine {
     /// The acknowledgement that arrives late, if one does.
     late_ack: Option<u64>,
     delivered: u64,
+    /// How many chunks were lost, arrived twice, and arrived late.
+    lost: u32,
+    twice: u32,
+    held_back: u32,
 }
 
 impl BadLine {
@@ -125,6 +129,9 @@ impl BadLine {
             late: Vec::new(alloc),
             late_ack: None,
             delivered: 0,
+            lost: 0,
+            twice: 0,
+            held_back: 0,
         }
     }
 
@@ -169,7 +176,18 @@ impl BadLine {
         }
     }
 
+    /// Counts what becomes of a chunk.
+    fn count(&mut self, fate: Fate) {
+        match fate {
+            Fate::Lost => self.lost = self.lost.saturating_add(1),
+            Fate::Twice => self.twice = self.twice.saturating_add(1),
+            Fate::Late => self.held_back = self.held_back.saturating_add(1),
+            Fate::Once => {}
+        }
+    }
+
     fn carry(&mut self, rt: &impl Abort, alloc: Global, fate: Fate, number: u64, chunk: Chunk) {
+        self.count(fate);
         match fate {
             Fate::Lost => {}
             Fate::Late => self.late.push((number, chunk)).ok().expect(rt, "memory"),
@@ -245,4 +263,7 @@ fn carry_all(rt: &impl Abort, alloc: Global, window: u16) {
     assert_eq!(rt; line.delivered, CHUNKS, "with a window of {window}");
     assert_eq!(rt; line.receiver.ack(), CHUNKS);
     assert_eq!(rt; line.sender.next(), CHUNKS);
+    for drawn in [line.lost, line.twice, line.held_back] {
+        assert!(rt; drawn >= 1_000, "{drawn} with a window of {window}");
+    }
 }
