@@ -1,8 +1,7 @@
 //! Frames per second: a Try with a small body is put into a frame and comes out again, beside copying its message.
 //!
-//! With no words it does so a few times and prints how many bytes a frame has and how many packets came out as they went
-//! in, which never varies. With the word `time` it prints frames per second, the best of some rounds in which the two take
-//! turns.
+//! With no words it does so a few times and prints how many bytes a frame has and the sum of the clocks that came out, which
+//! never varies. With the word `time` it prints frames per second, the best of some rounds in which the two take turns.
 #![tactic(auto)]
 
 ghost use Rattle.std.specs.Prelude.{◌≤◌, IfOk, IsTrue};
