@@ -82,7 +82,7 @@ journal 4294967295;|wrong 2 99
 ";
 
 #[test]
-fn first_lines(rt: HostRuntime) {
+fn only_a_journal_line_is_taken_as_the_first_line(rt: HostRuntime) {
     assert_rows(&rt, rt.alloc(), FIRST_LINES);
 }
 
@@ -96,7 +96,7 @@ journal 2;1 1 0 make 1.p.1 1.a.1 1;2 1 1 post 1:1:0 port 1.p.1 plain =%41;|wrong
 ";
 
 #[test]
-fn lines_of_entries(rt: HostRuntime) {
+fn lines_that_may_not_stand_are_found_with_their_rule(rt: HostRuntime) {
     assert_rows(&rt, rt.alloc(), ENTRIES);
 }
 
@@ -109,7 +109,7 @@ journal 0;summary;posted 2;accepted 1;taken 1;queued 0;moving 0;refused 1;stale 
 ";
 
 #[test]
-fn summaries(rt: HostRuntime) {
+fn only_the_whole_summary_of_the_entries_is_taken(rt: HostRuntime) {
     assert_rows(&rt, rt.alloc(), SUMMARIES);
 }
 

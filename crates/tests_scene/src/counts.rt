@@ -47,7 +47,7 @@ fn assert_ports_and_members(rt: &impl Abort, alloc: Global) {
 }
 
 #[test]
-fn ports_and_members(rt: HostRuntime) {
+fn the_last_port_and_member_are_taken_and_the_next_refused(rt: HostRuntime) {
     assert_ports_and_members(&rt, rt.alloc());
 }
 
@@ -84,7 +84,7 @@ fn assert_scripts_commands_and_steps(rt: &impl Abort, alloc: Global) {
 }
 
 #[test]
-fn scripts_commands_and_steps(rt: HostRuntime) {
+fn the_last_script_command_and_step_are_taken_and_the_next_refused(rt: HostRuntime) {
     assert_scripts_commands_and_steps(&rt, rt.alloc());
 }
 
@@ -122,7 +122,7 @@ fn assert_bodies(rt: &impl Abort, alloc: Global) {
 }
 
 #[test]
-fn bytes_and_digits(rt: HostRuntime) {
+fn the_longest_body_is_taken_and_a_longer_one_refused(rt: HostRuntime) {
     assert_long_bodies(&rt, rt.alloc());
     assert_bodies(&rt, rt.alloc());
 }

@@ -41,7 +41,7 @@ fn assert_heads(rt: &impl Abort, alloc: Global) {
 }
 
 #[test]
-fn heads_and_sites(rt: HostRuntime) {
+fn heads_and_sites_are_refused_with_line_and_reason(rt: HostRuntime) {
     assert_heads(&rt, rt.alloc());
 }
 
@@ -66,7 +66,7 @@ group 1.g.1;group 1.g.1|4 5
 ";
 
 #[test]
-fn setups(rt: HostRuntime) {
+fn setup_lines_are_refused_with_line_and_reason(rt: HostRuntime) {
     let sixteen = layout_of(&rt, 16, 1);
     assert_rows(&rt, rt.alloc(), sixteen, TWO_SITES, SETUPS);
 }
@@ -94,7 +94,7 @@ fn assert_commands(rt: &impl Abort, alloc: Global) {
 }
 
 #[test]
-fn commands(rt: HostRuntime) {
+fn commands_are_refused_with_line_and_reason(rt: HostRuntime) {
     assert_commands(&rt, rt.alloc());
 }
 
@@ -115,7 +115,7 @@ schedule;end |4 2
 ";
 
 #[test]
-fn schedules(rt: HostRuntime) {
+fn schedules_are_refused_with_line_and_reason(rt: HostRuntime) {
     let sixteen = layout_of(&rt, 16, 1);
     assert_rows(&rt, rt.alloc(), sixteen, TWO_SITES, SCHEDULES);
 }
@@ -140,7 +140,7 @@ fn assert_turns(rt: &impl Abort, alloc: Global) {
 }
 
 #[test]
-fn turns(rt: HostRuntime) {
+fn places_and_ports_are_those_of_the_turns(rt: HostRuntime) {
     assert_turns(&rt, rt.alloc());
 }
 
