@@ -2,8 +2,8 @@
 use Rattle.std.proofs.Common.{◌≡◌, ◌≢◌, ℕ, zero, suc, ◌+◌, ◌-◌, ◌%◌, ◌<◌, ◌≤◌, true, false, List, [], ◌∷◌, ◌++◌, length, min, reverse, Option, None, Some, is_some, refl, sym, ◌∙◌, ap, ap₂, subst, arith, add-one, append-nil, get_or, take, drop, length-append, length-drop}
 use Rattle.std.specs.Option.{option_to_list}
 use Rattle.std.specs.Prelude.{◌==◌, OnErr, OnOk, Result, Ok, Err}
-use Rattle.std.specs.List.{prefix_len}
-use Rattle.std.proofs.lemmas.Bool.{cond-false, cond-true, eq-eqb, ne_eqb}
+use Rattle.std.specs.List.{prefix_len, slice_get}
+use Rattle.std.proofs.lemmas.Bool.{cond-false, cond-true, eq-eqb, le-ltb, ne_eqb}
 use Rattle.std.proofs.lemmas.List.{reverse-append, take_min}
 use Rattle.std.proofs.lemmas.Option.{none-some}
 use Rattle.chorus_transport.specs.declared.chunk.Chunk.{Chunk}
@@ -80,9 +80,21 @@ sent_as n i fate m run drawn s r chunk e kept is draw =
     ∙ ap (λ f. sent n f i chunk (at next s r m.events)) same
     ∙ ap (λ x. sent n fate i chunk (at x s r m.events)) (sym is)
 
-pub sent_lost : (n i fate : ℕ) (whole : Moment) (run : Run) (s : Sending) (r : Receiving) (chunk : Chunk) (events : List Event) → whole ≡ sent n fate i chunk (at run s r events) → is_lost n fate ≡ true → IsAt whole (record run { lost = run.lost + 1 }) s r
+sent_lost : (n i fate : ℕ) (whole : Moment) (run : Run) (s : Sending) (r : Receiving) (chunk : Chunk) (events : List Event) → whole ≡ sent n fate i chunk (at run s r events) → is_lost n fate ≡ true → IsAt whole (record run { lost = run.lost + 1 }) s r
 sent_lost n i fate whole run s r chunk events e lost =
     at-from whole (record run { lost = run.lost + 1 }) s r events (e ∙ cond-true (is_lost n fate) _ _ lost)
+
+got_some : (xs : List Chunk) (k : ℕ) → k < length xs → (c : Chunk) × (slice_get xs k ≡ Some c)
+got_some [] k less = absurd (omega arith)
+got_some (x ∷ xs) zero less = (x, refl)
+got_some (x ∷ xs) (suc k) less = got_some xs k (omega arith)
+
+-- the sender keeps the chunk, which is not looked at where it is lost
+pub lost_unseen : (n i fate : ℕ) (m : Moment) (run drawn : Run) (s : Sending) (r : Receiving) → IsAt m run s r → s.base ≤ i → i < s.base + length s.kept → drawn ≡ record run { state = next_state run.state; emitted = run.emitted + 1 } → fate ≡ number_of drawn.state % 4 → is_lost n fate ≡ true → IsAt (emission n i m) (record drawn { lost = drawn.lost + 1 }) s r
+lost_unseen n i fate m run drawn s r e from below is draw lost =
+    let got = got_some s.kept (i - s.base) (omega arith) in
+    let kept : emitted s i ≡ Some got.0 = cond-false _ None _ (le-ltb i s.base from) ∙ got.1 in
+    sent_lost n i fate (emission n i m) drawn s r got.0 m.events (sent_as n i fate m run drawn s r got.0 e kept is draw) lost
 
 pub sent_twice : (n i fate : ℕ) (whole : Moment) (run : Run) (s : Sending) (r after : Receiving) (chunk : Chunk) (events : List Event) → whole ≡ sent n fate i chunk (at run s r events) → is_lost n fate ≡ false → fate ≡ 1 → after ≡ after_arrival (after_arrival r i chunk) i chunk → IsAt whole run s after
 sent_twice n i fate whole run s r after chunk events e safe one is =

@@ -151,13 +151,13 @@ fn emit(
 {
     run.emitted += 1;
     let fate = draw(run);
-    let Some(chunk) = sender.emit(alloc, number)? else {
-        unreachable!()
-    };
     if is_lost(round, fate) {
         run.lost += 1;
         return Ok(());
     }
+    let Some(chunk) = sender.emit(alloc, number)? else {
+        unreachable!()
+    };
     if fate == 1 {
         return arrive_twice(alloc, number, chunk, receiver);
     }

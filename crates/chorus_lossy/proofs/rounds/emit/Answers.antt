@@ -2,17 +2,16 @@ use Rattle.std.proofs.Common.{◌≡◌, ⊎_elim, refl, sym, ◌∙◌}
 use Rattle.std.proofs.lemmas.Result.{on_ok_weaker, on_err_weaker}
 use Rattle.chorus_transport.specs.Receiving.{after_arrival}
 use Rattle.chorus_lossy.specs.Rounds.{emission}
-use Rattle.chorus_lossy.proofs.Running.{on_err, unchanged, sent_as, sent_lost, sent_twice, sent_held, sent_once, twice_between}
+use Rattle.chorus_lossy.proofs.Running.{on_err, unchanged, sent_as, lost_unseen, sent_twice, sent_held, sent_once, twice_between}
 use Rattle.chorus_lossy.proofs.rounds.emit.Goals as goal
-
-pub returns-in_err-chunk-clause-err : goal.returns-in_err-chunk-clause-err
-returns-in_err-chunk-clause-err c = λ m e. on_err c.from_residual.result (unchanged c.args.round c.args.number m c.args.run.now c.args.sender.now c.args.receiver.now c.args.receiver.now e refl)
 
 pub returns-then-is_lost-clause-ok : goal.returns-then-is_lost-clause-ok
 returns-then-is_lost-clause-ok c = λ m e.
-    let run = c.draw-fate.new.run in
-    let whole = sent_as c.args.round c.args.number c.draw-fate.result m c.args.run.now run c.args.sender.now c.args.receiver.now c.in-Some.chunk e (sym c.in_ok-chunk.ensures.copy ∙ c.in-Some.is) c.draw-fate.ensures.state c.draw-fate.ensures.fate in
-    sent_lost c.args.round c.args.number c.draw-fate.result (emission c.args.round c.args.number m) run c.args.sender.now c.args.receiver.now c.in-Some.chunk m.events whole (sym c.is_lost.ensures ∙ c.if-is_lost.true)
+    lost_unseen c.args.round c.args.number c.draw-fate.result m c.args.run.now c.draw-fate.new.run c.args.sender.now c.args.receiver.now e c.requires.kept.0 c.requires.kept.1 c.draw-fate.ensures.state c.draw-fate.ensures.fate
+    (sym c.is_lost.ensures ∙ c.if-is_lost.true)
+
+pub returns-in_err-chunk-clause-err : goal.returns-in_err-chunk-clause-err
+returns-in_err-chunk-clause-err c = λ m e. on_err c.from_residual.result (unchanged c.args.round c.args.number m c.args.run.now c.args.sender.now c.args.receiver.now c.args.receiver.now e refl)
 
 pub returns-then-fate-eq1-clause-ok : goal.returns-then-fate-eq1-clause-ok
 returns-then-fate-eq1-clause-ok c = λ m e.
