@@ -1,5 +1,6 @@
 -- What is read of an entry's line is the entry.
-use Rattle.std.proofs.Common.{◌≡◌, ◌≢◌, ℕ, Bool, true, false, if◌then◌else◌, Option, Some, None, option_map, unwrap_or, List, [], ◌∷◌, ◌++◌, refl, sym, ap, ◌∙◌, arith}
+use Rattle.std.proofs.Common.{rules, ◌≡◌, ◌≢◌, ℕ, Bool, true, false, if◌then◌else◌, Option, Some, None, option_map, unwrap_or, List, [], ◌∷◌, ◌++◌, refl, sym, ap, ◌∙◌, arith}
+use Rattle.std.specs.Bool.{Decides}
 use Rattle.std.specs.Str.{bytes_eq}
 use Rattle.std.proofs.lemmas.Bool.{false≢true}
 use Rattle.std.proofs.lemmas.List.{append_cancel_right}
@@ -70,3 +71,13 @@ not_equal s t h e = false≢true (h ∙ (bytes_eq-Decides s t).1 e)
 
 pub none_printed_by : (text : List ℕ) (d : Entry) → entry_held (parts 32 text) ≡ Some d → false ≡ bytes_eq (entry_text d) (text ++ 10 ∷ []) → (e : Entry) → IsWithin e → entry_text e ≢ text ++ 10 ∷ []
 none_printed_by text d read other = none_printed text d read (not_equal (entry_text d) (text ++ 10 ∷ []) other)
+
+is_bytes_eq : (xs ys : List ℕ) (r : Bool) → Decides r (xs ≡ ys) → r ≡ bytes_eq xs ys
+is_bytes_eq xs ys r h = search (rules, bytes_eq-Decides)
+
+-- a text that ends with LF is the line with it exactly where what stands before the LF is the line
+pub same_line : (front line text : List ℕ) → text ≡ front ++ 10 ∷ [] → bytes_eq front line ≡ bytes_eq text (line ++ 10 ∷ [])
+same_line front line text e = is_bytes_eq text (line ++ 10 ∷ []) (bytes_eq front line) (
+  (λ same. e ∙ ap (λ t. t ++ 10 ∷ []) ((bytes_eq-Decides front line).0 same)),
+  (λ same. (bytes_eq-Decides front line).1 (append_cancel_right front line (10 ∷ []) (sym e ∙ same))),
+)

@@ -64,9 +64,10 @@ fn said(alloc: Global, line: &[u8]) -> Result<Entry, Unread>
 fn is_printed(alloc: Global, entry: &Entry, line: &[u8]) -> Result<bool, AllocError>
     ensures { IfOk result (λ b. b ≡ bytes_eq (entry_text entry.now) (line.now ++ 10 ∷ [])) }
 {
-    let mut text = Vec::new(alloc);
+    let mut text = Vec::with_capacity(alloc, line.len() + 1)?;
     entry_line(entry, &mut text)?;
-    let mut wanted = Vec::from_slice(alloc, line)?;
-    wanted.push(b'\n')?;
-    Ok(text.as_slice() == wanted.as_slice())
+    match text.as_slice().strip_suffix(b"\n") {
+        Some(front) => Ok(front == line),
+        None => Ok(false),
+    }
 }
