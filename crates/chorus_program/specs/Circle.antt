@@ -1,4 +1,4 @@
--- What a replay prints, an audit for the layout that ran it finds legal.
+-- What a replay prints, an audit for the layout that ran it finds legal, if it takes a text of that length.
 use Rattle.std.specs.Prelude.{◌≡◌, ℕ, ◌<◌, ◌^◌, List, length, Option, Some}
 use Rattle.chorus_ui.specs.declared.layout.Layout.{Layout}
 use Rattle.chorus_show.specs.declared.status.Status.{Status}

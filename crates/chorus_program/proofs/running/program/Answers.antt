@@ -1,5 +1,4 @@
-use Rattle.std.proofs.Common.{◌≡◌, ℕ, IfSome, ap, subst, subst₂}
-use Rattle.chorus_show.specs.declared.status.Status.{Status}
+use Rattle.std.proofs.Common.{◌≡◌, IfSome, ap, subst, subst₂}
 use Rattle.chorus_run.specs.declared.finished.Finished.{Finished}
 use Rattle.chorus_run.specs.Load.{Loads}
 use Rattle.chorus_audit.specs.Output.{Prints}
@@ -7,10 +6,8 @@ use Rattle.chorus_lossy.specs.Output.{CarriesInput}
 use Rattle.chorus_words.specs.declared.words.Words.TheVariants.{Audit, Load, Lossy, Replay}
 use Rattle.chorus_program.specs.Running.{places_each}
 use Rattle.chorus_program.proofs.Carried.{nothing_audited, nothing_carried}
+use Rattle.chorus_program.proofs.Refusals.{no-refusal}
 use Rattle.chorus_program.proofs.running.program.Goals as goal
-
-no-refusal : (s : Status) (line reason : ℕ) → s ≡ Status.Memory → s ≡ Status.Scenario line reason → ⊥
-no-refusal s line reason e f = cc
 
 pub returns-in-Ok-Some-Load-clause-scenario : goal.returns-in-Ok-Some-Load-clause-scenario
 returns-in-Ok-Some-Load-clause-scenario g c asks =

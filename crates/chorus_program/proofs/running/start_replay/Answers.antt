@@ -1,11 +1,8 @@
-use Rattle.std.proofs.Common.{◌≡◌, ℕ, Err, ap, subst}
-use Rattle.chorus_show.specs.declared.status.Status.{Status}
+use Rattle.std.proofs.Common.{Err, ap, subst}
 use Rattle.chorus_run.specs.declared.finished.Finished.{Finished}
 use Rattle.chorus_run.specs.Headline.{IsGiven}
+use Rattle.chorus_program.proofs.Refusals.{no-refusal}
 use Rattle.chorus_program.proofs.running.start_replay.Goals as goal
-
-no-refusal : (s : Status) (line reason : ℕ) → s ≡ Status.Memory → s ≡ Status.Scenario line reason → ⊥
-no-refusal s line reason e f = cc
 
 pub returns-in-Ok-clause-scenario : goal.returns-in-Ok-clause-scenario
 returns-in-Ok-clause-scenario g c line reason is =
