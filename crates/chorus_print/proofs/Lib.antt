@@ -1,1 +1,2 @@
 pub mod PrintedLines
+pub mod Kept

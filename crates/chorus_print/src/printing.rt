@@ -1,6 +1,6 @@
 //! Printing scenarios.
 
-ghost use Rattle.std.specs.Prelude.{◌≡◌, ◌<◌, ℕ, List, [], ◌∷◌, ◌++◌, length, OnOk, OnErr, codes, decimal, map};
+ghost use Rattle.std.specs.Prelude.{◌≡◌, ◌<◌, ℕ, List, [], ◌∷◌, ◌++◌, length, take, OnOk, OnErr, codes, decimal, map};
 ghost use Rattle.std.specs.List.{flat_map};
 ghost use Rattle.chorus_ui.specs.Text.{name_text};
 ghost use Rattle.chorus_lines.specs.Body.{hex_digit, hex_text, body_text};
@@ -22,14 +22,18 @@ pub fn print(scenario: &Scenario, out: &mut Vec<u8>) -> Result<(), AllocError>
     ensures again { IsReadAgain scenario.now }
     ensures err { OnErr result (out.new.items ≡ out.old.items) }
 {
-    let mut text = Vec::new(*out.allocator());
-    push_scenario(scenario, &mut text)?;
-    out.extend_from_slice(&text)
+    let before = out.len();
+    let written = push_scenario(scenario, out);
+    if written.is_err() {
+        out.truncate(before);
+    }
+    written
 }
 
 fn push_scenario(scenario: &Scenario, out: &mut Vec<u8>) -> Result<(), AllocError>
     ensures text { OnOk result (out.new.items ≡ out.old.items ++ printed scenario.now) }
     ensures again { IsReadAgain scenario.now }
+    ensures err { OnErr result (take (length out.old.items) out.new.items ≡ out.old.items) }
 {
     let names = scenario.names();
     push_head(scenario.version(), scenario.sites(), out)?;
@@ -41,9 +45,10 @@ fn push_scenario(scenario: &Scenario, out: &mut Vec<u8>) -> Result<(), AllocErro
 }
 
 fn push_head(version: u8, sites: u16, out: &mut Vec<u8>) -> Result<(), AllocError>
-    ensures { OnOk result
+    ensures ok { OnOk result
         (out.new.items
         ≡ out.old.items ++ all_ended (version_text version ∷ sites_text sites ∷ [])) }
+    ensures err { OnErr result (take (length out.old.items) out.new.items ≡ out.old.items) }
 {
     push_numbered(b"chorus", u64::from(version), out)?;
     end_line(out)?;
@@ -54,8 +59,9 @@ fn push_head(version: u8, sites: u16, out: &mut Vec<u8>) -> Result<(), AllocErro
 /// Appends the lines of a setup, where these are the names that they begin with.
 fn push_setup(lines: &[SetupLine], names: &[Ui], out: &mut Vec<u8>) -> Result<(), AllocError>
     requires { length names.now ≡ length lines.now }
-    ensures { OnOk result
+    ensures ok { OnOk result
         (out.new.items ≡ out.old.items ++ all_ended (said_texts names.now lines.now)) }
+    ensures err { OnErr result (take (length out.old.items) out.new.items ≡ out.old.items) }
 {
     for (at, line) in lines.iter().enumerate() {
         push_setup_line(names[at], line, out)?;
@@ -65,7 +71,8 @@ fn push_setup(lines: &[SetupLine], names: &[Ui], out: &mut Vec<u8>) -> Result<()
 }
 
 fn push_setup_line(name: Ui, line: &SetupLine, out: &mut Vec<u8>) -> Result<(), AllocError>
-    ensures { OnOk result (out.new.items ≡ out.old.items ++ said_text name line.now) }
+    ensures ok { OnOk result (out.new.items ≡ out.old.items ++ said_text name line.now) }
+    ensures err { OnErr result (take (length out.old.items) out.new.items ≡ out.old.items) }
 {
     match line {
         SetupLine::Port { actor, capacity } => {
@@ -78,8 +85,9 @@ fn push_setup_line(name: Ui, line: &SetupLine, out: &mut Vec<u8>) -> Result<(), 
 }
 
 fn push_scripts(scripts: &[Script], out: &mut Vec<u8>) -> Result<(), AllocError>
-    ensures { OnOk result
+    ensures ok { OnOk result
         (out.new.items ≡ out.old.items ++ all_ended (flat_map script_texts scripts.now)) }
+    ensures err { OnErr result (take (length out.old.items) out.new.items ≡ out.old.items) }
 {
     for script in scripts {
         push_script(script, out)?;
@@ -88,7 +96,9 @@ fn push_scripts(scripts: &[Script], out: &mut Vec<u8>) -> Result<(), AllocError>
 }
 
 fn push_script(script: &Script, out: &mut Vec<u8>) -> Result<(), AllocError>
-    ensures { OnOk result (out.new.items ≡ out.old.items ++ all_ended (script_texts script.now)) }
+    ensures ok { OnOk result
+        (out.new.items ≡ out.old.items ++ all_ended (script_texts script.now)) }
+    ensures err { OnErr result (take (length out.old.items) out.new.items ≡ out.old.items) }
 {
     push_named(b"script", script.actor(), out)?;
     end_line(out)?;
@@ -100,7 +110,8 @@ fn push_script(script: &Script, out: &mut Vec<u8>) -> Result<(), AllocError>
 }
 
 fn push_command(command: &Command, out: &mut Vec<u8>) -> Result<(), AllocError>
-    ensures { OnOk result (out.new.items ≡ out.old.items ++ command_text command.now) }
+    ensures ok { OnOk result (out.new.items ≡ out.old.items ++ command_text command.now) }
+    ensures err { OnErr result (take (length out.old.items) out.new.items ≡ out.old.items) }
 {
     match command {
         Command::Send { dest, body } => {
@@ -132,8 +143,9 @@ fn push_command(command: &Command, out: &mut Vec<u8>) -> Result<(), AllocError>
 
 /// Appends the word and the fields of a send, before its body.
 fn push_dest(dest: &Dest, out: &mut Vec<u8>) -> Result<(), AllocError>
-    ensures { OnOk result
+    ensures ok { OnOk result
         ((body : List ℕ) → out.new.items ++ 32 ∷ body ≡ out.old.items ++ dest_text dest.now body) }
+    ensures kept { take (length out.old.items) out.new.items ≡ out.old.items }
 {
     match dest {
         Dest::Port(port) => push_named(b"send", *port, out),
@@ -147,8 +159,9 @@ fn push_dest(dest: &Dest, out: &mut Vec<u8>) -> Result<(), AllocError>
 }
 
 fn push_schedule(steps: &[Step], out: &mut Vec<u8>) -> Result<(), AllocError>
-    ensures { OnOk result
+    ensures ok { OnOk result
         (out.new.items ≡ out.old.items ++ all_ended (codes "schedule" ∷ map step_text steps.now)) }
+    ensures err { OnErr result (take (length out.old.items) out.new.items ≡ out.old.items) }
 {
     out.extend_from_slice(b"schedule\n")?;
     for step in steps {
@@ -159,7 +172,8 @@ fn push_schedule(steps: &[Step], out: &mut Vec<u8>) -> Result<(), AllocError>
 }
 
 fn push_step(step: Step, out: &mut Vec<u8>) -> Result<(), AllocError>
-    ensures { OnOk result (out.new.items ≡ out.old.items ++ step_text step) }
+    ensures ok { OnOk result (out.new.items ≡ out.old.items ++ step_text step) }
+    ensures err { OnErr result (take (length out.old.items) out.new.items ≡ out.old.items) }
 {
     match step {
         Step::Step(script) => push_numbered(b"step", u64::from(script), out),
@@ -173,8 +187,9 @@ fn push_step(step: Step, out: &mut Vec<u8>) -> Result<(), AllocError>
 
 /// Appends a word and a name.
 fn push_named(word: &[u8], name: Ui, out: &mut Vec<u8>) -> Result<(), AllocError>
-    ensures { OnOk result
+    ensures ok { OnOk result
         (out.new.items ≡ out.old.items ++ (word.now ++ behind (name_text name ∷ []))) }
+    ensures err { OnErr result (take (length out.old.items) out.new.items ≡ out.old.items) }
 {
     out.extend_from_slice(word)?;
     push_name(name, out)
@@ -182,9 +197,10 @@ fn push_named(word: &[u8], name: Ui, out: &mut Vec<u8>) -> Result<(), AllocError
 
 /// Appends a word and two names.
 fn push_two_named(word: &[u8], first: Ui, second: Ui, out: &mut Vec<u8>) -> Result<(), AllocError>
-    ensures { OnOk result
+    ensures ok { OnOk result
         (out.new.items
         ≡ out.old.items ++ (word.now ++ behind (name_text first ∷ name_text second ∷ []))) }
+    ensures err { OnErr result (take (length out.old.items) out.new.items ≡ out.old.items) }
 {
     out.extend_from_slice(word)?;
     push_name(first, out)?;
@@ -193,29 +209,33 @@ fn push_two_named(word: &[u8], first: Ui, second: Ui, out: &mut Vec<u8>) -> Resu
 
 /// Appends a word and a number.
 fn push_numbered(word: &[u8], number: u64, out: &mut Vec<u8>) -> Result<(), AllocError>
-    ensures { OnOk result
+    ensures ok { OnOk result
         (out.new.items ≡ out.old.items ++ (word.now ++ behind (decimal number ∷ []))) }
+    ensures err { OnErr result (take (length out.old.items) out.new.items ≡ out.old.items) }
 {
     out.extend_from_slice(word)?;
     push_number(number, out)
 }
 
 fn push_name(name: Ui, out: &mut Vec<u8>) -> Result<(), AllocError>
-    ensures { OnOk result (out.new.items ≡ out.old.items ++ 32 ∷ name_text name) }
+    ensures ok { OnOk result (out.new.items ≡ out.old.items ++ 32 ∷ name_text name) }
+    ensures err { OnErr result (take (length out.old.items) out.new.items ≡ out.old.items) }
 {
     out.push(b' ')?;
     name.text(out)
 }
 
 fn push_number(number: u64, out: &mut Vec<u8>) -> Result<(), AllocError>
-    ensures { OnOk result (out.new.items ≡ out.old.items ++ 32 ∷ decimal number) }
+    ensures ok { OnOk result (out.new.items ≡ out.old.items ++ 32 ∷ decimal number) }
+    ensures err { OnErr result (take (length out.old.items) out.new.items ≡ out.old.items) }
 {
     out.push(b' ')?;
     push_decimal(number, out)
 }
 
 fn push_body(bytes: &[u8], out: &mut Vec<u8>) -> Result<(), AllocError>
-    ensures { OnOk result (out.new.items ≡ out.old.items ++ 32 ∷ body_text bytes.now) }
+    ensures ok { OnOk result (out.new.items ≡ out.old.items ++ 32 ∷ body_text bytes.now) }
+    ensures err { OnErr result (take (length out.old.items) out.new.items ≡ out.old.items) }
 {
     if is_text(bytes) {
         out.extend_from_slice(b" =")?;
@@ -227,7 +247,8 @@ fn push_body(bytes: &[u8], out: &mut Vec<u8>) -> Result<(), AllocError>
 }
 
 fn push_hex(bytes: &[u8], out: &mut Vec<u8>) -> Result<(), AllocError>
-    ensures { OnOk result (out.new.items ≡ out.old.items ++ hex_text bytes.now) }
+    ensures ok { OnOk result (out.new.items ≡ out.old.items ++ hex_text bytes.now) }
+    ensures err { OnErr result (take (length out.old.items) out.new.items ≡ out.old.items) }
 {
     for b in bytes {
         out.push(hex_digit(*b / 16))?;
@@ -244,7 +265,8 @@ fn hex_digit(n: u8) -> u8
 }
 
 fn end_line(out: &mut Vec<u8>) -> Result<(), AllocError>
-    ensures { OnOk result (out.new.items ≡ out.old.items ++ 10 ∷ []) }
+    ensures ok { OnOk result (out.new.items ≡ out.old.items ++ 10 ∷ []) }
+    ensures err { OnErr result (take (length out.old.items) out.new.items ≡ out.old.items) }
 {
     Ok(out.push(b'\n')?)
 }
