@@ -96,7 +96,7 @@ fn take_back(
 }
 
 /// Puts the copies of a post to these members last in their lines. An error leaves the lines as they were.
-pub fn push_copies(
+fn push_copies(
     lines: &mut HashMap<Line, VecDeque<MsgId>>,
     alloc: Global,
     place: u16,
