@@ -17,63 +17,102 @@ pub enum Target {
 /// The word of a command.
 #[derive(Clone, Copy, Debug, PartialEq, Eq)]
 pub enum Verb {
+    /// `send`, `all` or `one`: sends to the target.
     Send(Target),
+    /// `at`: sends to one member of a group that is on a site.
     At,
+    /// `call`: calls a port.
     Call,
+    /// `retry`: sends the outstanding call again.
     Retry,
+    /// `cancel`: ends the outstanding call.
     Cancel,
+    /// `reply`: replies to the request in hand.
     Reply,
+    /// `take`: receives from a port.
     Take,
+    /// `move`: moves a port to an actor.
     Move,
+    /// `delete`: deletes a port.
     Delete,
+    /// `newport`: makes a port.
     NewPort,
+    /// `newgroup`: makes a group.
     NewGroup,
+    /// `join`: a port joins a group.
     Join,
+    /// `leave`: a port leaves a group.
     Leave,
 }
 
 /// The first field of a line.
 #[derive(Clone, Copy, Debug, PartialEq, Eq)]
 pub enum Word {
+    /// `chorus`: says the version.
     Chorus,
+    /// `sites`: says how many sites there are.
     Sites,
-    /// To a port.
+    /// `port`: a setup line that makes a port.
     Port,
+    /// `group`: a setup line that makes a group.
     Group,
+    /// `member`: a setup line by which a port joins a group.
     Member,
+    /// `script`: begins the script of a caller.
     Script,
+    /// The word of a command.
     Command(Verb),
+    /// `schedule`: ends the scripts.
     Schedule,
+    /// `step`: the next command of a script is done.
     Step,
+    /// `deliver`: the first packet that waits to go from one place to another is worked off there.
     Deliver,
+    /// `drain`: packets are worked off until none is left.
     Drain,
+    /// `end`: ends the text.
     End,
 }
 
-/// How far a text has come, which decides what may follow: before the head, before the line `sites`, in the setup, in the
-/// scripts, in the schedule, or behind the end.
+/// How far a text has come, which decides what may follow.
 #[derive(Clone, Copy, Debug, PartialEq, Eq)]
 pub enum Section {
+    /// Before the head.
     Head,
+    /// Before the line `sites`.
     Sites,
+    /// In the setup.
     Setup,
+    /// In the scripts.
     Scripts,
+    /// In the schedule.
     Schedule,
+    /// Behind the end.
     Ended,
 }
 
 /// Why a line is refused, in the order of the numbers from 1.
 #[derive(Clone, Copy, Debug, PartialEq, Eq)]
 pub enum Reason {
+    /// It is the first that says something, and is not the head.
     Header,
+    /// Its word is none of the version, or its fields are too few, too many, one of them empty, or a body without its mark.
     Word,
+    /// A decimal, a name or the digits of a body are not spelled as said, or a name is of another kind.
     Number,
+    /// It names a site or an actor that there is not, or in a `member` line what no earlier line made.
     Unknown,
+    /// A setup line makes what an earlier one made, or a member is one already.
     Twice,
+    /// A number or a count is beyond its limit.
     Limit,
+    /// Its word may not stand there, or a setup line says another name than the making gives.
     Order,
+    /// It has a byte outside 0x20 to 0x7E.
     Text,
+    /// The text ends before its line `end`.
     Unfinished,
+    /// A `step` names no script with a command left, or a `deliver` no two different places of the sites.
     Schedule,
 }
 
