@@ -6,7 +6,7 @@
 //!     rustc --edition 2024 -O -C target-cpu=x86-64 -o checker checker.rs
 //!     ./checker                            a short journal is judged
 //!     ./checker time                       journals of three lengths are judged, and the rates printed
-//!     ./checker time tables                the same, with a table for each of those that `crates/chorus_ledger` has
+//!     ./checker time tables                the same, with a table for each of those that `crates/checker_ledger` has
 //!     ./checker report                     the longest of these journals is printed, with its summary
 //!     ./checker audit SITES TURNS < text   says whether a printed journal with its summary is legal
 //!

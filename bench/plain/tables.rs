@@ -1,4 +1,4 @@
-//! The world of the rules once more, with a hash map for each table of `crates/chorus_rows` and `crates/chorus_ledger`, by
+//! The world of the rules once more, with a hash map for each table of `crates/checker_rows` and `crates/checker_ledger`, by
 //! the same keys: what an act needs is read from them, and then each table follows the entry. A part of `checker.rs`.
 
 use crate::entry::{

@@ -2,7 +2,7 @@
 //!
 //! The layers above rest on this: [`World::apply`] takes an entry exactly where the step relation of `chorus_world` gives a
 //! world after it, and is then that world; else it names the rule (`specs/Rules.antt`) and changes nothing. Each term of the
-//! step relation is read from the tables of a `chorus_ledger::Ledger`, so that an entry costs about the same whatever went
+//! step relation is read from the tables of a `checker_ledger::Ledger`, so that an entry costs about the same whatever went
 //! before.
 //!
 //! Begin with `world`. Its modules have the test of each act, by subject; `port`, `message` and `group` have what is asked of
@@ -16,6 +16,6 @@ mod port;
 mod rule;
 mod world;
 
-pub use chorus_ledger::PortFate;
+pub use checker_ledger::PortFate;
 pub use fault::WorldFault;
 pub use world::World;

@@ -4,8 +4,8 @@ ghost use Rattle.std.specs.Prelude.{◌≡◌};
 ghost use Rattle.std.specs.Option.{option_copied};
 ghost use Rattle.chorus_world.specs.Ports.{is_made, is_held_at, is_ended_at, is_coming, is_next_hop, waiting, has_room, is_full, is_first_waiting, is_empty, are_waiting};
 
+use checker_ledger::PortFate;
 use chorus_entry::MsgId;
-use chorus_ledger::PortFate;
 use chorus_world::Spot;
 
 /// Whether the port is made.

@@ -17,8 +17,8 @@ mod sending;
 
 use crate::fault::WorldFault;
 use crate::rule::act_number;
+use checker_ledger::{Ledger, PortFate};
 use chorus_entry::{Act, Answer, Entry, MsgId};
-use chorus_ledger::{Ledger, PortFate};
 use chorus_ui::{Layout, Ui};
 use std::alloc::{AllocError, Global};
 use std::marker::Model;

@@ -6,9 +6,9 @@ use Rattle.std.proofs.lemmas.Bool.{lt-ltb, le-ltb, eq-eqb, ne_eqb, and_left, and
 use Rattle.std.proofs.lemmas.List.{set-get_or, set-set, get_or-set_same, length-set}
 use Rattle.std.proofs.lemmas.List.Elements.{All-nil, All-cons, All-head, All-tail, All-append}
 use Rattle.chorus_entry.specs.declared.packet.Packet.{Packet}
-use Rattle.chorus_out.specs.Waiting.{list_to, with_last, with_first, without_first, count}
-use Rattle.chorus_machine.specs.PlaceState.{Outgoing}
-use Rattle.chorus_law.specs.Packets.{is_link, is_link_before, put, put_all, first_on, rest_on}
+use Rattle.place_outbox.specs.Waiting.{list_to, with_last, with_first, without_first, count}
+use Rattle.law_machine.specs.PlaceState.{Outgoing}
+use Rattle.law_network.specs.Packets.{is_link, is_link_before, put, put_all, first_on, rest_on}
 use Rattle.chorus_place.specs.Calls.{with_all}
 use Rattle.chorus_net.specs.Sites.{to_place, waiting_from, waiting_in, AreFrom, AllFrom}
 

@@ -5,9 +5,9 @@ use Rattle.std.proofs.lemmas.Bool.{eq-eqb, ne_eqb}
 use Rattle.std.proofs.lemmas.List.Elements.{All-nil, All-cons, All-head, All-tail}
 use Rattle.chorus_ui.specs.declared.layout.Layout.{Layout}
 use Rattle.chorus_ui.specs.Layout.{places}
-use Rattle.chorus_machine.specs.PlaceState.{Outgoing}
-use Rattle.chorus_law.specs.Packets.{is_link_before, put, put_all}
-use Rattle.chorus_law.specs.Network.{place_in, with_place}
+use Rattle.law_machine.specs.PlaceState.{Outgoing}
+use Rattle.law_network.specs.Packets.{is_link_before, put, put_all}
+use Rattle.law_network.specs.Network.{place_in, with_place}
 use Rattle.chorus_place.specs.Calls.{Place, state}
 use Rattle.chorus_net.specs.Sites.{boxes, IsPlaceOf, ArePlaces}
 use Rattle.chorus_net.proofs.Boxes.{AreBoxes}

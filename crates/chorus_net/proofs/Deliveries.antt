@@ -11,18 +11,18 @@ use Rattle.chorus_ui.specs.Layout.{has_place, places}
 use Rattle.chorus_entry.specs.declared.packet.Packet.{Packet}
 use Rattle.chorus_entry.specs.Ranges.{has_ranges}
 use Rattle.chorus_calls.specs.Callers.{Seated}
-use Rattle.chorus_out.specs.Waiting.{list_to, with_first, without_first}
-use Rattle.chorus_machine.specs.PlaceState.{PlaceState, Outgoing, greatest_clock}
-use Rattle.chorus_machine.specs.PlaceMachine.{begun_by, work}
-use Rattle.chorus_machine.specs.Lawful.{is_lawful, is_lawful_cargo}
-use Rattle.chorus_machine.proofs.Machine.Stays.{work-stays}
-use Rattle.chorus_law.specs.declared.delivery.Delivered.{Delivered}
-use Rattle.chorus_law.specs.Packets.{put_all, first_on, rest_on}
-use Rattle.chorus_law.specs.Network.{NetState, Deliver, place, place_in, with_place, ended, works_off, delivered, delivery, delivery_of, happened}
-use Rattle.chorus_law.specs.History.{put_by, put_in, taken_at, taken_on}
-use Rattle.chorus_law.specs.Schedules.{may_happen}
-use Rattle.chorus_law.specs.Calls.{compared_at, compared_on}
-use Rattle.chorus_law.proofs.Promises.AllPromises.{delivers-lawfully}
+use Rattle.place_outbox.specs.Waiting.{list_to, with_first, without_first}
+use Rattle.law_machine.specs.PlaceState.{PlaceState, Outgoing, greatest_clock}
+use Rattle.law_machine.specs.PlaceMachine.{begun_by, work}
+use Rattle.law_machine.specs.Lawful.{is_lawful, is_lawful_cargo}
+use Rattle.law_machine.proofs.Machine.Stays.{work-stays}
+use Rattle.law_network.specs.declared.delivery.Delivered.{Delivered}
+use Rattle.law_network.specs.Packets.{put_all, first_on, rest_on}
+use Rattle.law_network.specs.Network.{NetState, Deliver, place, place_in, with_place, ended, works_off, delivered, delivery, delivery_of, happened}
+use Rattle.law_network.specs.History.{put_by, put_in, taken_at, taken_on}
+use Rattle.law_network.specs.Schedules.{may_happen}
+use Rattle.law_network.specs.Calls.{compared_at, compared_on}
+use Rattle.law_network.proofs.Promises.AllPromises.{delivers-lawfully}
 use Rattle.chorus_place.specs.Calls.{Place, state, Ended, Stays}
 use Rattle.chorus_net.specs.Sites.{SitesState, waiting_in, boxes, net, AllFrom, IsPlaceOf, ArePlaces, IsSites}
 use Rattle.chorus_net.proofs.Boxes.{IsPut, first-is, rest-is, put-back-is, without-keeps}

@@ -11,19 +11,19 @@ use Rattle.chorus_entry.specs.Command.{meets_conditions, has_body_in_limit, is_p
 use Rattle.chorus_entry.specs.Kinds.{names_actor}
 use Rattle.chorus_entry.specs.Places.{place_for}
 use Rattle.chorus_calls.specs.Callers.{Seated}
-use Rattle.chorus_machine.specs.declared.reply.Reply.{Reply}
-use Rattle.chorus_machine.specs.PlaceState.{PlaceState, Outgoing, Turn}
-use Rattle.chorus_machine.specs.PlaceMachine.{begun, act}
-use Rattle.chorus_machine.specs.Replies.{reply}
-use Rattle.chorus_machine.proofs.Machine.Stays.{act-stays}
-use Rattle.chorus_law.specs.Packets.{put_all}
-use Rattle.chorus_law.specs.Network.{NetState, Event, Act, place, with_place, ended, commanded, replied, happened, schedule}
-use Rattle.chorus_law.specs.History.{put_by, put_in, taken_with}
-use Rattle.chorus_law.specs.Schedules.{may_give, has_number_left, may_happen, may_be}
-use Rattle.chorus_law.specs.Calls.{first_actor}
-use Rattle.chorus_law.proofs.Holdings.Passing.{IsBetweenPlaces, packets-lie-between}
-use Rattle.chorus_law.proofs.Places.Layouts.{schedule-keeps}
-use Rattle.chorus_law.proofs.Promises.Promised.{stands-at}
+use Rattle.law_machine.specs.declared.reply.Reply.{Reply}
+use Rattle.law_machine.specs.PlaceState.{PlaceState, Outgoing, Turn}
+use Rattle.law_machine.specs.PlaceMachine.{begun, act}
+use Rattle.law_machine.specs.Replies.{reply}
+use Rattle.law_machine.proofs.Machine.Stays.{act-stays}
+use Rattle.law_network.specs.Packets.{put_all}
+use Rattle.law_network.specs.Network.{NetState, Event, Act, place, with_place, ended, commanded, replied, happened, schedule}
+use Rattle.law_network.specs.History.{put_by, put_in, taken_with}
+use Rattle.law_network.specs.Schedules.{may_give, has_number_left, may_happen, may_be}
+use Rattle.law_network.specs.Calls.{first_actor}
+use Rattle.law_network.proofs.Holdings.Passing.{IsBetweenPlaces, packets-lie-between}
+use Rattle.law_network.proofs.Places.Layouts.{schedule-keeps}
+use Rattle.law_network.proofs.Promises.Promised.{stands-at}
 use Rattle.chorus_place.specs.Calls.{Place, state, Ended, MayCall, Stays, with_all}
 use Rattle.chorus_net.specs.Sites.{SitesState, waiting_in, boxes, net, AllFrom, IsPlaceOf, ArePlaces, IsScheduled, IsSites}
 use Rattle.chorus_net.proofs.Boxes.{IsPut, put-all-is, with-all-keeps}

@@ -3,8 +3,8 @@ use Rattle.std.proofs.Common.{ℕ, zero, suc, ◌≡◌, ◌+◌, List, [], ◌�
 use Rattle.std.proofs.lemmas.List.{length-replicate}
 use Rattle.chorus_ui.specs.declared.layout.Layout.{Layout}
 use Rattle.chorus_ui.specs.Layout.{places}
-use Rattle.chorus_machine.specs.PlaceState.{PlaceState, started}
-use Rattle.chorus_law.specs.Network.{numbers}
+use Rattle.law_machine.specs.PlaceState.{PlaceState, started}
+use Rattle.law_network.specs.Network.{numbers}
 use Rattle.chorus_place.specs.Calls.{Place, state}
 use Rattle.chorus_net.specs.Sites.{waiting_from, waiting_in, boxes, AllFrom, ArePlaces}
 use Rattle.chorus_net.specs.Starting.{HasStarted, HaveStarted}

@@ -9,10 +9,10 @@ use Rattle.chorus_entry.specs.declared.command.Command.TheVariants as commands
 use Rattle.chorus_entry.specs.declared.packet.Packet.{Packet}
 use Rattle.chorus_entry.specs.Command.{meets_conditions, has_body_in_limit, is_post}
 use Rattle.chorus_calls.specs.Callers.{Seated, new_caller}
-use Rattle.chorus_law.specs.Packets.{first_on}
-use Rattle.chorus_law.specs.Network.{NetState, Event, Enter, Deliver, commanded, works_off, delivered, schedule}
-use Rattle.chorus_law.specs.Network.{Act as Acts}
-use Rattle.chorus_law.specs.Schedules.{has_number_left, may_give}
+use Rattle.law_network.specs.Packets.{first_on}
+use Rattle.law_network.specs.Network.{NetState, Event, Enter, Deliver, commanded, works_off, delivered, schedule}
+use Rattle.law_network.specs.Network.{Act as Acts}
+use Rattle.law_network.specs.Schedules.{has_number_left, may_give}
 use Rattle.chorus_place.specs.Calls.{is_call}
 use Rattle.chorus_place.specs.CallTurns.{GaveWithinPosts}
 use Rattle.chorus_place.proofs.CallTurns.{act-within, work-within}

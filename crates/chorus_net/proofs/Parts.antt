@@ -3,9 +3,9 @@ use Rattle.std.proofs.Common.{ℕ, suc, ◌≡◌, ◌+◌, List, [], ◌∷◌,
 use Rattle.std.proofs.lemmas.List.{map-append, reverse-append}
 use Rattle.chorus_entry.specs.declared.packet.Packet.{Packet}
 use Rattle.chorus_entry.specs.declared.record.PortRecord.{PortRecord}
-use Rattle.chorus_out.specs.Waiting.{count, next, after_next}
-use Rattle.chorus_law.specs.Left.{placed_at, placed_in}
-use Rattle.chorus_machine.specs.PlaceState.{PlaceState, Outgoing}
+use Rattle.place_outbox.specs.Waiting.{count, next, after_next}
+use Rattle.law_network.specs.Left.{placed_at, placed_in}
+use Rattle.law_machine.specs.PlaceState.{PlaceState, Outgoing}
 use Rattle.chorus_place.specs.Calls.{Place, state}
 use Rattle.chorus_net.specs.Sites.{to_place, waiting_from, waiting_in, boxes}
 use Rattle.chorus_net.specs.Closing.{flat, journals_in, packets_of, ports_of}

@@ -15,15 +15,15 @@ use Rattle.chorus_entry.specs.declared.packet.Cargo.{Cargo}
 use Rattle.chorus_entry.specs.declared.packet.Cargo.TheVariants as cargos
 use Rattle.chorus_entry.specs.Act.{is_command_entry}
 use Rattle.chorus_world.specs.Places.{taught}
-use Rattle.chorus_waits.specs.Queues.{changed}
+use Rattle.place_unsettled.specs.Queues.{changed}
 use Rattle.chorus_entry.specs.Dest.{group_in}
-use Rattle.chorus_machine.specs.PlaceState.{Outgoing, Turn, Change, packed, say, unchanged}
-use Rattle.chorus_machine.specs.PlaceMachine.{act, work}
-use Rattle.chorus_machine.specs.Choosing.{choice, chooses_all, chooses_these}
-use Rattle.chorus_machine.specs.Working.{opens, taught_of, told, report_of}
-use Rattle.chorus_machine.specs.Lawful.{is_asked_here, is_lawful_cargo}
-use Rattle.chorus_machine.proofs.Machine.Chains.{act-keeps, work-keeps}
-use Rattle.chorus_machine.proofs.Machine.Follows.{IsSame, go-keeps, all-go-keeps}
+use Rattle.law_machine.specs.PlaceState.{Outgoing, Turn, Change, packed, say, unchanged}
+use Rattle.law_machine.specs.PlaceMachine.{act, work}
+use Rattle.law_machine.specs.Choosing.{choice, chooses_all, chooses_these}
+use Rattle.law_machine.specs.Working.{opens, taught_of, told, report_of}
+use Rattle.law_machine.specs.Lawful.{is_asked_here, is_lawful_cargo}
+use Rattle.law_machine.proofs.Machine.Chains.{act-keeps, work-keeps}
+use Rattle.law_machine.proofs.Machine.Follows.{IsSame, go-keeps, all-go-keeps}
 
 -- all that was put comes from the place, whose number is p
 record PutsFrom (p : ℕ) (t : Turn) : Type 0 where

@@ -4,9 +4,9 @@ use Rattle.std.specs.List.{All}
 use Rattle.std.proofs.lemmas.List.{reverse-append}
 use Rattle.std.proofs.lemmas.List.Elements.{All-head, All-tail}
 use Rattle.chorus_calls.specs.Callers.{Seated}
-use Rattle.chorus_machine.specs.PlaceState.{PlaceState, Outgoing, Turn}
-use Rattle.chorus_law.specs.Network.{NetState, Event, happened, after, one_if}
-use Rattle.chorus_law.proofs.Draining.Drains.{after-append}
+use Rattle.law_machine.specs.PlaceState.{PlaceState, Outgoing, Turn}
+use Rattle.law_network.specs.Network.{NetState, Event, happened, after, one_if}
+use Rattle.law_network.proofs.Draining.Drains.{after-append}
 use Rattle.chorus_place.specs.Calls.{Place, Ended, state}
 use Rattle.chorus_net.specs.Drains.{forward, puts_forward}
 use Rattle.chorus_net.specs.Room.{HaveRoom, HasRoomAt, KeepRoom, UsesRoom, room_at, entries_at, count_from, puts_in, puts_of}

@@ -7,14 +7,14 @@ use Rattle.chorus_ui.specs.declared.limits.TheConstants.{CLOCK_LIMIT}
 use Rattle.chorus_ui.specs.Layout.{has_place, places}
 use Rattle.chorus_entry.specs.declared.packet.Packet.{Packet}
 use Rattle.chorus_calls.specs.Callers.{Seated}
-use Rattle.chorus_out.specs.Waiting.{count, list_to}
-use Rattle.chorus_law.specs.declared.delivery.Delivered.{Delivered}
-use Rattle.chorus_law.specs.Packets.{first_on}
-use Rattle.chorus_law.specs.Network.{NetState, Event, Deliver, numbers, place_numbers, happened, after, from_one, from_each, round, rounds, one_if, serves, served, delivered, delivery, delivery_of}
-use Rattle.chorus_law.specs.Tasks.{IsDrain}
-use Rattle.chorus_law.specs.Calls.{draining, compared_at}
-use Rattle.chorus_law.proofs.Draining.Drains.{idle, idle-event, after-append}
-use Rattle.chorus_law.proofs.Draining.Emptied.{drains-leave-nothing}
+use Rattle.place_outbox.specs.Waiting.{count, list_to}
+use Rattle.law_network.specs.declared.delivery.Delivered.{Delivered}
+use Rattle.law_network.specs.Packets.{first_on}
+use Rattle.law_network.specs.Network.{NetState, Event, Deliver, numbers, place_numbers, happened, after, from_one, from_each, round, rounds, one_if, serves, served, delivered, delivery, delivery_of}
+use Rattle.law_network.specs.Tasks.{IsDrain}
+use Rattle.law_network.specs.Calls.{draining, compared_at}
+use Rattle.law_network.proofs.Draining.Drains.{idle, idle-event, after-append}
+use Rattle.law_network.proofs.Draining.Emptied.{drains-leave-nothing}
 use Rattle.chorus_place.specs.Calls.{Place}
 use Rattle.chorus_net.specs.Drains.{seat_clock, Ticks, forward, serves_all, puts_forward, Goes, GoesRound, GoesRounds, RoundsUse, Drains, Stops, StopsAmong, ComparesWorn}
 use Rattle.chorus_net.specs.Room.{UsesRoom, UsesRoomInRounds, puts_in, puts_of}

@@ -7,11 +7,11 @@ use Rattle.chorus_entry.specs.declared.packet.Packet.{Packet}
 use Rattle.chorus_calls.specs.Callers.{Seated}
 use Rattle.chorus_place.specs.declared.fault.PlaceFault.{PlaceFault}
 use Rattle.chorus_place.specs.declared.fault.PlaceFault.TheVariants as faults
-use Rattle.chorus_law.specs.declared.delivery.Delivered.{Delivered}
-use Rattle.chorus_law.specs.Packets.{first_on}
-use Rattle.chorus_law.specs.Calls.{compared_on, compared_at}
-use Rattle.chorus_law.specs.Network.{NetState, Event, happened, after}
-use Rattle.chorus_law.proofs.Draining.Drains.{after-append}
+use Rattle.law_network.specs.declared.delivery.Delivered.{Delivered}
+use Rattle.law_network.specs.Packets.{first_on}
+use Rattle.law_network.specs.Calls.{compared_on, compared_at}
+use Rattle.law_network.specs.Network.{NetState, Event, happened, after}
+use Rattle.law_network.proofs.Draining.Drains.{after-append}
 use Rattle.chorus_net.specs.Drains.{forward}
 use Rattle.chorus_net.specs.Worn.{compared_by, IsUnworn, AreUnworn, ComeUnworn}
 

@@ -4,14 +4,14 @@ use Rattle.std.specs.Prelude.{ℕ, ◌≡◌, ◌+◌, List, [], ◌∷◌, ◌+
 use Rattle.std.specs.Global.{Vec}
 use Rattle.chorus_entry.specs.declared.entry.Entry.{Entry}
 use Rattle.chorus_entry.specs.declared.packet.Packet.{Packet}
-use Rattle.chorus_out.specs.Waiting.{count}
-use Rattle.chorus_law.specs.declared.placed.Placed.{Placed}
-use Rattle.chorus_law.specs.Network.{NetState}
-use Rattle.chorus_law.specs.Left.{journals, packets_left, placed_at, placed}
+use Rattle.place_outbox.specs.Waiting.{count}
+use Rattle.law_network.specs.declared.placed.Placed.{Placed}
+use Rattle.law_network.specs.Network.{NetState}
+use Rattle.law_network.specs.Left.{journals, packets_left, placed_at, placed}
 use Rattle.chorus_merge.specs.Steps.{journals_of}
 use Rattle.chorus_place.specs.Calls.{Place}
 use Rattle.chorus_turn.specs.declared.close.Spent.{Spent}
-use Rattle.chorus_closing.specs.Places.{PlaceNote}
+use Rattle.law_closing.specs.Places.{PlaceNote}
 use Rattle.chorus_net.specs.declared.closed.Closed.{Closed}
 use Rattle.chorus_net.specs.declared.closed.Origin.{Origin}
 

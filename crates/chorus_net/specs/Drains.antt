@@ -3,8 +3,8 @@
 use Rattle.std.specs.Prelude.{ℕ, ◌≡◌, ◌+◌, ◌<◌, ◌≤◌, List, [], ◌∷◌, ◌++◌, Some, slice_get}
 use Rattle.chorus_ui.specs.declared.layout.Layout.{Layout}
 use Rattle.chorus_ui.specs.declared.limits.TheConstants.{CLOCK_LIMIT}
-use Rattle.chorus_law.specs.Network.{NetState, Event, happened, after, serves, round, served, place_numbers, from_one}
-use Rattle.chorus_law.specs.Calls.{last_of, draining}
+use Rattle.law_network.specs.Network.{NetState, Event, happened, after, serves, round, served, place_numbers, from_one}
+use Rattle.law_network.specs.Calls.{last_of, draining}
 use Rattle.chorus_net.specs.Room.{puts_in, puts_of, UsesRoom}
 use Rattle.chorus_net.specs.Sites.{SitesState, net}
 use Rattle.chorus_net.specs.Worn.{compared_by, AreUnworn, ComeUnworn, IsInRounds}

@@ -5,10 +5,10 @@ use Rattle.std.specs.Prelude.{ℕ, zero, suc, ◌≡◌, ◌+◌, ◌≤◌, ◌
 use Rattle.chorus_entry.specs.declared.command.Command.{Command}
 use Rattle.chorus_entry.specs.Places.{place_for}
 use Rattle.chorus_calls.specs.Callers.{Seated}
-use Rattle.chorus_machine.specs.PlaceState.{Outgoing}
-use Rattle.chorus_law.specs.Network.{NetState, Event, place, after, one_if}
-use Rattle.chorus_law.specs.History.{put_by}
-use Rattle.chorus_law.specs.Calls.{draining}
+use Rattle.law_machine.specs.PlaceState.{Outgoing}
+use Rattle.law_network.specs.Network.{NetState, Event, place, after, one_if}
+use Rattle.law_network.specs.History.{put_by}
+use Rattle.law_network.specs.Calls.{draining}
 use Rattle.chorus_place.specs.Calls.{Place, TakesNone}
 use Rattle.chorus_net.specs.Sites.{SitesState, net}
 

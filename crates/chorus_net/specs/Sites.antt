@@ -7,9 +7,9 @@ use Rattle.chorus_ui.specs.Layout as layouts
 use Rattle.chorus_ui.specs.Layout.{IsLayout}
 use Rattle.chorus_entry.specs.declared.packet.Packet.{Packet}
 use Rattle.chorus_calls.specs.Callers.{Seated}
-use Rattle.chorus_machine.specs.PlaceState.{Outgoing}
-use Rattle.chorus_law.specs.Network.{NetState, Event, schedule}
-use Rattle.chorus_law.specs.Schedules.{may_be}
+use Rattle.law_machine.specs.PlaceState.{Outgoing}
+use Rattle.law_network.specs.Network.{NetState, Event, schedule}
+use Rattle.law_network.specs.Schedules.{may_be}
 use Rattle.chorus_place.specs.Calls.{Place, state}
 
 -- the places by their numbers, and the caller of each seat, from seat 0 on

@@ -3,8 +3,8 @@
 use Rattle.std.specs.Prelude.{ℕ, ◌≡◌, ◌+◌, List, [], ◌∷◌}
 use Rattle.chorus_ui.specs.declared.layout.Layout.{Layout}
 use Rattle.chorus_ui.specs.Layout.{places}
-use Rattle.chorus_out.specs.Waiting.{nothing_to}
-use Rattle.chorus_machine.specs.PlaceState.{started}
+use Rattle.place_outbox.specs.Waiting.{nothing_to}
+use Rattle.law_machine.specs.PlaceState.{started}
 use Rattle.chorus_place.specs.Calls.{Place, state}
 
 pub record HasStarted (l : Layout) (k : ℕ) (p : Place) : Type 0 where

@@ -3,8 +3,8 @@
 use Rattle.std.specs.Prelude.{ℕ, ◌≡◌, ◌≤◌, ◌<◌, List, [], ◌∷◌, ◌++◌, Option, Some, None}
 use Rattle.chorus_ui.specs.declared.layout.Layout.{Layout}
 use Rattle.chorus_ui.specs.declared.limits.TheConstants.{CLOCK_LIMIT}
-use Rattle.chorus_law.specs.Calls.{compared, compared_at}
-use Rattle.chorus_law.specs.Network.{NetState, Event, Enter, Act, Deliver, happened, after, rounds}
+use Rattle.law_network.specs.Calls.{compared, compared_at}
+use Rattle.law_network.specs.Network.{NetState, Event, Enter, Act, Deliver, happened, after, rounds}
 
 -- the greatest of the clocks that an event compares; a caller that comes compares none, and neither does a delivery of nothing
 abbrev pub compared_by : Event → NetState → Option ℕ

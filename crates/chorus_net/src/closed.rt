@@ -4,10 +4,10 @@ ghost use Rattle.std.specs.Prelude.{◌≡◌};
 ghost use Rattle.chorus_net.specs.Closing.{worn_of, HasParts, IsOfTurns};
 
 use chorus_calls::Caller;
-use chorus_closing::Noted;
 use chorus_entry::{Command, Entry, Packet};
-use chorus_law::Placed;
 use chorus_turn::Spent;
+use law_closing::Noted;
+use law_network::Placed;
 use std::fmt::{self, Debug, Formatter};
 
 /// What is left when the sites, or the places at which threads took turns, are closed.

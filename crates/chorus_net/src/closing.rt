@@ -1,16 +1,16 @@
 //! Taking places apart.
 
 ghost use Rattle.std.specs.Prelude.{◌≡◌, ◌+◌, ◌≤◌, ◌++◌, [], length, vec_len, vec_capacity, IfSome};
-ghost use Rattle.chorus_out.specs.Waiting.{count};
-ghost use Rattle.chorus_law.specs.Left.{placed_at};
+ghost use Rattle.place_outbox.specs.Waiting.{count};
+ghost use Rattle.law_network.specs.Left.{placed_at};
 ghost use Rattle.chorus_net.specs.Closing.{flat, packets_of, journals_in, ports_of, total_waiting, total_held, closed_journals, IsOfSites};
 
 use crate::closed::{Closed, Origin};
 use chorus_entry::{Entry, Packet};
-use chorus_law::Placed;
-use chorus_out::Outbox;
 use chorus_place::Place;
 use chorus_ports::Ports;
+use law_network::Placed;
+use place_outbox::Outbox;
 
 /// How many packets wait at the places. None where they are too many to count.
 pub(crate) fn count_packets(places: &[Place]) -> Option<usize>

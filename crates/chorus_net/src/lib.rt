@@ -12,11 +12,11 @@ mod fault;
 mod sites;
 mod starting;
 
-pub use chorus_history::journals_are_a_schedule;
-pub use chorus_law::{
+pub use closed::Closed;
+pub use fault::EnterFault;
+pub use law_history::journals_are_a_schedule;
+pub use law_network::{
     Delivered, Placed, Quiet, drains_leave_nothing_to_do, each_message_stands_once,
     network_refines_world,
 };
-pub use closed::Closed;
-pub use fault::EnterFault;
 pub use sites::Sites;

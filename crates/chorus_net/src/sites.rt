@@ -4,10 +4,10 @@ ghost use Rattle.std.specs.Prelude.{◌≡◌, ◌≢◌, ℕ, [], ◌∷◌, �
 ghost use Rattle.chorus_ui.specs.Layout.{IsLayout, has_actor, has_place};
 ghost use Rattle.chorus_ui.specs.declared.limits.TheConstants.{CLOCK_LIMIT, SEATS_LIMIT};
 ghost use Rattle.chorus_entry.specs.Kinds.{names_actor};
-ghost use Rattle.chorus_law.specs.Packets.{first_on};
-ghost use Rattle.chorus_law.specs.Network.{Act, happened, replied, delivery, place_numbers, from_one, from_each, round};
-ghost use Rattle.chorus_law.specs.Schedules.{may_happen};
-ghost use Rattle.chorus_law.specs.Calls.{just_started, entering, delivering, posts_of, compared, compared_at};
+ghost use Rattle.law_network.specs.Packets.{first_on};
+ghost use Rattle.law_network.specs.Network.{Act, happened, replied, delivery, place_numbers, from_one, from_each, round};
+ghost use Rattle.law_network.specs.Schedules.{may_happen};
+ghost use Rattle.law_network.specs.Calls.{just_started, entering, delivering, posts_of, compared, compared_at};
 ghost use Rattle.chorus_net.specs.Closing.{IsClosed};
 ghost use Rattle.chorus_net.specs.Drains.{Ticks, Goes, GoesRound, Drains, Stops, StopsAmong, AnyCause, ComparesWorn, row_from, puts_forward};
 ghost use Rattle.chorus_net.specs.Room.{HaveRoom, HasRoomAt, KeepRoom, HasReserved, UsesRoom, UsesRoomInRounds, TakesNoneAt, puts_in, puts_of};
@@ -20,9 +20,9 @@ use crate::fault::EnterFault;
 use crate::starting::start_places;
 use chorus_calls::Caller;
 use chorus_entry::Command;
-use chorus_law::{Delivered, Quiet};
 use chorus_place::{Place, PlaceFault, Reply, place_for};
 use chorus_ui::{Kind, Layout, SEATS_LIMIT, Ui};
+use law_network::{Delivered, Quiet};
 use std::alloc::{AllocError, Global};
 use std::marker::Model;
 

@@ -15,10 +15,10 @@ use Rattle.chorus_entry.specs.Kinds.{names_actor, names_port}
 use Rattle.chorus_entry.specs.Ranges.{is_from, is_place_number, has_ranges_of_message, has_range_of_client, has_ranges_of_clients, has_ranges_of_record}
 use Rattle.chorus_world.specs.Places.{is_made_here}
 use Rattle.chorus_ports.specs.Table.{find}
-use Rattle.chorus_machine.specs.PlaceState.{PlaceState, Turn, greatest_clock}
-use Rattle.chorus_machine.specs.Lawful.{may_receive, is_lawful}
-use Rattle.chorus_parts.specs.Tables.{IsSound}
-use Rattle.chorus_parts.specs.Ports.{MayArrive}
+use Rattle.law_machine.specs.PlaceState.{PlaceState, Turn, greatest_clock}
+use Rattle.law_machine.specs.Lawful.{may_receive, is_lawful}
+use Rattle.place_state.specs.Tables.{IsSound}
+use Rattle.place_state.specs.Ports.{MayArrive}
 
 all-sound : (ms : List Message) → list_all has_ranges_of_message ms ≡ true → All IsSound ms
 all-sound [] h = All-nil IsSound

@@ -8,16 +8,16 @@ use Rattle.chorus_ui.specs.Layout.{IsLayout, has_place}
 use Rattle.chorus_entry.specs.Ranges.{has_ranges}
 use Rattle.chorus_entry.specs.Command.{meets_conditions, has_body_in_limit}
 use Rattle.chorus_calls.specs.Callers.{Seated, after_tick}
-use Rattle.chorus_out.specs.Waiting.{nothing_to, list_to, with_last, with_first, without_first}
-use Rattle.chorus_machine.specs.PlaceState.{Turn, Outgoing, started}
-use Rattle.chorus_machine.specs.PlaceMachine.{begun, begun_by, act, work}
-use Rattle.chorus_machine.specs.Lawful.{is_lawful}
-use Rattle.chorus_bounds.specs.Bounds.{IsWithin, IsCallerWithin, HasRanges, IsTurnWithin, AreWaitingWithin}
-use Rattle.chorus_bounds.proofs.Starting.{start-within}
-use Rattle.chorus_bounds.proofs.Commands.{act-within}
-use Rattle.chorus_bounds.proofs.Packets.{work-within}
-use Rattle.chorus_parts.specs.Tables.{Tables, state, turn}
-use Rattle.chorus_parts.specs.Commands.{StaysOut}
+use Rattle.place_outbox.specs.Waiting.{nothing_to, list_to, with_last, with_first, without_first}
+use Rattle.law_machine.specs.PlaceState.{Turn, Outgoing, started}
+use Rattle.law_machine.specs.PlaceMachine.{begun, begun_by, act, work}
+use Rattle.law_machine.specs.Lawful.{is_lawful}
+use Rattle.law_bounds.specs.Bounds.{IsWithin, IsCallerWithin, HasRanges, IsTurnWithin, AreWaitingWithin}
+use Rattle.law_bounds.proofs.Starting.{start-within}
+use Rattle.law_bounds.proofs.Commands.{act-within}
+use Rattle.law_bounds.proofs.Packets.{work-within}
+use Rattle.place_state.specs.Tables.{Tables, state, turn}
+use Rattle.place_state.specs.Commands.{StaysOut}
 use Rattle.chorus_place.specs.Calls.{IsAtRest, with_all}
 use Rattle.chorus_place.proofs.Ended.{Sent, begins, still-none, sends}
 

@@ -16,21 +16,21 @@ use Rattle.chorus_calls.specs.Clients.{Call, Calling, is_outstanding, with_call 
 use Rattle.chorus_calls.specs.Callers.{Seated, with_client, after_post}
 use Rattle.chorus_ports.specs.Table.{find, replace}
 use Rattle.chorus_ports.specs.Taking.{after_take}
-use Rattle.chorus_waits.specs.declared.wait.Key.{Key}
-use Rattle.chorus_waits.specs.declared.wait.Wait.{Wait}
-use Rattle.chorus_waits.specs.Queues.{changed, with_last}
-use Rattle.chorus_machine.specs.declared.reply.Reply.{Reply}
-use Rattle.chorus_machine.specs.PlaceState.{Turn, newest, unchanged, say, note}
-use Rattle.chorus_machine.specs.PlaceMachine.{act, work}
-use Rattle.chorus_machine.specs.Own.{own}
-use Rattle.chorus_machine.specs.Doing.{does, direct, post, poster, posts, posts_direct, posts_to_group, chooses_own, asks, choosing_place, after_tag, ends, holding, takes, first_message}
-use Rattle.chorus_machine.specs.Choosing.{choice, by_group, all_go, chooses, chooses_all, chooses_these}
-use Rattle.chorus_machine.specs.Trying.{verdict_here, tries, settles_here, goes_on, goes_unless, go}
-use Rattle.chorus_machine.specs.Working.{opens}
-use Rattle.chorus_machine.specs.Replies.{post_reply}
-use Rattle.chorus_parts.specs.Commands.{Performed}
-use Rattle.chorus_parts.specs.Steps.{posted, told_by}
-use Rattle.chorus_parts.specs.Tables.{Tables, turn}
+use Rattle.place_unsettled.specs.declared.wait.Key.{Key}
+use Rattle.place_unsettled.specs.declared.wait.Wait.{Wait}
+use Rattle.place_unsettled.specs.Queues.{changed, with_last}
+use Rattle.law_machine.specs.declared.reply.Reply.{Reply}
+use Rattle.law_machine.specs.PlaceState.{Turn, newest, unchanged, say, note}
+use Rattle.law_machine.specs.PlaceMachine.{act, work}
+use Rattle.law_machine.specs.Own.{own}
+use Rattle.law_machine.specs.Doing.{does, direct, post, poster, posts, posts_direct, posts_to_group, chooses_own, asks, choosing_place, after_tag, ends, holding, takes, first_message}
+use Rattle.law_machine.specs.Choosing.{choice, by_group, all_go, chooses, chooses_all, chooses_these}
+use Rattle.law_machine.specs.Trying.{verdict_here, tries, settles_here, goes_on, goes_unless, go}
+use Rattle.law_machine.specs.Working.{opens}
+use Rattle.law_machine.specs.Replies.{post_reply}
+use Rattle.place_state.specs.Commands.{Performed}
+use Rattle.place_state.specs.Steps.{posted, told_by}
+use Rattle.place_state.specs.Tables.{Tables, turn}
 use Rattle.chorus_place.specs.CallTurns.{with_call, GaveWithinPosts}
 use Rattle.chorus_place.proofs.Turns.{post-performs}
 

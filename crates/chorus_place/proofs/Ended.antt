@@ -4,16 +4,16 @@ use Rattle.std.proofs.lemmas.List.{length-map}
 use Rattle.chorus_entry.specs.declared.command.Command.{Command}
 use Rattle.chorus_entry.specs.declared.packet.Packet.{Packet}
 use Rattle.chorus_calls.specs.Callers.{Seated}
-use Rattle.chorus_out.specs.Waiting.{with_last}
-use Rattle.chorus_machine.specs.declared.reply.Reply.{Reply}
-use Rattle.chorus_machine.specs.PlaceState.{Turn, Outgoing}
-use Rattle.chorus_machine.specs.PlaceMachine.{begun, act}
-use Rattle.chorus_machine.specs.Replies.{reply}
-use Rattle.chorus_parts.specs.declared.parcel.Parcel.{Parcel}
-use Rattle.chorus_parts.specs.Tables.{Tables, state, turn, outgoing}
-use Rattle.chorus_parts.specs.Commands.{Performed, StaysOut}
-use Rattle.chorus_parts.specs.Room.{KeepsRoom}
-use Rattle.chorus_parts.specs.Sending as sending
+use Rattle.place_outbox.specs.Waiting.{with_last}
+use Rattle.law_machine.specs.declared.reply.Reply.{Reply}
+use Rattle.law_machine.specs.PlaceState.{Turn, Outgoing}
+use Rattle.law_machine.specs.PlaceMachine.{begun, act}
+use Rattle.law_machine.specs.Replies.{reply}
+use Rattle.place_state.specs.declared.parcel.Parcel.{Parcel}
+use Rattle.place_state.specs.Tables.{Tables, state, turn, outgoing}
+use Rattle.place_state.specs.Commands.{Performed, StaysOut}
+use Rattle.place_state.specs.Room.{KeepsRoom}
+use Rattle.place_state.specs.Sending as sending
 use Rattle.chorus_place.specs.Calls as calls
 
 -- between turns nothing is put

@@ -8,11 +8,11 @@ use Rattle.chorus_entry.specs.declared.act.Act.{Act}
 use Rattle.chorus_entry.specs.declared.command.Command.{Command}
 use Rattle.chorus_entry.specs.declared.record.PortRecord.{PortRecord}
 use Rattle.chorus_ports.specs.Table.{find}
-use Rattle.chorus_machine.specs.declared.reply.Reply.{Reply}
-use Rattle.chorus_machine.specs.PlaceState.{PlaceState, Turn}
-use Rattle.chorus_machine.specs.Own.{held_by, move_act}
-use Rattle.chorus_machine.specs.Doing.{does}
-use Rattle.chorus_parts.specs.Commands.{Performed}
+use Rattle.law_machine.specs.declared.reply.Reply.{Reply}
+use Rattle.law_machine.specs.PlaceState.{PlaceState, Turn}
+use Rattle.law_machine.specs.Own.{held_by, move_act}
+use Rattle.law_machine.specs.Doing.{does}
+use Rattle.place_state.specs.Commands.{Performed}
 use Rattle.chorus_place.proofs.Performing.{performs, has-home}
 
 same-number : (m n : ℕ) → m ≡ n → (m == n) ≡ true

@@ -15,10 +15,10 @@ use Rattle.chorus_entry.specs.Kinds.{names_port}
 use Rattle.chorus_entry.specs.Same.{is_number}
 use Rattle.chorus_entry.specs.Ranges.{is_place_number, is_route, is_demanded_site, is_told, is_reported, is_asked, has_range_of_id, has_ranges_of_message, has_ranges_of_answer, has_ranges_of_cargo, has_ranges}
 use Rattle.chorus_world.specs.Places.{taught}
-use Rattle.chorus_waits.specs.declared.wait.Wait.{Wait}
-use Rattle.chorus_machine.specs.PlaceState.{PlaceState, Turn, greatest_clock}
-use Rattle.chorus_machine.specs.Lawful.{is_first_of, is_under_way, is_known_answer, may_teach, is_lawful_cargo, is_lawful}
-use Rattle.chorus_parts.specs.Steps.{MayTeach}
+use Rattle.place_unsettled.specs.declared.wait.Wait.{Wait}
+use Rattle.law_machine.specs.PlaceState.{PlaceState, Turn, greatest_clock}
+use Rattle.law_machine.specs.Lawful.{is_first_of, is_under_way, is_known_answer, may_teach, is_lawful_cargo, is_lawful}
+use Rattle.place_state.specs.Steps.{MayTeach}
 use Rattle.chorus_place.specs.Opening.{MayOpen}
 use Rattle.chorus_place.proofs.Arriving.{may-arrive}
 

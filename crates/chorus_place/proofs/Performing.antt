@@ -20,13 +20,13 @@ use Rattle.chorus_ports.specs.declared.taking.Taken.{Taken}
 use Rattle.chorus_ports.specs.declared.taking.Taken.TheVariants as T
 use Rattle.chorus_ports.specs.Table.{find, replace}
 use Rattle.chorus_ports.specs.Taking.{taken, taken_from, first_at, passed, after_take}
-use Rattle.chorus_machine.specs.declared.reply.Reply.{Reply}
-use Rattle.chorus_machine.specs.PlaceState.{PlaceState, Turn, next_clock}
-use Rattle.chorus_machine.specs.Own.{own, make_act, next_port, take_act, held_by, delete_act}
-use Rattle.chorus_machine.specs.Doing.{does, takes, with_ports, first_message, ends, holding}
-use Rattle.chorus_machine.specs.Replies.{reply_to, settling, taken_reply}
-use Rattle.chorus_parts.specs.Ports.{takes_from, ids_of}
-use Rattle.chorus_parts.specs.Commands.{Performed}
+use Rattle.law_machine.specs.declared.reply.Reply.{Reply}
+use Rattle.law_machine.specs.PlaceState.{PlaceState, Turn, next_clock}
+use Rattle.law_machine.specs.Own.{own, make_act, next_port, take_act, held_by, delete_act}
+use Rattle.law_machine.specs.Doing.{does, takes, with_ports, first_message, ends, holding}
+use Rattle.law_machine.specs.Replies.{reply_to, settling, taken_reply}
+use Rattle.place_state.specs.Ports.{takes_from, ids_of}
+use Rattle.place_state.specs.Commands.{Performed}
 
 -- the command's own act is this one, and it was done
 pub performs : (c : Command) (x : Act) (t mid u : Turn) (r : Reply) → mid ≡ t → own c t ≡ x → u ≡ does x mid → r ≡ reply_to x t (does x t) → Performed c t u r

@@ -10,29 +10,29 @@ use Rattle.chorus_entry.specs.declared.answer.Answer.TheVariants as A
 use Rattle.chorus_world.specs.Places.{taught}
 use Rattle.chorus_world.specs.declared.place.Location.{Location}
 use Rattle.chorus_hints.specs.Known.{newest_of}
-use Rattle.chorus_waits.specs.declared.wait.Key.{Key}
-use Rattle.chorus_waits.specs.declared.wait.Wait.{Wait}
-use Rattle.chorus_waits.specs.Queues.{Queue, changed, with_last}
-use Rattle.chorus_machine.specs.PlaceState.{Turn, location, newest, greatest_clock, say, unchanged}
-use Rattle.chorus_machine.specs.Trying.{go}
-use Rattle.chorus_machine.specs.Doing.{direct, post, does, after_tag}
-use Rattle.chorus_machine.specs.Own.{own}
+use Rattle.place_unsettled.specs.declared.wait.Key.{Key}
+use Rattle.place_unsettled.specs.declared.wait.Wait.{Wait}
+use Rattle.place_unsettled.specs.Queues.{Queue, changed, with_last}
+use Rattle.law_machine.specs.PlaceState.{Turn, location, newest, greatest_clock, say, unchanged}
+use Rattle.law_machine.specs.Trying.{go}
+use Rattle.law_machine.specs.Doing.{direct, post, does, after_tag}
+use Rattle.law_machine.specs.Own.{own}
 use Rattle.chorus_entry.specs.declared.tag.Tag.{Tag}
 use Rattle.chorus_entry.specs.declared.tag.Tag.TheVariants as tags
 use Rattle.chorus_entry.specs.declared.act.Act.{Act}
 use Rattle.chorus_entry.specs.declared.dest.Dest.{Dest}
 use Rattle.chorus_entry.specs.declared.command.Command.{Command}
 use Rattle.chorus_entry.specs.declared.message.Message.{Message}
-use Rattle.chorus_machine.specs.declared.reply.Reply.{Reply}
-use Rattle.chorus_machine.specs.Replies.{reply_to, post_reply}
-use Rattle.chorus_parts.specs.Commands.{Performed}
+use Rattle.law_machine.specs.declared.reply.Reply.{Reply}
+use Rattle.law_machine.specs.Replies.{reply_to, post_reply}
+use Rattle.place_state.specs.Commands.{Performed}
 use Rattle.chorus_calls.specs.Callers.{after_post}
-use Rattle.chorus_machine.specs.Working.{hears_verdict, taught_of, told}
-use Rattle.chorus_parts.specs.Going.{first_to, leaving_to, leaving}
+use Rattle.law_machine.specs.Working.{hears_verdict, taught_of, told}
+use Rattle.place_state.specs.Going.{first_to, leaving_to, leaving}
 use Rattle.chorus_place.specs.Posting.{settled_by}
-use Rattle.chorus_parts.specs.Steps.{told_by, posted}
-use Rattle.chorus_parts.proofs.Deciding.{located}
-use Rattle.chorus_parts.proofs.Reports.{at-key}
+use Rattle.place_state.specs.Steps.{told_by, posted}
+use Rattle.place_state.proofs.Deciding.{located}
+use Rattle.place_state.proofs.Reports.{at-key}
 
 max-same : (n : ℕ) → max n n ≡ n
 max-same n = omega arith

@@ -12,20 +12,20 @@ use Rattle.chorus_entry.specs.Command.{meets_conditions}
 use Rattle.chorus_entry.specs.Places.{place_for}
 use Rattle.chorus_ports.specs.Table.{find}
 use Rattle.chorus_hints.specs.Known.{Known, kept}
-use Rattle.chorus_waits.specs.declared.wait.Key.{Key}
-use Rattle.chorus_waits.specs.declared.unheard.Post.{Post}
-use Rattle.chorus_waits.specs.declared.unheard.Copies.{Copies}
-use Rattle.chorus_waits.specs.Queues.{Row, queue}
-use Rattle.chorus_waits.specs.Unheard.{is_unheard}
+use Rattle.place_unsettled.specs.declared.wait.Key.{Key}
+use Rattle.place_unsettled.specs.declared.unheard.Post.{Post}
+use Rattle.place_unsettled.specs.declared.unheard.Copies.{Copies}
+use Rattle.place_unsettled.specs.Queues.{Row, queue}
+use Rattle.place_unsettled.specs.Unheard.{is_unheard}
 use Rattle.chorus_calls.specs.Callers.{Seated}
-use Rattle.chorus_out.specs.Waiting.{Waiting, with_last}
-use Rattle.chorus_machine.specs.declared.reply.Reply.{Reply}
-use Rattle.chorus_machine.specs.PlaceState.{PlaceState, Outgoing, Turn, greatest_clock}
-use Rattle.chorus_machine.specs.PlaceMachine.{begun, begun_by, act, work}
-use Rattle.chorus_machine.specs.Own.{held_by}
-use Rattle.chorus_machine.specs.Replies.{reply}
-use Rattle.chorus_bounds.specs.Bounds.{IsWithin, AreWaitingWithin}
-use Rattle.chorus_parts.specs.Tables.{Tables, state as state_of}
+use Rattle.place_outbox.specs.Waiting.{Waiting, with_last}
+use Rattle.law_machine.specs.declared.reply.Reply.{Reply}
+use Rattle.law_machine.specs.PlaceState.{PlaceState, Outgoing, Turn, greatest_clock}
+use Rattle.law_machine.specs.PlaceMachine.{begun, begun_by, act, work}
+use Rattle.law_machine.specs.Own.{held_by}
+use Rattle.law_machine.specs.Replies.{reply}
+use Rattle.law_bounds.specs.Bounds.{IsWithin, AreWaitingWithin}
+use Rattle.place_state.specs.Tables.{Tables, state as state_of}
 
 -- a place: its layout and number; its journal, the newest entry first; its tables; the packets that wait to go to other places,
 -- by these; and how many entries and packets need no memory

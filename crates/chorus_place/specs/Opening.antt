@@ -12,12 +12,12 @@ use Rattle.chorus_entry.specs.declared.packet.Cargo.{Cargo}
 use Rattle.chorus_entry.specs.Dest.{group_in}
 use Rattle.chorus_entry.specs.Ranges.{is_asked}
 use Rattle.chorus_world.specs.Places.{taught}
-use Rattle.chorus_waits.specs.declared.wait.Key.{Key}
-use Rattle.chorus_machine.specs.PlaceState.{Turn}
-use Rattle.chorus_machine.specs.Lawful.{is_asked_here}
-use Rattle.chorus_parts.specs.Tables.{IsSound}
-use Rattle.chorus_parts.specs.Ports.{MayArrive}
-use Rattle.chorus_parts.specs.Steps.{MayTeach}
+use Rattle.place_unsettled.specs.declared.wait.Key.{Key}
+use Rattle.law_machine.specs.PlaceState.{Turn}
+use Rattle.law_machine.specs.Lawful.{is_asked_here}
+use Rattle.place_state.specs.Tables.{IsSound}
+use Rattle.place_state.specs.Ports.{MayArrive}
+use Rattle.place_state.specs.Steps.{MayTeach}
 
 -- a message that another place tried may be decided here
 pub record MayTry (from : ℕ) (m : Message) (q : Ui) (t : Turn) : Type 0 where

@@ -6,11 +6,11 @@ use Rattle.chorus_entry.specs.declared.answer.Answer.{Answer}
 use Rattle.chorus_entry.specs.declared.answer.Answer.TheVariants as A
 use Rattle.chorus_entry.specs.Act.{answer_of}
 use Rattle.chorus_entry.specs.declared.entry.Entry.{Entry}
-use Rattle.chorus_waits.specs.Queues.{room}
-use Rattle.chorus_machine.specs.Doing.{direct, post}
+use Rattle.place_unsettled.specs.Queues.{room}
+use Rattle.law_machine.specs.Doing.{direct, post}
 use Rattle.chorus_place.specs.declared.turns_messages.Ready.{Ready}
-use Rattle.chorus_parts.specs.Tables.{Tables, IsSound}
-use Rattle.chorus_parts.specs.Going.{waits_for, reports_for, leaving_after}
+use Rattle.place_state.specs.Tables.{Tables, IsSound}
+use Rattle.place_state.specs.Going.{waits_for, reports_for, leaving_after}
 
 -- how many messages an answer settles
 abbrev pub settled_by : Answer → ℕ

@@ -3,23 +3,23 @@
 ghost use Rattle.std.specs.Prelude.{◌≡◌, ◌≤◌, ◌<◌, true, IfErr, OnOk, OnErr};
 ghost use Rattle.chorus_ui.specs.declared.limits.TheConstants.{CLOCK_LIMIT, MEMBERS_LIMIT};
 ghost use Rattle.chorus_entry.specs.declared.packet.Cargo.TheVariants as Cargo;
-ghost use Rattle.chorus_machine.specs.Lawful.{is_lawful};
-ghost use Rattle.chorus_machine.specs.PlaceMachine.{work};
-ghost use Rattle.chorus_machine.specs.PlaceState.{greatest_clock};
-ghost use Rattle.chorus_machine.specs.Working.{opens};
-ghost use Rattle.chorus_parts.specs.Commands.{StaysOut};
+ghost use Rattle.law_machine.specs.Lawful.{is_lawful};
+ghost use Rattle.law_machine.specs.PlaceMachine.{work};
+ghost use Rattle.law_machine.specs.PlaceState.{greatest_clock};
+ghost use Rattle.law_machine.specs.Working.{opens};
+ghost use Rattle.place_state.specs.Commands.{StaysOut};
 ghost use Rattle.chorus_place.specs.Opening.{MayOpen, MayTry, MayTell, MayAsk};
-ghost use Rattle.chorus_parts.specs.Ports.{MayArrive};
-ghost use Rattle.chorus_parts.specs.Room.{KeepsRoom};
-ghost use Rattle.chorus_parts.specs.Tables.{state, turn};
+ghost use Rattle.place_state.specs.Ports.{MayArrive};
+ghost use Rattle.place_state.specs.Room.{KeepsRoom};
+ghost use Rattle.place_state.specs.Tables.{state, turn};
 
 use crate::turns_messages::{hear_report, hear_try, hear_verdict};
 use crate::turns_ports::hear_transfer;
 use chorus_calls::Caller;
 use chorus_entry::{Answer, Cargo, Dest, Message, MsgId, Packet, PortRecord};
-use chorus_routes::hear_ask;
-use chorus_steps::Tables;
-use chorus_waits::Key;
+use place_tables::Tables;
+use place_turns::hear_ask;
+use place_unsettled::Key;
 use std::alloc::AllocError;
 
 /// Works off a lawful packet, whose clock the caller's last is not below. Want of memory hands the packet back and changes

@@ -6,20 +6,20 @@ ghost use Rattle.chorus_entry.specs.declared.command.Command.TheVariants as Comm
 ghost use Rattle.chorus_entry.specs.Command.{is_post, meets_conditions, demands_a_site};
 ghost use Rattle.chorus_entry.specs.Kinds.{has_kinds_in_dest};
 ghost use Rattle.chorus_entry.specs.Places.{place_for};
-ghost use Rattle.chorus_machine.specs.PlaceState.{greatest_clock};
+ghost use Rattle.law_machine.specs.PlaceState.{greatest_clock};
 ghost use Rattle.chorus_place.specs.Calls.{is_call, TakesNone};
-ghost use Rattle.chorus_parts.specs.Commands.{Performed, StaysOut};
-ghost use Rattle.chorus_parts.specs.Room.{KeepsRoom};
-ghost use Rattle.chorus_parts.specs.Tables.{state, turn};
+ghost use Rattle.place_state.specs.Commands.{Performed, StaysOut};
+ghost use Rattle.place_state.specs.Room.{KeepsRoom};
+ghost use Rattle.place_state.specs.Tables.{state, turn};
 
 use crate::turns_calls::{call, cancel, retry, send_reply};
 use crate::turns_messages::send_to_port;
 use crate::turns_ports::{delete, make, move_port, take};
 use chorus_calls::Caller;
 use chorus_entry::{Body, Command, Dest};
-use chorus_machine::Reply;
-use chorus_routes::{join, leave, make_group, post_to_group};
-use chorus_steps::Tables;
+use law_machine::Reply;
+use place_tables::Tables;
+use place_turns::{join, leave, make_group, post_to_group};
 use std::alloc::AllocError;
 
 /// Performs a caller's command. Want of memory changes nothing.

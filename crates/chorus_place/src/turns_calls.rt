@@ -4,19 +4,19 @@ ghost use Rattle.std.specs.Prelude.{◌≡◌, ◌+◌, ◌^◌, ◌<◌, ◌≤
 ghost use Rattle.chorus_ui.specs.declared.kind.Kind.TheVariants as Kind;
 ghost use Rattle.chorus_ui.specs.declared.limits.TheConstants.{BODY_LIMIT, CLOCK_LIMIT};
 ghost use Rattle.chorus_entry.specs.declared.command.Command.TheVariants as Command;
-ghost use Rattle.chorus_machine.specs.PlaceState.{greatest_clock, note};
-ghost use Rattle.chorus_parts.specs.Plain.{is_plain};
-ghost use Rattle.chorus_parts.specs.Room.{KeepsRoom};
-ghost use Rattle.chorus_parts.specs.Tables.{turn};
-ghost use Rattle.chorus_parts.specs.Commands.{Performed, StaysOut};
+ghost use Rattle.law_machine.specs.PlaceState.{greatest_clock, note};
+ghost use Rattle.place_state.specs.Plain.{is_plain};
+ghost use Rattle.place_state.specs.Room.{KeepsRoom};
+ghost use Rattle.place_state.specs.Tables.{turn};
+ghost use Rattle.place_state.specs.Commands.{Performed, StaysOut};
 ghost use Rattle.chorus_place.specs.CallTurns.{outstanding_number, with_call, without_call};
 
 use crate::turns_messages::{post_prepared, post_reply, ready_post};
 use chorus_calls::Caller;
 use chorus_entry::{Act, Body, Hand, Tag};
-use chorus_machine::Reply;
-use chorus_steps::Tables;
 use chorus_ui::Ui;
+use law_machine::Reply;
+use place_tables::Tables;
 use std::alloc::AllocError;
 
 /// A copy of the body, which is within the limit.

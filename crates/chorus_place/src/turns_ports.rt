@@ -7,21 +7,21 @@ ghost use Rattle.chorus_entry.specs.declared.command.Command.TheVariants as Comm
 ghost use Rattle.chorus_entry.specs.Places.{place_for};
 ghost use Rattle.chorus_ports.specs.Table.{find};
 ghost use Rattle.chorus_calls.specs.Callers.{Seated};
-ghost use Rattle.chorus_machine.specs.PlaceState.{greatest_clock};
-ghost use Rattle.chorus_machine.specs.Own.{held_by, next_port};
-ghost use Rattle.chorus_machine.specs.Working.{receives_port};
-ghost use Rattle.chorus_parts.specs.Commands.{Performed, StaysOut};
-ghost use Rattle.chorus_parts.specs.Ports.{MayArrive};
-ghost use Rattle.chorus_parts.specs.Room.{KeepsRoom};
-ghost use Rattle.chorus_parts.specs.Tables.{turn};
+ghost use Rattle.law_machine.specs.PlaceState.{greatest_clock};
+ghost use Rattle.law_machine.specs.Own.{held_by, next_port};
+ghost use Rattle.law_machine.specs.Working.{receives_port};
+ghost use Rattle.place_state.specs.Commands.{Performed, StaysOut};
+ghost use Rattle.place_state.specs.Ports.{MayArrive};
+ghost use Rattle.place_state.specs.Room.{KeepsRoom};
+ghost use Rattle.place_state.specs.Tables.{turn};
 
 use chorus_calls::Caller;
 use chorus_entry::{Act, PortRecord};
-use chorus_machine::Reply;
 use chorus_ports::Taken;
-use chorus_routes::{has_made_all, next_port};
-use chorus_steps::Tables;
 use chorus_ui::{Kind, Ui};
+use law_machine::Reply;
+use place_tables::Tables;
+use place_turns::{has_made_all, next_port};
 use std::alloc::AllocError;
 
 /// Makes a port for the actor, whose home place this is where the layout has it. `NoActor` where it has not, and else

@@ -9,14 +9,14 @@ use Rattle.chorus_ui.specs.declared.layout.Layout.{Layout}
 use Rattle.chorus_entry.specs.declared.command.Command.{Command}
 use Rattle.chorus_entry.specs.declared.packet.Packet.{Packet}
 use Rattle.chorus_calls.specs.Callers.{Seated, new_caller}
-use Rattle.chorus_machine.specs.PlaceMachine.{begun_by, act, work}
-use Rattle.chorus_machine.proofs.Machine.Stays.{act-stays, work-stays}
-use Rattle.chorus_law.specs.Packets.{first_on}
-use Rattle.chorus_law.specs.Network.{NetState, Event, Enter, Act, Deliver, schedule, commanded, works_off, delivered, turn_for, place, round, rounds}
-use Rattle.chorus_law.specs.Calls.{first_actor, starting}
-use Rattle.chorus_law.specs.Stands.{actor_of}
-use Rattle.chorus_law.specs.Tasks.{Task, Do, Drain, CarryOut, CarryFront, AreDeliveries}
-use Rattle.chorus_law.proofs.Draining.Drains.{round-deliveries}
+use Rattle.law_machine.specs.PlaceMachine.{begun_by, act, work}
+use Rattle.law_machine.proofs.Machine.Stays.{act-stays, work-stays}
+use Rattle.law_network.specs.Packets.{first_on}
+use Rattle.law_network.specs.Network.{NetState, Event, Enter, Act, Deliver, schedule, commanded, works_off, delivered, turn_for, place, round, rounds}
+use Rattle.law_network.specs.Calls.{first_actor, starting}
+use Rattle.law_network.specs.Stands.{actor_of}
+use Rattle.law_network.specs.Tasks.{Task, Do, Drain, CarryOut, CarryFront, AreDeliveries}
+use Rattle.law_network.proofs.Draining.Drains.{round-deliveries}
 use Rattle.chorus_scene.specs.declared.scenario.Step as step
 use Rattle.chorus_scene.specs.declared.scenario.Step.TheVariants as steps
 use Rattle.chorus_scene.specs.Scene.{Scene, Script}

@@ -17,22 +17,22 @@ use Rattle.chorus_entry.specs.Places.{place_for}
 use Rattle.chorus_world.specs.Views.{at}
 use Rattle.chorus_world.specs.Places.{last_clock}
 use Rattle.chorus_calls.specs.Callers.{Seated, new_caller}
-use Rattle.chorus_machine.specs.PlaceState.{Outgoing, Turn, Change, packed, next_entry, next_clock, say}
-use Rattle.chorus_machine.specs.PlaceMachine.{begun_by, act, work}
-use Rattle.chorus_machine.proofs.Machine.Chains.{act-keeps, work-keeps}
-use Rattle.chorus_machine.proofs.Machine.Follows.{IsSame}
-use Rattle.chorus_law.specs.Packets.{is_link, is_link_before, put, put_all, first_on, rest_on}
-use Rattle.chorus_law.specs.Network as net
-use Rattle.chorus_law.specs.Network.{NetState, Event, Enter, Deliver, schedule, place, turn_for, ended, commanded, works_off, delivered}
-use Rattle.chorus_law.specs.Calls.{starting, last_of, compared_with, compared_on}
-use Rattle.chorus_law.specs.History.{history, newer}
-use Rattle.chorus_law.specs.Left.{merged_past}
-use Rattle.chorus_law.specs.Schedules.{may_be}
-use Rattle.chorus_law.specs.Tasks.{AreDeliveries}
+use Rattle.law_machine.specs.PlaceState.{Outgoing, Turn, Change, packed, next_entry, next_clock, say}
+use Rattle.law_machine.specs.PlaceMachine.{begun_by, act, work}
+use Rattle.law_machine.proofs.Machine.Chains.{act-keeps, work-keeps}
+use Rattle.law_machine.proofs.Machine.Follows.{IsSame}
+use Rattle.law_network.specs.Packets.{is_link, is_link_before, put, put_all, first_on, rest_on}
+use Rattle.law_network.specs.Network as net
+use Rattle.law_network.specs.Network.{NetState, Event, Enter, Deliver, schedule, place, turn_for, ended, commanded, works_off, delivered}
+use Rattle.law_network.specs.Calls.{starting, last_of, compared_with, compared_on}
+use Rattle.law_network.specs.History.{history, newer}
+use Rattle.law_network.specs.Left.{merged_past}
+use Rattle.law_network.specs.Schedules.{may_be}
+use Rattle.law_network.specs.Tasks.{AreDeliveries}
 use Rattle.chorus_run.proofs.Seating.{get-last}
-use Rattle.chorus_law.proofs.Standing.CallerList.{get-replaced, get-other}
-use Rattle.chorus_law.proofs.Events.Said.{said_with, said_on, said_at, newer-is}
-use Rattle.chorus_law.proofs.Promises.Promised.{stands-at, journals-at}
+use Rattle.law_network.proofs.Standing.CallerList.{get-replaced, get-other}
+use Rattle.law_network.proofs.Events.Said.{said_with, said_on, said_at, newer-is}
+use Rattle.law_network.proofs.Promises.Promised.{stands-at, journals-at}
 use Rattle.chorus_net.specs.Worn.{compared_by}
 use Rattle.chorus_run.specs.Worn.{HasClock}
 use Rattle.chorus_run.specs.Performing.{IsClock, HaveClocks}

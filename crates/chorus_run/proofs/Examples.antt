@@ -4,9 +4,9 @@ use Rattle.chorus_ui.specs.declared.kind.Kind.TheVariants as kinds
 use Rattle.chorus_ui.specs.declared.ui.Ui.{Ui}
 use Rattle.chorus_entry.specs.declared.dest.Dest.{Dest}
 use Rattle.chorus_entry.specs.declared.command.Command.{Command}
-use Rattle.chorus_law.specs.Network.{Enter, Act, Deliver}
-use Rattle.chorus_law.specs.Calls.{first_actor}
-use Rattle.chorus_law.specs.Tasks.{Do, Drain}
+use Rattle.law_network.specs.Network.{Enter, Act, Deliver}
+use Rattle.law_network.specs.Calls.{first_actor}
+use Rattle.law_network.specs.Tasks.{Do, Drain}
 use Rattle.chorus_scene.specs.declared.scenario.SetupLine.TheVariants as setups
 use Rattle.chorus_scene.specs.declared.scenario.Step.TheVariants as steps
 use Rattle.chorus_scene.specs.Scene.{Scene, scene_with}

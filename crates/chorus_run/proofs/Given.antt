@@ -7,8 +7,8 @@ use Rattle.std.proofs.lemmas.List.Sums.{sum_by-append}
 use Rattle.std.proofs.lemmas.Option.{slice_get-map, slice_get-get_or, get_or_from_slice_get}
 use Rattle.chorus_ui.specs.declared.layout.Layout.{Layout}
 use Rattle.chorus_entry.specs.declared.command.Command.{Command}
-use Rattle.chorus_law.specs.Network.{Enter, Act, Deliver}
-use Rattle.chorus_law.specs.Tasks.{Task, Do, Drain, commands_in}
+use Rattle.law_network.specs.Network.{Enter, Act, Deliver}
+use Rattle.law_network.specs.Tasks.{Task, Do, Drain, commands_in}
 use Rattle.chorus_scene.specs.declared.scenario.Step as step
 use Rattle.chorus_scene.specs.declared.scenario.Step.TheVariants as steps
 use Rattle.chorus_scene.specs.Scene.{Scene, Script}

@@ -12,9 +12,9 @@ use Rattle.chorus_ui.specs.Layout.{IsLayout, has_actor, has_place}
 use Rattle.chorus_entry.specs.Command.{is_post, has_body_in_limit, meets_conditions}
 use Rattle.chorus_entry.specs.declared.command.Command.{Command}
 use Rattle.chorus_entry.specs.declared.dest.Dest.{Dest}
-use Rattle.chorus_law.specs.Network.{NetState, Enter, Act, Deliver, happened, numbers}
-use Rattle.chorus_law.specs.Calls.{first_actor, starting, last_of, entering}
-use Rattle.chorus_law.specs.Tasks.{Task, Do, Drain, commands_in}
+use Rattle.law_network.specs.Network.{NetState, Enter, Act, Deliver, happened, numbers}
+use Rattle.law_network.specs.Calls.{first_actor, starting, last_of, entering}
+use Rattle.law_network.specs.Tasks.{Task, Do, Drain, commands_in}
 use Rattle.chorus_net.specs.declared.closed.Closed.{Closed}
 use Rattle.chorus_show.specs.declared.status.Status.{Status}
 use Rattle.chorus_run.specs.declared.drawing.Draw.{Draw}

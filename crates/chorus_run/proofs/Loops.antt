@@ -12,10 +12,10 @@ use Rattle.chorus_ui.specs.declared.limits.TheConstants.{CLOCK_LIMIT, SEATS_LIMI
 use Rattle.chorus_entry.specs.declared.command.Command.{Command}
 use Rattle.chorus_calls.specs.Callers.{Seated, new_caller}
 use Rattle.chorus_place.specs.declared.fault.PlaceFault.{PlaceFault}
-use Rattle.chorus_law.specs.Network.{NetState, Event, Enter, Act, Deliver, happened, schedule}
-use Rattle.chorus_law.specs.Calls as calls
-use Rattle.chorus_law.specs.Calls.{first_actor, starting, last_of}
-use Rattle.chorus_law.specs.Tasks.{Task, Do, Drain}
+use Rattle.law_network.specs.Network.{NetState, Event, Enter, Act, Deliver, happened, schedule}
+use Rattle.law_network.specs.Calls as calls
+use Rattle.law_network.specs.Calls.{first_actor, starting, last_of}
+use Rattle.law_network.specs.Tasks.{Task, Do, Drain}
 use Rattle.chorus_scene.specs.declared.limits.TheConstants.{SCRIPTS_LIMIT}
 use Rattle.chorus_scene.specs.declared.scenario.SetupLine.{SetupLine}
 use Rattle.chorus_scene.specs.declared.scenario.Step as step

@@ -13,9 +13,9 @@ use Rattle.chorus_entry.specs.declared.command.Command.{Command}
 use Rattle.chorus_entry.specs.Kinds.{names_actor, names_group, names_port}
 use Rattle.chorus_entry.specs.Command.{is_capacity, has_body_in_limit, meets_conditions}
 use Rattle.chorus_entry.specs.Members.{is_member}
-use Rattle.chorus_law.specs.Network.{Enter, Act, schedule}
-use Rattle.chorus_law.specs.Calls.{starting, first_actor, last_of}
-use Rattle.chorus_law.specs.Tasks.{Do, Drain, MayAll, commands_in}
+use Rattle.law_network.specs.Network.{Enter, Act, schedule}
+use Rattle.law_network.specs.Calls.{starting, first_actor, last_of}
+use Rattle.law_network.specs.Tasks.{Do, Drain, MayAll, commands_in}
 use Rattle.chorus_scene.specs.declared.scenario.SetupLine.{SetupLine}
 use Rattle.chorus_scene.specs.declared.scenario.SetupLine.TheVariants as setups
 use Rattle.chorus_scene.specs.declared.scenario.Step as step

@@ -16,15 +16,15 @@ use Rattle.chorus_world.specs.Views.{by}
 use Rattle.chorus_world.specs.Seats.{posts, posts_after}
 use Rattle.chorus_world.specs.Commands.{performs, answers, is_own_of}
 use Rattle.chorus_calls.specs.Callers.{Seated}
-use Rattle.chorus_law.specs.Network.{Event, Enter, Act, Deliver, schedule}
-use Rattle.chorus_law.specs.History.{history}
-use Rattle.chorus_law.specs.Schedules.{has_number_left, may_give, may_happen, may_be, commands_of, command_in}
-use Rattle.chorus_law.specs.Tasks.{Task, Do, Drain, CarryOut, MayAll, commands_in}
-use Rattle.chorus_law.proofs.Places.Layouts.{schedule-keeps}
-use Rattle.chorus_law.proofs.Events.InOrder.{in-order}
-use Rattle.chorus_law.proofs.Commands.Performing.{performs-history}
-use Rattle.chorus_law.proofs.Draining.Drains.{carried-commands}
-use Rattle.chorus_law.proofs.Draining.Ending.{caller-actor, rounds-may}
+use Rattle.law_network.specs.Network.{Event, Enter, Act, Deliver, schedule}
+use Rattle.law_network.specs.History.{history}
+use Rattle.law_network.specs.Schedules.{has_number_left, may_give, may_happen, may_be, commands_of, command_in}
+use Rattle.law_network.specs.Tasks.{Task, Do, Drain, CarryOut, MayAll, commands_in}
+use Rattle.law_network.proofs.Places.Layouts.{schedule-keeps}
+use Rattle.law_network.proofs.Events.InOrder.{in-order}
+use Rattle.law_network.proofs.Commands.Performing.{performs-history}
+use Rattle.law_network.proofs.Draining.Drains.{carried-commands}
+use Rattle.law_network.proofs.Draining.Ending.{caller-actor, rounds-may}
 use Rattle.chorus_run.specs.declared.loading.TheConstants.{LOAD_LIMIT}
 use Rattle.chorus_run.proofs.Callers.{actors_in, actor_in, actors_by, callers-after, carried-actors}
 

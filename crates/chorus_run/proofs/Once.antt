@@ -6,14 +6,14 @@ use Rattle.chorus_ui.specs.declared.limits.TheConstants.{CLOCK_LIMIT}
 use Rattle.chorus_ui.specs.Layout.{IsLayout}
 use Rattle.chorus_entry.specs.declared.packet.Packet.{Packet}
 use Rattle.chorus_calls.specs.Callers.{Seated}
-use Rattle.chorus_law.specs.Left.{journals, packets_left, placed}
-use Rattle.chorus_law.specs.Packets.{first_on}
-use Rattle.chorus_law.specs.Network.{NetState, Event, Deliver, works_off, delivered, happened, after, opening, schedule, round, rounds}
-use Rattle.chorus_law.specs.Calls.{compared_on}
-use Rattle.chorus_law.specs.Schedules.{may_be}
-use Rattle.chorus_law.specs.Tasks.{Task, Do, Drain, IsDrain, CarryOut, AreDeliveries}
-use Rattle.chorus_law.proofs.Draining.Drains.{after-append, carried-out-once}
-use Rattle.chorus_law.proofs.Draining.Emptied.{drains-leave-nothing}
+use Rattle.law_network.specs.Left.{journals, packets_left, placed}
+use Rattle.law_network.specs.Packets.{first_on}
+use Rattle.law_network.specs.Network.{NetState, Event, Deliver, works_off, delivered, happened, after, opening, schedule, round, rounds}
+use Rattle.law_network.specs.Calls.{compared_on}
+use Rattle.law_network.specs.Schedules.{may_be}
+use Rattle.law_network.specs.Tasks.{Task, Do, Drain, IsDrain, CarryOut, AreDeliveries}
+use Rattle.law_network.proofs.Draining.Drains.{after-append, carried-out-once}
+use Rattle.law_network.proofs.Draining.Emptied.{drains-leave-nothing}
 use Rattle.chorus_show.specs.declared.status.Status.{Status}
 use Rattle.chorus_net.specs.Worn.{compared_by, IsUnworn, AreUnworn, IsInRounds}
 use Rattle.chorus_run.specs.Worn.{AreWornBy, ComesNext}

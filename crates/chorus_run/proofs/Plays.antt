@@ -19,25 +19,25 @@ use Rattle.chorus_world.specs.Always.{Always}
 use Rattle.chorus_world.specs.AcceptedLaws.{ReceivesInOrder, KeepsEachMessage}
 use Rattle.chorus_calls.specs.Callers.{Seated}
 use Rattle.chorus_net.specs.declared.closed.Closed.{Closed}
-use Rattle.chorus_law.specs.declared.placed.Placed.{Placed}
-use Rattle.chorus_law.specs.Calls.{starting}
+use Rattle.law_network.specs.declared.placed.Placed.{Placed}
+use Rattle.law_network.specs.Calls.{starting}
 use Rattle.chorus_net.specs.Closing.{closed_journals}
-use Rattle.chorus_law.specs.Holdings.{StandsFor, holdings_left}
-use Rattle.chorus_law.specs.History.{history}
-use Rattle.chorus_law.specs.Left.{journals, packets_left, merged_past}
-use Rattle.chorus_law.specs.Network.{NetState, Event, Enter, Act, Deliver, schedule, round, rounds, numbers}
-use Rattle.chorus_law.specs.Quiet.{IsQuiet}
-use Rattle.chorus_law.specs.Schedules.{may_give, may_happen, may_be, commands_of}
-use Rattle.chorus_law.specs.Stands.{actor_of}
-use Rattle.chorus_law.specs.Tasks.{Task, Do, Drain, CarryOut, CarryFront, AreDeliveries, commands_in}
+use Rattle.law_network.specs.Holdings.{StandsFor, holdings_left}
+use Rattle.law_network.specs.History.{history}
+use Rattle.law_network.specs.Left.{journals, packets_left, merged_past}
+use Rattle.law_network.specs.Network.{NetState, Event, Enter, Act, Deliver, schedule, round, rounds, numbers}
+use Rattle.law_network.specs.Quiet.{IsQuiet}
+use Rattle.law_network.specs.Schedules.{may_give, may_happen, may_be, commands_of}
+use Rattle.law_network.specs.Stands.{actor_of}
+use Rattle.law_network.specs.Tasks.{Task, Do, Drain, CarryOut, CarryFront, AreDeliveries, commands_in}
 use Rattle.chorus_run.proofs.Seating.{run-more, run-ungiven}
-use Rattle.chorus_law.proofs.Merge.Journals.{journals-are}
-use Rattle.chorus_law.proofs.Merge.Parts.{part}
-use Rattle.chorus_law.proofs.Places.Layouts.{schedule-keeps}
-use Rattle.chorus_law.proofs.Promises.Promised.{stands-at, runs-at, journals-at, performs-at, closes-at, receives-at, fates-at}
-use Rattle.chorus_law.proofs.Draining.Drained.{drains-rest}
-use Rattle.chorus_law.proofs.Draining.Drains.{round-deliveries, carried-commands}
-use Rattle.chorus_law.proofs.Draining.Stopped.{fronts-give-fronts}
+use Rattle.law_network.proofs.Merge.Journals.{journals-are}
+use Rattle.law_network.proofs.Merge.Parts.{part}
+use Rattle.law_network.proofs.Places.Layouts.{schedule-keeps}
+use Rattle.law_network.proofs.Promises.Promised.{stands-at, runs-at, journals-at, performs-at, closes-at, receives-at, fates-at}
+use Rattle.law_network.proofs.Draining.Drained.{drains-rest}
+use Rattle.law_network.proofs.Draining.Drains.{round-deliveries, carried-commands}
+use Rattle.law_network.proofs.Draining.Stopped.{fronts-give-fronts}
 use Rattle.chorus_show.specs.declared.status.Status.{Status}
 use Rattle.chorus_scene.specs.Scene.{Scene}
 use Rattle.chorus_scene.specs.Limits.{Keeps}

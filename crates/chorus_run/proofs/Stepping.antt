@@ -9,17 +9,17 @@ use Rattle.chorus_ui.specs.declared.ui.Ui.{Ui}
 use Rattle.chorus_entry.specs.Kinds.{names_actor}
 use Rattle.chorus_entry.specs.declared.command.Command.{Command}
 use Rattle.chorus_net.specs.declared.closed.Closed.{Closed}
-use Rattle.chorus_law.specs.Calls as calls
-use Rattle.chorus_law.specs.Calls.{starting, just_started, compared}
-use Rattle.chorus_law.specs.Network.{NetState, Event, Act, happened, after, opening, schedule, round, rounds, served}
+use Rattle.law_network.specs.Calls as calls
+use Rattle.law_network.specs.Calls.{starting, just_started, compared}
+use Rattle.law_network.specs.Network.{NetState, Event, Act, happened, after, opening, schedule, round, rounds, served}
 use Rattle.chorus_entry.specs.declared.entry.Entry.{Entry}
 use Rattle.chorus_merge.specs.Merge.{merged}
-use Rattle.chorus_law.specs.History.{history}
-use Rattle.chorus_law.specs.Left.{merged_past}
-use Rattle.chorus_law.specs.Schedules.{may_happen, may_be}
-use Rattle.chorus_law.specs.Tasks.{Task, Do, Drain, CarryOut, MayAll}
-use Rattle.chorus_law.proofs.Draining.Drains.{after-append, layout-stays}
-use Rattle.chorus_law.proofs.Draining.Ending.{caller-actor, rounds-may}
+use Rattle.law_network.specs.History.{history}
+use Rattle.law_network.specs.Left.{merged_past}
+use Rattle.law_network.specs.Schedules.{may_happen, may_be}
+use Rattle.law_network.specs.Tasks.{Task, Do, Drain, CarryOut, MayAll}
+use Rattle.law_network.proofs.Draining.Drains.{after-append, layout-stays}
+use Rattle.law_network.proofs.Draining.Ending.{caller-actor, rounds-may}
 use Rattle.chorus_show.specs.declared.status.Status.{Status}
 use Rattle.chorus_scene.specs.Scene.{Scene}
 use Rattle.chorus_scene.specs.Limits.{Keeps}

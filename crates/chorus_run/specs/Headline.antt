@@ -15,12 +15,12 @@ use Rattle.chorus_world.specs.Always.{Always}
 use Rattle.chorus_world.specs.AcceptedLaws.{ReceivesInOrder, KeepsEachMessage}
 use Rattle.chorus_net.specs.declared.closed.Closed.{Closed}
 use Rattle.chorus_net.specs.Closing.{closed_journals}
-use Rattle.chorus_law.specs.Calls.{just_started, first_actor}
-use Rattle.chorus_law.specs.Holdings.{StandsFor, holdings_left}
-use Rattle.chorus_law.specs.Network.{NetState, Event, opening, schedule}
-use Rattle.chorus_law.specs.Quiet.{IsQuiet}
-use Rattle.chorus_law.specs.Schedules.{may_be}
-use Rattle.chorus_law.specs.Tasks.{Task, CarryOut}
+use Rattle.law_network.specs.Calls.{just_started, first_actor}
+use Rattle.law_network.specs.Holdings.{StandsFor, holdings_left}
+use Rattle.law_network.specs.Network.{NetState, Event, opening, schedule}
+use Rattle.law_network.specs.Quiet.{IsQuiet}
+use Rattle.law_network.specs.Schedules.{may_be}
+use Rattle.law_network.specs.Tasks.{Task, CarryOut}
 use Rattle.chorus_show.specs.Bounds.{AreWithin}
 use Rattle.chorus_show.specs.declared.status.Status.{Status}
 use Rattle.chorus_show.specs.declared.status.Status.TheVariants.{Worn}

@@ -5,7 +5,7 @@ use Rattle.chorus_ui.specs.declared.layout.Layout.{Layout}
 use Rattle.chorus_ui.specs.Layout.{IsLayout}
 use Rattle.chorus_net.specs.declared.closed.Closed.{Closed}
 use Rattle.chorus_net.specs.Closing.{closed_journals}
-use Rattle.chorus_law.specs.Tasks.{Task}
+use Rattle.law_network.specs.Tasks.{Task}
 use Rattle.chorus_show.specs.declared.status.Status.{Status}
 use Rattle.chorus_show.specs.declared.status.Status.TheVariants.{Worn}
 use Rattle.chorus_run.specs.Headline.{IsOrdered}

@@ -8,9 +8,9 @@ use Rattle.chorus_ui.specs.declared.layout.Layout.{Layout}
 use Rattle.chorus_ui.specs.declared.limits.TheConstants.{PENDING_LIMIT}
 use Rattle.chorus_entry.specs.declared.command.Command.{Command}
 use Rattle.chorus_entry.specs.declared.dest.Dest.{Dest}
-use Rattle.chorus_law.specs.Network.{Event, Enter, Act, Deliver, numbers}
-use Rattle.chorus_law.specs.Calls.{first_actor, starting, last_of}
-use Rattle.chorus_law.specs.Tasks.{Task, Do, Drain}
+use Rattle.law_network.specs.Network.{Event, Enter, Act, Deliver, numbers}
+use Rattle.law_network.specs.Calls.{first_actor, starting, last_of}
+use Rattle.law_network.specs.Tasks.{Task, Do, Drain}
 use Rattle.chorus_net.specs.declared.closed.Closed.{Closed}
 use Rattle.chorus_show.specs.declared.status.Status.{Status}
 use Rattle.chorus_run.specs.declared.drawing.Draw.{Draw}

@@ -4,9 +4,9 @@ use Rattle.std.specs.Prelude.{ℕ, ◌+◌, List, [], ◌∷◌, ◌++◌, map, 
 use Rattle.std.specs.Option.{option_map}
 use Rattle.chorus_ui.specs.declared.layout.Layout.{Layout}
 use Rattle.chorus_entry.specs.declared.command.Command.{Command}
-use Rattle.chorus_law.specs.Network.{NetState, Event, Enter, Act, Deliver, schedule}
-use Rattle.chorus_law.specs.Calls.{starting, last_of}
-use Rattle.chorus_law.specs.Tasks.{Task, Do, Drain}
+use Rattle.law_network.specs.Network.{NetState, Event, Enter, Act, Deliver, schedule}
+use Rattle.law_network.specs.Calls.{starting, last_of}
+use Rattle.law_network.specs.Tasks.{Task, Do, Drain}
 use Rattle.chorus_scene.specs.Scene.{Scene, Script}
 use Rattle.chorus_scene.specs.Grammar.{script_at, is_step}
 use Rattle.chorus_scene.specs.declared.scenario.SetupLine.{SetupLine}

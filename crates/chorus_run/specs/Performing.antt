@@ -5,12 +5,12 @@ use Rattle.std.specs.List.{All}
 use Rattle.chorus_entry.specs.declared.entry.Entry.{Entry}
 use Rattle.chorus_ui.specs.declared.layout.Layout.{Layout}
 use Rattle.chorus_calls.specs.Callers.{Seated}
-use Rattle.chorus_machine.specs.PlaceState.{Outgoing}
+use Rattle.law_machine.specs.PlaceState.{Outgoing}
 use Rattle.chorus_net.specs.declared.closed.Closed.{Closed}
-use Rattle.chorus_law.specs.History.{history}
-use Rattle.chorus_law.specs.Network.{NetState, Event, opening, schedule}
-use Rattle.chorus_law.specs.Schedules.{may_be}
-use Rattle.chorus_law.specs.Tasks.{Task, Do, Drain, CarryOut}
+use Rattle.law_network.specs.History.{history}
+use Rattle.law_network.specs.Network.{NetState, Event, opening, schedule}
+use Rattle.law_network.specs.Schedules.{may_be}
+use Rattle.law_network.specs.Tasks.{Task, Do, Drain, CarryOut}
 use Rattle.chorus_scene.specs.Scene.{Scene, Script}
 use Rattle.chorus_scene.specs.Grammar.{is_step}
 use Rattle.chorus_scene.specs.declared.scenario.Step as step

@@ -4,8 +4,8 @@ use Rattle.std.specs.Prelude.{ℕ, ◌≡◌, ◌≤◌, ◌⊎◌, List, [], �
 use Rattle.chorus_ui.specs.declared.layout.Layout.{Layout}
 use Rattle.chorus_ui.specs.declared.limits.TheConstants.{CLOCK_LIMIT}
 use Rattle.chorus_entry.specs.declared.entry.Entry.{Entry}
-use Rattle.chorus_law.specs.Network.{Event, schedule}
-use Rattle.chorus_law.specs.Tasks.{Task, Do, Drain, CarryOut}
+use Rattle.law_network.specs.Network.{Event, schedule}
+use Rattle.law_network.specs.Tasks.{Task, Do, Drain, CarryOut}
 use Rattle.chorus_net.specs.Worn.{compared_by, IsInRounds}
 
 -- the events carry out the first of the tasks, and of a drain behind these the first deliveries; and this one comes next

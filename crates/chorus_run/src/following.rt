@@ -4,7 +4,7 @@ ghost use Rattle.std.specs.Prelude.{◌≡◌, ℕ, ◌+◌, ◌<◌, [], ◌∷
 ghost use Rattle.chorus_ui.specs.Layout.{IsLayout};
 ghost use Rattle.chorus_scene.specs.Grammar.{is_step};
 ghost use Rattle.chorus_scene.specs.Limits.{Keeps};
-ghost use Rattle.chorus_law.specs.Tasks.{Drain};
+ghost use Rattle.law_network.specs.Tasks.{Drain};
 ghost use Rattle.chorus_run.specs.Order.{in_schedule, left_from};
 ghost use Rattle.chorus_run.specs.Performing.{IsBefore, IsWornAt, AreNext, to_follow, to_finish};
 ghost use Rattle.chorus_net.specs.Sites.{net};

@@ -3,8 +3,8 @@
 ghost use Rattle.std.specs.Prelude.{◌≡◌, ◌≢◌, ◌↔◌, ℕ, ◌≤◌, [], ◌∷◌, IfOk, OnOk, IsErrOf, IfSome, IsSome};
 ghost use Rattle.chorus_io.specs.Count.{Rose};
 ghost use Rattle.chorus_ui.specs.declared.limits.TheConstants.{CLOCK_LIMIT};
-ghost use Rattle.chorus_law.specs.Calls.{just_started};
-ghost use Rattle.chorus_law.specs.Tasks.{Drain};
+ghost use Rattle.law_network.specs.Calls.{just_started};
+ghost use Rattle.law_network.specs.Tasks.{Drain};
 ghost use Rattle.chorus_net.specs.Sites.{net};
 ghost use Rattle.chorus_run.specs.declared.loading.TheConstants.{LOAD_LIMIT};
 ghost use Rattle.chorus_run.specs.Worn.{HasClock};

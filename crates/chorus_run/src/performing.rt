@@ -3,8 +3,8 @@
 ghost use Rattle.std.specs.Prelude.{◌≡◌, ℕ, [], ◌∷◌, IfOk, OnOk, IsErrOf};
 ghost use Rattle.chorus_ui.specs.Layout.{IsLayout};
 ghost use Rattle.chorus_scene.specs.Limits.{Keeps};
-ghost use Rattle.chorus_law.specs.Calls.{just_started};
-ghost use Rattle.chorus_law.specs.Tasks.{Drain};
+ghost use Rattle.law_network.specs.Calls.{just_started};
+ghost use Rattle.law_network.specs.Tasks.{Drain};
 ghost use Rattle.chorus_run.specs.Order.{setup_command, set_up};
 ghost use Rattle.chorus_run.specs.Headline.{AreJustStarted};
 ghost use Rattle.chorus_run.specs.Performing.{IsBefore, IsWornAt, IsPerformed, to_enter, to_follow};

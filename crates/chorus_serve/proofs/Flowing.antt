@@ -6,8 +6,8 @@ use Rattle.std.specs.Option.{unwrap_or}
 use Rattle.std.proofs.lemmas.List.{append-nil, length-set, get_or-set_same, get_or-set_other}
 use Rattle.chorus_ui.specs.declared.layout.Layout.{Layout}
 use Rattle.chorus_entry.specs.declared.packet.Packet.{Packet}
-use Rattle.chorus_out.specs.Waiting.{list_to, with_last, with_first, without_first, count}
-use Rattle.chorus_machine.specs.PlaceState.{PlaceState, Outgoing}
+use Rattle.place_outbox.specs.Waiting.{list_to, with_last, with_first, without_first, count}
+use Rattle.law_machine.specs.PlaceState.{PlaceState, Outgoing}
 use Rattle.chorus_place.specs.Calls.{Place, state, with_all}
 use Rattle.chorus_io.specs.Count.{Rose}
 use Rattle.chorus_ends.specs.Links.{Links, Counts, Sends, Receives, MovesNothing}

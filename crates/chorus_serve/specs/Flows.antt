@@ -4,8 +4,8 @@ use Rattle.std.specs.Prelude.{ℕ, ◌≡◌, ◌≢◌, ◌<◌, ◌≤◌, ◌
 use Rattle.chorus_ui.specs.declared.layout.Layout.{Layout}
 use Rattle.chorus_ui.specs.Layout.{has_place}
 use Rattle.chorus_entry.specs.declared.packet.Packet.{Packet}
-use Rattle.chorus_out.specs.Waiting.{list_to}
-use Rattle.chorus_machine.specs.PlaceState.{Outgoing}
+use Rattle.place_outbox.specs.Waiting.{list_to}
+use Rattle.law_machine.specs.PlaceState.{Outgoing}
 use Rattle.chorus_place.specs.Calls.{Place, state}
 use Rattle.chorus_io.specs.Count.{Rose}
 use Rattle.chorus_ends.specs.Links.{Links, Counts}

@@ -6,9 +6,9 @@ use Rattle.chorus_ui.specs.declared.limits.TheConstants.{CLOCK_LIMIT}
 use Rattle.chorus_ui.specs.Layout.{has_place}
 use Rattle.chorus_entry.specs.declared.packet.Packet.{Packet}
 use Rattle.chorus_calls.specs.Callers.{Seated}
-use Rattle.chorus_machine.specs.PlaceState.{Turn, Outgoing, greatest_clock}
-use Rattle.chorus_machine.specs.PlaceMachine.{begun_by, work}
-use Rattle.chorus_machine.specs.Lawful.{is_lawful}
+use Rattle.law_machine.specs.PlaceState.{Turn, Outgoing, greatest_clock}
+use Rattle.law_machine.specs.PlaceMachine.{begun_by, work}
+use Rattle.law_machine.specs.Lawful.{is_lawful}
 use Rattle.chorus_place.specs.Calls.{state}
 use Rattle.chorus_io.specs.Count.{raised}
 use Rattle.chorus_serve.specs.declared.pump.Pump.{Pump}

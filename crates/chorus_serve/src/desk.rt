@@ -4,10 +4,10 @@ ghost use Rattle.std.specs.Prelude.{◌≡◌, ℕ, ◌<◌, ◌≤◌, ◌↔�
 ghost use Rattle.chorus_ui.specs.declared.limits.TheConstants.{CLOCK_LIMIT};
 ghost use Rattle.chorus_ui.specs.Layout.{has_place, places};
 ghost use Rattle.chorus_entry.specs.Command.{is_post};
-ghost use Rattle.chorus_out.specs.Waiting.{nothing_to, count};
-ghost use Rattle.chorus_machine.specs.PlaceState.{started, greatest_clock};
-ghost use Rattle.chorus_machine.specs.PlaceMachine.{begun};
-ghost use Rattle.chorus_bounds.specs.Bounds.{AreWaitingWithin};
+ghost use Rattle.place_outbox.specs.Waiting.{nothing_to, count};
+ghost use Rattle.law_machine.specs.PlaceState.{started, greatest_clock};
+ghost use Rattle.law_machine.specs.PlaceMachine.{begun};
+ghost use Rattle.law_bounds.specs.Bounds.{AreWaitingWithin};
 ghost use Rattle.chorus_place.specs.Calls.{state, is_call, Called, MayCall, Stays, TakesNone};
 ghost use Rattle.chorus_place.specs.declared.fault.PlaceFault.TheVariants as PlaceFault;
 ghost use Rattle.chorus_serve.specs.Desks.{SameHands, opened_in, sealed_in, packet_of, parcel_of, with_hand};
@@ -17,11 +17,11 @@ use crate::held::{Content, Held};
 use chorus_calls::Caller;
 use chorus_ends::Ends;
 use chorus_entry::{Command, Entry, Packet};
-use chorus_machine::Reply;
-use chorus_out::Outbox;
 use chorus_place::{Place, PlaceFault};
 use chorus_ports::Ports;
 use chorus_ui::Layout;
+use law_machine::Reply;
+use place_outbox::Outbox;
 use std::alloc::{AllocError, Global};
 use std::marker::Model;
 

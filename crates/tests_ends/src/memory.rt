@@ -4,7 +4,7 @@ ghost use Rattle.std.specs.Prelude.{◌≡◌, true};
 
 use chorus_ends::{Ends, MemEnds, Moves, PushFault};
 use chorus_entry::{Answer, Cargo, MsgId, Packet};
-use chorus_ranges::has_ranges;
+use place_ranges::has_ranges;
 use std::alloc::Global;
 use std::process::Abort;
 

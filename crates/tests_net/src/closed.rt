@@ -3,11 +3,11 @@
 ghost use Rattle.std.specs.Prelude.{◌≡◌, []};
 
 use chorus_calls::Caller;
-use chorus_closing::Noted;
 use chorus_entry::{Command, Entry, Packet};
 use chorus_net::{Closed, Sites};
 use chorus_turn::{Kept, Turns};
 use chorus_ui::Layout;
+use law_closing::Noted;
 use std::alloc::Global;
 use std::process::Abort;
 

@@ -3,7 +3,7 @@
 ghost use Rattle.std.specs.Prelude.{◌≡◌, ◌<◌, length};
 
 use chorus_entry::{Answer, Cargo, MsgId, Packet};
-use chorus_out::Outbox;
+use place_outbox::Outbox;
 use std::alloc::Global;
 use std::process::Abort;
 

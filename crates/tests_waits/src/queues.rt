@@ -2,7 +2,7 @@
 
 use chorus_entry::{Body, Message, MsgId, Tag};
 use chorus_ui::{Kind, Ui};
-use chorus_waits::{Key, Wait, Waits};
+use place_unsettled::{Key, Wait, Waits};
 use std::alloc::Global;
 use std::process::Abort;
 

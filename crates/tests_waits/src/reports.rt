@@ -1,7 +1,7 @@
 //! What a place may still hear of its posts to groups of other places. What is not as it is to be ends the test.
 
 use chorus_entry::MsgId;
-use chorus_waits::Unheard;
+use place_unsettled::Unheard;
 use std::alloc::Global;
 use std::process::Abort;
 

@@ -11,8 +11,8 @@ use crate::group::{choice, site_of};
 use crate::message::{is_to_be_heard, is_to_be_told};
 use crate::port::{has_room, is_coming, is_ended_at, is_full, is_held_at, is_made};
 use crate::world::World;
+use checker_ledger::choosing_place;
 use chorus_entry::{Answer, Members, MsgId};
-use chorus_ledger::choosing_place;
 use chorus_ui::Ui;
 use chorus_world::{Due, Location, Progress};
 

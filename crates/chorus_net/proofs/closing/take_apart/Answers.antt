@@ -2,8 +2,8 @@ use Rattle.std.proofs.Common.{◌≡◌, ◌+◌, ◌++◌, ◌∷◌, [], List,
 use Rattle.std.proofs.lemmas.List.{map-append, reverse-reverse}
 use Rattle.std.specs.Global.{Vec}
 use Rattle.chorus_entry.specs.declared.entry.Entry.{Entry}
-use Rattle.chorus_out.specs.Waiting.{count}
-use Rattle.chorus_law.specs.Left.{placed_at}
+use Rattle.place_outbox.specs.Waiting.{count}
+use Rattle.law_network.specs.Left.{placed_at}
 use Rattle.chorus_place.specs.Calls.{Place}
 use Rattle.chorus_merge.specs.Steps.{journals_of}
 use Rattle.chorus_net.specs.Closing.{journals_in, flat, packets_of, ports_of, total_waiting, total_held}

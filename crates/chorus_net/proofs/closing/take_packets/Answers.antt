@@ -1,6 +1,6 @@
 use Rattle.std.proofs.Common.{◌++◌, ◌∷◌, [], sym, ◌∙◌, ap, arith}
 use Rattle.std.proofs.lemmas.List.{append-nil}
-use Rattle.chorus_out.specs.Waiting.{count, after_next}
+use Rattle.place_outbox.specs.Waiting.{count, after_next}
 use Rattle.chorus_net.specs.Closing.{flat}
 use Rattle.chorus_net.proofs.Parts.{flat-next, count-next, flat-none, one-more}
 use Rattle.chorus_net.proofs.closing.take_packets.Goals as goal

@@ -1,5 +1,5 @@
 use Rattle.std.proofs.Common.{◌≡◌, ◌≤◌, ◌+◌, ◌++◌, vec_len, vec_capacity}
-use Rattle.chorus_out.specs.Waiting.{count}
+use Rattle.place_outbox.specs.Waiting.{count}
 use Rattle.chorus_net.specs.Closing.{flat}
 use Rattle.chorus_net.proofs.closing.take_packets.Given as goal
 

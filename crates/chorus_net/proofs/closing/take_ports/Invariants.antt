@@ -1,5 +1,5 @@
 use Rattle.std.proofs.Common.{◌≡◌, ◌≤◌, ◌+◌, ◌++◌, length, vec_len, vec_capacity}
-use Rattle.chorus_law.specs.Left.{placed_at}
+use Rattle.law_network.specs.Left.{placed_at}
 use Rattle.chorus_net.proofs.closing.take_ports.Given as goal
 
 abbrev pub invariant-loop-port : goal.invariant-loop-port

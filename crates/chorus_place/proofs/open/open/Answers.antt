@@ -1,5 +1,5 @@
 use Rattle.std.proofs.Common.{arith}
-use Rattle.chorus_parts.specs.Tables.{turn}
+use Rattle.place_state.specs.Tables.{turn}
 use Rattle.chorus_place.proofs.Openable.{may-open}
 use Rattle.chorus_place.proofs.open.open.Goals as goal
 

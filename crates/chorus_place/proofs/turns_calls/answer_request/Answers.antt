@@ -2,9 +2,9 @@ use Rattle.std.proofs.Common.{◌<◌, ap, sym, subst, ◌∙◌}
 use Rattle.chorus_ui.specs.declared.limits.TheConstants.{CLOCK_LIMIT}
 use Rattle.chorus_entry.specs.declared.command.Command.TheVariants as Command
 use Rattle.chorus_entry.specs.declared.tag.Tag.TheVariants as Tag
-use Rattle.chorus_machine.specs.PlaceState.{greatest_clock}
-use Rattle.chorus_machine.specs.Own.{next_message, reply_act}
-use Rattle.chorus_parts.specs.Tables.{turn}
+use Rattle.law_machine.specs.PlaceState.{greatest_clock}
+use Rattle.law_machine.specs.Own.{next_message, reply_act}
+use Rattle.place_state.specs.Tables.{turn}
 use Rattle.chorus_place.proofs.Turns.{on_err}
 use Rattle.chorus_place.proofs.CallTurns.{post-done}
 use Rattle.chorus_place.proofs.turns_calls.answer_request.Goals as goal

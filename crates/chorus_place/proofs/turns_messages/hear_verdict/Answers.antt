@@ -1,11 +1,11 @@
 use Rattle.std.proofs.Common.{ap, ◌∙◌, length, drop, [], ◌++◌, arith}
 use Rattle.chorus_world.specs.Places.{taught}
 use Rattle.chorus_hints.specs.Known.{newest_of, kept}
-use Rattle.chorus_machine.specs.PlaceState.{greatest_clock}
-use Rattle.chorus_machine.specs.Working.{taught_of}
-use Rattle.chorus_parts.specs.Tables.{Tables, turn}
-use Rattle.chorus_waits.specs.Queues.{queue}
-use Rattle.chorus_parts.specs.Going.{leaving_to, waits_for, reports}
+use Rattle.law_machine.specs.PlaceState.{greatest_clock}
+use Rattle.law_machine.specs.Working.{taught_of}
+use Rattle.place_state.specs.Tables.{Tables, turn}
+use Rattle.place_unsettled.specs.Queues.{queue}
+use Rattle.place_state.specs.Going.{leaving_to, waits_for, reports}
 use Rattle.chorus_place.proofs.Turns.{tell-length, tell-clock, tell-leaving, worked}
 use Rattle.chorus_place.proofs.turns_messages.hear_verdict.Goals as goal
 

@@ -1,7 +1,7 @@
 use Rattle.std.proofs.Common.{ap, ◌∙◌, arith}
-use Rattle.chorus_machine.specs.Doing.{direct}
-use Rattle.chorus_machine.specs.Trying.{go}
-use Rattle.chorus_parts.specs.Tables.{turn}
+use Rattle.law_machine.specs.Doing.{direct}
+use Rattle.law_machine.specs.Trying.{go}
+use Rattle.place_state.specs.Tables.{turn}
 use Rattle.chorus_place.proofs.Turns.{posted-length, posted-clock, posted-leaving}
 use Rattle.chorus_place.proofs.turns_messages.post_prepared.Goals as goal
 

@@ -1,10 +1,10 @@
 use Rattle.std.proofs.Common.{ap, ◌∙◌, arith}
-use Rattle.chorus_machine.specs.Doing.{direct}
-use Rattle.chorus_machine.specs.Own.{next_message}
-use Rattle.chorus_machine.specs.PlaceState.{greatest_clock}
-use Rattle.chorus_machine.specs.Trying.{go}
-use Rattle.chorus_parts.specs.Steps.{posted}
-use Rattle.chorus_parts.specs.Tables.{turn}
+use Rattle.law_machine.specs.Doing.{direct}
+use Rattle.law_machine.specs.Own.{next_message}
+use Rattle.law_machine.specs.PlaceState.{greatest_clock}
+use Rattle.law_machine.specs.Trying.{go}
+use Rattle.place_state.specs.Steps.{posted}
+use Rattle.place_state.specs.Tables.{turn}
 use Rattle.chorus_place.proofs.Turns.{on_err}
 use Rattle.chorus_place.proofs.turns_messages.post_to.Goals as goal
 

@@ -1,7 +1,7 @@
 use Rattle.std.proofs.Common.{sym, ap, subst, ◌∙◌, arith}
-use Rattle.chorus_machine.specs.PlaceState.{greatest_clock}
-use Rattle.chorus_machine.specs.Working.{receives_port}
-use Rattle.chorus_parts.specs.Ports.{MayArrive}
+use Rattle.law_machine.specs.PlaceState.{greatest_clock}
+use Rattle.law_machine.specs.Working.{receives_port}
+use Rattle.place_state.specs.Ports.{MayArrive}
 use Rattle.chorus_place.proofs.turns_ports.hear_transfer.Goals as goal
 
 pub arrive-requires-clause-may : goal.arrive-requires-clause-may

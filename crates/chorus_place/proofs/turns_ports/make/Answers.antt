@@ -3,9 +3,9 @@ use Rattle.chorus_ui.specs.Layout.{home, creation_place}
 use Rattle.chorus_entry.specs.declared.command.Command.TheVariants as Command
 use Rattle.chorus_entry.specs.declared.act.Act.TheVariants as Act
 use Rattle.chorus_world.specs.Steps.{is_full_of_ports}
-use Rattle.chorus_machine.specs.declared.reply.Reply.{Reply}
-use Rattle.chorus_machine.specs.Own.{next_port}
-use Rattle.chorus_parts.specs.Tables.{turn}
+use Rattle.law_machine.specs.declared.reply.Reply.{Reply}
+use Rattle.law_machine.specs.Own.{next_port}
+use Rattle.place_state.specs.Tables.{turn}
 use Rattle.chorus_place.proofs.Turns.{on_err}
 use Rattle.chorus_place.proofs.Performing.{performs, making, home-here, has-home}
 use Rattle.chorus_place.proofs.turns_ports.make.Goals as goal

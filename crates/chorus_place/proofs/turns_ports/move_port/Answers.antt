@@ -2,10 +2,10 @@ use Rattle.std.proofs.Common.{◌≡◌, true, ap, sym, ◌∙◌, subst, is_som
 use Rattle.chorus_ui.specs.Layout.{home, place_at, site_of}
 use Rattle.chorus_entry.specs.declared.command.Command.TheVariants as Command
 use Rattle.chorus_ports.specs.Table.{find}
-use Rattle.chorus_machine.specs.declared.reply.Reply.{Reply}
-use Rattle.chorus_machine.specs.Own.{held_by}
-use Rattle.chorus_parts.specs.Commands.{Performed}
-use Rattle.chorus_parts.specs.Tables.{turn}
+use Rattle.law_machine.specs.declared.reply.Reply.{Reply}
+use Rattle.law_machine.specs.Own.{held_by}
+use Rattle.place_state.specs.Commands.{Performed}
+use Rattle.place_state.specs.Tables.{turn}
 use Rattle.chorus_place.proofs.MovePort.{rehoming, departing}
 use Rattle.chorus_place.proofs.turns_ports.move_port.Goals as goal
 

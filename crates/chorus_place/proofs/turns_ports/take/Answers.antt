@@ -1,11 +1,11 @@
 use Rattle.std.proofs.Common.{refl, subst}
 use Rattle.chorus_entry.specs.declared.command.Command.TheVariants as Command
 use Rattle.chorus_ports.specs.declared.taking.Taken.TheVariants as T
-use Rattle.chorus_machine.specs.declared.reply.Reply.{Reply}
-use Rattle.chorus_parts.specs.Commands.{Performed}
-use Rattle.chorus_parts.specs.Tables.{turn}
+use Rattle.law_machine.specs.declared.reply.Reply.{Reply}
+use Rattle.place_state.specs.Commands.{Performed}
+use Rattle.place_state.specs.Tables.{turn}
 use Rattle.chorus_place.proofs.Performing.{taking, taking-refused}
-use Rattle.chorus_parts.proofs.Ports.{has-number}
+use Rattle.place_state.proofs.Ports.{has-number}
 use Rattle.chorus_place.proofs.turns_ports.take.Goals as goal
 
 pub returns-in-NotHere-clause-performed : goal.returns-in-NotHere-clause-performed

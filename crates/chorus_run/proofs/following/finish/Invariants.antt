@@ -1,5 +1,5 @@
 use Rattle.std.proofs.Common.{◌+◌, drop, [], ◌∷◌, ◌++◌}
-use Rattle.chorus_law.specs.Tasks.{Drain}
+use Rattle.law_network.specs.Tasks.{Drain}
 use Rattle.chorus_run.specs.Order.{left_from}
 use Rattle.chorus_run.specs.Performing.{IsBefore}
 use Rattle.chorus_net.specs.Sites.{net}

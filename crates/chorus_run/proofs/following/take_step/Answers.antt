@@ -1,7 +1,7 @@
 use Rattle.std.proofs.Common.{◌+◌, ◌-◌, ◌++◌, take, set, length, ap, sym, subst, arith}
 use Rattle.std.proofs.lemmas.Result.{err_from_is_err_and}
-use Rattle.chorus_law.specs.Network.{Act}
-use Rattle.chorus_law.specs.Calls.{delivering}
+use Rattle.law_network.specs.Network.{Act}
+use Rattle.law_network.specs.Calls.{delivering}
 use Rattle.chorus_scene.specs.declared.scenario.Step.TheVariants as steps
 use Rattle.chorus_run.specs.Performing.{IsBefore, AreNext}
 use Rattle.chorus_net.specs.Sites.{net}

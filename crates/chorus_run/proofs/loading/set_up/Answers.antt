@@ -1,6 +1,6 @@
 use Rattle.std.proofs.Common.{◌+◌, refl}
 use Rattle.std.proofs.lemmas.Result.{err_from_is_err_and}
-use Rattle.chorus_law.specs.Network.{Act}
+use Rattle.law_network.specs.Network.{Act}
 use Rattle.chorus_net.specs.Sites.{net}
 use Rattle.chorus_run.specs.Load.{to_set_up}
 use Rattle.chorus_run.proofs.Loops.{exit, act-unworn}

@@ -1,7 +1,7 @@
 use Rattle.std.proofs.Common.{refl, ◌+◌}
 use Rattle.std.proofs.lemmas.Option.{slice_get_read}
 use Rattle.std.proofs.lemmas.Result.{err_from_is_err_and}
-use Rattle.chorus_law.specs.Network.{Act}
+use Rattle.law_network.specs.Network.{Act}
 use Rattle.chorus_net.specs.Sites.{net}
 use Rattle.chorus_run.specs.Performing.{to_set_up}
 use Rattle.chorus_run.proofs.Loops.{order-is, setup_from, setup-next, setup-now, exit, act-unworn}

@@ -1,6 +1,6 @@
 use Rattle.std.proofs.Common.{◌≡◌, take, map, reverse, ◌∷◌}
-use Rattle.chorus_law.specs.Network.{Act, schedule}
-use Rattle.chorus_law.specs.Calls.{starting}
+use Rattle.law_network.specs.Network.{Act, schedule}
+use Rattle.law_network.specs.Calls.{starting}
 use Rattle.chorus_run.specs.Order.{setup_command}
 use Rattle.chorus_run.specs.Performing.{IsBefore}
 use Rattle.chorus_net.specs.Sites.{net}

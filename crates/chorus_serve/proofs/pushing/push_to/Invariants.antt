@@ -1,5 +1,5 @@
 use Rattle.std.proofs.Common.{length}
-use Rattle.chorus_out.specs.Waiting.{list_to}
+use Rattle.place_outbox.specs.Waiting.{list_to}
 use Rattle.chorus_serve.specs.Flows.{Pushes}
 use Rattle.chorus_serve.proofs.pushing.push_to.Given as goal
 

@@ -6,11 +6,11 @@ use Rattle.chorus_ui.specs.declared.limits.TheConstants.{CLOCK_LIMIT}
 use Rattle.chorus_ui.specs.Layout.{has_site}
 use Rattle.chorus_entry.specs.Places.{place_for}
 use Rattle.chorus_place.specs.declared.fault.PlaceFault.TheVariants as fault
-use Rattle.chorus_machine.specs.PlaceState.{greatest_clock}
-use Rattle.chorus_machine.specs.PlaceMachine.{begun}
-use Rattle.chorus_law.specs.Network.{Act, happened, replied}
-use Rattle.chorus_law.specs.Schedules.{may_happen, may_give}
-use Rattle.chorus_law.specs.Calls.{compared, compared_with}
+use Rattle.law_machine.specs.PlaceState.{greatest_clock}
+use Rattle.law_machine.specs.PlaceMachine.{begun}
+use Rattle.law_network.specs.Network.{Act, happened, replied}
+use Rattle.law_network.specs.Schedules.{may_happen, may_give}
+use Rattle.law_network.specs.Calls.{compared, compared_with}
 use Rattle.chorus_place.specs.Calls.{state, TakesNone}
 use Rattle.chorus_net.specs.Room.{UsesRoom, KeepRoom, TakesNoneAt, puts_in}
 use Rattle.chorus_net.proofs.Rooms.{keep-set, room-found}

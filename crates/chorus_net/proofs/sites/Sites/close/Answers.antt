@@ -1,5 +1,5 @@
 use Rattle.std.proofs.Common.{◌∙◌, ap, sym}
-use Rattle.chorus_law.specs.Left.{journals, packets_left, placed}
+use Rattle.law_network.specs.Left.{journals, packets_left, placed}
 use Rattle.chorus_net.specs.Sites.{SitesState, net}
 use Rattle.chorus_net.proofs.Parts.{journals-are, packets-are, ports-are}
 use Rattle.chorus_net.proofs.sites.Sites.close.Goals as goal

@@ -1,16 +1,16 @@
 use Rattle.std.proofs.Common.{◌≡◌, ◌-◌, length, set, get_or, slice_get, Some, None, true, refl, sym, ◌∙◌, ap, subst, arith}
 use Rattle.std.proofs.lemmas.Option.{slice_get_read}
 use Rattle.chorus_ui.specs.Layout.{has_place}
-use Rattle.chorus_out.specs.Waiting.{list_to, with_first, MayPutBack}
-use Rattle.chorus_machine.specs.PlaceState.{greatest_clock}
-use Rattle.chorus_machine.specs.PlaceMachine.{begun_by}
-use Rattle.chorus_law.specs.declared.delivery.Delivered.{Delivered}
-use Rattle.chorus_law.specs.Network.{Deliver, happened, delivery}
-use Rattle.chorus_law.specs.Calls.{compared_at}
-use Rattle.chorus_law.specs.Calls.{last_of}
+use Rattle.place_outbox.specs.Waiting.{list_to, with_first, MayPutBack}
+use Rattle.law_machine.specs.PlaceState.{greatest_clock}
+use Rattle.law_machine.specs.PlaceMachine.{begun_by}
+use Rattle.law_network.specs.declared.delivery.Delivered.{Delivered}
+use Rattle.law_network.specs.Network.{Deliver, happened, delivery}
+use Rattle.law_network.specs.Calls.{compared_at}
+use Rattle.law_network.specs.Calls.{last_of}
 use Rattle.chorus_net.specs.Drains.{seat_clock}
 use Rattle.std.proofs.lemmas.List.{length-set}
-use Rattle.chorus_machine.specs.PlaceState.{PlaceState}
+use Rattle.law_machine.specs.PlaceState.{PlaceState}
 use Rattle.chorus_net.specs.Room.{UsesRoom, KeepRoom, puts_in}
 use Rattle.chorus_net.proofs.Rooms.{uses-set, keep-set, keep-on}
 use Rattle.chorus_place.specs.Calls.{Place, state}

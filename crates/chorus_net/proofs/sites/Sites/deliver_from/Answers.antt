@@ -2,7 +2,7 @@ use Rattle.std.proofs.Common.{◌≡◌, ◌+◌, ◌-◌, ◌≤◌, suc, Err, 
 use Rattle.std.proofs.lemmas.Result.{MatchResult-from_err, err_from_is_err_and}
 use Rattle.chorus_place.specs.declared.fault.PlaceFault.TheVariants as faults
 use Rattle.chorus_ui.specs.Layout.{places}
-use Rattle.chorus_law.specs.Network.{numbers, from_one}
+use Rattle.law_network.specs.Network.{numbers, from_one}
 use Rattle.chorus_net.specs.Drains.{Goes, puts_forward, AnyCause, ComparesWorn}
 use Rattle.chorus_net.specs.Room.{UsesRoom}
 use Rattle.chorus_net.specs.Sites.{net}

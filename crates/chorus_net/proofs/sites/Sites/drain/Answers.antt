@@ -1,7 +1,7 @@
 use Rattle.std.proofs.Common.{◌≡◌, Ok, Err, sym, ◌∙◌, ap, subst}
 use Rattle.std.proofs.lemmas.Result.{MatchResult-from_err, err_from_is_err_and}
 use Rattle.chorus_place.specs.declared.fault.PlaceFault.TheVariants as faults
-use Rattle.chorus_law.specs.Network.{round, place_numbers, from_each}
+use Rattle.law_network.specs.Network.{round, place_numbers, from_each}
 use Rattle.chorus_net.specs.Drains.{GoesRound, StopsAmong, AnyCause, ComparesWorn}
 use Rattle.chorus_net.specs.Room.{UsesRoom, puts_of}
 use Rattle.chorus_net.specs.Sites.{net}

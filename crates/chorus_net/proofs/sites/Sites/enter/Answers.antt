@@ -5,7 +5,7 @@ use Rattle.std.proofs.lemmas.Option.{slice_get_read}
 use Rattle.chorus_ui.specs.Layout.{has_actor, creation_place}
 use Rattle.chorus_entry.specs.Kinds.{names_actor}
 use Rattle.chorus_calls.specs.Callers.{Seated, new_caller}
-use Rattle.chorus_law.specs.Calls.{entering, last_of}
+use Rattle.law_network.specs.Calls.{entering, last_of}
 use Rattle.chorus_net.specs.Sites.{SitesState, net}
 use Rattle.chorus_net.proofs.Events.{next-event, has-home}
 use Rattle.chorus_net.proofs.sites.Sites.enter.Goals as goal

@@ -1,8 +1,8 @@
 use Rattle.std.proofs.Common.{◌≡◌, ◌-◌, true, length, sym, ◌∙◌, ap}
 use Rattle.std.proofs.lemmas.Bool.{eqb-true}
 use Rattle.chorus_ui.specs.Layout.{has_place}
-use Rattle.chorus_out.specs.Waiting.{count}
-use Rattle.chorus_law.specs.Packets.{first_on}
+use Rattle.place_outbox.specs.Waiting.{count}
+use Rattle.law_network.specs.Packets.{first_on}
 use Rattle.chorus_net.specs.Sites.{SitesState, boxes, waiting_in}
 use Rattle.chorus_net.proofs.Events.{stands-at-index}
 use Rattle.chorus_net.proofs.Rounds.{idle-first}

@@ -2,7 +2,7 @@ use Rattle.std.proofs.Common.{◌≡◌, ◌+◌, ◌-◌, ◌≤◌, ℕ, suc, 
 use Rattle.std.proofs.lemmas.Result.{MatchResult-from_err, err_from_is_err_and}
 use Rattle.chorus_place.specs.declared.fault.PlaceFault.TheVariants as faults
 use Rattle.chorus_ui.specs.Layout.{places}
-use Rattle.chorus_law.specs.Network.{numbers, place_numbers, from_one, from_each}
+use Rattle.law_network.specs.Network.{numbers, place_numbers, from_one, from_each}
 use Rattle.chorus_net.specs.Drains.{Goes, GoesRound, StopsAmong, AnyCause, ComparesWorn, puts_forward}
 use Rattle.chorus_net.specs.Room.{UsesRoom}
 use Rattle.chorus_net.specs.Sites.{SitesState, net}

@@ -1,5 +1,5 @@
 use Rattle.std.proofs.Common.{◌≡◌, ◌+◌, ◌-◌, ◌≤◌}
-use Rattle.chorus_law.specs.Network.{from_each, numbers, place_numbers}
+use Rattle.law_network.specs.Network.{from_each, numbers, place_numbers}
 use Rattle.chorus_net.specs.Drains.{Goes, puts_forward}
 use Rattle.chorus_net.specs.Room.{UsesRoom}
 use Rattle.chorus_net.specs.Sites.{net}

@@ -1,9 +1,9 @@
 use Rattle.std.proofs.Common.{◌≡◌, ◌≢◌, Ok, Err, sym, ◌∙◌, ap}
 use Rattle.std.proofs.lemmas.Result.{MatchResult-from_err, err_from_is_err_and}
 use Rattle.chorus_place.specs.declared.fault.PlaceFault.TheVariants as faults
-use Rattle.chorus_law.specs.Calls.{compared_at}
-use Rattle.chorus_law.specs.declared.delivery.Delivered.{Delivered}
-use Rattle.chorus_law.specs.Network.{NetState, Deliver, happened, delivery}
+use Rattle.law_network.specs.Calls.{compared_at}
+use Rattle.law_network.specs.declared.delivery.Delivered.{Delivered}
+use Rattle.law_network.specs.Network.{NetState, Deliver, happened, delivery}
 use Rattle.chorus_net.specs.Drains.{Ticks, AnyCause, ComparesWorn}
 use Rattle.chorus_net.specs.Sites.{net}
 use Rattle.chorus_net.proofs.Deliveries.{fault-in}

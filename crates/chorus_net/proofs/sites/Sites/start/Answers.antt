@@ -4,7 +4,7 @@ use Rattle.std.proofs.lemmas.Option.{same_Some}
 use Rattle.chorus_ui.specs.declared.ui.Ui.{Ui}
 use Rattle.chorus_ui.specs.Layout.{has_actor, places}
 use Rattle.chorus_calls.specs.Callers.{Seated, new_caller}
-use Rattle.chorus_law.specs.Calls.{starting, first_actor}
+use Rattle.law_network.specs.Calls.{starting, first_actor}
 use Rattle.chorus_net.proofs.Events.{first-may}
 use Rattle.chorus_net.proofs.Fresh.{are-places, none-waiting, all-started}
 use Rattle.chorus_net.proofs.sites.Sites.start.Goals as goal

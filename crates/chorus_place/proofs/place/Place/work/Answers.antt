@@ -1,8 +1,8 @@
 use Rattle.std.proofs.Common.{ap, subst, max, ◌∙◌}
-use Rattle.chorus_machine.specs.Lawful.{is_lawful}
-use Rattle.chorus_machine.specs.PlaceMachine.{work, begun, begun_by}
+use Rattle.law_machine.specs.Lawful.{is_lawful}
+use Rattle.law_machine.specs.PlaceMachine.{work, begun, begun_by}
 use Rattle.chorus_calls.specs.Callers.{after_tick}
-use Rattle.chorus_parts.specs.Tables.{state}
+use Rattle.place_state.specs.Tables.{state}
 use Rattle.chorus_place.specs.Calls as calls
 use Rattle.chorus_place.proofs.Ended.{begins, ended}
 use Rattle.chorus_place.proofs.Bounded.{works-at-rest}

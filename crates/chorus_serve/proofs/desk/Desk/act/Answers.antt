@@ -1,7 +1,7 @@
 use Rattle.std.proofs.Common.{◌≡◌, ◌≤◌, ℕ, ◌↔◌, IsErrOf, subst, ap}
 use Rattle.chorus_ui.specs.declared.limits.TheConstants.{CLOCK_LIMIT}
-use Rattle.chorus_machine.specs.PlaceState.{greatest_clock}
-use Rattle.chorus_machine.specs.PlaceMachine.{begun}
+use Rattle.law_machine.specs.PlaceState.{greatest_clock}
+use Rattle.law_machine.specs.PlaceMachine.{begun}
 use Rattle.chorus_place.specs.Calls.{Place, state}
 use Rattle.chorus_place.specs.declared.fault.PlaceFault.TheVariants as PlaceFault
 use Rattle.chorus_serve.specs.Desks.{DeskOf}

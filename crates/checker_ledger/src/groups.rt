@@ -1,0 +1,202 @@
+//! What each place knows of each group: a row of the table of groups.
+
+ghost use Rattle.std.specs.Prelude.{◌≡◌, ◌<◌, ◌≤◌, ◌+◌, length, OnOk, OnErr};
+ghost use Rattle.chorus_entry.specs.Members.{index_of, wrapped};
+ghost use Rattle.checker_ledger.specs.Groups.{IsGroupRow, no_group, group_in, joined, left, turned_by, changed_own, changed_group, GroupsJoined, GroupsChanged, GroupsStay};
+ghost use Rattle.std.specs.Option.{option_copied};
+ghost use Rattle.std.specs.HashMap.{get, spare};
+ghost use Rattle.checker_rows.specs.Keys.{same_name_at};
+
+use checker_rows::keep::put;
+use checker_rows::keys::NameAt;
+use chorus_entry::{Act, Entry};
+use chorus_ui::Ui;
+use std::alloc::{AllocError, Global};
+use std::collections::HashMap;
+use std::marker::Model;
+
+/// The place of the port in the list, counted from 0: the length where it is not in it.
+fn index_of(ports: &[Ui], port: Ui) -> usize
+    ensures value { result ≡ index_of port ports.now }
+    ensures within { result ≤ length ports.now }
+{
+    for (i, member) in ports.iter().enumerate() {
+        if *member == port {
+            return i;
+        }
+    }
+    ports.len()
+}
+
+/// The position in a list of this length, or the first one where it comes to the end.
+fn wrapped(len: usize, at: usize) -> usize
+    ensures value { result ≡ wrapped len at }
+    ensures within { result ≤ len }
+{
+    if at < len { at } else { 0 }
+}
+
+/// A group as the entries of its place leave it.
+#[derive(Debug, Drop)]
+pub(crate) struct Group {
+    made: bool,
+    members: Vec<Ui>,
+    rotation: usize,
+}
+
+impl Model for Group {
+    ghost use Rattle.checker_ledger.specs.Groups.{GroupRow, IsGroupRow, group_state};
+
+    ghost Value = { GroupRow };
+
+    ghost view = { λ g. group_state g.made g.members.items g.rotation };
+
+    ghost invariant = { λ g. IsGroupRow (group_state g.made g.members.items g.rotation) };
+}
+
+impl Group {
+    /// A group that no entry names.
+    fn new(alloc: Global) -> Group
+        ensures { result ≡ no_group }
+    {
+        Group {
+            made: false,
+            members: Vec::new(alloc),
+            rotation: 0,
+        }
+    }
+
+    /// Whether it was made at the place.
+    pub(crate) fn is_made(&self) -> bool
+        ensures { result ≡ self.now.made }
+    {
+        self.made
+    }
+
+    /// Its members, in the order in which they joined.
+    pub(crate) fn members(&self) -> &[Ui]
+        ensures value { result.now ≡ self.now.members }
+        ensures row { IsGroupRow self.now }
+    {
+        self.members.as_slice()
+    }
+
+    /// Its rotation place.
+    pub(crate) fn rotation(&self) -> usize
+        ensures { result ≡ self.now.rotation }
+    {
+        self.rotation
+    }
+
+    /// The port joins, as the last member. An error leaves the group as it was.
+    fn join(&mut self, port: Ui) -> Result<(), AllocError>
+        ensures ok { OnOk result (self.new ≡ joined port self.old) }
+        ensures err { OnErr result (self.new ≡ self.old) }
+    {
+        self.members.push(port)?;
+        Ok(())
+    }
+
+    /// The port leaves: the members behind it close up, and the rotation place moves one back where the port was before it.
+    fn leave(&mut self, port: Ui)
+        ensures { self.new ≡ left port self.old }
+    {
+        let at = index_of(self.members.as_slice(), port);
+        let before = at < self.rotation;
+        if before {
+            self.rotation -= 1;
+        }
+        if at < self.members.len() {
+            let _left = self.members.remove(at);
+        }
+        self.rotation = wrapped(self.members.len(), self.rotation);
+    }
+
+    /// Moves the rotation place behind the one member that was chosen. It stays where none or several were.
+    fn turn(&mut self, chosen: &[Ui])
+        ensures { self.new ≡ turned_by chosen.now self.old }
+    {
+        if let [port] = chosen {
+            let at = index_of(self.members.as_slice(), *port);
+            self.rotation = wrapped(self.members.len(), at + 1);
+        }
+    }
+
+    /// Follows the act, where it makes, leaves or chooses of this group.
+    fn change(&mut self, act: &Act)
+        ensures { self.new ≡ changed_own act.now self.old }
+    {
+        match act {
+            Act::GroupMake { .. } => self.made = true,
+            Act::Leave { port, .. } => self.leave(*port),
+            Act::Choose { members, .. } => self.turn(members.uis()),
+            _ => {}
+        }
+    }
+}
+
+/// The group that the act makes, leaves or chooses of.
+fn changed_group(act: &Act) -> Option<Ui>
+    ensures { result ≡ changed_group act.now }
+{
+    match act {
+        Act::GroupMake { group } | Act::Leave { group, .. } | Act::Choose { group, .. } => {
+            Some(*group)
+        }
+        _ => None,
+    }
+}
+
+/// The row of a group at a place; None where no entry of the place names it.
+pub(crate) fn group_at(groups: &HashMap<NameAt, Group>, place: u16, group: Ui) -> Option<&Group>
+    ensures { option_copied result ≡
+        get same_name_at groups.now (record { place = place; name = group }) }
+{
+    groups.get(&NameAt { place, name: group })
+}
+
+/// The groups after the entry, where it has a port join one. An error leaves them as they were.
+pub(crate) fn join_group(
+    groups: &mut HashMap<NameAt, Group>,
+    alloc: Global,
+    entry: &Entry,
+) -> Result<(), AllocError>
+    ensures ok { OnOk result (GroupsJoined entry.now (group_in groups.old) (group_in groups.new)) }
+    ensures err { OnErr result (GroupsStay (group_in groups.old) (group_in groups.new)) }
+    ensures room { OnOk result (spare groups.old ≤ spare groups.new + 1) }
+{
+    if let Act::Join { group, port } = &entry.act {
+        let key = NameAt {
+            place: entry.place,
+            name: *group,
+        };
+        if let Some(row) = groups.get_mut(&key) {
+            row.join(*port)?;
+            return Ok(());
+        }
+        let mut row = Group::new(alloc);
+        row.join(*port)?;
+        groups.insert(key, row)?;
+    }
+    Ok(())
+}
+
+/// The groups after the entry, but for a port that joins one.
+pub(crate) fn follow_groups(groups: &mut HashMap<NameAt, Group>, alloc: Global, entry: &Entry)
+    requires { 0 < spare groups.old }
+    ensures { GroupsChanged entry.now (group_in groups.old) (group_in groups.new) }
+{
+    if let Some(group) = changed_group(&entry.act) {
+        let key = NameAt {
+            place: entry.place,
+            name: group,
+        };
+        if let Some(row) = groups.get_mut(&key) {
+            row.change(&entry.act);
+            return;
+        }
+        let mut row = Group::new(alloc);
+        row.change(&entry.act);
+        put(groups, key, row);
+    }
+}

@@ -1,0 +1,294 @@
+//! The tables beside the entries, and what an entry makes of them.
+
+ghost use Rattle.std.specs.Prelude.{◌≡◌, ◌<◌, ◌++◌, List, [], None, OnOk, OnErr, unwrap_or};
+ghost use Rattle.std.specs.HashMap.{spare};
+ghost use Rattle.chorus_ui.specs.declared.layout.Layout.{Layout};
+ghost use Rattle.chorus_ui.specs.Layout.{group_place};
+ghost use Rattle.chorus_entry.specs.declared.entry.Entry.{Entry};
+ghost use Rattle.chorus_world.specs.Posts.{source};
+ghost use Rattle.checker_rows.specs.declared.keys.Line.{Line};
+ghost use Rattle.checker_rows.specs.Lines.{line_in, AreSame};
+ghost use Rattle.checker_ledger.specs.Asks.{asked_by};
+ghost use Rattle.checker_ledger.specs.Ports.{fate_in, MakeFits, TakesFit};
+ghost use Rattle.checker_ledger.specs.Ties.{Follows, HasSameRows, HasRoom, HasFew, ListsAfter, RowsAfter, StillFollow, message_sent, tag_by, act_tag, grows};
+
+use crate::fate::PortFate;
+use crate::groups::{Group, follow_groups, join_group};
+use crate::ports::follow_ports;
+use checker_rows::clients::{follow_clients, follow_kept};
+use checker_rows::keys::{ClientOf, Line, MessageAt, NameAt, PortKey};
+use checker_rows::lines::{End, follow_lines, push, shorten_line};
+use checker_rows::locations::follow_locations;
+use checker_rows::marks::{MarkRow, follow_marks};
+use checker_rows::messages::{MessageRow, follow_messages, message_in};
+use checker_rows::places::{PlaceRow, follow_places};
+use checker_rows::seats::{SeatRow, follow_seats};
+use checker_rows::sends::{follow_sends, sent_in};
+use chorus_entry::{Act, Dest, Entry, MEMBERS_LIMIT, MsgId, Tag};
+use chorus_ui::{Layout, Ui};
+use chorus_world::{Location, Sent};
+use std::alloc::{AllocError, Global};
+use std::collections::{HashMap, VecDeque};
+
+/// What the entries so far say, each by its key.
+#[derive(Debug, Drop)]
+pub(crate) struct Tables {
+    /// What became of each port.
+    pub ports: HashMap<PortKey, PortFate>,
+    /// Each message, wherever it is.
+    pub messages: HashMap<MsgId, MessageRow>,
+    /// Each message at each place.
+    pub marks: HashMap<MessageAt, MarkRow>,
+    /// What was sent from each place.
+    pub sends: HashMap<MessageAt, Sent>,
+    /// The same in order, by port and route.
+    pub lines: HashMap<Line, VecDeque<MsgId>>,
+    /// The posts to each group in order, by the place where they were made.
+    pub asks: HashMap<Line, VecDeque<MsgId>>,
+    /// Where each place locates each port.
+    pub locations: HashMap<NameAt, Location>,
+    /// Each place.
+    pub places: HashMap<u16, PlaceRow>,
+    /// Each caller.
+    pub seats: HashMap<u32, SeatRow>,
+    /// Each group at each place.
+    pub groups: HashMap<NameAt, Group>,
+    /// The greatest request number that each port accepted of each client.
+    pub kept: HashMap<ClientOf, u32>,
+    /// Of how many clients each port keeps a number.
+    pub clients: HashMap<PortKey, usize>,
+}
+
+/// The table whose lists an act may make longer: no act does so in two.
+#[derive(Clone, Copy, Debug)]
+enum Growing {
+    Ports,
+    Groups,
+    Asks,
+    Lines,
+}
+
+/// The table whose lists the act may make longer.
+fn grows(act: &Act) -> Growing
+    ensures { result ≡ grows act.now }
+{
+    match act {
+        Act::Join { .. } => Growing::Groups,
+        Act::Choose { .. } => Growing::Lines,
+        Act::Post { dest, .. } => match dest {
+            Dest::Port(_) => Growing::Lines,
+            _ => Growing::Asks,
+        },
+        _ => Growing::Ports,
+    }
+}
+
+/// The line of what was sent.
+fn sent_line(place: u16, sent: &Sent) -> Line
+    ensures { result ≡ record { place = place; name = sent.now.port; route = sent.now.route } }
+{
+    Line {
+        place,
+        name: sent.port,
+        route: sent.route,
+    }
+}
+
+/// The line of the posts to a group that are made at the place.
+pub(crate) fn asked_line(place: u16, group: Ui) -> Line
+    ensures { result ≡ record { place = place; name = group; route = None } }
+{
+    Line {
+        place,
+        name: group,
+        route: None,
+    }
+}
+
+/// The place where members are chosen for a post to the group that was made at the place `from`.
+pub fn choosing_place(layout: Layout, group: Ui, from: u16) -> u16
+    ensures { result ≡ unwrap_or (group_place layout group) from }
+{
+    if layout.has_site(group.site()) {
+        layout.first_place(group.site())
+    } else {
+        from
+    }
+}
+
+/// The id of the post that the message is, or is a copy of.
+pub(crate) fn source(id: MsgId) -> MsgId
+    ensures { result ≡ source id }
+{
+    MsgId {
+        seat: id.seat,
+        number: id.number,
+        copy: 0,
+    }
+}
+
+/// Puts the entry's post to a group last in its line. An error leaves the lines as they were.
+fn follow_asks(
+    asks: &mut HashMap<Line, VecDeque<MsgId>>,
+    alloc: Global,
+    entry: &Entry,
+) -> Result<(), AllocError>
+    ensures ok { OnOk result ((k : Line) →
+        line_in asks.new k ≡ line_in asks.old k ++ asked_by k entry.now) }
+    ensures err { OnErr result (AreSame (line_in asks.old) (line_in asks.new)) }
+{
+    match &entry.act {
+        Act::Post { message, dest } => match dest.group() {
+            Some(group) => push(asks, alloc, asked_line(entry.place, group), message.id),
+            None => Ok(()),
+        },
+        _ => Ok(()),
+    }
+}
+
+impl Tables {
+    /// The tables of no entries.
+    pub(crate) fn new(alloc: Global) -> Tables
+        ensures { (l : Layout) → Follows l [] result }
+    {
+        Tables {
+            ports: HashMap::new(alloc),
+            messages: HashMap::new(alloc),
+            marks: HashMap::new(alloc),
+            sends: HashMap::new(alloc),
+            lines: HashMap::new(alloc),
+            asks: HashMap::new(alloc),
+            locations: HashMap::new(alloc),
+            places: HashMap::new(alloc),
+            seats: HashMap::new(alloc),
+            groups: HashMap::new(alloc),
+            kept: HashMap::new(alloc),
+            clients: HashMap::new(alloc),
+        }
+    }
+
+    /// Makes room for the rows of one entry: in the table of groups for two, as a port joins before the other rows are put.
+    pub(crate) fn make_room(&mut self) -> Result<(), AllocError>
+        ensures rows { HasSameRows self.old self.new }
+        ensures room { OnOk result (HasRoom self.new) }
+        ensures joining { OnOk result (1 < spare self.new.groups) }
+    {
+        self.messages.reserve(1)?;
+        self.marks.reserve(1)?;
+        self.sends.reserve(MEMBERS_LIMIT)?;
+        self.locations.reserve(1)?;
+        self.places.reserve(1)?;
+        self.seats.reserve(1)?;
+        self.groups.reserve(2)?;
+        self.kept.reserve(1)?;
+        self.clients.reserve(1)?;
+        Ok(())
+    }
+
+    /// The entry's message as it was sent from its place.
+    fn sent(&self, entry: &Entry) -> Option<Sent>
+        ensures { result ≡ message_sent self.now entry.now }
+    {
+        match entry.act.message() {
+            Some(id) => sent_in(
+                &self.sends,
+                MessageAt {
+                    place: entry.place,
+                    id,
+                },
+            ),
+            None => None,
+        }
+    }
+
+    /// The tag of the message, which its copies share; Plain where it is not posted.
+    pub(crate) fn tag_of(&self, id: MsgId) -> Tag
+        ensures { result ≡ tag_by self.now id }
+    {
+        match message_in(&self.messages, source(id)).post {
+            Some(post) => post.tag,
+            None => Tag::Plain,
+        }
+    }
+
+    /// The tag of the message that the act takes or accepts.
+    fn act_tag(&self, act: &Act) -> Tag
+        ensures { result ≡ act_tag self.now act.now }
+    {
+        match act {
+            Act::Take { id, .. } | Act::Accept { id, .. } => self.tag_of(*id),
+            _ => Tag::Plain,
+        }
+    }
+
+    /// The lists after the entry. An error leaves all tables as they were.
+    pub(crate) fn grow_lists(&mut self, alloc: Global, entry: &Entry) -> Result<(), AllocError>
+        requires makes { MakeFits entry.now.act }
+        requires takes { TakesFit entry.now (fate_in self.old.ports) }
+        ensures ok { OnOk result (ListsAfter entry.now self.old self.new) }
+        ensures err { OnErr result (HasSameRows self.old self.new) }
+    {
+        match grows(&entry.act) {
+            Growing::Ports => follow_ports(&mut self.ports, alloc, entry),
+            Growing::Groups => join_group(&mut self.groups, alloc, entry),
+            Growing::Asks => follow_asks(&mut self.asks, alloc, entry),
+            Growing::Lines => follow_lines(&mut self.lines, alloc, entry),
+        }
+    }
+
+    /// The other tables after the entry, which stands behind `index` others.
+    pub(crate) fn grow_rows(&mut self, alloc: Global, layout: Layout, entry: &Entry, index: usize)
+        requires room { HasRoom self.old }
+        requires few { HasFew entry.now self.old }
+        ensures { RowsAfter layout index entry.now self.old self.new }
+    {
+        let sent = self.sent(entry);
+        let tag = self.act_tag(&entry.act);
+        follow_messages(&mut self.messages, entry);
+        follow_marks(&mut self.marks, entry);
+        follow_sends(&mut self.sends, entry);
+        follow_locations(&mut self.locations, layout, entry, sent);
+        follow_places(&mut self.places, entry);
+        follow_seats(&mut self.seats, entry, &tag, index);
+        follow_groups(&mut self.groups, alloc, entry);
+        follow_clients(&mut self.clients, &self.kept, entry, &tag);
+        follow_kept(&mut self.kept, entry, &tag);
+    }
+
+    /// Takes out of the line of the entry's message the first ones that are settled.
+    fn shorten_sent(&mut self, entry: &Entry)
+        ensures { StillFollow self.old self.new }
+    {
+        if let Some(sent) = self.sent(entry) {
+            let line = sent_line(entry.place, &sent);
+            let end = End::Settled;
+            shorten_line(&mut self.lines, &self.marks, &line, entry.place, end);
+        }
+    }
+
+    /// Takes out of the line of the group's posts, made at the place of this post, the first ones that have their choice.
+    fn shorten_asked(&mut self, layout: Layout, id: MsgId, group: Ui)
+        ensures { (past : List Entry) →
+            Follows layout past self.old → Follows layout past self.new }
+    {
+        if let Some(post) = message_in(&self.messages, id).post {
+            let line = asked_line(post.place, group);
+            let place = choosing_place(layout, group, post.place);
+            let end = End::Chosen;
+            shorten_line(&mut self.asks, &self.marks, &line, place, end);
+        }
+    }
+
+    /// Takes out of the lines of the entry's message the first ones that have met their end.
+    pub(crate) fn shorten(&mut self, layout: Layout, entry: &Entry)
+        ensures { (past : List Entry) →
+            Follows layout past self.old → Follows layout past self.new }
+    {
+        self.shorten_sent(entry);
+        match &entry.act {
+            Act::Choose { id, group, .. } => self.shorten_asked(layout, *id, *group),
+            Act::NoMember { id, group } => self.shorten_asked(layout, *id, *group),
+            _ => {}
+        }
+    }
+}

@@ -1,5 +1,0 @@
-use Rattle.chorus_history.proofs.Appending.{turns-append}
-use Rattle.chorus_history.proofs.journals.turns_append_entries.Goals as goal
-
-pub returns : goal.returns
-returns c = turns-append

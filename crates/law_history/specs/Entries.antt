@@ -1,0 +1,33 @@
+-- The entries that a turn appends.
+-- l is a layout, p the number of a place, s a place, w a caller, i what the turn takes. A journal has its newest entry first.
+use Rattle.std.specs.Prelude.{ℕ, ◌≡◌, true, List, ◌∷◌, ◌++◌, []}
+use Rattle.std.specs.List.{All}
+use Rattle.chorus_ui.specs.declared.layout.Layout.{Layout}
+use Rattle.chorus_entry.specs.declared.entry.Entry.{Entry}
+use Rattle.chorus_entry.specs.declared.command.Command.{Command}
+use Rattle.chorus_entry.specs.declared.packet.Packet.{Packet}
+use Rattle.chorus_calls.specs.Callers.{Seated}
+use Rattle.law_machine.specs.PlaceState.{PlaceState}
+use Rattle.law_history.specs.Turns.{Input}
+use Rattle.law_history.specs.PlaceTurns.{turn, may_take}
+
+-- of this place and seat
+pub record IsMadeBy (number seat : ℕ) (e : Entry) : Type 0 where
+  pub place : e.place ≡ number
+  pub seat_is : e.seat ≡ seat
+
+-- the turn appends a first entry, with the clock that is noted of it, and perhaps newer ones: all of the place and of the caller
+-- in whose turn it is, who keeps seat and actor
+pub record Appends (i : Input Command Packet) (s : PlaceState) (w : Seated) : Type 0 where
+  pub newer : List Entry
+  pub entry : Entry
+  pub journal : (turn i s w).place.journal ≡ newer ++ entry ∷ s.journal
+  pub clock : entry.clock ≡ (turn i s w).first
+  pub made : All (IsMadeBy s.number w.seat) (newer ++ entry ∷ [])
+  pub number : (turn i s w).place.number ≡ s.number
+  pub seat : (turn i s w).caller.seat ≡ w.seat
+  pub actor : (turn i s w).caller.actor ≡ w.actor
+
+abbrev pub TurnsAppendEntries : Type 0
+TurnsAppendEntries =
+    (l : Layout) (p : ℕ) (i : Input Command Packet) (s : PlaceState) (w : Seated) → may_take l p i s w ≡ true → Appends i s w

@@ -1,0 +1,8 @@
+use Rattle.law_summary.proofs.Counting.{summaries_count, fates_follow}
+use Rattle.law_summary.proofs.law.a_summary_counts_the_world.Goals as goal
+
+pub returns-clause-counts : goal.returns-clause-counts
+returns-clause-counts c = summaries_count
+
+pub returns-clause-fates : goal.returns-clause-fates
+returns-clause-fates c = fates_follow

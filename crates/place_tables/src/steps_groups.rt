@@ -1,0 +1,234 @@
+//! The steps of groups: each appends one entry.
+
+ghost use Rattle.std.specs.Prelude.{◌≡◌, ◌+◌, ◌-◌, ◌^◌, ◌<◌, ◌≤◌, true, All, None, OnOk, OnErr};
+ghost use Rattle.chorus_ui.specs.Layout.{has_place};
+ghost use Rattle.chorus_ui.specs.declared.kind.Kind.TheVariants as Kind;
+ghost use Rattle.chorus_ui.specs.declared.limits.TheConstants.{GROUPS_PER_SITE_LIMIT};
+ghost use Rattle.chorus_entry.specs.declared.act.Act.TheVariants as Act;
+ghost use Rattle.chorus_world.specs.Groups.{groups_made};
+ghost use Rattle.chorus_groups.specs.Faults.{join_fault_of, leave_fault_of};
+ghost use Rattle.law_machine.specs.PlaceState.{greatest_clock};
+ghost use Rattle.chorus_entry.specs.Dest.{port_in};
+ghost use Rattle.law_machine.specs.Doing.{does, asks};
+ghost use Rattle.law_machine.specs.Choosing.{all_go};
+ghost use Rattle.chorus_entry.specs.Members.{are_distinct};
+ghost use Rattle.place_unsettled.specs.declared.wait.Key.{Key};
+ghost use Rattle.place_state.specs.Groups.{AllGoing, HaveLines, IsCopy, ports_of, members_of, no_member, chosen, posted_alone};
+ghost use Rattle.place_state.specs.Room.{KeepsRoom};
+ghost use Rattle.place_state.specs.Tables.{turn};
+
+use crate::tables::Tables;
+use chorus_calls::Caller;
+use chorus_entry::{Act, Answer, Cargo, Dest, Members, Message, MsgId};
+use chorus_ui::Ui;
+use place_state::{Course, MemberCopy, next_entry, put, put_copies, put_report, say};
+use place_unsettled::Key;
+use std::alloc::AllocError;
+use std::collections::VecDeque;
+
+impl Tables {
+    /// Makes the next group of the place. It takes the room of the group's members; an error changes nothing.
+    pub fn make_next_group(&mut self, group: Ui, caller: &mut Caller) -> Result<(), AllocError>
+        requires number { group.number ≡ groups_made self.old.journal.past + 1 }
+        requires few { groups_made self.old.journal.past < GROUPS_PER_SITE_LIMIT }
+        requires spare { 1 ≤ self.old.journal.spare }
+        requires clock { greatest_clock (turn self.old caller.old) + 1 < 2 ^ 64 }
+        ensures turn { OnOk result (turn self.new caller.new ≡
+            does (Act.GroupMake group) (turn self.old caller.old)) }
+        ensures refused { OnErr result (turn self.new caller.new ≡ turn self.old caller.old) }
+        ensures out { self.new.out ≡ self.old.out }
+        ensures kept { KeepsRoom self.old self.new }
+    {
+        let entry = next_entry(&self.journal, self.number, caller, Act::GroupMake { group });
+        let clock = entry.clock;
+        let alloc = *self.puts.allocator();
+        self.journal.append_group(alloc, entry, group)?;
+        caller.tick(clock);
+        Ok(())
+    }
+
+    /// The port joins the group as its last member.
+    pub fn join_group(&mut self, group: Ui, port: Ui, caller: &mut Caller)
+        requires kind { port.kind ≡ Kind.Port }
+        requires joins { join_fault_of self.old.journal.groups group port ≡ None }
+        requires spare { 1 ≤ self.old.journal.spare }
+        requires clock { greatest_clock (turn self.old caller.old) + 1 < 2 ^ 64 }
+        ensures turn { turn self.new caller.new ≡
+            does (Act.Join group port) (turn self.old caller.old) }
+        ensures out { self.new.out ≡ self.old.out }
+        ensures kept { KeepsRoom self.old self.new }
+    {
+        say(
+            &mut self.journal,
+            self.number,
+            caller,
+            Act::Join { group, port },
+        );
+    }
+
+    /// The port leaves the group.
+    pub fn leave_group(&mut self, group: Ui, port: Ui, caller: &mut Caller)
+        requires leaves { leave_fault_of self.old.journal.groups group port ≡ None }
+        requires spare { 1 ≤ self.old.journal.spare }
+        requires clock { greatest_clock (turn self.old caller.old) + 1 < 2 ^ 64 }
+        ensures turn { turn self.new caller.new ≡
+            does (Act.Leave group port) (turn self.old caller.old) }
+        ensures out { self.new.out ≡ self.old.out }
+        ensures kept { KeepsRoom self.old self.new }
+    {
+        say(
+            &mut self.journal,
+            self.number,
+            caller,
+            Act::Leave { group, port },
+        );
+    }
+
+    /// Posts a message to a group, for which members are chosen here at once.
+    pub fn post_alone(&mut self, message: Message, dest: Dest, caller: &mut Caller)
+        requires posts { caller.old.posts < u32.MAX }
+        requires spare { 1 ≤ self.old.journal.spare }
+        requires clock { greatest_clock (turn self.old caller.old) + 1 < 2 ^ 64 }
+        ensures turn { turn self.new caller.new ≡
+            posted_alone message dest (turn self.old caller.old) }
+        ensures same { self.new ≡ record self.old { journal = self.new.journal } }
+        ensures spare { self.new.journal.spare ≡ self.old.journal.spare - 1 }
+        ensures kept { KeepsRoom self.old self.new }
+    {
+        say(
+            &mut self.journal,
+            self.number,
+            caller,
+            Act::Post { message, dest },
+        );
+        caller.posted();
+    }
+
+    /// Posts a message to a group, of which `again` is a copy, and asks the place `to` to choose members for it. An error changes
+    /// nothing.
+    pub fn ask(
+        &mut self,
+        message: Message,
+        again: Message,
+        dest: &Dest,
+        to: u16,
+        caller: &mut Caller,
+    ) -> Result<(), AllocError>
+        requires copy { again ≡ message }
+        requires group { port_in dest.now ≡ None }
+        requires to { has_place self.old.layout to ≡ true }
+        requires posts { caller.old.posts < u32.MAX }
+        requires spare { 1 ≤ self.old.journal.spare }
+        requires room { 1 ≤ self.old.room }
+        requires clock { greatest_clock (turn self.old caller.old) + 1 < 2 ^ 64 }
+        ensures turn { OnOk result (turn self.new caller.new ≡
+            asks message dest.now to (turn self.old caller.old)) }
+        ensures refused { OnErr result (turn self.new caller.new ≡ turn self.old caller.old) }
+        ensures out { self.new.out ≡ self.old.out }
+        ensures kept { KeepsRoom self.old self.new }
+    {
+        self.unheard.ask(message.id.seat, message.id.number)?;
+        say(
+            &mut self.journal,
+            self.number,
+            caller,
+            Act::Post {
+                message,
+                dest: *dest,
+            },
+        );
+        caller.posted();
+        let clock = self.journal.clock();
+        let cargo = Cargo::Ask {
+            message: again,
+            dest: *dest,
+        };
+        put(&mut self.puts, to, clock, self.number, cargo);
+        Ok(())
+    }
+
+    /// Finds no member for the post `id`, which was made at the place `home`.
+    pub fn find_no_member(&mut self, id: MsgId, group: Ui, home: u16, caller: &mut Caller)
+        requires home { has_place self.old.layout home ≡ true }
+        requires spare { 1 ≤ self.old.journal.spare }
+        requires room { 1 ≤ self.old.room }
+        requires clock { greatest_clock (turn self.old caller.old) + 1 < 2 ^ 64 }
+        ensures turn { turn self.new caller.new ≡
+            no_member id group home (turn self.old caller.old) }
+        ensures out { self.new.out ≡ self.old.out }
+        ensures kept { KeepsRoom self.old self.new }
+    {
+        say(
+            &mut self.journal,
+            self.number,
+            caller,
+            Act::NoMember { id, group },
+        );
+        let clock = self.journal.clock();
+        put_report(
+            &mut self.puts,
+            clock,
+            self.number,
+            home,
+            id,
+            Answer::NoMember,
+        );
+    }
+
+    /// Chooses these members for the post `id`, which was made at the place `home`: each has its copy wait.
+    pub fn choose(
+        &mut self,
+        id: MsgId,
+        group: Ui,
+        home: u16,
+        members: Members,
+        copies: VecDeque<MemberCopy>,
+        caller: &mut Caller,
+    )
+        requires members { members ≡ members_of copies.items }
+        requires distinct { are_distinct (members_of copies.items) ≡ true }
+        requires lines { HaveLines group self.old.waits (members_of copies.items) }
+        requires copied { All (IsCopy home) copies.items }
+        requires home { has_place self.old.layout home ≡ true }
+        requires spare { 1 ≤ self.old.journal.spare }
+        requires room { 1 ≤ self.old.room }
+        requires clock { greatest_clock (turn self.old caller.old) + 1 < 2 ^ 64 }
+        ensures turn { turn self.new caller.new ≡
+            chosen id group home copies.items (turn self.old caller.old) }
+        ensures spare { self.new.journal.spare ≡ self.old.journal.spare - 1 }
+        ensures room { self.old.room ≤ self.new.room + 1 }
+        ensures out { self.new.out ≡ self.old.out }
+        ensures kept { KeepsRoom self.old self.new }
+    {
+        let count = members.uis().len() as u16;
+        put_copies(&mut self.waits, group, copies);
+        say(
+            &mut self.journal,
+            self.number,
+            caller,
+            Act::Choose { id, group, members },
+        );
+        let clock = self.journal.clock();
+        let answer = Answer::Chosen { count };
+        put_report(&mut self.puts, clock, self.number, home, id, answer);
+    }
+
+    /// Lets the messages for each of these members of the group go, member by member.
+    pub fn go_all(&mut self, group: Ui, courses: VecDeque<Course>, caller: &mut Caller)
+        requires ready { AllGoing group (ports_of courses.items) (turn self.old caller.old)
+            (turn self.old caller.old) courses.items self.old.journal.spare self.old.room }
+        ensures turn { turn self.new caller.new ≡
+            all_go group (ports_of courses.items) (turn self.old caller.old) }
+        ensures out { self.new.out ≡ self.old.out }
+        ensures kept { KeepsRoom self.old self.new }
+    {
+        let mut left = courses;
+        while let Some(course) = left.pop_front() {
+            let key = Key {
+                port: course.port,
+                route: Some(group),
+            };
+            self.go(&key, course.again, caller);
+        }
+    }
+}

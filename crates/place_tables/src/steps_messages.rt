@@ -1,0 +1,260 @@
+//! The steps of messages: each appends one entry.
+
+ghost use Rattle.std.specs.Prelude.{◌≡◌, ◌+◌, ◌-◌, ◌^◌, ◌<◌, ◌≤◌, true, None, Some, IsNone, IsSome, IfSome};
+ghost use Rattle.chorus_ui.specs.declared.kind.Kind.TheVariants as Kind;
+ghost use Rattle.chorus_ui.specs.Layout.{has_site, has_place};
+ghost use Rattle.law_machine.specs.PlaceState.{greatest_clock};
+ghost use Rattle.law_machine.specs.PlaceState.{note};
+ghost use Rattle.law_machine.specs.Trying.{tries_at};
+ghost use Rattle.law_machine.specs.Doing.{post};
+ghost use Rattle.chorus_ui.specs.declared.limits.TheConstants.{MEMBERS_LIMIT};
+ghost use Rattle.law_machine.specs.Working.{hears};
+ghost use Rattle.chorus_world.specs.Places.{taught};
+ghost use Rattle.chorus_hints.specs.Known.{kept};
+ghost use Rattle.place_unsettled.specs.declared.wait.Key.{Key};
+ghost use Rattle.place_unsettled.specs.Queues.{room};
+ghost use Rattle.place_state.specs.Plain.{is_plain};
+ghost use Rattle.place_state.specs.Steps.{MayTeach, posted, told_by, answered};
+ghost use Rattle.place_state.specs.Room.{KeepsRoom};
+ghost use Rattle.place_state.specs.Tables.{turn, IsSound};
+ghost use Rattle.chorus_entry.specs.declared.packet.Cargo.TheVariants as Cargo;
+ghost use Rattle.place_state.specs.Going.{LeavesRecords, first_for, settles, reports_for};
+
+use crate::tables::Tables;
+use chorus_calls::Caller;
+use chorus_entry::{Act, Answer, Cargo, Dest, Message, MsgId};
+use place_state::{decide, decide_unless, decision, pass, put, put_report, say, teach, trying};
+use place_unsettled::{Key, Wait};
+
+impl Tables {
+    /// Settles the first message of a port and route here, where it was tried with the hop `tried`: by the answer that is
+    /// given, which enqueues nothing, or else by what the place decides.
+    pub(crate) fn settle_first(
+        &mut self,
+        key: &Key,
+        given: Option<Answer>,
+        tried: u64,
+        caller: &mut Caller,
+    )
+        requires kind { key.now.port.kind ≡ Kind.Port }
+        requires site { IsNone given → has_site self.old.layout key.now.port.site ≡ true }
+        requires leaves { IfSome given LeavesRecords }
+        requires first { IsSome (first_for key.now self.old) }
+        requires spare { 1 ≤ self.old.journal.spare }
+        requires room { reports_for key.now self.old ≤ self.old.room }
+        requires clock { greatest_clock (turn self.old caller.old) + 1 < 2 ^ 64 }
+        ensures turn { IfSome (first_for key.now self.old) (λ w. turn self.new caller.new ≡
+            settles key.now w given tried (turn self.old caller.old)) }
+        ensures spare { self.new.journal.spare ≡ self.old.journal.spare - 1 }
+        ensures room { self.old.room + reports_for key.now self.new ≤
+            self.new.room + reports_for key.now self.old }
+        ensures out { self.new.out ≡ self.old.out }
+        ensures kept { KeepsRoom self.old self.new }
+    {
+        let port = key.port;
+        let Wait {
+            message,
+            only,
+            home,
+        } = self.waits.pop(key).unwrap();
+        let id = message.id;
+        let answer = decide_unless(
+            given,
+            self.number,
+            &mut self.ports,
+            &self.hints,
+            &self.journal,
+            message,
+            port,
+            only,
+            tried,
+        );
+        say(
+            &mut self.journal,
+            self.number,
+            caller,
+            decision(id, port, tried, answer),
+        );
+        let clock = self.journal.clock();
+        put_report(&mut self.puts, clock, self.number, home, id, answer);
+    }
+
+    /// Tries the first message of a port and route, of which `again` is a copy, at the place where the port is located.
+    pub(crate) fn try_first(
+        &mut self,
+        key: &Key,
+        again: Wait,
+        newest: (u16, u64),
+        caller: &mut Caller,
+    )
+        requires first { first_for key.now self.old ≡ Some again }
+        requires place { has_place self.old.layout newest.0 ≡ true }
+        requires spare { 1 ≤ self.old.journal.spare }
+        requires room { 1 ≤ self.old.room }
+        requires clock { greatest_clock (turn self.old caller.old) + 1 < 2 ^ 64 }
+        ensures turn { turn self.new caller.new ≡ tries_at key.now again
+            (record { to = newest.0; hop = newest.1 }) (turn self.old caller.old) }
+        ensures spare { self.new.journal.spare ≡ self.old.journal.spare - 1 }
+        ensures room { self.new.room ≡ self.old.room - 1 }
+        ensures out { self.new.out ≡ self.old.out }
+        ensures kept { KeepsRoom self.old self.new }
+    {
+        let (to, hop) = newest;
+        let port = key.port;
+        let id = again.message.id;
+        say(
+            &mut self.journal,
+            self.number,
+            caller,
+            Act::Try { id, port, to, hop },
+        );
+        self.waits.set_tried(key, Some(to));
+        let clock = self.journal.clock();
+        put(
+            &mut self.puts,
+            to,
+            clock,
+            self.number,
+            trying(key, again, hop),
+        );
+    }
+
+    /// Appends an entry that changes nothing else.
+    pub fn note(&mut self, act: Act, caller: &mut Caller)
+        requires plain { is_plain act ≡ true }
+        requires spare { 1 ≤ self.old.journal.spare }
+        requires clock { greatest_clock (turn self.old caller.old) + 1 < 2 ^ 64 }
+        ensures turn { turn self.new caller.new ≡ note act (turn self.old caller.old) }
+        ensures spare { self.new.journal.spare ≡ self.old.journal.spare - 1 }
+        ensures room { self.new.room ≡ self.old.room }
+        ensures out { self.new.out ≡ self.old.out }
+        ensures kept { KeepsRoom self.old self.new }
+    {
+        say(&mut self.journal, self.number, caller, act);
+    }
+
+    /// Posts the message, of which `wait` is a copy, behind the other direct ones to a port, in the room that is there.
+    pub fn post(&mut self, key: &Key, message: Message, wait: Wait, caller: &mut Caller)
+        requires copy { wait ≡ post message self.old.number }
+        requires direct { key.now.route ≡ None }
+        requires sound { IsSound message }
+        requires line { 0 < room self.old.waits key.now }
+        requires posts { caller.old.posts < u32.MAX }
+        requires spare { 1 ≤ self.old.journal.spare }
+        requires clock { greatest_clock (turn self.old caller.old) + 1 < 2 ^ 64 }
+        ensures turn { turn self.new caller.new ≡
+            posted message key.now.port (turn self.old caller.old) }
+        ensures reports { reports_for key.now self.new ≡ reports_for key.now self.old }
+        ensures spare { self.new.journal.spare ≡ self.old.journal.spare - 1 }
+        ensures room { self.new.room ≡ self.old.room }
+        ensures out { self.new.out ≡ self.old.out }
+        ensures kept { KeepsRoom self.old self.new }
+    {
+        self.waits.push(key, wait);
+        let dest = Dest::Port(key.port);
+        say(
+            &mut self.journal,
+            self.number,
+            caller,
+            Act::Post { message, dest },
+        );
+        caller.posted();
+    }
+
+    /// Tells the first message of a port and route, which is under way, what was decided.
+    pub fn tell(&mut self, key: &Key, id: MsgId, answer: Answer, caller: &mut Caller)
+        requires kind { key.now.port.kind ≡ Kind.Port }
+        requires teaches { MayTeach self.old.layout key.now.port (taught answer) }
+        requires first { IsSome (first_for key.now self.old) }
+        requires spare { 1 ≤ self.old.journal.spare }
+        requires room { reports_for key.now self.old ≤ self.old.room }
+        requires clock { greatest_clock (turn self.old caller.old) + 1 < 2 ^ 64 }
+        ensures turn { turn self.new caller.new ≡
+            told_by id key.now answer (turn self.old caller.old) }
+        ensures spare { self.new.journal.spare ≡ self.old.journal.spare - 1 }
+        ensures room { self.old.room + reports_for key.now self.new ≤
+            self.new.room + reports_for key.now self.old }
+        ensures out { self.new.out ≡ self.old.out }
+        ensures kept { KeepsRoom self.old self.new }
+    {
+        let home = self.waits.first(key).unwrap().home;
+        say(
+            &mut self.journal,
+            self.number,
+            caller,
+            Act::Told { id, answer },
+        );
+        teach(&mut self.hints, key.port, answer);
+        pass(&mut self.waits, key, answer);
+        let clock = self.journal.clock();
+        put_report(&mut self.puts, clock, self.number, home, id, answer);
+    }
+
+    /// Decides on a message of the place `from`, which was tried here with the hop `tried`.
+    pub fn answer_try(
+        &mut self,
+        from: u16,
+        message: Message,
+        key: &Key,
+        only: Option<u16>,
+        tried: u64,
+        caller: &mut Caller,
+    )
+        requires kind { key.now.port.kind ≡ Kind.Port }
+        requires site { has_site self.old.layout key.now.port.site ≡ true }
+        requires from { has_place self.old.layout from ≡ true }
+        requires sound { IsSound message }
+        requires spare { 1 ≤ self.old.journal.spare }
+        requires room { 1 ≤ self.old.room }
+        requires clock { greatest_clock (turn self.old caller.old) + 1 < 2 ^ 64 }
+        ensures turn { turn self.new caller.new ≡
+            answered from message key.now only tried (turn self.old caller.old) }
+        ensures out { self.new.out ≡ self.old.out }
+        ensures kept { KeepsRoom self.old self.new }
+    {
+        let id = message.id;
+        let port = key.port;
+        let answer = decide(
+            self.number,
+            &mut self.ports,
+            &self.hints,
+            &self.journal,
+            message,
+            port,
+            only,
+            tried,
+        );
+        say(
+            &mut self.journal,
+            self.number,
+            caller,
+            decision(id, port, tried, answer),
+        );
+        let clock = self.journal.clock();
+        let verdict = Cargo::Verdict {
+            id,
+            port,
+            route: key.route,
+            answer,
+        };
+        put(&mut self.puts, from, clock, self.number, verdict);
+    }
+
+    /// Hears what became of a message elsewhere, by one entry.
+    pub fn hear(&mut self, id: MsgId, answer: Answer, caller: &mut Caller)
+        requires copy { id.copy ≤ MEMBERS_LIMIT }
+        requires spare { 1 ≤ self.old.journal.spare }
+        requires clock { greatest_clock (turn self.old caller.old) + 1 < 2 ^ 64 }
+        ensures turn { turn self.new caller.new ≡ hears id answer (turn self.old caller.old) }
+        ensures out { self.new.out ≡ self.old.out }
+        ensures kept { KeepsRoom self.old self.new }
+    {
+        say(
+            &mut self.journal,
+            self.number,
+            caller,
+            Act::Heard { id, answer },
+        );
+        self.unheard.hear(id);
+    }
+}

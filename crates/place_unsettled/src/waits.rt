@@ -1,0 +1,158 @@
+//! The messages that wait, by port and route.
+
+ghost use Rattle.std.specs.Prelude.{◌≡◌, ◌^◌, ◌<◌, ◌≤◌, false, length, slice_get, OnOk, OnErr};
+ghost use Rattle.std.specs.Option.{option_copied};
+ghost use Rattle.place_unsettled.specs.declared.wait.Key.{Key};
+ghost use Rattle.place_unsettled.specs.Queues.{queue, room, empty_queue, same_key, changed, with_last, passed, at, less_one};
+
+use crate::line::Line;
+use crate::wait::{Key, Wait};
+use std::alloc::{AllocError, Global};
+use std::collections::BTreeMap;
+use std::marker::Model;
+
+/// The messages that wait for their verdict: of each port and route in the order made, the first with the place that it is
+/// under way to. A key with nothing that waits, and no room taken, takes no memory.
+#[derive(Debug, Drop)]
+pub struct Waits {
+    lines: BTreeMap<Key, Line>,
+    alloc: Global,
+}
+
+impl Model for Waits {
+    ghost use Rattle.std.specs.Prelude.{List};
+    ghost use Rattle.place_unsettled.specs.declared.wait.Key.{Key};
+    ghost use Rattle.place_unsettled.specs.Queues.{Row};
+
+    ghost Value = { List (Key × Row) };
+
+    ghost view = { λ w. w.lines.entries };
+}
+
+impl Waits {
+    /// Nothing waits.
+    pub fn new(alloc: Global) -> Waits
+        ensures { (k : Key) → queue result k ≡ empty_queue }
+    {
+        Waits {
+            lines: BTreeMap::new(alloc),
+            alloc,
+        }
+    }
+
+    /// How many messages wait for this port and route.
+    pub fn len(&self, key: &Key) -> usize
+        ensures len { result ≡ length (queue self.now key.now).waits }
+        ensures small { result < 2 ^ 63 }
+    {
+        match self.lines.get(key) {
+            Some(line) => line.len(),
+            None => 0,
+        }
+    }
+
+    /// The place that the first of them is under way to.
+    pub fn tried(&self, key: &Key) -> Option<u16>
+        ensures { result ≡ (queue self.now key.now).tried }
+    {
+        match self.lines.get(key) {
+            Some(line) => line.tried(),
+            None => None,
+        }
+    }
+
+    /// The one at this position, from 0; None exactly where fewer wait.
+    pub fn get(&self, key: &Key, at: usize) -> Option<&Wait>
+        ensures { option_copied result ≡ slice_get (queue self.now key.now).waits at }
+    {
+        match self.lines.get(key) {
+            Some(line) => line.get(at),
+            None => None,
+        }
+    }
+
+    /// The first of them; None exactly where none waits.
+    pub fn first(&self, key: &Key) -> Option<&Wait>
+        ensures { option_copied result ≡ slice_get (queue self.now key.now).waits 0 }
+    {
+        self.get(key, 0)
+    }
+
+    /// How many messages more may be pushed without memory.
+    pub fn room(&self, key: &Key) -> usize
+        ensures { result ≡ room self.now key.now }
+    {
+        match self.lines.get(key) {
+            Some(line) => line.room(),
+            None => 0,
+        }
+    }
+
+    /// Takes room for one message more, where there is none. Changes no queue, whatever the answer, and takes no room of
+    /// another key.
+    pub fn reserve(&mut self, key: &Key) -> Result<(), AllocError>
+        ensures queues { (k : Key) → queue self.new k ≡ queue self.old k }
+        ensures kept { (k : Key) → room self.old k ≤ room self.new k }
+        ensures room { OnOk result (0 < room self.new key.now) }
+    {
+        if let Some(line) = self.lines.get_mut(key) {
+            return line.reserve();
+        }
+        let line = Line::with_room(self.alloc)?;
+        self.lines.insert(*key, line)?;
+        Ok(())
+    }
+
+    /// Puts a message behind them, in the room that is there. Takes no memory.
+    pub fn push(&mut self, key: &Key, wait: Wait)
+        requires { 0 < room self.old key.now }
+        ensures queues { (k : Key) →
+            queue self.new k ≡ changed key.now (with_last wait) (queue self.old) k }
+        ensures rooms { (k : Key) → room self.new k ≡ changed key.now less_one (room self.old) k }
+    {
+        let Some(line) = self.lines.get_mut(key) else {
+            return;
+        };
+        line.push(wait);
+    }
+
+    /// Takes the first of them out, so that the next is the first and not under way. With the last of them goes the room of
+    /// the key. Takes no memory.
+    pub fn pop(&mut self, key: &Key) -> Option<Wait>
+        ensures value { result ≡ slice_get (queue self.old key.now).waits 0 }
+        ensures queues { (k : Key) → queue self.new k ≡ changed key.now passed (queue self.old) k }
+        ensures rooms { (k : Key) → same_key key.now k ≡ false → room self.new k ≡ room self.old k }
+    {
+        let Some(line) = self.lines.get_mut(key) else {
+            return None;
+        };
+        let wait = line.pop();
+        if line.len() == 0 {
+            let _ = self.lines.remove(key);
+        }
+        wait
+    }
+
+    /// Notes where the first of them is under way to, or that it is not. Takes no memory.
+    pub fn set_tried(&mut self, key: &Key, to: Option<u16>)
+        requires { 0 < length (queue self.old key.now).waits }
+        ensures queues { (k : Key) → queue self.new k ≡ changed key.now (at to) (queue self.old) k }
+        ensures rooms { (k : Key) → room self.new k ≡ room self.old k }
+    {
+        let Some(line) = self.lines.get_mut(key) else {
+            return;
+        };
+        line.set_tried(to);
+    }
+
+    /// Gives back the room of a key where nothing waits. Changes no queue. Takes no memory.
+    pub fn release(&mut self, key: &Key)
+        ensures queues { (k : Key) → queue self.new k ≡ queue self.old k }
+        ensures released { queue self.old key.now ≡ empty_queue → room self.new key.now ≡ 0 }
+        ensures rooms { (k : Key) → same_key key.now k ≡ false → room self.new k ≡ room self.old k }
+    {
+        if self.tried(key).is_none() && self.len(key) == 0 {
+            let _ = self.lines.remove(key);
+        }
+    }
+}
