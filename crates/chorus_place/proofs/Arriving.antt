@@ -11,7 +11,7 @@ use Rattle.chorus_entry.specs.declared.packet.Cargo.{Cargo}
 use Rattle.chorus_entry.specs.declared.packet.Packet.{Packet}
 use Rattle.chorus_entry.specs.declared.record.PortRecord.{PortRecord}
 use Rattle.chorus_entry.specs.ClientTable.{are_distinct as are_distinct_clients}
-use Rattle.chorus_entry.specs.Kinds.{names_actor, names_port}
+use Rattle.chorus_ui.specs.NameKind.{is_actor, is_port}
 use Rattle.chorus_entry.specs.Ranges.{is_from, is_place_number, has_ranges_of_message, has_range_of_client, has_ranges_of_clients, has_ranges_of_record}
 use Rattle.chorus_world.specs.Places.{is_made_here}
 use Rattle.chorus_ports.specs.Table.{find}
@@ -68,7 +68,7 @@ may-arrive from packet r t cargo small lawful heard = by (ap (λ x. is_lawful fr
         let m = and_8 (can_make_port s.layout r.ui) (place_at s.layout (site_of s.layout s.number) r.ui == s.number) (is_none (find r.ui s.ports)) (has_actor s.layout r.actor)
         (r.actor.site == site_of s.layout s.number) (nat_le 1 r.hop) (not (creation_place s.layout r.ui == s.number) || is_made_here r.ui s.journal)
         (nat_le (r.first + length r.pending) clock) one.1 in
-        let n = and_8 (names_port r.ui) (names_actor r.actor) (is_from 1 64 r.capacity) (nat_le r.hop clock) (nat_le r.first clock) (nat_le (length r.pending) r.capacity)
+        let n = and_8 (is_port r.ui) (is_actor r.actor) (is_from 1 64 r.capacity) (nat_le r.hop clock) (nat_le r.first clock) (nat_le (length r.pending) r.capacity)
         (list_all has_ranges_of_message r.pending) (has_ranges_of_clients r.clients) ranges in
         let capacity = and_parts (nat_le 1 r.capacity) (nat_le r.capacity 64) n.2 in
         let clients = and_parts (nat_le (length r.clients) 64 && are_distinct_clients r.clients) (list_all has_range_of_client r.clients) n.7 in

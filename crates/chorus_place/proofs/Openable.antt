@@ -11,7 +11,7 @@ use Rattle.chorus_entry.specs.declared.answer.Answer.{Answer}
 use Rattle.chorus_entry.specs.declared.answer.Answer.TheVariants as A
 use Rattle.chorus_entry.specs.declared.packet.Cargo.{Cargo}
 use Rattle.chorus_entry.specs.declared.packet.Packet.{Packet}
-use Rattle.chorus_entry.specs.Kinds.{names_port}
+use Rattle.chorus_ui.specs.NameKind.{is_port}
 use Rattle.chorus_entry.specs.Same.{is_number}
 use Rattle.chorus_entry.specs.Ranges.{is_place_number, is_route, is_demanded_site, is_told, is_reported, is_asked, has_range_of_id, has_ranges_of_message, has_ranges_of_answer, has_ranges_of_cargo, has_ranges}
 use Rattle.chorus_world.specs.Places.{taught}
@@ -70,14 +70,14 @@ may-open packet t lawful small heard = by packet.cargo refl ranges.1 one.1
 
     by : (cargo : Cargo) → packet.cargo ≡ cargo → has_ranges_of_cargo clock cargo ≡ true → is_lawful_cargo clock from cargo s ≡ true → MayOpen from cargo t
     by (Cargo.Try m q route only tried) e r k =
-        let a = and_parts (is_route route && is_demanded_site only && nat_le tried clock && names_port q) (has_ranges_of_message m) r in
-        let b = and_parts (is_route route && is_demanded_site only && nat_le tried clock) (names_port q) a.0 in
+        let a = and_parts (is_route route && is_demanded_site only && nat_le tried clock && is_port q) (has_ranges_of_message m) r in
+        let b = and_parts (is_route route && is_demanded_site only && nat_le tried clock) (is_port q) a.0 in
         record { kind = from_same_kind q.kind kinds.Port b.1; site = k; place = here; sound = a.1 }
     by (Cargo.Verdict x q route answer) e r k =
-        let a = and_parts (has_range_of_id x && names_port q && is_route route && is_told answer) (has_ranges_of_answer clock answer) r in
-        let b = and_parts (has_range_of_id x && names_port q && is_route route) (is_told answer) a.0 in
-        let c = and_parts (has_range_of_id x && names_port q) (is_route route) b.0 in
-        let d = and_parts (has_range_of_id x) (names_port q) c.0 in
+        let a = and_parts (has_range_of_id x && is_port q && is_route route && is_told answer) (has_ranges_of_answer clock answer) r in
+        let b = and_parts (has_range_of_id x && is_port q && is_route route) (is_told answer) a.0 in
+        let c = and_parts (has_range_of_id x && is_port q) (is_route route) b.0 in
+        let d = and_parts (has_range_of_id x) (is_port q) c.0 in
         let queue = s.waiting (record { port = q; route = route }) in
         let f = and_parts (is_under_way x from queue && is_known_answer s.layout answer) (may_teach s.layout q answer) k in
         let g = and_parts (is_under_way x from queue) (is_known_answer s.layout answer) f.0 in

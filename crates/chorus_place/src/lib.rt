@@ -20,4 +20,3 @@ mod turns_ports;
 pub use fault::PlaceFault;
 pub use law_machine::{Outcome, Reply};
 pub use place::Place;
-pub use place_outcome::place_for;

@@ -8,7 +8,7 @@ use Rattle.chorus_ui.specs.Layout.{places, has_site, has_actor, IsLayout}
 use Rattle.chorus_entry.specs.declared.hand.Hand.{Hand}
 use Rattle.chorus_entry.specs.declared.command.Command.{Command}
 use Rattle.chorus_entry.specs.declared.packet.Packet.{Packet}
-use Rattle.chorus_entry.specs.Kinds.{names_actor}
+use Rattle.chorus_ui.specs.NameKind.{is_actor}
 use Rattle.chorus_calls.specs.Clients.{Call, Calling}
 use Rattle.chorus_calls.specs.Callers.{Seated, new_caller}
 use Rattle.chorus_turn.specs.declared.knowledge.Remarked.{Remarked}
@@ -37,13 +37,13 @@ no-hand (Some h) e = absurd (false≢true e)
 
 record IsNew (l : Layout) (q : ℕ) (w : Seated) : Type 0 where
   pub is : w ≡ new_caller q w.actor w.last
-  pub kind : names_actor w.actor ≡ true
+  pub kind : is_actor w.actor ≡ true
   pub actor : has_actor l w.actor ≡ true
 
 made-new : (l : Layout) (q : ℕ) (w : Seated) → is_new l q w ≡ true → IsNew l q w
 made-new l q w h =
-    let seven = and_parts ((w.seat == q) && (w.posts == 0) && (w.client.given == 0) && is_none w.client.outstanding && is_none w.hand && names_actor w.actor) (has_actor l w.actor) h in
-    let six = and_parts ((w.seat == q) && (w.posts == 0) && (w.client.given == 0) && is_none w.client.outstanding && is_none w.hand) (names_actor w.actor) seven.0 in
+    let seven = and_parts ((w.seat == q) && (w.posts == 0) && (w.client.given == 0) && is_none w.client.outstanding && is_none w.hand && is_actor w.actor) (has_actor l w.actor) h in
+    let six = and_parts ((w.seat == q) && (w.posts == 0) && (w.client.given == 0) && is_none w.client.outstanding && is_none w.hand) (is_actor w.actor) seven.0 in
     let five = and_parts ((w.seat == q) && (w.posts == 0) && (w.client.given == 0) && is_none w.client.outstanding) (is_none w.hand) six.0 in
     let four = and_parts ((w.seat == q) && (w.posts == 0) && (w.client.given == 0)) (is_none w.client.outstanding) five.0 in
     let three = and_parts ((w.seat == q) && (w.posts == 0)) (w.client.given == 0) four.0 in

@@ -2,7 +2,7 @@
 
 ghost use Rattle.std.specs.Prelude.{◌≡◌, ◌==◌, ◌&&◌, ◌||◌, not, nat_le, true, is_none};
 ghost use Rattle.chorus_ui.specs.Layout.{has_site, has_place, has_actor, can_make_port, creation_place, group_place, place_at, site_of};
-ghost use Rattle.chorus_entry.specs.Kinds.{names_port};
+ghost use Rattle.chorus_ui.specs.NameKind.{is_port};
 ghost use Rattle.chorus_entry.specs.Ranges.{has_ranges_of_record, has_ranges_of_cargo, has_ranges};
 ghost use Rattle.chorus_entry.specs.Same.{is_number};
 ghost use Rattle.chorus_ports.specs.Table.{find};
@@ -29,7 +29,7 @@ fn is_known_answer(layout: Layout, answer: Answer) -> bool
 
 /// Whether what an answer teaches of the port may be learned: the layout can make the port, and the hop is at least 1.
 fn may_teach(layout: Layout, port: Ui, answer: Answer) -> bool
-    requires { names_port port ≡ true }
+    requires { is_port port ≡ true }
     ensures { result ≡ may_teach layout port answer }
 {
     match answer {
