@@ -530,7 +530,10 @@ reply-called l past c n x q h r =
     let all : past ≡ (r.stands.newer ++ r.entry ∷ []) ++ older = r.stands.is ∙ sym (append_assoc r.stands.newer (r.entry ∷ []) older) in
     let kept : post_of t.request past ≡ Some d.0 = ap (post_of t.request) all ∙ post_kept t.request (r.stands.newer ++ r.entry ∷ []) older d.0 d.1 in
     let f = request_goes l past t.request d.0 n q h kept d.2 in
-    ap is_some (ap (λ s. first_call n (by s past)) (sym t.from_client) ∙ f.1)
+    called t.request.seat f.0 t.from_client f.1
+  where
+    called : (s : ℕ) (d : Call) → s ≡ c → first_call n (by s past) ≡ Some d → is_some (first_call n (by c past)) ≡ true
+    called s d e k = subst (λ z. is_some (first_call n (by z past)) ≡ true) e (ap is_some k)
 
 pub late-by-reply : (l : Layout) (past : List Entry) (e : Entry) → is_legal l (e ∷ past) ≡ true → LateByReply past e
 late-by-reply l past e h n is =

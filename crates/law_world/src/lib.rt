@@ -8,3 +8,4 @@
 #![tactic(auto)]
 
 pub mod calls;
+pub mod decisions;
