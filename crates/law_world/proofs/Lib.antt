@@ -1,0 +1,6 @@
+pub mod Entries
+pub mod Settling
+pub mod Deciding
+pub mod Moves
+pub mod Causes
+pub mod Remembering
