@@ -79,7 +79,8 @@ use Rattle.law_network.proofs.Groups.Asking.{SeesAsk, sees-ask}
 use Rattle.law_network.proofs.Packets.Reporting.{SeesReport, sees-report, asking}
 use Rattle.chorus_world.proofs.Ports.PortNames.{line-named}
 use Rattle.law_network.proofs.Holdings.Packets.{IsIn, IsOn, first-is-on, in-view, moving-to}
-use Rattle.law_network.proofs.Holdings.Passing.{IsBetweenPlaces, packets-between}
+use Rattle.law_network.specs.ByPlace.{IsBetweenPlaces}
+use Rattle.law_network.proofs.Holdings.Passing.{packets-between}
 use Rattle.law_network.proofs.Draining.Fronts.{legal-past, seen-here, is-told, told-queue}
 use Rattle.law_network.proofs.Promises.Posts.{PostsFit, post-fits}
 use Rattle.law_network.proofs.Promises.Kept.{IsKnown, accepted-known, table-fits}
