@@ -1,6 +1,6 @@
 -- The places of this project, closed: what they hand out are histories of those who came.
 -- l is a layout, p, a and b are numbers of places, q is a seat, w a caller, v what the closing pass knows.
-use Rattle.std.specs.Prelude.{ℕ, ◌≡◌, ◌==◌, Bool, true, ◌&&◌, List, ◌++◌, length, is_none}
+use Rattle.std.specs.Prelude.{ℕ, ◌≡◌, ◌==◌, Bool, ◌&&◌, List, ◌++◌, length, is_none}
 use Rattle.std.specs.List.{All}
 use Rattle.chorus_ui.specs.declared.layout.Layout.{Layout}
 use Rattle.chorus_ui.specs.Layout.{places, has_actor, IsLayout}
@@ -12,7 +12,6 @@ use Rattle.chorus_turn.specs.declared.knowledge.Remarked.{Remarked}
 use Rattle.chorus_turn.specs.declared.knowledge.Note.{Note}
 use Rattle.chorus_turn.specs.declared.knowledge.Knowledge.{Knowledge}
 use Rattle.law_machine.specs.PlaceState.{PlaceState, started}
-use Rattle.law_history.specs.Turns.{Turn}
 use Rattle.law_history.specs.Network.{Network}
 use Rattle.law_history.specs.PlaceTurns.{machine}
 use Rattle.law_history.specs.Journals.{PlaceTurn, Comer, AreHistories}
