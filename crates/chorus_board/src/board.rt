@@ -3,7 +3,7 @@ ghost use Rattle.std.specs.Prelude.{◌≡◌, true, length, drop, IsOk};
 ghost use Rattle.left_right.specs.Sides.{view};
 ghost use Rattle.chorus_board.specs.Ids.{board_props};
 ghost use Rattle.chorus_board.specs.Law.{head_of};
-ghost use Rattle.chorus_board.specs.Located.{IsOfOnePlace};
+ghost use Rattle.chorus_board.specs.Located.{IsOfPlace};
 ghost use Rattle.chorus_board.specs.Rule.{book_known, layout_known, home_of};
 ghost use Rattle.chorus_board.specs.Writers.{after_all, IsReady, IsShown};
 ghost use Rattle.chorus_board.specs.Table.{Exact, IsRoomy, Fine};
@@ -29,13 +29,14 @@ pub struct Board {
     ghost knows: { ((view writer.desk.place).knows ≡ true)
         × (book_known (view writer.desk.place) ≡ front.book)
         × (layout_known (view writer.desk.place)
-        ≡ writer.desk.shown.value.hints.layout) } by { Prim.hlevel board_props },
+        ≡ writer.desk.shown.value.hints.layout)
+        × ((view writer.desk.place).place ≡ writer.desk.shown.value.place) } by { Prim.hlevel board_props },
     ghost none_pending: { length (drop writer.behind writer.log.items) ≡ 0 },
     ghost exact: { Exact writer.desk.shown.value.hints
         writer.desk.shown.value.seen.log } by { Prim.hlevel board_props },
     ghost long: { writer.desk.shown.value.upto ≡ length writer.desk.shown.value.seen.log },
     ghost roomy: { IsRoomy writer.desk.shown.value.hints },
-    ghost one_place: { IsOfOnePlace
+    ghost of_place: { IsOfPlace writer.desk.shown.value.place
         writer.desk.shown.value.seen.log } by { Prim.hlevel board_props },
 }
 
@@ -44,11 +45,11 @@ impl Board {
     ghost use mathlib.Core.List.{IsPrefix};
     ghost use Rattle.chorus_ui.specs.declared.kind.Kind.TheVariants.{Port};
     ghost use Rattle.chorus_ui.specs.Layout.{can_make_port};
-    ghost use Rattle.chorus_board.specs.Located.{IsOfOnePlace};
-    ghost use Rattle.chorus_board.specs.Boards.{entries_seen, entries_published, entries_begun, layout_of, shown, LocatesAfter, IsReaderOf, IsSameBoard};
+    ghost use Rattle.chorus_board.specs.Located.{IsOfPlace};
+    ghost use Rattle.chorus_board.specs.Boards.{entries_seen, entries_published, entries_begun, layout_of, place_of, shown, LocatesAfter, IsReaderOf, IsSameBoard};
 
     /// Publishes that the port is at the place, by that hop. The publish stands for the entries that `X` names: `upto` of
-    /// them, of one place, which begin with those of the publish before, and after which each port is located where the
+    /// them, of the board's place, which begin with those of the publish before, and after which each port is located where the
     /// board then has it. The layout can make the port.
     ///
     /// It waits for readers that are inside. For want of memory nothing is shown; that list was begun all the same, so the next
@@ -65,7 +66,7 @@ impl Board {
         requires in_layout { IsTrue (can_make_port (layout_of self.old) ui) }
         requires longer { IsPrefix (entries_begun self.old) X.entries }
         requires count { upto ≡ length X.entries }
-        requires one_place { IsOfOnePlace X.entries }
+        requires of_place { IsOfPlace (place_of self.old) X.entries }
         requires located { LocatesAfter self.old ui place hop X.entries }
         ensures board { IsSameBoard self.old self.new }
         ensures begun { entries_begun self.new ≡ X.entries }
@@ -151,9 +152,11 @@ fn show_in<R: Wait>(writer: &mut TableWriter, rt: &R) -> Result<(), AllocError>
     ensures book { writer.new.desk.shown.value.seen.book ≡ writer.old.desk.shown.value.seen.book }
     ensures layout { writer.new.desk.shown.value.hints.layout
         ≡ writer.old.desk.shown.value.hints.layout }
+    ensures place { writer.new.desk.shown.value.place ≡ writer.old.desk.shown.value.place }
     ensures none_pending { length (drop writer.new.behind writer.new.log.items) ≡ 0 }
     ensures knows { view writer.new.desk.place
-        ≡ home_of writer.new.desk.shown.value.seen.book writer.new.desk.shown.value.hints.layout }
+        ≡ home_of writer.new.desk.shown.value.seen.book writer.new.desk.shown.value.hints.layout
+        writer.new.desk.shown.value.place }
     ensures ok { IsOk result }
 {
     replace_with(

@@ -25,10 +25,10 @@ pub(crate) fn start<R: Abort + Wait>(
     alloc: Global,
     layout: Layout,
 ) -> (Board, Vec<BoardReader>)
-    ensures board { IsNewBoard layout result.0 }
-    ensures readers { All (IsNewIn (book_of result.0) layout) result.1.items }
+    ensures board { IsNewBoard layout 1 result.0 }
+    ensures readers { All (IsNewIn (book_of result.0) layout 1) result.1.items }
 {
-    let Ok(started) = Board::start(alloc, rt, layout) else {
+    let Ok(started) = Board::start(alloc, rt, layout, 1) else {
         panic!(rt; "memory")
     };
     started
@@ -49,7 +49,7 @@ pub(crate) fn port_in(rt: &impl Abort, layout: Layout, number: u64) -> Ui
 
 /// Publishes the second of three entries, a departure.
 fn publish_departure<R: Abort + Wait>(rt: &R, board: &mut Board, port: Ui, place: u16, hop: u64)
-    requires new { IsNewBoard (layout_of board.old) board.old }
+    requires new { IsNewBoard (layout_of board.old) 1 board.old }
     requires port { (port.kind ≡ Port) × IsTrue (can_make_port (layout_of board.old) port) }
     requires place { IsTrue (has_place (layout_of board.old) place) }
     ensures board { IsSameBoard board.old board.new }
@@ -62,7 +62,7 @@ fn publish_departure<R: Abort + Wait>(rt: &R, board: &mut Board, port: Ui, place
 
 /// Publishes that the port departs to place 2 by hop 1.
 fn publish_first<R: Abort + Wait>(rt: &R, board: &mut Board, layout: Layout, port: Ui)
-    requires new { IsNewBoard layout board.old }
+    requires new { IsNewBoard layout 1 board.old }
     requires port { (port.kind ≡ Port) × IsTrue (can_make_port layout port) }
     ensures { IsSameBoard board.old board.new }
 {
@@ -92,9 +92,9 @@ pub(crate) fn next_reader(
     layout: Layout,
     readers: &mut Vec<BoardReader>,
 ) -> BoardReader
-    requires { All (IsNewIn (book_of board.now) layout) readers.old.items }
-    ensures one { IsNewIn (book_of board.now) layout result }
-    ensures rest { All (IsNewIn (book_of board.now) layout) readers.new.items }
+    requires { All (IsNewIn (book_of board.now) layout 1) readers.old.items }
+    ensures one { IsNewIn (book_of board.now) layout 1 result }
+    ensures rest { All (IsNewIn (book_of board.now) layout 1) readers.new.items }
 {
     let Some(reader) = readers.pop() else {
         panic!(rt; "a reader")
@@ -146,10 +146,10 @@ fn assert_sees<R: Abort + Wait>(
     mut follower: BoardReader,
     mut idle: BoardReader,
 )
-    requires board { IsNewBoard layout board }
-    requires reader { IsNewIn (book_of board) layout reader }
-    requires follower { IsNewIn (book_of board) layout follower }
-    requires idle { IsNewIn (book_of board) layout idle }
+    requires board { IsNewBoard layout 1 board }
+    requires reader { IsNewIn (book_of board) layout 1 reader }
+    requires follower { IsNewIn (book_of board) layout 1 follower }
+    requires idle { IsNewIn (book_of board) layout 1 idle }
 {
     let port = port_in(rt, layout, 1);
     let other = port_in(rt, layout, 2);
@@ -189,8 +189,8 @@ fn assert_next_sees(
     first: Ui,
     port: Ui,
 )
-    requires { All (IsNewIn (book_of board.now) layout) readers.old.items }
-    ensures { All (IsNewIn (book_of board.now) layout) readers.new.items }
+    requires { All (IsNewIn (book_of board.now) layout 1) readers.old.items }
+    ensures { All (IsNewIn (book_of board.now) layout 1) readers.new.items }
 {
     let mut reader = next_reader(rt, board, layout, readers);
     newest(rt, &mut reader, layout, first);
@@ -206,7 +206,7 @@ fn assert_all_see(
     port: Ui,
     other: Ui,
 )
-    requires { All (IsNewIn (book_of board.now) layout) readers.old.items }
+    requires { All (IsNewIn (book_of board.now) layout 1) readers.old.items }
 {
     for _ in 0..32 {
         assert_next_sees(rt, board, layout, readers, other, port);
@@ -238,8 +238,8 @@ fn answers_of_one_heard<R: Abort + Wait>(
     reader: &mut BoardReader,
     port: Ui,
 ) -> (Located, Located)
-    requires board { IsNewBoard (layout_of board.old) board.old }
-    requires reader { IsNewIn (book_of board.old) (layout_of board.old) reader.old }
+    requires board { IsNewBoard (layout_of board.old) 1 board.old }
+    requires reader { IsNewIn (book_of board.old) (layout_of board.old) 1 reader.old }
     requires port { (port.kind ≡ Port) × IsTrue (can_make_port (layout_of board.old) port) }
     requires site { IsTrue (has_site (layout_of board.old) port.site) }
 {
