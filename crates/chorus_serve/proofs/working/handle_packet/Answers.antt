@@ -1,9 +1,9 @@
 use Rattle.std.proofs.Common.{rules, ◌∙◌, ap, subst}
 use Rattle.chorus_serve.specs.Desks.{DeskOf, in_hand, seen}
-use Rattle.chorus_serve.specs.Working.{DealsWith, IsWornAt}
+use Rattle.chorus_serve.specs.Working.{HandlesPacket, IsWornAt}
 use Rattle.chorus_serve.specs.declared.pump.Pump.TheVariants as pumps
-use Rattle.chorus_serve.proofs.Joining.{desk-worked, compares, deals-worked, with_back, work-worn}
-use Rattle.chorus_serve.proofs.working.deal_with.Goals as goal
+use Rattle.chorus_serve.proofs.Joining.{desk-worked, compares, handled-worked, with_back, work-worn}
+use Rattle.chorus_serve.proofs.working.handle_packet.Goals as goal
 
 pub invariant_of-desk-in-Ok : goal.invariant_of-desk-in-Ok
 invariant_of-desk-in-Ok g c =
@@ -15,11 +15,11 @@ returns-in-Ok-clause-ok g c =
     let none = ap (in_hand g.E.Ends.packet) (ap (λ (d : DeskOf _ _). d.hand) c.desk.view_is ∙ c.requires) in
     let clock = compares _ c.args.caller.now.last c.args.packet.clock c.clock.result c.last.result c.max.result c.max-clock.result c.clock.ensures c.last.ensures c.max.ensures c.max-clock.ensures in
     subst
-    (λ (d : DeskOf _ _). DealsWith (pumps.Served c.args.from) c.args.from c.args.packet (seen g.E.Ends.links g.E.Ends.packet d)
+    (λ (d : DeskOf _ _). HandlesPacket (pumps.Served c.args.from) c.args.from c.args.packet (seen g.E.Ends.links g.E.Ends.packet d)
     (record { place = c.work.new.self; links = g.E.Ends.links c.desk.inside.ends; hand = in_hand g.E.Ends.packet c.desk.inside.hand; last = c.desk.inside.last; worked = c.saturating_add-desk-inside.result })
     c.args.caller.now c.work.new.caller)
     c.desk.view_is
-    (deals-worked c.args.from c.args.packet q c.work.new.self (g.E.Ends.links c.desk.inside.ends) (in_hand g.E.Ends.packet c.desk.inside.hand) c.desk.inside.last c.desk.inside.worked
+    (handled-worked c.args.from c.args.packet q c.work.new.self (g.E.Ends.links c.desk.inside.ends) (in_hand g.E.Ends.packet c.desk.inside.hand) c.desk.inside.last c.desk.inside.worked
     c.saturating_add-desk-inside.result c.args.caller.now c.work.new.caller c.desk.invariant none (search rules) (search rules) c.in-Ok.ensures.worked (search rules))
 
 pub returns-in-Err-clause-worn : goal.returns-in-Err-clause-worn
