@@ -44,7 +44,7 @@ use Rattle.chorus_scene.specs.Limits.{Keeps}
 use Rattle.chorus_run.specs.Order.{in_setup, entering, in_schedule, left_from, tasks}
 use Rattle.chorus_net.specs.Worn.{IsInRounds}
 use Rattle.chorus_run.specs.Worn.{ComesNext}
-use Rattle.chorus_net.specs.Closing.{IsClosed}
+use Rattle.chorus_net.specs.Closing.{IsLeft}
 use Rattle.chorus_run.specs.Headline.{past_of, PerformsAll, PerformsFirst, PerformsUnless, IsQuietUnless, Plays, IsOrdered, IsGiven, AreWithinUnless, Replays, callers_of, commands_by}
 use Rattle.chorus_run.proofs.Given.{commands-given}
 use Rattle.chorus_run.proofs.Callers.{AreComers, actors_in, actor-after, are-comers, callers-given, callers-so-far, get-front}
@@ -141,7 +141,7 @@ pub record AreOf (ts : List Task) (callers : ℕ → Option Ui) (commands : ℕ 
   pub before : List Task
   pub last : ts ≡ Drain 0 ∷ before
 
-module _ (l : Layout) (ts : List Task) (callers : ℕ → Option Ui) (commands : ℕ → Option (List Command)) (are : AreOf ts callers commands) (shape : IsLayout l) (closed : Closed) (es : List Event) (may : may_be l es ≡ true) (closes : IsClosed (schedule l es) closed) where
+module _ (l : Layout) (ts : List Task) (callers : ℕ → Option Ui) (commands : ℕ → Option (List Command)) (are : AreOf ts callers commands) (shape : IsLayout l) (closed : Closed) (es : List Event) (may : may_be l es ≡ true) (closes : IsLeft (schedule l es) closed) where
   abbrev n : NetState
   n = schedule l es
 
@@ -259,14 +259,14 @@ module _ (l : Layout) (ts : List Task) (callers : ℕ → Option Ui) (commands :
 -- what was closed in the order of the tasks plays what their callers give
 module _ (l : Layout) (ts : List Task) (callers : ℕ → Option Ui) (commands : ℕ → Option (List Command)) (are : AreOf ts callers commands) (shape : IsLayout l) where
   pub plays : (status : Status) (closed : Closed) → IsOrdered l ts status closed → Plays l callers commands status closed
-  plays Status.Done closed is = plays-out l ts callers commands are shape closed is.events is.may is.closes is.carried Status.Done (λ k actor given h. h) (λ h. h)
-  plays Status.Usage closed is = plays-out l ts callers commands are shape closed is.events is.may is.closes is.carried Status.Usage (λ k actor given h. h) (λ h. h)
-  plays (Status.Scenario line reason) closed is = plays-out l ts callers commands are shape closed is.events is.may is.closes is.carried (Status.Scenario line reason) (λ k actor given h. h) (λ h. h)
-  plays Status.ReadFault closed is = plays-out l ts callers commands are shape closed is.events is.may is.closes is.carried Status.ReadFault (λ k actor given h. h) (λ h. h)
-  plays Status.WriteFault closed is = plays-out l ts callers commands are shape closed is.events is.may is.closes is.carried Status.WriteFault (λ k actor given h. h) (λ h. h)
-  plays Status.Memory closed is = plays-out l ts callers commands are shape closed is.events is.may is.closes is.carried Status.Memory (λ k actor given h. h) (λ h. h)
+  plays Status.Done closed is = plays-out l ts callers commands are shape closed is.events is.may is.closes.left is.carried Status.Done (λ k actor given h. h) (λ h. h)
+  plays Status.Usage closed is = plays-out l ts callers commands are shape closed is.events is.may is.closes.left is.carried Status.Usage (λ k actor given h. h) (λ h. h)
+  plays (Status.Scenario line reason) closed is = plays-out l ts callers commands are shape closed is.events is.may is.closes.left is.carried (Status.Scenario line reason) (λ k actor given h. h) (λ h. h)
+  plays Status.ReadFault closed is = plays-out l ts callers commands are shape closed is.events is.may is.closes.left is.carried Status.ReadFault (λ k actor given h. h) (λ h. h)
+  plays Status.WriteFault closed is = plays-out l ts callers commands are shape closed is.events is.may is.closes.left is.carried Status.WriteFault (λ k actor given h. h) (λ h. h)
+  plays Status.Memory closed is = plays-out l ts callers commands are shape closed is.events is.may is.closes.left is.carried Status.Memory (λ k actor given h. h) (λ h. h)
   plays (Status.Worn clock) closed is =
-      plays-front l ts callers commands are shape closed is.events is.may is.closes (front-of l ts is.carried.next is.events is.carried.comes) clock
+      plays-front l ts callers commands are shape closed is.events is.may is.closes.left (front-of l ts is.carried.next is.events is.carried.comes) clock
 
 -- the tasks of a scenario are by its callers with its commands
 pub are-of-scene : (c : Scene) → Keeps c → AreOf (tasks c) (callers_of c) (commands_by c)
