@@ -7,7 +7,7 @@ use Rattle.std.proofs.lemmas.List.Elements.{All-nil, All-cons, All-head, All-tai
 use Rattle.chorus_ui.specs.declared.ui.Ui.{Ui}
 use Rattle.chorus_ui.specs.declared.layout.Layout.{Layout}
 use Rattle.chorus_ui.specs.Layout.{has_actor}
-use Rattle.chorus_entry.specs.Kinds.{names_actor}
+use Rattle.chorus_ui.specs.NameKind.{is_actor}
 use Rattle.chorus_entry.specs.declared.packet.Packet.{Packet}
 use Rattle.chorus_calls.specs.Callers.{Seated, new_caller}
 use Rattle.law_machine.specs.PlaceState.{PlaceState}
@@ -59,7 +59,7 @@ in-at actors i [] q = refl
 in-at actors i (c ∷ cs) zero = (let e : i ≡ i + 0 = omega arith in ap (λ j. Some (in_actor (actors j) c)) e)
 in-at actors i (c ∷ cs) (suc q) = (let e : i + 1 + q ≡ i + suc q = omega arith in in-at actors (i + 1) cs q ∙ ap (λ j. option_map (in_actor (actors j)) (slice_get cs q)) e)
 
-in-layout : (l : Layout) (actors : ℕ → Ui) (n i : ℕ) (cs : List Comer) → i + length cs ≡ n → ((q : ℕ) → q < n → names_actor (actors q) ≡ true) → ((q : ℕ) → q < n → has_actor l (actors q) ≡ true)
+in-layout : (l : Layout) (actors : ℕ → Ui) (n i : ℕ) (cs : List Comer) → i + length cs ≡ n → ((q : ℕ) → q < n → is_actor (actors q) ≡ true) → ((q : ℕ) → q < n → has_actor l (actors q) ≡ true)
     → All (IsComer l) (in_actors actors i cs)
 in-layout l actors n i [] end kinds has = All-nil (IsComer l)
 in-layout l actors n i (c ∷ cs) end kinds has =

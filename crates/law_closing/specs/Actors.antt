@@ -6,7 +6,7 @@ use Rattle.chorus_ui.specs.declared.ui.Ui.{Ui}
 use Rattle.chorus_ui.specs.declared.layout.Layout.{Layout}
 use Rattle.chorus_ui.specs.Layout.{has_actor, IsLayout}
 use Rattle.chorus_entry.specs.declared.packet.Packet.{Packet}
-use Rattle.chorus_entry.specs.Kinds.{names_actor}
+use Rattle.chorus_ui.specs.NameKind.{is_actor}
 use Rattle.law_machine.specs.PlaceState.{PlaceState}
 use Rattle.chorus_turn.specs.declared.knowledge.Remarked.{Remarked}
 use Rattle.chorus_turn.specs.declared.knowledge.Placed.{Placed}
@@ -24,7 +24,7 @@ AreIn actor made = All (λ (m : Placed PlaceNote). m.remarked.remark.before.acto
 pub record AreActors (l : Layout) (actors : ℕ → Ui) (v : Knowledge PlaceNote) : Type 0 where
   pub own : AreIn (actors v.seat) v.mine
   pub noted : All (λ (n : Note PlaceNote). AreIn (actors n.seat) n.mine) v.notes
-  pub kinds : (q : ℕ) → q < v.made → names_actor (actors q) ≡ true
+  pub kinds : (q : ℕ) → q < v.made → is_actor (actors q) ≡ true
   pub has : (q : ℕ) → q < v.made → has_actor l (actors q) ≡ true
 
 -- histories in which those who came are in these actors
