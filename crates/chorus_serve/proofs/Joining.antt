@@ -29,7 +29,7 @@ use Rattle.law_history.specs.PlaceTurns.{as_sent}
 use Rattle.chorus_serve.specs.Flows.{IsOther, Pushes, GoesOut, KeepsAtFull, EmptiesOrFull, WasEmpty, ComesNext, last_from}
 use Rattle.chorus_serve.specs.Desks.{DeskState, IsDesk, in_hand}
 use Rattle.chorus_serve.specs.declared.held.Held.{Held}
-use Rattle.chorus_serve.specs.Working.{begins_with, AreCounted, Holds, IsWorkedOff, IsHeldBack, HandlesPacket, IsWornAt}
+use Rattle.chorus_serve.specs.Working.{begins_with, AreCounted, Performs, Holds, IsWorkedOff, IsHeldBack, HandlesPacket, IsWornAt}
 use Rattle.chorus_serve.specs.Serving.{Moved, Rests, WorksOff, KeepsInHand, IsIdle, Answers, IsWornBy, SendsOut, TakesUp, FindsNone, LaysDown}
 use Rattle.chorus_serve.proofs.Flowing.{counts-self, counts-on, rose-on, rose-behind, comes-behind, goes-nothing, goes-on, all-length, all-wait}
 
@@ -330,6 +330,15 @@ turn-waits q r k os h lists p here = record {
   pushed = [];
   sent = sym (append-nil (k.sent p));
   waits = ap (list_to p) lists ∙ all-wait p os q.out.lists (let n = h.lists in let m = place-most q.layout p here in omega (arith, n, m));
+}
+
+-- a command was performed, and no link was touched
+pub performs : (a e : DeskState) (x : Command) (r : Reply) (w v : Seated) → IsDesk a.place a.links → e.links ≡ a.links → Called a.place e.place w v x r → Performs x r a e w v
+performs a e x r w v h same ok = record {
+  called = ok;
+  out = λ p here.
+      subst (λ (k : Links). GoesOut p (puts_to p (map as_sent (act x (begun (state a.place) w)).puts)) a.place.out.lists e.place.out.lists a.links k) (sym same)
+      (turn-waits a.place e.place a.links (act x (begun (state a.place) w)).puts h ok.ended.waits p here);
 }
 
 -- a lawful packet is one by the place that it says it is from
