@@ -8,4 +8,5 @@
 #![tactic(auto)]
 
 pub mod calls;
+pub mod choices;
 pub mod decisions;
