@@ -6,3 +6,5 @@ pub mod Causes
 pub mod Remembering
 pub mod Turning
 pub mod Choosing
+pub mod Naming
+pub mod Holding

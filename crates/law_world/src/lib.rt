@@ -10,3 +10,4 @@
 pub mod calls;
 pub mod choices;
 pub mod decisions;
+pub mod names;
