@@ -4,3 +4,7 @@ pub mod Deciding
 pub mod Moves
 pub mod Causes
 pub mod Remembering
+pub mod Turning
+pub mod Choosing
+pub mod Naming
+pub mod Holding

@@ -8,4 +8,6 @@
 #![tactic(auto)]
 
 pub mod calls;
+pub mod choices;
 pub mod decisions;
+pub mod names;
