@@ -1,0 +1,4 @@
+pub mod Saying
+pub mod Posting
+pub mod Taking
+pub mod Rows

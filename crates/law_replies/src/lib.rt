@@ -1,0 +1,4 @@
+//! Laws of replies: what a caller is told is what happened.
+#![tactic(auto)]
+
+pub mod replies;
