@@ -1,3 +1,6 @@
 pub mod Replies
 pub mod Taking
+pub mod AsPosted
+pub mod Networks
+pub mod Turns
 pub mod Trial
