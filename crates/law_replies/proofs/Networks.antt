@@ -1,7 +1,7 @@
 -- Replies in networks and in schedules.
 -- n is a network, `table` a past that tells the same posts as the one that the network stands for.
-use Rattle.std.proofs.Common.{ℕ, ◌≡◌, ◌↔◌, true, List, [], ◌∷◌, ◌++◌, Option, Some, None, is_some, slice_get, refl, sym, ◌∙◌, ap, subst}
-use Rattle.std.proofs.lemmas.Bool.{false≢true}
+use Rattle.std.proofs.Common.{ℕ, ◌≡◌, ◌↔◌, true, List, [], ◌∷◌, ◌++◌, Option, Some, None, is_some, slice_get, refl, sym, ◌∙◌, ap, subst, append_assoc}
+use Rattle.std.proofs.lemmas.Bool.{false≢true, and_parts}
 use Rattle.std.specs.Option.{option_map}
 use Rattle.chorus_ui.specs.declared.ui.Ui.{Ui}
 use Rattle.chorus_ui.specs.declared.layout.Layout.{Layout}
@@ -14,6 +14,7 @@ use Rattle.chorus_entry.specs.declared.act.Act.TheVariants as acts
 use Rattle.chorus_entry.specs.Places.{place_for}
 use Rattle.chorus_world.specs.Posts.{post_of, posted_in, source}
 use Rattle.chorus_world.specs.Steps.{is_legal}
+use Rattle.chorus_world.proofs.Messages.PostLemmas.{post_kept}
 use Rattle.chorus_world.proofs.Sorted.Holders.{run_is_legal}
 use Rattle.chorus_ports.specs.Table.{find}
 use Rattle.chorus_calls.specs.Callers.{Seated}
@@ -23,17 +24,17 @@ use Rattle.law_machine.specs.Own.{own}
 use Rattle.law_machine.specs.Doing.{first_message}
 use Rattle.law_machine.specs.Replies.{reply}
 use Rattle.law_network.specs.Network.{NetState, Act, Event, place, turn_for, replied, schedule}
-use Rattle.law_network.specs.Schedules.{may_be}
+use Rattle.law_network.specs.Schedules.{may_happen, may_be}
 use Rattle.law_network.specs.Stands.{Stands, actor_of}
 use Rattle.law_network.specs.Ready.{IsReady}
 use Rattle.law_network.specs.History.{said_by, history}
 use Rattle.law_network.specs.Left.{merged_past}
 use Rattle.law_network.proofs.Events.Said.{said-act, said_with}
 use Rattle.law_network.proofs.Merge.Journals.{merge-is, views}
-use Rattle.law_network.proofs.Promises.Promised.{stands-at, ready-at, legal-merge}
+use Rattle.law_network.proofs.Promises.Promised.{stands-at, ready-at, legal-history, legal-merge}
 use Rattle.law_replies.specs.Replies.{Says, Tells}
 use Rattle.law_replies.specs.AsPosted.{IsAsPosted}
-use Rattle.law_replies.specs.Networks.{IsToldSo, NetworksTell, SchedulesTell}
+use Rattle.law_replies.specs.Networks.{IsToldSo, NetworksTell, SchedulesTell, TakesArePosted}
 use Rattle.law_replies.proofs.Own.{IsFit, own-fits}
 use Rattle.law_replies.proofs.AsPosted.{IsPostOf, as-posted, post-of, one-message, first-posted}
 use Rattle.law_replies.proofs.Rows.{GivesFirst, IsAnswering, entries, reply-tells}
@@ -97,3 +98,43 @@ schedules-tell l es shape may =
     let n = schedule l es in
     let w = stands-at l es shape may in
     told-so n (history l es) (merged_past n) w l (legal-merge l es shape may) (merge-posts n (history l es) w) (ready-at l es shape may)
+
+-- What was received stays as posted.
+
+-- older events may be where more of them may
+may-older : (l : Layout) (later older : List Event) → may_be l (later ++ older) ≡ true → may_be l older ≡ true
+may-older l [] older h = h
+may-older l (e ∷ later) older h = may-older l later older (and_parts (may_happen e (schedule l (later ++ older))) (may_be l (later ++ older)) h).1
+
+-- later events put new entries in front
+history-more : (l : Layout) (later older : List Event) → (more : List Entry) × (history l (later ++ older) ≡ more ++ history l older)
+history-more l [] older = ([], refl)
+history-more l (e ∷ later) older =
+    let rest = history-more l later older in
+    let new = said_by e (schedule l (later ++ older)) in
+    (new ++ rest.0, ap (λ zs. new ++ zs) rest.1 ∙ sym (append_assoc new rest.0 (history l older)))
+
+came : (n : NetState) (seat : ℕ) (c : Command) (r : Reply) → replied seat c n ≡ Some r → is_some (slice_get n.callers seat) ≡ true
+came n seat c r h = by (slice_get n.callers seat) h
+  where
+    by : (o : Option Seated) → option_map (λ (caller : Seated). reply c (turn_for c caller n)) o ≡ Some r → is_some o ≡ true
+    by None k = absurd (cc)
+    by (Some caller) k = refl
+
+-- where a message that a past tells was posted, the merge of a longer schedule tells it too
+pub still-posted : (l : Layout) (later older : List Event) (m : Message) → IsLayout l → may_be l (later ++ older) ≡ true → IsPostOf m (history l older) → IsAsPosted m (merged_past (schedule l (later ++ older)))
+still-posted l later older m shape may h =
+    let all = later ++ older in
+    let more = history-more l later older in
+    let kept : post_of m.id (history l all) ≡ Some h.post = ap (post_of m.id) more.1 ∙ post_kept m.id more.0 (history l older) h.post h.is in
+    let is : IsPostOf m (history l all) = record { post = h.post; is = kept; tag = h.tag; body = h.body } in
+    let table = merged_past (schedule l all) in
+    posted-as table m (moved table (history l all) m (merge-posts (schedule l all) (history l all) (stands-at l all shape may)) is)
+
+pub takes-are-posted : TakesArePosted
+takes-are-posted l later older seat c position m settled shape may h =
+    let n = schedule l older in
+    let before = may-older l later older may in
+    let w = stands-at l older shape before in
+    let told = (networks-tell n (history l older) w (ready-at l older shape before) seat c (Reply.Taken position m settled) (came n seat c (Reply.Taken position m settled) h)).0 h in
+    still-posted l later older m shape may (post-of l (history l older) m (legal-history l older shape before) told.0.1.1)

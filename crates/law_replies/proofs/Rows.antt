@@ -90,6 +90,23 @@ step-tells gives es x _ s said p o = absurd s
 abbrev pub entries : Command → Turn → List Entry
 entries c t = (act-goes c t).newer ++ next_entry (own c t) t ∷ []
 
+-- A take: what follows on it, and its reply.
+module _ (gives : Ui → Message → Type 0) (c : Command) (t : Turn) (q : Ui) (position : ℕ) (x : MsgId) (e : own c t ≡ acts.Take q position x) (f : GivesFirst gives q x (first_message (find q t.place.ports))) where
+  pub take-becomes : acts_of (act-goes c t).newer ≡ settled_acts f.message.tag (settling f.message.tag t.caller)
+  take-becomes =
+      let tag = f.message.tag in
+      let g = act-goes c t in
+      let take = next_entry (acts.Take q position x) t in
+      let same : act c t ≡ takes q position x (Some f.message) t = ap (λ z. does z t) e ∙ ap (λ o. takes q position x o t) f.is in
+      let p : Ended (acts.Take q position x) tag t (act c t) =
+      subst (Ended (acts.Take q position x) tag t) (sym same) (take-ends q position x f.message.id tag (replace q (after_take t.caller.actor) t.place.ports) t) in
+      let lists : p.0 ++ take ∷ t.place.journal ≡ g.newer ++ take ∷ t.place.journal = sym p.1.0 ∙ (g.journal ∙ ap (λ z. g.newer ++ next_entry z t ∷ t.place.journal) e) in
+      let rest : p.0 ≡ g.newer = append_cancel_right p.0 g.newer (take ∷ t.place.journal) lists in
+      ap acts_of (sym rest) ∙ p.1.1
+
+  pub take-reply : reply c t ≡ Reply.Taken position f.message (settling f.message.tag t.caller)
+  take-reply = ap (λ z. reply_to z t (act c t)) e ∙ ap (λ o. taken_reply position o t.caller) f.is
+
 module _ (gives : Ui → Message → Type 0) (c : Command) (t : Turn) (h : IsAnswering gives c t) (es : List Entry) (to : (a : Act) → Says es a → Says (entries c t) a) (back : (a : Act) → Says (entries c t) a → Says es a) where
   abbrev a : Act
   a = own c t
@@ -190,21 +207,6 @@ module _ (gives : Ui → Message → Type 0) (c : Command) (t : Turn) (h : IsAns
 
   -- Receiving.
 
-  -- what follows on the Take
-  pub take-becomes : (q : Ui) (position : ℕ) (x : MsgId) (e : own c t ≡ acts.Take q position x) → acts_of behind ≡ settled_acts (h.takes q position x e).message.tag (settling (h.takes q position x e).message.tag t.caller)
-  take-becomes q position x e =
-      let f = h.takes q position x e in
-      let tag = f.message.tag in
-      let same : act c t ≡ takes q position x (Some f.message) t = ap (λ z. does z t) e ∙ ap (λ o. takes q position x o t) f.is in
-      let p : Ended (acts.Take q position x) tag t u = subst (Ended (acts.Take q position x) tag t) (sym same) (take-ends q position x f.message.id tag (replace q (after_take t.caller.actor) t.place.ports) t) in
-      let lists : p.0 ++ next_entry (acts.Take q position x) t ∷ t.place.journal ≡ behind ++ next_entry (acts.Take q position x) t ∷ t.place.journal =
-      sym p.1.0 ∙ ((act-goes c t).journal ∙ ap (λ z. behind ++ next_entry z t ∷ t.place.journal) e) in
-      let rest : p.0 ≡ behind = append_cancel_right p.0 behind (next_entry (acts.Take q position x) t ∷ t.place.journal) lists in
-      ap acts_of (sym rest) ∙ p.1.1
-
-  pub take-reply : (q : Ui) (position : ℕ) (x : MsgId) (e : own c t ≡ acts.Take q position x) → reply c t ≡ Reply.Taken position (h.takes q position x e).message (settling (h.takes q position x e).message.tag t.caller)
-  take-reply q position x e = ap (λ z. reply_to z t u) e ∙ ap (λ o. taken_reply position o t.caller) (h.takes q position x e).is
-
   no-end : (q : Ui) (position : ℕ) (x : MsgId) → own c t ≡ acts.Take q position x → number_in (own c t) ≡ None
   no-end q position x e = ap number_in e
 
@@ -219,8 +221,8 @@ module _ (gives : Ui → Message → Type 0) (c : Command) (t : Turn) (h : IsAns
       let tag = f.message.tag in
       let settled = settling tag t.caller in
       let take : Says es (acts.Take q position f.message.id) = subst (λ z. Says es (acts.Take q position z)) (sym f.id) (subst (Says es) e own-said) in
-      let is : IsSettledAs settled (entries c t) = (told tag t.caller behind first (no-end q position x e) (take-becomes q position x e)).0 in
-      subst (Tells gives es) (sym (take-reply q position x e)) ((q, (take, f.given)), settled-same settled (entries c t) es back to is)
+      let is : IsSettledAs settled (entries c t) = (told tag t.caller behind first (no-end q position x e) (take-becomes gives c t q position x e f)).0 in
+      subst (Tells gives es) (sym (take-reply gives c t q position x e f)) ((q, (take, f.given)), settled-same settled (entries c t) es back to is)
 
   from-take : (q : Ui) (position : ℕ) (m : Message) (settled : Option Settle) → Says es (acts.Take q position m.id) → gives q m → IsSettledAs settled es → reply c t ≡ Reply.Taken position m settled
   from-take q position m settled said given is =
@@ -228,8 +230,8 @@ module _ (gives : Ui → Message → Type 0) (c : Command) (t : Turn) (h : IsAns
       let f = h.takes q position m.id e in
       let same : m ≡ f.message = f.only m given refl in
       let ended : settling f.message.tag t.caller ≡ settled =
-      settled-only f.message.tag t.caller behind first (no-end q position m.id e) (take-becomes q position m.id e) settled (settled-same settled es (entries c t) to back is) in
-      take-reply q position m.id e ∙ (λ i. Reply.Taken position (sym same i) (ended i))
+      settled-only f.message.tag t.caller behind first (no-end q position m.id e) (take-becomes gives c t q position m.id e f) settled (settled-same settled es (entries c t) to back is) in
+      take-reply gives c t q position m.id e f ∙ (λ i. Reply.Taken position (sym same i) (ended i))
 
   -- All rows.
 

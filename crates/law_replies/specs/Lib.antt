@@ -3,4 +3,3 @@ pub mod Taking
 pub mod AsPosted
 pub mod Networks
 pub mod Turns
-pub mod Trial
