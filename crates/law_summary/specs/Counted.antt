@@ -15,7 +15,7 @@ use Rattle.chorus_world.specs.Fates.{MessageFate, Queued, UnderWay, Discarded, f
 use Rattle.chorus_world.specs.Steps.{is_legal}
 use Rattle.chorus_show.specs.declared.queues.Spot.{Spot}
 use Rattle.chorus_show.specs.declared.queues.Spot.TheVariants.{Held, Moving, Ended}
-use Rattle.chorus_show.specs.Summary.{last_spot, waiting, ports_at, waiting_at}
+use Rattle.chorus_show.specs.Summary.{waiting, ports_at, waiting_at}
 use Rattle.chorus_show.specs.Tally.{is_spot}
 
 -- where a port is, in the summary's words
