@@ -1,5 +1,5 @@
--- The other numbers of a summary, each as the world has it. l is a layout, q a port, x the id of a message, s a seat; a past has its newest
--- entry first, a summary is of the entries in order.
+-- The other numbers of a summary, each as the world has it. l is a layout, q a port, x the id of a message, s a seat; a
+-- past has its newest entry first, a summary is of the entries in order.
 use Rattle.std.specs.Prelude.{ℕ, ◌≡◌, ◌+◌, ◌-◌, ◌==◌, nat_lt, Bool, true, false, not, ◌&&◌, if◌then◌else◌, List, [], ◌∷◌, ◌++◌, length, reverse, Option, Some, None, is_none, sum_by, count_by}
 use Rattle.std.specs.List.{list_any}
 use Rattle.chorus_ui.specs.declared.ui.Ui.{Ui}
@@ -42,8 +42,8 @@ abbrev pub hops_of : Option PortState → ℕ
 hops_of None = 0
 hops_of (Some f) = length f.path - 1
 
--- What was accepted, taken and discarded, and the departs, are the sums of what the world has of each port; and each port that was made
--- is counted once.
+-- What was accepted, taken and discarded, and the departs, are the sums of what the world has of each port; and each
+-- port that was made is counted once.
 pub record SumsOfPorts (past : List Entry) : Type 0 where
   pub once : (q : Ui) → count_by (same_ui q) (made_ports (reverse past)) ≡ (if is_made (fate (on q past)) then 1 else 0)
   pub accepted : count is_accept (reverse past) ≡ sum_by (λ q. length (accepted_by q past)) (made_ports (reverse past))
@@ -91,7 +91,8 @@ CountsTheRefused past = count is_refusal (reverse past) ≡ count_by (λ x. is_r
 
 -- Late tries.
 
--- x, which asks for no site, stands tried at the place p, which does not hold its port, and locates it at another place by a later hop
+-- x, which asks for no site, stands tried at the place p, which does not hold its port, and locates it at another place
+-- by a later hop
 abbrev pub is_too_late : Layout → List Entry → ℕ → MsgId → Progress → Bool
 is_too_late l past p x (Tried from q to hop) =
     (to == p) && not (is_held_at p (fate (on q past))) && nat_lt hop (located l q (at p past)).hop
