@@ -1,5 +1,5 @@
 -- Examples, each computed: what is a drain and what is none, and room that was not used.
-use Rattle.std.proofs.Common.{ℕ, ◌≡◌, ◌+◌, ◌<◌, ◌≤◌, ◌==◌, List, [], ◌∷◌, length, refl, sym, ◌∙◌, ap, arith}
+use Rattle.std.proofs.Common.{ℕ, ◌≡◌, ◌+◌, ◌≤◌, ◌==◌, List, [], ◌∷◌, length, refl, ap, arith}
 use Rattle.std.proofs.lemmas.Bool.{eq-eqb}
 use Rattle.std.specs.Prelude.{if◌then◌else◌}
 use Rattle.chorus_ui.specs.declared.kind.Kind.TheVariants as kinds
@@ -9,7 +9,7 @@ use Rattle.chorus_entry.specs.declared.dest.Dest.{Dest}
 use Rattle.law_network.specs.Network.{NetState, Event, Enter, Act, schedule}
 use Rattle.chorus_place.specs.Calls.{Place}
 use Rattle.chorus_net.specs.Drains.{Drains}
-use Rattle.chorus_net.specs.Room.{UsesRoom, room_at, entries_at}
+use Rattle.chorus_net.specs.Room.{UsesRoom}
 
 abbrev two_sites : Layout
 two_sites = record { sites = 2; turns = 1 }
