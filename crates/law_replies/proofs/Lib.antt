@@ -8,3 +8,5 @@ pub mod AsPosted
 pub mod Networks
 pub mod Outcomes
 pub mod Told
+pub mod Cutting
+pub mod Histories

@@ -1,5 +1,6 @@
 //! What a caller is told. The laws speak of the definitions alone and make no call.
 
+ghost use Rattle.law_replies.specs.Histories.{HistoriesOutcomes, HistoriesTakePosted};
 ghost use Rattle.law_replies.specs.Networks.{NetworksTell, SchedulesTell, TakesArePosted};
 ghost use Rattle.law_replies.specs.Outcomes.{LegalOutcomes, SchedulesOutcomes};
 ghost use Rattle.law_replies.specs.Turns.{TakesAppend, TurnsTell};
@@ -20,6 +21,7 @@ pub fn reply_is_what_happened()
 /// after whatever comes later. A copy has those of the post of which it is a copy.
 pub fn a_take_hands_out_what_was_posted()
     ensures schedules { TakesArePosted }
+    ensures histories { HistoriesTakePosted }
 {}
 
 /// A take appends the Take of the message and what ends the call behind it, or one Empty, or one NotHere, just as its reply tells.
@@ -31,4 +33,5 @@ pub fn a_take_appends_its_acts()
 pub fn an_outcome_is_true()
     ensures legal { LegalOutcomes }
     ensures schedules { SchedulesOutcomes }
+    ensures histories { HistoriesOutcomes }
 {}
