@@ -24,7 +24,7 @@ use Rattle.law_machine.specs.Own.{own}
 use Rattle.law_machine.specs.Doing.{first_message}
 use Rattle.law_machine.specs.PlaceMachine.{begun, begun_by}
 use Rattle.law_machine.specs.Replies.{reply}
-use Rattle.law_network.specs.Network.{schedule, place}
+use Rattle.law_network.specs.Network.{Event, schedule, place}
 use Rattle.law_network.specs.History.{history}
 use Rattle.law_network.specs.Stands.{Stands}
 use Rattle.law_network.proofs.Events.Said.{act-goes, work-goes}
@@ -145,21 +145,45 @@ module _ (l : Layout) (comers : List Comer) (places-of seats : ℕ → List Plac
     s-then : moment.places p ≡ s
     s-then = place-then p ∙ (ap (state_after (machine l) p (started l p)) cut.1.1.1 ∙ sym (takes-one (machine l) p older (started l p) s led))
 
+    -- the turns up to there, in one order
+    module _ (theirs : List PlaceTurn) (is : IsTheirSchedule l comers some-places some-seats moment theirs) where
+      abbrev es : List Event
+      es = events comers theirs
+
+      stood : Stands (schedule l es) (history l es)
+      stood = stands-at l es shape is.may
+
+      here-is : place p (schedule l es) ≡ s
+      here-is = is.ends.places p ∙ s-then
+
+      journal-is : (r : ℕ) → at r (history l es) ≡ (moment.places r).journal
+      journal-is r = sym (stood.journal r) ∙ ap (λ (z : PlaceState). z.journal) (is.ends.places r)
+
+      turns-split : (r : ℕ) → places-of r ≡ some-places r ++ filter (turns.is_at r) back
+      turns-split r = sym (is-theirs.by_place r) ∙ (ap (filter (turns.is_at r)) cut.1.1.0 ∙ filter-append (turns.is_at r) front back)
+
+      -- what stood there stands in the merge
+      still-stands : (e : Entry) → StandsIn e (history l es) → StandsIn e (merged_at l closing)
+      still-stands e then =
+          let r = e.place in
+          stands-all r (some-places r) (filter (turns.is_at r) back) (moment.places r) (turns-split r) (histories-then.histories.takes r) e
+          (subst (StandsIn e) (journal-is r) (stands-view e (history l es) then))
+
+      still-posted : (m : Message) → IsAsPosted m (history l es) → IsAsPosted m (merged_at l closing)
+      still-posted m f =
+          record { entry = f.entry; message = f.message; dest = f.dest; stands = still-stands f.entry f.stands; posts = f.posts; id = f.id; tag = f.tag; body = f.body }
+
+      first-then : (q : Ui) (m : Message) → first_message (find q s.ports) ≡ Some m → IsPostOf m (history l es)
+      first-then q m first =
+          first-is (schedule l es) (history l es) (history l es) stood l (legal-history l es shape is.may) (λ x. refl) p q m
+          (ap (λ (z : PlaceState). first_message (find q z.ports)) here-is ∙ first)
+
+      first-there : (q : Ui) (m : Message) → first_message (find q s.ports) ≡ Some m → IsAsPosted m (merged_at l closing)
+      first-there q m first = still-posted m (posted-as (history l es) m (first-then q m first))
+
     first-posted : (q : Ui) (m : Message) → first_message (find q s.ports) ≡ Some m → IsAsPosted m (merged_at l closing)
-    first-posted q m first =
-        let theirs = journals-are-a-schedule l comers some-places some-seats moment shape histories-then in
-        let es = events comers theirs.0 in
-        let n = schedule l es in
-        let past = history l es in
-        let w = stands-at l es shape theirs.1.may in
-        let here : place p n ≡ s = theirs.1.ends.places p ∙ s-then in
-        let post : IsPostOf m past = first-is n past past w l (legal-history l es shape theirs.1.may) (λ x. refl) p q m (ap (λ (z : PlaceState). first_message (find q z.ports)) here ∙ first) in
-        let then = posted-as past m post in
-        let r = then.entry.place in
-        let journal : at r past ≡ (moment.places r).journal = sym (w.journal r) ∙ ap (λ (z : PlaceState). z.journal) (theirs.1.ends.places r) in
-        let split-there : places-of r ≡ some-places r ++ filter (turns.is_at r) back = sym (is-theirs.by_place r) ∙ (ap (filter (turns.is_at r)) cut.1.1.0 ∙ filter-append (turns.is_at r) front back) in
-        let stood = stands-all r (some-places r) (filter (turns.is_at r) back) (moment.places r) split-there (histories-then.histories.takes r) then.entry (subst (StandsIn then.entry) journal (stands-view then.entry past then.stands)) in
-        record { entry = then.entry; message = then.message; dest = then.dest; stands = stood; posts = then.posts; id = then.id; tag = then.tag; body = then.body }
+    first-posted =
+        let theirs = journals-are-a-schedule l comers some-places some-seats moment shape histories-then in first-there theirs.0 theirs.1
 
 pub histories-take-posted : HistoriesTakePosted
 histories-take-posted l comers places-of seats closing p s led w c position m settled is =
