@@ -1,5 +1,5 @@
 -- What callers of running places are told, for histories.
-use Rattle.std.proofs.Common.{ℕ, ◌≡◌, true, List, [], ◌∷◌, ◌++◌, reverse, Option, Some, None, slice_get, refl, sym, ◌∙◌, ap, subst, append_assoc}
+use Rattle.std.proofs.Common.{ℕ, ◌≡◌, true, List, [], ◌∷◌, ◌++◌, reverse, Some, None, slice_get, refl, sym, ◌∙◌, ap, subst, append_assoc}
 use Rattle.std.specs.List.{filter}
 use Rattle.std.proofs.lemmas.List.{reverse-reverse}
 use Rattle.std.proofs.lemmas.List.Elements.{filter-append}
@@ -16,14 +16,12 @@ use Rattle.chorus_world.specs.SentLaws.{StandsIn}
 use Rattle.chorus_world.specs.Steps.{is_legal}
 use Rattle.chorus_world.proofs.Sorted.Holders.{run_is_legal}
 use Rattle.chorus_ports.specs.Table.{find}
-use Rattle.chorus_calls.specs.declared.client.Settle.{Settle}
 use Rattle.chorus_calls.specs.Callers.{Seated}
 use Rattle.law_machine.specs.declared.reply.Reply.{Reply}
 use Rattle.law_machine.specs.PlaceState.{PlaceState, started, next_entry}
 use Rattle.law_machine.specs.Own.{own}
 use Rattle.law_machine.specs.Doing.{first_message}
 use Rattle.law_machine.specs.PlaceMachine.{begun, begun_by}
-use Rattle.law_machine.specs.Replies.{reply}
 use Rattle.law_network.specs.Network.{Event, schedule, place}
 use Rattle.law_network.specs.History.{history}
 use Rattle.law_network.specs.Stands.{Stands}
@@ -32,7 +30,7 @@ use Rattle.law_network.proofs.Promises.Promised.{stands-at, legal-history}
 use Rattle.law_history.specs.declared.turns.Input.{Input}
 use Rattle.law_history.specs.Turns as turns
 use Rattle.law_history.specs.Network.{Network}
-use Rattle.law_history.specs.Histories.{Takes, Histories}
+use Rattle.law_history.specs.Histories.{Takes}
 use Rattle.law_history.specs.PlaceTurns.{turn, machine}
 use Rattle.law_history.specs.Journals.{PlaceTurn, Comer, AreHistories, at_start, events, IsTheirSchedule}
 use Rattle.law_history.specs.Runs.{merged_at, actor_among, MergesAsARun}
@@ -41,11 +39,12 @@ use Rattle.law_history.proofs.Rising.{place-rises}
 use Rattle.law_history.proofs.Scheduled.{journals-are-a-schedule}
 use Rattle.law_history.proofs.Merging.{journals-merge-as-a-run}
 use Rattle.law_replies.specs.AsPosted.{IsAsPosted}
-use Rattle.law_replies.specs.Histories.{LedTo, HistoriesTakePosted, HistoriesOutcomes}
+use Rattle.law_replies.specs.Histories.{HistoriesTakePosted, HistoriesOutcomes}
 use Rattle.law_replies.proofs.Cutting.{state_after, takes-front, takes-one, there, cut-there, place-there, split-at}
 use Rattle.law_replies.proofs.AsPosted.{IsPostOf}
 use Rattle.law_replies.proofs.Networks.{posted-as, first-is}
-use Rattle.law_replies.proofs.Told.{within, outcome-is-true}
+use Rattle.law_replies.proofs.Posts.{stands-behind, within}
+use Rattle.law_replies.proofs.Told.{outcome-is-true}
 use Rattle.law_replies.proofs.Turns.{turns-tell}
 use Rattle.law_replies.proofs.Rows.{entries}
 
@@ -63,10 +62,6 @@ takes-more l p (t ∷ ts) x y h =
     let one = turn-more t.input x t.before in
     let rest = takes-more l p ts (turn t.input x t.before).place y h.1 in
     (rest.0 ++ one.0, rest.1 ∙ (ap (λ es. rest.0 ++ es) one.1 ∙ sym (append_assoc rest.0 one.0 x.journal)))
-
-stands-behind : (e : Entry) (more past : List Entry) → StandsIn e past → StandsIn e (more ++ past)
-stands-behind e more past s =
-    record { newer = more ++ s.newer; older = s.older; is = ap (λ es. more ++ es) s.is ∙ sym (append_assoc more s.newer (e ∷ s.older)) }
 
 -- an entry that stands in a list stands in a view of it
 stands-view : (e : Entry) (past : List Entry) → StandsIn e past → StandsIn e (at e.place past)

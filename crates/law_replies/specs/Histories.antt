@@ -1,4 +1,4 @@
--- What callers of running places are told, for histories of places and callers that were closed: at any moment of any place.
+-- What callers of running places are told, for histories of places and callers: at any moment of any place.
 -- l is a layout, p the number of a place, s the place when it had taken the turns `older`, w a caller, x an id.
 use Rattle.std.specs.Prelude.{ℕ, ◌≡◌, List, ◌++◌, Option}
 use Rattle.chorus_ui.specs.declared.layout.Layout.{Layout}
@@ -33,12 +33,14 @@ pub record LedTo (l : Layout) (comers : List Comer) (places seats : ℕ → List
 -- a message that is received there stands as posted in the merge of the journals
 abbrev pub HistoriesTakePosted : Type 0
 HistoriesTakePosted =
-    (l : Layout) (comers : List Comer) (places seats : ℕ → List PlaceTurn) (closing : Network PlaceState Seated Packet) (p : ℕ)
-    (s : PlaceState) → LedTo l comers places seats closing p s → (w : Seated) (command : Command) (position : ℕ) (m : Message)
-    (settled : Option Settle) → reply command (begun s w) ≡ Reply.Taken position m settled → IsAsPosted m (merged_at l closing)
+    (l : Layout) (comers : List Comer) (places seats : ℕ → List PlaceTurn) (closing : Network PlaceState Seated Packet)
+    (p : ℕ) (s : PlaceState) → LedTo l comers places seats closing p s → (w : Seated) (command : Command) (position : ℕ)
+    (m : Message) (settled : Option Settle) → reply command (begun s w) ≡ Reply.Taken position m settled →
+    IsAsPosted m (merged_at l closing)
 
 -- and an outcome there is true of the merge
 abbrev pub HistoriesOutcomes : Type 0
 HistoriesOutcomes =
-    (l : Layout) (comers : List Comer) (places seats : ℕ → List PlaceTurn) (closing : Network PlaceState Seated Packet) (p : ℕ)
-    (s : PlaceState) → LedTo l comers places seats closing p s → (x : MsgId) → OutcomeIsTrue x s.journal (merged_at l closing)
+    (l : Layout) (comers : List Comer) (places seats : ℕ → List PlaceTurn) (closing : Network PlaceState Seated Packet)
+    (p : ℕ) (s : PlaceState) → LedTo l comers places seats closing p s → (x : MsgId) →
+    OutcomeIsTrue x s.journal (merged_at l closing)

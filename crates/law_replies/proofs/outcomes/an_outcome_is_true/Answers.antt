@@ -1,6 +1,6 @@
 use Rattle.law_replies.proofs.Told.{legal-outcomes, schedules-outcomes}
 use Rattle.law_replies.proofs.Histories.{histories-outcomes}
-use Rattle.law_replies.proofs.replies.an_outcome_is_true.Goals as goal
+use Rattle.law_replies.proofs.outcomes.an_outcome_is_true.Goals as goal
 
 pub returns-clause-legal : goal.returns-clause-legal
 returns-clause-legal c = legal-outcomes
