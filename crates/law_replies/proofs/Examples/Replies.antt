@@ -19,6 +19,7 @@ use Rattle.law_network.specs.History.{said_by}
 use Rattle.law_network.specs.Left.{merged_past}
 use Rattle.chorus_world.specs.Posts.{Posted}
 use Rattle.chorus_world.specs.Steps.{is_legal}
+use Rattle.chorus_world.proofs.Messages.SendingLemmas.{some_is}
 use Rattle.law_replies.specs.Replies.{Tells}
 use Rattle.law_replies.specs.Taking.{acts_of}
 use Rattle.law_replies.specs.AsPosted.{IsAsPosted}
@@ -135,13 +136,17 @@ pub legal : is_legal one_place past ≡ true
 legal = refl
 
 -- with another body it is not
+abbrev its_post : Posted
+its_post = record { place = 1; message = plain 1 (97 ∷ []); dest = Dest.Port (port 1) }
+
+not-empty : (n : ℕ) (ns : List ℕ) → n ∷ ns ≡ [] → ⊥
+not-empty n ns e = cc
+
 pub not-other : IsAsPosted (plain 1 []) past → ⊥
 not-other h =
     let post : IsPostOf (plain 1 []) past = post-of one_place past (plain 1 []) legal h in
-    let is : Some (record { place = 1; message = plain 1 (97 ∷ []); dest = Dest.Port (port 1) }) ≡ Some post.post = post.is in
-    let one : (record { place = 1; message = plain 1 (97 ∷ []); dest = Dest.Port (port 1) }) ≡ post.post = cc in
-    let body : 97 ∷ [] ≡ [] = ap (λ (d : Posted). d.message.body) one ∙ sym post.body in
-    cc
+    let one : its_post ≡ post.post = some_is its_post post.post post.is in
+    not-empty 97 [] (ap (λ (d : Posted). d.message.body) one ∙ sym post.body)
 
 -- so a Taken with another body would not tell what happened
 pub not-taken : (es : List Entry) → Tells (λ q m. IsAsPosted m past) es (Reply.Taken 0 (plain 1 []) None) → ⊥
