@@ -1,0 +1,11 @@
+pub mod Counting
+pub mod Gave
+pub mod Threads
+pub mod Called
+pub mod Joined
+pub mod Sights
+pub mod Beginning
+pub mod Publishing
+pub mod Leaving
+pub mod Left
+pub mod Running

@@ -1,0 +1,4 @@
+pub mod Lessons
+pub mod Growing
+pub mod Senders
+pub mod Copies
