@@ -3,6 +3,7 @@ pub mod Gave
 pub mod Threads
 pub mod Called
 pub mod Joined
+pub mod Asking
 pub mod Sights
 pub mod Beginning
 pub mod Publishing

@@ -39,13 +39,13 @@ none-left [] e = refl
 none-left (o ∷ os) e = absurd (cc)
 
 module _ (l : Layout) (v : Knowledge PlaceNote) (comers : List Comer) (c : Closed) (shape : IsLayout l) (k : ClosesAs l v comers c) where
-  kept : KeepsPromises l comers k.of_places k.of_seats k.closing
+  abbrev kept : KeepsPromises l comers k.of_places k.of_seats k.closing
   kept = journals-keep-promises l comers k.of_places k.of_seats k.closing shape k.histories
 
   run : MergesAsARun l comers k.of_seats k.closing
   run = journals-merge-as-a-run l comers k.of_places k.of_seats k.closing shape k.histories
 
-  n : NetState
+  abbrev n : NetState
   n = schedule l (events comers kept.turns)
 
   left : IsLeft n c

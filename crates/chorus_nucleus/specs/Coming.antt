@@ -1,6 +1,7 @@
 -- How passes begin, come and go.
 -- n is a nucleus, l a layout, q the number of a place.
 use Rattle.std.specs.Prelude.{ℕ, ◌≡◌, ◌≢◌, ◌≤◌, ◌<◌, ◌+◌, ◌==◌, nat_lt, Bool, true, false, ◌&&◌, ◌||◌, cond, [], Option, Some, None, is_some}
+use Rattle.std.specs.Option.{option_or}
 use Rattle.chorus_ui.specs.declared.ui.Ui.{Ui}
 use Rattle.chorus_ui.specs.declared.layout.Layout.{Layout}
 use Rattle.chorus_ui.specs.Layout.{places}
@@ -48,11 +49,6 @@ pub record IsKeptKeeper (n : Nucleus) (old new : Pass) : Type 0 where
   pub worn : worn_by new ≡ worn_by old
   pub reader : reader_of new ≡ reader_of old
 
--- the first worn clock of two passes, of which the one has it before
-abbrev pub first_worn : Option ℕ → Option ℕ → Option ℕ
-first_worn None w = w
-first_worn (Some clock) w = Some clock
-
 -- with a reader that is given back, where it is given to the keeper and there is room
 abbrev pub given_back : Bool → Option BoardReader → ℕ → ℕ
 given_back to_keeper None count = count
@@ -70,6 +66,6 @@ pub record Retires (n : Nucleus) (ended old new : Pass) : Type 0 where
   pub knows : known new ≡ after_retirement (known old) (known ended)
   pub sees : StartsWithBoth (known new).seen (known old).seen (known ended).seen
   pub caller : caller_of new ≡ caller_of old
-  pub worn : worn_by new ≡ first_worn (worn_by old) (worn_by ended)
+  pub worn : worn_by new ≡ option_or (worn_by old) (worn_by ended)
   pub reader : reader_of new ≡ reader_of old
   pub readers : (q : ℕ) → IsPlace (places (layout_of n)) q → readers_at q new ≡ readers_after (layout_of n) ended old q

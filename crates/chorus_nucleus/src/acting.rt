@@ -29,18 +29,18 @@ fn told(seat: u32, id: MsgId, outcome: Outcome) -> Outcome
 
 impl Nucleus {
     /// Performs the command in one turn at its place.
-    pub(crate) fn perform(&self, pass: &mut Pass, draft: Draft<'_>) -> Result<Reply, CallFault>
+    pub(crate) fn perform(&self, pass: &mut Pass, draft: &Draft<'_>) -> Result<Reply, CallFault>
         requires pass { IsPassOf self.now pass.old }
-        requires conditions { meets_conditions (meant draft) ≡ true }
-        requires body { has_body_in_limit (meant draft) ≡ true }
-        requires posts { is_post (meant draft) ≡ true → (caller_of pass.old).posts < u32.MAX }
-        ensures { IsCall self.now (meant draft) pass.old pass.new result }
+        requires conditions { meets_conditions (meant draft.now) ≡ true }
+        requires body { has_body_in_limit (meant draft.now) ≡ true }
+        requires posts { is_post (meant draft.now) ≡ true → (caller_of pass.old).posts < u32.MAX }
+        ensures { IsCall self.now (meant draft.now) pass.old pass.new result }
     {
         let place = draft.place(self.layout, pass.caller.actor());
         let caller = take_caller(pass);
         let mut job = Acts {
             caller,
-            draft,
+            draft: *draft,
             alloc: self.alloc,
             took: None,
         };
@@ -69,7 +69,7 @@ impl Nucleus {
         ensures { IsCall self.now command.now pass.old pass.new result }
     {
         are_within(&pass.caller, command);
-        self.perform(pass, Draft::Whole(command))
+        self.perform(pass, &Draft::Whole(command))
     }
 
     /// What became of the message, which the caller posted itself: it looks at the journal of the caller's home place, in one turn.

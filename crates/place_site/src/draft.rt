@@ -16,7 +16,7 @@ pub enum Draft<'a> {
     /// This command.
     Whole(&'a Command),
     /// A send.
-    Send { dest: Dest, body: &'a [u8] },
+    Send { dest: &'a Dest, body: &'a [u8] },
     /// A call.
     Call { port: Ui, back: Ui, body: &'a [u8] },
     /// A reply.
@@ -48,7 +48,7 @@ impl<'a> Draft<'a> {
         match self {
             Draft::Whole(command) => command.copied(),
             Draft::Send { dest, body } => Ok(Command::Send {
-                dest: *dest,
+                dest: **dest,
                 body: Body::new(alloc, body)?,
             }),
             Draft::Call { port, back, body } => Ok(Command::Call {

@@ -13,7 +13,7 @@ pub with-done-requires-clause-job : goal.with-done-requires-clause-job
 with-done-requires-clause-job c = λ m at.
     let n = c.args.self.now in
     let old = c.args.pass.now in
-    let k = meant c.args.draft in
+    let k = meant c.args.draft.now in
     let here = c.place-place.ensures.value ∙ ap (λ (a : Ui). place_for n.layout a k) c.actor.ensures in (
       ap (λ (w : Seated). w.seat) c.take_caller-caller.ensures.caller ∙ c.requires.pass.caller.seat ∙ sym (ap (λ q. (known q).seat) c.take_caller-caller.ensures.turner),
       subst (λ w. MayAct w k m) (sym c.take_caller-caller.ensures.caller)
@@ -25,7 +25,7 @@ pub returns : goal.returns
 returns c =
     let n = c.args.self.now in
     let old = c.args.pass.now in
-    let k = meant c.args.draft in
+    let k = meant c.args.draft.now in
     let taken = c.take_caller-caller in
     let here = c.place-place.ensures.value ∙ ap (λ (a : Ui). place_for n.layout a k) c.actor.ensures in
     as-call n k old taken.new.pass.turner c.with-done.new.pass taken.result c.with-done.new.job.caller c.place-place.result c.with-done.new.job.took
