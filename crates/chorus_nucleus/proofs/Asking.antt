@@ -52,7 +52,7 @@ module _ (n : Nucleus) (x : MsgId) (old : Pass) (after : turner.Pass PlaceNote) 
           sites = is.sites;
           turner = of;
           caller = k.0;
-          sight = sight-kept n.layout (turns.handed n.turns) (turns.known old.turner) (turns.known after) old.caller old.caller old.sight old.sight refl standing.2.0 refl is.sight;
+          sight = sight-kept n.layout (turns.handed n.turns) (turns.known old.turner) (turns.known after) old.caller old.caller old.sight old.sight refl standing.2 refl is.sight;
         };
         standing = standing;
         told = (
@@ -74,7 +74,7 @@ module _ (n : Nucleus) (x : MsgId) (old : Pass) (after : turner.Pass PlaceNote) 
       sites = is.sites;
       turner = of;
       caller = subst (λ k. IsCallerOf n.layout k old.caller) (sym busy.knows) (caller-refused n.layout p by (turns.known old.turner) old.caller is.caller);
-      sight = sight-kept n.layout (turns.handed n.turns) (turns.known old.turner) (turns.known after) old.caller old.caller old.sight old.sight refl standing.2.0 refl is.sight;
+      sight = sight-kept n.layout (turns.handed n.turns) (turns.known old.turner) (turns.known after) old.caller old.caller old.sight old.sight refl standing.2 refl is.sight;
     };
     standing = standing;
     told = tt;

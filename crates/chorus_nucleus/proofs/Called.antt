@@ -202,6 +202,7 @@ module _ (l : Layout) (handed : List (Site Ruled Packet)) (sites : AreSites l ha
   -- the same of a pump
 
   pumped-ok : (took : Option ℕ) (before : Option (Snapshot Place)) (r : Pump) → Turned handed (λ d e. ServedAt took before (Ok r) w d e) (NotesServe took before w x) p v u → PumpDone l p (Ok r) v w u x
+  unfolding looked looks-on
   pumped-ok took None r t = absurd t.ran
   pumped-ok (Some a) (Some z) (pumps.Served from) t =
       let at = at-place l handed sites p is t.before t.marked in

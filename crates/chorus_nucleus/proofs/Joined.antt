@@ -95,7 +95,7 @@ as-call n c old before after w x p took done r worn sight is same caller seeing 
         sites = is.sites;
         turner = of;
         caller = there.caller;
-        sight = sight-kept n.layout (turns.handed n.turns) (turns.known old.turner) (turns.known after) old.caller x old.sight sight seeing stands.2.0 there.grows.actor is.sight;
+        sight = sight-kept n.layout (turns.handed n.turns) (turns.known old.turner) (turns.known after) old.caller x old.sight sight seeing stands.2 there.grows.actor is.sight;
       };
       standing = stands;
       turn = there.turn;
@@ -126,7 +126,7 @@ as-pump n old before after w x p took kept done r worn sight is same caller seei
         sites = is.sites;
         turner = of;
         caller = there.caller;
-        sight = sight-kept n.layout (turns.handed n.turns) (turns.known old.turner) (turns.known after) old.caller x old.sight sight seeing stands.2.0 there.stays.actor is.sight;
+        sight = sight-kept n.layout (turns.handed n.turns) (turns.known old.turner) (turns.known after) old.caller x old.sight sight seeing stands.2 there.stays.actor is.sight;
       };
       standing = stands;
       served = there.served;

@@ -5,6 +5,7 @@ pub mod Called
 pub mod Joined
 pub mod Asking
 pub mod Sights
+pub mod Arriving
 pub mod Beginning
 pub mod Publishing
 pub mod Leaving

@@ -137,8 +137,8 @@ module _ (n : Nucleus) (p : ℕ) (old : Pass) (after : turner.Pass PlaceNote) (i
           sight = record {
             own = own;
             spare = subst (λ (z : Vec (Vec BoardReader)). AreSpare n.layout (turns.handed n.turns) z.items) (sym spare) is.sight.spare;
-            rows = λ k. ap (λ (z : Vec (Vec BoardReader)). length z.items) spare ∙ is.sight.rows (sym standing.2.0 ∙ k);
-            none = λ k. ap (λ (z : Vec (Vec BoardReader)). z.items) spare ∙ is.sight.none (sym standing.2.0 ∙ k);
+            rows = λ k. ap (λ (z : Vec (Vec BoardReader)). length z.items) spare ∙ is.sight.rows (sym standing.2 ∙ k);
+            none = λ k. ap (λ (z : Vec (Vec BoardReader)). z.items) spare ∙ is.sight.none (sym standing.2 ∙ k);
           };
         };
         standing = standing;
@@ -175,7 +175,7 @@ module _ (n : Nucleus) (p : ℕ) (old : Pass) (after : turner.Pass PlaceNote) (i
           sites = is.sites;
           turner = of;
           caller = done.caller;
-          sight = sight-kept n.layout (turns.handed n.turns) (turns.known old.turner) (turns.known after) old.caller old.caller old.sight old.sight refl standing.2.0 refl is.sight;
+          sight = sight-kept n.layout (turns.handed n.turns) (turns.known old.turner) (turns.known after) old.caller old.caller old.sight old.sight refl standing.2 refl is.sight;
         };
         standing = standing;
         published = published r done.looks;
