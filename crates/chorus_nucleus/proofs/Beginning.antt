@@ -22,6 +22,7 @@ use Rattle.chorus_ruled_ends.specs.Linked.{AreLinked, of_place, no_ends}
 use Rattle.chorus_serve.specs.Flows.{IsOther}
 use Rattle.law_closing.specs.Closing.{IsPlace}
 use Rattle.std.specs.Global.{Vec}
+use Rattle.std.specs.Vec.{vec_capacity}
 use Rattle.chorus_entry.specs.declared.entry.Entry.{Entry}
 use Rattle.law_history.specs.Turns.{from_place}
 use Rattle.law_history.specs.PlaceTurns.{is_other}
@@ -40,6 +41,13 @@ use Rattle.chorus_nucleus.specs.Passes.{AreSites, Reads, AreSpare, AreRoomy, row
 use Rattle.chorus_nucleus.specs.Starting.{IsFresh, AreItsReaders, AreFreshFrom, AreFresh, HaveStarted}
 use Rattle.place_site.proofs.Turning.{fits-as}
 use Rattle.chorus_nucleus.proofs.Called.{place-is, desk_of}
+
+abbrev or-else : {A : Type 0} → A → Option A → A
+or-else x None = x
+or-else x (Some y) = y
+
+pub same-some : {A : Type 0} (x y : A) → Some x ≡ Some y → x ≡ y
+same-some x y e = ap (or-else x) e
 
 at-front : {A : Type 0} (xs ys : List A) (k : ℕ) (x : A) → slice_get xs k ≡ Some x → slice_get (xs ++ ys) k ≡ Some x
 at-front [] ys k x e = absurd (cc)
@@ -81,7 +89,7 @@ fresh-at l n k [] vs rs s h e = absurd (cc)
 fresh-at l n k (t ∷ ss) [] rs s h e = absurd h
 fresh-at l n k (t ∷ ss) (v ∷ vs) [] s h e = absurd h
 fresh-at l n zero (t ∷ ss) (v ∷ vs) (r ∷ rs) s h e =
-    (let same : t ≡ s = cc in let m : n ≡ n + 0 = omega arith in (r, refl, subst (λ q. IsFresh l q r s) m (subst (λ z. IsFresh l n r z) same h.0)))
+    (let same : t ≡ s = same-some t s e in let m : n ≡ n + 0 = omega arith in (r, refl, subst (λ q. IsFresh l q r s) m (subst (λ z. IsFresh l n r z) same h.0)))
 fresh-at l n (suc k) (t ∷ ss) (v ∷ vs) (r ∷ rs) s h e =
     (let got = fresh-at l (n + 1) k ss vs rs s h.2 e in let m : n + 1 + k ≡ n + suc k = omega arith in (got.0, got.1, subst (λ q. IsFresh l q got.0 s) m got.2))
 
@@ -94,7 +102,7 @@ row-at l n k [] (w ∷ vs) rs v h e = absurd h
 row-at l n k (t ∷ ss) [] rs v h e = absurd h
 row-at l n k (t ∷ ss) (w ∷ vs) [] v h e = absurd h
 row-at l n zero (t ∷ ss) (w ∷ vs) (r ∷ rs) v h e =
-    (let same : w ≡ v = cc in let m : n ≡ n + 0 = omega arith in (t, refl, subst (λ q. AreItsReaders l q t v) m (subst (λ z. AreItsReaders l n t z) same h.1)))
+    (let same : w ≡ v = same-some w v e in let m : n ≡ n + 0 = omega arith in (t, refl, subst (λ q. AreItsReaders l q t v) m (subst (λ z. AreItsReaders l n t z) same h.1)))
 row-at l n (suc k) (t ∷ ss) (w ∷ vs) (r ∷ rs) v h e =
     (let got = row-at l (n + 1) k ss vs rs v h.2 e in let m : n + 1 + k ≡ n + suc k = omega arith in (got.0, got.1, subst (λ q. AreItsReaders l q got.0 v) m got.2))
 
@@ -227,7 +235,7 @@ new-reads l handed p s at (r ∷ rs) h =
     (record {
       layout = is.1;
       place = is.2;
-      board = λ m marked. (let same : s ≡ marked.0 = (let e = sym at ∙ marked.1 in cc) in ap name_of_book is.0 ∙ ap (λ (z : Site Ruled Packet). name_of_book (book_of z.board)) same ∙ sym (ap (λ (z : SiteMark). z.board) marked.2));
+      board = λ m marked. (let same : s ≡ marked.0 = same-some s marked.0 (sym at ∙ marked.1) in ap name_of_book is.0 ∙ ap (λ (z : Site Ruled Packet). name_of_book (book_of z.board)) same ∙ sym (ap (λ (z : SiteMark). z.board) marked.2));
     })
     (new-reads l handed p s at rs (All-tail (IsNewIn (book_of s.board) l p) r rs h)))
 
@@ -241,26 +249,26 @@ fresh-spare l ss vs h = record { read = λ p low. by p low (slice_get vs (p - 1)
         new-reads l ss p got.0 got.1 v.items (subst (λ q. All (IsNewIn (book_of got.0.board) l q) v.items) back got.2.new))
 
     rooms : (n : ℕ) (us : List (Site Ruled Packet)) (ws : List (Vec BoardReader)) (rs : List Ruled) → AreFreshFrom l n us ws rs → AreRoomy ws
-    rooms n us [] rs g = All-nil _
+    rooms n us [] rs g = All-nil (λ (row : Vec BoardReader). READERS_PER_BOARD ≤ vec_capacity row)
     rooms n [] (w ∷ ws) rs g = absurd g
     rooms n (u ∷ us) (w ∷ ws) [] g = absurd g
-    rooms n (u ∷ us) (w ∷ ws) (r ∷ rs) g = All-cons _ w ws g.1.room (rooms (n + 1) us ws rs g.2)
+    rooms n (u ∷ us) (w ∷ ws) (r ∷ rs) g = All-cons (λ (row : Vec BoardReader). READERS_PER_BOARD ≤ vec_capacity row) w ws g.1.room (rooms (n + 1) us ws rs g.2)
 
 -- there is a row of readers for each place, and each has all
 pub fresh-rows : (l : Layout) (ss : List (Site Ruled Packet)) (vs : List (Vec BoardReader)) → HaveStarted l ss vs
     → (length vs ≡ places l) × ((q : ℕ) → IsPlace (places l) q → length (row_at q vs) ≡ READERS_PER_BOARD)
 fresh-rows l ss vs h =
     let many = (fresh-length l 1 ss vs h.ends h.fresh).1 ∙ h.linked.count in
-    (many, λ q is. (let low = is.0 in let high = is.1 in by (slice_get vs (q - 1)) refl (there vs (q - 1) (omega (arith, low, high, many)))))
+    (many, λ q is. (let low = is.0 in let high = is.1 in by (q - 1) (slice_get vs (q - 1)) refl (there vs (q - 1) (omega (arith, low, high, many)))))
   where
     there : (ws : List (Vec BoardReader)) (k : ℕ) → k < length ws → (w : Vec BoardReader) × (slice_get ws k ≡ Some w)
     there [] k lt = absurd (omega (arith, lt))
     there (w ∷ ws) zero lt = (w, refl)
     there (w ∷ ws) (suc k) lt = there ws k (omega (arith, lt))
 
-    by : {k : ℕ} (o : Option (Vec BoardReader)) → slice_get vs k ≡ o → (w : Vec BoardReader) × (slice_get vs k ≡ Some w) → length (readers_in o) ≡ READERS_PER_BOARD
-    by None e got = absurd (cc)
-    by {k} (Some v) e got = (row-at l 1 k ss vs h.ends v h.fresh e).2.count
+    by : (k : ℕ) (o : Option (Vec BoardReader)) → slice_get vs k ≡ o → (w : Vec BoardReader) × (slice_get vs k ≡ Some w) → length (readers_in o) ≡ READERS_PER_BOARD
+    by k None e got = absurd (cc)
+    by k (Some v) e got = (row-at l 1 k ss vs h.ends v h.fresh e).2.count
 
 pub first-is : (l : Layout) (a : Ui) → IsLayout l → a.site ≡ 1 → a.number ≡ 1 → has_actor l a ≡ true
 first-is l a shape site number =

@@ -31,7 +31,7 @@ use Rattle.place_leavings.proofs.Pairs.{link-same}
 use Rattle.chorus_nucleus.specs.Passes.{AreSites, IsCallerOf, mark_of, out_name, into_name}
 use Rattle.chorus_nucleus.specs.Leaving.{desks_in, state_of, sent_of, waits_of, received_of, held_of, AreSettled, left_at, AreClosedWith}
 use Rattle.chorus_nucleus.proofs.Called.{desk_of}
-use Rattle.chorus_nucleus.proofs.Beginning.{named-at}
+use Rattle.chorus_nucleus.proofs.Beginning.{named-at, same-some}
 
 pub place-has : (l : Layout) (p : ℕ) → IsPlace (places l) p → has_place l p ≡ true
 place-has l p is = and_from (nat_le 1 p) (nat_le p (places l)) (le-leb 1 p is.0) (le-leb p (places l) is.1)
@@ -50,7 +50,7 @@ not-itself l p = and_right (has_place l p) (not (p == p)) (ap not (eq-eqb p p re
 
 desks-at : (ss : List (Site Ruled Packet)) (k : ℕ) (s : Site Ruled Packet) → slice_get ss k ≡ Some s → slice_get (desks_in ss) k ≡ Some s.desk
 desks-at [] k s e = absurd (cc)
-desks-at (t ∷ ss) zero s e = (let same : t ≡ s = cc in ap (λ (z : Site Ruled Packet). Some z.desk) same)
+desks-at (t ∷ ss) zero s e = (let same : t ≡ s = same-some t s e in ap (λ (z : Site Ruled Packet). Some z.desk) same)
 desks-at (t ∷ ss) (suc k) s e = desks-at ss k s e
 
 pub desks-count : (ss : List (Site Ruled Packet)) → length (desks_in ss) ≡ length ss

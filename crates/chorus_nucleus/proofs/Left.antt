@@ -26,6 +26,7 @@ use Rattle.chorus_net.proofs.Parts.{journals-are, ports-are}
 use Rattle.place_leavings.specs.Apart.{desk_at, places_in, goes_from}
 use Rattle.chorus_nucleus.specs.Leaving.{state_of, left_at, sent_of, waits_of, received_of, held_of, AreClosedWith}
 use Rattle.chorus_nucleus.specs.Closing.{ClosesAs, ClosesFor}
+use Rattle.chorus_nucleus.proofs.Beginning.{same-some}
 use Rattle.chorus_nucleus.proofs.Leaving.{rest-is}
 
 -- the states by their numbers are those of the places
@@ -39,7 +40,7 @@ states-are f k (p ∷ ps) h =
 
 place-at : (ds : List (DeskOf Ruled Packet)) (k : ℕ) (p : Place) → slice_get (places_in ds) k ≡ Some p → (d : DeskOf Ruled Packet) × (slice_get ds k ≡ Some d) × (d.place ≡ p) × (k < length ds)
 place-at [] k p e = absurd (cc)
-place-at (d ∷ ds) zero p e = (d, refl, cc, omega arith)
+place-at (d ∷ ds) zero p e = (d, refl, same-some d.place p e, omega arith)
 place-at (d ∷ ds) (suc k) p e = (let h = place-at ds k p e in let lt = h.3 in (h.0, h.1, h.2, omega (arith, lt)))
 
 places-count : (ds : List (DeskOf Ruled Packet)) → length (places_in ds) ≡ length ds

@@ -7,7 +7,9 @@ pub mod Asking
 pub mod Sights
 pub mod Arriving
 pub mod Beginning
+pub mod Opening
 pub mod Publishing
 pub mod Leaving
 pub mod Left
+pub mod Ended
 pub mod Running

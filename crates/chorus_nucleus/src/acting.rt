@@ -40,7 +40,7 @@ impl Nucleus {
         let caller = take_caller(pass);
         let mut job = Acts {
             caller,
-            draft: *draft,
+            draft: draft.same(),
             alloc: self.alloc,
             took: None,
         };

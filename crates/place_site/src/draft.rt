@@ -11,7 +11,7 @@ use std::alloc::{AllocError, Global};
 
 /// A command as its caller gives it: whole, or with a body that is the caller's. It is copied inside its turn, so a try that finds the
 /// place held takes no memory.
-#[derive(Clone, Copy)]
+#[derive(Drop)]
 pub enum Draft<'a> {
     /// This command.
     Whole(&'a Command),
@@ -24,6 +24,22 @@ pub enum Draft<'a> {
 }
 
 impl<'a> Draft<'a> {
+    /// The same.
+    pub fn same(&self) -> Draft<'a>
+        ensures { result ≡ self.now }
+    {
+        match self {
+            Draft::Whole(command) => Draft::Whole(command),
+            Draft::Send { dest, body } => Draft::Send { dest, body },
+            Draft::Call { port, back, body } => Draft::Call {
+                port: *port,
+                back: *back,
+                body,
+            },
+            Draft::Reply { body } => Draft::Reply { body },
+        }
+    }
+
     /// The place at which it is carried out, for a caller in this actor.
     pub fn place(&self, layout: Layout, actor: Ui) -> u16
         requires site { has_site layout actor.site ≡ true }
