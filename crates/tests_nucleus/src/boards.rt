@@ -58,32 +58,32 @@ fn depart<R: Wait + Abort>(rt: &R, nucleus: &Nucleus, pass: &mut Pass)
     assert!(rt; matches!(pump(rt, nucleus, pass, 1), Pump::Idle { .. }));
 }
 
-/// Asserts that of 63 passes that come at site 1 one after the other and go again, the first 62 locate the port and the last does not.
-fn assert_readers_end(rt: &impl Abort, nucleus: &Nucleus, keeper: &mut Pass)
-    requires { IsPassOf nucleus.now keeper.old }
-    ensures { IsPassOf nucleus.now keeper.new }
+/// Enters a pass at site 1 and asks it, which finds a reader or not, and ends it in another pass than the keeper, so that its reader
+/// is dropped.
+fn assert_reads(rt: &impl Abort, nucleus: &Nucleus, keeper: &mut Pass, into: &mut Pass, reads: bool)
+    requires keeper { IsPassOf nucleus.now keeper.old }
+    requires into { IsPassOf nucleus.now into.old }
+    ensures keeper { IsPassOf nucleus.now keeper.new }
+    ensures into { IsPassOf nucleus.now into.new }
 {
-    let mut left: u32 = 63;
-    let first = keeper.readers(1);
-    assert!(rt; first == 62);
-    enter_all(rt, nucleus, keeper, &mut left);
-    assert!(rt; keeper.readers(1) == first);
-}
-
-/// Enters so many passes, one inside the other, asks each, and ends them.
-fn enter_all(rt: &impl Abort, nucleus: &Nucleus, keeper: &mut Pass, left: &mut u32)
-    requires { IsPassOf nucleus.now keeper.old }
-    ensures { IsPassOf nucleus.now keeper.new }
-{
-    if *left == 0 {
-        return;
-    }
-    *left -= 1;
     let mut pass = enter(rt, nucleus, keeper, "1.a.1");
     let located = locate(rt, nucleus, &mut pass, "1.p.1");
-    assert!(rt; located.is_ok() == (*left > 0));
-    enter_all(rt, nucleus, keeper, left);
-    retire(nucleus, pass, keeper);
+    assert!(rt; located.is_ok() == reads);
+    retire(nucleus, pass, into);
+}
+
+/// Asserts that of 63 passes that come at site 1 the first 62 locate the port and the last does not.
+fn assert_readers_end(rt: &impl Abort, nucleus: &Nucleus, keeper: &mut Pass, into: &mut Pass)
+    requires keeper { IsPassOf nucleus.now keeper.old }
+    requires into { IsPassOf nucleus.now into.old }
+    ensures keeper { IsPassOf nucleus.now keeper.new }
+    ensures into { IsPassOf nucleus.now into.new }
+{
+    for _ in 0..62 {
+        assert_reads(rt, nucleus, keeper, into, true);
+    }
+    assert!(rt; keeper.readers(1) == 0);
+    assert_reads(rt, nucleus, keeper, into, false);
 }
 
 #[test]
@@ -97,9 +97,9 @@ fn locate_reads_the_board(rt: HostRuntime) {
     publish(&rt, &nucleus, &mut pass, 1);
     assert_located(&rt, &nucleus, &mut pass, "1.p.1", (2, 1, 2));
     assert_located(&rt, &nucleus, &mut second, "1.p.1", (2, 1, 2));
-    assert_readers_end(&rt, &nucleus, &mut pass);
+    assert_readers_end(&rt, &nucleus, &mut pass, &mut second);
     retire(&nucleus, second, &mut pass);
-    assert!(rt; pass.readers(1) == 63 && pass.readers(2) == 64);
+    assert!(rt; pass.readers(1) == 1 && pass.readers(2) == 64);
     let closed = close(&rt, nucleus, pass);
     assert!(rt; closed.rest.len() == 1);
 }
