@@ -47,9 +47,9 @@ module _ (l : Layout) (handed : List (Site Ruled Packet)) where
   spare-given p old new r low h is g = record {
     read = λ q from. elim (cases_eq q p) [
       | inl same ↦ subst (λ k. All (Of k) (row_at k new)) (sym same) (elim (cases_lt (p - 1) (length old)) [
-          | inl lt ↦ subst (All (Of p)) (sym (g.given (omega (arith, lt, low)))) (given-row p r (row_at p old) (nat_lt (length (row_at p old)) READERS_PER_BOARD) (h.read p low) is)
-          | inr le ↦ subst (λ rows. All (Of p) (row_at p rows)) (sym (g.beyond le)) (h.read p low)
-        ])
+        | inl lt ↦ subst (All (Of p)) (sym (g.given (omega (arith, lt, low)))) (given-row p r (row_at p old) (nat_lt (length (row_at p old)) READERS_PER_BOARD) (h.read p low) is)
+        | inr le ↦ subst (λ rows. All (Of p) (row_at p rows)) (sym (g.beyond le)) (h.read p low)
+      ])
       | inr other ↦ subst (All (Of q)) (sym (g.others q from other)) (h.read q from)
     ];
     room = g.room;

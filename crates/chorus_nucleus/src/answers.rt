@@ -21,9 +21,7 @@ pub(crate) fn answer<T: Drop>(done: Result<Result<T, PlaceFault>, Busy>) -> Resu
 }
 
 /// The same of a publish.
-pub(crate) fn answer_publish(
-    done: Result<Result<(), AllocError>, Busy>,
-) -> Result<(), CallFault>
+pub(crate) fn answer_publish(done: Result<Result<(), AllocError>, Busy>) -> Result<(), CallFault>
     ensures { result ≡ answered_publish done }
 {
     match done {

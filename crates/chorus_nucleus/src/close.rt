@@ -36,11 +36,7 @@ pub(crate) struct Shut {
 }
 
 /// Ends the boards, from the last on; the places stand behind the others, in this order.
-fn move_desks<R: Wait>(
-    rt: &R,
-    desks: &mut Vec<Desk<RuledEnds>>,
-    mut sites: Vec<Site<RuledEnds>>,
-)
+fn move_desks<R: Wait>(rt: &R, desks: &mut Vec<Desk<RuledEnds>>, mut sites: Vec<Site<RuledEnds>>)
     requires { length desks.old.items + length sites.items ≤ vec_capacity desks.old }
     ensures { desks.new.items ≡ desks.old.items ++ reverse (desks_in sites.items) }
 {

@@ -5,10 +5,10 @@ ghost use Rattle.place_leavings.specs.Apart.{TakesDesk, TakesDesks, AreDesksLink
 
 use crate::leavings::{Remains, take_all};
 use chorus_entry::{Entry, Packet};
-use law_network::Placed;
 use chorus_ports::Ports;
 use chorus_ruled_ends::RuledEnds;
 use chorus_serve::{Desk, Parts};
+use law_network::Placed;
 use std::alloc::{AllocError, Global};
 use std::sync::Wait;
 

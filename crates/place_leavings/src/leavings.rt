@@ -8,8 +8,8 @@ use chorus_ends::Ends;
 use chorus_entry::Packet;
 use chorus_frame::Frame;
 use chorus_link::Rest;
-use place_outbox::Outbox;
 use chorus_ruled_ends::{RuledEnds, end_link};
+use place_outbox::Outbox;
 use std::alloc::AllocError;
 use std::sync::Wait;
 

@@ -26,15 +26,15 @@ copies-none x y g n (q ∷ qs) (inr (inr h)) =
 pub copies-at : (x y : MsgId) (g : Ui) (n : ℕ) (qs : List Ui) → x.seat ≡ y.seat → x.number ≡ y.number → n ≤ y.copy → port_in (find_sent y (copies x g n qs)) ≡ slice_get qs (y.copy - n)
 copies-at x y g n [] s m le = refl
 copies-at x y g n (q ∷ qs) s m le = elim (cases_eq n y.copy) [
-    | inl same ↦ (let is : same_id (record x { copy = n }) y ≡ true =
-        and_from ((x.seat == y.seat) && (x.number == y.number)) (n == y.copy) (and_from (x.seat == y.seat) (x.number == y.number) (eq-eqb x.seat y.seat s) (eq-eqb x.number y.number m)) (eq-eqb n y.copy same) in
-        let none : y.copy - n ≡ 0 = omega (arith, same) in
-        ap (λ (b : Bool). port_in (if b then Some (record { id = record x { copy = n }; port = q; route = Some g }) else find_sent y (copies x g (n + 1) qs))) is
-        ∙ ap (slice_get (q ∷ qs)) (sym none))
-    | inr other ↦ (let more : n + 1 ≤ y.copy = next n y.copy le other in
-        let one : y.copy - n ≡ suc (y.copy - (n + 1)) = omega (arith, more) in
-        ap port_in (later x y g q n qs (differs x y n (inr (inr other)))) ∙ copies-at x y g (n + 1) qs s m more ∙ ap (slice_get (q ∷ qs)) (sym one))
-  ]
+  | inl same ↦ (let is : same_id (record x { copy = n }) y ≡ true =
+      and_from ((x.seat == y.seat) && (x.number == y.number)) (n == y.copy) (and_from (x.seat == y.seat) (x.number == y.number) (eq-eqb x.seat y.seat s) (eq-eqb x.number y.number m)) (eq-eqb n y.copy same) in
+      let none : y.copy - n ≡ 0 = omega (arith, same) in
+      ap (λ (b : Bool). port_in (if b then Some (record { id = record x { copy = n }; port = q; route = Some g }) else find_sent y (copies x g (n + 1) qs))) is
+      ∙ ap (slice_get (q ∷ qs)) (sym none))
+  | inr other ↦ (let more : n + 1 ≤ y.copy = next n y.copy le other in
+      let one : y.copy - n ≡ suc (y.copy - (n + 1)) = omega (arith, more) in
+      ap port_in (later x y g q n qs (differs x y n (inr (inr other)))) ∙ copies-at x y g (n + 1) qs s m more ∙ ap (slice_get (q ∷ qs)) (sym one))
+]
   where
     next : (a b : ℕ) → a ≤ b → a ≢ b → a + 1 ≤ b
     next a b le ne = by (nat_lt a b) refl

@@ -33,13 +33,7 @@ fn dest_in(post: MsgId, dest: &Dest, id: MsgId) -> Option<Ui>
     ensures { result ≡ port_in (find_sent id (sent_to post dest.now)) }
 {
     match dest {
-        Dest::Port(port) => {
-            if post == id {
-                Some(*port)
-            } else {
-                None
-            }
-        }
+        Dest::Port(port) => { if post == id { Some(*port) } else { None } }
         _ => None,
     }
 }

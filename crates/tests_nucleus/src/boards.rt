@@ -12,7 +12,12 @@ use std::process::Abort;
 use std::sync::Wait;
 
 /// Where the port is, as the pass reads it.
-fn locate(rt: &impl Abort, nucleus: &Nucleus, pass: &mut Pass, text: &str) -> Result<Located, ReadersFull>
+fn locate(
+    rt: &impl Abort,
+    nucleus: &Nucleus,
+    pass: &mut Pass,
+    text: &str,
+) -> Result<Located, ReadersFull>
     requires { IsPassOf nucleus.now pass.old }
     ensures { IsPassOf nucleus.now pass.new }
 {
@@ -22,7 +27,13 @@ fn locate(rt: &impl Abort, nucleus: &Nucleus, pass: &mut Pass, text: &str) -> Re
 }
 
 /// Asserts that the port is located at this place, by this hop, after so many entries.
-fn assert_located(rt: &impl Abort, nucleus: &Nucleus, pass: &mut Pass, text: &str, told: (u16, u64, u64))
+fn assert_located(
+    rt: &impl Abort,
+    nucleus: &Nucleus,
+    pass: &mut Pass,
+    text: &str,
+    told: (u16, u64, u64),
+)
     requires { IsPassOf nucleus.now pass.old }
     ensures { IsPassOf nucleus.now pass.new }
 {

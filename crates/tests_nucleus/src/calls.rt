@@ -41,7 +41,13 @@ fn assert_served<R: Wait + Abort>(rt: &R, nucleus: &Nucleus, pass: &mut Pass, pl
 }
 
 /// Asserts that the message has this outcome.
-fn assert_outcome(rt: &impl Abort, nucleus: &Nucleus, pass: &mut Pass, message: MsgId, outcome: Outcome)
+fn assert_outcome(
+    rt: &impl Abort,
+    nucleus: &Nucleus,
+    pass: &mut Pass,
+    message: MsgId,
+    outcome: Outcome,
+)
     requires { IsPassOf nucleus.now pass.old }
     ensures { IsPassOf nucleus.now pass.new }
 {

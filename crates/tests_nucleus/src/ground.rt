@@ -45,7 +45,12 @@ pub(crate) fn group(rt: &impl Abort, text: &str) -> Ui
 }
 
 /// A nucleus of this layout, and its opening pass.
-pub(crate) fn start<R: Wait + Abort>(rt: &R, alloc: Global, sites: u16, turns: u16) -> (Nucleus, Pass)
+pub(crate) fn start<R: Wait + Abort>(
+    rt: &R,
+    alloc: Global,
+    sites: u16,
+    turns: u16,
+) -> (Nucleus, Pass)
     ensures { IsPassOf result.0 result.1 }
 {
     let layout = Layout::new(sites, turns).expect(rt, "a layout");
@@ -76,7 +81,12 @@ pub(crate) fn retire(nucleus: &Nucleus, pass: Pass, into: &mut Pass)
 }
 
 /// The reply to a command that no other pass is in the way of.
-pub(crate) fn reply_to(rt: &impl Abort, nucleus: &Nucleus, pass: &mut Pass, command: Command) -> Reply
+pub(crate) fn reply_to(
+    rt: &impl Abort,
+    nucleus: &Nucleus,
+    pass: &mut Pass,
+    command: Command,
+) -> Reply
     requires { IsPassOf nucleus.now pass.old }
     ensures { IsPassOf nucleus.now pass.new }
 {
@@ -111,7 +121,12 @@ pub(crate) fn close<R: Wait + Abort>(rt: &R, nucleus: Nucleus, pass: Pass) -> Cl
 }
 
 /// Asserts that the merge of the journals is legal from the first entry on.
-pub(crate) fn assert_legal(rt: &impl Abort, alloc: Global, layout: Layout, journals: &[Vec<Entry>]) {
+pub(crate) fn assert_legal(
+    rt: &impl Abort,
+    alloc: Global,
+    layout: Layout,
+    journals: &[Vec<Entry>],
+) {
     let all = merge(alloc, journals).expect(rt, "memory");
     let mut world = World::opening(alloc, layout).expect(rt, "memory");
     for entry in all {

@@ -34,6 +34,6 @@ loop-number-preserved g c =
       kept = omega (arith, kept, m2, t);
       all = omega (arith, all, m, t);
       done = fresh-more c.args.layout c.loop-number.number (omega (arith, t)) c.args.ends.items c.loop-number.ends.items c.start_last.new.ends.items i.done.0 f.last c.loop-number.sites.items
-      c.push_reserved.new.self.items c.in-Ok.site c.loop-number.spare.items c.push_reserved-in-Ok.new.self.items c.in-Ok.readers i.done.1 f.items c.push_reserved.ensures.items c.push_reserved-in-Ok.ensures.items
-      f.fresh f.readers i.done.2;
+          c.push_reserved.new.self.items c.in-Ok.site c.loop-number.spare.items c.push_reserved-in-Ok.new.self.items c.in-Ok.readers i.done.1 f.items c.push_reserved.ensures.items c.push_reserved-in-Ok.ensures.items
+          f.fresh f.readers i.done.2;
     }

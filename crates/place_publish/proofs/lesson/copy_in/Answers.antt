@@ -7,12 +7,12 @@ use Rattle.place_publish.proofs.lesson.copy_in.Goals as goal
 
 pub returns-then-post-id : goal.returns-then-post-id
 returns-then-post-id c = sym (ap port_in (copies-none c.args.post c.args.id c.args.group 1 c.args.members.now (elim c.then-post-id.either [
-    | inl h ↦ inl h
-    | inr h ↦ (elim h [
-        | inl k ↦ inr (inl k.1)
-        | inr k ↦ inr (inr (omega (arith, k)))
-      ])
-  ])))
+  | inl h ↦ inl h
+  | inr h ↦ (elim h [
+    | inl k ↦ inr (inl k.1)
+    | inr k ↦ inr (inr (omega (arith, k)))
+  ])
+])))
 
 pub returns-in-Some : goal.returns-in-Some
 returns-in-Some c =

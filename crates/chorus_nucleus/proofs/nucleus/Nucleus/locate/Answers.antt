@@ -17,12 +17,17 @@ returns-in-Some c =
     let read = c.newest-found.new.self in
     let told = c.newest-found.ensures in
     record {
-      pass = record { sites = is.sites; turner = is.turner; caller = is.caller; sight = record {
-        own = reads-same n.layout (handed n.turns) home c.in-Some.own read told.reader own;
-        spare = is.sight.spare;
-        rows = is.sight.rows;
-        none = is.sight.none;
-      } };
+      pass = record {
+        sites = is.sites;
+        turner = is.turner;
+        caller = is.caller;
+        sight = record {
+          own = reads-same n.layout (handed n.turns) home c.in-Some.own read told.reader own;
+          spare = is.sight.spare;
+          rows = is.sight.rows;
+          none = is.sight.none;
+        };
+      };
       knows = refl;
       caller = refl;
       worn = refl;
