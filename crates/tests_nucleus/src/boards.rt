@@ -1,6 +1,6 @@
 //! Where ports are, read from boards; and readers that go from pass to pass.
 
-ghost use Rattle.std.specs.Prelude.{◌≡◌, ◌≤◌};
+ghost use Rattle.std.specs.Prelude.{◌≡◌};
 ghost use Rattle.chorus_nucleus.specs.Passes.{IsPassOf};
 
 use crate::ground::{actor, close, enter, port, pump, retire, start};

@@ -3,14 +3,13 @@
 ghost use Rattle.std.specs.Prelude.{◌≡◌};
 ghost use Rattle.chorus_nucleus.specs.Passes.{IsPassOf};
 
-use crate::ground::{actor, close, enter, group, port, pump, reply_to, retire, start};
-use chorus_entry::{Answer, Body, Command, Dest, MsgId};
+use crate::ground::{actor, close, enter, group, port, pump, retire, start};
+use chorus_entry::{Answer, Dest, MsgId};
 use chorus_net::EnterFault;
-use chorus_nucleus::{Nucleus, Pass};
+use chorus_nucleus::{CloseFault, Nucleus, Pass};
 use chorus_place::Reply;
 use chorus_serve::Pump;
 use law_machine::Outcome;
-use std::alloc::Global;
 use std::process::Abort;
 use std::sync::Wait;
 
@@ -162,4 +161,31 @@ fn nucleus_calls_on_one_thread(rt: HostRuntime) {
     assert!(rt; pass.ended() == 2 && pass.worn().is_none());
     let closed = close(&rt, nucleus, pass);
     assert!(rt; closed.rest.len() == 2);
+}
+
+/// Sends to the port and takes there.
+fn send_and_take(rt: &impl Abort, nucleus: &Nucleus, pass: &mut Pass)
+    requires { IsPassOf nucleus.now pass.old }
+    ensures { IsPassOf nucleus.now pass.new }
+{
+    assert!(rt; pass.posts() < u32::MAX);
+    let sent = nucleus.send(pass, Dest::Port(port(rt, "1.p.1")), b"a");
+    assert!(rt; sent == Ok(Reply::Posted(id(0, 1))));
+    assert_taken(rt, nucleus, pass, 0);
+}
+
+#[test]
+fn close_asks_for_all_passes(rt: HostRuntime) {
+    let (nucleus, mut pass) = start(&rt, rt.alloc(), 1, 1);
+    let made = nucleus.make_port(&mut pass, actor(&rt, "1.a.1"), 2);
+    assert!(rt; made == Ok(Reply::Made(port(&rt, "1.p.1"))));
+    let second = enter(&rt, &nucleus, &mut pass, "1.a.1");
+    assert!(rt; pass.keeper());
+    let Err(CloseFault::PassesOut(nucleus, mut pass, out)) = nucleus.close(&rt, pass) else {
+        panic!(rt; "closed with a pass out")
+    };
+    assert!(rt; out.made == 2 && out.ended == 0);
+    send_and_take(&rt, &nucleus, &mut pass);
+    retire(&nucleus, second, &mut pass);
+    close(&rt, nucleus, pass);
 }

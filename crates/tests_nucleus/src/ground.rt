@@ -1,21 +1,19 @@
 //! What the tests do with a nucleus. What is not as it is to be ends the test.
 
-ghost use Rattle.std.specs.Prelude.{◌≡◌, true};
+ghost use Rattle.std.specs.Prelude.{◌≡◌, true, ◌×◌};
 ghost use Rattle.chorus_ui.specs.NameKind.{is_actor, is_port, is_group};
-ghost use Rattle.chorus_nucleus.specs.Passes.{known, IsPassOf};
+ghost use Rattle.chorus_nucleus.specs.Passes.{IsPassOf};
 
 use chorus_checker::World;
-use chorus_entry::{Command, Entry};
+use chorus_entry::Entry;
 use chorus_merge::merge;
 use chorus_net::Closed;
-use chorus_nucleus::{CallFault, Nucleus, Pass};
-use chorus_place::Reply;
+use chorus_nucleus::{Nucleus, Pass};
 use chorus_serve::Pump;
 use chorus_ui::{Layout, Ui};
 use std::alloc::Global;
 use std::process::Abort;
 use std::sync::Wait;
-use std::thread;
 
 /// The actor of this name.
 pub(crate) fn actor(rt: &impl Abort, text: &str) -> Ui
@@ -78,23 +76,6 @@ pub(crate) fn retire(nucleus: &Nucleus, pass: Pass, into: &mut Pass)
     ensures { IsPassOf nucleus.now into.new }
 {
     nucleus.retire(pass, into);
-}
-
-/// The reply to a command that no other pass is in the way of.
-pub(crate) fn reply_to(
-    rt: &impl Abort,
-    nucleus: &Nucleus,
-    pass: &mut Pass,
-    command: Command,
-) -> Reply
-    requires { IsPassOf nucleus.now pass.old }
-    ensures { IsPassOf nucleus.now pass.new }
-{
-    assert!(rt; command.meets_conditions() && pass.posts() < u32::MAX);
-    let Ok(reply) = nucleus.act(pass, &command) else {
-        panic!(rt; "no reply")
-    };
-    reply
 }
 
 /// Serves the place, which no other pass has.
