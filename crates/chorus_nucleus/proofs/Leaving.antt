@@ -1,5 +1,5 @@
 -- When the table of places is closed and the links are settled, the places are closed.
-use Rattle.std.proofs.Common.{ℕ, zero, suc, ◌≡◌, ◌≢◌, ◌+◌, ◌-◌, ◌<◌, ◌==◌, nat_le, Bool, true, false, not, cond, List, [], ◌∷◌, ◌++◌, length, Option, Some, None, is_some, option_to_list, slice_get, refl, sym, ◌∙◌, ap, subst, inl, inr, arith}
+use Rattle.std.proofs.Common.{ℕ, zero, suc, ◌≡◌, ◌≢◌, ◌+◌, ◌-◌, ◌<◌, ◌==◌, nat_le, Bool, true, false, not, cond, List, [], ◌∷◌, ◌++◌, length, Option, Some, None, is_some, option_to_list, reverse, slice_get, refl, sym, ◌∙◌, ap, subst, inl, inr, arith}
 use Rattle.std.proofs.lemmas.Bool.{and_parts, and_from, and_right, eq-eqb, ne_eqb, leb-true, le-leb, cases_eq, false≢true}
 use Rattle.std.proofs.lemmas.List.{append-nil}
 use Rattle.chorus_ui.specs.declared.layout.Layout.{Layout}
@@ -17,6 +17,7 @@ use Rattle.chorus_serve.specs.Desks.{DeskOf, in_hand}
 use Rattle.chorus_turn.specs.declared.knowledge.Remarked.{Remarked}
 use Rattle.chorus_turn.specs.declared.knowledge.Knowledge.{Knowledge}
 use Rattle.chorus_turn.specs.Calls.{IsMarkAt, Finished}
+use Rattle.chorus_turn.specs.Journals.{entries_of}
 use Rattle.law_history.specs.Turns.{put_to, from_place}
 use Rattle.law_history.specs.PlaceTurns.{machine, is_other}
 use Rattle.law_history.specs.Places.{by_link}
@@ -52,6 +53,11 @@ desks-at : (ss : List (Site Ruled Packet)) (k : ℕ) (s : Site Ruled Packet) →
 desks-at [] k s e = absurd (cc)
 desks-at (t ∷ ss) zero s e = (let same : t ≡ s = same-some t s e in ap (λ (z : Site Ruled Packet). Some z.desk) same)
 desks-at (t ∷ ss) (suc k) s e = desks-at ss k s e
+
+site-of : (k : ℕ) (ss : List (Site Ruled Packet)) (d : DeskOf Ruled Packet) → slice_get (desks_in ss) k ≡ Some d → (s : Site Ruled Packet) × (slice_get ss k ≡ Some s) × (s.desk ≡ d)
+site-of k [] d e = absurd (cc)
+site-of zero (s ∷ ss) d e = (s, refl, same-some s.desk d e)
+site-of (suc k) (s ∷ ss) d e = site-of k ss d e
 
 pub desks-count : (ss : List (Site Ruled Packet)) → length (desks_in ss) ≡ length ss
 desks-count [] = refl
@@ -96,6 +102,11 @@ module _ (l : Layout) (handed states : List (Site Ruled Packet)) (sites : AreSit
       subst (λ r. AreOfOneLink (end_to b r) (end_from a (ends_at b ds))) (sym (ap ends_of s.1))
       (subst (λ r. AreOfOneLink (end_to b s.0.desk.ends) (end_from a r)) (sym (ap ends_of t.1))
       (one-link (end_to b s.0.desk.ends) (end_from a t.0.desk.ends) (sym (ap is_some out) ∙ named.0) (sym out ∙ named.1 ∙ into)))
+
+  pub told : (k : ℕ) (d : DeskOf Ruled Packet) → slice_get ds k ≡ Some d → entries_of (f.log (k + 1)) ≡ reverse d.place.journal
+  told k d is =
+      let s = site-of k states d is in
+      (f.journals k s.0 s.1).0 ∙ ap (λ (z : DeskOf Ruled Packet). reverse z.place.journal) s.2
 
   abbrev Kept : ℕ → Option (DeskOf Ruled Packet) → Type 0
   Kept p o = Keeps (machine l) (started l p) p (f.log p) (state_of l p o) (sent_of l p o) (waits_of l p (f.log p) o) (received_of l p o) (held_of l p o)

@@ -2,6 +2,7 @@
 use Rattle.std.proofs.Common.{ℕ, zero, suc, ◌≡◌, ◌+◌, ◌-◌, ◌<◌, List, [], ◌∷◌, length, map, reverse, Option, Some, slice_get, refl, sym, ◌∙◌, ap, subst, arith}
 use Rattle.chorus_ui.specs.declared.layout.Layout.{Layout}
 use Rattle.chorus_ui.specs.Layout.{places, IsLayout}
+use Rattle.chorus_entry.specs.declared.entry.Entry.{Entry}
 use Rattle.chorus_entry.specs.declared.packet.Packet.{Packet}
 use Rattle.chorus_calls.specs.Callers.{Seated}
 use Rattle.law_machine.specs.PlaceState.{PlaceState}
@@ -10,6 +11,7 @@ use Rattle.chorus_ruled_ends.specs.Ruled.{Ruled}
 use Rattle.chorus_serve.specs.Desks.{DeskOf}
 use Rattle.chorus_turn.specs.declared.knowledge.Remarked.{Remarked}
 use Rattle.chorus_turn.specs.declared.knowledge.Knowledge.{Knowledge}
+use Rattle.chorus_turn.specs.Journals.{entries_of}
 use Rattle.law_network.specs.Left as left
 use Rattle.law_network.specs.Network.{schedule, numbers}
 use Rattle.law_history.specs.Network.{Network}
@@ -47,8 +49,15 @@ places-count : (ds : List (DeskOf Ruled Packet)) → length (places_in ds) ≡ l
 places-count [] = refl
 places-count (d ∷ ds) = ap suc (places-count ds)
 
+journal-at : (ds : List (DeskOf Ruled Packet)) (k : ℕ) (journal : List Entry) → slice_get (journals_in (places_in ds)) k ≡ Some journal
+    → (d : DeskOf Ruled Packet) × (slice_get ds k ≡ Some d) × (journal ≡ reverse d.place.journal)
+journal-at [] k journal e = absurd (cc)
+journal-at (d ∷ ds) zero journal e = (d, refl, sym (same-some (reverse d.place.journal) journal e))
+journal-at (d ∷ ds) (suc k) journal e = journal-at ds k journal e
+
 module _ (l : Layout) (shape : IsLayout l) (ds : List (DeskOf Ruled Packet)) (many : length ds ≡ places l) (log : ℕ → List (Remarked PlaceNote)) (v : Knowledge PlaceNote) (c : Closed)
-    (journals : closed_journals c ≡ journals_in (places_in ds)) (rest : c.rest.items ≡ by_link (places l) (goes_from ds)) (ports : c.ports.items ≡ ports_of (places_in ds)) where
+    (journals : closed_journals c ≡ journals_in (places_in ds)) (rest : c.rest.items ≡ by_link (places l) (goes_from ds)) (ports : c.ports.items ≡ ports_of (places_in ds))
+    (told : (k : ℕ) (d : DeskOf Ruled Packet) → slice_get ds k ≡ Some d → entries_of (log (k + 1)) ≡ reverse d.place.journal) where
   abbrev Histories : Type 0
   Histories = HaveHistories l log v (λ p. state_of l p (desk_at p ds)) (λ a b. waits_of l a (log a) (desk_at a ds) b) (λ a b. held_of l b (desk_at b ds) a) (left_at ds)
 
@@ -71,6 +80,11 @@ module _ (l : Layout) (shape : IsLayout l) (ds : List (DeskOf Ruled Packet)) (ma
         ports = ports ∙ sym (ap left.placed_in are ∙ ports-are (places_in ds));
       }
 
+  entries-are : (p : ℕ) (journal : List Entry) → slice_get (closed_journals c) p ≡ Some journal → journal ≡ entries_of (log (p + 1))
+  entries-are p journal is =
+      let k = journal-at ds p journal (ap (λ js. slice_get js p) (sym journals) ∙ is) in
+      k.2 ∙ sym (told p k.0 k.1)
+
   closes-as : AreClosedWith l log v ds (left_at ds) → (h : Histories) → ClosesAs l v h.comers c
   closes-as is h = record {
     log = log;
@@ -78,6 +92,7 @@ module _ (l : Layout) (shape : IsLayout l) (ds : List (DeskOf Ruled Packet)) (ma
     of_seats = h.of_seats;
     closing = h.closing;
     tells = is.finished;
+    entries = entries-are;
     histories = h.histories;
     count = h.count;
     made = h.made;

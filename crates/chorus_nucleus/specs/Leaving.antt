@@ -1,6 +1,6 @@
 -- The places of a nucleus, as they were handed back when its table was closed.
 -- l is the layout, ss are the places, ds the same without their boards, that of place p at p - 1, a, b and p are numbers of places.
-use Rattle.std.specs.Prelude.{ℕ, ◌≡◌, ◌≢◌, ◌==◌, cond, List, [], ◌++◌, length, map, Option, Some, None}
+use Rattle.std.specs.Prelude.{ℕ, ◌≡◌, ◌≢◌, ◌==◌, ◌+◌, cond, List, [], ◌++◌, length, map, reverse, slice_get, Option, Some, None}
 use Rattle.chorus_ui.specs.declared.layout.Layout.{Layout}
 use Rattle.chorus_ui.specs.Layout.{IsLayout, places}
 use Rattle.chorus_entry.specs.declared.packet.Packet.{Packet}
@@ -11,6 +11,7 @@ use Rattle.chorus_serve.specs.Desks.{DeskOf, seen}
 use Rattle.chorus_turn.specs.declared.knowledge.Remarked.{Remarked}
 use Rattle.chorus_turn.specs.declared.knowledge.Knowledge.{Knowledge}
 use Rattle.chorus_turn.specs.Passes as turns
+use Rattle.chorus_turn.specs.Journals.{entries_of}
 use Rattle.law_closing.specs.Closing.{IsPlace}
 use Rattle.law_closing.specs.Places.{PlaceNote, ArePlacesClosed}
 use Rattle.place_site.specs.declared.site.Site.{Site}
@@ -62,7 +63,8 @@ AreClosedWith l log v ds left =
     ArePlacesClosed l log v (λ p. state_of l p (desk_at p ds)) (λ a b. sent_of l a (desk_at a ds) b) (λ a b. waits_of l a (log a) (desk_at a ds) b)
     (λ a b. received_of l b (desk_at b ds) a) (λ a b. held_of l b (desk_at b ds) a) left
 
--- the table was closed: there is a link from each place to each other one; and however the links are settled, the places were closed
+-- the table was closed: there is a link from each place to each other one; the journals with remarks are those of the places; and however
+-- the links are settled, the places were closed
 pub record IsShut (n : Nucleus) (pass : Pass) (s : Shut) : Type 0 where
   pub worn : s.worn ≡ worn_by pass
   pub left : turns.IsLeftOf n.turns pass.turner s.spent
@@ -70,4 +72,5 @@ pub record IsShut (n : Nucleus) (pass : Pass) (s : Shut) : Type 0 where
   pub count : length s.sites.items ≡ places (layout_of n)
   pub linked : AreDesksLinked (desks_in s.sites.items)
   pub log : ℕ → List (Remarked PlaceNote)
+  pub told : (k : ℕ) (d : DeskOf Ruled Packet) → slice_get (desks_in s.sites.items) k ≡ Some d → entries_of (log (k + 1)) ≡ reverse d.place.journal
   pub closed : (rest : ℕ → ℕ → List Packet) → AreSettled (layout_of n) (desks_in s.sites.items) rest → AreClosedWith (layout_of n) log (known pass) (desks_in s.sites.items) rest

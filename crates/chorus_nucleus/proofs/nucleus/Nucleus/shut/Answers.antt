@@ -1,6 +1,6 @@
 use Rattle.std.proofs.Common.{refl}
 use Rattle.chorus_turn.specs.Passes.{known, handed}
-use Rattle.chorus_nucleus.proofs.Leaving.{many, links-are, closed}
+use Rattle.chorus_nucleus.proofs.Leaving.{many, links-are, closed, told}
 use Rattle.chorus_nucleus.proofs.nucleus.Nucleus.shut.Goals as goal
 
 pub returns-in-Ok-clause-ok : goal.returns-in-Ok-clause-ok
@@ -19,5 +19,6 @@ returns-in-Ok-clause-ok c =
       count = many l handed-in ss is.sites v w is.caller ok.1;
       linked = links-are l handed-in ss is.sites v w is.caller ok.1;
       log = ok.1.log;
+      told = λ k d at. told l handed-in ss is.sites v w is.caller ok.1 k d at;
       closed = λ rest ends. closed l handed-in ss is.sites v w is.caller ok.1 rest ends;
     }
