@@ -2,7 +2,7 @@
 use Rattle.std.proofs.Common.{◌≡◌, ℕ, [], List, Option, None, refl, sym, subst, arith}
 use Rattle.std.proofs.KnownBytes.{Consumes-nil}
 use Rattle.chorus_show.specs.declared.status.Status.TheVariants.{Memory}
-use Rattle.chorus_run.specs.declared.finished.Finished.{Finished}
+use Rattle.chorus_report.specs.declared.finished.Finished.{Finished}
 use Rattle.chorus_audit.specs.Output.{ReadsBy}
 use Rattle.chorus_lossy.specs.Output.{CarriesInput}
 

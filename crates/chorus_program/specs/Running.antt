@@ -2,7 +2,7 @@
 use Rattle.std.specs.Prelude.{ℕ}
 use Rattle.chorus_ui.specs.declared.layout.Layout.{Layout}
 use Rattle.chorus_show.specs.declared.status.Status.{Status}
-use Rattle.chorus_run.specs.Output.{HandsOut}
+use Rattle.chorus_report.specs.Output.{HandsOut}
 use Rattle.chorus_words.specs.declared.words.Words.{Words}
 use Rattle.chorus_words.specs.declared.words.Words.TheVariants.{Audit, Lossy}
 use Rattle.chorus_program.specs.declared.running.TheConstants.{REPLAY_SITES}

@@ -1,6 +1,6 @@
 use Rattle.std.proofs.Common.{◌≡◌, IfSome, ap, subst, subst₂}
-use Rattle.chorus_run.specs.declared.finished.Finished.{Finished}
-use Rattle.chorus_run.specs.Load.{Loads}
+use Rattle.chorus_report.specs.declared.finished.Finished.{Finished}
+use Rattle.chorus_replay.specs.Load.{Loads}
 use Rattle.chorus_audit.specs.Output.{Prints}
 use Rattle.chorus_lossy.specs.Output.{CarriesInput}
 use Rattle.chorus_words.specs.declared.words.Words.TheVariants.{Audit, Load, Lossy, Replay}

@@ -1,5 +1,5 @@
 use Rattle.std.proofs.Common.{sym, subst}
-use Rattle.chorus_run.specs.declared.finished.Finished.{Finished}
+use Rattle.chorus_report.specs.declared.finished.Finished.{Finished}
 use Rattle.chorus_lossy.specs.Output.{CarriesInput}
 use Rattle.chorus_program.proofs.running.start_lossy.Goals as goal
 

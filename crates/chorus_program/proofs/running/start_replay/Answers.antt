@@ -1,6 +1,6 @@
 use Rattle.std.proofs.Common.{Err, ap, subst}
-use Rattle.chorus_run.specs.declared.finished.Finished.{Finished}
-use Rattle.chorus_run.specs.Headline.{IsGiven}
+use Rattle.chorus_report.specs.declared.finished.Finished.{Finished}
+use Rattle.chorus_report.specs.Reading.{IsGiven}
 use Rattle.chorus_program.proofs.Refusals.{no-refusal}
 use Rattle.chorus_program.proofs.running.start_replay.Goals as goal
 

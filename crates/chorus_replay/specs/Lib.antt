@@ -1,0 +1,6 @@
+pub mod Order
+pub mod Worn
+pub mod Ordered
+pub mod Performing
+pub mod Load
+pub mod Laws

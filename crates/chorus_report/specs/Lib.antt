@@ -1,0 +1,4 @@
+pub mod Reading
+pub mod Headline
+pub mod Output
+pub mod Ending
