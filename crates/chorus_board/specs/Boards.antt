@@ -53,10 +53,6 @@ entries_published board = (shown board).seen.log
 abbrev pub entries_begun : Board → List Entry
 entries_begun board = board.front.log
 
--- the longest list of which a reader told
-abbrev pub entries_heard : Board → List Entry
-entries_heard board = board.heard.log
-
 abbrev pub layout_of : Board → Layout
 layout_of board = (shown board).hints.layout
 
@@ -77,10 +73,9 @@ LocatesAfter board ui place hop entries = (q : Ui) → IsPortIn (layout_of board
     farther (located_after (layout_of board) (entries_published board) q) (told_of q ui place hop)
     ≡ located_after (layout_of board) entries q
 
--- nothing was published, begun or heard
+-- nothing was published or begun
 abbrev pub IsNewBoard : Layout → Board → Type 0
 IsNewBoard layout board = (layout_of board ≡ layout) × (entries_published board ≡ []) × (entries_begun board ≡ [])
-    × (entries_heard board ≡ [])
 
 -- it is a reader of that board, which has this layout, and it has seen nothing
 abbrev pub IsNewIn : Book → Layout → BoardReader → Type 0
