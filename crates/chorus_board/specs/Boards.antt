@@ -9,6 +9,7 @@ use Rattle.chorus_board.specs.declared.table.Table.{Table}
 use Rattle.chorus_board.specs.declared.reader.BoardReader.{BoardReader}
 use Rattle.chorus_board.specs.declared.reader.Located.{Located}
 use Rattle.chorus_board.specs.declared.board.Board.{Board}
+use Rattle.chorus_board.specs.declared.name.BoardName.{BoardName}
 use Rattle.chorus_board.specs.Located.{located_after, told_of, IsPortIn}
 
 -- the place and the hop of an answer
@@ -80,3 +81,14 @@ IsNewBoard layout board = (layout_of board ≡ layout) × (entries_published boa
 -- it is a reader of that board, which has this layout, and it has seen nothing
 abbrev pub IsNewIn : Book → Layout → BoardReader → Type 0
 IsNewIn book layout reader = (book_read reader ≡ book) × (layout_read reader ≡ layout) × (entries_seen reader ≡ [])
+
+-- the history of a board, as its name
+abbrev pub name_of : Book → BoardName
+name_of b = record { number = b.number; log_name = b.log_name; cells_name = b.cells_name }
+
+abbrev pub board_name : Board → BoardName
+board_name board = name_of (book_of board)
+
+-- the name of the board that it reads
+abbrev pub reader_name : BoardReader → BoardName
+reader_name reader = name_of (book_read reader)
