@@ -8,14 +8,6 @@
 //! Begin with `site` and `specs/Sites.antt`, then `specs/Turning.antt` (what a turn notes) and the jobs.
 #![tactic(auto)]
 
-mod acts;
-mod looks;
-mod publishes;
-mod serves;
 mod site;
 
-pub use acts::Acts;
-pub use looks::Looks;
-pub use publishes::Publishes;
-pub use serves::Serves;
 pub use site::{Remark, Site, SiteMark};
