@@ -16,6 +16,7 @@
 
 mod board;
 mod history;
+mod name;
 mod reader;
 mod rule;
 mod start;
@@ -23,5 +24,6 @@ mod table;
 
 pub use board::Board;
 pub use history::Stands;
+pub use name::BoardName;
 pub use reader::{BoardReader, Located};
 pub use start::READERS_PER_BOARD;

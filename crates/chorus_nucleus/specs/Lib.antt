@@ -1,0 +1,5 @@
+pub mod Passes
+pub mod Calls
+pub mod Coming
+pub mod Reading
+pub mod Closing
