@@ -1,0 +1,5 @@
+pub mod Steps
+pub mod Lines
+pub mod Comings
+pub mod Leavings
+pub mod Idling
