@@ -9,7 +9,6 @@ use Rattle.chorus_board.specs.declared.table.Table.{Table}
 use Rattle.chorus_board.specs.declared.reader.BoardReader.{BoardReader}
 use Rattle.chorus_board.specs.declared.reader.Located.{Located}
 use Rattle.chorus_board.specs.declared.board.Board.{Board}
-use Rattle.chorus_board.specs.declared.name.BoardName.{BoardName}
 use Rattle.chorus_board.specs.Located.{located_after, told_of, IsPortIn}
 
 -- the place and the hop of an answer
@@ -54,6 +53,10 @@ entries_published board = (shown board).seen.log
 abbrev pub entries_begun : Board → List Entry
 entries_begun board = board.front.log
 
+-- the longest list of which a reader told
+abbrev pub entries_heard : Board → List Entry
+entries_heard board = board.heard.log
+
 abbrev pub layout_of : Board → Layout
 layout_of board = (shown board).hints.layout
 
@@ -74,21 +77,11 @@ LocatesAfter board ui place hop entries = (q : Ui) → IsPortIn (layout_of board
     farther (located_after (layout_of board) (entries_published board) q) (told_of q ui place hop)
     ≡ located_after (layout_of board) entries q
 
--- nothing was published or begun
+-- nothing was published, begun or heard
 abbrev pub IsNewBoard : Layout → Board → Type 0
 IsNewBoard layout board = (layout_of board ≡ layout) × (entries_published board ≡ []) × (entries_begun board ≡ [])
+    × (entries_heard board ≡ [])
 
 -- it is a reader of that board, which has this layout, and it has seen nothing
 abbrev pub IsNewIn : Book → Layout → BoardReader → Type 0
 IsNewIn book layout reader = (book_read reader ≡ book) × (layout_read reader ≡ layout) × (entries_seen reader ≡ [])
-
--- the history of a board, as its name
-abbrev pub name_of : Book → BoardName
-name_of b = record { number = b.number; log_name = b.log_name; cells_name = b.cells_name }
-
-abbrev pub board_name : Board → BoardName
-board_name board = name_of (book_of board)
-
--- the name of the board that it reads
-abbrev pub reader_name : BoardReader → BoardName
-reader_name reader = name_of (book_read reader)

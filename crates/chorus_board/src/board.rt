@@ -9,7 +9,7 @@ ghost use Rattle.chorus_board.specs.Writers.{after_all, IsReady, IsShown};
 ghost use Rattle.chorus_board.specs.Table.{Exact, IsRoomy, Fine};
 
 use crate::history::{Head, Stands, Witness, bring_to, covers};
-use crate::reader::{BoardReader, take_in};
+use crate::reader::{BoardReader, put_down};
 use crate::rule::{Shows, TableWriter};
 use crate::table::Publish;
 use chorus_ui::Ui;
@@ -23,8 +23,13 @@ pub struct Board {
     pub(crate) head: Head,
     pub(crate) front: Witness,
     pub(crate) reached: u64,
+    // The longest that a reader told of.
+    pub(crate) heard: Witness,
+    pub(crate) heard_upto: u64,
     ghost head_is: { head ≡ head_of front.book } by { Prim.hlevel board_props },
     ghost reached_is: { reached ≡ length front.log },
+    ghost heard_is: { heard_upto ≡ length heard.log },
+    ghost heard_here: { heard.book ≡ front.book } by { Prim.hlevel board_props },
     ghost here: { writer.desk.shown.value.seen.book ≡ front.book } by { Prim.hlevel board_props },
     ghost knows: { ((view writer.desk.place).knows ≡ true)
         × (book_known (view writer.desk.place) ≡ front.book)
@@ -45,7 +50,7 @@ impl Board {
     ghost use Rattle.chorus_ui.specs.declared.kind.Kind.TheVariants.{Port};
     ghost use Rattle.chorus_ui.specs.Layout.{can_make_port};
     ghost use Rattle.chorus_board.specs.Located.{IsOfOnePlace};
-    ghost use Rattle.chorus_board.specs.Boards.{entries_seen, entries_published, entries_begun, layout_of, shown, LocatesAfter, IsReaderOf, IsSameBoard};
+    ghost use Rattle.chorus_board.specs.Boards.{entries_seen, entries_published, entries_begun, entries_heard, layout_of, shown, LocatesAfter, IsReaderOf, IsSameBoard};
 
     /// Publishes that the port is at the place, by that hop. The publish stands for the entries that `X` names: `upto` of
     /// them, of one place, which begin with those of the publish before, and after which each port is located where the
@@ -71,9 +76,13 @@ impl Board {
         ensures begun { entries_begun self.new ≡ X.entries }
         ensures published { OnOk result (entries_published self.new ≡ X.entries) }
         ensures unshown { OnErr result (shown self.new ≡ shown self.old) }
+        ensures heard { OnOk result
+            (IsPrefix (entries_heard self.old) (entries_published self.new)) }
+        ensures still_heard { entries_heard self.new ≡ entries_heard self.old }
     {
         bring_to::<X, R>(rt, &self.head, &mut self.front, self.reached, upto);
         self.reached = upto;
+        covers(rt, &self.front, upto, &self.heard, self.heard_upto);
         let operation = Publish {
             ui,
             place,
@@ -88,30 +97,21 @@ impl Board {
         show_in(&mut self.writer, rt)
     }
 
-    /// What the reader, which is of this board, has seen is a beginning of what was begun. Where it were not, which no code
-    /// brings about, it waits for ever. Takes no memory.
-    pub fn hear<R: Wait>(&mut self, rt: &R, reader: &mut BoardReader)
+    /// Takes note of what the reader, which is of this board, has seen: the next publish begins with it. Takes no memory.
+    pub fn hear(&mut self, reader: &mut BoardReader)
         requires { IsReaderOf self.old reader.old }
-        ensures heard { IsPrefix (entries_seen reader.old) (entries_begun self.new) }
+        ensures heard { IsPrefix (entries_seen reader.old) (entries_heard self.new) }
+        ensures grows { IsPrefix (entries_heard self.old) (entries_heard self.new) }
         ensures reader { reader.new ≡ reader.old }
-        ensures board { self.new ≡ self.old }
+        ensures board { IsSameBoard self.old self.new × (shown self.new ≡ shown self.old) }
+        ensures begun { entries_begun self.new ≡ entries_begun self.old }
     {
-        covers(rt, &self.front, self.reached, &reader.kept.seen, reader.kept.upto);
-    }
-
-    /// For how many entries the last publish stands.
-    pub fn published(&mut self) -> u64
-        ensures count { result ≡ length (entries_published self.old) }
-        ensures board { self.new ≡ self.old }
-    {
-        self.writer.published().upto
-    }
-
-    /// The same, of the last publish that was begun.
-    pub fn begun(&self) -> u64
-        ensures { result ≡ length (entries_begun self.now) }
-    {
-        self.reached
+        let mut both = self.heard.again();
+        both.learn(&reader.kept.seen);
+        if self.heard_upto < reader.kept.upto {
+            self.heard = reader.kept.seen.again();
+            self.heard_upto = reader.kept.upto;
+        }
     }
 
     /// Ends the board once no reader is inside. Takes no memory.
@@ -121,6 +121,8 @@ impl Board {
             head: _,
             front: _,
             reached: _,
+            heard: _,
+            heard_upto: _,
         } = self;
         drop(writer.take(rt));
     }
@@ -168,15 +170,16 @@ impl BoardReader {
     ghost use mathlib.Core.List.{IsPrefix};
     ghost use Rattle.chorus_board.specs.Boards.{entries_seen, entries_published, HasSameHandle, IsReaderOf, IsSameReader};
 
-    /// The reader, which is of this board, has then seen all that was published, and all that it had seen. Takes no memory.
+    /// The reader, which is of this board, has then seen all that was published, which begins with what it had seen. Takes
+    /// no memory.
     pub fn follow(&mut self, board: &mut Board)
         requires reader { IsReaderOf board.old self.old }
+        requires begins { IsPrefix (entries_seen self.old) (entries_published board.old) }
         ensures reader { IsSameReader self.old self.new }
         ensures board { board.new ≡ board.old }
-        ensures begins { IsPrefix (entries_seen self.old) (entries_seen self.new) }
-        ensures seen { IsPrefix (entries_published board.old) (entries_seen self.new) }
+        ensures seen { entries_seen self.new ≡ entries_published board.old }
         ensures handle { HasSameHandle self.old self.new }
     {
-        take_in(&mut self.kept, board.writer.published());
+        put_down(&mut self.kept, board.writer.published());
     }
 }

@@ -16,7 +16,6 @@
 
 mod board;
 mod history;
-mod name;
 mod reader;
 mod rule;
 mod start;
@@ -24,6 +23,5 @@ mod table;
 
 pub use board::Board;
 pub use history::Stands;
-pub use name::BoardName;
 pub use reader::{BoardReader, Located};
 pub use start::READERS_PER_BOARD;

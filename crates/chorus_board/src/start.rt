@@ -109,6 +109,7 @@ impl Board {
     {
         let first = blank(alloc, layout, &front)?;
         let second = blank(alloc, layout, &front)?;
+        let heard = front.again();
         let writer = TableWriter::new(alloc, first, second, READERS_PER_BOARD)?;
         let (writer, _) = show(writer, rt);
         Ok(Board {
@@ -116,6 +117,8 @@ impl Board {
             head,
             front,
             reached: 0,
+            heard,
+            heard_upto: 0,
         })
     }
 
@@ -125,6 +128,7 @@ impl Board {
         ensures reader { reader.new.kept ≡ reader.old.kept }
         ensures board { IsSameBoard self.old self.new × (shown self.new ≡ shown self.old) }
         ensures begun { entries_begun self.new ≡ entries_begun self.old }
+        ensures heard { self.new.heard ≡ self.old.heard }
     {
         reader.handle = handle_of(&mut self.writer);
     }

@@ -23,7 +23,7 @@ impl Nucleus {
         requires posts { is_post command.now ≡ true → (caller_of pass.old).posts < u32.MAX }
         ensures { IsCall self.now command.now pass.old pass.new result }
     {
-        let _never = self.layout;
+        self.never.no();
         unreachable!()
     }
 
@@ -33,7 +33,7 @@ impl Nucleus {
         requires { IsPassOf self.now pass.old }
         ensures { IsOutcome self.now id pass.old pass.new result }
     {
-        let _never = self.layout;
+        self.never.no();
         unreachable!()
     }
 }

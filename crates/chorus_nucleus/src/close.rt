@@ -30,7 +30,7 @@ impl Nucleus {
         ensures closed { IfOk result (λ c. IsClosed self pass c) }
         ensures out { IfErr result (λ e. IsNotClosed self pass e) }
     {
-        let _never = self.layout;
+        self.never.no();
         unreachable!()
     }
 }

@@ -31,7 +31,7 @@ impl Nucleus {
             × ((known pass.old).made ≡ limit) × (made ≡ limit)) }
         ensures refused { OnErr result (known pass.new ≡ known pass.old) }
     {
-        let _never = self.layout;
+        self.never.no();
         unreachable!()
     }
 
@@ -42,7 +42,7 @@ impl Nucleus {
         requires into { IsPassOf self.now into.old }
         ensures { Retires self.now pass into.old into.new }
     {
-        let _never = self.layout;
+        self.never.no();
         unreachable!()
     }
 }

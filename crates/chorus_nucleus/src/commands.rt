@@ -22,7 +22,7 @@ impl Nucleus {
         requires capacity { is_capacity capacity ≡ true }
         ensures { IsCall self.now (Command.Make actor capacity) pass.old pass.new result }
     {
-        let _never = self.layout;
+        self.never.no();
         unreachable!()
     }
 
@@ -31,7 +31,7 @@ impl Nucleus {
         requires pass { IsPassOf self.now pass.old }
         ensures { IsCall self.now (Command.GroupMake site) pass.old pass.new result }
     {
-        let _never = self.layout;
+        self.never.no();
         unreachable!()
     }
 
@@ -42,7 +42,7 @@ impl Nucleus {
         requires port { names_port port ≡ true }
         ensures { IsCall self.now (Command.Join group port) pass.old pass.new result }
     {
-        let _never = self.layout;
+        self.never.no();
         unreachable!()
     }
 
@@ -53,7 +53,7 @@ impl Nucleus {
         requires port { names_port port ≡ true }
         ensures { IsCall self.now (Command.Leave group port) pass.old pass.new result }
     {
-        let _never = self.layout;
+        self.never.no();
         unreachable!()
     }
 
@@ -66,7 +66,7 @@ impl Nucleus {
         requires posts { (caller_of pass.old).posts < u32.MAX }
         ensures { IsCall self.now (Command.Send dest body.now) pass.old pass.new result }
     {
-        let _never = self.layout;
+        self.never.no();
         unreachable!()
     }
 
@@ -79,7 +79,7 @@ impl Nucleus {
         requires posts { (caller_of pass.old).posts < u32.MAX }
         ensures { IsCall self.now (Command.Call port back body.now) pass.old pass.new result }
     {
-        let _never = self.layout;
+        self.never.no();
         unreachable!()
     }
 
@@ -89,7 +89,7 @@ impl Nucleus {
         requires posts { (caller_of pass.old).posts < u32.MAX }
         ensures { IsCall self.now Command.Retry pass.old pass.new result }
     {
-        let _never = self.layout;
+        self.never.no();
         unreachable!()
     }
 
@@ -98,7 +98,7 @@ impl Nucleus {
         requires pass { IsPassOf self.now pass.old }
         ensures { IsCall self.now Command.Cancel pass.old pass.new result }
     {
-        let _never = self.layout;
+        self.never.no();
         unreachable!()
     }
 
@@ -109,7 +109,7 @@ impl Nucleus {
         requires posts { (caller_of pass.old).posts < u32.MAX }
         ensures { IsCall self.now (Command.Reply body.now) pass.old pass.new result }
     {
-        let _never = self.layout;
+        self.never.no();
         unreachable!()
     }
 
@@ -119,7 +119,7 @@ impl Nucleus {
         requires port { names_port port ≡ true }
         ensures { IsCall self.now (Command.Take port) pass.old pass.new result }
     {
-        let _never = self.layout;
+        self.never.no();
         unreachable!()
     }
 
@@ -130,7 +130,7 @@ impl Nucleus {
         requires actor { names_actor actor ≡ true }
         ensures { IsCall self.now (Command.Move port actor) pass.old pass.new result }
     {
-        let _never = self.layout;
+        self.never.no();
         unreachable!()
     }
 
@@ -140,7 +140,7 @@ impl Nucleus {
         requires port { names_port port ≡ true }
         ensures { IsCall self.now (Command.Delete port) pass.old pass.new result }
     {
-        let _never = self.layout;
+        self.never.no();
         unreachable!()
     }
 }

@@ -1,4 +1,4 @@
-//! The nucleus of running threads: the places of a layout, at which callers take turns.
+//! STAND-IN. The nucleus of running threads: the places of a layout, at which callers take turns.
 //!
 //! Each call is one turn at one place, tries that place once and waits for nobody. The layer above rests on this: a call that answers
 //! has appended the entries that the place machine gives, of which the first is the command's own act; a pump works off one packet as
@@ -14,13 +14,13 @@ mod close;
 mod coming;
 mod commands;
 mod fault;
-mod locate;
+mod kept;
 mod nucleus;
 mod pass;
 mod pump;
 
 pub use close::CloseFault;
 pub use fault::CallFault;
-pub use locate::ReadersFull;
+pub use kept::Site;
 pub use nucleus::Nucleus;
 pub use pass::Pass;

@@ -4,21 +4,20 @@ ghost use Rattle.chorus_nucleus.specs.Passes.{layout_of};
 ghost use Rattle.chorus_nucleus.specs.Coming.{IsStarted};
 
 use crate::pass::Pass;
-use chorus_ruled_ends::RuledEnds;
 use chorus_turn::Turns;
 use chorus_ui::Layout;
-use place_site::Site;
+use crate::kept::Site;
+use place_site::Never;
 use std::alloc::{AllocError, Global};
 use std::sync::Wait;
 
 /// The places of a layout, at which callers take turns. Threads may share it. It is not dropped, since its boards are not:
 /// [`Nucleus::close`] ends it.
 pub struct Nucleus {
-    pub(crate) turns: Turns<Site<RuledEnds>>,
+    pub(crate) turns: Turns<Site>,
     pub(crate) layout: Layout,
     pub(crate) alloc: Global,
-    // A stand-in: there is no nucleus, so each call may be said to do all that its contract says.
-    ghost never: { ⊥ },
+    pub(crate) never: Never,
 }
 
 impl Nucleus {

@@ -1,28 +1,18 @@
 //! A caller's pass.
-ghost use Rattle.std.specs.Prelude.{◌≡◌, ◌≤◌, length};
-ghost use Rattle.chorus_nucleus.specs.Passes.{known, caller_of, worn_by, readers_at};
+ghost use Rattle.std.specs.Prelude.{◌≡◌, length};
+ghost use Rattle.chorus_nucleus.specs.Passes.{known, caller_of, worn_by};
 
-use chorus_board::BoardReader;
 use chorus_calls::Caller;
 use chorus_turn::Pass as Turner;
-use place_site::Remark;
+use chorus_entry::{Command, Packet};
+use law_closing::Noted;
 
 /// The leave to take turns at the places of one nucleus, in the name of a caller.
 #[derive(Drop)]
 pub struct Pass {
-    pub(crate) turner: Turner<Remark>,
+    pub(crate) turner: Turner<Noted<Caller, Command, Packet>>,
     pub(crate) caller: Caller,
     pub(crate) worn: Option<u64>,
-    pub(crate) sight: Sight,
-}
-
-/// What a pass reads boards with.
-#[derive(Drop)]
-pub(crate) struct Sight {
-    /// The reader of its home place's board, if it has one.
-    pub(crate) reader: Option<BoardReader>,
-    /// Of the keeper, by places, the readers that no pass uses, with room for all. Of any other pass, none.
-    pub(crate) spare: Vec<Vec<BoardReader>>,
 }
 
 impl Pass {
@@ -67,16 +57,5 @@ impl Pass {
         ensures { result ≡ worn_by self.now }
     {
         self.worn
-    }
-
-    /// How many readers of the place's board it has for others; 0 where it is not the keeper.
-    pub fn readers(&self, place: u16) -> u16
-        requires { 1 ≤ place }
-        ensures { result ≡ readers_at place self.now }
-    {
-        match self.sight.spare.get(place as usize - 1) {
-            Some(readers) => readers.len() as u16,
-            None => 0,
-        }
     }
 }

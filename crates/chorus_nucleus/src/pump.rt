@@ -3,7 +3,6 @@ ghost use Rattle.std.specs.Prelude.{◌≡◌, true};
 ghost use Rattle.chorus_ui.specs.Layout.{has_place};
 ghost use Rattle.chorus_nucleus.specs.Passes.{layout_of, IsPassOf};
 ghost use Rattle.chorus_nucleus.specs.Calls.{IsPump};
-ghost use Rattle.chorus_nucleus.specs.Reading.{IsPublish};
 
 use crate::fault::CallFault;
 use crate::nucleus::Nucleus;
@@ -22,20 +21,7 @@ impl Nucleus {
         requires place { has_place (layout_of self.now) place ≡ true }
         ensures { IsPump self.now place pass.old pass.new result }
     {
-        let _never = self.layout;
-        unreachable!()
-    }
-
-    /// Publishes what the place's board lacks of its journal, in one turn without an entry. At the caller's home place the pass's own
-    /// reader has then seen the whole journal that this call found.
-    ///
-    /// The faults are `Busy`, and `Memory`, after which a beginning of what the board lacked is published.
-    pub fn publish<R: Wait>(&self, rt: &R, pass: &mut Pass, place: u16) -> Result<(), CallFault>
-        requires pass { IsPassOf self.now pass.old }
-        requires place { has_place (layout_of self.now) place ≡ true }
-        ensures { IsPublish self.now place pass.old pass.new result }
-    {
-        let _never = self.layout;
+        self.never.no();
         unreachable!()
     }
 }

@@ -10,7 +10,7 @@ ghost use Rattle.law_machine.specs.PlaceMachine.{begun};
 ghost use Rattle.law_bounds.specs.Bounds.{AreWaitingWithin};
 ghost use Rattle.chorus_place.specs.Calls.{state, is_call, Called, MayCall, Stays, TakesNone};
 ghost use Rattle.chorus_place.specs.declared.fault.PlaceFault.TheVariants as PlaceFault;
-ghost use Rattle.chorus_serve.specs.Desks.{IsDesk, SameHands, from_in, opened_in, sealed_in, packet_of, parcel_of, with_hand};
+ghost use Rattle.chorus_serve.specs.Desks.{SameHands, opened_in, sealed_in, packet_of, parcel_of, with_hand};
 ghost use Rattle.chorus_serve.specs.Flows.{IsOther};
 
 use crate::held::{Content, Held};
@@ -60,8 +60,6 @@ pub struct Parts<E: Ends> {
     pub journal: Vec<Entry>,
     /// The packets that wait to go to other places.
     pub out: Outbox,
-    /// The number of the place from which the packet in hand came.
-    pub from: Option<u16>,
     /// The packet in hand, where it was opened.
     pub hand: Option<Packet>,
     /// What was in hand, where it was not opened.
@@ -91,16 +89,6 @@ fn split_hand<P>(hand: Option<Held<P>>) -> (Option<Packet>, Option<P>)
     match hand {
         Some(Held { from: _, content }) => split(content),
         None => (None, None),
-    }
-}
-
-/// From where what is in hand came, if anything.
-fn came_from<P>(hand: &Option<Held<P>>) -> Option<u16>
-    ensures { result ≡ from_in hand.now }
-{
-    match hand {
-        Some(held) => Some(held.from),
-        None => None,
     }
 }
 
@@ -140,13 +128,6 @@ impl<E: Ends> Desk<E> {
         ensures { result.now ≡ self.now.ends }
     {
         &self.ends
-    }
-
-    /// The ends reach each other place, and there is a list of what waits for each place.
-    pub fn look(&self)
-        ensures { IsDesk self.now.place (E.links self.now.ends) }
-    {
-        let _ = &self.place;
     }
 
     /// Whether a packet is in hand.
@@ -216,7 +197,6 @@ impl<E: Ends> Desk<E> {
         ensures out { result.out.lists ≡ self.place.out.lists }
         ensures ranges { AreWaitingWithin result.out.lists }
         ensures ports { result.ports.records ≡ self.place.ports }
-        ensures from { result.from ≡ from_in self.hand }
         ensures hand { result.hand ≡ opened_in self.hand }
         ensures parcel { result.parcel ≡ sealed_in self.hand }
         ensures ends { result.ends ≡ self.ends }
@@ -229,12 +209,10 @@ impl<E: Ends> Desk<E> {
             worked: _,
         } = self;
         let (journal, out, ports) = place.finish();
-        let from = came_from(&hand);
         let (hand, parcel) = split_hand(hand);
         Parts {
             journal,
             out,
-            from,
             hand,
             parcel,
             ports,

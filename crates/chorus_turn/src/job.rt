@@ -2,7 +2,7 @@
 ghost use Rattle.std.specs.Prelude.{◌≡◌, ℕ, List};
 ghost use Rattle.chorus_entry.specs.declared.entry.Entry.{Entry};
 ghost use Rattle.chorus_turn.specs.declared.knowledge.Remarked.{Remarked};
-ghost use Rattle.chorus_turn.specs.Journals.{IsJournal, GrowsBy, GoesOn};
+ghost use Rattle.chorus_turn.specs.Journals.{GrowsBy, GoesOn};
 
 /// A state with a journal. Entries with fitting remarks, one for each, are a journal of the state.
 pub trait Kept {
@@ -36,8 +36,7 @@ pub trait Job<S: Kept> {
 
     /// Runs once, as the pass with this number. What it adds to the journal are entries of this seat.
     fn run(&mut self, state: &mut S, seat: u32) -> Self::Out
-        requires accepts { accepts self.old (S.mark state.old) seat }
-        requires fits { (log : List (Remarked S.Remark)) × IsJournal S.entries S.fits state.old log }
+        requires { accepts self.old (S.mark state.old) seat }
         ensures done { ran self.old state.old seat self.new state.new result }
         ensures mark { S.mark state.new ≡ S.mark state.old }
         ensures entries { GrowsBy seat (S.entries state.old) (S.entries state.new) }
