@@ -1,8 +1,8 @@
 //! The scripts run side by side, one thread each.
 
-ghost use Rattle.std.specs.Prelude.{◌≡◌, ℕ, ◌<◌, true, length, slice_index_or};
+ghost use Rattle.std.specs.Prelude.{◌≡◌};
 ghost use Rattle.chorus_scene.specs.Limits.{Keeps};
-ghost use Rattle.chorus_perform.specs.Runners.{IsReadyAt, HasRunAt};
+ghost use Rattle.chorus_perform.specs.Runners.{AreReady, HaveRun, IsReadyAt, HasRunAt};
 
 use crate::commands::perform_commands;
 use crate::gate::Gate;
@@ -23,11 +23,8 @@ pub(crate) fn perform_scripts<R: Threads + Wait + Sync, G: Gate>(
     runners: &mut [Runner],
 )
     requires keeps { Keeps scenario.now }
-    requires ready { (i : ℕ) (d : Runner) → i < length runners.old →
-        IsReadyAt nucleus.now scenario.now i (slice_index_or runners.old i d) }
-    ensures { (i : ℕ) (d : Runner) → i < length runners.old →
-        HasRunAt nucleus.now scenario.now i
-        (slice_index_or runners.old i d) (slice_index_or runners.new i d) }
+    requires ready { AreReady nucleus.now scenario.now runners.old }
+    ensures { HaveRun nucleus.now scenario.now runners.old runners.new }
 {
     let threads = runners.len();
     if threads > 0 {

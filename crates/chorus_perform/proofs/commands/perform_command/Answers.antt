@@ -1,0 +1,10 @@
+use Rattle.std.proofs.Common.{◌≡◌, ◌≢◌, ◌∙◌, sym, ap, true, false, Ok, [], ◌∷◌, arith}
+use Rattle.chorus_perform.proofs.Steps.{on-err, goes-none, goes-later}
+use Rattle.chorus_perform.proofs.commands.perform_command.Goals as goal
+
+pub try_command-requires-clause-posts : goal.try_command-requires-clause-posts
+try_command-requires-clause-posts g c is = let few = c.requires.posts is in let more = c.loop.invariant.1.posts in omega (arith, few, more)
+
+pub returns-in_err-try_command-clause-err : goal.returns-in_err-try_command-clause-err
+returns-in_err-try_command-clause-err g c =
+    on-err c.from_residual.result _ (goes-none c.args.pass.now c.loop.pass c.try_command.new.pass c.loop.invariant.1 (c.try_command.ensures.not_done (λ e. absurd (let bad = sym c.in_err-try_command.was ∙ e in cc))))
