@@ -29,7 +29,6 @@ use Rattle.law_network.specs.History.{history, newer}
 use Rattle.law_network.specs.Left.{merged_past}
 use Rattle.law_network.specs.Schedules.{may_be}
 use Rattle.law_network.specs.Tasks.{AreDeliveries}
-use Rattle.chorus_report.proofs.Seating.{get-last}
 use Rattle.law_network.proofs.Standing.CallerList.{get-replaced, get-other}
 use Rattle.law_network.proofs.Events.Said.{said_with, said_on, said_at, newer-is}
 use Rattle.law_network.proofs.Promises.Promised.{stands-at, journals-at}
@@ -223,6 +222,18 @@ abbrev pub BeginsSo : List Entry → Event → Type 0
 BeginsSo past (Enter actor last) = IsClock past last
 BeginsSo past (net.Act k c) = Unit {0}
 BeginsSo past (Deliver k a b) = Unit {0}
+
+-- A list with one more at its end.
+
+get-last : (xs : List Seated) (z : Seated) (k : ℕ) (x : Seated) → slice_get (xs ++ z ∷ []) k ≡ Some x → (slice_get xs k ≡ Some x) ⊎ ((k ≡ length xs) × (z ≡ x))
+get-last [] z zero x h = inr (refl, cc)
+get-last [] z (suc k) x h = cc
+get-last (y ∷ xs) z zero x h = inl h
+get-last (y ∷ xs) z (suc k) x h = go (get-last xs z k x h)
+  where
+    go : (slice_get xs k ≡ Some x) ⊎ ((k ≡ length xs) × (z ≡ x)) → (slice_get xs k ≡ Some x) ⊎ ((suc k ≡ length (y ∷ xs)) × (z ≡ x))
+    go (inl e) = inl e
+    go (inr e) = inr (ap suc e.0, e.1)
 
 pub clocks-more : (l : Layout) (e : Event) (es : List Event) → BeginsSo (history l es) e → HaveClocks (history l es) (schedule l es) → HaveClocks (history l (e ∷ es)) (schedule l (e ∷ es))
 clocks-more l (Enter actor last) es begins h = record { lasts = λ k v e. go k v (get-last n.callers new k v e); packets = h.packets }

@@ -11,8 +11,8 @@ use Rattle.chorus_show.specs.declared.status.Status.{Status}
 use Rattle.chorus_report.specs.declared.played.Played.{Played}
 use Rattle.chorus_report.specs.Reading.{IsGiven}
 use Rattle.chorus_report.specs.Headline.{AreWithinUnless}
-use Rattle.chorus_report.specs.Ending.{HasWorn, IsFinished}
-use Rattle.chorus_report.proofs.Ends.{EndsFor, finished-so}
+use Rattle.chorus_report.specs.Ending.{EndsFor, HasWorn, IsFinished}
+use Rattle.chorus_report.proofs.Ends.{finished-so}
 use Rattle.chorus_replay.specs.Load.{Loads, load_layout, load_order, load_tasks}
 use Rattle.chorus_replay.specs.Order.{order, tasks}
 use Rattle.chorus_replay.specs.Ordered.{IsOrdered, Replays}

@@ -234,19 +234,3 @@ module _ {l : Layout} {all : List Task} (can : CanBe l all) where
 
   pub worn-high : (clock : ℕ) (closed : Closed) → ArePlayed l all (Some clock) closed → CLOCK_LIMIT ≤ clock
   worn-high clock closed p = p.1.0.worn.worn
-
--- what was printed, or tried to be printed
-pub printed : (P : Status → Closed → Type 0) (status : Status) (closed : Option Closed) (out : Closed) → closed ≡ Some out → (status ≡ Status.Done) ⊎ (status ≡ Status.WriteFault)
-    → P Status.Done out × P Status.WriteFault out → IfSome closed (λ o. P status o)
-printed P status closed out same (inl done) all = subst₂ (λ s o. IfSome o (λ x. P s x)) (sym done) (sym same) all.0
-printed P status closed out same (inr failed) all = subst₂ (λ s o. IfSome o (λ x. P s x)) (sym failed) (sym same) all.1
-
--- the text of what was closed
-pub prints-text : (of : Option Closed → List ℕ) (status : Status) (closed : Option Closed) (out : Closed) (old new : Option (List ℕ)) (written text : List ℕ) → closed ≡ Some out
-    → written ≡ text → text ≡ of (Some out) → Writes status old new written → Writes status old new (of closed)
-prints-text of status closed out old new written text same is value writes =
-    subst (λ t. Writes status old new t) (is ∙ value ∙ ap of (sym same)) writes
-
-pub none-of : (o : Option ℕ) → ((x : ℕ) → o ≡ Some x → ⊥) → o ≡ None
-none-of None h = refl
-none-of (Some x) h = absurd (h x refl)

@@ -8,7 +8,7 @@ use Rattle.chorus_show.specs.declared.status.Status.{Status}
 use Rattle.chorus_report.specs.declared.played.Played.{Played}
 use Rattle.chorus_report.specs.Reading.{IsGiven, IsRead, ReadsNoFurther}
 use Rattle.chorus_report.specs.Output.{EndsUnread}
-use Rattle.chorus_report.specs.Ending.{EndsReading, EndsBy, IsFinished}
+use Rattle.chorus_report.specs.Ending.{EndsReading, EndsBy, EndsFor, IsFinished}
 
 module _ {S : Type 0} (l : Layout) (left : S → Option (List ℕ)) (faults : S → ℕ) (reliable : S → Type 0) (old new : S) (no_fault : reliable old → faults new ≡ faults old) where
   pub ends-fault : Rose (faults old) (faults new) → ReadsNoFurther (left old) (left new) → EndsReading l Status.ReadFault left faults reliable old new
@@ -58,11 +58,6 @@ module _ {S : Type 0} (l : Layout) (left : S → Option (List ℕ)) (faults : S 
 
 -- What is so of what was played, as it ends, is so when it is finished.
 
--- it is so of what was played, as it may end
-abbrev pub EndsFor : (Status → Closed → Type 0) → Option ℕ → Closed → Type 0
-EndsFor P None closed = P Status.Done closed × P Status.WriteFault closed
-EndsFor P (Some clock) closed = P (Status.Worn clock) closed
-
 ends-so : (P : Status → Closed → Type 0) (worn : Option ℕ) (s : Status) (closed : Closed) → EndsFor P worn closed → EndsBy worn s → P s closed
 ends-so P None s closed p (inl e) = subst (λ s. P s closed) (sym e) p.0
 ends-so P None s closed p (inr e) = subst (λ s. P s closed) (sym e) p.1
@@ -87,3 +82,7 @@ finished-as r p s o is none closed how = subst (λ o. IfSome o (IsFinished r s))
     by : (s ≡ Status.Done) ⊎ (s ≡ Status.WriteFault) → IsFinished r s p.closed
     by (inl e) = subst (λ s. IsFinished r s p.closed) (sym e) (record { whole = p; is = is; closed_is = refl; ends = subst (λ w. EndsBy w Status.Done) (sym none) (inl refl) })
     by (inr e) = subst (λ s. IsFinished r s p.closed) (sym e) (record { whole = p; is = is; closed_is = refl; ends = subst (λ w. EndsBy w Status.WriteFault) (sym none) (inr refl) })
+
+pub none-of : (o : Option ℕ) → ((x : ℕ) → o ≡ Some x → ⊥) → o ≡ None
+none-of None h = refl
+none-of (Some x) h = absurd (h x refl)

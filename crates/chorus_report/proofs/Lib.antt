@@ -1,4 +1,4 @@
-pub mod Reading
+pub mod Read
 pub mod Texts
 pub mod Ends
 pub mod Seating

@@ -1,5 +1,5 @@
--- The callers by their seats, and the runs of more callers.
-use Rattle.std.proofs.Common.{ℕ, zero, suc, ◌≡◌, ◌==◌, ◌⊎◌, inl, inr, nat_lt, Bool, true, false, ◌&&◌, cond, List, [], ◌∷◌, ◌++◌, length, Option, Some, None, slice_get, refl, sym, ◌∙◌, ap}
+-- A run for callers is one for more callers.
+use Rattle.std.proofs.Common.{ℕ, ◌≡◌, ◌==◌, nat_lt, Bool, true, false, ◌&&◌, cond, List, [], ◌∷◌, Option, Some, None, refl, sym, ◌∙◌, ap}
 use Rattle.std.proofs.lemmas.Bool.{and_parts, false≢true, eqb-true}
 use Rattle.chorus_ui.specs.declared.ui.Ui.{Ui}
 use Rattle.chorus_ui.specs.declared.layout.Layout.{Layout}
@@ -9,19 +9,6 @@ use Rattle.chorus_world.specs.Views.{by}
 use Rattle.chorus_world.specs.Places.{last_clock}
 use Rattle.chorus_world.specs.Steps.{may}
 use Rattle.chorus_world.specs.Runs.{is_run, may_run, fits_callers}
-use Rattle.chorus_calls.specs.Callers.{Seated}
-
--- A list with one more at its end.
-
-pub get-last : (xs : List Seated) (z : Seated) (k : ℕ) (x : Seated) → slice_get (xs ++ z ∷ []) k ≡ Some x → (slice_get xs k ≡ Some x) ⊎ ((k ≡ length xs) × (z ≡ x))
-get-last [] z zero x h = inr (refl, cc)
-get-last [] z (suc k) x h = cc
-get-last (y ∷ xs) z zero x h = inl h
-get-last (y ∷ xs) z (suc k) x h = go (get-last xs z k x h)
-  where
-    go : (slice_get xs k ≡ Some x) ⊎ ((k ≡ length xs) × (z ≡ x)) → (slice_get xs k ≡ Some x) ⊎ ((suc k ≡ length (y ∷ xs)) × (z ≡ x))
-    go (inl e) = inl e
-    go (inr e) = inr (ap suc e.0, e.1)
 
 -- More callers.
 

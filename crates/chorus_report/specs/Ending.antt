@@ -44,6 +44,11 @@ abbrev pub EndsBy : Option ℕ → Status → Type 0
 EndsBy None status = (status ≡ Done) ⊎ (status ≡ WriteFault)
 EndsBy (Some clock) status = status ≡ Worn clock
 
+-- so much is so of what was closed, as it may end
+abbrev pub EndsFor : (Status → Closed → Type 0) → Option ℕ → Closed → Type 0
+EndsFor P None closed = P Done closed × P WriteFault closed
+EndsFor P (Some clock) closed = P (Worn clock) closed
+
 -- what was played was closed so, and ends so
 pub record IsFinished (played : Result Played AllocError) (status : Status) (closed : Closed) : Type 0 where
   pub whole : Played

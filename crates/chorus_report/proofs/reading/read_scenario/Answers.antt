@@ -3,7 +3,7 @@ use Rattle.chorus_scene.specs.Grammar.{read_scene, Refuses}
 use Rattle.chorus_scene.proofs.Kept.{kept}
 use Rattle.chorus_scene.proofs.Law.{printed_again}
 use Rattle.chorus_report.proofs.Ends.{ends-fault, ends-memory, ends-refused, ends-read}
-use Rattle.chorus_report.proofs.Reading.{whole-given, long-given-as, within-most, long-most, whole-most}
+use Rattle.chorus_report.proofs.Read.{whole-given, long-given-as, within-most, long-most, whole-most}
 use Rattle.chorus_report.proofs.reading.read_scenario.Goals as goal
 
 pub returns-in-Err-Fault-clause-ends : goal.returns-in-Err-Fault-clause-ends
