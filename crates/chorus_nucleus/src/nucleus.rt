@@ -27,13 +27,13 @@ impl Nucleus {
     ///
     /// The only error is want of memory; the boards that were made are ended then.
     pub fn start<R: Wait>(
-        alloc: Global,
-        rt: &R,
+        _alloc: Global,
+        _rt: &R,
         layout: Layout,
     ) -> Result<(Nucleus, Pass), AllocError>
         ensures { IfOk result (λ r. IsStarted layout r.0 r.1) }
     {
-        let _ = (alloc, rt, layout);
+        let _layout = layout;
         Err(AllocError)
     }
 

@@ -235,3 +235,19 @@ take-front (x ∷ xs) zs = ap (λ ys. x ∷ ys) (take-front xs zs)
 -- runners that were lent and come back
 pub put-back : (n : ℕ) (xs zs : List Runner) → n ≡ length xs → take n (xs ++ zs) ≡ xs
 put-back n xs zs is = ap (λ k. take k (xs ++ zs)) is ∙ take-front xs zs
+
+pub retired-less : (c : Scene) (x y : Bool) (m count : ℕ) (a b : Pass) → (x ≡ true → y ≡ true) → HasRetired y c m count a b → HasRetired x c m count a b
+retired-less c x y m count a b h r = record {
+  notes = r.notes;
+  scripts = λ i note is. less-of-script x y c (m + i) note h (r.scripts i note is);
+  seat = r.seat;
+  mine = r.mine;
+  keeper = r.keeper;
+  made = r.made;
+  caller = r.caller;
+}
+
+-- the scripts were run, as far as they were entered
+pub performed-so : (c : Scene) (x y : Bool) (a b d : Pass) (k : ℕ) → IsSetUp c a → HasEntered k a b → HasRetired x c 0 k b d → (y ≡ true → k ≡ length c.scripts) → HasPerformed (x && y) c (known d)
+performed-so c x y a b d k s e o count =
+    performed-all c (x && y) a b d k s e (retired-less c (x && y) x 0 k b d (λ h. (and_parts x y h).0) o) (λ h. count (and_parts x y h).1)

@@ -85,9 +85,9 @@ look-mine : (l : Layout) (p : ℕ) (s : PlaceState) (v : Knowledge PlaceNote) (w
 look-mine l p s v w u x t = ap (λ (k : Knowledge PlaceNote). k.mine) t.knows ∙ append-nil v.mine
 
 serve-in : (l : Layout) (p : ℕ) (pump : Pump) (v : Knowledge PlaceNote) (w : Seated) (u : Knowledge PlaceNote) (x : Seated) → Serves l p pump v w u x → AreIn w.actor v.mine → AreIn w.actor u.mine
-serve-in l p (pumps.Served from) v w u x (inl turn) all = turn-in l p (Input.Packet from turn.1.0) turn.0 v w u x turn.1.1 all
+serve-in l p (pumps.Served from) v w u x (inl turn) all = turn-in l p (Input.Packet from turn.1) turn.0 v w u x turn.2 all
 serve-in l p (pumps.Served from) v w u x (inr look) all = same-in w.actor v.mine u.mine (look-mine l p look.0 v w u x look.1) all
-serve-in l p (pumps.Idle put worked) v w u x look all = same-in w.actor v.mine u.mine (look-mine l p look.0 v w u x look.1.0) all
+serve-in l p (pumps.Idle put worked) v w u x look all = same-in w.actor v.mine u.mine (look-mine l p look.0 v w u x look.1) all
 
 pub goes-call : (n : Nucleus) (c : Command) (a b : Pass) (r : Reply) → IsCall n c a b (Ok r) → Goes (c ∷ []) a b
 goes-call n c a b r h = record {

@@ -67,8 +67,7 @@ pub(crate) fn retire(
     let _scenario = scenario;
     let mut all = true;
     while let Some(runner) = runners.pop() {
-        let done = retire_one(nucleus, runner, pass);
-        all = done && all;
+        all = retire_one(nucleus, runner, pass) & all;
     }
     all
 }

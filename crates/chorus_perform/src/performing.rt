@@ -99,5 +99,5 @@ fn run_scripts<R: Threads + Wait + Sync, G: Gate>(
     if entered {
         perform_scripts(rt, nucleus, scenario, gate, &mut runners);
     }
-    retire(nucleus, runners, pass, scenario) && entered
+    retire(nucleus, runners, pass, scenario) & entered
 }

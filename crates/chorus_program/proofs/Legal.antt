@@ -22,8 +22,8 @@ replays_are_legal l told status closed h worn few = (
   merge_of closed,
   record {
     number = few;
-    within = within-both status closed h.within worn;
-    legal = runs-are-legal l (callers_of h.scene) (past_of closed) h.plays.run;
+    within = within-both status closed h.runs.within worn;
+    legal = runs-are-legal l (callers_of h.runs.scene) (past_of closed) h.runs.plays.run;
     is = refl;
   },
   refl,

@@ -4,3 +4,4 @@ pub mod Ordered
 pub mod Performing
 pub mod Load
 pub mod Laws
+pub mod Ends

@@ -1,16 +1,15 @@
 //! A load on one thread.
 
-ghost use Rattle.std.specs.Prelude.{◌≡◌, ℕ, ◌≤◌, [], ◌∷◌, IfOk, OnOk, IsErrOf, IfSome};
+ghost use Rattle.std.specs.Prelude.{◌≡◌, ℕ, ◌≤◌, [], ◌∷◌, IfOk, OnOk, IsErrOf};
 ghost use Rattle.law_network.specs.Calls.{just_started};
 ghost use Rattle.law_network.specs.Tasks.{Drain};
 ghost use Rattle.chorus_net.specs.Sites.{net};
-ghost use Rattle.chorus_report.specs.Output.{EndsUnread, summary_of};
-ghost use Rattle.chorus_report.specs.Ending.{EndsWriting};
+ghost use Rattle.chorus_replay.specs.Ends.{EndsAsLoad};
 ghost use Rattle.chorus_replay.specs.declared.loading.TheConstants.{LOAD_LIMIT};
 ghost use Rattle.chorus_replay.specs.Ordered.{AreJustStarted};
 ghost use Rattle.chorus_replay.specs.Performing.{AreLeft, AreStopped, ArePerformed, ArePlayed};
 ghost use Rattle.chorus_replay.specs.Order.{after_setup};
-ghost use Rattle.chorus_replay.specs.Load.{Loads, load_layout, load_order, load_setup, to_enter, to_draw};
+ghost use Rattle.chorus_replay.specs.Load.{load_layout, load_order, load_setup, to_enter, to_draw};
 
 use crate::closing::close;
 use crate::drawing::{Draw, LOAD_SITES, SETUP_COMMANDS, draw_for, load_actor, setup_command};
@@ -39,10 +38,7 @@ pub fn load<K: Sink>(
     requires just_started { AreJustStarted (net sites) }
     requires layout { (net sites).layout ≡ load_layout }
     requires commands { commands ≤ LOAD_LIMIT }
-    ensures status { EndsUnread result.status }
-    ensures writes { EndsWriting (summary_of result.closed) result
-        K.held K.faults sink.old sink.new }
-    ensures loads { IfSome result.closed (Loads first commands result.status) }
+    ensures { EndsAsLoad first commands result K.held K.faults sink.old sink.new }
 {
     let played = play(alloc, sites, first, commands);
     finish(alloc, sink, played, Text::Summary)

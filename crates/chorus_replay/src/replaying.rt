@@ -1,12 +1,11 @@
 //! A scenario on one thread.
 
-ghost use Rattle.std.specs.Prelude.{◌≡◌, IfOk, IfSome};
+ghost use Rattle.std.specs.Prelude.{◌≡◌, IfOk};
 ghost use Rattle.chorus_ui.specs.Layout.{IsLayout};
 ghost use Rattle.chorus_scene.specs.Limits.{Keeps};
 ghost use Rattle.chorus_net.specs.Sites.{net};
-ghost use Rattle.chorus_report.specs.Output.{text_of};
-ghost use Rattle.chorus_report.specs.Ending.{EndsReading, EndsWriting};
-ghost use Rattle.chorus_replay.specs.Ordered.{AreJustStarted, Replays};
+ghost use Rattle.chorus_replay.specs.Ends.{EndsAsReplay};
+ghost use Rattle.chorus_replay.specs.Ordered.{AreJustStarted};
 ghost use Rattle.chorus_replay.specs.Performing.{IsPlayed};
 
 use crate::closing::close;
@@ -28,12 +27,8 @@ pub fn replay<S: Source, K: Sink>(
     sites: Sites,
 ) -> Finished
     requires { AreJustStarted (net sites) }
-    ensures reads { EndsReading (net sites).layout result.status
-        S.left S.faults S.reliable source.old source.new }
-    ensures writes { EndsWriting (text_of result.closed) result
-        K.held K.faults sink.old sink.new }
-    ensures replays { IfSome result.closed
-        (Replays (net sites).layout (S.left source.old) result.status) }
+    ensures { EndsAsReplay (net sites).layout result S.left S.faults S.reliable
+        source.old source.new K.held K.faults sink.old sink.new }
 {
     let scenario = match read_scenario(alloc, source, sites.layout()) {
         Ok(scenario) => scenario,

@@ -5,10 +5,11 @@ use Rattle.chorus_io.specs.Count.{Rose}
 use Rattle.chorus_ui.specs.declared.layout.Layout.{Layout}
 use Rattle.chorus_net.specs.declared.closed.Closed.{Closed}
 use Rattle.chorus_show.specs.declared.status.Status.{Status}
+use Rattle.chorus_report.specs.declared.finished.Finished.{Finished}
 use Rattle.chorus_report.specs.declared.played.Played.{Played}
 use Rattle.chorus_report.specs.Reading.{IsGiven, IsRead, ReadsNoFurther}
-use Rattle.chorus_report.specs.Output.{EndsUnread}
-use Rattle.chorus_report.specs.Ending.{EndsReading, EndsBy, EndsFor, IsFinished}
+use Rattle.chorus_report.specs.Output.{EndsUnread, GivesUp, HandsOut, Writes}
+use Rattle.chorus_report.specs.Ending.{EndsReading, EndsWriting, EndsBy, EndsFor, IsFinished}
 
 module _ {S : Type 0} (l : Layout) (left : S → Option (List ℕ)) (faults : S → ℕ) (reliable : S → Type 0) (old new : S) (no_fault : reliable old → faults new ≡ faults old) where
   pub ends-fault : Rose (faults old) (faults new) → ReadsNoFurther (left old) (left new) → EndsReading l Status.ReadFault left faults reliable old new
@@ -86,3 +87,41 @@ finished-as r p s o is none closed how = subst (λ o. IfSome o (IsFinished r s))
 pub none-of : (o : Option ℕ) → ((x : ℕ) → o ≡ Some x → ⊥) → o ≡ None
 none-of None h = refl
 none-of (Some x) h = absurd (h x refl)
+
+-- A call that gave up wrote nothing.
+
+pub gave-up-writes : {K : Type 0} (text : List ℕ) (s : Status) (f : Finished) (held : K → Option (List ℕ)) (failures : K → ℕ) (old new : K) → GivesUp s → f ≡ record { status = s; closed = None } → new ≡ old → EndsWriting text f held failures old new
+gave-up-writes text s f held failures old new gives is same =
+    subst (λ (z : Finished). EndsWriting text z held failures old new) (sym is) (by s gives)
+  where
+    writes : (s : Status) → GivesUp s → Writes s (held old) (held new) text
+    writes Status.Done g = absurd g
+    writes Status.Usage g = absurd g
+    writes (Status.Scenario line reason) g = ap held same
+    writes Status.ReadFault g = ap held same
+    writes Status.WriteFault g = absurd g
+    writes Status.Memory g = ap held same
+    writes (Status.Worn clock) g = absurd g
+    none : (s : Status) → GivesUp s → HandsOut s → ⊥
+    none Status.Done g h = g
+    none Status.Usage g h = g
+    none (Status.Scenario line reason) g h = h
+    none Status.ReadFault g h = h
+    none Status.WriteFault g h = g
+    none Status.Memory g h = h
+    none (Status.Worn clock) g h = g
+    by : (s : Status) → GivesUp s → EndsWriting text (record { status = s; closed = None }) held failures old new
+    by s g = record {
+      write_fault = λ e. absurd (subst GivesUp e g);
+      worn = λ clock e. absurd (subst GivesUp e g);
+      closed = (λ h. absurd h, λ h. absurd (none s g h));
+      unwritten = λ d w. same;
+      prints = writes s g;
+    }
+
+pub reads-as : {S : Type 0} (l m : Layout) (s : Status) (f : Finished) (left : S → Option (List ℕ)) (faults : S → ℕ) (reliable : S → Type 0) (old new : S) → l ≡ m → f ≡ record { status = s; closed = None } → EndsReading l s left faults reliable old new → EndsReading m f.status left faults reliable old new
+reads-as l m s f left faults reliable old new same is h =
+    subst (λ z. EndsReading z f.status left faults reliable old new) same (subst (λ (t : Status). EndsReading l t left faults reliable old new) (sym (ap (λ (z : Finished). z.status) is)) h)
+
+pub none-closed : (s : Status) (f : Finished) (P : Status → Closed → Type 0) → f ≡ record { status = s; closed = None } → IfSome f.closed (P f.status)
+none-closed s f P is = subst (λ (z : Finished). IfSome z.closed (P z.status)) (sym is) tt

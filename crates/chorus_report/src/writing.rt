@@ -87,9 +87,9 @@ fn summary_of(alloc: Global, closed: &Closed) -> Result<Vec<u8>, AllocError>
     ensures { IfOk result (λ text. text.items ≡ summary closed.now) }
 {
     let entries = merge_lent(alloc, &closed.journals)?;
-    let mut text = Vec::new(alloc);
-    lent_summary_text(&entries, &mut text)?;
-    Ok(text)
+    let mut summary = Vec::new(alloc);
+    lent_summary_text(&entries, &mut summary)?;
+    Ok(summary)
 }
 
 /// Writes the text of what was closed.

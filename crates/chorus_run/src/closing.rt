@@ -5,6 +5,7 @@ ghost use Rattle.chorus_ui.specs.declared.limits.TheConstants.{CLOCK_LIMIT};
 ghost use Rattle.chorus_merge.specs.Steps.{lent};
 ghost use Rattle.chorus_nucleus.specs.Closing.{IsClosed};
 ghost use Rattle.chorus_nucleus.specs.Passes.{known, IsPassOf};
+ghost use Rattle.chorus_perform.specs.Scripts.{IsOpening};
 ghost use Rattle.chorus_report.specs.Headline.{HasClock, merge_of};
 ghost use Rattle.chorus_run.specs.Threads.{StopsAt};
 
@@ -30,6 +31,14 @@ pub(crate) fn close<R: Wait>(rt: &R, nucleus: Nucleus, pass: Pass) -> Result<Clo
         Err(CloseFault::Memory(error)) => Err(error),
         Err(CloseFault::PassesOut(..)) => unreachable!(),
     }
+}
+
+/// Closes a nucleus that was just started, for which there is no use, and lets go of what that gives.
+pub fn close_unused<R: Wait>(rt: &R, nucleus: Nucleus, pass: Pass)
+    requires pass { IsPassOf nucleus pass }
+    requires opening { IsOpening pass }
+{
+    let _closed = close(rt, nucleus, pass);
 }
 
 /// What was closed, where all stopped for a clock that an entry of it has.

@@ -1,14 +1,12 @@
 //! A scenario on running threads, from the bytes read to the bytes written.
 
-ghost use Rattle.std.specs.Prelude.{◌≡◌, IfOk, IfSome};
+ghost use Rattle.std.specs.Prelude.{◌≡◌, IfOk};
 ghost use Rattle.chorus_nucleus.specs.Passes.{layout_of, IsPassOf};
 ghost use Rattle.chorus_perform.specs.Scripts.{IsOpening};
-ghost use Rattle.chorus_report.specs.Ending.{EndsReading, EndsWriting};
-ghost use Rattle.chorus_report.specs.Headline.{Runs};
-ghost use Rattle.chorus_report.specs.Output.{text_of};
-ghost use Rattle.chorus_run.specs.Threads.{HasWornOf, IsOfNucleus, IsPlayedOn};
+ghost use Rattle.chorus_run.specs.Ends.{EndsAsRun};
+ghost use Rattle.chorus_run.specs.Threads.{IsPlayedOn};
 
-use crate::closing::{close, stop};
+use crate::closing::{close, close_unused, stop};
 use chorus_io::{Sink, Source};
 use chorus_nucleus::{Nucleus, Pass};
 use chorus_perform::{Gate, perform};
@@ -34,19 +32,13 @@ pub fn run<R: Threads + Wait + Sync, S: Source, K: Sink, G: Gate>(
 ) -> Finished
     requires pass { IsPassOf nucleus pass }
     requires opening { IsOpening pass }
-    ensures reads { EndsReading (layout_of nucleus) result.status
-        S.left S.faults S.reliable source.old source.new }
-    ensures writes { EndsWriting (text_of result.closed) result
-        K.held K.faults sink.old sink.new }
-    ensures runs { IfSome result.closed
-        (Runs (layout_of nucleus) (S.left source.old) result.status) }
-    ensures origin { IfSome result.closed (IsOfNucleus nucleus) }
-    ensures worn { IfSome result.closed (HasWornOf result.status) }
+    ensures { EndsAsRun nucleus result S.left S.faults S.reliable
+        source.old source.new K.held K.faults sink.old sink.new }
 {
     let scenario = match read_scenario(alloc, source, nucleus.layout()) {
         Ok(scenario) => scenario,
         Err(status) => {
-            let _closed = close(rt, nucleus, pass);
+            close_unused(rt, nucleus, pass);
             return gave_up(status);
         }
     };

@@ -1,4 +1,6 @@
-use Rattle.std.proofs.Common.{ℕ, ◌≡◌, ◌<◌, ◌≤◌, ◌+◌, length, sym, ◌∙◌, ap, subst, arith}
+use Rattle.std.proofs.Common.{ℕ, ◌≡◌, ◌<◌, ◌≤◌, ◌+◌, length, Err, sym, ◌∙◌, ap, subst, arith}
+use Rattle.chorus_turn.specs.Knowing.{limit}
+use Rattle.chorus_nucleus.specs.Passes.{known}
 use Rattle.chorus_perform.specs.Runners.{AreReady}
 use Rattle.chorus_perform.proofs.Comings.{found-at, entered-more, entered-same, new-ready, ready-more}
 use Rattle.chorus_perform.proofs.entering.enter.Goals as goal
@@ -15,3 +17,12 @@ loop-index-preserved c =
       omega (arith, c.in-Ok-push.ensures.len, c.loop-index.invariant.3),
       omega (arith, c.in-Ok-push.ensures.capacity, c.loop-index.invariant.4),
     )
+
+pub unreachable-requires-in-Err-NoSeat : goal.unreachable-requires-in-Err-NoSeat
+unreachable-requires-in-Err-NoSeat c =
+    let told = (c.enter.ensures.no_seat c.in-Err-NoSeat.field-0-0).0 (c.in-Err-NoSeat.is ∙ ap (λ e. Err e) c.in-Err-NoSeat.field-0-is) in
+    let most : (known c.loop-index.pass).made ≡ limit = told.1.0 in
+    let made = c.loop-index.invariant.1.keeper.made in
+    let few = c.requires.keeps.few_scripts in
+    let lt : c.loop-index.index < length c.args.scenario.now.scripts = subst (λ xs. c.loop-index.index < length xs) c.scripts-index-end.ensures c.loop-index-test.true in
+    absurd (omega (arith, most, made, few, lt))

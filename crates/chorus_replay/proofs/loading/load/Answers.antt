@@ -9,8 +9,12 @@ finish-requires g c =
     let commands = c.args.commands in
     has-worn load_layout (load_order first commands) (load-can first commands c.requires.commands) c.play-played.result c.play-played.ensures
 
-pub returns-clause-loads : goal.returns-clause-loads
-returns-clause-loads g c =
+pub returns : goal.returns
+returns g c =
     let first = c.args.first in
     let commands = c.args.commands in
-    loads-so first commands (load-can first commands c.requires.commands) c.play-played.result c.finish.result.status c.finish.result.closed c.play-played.ensures c.finish.ensures.finished
+    record {
+      status = c.finish.ensures.status;
+      writes = c.finish.ensures.writes;
+      loads = loads-so first commands (load-can first commands c.requires.commands) c.play-played.result c.finish.result.status c.finish.result.closed c.play-played.ensures c.finish.ensures.finished;
+    }
