@@ -122,7 +122,7 @@ pub record IsCall (n : Nucleus) (c : Command) (old new : Pass) (r : Result Reply
   pub fault : IfErr r (λ f. Because FindsWorn f (layout_of n) (place_of n c old) (known old) (caller_of old) (known new) (caller_of new))
   pub refused : OnErr r (IsRefused (known old) (caller_of old) (known new) (caller_of new))
   pub worn : worn_by new ≡ worn_after (worn_by old) r
-  pub gave : gave (known new) ≡ gave_after c r (gave (known old))
+  pub gave_is : gave (known new) ≡ gave_after c r (gave (known old))
   pub grows : Grows (caller_of old) (caller_of new)
 
 -- what a pump of the place did: it worked off a packet, or has one in hand that it may not work off; or it was idle, and tells how
@@ -141,7 +141,7 @@ pub record IsPump (n : Nucleus) (p : ℕ) (old new : Pass) (r : Result Pump Call
   pub fault : IfErr r (λ f. Because FindsWornBy f (layout_of n) p (known old) (caller_of old) (known new) (caller_of new))
   pub refused : OnErr r (IsRefused (known old) (caller_of old) (known new) (caller_of new))
   pub worn : worn_by new ≡ worn_after (worn_by old) r
-  pub gave : gave (known new) ≡ gave (known old)
+  pub gave_is : gave (known new) ≡ gave (known old)
   pub stays : Stays (caller_of old) (caller_of new)
 
 -- what became of the message, as its own seat is told by a journal of its home place, the newest entry first

@@ -91,7 +91,7 @@ serve-in l p (pumps.Idle put worked) v w u x look all = same-in w.actor v.mine u
 
 pub goes-call : (n : Nucleus) (c : Command) (a b : Pass) (r : Reply) → IsCall n c a b (Ok r) → Goes (c ∷ []) a b
 goes-call n c a b r h = record {
-  gave_is = h.gave;
+  gave_is = h.gave_is;
   within = turn-in _ _ _ _ _ _ _ _ h.turn.turn;
   same = h.standing;
   actor = h.grows.actor;
@@ -100,7 +100,7 @@ goes-call n c a b r h = record {
 
 pub goes-refused : (n : Nucleus) (c : Command) (a b : Pass) (f : CallFault) → IsCall n c a b (Err f) → Goes [] a b
 goes-refused n c a b f h = record {
-  gave_is = h.gave ∙ sym (append-nil (gave (known a)));
+  gave_is = h.gave_is ∙ sym (append-nil (gave (known a)));
   within = same-in (caller_of a).actor (known a).mine (known b).mine h.refused.mine;
   same = h.standing;
   actor = h.grows.actor;
@@ -109,14 +109,14 @@ goes-refused n c a b f h = record {
 
 pub goes-pump : (n : Nucleus) (p : ℕ) (a b : Pass) (r : Result Pump CallFault) → IsPump n p a b r → Goes [] a b
 goes-pump n p a b (Ok pump) h = record {
-  gave_is = h.gave ∙ sym (append-nil (gave (known a)));
+  gave_is = h.gave_is ∙ sym (append-nil (gave (known a)));
   within = serve-in (layout_of n) p pump (known a) (caller_of a) (known b) (caller_of b) h.served;
   same = h.standing;
   actor = h.stays.actor;
   posts = omega (arith, h.stays.posts);
 }
 goes-pump n p a b (Err f) h = record {
-  gave_is = h.gave ∙ sym (append-nil (gave (known a)));
+  gave_is = h.gave_is ∙ sym (append-nil (gave (known a)));
   within = same-in (caller_of a).actor (known a).mine (known b).mine h.refused.mine;
   same = h.standing;
   actor = h.stays.actor;
