@@ -1,5 +1,5 @@
 -- The words of the list are values, and are known by their first three.
-use Rattle.std.proofs.Common.{◌≡◌, ◌≢◌, ◌∙◌, ◌^◌, ◌<◌, ◌≤◌, ◌⊎◌, inl, inr, ◌+◌, ◌*◌, ◌==◌, ◌&&◌, ◌||◌, Bool, false, nat_le, if◌then◌else◌, subst, ℕ, zero, suc, true, true≢false, List, [], ◌∷◌, Option, Some, None, refl, sym, ap, ap₂, arith, codes, decimal, get_or, length, slice_get}
+use Rattle.std.proofs.Common.{◌≡◌, ◌≢◌, ◌∙◌, ◌^◌, ◌<◌, ◌≤◌, ◌+◌, ◌*◌, ◌==◌, ◌&&◌, ◌||◌, Bool, false, nat_le, if◌then◌else◌, subst, ℕ, zero, suc, true, true≢false, List, [], ◌∷◌, Option, Some, None, refl, sym, ap, ap₂, arith, codes, decimal, get_or, length, slice_get}
 use Rattle.std.specs.List.{list_all}
 use Rattle.std.proofs.lemmas.Grind.{common_steps}
 use Rattle.std.proofs.lemmas.Fmt.{decimal_digit, decimal_injective, first_decimal}
@@ -19,15 +19,10 @@ decimal_value : (n : ℕ) → n < 2 ^ 64 → is_value (decimal n) ≡ true
 decimal_value zero h = digit_value (decimal 0) (rw (decimal_digit 0 (omega arith)) (omega arith))
 decimal_value (suc n) h = digit_value (decimal (suc n)) (omega (arith, first_decimal (suc n) (omega arith) h))
 
-turns_few : (turns : ℕ) → IsTurns turns → turns ≤ 4
-turns_few turns (inl one) = omega (arith, one)
-turns_few turns (inr (inl two)) = omega (arith, two)
-turns_few turns (inr (inr four)) = omega (arith, four)
-
 pub spelled_values : (asked : Words) → IsWithin asked → list_all is_value (spelled asked) ≡ true
 spelled_values Replay w = refl
 spelled_values Run w = refl
-spelled_values (RunOn turns) w = rw (decimal_value turns (omega (arith, turns_few turns w))) refl
+spelled_values (RunOn turns) w = rw (decimal_value turns (omega (arith, w.turns_to_four))) refl
 spelled_values (Load first commands) w = rw (decimal_value first w.0, decimal_value commands (omega (arith, w.1))) refl
 spelled_values (Audit sites turns) w =
     rw (decimal_value sites (omega (arith, w.sites_to_max)), decimal_value turns (omega (arith, w.turns_to_four))) refl
@@ -92,7 +87,7 @@ one_spelling : (a b : Words) → IsWithin a → IsWithin b → spelled a ≡ spe
 one_spelling Replay Replay w v e = refl
 one_spelling Run Run w v e = refl
 one_spelling (RunOn turns) (RunOn t) w v e =
-    ap RunOn (same_number turns t (omega (arith, turns_few turns w)) (omega (arith, turns_few t v)) (ap (λ l. slice_get l 1) e))
+    ap RunOn (same_number turns t (omega (arith, w.turns_to_four)) (omega (arith, v.turns_to_four)) (ap (λ l. slice_get l 1) e))
 one_spelling (Load first commands) (Load f c) w v e = ap₂ Load
     (same_number first f w.0 v.0 (ap (λ l. slice_get l 1) e))
     (same_number commands c (omega (arith, w.1)) (omega (arith, v.1)) (ap (λ l. slice_get l 2) e))
@@ -174,7 +169,8 @@ pub no_run : (turns : List ℕ) (what first second : Option (List ℕ)) → what
     → ((n : ℕ) → IsTurns n → turns ≡ decimal n → ⊥) → (asked : Words) → AskByThree what first second asked → ⊥
 no_run turns what first second e f g none asked by = no_run_of turns none asked (sym e ∙ by.0, sym f ∙ by.1, sym g ∙ by.2, by.3)
 
-pub no_turns : (word : List ℕ) → (word ≡ codes "1" → ⊥) → (word ≡ codes "2" → ⊥) → (word ≡ codes "4" → ⊥) → (n : ℕ) → IsTurns n → word ≡ decimal n → ⊥
-no_turns word one two four n (inl is) e = one (e ∙ ap decimal is)
-no_turns word one two four n (inr (inl is)) e = two (e ∙ ap decimal is)
-no_turns word one two four n (inr (inr is)) e = four (e ∙ ap decimal is)
+pub no_turns_read : (m : ℕ) (word : List ℕ) → word ≡ decimal m → m < 2 ^ 16 → IsNone (new_layout 1 m) → (n : ℕ) → IsTurns n → word ≡ decimal n → ⊥
+no_turns_read m word e small none n h is =
+    let same : n ≡ m = decimal_injective n m (omega (arith, h.turns_to_four)) (omega (arith, small)) (sym is ∙ e) in
+    let l : Shape = record { sites = 1; turns = n } in
+    some_if (is_layout l) l (layout_fits l h) (subst (λ k. IsNone (new_layout 1 k)) (sym same) none)

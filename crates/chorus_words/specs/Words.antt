@@ -1,5 +1,5 @@
 -- The list of the program's words: each row has one spelling. A number stands as its decimal, with no sign and no leading zero.
-use Rattle.std.specs.Prelude.{ℕ, ◌≡◌, ◌^◌, ◌<◌, ◌≤◌, ◌⊎◌, List, [], ◌∷◌, codes, decimal}
+use Rattle.std.specs.Prelude.{ℕ, ◌≡◌, ◌^◌, ◌<◌, ◌≤◌, List, [], ◌∷◌, codes, decimal}
 use Rattle.chorus_ui.specs.Layout.{IsLayout}
 use Rattle.chorus_words.specs.declared.words.TheConstants.{LOAD_LIMIT}
 use Rattle.chorus_words.specs.declared.words.Words.{Words}
@@ -13,9 +13,9 @@ spelled (Load first commands) = codes "load" ∷ decimal first ∷ decimal comma
 spelled (Audit sites turns) = codes "audit" ∷ decimal sites ∷ decimal turns ∷ []
 spelled (Lossy first) = codes "lossy" ∷ decimal first ∷ []
 
--- how many places a site may have
+-- a site may have so many places: a layout has 1, 2 or 4
 abbrev pub IsTurns : ℕ → Type 0
-IsTurns turns = (turns ≡ 1) ⊎ (turns ≡ 2) ⊎ (turns ≡ 4)
+IsTurns turns = IsLayout (record { sites = 1; turns = turns })
 
 -- each number is within its limit, and the sites and their places are a layout
 abbrev pub IsWithin : Words → Type 0

@@ -81,12 +81,8 @@ fn turns_of(word: &str) -> Option<u16>
     ensures some { IfSome result (λ n. (word.now ≡ decimal n) × IsTurns n) }
     ensures none { IsNone result → (n : ℕ) → IsTurns n → ¬ (word.now ≡ decimal n) }
 {
-    match word {
-        "1" => Some(1),
-        "2" => Some(2),
-        "4" => Some(4),
-        _ => None,
-    }
+    let layout = Layout::new(1, small_decimal(word)?)?;
+    Some(layout.turns())
 }
 
 /// The layout whose sites and places per site these decimals are. None exactly where there is none.
