@@ -41,7 +41,7 @@ pub fn from_board<R: Threads + Wait + Sync>(
 ) -> Result<u64, AllocError>
     requires { IsWatched layout port }
 {
-    let (mut board, mut all) = Board::start(alloc, rt, layout)?;
+    let (mut board, mut all) = Board::start(alloc, rt, layout, 1)?;
     let answered = match sights(&board, port, &mut all, readers) {
         Some(sights) => answers(rt, &mut board, port, sights, count),
         None => 0,
@@ -58,7 +58,7 @@ fn sights(
     readers: Readers,
 ) -> Option<Sources<Sight>>
     requires port { IsWatched (layout_of board.now) port }
-    requires new { All (IsNewIn (book_of board.now) (layout_of board.now)) all.old.items }
+    requires new { All (IsNewIn (book_of board.now) (layout_of board.now) 1) all.old.items }
 {
     let first = next_sight(board, port, all)?;
     if let Readers::One = readers {
@@ -73,8 +73,8 @@ fn sights(
 // What the next reader reads.
 fn next_sight(board: &Board, port: Ui, all: &mut Vec<BoardReader>) -> Option<Sight>
     requires port { IsWatched (layout_of board.now) port }
-    requires new { All (IsNewIn (book_of board.now) (layout_of board.now)) all.old.items }
-    ensures { All (IsNewIn (book_of board.now) (layout_of board.now)) all.new.items }
+    requires new { All (IsNewIn (book_of board.now) (layout_of board.now) 1) all.old.items }
+    ensures { All (IsNewIn (book_of board.now) (layout_of board.now) 1) all.new.items }
 {
     let _ = board;
     let reader = all.pop()?;
@@ -90,7 +90,7 @@ fn answers<R: Threads + Wait + Sync>(
     count: u64,
 ) -> u64
     requires port { IsWatched (layout_of board.old) port }
-    requires new { IsNewBoard (layout_of board.old) board.old }
+    requires new { IsNewBoard (layout_of board.old) 1 board.old }
 {
     let done = AtomicBool::new(false);
     let seen = &done;
@@ -105,7 +105,7 @@ fn answers<R: Threads + Wait + Sync>(
         },
         move ||
             requires port { IsWatched (layout_of board.now) port }
-            requires new { IsNewBoard (layout_of board.now) board.now }
+            requires new { IsNewBoard (layout_of board.now) 1 board.now }
         { publish_until(rt, board, port, seen) },
     );
     answered
@@ -114,7 +114,7 @@ fn answers<R: Threads + Wait + Sync>(
 // Publishes the creation place of a port again and again, for no entries, until the readers are done.
 fn publish_until<R: Wait>(rt: &R, board: &mut Board, port: Ui, done: &AtomicBool)
     requires port { IsWatched (layout_of board.old) port }
-    requires new { IsNewBoard (layout_of board.old) board.old }
+    requires new { IsNewBoard (layout_of board.old) 1 board.old }
 {
     for _ in rt.forever() {
         if done.load(Ordering::SeqCst) {

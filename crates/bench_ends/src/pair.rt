@@ -9,7 +9,7 @@ use crate::way::Way;
 use chorus_calls::Caller;
 use chorus_ends::{Ends, Moves};
 use chorus_entry::{Command, Dest};
-use chorus_place::{Place, place_for};
+use chorus_place::Place;
 use chorus_serve::{Desk, Pump, serve};
 use chorus_ui::{Kind, Layout, Ui};
 use std::alloc::Global;
@@ -58,7 +58,7 @@ fn may_act(place: &Place, caller: &Caller, command: &Command) -> bool
     if caller.posts() == u32::MAX || caller.client().given() == u32::MAX {
         return false;
     }
-    place_for(layout, actor, command) == place.number()
+    command.place_for(layout, actor) == place.number()
 }
 
 /// The place of this number, at ends that reach the other one.

@@ -5,7 +5,7 @@
 #![tactic(auto)]
 
 ghost use Rattle.std.specs.Prelude.{◌≤◌, IfOk, IsTrue};
-ghost use Rattle.chorus_entry.specs.Kinds.{names_port};
+ghost use Rattle.chorus_ui.specs.NameKind.{is_port};
 ghost use Rattle.chorus_entry.specs.Ranges.{has_ranges};
 
 use chorus_entry::{Body, Cargo, Message, MsgId, Packet, Tag};
@@ -115,7 +115,7 @@ fn len_of_copy(message: &Message) -> Result<u64, AllocError> {
 }
 
 fn try_packet(alloc: Global, port: Ui) -> Result<Packet, AllocError>
-    requires { IsTrue (names_port port) }
+    requires { IsTrue (is_port port) }
     ensures { IfOk result (λ packet. IsTrue (has_ranges packet)) }
 {
     let id = MsgId {

@@ -8,7 +8,7 @@ ghost use Rattle.chorus_place.specs.Calls.{state, MayCall};
 
 use chorus_calls::Caller;
 use chorus_entry::{Body, Command, Dest, Packet};
-use chorus_place::{Place, place_for};
+use chorus_place::Place;
 use chorus_ui::{Kind, Layout, Ui};
 use std::alloc::Global;
 
@@ -99,7 +99,7 @@ fn may_act(place: &Place, caller: &Caller, command: &Command) -> bool
     if caller.posts() == u32::MAX || caller.client().given() == u32::MAX {
         return false;
     }
-    place_for(layout, actor, command) == place.number()
+    command.place_for(layout, actor) == place.number()
 }
 
 impl Works for Side {

@@ -27,7 +27,11 @@ pub struct Count;
 impl Job<Counter> for Count {
     type Out = ();
 
+    ghost accepts = { λ _ _ _. Unit {0} };
+
     ghost ran = { λ _ _ _ _ _ _. Unit {0} };
+
+    ghost notes = { λ _ _ _. Unit {0} };
 
     fn run(&mut self, state: &mut Counter, _seat: u32) {
         state.turns = state.turns.saturating_add(1);

@@ -1,7 +1,6 @@
 //! What each place knows of each group: a row of the table of groups.
 
-ghost use Rattle.std.specs.Prelude.{◌≡◌, ◌<◌, ◌≤◌, ◌+◌, length, OnOk, OnErr};
-ghost use Rattle.chorus_entry.specs.Members.{index_of, wrapped};
+ghost use Rattle.std.specs.Prelude.{◌≡◌, ◌<◌, ◌≤◌, ◌+◌, OnOk, OnErr};
 ghost use Rattle.checker_ledger.specs.Groups.{IsGroupRow, no_group, group_in, joined, left, turned_by, changed_own, changed_group, GroupsJoined, GroupsChanged, GroupsStay};
 ghost use Rattle.std.specs.Option.{option_copied};
 ghost use Rattle.std.specs.HashMap.{get, spare};
@@ -9,32 +8,11 @@ ghost use Rattle.checker_rows.specs.Keys.{same_name_at};
 
 use checker_rows::keep::put;
 use checker_rows::keys::NameAt;
-use chorus_entry::{Act, Entry};
+use chorus_entry::{Act, Entry, index_of, turned, turned_back};
 use chorus_ui::Ui;
 use std::alloc::{AllocError, Global};
 use std::collections::HashMap;
 use std::marker::Model;
-
-/// The place of the port in the list, counted from 0: the length where it is not in it.
-fn index_of(ports: &[Ui], port: Ui) -> usize
-    ensures value { result ≡ index_of port ports.now }
-    ensures within { result ≤ length ports.now }
-{
-    for (i, member) in ports.iter().enumerate() {
-        if *member == port {
-            return i;
-        }
-    }
-    ports.len()
-}
-
-/// The position in a list of this length, or the first one where it comes to the end.
-fn wrapped(len: usize, at: usize) -> usize
-    ensures value { result ≡ wrapped len at }
-    ensures within { result ≤ len }
-{
-    if at < len { at } else { 0 }
-}
 
 /// A group as the entries of its place leave it.
 #[derive(Debug, Drop)]
@@ -102,24 +80,17 @@ impl Group {
         ensures { self.new ≡ left port self.old }
     {
         let at = index_of(self.members.as_slice(), port);
-        let before = at < self.rotation;
-        if before {
-            self.rotation -= 1;
-        }
+        self.rotation = turned_back(self.members.as_slice(), port, self.rotation);
         if at < self.members.len() {
             let _left = self.members.remove(at);
         }
-        self.rotation = wrapped(self.members.len(), self.rotation);
     }
 
     /// Moves the rotation place behind the one member that was chosen. It stays where none or several were.
     fn turn(&mut self, chosen: &[Ui])
         ensures { self.new ≡ turned_by chosen.now self.old }
     {
-        if let [port] = chosen {
-            let at = index_of(self.members.as_slice(), *port);
-            self.rotation = wrapped(self.members.len(), at + 1);
-        }
+        self.rotation = turned(self.members.as_slice(), chosen, self.rotation);
     }
 
     /// Follows the act, where it makes, leaves or chooses of this group.

@@ -16,7 +16,7 @@ use Rattle.chorus_hints.proofs.Lessons.{newest-learned}
 use Rattle.chorus_hints.proofs.Values.{kept-nothing_known, length-nothing_known, kept-known_after, layout-known_after, length-known_after}
 use Rattle.chorus_board.specs.declared.table.Table.{Table}
 use Rattle.chorus_board.specs.declared.table.Publish.{Publish}
-use Rattle.chorus_board.specs.Located.{located_after, pair_of, told_of, IsPortIn, IsOfOnePlace}
+use Rattle.chorus_board.specs.Located.{located_after, pair_of, told_of, IsPortIn, IsOfPlace}
 use Rattle.chorus_board.specs.Table.{told, Exact, IsRoomy, Fine}
 use Rattle.chorus_board.specs.Writers.{IsReady}
 
@@ -35,7 +35,7 @@ first_fine l table hints upto log = (
   subst (λ (z : Known × List Entry). Exact z.0 z.1) (λ i. (sym hints i, sym log i)) (first_exact l),
   upto ∙ sym (ap length log),
   subst IsRoomy (sym hints) (length-nothing_known l),
-  subst IsOfOnePlace (sym log) (λ i j d e at_i. absurd cc),
+  subst (IsOfPlace table.place) (sym log) (λ i e at_i. absurd cc),
 )
 
 -- the farther of a location and what a publish tells, as a pair
@@ -51,7 +51,7 @@ told_pair at q ui place hop = by (same_ui ui q) (nat_lt at.hop hop) refl
     by false b e = refl
 
 module _ (shown : Table) (o : Publish) (fine : Fine shown) (kind : o.ui.kind ≡ Port) (can : can_make_port shown.hints.layout o.ui ≡ true)
-    (count : o.upto ≡ length o.seen.log) (one_place : IsOfOnePlace o.seen.log)
+    (count : o.upto ≡ length o.seen.log) (of_place : IsOfPlace shown.place o.seen.log)
     (located : (q : Ui) → IsPortIn shown.hints.layout q → farther (located_after shown.hints.layout shown.seen.log q) (told_of q o.ui o.place o.hop) ≡ located_after shown.hints.layout o.seen.log q) where
   abbrev known : Known
   known = shown.hints
@@ -91,8 +91,9 @@ module _ (shown : Table) (o : Publish) (fine : Fine shown) (kind : o.ui.kind ≡
       subst (λ (k : Known). Exact k o.seen.log) (sym is_told) exact_next,
       count,
       subst IsRoomy (sym is_told) (length-known_after known o.ui o.place o.hop ∙ fine.2 ∙ ap (λ (l : Layout). l.sites * PORTS_PER_SITE_LIMIT) (sym same_layout)),
-      one_place,
+      of_place,
     ),
     book,
     ap (λ (k : Known). k.layout) is_told ∙ same_layout,
+    refl,
   )

@@ -31,9 +31,9 @@ begins t fine = (fine, all_snoc t [] stranger (λ j u e. absurd (some-ne-none u 
 pub reads : (seat : ℕ) (v : Home) → Turns Kept seat v (λ x. x) sees
 reads seat v t views h at = (v, subst (Kept t) (sym (set_again views seat v at)) h, (refl, h.0, h.1 seat v at))
 
-pub turns : (seat : ℕ) (v : Home) (t next : Table) → Fine next → next.seen.book ≡ t.seen.book → next.hints.layout ≡ t.hints.layout → TurnsAt Kept seat v t next shows
-turns seat v t next fine book len views h at = let w = home_of next.seen.book next.hints.layout in
-    (w, (fine, all_set next views seat w (λ j u e k. h.1 j u e k ∙ (λ i. home_of (sym book i) (sym len i))) (λ _. refl)), refl)
+pub turns : (seat : ℕ) (v : Home) (t next : Table) → Fine next → next.seen.book ≡ t.seen.book → next.hints.layout ≡ t.hints.layout → next.place ≡ t.place → TurnsAt Kept seat v t next shows
+turns seat v t next fine book len place views h at = let w = home_of next.seen.book next.hints.layout next.place in
+    (w, (fine, all_set next views seat w (λ j u e k. h.1 j u e k ∙ (λ i. home_of (sym book i) (sym len i) (sym place i))) (λ _. refl)), refl)
 
 pub forks : (seat : ℕ) (v : Home) → Forks Kept seat v v v
 forks seat v t views h at = (h.0, all_snoc t (set views seat v) v (all_set t views seat v h.1 (h.1 seat v at)) (h.1 seat v at))
@@ -43,5 +43,5 @@ merges seat v other w t views h at apart there =
     let was : get_elem? views other ≡ some w = ⊎_elim (λ x. absurd (apart x.0)) (λ x. x.1) (at_set views seat other w w there) in
     (h.0, all_set t (set views seat w) other stranger (all_set t views seat w h.1 (h.1 other w was)) (unknowing t))
 
-pub turns_after : (seat : ℕ) (v : Home) (t next : Table) (s : Table) → next ≡ s → Fine s × (s.seen.book ≡ t.seen.book) × (s.hints.layout ≡ t.hints.layout) → TurnsAt Kept seat v t next shows
-turns_after seat v t next s is h = turns seat v t next (subst Fine (sym is) h.0) (ap (λ (x : Table). x.seen.book) is ∙ h.1) (ap (λ (x : Table). x.hints.layout) is ∙ h.2)
+pub turns_after : (seat : ℕ) (v : Home) (t next : Table) (s : Table) → next ≡ s → Fine s × (s.seen.book ≡ t.seen.book) × (s.hints.layout ≡ t.hints.layout) × (s.place ≡ t.place) → TurnsAt Kept seat v t next shows
+turns_after seat v t next s is h = turns seat v t next (subst Fine (sym is) h.0) (ap (λ (x : Table). x.seen.book) is ∙ h.1) (ap (λ (x : Table). x.hints.layout) is ∙ h.2) (ap (λ (x : Table). x.place) is ∙ h.3)

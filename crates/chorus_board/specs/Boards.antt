@@ -9,6 +9,7 @@ use Rattle.chorus_board.specs.declared.table.Table.{Table}
 use Rattle.chorus_board.specs.declared.reader.BoardReader.{BoardReader}
 use Rattle.chorus_board.specs.declared.reader.Located.{Located}
 use Rattle.chorus_board.specs.declared.board.Board.{Board}
+use Rattle.chorus_board.specs.declared.name.BoardName.{BoardName}
 use Rattle.chorus_board.specs.Located.{located_after, told_of, IsPortIn}
 
 -- the place and the hop of an answer
@@ -21,6 +22,9 @@ entries_seen reader = reader.kept.seen.log
 
 abbrev pub layout_read : BoardReader → Layout
 layout_read reader = reader.kept.hints.layout
+
+abbrev pub place_read : BoardReader → ℕ
+place_read reader = reader.kept.place
 
 -- which board it reads
 abbrev pub book_read : BoardReader → Book
@@ -39,7 +43,7 @@ abbrev pub HasSameHandle : BoardReader → BoardReader → Type 0
 HasSameHandle old new = new.handle ≡ old.handle
 
 abbrev pub IsSameReader : BoardReader → BoardReader → Type 0
-IsSameReader old new = (book_read new ≡ book_read old) × (layout_read new ≡ layout_read old)
+IsSameReader old new = (book_read new ≡ book_read old) × (layout_read new ≡ layout_read old) × (place_read new ≡ place_read old)
 
 -- what readers read now
 abbrev pub shown : Board → Table
@@ -53,22 +57,36 @@ entries_published board = (shown board).seen.log
 abbrev pub entries_begun : Board → List Entry
 entries_begun board = board.front.log
 
--- the longest list of which a reader told
-abbrev pub entries_heard : Board → List Entry
-entries_heard board = board.heard.log
-
 abbrev pub layout_of : Board → Layout
 layout_of board = (shown board).hints.layout
+
+-- the place whose entries it tells
+abbrev pub place_of : Board → ℕ
+place_of board = (shown board).place
 
 -- which board it is
 abbrev pub book_of : Board → Book
 book_of board = board.front.book
 
+-- the same as the numbers that a type of Rust can hold
+abbrev pub name_of_book : Book → BoardName
+name_of_book b = record { number = b.number; log_name = b.log_name; cells_name = b.cells_name }
+
+abbrev pub book_of_name : BoardName → Book
+book_of_name n = record { number = n.number; log_name = n.log_name; cells_name = n.cells_name }
+
+abbrev pub name_of : Board → BoardName
+name_of board = name_of_book (book_of board)
+
+abbrev pub name_read : BoardReader → BoardName
+name_read reader = name_of_book (book_read reader)
+
 abbrev pub IsSameBoard : Board → Board → Type 0
-IsSameBoard old new = (book_of new ≡ book_of old) × (layout_of new ≡ layout_of old)
+IsSameBoard old new = (book_of new ≡ book_of old) × (layout_of new ≡ layout_of old) × (place_of new ≡ place_of old)
 
 abbrev pub IsReaderOf : Board → BoardReader → Type 0
 IsReaderOf board reader = (book_read reader ≡ book_of board) × (layout_read reader ≡ layout_of board)
+    × (place_read reader ≡ place_of board)
 
 -- where each port was located after what was published, or by this location where that is farther, is where it is located after
 -- these entries
@@ -77,11 +95,12 @@ LocatesAfter board ui place hop entries = (q : Ui) → IsPortIn (layout_of board
     farther (located_after (layout_of board) (entries_published board) q) (told_of q ui place hop)
     ≡ located_after (layout_of board) entries q
 
--- nothing was published, begun or heard
-abbrev pub IsNewBoard : Layout → Board → Type 0
-IsNewBoard layout board = (layout_of board ≡ layout) × (entries_published board ≡ []) × (entries_begun board ≡ [])
-    × (entries_heard board ≡ [])
+-- it is of this layout and place, and nothing was published or begun
+abbrev pub IsNewBoard : Layout → ℕ → Board → Type 0
+IsNewBoard layout place board = (layout_of board ≡ layout) × (place_of board ≡ place) × (entries_published board ≡ [])
+    × (entries_begun board ≡ [])
 
--- it is a reader of that board, which has this layout, and it has seen nothing
-abbrev pub IsNewIn : Book → Layout → BoardReader → Type 0
-IsNewIn book layout reader = (book_read reader ≡ book) × (layout_read reader ≡ layout) × (entries_seen reader ≡ [])
+-- it is a reader of that board, which has this layout and is of this place, and it has seen nothing
+abbrev pub IsNewIn : Book → Layout → ℕ → BoardReader → Type 0
+IsNewIn book layout place reader = (book_read reader ≡ book) × (layout_read reader ≡ layout) × (place_read reader ≡ place)
+    × (entries_seen reader ≡ [])

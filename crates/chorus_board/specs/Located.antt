@@ -25,6 +25,6 @@ IsPortIn layout q = (q.kind ≡ Port) × (has_site layout q.site ≡ true)
 abbrev pub told_of : Ui → Ui → ℕ → ℕ → Option Location
 told_of q ui place hop = if same_ui ui q then Some (record { to = place; hop = hop }) else None
 
-abbrev pub IsOfOnePlace : List Entry → Type 0
-IsOfOnePlace entries =
-    (i j : ℕ) (d e : Entry) → slice_get entries i ≡ Some d → slice_get entries j ≡ Some e → d.place ≡ e.place
+-- each entry is of this place
+abbrev pub IsOfPlace : ℕ → List Entry → Type 0
+IsOfPlace place entries = (i : ℕ) (e : Entry) → slice_get entries i ≡ Some e → e.place ≡ place

@@ -10,7 +10,7 @@ use Rattle.chorus_board.specs.Table.{Fine}
 
 -- knows nothing
 abbrev pub stranger : Home
-stranger = record { knows = false; number = 0; log_name = 0; cells_name = 0; sites = 0; turns = 0 }
+stranger = record { knows = false; number = 0; log_name = 0; cells_name = 0; sites = 0; turns = 0; place = 0 }
 
 abbrev pub book_known : Home → Book
 book_known v = record { number = v.number; log_name = v.log_name; cells_name = v.cells_name }
@@ -18,19 +18,20 @@ book_known v = record { number = v.number; log_name = v.log_name; cells_name = v
 abbrev pub layout_known : Home → Layout
 layout_known v = record { sites = v.sites; turns = v.turns }
 
-abbrev pub home_of : Book → Layout → Home
-home_of b l = record {
+abbrev pub home_of : Book → Layout → ℕ → Home
+home_of b l place = record {
   knows = true;
   number = b.number;
   log_name = b.log_name;
   cells_name = b.cells_name;
   sites = l.sites;
   turns = l.turns;
+  place = place;
 }
 
--- the board has this history and this layout
+-- the board has this history and this layout, and is of this place
 abbrev pub Knows : Home → Table → Type 0
-Knows v table = v ≡ home_of table.seen.book table.hints.layout
+Knows v table = v ≡ home_of table.seen.book table.hints.layout table.place
 
 abbrev pub Kept : Table → List Home → Type 0
 Kept table views =
@@ -41,4 +42,4 @@ abbrev pub sees : Home → Table → Table → Home → Type 0
 sees v old new w = (w ≡ v) × Fine new × (v.knows ≡ true → Knows v new)
 
 abbrev pub shows : Home → Table → Table → Home → Type 0
-shows v old new w = w ≡ home_of new.seen.book new.hints.layout
+shows v old new w = w ≡ home_of new.seen.book new.hints.layout new.place

@@ -6,7 +6,7 @@ use Rattle.chorus_entry.specs.declared.entry.Entry.{Entry}
 use Rattle.chorus_hints.specs.Known.{Known, newest, known_after}
 use Rattle.chorus_board.specs.declared.table.Table.{Table}
 use Rattle.chorus_board.specs.declared.table.Publish.{Publish}
-use Rattle.chorus_board.specs.Located.{located_after, pair_of, IsPortIn, IsOfOnePlace}
+use Rattle.chorus_board.specs.Located.{located_after, pair_of, IsPortIn, IsOfPlace}
 
 -- what is known after the publish, of a port that the layout can make
 abbrev pub told : Known → Publish → Known
@@ -14,7 +14,7 @@ told known o =
     if names_port known.layout o.ui then known_after known o.ui o.place o.hop else known
 
 abbrev pub applied_to : Table → Publish → Table
-applied_to table o = record { hints = told table.hints o; upto = o.upto; seen = o.seen }
+applied_to table o = record { hints = told table.hints o; place = table.place; upto = o.upto; seen = o.seen }
 
 -- each port of a site of the layout stands where it is located after these entries
 abbrev pub Exact : Known → List Entry → Type 0
@@ -27,4 +27,4 @@ IsRoomy known = length known.pairs ≡ ports_of known.layout
 -- the table stands for all that it has seen
 abbrev pub Fine : Table → Type 0
 Fine table = Exact table.hints table.seen.log × (table.upto ≡ length table.seen.log) × IsRoomy table.hints
-    × IsOfOnePlace table.seen.log
+    × IsOfPlace table.place table.seen.log

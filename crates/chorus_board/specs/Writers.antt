@@ -9,12 +9,12 @@ use Rattle.chorus_board.specs.Rule.{home_of}
 abbrev pub after_all : Table → List Publish → Table
 after_all table pending = fold applied_to table pending
 
--- what is shown next stands for all that it has seen, and is of the same history and layout
+-- what is shown next stands for all that it has seen, and is of the same history, layout and place
 abbrev pub IsReady : Table → List Publish → Type 0
 IsReady table pending = Fine (after_all table pending) × ((after_all table pending).seen.book ≡ table.seen.book)
-    × ((after_all table pending).hints.layout ≡ table.hints.layout)
+    × ((after_all table pending).hints.layout ≡ table.hints.layout) × ((after_all table pending).place ≡ table.place)
 
 -- `next` is shown, nothing is pending, and the writer knows whose history it is
 abbrev pub IsShown : Table → Table → List Publish → Home → Type 0
 IsShown next shown pending v =
-    (shown ≡ next) × (pending ≡ []) × (v ≡ home_of next.seen.book next.hints.layout)
+    (shown ≡ next) × (pending ≡ []) × (v ≡ home_of next.seen.book next.hints.layout next.place)

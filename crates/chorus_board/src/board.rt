@@ -3,13 +3,13 @@ ghost use Rattle.std.specs.Prelude.{◌≡◌, true, length, drop, IsOk};
 ghost use Rattle.left_right.specs.Sides.{view};
 ghost use Rattle.chorus_board.specs.Ids.{board_props};
 ghost use Rattle.chorus_board.specs.Law.{head_of};
-ghost use Rattle.chorus_board.specs.Located.{IsOfOnePlace};
+ghost use Rattle.chorus_board.specs.Located.{IsOfPlace};
 ghost use Rattle.chorus_board.specs.Rule.{book_known, layout_known, home_of};
 ghost use Rattle.chorus_board.specs.Writers.{after_all, IsReady, IsShown};
 ghost use Rattle.chorus_board.specs.Table.{Exact, IsRoomy, Fine};
 
 use crate::history::{Head, Stands, Witness, bring_to, covers};
-use crate::reader::{BoardReader, put_down};
+use crate::reader::{BoardReader, take_in};
 use crate::rule::{Shows, TableWriter};
 use crate::table::Publish;
 use chorus_ui::Ui;
@@ -23,24 +23,20 @@ pub struct Board {
     pub(crate) head: Head,
     pub(crate) front: Witness,
     pub(crate) reached: u64,
-    // The longest that a reader told of.
-    pub(crate) heard: Witness,
-    pub(crate) heard_upto: u64,
     ghost head_is: { head ≡ head_of front.book } by { Prim.hlevel board_props },
     ghost reached_is: { reached ≡ length front.log },
-    ghost heard_is: { heard_upto ≡ length heard.log },
-    ghost heard_here: { heard.book ≡ front.book } by { Prim.hlevel board_props },
     ghost here: { writer.desk.shown.value.seen.book ≡ front.book } by { Prim.hlevel board_props },
     ghost knows: { ((view writer.desk.place).knows ≡ true)
         × (book_known (view writer.desk.place) ≡ front.book)
         × (layout_known (view writer.desk.place)
-        ≡ writer.desk.shown.value.hints.layout) } by { Prim.hlevel board_props },
+        ≡ writer.desk.shown.value.hints.layout)
+        × ((view writer.desk.place).place ≡ writer.desk.shown.value.place) } by { Prim.hlevel board_props },
     ghost none_pending: { length (drop writer.behind writer.log.items) ≡ 0 },
     ghost exact: { Exact writer.desk.shown.value.hints
         writer.desk.shown.value.seen.log } by { Prim.hlevel board_props },
     ghost long: { writer.desk.shown.value.upto ≡ length writer.desk.shown.value.seen.log },
     ghost roomy: { IsRoomy writer.desk.shown.value.hints },
-    ghost one_place: { IsOfOnePlace
+    ghost of_place: { IsOfPlace writer.desk.shown.value.place
         writer.desk.shown.value.seen.log } by { Prim.hlevel board_props },
 }
 
@@ -49,11 +45,11 @@ impl Board {
     ghost use mathlib.Core.List.{IsPrefix};
     ghost use Rattle.chorus_ui.specs.declared.kind.Kind.TheVariants.{Port};
     ghost use Rattle.chorus_ui.specs.Layout.{can_make_port};
-    ghost use Rattle.chorus_board.specs.Located.{IsOfOnePlace};
-    ghost use Rattle.chorus_board.specs.Boards.{entries_seen, entries_published, entries_begun, entries_heard, layout_of, shown, LocatesAfter, IsReaderOf, IsSameBoard};
+    ghost use Rattle.chorus_board.specs.Located.{IsOfPlace};
+    ghost use Rattle.chorus_board.specs.Boards.{entries_seen, entries_published, entries_begun, layout_of, place_of, shown, LocatesAfter, IsReaderOf, IsSameBoard};
 
     /// Publishes that the port is at the place, by that hop. The publish stands for the entries that `X` names: `upto` of
-    /// them, of one place, which begin with those of the publish before, and after which each port is located where the
+    /// them, of the board's place, which begin with those of the publish before, and after which each port is located where the
     /// board then has it. The layout can make the port.
     ///
     /// It waits for readers that are inside. For want of memory nothing is shown; that list was begun all the same, so the next
@@ -70,19 +66,15 @@ impl Board {
         requires in_layout { IsTrue (can_make_port (layout_of self.old) ui) }
         requires longer { IsPrefix (entries_begun self.old) X.entries }
         requires count { upto ≡ length X.entries }
-        requires one_place { IsOfOnePlace X.entries }
+        requires of_place { IsOfPlace (place_of self.old) X.entries }
         requires located { LocatesAfter self.old ui place hop X.entries }
         ensures board { IsSameBoard self.old self.new }
         ensures begun { entries_begun self.new ≡ X.entries }
         ensures published { OnOk result (entries_published self.new ≡ X.entries) }
         ensures unshown { OnErr result (shown self.new ≡ shown self.old) }
-        ensures heard { OnOk result
-            (IsPrefix (entries_heard self.old) (entries_published self.new)) }
-        ensures still_heard { entries_heard self.new ≡ entries_heard self.old }
     {
         bring_to::<X, R>(rt, &self.head, &mut self.front, self.reached, upto);
         self.reached = upto;
-        covers(rt, &self.front, upto, &self.heard, self.heard_upto);
         let operation = Publish {
             ui,
             place,
@@ -97,21 +89,36 @@ impl Board {
         show_in(&mut self.writer, rt)
     }
 
-    /// Takes note of what the reader, which is of this board, has seen: the next publish begins with it. Takes no memory.
-    pub fn hear(&mut self, reader: &mut BoardReader)
+    /// What the reader, which is of this board, has seen is a beginning of what was begun. Where it were not, which no code
+    /// brings about, it waits for ever. Takes no memory.
+    pub fn hear<R: Wait>(&mut self, rt: &R, reader: &mut BoardReader)
         requires { IsReaderOf self.old reader.old }
-        ensures heard { IsPrefix (entries_seen reader.old) (entries_heard self.new) }
-        ensures grows { IsPrefix (entries_heard self.old) (entries_heard self.new) }
+        ensures heard { IsPrefix (entries_seen reader.old) (entries_begun self.new) }
         ensures reader { reader.new ≡ reader.old }
-        ensures board { IsSameBoard self.old self.new × (shown self.new ≡ shown self.old) }
-        ensures begun { entries_begun self.new ≡ entries_begun self.old }
+        ensures board { self.new ≡ self.old }
     {
-        let mut both = self.heard.again();
-        both.learn(&reader.kept.seen);
-        if self.heard_upto < reader.kept.upto {
-            self.heard = reader.kept.seen.again();
-            self.heard_upto = reader.kept.upto;
-        }
+        covers(
+            rt,
+            &self.front,
+            self.reached,
+            &reader.kept.seen,
+            reader.kept.upto,
+        );
+    }
+
+    /// For how many entries the last publish stands.
+    pub fn published(&mut self) -> u64
+        ensures count { result ≡ length (entries_published self.old) }
+        ensures board { self.new ≡ self.old }
+    {
+        self.writer.published().upto
+    }
+
+    /// The same, of the last publish that was begun.
+    pub fn begun(&self) -> u64
+        ensures { result ≡ length (entries_begun self.now) }
+    {
+        self.reached
     }
 
     /// Ends the board once no reader is inside. Takes no memory.
@@ -121,8 +128,6 @@ impl Board {
             head: _,
             front: _,
             reached: _,
-            heard: _,
-            heard_upto: _,
         } = self;
         drop(writer.take(rt));
     }
@@ -147,9 +152,11 @@ fn show_in<R: Wait>(writer: &mut TableWriter, rt: &R) -> Result<(), AllocError>
     ensures book { writer.new.desk.shown.value.seen.book ≡ writer.old.desk.shown.value.seen.book }
     ensures layout { writer.new.desk.shown.value.hints.layout
         ≡ writer.old.desk.shown.value.hints.layout }
+    ensures place { writer.new.desk.shown.value.place ≡ writer.old.desk.shown.value.place }
     ensures none_pending { length (drop writer.new.behind writer.new.log.items) ≡ 0 }
     ensures knows { view writer.new.desk.place
-        ≡ home_of writer.new.desk.shown.value.seen.book writer.new.desk.shown.value.hints.layout }
+        ≡ home_of writer.new.desk.shown.value.seen.book writer.new.desk.shown.value.hints.layout
+        writer.new.desk.shown.value.place }
     ensures ok { IsOk result }
 {
     replace_with(
@@ -170,16 +177,15 @@ impl BoardReader {
     ghost use mathlib.Core.List.{IsPrefix};
     ghost use Rattle.chorus_board.specs.Boards.{entries_seen, entries_published, HasSameHandle, IsReaderOf, IsSameReader};
 
-    /// The reader, which is of this board, has then seen all that was published, which begins with what it had seen. Takes
-    /// no memory.
+    /// The reader, which is of this board, has then seen all that was published, and all that it had seen. Takes no memory.
     pub fn follow(&mut self, board: &mut Board)
         requires reader { IsReaderOf board.old self.old }
-        requires begins { IsPrefix (entries_seen self.old) (entries_published board.old) }
         ensures reader { IsSameReader self.old self.new }
         ensures board { board.new ≡ board.old }
-        ensures seen { entries_seen self.new ≡ entries_published board.old }
+        ensures begins { IsPrefix (entries_seen self.old) (entries_seen self.new) }
+        ensures seen { IsPrefix (entries_published board.old) (entries_seen self.new) }
         ensures handle { HasSameHandle self.old self.new }
     {
-        put_down(&mut self.kept, board.writer.published());
+        take_in(&mut self.kept, board.writer.published());
     }
 }

@@ -3,7 +3,7 @@ ghost use Rattle.std.specs.Prelude.{◌≡◌, true, length, IfSome};
 ghost use Rattle.left_right.specs.Sides.{view};
 ghost use Rattle.chorus_board.specs.Ids.{board_props};
 ghost use Rattle.chorus_board.specs.Rule.{book_known, layout_known};
-ghost use Rattle.chorus_board.specs.Located.{IsOfOnePlace};
+ghost use Rattle.chorus_board.specs.Located.{IsOfPlace};
 ghost use Rattle.chorus_board.specs.Table.{Exact, IsRoomy, Fine};
 ghost use mathlib.Core.List.{IsPrefix};
 
@@ -20,10 +20,11 @@ pub struct BoardReader {
     ghost exact: { Exact kept.hints kept.seen.log } by { Prim.hlevel board_props },
     ghost long: { kept.upto ≡ length kept.seen.log },
     ghost roomy: { IsRoomy kept.hints },
-    ghost one_place: { IsOfOnePlace kept.seen.log } by { Prim.hlevel board_props },
+    ghost of_place: { IsOfPlace kept.place kept.seen.log } by { Prim.hlevel board_props },
     ghost tied: { IfSome handle (λ r. ((view r.place).knows ≡ true)
         × (book_known (view r.place) ≡ kept.seen.book)
-        × (layout_known (view r.place) ≡ kept.hints.layout)) } by { Prim.hlevel board_props },
+        × (layout_known (view r.place) ≡ kept.hints.layout)
+        × ((view r.place).place ≡ kept.place)) } by { Prim.hlevel board_props },
 }
 
 /// Where a port is: a place, the hop by which it came there, and how many entries of the board's place tell so.
@@ -42,10 +43,10 @@ impl BoardReader {
     ghost use mathlib.Core.List.{IsPrefix};
     ghost use Rattle.chorus_ui.specs.declared.kind.Kind.TheVariants.{Port};
     ghost use Rattle.chorus_ui.specs.Layout.{has_site};
-    ghost use Rattle.chorus_board.specs.Located.{located_after, pair_of, IsOfOnePlace};
-    ghost use Rattle.chorus_board.specs.Boards.{entries_seen, layout_read, pair_told, IsWithoutHandle, IsSameReader, KeepsHandle};
+    ghost use Rattle.chorus_board.specs.Located.{located_after, pair_of, IsOfPlace};
+    ghost use Rattle.chorus_board.specs.Boards.{entries_seen, layout_read, place_read, pair_told, IsWithoutHandle, IsSameReader, KeepsHandle};
 
-    /// Where the port is located after some entries, which begin with all that this reader had seen. The port's site is in
+    /// Where the port is located after some entries of the board's place, which begin with all that this reader had seen. The port's site is in
     /// the layout.
     ///
     /// It takes no turn, no memory and no wait. Where the reader has no handle, or its read is refused, the answer is from
@@ -55,7 +56,7 @@ impl BoardReader {
         requires in_layout { IsTrue (has_site (layout_read self.old) ui.site) }
         ensures reader { IsSameReader self.old self.new }
         ensures begins { IsPrefix (entries_seen self.old) (entries_seen self.new) }
-        ensures one_place { IsOfOnePlace (entries_seen self.new) }
+        ensures of_place { IsOfPlace (place_read self.old) (entries_seen self.new) }
         ensures unread { IsWithoutHandle self.old → self.new ≡ self.old }
         ensures keeps { KeepsHandle self.old self.new }
         ensures located { pair_told result
@@ -95,9 +96,11 @@ impl BoardReader {
 pub(crate) fn take_in(kept: &mut Table, newer: &Table)
     requires book { newer.now.seen.book ≡ kept.old.seen.book }
     requires layout { newer.now.hints.layout ≡ kept.old.hints.layout }
+    requires place { newer.now.place ≡ kept.old.place }
     requires fine { Fine newer.now × Fine kept.old }
     ensures book { kept.new.seen.book ≡ kept.old.seen.book }
     ensures layout { kept.new.hints.layout ≡ kept.old.hints.layout }
+    ensures place { kept.new.place ≡ kept.old.place }
     ensures fine { Fine kept.new }
     ensures begins { IsPrefix kept.old.seen.log kept.new.seen.log }
     ensures newer { IsPrefix newer.now.seen.log kept.new.seen.log }
@@ -116,6 +119,7 @@ pub(crate) fn put_down(kept: &mut Table, newer: &Table)
     ensures { kept.new ≡ newer.now }
 {
     kept.hints.copy_from(&newer.hints);
+    kept.place = newer.place;
     kept.upto = newer.upto;
     kept.seen = newer.seen.again();
 }

@@ -5,7 +5,7 @@ use crossbeam_utils::rule::{Outcome, Protocol};
 use left_right::reader::Reader;
 use left_right::writer::Writer;
 
-/// What a reader or the writer knows: whose history the board's is, and of which layout. No value of it is made.
+/// What a reader or the writer knows: whose history the board's is, of which layout and of which place. No value of it is made.
 pub struct Home {
     pub knows: bool,
     pub number: u64,
@@ -13,6 +13,7 @@ pub struct Home {
     pub cells_name: u64,
     pub sites: u64,
     pub turns: u64,
+    pub place: u64,
 }
 
 /// The reader's end of the table that is published.

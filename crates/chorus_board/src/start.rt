@@ -21,10 +21,11 @@ pub const READERS_PER_BOARD: usize = 64;
 
 // A table that stands for no entries.
 #[tactic(auto, using(crate::proofs::Publishes::first_fine))]
-fn blank(alloc: Global, layout: Layout, front: &Witness) -> Result<Table, AllocError>
+fn blank(alloc: Global, layout: Layout, place: u16, front: &Witness) -> Result<Table, AllocError>
     requires { front.now.log ≡ [] }
     ensures table { IfOk result (λ t. t ≡ record {
       hints = nothing_known layout;
+      place = place;
       upto = 0;
       seen = front.now;
     }) }
@@ -32,6 +33,7 @@ fn blank(alloc: Global, layout: Layout, front: &Witness) -> Result<Table, AllocE
 {
     Ok(Table {
         hints: Hints::with_room(alloc, layout)?,
+        place,
         upto: 0,
         seen: front.again(),
     })
@@ -53,15 +55,16 @@ fn handle_of(writer: &mut TableWriter) -> Option<TableReader>
 fn readers_of(
     alloc: Global,
     layout: Layout,
+    place: u16,
     front: &Witness,
 ) -> Result<Vec<BoardReader>, AllocError>
     requires { front.now.log ≡ [] }
     ensures count { IfOk result (λ v. length v.items ≡ READERS_PER_BOARD) }
-    ensures new { IfOk result (λ v. All (IsNewIn front.now.book layout) v.items) }
+    ensures new { IfOk result (λ v. All (IsNewIn front.now.book layout place) v.items) }
 {
     let mut all = Vec::new(alloc);
     for _ in 0..READERS_PER_BOARD {
-        let kept = blank(alloc, layout, front)?;
+        let kept = blank(alloc, layout, place, front)?;
         all.push(new_reader(kept))?;
     }
     Ok(all)
@@ -75,20 +78,21 @@ fn new_reader(kept: Table) -> BoardReader
 }
 
 impl Board {
-    /// A board on which each port is at its creation place, and its 64 readers, which have seen nothing. Its writer is made
+    /// The board of a place, on which each port is at its creation place, and its 64 readers, which have seen nothing. Its writer is made
     /// last, when all other memory is taken. A reader to which no handle could be given answers from what it keeps.
     pub fn start<R: Wait>(
         alloc: Global,
         rt: &R,
         layout: Layout,
+        place: u16,
     ) -> Result<(Board, Vec<BoardReader>), AllocError>
-        ensures board { IfOk result (λ r. IsNewBoard layout r.0) }
+        ensures board { IfOk result (λ r. IsNewBoard layout place r.0) }
         ensures count { IfOk result (λ r. length r.1.items ≡ READERS_PER_BOARD) }
-        ensures readers { IfOk result (λ r. All (IsNewIn (book_of r.0) layout) r.1.items) }
+        ensures readers { IfOk result (λ r. All (IsNewIn (book_of r.0) layout place) r.1.items) }
     {
         let (head, front) = open_history();
-        let mut all = readers_of(alloc, layout, &front)?;
-        let mut board = Board::opened(alloc, rt, layout, head, front)?;
+        let mut all = readers_of(alloc, layout, place, &front)?;
+        let mut board = Board::opened(alloc, rt, layout, place, head, front)?;
         for reader in all.iter_mut() {
             board.attach(reader);
         }
@@ -100,16 +104,16 @@ impl Board {
         alloc: Global,
         rt: &R,
         layout: Layout,
+        place: u16,
         head: Head,
         front: Witness,
     ) -> Result<Board, AllocError>
         requires history { (head ≡ head_of front.book) × (front.log ≡ []) }
-        ensures board { IfOk result (λ b. IsNewBoard layout b) }
+        ensures board { IfOk result (λ b. IsNewBoard layout place b) }
         ensures book { IfOk result (λ b. book_of b ≡ front.book) }
     {
-        let first = blank(alloc, layout, &front)?;
-        let second = blank(alloc, layout, &front)?;
-        let heard = front.again();
+        let first = blank(alloc, layout, place, &front)?;
+        let second = blank(alloc, layout, place, &front)?;
         let writer = TableWriter::new(alloc, first, second, READERS_PER_BOARD)?;
         let (writer, _) = show(writer, rt);
         Ok(Board {
@@ -117,8 +121,6 @@ impl Board {
             head,
             front,
             reached: 0,
-            heard,
-            heard_upto: 0,
         })
     }
 
@@ -128,7 +130,6 @@ impl Board {
         ensures reader { reader.new.kept ≡ reader.old.kept }
         ensures board { IsSameBoard self.old self.new × (shown self.new ≡ shown self.old) }
         ensures begun { entries_begun self.new ≡ entries_begun self.old }
-        ensures heard { self.new.heard ≡ self.old.heard }
     {
         reader.handle = handle_of(&mut self.writer);
     }

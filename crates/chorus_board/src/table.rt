@@ -5,10 +5,12 @@ use chorus_ui::{Kind, Ui};
 use left_right::Absorb;
 use std::alloc::AllocError;
 
-/// The locations, the number of entries for which they stand, and these entries, which have no bytes.
+/// The locations, the place whose entries tell them, the number of entries for which they stand, and these entries, which have no
+/// bytes.
 #[derive(Drop)]
 pub struct Table {
     pub hints: Hints,
+    pub place: u16,
     pub upto: u64,
     pub seen: Witness,
 }

@@ -1,3 +1,4 @@
 pub mod Clients
 pub mod ClientTables
+pub mod Positions
 pub mod Same

@@ -5,7 +5,8 @@ use Rattle.chorus_entry.specs.declared.dest.Dest.TheVariants.{Port, All, One, On
 use Rattle.chorus_entry.specs.declared.command.Command.{Command}
 use Rattle.chorus_entry.specs.declared.command.Command.TheVariants.{Make, Send, Call, Retry, Cancel, Reply, Take, Move, GroupMake, Join, Leave, Delete}
 use Rattle.chorus_ui.specs.declared.limits.TheConstants.{SITES_LIMIT, PENDING_LIMIT, BODY_LIMIT}
-use Rattle.chorus_entry.specs.Kinds.{names_actor, names_port, names_group, has_kinds_in_dest}
+use Rattle.chorus_ui.specs.NameKind.{is_actor, is_port, is_group}
+use Rattle.chorus_entry.specs.Kinds.{has_kinds_in_dest}
 
 -- a capacity is from 1 to 64
 abbrev pub is_capacity : ℕ → Bool
@@ -21,18 +22,18 @@ demands_a_site (OneAt g s) = nat_le 1 s && nat_le s SITES_LIMIT
 -- a command is given under these conditions: each name in it is of the kind that it stands for, its capacity is one, and
 -- its destination demands no site but one from 1 to 16
 abbrev pub meets_conditions : Command → Bool
-meets_conditions (Make a n) = names_actor a && is_capacity n
+meets_conditions (Make a n) = is_actor a && is_capacity n
 meets_conditions (Send d b) = has_kinds_in_dest d && demands_a_site d
-meets_conditions (Call q back b) = names_port q && names_port back
+meets_conditions (Call q back b) = is_port q && is_port back
 meets_conditions Retry = true
 meets_conditions Cancel = true
 meets_conditions (Reply b) = true
-meets_conditions (Take q) = names_port q
-meets_conditions (Move q a) = names_port q && names_actor a
+meets_conditions (Take q) = is_port q
+meets_conditions (Move q a) = is_port q && is_actor a
 meets_conditions (GroupMake s) = true
-meets_conditions (Join g q) = names_group g && names_port q
-meets_conditions (Leave g q) = names_group g && names_port q
-meets_conditions (Delete q) = names_port q
+meets_conditions (Join g q) = is_group g && is_port q
+meets_conditions (Leave g q) = is_group g && is_port q
+meets_conditions (Delete q) = is_port q
 
 -- its body is within the limit, which a command as data needs to say
 abbrev pub has_body_in_limit : Command → Bool

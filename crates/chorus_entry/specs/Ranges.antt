@@ -17,7 +17,8 @@ use Rattle.chorus_entry.specs.declared.packet.Packet.{Packet}
 use Rattle.chorus_entry.specs.declared.packet.Cargo.{Cargo}
 use Rattle.chorus_entry.specs.declared.packet.Cargo.TheVariants.{Try, Verdict, Transfer, Ask, Report}
 use Rattle.chorus_entry.specs.ClientTable.{are_distinct}
-use Rattle.chorus_entry.specs.Kinds.{names_actor, names_port, names_group, has_kinds_in_tag}
+use Rattle.chorus_ui.specs.NameKind.{is_actor, is_port, is_group}
+use Rattle.chorus_entry.specs.Kinds.{has_kinds_in_tag}
 
 -- n is from low to high
 abbrev pub is_from : ℕ → ℕ → ℕ → Bool
@@ -45,7 +46,7 @@ has_ranges_of_message m = has_range_of_id m.id && has_range_of_tag m.tag && has_
 -- the route of a message is the group that it went through
 abbrev pub is_route : Option Ui → Bool
 is_route None = true
-is_route (Some group) = names_group group
+is_route (Some group) = is_group group
 
 -- the site that a message for one site demands
 abbrev pub is_demanded_site : Option ℕ → Bool
@@ -92,7 +93,7 @@ has_ranges_of_clients clients = nat_le (length clients) CLIENTS_LIMIT && are_dis
 
 abbrev pub has_ranges_of_record : ℕ → PortRecord → Bool
 has_ranges_of_record clock port =
-    names_port port.ui && names_actor port.actor && is_from 1 PENDING_LIMIT port.capacity
+    is_port port.ui && is_actor port.actor && is_from 1 PENDING_LIMIT port.capacity
     && nat_le port.hop clock && nat_le port.first clock
     && nat_le (length port.pending) port.capacity && list_all has_ranges_of_message port.pending
     && has_ranges_of_clients port.clients
@@ -100,15 +101,15 @@ has_ranges_of_record clock port =
 -- a post that is asked for goes to a group
 abbrev pub is_asked : Dest → Bool
 is_asked (Port port) = false
-is_asked (All group) = names_group group
-is_asked (One group) = names_group group
-is_asked (OneAt group site) = names_group group && is_site_number site
+is_asked (All group) = is_group group
+is_asked (One group) = is_group group
+is_asked (OneAt group site) = is_group group && is_site_number site
 
 abbrev pub has_ranges_of_cargo : ℕ → Cargo → Bool
 has_ranges_of_cargo clock (Try message port route only hop) =
-    is_route route && is_demanded_site only && nat_le hop clock && names_port port && has_ranges_of_message message
+    is_route route && is_demanded_site only && nat_le hop clock && is_port port && has_ranges_of_message message
 has_ranges_of_cargo clock (Verdict id port route answer) =
-    has_range_of_id id && names_port port && is_route route && is_told answer && has_ranges_of_answer clock answer
+    has_range_of_id id && is_port port && is_route route && is_told answer && has_ranges_of_answer clock answer
 has_ranges_of_cargo clock (Transfer port) = has_ranges_of_record clock port
 has_ranges_of_cargo clock (Ask message dest) = is_asked dest && has_ranges_of_message message
 has_ranges_of_cargo clock (Report id answer) = has_range_of_id id && is_reported answer && has_ranges_of_answer clock answer

@@ -1,5 +1,8 @@
 //! What became of a message.
 
+ghost use Rattle.std.specs.Prelude.{◌≡◌};
+ghost use Rattle.chorus_entry.specs.Answer.{is_final};
+
 /// What became of a message at the place that decided on it, or of a group's post at the group's place.
 #[derive(Clone, Copy, Debug, PartialEq, Eq)]
 pub enum Answer {
@@ -25,4 +28,13 @@ pub enum Answer {
     Chosen { count: u16 },
     /// The port was deleted here.
     Gone,
+}
+
+impl Answer {
+    /// Whether a message that has this answer is not tried again: it is any but Stale.
+    pub fn is_final(&self) -> bool
+        ensures { result ≡ is_final self.now }
+    {
+        !matches!(self, Answer::Stale { .. })
+    }
 }

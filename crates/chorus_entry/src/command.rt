@@ -2,6 +2,9 @@
 
 ghost use Rattle.std.specs.Prelude.{◌≡◌, IfOk};
 
+mod conditions;
+mod places;
+
 use crate::body::Body;
 use crate::dest::Dest;
 use chorus_ui::Ui;
@@ -10,8 +13,8 @@ use std::alloc::AllocError;
 /// What a caller asks of the nucleus. A place performs a command in one turn and appends one entry that answers it.
 ///
 /// The commands are those of the Chorus article of 1988, without its memory: actors, ports, groups, migration and remote
-/// calls. A command is given under conditions, which are `meets_conditions` of `specs/Command.antt`: each name in it is of
-/// the kind that it stands for, a capacity is from 1 to 64, and the site that a destination demands is from 1 to 16.
+/// calls. A command is given under conditions, which [`Command::meets_conditions`] tests: each name in it is of the kind that
+/// it stands for, a capacity is from 1 to 64, and the site that a destination demands is from 1 to 16.
 #[derive(Debug, Drop)]
 pub enum Command {
     /// Makes a port of this actor, with room for `capacity` waiting messages, 1 to 64.

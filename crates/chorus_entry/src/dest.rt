@@ -2,6 +2,7 @@
 
 ghost use Rattle.std.specs.Prelude.{◌≡◌};
 ghost use Rattle.chorus_entry.specs.Dest.{port_in, group_in, site_in};
+ghost use Rattle.chorus_entry.specs.Kinds.{has_kinds_in_dest};
 
 use chorus_ui::Ui;
 
@@ -46,6 +47,16 @@ impl Dest {
         match self {
             Dest::OneAt(_, site) => Some(*site),
             _ => None,
+        }
+    }
+
+    /// Whether the name in it is of the kind that it stands for.
+    pub fn has_kinds(&self) -> bool
+        ensures { result ≡ has_kinds_in_dest self.now }
+    {
+        match self {
+            Dest::Port(port) => port.is_port(),
+            Dest::All(group) | Dest::One(group) | Dest::OneAt(group, _) => group.is_group(),
         }
     }
 }

@@ -36,7 +36,7 @@ pub use entry::Entry;
 pub use hand::Hand;
 pub use id::MsgId;
 pub use ids::Ids;
-pub use members::Members;
+pub use members::{Members, index_of, is_member, turned, turned_back};
 pub use message::Message;
 pub use packet::{Cargo, Packet};
 pub use record::{ClientTable, Pending, PortRecord};

@@ -1,6 +1,7 @@
-//! The members that were chosen for a post.
+//! The members that were chosen for a post, and positions in the list of a group's members.
 
 ghost use Rattle.std.specs.Prelude.{◌≡◌, ◌≤◌, List, length, IfOk};
+ghost use Rattle.chorus_entry.specs.Members.{index_of, is_member, without, wrapped, turned, turned_back};
 ghost use Rattle.chorus_ui.specs.declared.ui.Ui.{Ui};
 ghost use Rattle.chorus_ui.specs.declared.limits.TheConstants.{MEMBERS_LIMIT};
 
@@ -66,4 +67,64 @@ impl Eq for Members {
     ghost use Rattle.chorus_entry.specs.Members.{same_uis-equivalence};
 
     ghost laws = { same_uis-equivalence };
+}
+
+/// The position of the port in a list of members, counted from 0: the length where it is not in it.
+pub fn index_of(members: &[Ui], port: Ui) -> usize
+    ensures value { result ≡ index_of port members.now }
+    ensures within { result ≤ length members.now }
+{
+    for (i, member) in members.iter().enumerate() {
+        if *member == port {
+            return i;
+        }
+    }
+    members.len()
+}
+
+/// Whether the port is in a list of members.
+pub fn is_member(members: &[Ui], port: Ui) -> bool
+    ensures { result ≡ is_member port members.now }
+{
+    members.iter().any(|member| *member == port)
+}
+
+/// The position in a list of this length, or the first one where it comes to the end.
+fn wrapped(len: usize, at: usize) -> usize
+    ensures { result ≡ wrapped len at }
+{
+    if at < len { at } else { 0 }
+}
+
+/// The length of a list of members when the port has left it.
+#[tactic(auto, using(crate::proofs::Positions::length_without))]
+fn length_without(members: &[Ui], port: Ui) -> usize
+    ensures { result ≡ length (without port members.now) }
+{
+    let there = index_of(members, port) < members.len();
+    if there {
+        members.len() - 1
+    } else {
+        members.len()
+    }
+}
+
+/// The rotation place of a group with these members after a choice: behind the one member that was chosen, and where it was
+/// where none or several were.
+pub fn turned(members: &[Ui], chosen: &[Ui], rotation: usize) -> usize
+    ensures { result ≡ turned members.now chosen.now rotation }
+{
+    match chosen {
+        [port] => wrapped(members.len(), index_of(members, *port) + 1),
+        _ => rotation,
+    }
+}
+
+/// The rotation place of a group with these members when the port leaves it: one back where the port stands before it.
+pub fn turned_back(members: &[Ui], port: Ui, rotation: usize) -> usize
+    ensures { result ≡ turned_back members.now port rotation }
+{
+    let before = index_of(members, port) < rotation;
+    let moved = if before { rotation - 1 } else { rotation };
+    wrapped(length_without(members, port), moved)
 }

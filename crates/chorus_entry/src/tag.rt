@@ -1,5 +1,8 @@
 //! What a message is beside its body.
 
+ghost use Rattle.std.specs.Prelude.{◌≡◌};
+ghost use Rattle.chorus_entry.specs.Kinds.{has_kinds_in_tag};
+
 use chorus_ui::Ui;
 
 /// What a message is beside its body.
@@ -12,4 +15,16 @@ pub enum Tag {
     Request { number: u32, back: Ui },
     /// The reply to the request `number` of the client.
     Reply { client: u32, number: u32 },
+}
+
+impl Tag {
+    /// Whether the reply port of a request is a port.
+    pub fn has_kinds(&self) -> bool
+        ensures { result ≡ has_kinds_in_tag self.now }
+    {
+        match self {
+            Tag::Request { back, .. } => back.is_port(),
+            _ => true,
+        }
+    }
 }

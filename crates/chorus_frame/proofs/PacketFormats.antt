@@ -11,7 +11,7 @@ use Rattle.chorus_entry.specs.declared.dest.Dest.TheVariants as D
 use Rattle.chorus_entry.specs.declared.packet.Packet.{Packet}
 use Rattle.chorus_entry.specs.declared.packet.Cargo.{Cargo}
 use Rattle.chorus_entry.specs.declared.packet.Cargo.TheVariants.{Try, Verdict, Transfer, Ask, Report}
-use Rattle.chorus_entry.specs.Kinds.{names_port, names_group}
+use Rattle.chorus_ui.specs.NameKind.{is_port, is_group}
 use Rattle.chorus_entry.specs.Ranges.{is_from, is_place_number, is_site_number, is_route, is_demanded_site, is_told, is_reported, is_asked, has_range_of_id, has_ranges_of_answer, has_ranges_of_message, has_ranges_of_cargo, has_ranges}
 use Rattle.std.specs.Prelude.{IfOk}
 use Rattle.chorus_frame.specs.declared.fault.DecodeFault.{DecodeFault}
@@ -35,7 +35,7 @@ abbrev IsGoodAsked : Dest → Type 0
 IsGoodAsked dest = IsHeldDest dest × (is_asked dest ≡ true)
 
 -- the mode, the group and the site of a post to a group are its fields
-asked-is : (mode : ℕ) (group : Ui) (site : ℕ) → 1 ≤ mode → mode ≤ 3 → IsName group → names_group group ≡ true → is_site_with mode site ≡ true → (number 1 mode ++ name_field group ++ number 2 site ≡ asked_fields (dest_of mode group site)) × IsGoodAsked (dest_of mode group site)
+asked-is : (mode : ℕ) (group : Ui) (site : ℕ) → 1 ≤ mode → mode ≤ 3 → IsName group → is_group group ≡ true → is_site_with mode site ≡ true → (number 1 mode ++ name_field group ++ number 2 site ≡ asked_fields (dest_of mode group site)) × IsGoodAsked (dest_of mode group site)
 asked-is zero group site low high name kind fit = absurd (omega arith)
 asked-is (suc zero) group site low high name kind fit = (ap (λ (n : ℕ). number 1 1 ++ name_field group ++ number 2 n) (eqb-true site 0 fit), (name, kind))
 asked-is (suc (suc zero)) group site low high name kind fit = (ap (λ (n : ℕ). number 1 2 ++ name_field group ++ number 2 n) (eqb-true site 0 fit), (name, kind))
@@ -60,7 +60,7 @@ asked-takes bytes x rest are e =
     let taken = join (join a.taken b.taken) c.taken in
     subst (λ (p : Dest × List ℕ). Taken bytes (asked_fields p.0) p.1 × IsGoodAsked p.0) (ok_is made (x, rest) c.on) (subst (λ (text : List ℕ). Taken bytes text c.rest) is.0 taken, is.1)
 
-asked-parts : (mode : ℕ) (group : Ui) (site : ℕ) (rest : List ℕ) → is_from 1 3 mode ≡ true → mode < 256 ^ 1 → IsName group → names_group group ≡ true → is_site_with mode site ≡ true → site < 256 ^ 2 → asked_at (number 1 mode ++ name_field group ++ number 2 site ++ rest) ≡ Ok (dest_of mode group site, rest)
+asked-parts : (mode : ℕ) (group : Ui) (site : ℕ) (rest : List ℕ) → is_from 1 3 mode ≡ true → mode < 256 ^ 1 → IsName group → is_group group ≡ true → is_site_with mode site ≡ true → site < 256 ^ 2 → asked_at (number 1 mode ++ name_field group ++ number 2 site ++ rest) ≡ Ok (dest_of mode group site, rest)
 unfolding asked_at
 asked-parts mode group site rest is_mode small name kind fit low =
     ap asked_at (assoc3 (number 1 mode) (name_field group) (number 2 site) rest)
@@ -71,7 +71,7 @@ asked-again (D.Port port) rest fit = let e = fit.1 in absurd (cc)
 asked-again (D.All group) rest fit = asked-parts 1 group 0 rest refl (omega arith) fit.0 fit.1 refl (omega arith)
 asked-again (D.One group) rest fit = asked-parts 2 group 0 rest refl (omega arith) fit.0 fit.1 refl (omega arith)
 asked-again (D.OneAt group site) rest fit =
-    let p = and_parts (names_group group) (is_site_number site) fit.1 in
+    let p = and_parts (is_group group) (is_site_number site) fit.1 in
     let q = and_parts (nat_le 1 site) (nat_le site SITES_LIMIT) p.1 in
     let high = from_nat_le site SITES_LIMIT q.1 in
     asked-parts 3 group site rest refl (omega arith) fit.0 p.0 p.1 (omega arith)
@@ -150,7 +150,7 @@ cargo-again : (clock : ℕ) → clock < 2 ^ 64 → (x : Cargo) (rest : List ℕ)
 unfolding cargo_at try_at verdict_at transfer_at ask_at report_at
 cargo-again clock held (Try message port route only hop) rest fit =
     let p4 = and_parts _ (has_ranges_of_message message) fit.1 in
-    let p3 = and_parts _ (names_port port) p4.0 in
+    let p3 = and_parts _ (is_port port) p4.0 in
     let p2 = and_parts _ (nat_le hop clock) p3.0 in
     let p1 = and_parts (is_route route) (is_demanded_site only) p2.0 in
     ap (try_at clock) (assoc5 (route_field route) (only_field only) (number 8 hop) (name_field port) (message_fields message) rest)
@@ -165,7 +165,7 @@ cargo-again clock held (Verdict id port route answer) rest fit =
     let p4 = and_parts _ (has_ranges_of_answer clock answer) fit.1 in
     let p3 = and_parts _ (is_told answer) p4.0 in
     let p2 = and_parts _ (is_route route) p3.0 in
-    let p1 = and_parts (has_range_of_id id) (names_port port) p2.0 in
+    let p1 = and_parts (has_range_of_id id) (is_port port) p2.0 in
     ap (verdict_at clock) (assoc4 (id_fields id) (name_field port) (route_field route) (answer_fields answer) rest)
     ∙ rw (
       id_format.again id (name_field port ++ (route_field route ++ (answer_fields answer ++ rest))) (fit.0.0, p1.0),

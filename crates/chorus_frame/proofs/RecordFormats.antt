@@ -10,7 +10,7 @@ use Rattle.chorus_entry.specs.declared.message.Message.{Message}
 use Rattle.chorus_entry.specs.declared.record.PortRecord.{PortRecord}
 use Rattle.chorus_entry.specs.ClientTable.{number_of, are_distinct}
 use Rattle.chorus_entry.proofs.ClientTables.{are_distinct-snoc}
-use Rattle.chorus_entry.specs.Kinds.{names_port, names_actor}
+use Rattle.chorus_ui.specs.NameKind.{is_port, is_actor}
 use Rattle.chorus_entry.specs.Ranges.{is_from, has_ranges_of_message, has_range_of_client, has_ranges_of_clients, has_ranges_of_record}
 use Rattle.chorus_frame.specs.Fault.{Range}
 use Rattle.chorus_frame.specs.Numbers.{number}
@@ -251,7 +251,7 @@ record-again clock held x rest fit =
     let p4 = and_parts _ (nat_le x.first clock) p5.0 in
     let p3 = and_parts _ (nat_le x.hop clock) p4.0 in
     let p2 = and_parts _ (is_from 1 PENDING_LIMIT x.capacity) p3.0 in
-    let p1 = and_parts (names_port x.ui) (names_actor x.actor) p2.0 in
+    let p1 = and_parts (is_port x.ui) (is_actor x.actor) p2.0 in
     let cap = and_parts (nat_le 1 x.capacity) (nat_le x.capacity PENDING_LIMIT) p2.1 in
     let top = from_nat_le x.capacity PENDING_LIMIT cap.1 in
     let few = from_nat_le (length x.pending) x.capacity p5.1 in

@@ -9,8 +9,8 @@ ghost use Rattle.chorus_groups.specs.Faults.{unless, refuses_join, refuses_leave
 ghost use Rattle.chorus_groups.specs.Choosing.{first_round};
 
 use crate::fault::{JoinFault, LeaveFault};
-use crate::ports::{first_at, index_of, is_member, move_back, wrap};
-use chorus_entry::MEMBERS_LIMIT;
+use crate::ports::first_at;
+use chorus_entry::{MEMBERS_LIMIT, index_of, is_member, turned, turned_back};
 use chorus_ui::Ui;
 use std::alloc::{AllocError, Global};
 use std::marker::Model;
@@ -112,8 +112,8 @@ impl Group {
         if at >= self.members.len() {
             return Err(LeaveFault::NotThere);
         }
+        self.rotation = turned_back(self.members.as_slice(), port, self.rotation);
         let _left = self.members.remove(at);
-        self.rotation = wrap(self.members.len(), move_back(self.rotation, at));
         Ok(())
     }
 
@@ -142,7 +142,6 @@ impl Group {
     pub(crate) fn turn_behind(&mut self, port: Ui)
         ensures { self.new ≡ turned_behind port self.old }
     {
-        let at = index_of(self.members.as_slice(), port);
-        self.rotation = wrap(self.members.len(), at + 1);
+        self.rotation = turned(self.members.as_slice(), &[port], self.rotation);
     }
 }

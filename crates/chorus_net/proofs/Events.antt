@@ -8,7 +8,7 @@ use Rattle.chorus_ui.specs.declared.layout.Layout.{Layout}
 use Rattle.chorus_ui.specs.Layout.{IsLayout, has_site, has_actor, has_place, places}
 use Rattle.chorus_entry.specs.declared.command.Command.{Command}
 use Rattle.chorus_entry.specs.Command.{meets_conditions, has_body_in_limit, is_post}
-use Rattle.chorus_entry.specs.Kinds.{names_actor}
+use Rattle.chorus_ui.specs.NameKind.{is_actor}
 use Rattle.chorus_entry.specs.Places.{place_for}
 use Rattle.chorus_calls.specs.Callers.{Seated}
 use Rattle.law_machine.specs.declared.reply.Reply.{Reply}
@@ -51,7 +51,7 @@ next-between l n m e shape s may is =
     subst (λ (k : NetState). All (IsBetweenPlaces l) k.packets) (ap (happened e) (sym s.is) ∙ is) (packets-lie-between l (e ∷ s.events) shape (next-may l n e s may))
 
 -- each caller runs in an actor of the layout
-pub caller-of : (l : Layout) (n : NetState) → IsLayout l → (s : IsScheduled l n) → (k : ℕ) (x : Seated) → slice_get n.callers k ≡ Some x → (names_actor x.actor ≡ true) × (has_actor l x.actor ≡ true)
+pub caller-of : (l : Layout) (n : NetState) → IsLayout l → (s : IsScheduled l n) → (k : ℕ) (x : Seated) → slice_get n.callers k ≡ Some x → (is_actor x.actor ≡ true) × (has_actor l x.actor ≡ true)
 caller-of l n shape s k x found =
     let layout : (schedule l s.events).layout ≡ l = (schedule-keeps l s.events).layout in
     let c = (stands-at l s.events shape s.may).callers k x (ap (λ (m : NetState). slice_get m.callers k) (sym s.is) ∙ found) in

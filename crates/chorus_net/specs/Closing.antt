@@ -39,17 +39,16 @@ worn_in (Origin.Turns spent worn) = worn
 abbrev pub worn_of : Closed → Option ℕ
 worn_of closed = worn_in closed.origin
 
--- what was closed is this network: its journals, the packets that were put and not worked off, and the ports that are held
+-- what is left of the network, whoever closed it: the journals of the places, the packets that were put and not worked off, and the
+-- ports that are held
 pub record IsLeft (n : NetState) (closed : Closed) : Type 0 where
   pub journals : closed_journals closed ≡ journals n
   pub rest : closed.rest.items ≡ packets_left n
   pub ports : closed.ports.items ≡ placed n
 
--- the journals of the places, the packets that were put and not worked off, and the ports that are held, by closing sites
+-- and it was made by closing sites
 pub record IsClosed (n : NetState) (closed : Closed) : Type 0 where
-  pub journals : closed_journals closed ≡ journals n
-  pub rest : closed.rest.items ≡ packets_left n
-  pub ports : closed.ports.items ≡ placed n
+  pub left : IsLeft n closed
   pub origin : IsOfSites closed
 
 -- What places have, by place: their journals, the packets that wait there, and the ports that they hold.

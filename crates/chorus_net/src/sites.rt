@@ -3,7 +3,7 @@
 ghost use Rattle.std.specs.Prelude.{◌≡◌, ◌≢◌, ℕ, [], ◌∷◌, ◌<◌, ◌≤◌, ◌↔◌, true, false, length, slice_get, All, IfOk, IsOk, OnOk, OnErr, IfErr, IsErrOf, Some, None, Ok};
 ghost use Rattle.chorus_ui.specs.Layout.{IsLayout, has_actor, has_place};
 ghost use Rattle.chorus_ui.specs.declared.limits.TheConstants.{CLOCK_LIMIT, SEATS_LIMIT};
-ghost use Rattle.chorus_entry.specs.Kinds.{names_actor};
+ghost use Rattle.chorus_ui.specs.NameKind.{is_actor};
 ghost use Rattle.law_network.specs.Packets.{first_on};
 ghost use Rattle.law_network.specs.Network.{Act, happened, replied, delivery, place_numbers, from_one, from_each, round};
 ghost use Rattle.law_network.specs.Schedules.{may_happen};
@@ -20,7 +20,7 @@ use crate::fault::EnterFault;
 use crate::starting::start_places;
 use chorus_calls::Caller;
 use chorus_entry::Command;
-use chorus_place::{Place, PlaceFault, Reply, place_for};
+use chorus_place::{Place, PlaceFault, Reply};
 use chorus_ui::{Kind, Layout, SEATS_LIMIT, Ui};
 use law_network::{Delivered, Quiet};
 use std::alloc::{AllocError, Global};
@@ -93,7 +93,7 @@ impl Sites {
     /// `NoActor` comes exactly where the layout has no such actor, and else `NoSeat` exactly where 1,048,576 seats were given.
     /// An error changes nothing.
     pub fn enter(&mut self, actor: Ui) -> Result<u32, EnterFault>
-        requires { names_actor actor ≡ true }
+        requires { is_actor actor ≡ true }
         ensures seat { IfOk result (λ seat. seat ≡ length self.old.callers) }
         ensures ok { OnOk result
             (net self.new ≡ happened (entering actor (net self.old)) (net self.old)) }
@@ -138,7 +138,7 @@ impl Sites {
         ensures layout { self.new.layout ≡ self.old.layout }
     {
         let caller = &mut self.callers[seat as usize];
-        let number = place_for(self.layout, caller.actor(), &command);
+        let number = command.place_for(self.layout, caller.actor());
         let place = &mut self.places[usize::from(number) - 1];
         place.act(caller, command)
     }

@@ -1,6 +1,6 @@
 -- What the calls of a nucleus do.
 -- l is a layout, p the number of a place, c a command, v and w are what a pass knows and its caller before the call, u and x after it.
-use Rattle.std.specs.Prelude.{ℕ, ◌≡◌, ◌≤◌, ◌<◌, ◌+◌, ◌==◌, ◌⊎◌, List, [], ◌∷◌, ◌++◌, Option, Some, None, if◌then◌else◌, Result, Ok, Err, IfOk, IfErr, OnErr}
+use Rattle.std.specs.Prelude.{ℕ, ◌≡◌, ◌≤◌, ◌<◌, ◌+◌, ◌-◌, ◌^◌, min, ◌==◌, ◌⊎◌, List, [], ◌∷◌, ◌++◌, Option, Some, None, if◌then◌else◌, Result, Ok, Err, IfOk, IfErr, OnErr}
 use Rattle.chorus_ui.specs.declared.limits.TheConstants.{CLOCK_LIMIT}
 use Rattle.chorus_ui.specs.declared.layout.Layout.{Layout}
 use Rattle.chorus_entry.specs.declared.id.MsgId.{MsgId}
@@ -131,7 +131,7 @@ abbrev pub Serves : Layout → ℕ → Pump → Knowledge PlaceNote → Seated �
 Serves l p (pumps.Served from) v w u x =
     ((s : PlaceState) × (k : Packet) × TakesTurn l p (Input.Packet from k) s v w u x) ⊎ ((s : PlaceState) × Looks l p s v w u x)
 Serves l p (pumps.Idle put worked) v w u x =
-    (s : PlaceState) × (t : Looks l p s v w u x) × (put ≡ put_count (turns_at p t.found)) × (worked ≤ got_count (turns_at p t.found))
+    (s : PlaceState) × (t : Looks l p s v w u x) × (put ≡ put_count (turns_at p t.found)) × (worked ≡ min (got_count (turns_at p t.found)) (2 ^ 64 - 1))
 
 -- what a pump of the place p did
 pub record IsPump (n : Nucleus) (p : ℕ) (old new : Pass) (r : Result Pump CallFault) : Type 0 where

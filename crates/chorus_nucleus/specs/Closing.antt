@@ -1,11 +1,10 @@
 -- What a nucleus hands out when it is closed.
 -- n is the nucleus, l its layout, v what the closing pass knew, actors has of each seat the actor of the pass with that number.
-use Rattle.std.specs.Prelude.{ℕ, ◌≡◌, ◌<◌, ◌≤◌, ◌+◌, true, List, length, Some}
+use Rattle.std.specs.Prelude.{ℕ, ◌≡◌, ◌<◌, ◌≤◌, ◌+◌, true, List, length, Some, slice_get}
 use Rattle.std.specs.List.{All}
 use Rattle.chorus_ui.specs.declared.ui.Ui.{Ui}
 use Rattle.chorus_ui.specs.declared.layout.Layout.{Layout}
 use Rattle.chorus_ui.specs.Layout.{IsLayout, places, has_actor}
-use Rattle.chorus_entry.specs.Kinds.{names_actor}
 use Rattle.chorus_entry.specs.declared.packet.Packet.{Packet}
 use Rattle.chorus_calls.specs.Callers.{Seated}
 use Rattle.law_machine.specs.PlaceState.{PlaceState}
@@ -23,8 +22,11 @@ use Rattle.law_history.specs.Journals.{PlaceTurn, Comer, AreHistories, IsTheirSc
 use Rattle.law_closing.specs.Places.{PlaceNote}
 use Rattle.law_closing.specs.Remarks.{turns_at, turns_in}
 use Rattle.law_closing.specs.Closing.{IsPlace, Tells}
+use Rattle.law_closing.specs.Actors.{AreActors}
 use Rattle.chorus_net.specs.declared.closed.Closed.{Closed}
-use Rattle.chorus_net.specs.Closing.{IsLeft, IsOfTurns}
+use Rattle.chorus_net.specs.Closing.{closed_journals, IsLeft, IsOfTurns}
+use Rattle.chorus_turn.specs.Journals.{entries_of}
+use Rattle.chorus_entry.specs.declared.entry.Entry.{Entry}
 use Rattle.chorus_nucleus.specs.declared.close.CloseFault.{CloseFault}
 use Rattle.chorus_nucleus.specs.declared.close.CloseFault.TheVariants as close_faults
 use Rattle.chorus_nucleus.specs.declared.nucleus.Nucleus.{Nucleus}
@@ -40,23 +42,13 @@ pub record ClosesAs (l : Layout) (v : Knowledge PlaceNote) (comers : List Comer)
   pub of_seats : ℕ → List PlaceTurn
   pub closing : Network PlaceState Seated Packet
   pub tells : Tells (places l) log v
+  pub entries : (p : ℕ) (journal : List Entry) → slice_get (closed_journals closed) p ≡ Some journal → journal ≡ entries_of (log (p + 1))
   pub histories : AreHistories l comers of_places of_seats closing
   pub count : length comers ≡ v.made
   pub made : (p : ℕ) → IsPlace (places l) p → of_places p ≡ turns_at p (log p)
   pub mine : of_seats v.seat ≡ turns_in v.mine
   pub noted : All (λ (n : Note PlaceNote). of_seats n.seat ≡ turns_in n.mine) v.notes
   pub is_left : (turns : List PlaceTurn) → IsTheirSchedule l comers of_places of_seats closing turns → IsLeft (schedule l (events comers turns)) closed
-
--- each entry was made by a caller in the actor
-abbrev pub AreIn : Ui → List (Placed PlaceNote) → Type 0
-AreIn actor made = All (λ (m : Placed PlaceNote). m.remarked.remark.before.actor ≡ actor) made
-
--- each entry that the pass and those in its notes made is of a caller in the actor of its seat; all these actors are the layout's
-pub record AreActors (l : Layout) (actors : ℕ → Ui) (v : Knowledge PlaceNote) : Type 0 where
-  pub own : AreIn (actors v.seat) v.mine
-  pub noted : All (λ (n : Note PlaceNote). AreIn (actors n.seat) n.mine) v.notes
-  pub kinds : (q : ℕ) → names_actor (actors q) ≡ true
-  pub has : (q : ℕ) → has_actor l (actors q) ≡ true
 
 -- those who came are in these actors
 abbrev pub AreComersIn : (ℕ → Ui) → ℕ → List Comer → Type 0

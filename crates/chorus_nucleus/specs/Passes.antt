@@ -4,7 +4,7 @@ use Rattle.std.specs.Prelude.{ℕ, ◌≡◌, ◌≢◌, ◌≤◌, ◌-◌, tru
 use Rattle.std.specs.List.{All}
 use Rattle.chorus_ui.specs.declared.layout.Layout.{Layout}
 use Rattle.chorus_ui.specs.Layout.{IsLayout, places, has_actor, creation_place}
-use Rattle.chorus_entry.specs.Kinds.{names_actor}
+use Rattle.chorus_ui.specs.NameKind.{is_actor}
 use Rattle.chorus_entry.specs.declared.entry.Entry.{Entry}
 use Rattle.chorus_entry.specs.declared.packet.Packet.{Packet}
 use Rattle.chorus_calls.specs.Callers.{Seated}
@@ -39,7 +39,7 @@ home_of l w = creation_place l w.actor
 -- layout, to the caller that it has
 pub record IsCallerOf (l : Layout) (v : Knowledge PlaceNote) (w : Seated) : Type 0 where
   pub seat : w.seat ≡ v.seat
-  pub kind : names_actor w.actor ≡ true
+  pub kind : is_actor w.actor ≡ true
   pub actor : has_actor l w.actor ≡ true
   pub given : GaveWithinPosts w
   pub thread : IsThread (is_new l) (places l) v.seat v.mine

@@ -1,7 +1,7 @@
 //! How passes come and go.
 ghost use Rattle.std.specs.Prelude.{◌≡◌, ◌↔◌, ℕ, true, false, IfOk, OnErr, IsErrOf};
 ghost use Rattle.chorus_ui.specs.Layout.{has_actor};
-ghost use Rattle.chorus_entry.specs.Kinds.{names_actor};
+ghost use Rattle.chorus_ui.specs.NameKind.{is_actor};
 ghost use Rattle.chorus_turn.specs.Knowing.{limit};
 ghost use Rattle.chorus_net.specs.declared.fault.EnterFault.TheVariants as EnterFault;
 ghost use Rattle.chorus_nucleus.specs.Passes.{known, layout_of, IsPassOf};
@@ -21,7 +21,7 @@ impl Nucleus {
     pub fn enter(&self, pass: &mut Pass, actor: Ui) -> Result<Pass, EnterFault>
         requires pass { IsPassOf self.now pass.old }
         requires keeper { (known pass.old).keeper ≡ true }
-        requires kind { names_actor actor ≡ true }
+        requires kind { is_actor actor ≡ true }
         ensures keeper { IsKeptKeeper self.now pass.old pass.new }
         ensures ok { IfOk result (λ p. Enters self.now actor pass.old pass.new p) }
         ensures no_actor { IsErrOf result EnterFault.NoActor

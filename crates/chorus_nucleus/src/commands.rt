@@ -1,7 +1,8 @@
 //! The calls of a caller, each a command in one turn at its place.
 ghost use Rattle.std.specs.Prelude.{◌≡◌, ◌<◌, ◌≤◌, true, length};
 ghost use Rattle.chorus_ui.specs.declared.limits.TheConstants.{BODY_LIMIT};
-ghost use Rattle.chorus_entry.specs.Kinds.{names_actor, names_port, names_group, has_kinds_in_dest};
+ghost use Rattle.chorus_ui.specs.NameKind.{is_actor, is_port, is_group};
+ghost use Rattle.chorus_entry.specs.Kinds.{has_kinds_in_dest};
 ghost use Rattle.chorus_entry.specs.Command.{is_capacity, demands_a_site};
 ghost use Rattle.chorus_entry.specs.declared.command.Command.TheVariants as Command;
 ghost use Rattle.chorus_nucleus.specs.Passes.{caller_of, IsPassOf};
@@ -18,7 +19,7 @@ impl Nucleus {
     /// Makes a port of the actor.
     pub fn make_port(&self, pass: &mut Pass, actor: Ui, capacity: u8) -> Result<Reply, CallFault>
         requires pass { IsPassOf self.now pass.old }
-        requires actor { names_actor actor ≡ true }
+        requires actor { is_actor actor ≡ true }
         requires capacity { is_capacity capacity ≡ true }
         ensures { IsCall self.now (Command.Make actor capacity) pass.old pass.new result }
     {
@@ -38,8 +39,8 @@ impl Nucleus {
     /// Makes the port a member of the group.
     pub fn join(&self, pass: &mut Pass, group: Ui, port: Ui) -> Result<Reply, CallFault>
         requires pass { IsPassOf self.now pass.old }
-        requires group { names_group group ≡ true }
-        requires port { names_port port ≡ true }
+        requires group { is_group group ≡ true }
+        requires port { is_port port ≡ true }
         ensures { IsCall self.now (Command.Join group port) pass.old pass.new result }
     {
         self.never.no();
@@ -49,8 +50,8 @@ impl Nucleus {
     /// Takes the port out of the group.
     pub fn leave(&self, pass: &mut Pass, group: Ui, port: Ui) -> Result<Reply, CallFault>
         requires pass { IsPassOf self.now pass.old }
-        requires group { names_group group ≡ true }
-        requires port { names_port port ≡ true }
+        requires group { is_group group ≡ true }
+        requires port { is_port port ≡ true }
         ensures { IsCall self.now (Command.Leave group port) pass.old pass.new result }
     {
         self.never.no();
@@ -73,8 +74,8 @@ impl Nucleus {
     /// Posts a request.
     pub fn call(&self, pass: &mut Pass, port: Ui, back: Ui, body: &[u8]) -> Result<Reply, CallFault>
         requires pass { IsPassOf self.now pass.old }
-        requires port { names_port port ≡ true }
-        requires back { names_port back ≡ true }
+        requires port { is_port port ≡ true }
+        requires back { is_port back ≡ true }
         requires body { length body.now ≤ BODY_LIMIT }
         requires posts { (caller_of pass.old).posts < u32.MAX }
         ensures { IsCall self.now (Command.Call port back body.now) pass.old pass.new result }
@@ -116,7 +117,7 @@ impl Nucleus {
     /// Receives the first message that waits in the port.
     pub fn take(&self, pass: &mut Pass, port: Ui) -> Result<Reply, CallFault>
         requires pass { IsPassOf self.now pass.old }
-        requires port { names_port port ≡ true }
+        requires port { is_port port ≡ true }
         ensures { IsCall self.now (Command.Take port) pass.old pass.new result }
     {
         self.never.no();
@@ -126,8 +127,8 @@ impl Nucleus {
     /// Moves the port, with all that waits in it, to the actor.
     pub fn move_port(&self, pass: &mut Pass, port: Ui, actor: Ui) -> Result<Reply, CallFault>
         requires pass { IsPassOf self.now pass.old }
-        requires port { names_port port ≡ true }
-        requires actor { names_actor actor ≡ true }
+        requires port { is_port port ≡ true }
+        requires actor { is_actor actor ≡ true }
         ensures { IsCall self.now (Command.Move port actor) pass.old pass.new result }
     {
         self.never.no();
@@ -137,7 +138,7 @@ impl Nucleus {
     /// Deletes the port.
     pub fn delete(&self, pass: &mut Pass, port: Ui) -> Result<Reply, CallFault>
         requires pass { IsPassOf self.now pass.old }
-        requires port { names_port port ≡ true }
+        requires port { is_port port ≡ true }
         ensures { IsCall self.now (Command.Delete port) pass.old pass.new result }
     {
         self.never.no();

@@ -10,7 +10,7 @@ use Rattle.std.proofs.lemmas.List.Elements.{All-nil, All-cons}
 use Rattle.chorus_ui.specs.declared.ui.Ui.{Ui}
 use Rattle.chorus_ui.specs.declared.layout.Layout.{Layout}
 use Rattle.chorus_ui.specs.Layout.{has_actor}
-use Rattle.chorus_entry.specs.Kinds.{names_actor}
+use Rattle.chorus_ui.specs.NameKind.{is_actor}
 use Rattle.chorus_entry.specs.declared.command.Command.{Command}
 use Rattle.chorus_entry.specs.Command.{meets_conditions}
 use Rattle.chorus_calls.specs.Callers.{Seated}
@@ -59,8 +59,8 @@ module _ (c : Scene) (keeps : Keeps c) (i : ℕ) (script : Script) (at : slice_g
   two : (is_actor_of c.layout c.sites script.actor ≡ true) × (nat_le (length script.commands) COMMANDS_LIMIT ≡ true)
   two = and_parts (is_actor_of c.layout c.sites script.actor) (nat_le (length script.commands) COMMANDS_LIMIT) parts.0
 
-  pub script-actor : (names_actor script.actor ≡ true) × (has_actor c.layout script.actor ≡ true)
-  script-actor = and_parts (names_actor script.actor) (has_actor c.layout script.actor) (and_parts (names_actor script.actor && has_actor c.layout script.actor) (is_site c.sites script.actor.site) two.0).0
+  pub script-actor : (is_actor script.actor ≡ true) × (has_actor c.layout script.actor ≡ true)
+  script-actor = and_parts (is_actor script.actor) (has_actor c.layout script.actor) (and_parts (is_actor script.actor && has_actor c.layout script.actor) (is_site c.sites script.actor.site) two.0).0
 
   pub script-meets : AllMeet script.commands
   script-meets = commands-meet c.layout c.version c.sites script.commands parts.1

@@ -1,5 +1,5 @@
 -- A round comes by one place more.
-use Rattle.std.proofs.Common.{ℕ, zero, suc, ◌≡◌, ◌≢◌, ◌+◌, ◌-◌, ◌^◌, ◌<◌, ◌≤◌, min, List, [], ◌∷◌, ◌++◌, refl, sym, ◌∙◌, ap, ap₂, subst, inl, inr, arith}
+use Rattle.std.proofs.Common.{ℕ, zero, suc, ◌≡◌, ◌≢◌, ◌+◌, ◌-◌, ◌^◌, ◌<◌, ◌≤◌, min, Bool, true, List, [], ◌∷◌, ◌++◌, refl, sym, ◌∙◌, ap, ap₂, subst, inl, inr, arith}
 use Rattle.std.specs.List.{All}
 use Rattle.std.proofs.lemmas.List.{append-nil}
 use Rattle.std.proofs.lemmas.Bool.{cases_eq}
@@ -17,7 +17,8 @@ use Rattle.law_history.specs.Counts.{total, put_count, got_count}
 use Rattle.law_closing.specs.Places.{PlaceNote}
 use Rattle.law_closing.specs.Remarks.{turns_at}
 use Rattle.place_site.specs.Turning.{Looks}
-use Rattle.chorus_perform.specs.Rounds.{put_seen, got_seen, HasSeen, Counts, IsRound, IsEven}
+use Rattle.law_closing.specs.Seen.{HasSeen}
+use Rattle.chorus_perform.specs.Rounds.{put_seen, got_seen, Counts, IsRound, IsEven}
 
 succ : (n : ℕ) → n + 1 ≡ suc n
 succ n = omega arith
@@ -64,10 +65,12 @@ module _ (l : Layout) (m : ℕ) (s : PlaceState) (v : Knowledge PlaceNote) (call
   notes-are = ap (λ (u : Knowledge PlaceNote). u.notes) looks.knows
 
   seen-more : HasSeen m v → HasSeen (m + 1) w
-  seen-more h p le =
-      elim (cases_eq p m) [
-        | inl same ↦ subst (λ k. Shows (k + 1) w (seen_at (k + 1) w)) (sym same) (shows-like (m + 1) v w looks.found seat-is mine-is notes-are here looks.shows)
-        | inr differ ↦ shows-like (p + 1) v w (seen_at (p + 1) v) seat-is mine-is notes-are (elsewhere (p + 1) (λ e. differ (omega (arith, e)))) (h p (omega (arith, le, differ)))
+  seen-more h p is =
+      let low = is.0 in
+      let high = is.1 in
+      elim (cases_eq p (m + 1)) [
+        | inl same ↦ subst (λ k. Shows k w (seen_at k w)) (sym same) (shows-like (m + 1) v w looks.found seat-is mine-is notes-are here looks.shows)
+        | inr differ ↦ shows-like p v w (seen_at p v) seat-is mine-is notes-are (elsewhere p differ) (h p (low, omega (arith, high, differ)))
       ]
 
   total-more : (f : ℕ → List (Remarked PlaceNote) → ℕ) → total (m + 1) (λ p. f (p + 1) (seen_at (p + 1) w)) ≡ total m (λ p. f (p + 1) (seen_at (p + 1) v)) + f (m + 1) looks.found
@@ -86,10 +89,14 @@ module _ (l : Layout) (m : ℕ) (s : PlaceState) (v : Knowledge PlaceNote) (call
   }
 
 pub round-none : (v : Knowledge PlaceNote) → IsRound 0 0 0 v
-round-none v = record { seen = λ p le. absurd (omega (arith, le)); put_is = λ lt. refl; worked_is = λ lt. refl }
+round-none v = record { seen = λ p is. absurd (let low = is.0 in let high = is.1 in omega (arith, low, high)); put_is = λ lt. refl; worked_is = λ lt. refl }
 
 pub round-even : (l : Layout) (put worked : ℕ) (v : Knowledge PlaceNote) → IsRound (places l) put worked v → put ≡ worked → put < 2 ^ 64 - 1 → IsEven l v
 round-even l put worked v r same lt = record {
   seen = r.seen;
   even = sym (r.put_is lt) ∙ same ∙ r.worked_is (subst (λ k. k < 2 ^ 64 - 1) same lt);
 }
+
+-- the round is over
+pub round-over : (l : Layout) (idle : Bool) (put worked : ℕ) (v : Knowledge PlaceNote) → (idle ≡ true → IsRound (places l) put worked v) → (idle ≡ true) × (put ≡ worked) × (put < 2 ^ 64 - 1) → IsEven l v
+round-over l idle put worked v r over = round-even l put worked v (r over.0) over.1 over.2

@@ -1,5 +1,6 @@
 -- What the passes leave, as they end.
-use Rattle.std.proofs.Common.{ℕ, zero, suc, ◌≡◌, ◌+◌, ◌-◌, ◌<◌, ◌≤◌, ◌&&◌, if◌then◌else◌, Bool, true, false, List, [], ◌∷◌, ◌++◌, take, length, reverse, Option, Some, None, slice_get, slice_index_or, refl, sym, ◌∙◌, ap, subst, inl, inr, arith}
+use Rattle.std.proofs.Common.{ℕ, zero, suc, ◌≡◌, ◌+◌, ◌-◌, ◌<◌, ◌≤◌, ◌&&◌, if◌then◌else◌, Bool, true, false, List, [], ◌∷◌, ◌++◌, take, length, reverse, Option, Some, None, Result, Ok, Err, slice_get, slice_index_or, refl, sym, ◌∙◌, ap, subst, inl, inr, arith}
+use Rattle.std.specs.Result.{OnOk, is_ok}
 use Rattle.std.proofs.lemmas.Bool.{and_parts, cases_lt, false≢true}
 use Rattle.std.proofs.lemmas.List.{append-nil, length-append, reverse-append, get_or_append_left}
 use Rattle.std.proofs.Math.Seq.{get_or-append_seam}
@@ -20,7 +21,7 @@ use Rattle.chorus_nucleus.specs.declared.nucleus.Nucleus.{Nucleus}
 use Rattle.chorus_nucleus.specs.declared.pass.Pass.{Pass}
 use Rattle.chorus_nucleus.specs.Passes.{known, caller_of}
 use Rattle.chorus_nucleus.specs.Calls.{gave}
-use Rattle.chorus_nucleus.specs.Closing.{AreIn}
+use Rattle.law_closing.specs.Actors.{AreIn}
 use Rattle.chorus_nucleus.specs.Coming.{Retires}
 use Rattle.chorus_perform.specs.declared.runner.Runner.{Runner}
 use Rattle.chorus_perform.specs.Going.{Goes, GoesAsFar}
@@ -251,3 +252,15 @@ retired-less c x y m count a b h r = record {
 pub performed-so : (c : Scene) (x y : Bool) (a b d : Pass) (k : ℕ) → IsSetUp c a → HasEntered k a b → HasRetired x c 0 k b d → (y ≡ true → k ≡ length c.scripts) → HasPerformed (x && y) c (known d)
 performed-so c x y a b d k s e o count =
     performed-all c (x && y) a b d k s e (retired-less c (x && y) x 0 k b d (λ h. (and_parts x y h).0) o) (λ h. count (and_parts x y h).1)
+
+-- a runner was popped and retired
+pub retired-step : (n : Nucleus) (c : Scene) (all done : Bool) (r : Runner) (a b d : Pass) (was now whole : ℕ) → was ≡ now + 1 → was ≤ whole → done ≡ r.done → HasRetired all c was (whole - was) a b → IsEndingAt n c now r → Retires n r.pass b d → HasRetired (done && all) c now (whole - now) a d
+retired-step n c all done r a b d was now whole is most same e o w =
+    let so_far = subst (λ k. HasRetired all c k (whole - was) a b) is e in
+    let more = retired-more n c all r a b d now (whole - was) so_far o w in
+    let count : whole - was + 1 ≡ whole - now = omega (arith, is, most) in
+    subst (λ k. HasRetired (done && all) c now k a d) count (subst (λ x. HasRetired (x && all) c now (whole - was + 1) a d) (sym same) more)
+
+pub on-ok-so : {A E : Type 0} (r : Result A E) (b : Bool) (P : Type 0) → b ≡ is_ok r → b ≡ true → OnOk r P → P
+on-ok-so (Ok a) b P is t p = p
+on-ok-so (Err e) b P is t p = absurd (false≢true (sym is ∙ t))

@@ -5,7 +5,7 @@ use Rattle.std.proofs.lemmas.List.{length-map}
 use Rattle.chorus_ui.specs.declared.layout.Layout.{Layout}
 use Rattle.chorus_entry.specs.declared.command.Command.{Command}
 use Rattle.chorus_entry.specs.Command.{meets_conditions, is_capacity, is_post}
-use Rattle.chorus_entry.specs.Kinds.{names_actor}
+use Rattle.chorus_ui.specs.NameKind.{is_actor}
 use Rattle.chorus_scene.specs.declared.scenario.SetupLine.{SetupLine}
 use Rattle.chorus_scene.specs.declared.scenario.SetupLine.TheVariants as setups
 use Rattle.chorus_scene.specs.Scene.{Scene}
@@ -23,7 +23,7 @@ right a b h = (and_parts a b h).1
 
 line-meets : (l : Layout) (n : ℕ) (before : List SetupLine) (line : SetupLine) → setup_line_keeps l n before line ≡ true → meets_conditions (setup_command line) ≡ true
 line-meets l n before (setups.Port actor capacity) h =
-    let two = left _ _ h in and_from (names_actor actor) (is_capacity capacity) (left _ _ (left _ _ (right _ _ two))) (left _ _ two)
+    let two = left _ _ h in and_from (is_actor actor) (is_capacity capacity) (left _ _ (left _ _ (right _ _ two))) (left _ _ two)
 line-meets l n before (setups.Group site) h = refl
 line-meets l n before (setups.Member group port) h =
     let both = left _ _ (left _ _ (left _ _ (left _ _ (left _ _ (left _ _ h))))) in both

@@ -1,6 +1,6 @@
 -- A pass goes on by one call more.
 use Rattle.std.specs.Result.{OnOk, OnErr}
-use Rattle.std.proofs.Common.{ℕ, zero, suc, take, drop, slice_index_or, Result, Ok, Err, ◌≡◌, ◌+◌, ◌-◌, ◌^◌, ◌<◌, ◌≤◌, ◌⊎◌, true, List, [], ◌∷◌, ◌++◌, length, refl, sym, ◌∙◌, ap, subst, inl, inr, arith, append_assoc}
+use Rattle.std.proofs.Common.{ℕ, zero, suc, take, take_all, drop, slice_index_or, Result, Ok, Err, ◌≡◌, ◌+◌, ◌-◌, ◌^◌, ◌<◌, ◌≤◌, ◌⊎◌, true, List, [], ◌∷◌, ◌++◌, length, refl, sym, ◌∙◌, ap, subst, inl, inr, arith, append_assoc}
 use Rattle.std.proofs.lemmas.List.{append-nil, length-append, take_more}
 use Rattle.std.proofs.lemmas.List.Elements.{All-nil, All-cons, All-append}
 use Rattle.chorus_ui.specs.declared.ui.Ui.{Ui}
@@ -28,7 +28,7 @@ use Rattle.chorus_nucleus.specs.declared.pass.Pass.{Pass}
 use Rattle.chorus_nucleus.specs.declared.fault.CallFault.{CallFault}
 use Rattle.chorus_nucleus.specs.Passes.{layout_of, known, caller_of}
 use Rattle.chorus_nucleus.specs.Calls.{gave, IsCall, IsPump, Serves}
-use Rattle.chorus_nucleus.specs.Closing.{AreIn}
+use Rattle.law_closing.specs.Actors.{AreIn}
 use Rattle.chorus_perform.specs.Going.{Goes, GoesAsFar}
 
 abbrev IsIn : Ui → Placed PlaceNote → Type 0
@@ -144,3 +144,10 @@ first-of commands i a b g = record { given = take i commands; left = drop i comm
 pub step-more : (commands : List Command) (i : ℕ) (x : Command) (a b d : Pass) → i < length commands → x ≡ slice_index_or commands i x → Goes (take i commands) a b → Goes (x ∷ []) b d → Goes (take (i + 1) commands) a d
 step-more commands i x a b d lt is g h =
     subst (λ ys. Goes ys a d) (sym (take_more commands i x lt ∙ ap (λ y. take i commands ++ y ∷ []) (sym is))) (goes-then (take i commands) (x ∷ []) a b d g h)
+
+-- all of them
+pub goes-whole : (commands : List Command) (i : ℕ) (a b d : Pass) → length commands ≤ i → Goes (take i commands) a b → Goes [] b d → Goes commands a d
+goes-whole commands i a b d most g h = subst (λ cs. Goes cs a d) (take_all i commands most) (goes-on (take i commands) a b d g h)
+
+pub whole-of : (commands : List Command) (a b : Pass) → Goes commands a b → GoesAsFar commands a b
+whole-of commands a b g = record { given = commands; left = []; whole = sym (append-nil commands); goes = g }

@@ -9,7 +9,7 @@ use Rattle.chorus_turn.specs.Knowing.{IsSamePass}
 use Rattle.chorus_nucleus.specs.declared.pass.Pass.{Pass}
 use Rattle.chorus_nucleus.specs.Passes.{known, caller_of}
 use Rattle.chorus_nucleus.specs.Calls.{gave}
-use Rattle.chorus_nucleus.specs.Closing.{AreIn}
+use Rattle.law_closing.specs.Actors.{AreIn}
 
 -- The pass gave these commands more, in this order, whatever packets it worked off between them. Its entries are in its actor as they
 -- were; it is the same pass, in the same actor, and has counted at most as many posts more.

@@ -14,7 +14,7 @@ use Rattle.chorus_scene.specs.Scene.{Scene, Script}
 use Rattle.chorus_scene.specs.Setup.{setup_commands}
 use Rattle.chorus_nucleus.specs.declared.pass.Pass.{Pass}
 use Rattle.chorus_nucleus.specs.Passes.{known, caller_of}
-use Rattle.chorus_nucleus.specs.Closing.{AreIn}
+use Rattle.law_closing.specs.Actors.{AreIn}
 
 -- Seat 0 has drawn so many numbers besides its own, and no pass has ended in it.
 pub record IsKeeper (drawn : ℕ) (pass : Pass) : Type 0 where

@@ -1,6 +1,6 @@
 //! Seat 0 pumps all places until nothing is left.
 
-ghost use Rattle.std.specs.Prelude.{◌≡◌, ℕ, ◌+◌, [], true, Ok, OnOk};
+ghost use Rattle.std.specs.Prelude.{◌≡◌, ◌<◌, ◌+◌, [], true, Ok, OnOk};
 ghost use Rattle.chorus_ui.specs.Layout.{has_place};
 ghost use Rattle.chorus_nucleus.specs.Passes.{known, layout_of, IsPassOf};
 ghost use Rattle.chorus_perform.specs.Going.{Goes};
@@ -42,7 +42,14 @@ fn round<R: Wait>(rt: &R, nucleus: &Nucleus, pass: &mut Pass) -> Result<bool, Ha
     for index in 0..count {
         visit(rt, nucleus, pass, index, &mut sums)?;
     }
-    Ok(sums.idle && sums.put == sums.worked && sums.put < u64::MAX)
+    Ok(is_over(sums))
+}
+
+/// Whether nothing is left after a round that found this.
+fn is_over(sums: Sums) -> bool
+    ensures { result ≡ true → (sums.idle ≡ true) × (sums.put ≡ sums.worked) × (sums.put < u64.MAX) }
+{
+    sums.idle && sums.put == sums.worked && sums.put < u64::MAX
 }
 
 /// What a round has found so far: whether each place was idle, and the sums of what they put and worked off, up to 2^64 - 1.

@@ -31,26 +31,7 @@ use Rattle.law_machine.specs.Replies.{post_reply}
 use Rattle.place_state.specs.Commands.{Performed}
 use Rattle.place_state.specs.Steps.{posted, told_by}
 use Rattle.place_state.specs.Tables.{Tables, turn}
-use Rattle.chorus_place.specs.CallTurns.{with_call, GaveWithinPosts}
-use Rattle.chorus_place.proofs.Turns.{post-performs}
-
--- p are the tables before room was made, r behind it, and d the caller as it posts the message n, which is m, to the port q
-pub post-done : (command : Command) (m n : Message) (q to : Ui) (p r : Tables) (c d : Seated) (u : Turn) (told : Reply) (id : MsgId)
-    → own command (turn p c) ≡ Act.Post m (Dest.Port q) → to ≡ q → n ≡ m → ((x : Seated) → turn r x ≡ turn p x) → d ≡ after_tag m.tag q m.body c
-    → u ≡ go (direct to) (posted n to (turn r d)) → id ≡ n.id → told ≡ post_reply id u.place.journal → Performed command (turn p c) u told
-post-done command m n q to p r c d u told id o at is room caller e name a =
-    post-performs command m q (turn p c) u told o
-    (e ∙ ap (λ x. go (direct x) (posted n x (turn r d))) at ∙ ap (λ x. go (direct q) (posted x q (turn r d))) is
-    ∙ ap (λ x. go (direct q) (posted m q x)) (room d ∙ ap (turn p) caller))
-    (a ∙ ap (λ x. post_reply x u.place.journal) (name ∙ ap (λ (x : Message). x.id) is))
-
--- the call that is outstanding already stays as it is
-pub same-call : (q back : Ui) (body : List ℕ) (c : Seated) (call : Call) → c.client.outstanding ≡ Some call → c ≡ with_call q back body c
-same-call q back body c call h = by c.client.outstanding h refl
-  where
-    by : (o : Option Call) → o ≡ Some call → c.client.outstanding ≡ o → c ≡ with_call q back body c
-    by None e f = absurd (cc)
-    by (Some x) e f = sym (ap (λ (o : Option Call). record c { client = after_begin (record c.client { outstanding = o }) q back body }) f ∙ ap (λ (o : Option Call). record c { client = record c.client { outstanding = o } }) (sym f))
+use Rattle.chorus_place.specs.CallTurns.{GaveWithinPosts}
 
 -- A turn gives a call number only with a post: what it leaves of a caller's calls and posts.
 

@@ -1,4 +1,2 @@
 pub mod CallTurns
-pub mod Posting
 pub mod Calls
-pub mod Opening

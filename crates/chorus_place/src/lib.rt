@@ -4,20 +4,15 @@
 //! every command and every lawful packet on every layout, and give its reply; what they put waits behind what waited. A refusal
 //! changes nothing, and says why.
 //!
-//! Begin with `place`, then `perform` and `open`, which choose the turn of a command and of a packet. A turn (`turns_*`) takes first
-//! all that can fail, and then goes step by step; those with groups are in `place_turns`. The tables and the steps, with an entry
-//! each, are those of `place_tables`.
+//! Begin with `place`, then `perform`, which chooses the turn of a command. The turns are in `place_turns` and, with groups, in
+//! `place_groups`; the turn of a packet is chosen in `place_packets`. The tables and the steps, with an entry each, are those of
+//! `place_tables`.
 #![tactic(auto)]
 
 mod fault;
-mod open;
 mod perform;
 mod place;
-mod turns_calls;
-mod turns_messages;
-mod turns_ports;
 
 pub use fault::PlaceFault;
 pub use law_machine::{Outcome, Reply};
 pub use place::Place;
-pub use place_outcome::place_for;

@@ -12,14 +12,12 @@ ghost use Rattle.place_state.specs.Commands.{Performed, StaysOut};
 ghost use Rattle.place_state.specs.Room.{KeepsRoom};
 ghost use Rattle.place_state.specs.Tables.{state, turn};
 
-use crate::turns_calls::{call, cancel, retry, send_reply};
-use crate::turns_messages::send_to_port;
-use crate::turns_ports::{delete, make, move_port, take};
 use chorus_calls::Caller;
 use chorus_entry::{Body, Command, Dest};
 use law_machine::Reply;
+use place_groups::{join, leave, make_group, post_to_group};
 use place_tables::Tables;
-use place_turns::{join, leave, make_group, post_to_group};
+use place_turns::{call, cancel, delete, make, move_port, retry, send_reply, send_to_port, take};
 use std::alloc::AllocError;
 
 /// Performs a caller's command. Want of memory changes nothing.

@@ -16,7 +16,6 @@ ghost use Rattle.law_bounds.specs.Bounds.{AreWaitingWithin};
 ghost use Rattle.chorus_place.specs.Calls.{state, is_call, Called, IsWornAt, IsWornBack, MayCall, Stays, TakesNone, WorkedOff};
 
 use crate::fault::PlaceFault;
-use crate::open::open;
 use crate::perform::perform;
 use chorus_calls::Caller;
 use chorus_entry::{Command, Entry, MsgId, Packet};
@@ -26,8 +25,8 @@ use law_bounds::are_within;
 use law_machine::{Outcome, Reply};
 use place_outbox::Outbox;
 use place_outcome::outcome_in;
+use place_packets::{is_lawful, open};
 use place_tables::Tables;
-use place_turns::is_lawful;
 use std::alloc::{AllocError, Global};
 use std::marker::Model;
 

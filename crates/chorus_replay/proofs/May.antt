@@ -10,7 +10,7 @@ use Rattle.chorus_ui.specs.declared.layout.Layout.{Layout}
 use Rattle.chorus_ui.specs.declared.limits.TheConstants.{PORTS_PER_SITE_LIMIT, MEMBERS_LIMIT, BODY_LIMIT}
 use Rattle.chorus_ui.specs.Layout.{IsLayout, has_actor, has_place, places}
 use Rattle.chorus_entry.specs.declared.command.Command.{Command}
-use Rattle.chorus_entry.specs.Kinds.{names_actor, names_group, names_port}
+use Rattle.chorus_ui.specs.NameKind.{is_actor, is_group, is_port}
 use Rattle.chorus_entry.specs.Command.{is_capacity, has_body_in_limit, meets_conditions}
 use Rattle.chorus_entry.specs.Members.{is_member}
 use Rattle.law_network.specs.Network.{Enter, Act, schedule}
@@ -138,9 +138,9 @@ module _ (l : Layout) (version n : ℕ) (N : ℕ) (some : 0 < N) where
 
 -- The setup and the scripts' callers.
 
-actor-parts : (l : Layout) (n : ℕ) (u : Ui) → is_actor_of l n u ≡ true → (names_actor u ≡ true) × (has_actor l u ≡ true)
+actor-parts : (l : Layout) (n : ℕ) (u : Ui) → is_actor_of l n u ≡ true → (is_actor u ≡ true) × (has_actor l u ≡ true)
 actor-parts l n u h =
-    let outer = and_parts (names_actor u && has_actor l u) (is_site n u.site) h in and_parts (names_actor u) (has_actor l u) outer.0
+    let outer = and_parts (is_actor u && has_actor l u) (is_site n u.site) h in and_parts (is_actor u) (has_actor l u) outer.0
 
 setup-needs : (l : Layout) (n : ℕ) (before lines : List SetupLine) → setup_keeps l n before lines ≡ true → NeedsOn l 1 (map Do (map (Act 0) (map setup_command lines)))
 setup-needs l n before [] keeps = tt
@@ -150,7 +150,7 @@ setup-needs l n before (setups.Port actor capacity ∷ lines) keeps =
     let numbered = nat_le (next_port l actor (made_after l [] before)).number PORTS_PER_SITE_LIMIT in
     let outer = and_parts (is_capacity capacity && is_actor_of l n actor) numbered k.0 in
     let inner = and_parts (is_capacity capacity) (is_actor_of l n actor) outer.0 in (
-      (omega arith, (and_from (names_actor actor) (is_capacity capacity) (actor-parts l n actor inner.1).0 inner.0, (refl, inl refl))),
+      (omega arith, (and_from (is_actor actor) (is_capacity capacity) (actor-parts l n actor inner.1).0 inner.0, (refl, inl refl))),
       setup-needs l n (before ++ line ∷ []) lines k.1,
     )
 setup-needs l n before (setups.Group site ∷ lines) keeps =
@@ -160,7 +160,7 @@ setup-needs l n before (setups.Group site ∷ lines) keeps =
 setup-needs l n before (setups.Member group port ∷ lines) keeps =
     let line = setups.Member group port in
     let k = and_parts (setup_line_keeps l n before line) (setup_keeps l n (before ++ line ∷ []) lines) keeps in
-    let two = names_group group && names_port port in
+    let two = is_group group && is_port port in
     let four = two && is_site n group.site && is_site n port.site in
     let six = four && is_member group (made_after l [] before) && is_member port (made_after l [] before) in
     let seven = six && nat_lt (length (members_of group before)) MEMBERS_LIMIT in

@@ -10,7 +10,7 @@ use Rattle.chorus_entry.specs.declared.entry.Entry.{Entry}
 use Rattle.chorus_entry.specs.declared.act.Act as acts
 use Rattle.chorus_entry.specs.Act.{is_command_entry}
 use Rattle.chorus_entry.specs.declared.command.Command.{Command}
-use Rattle.chorus_entry.specs.Kinds.{names_actor}
+use Rattle.chorus_ui.specs.NameKind.{is_actor}
 use Rattle.chorus_entry.specs.Command.{is_post, has_body_in_limit, meets_conditions}
 use Rattle.chorus_world.specs.Views.{by}
 use Rattle.chorus_world.specs.Seats.{posts, posts_after}
@@ -45,7 +45,7 @@ carried-may l (Drain k ∷ ts) es shape may c =
 -- What a task needs, where so many callers have come.
 
 abbrev pub Needs : Layout → ℕ → Task → Type 0
-Needs l n (Do (Enter actor last)) = (names_actor actor ≡ true) × (has_actor l actor ≡ true)
+Needs l n (Do (Enter actor last)) = (is_actor actor ≡ true) × (has_actor l actor ≡ true)
 Needs l n (Do (Act k c)) = (k < n) × ((meets_conditions c ≡ true) × ((has_body_in_limit c ≡ true) × ((is_post c ≡ false) ⊎ (1 ≤ k))))
 Needs l n (Do (Deliver k a b)) = (k < n) × ((has_place l a ≡ true) × ((has_place l b ≡ true) × ((a == b) ≡ false)))
 Needs l n (Drain k) = k < n
@@ -155,7 +155,7 @@ module _ (l : Layout) (shape : IsLayout l) (ts : List Task) (es : List Event) (c
 
   happens : (e : Event) → Needs l (length (actors_by ts)) (Do e) → ((k : ℕ) → 1 ≤ k → length (commands_in k ts) ≤ LOAD_LIMIT) → may_happen e (schedule l es) ≡ true
   happens (Enter actor last) needs few =
-      and_from (names_actor actor) (has_actor (schedule l es).layout actor) needs.0 (ap (λ (z : Layout). has_actor z actor) layout-is ∙ needs.1)
+      and_from (is_actor actor) (has_actor (schedule l es).layout actor) needs.0 (ap (λ (z : Layout). has_actor z actor) layout-is ∙ needs.1)
   happens (Act k c) needs few = gives k c needs (few k)
   happens (Deliver k a b) needs few =
       let n = schedule l es in

@@ -252,8 +252,8 @@ ordered-once l ts s t one other shape a b =
     let same = one-end l ts a.events b.events (worn_clock s) (worn_clock t) shape a.may b.may a.unworn b.unworn (ends-as l ts s a.events a.carried) (ends-as l ts t b.events b.carried) in (
       same.0,
       record {
-        journals = (a.closes).journals ∙ ap journals same.1 ∙ sym (b.closes).journals;
-        rest = (a.closes).rest ∙ ap packets_left same.1 ∙ sym (b.closes).rest;
-        ports = (a.closes).ports ∙ ap placed same.1 ∙ sym (b.closes).ports;
+        journals = (a.closes).left.journals ∙ ap journals same.1 ∙ sym (b.closes).left.journals;
+        rest = (a.closes).left.rest ∙ ap packets_left same.1 ∙ sym (b.closes).left.rest;
+        ports = (a.closes).left.ports ∙ ap placed same.1 ∙ sym (b.closes).left.ports;
       },
     )

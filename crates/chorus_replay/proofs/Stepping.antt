@@ -6,7 +6,7 @@ use Rattle.chorus_ui.specs.declared.layout.Layout.{Layout}
 use Rattle.chorus_ui.specs.declared.limits.TheConstants.{CLOCK_LIMIT}
 use Rattle.chorus_ui.specs.Layout.{IsLayout, has_actor, has_place}
 use Rattle.chorus_ui.specs.declared.ui.Ui.{Ui}
-use Rattle.chorus_entry.specs.Kinds.{names_actor}
+use Rattle.chorus_ui.specs.NameKind.{is_actor}
 use Rattle.chorus_entry.specs.declared.command.Command.{Command}
 use Rattle.chorus_net.specs.declared.closed.Closed.{Closed}
 use Rattle.law_network.specs.Calls as calls
@@ -124,8 +124,8 @@ module _ {l : Layout} {all : List Task} (can : CanBe l all) where
   deliver-may a b rest n before = two-places a b n (step-may (calls.delivering a b) rest n before)
 
   -- a caller that comes
-  pub enter-may : (actor : Ui) (rest : List Task) (n : NetState) → AreLeft l all (Do (calls.entering actor n) ∷ rest) n → (names_actor actor ≡ true) × (has_actor n.layout actor ≡ true)
-  enter-may actor rest n b = and_parts (names_actor actor) (has_actor n.layout actor) (step-may (calls.entering actor n) rest n b)
+  pub enter-may : (actor : Ui) (rest : List Task) (n : NetState) → AreLeft l all (Do (calls.entering actor n) ∷ rest) n → (is_actor actor ≡ true) × (has_actor n.layout actor ≡ true)
+  enter-may actor rest n b = and_parts (is_actor actor) (has_actor n.layout actor) (step-may (calls.entering actor n) rest n b)
 
   pub enter-done : (actor : Ui) (rest : List Task) (n new : NetState) → AreLeft l all (Do (calls.entering actor n) ∷ rest) n → new ≡ happened (calls.entering actor n) n → AreLeft l all rest new
   enter-done actor rest n new b is = step-done (calls.entering actor n) rest n new b is tt (λ past h. first-clock past n h)

@@ -10,7 +10,7 @@ use Rattle.chorus_ui.specs.declared.ui.Ui.{Ui}
 use Rattle.chorus_ui.specs.declared.layout.Layout.{Layout}
 use Rattle.chorus_ui.specs.Layout.{IsLayout, places, has_actor}
 use Rattle.chorus_entry.specs.declared.command.Command.{Command}
-use Rattle.chorus_entry.specs.Kinds.{names_actor}
+use Rattle.chorus_ui.specs.NameKind.{is_actor}
 use Rattle.chorus_world.specs.Views.{by}
 use Rattle.chorus_world.specs.Runs.{is_run}
 use Rattle.chorus_world.specs.Commands.{performs}
@@ -63,11 +63,11 @@ first-there l shape =
     let site : nat_le 1 l.sites ≡ true = le-leb 1 l.sites low in
     ap (λ b. b && true) (ap (λ b. b && true) site)
 
-script-parts : (l : Layout) (version n : ℕ) (script : Script) → script_keeps l version n script ≡ true → (names_actor script.actor ≡ true) × (has_actor l script.actor ≡ true)
+script-parts : (l : Layout) (version n : ℕ) (script : Script) → script_keeps l version n script ≡ true → (is_actor script.actor ≡ true) × (has_actor l script.actor ≡ true)
 script-parts l version n script h =
     let few = and_parts (is_actor_of l n script.actor && nat_le (length script.commands) COMMANDS_LIMIT) (list_all (command_keeps l version n) script.commands) h in
     let who = and_parts (is_actor_of l n script.actor) (nat_le (length script.commands) COMMANDS_LIMIT) few.0 in
-    and_parts (names_actor script.actor) (has_actor l script.actor) (and_parts (names_actor script.actor && has_actor l script.actor) (is_site n script.actor.site) who.0).0
+    and_parts (is_actor script.actor) (has_actor l script.actor) (and_parts (is_actor script.actor && has_actor l script.actor) (is_site n script.actor.site) who.0).0
 
 actor-at : (c : Scene) (i : ℕ) (script : Script) → slice_get c.scripts i ≡ Some script → callers_of c (suc i) ≡ Some script.actor
 actor-at c i script h =
@@ -77,18 +77,18 @@ commands-at : (c : Scene) (i : ℕ) (script : Script) → slice_get c.scripts i 
 commands-at c i script h =
     slice_get-map (λ (s : Script). s.commands) c.scripts i ∙ ap (option_map (λ (s : Script). s.commands)) h
 
-actors-fit : (c : Scene) → IsLayout c.layout → Keeps c → (q : ℕ) → (names_actor (actors_of c q) ≡ true) × (has_actor c.layout (actors_of c q) ≡ true)
+actors-fit : (c : Scene) → IsLayout c.layout → Keeps c → (q : ℕ) → (is_actor (actors_of c q) ≡ true) × (has_actor c.layout (actors_of c q) ≡ true)
 actors-fit c shape keeps zero = (refl, first-there c.layout shape)
 actors-fit c shape keeps (suc i) = go (slice_get c.scripts i) refl
   where
-    go : (o : Option Script) → slice_get c.scripts i ≡ o → (names_actor (actors_of c (suc i)) ≡ true) × (has_actor c.layout (actors_of c (suc i)) ≡ true)
+    go : (o : Option Script) → slice_get c.scripts i ≡ o → (is_actor (actors_of c (suc i)) ≡ true) × (has_actor c.layout (actors_of c (suc i)) ≡ true)
     go None e =
         let is : actors_of c (suc i) ≡ first_actor = ap (λ (o : Option Ui). unwrap_or o first_actor) (slice_get-map (λ (s : Script). s.actor) c.scripts i ∙ ap (option_map (λ (s : Script). s.actor)) e) in
-        (ap names_actor is, ap (has_actor c.layout) is ∙ first-there c.layout shape)
+        (ap is_actor is, ap (has_actor c.layout) is ∙ first-there c.layout shape)
     go (Some script) e =
         let is : actors_of c (suc i) ≡ script.actor = ap (λ (o : Option Ui). unwrap_or o first_actor) (actor-at c i script e) in
         let fits = script-parts c.layout c.version c.sites script (all-get (script_keeps c.layout c.version c.sites) c.scripts i script keeps.scripts e) in
-        (ap names_actor is ∙ fits.0, ap (has_actor c.layout) is ∙ fits.1)
+        (ap is_actor is ∙ fits.0, ap (has_actor c.layout) is ∙ fits.1)
 
 -- The notes, the latest first, are of the scripts in their order.
 

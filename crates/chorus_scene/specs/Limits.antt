@@ -9,7 +9,7 @@ use Rattle.chorus_entry.specs.declared.dest.Dest.{Dest}
 use Rattle.chorus_entry.specs.declared.dest.Dest.TheVariants as dests
 use Rattle.chorus_entry.specs.declared.command.Command.{Command}
 use Rattle.chorus_entry.specs.declared.command.Command.TheVariants as commands
-use Rattle.chorus_entry.specs.Kinds.{names_actor, names_port, names_group}
+use Rattle.chorus_ui.specs.NameKind.{is_actor, is_port, is_group}
 use Rattle.chorus_entry.specs.Command.{is_capacity, meets_conditions}
 use Rattle.chorus_entry.specs.Members.{is_member}
 use Rattle.chorus_scene.specs.declared.scenario.SetupLine.{SetupLine}
@@ -27,7 +27,7 @@ is_site n site = nat_le 1 site && nat_le site n
 
 -- an actor that the layout has, on one of n sites
 abbrev pub is_actor_of : Layout → ℕ → Ui → Bool
-is_actor_of l n actor = names_actor actor && has_actor l actor && is_site n actor.site
+is_actor_of l n actor = is_actor actor && has_actor l actor && is_site n actor.site
 
 -- one of the places of n sites
 abbrev pub is_place_of : Layout → ℕ → ℕ → Bool
@@ -83,7 +83,7 @@ setup_line_keeps l n before (setups.Port actor capacity) =
 setup_line_keeps l n before (setups.Group site) =
     is_site n site && nat_le (next_group l site (made_after l [] before)).number GROUPS_PER_SITE_LIMIT
 setup_line_keeps l n before (setups.Member group port) =
-    names_group group && names_port port && is_site n group.site && is_site n port.site
+    is_group group && is_port port && is_site n group.site && is_site n port.site
     && is_member group (made_after l [] before) && is_member port (made_after l [] before)
     && nat_lt (length (members_of group before)) MEMBERS_LIMIT && not (is_member port (members_of group before))
 

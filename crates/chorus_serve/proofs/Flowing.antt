@@ -1,6 +1,6 @@
 -- What goes out and what comes in, step by step.
 -- p is a place, ls, ms and ns are the packets that wait, by place; k, l and m are what the ends show, one after the other.
-use Rattle.std.proofs.Common.{ℕ, zero, suc, ◌≡◌, ◌≢◌, ◌+◌, ◌-◌, ◌^◌, ◌<◌, ◌≤◌, ◌==◌, Bool, true, false, nat_lt, cond, List, [], ◌∷◌, ◌++◌, length, drop, Option, Some, None, slice_get, refl, sym, ◌∙◌, ap, subst, inl, inr, arith, append_assoc}
+use Rattle.std.proofs.Common.{ℕ, zero, suc, ◌≡◌, ◌≢◌, ◌+◌, ◌-◌, ◌^◌, ◌<◌, ◌≤◌, ◌==◌, Bool, true, false, nat_lt, cond, List, [], ◌∷◌, ◌++◌, length, drop, Option, Some, None, slice_get, map, option_to_list, refl, sym, ◌∙◌, ap, subst, inl, inr, arith, append_assoc}
 use Rattle.std.proofs.lemmas.Bool.{eq-eqb, ne_eqb, eqb-true, eqb-false, ltb-true, ltb-false}
 use Rattle.std.specs.Option.{unwrap_or}
 use Rattle.std.proofs.lemmas.List.{append-nil, length-set, get_or-set_same, get_or-set_other}
@@ -11,7 +11,9 @@ use Rattle.law_machine.specs.PlaceState.{PlaceState, Outgoing}
 use Rattle.chorus_place.specs.Calls.{Place, state, with_all}
 use Rattle.chorus_io.specs.Count.{Rose}
 use Rattle.chorus_ends.specs.Links.{Links, Counts, Sends, Receives, MovesNothing}
-use Rattle.chorus_serve.specs.Flows.{puts_to, from_place, ComesNext, IsOther, GoesOut, Pushes, KeepsAtFull, Takes}
+use Rattle.law_history.specs.Turns.{puts_to, from_place}
+use Rattle.law_history.specs.PlaceTurns.{as_sent}
+use Rattle.chorus_serve.specs.Flows.{ComesNext, IsOther, GoesOut, Pushes, KeepsAtFull, Takes}
 
 -- Counts.
 
@@ -214,22 +216,29 @@ full-more to q r s k l m a b before here p o lt = by (p == to) refl
 
 -- What a turn puts waits behind what waited.
 
-last-at : (p : ℕ) (o : Outgoing) (ls : List (List Packet)) → p < length ls → list_to p (with_last o.to o.packet ls) ≡ list_to p ls ++ puts_to p (o ∷ [])
-last-at p o ls lt = by (p == o.to) refl
+eqb-swap : (a b : ℕ) → (a == b) ≡ (b == a)
+eqb-swap a b = by (a == b) refl
   where
-    by : (b : Bool) → (p == o.to) ≡ b → list_to p (with_last o.to o.packet ls) ≡ list_to p ls ++ cond b (o.packet ∷ []) []
+    by : (c : Bool) → (a == b) ≡ c → (a == b) ≡ (b == a)
+    by true e = e ∙ sym (eq-eqb b a (sym (eqb-true a b e)))
+    by false e = e ∙ sym (ne_eqb b a (λ same. eqb-false a b e (sym same)))
+
+last-at : (p : ℕ) (o : Outgoing) (ls : List (List Packet)) → p < length ls → list_to p (with_last o.to o.packet ls) ≡ list_to p ls ++ puts_to p (as_sent o ∷ [])
+last-at p o ls lt = by (o.to == p) refl
+  where
+    by : (b : Bool) → (o.to == p) ≡ b → list_to p (with_last o.to o.packet ls) ≡ list_to p ls ++ cond b (o.packet ∷ []) []
     by true t =
-        let is = eqb-true p o.to t in
+        let is = sym (eqb-true o.to p t) in
         ap (λ q. list_to q (with_last o.to o.packet ls)) is
         ∙ get_or-set_same ls o.to (list_to o.to ls ++ o.packet ∷ []) [] (subst (λ q. q < length ls) is lt)
         ∙ sym (ap (λ q. list_to q ls ++ o.packet ∷ []) is)
     by false f =
-        get_or-set_other ls o.to p (list_to o.to ls ++ o.packet ∷ []) [] (eqb-false p o.to f) ∙ sym (append-nil (list_to p ls))
+        get_or-set_other ls o.to p (list_to o.to ls ++ o.packet ∷ []) [] (λ e. eqb-false o.to p f (sym e)) ∙ sym (append-nil (list_to p ls))
 
-puts-more : (p : ℕ) (o : Outgoing) (os : List Outgoing) → puts_to p (o ∷ []) ++ puts_to p os ≡ puts_to p (o ∷ os)
-puts-more p o os = by (p == o.to)
+puts-more : (p : ℕ) (o : Outgoing) (os : List Outgoing) → puts_to p (as_sent o ∷ []) ++ puts_to p (map as_sent os) ≡ puts_to p (map as_sent (o ∷ os))
+puts-more p o os = by (o.to == p)
   where
-    by : (b : Bool) → cond b (o.packet ∷ []) [] ++ puts_to p os ≡ cond b (o.packet ∷ puts_to p os) (puts_to p os)
+    by : (b : Bool) → cond b (o.packet ∷ []) [] ++ puts_to p (map as_sent os) ≡ cond b (o.packet ∷ puts_to p (map as_sent os)) (puts_to p (map as_sent os))
     by true = refl
     by false = refl
 
@@ -237,12 +246,12 @@ pub all-length : (os : List Outgoing) (ls : List (List Packet)) → length (with
 all-length [] ls = refl
 all-length (o ∷ os) ls = all-length os (with_last o.to o.packet ls) ∙ length-set ls o.to (list_to o.to ls ++ o.packet ∷ [])
 
-pub all-wait : (p : ℕ) (os : List Outgoing) (ls : List (List Packet)) → p < length ls → list_to p (with_all os ls) ≡ list_to p ls ++ puts_to p os
+pub all-wait : (p : ℕ) (os : List Outgoing) (ls : List (List Packet)) → p < length ls → list_to p (with_all os ls) ≡ list_to p ls ++ puts_to p (map as_sent os)
 all-wait p [] ls lt = sym (append-nil (list_to p ls))
 all-wait p (o ∷ os) ls lt =
     all-wait p os (with_last o.to o.packet ls) (subst (λ n. p < n) (sym (length-set ls o.to (list_to o.to ls ++ o.packet ∷ []))) lt)
-    ∙ ap (λ xs. xs ++ puts_to p os) (last-at p o ls lt)
-    ∙ append_assoc (list_to p ls) (puts_to p (o ∷ [])) (puts_to p os)
+    ∙ ap (λ xs. xs ++ puts_to p (map as_sent os)) (last-at p o ls lt)
+    ∙ append_assoc (list_to p ls) (puts_to p (as_sent o ∷ [])) (puts_to p (map as_sent os))
     ∙ ap (λ xs. list_to p ls ++ xs) (puts-more p o os)
 
 -- What comes in.
@@ -258,7 +267,7 @@ pub takes-self : (k : Links) → Takes None k k
 takes-self k = takes-missed k k (record { sent = λ p. refl; received = λ p. refl }) (counts-self k)
 
 pub takes-found : (from : ℕ) (x : Packet) (k l : Links) → Receives from x k l → Counts k l → Takes (Some (from, x)) k l
-takes-found from x k l r c = record { received = λ p. r.received p ∙ by p (p == from); sent = r.sent; counts = c }
+takes-found from x k l r c = record { received = λ p. r.received p ∙ ap (λ c. cond c (k.received p ++ x ∷ []) (k.received p)) (eqb-swap p from) ∙ by p (from == p); sent = r.sent; counts = c }
   where
     by : (p : ℕ) (b : Bool) → cond b (k.received p ++ x ∷ []) (k.received p) ≡ k.received p ++ cond b (x ∷ []) []
     by p true = refl
@@ -266,7 +275,7 @@ takes-found from x k l r c = record { received = λ p. r.received p ∙ by p (p 
 
 pub takes-on : (o : Option (ℕ × Packet)) (k l m : Links) → Takes None k l → Takes o l m → Takes o k m
 takes-on o k l m a b = record {
-  received = λ p. b.received p ∙ ap (λ xs. xs ++ from_place p o) (a.received p ∙ append-nil (k.received p));
+  received = λ p. b.received p ∙ ap (λ xs. xs ++ from_place p (option_to_list o)) (a.received p ∙ append-nil (k.received p));
   sent = λ p. b.sent p ∙ a.sent p;
   counts = counts-on k l m a.counts b.counts;
 }

@@ -1,7 +1,7 @@
 -- The parts of a call of `serve`, put together.
 -- a, b, c, d and e are the desk before it, when what waited was sent, when a packet is in hand, when it is taken out, and at the
 -- end; w and x are the caller before and after, k is the packet.
-use Rattle.std.proofs.Common.{ℕ, ◌≡◌, ◌+◌, ◌<◌, ◌≤◌, ◌==◌, ◌⊎◌, nat_le, true, ◌&&◌, not, length, List, [], ◌∷◌, ◌++◌, Option, Some, None, refl, sym, ◌∙◌, ap, subst, inl, inr, arith, Result, Ok, Err, IfOk, OnOk, OnErr, max}
+use Rattle.std.proofs.Common.{ℕ, ◌≡◌, ◌+◌, ◌<◌, ◌≤◌, ◌==◌, ◌⊎◌, nat_le, true, ◌&&◌, not, length, map, List, [], ◌∷◌, ◌++◌, Option, Some, None, refl, sym, ◌∙◌, ap, subst, inl, inr, arith, Result, Ok, Err, IfOk, OnOk, OnErr, max}
 use Rattle.std.specs.Prelude.{option_to_list}
 use Rattle.std.proofs.lemmas.Bool.{and_from, and_parts, le-leb, leb-true, eqb-true}
 use Rattle.std.proofs.lemmas.List.{append-nil, length-replicate}
@@ -24,10 +24,12 @@ use Rattle.chorus_serve.specs.declared.pump.Pump.{Pump}
 use Rattle.chorus_serve.specs.declared.pump.Pump.TheVariants as pumps
 use Rattle.chorus_io.specs.Count.{raised}
 use Rattle.chorus_ends.specs.Links.{Links, Counts}
-use Rattle.chorus_serve.specs.Flows.{IsOther, Pushes, GoesOut, KeepsAtFull, EmptiesOrFull, WasEmpty, ComesNext, puts_to, from_place, last_from}
+use Rattle.law_history.specs.Turns.{puts_to, from_place}
+use Rattle.law_history.specs.PlaceTurns.{as_sent}
+use Rattle.chorus_serve.specs.Flows.{IsOther, Pushes, GoesOut, KeepsAtFull, EmptiesOrFull, WasEmpty, ComesNext, last_from}
 use Rattle.chorus_serve.specs.Desks.{DeskState, IsDesk, in_hand}
 use Rattle.chorus_serve.specs.declared.held.Held.{Held}
-use Rattle.chorus_serve.specs.Working.{begins_with, AreCounted, Holds, IsWorkedOff, IsHeldBack, DealsWith, IsWornAt}
+use Rattle.chorus_serve.specs.Working.{begins_with, AreCounted, Performs, Holds, IsWorkedOff, IsHeldBack, HandlesPacket, IsWornAt}
 use Rattle.chorus_serve.specs.Serving.{Moved, Rests, WorksOff, KeepsInHand, IsIdle, Answers, IsWornBy, SendsOut, TakesUp, FindsNone, LaysDown}
 use Rattle.chorus_serve.proofs.Flowing.{counts-self, counts-on, rose-on, rose-behind, comes-behind, goes-nothing, goes-on, all-length, all-wait}
 
@@ -116,12 +118,12 @@ module _ (a b c : DeskState) (s : SendsOut a b) (t : TakesUp b c) where
 
   -- whatever was done with the packet in hand
   pub all-moved : (e : DeskState) (served : Option (ℕ × Packet)) (puts : List Outgoing)
-      → ((p : ℕ) → has_place a.place.layout p ≡ true → GoesOut p (puts_to p puts) c.place.out.lists e.place.out.lists c.links e.links)
+      → ((p : ℕ) → has_place a.place.layout p ≡ true → GoesOut p (puts_to p (map as_sent puts)) c.place.out.lists e.place.out.lists c.links e.links)
       → e.links ≡ c.links → e.last ≡ c.last → AreCounted puts c e → option_to_list served ++ option_to_list e.hand ≡ option_to_list c.hand → Moved served puts a e
   all-moved e served puts waits links last counted hand = record {
-    out = λ p h. goes-on p [] (puts_to p puts) a.place.out.lists c.place.out.lists e.place.out.lists a.links c.links e.links (taken-out p) (waits p h);
+    out = λ p h. goes-on p [] (puts_to p (map as_sent puts)) a.place.out.lists c.place.out.lists e.place.out.lists a.links c.links e.links (taken-out p) (waits p h);
     popped = t.popped;
-    received = λ p. ap (λ (l : Links). l.received p) links ∙ t.takes.received p ∙ ap (λ xs. xs ++ from_place p t.popped) (s.received p);
+    received = λ p. ap (λ (l : Links). l.received p) links ∙ t.takes.received p ∙ ap (λ xs. xs ++ from_place p (option_to_list t.popped)) (s.received p);
     hand = hand ∙ t.hand ∙ ap (λ o. option_to_list o ++ option_to_list t.popped) s.hand;
     next = subst (λ m. ComesNext a.place.layout a.place.number a.last t.popped a.links m) (sym links) taken-next;
     last = last ∙ t.last ∙ ap (λ n. last_from n t.popped) s.last;
@@ -200,11 +202,11 @@ module _ (a b c : DeskState) (s : SendsOut a b) (t : TakesUp b c) where
       worked = h.worked ∙ ap raised (l.worked ∙ taken-worked);
     }
       where
-        waits : (p : ℕ) → has_place a.place.layout p ≡ true → GoesOut p (puts_to p (work k (begins_with k a w)).puts) c.place.out.lists e.place.out.lists c.links e.links
+        waits : (p : ℕ) → has_place a.place.layout p ≡ true → GoesOut p (puts_to p (map as_sent (work k (begins_with k a w)).puts)) c.place.out.lists e.place.out.lists c.links e.links
         waits p here =
-            subst (λ z. GoesOut p (puts_to p (work k (begun_by z w k)).puts) c.place.out.lists e.place.out.lists c.links e.links) laid-state
-            (subst (λ (q : Place). GoesOut p (puts_to p (work k (begins_with k d w)).puts) q.out.lists e.place.out.lists c.links e.links) l.place
-            (subst (λ m. GoesOut p (puts_to p (work k (begins_with k d w)).puts) d.place.out.lists e.place.out.lists m e.links) l.links
+            subst (λ z. GoesOut p (puts_to p (map as_sent (work k (begun_by z w k)).puts)) c.place.out.lists e.place.out.lists c.links e.links) laid-state
+            (subst (λ (q : Place). GoesOut p (puts_to p (map as_sent (work k (begins_with k d w)).puts)) q.out.lists e.place.out.lists c.links e.links) l.place
+            (subst (λ m. GoesOut p (puts_to p (map as_sent (work k (begins_with k d w)).puts)) d.place.out.lists e.place.out.lists m e.links) l.links
             (h.out p (subst (λ (z : PlaceState). has_place z.layout p ≡ true) (sym laid-state) here))))
 
         counted : AreCounted (work k (begins_with k a w)).puts c e
@@ -224,21 +226,21 @@ module _ (a b c : DeskState) (s : SendsOut a b) (t : TakesUp b c) where
       emptied = sent;
     }
 
-    pub dealt-answers : (pump : Pump) → DealsWith pump from k d e w x → Answers pump a e w x
-    dealt-answers (pumps.Served served) h = (k, subst (λ n. WorksOff n k a e w x ⊎ KeepsInHand n k a e w x) (sym h.0) (by h.2))
+    pub handled-answers : (pump : Pump) → HandlesPacket pump from k d e w x → Answers pump a e w x
+    handled-answers (pumps.Served served) h = (k, subst (λ n. WorksOff n k a e w x ⊎ KeepsInHand n k a e w x) (sym h.0) (by h.2))
       where
         by : IsWorkedOff from k d e w x ⊎ IsHeldBack from k d e w x → WorksOff from k a e w x ⊎ KeepsInHand from k a e w x
         by (inl worked) = inl (worked-off h.1 worked)
         by (inr held) = inr (held-back h.1 held)
-    dealt-answers (pumps.Idle put worked) h = absurd h
+    handled-answers (pumps.Idle put worked) h = absurd h
 
-    dealt-links : (pump : Pump) → DealsWith pump from k d e w x → e.links ≡ d.links
-    dealt-links (pumps.Served served) h = by h.2
+    handled-links : (pump : Pump) → HandlesPacket pump from k d e w x → e.links ≡ d.links
+    handled-links (pumps.Served served) h = by h.2
       where
         by : IsWorkedOff from k d e w x ⊎ IsHeldBack from k d e w x → e.links ≡ d.links
         by (inl worked) = worked.links
         by (inr held) = held.holds.links
-    dealt-links (pumps.Idle put worked) h = absurd h
+    handled-links (pumps.Idle put worked) h = absurd h
 
     module _ (before : (p : ℕ) → IsOther a.place.layout a.place.number p → EmptiesOrFull p a.place.out.lists a.links b.links) where
       still-emptied : e.links ≡ d.links → (p : ℕ) → IsOther a.place.layout a.place.number p → EmptiesOrFull p a.place.out.lists a.links e.links
@@ -246,9 +248,9 @@ module _ (a b c : DeskState) (s : SendsOut a b) (t : TakesUp b c) where
           subst (λ m. EmptiesOrFull p a.place.out.lists a.links m) (sym (same ∙ l.links))
           (emptied-on p a.place.out.lists a.links b.links c.links (t.takes.sent p) (t.takes.counts.fulls p) (before p o))
 
-      pub ok-emptied : (result : Result Pump PlaceFault) → IfOk result (λ pump. DealsWith pump from k d e w x)
+      pub ok-emptied : (result : Result Pump PlaceFault) → IfOk result (λ pump. HandlesPacket pump from k d e w x)
           → OnOk result ((p : ℕ) → IsOther a.place.layout a.place.number p → EmptiesOrFull p a.place.out.lists a.links e.links)
-      ok-emptied (Ok pump) h = still-emptied (dealt-links pump h)
+      ok-emptied (Ok pump) h = still-emptied (handled-links pump h)
       ok-emptied (Err fault) h = tt
 
       pub err-worn : (result : Result Pump PlaceFault) (fault : PlaceFault) (clock : ℕ) → result ≡ Err fault → IsWornAt clock k d w → OnErr result (Holds from k d e w x) → IsWornBy clock a e w
@@ -323,11 +325,20 @@ desk-started l n q k reaches st lists = record {
 
 -- what was put in a turn with a packet waits
 pub turn-waits : (q r : Place) (k : Links) (os : List Outgoing) → IsDesk q k → r.out.lists ≡ with_all os q.out.lists → (p : ℕ) → has_place q.layout p ≡ true
-    → GoesOut p (puts_to p os) q.out.lists r.out.lists k k
+    → GoesOut p (puts_to p (map as_sent os)) q.out.lists r.out.lists k k
 turn-waits q r k os h lists p here = record {
   pushed = [];
   sent = sym (append-nil (k.sent p));
   waits = ap (list_to p) lists ∙ all-wait p os q.out.lists (let n = h.lists in let m = place-most q.layout p here in omega (arith, n, m));
+}
+
+-- a command was performed, and no link was touched
+pub performs : (a e : DeskState) (x : Command) (r : Reply) (w v : Seated) → IsDesk a.place a.links → e.links ≡ a.links → Called a.place e.place w v x r → Performs x r a e w v
+performs a e x r w v h same ok = record {
+  called = ok;
+  out = λ p here.
+      subst (λ (k : Links). GoesOut p (puts_to p (map as_sent (act x (begun (state a.place) w)).puts)) a.place.out.lists e.place.out.lists a.links k) (sym same)
+      (turn-waits a.place e.place a.links (act x (begun (state a.place) w)).puts h ok.ended.waits p here);
 }
 
 -- a lawful packet is one by the place that it says it is from
@@ -360,11 +371,11 @@ on-err (Err e) q = q
 pub compares : (own last heard : ℕ) (a b c d : ℕ) → a ≡ own → b ≡ last → c ≡ max b heard → d ≡ max a c → d ≡ max own (max last heard)
 compares own last heard a b c d x y z v = v ∙ ap (λ n. max n c) x ∙ ap (max own) (z ∙ ap (λ n. max n heard) y)
 
-pub deals-worked : (from : ℕ) (k : Packet) (q r : Place) (links : Links) (was : Option (ℕ × Packet)) (last count more : ℕ) (w x : Seated)
+pub handled-worked : (from : ℕ) (k : Packet) (q r : Place) (links : Links) (was : Option (ℕ × Packet)) (last count more : ℕ) (w x : Seated)
     → IsDesk q links → was ≡ None → is_lawful from k (state q) ≡ true → greatest_clock (begun_by (state q) w k) < CLOCK_LIMIT → WorkedOff q r w x k → more ≡ raised count
-    → DealsWith (pumps.Served from) from k (record { place = q; links = links; hand = was; last = last; worked = count })
+    → HandlesPacket (pumps.Served from) from k (record { place = q; links = links; hand = was; last = last; worked = count })
     (record { place = r; links = links; hand = was; last = last; worked = more }) w x
-deals-worked from k q r links was last count more w x h none lawful unworn done counted = (
+handled-worked from k q r links was last count more w x h none lawful unworn done counted = (
   refl,
   unworn,
   inl (record {

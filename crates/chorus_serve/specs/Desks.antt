@@ -36,6 +36,11 @@ abbrev pub in_hand : {P : Type 0} → (P → Packet) → Option (Held P) → Opt
 in_hand packet None = None
 in_hand packet (Some held) = Some (held.from, packet_in packet held.content)
 
+-- the place from which what is in hand came
+abbrev pub from_in : {P : Type 0} → Option (Held P) → Option ℕ
+from_in None = None
+from_in (Some held) = Some held.from
+
 -- the packet in hand where it is opened, and the parcel where it is not
 abbrev pub opened_in : {P : Type 0} → Option (Held P) → Option Packet
 opened_in None = None

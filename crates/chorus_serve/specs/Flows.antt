@@ -1,11 +1,11 @@
 -- What goes out, and what comes in.
 -- p is a place, ls are the packets that wait, by the places that they go to; old and new are what the ends show.
-use Rattle.std.specs.Prelude.{ℕ, ◌≡◌, ◌≢◌, ◌<◌, ◌≤◌, ◌==◌, ◌⊎◌, if◌then◌else◌, Bool, true, false, List, [], ◌∷◌, ◌++◌, length, Option, Some, None}
+use Rattle.std.specs.Prelude.{ℕ, ◌≡◌, ◌≢◌, ◌<◌, ◌≤◌, ◌⊎◌, Bool, true, false, List, [], ◌++◌, length, Option, Some, None, option_to_list}
 use Rattle.chorus_ui.specs.declared.layout.Layout.{Layout}
 use Rattle.chorus_ui.specs.Layout.{has_place}
 use Rattle.chorus_entry.specs.declared.packet.Packet.{Packet}
 use Rattle.place_outbox.specs.Waiting.{list_to}
-use Rattle.law_machine.specs.PlaceState.{Outgoing}
+use Rattle.law_history.specs.Turns.{from_place}
 use Rattle.chorus_place.specs.Calls.{Place, state}
 use Rattle.chorus_io.specs.Count.{Rose}
 use Rattle.chorus_ends.specs.Links.{Links, Counts}
@@ -14,16 +14,6 @@ use Rattle.chorus_ends.specs.Links.{Links, Counts}
 pub record IsOther (l : Layout) (number p : ℕ) : Type 0 where
   pub place : has_place l p ≡ true
   pub other : p ≢ number
-
--- of packets that are put, those for the place
-abbrev pub puts_to : ℕ → List Outgoing → List Packet
-puts_to p [] = []
-puts_to p (o ∷ os) = if p == o.to then o.packet ∷ puts_to p os else puts_to p os
-
--- the packet, if there is one, where it came from the place
-abbrev pub from_place : ℕ → Option (ℕ × Packet) → List Packet
-from_place p None = []
-from_place p (Some (from, packet)) = if p == from then packet ∷ [] else []
 
 -- what was sent to the place, followed by what then waits for it, is what waited followed by what was put
 pub record GoesOut (p : ℕ) (put : List Packet) (before after : List (List Packet)) (old new : Links) : Type 0 where
@@ -45,7 +35,7 @@ WasEmpty p old new = Rose (old.empties p) (new.empties p)
 
 -- at most this packet was received, and nothing was sent
 pub record Takes (popped : Option (ℕ × Packet)) (old new : Links) : Type 0 where
-  pub received : (p : ℕ) → new.received p ≡ old.received p ++ from_place p popped
+  pub received : (p : ℕ) → new.received p ≡ old.received p ++ from_place p (option_to_list popped)
   pub sent : (p : ℕ) → new.sent p ≡ old.sent p
   pub counts : Counts old new
 

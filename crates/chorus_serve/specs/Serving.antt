@@ -12,7 +12,8 @@ use Rattle.chorus_io.specs.Count.{raised}
 use Rattle.chorus_ends.specs.Links.{Counts}
 use Rattle.chorus_serve.specs.declared.pump.Pump.{Pump}
 use Rattle.chorus_serve.specs.declared.pump.Pump.TheVariants as pumps
-use Rattle.chorus_serve.specs.Flows.{IsOther, GoesOut, EmptiesOrFull, Takes, WasEmpty, ComesNext, last_from, from_place}
+use Rattle.law_history.specs.Turns.{from_place}
+use Rattle.chorus_serve.specs.Flows.{IsOther, GoesOut, EmptiesOrFull, Takes, WasEmpty, ComesNext, last_from}
 use Rattle.chorus_serve.specs.Desks.{DeskState}
 use Rattle.chorus_serve.specs.Working.{begins_with, GoOut, AreCounted}
 
@@ -22,7 +23,7 @@ use Rattle.chorus_serve.specs.Working.{begins_with, GoOut, AreCounted}
 pub record Moved (done : Option (ℕ × Packet)) (puts : List Outgoing) (old new : DeskState) : Type 0 where
   pub out : GoOut puts old new
   pub popped : Option (ℕ × Packet)
-  pub received : (p : ℕ) → new.links.received p ≡ old.links.received p ++ from_place p popped
+  pub received : (p : ℕ) → new.links.received p ≡ old.links.received p ++ from_place p (option_to_list popped)
   pub hand : option_to_list done ++ option_to_list new.hand ≡ option_to_list old.hand ++ option_to_list popped
   pub next : ComesNext old.place.layout old.place.number old.last popped old.links new.links
   pub last : new.last ≡ last_from old.last popped

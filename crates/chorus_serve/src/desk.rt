@@ -8,10 +8,11 @@ ghost use Rattle.place_outbox.specs.Waiting.{nothing_to, count};
 ghost use Rattle.law_machine.specs.PlaceState.{started, greatest_clock};
 ghost use Rattle.law_machine.specs.PlaceMachine.{begun};
 ghost use Rattle.law_bounds.specs.Bounds.{AreWaitingWithin};
-ghost use Rattle.chorus_place.specs.Calls.{state, is_call, Called, MayCall, Stays, TakesNone};
+ghost use Rattle.chorus_place.specs.Calls.{state, is_call, IsWornAt, MayCall, Stays, TakesNone};
 ghost use Rattle.chorus_place.specs.declared.fault.PlaceFault.TheVariants as PlaceFault;
-ghost use Rattle.chorus_serve.specs.Desks.{SameHands, opened_in, sealed_in, packet_of, parcel_of, with_hand};
+ghost use Rattle.chorus_serve.specs.Desks.{SameHands, seen, from_in, opened_in, sealed_in, packet_of, parcel_of, with_hand};
 ghost use Rattle.chorus_serve.specs.Flows.{IsOther};
+ghost use Rattle.chorus_serve.specs.Working.{Performs};
 
 use crate::held::{Content, Held};
 use chorus_calls::Caller;
@@ -60,6 +61,8 @@ pub struct Parts<E: Ends> {
     pub journal: Vec<Entry>,
     /// The packets that wait to go to other places.
     pub out: Outbox,
+    /// The number of the place from which the packet in hand came, if there is one.
+    pub from: Option<u16>,
     /// The packet in hand, where it was opened.
     pub hand: Option<Packet>,
     /// What was in hand, where it was not opened.
@@ -89,6 +92,16 @@ fn split_hand<P>(hand: Option<Held<P>>) -> (Option<Packet>, Option<P>)
     match hand {
         Some(Held { from: _, content }) => split(content),
         None => (None, None),
+    }
+}
+
+/// The place from which what is in hand came, if anything.
+fn came_from<P>(hand: &Option<Held<P>>) -> Option<u16>
+    ensures { result ≡ from_in hand.now }
+{
+    match hand {
+        Some(held) => Some(held.from),
+        None => None,
     }
 }
 
@@ -171,16 +184,15 @@ impl<E: Ends> Desk<E> {
         self.place.reserve(more)
     }
 
-    /// Performs a caller's command as [`Place::act`] does. It touches no link.
+    /// Performs a caller's command as [`Place::act`] does. What it puts waits behind what waited; it touches no link.
     pub fn act(&mut self, caller: &mut Caller, command: Command) -> Result<Reply, PlaceFault>
         requires may { MayCall (state self.old.place) caller.old command }
         requires posts { is_post command ≡ true → caller.old.posts < u32.MAX }
         requires given { is_call command ≡ true → caller.old.client.given < u32.MAX }
-        ensures called { IfOk result (λ r.
-            Called self.old.place self.new.place caller.old caller.new command r) }
+        ensures performed { IfOk result (λ r. Performs command r (seen E.links E.packet self.old)
+            (seen E.links E.packet self.new) caller.old caller.new) }
         ensures worn { (clock : ℕ) → IsErrOf result (PlaceFault.Worn clock) ↔
-            ((CLOCK_LIMIT ≤ greatest_clock (begun (state self.old.place) caller.old))
-            × (clock ≡ greatest_clock (begun (state self.old.place) caller.old))) }
+            IsWornAt clock (begun (state self.old.place) caller.old) }
         ensures refused { OnErr result
             (Stays self.old.place self.new.place × (caller.new ≡ caller.old)) }
         ensures takes_no_memory { TakesNone command (state self.old.place) caller.old →
@@ -197,6 +209,7 @@ impl<E: Ends> Desk<E> {
         ensures out { result.out.lists ≡ self.place.out.lists }
         ensures ranges { AreWaitingWithin result.out.lists }
         ensures ports { result.ports.records ≡ self.place.ports }
+        ensures from { result.from ≡ from_in self.hand }
         ensures hand { result.hand ≡ opened_in self.hand }
         ensures parcel { result.parcel ≡ sealed_in self.hand }
         ensures ends { result.ends ≡ self.ends }
@@ -209,10 +222,12 @@ impl<E: Ends> Desk<E> {
             worked: _,
         } = self;
         let (journal, out, ports) = place.finish();
+        let from = came_from(&hand);
         let (hand, parcel) = split_hand(hand);
         Parts {
             journal,
             out,
+            from,
             hand,
             parcel,
             ports,

@@ -10,7 +10,7 @@ use crate::desk::Desk;
 use crate::pump::Pump;
 use crate::pushing::push_all;
 use crate::taking::{open, take_next};
-use crate::working::deal_with;
+use crate::working::handle_packet;
 use chorus_calls::Caller;
 use chorus_ends::{Ends, Moves};
 use chorus_entry::Packet;
@@ -93,5 +93,5 @@ pub fn serve<G, E: Moves<G>>(
         let worked = desk.worked;
         return Ok(Pump::Idle { put, worked });
     };
-    deal_with(desk, caller, from, packet)
+    handle_packet(desk, caller, from, packet)
 }

@@ -2,7 +2,7 @@
 
 ghost use Rattle.std.specs.Prelude.{◌≡◌, ℕ, ◌≤◌, ◌+◌, Some, None, IsErrOf, IfOk, OnErr};
 ghost use Rattle.chorus_serve.specs.Desks.{seen};
-ghost use Rattle.chorus_serve.specs.Working.{DealsWith, Holds, IsWornAt};
+ghost use Rattle.chorus_serve.specs.Working.{HandlesPacket, Holds, IsWornAt};
 ghost use Rattle.chorus_place.specs.declared.fault.PlaceFault.TheVariants as PlaceFault;
 ghost use Rattle.chorus_serve.specs.declared.held.Content.TheVariants as Content;
 
@@ -25,14 +25,14 @@ fn opened<P>(from: u16, packet: Packet) -> Held<P>
 }
 
 /// Works off a packet from the place `from`, where it is lawful. Else it stays in hand, as at each refusal.
-pub(crate) fn deal_with<E: Ends>(
+pub(crate) fn handle_packet<E: Ends>(
     desk: &mut Desk<E>,
     caller: &mut Caller,
     from: u16,
     packet: Packet,
 ) -> Result<Pump, PlaceFault>
     requires { desk.old.hand ≡ None }
-    ensures ok { IfOk result (λ pump. DealsWith pump from packet (seen E.links E.packet desk.old)
+    ensures ok { IfOk result (λ pump. HandlesPacket pump from packet (seen E.links E.packet desk.old)
         (seen E.links E.packet desk.new) caller.old caller.new) }
     ensures refused { OnErr result (Holds from packet (seen E.links E.packet desk.old)
         (seen E.links E.packet desk.new) caller.old caller.new) }

@@ -49,6 +49,7 @@ impl Model for Ui {
 
 impl Ui {
     ghost use Rattle.chorus_ui.specs.Name.{Name, IsName, new_name, name_of_parts};
+    ghost use Rattle.chorus_ui.specs.NameKind.{is_actor, is_port, is_group};
     ghost use Rattle.chorus_ui.specs.Bits.{name_bits, name_of_bits};
     ghost use Rattle.chorus_ui.specs.Text.{name_text, parse_name};
 
@@ -88,6 +89,27 @@ impl Ui {
         ensures { result ≡ self.now.kind }
     {
         Kind::with_number((self.bits / KIND_UNIT % 256) as u8).unwrap()
+    }
+
+    /// Whether it is an actor's name.
+    pub fn is_actor(&self) -> bool
+        ensures { result ≡ is_actor self.now }
+    {
+        self.kind() == Kind::Actor
+    }
+
+    /// Whether it is a port's name.
+    pub fn is_port(&self) -> bool
+        ensures { result ≡ is_port self.now }
+    {
+        self.kind() == Kind::Port
+    }
+
+    /// Whether it is a group's name.
+    pub fn is_group(&self) -> bool
+        ensures { result ≡ is_group self.now }
+    {
+        self.kind() == Kind::Group
     }
 
     /// Its number among what its site made of its kind, from 1 to 2^40 - 1.

@@ -7,7 +7,7 @@ use Rattle.chorus_entry.specs.declared.entry.Entry.{Entry}
 use Rattle.chorus_entry.specs.declared.act.Act.{Act}
 use Rattle.chorus_entry.specs.declared.command.Command.{Command}
 use Rattle.chorus_entry.specs.Command.{meets_conditions}
-use Rattle.chorus_entry.specs.Kinds.{names_actor}
+use Rattle.chorus_ui.specs.NameKind.{is_actor}
 use Rattle.chorus_entry.specs.Places.{place_for}
 use Rattle.chorus_world.specs.Views.{at, by}
 use Rattle.chorus_world.specs.Places.{last_clock, just_taken}
@@ -20,7 +20,7 @@ use Rattle.chorus_world.specs.Answer.{answer_for}
 -- each caller is in an actor of the layout and posted at its home place alone
 abbrev pub AreAtHome : Layout → (ℕ → Option Ui) → List Entry → Type 0
 AreAtHome l callers past = (seat : ℕ) (actor : Ui) → callers seat ≡ Some actor →
-    (has_actor l actor ≡ true) × (names_actor actor ≡ true) × (posts_stay (place_at l actor.site actor) (by seat past) ≡ true)
+    (has_actor l actor ≡ true) × (is_actor actor ≡ true) × (posts_stay (place_at l actor.site actor) (by seat past) ≡ true)
 
 -- the act, as an entry of this seat in this actor with this clock, answers the command and gives a run again
 pub record Fits (l : Layout) (callers : ℕ → Option Ui) (past : List Entry) (number : ℕ) (actor : Ui) (command : Command) (time : ℕ) (this : Act) : Type 0 where

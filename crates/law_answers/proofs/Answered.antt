@@ -3,7 +3,7 @@ use Rattle.std.proofs.Common.{◌≡◌, true, Option, Some, None, slice_get, re
 use Rattle.std.specs.Option.{option_map}
 use Rattle.chorus_ui.specs.declared.ui.Ui.{Ui}
 use Rattle.chorus_ui.specs.Layout.{has_actor, place_at}
-use Rattle.chorus_entry.specs.Kinds.{names_actor}
+use Rattle.chorus_ui.specs.NameKind.{is_actor}
 use Rattle.chorus_entry.specs.Places.{place_for}
 use Rattle.chorus_world.specs.Views.{by}
 use Rattle.chorus_world.specs.Seats.{posts_stay}
@@ -30,7 +30,7 @@ own-act-answers n past k caller c clock shape w r e conditions here mine =
     let its = w.callers j it found.1 in
     let same = found.2 in (
       subst (λ b. has_actor n.layout b ≡ true) same its.actor,
-      subst (λ b. names_actor b ≡ true) same its.kind,
+      subst (λ b. is_actor b ≡ true) same its.kind,
       subst (λ b. posts_stay (place_at n.layout b.site b) (by j past) ≡ true) same its.stays,
     ))
     (ap (option_map (λ (z : Seated). z.actor)) e) conditions (r.ended (place_for n.layout caller.actor c)) here (omega (arith, le, mine)) in

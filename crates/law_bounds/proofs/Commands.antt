@@ -26,7 +26,9 @@ use Rattle.chorus_entry.specs.declared.packet.Cargo.{Cargo}
 use Rattle.chorus_entry.specs.declared.record.PortRecord.{PortRecord}
 use Rattle.chorus_entry.specs.PortRecord.{new_record}
 use Rattle.chorus_entry.specs.Dest.{site_in}
-use Rattle.chorus_entry.specs.Kinds.{names_actor, names_port, names_group, has_kinds_in_tag, has_kinds_in_dest}
+use Rattle.chorus_ui.specs.NameKind as name_kind
+use Rattle.chorus_ui.specs.NameKind.{is_actor, is_port}
+use Rattle.chorus_entry.specs.Kinds.{has_kinds_in_tag, has_kinds_in_dest}
 use Rattle.chorus_entry.specs.Command.{is_capacity, demands_a_site, meets_conditions, has_body_in_limit}
 use Rattle.chorus_entry.specs.Members.{is_member}
 use Rattle.chorus_entry.specs.Members.{without as without_member}
@@ -59,11 +61,11 @@ use Rattle.law_bounds.proofs.Groups.{left-within, joined-within, chooses-within}
 -- What a command's own act names is within its ranges.
 
 abbrev pub IsOwnWithin : Act → Turn → Type 0
-IsOwnWithin (acts.Make q actor capacity) t = (names_port q ≡ true) × (names_actor actor ≡ true) × (is_capacity capacity ≡ true)
+IsOwnWithin (acts.Make q actor capacity) t = (is_port q ≡ true) × (is_actor actor ≡ true) × (is_capacity capacity ≡ true)
 IsOwnWithin (acts.Post m d) t = (has_ranges_of_message m ≡ true) × (has_kinds_in_dest d ≡ true) × (demands_a_site d ≡ true)
-IsOwnWithin (acts.Rehome q actor) t = names_actor actor ≡ true
-IsOwnWithin (acts.Depart q to actor hop) t = (is_place_number to ≡ true) × (names_actor actor ≡ true) × (hop ≤ next_clock t)
-IsOwnWithin (acts.Join g q) t = (names_port q ≡ true) × ((f : Ui) → same_ui g f ≡ true → length (members f t.place.journal) < 32)
+IsOwnWithin (acts.Rehome q actor) t = is_actor actor ≡ true
+IsOwnWithin (acts.Depart q to actor hop) t = (is_place_number to ≡ true) × (is_actor actor ≡ true) × (hop ≤ next_clock t)
+IsOwnWithin (acts.Join g q) t = (is_port q ≡ true) × ((f : Ui) → same_ui g f ≡ true → length (members f t.place.journal) < 32)
 IsOwnWithin _ t = Unit {0}
 
 kind-same : (k l : Kind) → k ≡ l → same_kind k l ≡ true
@@ -85,7 +87,7 @@ next-within tag body c t k b =
     })
 
 module _ (t : Turn) (h : IsTurnWithin t) where
-  made : (actor : Ui) (capacity : ℕ) → names_actor actor ≡ true → is_capacity capacity ≡ true → IsOwnWithin (make_act actor capacity t.place) t
+  made : (actor : Ui) (capacity : ℕ) → is_actor actor ≡ true → is_capacity capacity ≡ true → IsOwnWithin (make_act actor capacity t.place) t
   made actor capacity named size = by (has_actor t.place.layout actor) (is_full_of_ports t.place.layout t.place.journal)
     where
       by : (a f : Bool) → IsOwnWithin (cond (not a) (acts.NoActor actor) (cond f (acts.MakeFull actor) (acts.Make (next_port t.place actor) actor capacity))) t
@@ -93,7 +95,7 @@ module _ (t : Turn) (h : IsTurnWithin t) where
       by true true = tt
       by true false = (refl, named, size)
 
-  called : (q back : Ui) (body : List ℕ) (o : Option Call) → names_port q ≡ true → names_port back ≡ true → length body ≤ 4096 → IsOwnWithin (call_act q back body t.caller o) t
+  called : (q back : Ui) (body : List ℕ) (o : Option Call) → is_port q ≡ true → is_port back ≡ true → length body ≤ 4096 → IsOwnWithin (call_act q back body t.caller o) t
   called q back body None port to le = (next-within (tags.Request (t.caller.client.given + 1) back) body t.caller (le-leb 1 (t.caller.client.given + 1) (omega arith)) to le, port, refl)
   called q back body (Some call) port to le = tt
 
@@ -115,7 +117,7 @@ module _ (t : Turn) (h : IsTurnWithin t) where
   took q takings.Empty = tt
   took q takings.NotHere = tt
 
-  moved : (q actor : Ui) → names_actor actor ≡ true → IsOwnWithin (move_act q actor t.place (held_by t.caller.actor (find q t.place.ports))) t
+  moved : (q actor : Ui) → is_actor actor ≡ true → IsOwnWithin (move_act q actor t.place (held_by t.caller.actor (find q t.place.ports))) t
   moved q actor named = by (find q t.place.ports) refl
     where
       -- a port that is held
@@ -159,7 +161,7 @@ module _ (t : Turn) (h : IsTurnWithin t) where
       by true true = tt
       by true false = tt
 
-  joins : (g q : Ui) → names_port q ≡ true → IsOwnWithin (join_act g q t.place) t
+  joins : (g q : Ui) → is_port q ≡ true → IsOwnWithin (join_act g q t.place) t
   joins g q port = by (is_group g t.place.journal) (is_member q (members g t.place.journal)) (nat_le 32 (length (members g t.place.journal))) refl
     where
       room : nat_le 32 (length (members g t.place.journal)) ≡ false → (f : Ui) → same_ui g f ≡ true → length (members f t.place.journal) < 32
@@ -180,20 +182,20 @@ module _ (t : Turn) (h : IsTurnWithin t) where
       by true false = tt
 
   own-within : (c : Command) → meets_conditions c ≡ true → has_body_in_limit c ≡ true → IsCallerWithin t.caller → IsOwnWithin (own c t) t
-  own-within (commands.Make actor capacity) m b k = let two = and_parts (names_actor actor) (is_capacity capacity) m in made actor capacity two.0 two.1
+  own-within (commands.Make actor capacity) m b k = let two = and_parts (is_actor actor) (is_capacity capacity) m in made actor capacity two.0 two.1
   own-within (commands.Send d body) m b k =
       let two = and_parts (has_kinds_in_dest d) (demands_a_site d) m in
       (next-within tags.Plain body t.caller refl refl (leb-true (length body) 4096 b), two.0, two.1)
   own-within (commands.Call q back body) m b k =
-      let two = and_parts (names_port q) (names_port back) m in
+      let two = and_parts (is_port q) (is_port back) m in
       called q back body t.caller.client.outstanding two.0 two.1 (leb-true (length body) 4096 b)
   own-within commands.Retry m b k = retried t.caller.client.outstanding k.call k.body
   own-within commands.Cancel m b k = cancelled t.caller.client.outstanding
   own-within (commands.Reply body) m b k = replied body t.caller.hand (leb-true (length body) 4096 b) k.numbered k.back
   own-within (commands.Take q) m b k = took q (taken t.caller.actor (find q t.place.ports))
-  own-within (commands.Move q actor) m b k = moved q actor (and_parts (names_port q) (names_actor actor) m).1
+  own-within (commands.Move q actor) m b k = moved q actor (and_parts (is_port q) (is_actor actor) m).1
   own-within (commands.GroupMake site) m b k = grouped site
-  own-within (commands.Join g q) m b k = joins g q (and_parts (names_group g) (names_port q) m).1
+  own-within (commands.Join g q) m b k = joins g q (and_parts (name_kind.is_group g) (is_port q) m).1
   own-within (commands.Leave g q) m b k = leaves g q
   own-within (commands.Delete q) m b k = deleted q (held_by t.caller.actor (find q t.place.ports))
 
@@ -219,7 +221,7 @@ module _ (t : Turn) (h : IsTurnWithin t) where
   replaced : (q : Ui) (f : PortRecord → PortRecord) → ((r : PortRecord) → IsPortWithin (next_clock t) r → IsPortWithin (next_clock t) (f r)) → All (IsPortWithin (next_clock t)) (replace q f t.place.ports)
   replaced q f keeps = ports.all-replace (IsPortWithin (next_clock t)) (IsPortWithin (next_clock t)) q f t.place.ports (λ r k. k) (λ r e k. keeps r k) (ports-still t h)
 
-  group-within : (m : Message) (d : Dest) (g : Ui) → has_ranges_of_message m ≡ true → is_asked d ≡ true → names_group g ≡ true → is_demanded_site (site_in d) ≡ true → IsTurnWithin (posts_to_group m d g t)
+  group-within : (m : Message) (d : Dest) (g : Ui) → has_ranges_of_message m ≡ true → is_asked d ≡ true → name_kind.is_group g ≡ true → is_demanded_site (site_in d) ≡ true → IsTurnWithin (posts_to_group m d g t)
   group-within m d g message asked_for group site =
       let to = choosing_place t.place g in
       either (to == t.place.number) (chooses_own m d g t) (asks m d to t)
@@ -258,7 +260,7 @@ module _ (t : Turn) (h : IsTurnWithin t) where
       }))
   posts-within m (dests.All g) message named site = group-within m (dests.All g) g message named named refl
   posts-within m (dests.One g) message named site = group-within m (dests.One g) g message named named refl
-  posts-within m (dests.OneAt g n) message named site = group-within m (dests.OneAt g n) g message (and_from (names_group g) (demands_a_site (dests.OneAt g n)) named site) named site
+  posts-within m (dests.OneAt g n) message named site = group-within m (dests.OneAt g n) g message (and_from (name_kind.is_group g) (demands_a_site (dests.OneAt g n)) named site) named site
 
   ends-within : (tag : Tag) (u : Turn) → IsTurnWithin u → IsTurnWithin (ends tag u)
   ends-within tags.Plain u k = k
@@ -275,7 +277,7 @@ module _ (t : Turn) (h : IsTurnWithin t) where
       (tabled (acts.Take q pos x) (holding m.id m.tag t.caller) (replace q (after_take t.caller.actor) t.place.ports) (λ f qs. refl)
       (replaced q (after_take t.caller.actor) (λ r k. ports.taken-within (next_clock t) t.caller.actor r k)))
 
-  departs-within : (q : Ui) (to : ℕ) (actor : Ui) (hop : ℕ) → is_place_number to ≡ true → names_actor actor ≡ true → hop ≤ next_clock t → IsTurnWithin (departs q to actor hop t)
+  departs-within : (q : Ui) (to : ℕ) (actor : Ui) (hop : ℕ) → is_place_number to ≡ true → is_actor actor ≡ true → hop ≤ next_clock t → IsTurnWithin (departs q to actor hop t)
   departs-within q to actor hop place named le =
       says (acts.Depart q to actor hop) (record (unchanged t) {
         ports = without q t.place.ports;

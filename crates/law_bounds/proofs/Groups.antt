@@ -11,7 +11,7 @@ use Rattle.chorus_entry.specs.declared.dest.Dest.{Dest}
 use Rattle.chorus_entry.specs.declared.dest.Dest.TheVariants as dests
 use Rattle.chorus_entry.specs.declared.message.Message.{Message}
 use Rattle.chorus_entry.specs.Dest.{site_in}
-use Rattle.chorus_entry.specs.Kinds.{names_port, names_group}
+use Rattle.chorus_ui.specs.NameKind.{is_port, is_group}
 use Rattle.chorus_entry.specs.Members.{first_of, listed, without, index_of}
 use Rattle.chorus_entry.specs.Ranges.{has_ranges_of_message, is_demanded_site}
 use Rattle.chorus_world.specs.Groups.{members, rotation, in_turn}
@@ -26,7 +26,7 @@ use Rattle.law_bounds.proofs.Entries.{says, ports-still, known-still, waiting-ch
 use Rattle.law_bounds.proofs.Trying.{report-within, go-within}
 
 abbrev IsPort : Ui → Type 0
-IsPort q = names_port q ≡ true
+IsPort q = is_port q ≡ true
 
 -- One joins, or leaves.
 
@@ -46,7 +46,7 @@ left-within q qs h =
       few = omega (arith, less, few);
     }
 
-pub joined-within : (q : Ui) (qs : List Ui) → names_port q ≡ true → length qs < 32 → AreMembersWithin qs → AreMembersWithin (qs ++ q ∷ [])
+pub joined-within : (q : Ui) (qs : List Ui) → is_port q ≡ true → length qs < 32 → AreMembersWithin qs → AreMembersWithin (qs ++ q ∷ [])
 joined-within q qs port room h =
     let more = length-append qs (q ∷ []) in
     record { ports = All-push IsPort qs q h.ports port; few = omega (arith, more, room) }
@@ -81,7 +81,7 @@ choice-within (dests.OneAt g site) s h = found-within (is_at_site site s) (in_tu
 abbrev AreWithin : (Key → Queue) → Type 0
 AreWithin waiting = (k : Key) → All (IsWaitWithin k) (waiting k).waits
 
-module _ (m : Message) (d : Dest) (g : Ui) (home : ℕ) (message : has_ranges_of_message m ≡ true) (group : names_group g ≡ true) (site : is_demanded_site (site_in d) ≡ true) where
+module _ (m : Message) (d : Dest) (g : Ui) (home : ℕ) (message : has_ranges_of_message m ≡ true) (group : is_group g ≡ true) (site : is_demanded_site (site_in d) ≡ true) where
   copies-within : (n : ℕ) (qs : List Ui) (waiting : Key → Queue) → n + length qs ≤ 33 → All IsPort qs → AreWithin waiting → AreWithin (with_copies m d g home n qs waiting)
   copies-within n [] waiting few ports h = h
   copies-within n (q ∷ qs) waiting few ports h =

@@ -15,7 +15,7 @@ use Rattle.chorus_entry.specs.declared.packet.Packet.{Packet}
 use Rattle.chorus_entry.specs.declared.packet.Cargo.{Cargo}
 use Rattle.chorus_entry.specs.declared.packet.Cargo.TheVariants as cargos
 use Rattle.chorus_entry.specs.declared.record.PortRecord.{PortRecord}
-use Rattle.chorus_entry.specs.Kinds.{names_port, names_group}
+use Rattle.chorus_ui.specs.NameKind.{is_port, is_group}
 use Rattle.chorus_entry.specs.Ranges.{is_place_number, is_site_number, has_range_of_id, has_ranges_of_message, is_route, is_demanded_site, has_ranges_of_answer, is_told, has_ranges_of_record, is_asked, has_ranges_of_cargo, has_ranges}
 use Rattle.chorus_world.specs.Places.{taught, is_made_here}
 use Rattle.chorus_ports.specs.Table.{find}
@@ -37,7 +37,7 @@ use Rattle.law_bounds.proofs.Trying.{IsDecided, decided, decision-mute, report-w
 use Rattle.law_bounds.proofs.Groups.{chooses-within}
 
 module _ (t : Turn) (h : IsTurnWithin t) where
-  try-within : (from : ℕ) (m : Message) (q : Ui) (route : Option Ui) (only : Option ℕ) (hop : ℕ) → has_ranges_of_message m ≡ true → names_port q ≡ true → is_route route ≡ true → hop ≤ greatest_clock t
+  try-within : (from : ℕ) (m : Message) (q : Ui) (route : Option Ui) (only : Option ℕ) (hop : ℕ) → has_ranges_of_message m ≡ true → is_port q ≡ true → is_route route ≡ true → hop ≤ greatest_clock t
       → IsTurnWithin (answers_try from m q route hop (decide m q only hop t.place) t)
   try-within from m q route only hop message named way le =
       says (decision m.id q hop a) (record (unchanged t) {
@@ -50,9 +50,9 @@ module _ (t : Turn) (h : IsTurnWithin t) where
         members = members-still (decision m.id q hop a) t (decision-mute m.id q hop a) h;
         loads =
             All-cons (IsLoadWithin (next_clock t)) (from, Cargo.Verdict m.id q route a) []
-            (and_from (has_range_of_id m.id && names_port q && is_route route && is_told a) (has_ranges_of_answer (next_clock t) a)
-            (and_from (has_range_of_id m.id && names_port q && is_route route) (is_told a)
-            (and_from (has_range_of_id m.id && names_port q) (is_route route) (and_from (has_range_of_id m.id) (names_port q) (message-parts m message).id named) way) d.told)
+            (and_from (has_range_of_id m.id && is_port q && is_route route && is_told a) (has_ranges_of_answer (next_clock t) a)
+            (and_from (has_range_of_id m.id && is_port q && is_route route) (is_told a)
+            (and_from (has_range_of_id m.id && is_port q) (is_route route) (and_from (has_range_of_id m.id) (is_port q) (message-parts m message).id named) way) d.told)
             (answer-later (greatest_clock t) (next_clock t) a (omega arith) d.ranges)) (All-nil (IsLoadWithin (next_clock t)));
       })
     where
@@ -118,7 +118,7 @@ module _ (t : Turn) (h : IsTurnWithin t) where
   ask-answered from m (dests.All g) asked message = chooses-within m (dests.All g) g from message asked refl t h
   ask-answered from m (dests.One g) asked message = chooses-within m (dests.One g) g from message asked refl t h
   ask-answered from m (dests.OneAt g site) asked message =
-      let two = and_parts (names_group g) (is_site_number site) asked in chooses-within m (dests.OneAt g site) g from message two.0 two.1 t h
+      let two = and_parts (is_group g) (is_site_number site) asked in chooses-within m (dests.OneAt g site) g from message two.0 two.1 t h
 
   report-heard : (x : MsgId) (a : Answer) → IsTurnWithin (hears x a t)
   report-heard x a =
@@ -132,17 +132,17 @@ module _ (t : Turn) (h : IsTurnWithin t) where
 
   opens-within : (clock from : ℕ) (k : Cargo) → clock ≤ greatest_clock t → has_ranges_of_cargo clock k ≡ true → is_lawful_cargo clock from k t.place ≡ true → IsTurnWithin (opens from k t)
   opens-within clock from (cargos.Try m q route only hop) le r lawful =
-      let five = and_parts (is_route route && is_demanded_site only && nat_le hop clock && names_port q) (has_ranges_of_message m) r in
-      let four = and_parts (is_route route && is_demanded_site only && nat_le hop clock) (names_port q) five.0 in
+      let five = and_parts (is_route route && is_demanded_site only && nat_le hop clock && is_port q) (has_ranges_of_message m) r in
+      let four = and_parts (is_route route && is_demanded_site only && nat_le hop clock) (is_port q) five.0 in
       let three = and_parts (is_route route && is_demanded_site only) (nat_le hop clock) four.0 in
       let two = and_parts (is_route route) (is_demanded_site only) three.0 in
       let low = leb-true hop clock three.1 in
       try-within from m q route only hop five.1 four.1 two.0 (omega (arith, low, le))
   opens-within clock from (cargos.Verdict x q route a) le r lawful =
-      let five = and_parts (has_range_of_id x && names_port q && is_route route && is_told a) (has_ranges_of_answer clock a) r in
-      let four = and_parts (has_range_of_id x && names_port q && is_route route) (is_told a) five.0 in
-      let three = and_parts (has_range_of_id x && names_port q) (is_route route) four.0 in
-      verdict-heard x (record { port = q; route = route }) a (and_parts (has_range_of_id x) (names_port q) three.0).0 (answer-later clock (next_clock t) a (omega (arith, le)) five.1)
+      let five = and_parts (has_range_of_id x && is_port q && is_route route && is_told a) (has_ranges_of_answer clock a) r in
+      let four = and_parts (has_range_of_id x && is_port q && is_route route) (is_told a) five.0 in
+      let three = and_parts (has_range_of_id x && is_port q) (is_route route) four.0 in
+      verdict-heard x (record { port = q; route = route }) a (and_parts (has_range_of_id x) (is_port q) three.0).0 (answer-later clock (next_clock t) a (omega (arith, le)) five.1)
   opens-within clock from (cargos.Transfer port) le r lawful =
       port-received clock port le r (leb-true (port.first + length port.pending) clock (and_parts
       (can_make_port t.place.layout port.ui && (place_at t.place.layout (site_of t.place.layout t.place.number) port.ui == t.place.number)

@@ -11,7 +11,7 @@ use Rattle.chorus_entry.specs.declared.tag.Tag.{Tag}
 use Rattle.chorus_entry.specs.declared.tag.Tag.TheVariants.{Plain, Request, Reply}
 use Rattle.chorus_entry.specs.declared.record.PortRecord.{PortRecord}
 use Rattle.chorus_entry.specs.PortRecord.{new_record}
-use Rattle.chorus_entry.specs.Kinds.{names_port, names_actor}
+use Rattle.chorus_ui.specs.NameKind.{is_port, is_actor}
 use Rattle.chorus_entry.specs.Command.{is_capacity}
 use Rattle.chorus_entry.specs.Clients.{is_one_too_many, raised, with_client, remembered}
 use Rattle.chorus_entry.specs.ClientTable.{number_of, are_distinct, renumbered, with_number}
@@ -27,8 +27,8 @@ use Rattle.law_bounds.proofs.Ranges.{all-append, le-later, message-parts}
 
 -- The parts of a record's range.
 pub record Parts (clock : ℕ) (r : PortRecord) : Type 0 where
-  pub ui : names_port r.ui ≡ true
-  pub actor : names_actor r.actor ≡ true
+  pub ui : is_port r.ui ≡ true
+  pub actor : is_actor r.actor ≡ true
   pub capacity : is_from 1 64 r.capacity ≡ true
   pub hop : nat_le r.hop clock ≡ true
   pub few : length r.pending ≤ r.capacity
@@ -38,13 +38,13 @@ pub record Parts (clock : ℕ) (r : PortRecord) : Type 0 where
 
 pub parts : (c : ℕ) (r : PortRecord) → IsPortWithin c r → Parts c r
 parts c r h =
-    let p8 = and_parts (names_port r.ui && names_actor r.actor && is_from 1 64 r.capacity && nat_le r.hop c && nat_le r.first c && nat_le (length r.pending) r.capacity && list_all has_ranges_of_message r.pending) (has_ranges_of_clients r.clients) h.ranges in
-    let p7 = and_parts (names_port r.ui && names_actor r.actor && is_from 1 64 r.capacity && nat_le r.hop c && nat_le r.first c && nat_le (length r.pending) r.capacity) (list_all has_ranges_of_message r.pending) p8.0 in
-    let p6 = and_parts (names_port r.ui && names_actor r.actor && is_from 1 64 r.capacity && nat_le r.hop c && nat_le r.first c) (nat_le (length r.pending) r.capacity) p7.0 in
-    let p5 = and_parts (names_port r.ui && names_actor r.actor && is_from 1 64 r.capacity && nat_le r.hop c) (nat_le r.first c) p6.0 in
-    let p4 = and_parts (names_port r.ui && names_actor r.actor && is_from 1 64 r.capacity) (nat_le r.hop c) p5.0 in
-    let p3 = and_parts (names_port r.ui && names_actor r.actor) (is_from 1 64 r.capacity) p4.0 in
-    let p2 = and_parts (names_port r.ui) (names_actor r.actor) p3.0 in
+    let p8 = and_parts (is_port r.ui && is_actor r.actor && is_from 1 64 r.capacity && nat_le r.hop c && nat_le r.first c && nat_le (length r.pending) r.capacity && list_all has_ranges_of_message r.pending) (has_ranges_of_clients r.clients) h.ranges in
+    let p7 = and_parts (is_port r.ui && is_actor r.actor && is_from 1 64 r.capacity && nat_le r.hop c && nat_le r.first c && nat_le (length r.pending) r.capacity) (list_all has_ranges_of_message r.pending) p8.0 in
+    let p6 = and_parts (is_port r.ui && is_actor r.actor && is_from 1 64 r.capacity && nat_le r.hop c && nat_le r.first c) (nat_le (length r.pending) r.capacity) p7.0 in
+    let p5 = and_parts (is_port r.ui && is_actor r.actor && is_from 1 64 r.capacity && nat_le r.hop c) (nat_le r.first c) p6.0 in
+    let p4 = and_parts (is_port r.ui && is_actor r.actor && is_from 1 64 r.capacity) (nat_le r.hop c) p5.0 in
+    let p3 = and_parts (is_port r.ui && is_actor r.actor) (is_from 1 64 r.capacity) p4.0 in
+    let p2 = and_parts (is_port r.ui) (is_actor r.actor) p3.0 in
     record {
       ui = p2.0;
       actor = p2.1;
@@ -61,12 +61,12 @@ within c r h =
     let end = h.position in
     record {
       ranges =
-          and_from (names_port r.ui && names_actor r.actor && is_from 1 64 r.capacity && nat_le r.hop c && nat_le r.first c && nat_le (length r.pending) r.capacity && list_all has_ranges_of_message r.pending) (has_ranges_of_clients r.clients)
-          (and_from (names_port r.ui && names_actor r.actor && is_from 1 64 r.capacity && nat_le r.hop c && nat_le r.first c && nat_le (length r.pending) r.capacity) (list_all has_ranges_of_message r.pending)
-          (and_from (names_port r.ui && names_actor r.actor && is_from 1 64 r.capacity && nat_le r.hop c && nat_le r.first c) (nat_le (length r.pending) r.capacity)
-          (and_from (names_port r.ui && names_actor r.actor && is_from 1 64 r.capacity && nat_le r.hop c) (nat_le r.first c)
-          (and_from (names_port r.ui && names_actor r.actor && is_from 1 64 r.capacity) (nat_le r.hop c)
-          (and_from (names_port r.ui && names_actor r.actor) (is_from 1 64 r.capacity) (and_from (names_port r.ui) (names_actor r.actor) h.ui h.actor) h.capacity) h.hop)
+          and_from (is_port r.ui && is_actor r.actor && is_from 1 64 r.capacity && nat_le r.hop c && nat_le r.first c && nat_le (length r.pending) r.capacity && list_all has_ranges_of_message r.pending) (has_ranges_of_clients r.clients)
+          (and_from (is_port r.ui && is_actor r.actor && is_from 1 64 r.capacity && nat_le r.hop c && nat_le r.first c && nat_le (length r.pending) r.capacity) (list_all has_ranges_of_message r.pending)
+          (and_from (is_port r.ui && is_actor r.actor && is_from 1 64 r.capacity && nat_le r.hop c && nat_le r.first c) (nat_le (length r.pending) r.capacity)
+          (and_from (is_port r.ui && is_actor r.actor && is_from 1 64 r.capacity && nat_le r.hop c) (nat_le r.first c)
+          (and_from (is_port r.ui && is_actor r.actor && is_from 1 64 r.capacity) (nat_le r.hop c)
+          (and_from (is_port r.ui && is_actor r.actor) (is_from 1 64 r.capacity) (and_from (is_port r.ui) (is_actor r.actor) h.ui h.actor) h.capacity) h.hop)
           (le-leb r.first c (omega (arith, end)))) (le-leb (length r.pending) r.capacity h.few)) h.pending) h.clients;
       position = h.position;
     }
@@ -79,7 +79,7 @@ later c d r le h =
     let end = p.position in
     within d r (record { ui = p.ui; actor = p.actor; capacity = p.capacity; hop = le-later r.hop c d le p.hop; few = p.few; pending = p.pending; clients = p.clients; position = omega (arith, le, end) })
 
-pub new-within : (c : ℕ) (q actor : Ui) (capacity : ℕ) → names_port q ≡ true → names_actor actor ≡ true → is_capacity capacity ≡ true → IsPortWithin c (new_record q actor capacity)
+pub new-within : (c : ℕ) (q actor : Ui) (capacity : ℕ) → is_port q ≡ true → is_actor actor ≡ true → is_capacity capacity ≡ true → IsPortWithin c (new_record q actor capacity)
 new-within c q actor capacity port named size =
     within c (new_record q actor capacity) (record {
       ui = port;
@@ -92,12 +92,12 @@ new-within c q actor capacity port named size =
       position = omega arith;
     })
 
-pub rehomed-within : (c : ℕ) (actor : Ui) (r : PortRecord) → names_actor actor ≡ true → IsPortWithin c r → IsPortWithin c (rehomed actor r)
+pub rehomed-within : (c : ℕ) (actor : Ui) (r : PortRecord) → is_actor actor ≡ true → IsPortWithin c r → IsPortWithin c (rehomed actor r)
 rehomed-within c actor r named h =
     let p = parts c r h in
     within c (rehomed actor r) (record { ui = p.ui; actor = named; capacity = p.capacity; hop = p.hop; few = p.few; pending = p.pending; clients = p.clients; position = p.position })
 
-pub migrated-within : (c hop : ℕ) (actor : Ui) (r : PortRecord) → names_actor actor ≡ true → hop ≤ c → IsPortWithin c r → IsPortWithin c (migrated hop actor r)
+pub migrated-within : (c hop : ℕ) (actor : Ui) (r : PortRecord) → is_actor actor ≡ true → hop ≤ c → IsPortWithin c r → IsPortWithin c (migrated hop actor r)
 migrated-within c hop actor r named le h =
     let p = parts c r h in
     within c (migrated hop actor r) (record { ui = p.ui; actor = named; capacity = p.capacity; hop = le-leb hop c le; few = p.few; pending = p.pending; clients = p.clients; position = p.position })

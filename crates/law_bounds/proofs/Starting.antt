@@ -4,7 +4,7 @@ use Rattle.std.proofs.lemmas.List.Elements.{All-nil}
 use Rattle.chorus_ui.specs.declared.ui.Ui.{Ui}
 use Rattle.chorus_ui.specs.declared.layout.Layout.{Layout}
 use Rattle.chorus_ui.specs.Layout.{IsLayout, has_place}
-use Rattle.chorus_entry.specs.Kinds.{names_port}
+use Rattle.chorus_ui.specs.NameKind.{is_port}
 use Rattle.law_machine.specs.PlaceState.{started}
 use Rattle.law_bounds.specs.Bounds.{IsPortWithin, IsWaitWithin, IsWithin}
 use Rattle.law_bounds.proofs.Ranges.{place-within}
@@ -17,5 +17,5 @@ start-within l p shape place =
       ports = All-nil (IsPortWithin 0);
       known = λ q. tt;
       waiting = λ k. All-nil (IsWaitWithin k);
-      members = λ g. record { ports = All-nil (λ (q : Ui). names_port q ≡ true); few = omega arith };
+      members = λ g. record { ports = All-nil (λ (q : Ui). is_port q ≡ true); few = omega arith };
     }

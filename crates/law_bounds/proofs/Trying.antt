@@ -13,7 +13,7 @@ use Rattle.chorus_entry.specs.declared.packet.Cargo.{Cargo}
 use Rattle.chorus_entry.specs.declared.record.PortRecord.{PortRecord}
 use Rattle.chorus_entry.specs.Answer.{is_final}
 use Rattle.chorus_entry.specs.Clients.{is_repeated, is_one_too_many}
-use Rattle.chorus_entry.specs.Kinds.{names_port}
+use Rattle.chorus_ui.specs.NameKind.{is_port}
 use Rattle.chorus_entry.specs.Ranges.{is_from, is_place_number, has_range_of_id, has_ranges_of_message, is_route, is_demanded_site, has_ranges_of_answer, is_told}
 use Rattle.chorus_world.specs.declared.place.Location.{Location}
 use Rattle.chorus_world.specs.Places.{last_clock, is_deleted}
@@ -182,8 +182,8 @@ module _ (k : Key) where
         members = h.place.members;
         loads =
             All-cons (IsLoadWithin (next_clock t)) (l.to, Cargo.Try w.message k.port k.route w.only l.hop) []
-            (and_from (is_route k.route && is_demanded_site w.only && nat_le l.hop (next_clock t) && names_port k.port) (has_ranges_of_message w.message)
-            (and_from (is_route k.route && is_demanded_site w.only && nat_le l.hop (next_clock t)) (names_port k.port)
+            (and_from (is_route k.route && is_demanded_site w.only && nat_le l.hop (next_clock t) && is_port k.port) (has_ranges_of_message w.message)
+            (and_from (is_route k.route && is_demanded_site w.only && nat_le l.hop (next_clock t)) (is_port k.port)
             (and_from (is_route k.route && is_demanded_site w.only) (nat_le l.hop (next_clock t)) (and_from (is_route k.route) (is_demanded_site w.only) may.route may.only)
             (le-leb l.hop (next_clock t) (omega (arith, le)))) may.port) may.message) (All-nil (IsLoadWithin (next_clock t)));
       })

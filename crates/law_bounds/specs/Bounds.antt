@@ -6,7 +6,7 @@ use Rattle.chorus_ui.specs.declared.limits.TheConstants.{BODY_LIMIT, MEMBERS_LIM
 use Rattle.chorus_ui.specs.Layout.{IsLayout}
 use Rattle.chorus_entry.specs.declared.packet.Packet.{Packet}
 use Rattle.chorus_entry.specs.declared.record.PortRecord.{PortRecord}
-use Rattle.chorus_entry.specs.Kinds.{names_port}
+use Rattle.chorus_ui.specs.NameKind.{is_port}
 use Rattle.chorus_entry.specs.Ranges.{is_place_number, is_route, is_demanded_site, has_ranges_of_message, has_ranges_of_record, has_ranges}
 use Rattle.chorus_world.specs.Places.{last_clock}
 use Rattle.chorus_world.specs.Groups.{members}
@@ -27,14 +27,14 @@ IsPairWithin clock pair = (is_place_number pair.0 ≡ true) × (pair.1 ≤ clock
 
 -- the message may be tried at the port, by the route
 pub record IsWaitWithin (k : Key) (w : Wait) : Type 0 where
-  pub port : names_port k.port ≡ true
+  pub port : is_port k.port ≡ true
   pub route : is_route k.route ≡ true
   pub only : is_demanded_site w.only ≡ true
   pub message : has_ranges_of_message w.message ≡ true
 
 -- the members of a group are ports, and at most 32
 pub record AreMembersWithin (qs : List Ui) : Type 0 where
-  pub ports : All (λ q. names_port q ≡ true) qs
+  pub ports : All (λ q. is_port q ≡ true) qs
   pub few : length qs ≤ MEMBERS_LIMIT
 
 -- all that the place keeps is within its ranges

@@ -12,7 +12,7 @@ use Rattle.chorus_turn.specs.declared.knowledge.Remarked.{Remarked}
 use Rattle.chorus_turn.specs.declared.knowledge.Placed.{Placed}
 use Rattle.law_closing.specs.declared.noted.Noted.{Noted}
 use Rattle.law_closing.specs.Remarks.{turn_of, begins, turns_at, turns_in, numbered, remarked}
-use Rattle.law_closing.specs.Growth.{noted, TurnsKeepPlaces, MovesKeepPlaces, TurnsKeepPasses}
+use Rattle.law_closing.specs.Growth.{TurnsKeepPlaces, MovesKeepPlaces, TurnsKeepPasses}
 use Rattle.law_closing.specs.Closing.{IsPlace, IsThread, Keeps}
 use Rattle.law_history.proofs.Lists.{flat_map-append, filter_skip}
 use Rattle.law_closing.proofs.Remarks.{filter-map, map_twice}

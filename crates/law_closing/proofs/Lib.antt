@@ -2,3 +2,6 @@ pub mod Remarks
 pub mod Schedules
 pub mod Growth
 pub mod Places
+pub mod Actors
+pub mod Seen
+mod Examples

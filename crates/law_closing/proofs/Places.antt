@@ -1,28 +1,26 @@
 -- The places of this project: the callers of the general law are new, so they came.
-use Rattle.std.proofs.Common.{ℕ, zero, suc, ◌≡◌, ◌<◌, ◌≤◌, ◌+◌, ◌==◌, nat_lt, Bool, true, false, ◌&&◌, cond, List, [], ◌∷◌, ◌++◌, length, Option, Some, None, slice_get, is_none, refl, sym, ◌∙◌, ap, subst, inl, inr, arith}
-use Rattle.std.specs.List.{All, filter}
+use Rattle.std.proofs.Common.{ℕ, zero, suc, ◌≡◌, ◌<◌, ◌≤◌, ◌+◌, ◌==◌, nat_lt, Bool, true, false, ◌&&◌, cond, List, [], ◌∷◌, length, Option, Some, None, slice_get, is_none, refl, sym, ◌∙◌, ap, subst, inl, inr, arith}
+use Rattle.std.specs.List.{All}
 use Rattle.std.proofs.lemmas.Bool.{and_parts, and_from, eqb-true, eq-eqb, le-leb, lt-ltb, le-ltb, cases_lt, false≢true}
 use Rattle.std.proofs.lemmas.List.Elements.{All-nil, All-cons}
 use Rattle.chorus_ui.specs.declared.layout.Layout.{Layout}
-use Rattle.chorus_ui.specs.Layout.{places, has_site, has_actor, IsLayout}
+use Rattle.chorus_ui.specs.Layout.{places, has_actor, IsLayout}
 use Rattle.chorus_entry.specs.declared.hand.Hand.{Hand}
-use Rattle.chorus_entry.specs.declared.command.Command.{Command}
 use Rattle.chorus_entry.specs.declared.packet.Packet.{Packet}
-use Rattle.chorus_entry.specs.Kinds.{names_actor}
-use Rattle.chorus_calls.specs.Clients.{Call, Calling}
+use Rattle.chorus_ui.specs.NameKind.{is_actor}
+use Rattle.chorus_calls.specs.Clients.{Call}
 use Rattle.chorus_calls.specs.Callers.{Seated, new_caller}
 use Rattle.chorus_turn.specs.declared.knowledge.Remarked.{Remarked}
 use Rattle.chorus_turn.specs.declared.knowledge.Knowledge.{Knowledge}
 use Rattle.law_machine.specs.PlaceState.{PlaceState, started}
 use Rattle.law_network.specs.Calls.{first_actor}
-use Rattle.law_history.specs.Turns.{Turn}
 use Rattle.law_history.specs.Network.{Network}
-use Rattle.law_history.specs.Histories.{Follows, Histories}
+use Rattle.law_history.specs.Histories.{Follows}
 use Rattle.law_history.specs.PlaceTurns.{machine}
-use Rattle.law_history.specs.Journals.{PlaceTurn, Comer, IsComer, new_from, at_start, AreHistories}
+use Rattle.law_history.specs.Journals.{Comer, IsComer, new_from}
 use Rattle.law_history.proofs.Rising.{place-rises}
 use Rattle.law_closing.specs.Closing.{HasSchedule}
-use Rattle.law_closing.specs.Places.{PlaceNote, is_new, ArePlacesClosed, HaveHistories, ClosedPlacesHaveHistories}
+use Rattle.law_closing.specs.Places.{PlaceNote, is_new, HaveHistories, ClosedPlacesHaveHistories}
 use Rattle.law_closing.proofs.Schedules.{closed}
 
 -- A new caller is one, in an actor of the layout.
@@ -37,13 +35,13 @@ no-hand (Some h) e = absurd (false≢true e)
 
 record IsNew (l : Layout) (q : ℕ) (w : Seated) : Type 0 where
   pub is : w ≡ new_caller q w.actor w.last
-  pub kind : names_actor w.actor ≡ true
+  pub kind : is_actor w.actor ≡ true
   pub actor : has_actor l w.actor ≡ true
 
 made-new : (l : Layout) (q : ℕ) (w : Seated) → is_new l q w ≡ true → IsNew l q w
 made-new l q w h =
-    let seven = and_parts ((w.seat == q) && (w.posts == 0) && (w.client.given == 0) && is_none w.client.outstanding && is_none w.hand && names_actor w.actor) (has_actor l w.actor) h in
-    let six = and_parts ((w.seat == q) && (w.posts == 0) && (w.client.given == 0) && is_none w.client.outstanding && is_none w.hand) (names_actor w.actor) seven.0 in
+    let seven = and_parts ((w.seat == q) && (w.posts == 0) && (w.client.given == 0) && is_none w.client.outstanding && is_none w.hand && is_actor w.actor) (has_actor l w.actor) h in
+    let six = and_parts ((w.seat == q) && (w.posts == 0) && (w.client.given == 0) && is_none w.client.outstanding && is_none w.hand) (is_actor w.actor) seven.0 in
     let five = and_parts ((w.seat == q) && (w.posts == 0) && (w.client.given == 0) && is_none w.client.outstanding) (is_none w.hand) six.0 in
     let four = and_parts ((w.seat == q) && (w.posts == 0) && (w.client.given == 0)) (is_none w.client.outstanding) five.0 in
     let three = and_parts ((w.seat == q) && (w.posts == 0)) (w.client.given == 0) four.0 in

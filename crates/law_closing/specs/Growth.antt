@@ -1,7 +1,7 @@
 -- One turn more, of a place and of a pass; and packets that move.
 -- m is a machine, p the number of a place, x its state, w a caller, i what the turn takes, e its first entry and es the others, mine
 -- what a pass made.
-use Rattle.std.specs.Prelude.{ℕ, ◌≡◌, Bool, true, List, [], ◌∷◌, ◌++◌}
+use Rattle.std.specs.Prelude.{ℕ, ◌≡◌, Bool, true, List, ◌∷◌, ◌++◌}
 use Rattle.chorus_entry.specs.declared.entry.Entry.{Entry}
 use Rattle.chorus_turn.specs.declared.knowledge.Remarked.{Remarked}
 use Rattle.chorus_turn.specs.declared.knowledge.Placed.{Placed}

@@ -1,18 +1,17 @@
 -- The places of this project, closed: what they hand out are histories of those who came.
 -- l is a layout, p, a and b are numbers of places, q is a seat, w a caller, v what the closing pass knows.
-use Rattle.std.specs.Prelude.{ℕ, ◌≡◌, ◌==◌, Bool, true, ◌&&◌, List, ◌++◌, length, is_none}
+use Rattle.std.specs.Prelude.{ℕ, ◌≡◌, ◌==◌, Bool, ◌&&◌, List, ◌++◌, length, is_none}
 use Rattle.std.specs.List.{All}
 use Rattle.chorus_ui.specs.declared.layout.Layout.{Layout}
 use Rattle.chorus_ui.specs.Layout.{places, has_actor, IsLayout}
 use Rattle.chorus_entry.specs.declared.command.Command.{Command}
 use Rattle.chorus_entry.specs.declared.packet.Packet.{Packet}
-use Rattle.chorus_entry.specs.Kinds.{names_actor}
+use Rattle.chorus_ui.specs.NameKind.{is_actor}
 use Rattle.chorus_calls.specs.Callers.{Seated}
 use Rattle.chorus_turn.specs.declared.knowledge.Remarked.{Remarked}
 use Rattle.chorus_turn.specs.declared.knowledge.Note.{Note}
 use Rattle.chorus_turn.specs.declared.knowledge.Knowledge.{Knowledge}
 use Rattle.law_machine.specs.PlaceState.{PlaceState, started}
-use Rattle.law_history.specs.Turns.{Turn}
 use Rattle.law_history.specs.Network.{Network}
 use Rattle.law_history.specs.PlaceTurns.{machine}
 use Rattle.law_history.specs.Journals.{PlaceTurn, Comer, AreHistories}
@@ -28,7 +27,7 @@ PlaceNote = Noted Seated Command Packet
 abbrev pub is_new : Layout → ℕ → Seated → Bool
 is_new l q w =
     (w.seat == q) && (w.posts == 0) && (w.client.given == 0) && is_none w.client.outstanding && is_none w.hand
-    && names_actor w.actor && has_actor l w.actor
+    && is_actor w.actor && has_actor l w.actor
 
 -- the places of the layout were closed, with their links and passes
 abbrev pub ArePlacesClosed : Layout → (ℕ → List (Remarked PlaceNote)) → Knowledge PlaceNote → (ℕ → PlaceState) → (ℕ → ℕ → List Packet) → (ℕ → ℕ → List Packet) → (ℕ → ℕ → List Packet) → (ℕ → ℕ → List Packet) → (ℕ → ℕ → List Packet) → Type 0

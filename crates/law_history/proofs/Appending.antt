@@ -24,6 +24,7 @@ record Said (t u : Turn) : Type 0 where
   pub journal : u.place.journal ≡ newer ++ entry ∷ t.place.journal
   pub clock : entry.clock ≡ next_clock t
   pub made : All (IsMadeBy t.place.number t.caller.seat) (newer ++ entry ∷ [])
+  pub layout : u.place.layout ≡ t.place.layout
   pub number : u.place.number ≡ t.place.number
   pub seat : u.caller.seat ≡ t.caller.seat
   pub actor : u.caller.actor ≡ t.caller.actor
@@ -38,6 +39,7 @@ said-first a c t s =
       made =
           All-cons (IsMadeBy t.place.number t.caller.seat) (next_entry a t) [] (record { place = refl; seat_is = refl })
           (All-nil (IsMadeBy t.place.number t.caller.seat));
+      layout = refl;
       number = refl;
       seat = s.seat;
       actor = s.actor;
@@ -53,6 +55,7 @@ said-more t a c u s h =
       made =
           All-cons (IsMadeBy t.place.number t.caller.seat) (next_entry a u) (h.newer ++ h.entry ∷ [])
           (record { place = h.number; seat_is = h.seat }) h.made;
+      layout = h.layout;
       number = h.number;
       seat = s.seat ∙ h.seat;
       actor = s.actor ∙ h.actor;
@@ -67,8 +70,8 @@ work-says k t b = work-gives (Said t) (said-more t) t (λ a x s. said-first a x 
 pub turns-append : TurnsAppendEntries
 turns-append l p (Input.Command c) s w m =
     let h = act-says c (begun s w) in
-    record { newer = h.newer; entry = h.entry; journal = h.journal; clock = h.clock; made = h.made; number = h.number; seat = h.seat; actor = h.actor }
+    record { newer = h.newer; entry = h.entry; journal = h.journal; clock = h.clock; made = h.made; layout = h.layout; number = h.number; seat = h.seat; actor = h.actor }
 turns-append l p (Input.Packet a k) s w m =
     let comes = (and_parts (has_place l p) (may_come l p (Input.Packet a k) w) m).1 in
     let h = work-says k (begun_by s w k) (and_parts (has_place l a && not (a == p)) (brings_entry k.cargo) comes).1 in
-    record { newer = h.newer; entry = h.entry; journal = h.journal; clock = h.clock; made = h.made; number = h.number; seat = h.seat; actor = h.actor }
+    record { newer = h.newer; entry = h.entry; journal = h.journal; clock = h.clock; made = h.made; layout = h.layout; number = h.number; seat = h.seat; actor = h.actor }

@@ -7,7 +7,7 @@ use Rattle.std.proofs.lemmas.List.{append-nil, length-append}
 use Rattle.std.proofs.lemmas.List.Elements.{All-head, All-tail}
 use Rattle.chorus_ui.specs.declared.layout.Layout.{Layout}
 use Rattle.chorus_ui.specs.Layout.{has_actor}
-use Rattle.chorus_entry.specs.Kinds.{names_actor}
+use Rattle.chorus_ui.specs.NameKind.{is_actor}
 use Rattle.chorus_calls.specs.Callers.{Seated, new_caller}
 use Rattle.law_machine.specs.PlaceState.{started}
 use Rattle.law_network.specs.Network.{Event, place_numbers, place_in, schedule}
@@ -59,10 +59,10 @@ module _ (l : Layout) where
   may-come (c ∷ cs) es h may =
       let own = All-head (IsComer l) c cs h in
       let keeps = schedule-keeps l es in
-      let comes : names_actor c.actor && has_actor (schedule l es).layout c.actor ≡ true =
-      and_from (names_actor c.actor) (has_actor (schedule l es).layout c.actor) own.kind (ap (λ k. has_actor k c.actor) keeps.layout ∙ own.actor) in
+      let comes : is_actor c.actor && has_actor (schedule l es).layout c.actor ≡ true =
+      and_from (is_actor c.actor) (has_actor (schedule l es).layout c.actor) own.kind (ap (λ k. has_actor k c.actor) keeps.layout ∙ own.actor) in
       ap (may_be l) (one-more c cs es)
-      ∙ may-come cs (coming c ∷ es) (All-tail (IsComer l) c cs h) (and_from (names_actor c.actor && has_actor (schedule l es).layout c.actor) (may_be l es) comes may)
+      ∙ may-come cs (coming c ∷ es) (All-tail (IsComer l) c cs h) (and_from (is_actor c.actor && has_actor (schedule l es).layout c.actor) (may_be l es) comes may)
 
   started-in : (p : ℕ) (ks : List ℕ) → place_in l p (map (started l) ks) ≡ started l p
   started-in p [] = refl

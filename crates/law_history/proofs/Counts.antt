@@ -4,7 +4,9 @@ use Rattle.std.specs.List.{All}
 use Rattle.std.proofs.lemmas.Bool.{eq-eqb, ne_eqb, cases_eq}
 use Rattle.std.proofs.lemmas.List.{length-append, nil_from_length}
 use Rattle.std.proofs.lemmas.List.Elements.{All-nil, All-cons, All-head, All-tail, All-append, All-weaker}
-use Rattle.law_history.specs.Turns.{Input, Sent, Turn, is_at, is_by, puts_to, packet_from, put_to, got_from, before, IsInOrder}
+use Rattle.law_history.specs.Turns.{Input, Sent, Machine, Turn, is_at, is_by, puts_to, packet_from, put_to, got_from, before, IsInOrder}
+use Rattle.law_history.specs.Network.{Network}
+use Rattle.law_history.specs.Histories.{Histories}
 use Rattle.law_history.specs.Counts.{total, packets_in, IsFromBelow, put_count, got_count, IsBelow, EqualCountsLeaveNothing, StandsBehindAllSeen}
 use Rattle.law_history.proofs.Order.{in_order-filter, After, before_on}
 
@@ -98,21 +100,46 @@ module _ {C M K : Type 0} where
       ∙ total_plus n (λ a. length (packet_from a t.input)) (λ a. length (got_from a ts)) ∙ ap (λ k. k + total n (λ a. length (got_from a ts))) (takes_total n t.input own.1)
       ∙ ap (λ k. packets_in t.input + k) (got_total n ts (All-tail (IsBelow n) t ts h))
 
+module _ (P C M K : Type 0) (m : Machine P C M K) (n : ℕ) (opening closing : Network P C K) (places seats : ℕ → List (Turn C M K)) (h : Histories m opening places seats closing) (none : (a b : ℕ) → opening.links a b ≡ []) (below : (p : ℕ) → All (IsBelow n) (places p)) where
+  abbrev left : ℕ → ℕ → ℕ
+  left a b = length (closing.links a b)
+
+  -- what was put is what was taken and what is left
+  put-is-got-and-left : total n (λ p. put_count (places p)) ≡ total n (λ p. got_count (places p)) + total n (λ a. total n (λ b. left a b))
+  put-is-got-and-left = sym all_put ∙ split ∙ ap (λ k. k + total n (λ a. total n (λ b. left a b))) all_got
+    where
+      put : ℕ → ℕ → ℕ
+      put a b = length (put_to b (places a))
+
+      got : ℕ → ℕ → ℕ
+      got a b = length (got_from a (places b))
+
+      each : (a b : ℕ) → put a b ≡ got a b + left a b
+      each a b =
+          ap (λ ks. length (ks ++ put_to b (places a))) (sym (none a b)) ∙ ap length (h.in_order a b) ∙ length-append (got_from a (places b)) (closing.links a b)
+
+      all_put : total n (λ a. total n (λ b. put a b)) ≡ total n (λ p. put_count (places p))
+      all_put = total_same n (λ a. total n (λ b. put a b)) (λ p. put_count (places p)) (λ a. put_total n (places a) (below a))
+
+      all_got : total n (λ a. total n (λ b. got a b)) ≡ total n (λ p. got_count (places p))
+      all_got = total_swap n n got ∙ total_same n (λ b. total n (λ a. got a b)) (λ p. got_count (places p)) (λ b. got_total n (places b) (below b))
+
+      split : total n (λ a. total n (λ b. put a b)) ≡ total n (λ a. total n (λ b. got a b)) + total n (λ a. total n (λ b. left a b))
+      split =
+          total_same n (λ a. total n (λ b. put a b)) (λ a. total n (λ b. got a b) + total n (λ b. left a b)) (λ a. total_same n (λ b. put a b) (λ b. got a b + left a b) (λ b. each a b) ∙ total_plus n (λ b. got a b) (λ b. left a b))
+          ∙ total_plus n (λ a. total n (λ b. got a b)) (λ a. total n (λ b. left a b))
+
+  pub no-more-got : total n (λ p. got_count (places p)) ≤ total n (λ p. put_count (places p))
+  no-more-got = (let e = put-is-got-and-left in omega (arith, e))
+
+  pub none-left : total n (λ p. put_count (places p)) ≡ total n (λ p. got_count (places p)) → (a b : ℕ) → a < n → b < n → closing.links a b ≡ []
+  none-left same a b lta ltb =
+      let e = put-is-got-and-left in
+      let no_rest : total n (λ a. total n (λ b. left a b)) ≡ 0 = omega (arith, e, same) in
+      nil_from_length (closing.links a b) (total_zero n (λ b. left a b) (total_zero n (λ a. total n (λ b. left a b)) no_rest a lta) b ltb)
+
 pub nothing_left : (P C M K : Type 0) → EqualCountsLeaveNothing P C M K
-nothing_left P C M K m n opening closing places seats h none below same a b lta ltb =
-    let put : ℕ → ℕ → ℕ = λ a b. length (put_to b (places a)) in
-    let got : ℕ → ℕ → ℕ = λ a b. length (got_from a (places b)) in
-    let rest : ℕ → ℕ → ℕ = λ a b. length (closing.links a b) in
-    let each : (a b : ℕ) → put a b ≡ got a b + rest a b = λ a b.
-    ap (λ ks. length (ks ++ put_to b (places a))) (sym (none a b)) ∙ ap length (h.in_order a b) ∙ length-append (got_from a (places b)) (closing.links a b) in
-    let all_put : total n (λ a. total n (λ b. put a b)) ≡ total n (λ p. put_count (places p)) = total_same n (λ a. total n (λ b. put a b)) (λ p. put_count (places p)) (λ a. put_total n (places a) (below a)) in
-    let all_got : total n (λ a. total n (λ b. got a b)) ≡ total n (λ p. got_count (places p)) =
-    total_swap n n got ∙ total_same n (λ b. total n (λ a. got a b)) (λ p. got_count (places p)) (λ b. got_total n (places b) (below b)) in
-    let split : total n (λ a. total n (λ b. put a b)) ≡ total n (λ a. total n (λ b. got a b)) + total n (λ a. total n (λ b. rest a b)) =
-    total_same n (λ a. total n (λ b. put a b)) (λ a. total n (λ b. got a b) + total n (λ b. rest a b)) (λ a. total_same n (λ b. put a b) (λ b. got a b + rest a b) (λ b. each a b) ∙ total_plus n (λ b. got a b) (λ b. rest a b))
-    ∙ total_plus n (λ a. total n (λ b. got a b)) (λ a. total n (λ b. rest a b)) in
-    let no_rest : total n (λ a. total n (λ b. rest a b)) ≡ 0 = omega arith in
-    nil_from_length (closing.links a b) (total_zero n (λ b. rest a b) (total_zero n (λ a. total n (λ b. rest a b)) no_rest a lta) b ltb)
+nothing_left P C M K m n opening closing places seats h none below same = none-left P C M K m n opening closing places seats h none below same
 
 module _ {C M K : Type 0} where
   in_the_middle : (F : Turn C M K → Type 0) (xs : List (Turn C M K)) (d : Turn C M K) (ys : List (Turn C M K)) → All F (xs ++ d ∷ ys) → F d

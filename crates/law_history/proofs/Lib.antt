@@ -12,4 +12,6 @@ pub mod Arriving
 pub mod Happening
 pub mod Scheduled
 pub mod Merging
+pub mod Listed
+pub mod Left
 mod Examples

@@ -1,13 +1,11 @@
 -- What follows from the law of the network for journals: the merge is a run that performs the commands.
-use Rattle.std.proofs.Common.{ℕ, ◌≡◌, ◌==◌, Bool, true, false, ◌&&◌, cond, List, [], ◌∷◌, ◌++◌, map, reverse, Option, Some, None, slice_get, refl, sym, ◌∙◌, ap, subst}
+use Rattle.std.proofs.Common.{ℕ, ◌≡◌, ◌==◌, Bool, true, false, cond, List, [], ◌∷◌, ◌++◌, map, reverse, Option, Some, None, slice_get, refl, sym, ◌∙◌, ap, subst}
 use Rattle.std.specs.List.{filter}
 use Rattle.std.specs.Option.{option_map}
 use Rattle.std.proofs.lemmas.Bool.{and_from, eq-eqb}
 use Rattle.std.proofs.lemmas.List.{append-nil}
-use Rattle.chorus_ui.specs.declared.ui.Ui.{Ui}
 use Rattle.chorus_ui.specs.declared.layout.Layout.{Layout}
 use Rattle.chorus_ui.specs.Layout.{IsLayout, places}
-use Rattle.chorus_entry.specs.declared.entry.Entry.{Entry}
 use Rattle.chorus_entry.specs.declared.command.Command.{Command}
 use Rattle.chorus_entry.specs.declared.packet.Packet.{Packet}
 use Rattle.chorus_world.specs.Runs.{is_run}
@@ -17,8 +15,8 @@ use Rattle.chorus_merge.specs.Merge.{merged}
 use Rattle.chorus_calls.specs.Callers.{Seated}
 use Rattle.law_machine.specs.PlaceState.{PlaceState, Outgoing}
 use Rattle.law_network.specs.Packets.{is_link}
-use Rattle.law_network.specs.Network.{NetState, Event, Act, Deliver, place, place_in, place_numbers, schedule}
-use Rattle.law_network.specs.Left.{journals, merged_past, packets_left}
+use Rattle.law_network.specs.Network.{NetState, Event, place_in, schedule}
+use Rattle.law_network.specs.Left.{journals, merged_past}
 use Rattle.law_network.specs.Quiet.{IsQuiet}
 use Rattle.law_network.specs.Stands.{actor_of}
 use Rattle.law_network.specs.Schedules.{commands_of, command_in}
@@ -29,7 +27,7 @@ use Rattle.law_network.proofs.Places.Layouts.{schedule-keeps}
 use Rattle.law_network.proofs.Promises.AllPromises.{keeps-promises}
 use Rattle.law_history.specs.Turns.{Input, is_by}
 use Rattle.law_history.specs.Network.{Network}
-use Rattle.law_history.specs.Journals.{PlaceTurn, Comer, AreHistories, new_from, coming, event_with, event_of, events, on_link, EndsAs, IsTheirSchedule}
+use Rattle.law_history.specs.Journals.{PlaceTurn, Comer, new_from, coming, event_with, event_of, events, IsTheirSchedule}
 use Rattle.law_history.specs.Runs.{with_command, commands_given, journals_at, merged_at, actor_among, MergesAsARun, KeepsPromises, JournalsMergeAsARun, JournalsKeepPromises}
 use Rattle.law_history.proofs.Lists.{reverse-first}
 use Rattle.law_history.proofs.Showing.{packets_on}

@@ -16,14 +16,15 @@ pub record IsMadeBy (number seat : ℕ) (e : Entry) : Type 0 where
   pub place : e.place ≡ number
   pub seat_is : e.seat ≡ seat
 
--- the turn appends a first entry, with the clock that is noted of it, and perhaps newer ones: all of the place and of the caller
--- in whose turn it is, who keeps seat and actor
+-- the turn appends a first entry, with the clock that is noted of it, and perhaps newer ones: all of the place, which keeps layout
+-- and number, and of the caller in whose turn it is, who keeps seat and actor
 pub record Appends (i : Input Command Packet) (s : PlaceState) (w : Seated) : Type 0 where
   pub newer : List Entry
   pub entry : Entry
   pub journal : (turn i s w).place.journal ≡ newer ++ entry ∷ s.journal
   pub clock : entry.clock ≡ (turn i s w).first
   pub made : All (IsMadeBy s.number w.seat) (newer ++ entry ∷ [])
+  pub layout : (turn i s w).place.layout ≡ s.layout
   pub number : (turn i s w).place.number ≡ s.number
   pub seat : (turn i s w).caller.seat ≡ w.seat
   pub actor : (turn i s w).caller.actor ≡ w.actor

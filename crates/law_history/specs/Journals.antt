@@ -9,7 +9,7 @@ use Rattle.chorus_ui.specs.declared.layout.Layout.{Layout}
 use Rattle.chorus_ui.specs.Layout.{IsLayout, has_actor}
 use Rattle.chorus_entry.specs.declared.command.Command.{Command}
 use Rattle.chorus_entry.specs.declared.packet.Packet.{Packet}
-use Rattle.chorus_entry.specs.Kinds.{names_actor}
+use Rattle.chorus_ui.specs.NameKind.{is_actor}
 use Rattle.chorus_calls.specs.Callers.{Seated, new_caller}
 use Rattle.law_machine.specs.PlaceState.{PlaceState, Outgoing, started}
 use Rattle.law_network.specs.Packets.{is_link}
@@ -33,7 +33,7 @@ pub record Comer : Type 0 where
 
 -- in an actor of the layout
 pub record IsComer (l : Layout) (c : Comer) : Type 0 where
-  pub kind : names_actor c.actor ≡ true
+  pub kind : is_actor c.actor ≡ true
   pub actor : has_actor l c.actor ≡ true
 
 -- the new caller of a seat; a seat to which nobody came has one too, which is given no turn

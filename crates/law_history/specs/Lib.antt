@@ -6,3 +6,4 @@ pub mod PlaceTurns
 pub mod Entries
 pub mod Journals
 pub mod Runs
+pub mod Places

@@ -32,10 +32,14 @@ abbrev pub brings_entry : Cargo → Bool
 brings_entry (Cargo.Ask m (Dest.Port q)) = false
 brings_entry _ = true
 
+-- another place of the layout than p
+abbrev pub is_other : Layout → ℕ → ℕ → Bool
+is_other l p a = has_place l a && not (a == p)
+
 -- a command is given at its place, by a caller that may give it; a packet comes from another place of the layout
 abbrev pub may_come : Layout → ℕ → Input Command Packet → Seated → Bool
 may_come l p (Input.Command c) w = (place_for l w.actor c == p) && may_give (Some w) c
-may_come l p (Input.Packet a k) w = has_place l a && not (a == p) && brings_entry k.cargo
+may_come l p (Input.Packet a k) w = is_other l p a && brings_entry k.cargo
 
 -- and a turn is taken at a place of the layout
 abbrev pub may_take : Layout → ℕ → Input Command Packet → PlaceState → Seated → Bool

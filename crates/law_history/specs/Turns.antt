@@ -51,10 +51,15 @@ abbrev pub puts_to : {K : Type 0} → ℕ → List (Sent K) → List K
 puts_to b [] = []
 puts_to b (s ∷ ss) = cond (s.to == b) (s.packet ∷ puts_to b ss) (puts_to b ss)
 
+-- of packets with the places that they come from, those from one place
+abbrev pub from_place : {K : Type 0} → ℕ → List (ℕ × K) → List K
+from_place a [] = []
+from_place a (x ∷ xs) = cond (x.0 == a) (x.1 ∷ from_place a xs) (from_place a xs)
+
 -- the packet that a turn takes, if it comes from this place
 abbrev pub packet_from : {M K : Type 0} → ℕ → Input M K → List K
 packet_from a (Input.Command c) = []
-packet_from a (Input.Packet b k) = cond (b == a) (k ∷ []) []
+packet_from a (Input.Packet b k) = from_place a ((b, k) ∷ [])
 
 module _ {C M K : Type 0} where
   abbrev pub is_at : ℕ → Turn C M K → Bool

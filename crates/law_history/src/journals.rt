@@ -6,7 +6,8 @@ ghost use Rattle.law_history.specs.Runs.{JournalsKeepPromises, JournalsMergeAsAR
 
 /// Each turn that a place may take appends an entry with the clock that is noted of it, and perhaps newer ones.
 ///
-/// All of them are of the place and of the caller in whose turn it is, and the caller keeps its seat and its actor.
+/// All of them are of the place and of the caller in whose turn it is. The place keeps its layout and its number, the caller its
+/// seat and its actor.
 pub fn turns_append_entries()
     ensures { TurnsAppendEntries }
 {}

@@ -15,3 +15,4 @@ pub mod Promises
 pub mod Answering
 pub mod Merging
 pub mod EachMessage
+pub mod ByPlace

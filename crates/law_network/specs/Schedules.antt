@@ -5,7 +5,7 @@ use Rattle.std.specs.Prelude.{ℕ, ◌-◌, ◌^◌, ◌==◌, ◌≡◌, nat_lt
 use Rattle.chorus_ui.specs.declared.layout.Layout.{Layout}
 use Rattle.chorus_ui.specs.Layout.{IsLayout, has_actor, has_place}
 use Rattle.chorus_entry.specs.declared.command.Command.{Command}
-use Rattle.chorus_entry.specs.Kinds.{names_actor}
+use Rattle.chorus_ui.specs.NameKind.{is_actor}
 use Rattle.chorus_calls.specs.Callers.{Seated}
 use Rattle.law_network.specs.Network.{NetState, Event, Enter, Act, Deliver, schedule}
 
@@ -21,7 +21,7 @@ may_give (Some caller) command =
 
 -- a caller comes in an actor of the layout; a packet is worked off by somebody who came, between two places of the layout
 abbrev pub may_happen : Event → NetState → Bool
-may_happen (Enter actor last) n = names_actor actor && has_actor n.layout actor
+may_happen (Enter actor last) n = is_actor actor && has_actor n.layout actor
 may_happen (Act seat command) n = may_give (slice_get n.callers seat) command
 may_happen (Deliver seat a b) n =
     is_some (slice_get n.callers seat) && has_place n.layout a && has_place n.layout b && not (a == b)

@@ -9,7 +9,7 @@ use Rattle.chorus_ui.specs.declared.layout.Layout.{Layout}
 use Rattle.chorus_ui.specs.Layout.{has_actor, place_at}
 use Rattle.chorus_entry.specs.declared.entry.Entry.{Entry}
 use Rattle.chorus_entry.specs.declared.id.MsgId.{MsgId}
-use Rattle.chorus_entry.specs.Kinds.{names_actor}
+use Rattle.chorus_ui.specs.NameKind.{is_actor}
 use Rattle.chorus_world.specs.Views.{at, by}
 use Rattle.chorus_world.specs.Places.{last_clock, located}
 use Rattle.chorus_world.specs.Groups.{posts_to, unchosen}
@@ -38,7 +38,7 @@ pub record AreOf (l : Layout) (places : List PlaceState) : Type 0 where
 -- the caller of a seat, of which `mine` are the entries: it has posted and called what they say, and at its home place alone
 pub record IsCaller (l : Layout) (past mine : List Entry) (number : ℕ) (caller : Seated) : Type 0 where
   pub seat : caller.seat ≡ number
-  pub kind : names_actor caller.actor ≡ true
+  pub kind : is_actor caller.actor ≡ true
   pub actor : has_actor l caller.actor ≡ true
   pub posts : caller.posts ≡ posts mine
   pub given : caller.client.given ≡ requests mine

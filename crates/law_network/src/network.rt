@@ -1,5 +1,6 @@
 //! The laws of the network. They speak of the definitions alone and make no call.
 
+ghost use Rattle.law_network.specs.ByPlace.{SchedulesStandByPlace};
 ghost use Rattle.law_network.specs.EachMessage.{ClosedHoldEach, HoldingsHoldEach, NetworksHoldEach};
 ghost use Rattle.law_network.specs.History.{EventsStand, SchedulesStandInOrder};
 ghost use Rattle.law_network.specs.Promises.{SchedulesKeepPromises};
@@ -55,4 +56,10 @@ pub fn each_message_stands_once()
     ensures holdings { HoldingsHoldEach }
     ensures network { NetworksHoldEach }
     ensures closed { ClosedHoldEach }
+{}
+
+/// The network of a schedule has the places of its layout by their numbers, and its packets stand by the place that put them and then
+/// by the place that they go to, which are two different places of the layout.
+pub fn networks_stand_by_place()
+    ensures { SchedulesStandByPlace }
 {}

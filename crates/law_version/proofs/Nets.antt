@@ -13,7 +13,7 @@ use Rattle.chorus_entry.specs.declared.command.Command.{Command}
 use Rattle.chorus_entry.specs.declared.packet.Packet.{Packet}
 use Rattle.chorus_entry.specs.declared.packet.Cargo.{Cargo}
 use Rattle.chorus_entry.specs.declared.packet.Cargo.TheVariants as cargos
-use Rattle.chorus_entry.specs.Kinds.{names_actor}
+use Rattle.chorus_ui.specs.NameKind.{is_actor}
 use Rattle.chorus_entry.specs.Places.{place_for}
 use Rattle.chorus_world.specs.Views.{at}
 use Rattle.chorus_world.specs.Groups.{members}
@@ -197,7 +197,7 @@ module _ (n : ℕ) (more : List PlaceState) (net : NetState) (past : List Entry)
 
   -- and what may happen on more sites, and is near, may happen
   pub may-down : (e : Event) → EventWithin n net.layout e → is_near net.layout e ≡ true → may_happen e (net_on n more net) ≡ true → may_happen e net ≡ true
-  may-down (Enter actor last) h near may = ap (λ b. names_actor actor && b) (sym (actor-same n net.layout actor h)) ∙ may
+  may-down (Enter actor last) h near may = ap (λ b. is_actor actor && b) (sym (actor-same n net.layout actor h)) ∙ may
   may-down (Act seat c) h near may = may
   may-down (Deliver seat a b) h near may =
       let two = and_parts (has_place net.layout a) (has_place net.layout b) near in

@@ -168,7 +168,7 @@ module _ (n : ℕ) (more : List PlaceState) (c : Scene) (shape : IsLayout c.layo
       let same = one-end l (tasks c) a.events (near l b.events) (worn_clock s) (worn_clock t) shape a.may agrees.may a.unworn
       (unworn-down n more l shape wider start fit b.events all b.may b.unworn) (ends-as l (tasks c) s a.events a.carried) down in
       let merges : merge_of one ≡ merge_of other =
-      ap merged (a.closes).journals ∙ ap (λ (m : NetState). merge m) same.1 ∙ sym (merge-on b.events b.may all) ∙ sym (ap merged (b.closes).journals) in
+      ap merged (a.closes).left.journals ∙ ap (λ (m : NetState). merge m) same.1 ∙ sym (merge-on b.events b.may all) ∙ sym (ap merged (b.closes).left.journals) in
       record { worn = same.0; merge = merges; text = ap (λ (es : List Entry). journal_text es ++ summary_text es) merges }
 
 -- On 8 and on 16 sites.

@@ -13,7 +13,7 @@ use Rattle.chorus_ui.specs.Layout.{IsLayout, has_actor, has_place}
 use Rattle.chorus_entry.specs.declared.dest.Dest.{Dest}
 use Rattle.chorus_entry.specs.declared.dest.Dest.TheVariants as dests
 use Rattle.chorus_entry.specs.declared.command.Command.{Command}
-use Rattle.chorus_entry.specs.Kinds.{names_actor, names_group, names_port}
+use Rattle.chorus_ui.specs.NameKind.{is_actor, is_group, is_port}
 use Rattle.chorus_entry.specs.Command.{is_capacity, meets_conditions}
 use Rattle.chorus_entry.specs.Members.{is_member}
 use Rattle.law_network.specs.Network.{Event, Enter, Act, Deliver}
@@ -51,7 +51,7 @@ module _ (n : ℕ) (l : Layout) (wider : l.sites ≤ n) (version m : ℕ) (sites
       both-have n l site wider (and_from (nat_le 1 site) (nat_le site l.sites) two.0 (le-leb site l.sites (omega (arith, high, sites))))
 
   actor-within : (u : Ui) → is_actor_of l m u ≡ true → Within n l u
-  actor-within u h = site-within u.site (and_parts (names_actor u && has_actor l u) (is_site m u.site) h).1
+  actor-within u h = site-within u.site (and_parts (is_actor u && has_actor l u) (is_site m u.site) h).1
 
   dest-within : (d : Dest) → dest_is_of m d ≡ true → DestWithin n l d
   dest-within (dests.Port q) h = site-within q.site h
@@ -93,7 +93,7 @@ module _ (n : ℕ) (l : Layout) (wider : l.sites ≤ n) (version m : ℕ) (sites
   line-within before (setups.Group site) keeps =
       site-within site (and_parts (is_site m site) (nat_le (next_group l site (made_after l [] before)).number GROUPS_PER_SITE_LIMIT) keeps).0
   line-within before (setups.Member group port) keeps =
-      let two = names_group group && names_port port in
+      let two = is_group group && is_port port in
       let four = two && is_site m group.site && is_site m port.site in
       let six = four && is_member group (made_after l [] before) && is_member port (made_after l [] before) in
       let seven = six && nat_lt (length (members_of group before)) MEMBERS_LIMIT in

@@ -7,7 +7,7 @@ ghost use Rattle.chorus_entry.specs.declared.act.Act.TheVariants.{GroupMake};
 ghost use Rattle.chorus_world.specs.Places.{last_clock, ports_made, is_made_here, is_deleted};
 ghost use Rattle.chorus_world.specs.Views.{is_group};
 ghost use Rattle.chorus_world.specs.Groups as world;
-ghost use Rattle.chorus_groups.specs.Groups.{group_of, after_make, members, rotation, new_table};
+ghost use Rattle.chorus_groups.specs.Groups.{group_of, members, rotation, new_table};
 ghost use Rattle.place_journal.specs.Counting.{groups_with, with_group, MayFollow};
 
 use crate::acts::{change, count_made, mark_deleted, mark_made};
@@ -25,7 +25,7 @@ pub struct Journal {
     layout: Layout,
     entries: Vec<Entry>,
     clock: u64,
-    count: u64,
+    made_count: u64,
     made: PortMarks,
     deleted: PortMarks,
     groups: Groups,
@@ -46,7 +46,7 @@ impl Model for Journal {
 
     ghost invariant = { λ j. (j.made.layout ≡ j.layout)
         × (j.deleted.layout ≡ j.layout)
-        × IsCounted (reverse j.entries.items) j.clock j.count j.made j.deleted j.groups };
+        × IsCounted (reverse j.entries.items) j.clock j.made_count j.made j.deleted j.groups };
 }
 
 impl Journal {
@@ -63,7 +63,7 @@ impl Journal {
             layout,
             entries: Vec::new(alloc),
             clock: 0,
-            count: 0,
+            made_count: 0,
             made,
             deleted,
             groups,
@@ -95,7 +95,7 @@ impl Journal {
     pub fn ports_made(&self) -> u64
         ensures { result ≡ ports_made self.now.past }
     {
-        self.count
+        self.made_count
     }
 
     /// Whether the port was made here.
@@ -159,7 +159,7 @@ impl Journal {
         ensures spare { self.new.spare ≡ self.old.spare - 1 }
     {
         self.clock = entry.clock;
-        self.count += count_made(&entry.act);
+        self.made_count += count_made(&entry.act);
         mark_made(&mut self.made, &entry.act, self.layout, &self.groups);
         mark_deleted(&mut self.deleted, &entry.act, self.layout, &self.groups);
         change(&mut self.groups, &entry.act, self.layout);

@@ -6,7 +6,7 @@ ghost use Rattle.chorus_ui.specs.Layout.{names_port};
 ghost use Rattle.chorus_ui.specs.Name.{same_ui};
 ghost use Rattle.place_journal.specs.Marks.{is_marked};
 
-use chorus_ui::{Kind, Layout, Ui};
+use chorus_ui::{Layout, Ui};
 use std::alloc::{AllocError, Global};
 use std::marker::Model;
 
@@ -53,7 +53,7 @@ impl PortMarks {
     pub(crate) fn is_marked(&self, ui: Ui) -> bool
         ensures { result ≡ is_marked self.now ui }
     {
-        if ui.kind() != Kind::Port || !self.layout.can_make_port(ui) {
+        if !ui.is_port() || !self.layout.can_make_port(ui) {
             return false;
         }
         self.flags[self.layout.port_row(ui)]

@@ -10,7 +10,6 @@ ghost use Rattle.place_outcome.specs.Outcomes.{goes_to, dest_by, copies_by, outc
 
 use chorus_entry::{Act, Answer, Dest, Entry, MsgId};
 use law_machine::Outcome;
-use place_ranges::is_final;
 
 /// What the journal says of a message: where its post goes, the answer of the post, and that of the message.
 #[derive(Clone, Copy, Debug)]
@@ -50,7 +49,7 @@ fn said_of(act: &Act) -> Option<Answer>
 {
     match act {
         Act::Told { answer, .. } => {
-            if is_final(*answer) {
+            if answer.is_final() {
                 Some(*answer)
             } else {
                 None

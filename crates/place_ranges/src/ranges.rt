@@ -2,36 +2,13 @@
 
 ghost use Rattle.std.specs.Prelude.{◌≡◌, ◌≤◌, ◌&&◌, true};
 ghost use Rattle.std.specs.List.{list_all};
-ghost use Rattle.chorus_entry.specs.Answer.{is_final};
-ghost use Rattle.chorus_entry.specs.Kinds.{names_actor, names_port, names_group, has_kinds_in_tag};
 ghost use Rattle.chorus_entry.specs.Ranges.{is_from, is_place_number, is_site_number, has_range_of_id, has_range_of_tag, has_ranges_of_message, is_route, is_demanded_site, has_ranges_of_answer, is_told, has_range_of_client, has_ranges_of_clients, has_ranges_of_record, is_asked, has_ranges_of_cargo, has_ranges};
 
 use chorus_entry::{
     Answer, BODY_LIMIT, Cargo, ClientTable, Dest, MEMBERS_LIMIT, Message, MsgId, PENDING_LIMIT,
     Packet, Pending, PortRecord, Tag,
 };
-use chorus_ui::{Kind, PLACES_LIMIT, SITES_LIMIT, Ui};
-
-/// Whether the name is an actor's.
-fn names_actor(ui: Ui) -> bool
-    ensures { result ≡ names_actor ui }
-{
-    ui.kind() == Kind::Actor
-}
-
-/// Whether the name is a port's.
-fn names_port(ui: Ui) -> bool
-    ensures { result ≡ names_port ui }
-{
-    ui.kind() == Kind::Port
-}
-
-/// Whether the name is a group's.
-fn names_group(ui: Ui) -> bool
-    ensures { result ≡ names_group ui }
-{
-    ui.kind() == Kind::Group
-}
+use chorus_ui::{PLACES_LIMIT, SITES_LIMIT, Ui};
 
 /// Whether the number is from `low` to `high`.
 fn is_from(low: usize, high: usize, number: usize) -> bool
@@ -72,23 +49,13 @@ fn has_range_of_tag(tag: Tag) -> bool
     }
 }
 
-/// Whether the reply port of a request is a port.
-fn has_kinds_in_tag(tag: Tag) -> bool
-    ensures { result ≡ has_kinds_in_tag tag }
-{
-    match tag {
-        Tag::Request { back, .. } => names_port(back),
-        _ => true,
-    }
-}
-
 /// Whether the message is within its ranges.
 fn has_ranges_of_message(message: &Message) -> bool
     ensures { result ≡ has_ranges_of_message message.now }
 {
     has_range_of_id(message.id)
         && has_range_of_tag(message.tag)
-        && has_kinds_in_tag(message.tag)
+        && message.tag.has_kinds()
         && message.body.bytes().len() <= BODY_LIMIT
 }
 
@@ -113,7 +80,7 @@ fn is_route(route: Option<Ui>) -> bool
     ensures { result ≡ is_route route }
 {
     match route {
-        Some(group) => names_group(group),
+        Some(group) => group.is_group(),
         None => true,
     }
 }
@@ -142,13 +109,6 @@ fn has_ranges_of_answer(clock: u64, answer: Answer) -> bool
         Answer::NoPort | Answer::Already | Answer::ClientsFull | Answer::NoMember | Answer::Gone =>
             true,
     }
-}
-
-/// Whether the message is not tried again, once it has this answer.
-pub fn is_final(answer: Answer) -> bool
-    ensures { result ≡ is_final answer }
-{
-    !matches!(answer, Answer::Stale { .. })
 }
 
 /// Whether the answer is a decision.
@@ -193,8 +153,8 @@ fn has_ranges_of_clients(clients: &ClientTable) -> bool
 fn has_ranges_of_record(clock: u64, port: &PortRecord) -> bool
     ensures { result ≡ has_ranges_of_record clock port.now }
 {
-    names_port(port.ui)
-        && names_actor(port.actor)
+    port.ui.is_port()
+        && port.actor.is_actor()
         && is_from(1, PENDING_LIMIT, usize::from(port.capacity))
         && port.hop <= clock
         && port.first <= clock
@@ -209,8 +169,8 @@ fn is_asked(dest: Dest) -> bool
 {
     match dest {
         Dest::Port(_) => false,
-        Dest::All(group) | Dest::One(group) => names_group(group),
-        Dest::OneAt(group, site) => names_group(group) && is_site_number(site),
+        Dest::All(group) | Dest::One(group) => group.is_group(),
+        Dest::OneAt(group, site) => group.is_group() && is_site_number(site),
     }
 }
 
@@ -229,7 +189,7 @@ fn has_ranges_of_cargo(clock: u64, cargo: &Cargo) -> bool
             is_route(*route)
                 && is_demanded_site(*only)
                 && *hop <= clock
-                && names_port(*port)
+                && port.is_port()
                 && has_ranges_of_message(message)
         }
         Cargo::Verdict {
@@ -239,7 +199,7 @@ fn has_ranges_of_cargo(clock: u64, cargo: &Cargo) -> bool
             answer,
         } => {
             has_range_of_id(*id)
-                && names_port(*port)
+                && port.is_port()
                 && is_route(*route)
                 && is_told(*answer)
                 && has_ranges_of_answer(clock, *answer)
@@ -247,7 +207,7 @@ fn has_ranges_of_cargo(clock: u64, cargo: &Cargo) -> bool
         Cargo::Transfer { port } => has_ranges_of_record(clock, port),
         Cargo::Ask { message, dest } => is_asked(*dest) && has_ranges_of_message(message),
         Cargo::Report { id, answer } => {
-            has_range_of_id(*id) && is_final(*answer) && has_ranges_of_answer(clock, *answer)
+            has_range_of_id(*id) && answer.is_final() && has_ranges_of_answer(clock, *answer)
         }
     }
 }

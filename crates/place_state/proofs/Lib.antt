@@ -13,3 +13,4 @@ pub mod Rooms
 pub mod Groups
 pub mod Choosing
 pub mod Counted
+pub mod Leaving

@@ -12,7 +12,6 @@ use crate::parcel::Parcel;
 use chorus_calls::Caller;
 use chorus_entry::{Act, Answer, Cargo, Entry, MsgId, Packet};
 use place_journal::Journal;
-use place_ranges::is_final;
 use std::collections::VecDeque;
 
 /// The caller's next entry at this place: its clock is above that of the place and of the caller.
@@ -71,7 +70,7 @@ pub fn put_report(
         length puts.old.items + length (report place home id answer) }
     ensures room { deque_capacity puts.new ≡ deque_capacity puts.old }
 {
-    if home != place && is_final(answer) {
+    if home != place && answer.is_final() {
         put(puts, home, clock, place, Cargo::Report { id, answer });
     }
 }

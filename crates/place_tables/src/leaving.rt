@@ -19,8 +19,8 @@ use place_unsettled::{Key, Wait};
 use std::alloc::AllocError;
 
 impl Tables {
-    /// How many packets the messages of a port and route may report: none where the messages are direct.
-    pub fn reports(&self, key: &Key) -> usize
+    /// How many packets the messages of a port and route may report at most: none where the messages are direct.
+    pub fn most_reports(&self, key: &Key) -> usize
         ensures enough { reports_for key.now self.now ≤ result }
         ensures small { result < 2 ^ 63 }
     {

@@ -1,1 +1,4 @@
-pub mod GroupTurns
+pub mod Performing
+pub mod MovePort
+pub mod Posting
+pub mod CallTurns

@@ -1,1 +1,2 @@
-pub mod GroupTurns
+pub mod CallTurns
+pub mod Posting

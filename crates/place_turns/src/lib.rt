@@ -1,17 +1,16 @@
-//! Whole turns with groups; and what a turn looks for in the tables before it changes anything: the names that a place gives, which
-//! messages leave once copies wait, and whether a packet may be worked off.
+//! Whole turns with ports, messages and calls: the commands of a caller that no group takes part in.
 //!
-//! The layer above rests on this: a turn with a group does exactly what the place machine does (`law_machine`), gives its reply,
-//! and where it is refused changes nothing; and what is looked for is what the definitions say of the tables.
+//! The layer above rests on this: each turn does exactly what the place machine does (`law_machine`), gives its reply, and where it
+//! is refused changes nothing.
 //!
-//! Begin with `turns_groups`; `naming`, `courses` and `lawful` read. The tables and their steps are those of `place_tables`.
+//! Begin with `messages`, over which `calls` stands; `ports` has the turns at ports. A turn takes first all that can fail, and then
+//! goes step by step: the tables and their steps are those of `place_tables`.
 #![tactic(auto)]
 
-mod courses;
-mod lawful;
-mod naming;
-mod turns_groups;
+mod calls;
+mod messages;
+mod ports;
 
-pub use lawful::is_lawful;
-pub use naming::{has_made_all, next_group, next_port};
-pub use turns_groups::{hear_ask, join, leave, make_group, post_to_group};
+pub use calls::{call, cancel, retry, send_reply};
+pub use messages::send_to_port;
+pub use ports::{delete, make, move_port, take};

@@ -9,16 +9,16 @@ use Rattle.chorus_entry.specs.declared.entry.Entry.{Entry}
 use Rattle.chorus_world.specs.Places.{farther}
 use Rattle.chorus_board.specs.declared.board.Board.{Board}
 use Rattle.chorus_board.specs.Boards.{IsNewBoard}
-use Rattle.chorus_board.specs.Located.{located_after, told_of, IsOfOnePlace}
-use Rattle.chorus_board.proofs.Whereabouts.{located_more, of_one_place}
+use Rattle.chorus_board.specs.Located.{located_after, told_of, IsOfPlace}
+use Rattle.chorus_board.proofs.Whereabouts.{located_more, of_place}
 use Rattle.tests_board.specs.Moves.{entry_of, departure, departures, HasDeparted}
 
 pub departure_located : (l : Layout) (port : Ui) (place hop : ℕ) (q : Ui) → farther (located_after l [] q) (told_of q port place hop) ≡ located_after l (departure port place hop) q
 unfolding located_after
 departure_located l port place hop q = refl
 
-pub departure_of_one_place : (port : Ui) (place hop : ℕ) → IsOfOnePlace (departure port place hop)
-departure_of_one_place port place hop = of_one_place 1 (departure port place hop) (search rules)
+pub departure_of_place : (port : Ui) (place hop : ℕ) → IsOfPlace 1 (departure port place hop)
+departure_of_place port place hop = of_place 1 (departure port place hop) (search rules)
 
 abbrev pub next_entry : Ui → ℕ → Entry
 next_entry port n = entry_of (n + 1) (Depart port ((n + 1) % 2 + 1) port (n + 1))
@@ -28,8 +28,8 @@ unfolding departures
 no_departures port = refl
 
 -- of a new board nothing departed
-pub none_departed : (l : Layout) (board : Board) (port : Ui) → IsNewBoard l board → HasDeparted board port 0
-none_departed l board port new = (new.2 ∙ sym (no_departures port), new.1 ∙ sym (no_departures port))
+pub none_departed : (l : Layout) (board : Board) (port : Ui) → IsNewBoard l 1 board → HasDeparted board port 0
+none_departed l board port new = (new.3 ∙ sym (no_departures port), new.2 ∙ sym (no_departures port), new.1)
 
 pub next_departures : (port : Ui) (n : ℕ) → departures port (n + 1) ≡ departures port n ++ next_entry port n ∷ []
 unfolding departures
@@ -49,8 +49,8 @@ unfolding departures
 all_here port zero = λ k d inside. absurd (omega (arith, inside))
 all_here port (suc n) = All-append (λ (e : Entry). e.place ≡ 1) (departures port n) (next_entry port n ∷ []) (all_here port n) (one_here (next_entry port n) refl)
 
-pub departures_of_one_place : (port : Ui) (n : ℕ) → IsOfOnePlace (departures port n)
-departures_of_one_place port n = of_one_place 1 (departures port n) (all_here port n)
+pub departures_of_place : (port : Ui) (n : ℕ) → IsOfPlace 1 (departures port n)
+departures_of_place port n = of_place 1 (departures port n) (all_here port n)
 
 pub departures_located : (l : Layout) (port : Ui) (n : ℕ) (q : Ui) → farther (located_after l (departures port n) q) (told_of q port ((n + 1) % 2 + 1) (n + 1)) ≡ located_after l (departures port (n + 1)) q
 departures_located l port n q =

@@ -5,7 +5,7 @@ use Rattle.chorus_entry.specs.declared.act.Act.{Act}
 use Rattle.chorus_entry.specs.declared.act.Act.TheVariants.{NoCall, Depart}
 use Rattle.chorus_entry.specs.declared.entry.Entry.{Entry}
 use Rattle.chorus_board.specs.declared.board.Board.{Board}
-use Rattle.chorus_board.specs.Boards.{entries_published, entries_begun}
+use Rattle.chorus_board.specs.Boards.{entries_published, entries_begun, place_of}
 
 -- an entry of place 1
 abbrev pub entry_of : ℕ → Act → Entry
@@ -21,6 +21,6 @@ unfoldable pub departures : Ui → ℕ → List Entry
 departures port zero = []
 departures port (suc n) = departures port n ++ entry_of (n + 1) (Depart port ((n + 1) % 2 + 1) port (n + 1)) ∷ []
 
--- so many departures are published, and no more were begun
+-- on the board of place 1 so many departures are published, and no more were begun
 abbrev pub HasDeparted : Board → Ui → ℕ → Type 0
-HasDeparted board port n = (entries_begun board ≡ departures port n) × (entries_published board ≡ departures port n)
+HasDeparted board port n = (entries_begun board ≡ departures port n) × (entries_published board ≡ departures port n) × (place_of board ≡ 1)

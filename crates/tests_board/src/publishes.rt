@@ -2,10 +2,9 @@
 //! ends the test.
 
 ghost use Rattle.std.specs.Prelude.{◌≡◌, ◌+◌, ◌<◌, ◌^◌, [], IsTrue, All};
-ghost use mathlib.Core.List.{IsPrefix};
 ghost use Rattle.chorus_ui.specs.declared.kind.Kind.TheVariants.{Port};
 ghost use Rattle.chorus_ui.specs.Layout.{has_site, has_place, can_make_port};
-ghost use Rattle.chorus_board.specs.Boards.{entries_published, entries_heard, book_of, layout_of, layout_read, IsSameBoard, IsSameReader, IsNewBoard, IsNewIn};
+ghost use Rattle.chorus_board.specs.Boards.{entries_published, book_of, layout_of, layout_read, IsSameBoard, IsSameReader, IsNewBoard, IsNewIn};
 ghost use Rattle.tests_board.specs.Moves.{departure, HasDeparted};
 
 use chorus_board::{Board, BoardReader, Located};
@@ -26,10 +25,10 @@ pub(crate) fn start<R: Abort + Wait>(
     alloc: Global,
     layout: Layout,
 ) -> (Board, Vec<BoardReader>)
-    ensures board { IsNewBoard layout result.0 }
-    ensures readers { All (IsNewIn (book_of result.0) layout) result.1.items }
+    ensures board { IsNewBoard layout 1 result.0 }
+    ensures readers { All (IsNewIn (book_of result.0) layout 1) result.1.items }
 {
-    let Ok(started) = Board::start(alloc, rt, layout) else {
+    let Ok(started) = Board::start(alloc, rt, layout, 1) else {
         panic!(rt; "memory")
     };
     started
@@ -50,7 +49,7 @@ pub(crate) fn port_in(rt: &impl Abort, layout: Layout, number: u64) -> Ui
 
 /// Publishes the second of three entries, a departure.
 fn publish_departure<R: Abort + Wait>(rt: &R, board: &mut Board, port: Ui, place: u16, hop: u64)
-    requires new { IsNewBoard (layout_of board.old) board.old }
+    requires new { IsNewBoard (layout_of board.old) 1 board.old }
     requires port { (port.kind ≡ Port) × IsTrue (can_make_port (layout_of board.old) port) }
     requires place { IsTrue (has_place (layout_of board.old) place) }
     ensures board { IsSameBoard board.old board.new }
@@ -63,7 +62,7 @@ fn publish_departure<R: Abort + Wait>(rt: &R, board: &mut Board, port: Ui, place
 
 /// Publishes that the port departs to place 2 by hop 1.
 fn publish_first<R: Abort + Wait>(rt: &R, board: &mut Board, layout: Layout, port: Ui)
-    requires new { IsNewBoard layout board.old }
+    requires new { IsNewBoard layout 1 board.old }
     requires port { (port.kind ≡ Port) × IsTrue (can_make_port layout port) }
     ensures { IsSameBoard board.old board.new }
 {
@@ -78,7 +77,6 @@ pub(crate) fn publish_next<R: Abort + Wait>(rt: &R, board: &mut Board, port: Ui,
     requires so_far { HasDeparted board.old port count }
     ensures board { IsSameBoard board.old board.new }
     ensures departed { HasDeparted board.new port (count + 1) }
-    ensures heard { IsPrefix (entries_heard board.old) (entries_published board.new) }
 {
     let hop = count + 1;
     let place = (hop % 2) as u16 + 1;
@@ -94,9 +92,9 @@ pub(crate) fn next_reader(
     layout: Layout,
     readers: &mut Vec<BoardReader>,
 ) -> BoardReader
-    requires { All (IsNewIn (book_of board.now) layout) readers.old.items }
-    ensures one { IsNewIn (book_of board.now) layout result }
-    ensures rest { All (IsNewIn (book_of board.now) layout) readers.new.items }
+    requires { All (IsNewIn (book_of board.now) layout 1) readers.old.items }
+    ensures one { IsNewIn (book_of board.now) layout 1 result }
+    ensures rest { All (IsNewIn (book_of board.now) layout 1) readers.new.items }
 {
     let Some(reader) = readers.pop() else {
         panic!(rt; "a reader")
@@ -148,17 +146,17 @@ fn assert_sees<R: Abort + Wait>(
     mut follower: BoardReader,
     mut idle: BoardReader,
 )
-    requires board { IsNewBoard layout board }
-    requires reader { IsNewIn (book_of board) layout reader }
-    requires follower { IsNewIn (book_of board) layout follower }
-    requires idle { IsNewIn (book_of board) layout idle }
+    requires board { IsNewBoard layout 1 board }
+    requires reader { IsNewIn (book_of board) layout 1 reader }
+    requires follower { IsNewIn (book_of board) layout 1 follower }
+    requires idle { IsNewIn (book_of board) layout 1 idle }
 {
     let port = port_in(rt, layout, 1);
     let other = port_in(rt, layout, 2);
     publish_first(rt, &mut board, layout, port);
     assert_newest(rt, &mut reader, layout, port, MOVED);
     assert_newest(rt, &mut reader, layout, other, MADE);
-    board.hear(&mut reader);
+    board.hear(rt, &mut reader);
     follower.follow(&mut board);
     board.end(rt);
     assert_newest(rt, &mut follower, layout, port, MOVED);
@@ -191,8 +189,8 @@ fn assert_next_sees(
     first: Ui,
     port: Ui,
 )
-    requires { All (IsNewIn (book_of board.now) layout) readers.old.items }
-    ensures { All (IsNewIn (book_of board.now) layout) readers.new.items }
+    requires { All (IsNewIn (book_of board.now) layout 1) readers.old.items }
+    ensures { All (IsNewIn (book_of board.now) layout 1) readers.new.items }
 {
     let mut reader = next_reader(rt, board, layout, readers);
     newest(rt, &mut reader, layout, first);
@@ -208,7 +206,7 @@ fn assert_all_see(
     port: Ui,
     other: Ui,
 )
-    requires { All (IsNewIn (book_of board.now) layout) readers.old.items }
+    requires { All (IsNewIn (book_of board.now) layout 1) readers.old.items }
 {
     for _ in 0..32 {
         assert_next_sees(rt, board, layout, readers, other, port);
@@ -240,14 +238,14 @@ fn answers_of_one_heard<R: Abort + Wait>(
     reader: &mut BoardReader,
     port: Ui,
 ) -> (Located, Located)
-    requires board { IsNewBoard (layout_of board.old) board.old }
-    requires reader { IsNewIn (book_of board.old) (layout_of board.old) reader.old }
+    requires board { IsNewBoard (layout_of board.old) 1 board.old }
+    requires reader { IsNewIn (book_of board.old) (layout_of board.old) 1 reader.old }
     requires port { (port.kind ≡ Port) × IsTrue (can_make_port (layout_of board.old) port) }
     requires site { IsTrue (has_site (layout_of board.old) port.site) }
 {
     publish_next(rt, board, port, 0);
     let first = reader.newest(port);
-    board.hear(reader);
+    board.hear(rt, reader);
     publish_next(rt, board, port, 1);
     reader.follow(board);
     publish_next(rt, board, port, 2);
@@ -260,6 +258,7 @@ fn assert_one_heard_sees_the_next<R: Abort + Wait>(rt: &R, alloc: Global) {
     let (mut board, mut readers) = start(rt, alloc, layout);
     let mut reader = next_reader(rt, &board, layout, &mut readers);
     let (one, three) = answers_of_one_heard(rt, &mut board, &mut reader, port);
+    assert_eq!(rt; (board.published(), board.begun()), (3, 3));
     board.end(rt);
     assert_located(rt, one, (2, 1, 1));
     assert_located(rt, three, (2, 3, 3));

@@ -17,7 +17,7 @@ use std::thread::{Threads, join};
 const LAST: u64 = 2_000;
 
 fn publish_departures<R: Abort + Wait>(rt: &R, board: &mut Board, port: Ui)
-    requires new { IsNewBoard (layout_of board.old) board.old }
+    requires new { IsNewBoard (layout_of board.old) 1 board.old }
     requires port { (port.kind ≡ Port) × IsTrue (can_make_port (layout_of board.old) port) }
 {
     for count in 0..LAST {
@@ -58,7 +58,7 @@ fn assert_comes_to_the_last<R: Abort + Threads + Wait + Sync>(
     reader: BoardReader,
     port: Ui,
 )
-    requires new { IsNewBoard (layout_of board) board }
+    requires new { IsNewBoard (layout_of board) 1 board }
     requires port { (port.kind ≡ Port) × IsTrue (can_make_port (layout_of board) port) }
     requires site { IsTrue (has_site (layout_read reader) port.site) }
 {
@@ -68,7 +68,7 @@ fn assert_comes_to_the_last<R: Abort + Threads + Wait + Sync>(
             requires { (port.kind ≡ Port) × IsTrue (has_site (layout_read reader) port.site) }
         { read_departures(rt, reader, port) },
         ||
-            requires new { IsNewBoard (layout_of board) board }
+            requires new { IsNewBoard (layout_of board) 1 board }
             requires port { (port.kind ≡ Port) × IsTrue (can_make_port (layout_of board) port) }
         { publish_departures(rt, &mut board, port) },
     );

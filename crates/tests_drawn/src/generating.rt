@@ -13,7 +13,7 @@ use chorus_place::{Place, PlaceFault};
 use chorus_ui::CLOCK_LIMIT;
 use std::alloc::Global;
 use std::process::Abort;
-use tests_ground::{Net, act_at, index, look, meets_conditions, number_for, work_at};
+use tests_ground::{Net, act_at, index, look, number_for, work_at};
 
 const ROUNDS: u64 = 8;
 
@@ -61,7 +61,7 @@ fn show(rt: &impl Abort, place: &mut Place, caller: &mut Caller, packet: Packet)
 fn command<R: Abort>(draws: &mut Draws<'_, R>, net: &mut Net) {
     let seat = usize::from(draws.below(5));
     let command = draws.command();
-    if !meets_conditions(&command) {
+    if !command.meets_conditions() {
         return;
     }
     let rt = draws.rt;

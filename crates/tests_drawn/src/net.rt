@@ -5,11 +5,10 @@ ghost use Rattle.chorus_place.specs.Calls.{state, MayCall};
 
 use chorus_calls::Caller;
 use chorus_entry::Command;
-use chorus_place::{Place, place_for};
+use chorus_place::Place;
 use chorus_ui::Ui;
 use std::alloc::Global;
 use std::process::Abort;
-use tests_ground::meets_conditions;
 
 /// How many places there are.
 pub(crate) const PLACES: u16 = 4;
@@ -22,8 +21,8 @@ pub(crate) fn assert_may(rt: &impl Abort, place: &Place, caller: &Caller, comman
 {
     let layout = place.layout();
     assert!(rt; layout.has_site(caller.actor().site()));
-    assert!(rt; meets_conditions(command));
-    assert!(rt; place_for(layout, caller.actor(), command) == place.number());
+    assert!(rt; command.meets_conditions());
+    assert!(rt; command.place_for(layout, caller.actor()) == place.number());
     assert!(rt; caller.posts() < u32::MAX);
     assert!(rt; caller.client().given() < u32::MAX);
 }

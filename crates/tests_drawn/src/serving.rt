@@ -33,7 +33,7 @@ use chorus_serve::{Desk, Pump, serve};
 use chorus_ui::{CLOCK_LIMIT, Layout};
 use std::alloc::Global;
 use std::process::Abort;
-use tests_ground::{look, meets_conditions, number_for};
+use tests_ground::{look, number_for};
 
 /// How many places are served.
 const ROUNDS: u64 = 1_500;
@@ -313,7 +313,7 @@ fn serve_step(rt: &impl Abort, side: &mut Side<MemEnds>, seat: usize, tally: &mu
 
 /// Whether the command may be performed at the place.
 fn is_for(rt: &impl Abort, place: &Place, caller: &Caller, command: &Command) -> bool {
-    if !meets_conditions(command) {
+    if !command.meets_conditions() {
         return false;
     }
     let number = number_for(&Ground { rt }, place.layout(), caller.actor(), command);

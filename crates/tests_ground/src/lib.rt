@@ -5,14 +5,12 @@
 //! plays tables of scenarios, and what callers are told is written one line for each reply.
 #![tactic(auto)]
 
-mod conditions;
 mod judge;
 mod lines;
 mod messages;
 mod net;
 mod playing;
 
-pub use conditions::meets_conditions;
 pub use judge::{Judge, check, must};
 pub use messages::{message_of, push_message};
 pub use net::{Net, Seen, act_at, index, look, number_for, work_at};

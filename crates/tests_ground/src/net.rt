@@ -2,13 +2,12 @@
 
 ghost use Rattle.std.specs.Prelude.{◌≡◌, true, IsTrue};
 
-use crate::conditions::meets_conditions;
 use crate::judge::{Judge, check, must};
 use crate::lines::push_told;
 use chorus_calls::Caller;
 use chorus_entry::{Command, Entry, Hand, Packet};
 use chorus_merge::merge;
-use chorus_place::{Place, PlaceFault, Reply, place_for};
+use chorus_place::{Place, PlaceFault, Reply};
 use chorus_show::entry_line;
 use chorus_ui::{Layout, Ui};
 use std::alloc::Global;
@@ -61,10 +60,10 @@ pub fn number_for(judge: &impl Judge, layout: Layout, actor: Ui, command: &Comma
     if !layout.has_site(actor.site()) {
         match judge.fail("an actor of the layout", "") {}
     }
-    if !meets_conditions(command) {
+    if !command.meets_conditions() {
         match judge.fail("a command that meets its conditions", "") {}
     }
-    place_for(layout, actor, command)
+    command.place_for(layout, actor)
 }
 
 /// Where the call was refused, what is seen is what was seen before.
@@ -91,10 +90,10 @@ pub fn act_at(
     if !layout.has_site(caller.actor().site()) {
         match judge.fail("a caller of the layout", "") {}
     }
-    if !meets_conditions(&command) {
+    if !command.meets_conditions() {
         match judge.fail("a command that meets its conditions", "") {}
     }
-    if place_for(layout, caller.actor(), &command) != place.number() {
+    if command.place_for(layout, caller.actor()) != place.number() {
         match judge.fail("the place of the command", "") {}
     }
     if caller.posts() >= u32::MAX {

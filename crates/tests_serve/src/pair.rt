@@ -8,13 +8,11 @@ ghost use Rattle.std.specs.Prelude.{◌≡◌, ◌-◌, true};
 use chorus_calls::Caller;
 use chorus_ends::{Ends, MemEnds, Moves};
 use chorus_entry::{BODY_LIMIT, Body, Command, Dest, Packet};
-use chorus_place::place_for;
 use chorus_ruled_ends::RuledEnds;
 use chorus_serve::{Desk, Pump, serve};
 use chorus_ui::{Layout, Ui};
 use std::alloc::Global;
 use std::process::Abort;
-use tests_ground::meets_conditions;
 
 /// The two places.
 #[derive(Drop)]
@@ -112,8 +110,8 @@ pub(crate) fn act<E: Ends>(
     let place = desk.place();
     let (layout, number) = (place.layout(), place.number());
     assert!(rt; layout.has_site(caller.actor().site()));
-    assert!(rt; meets_conditions(&command));
-    assert!(rt; place_for(layout, caller.actor(), &command) == number);
+    assert!(rt; command.meets_conditions());
+    assert!(rt; command.place_for(layout, caller.actor()) == number);
     assert!(rt; caller.posts() < u32::MAX);
     assert!(rt; caller.client().given() < u32::MAX);
     desk.act(caller, command).ok().expect(rt, "memory");

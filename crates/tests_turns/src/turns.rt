@@ -67,6 +67,8 @@ struct Add {
 impl Job<Log> for Add {
     type Out = bool;
 
+    ghost accepts = { λ _ _ _. Unit {0} };
+
     ghost ran = { λ _ _ _ _ _ _. Unit {0} };
 
     ghost notes = { λ before _ news. All (λ r. r.remark ≡ before.clock) news };
@@ -91,7 +93,11 @@ struct Inside<'a> {
 impl<'a> Job<Log> for Inside<'a> {
     type Out = bool;
 
+    ghost accepts = { λ _ _ _. Unit {0} };
+
     ghost ran = { λ before _ _ after _ _. table_of after.turns.now ≡ table_of before.turns.now };
+
+    ghost notes = { λ _ _ _. Unit {0} };
 
     fn run(&mut self, state: &mut Log, seat: u32) -> bool {
         self.refused = self

@@ -5,9 +5,8 @@ ghost use Rattle.chorus_entry.specs.declared.act.Act.TheVariants as Act;
 ghost use Rattle.chorus_world.specs.Groups.{is_group_place};
 ghost use Rattle.chorus_checker.specs.Worlds.{is_group_in, may_do};
 
-use crate::group::is_member;
 use crate::world::World;
-use chorus_entry::MEMBERS_LIMIT;
+use chorus_entry::{MEMBERS_LIMIT, is_member};
 use chorus_ui::{GROUPS_PER_SITE_LIMIT, Ui};
 
 impl World {

@@ -40,7 +40,7 @@ pub(super) fn route_from(reader: &mut Reader<'_>) -> Result<Option<Ui>, DecodeFa
         return Ok(None);
     }
     match Ui::of_bits(bits) {
-        Some(ui) if ui.kind() == Kind::Group => Ok(Some(ui)),
+        Some(ui) if ui.is_group() => Ok(Some(ui)),
         _ => Err(DecodeFault::Range),
     }
 }

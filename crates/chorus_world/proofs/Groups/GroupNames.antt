@@ -11,7 +11,8 @@ use Rattle.chorus_entry.specs.declared.dest.Dest.{Dest}
 use Rattle.chorus_entry.specs.declared.dest.Dest.TheVariants.{Port, All, One, OneAt}
 use Rattle.chorus_entry.specs.declared.act.Act.{Act}
 use Rattle.chorus_entry.specs.declared.act.Act.TheVariants.{Join, Leave}
-use Rattle.chorus_entry.specs.Kinds.{has_kinds, names_port, names_group}
+use Rattle.chorus_ui.specs.NameKind.{is_port, is_group}
+use Rattle.chorus_entry.specs.Kinds.{has_kinds}
 use Rattle.chorus_world.specs.Views.{at}
 use Rattle.chorus_entry.specs.Order.{is_at}
 use Rattle.chorus_world.specs.Groups.{members, members_after, in_turn, rotation, is_at_site, choice}
@@ -22,11 +23,11 @@ use Rattle.chorus_world.proofs.Messages.SentFacts.{legal-kinds}
 -- each is the name of a port
 abbrev AreNamed : List Ui → Type 0
 AreNamed [] = Unit {0}
-AreNamed (q ∷ qs) = (names_port q ≡ true) × AreNamed qs
+AreNamed (q ∷ qs) = (is_port q ≡ true) × AreNamed qs
 
-named-all : (qs : List Ui) → AreNamed qs → list_all names_port qs ≡ true
+named-all : (qs : List Ui) → AreNamed qs → list_all is_port qs ≡ true
 named-all [] h = refl
-named-all (q ∷ qs) h = and_from (names_port q) (list_all names_port qs) h.0 (named-all qs h.1)
+named-all (q ∷ qs) h = and_from (is_port q) (list_all is_port qs) h.0 (named-all qs h.1)
 
 named-append : (qs rs : List Ui) → AreNamed qs → AreNamed rs → AreNamed (qs ++ rs)
 named-append [] rs a b = b
@@ -47,7 +48,7 @@ named-after : (g : Ui) (a : Act) (qs : List Ui) → has_kinds a ≡ true → Are
 named-after g (Join h q) qs k n = go (same_ui h g)
   where
     go : (b : Bool) → AreNamed (cond b (qs ++ q ∷ []) qs)
-    go true = named-append qs (q ∷ []) n ((and_parts (names_group h) (names_port q) k).1, tt)
+    go true = named-append qs (q ∷ []) n ((and_parts (is_group h) (is_port q) k).1, tt)
     go false = n
 named-after g (Leave h q) qs k n = go (same_ui h g)
   where
@@ -79,7 +80,7 @@ named-found t (q ∷ qs) h = go (t q) (named-found t qs h.1)
     go true n = (h.0, tt)
     go false n = n
 
-pub choice-named : (l : Layout) (past : List Entry) (p : ℕ) (d : Dest) → is_legal l past ≡ true → list_all names_port (choice l d (at p past)) ≡ true
+pub choice-named : (l : Layout) (past : List Entry) (p : ℕ) (d : Dest) → is_legal l past ≡ true → list_all is_port (choice l d (at p past)) ≡ true
 choice-named l past p d h = named-all (choice l d (at p past)) (by d)
   where
     here : List Entry

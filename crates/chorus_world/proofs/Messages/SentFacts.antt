@@ -30,7 +30,8 @@ use Rattle.chorus_entry.specs.MsgId.{same_id}
 use Rattle.chorus_entry.proofs.Same.{same_id-self}
 use Rattle.chorus_world.proofs.Messages.SentLemmas.{find_sent_append}
 use Rattle.chorus_world.proofs.Messages.MessageInvariant.{legal_messages}
-use Rattle.chorus_entry.specs.Kinds.{has_kinds, has_kinds_in_tag, names_port, names_group}
+use Rattle.chorus_ui.specs.NameKind.{is_port, is_group}
+use Rattle.chorus_entry.specs.Kinds.{has_kinds, has_kinds_in_tag}
 
 -- each of the messages that were sent
 abbrev pub EachSent : (Sent → Type 0) → List Sent → Type 0
@@ -229,17 +230,17 @@ route-is (Some f) (Some g) h = ap (λ z. Some z) (from_same_ui f g h)
 
 -- what is sent goes to a port
 
-copies-named : (x : MsgId) (g : Ui) (n : ℕ) (qs : List Ui) → list_all names_port qs ≡ true → EachSent (λ m. names_port m.port ≡ true) (copies x g n qs)
+copies-named : (x : MsgId) (g : Ui) (n : ℕ) (qs : List Ui) → list_all is_port qs ≡ true → EachSent (λ m. is_port m.port ≡ true) (copies x g n qs)
 copies-named x g n [] h = tt
 copies-named x g n (q ∷ qs) h =
-    let two = and_parts (names_port q) (list_all names_port qs) h in (two.0, copies-named x g (n + 1) qs two.1)
+    let two = and_parts (is_port q) (list_all is_port qs) h in (two.0, copies-named x g (n + 1) qs two.1)
 
-by-named : (a : Act) → has_kinds a ≡ true → EachSent (λ m. names_port m.port ≡ true) (sent_by a)
-by-named (Post m (Port q)) h = ((and_parts (has_kinds_in_tag m.tag) (names_port q) h).1, tt)
+by-named : (a : Act) → has_kinds a ≡ true → EachSent (λ m. is_port m.port ≡ true) (sent_by a)
+by-named (Post m (Port q)) h = ((and_parts (has_kinds_in_tag m.tag) (is_port q) h).1, tt)
 by-named (Post m (All g)) h = tt
 by-named (Post m (One g)) h = tt
 by-named (Post m (OneAt g s)) h = tt
-by-named (Choose x g qs) h = copies-named x g 1 qs (and_parts (names_group g) (list_all names_port qs) h).1
+by-named (Choose x g qs) h = copies-named x g 1 qs (and_parts (is_group g) (list_all is_port qs) h).1
 by-named _ h = tt
 
 pub legal-kinds : (l : Layout) (e : Entry) (past : List Entry) → is_legal l (e ∷ past) ≡ true → (has_kinds e.act ≡ true) × (is_legal l past ≡ true)
@@ -249,13 +250,13 @@ legal-kinds l e past h =
     let b = may_stand_behind (just_taken past v.here) e.act in
     ((and_parts (has_kinds e.act) b (and_parts (has_kinds e.act && b) (act_may l v e.place e.seat e.act) (and_parts (is_timely l v e) (act_follows l v e.place e.seat e.act) two.0).1).0).0, two.1)
 
-pub sent-named : (l : Layout) (past : List Entry) (p : ℕ) → is_legal l past ≡ true → EachSent (λ m. names_port m.port ≡ true) (sent (at p past))
+pub sent-named : (l : Layout) (past : List Entry) (p : ℕ) → is_legal l past ≡ true → EachSent (λ m. is_port m.port ≡ true) (sent (at p past))
 sent-named l [] p h = tt
 sent-named l (e ∷ past) p h = go (is_at p e) (sent-named l past p (legal-kinds l e past h).1)
   where
-    go : (b : Bool) → EachSent (λ m. names_port m.port ≡ true) (sent (at p past)) → EachSent (λ m. names_port m.port ≡ true) (sent (cond b (e ∷ at p past) (at p past)))
+    go : (b : Bool) → EachSent (λ m. is_port m.port ≡ true) (sent (at p past)) → EachSent (λ m. is_port m.port ≡ true) (sent (cond b (e ∷ at p past) (at p past)))
     go false ih = ih
-    go true ih = each-append (λ m. names_port m.port ≡ true) (sent (at p past)) (sent_by e.act) ih (by-named e.act (legal-kinds l e past h).0)
+    go true ih = each-append (λ m. is_port m.port ≡ true) (sent (at p past)) (sent_by e.act) ih (by-named e.act (legal-kinds l e past h).0)
 
 pub found-has : (P : Sent → Type 0) (x : MsgId) (ms : List Sent) (m : Sent) → EachSent P ms → find_sent x ms ≡ Some m → P m
 found-has P x [] m h e = absurd (cc)

@@ -15,7 +15,8 @@ use Rattle.chorus_entry.specs.declared.act.Act.{Act}
 use Rattle.chorus_entry.specs.declared.act.Act.TheVariants.{Post, Accept, Full, Already, ClientsFull, Stale, Early, NoPort, Elsewhere, NoMember, Choose, Try, Told, Heard, Gone}
 use Rattle.chorus_entry.specs.Act.{message_of, port_of, is_decision}
 use Rattle.chorus_entry.specs.Answer.{is_final}
-use Rattle.chorus_entry.specs.Kinds.{has_kinds, names_port}
+use Rattle.chorus_ui.specs.NameKind.{is_port}
+use Rattle.chorus_entry.specs.Kinds.{has_kinds}
 use Rattle.chorus_world.specs.declared.message.Progress.{Progress}
 use Rattle.chorus_world.specs.declared.message.Progress.TheVariants.{Idle, Asked, Tried, Decided, Settled, Reported}
 use Rattle.chorus_world.specs.Views.{views, at, about, is_about}
@@ -39,8 +40,8 @@ use Rattle.chorus_world.proofs.Messages.SentFacts.{legal-kinds}
 
 -- A fact of legal lists: what is so of a message that is under way.
 abbrev pub StageFacts : Layout → List Entry → MsgId → Progress → Type 0
-StageFacts l past x (Tried from q to h) = (names_port q ≡ true) × ((is_on_site l (site_asked x past) to ≡ true) × ((to == from) ≡ false))
-StageFacts l past x (Decided from by q a) = (names_port q ≡ true) × (is_settled x (at from past) ≡ false)
+StageFacts l past x (Tried from q to h) = (is_port q ≡ true) × ((is_on_site l (site_asked x past) to ≡ true) × ((to == from) ≡ false))
+StageFacts l past x (Decided from by q a) = (is_port q ≡ true) × (is_settled x (at from past) ≡ false)
 StageFacts l past x _ = Unit {0}
 
 abbrev pub KeepsStages : Type 0

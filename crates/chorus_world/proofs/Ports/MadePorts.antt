@@ -15,7 +15,8 @@ use Rattle.chorus_entry.specs.declared.entry.Entry.{Entry}
 use Rattle.chorus_entry.specs.declared.act.Act.{Act}
 use Rattle.chorus_entry.specs.declared.act.Act.TheVariants.{Make, Accept, Full, Already, ClientsFull, Take, Empty, Rehome, Depart, Arrive, Delete}
 use Rattle.chorus_entry.specs.Act.{held_port_of}
-use Rattle.chorus_entry.specs.Kinds.{has_kinds, names_actor, names_port}
+use Rattle.chorus_ui.specs.NameKind.{is_actor, is_port}
+use Rattle.chorus_entry.specs.Kinds.{has_kinds}
 use Rattle.chorus_world.specs.declared.port.Spot.{Spot}
 use Rattle.chorus_world.specs.declared.port.Spot.TheVariants.{Held, Moving, Ended}
 use Rattle.chorus_world.specs.Views.{views, at, on, is_by, is_about, is_on}
@@ -86,8 +87,8 @@ clock-some l past e h =
 -- Ports.
 
 abbrev pub ActorFits : Layout → Spot → Type 0
-ActorFits l (Held a) = (names_actor a ≡ true) × (has_actor l a ≡ true)
-ActorFits l (Moving a) = (names_actor a ≡ true) × (has_actor l a ≡ true)
+ActorFits l (Held a) = (is_actor a ≡ true) × (has_actor l a ≡ true)
+ActorFits l (Moving a) = (is_actor a ≡ true) × (has_actor l a ≡ true)
 ActorFits l Ended = Unit {0}
 
 pub record IsWellMade (l : Layout) (q : Ui) (f : PortState) (line : List Entry) : Type 0 where
@@ -174,7 +175,7 @@ module _ (l : Layout) (past : List Entry) (q : Ui) (e : Entry) (shape : IsLayout
         listed = ap (can_make_port l) same ∙ new.0;
         some = omega arith;
         clock = omega (arith, one);
-        actor = ((and_parts (names_port r) (names_actor b) k).1, new.1);
+        actor = ((and_parts (is_port r) (is_actor b) k).1, new.1);
         here = λ z. refl;
       }
   made-step (Arrive r hop) is h k old = by (fate (on q past)) refl (needs l past e.clock e.place e.seat (Arrive r hop) q (ap held_port_of (sym is) ∙ on_is q (held_port_of e.act) line) h) old
@@ -201,7 +202,7 @@ module _ (l : Layout) (past : List Entry) (q : Ui) (e : Entry) (shape : IsLayout
   made-step (Rehome r b) is h k old =
       let two = and_parts (is_held_at e.place (fate (on r past))) (has_actor l b) (and_parts (is_held_at e.place (fate (on r past)) && has_actor l b) (b.site == site_of l e.place) h).0 in
       by-fate (Rehome r b) (fate (on q past)) refl (needs l past e.clock e.place e.seat (Rehome r b) q (ap held_port_of (sym is) ∙ on_is q (held_port_of e.act) line) h) old
-      (λ f i w. held-on f (changed (Rehome r b) f) i w refl (omega arith) ((and_parts (names_port r) (names_actor b) k).1, two.1)) (λ f. refl)
+      (λ f i w. held-on f (changed (Rehome r b) f) i w refl (omega arith) ((and_parts (is_port r) (is_actor b) k).1, two.1)) (λ f. refl)
   made-step (Delete r xs) is h k old =
       by-fate (Delete r xs) (fate (on q past)) refl (needs l past e.clock e.place e.seat (Delete r xs) q (ap held_port_of (sym is) ∙ on_is q (held_port_of e.act) line) h) old
       (λ f i w. held-on f (changed (Delete r xs) f) i w refl (omega arith) tt) (λ f. refl)
@@ -214,9 +215,9 @@ module _ (l : Layout) (past : List Entry) (q : Ui) (e : Entry) (shape : IsLayout
       let two = and_parts (is_held_at e.place (fate (on r past)) && has_actor l b) (not (b.site == site_of l e.place)) three.0 in
       let one = and_parts (is_held_at e.place (fate (on r past))) (has_actor l b) two.0 in
       by-fate (Depart r to b hop) (fate (on q past)) refl (needs l past e.clock e.place e.seat (Depart r to b hop) q (ap held_port_of (sym is) ∙ on_is q (held_port_of e.act) line) h) old
-      (λ f i w. departs f i w one.1 (and_parts (names_port r) (names_actor b) k).1) (λ f. refl)
+      (λ f i w. departs f i w one.1 (and_parts (is_port r) (is_actor b) k).1) (λ f. refl)
     where
-      departs : (f : PortState) → is_held_at e.place (Some f) ≡ true → IsWellMade l q f (on q past) → has_actor l b ≡ true → names_actor b ≡ true → IsWellMade l q (changed (Depart r to b hop) f) (e ∷ on q past)
+      departs : (f : PortState) → is_held_at e.place (Some f) ≡ true → IsWellMade l q f (on q past) → has_actor l b ≡ true → is_actor b ≡ true → IsWellMade l q (changed (Depart r to b hop) f) (e ∷ on q past)
       departs f i w actor named =
           let held = held_fate e.place (Some f) i in
           let same : held.0 ≡ f = (let both = held.2 in cc) in

@@ -11,7 +11,8 @@ use Rattle.chorus_entry.specs.declared.tag.Tag.{Tag}
 use Rattle.chorus_entry.specs.declared.tag.Tag.TheVariants.{Plain, Request, Reply}
 use Rattle.chorus_entry.specs.declared.act.Act.{Act}
 use Rattle.chorus_entry.specs.declared.act.Act.TheVariants.{Post, Take}
-use Rattle.chorus_entry.specs.Kinds.{has_kinds, has_kinds_in_tag, has_kinds_in_dest, names_port}
+use Rattle.chorus_ui.specs.NameKind.{is_port}
+use Rattle.chorus_entry.specs.Kinds.{has_kinds, has_kinds_in_tag, has_kinds_in_dest}
 use Rattle.chorus_world.specs.Views.{by, is_by}
 use Rattle.chorus_world.specs.Posts.{Posted, post_of, posted_by, posted_in, source, tag_from}
 use Rattle.chorus_world.specs.Seats.{Call, call_by, first_call, requests, hand, hand_after, hand_with, hand_without}
@@ -50,7 +51,7 @@ next-uncalled mine = go (first_call (requests mine + 1) mine) refl
     go None h = refl
     go (Some c) h = absurd (let le = first_bounds (requests mine + 1) mine c h in omega (arith, le))
 
-called-kinds-by : (n : ℕ) (a : Act) (c : Call) → has_kinds a ≡ true → call_by n a ≡ Some c → (names_port c.port ≡ true) × (names_port c.back ≡ true)
+called-kinds-by : (n : ℕ) (a : Act) (c : Call) → has_kinds a ≡ true → call_by n a ≡ Some c → (is_port c.port ≡ true) × (is_port c.back ≡ true)
 called-kinds-by n (Post m d) c k h =
     let is = call_is n m.tag d m.body c h in
     let two = and_parts (has_kinds_in_tag m.tag) (has_kinds_in_dest d) k in
@@ -58,7 +59,7 @@ called-kinds-by n (Post m d) c k h =
 called-kinds-by n _ c k h = none_some c h
 
 -- the port of a call, and that of its reply
-pub called-kinds : (l : Layout) (past : List Entry) (s n : ℕ) (c : Call) → is_legal l past ≡ true → first_call n (by s past) ≡ Some c → (names_port c.port ≡ true) × (names_port c.back ≡ true)
+pub called-kinds : (l : Layout) (past : List Entry) (s n : ℕ) (c : Call) → is_legal l past ≡ true → first_call n (by s past) ≡ Some c → (is_port c.port ≡ true) × (is_port c.back ≡ true)
 called-kinds l [] s n c h k = none_some c k
 called-kinds l (e ∷ past) s n c h k =
     let two = legal-kinds l e past h in
@@ -73,23 +74,23 @@ called-kinds l (e ∷ past) s n c h k =
 -- The request in hand.
 
 taken-kinds : (l : Layout) (past : List Entry) (c : ℕ) (o : Option Posted) (h : Option Hand) (z : Hand) → ((d : Posted) → o ≡ Some d → has_kinds_in_tag d.message.tag ≡ true)
-    → ((y : Hand) → h ≡ Some y → names_port y.back ≡ true) → hand_with c (tag_from o) h ≡ Some z → names_port z.back ≡ true
+    → ((y : Hand) → h ≡ Some y → is_port y.back ≡ true) → hand_with c (tag_from o) h ≡ Some z → is_port z.back ≡ true
 taken-kinds l past c None h z kinds old k = old z k
 taken-kinds l past c (Some d) h z kinds old k = by d.message.tag refl k
   where
-    by : (g : Tag) → d.message.tag ≡ g → hand_with c g h ≡ Some z → names_port z.back ≡ true
+    by : (g : Tag) → d.message.tag ≡ g → hand_with c g h ≡ Some z → is_port z.back ≡ true
     by Plain e j = old z j
     by (Reply a n) e j = old z j
     by (Request n back) e j =
         let same : record { client = c; number = n; back = back } ≡ z = some_is (record { client = c; number = n; back = back }) z j in
-        ap (λ (y : Hand). names_port y.back) (sym same) ∙ (ap has_kinds_in_tag (sym e) ∙ kinds d refl)
+        ap (λ (y : Hand). is_port y.back) (sym same) ∙ (ap has_kinds_in_tag (sym e) ∙ kinds d refl)
 
-posts-none : (g : Tag) (h : Option Hand) (z : Hand) → ((y : Hand) → h ≡ Some y → names_port y.back ≡ true) → hand_without g h ≡ Some z → names_port z.back ≡ true
+posts-none : (g : Tag) (h : Option Hand) (z : Hand) → ((y : Hand) → h ≡ Some y → is_port y.back ≡ true) → hand_without g h ≡ Some z → is_port z.back ≡ true
 posts-none Plain h z old k = old z k
 posts-none (Request n back) h z old k = old z k
 posts-none (Reply c n) h z old k = none_some z k
 
-pub hand-kinds : (l : Layout) (past : List Entry) (s : ℕ) (z : Hand) → IsLayout l → is_legal l past ≡ true → hand past (by s past) ≡ Some z → names_port z.back ≡ true
+pub hand-kinds : (l : Layout) (past : List Entry) (s : ℕ) (z : Hand) → IsLayout l → is_legal l past ≡ true → hand past (by s past) ≡ Some z → is_port z.back ≡ true
 hand-kinds l [] s z shape h k = none_some z k
 hand-kinds l (e ∷ past) s z shape h k =
     elim (cases_Bool (is_by s e)) [
@@ -106,7 +107,7 @@ hand-kinds l (e ∷ past) s z shape h k =
     same : hand (e ∷ past) (by s past) ≡ hand past (by s past)
     same = hand_agrees (e ∷ past) past mine (goes-on e past) (filtered past (is_by s) past (legal_laws l past shape before).posted)
 
-    step : (a : Act) → e.act ≡ a → hand_after (e ∷ past) e.act (hand (e ∷ past) (by s past)) ≡ Some z → ((y : Hand) → hand past (by s past) ≡ Some y → names_port y.back ≡ true) → names_port z.back ≡ true
+    step : (a : Act) → e.act ≡ a → hand_after (e ∷ past) e.act (hand (e ∷ past) (by s past)) ≡ Some z → ((y : Hand) → hand past (by s past) ≡ Some y → is_port y.back ≡ true) → is_port z.back ≡ true
     step (Take q n x) is j ih =
         taken-kinds l (e ∷ past) x.seat (post_of x (e ∷ past)) (hand past mine) z (λ d o. (posted-kinds l (e ∷ past) x d h o).0) ih
         (ap (hand_after (e ∷ past) (Take q n x)) (sym same) ∙ (ap (λ a. hand_after (e ∷ past) a (hand (e ∷ past) mine)) (sym is) ∙ j))

@@ -24,7 +24,8 @@ use Rattle.chorus_entry.specs.declared.act.Act.TheVariants.{Make, MakeFull, NoAc
 use Rattle.chorus_entry.specs.Body.{same_body}
 use Rattle.chorus_entry.specs.Dest.{same_dest}
 use Rattle.chorus_entry.specs.MsgId.{same_id}
-use Rattle.chorus_entry.specs.Kinds.{has_kinds, names_actor, names_port}
+use Rattle.chorus_ui.specs.NameKind.{is_actor, is_port}
+use Rattle.chorus_entry.specs.Kinds.{has_kinds}
 use Rattle.chorus_entry.proofs.Same.{from_same_id, from_same_dest, from_same_body, from_same_ids}
 use Rattle.chorus_world.specs.Views.{views, at, by, on, is_group, makes_group}
 use Rattle.chorus_entry.specs.Order.{is_at}
@@ -87,7 +88,7 @@ module _ (l : Layout) (past : List Entry) (p k : ℕ) (a : Ui) where
       let home = and_parts (has_actor l b) (place_at l b.site b == p) one.0 in
       let same = and_parts (same_ui b actor) (n == capacity) f.answers in
       let actor_is : b ≡ actor = from_same_ui b actor same.0 in
-      let name = ui-is q actor.site (next_number l p here) kinds.Port (eqb-true q.site b.site four.1 ∙ ap (λ (u : Ui). u.site) actor_is) (from_same_kind q.kind kinds.Port (and_parts (names_port q) (names_actor b) f.kinds).0) (eqb-true q.number (next_number l p here) five.1) in
+      let name = ui-is q actor.site (next_number l p here) kinds.Port (eqb-true q.site b.site four.1 ∙ ap (λ (u : Ui). u.site) actor_is) (from_same_kind q.kind kinds.Port (and_parts (is_port q) (is_actor b) f.kinds).0) (eqb-true q.number (next_number l p here) five.1) in
       (λ i. Make (name i) (actor_is i) (eqb-true n capacity same.1 i))
       ∙ sym (last-of (not (has_actor l actor)) (is_full_of_ports l here) (NoActor actor) (MakeFull actor) (Make (record { site = actor.site; kind = kinds.Port; number = next_number l p here }) actor capacity)
       (there-is (has_actor l actor) (subst (λ (u : Ui). has_actor l u ≡ true) actor_is home.0)) (not-true (is_full_of_ports l here) three.1))

@@ -29,7 +29,9 @@ use Rattle.chorus_entry.specs.MsgId.{same_id}
 use Rattle.chorus_entry.specs.Members.{is_member}
 use Rattle.chorus_entry.specs.Places.{place_for}
 use Rattle.chorus_entry.specs.Same.{is_number, are_same}
-use Rattle.chorus_entry.specs.Kinds.{has_kinds_in_dest, names_actor, names_port, names_group}
+use Rattle.chorus_ui.specs.NameKind as name_kind
+use Rattle.chorus_ui.specs.NameKind.{is_actor, is_port}
+use Rattle.chorus_entry.specs.Kinds.{has_kinds_in_dest}
 use Rattle.chorus_entry.proofs.Same.{same_id-self, same_dest-self, same_body-self, same_ids-self}
 use Rattle.chorus_world.specs.declared.port.Spot.{Spot}
 use Rattle.chorus_world.specs.declared.port.Spot.TheVariants.{Held, Moving, Ended}
@@ -115,7 +117,7 @@ module _ (l : Layout) (past : List Entry) (k : ℕ) (a : Ui) (layout : IsLayout 
       let c = Command.Make actor n in
       let p = place_for l a c in
       let here = at p past in
-      let names = and_parts (names_actor actor) (is_capacity n) h in
+      let names = and_parts (is_actor actor) (is_capacity n) h in
       let bounds = and_parts (nat_le 1 n) (nat_le n PENDING_LIMIT) names.1 in
       let q : Ui = record { site = actor.site; kind = kinds.Port; number = next_number l p here } in
       by-cases (Fit c) (not (has_actor l actor)) (NoActor actor) (cond (is_full_of_ports l here) (MakeFull actor) (Make q actor n))
@@ -161,8 +163,8 @@ module _ (l : Layout) (past : List Entry) (k : ℕ) (a : Ui) (layout : IsLayout 
   fit-call : (q back : Ui) (body : List ℕ) → meets_conditions (Command.Call q back body) ≡ true → Fit (Command.Call q back body) (call_for k mine q back body (call mine))
   fit-call q back body h = go (call mine) refl
     where
-      names : (names_port q ≡ true) × (names_port back ≡ true)
-      names = and_parts (names_port q) (names_port back) h
+      names : (is_port q ≡ true) × (is_port back ≡ true)
+      names = and_parts (is_port q) (is_port back) h
 
       go : (o : Option ℕ) → call mine ≡ o → Fit (Command.Call q back body) (call_for k mine q back body o)
       go None e =
@@ -171,7 +173,7 @@ module _ (l : Layout) (past : List Entry) (k : ℕ) (a : Ui) (layout : IsLayout 
           let first = is_none (call mine) && (n == requests mine + 1) in
           let again = is_number n (call mine) && are_same same_call (first_call n mine) (call_in n (tags.Request n back) (dests.Port q) body) in
           record {
-            kinds = and_from (names_port back) (names_port q) names.1 names.0;
+            kinds = and_from (is_port back) (is_port q) names.1 names.0;
             may =
                 post-may (tags.Request n back) body (dests.Port q)
                 (and_from (is_some (call_in n (tags.Request n back) (dests.Port q) body)) (first || again) (ap is_some (called n c))
@@ -199,7 +201,7 @@ module _ (l : Layout) (past : List Entry) (k : ℕ) (a : Ui) (layout : IsLayout 
           let same : are_same same_call (first_call n mine) (call_in n (tags.Request n c.back) (dests.Port c.port) c.body) ≡ true = (λ i. are_same same_call (was.1 i) (called n c i)) ∙ same-call c in
           let again = is_number n (call mine) && are_same same_call (first_call n mine) (call_in n (tags.Request n c.back) (dests.Port c.port) c.body) in
           let fit : Fit Command.Retry (retry_as k mine n (Some c)) = record {
-            kinds = and_from (names_port c.back) (names_port c.port) names.1 names.0;
+            kinds = and_from (is_port c.back) (is_port c.port) names.1 names.0;
             may =
                 post-may (tags.Request n c.back) c.body (dests.Port c.port)
                 (and_from (is_some (call_in n (tags.Request n c.back) (dests.Port c.port) c.body)) (first || again) (ap is_some (called n c))
@@ -232,7 +234,7 @@ module _ (l : Layout) (past : List Entry) (k : ℕ) (a : Ui) (layout : IsLayout 
 
   -- Ports.
 
-  fit-take : (q : Ui) → names_port q ≡ true → Fit (Command.Take q) (answer_at l past (place_at l a.site q) k a (Command.Take q))
+  fit-take : (q : Ui) → is_port q ≡ true → Fit (Command.Take q) (answer_at l past (place_at l a.site q) k a (Command.Take q))
   fit-take q names =
       by-cases (Fit (Command.Take q)) (is_held_at_by p a (fate (on q past))) (take_from q (fate (on q past))) (NotHere q) (go (fate (on q past)) refl)
       (λ free. record { kinds = names; may = refl; fits = ap not free; answers = same_ui-self q })
@@ -273,7 +275,7 @@ module _ (l : Layout) (past : List Entry) (k : ℕ) (a : Ui) (layout : IsLayout 
                 answers = same_ui-self q;
               }
 
-  fit-delete : (q : Ui) → names_port q ≡ true → Fit (Command.Delete q) (answer_at l past (place_at l a.site q) k a (Command.Delete q))
+  fit-delete : (q : Ui) → is_port q ≡ true → Fit (Command.Delete q) (answer_at l past (place_at l a.site q) k a (Command.Delete q))
   fit-delete q names =
       by-cases (Fit (Command.Delete q)) (is_held_at_by p a (fate (on q past))) (delete_from q (fate (on q past))) (NotHere q) (go (fate (on q past)) refl)
       (λ free. record { kinds = names; may = refl; fits = ap not free; answers = same_ui-self q })
@@ -297,7 +299,7 @@ module _ (l : Layout) (past : List Entry) (k : ℕ) (a : Ui) (layout : IsLayout 
   fit-move q actor h =
       let c = Command.Move q actor in
       let p = place_at l a.site q in
-      let names = and_parts (names_port q) (names_actor actor) h in
+      let names = and_parts (is_port q) (is_actor actor) h in
       let o = fate (on q past) in
       let hop = hops o in
       let to = place_at l actor.site q in
@@ -308,7 +310,7 @@ module _ (l : Layout) (past : List Entry) (k : ℕ) (a : Ui) (layout : IsLayout 
       (λ none. record { kinds = names.1; may = none; fits = refl; answers = and_from (same_ui actor actor) (is_held_at_by p a o) (same_ui-self actor) holds })
       (λ some.
       let there : has_actor l actor ≡ true = not-false (has_actor l actor) some in
-      let both = and_from (names_port q) (names_actor actor) names.0 names.1 in
+      let both = and_from (is_port q) (is_actor actor) names.0 names.1 in
       let same = and_from (same_ui q q) (same_ui actor actor) (same_ui-self q) (same_ui-self actor) in
       let one = and_from (is_held_at p o) (has_actor l actor) held there in
       by-cases (Fit c) (actor.site == site_of l p) (Rehome q actor) (Depart q to actor hop)
@@ -379,7 +381,7 @@ module _ (l : Layout) (past : List Entry) (k : ℕ) (a : Ui) (layout : IsLayout 
       let c = Command.Join g q in
       let p = place_for l a c in
       let here = at p past in
-      let names = and_parts (names_group g) (names_port q) h in
+      let names = and_parts (name_kind.is_group g) (is_port q) h in
       let same = and_from (same_ui g g) (same_ui q q) (same_ui-self g) (same_ui-self q) in
       let there = is_member q (members g here) in
       let count = length (members g here) in
@@ -414,7 +416,7 @@ module _ (l : Layout) (past : List Entry) (k : ℕ) (a : Ui) (layout : IsLayout 
       let c = Command.Leave g q in
       let p = place_for l a c in
       let here = at p past in
-      let names = and_parts (names_group g) (names_port q) h in
+      let names = and_parts (name_kind.is_group g) (is_port q) h in
       let same = and_from (same_ui g g) (same_ui q q) (same_ui-self g) (same_ui-self q) in
       let there = is_member q (members g here) in
       by-cases (Fit c) (not (is_group g here)) (NoGroup g) (cond there (Leave g q) (NotThere g q))

@@ -14,7 +14,8 @@ use Rattle.law_network.specs.Network.{NetState, Event, Deliver, numbers, place_n
 use Rattle.law_network.specs.Tasks.{DrainsLeaveNothing}
 use Rattle.law_network.proofs.Merge.Parts.{All-reverse}
 use Rattle.law_network.proofs.Draining.Drains.{idle}
-use Rattle.law_network.proofs.Holdings.Passing.{IsBetweenPlaces, packets-lie-between}
+use Rattle.law_network.specs.ByPlace.{IsBetweenPlaces}
+use Rattle.law_network.proofs.Holdings.Passing.{packets-lie-between}
 
 each-idle : (es : List Event) (n : NetState) → served es n ≡ 0 → All (λ (e : Event). serves e n ≡ 0) es
 each-idle [] n h = All-nil (λ (e : Event). serves e n ≡ 0)

@@ -11,7 +11,7 @@ use Rattle.chorus_entry.specs.declared.answer.Answer.{Answer}
 use Rattle.chorus_entry.specs.declared.packet.Packet.{Packet}
 use Rattle.chorus_entry.specs.declared.packet.Cargo.{Cargo}
 use Rattle.chorus_entry.specs.declared.packet.Cargo.TheVariants as cargos
-use Rattle.chorus_entry.specs.Kinds.{names_port}
+use Rattle.chorus_ui.specs.NameKind.{is_port}
 use Rattle.chorus_entry.specs.MsgId.{same_id}
 use Rattle.chorus_entry.proofs.Same.{same_id-self, from_same_id}
 use Rattle.chorus_world.specs.declared.message.Progress.TheVariants.{Decided}
@@ -67,7 +67,7 @@ module _ (n : NetState) (past : List Entry) (shape : IsLayout n.layout) (s : Sta
       pub rest : List Sent
       pub heads : sent_for past b (record { port = q; route = r }) ≡ head ∷ rest
       pub id : head.id ≡ x
-      pub named : names_port q ≡ true
+      pub named : is_port q ≡ true
       pub sender : Sent
       pub sent : sent_as x b past ≡ Some sender
       pub way : sender.route ≡ r

@@ -8,7 +8,7 @@ use Rattle.chorus_entry.specs.declared.entry.Entry.{Entry}
 use Rattle.chorus_entry.specs.declared.command.Command.{Command}
 use Rattle.chorus_entry.specs.declared.packet.Packet.{Packet}
 use Rattle.chorus_entry.specs.Command.{meets_conditions, has_body_in_limit}
-use Rattle.chorus_entry.specs.Kinds.{names_actor}
+use Rattle.chorus_ui.specs.NameKind.{is_actor}
 use Rattle.chorus_entry.specs.Places.{place_for}
 use Rattle.chorus_world.specs.Views.{at, by}
 use Rattle.chorus_world.specs.Places.{just_taken}
@@ -151,7 +151,7 @@ not-true false h = refl
 
 event-stays : (n : NetState) (past : List Entry) (e : Event) → IsLayout n.layout → may_happen e n ≡ true → Stands n past → IsReady n past → Stays (happened e n) past
 event-stays n past (Enter actor last) shape h w r =
-    let two = and_parts (names_actor actor) (has_actor n.layout actor) h in
+    let two = and_parts (is_actor actor) (has_actor n.layout actor) h in
     stay (λ now. Stands (entered actor last n) now × IsReady (entered actor last n) now) past
     (enters n past actor last two.0 two.1 w, record { tried = r.tried; chosen = r.chosen; ended = r.ended })
 event-stays n past (Act k c) shape h w r = given-stands n past k c (slice_get n.callers k) shape w r refl h

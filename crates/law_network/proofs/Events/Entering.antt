@@ -8,7 +8,7 @@ use Rattle.chorus_ui.specs.declared.ui.Ui.{Ui}
 use Rattle.chorus_ui.specs.declared.layout.Layout.{Layout}
 use Rattle.chorus_ui.specs.Layout.{has_actor}
 use Rattle.chorus_entry.specs.declared.entry.Entry.{Entry}
-use Rattle.chorus_entry.specs.Kinds.{names_actor}
+use Rattle.chorus_ui.specs.NameKind.{is_actor}
 use Rattle.chorus_world.specs.Views.{by}
 use Rattle.chorus_world.specs.Places.{last_clock}
 use Rattle.chorus_world.specs.Steps.{may}
@@ -44,11 +44,11 @@ none-front [] x k h = refl
 none-front (c ∷ cs) x zero h = absurd (cc)
 none-front (c ∷ cs) x (suc k) h = none-front cs x k h
 
-new-is : (l : Layout) (past : List Entry) (k : ℕ) (actor : Ui) (last : ℕ) → names_actor actor ≡ true → has_actor l actor ≡ true → IsCaller l past [] k (new_caller k actor last)
+new-is : (l : Layout) (past : List Entry) (k : ℕ) (actor : Ui) (last : ℕ) → is_actor actor ≡ true → has_actor l actor ≡ true → IsCaller l past [] k (new_caller k actor last)
 new-is l past k actor last kind here =
     record { seat = refl; kind = kind; actor = here; posts = refl; given = refl; call = refl; hand = refl; clock = omega arith; stays = refl }
 
-pub enters : (n : NetState) (past : List Entry) (actor : Ui) (last : ℕ) → names_actor actor ≡ true → has_actor n.layout actor ≡ true → Stands n past → Stands (entered actor last n) past
+pub enters : (n : NetState) (past : List Entry) (actor : Ui) (last : ℕ) → is_actor actor ≡ true → has_actor n.layout actor ≡ true → Stands n past → Stands (entered actor last n) past
 enters n past actor last kind here w =
     let l = n.layout in
     let x = new_caller (length n.callers) actor last in

@@ -17,7 +17,8 @@ use Rattle.chorus_entry.specs.declared.act.Act.{Act}
 use Rattle.chorus_entry.specs.declared.act.Act.TheVariants as acts
 use Rattle.chorus_entry.specs.Answer.{is_final}
 use Rattle.chorus_entry.specs.Dest.{group_in, site_in}
-use Rattle.chorus_entry.specs.Kinds.{has_kinds, has_kinds_in_dest, names_group, names_port}
+use Rattle.chorus_ui.specs.NameKind.{is_group, is_port}
+use Rattle.chorus_entry.specs.Kinds.{has_kinds, has_kinds_in_dest}
 use Rattle.chorus_entry.specs.Members.{same_uis}
 use Rattle.chorus_entry.specs.MsgId.{same_id}
 use Rattle.chorus_entry.proofs.Same.{same_uis-self}
@@ -185,7 +186,7 @@ module _ (n : NetState) (us : List Outgoing) (past : List Entry) (t : Turn) (w :
           let same : m.id ≡ j.id = some_is m.id j.id (sym mes ∙ id_is j.id (message_of a) e) in
           absurd (let bad : None ≡ Some j = sym (c.unsent p) ∙ (ap (λ z. sent_as z p past) same ∙ found) in cc)
 
-  pub none-says : choice t.place.layout d (at t.place.number past) ≡ [] → names_group g ≡ true
+  pub none-says : choice t.place.layout d (at t.place.number past) ≡ [] → is_group g ≡ true
       → Says (put_all (map (packed t) (report t.place.number home m.id answers.NoMember)) new) past t (acts.NoMember m.id g) (record (unchanged t) { loads = report t.place.number home m.id answers.NoMember })
   none-says empty named =
       let a = acts.NoMember x g in
@@ -269,15 +270,15 @@ module _ (n : NetState) (us later : List Outgoing) (past : List Entry) (t : Turn
       choice-same d t.place (λ q. w.here.known q ∙ ap (places.located lay q) (sym w.here.journal))
       ∙ ap (choice lay d) w.here.journal
 
-  named : names_group g ≡ true
+  named : is_group g ≡ true
   named =
       let kinds = (posted-kinds lay past m.id c.post (legal-now n (put_all t.puts us) past t w) c.posted).1 in
       by d c.group (ap has_kinds_in_dest (sym c.dest) ∙ kinds)
     where
-      some : {f : Ui} → Some f ≡ Some g → names_group f ≡ true → names_group g ≡ true
-      some {f} e h = ap names_group (sym (some_is f g e)) ∙ h
+      some : {f : Ui} → Some f ≡ Some g → is_group f ≡ true → is_group g ≡ true
+      some {f} e h = ap is_group (sym (some_is f g e)) ∙ h
 
-      by : (b : Dest) → group_in b ≡ Some g → has_kinds_in_dest b ≡ true → names_group g ≡ true
+      by : (b : Dest) → group_in b ≡ Some g → has_kinds_in_dest b ≡ true → is_group g ≡ true
       by (Dest.Port q) e h = absurd (let bad : None ≡ Some g = e in cc)
       by (Dest.All f) e h = some e h
       by (Dest.One f) e h = some e h
@@ -298,7 +299,7 @@ module _ (n : NetState) (us later : List Outgoing) (past : List Entry) (t : Turn
           let a = acts.Choose m.id g (q ∷ qs) in
           let u = chooses_all m d g home (q ∷ qs) t in
           let ports = choice-named lay past t.place.number d (legal-now n (put_all t.puts us) past t w) in
-          let kinds : has_kinds a ≡ true = and_from (names_group g) (list_all names_port (q ∷ qs)) named (ap (list_all names_port) e ∙ ports) in
+          let kinds : has_kinds a ≡ true = and_from (is_group g) (list_all is_port (q ∷ qs)) named (ap (list_all is_port) e ∙ ports) in
           then (λ now. Calm n later now u) (λ now. Calm n later now (chooses_these m d g home (q ∷ qs) t)) past
           (step (λ now. Calm n later now u) (next_entry a t) past
           (record {

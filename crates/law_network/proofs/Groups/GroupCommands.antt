@@ -8,7 +8,8 @@ use Rattle.chorus_entry.specs.declared.command.Command.TheVariants as commands
 use Rattle.chorus_entry.specs.declared.act.Act.{Act}
 use Rattle.chorus_entry.specs.declared.act.Act.TheVariants as acts
 use Rattle.chorus_ui.specs.declared.limits.TheConstants.{MEMBERS_LIMIT, GROUPS_PER_SITE_LIMIT}
-use Rattle.chorus_entry.specs.Kinds.{names_group, names_port}
+use Rattle.chorus_ui.specs.NameKind as name_kind
+use Rattle.chorus_ui.specs.NameKind.{is_port}
 use Rattle.chorus_world.specs.Views.{at, is_group}
 use Rattle.chorus_entry.specs.Same.{is_number}
 use Rattle.chorus_world.specs.Places.{just_taken}
@@ -40,9 +41,9 @@ module _ (n : NetState) (us : List Outgoing) (past : List Entry) (t : Turn) wher
 
   -- Joining and leaving, at the group's place, or at the caller's where the layout has no such site.
 
-  module _ (g q : Ui) (home : ℕ) (w : Stood n us past t) (rests : just_taken past (at t.place.number past) ≡ None) (place : t.place.number ≡ unwrap_or (group_place t.place.layout g) home) (kinds : names_group g && names_port q ≡ true) where
-    names-group : names_group g ≡ true
-    names-group = (and_parts (names_group g) (names_port q) kinds).0
+  module _ (g q : Ui) (home : ℕ) (w : Stood n us past t) (rests : just_taken past (at t.place.number past) ≡ None) (place : t.place.number ≡ unwrap_or (group_place t.place.layout g) home) (kinds : name_kind.is_group g && is_port q ≡ true) where
+    names-group : name_kind.is_group g ≡ true
+    names-group = (and_parts (name_kind.is_group g) (is_port q) kinds).0
 
     is-here : is_group g t.place.journal ≡ true → is_group_at t.place.layout (local_views past past p t.caller.seat (acts.There g q)) p g ≡ true
     is-here h =

@@ -31,17 +31,12 @@ use Rattle.law_network.specs.Stands.{Stands, actor_of}
 use Rattle.law_network.proofs.Places.Layouts.{schedule-keeps}
 use Rattle.law_network.specs.History.{history}
 use Rattle.law_network.specs.Schedules.{OfSchedules}
+use Rattle.law_network.specs.ByPlace.{IsBetweenPlaces, SchedulesStandByPlace}
 use Rattle.chorus_world.proofs.Ports.Sites.{first-inside}
 use Rattle.chorus_world.proofs.Ports.Paths.{PathIn, Moves, path-in}
 use Rattle.chorus_world.proofs.Messages.Ways.{Has, Passes, passes, all-places, posted-place}
 use Rattle.law_network.proofs.Events.InOrder.{in-order}
 use Rattle.law_network.proofs.Holdings.Packets.{IsIn, in-view, from-in, moving-to}
-
--- the packet goes between two different places of the layout
-pub record IsBetweenPlaces (l : Layout) (o : Outgoing) : Type 0 where
-  pub has_from : has_place l o.packet.from ≡ true
-  pub has_to : has_place l o.to ≡ true
-  pub apart : (o.packet.from == o.to) ≡ false
 
 -- Packets.
 
@@ -140,3 +135,13 @@ packets-lie-between l es shape may =
     let layout = (schedule-keeps l es).layout in
     subst (λ (m : Layout). All (IsBetweenPlaces m) (schedule l es).packets) layout
     (packets-between (schedule l es) (history l es) (subst IsLayout (sym layout) shape) (in-order l es shape may).0)
+
+pub schedules-stand-by-place : SchedulesStandByPlace
+schedules-stand-by-place l es shape may =
+    let kept = schedule-keeps l es in
+    record {
+      layout = kept.layout;
+      places = kept.numbers;
+      order = (in-order l es shape may).0.order;
+      between = packets-lie-between l es shape may;
+    }

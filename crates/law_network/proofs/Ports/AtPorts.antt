@@ -13,7 +13,7 @@ use Rattle.chorus_entry.specs.declared.command.Command.TheVariants as commands
 use Rattle.chorus_entry.specs.declared.act.Act.{Act}
 use Rattle.chorus_entry.specs.declared.act.Act.TheVariants as acts
 use Rattle.chorus_entry.specs.declared.record.PortRecord.{PortRecord}
-use Rattle.chorus_entry.specs.Kinds.{names_port, names_actor}
+use Rattle.chorus_ui.specs.NameKind.{is_port, is_actor}
 use Rattle.chorus_world.specs.declared.port.Spot.{Spot}
 use Rattle.chorus_world.specs.declared.port.Spot.TheVariants as spots
 use Rattle.chorus_world.specs.Views.{at, on}
@@ -57,7 +57,7 @@ not-held past line q p actor = by (fate line)
     by None h = refl
     by (Some f) h = in-spot f f.spot (last_of 0 f.path == p) refl h
 
-module _ (n : NetState) (us : List Outgoing) (past : List Entry) (t : Turn) (w : Stood n us past t) (rests : just_taken past (at t.place.number past) ≡ None) (q : Ui) (named : names_port q ≡ true) where
+module _ (n : NetState) (us : List Outgoing) (past : List Entry) (t : Turn) (w : Stood n us past t) (rests : just_taken past (at t.place.number past) ≡ None) (q : Ui) (named : is_port q ≡ true) where
   abbrev Goal : Act → Type 0
   Goal a = LeadsOn n us past (does a t)
 
@@ -131,7 +131,7 @@ module _ (n : NetState) (us : List Outgoing) (past : List Entry) (t : Turn) (w :
           by-actor false k = not-mine r h k
 
   -- Move
-  module _ (actor : Ui) (kind : names_actor actor ≡ true) (r : PortRecord) (h : find q t.place.ports ≡ Some r) (mine : r.actor ≡ t.caller.actor) where
+  module _ (actor : Ui) (kind : is_actor actor ≡ true) (r : PortRecord) (h : find q t.place.ports ≡ Some r) (mine : r.actor ≡ t.caller.actor) where
     path-some : 1 ≤ length (here-now n us past t w q r h).fate_of.path
     path-some =
         let z = here-now n us past t w q r h in
@@ -150,7 +150,7 @@ module _ (n : NetState) (us : List Outgoing) (past : List Entry) (t : Turn) (w :
         leads-one n us past t (departs q to actor (r.hop + 1) t) (acts.Depart q to actor (r.hop + 1))
         (depart-stands n us past t w q r h mine rests named to actor kind k s refl path-some) refl refl
 
-  pub move-leads : (actor : Ui) → names_actor actor ≡ true → LeadsOn n us past (act (commands.Move q actor) t)
+  pub move-leads : (actor : Ui) → is_actor actor ≡ true → LeadsOn n us past (act (commands.Move q actor) t)
   move-leads actor kind = by-record (find q t.place.ports) refl
     where
       by-record : (o : Option PortRecord) → find q t.place.ports ≡ o → Goal (move_act q actor t.place (held_by t.caller.actor o))
@@ -171,5 +171,5 @@ module _ (n : NetState) (us : List Outgoing) (past : List Entry) (t : Turn) wher
 
   pub move-given : (q actor : Ui) → IsGiven n us past t (commands.Move q actor) → LeadsOn n us past (act (commands.Move q actor) t)
   move-given q actor i =
-      let two = and_parts (names_port q) (names_actor actor) i.conditions in
+      let two = and_parts (is_port q) (is_actor actor) i.conditions in
       move-leads n us past t i.stood i.rests q two.0 actor two.1

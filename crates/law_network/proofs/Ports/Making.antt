@@ -1,5 +1,5 @@
 -- A port is made, or not.
-use Rattle.chorus_entry.specs.Kinds.{names_actor}
+use Rattle.chorus_ui.specs.NameKind.{is_actor}
 use Rattle.chorus_entry.specs.Command.{is_capacity}
 use Rattle.chorus_world.specs.Clients.{clients_kept}
 use Rattle.std.proofs.Common.{ℕ, ◌≡◌, ◌==◌, nat_le, Bool, true, false, ◌&&◌, not, cond, if◌then◌else◌, List, [], ◌∷◌, ◌++◌, Some, None, unwrap_or, refl, sym, ◌∙◌, ap, arith, eq-eqb}
@@ -51,8 +51,8 @@ module _ (n : NetState) (us : List Outgoing) (past : List Entry) (t : Turn) (act
   abbrev Goal : Act → Type 0
   Goal a = LeadsOn n us past (does a t)
 
-  conditions : (names_actor actor ≡ true) × (is_capacity capacity ≡ true)
-  conditions = and_parts (names_actor actor) (is_capacity capacity) i.conditions
+  conditions : (is_actor actor ≡ true) × (is_capacity capacity ≡ true)
+  conditions = and_parts (is_actor actor) (is_capacity capacity) i.conditions
 
   at-home : has_actor t.place.layout actor ≡ true → is_home t.place.layout actor t.place.number ≡ true
   at-home h =

@@ -17,7 +17,8 @@ use Rattle.chorus_entry.specs.declared.packet.Cargo.TheVariants as cargos
 use Rattle.chorus_entry.specs.declared.record.PortRecord.{PortRecord}
 use Rattle.chorus_entry.specs.Act.{message_of, held_port_of}
 use Rattle.chorus_entry.specs.Ids.{same_ids}
-use Rattle.chorus_entry.specs.Kinds.{has_kinds, names_port, names_actor}
+use Rattle.chorus_ui.specs.NameKind.{is_port, is_actor}
+use Rattle.chorus_entry.specs.Kinds.{has_kinds}
 use Rattle.chorus_entry.proofs.Same.{same_ids-self}
 use Rattle.chorus_world.specs.declared.port.Spot.TheVariants.{Held, Moving, Ended}
 use Rattle.chorus_hints.specs.Known.{learned}
@@ -52,7 +53,7 @@ use Rattle.law_network.proofs.Ports.HeldPorts.{here-now, held-now, line-clock, f
 use Rattle.law_network.proofs.Standing.Leading.{behind-calm}
 use Rattle.law_network.proofs.Tables.Learning.{known-departs}
 
-module _ (n : NetState) (us : List Outgoing) (past : List Entry) (t : Turn) (w : Stood n us past t) (q : Ui) (r : PortRecord) (found : find q t.place.ports ≡ Some r) (mine : r.actor ≡ t.caller.actor) (rests : just_taken past (at t.place.number past) ≡ None) (named : names_port q ≡ true) where
+module _ (n : NetState) (us : List Outgoing) (past : List Entry) (t : Turn) (w : Stood n us past t) (q : Ui) (r : PortRecord) (found : find q t.place.ports ≡ Some r) (mine : r.actor ≡ t.caller.actor) (rests : just_taken past (at t.place.number past) ≡ None) (named : is_port q ≡ true) where
   abbrev l : Layout
   l = t.place.layout
 
@@ -136,7 +137,7 @@ module _ (n : NetState) (us : List Outgoing) (past : List Entry) (t : Turn) (w :
       })
 
   -- Rehome
-  pub rehome-stands : (actor : Ui) → names_actor actor ≡ true → has_actor t.place.layout actor ≡ true → (actor.site == site_of t.place.layout t.place.number) ≡ true
+  pub rehome-stands : (actor : Ui) → is_actor actor ≡ true → has_actor t.place.layout actor ≡ true → (actor.site == site_of t.place.layout t.place.number) ≡ true
       → Stood n us (next_entry (acts.Rehome q actor) t ∷ past) (with_ports (acts.Rehome q actor) (replace q (rehomed actor) t.place.ports) t)
   rehome-stands actor kind there site =
       let a = acts.Rehome q actor in
@@ -146,7 +147,7 @@ module _ (n : NetState) (us : List Outgoing) (past : List Entry) (t : Turn) (w :
       let is : rehomed actor r ≡ record_for (e ∷ past) (e ∷ line) q actor g = ap (rehomed actor) (old-record e) in
       let s = replaced n us past t w q r found e actor g (rehomed actor) (λ k. refl) refl refl refl refl z.place is in
       let may =
-      port-may a refl refl (and_from (names_port q) (names_actor actor) named kind)
+      port-may a refl refl (and_from (is_port q) (is_actor actor) named kind)
       (and_from (is_held_at p (fate line) && has_actor l actor) (actor.site == site_of l p) (and_from (is_held_at p (fate line)) (has_actor l actor) held-it there) site) held-by-caller tt in
       says n us past t w a (record (unchanged t) { ports = replace q (rehomed actor) t.place.ports })
       (record {
@@ -213,7 +214,7 @@ module _ (n : NetState) (us : List Outgoing) (past : List Entry) (t : Turn) (w :
   push-before [] c d x = refl
   push-before (y ∷ xs) c d x = push-before xs d y x
 
-  pub depart-stands : (to : ℕ) (actor : Ui) → names_actor actor ≡ true → has_actor t.place.layout actor ≡ true → (actor.site == site_of t.place.layout t.place.number) ≡ false → to ≡ place_at t.place.layout actor.site q
+  pub depart-stands : (to : ℕ) (actor : Ui) → is_actor actor ≡ true → has_actor t.place.layout actor ≡ true → (actor.site == site_of t.place.layout t.place.number) ≡ false → to ≡ place_at t.place.layout actor.site q
       → 1 ≤ length z.fate_of.path → Stood n us (next_entry (acts.Depart q to actor (r.hop + 1)) t ∷ past) (departs q to actor (r.hop + 1) t)
   depart-stands to actor kind there site to-is some =
       let hop = r.hop + 1 in
@@ -238,7 +239,7 @@ module _ (n : NetState) (us : List Outgoing) (past : List Entry) (t : Turn) (w :
       let loads-are : transfer_to to actor hop (find q t.place.ports) ≡ (to, cargos.Transfer (migrated hop actor r)) ∷ [] = ap (transfer_to to actor hop) found in
       let name : r.ui ≡ q = name-now n us past t w q r found in
       let may =
-      port-may a refl refl (and_from (names_port q) (names_actor actor) named kind)
+      port-may a refl refl (and_from (is_port q) (is_actor actor) named kind)
       (and_from (is_held_at p (fate line) && has_actor l actor && not (actor.site == site_of l p) && (to == place_at l actor.site q)) (is_next_hop hop (fate line))
       (and_from (is_held_at p (fate line) && has_actor l actor && not (actor.site == site_of l p)) (to == place_at l actor.site q)
       (and_from (is_held_at p (fate line) && has_actor l actor) (not (actor.site == site_of l p)) (and_from (is_held_at p (fate line)) (has_actor l actor) held-it there) (ap not site)) (eq-eqb to (place_at l actor.site q) to-is))

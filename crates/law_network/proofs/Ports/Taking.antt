@@ -12,7 +12,7 @@ use Rattle.chorus_entry.specs.declared.tag.Tag.TheVariants as tags
 use Rattle.chorus_entry.specs.declared.message.Message.{Message}
 use Rattle.chorus_entry.specs.declared.act.Act.TheVariants as acts
 use Rattle.chorus_entry.specs.declared.record.PortRecord.{PortRecord}
-use Rattle.chorus_entry.specs.Kinds.{names_port}
+use Rattle.chorus_ui.specs.NameKind.{is_port}
 use Rattle.chorus_entry.specs.MsgId.{same_id}
 use Rattle.chorus_entry.proofs.Same.{same_id-self}
 use Rattle.chorus_world.specs.Views.{at, by, on}
@@ -107,7 +107,7 @@ holds-hand x tags.Plain c = refl
 holds-hand x (tags.Request k b) c = refl
 holds-hand x (tags.Reply k b) c = refl
 
-module _ (n : NetState) (us : List Outgoing) (past : List Entry) (t : Turn) (w : Stood n us past t) (q : Ui) (r : PortRecord) (found : find q t.place.ports ≡ Some r) (mine : r.actor ≡ t.caller.actor) (rests : just_taken past (at t.place.number past) ≡ None) (named : names_port q ≡ true) where
+module _ (n : NetState) (us : List Outgoing) (past : List Entry) (t : Turn) (w : Stood n us past t) (q : Ui) (r : PortRecord) (found : find q t.place.ports ≡ Some r) (mine : r.actor ≡ t.caller.actor) (rests : just_taken past (at t.place.number past) ≡ None) (named : is_port q ≡ true) where
   -- Take
   pub take-stands : (m : Message) (ms : List Message) → r.pending ≡ m ∷ ms
       → (let a = acts.Take q r.first m.id in

@@ -14,7 +14,7 @@ use Rattle.chorus_entry.specs.declared.command.Command.TheVariants as commands
 use Rattle.chorus_entry.specs.declared.act.Act.{Act}
 use Rattle.chorus_entry.specs.declared.act.Act.TheVariants as acts
 use Rattle.chorus_entry.specs.Body.{same_body}
-use Rattle.chorus_entry.specs.Kinds.{names_port}
+use Rattle.chorus_ui.specs.NameKind.{is_port}
 use Rattle.chorus_entry.proofs.Same.{same_body-self}
 use Rattle.chorus_world.specs.Views.{by}
 use Rattle.chorus_entry.specs.Same.{are_same, is_number}
@@ -96,7 +96,7 @@ module _ (n : NetState) (us : List Outgoing) (past : List Entry) (t : Turn) wher
       let m = next_message tags.Plain body t.caller in
       let a = acts.Post m (dests.Port q) in
       let e = next_entry a t in
-      post-stands n us past t (record { stood = i.stood; rests = i.rests }) m (record { seat = refl; number = refl; copy = refl }) q (sym i.place) (and_parts (names_port q) true i.conditions).0 refl
+      post-stands n us past t (record { stood = i.stood; rests = i.rests }) m (record { seat = refl; number = refl; copy = refl }) q (sym i.place) (and_parts (is_port q) true i.conditions).0 refl
       (record {
         seat = refl;
         actor = refl;
@@ -114,7 +114,7 @@ module _ (n : NetState) (us : List Outgoing) (past : List Entry) (t : Turn) wher
       let m = next_message (tags.Request num back) body t.caller in
       let a = acts.Post m (dests.Port q) in
       let none-past = none-called n us past t i.stood none in
-      let two = and_parts (names_port q) (names_port back) i.conditions in
+      let two = and_parts (is_port q) (is_port back) i.conditions in
       let given : num ≡ requests mine + 1 = ap (λ z. z + 1) i.stood.caller.given in
       let begun : after_begin t.caller.client q back body ≡ record { outstanding = Some (record { number = num; port = q; back = back; body = body }); given = num } =
       ap (λ o. with_call o t.caller.client q back body) none in
@@ -124,7 +124,7 @@ module _ (n : NetState) (us : List Outgoing) (past : List Entry) (t : Turn) wher
       (or_left (is_none (call mine) && (num == requests mine + 1)) _
       (and_from (is_none (call mine)) (num == requests mine + 1) (ap is_none none-past) (eq-eqb num (requests mine + 1) given))) in
       post-stands n us past t (record { stood = i.stood; rests = i.rests }) m (record { seat = refl; number = refl; copy = refl }) q (sym i.place)
-      (and_from (names_port back) (names_port q) two.1 two.0) tag
+      (and_from (is_port back) (is_port q) two.1 two.0) tag
       (record {
         seat = refl;
         actor = refl;
@@ -170,7 +170,7 @@ module _ (n : NetState) (us : List Outgoing) (past : List Entry) (t : Turn) wher
       let given = w.caller.given in
       let kept : after_begin t.caller.client c.port c.back c.body ≡ t.caller.client = ap (λ o. with_call o t.caller.client c.port c.back c.body) e in
       post-stands n us past t (record { stood = w; rests = i.rests }) m (record { seat = refl; number = refl; copy = refl }) c.port (sym i.place)
-      (and_from (names_port c.back) (names_port c.port) kinds.1 kinds.0) tag
+      (and_from (is_port c.back) (is_port c.port) kinds.1 kinds.0) tag
       (record {
         seat = refl;
         actor = refl;

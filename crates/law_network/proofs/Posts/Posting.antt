@@ -11,7 +11,8 @@ use Rattle.chorus_entry.specs.declared.dest.Dest.{Dest}
 use Rattle.chorus_entry.specs.declared.dest.Dest.TheVariants as dests
 use Rattle.chorus_entry.specs.declared.message.Message.{Message}
 use Rattle.chorus_entry.specs.declared.act.Act.TheVariants as acts
-use Rattle.chorus_entry.specs.Kinds.{has_kinds_in_tag, names_port}
+use Rattle.chorus_ui.specs.NameKind.{is_port}
+use Rattle.chorus_entry.specs.Kinds.{has_kinds_in_tag}
 use Rattle.chorus_entry.specs.MsgId.{same_id}
 use Rattle.chorus_entry.proofs.Same.{same_id-self, from_same_id}
 use Rattle.chorus_world.specs.declared.place.Sent.{Sent}
@@ -135,7 +136,7 @@ module _ (n : NetState) (us : List Outgoing) (past : List Entry) (t : Turn) (i :
               let same : j.id ≡ m.id = from_same_id j.id m.id e in
               absurd (let bad : None ≡ Some j = sym (((facts n us past t w m.id).fresh less).unsent p) ∙ (ap (λ z. sent_as z p past) (sym same) ∙ found) in cc)
 
-  pub posted-calm : (q : Ui) → place_at t.place.layout t.caller.actor.site t.caller.actor ≡ t.place.number → (has_kinds_in_tag m.tag && names_port q) ≡ true
+  pub posted-calm : (q : Ui) → place_at t.place.layout t.caller.actor.site t.caller.actor ≡ t.place.number → (has_kinds_in_tag m.tag && is_port q) ≡ true
       → may_tag (local_views past past t.place.number t.caller.seat (acts.Post m (dests.Port q))) m (dests.Port q) m.tag ≡ true
       → CallerSays past t (acts.Post m (dests.Port q)) (poster m (dests.Port q) t.caller) → (let a = acts.Post m (dests.Port q) in Calm n us (next_entry a t ∷ past) (say a (change q) t))
   posted-calm q home kinds tag caller =
@@ -167,7 +168,7 @@ module _ (n : NetState) (us : List Outgoing) (past : List Entry) (t : Turn) (i :
       }) in
       record { stood = stood; rests = rests-behind past t a refl }
 
-  pub post-stands : (q : Ui) → place_at t.place.layout t.caller.actor.site t.caller.actor ≡ t.place.number → (has_kinds_in_tag m.tag && names_port q) ≡ true
+  pub post-stands : (q : Ui) → place_at t.place.layout t.caller.actor.site t.caller.actor ≡ t.place.number → (has_kinds_in_tag m.tag && is_port q) ≡ true
       → may_tag (local_views past past t.place.number t.caller.seat (acts.Post m (dests.Port q))) m (dests.Port q) m.tag ≡ true
       → CallerSays past t (acts.Post m (dests.Port q)) (poster m (dests.Port q) t.caller) → LeadsOn n us past (posts_direct m q t)
   post-stands q home kinds tag caller =

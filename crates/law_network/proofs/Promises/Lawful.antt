@@ -27,7 +27,8 @@ use Rattle.chorus_entry.specs.declared.record.PortRecord.{PortRecord}
 use Rattle.chorus_entry.specs.Act.{held_port_of, message_of}
 use Rattle.chorus_entry.specs.Command.{demands_a_site}
 use Rattle.chorus_entry.specs.Dest.{group_in, site_in}
-use Rattle.chorus_entry.specs.Kinds.{names_port, names_actor, names_group, has_kinds_in_tag, has_kinds_in_dest}
+use Rattle.chorus_ui.specs.NameKind.{is_port, is_actor, is_group}
+use Rattle.chorus_entry.specs.Kinds.{has_kinds_in_tag, has_kinds_in_dest}
 use Rattle.chorus_entry.specs.MsgId.{same_id}
 use Rattle.chorus_entry.proofs.Same.{same_id-self, from_same_id}
 use Rattle.chorus_entry.specs.Ranges.{is_place_number, has_range_of_id, has_range_of_tag, has_ranges_of_message, is_route, is_demanded_site, has_ranges_of_answer, is_told, is_reported, has_range_of_client, has_ranges_of_clients, has_ranges_of_record, is_asked, has_ranges_of_cargo, has_ranges}
@@ -78,7 +79,8 @@ use Rattle.law_network.proofs.Groups.Asking.{SeesAsk, sees-ask}
 use Rattle.law_network.proofs.Packets.Reporting.{SeesReport, sees-report, asking}
 use Rattle.chorus_world.proofs.Ports.PortNames.{line-named}
 use Rattle.law_network.proofs.Holdings.Packets.{IsIn, IsOn, first-is-on, in-view, moving-to}
-use Rattle.law_network.proofs.Holdings.Passing.{IsBetweenPlaces, packets-between}
+use Rattle.law_network.specs.ByPlace.{IsBetweenPlaces}
+use Rattle.law_network.proofs.Holdings.Passing.{packets-between}
 use Rattle.law_network.proofs.Draining.Fronts.{legal-past, seen-here, is-told, told-queue}
 use Rattle.law_network.proofs.Promises.Posts.{PostsFit, post-fits}
 use Rattle.law_network.proofs.Promises.Kept.{IsKnown, accepted-known, table-fits}
@@ -111,7 +113,7 @@ asked-of-dest : (d : Dest) (g : Ui) → group_in d ≡ Some g → has_kinds_in_d
 asked-of-dest (dests.Port q) g e k h = absurd (cc)
 asked-of-dest (dests.All f) g e k h = k
 asked-of-dest (dests.One f) g e k h = k
-asked-of-dest (dests.OneAt f s) g e k h = and_from (names_group f) (demands_a_site (dests.OneAt f s)) k h
+asked-of-dest (dests.OneAt f s) g e k h = and_from (is_group f) (demands_a_site (dests.OneAt f s)) k h
 
 sent-route : (l : Layout) (past : List Entry) (x : MsgId) (p : ℕ) (m : Sent) → is_legal l past ≡ true → sent_as x p past ≡ Some m → is_route m.route ≡ true
 sent-route l past x p m legal is =
@@ -278,8 +280,8 @@ module _ (n : NetState) (past : List Entry) (shape : IsLayout n.layout) (s : Sta
       let c2 = clock-is x mine in
       let low : nat_le hop k.clock ≡ true = le-leb hop k.clock (omega (arith, le, c1, c2)) in
       let msg : has_ranges_of_message m ≡ true = ap has_ranges_of_message y.message ∙ message-ranged n.layout past x d.0 legal all facts.0 d.1 in (
-        and_from (is_route r && is_demanded_site only && nat_le hop k.clock && names_port q) (has_ranges_of_message m)
-            (and_from (is_route r && is_demanded_site only && nat_le hop k.clock) (names_port q)
+        and_from (is_route r && is_demanded_site only && nat_le hop k.clock && is_port q) (has_ranges_of_message m)
+            (and_from (is_route r && is_demanded_site only && nat_le hop k.clock) (is_port q)
             (and_from (is_route r && is_demanded_site only) (nat_le hop k.clock) (and_from (is_route r) (is_demanded_site only) way site) low) stages.0) msg,
         ap (λ (z : Layout). has_site z q.site) layout_at ∙ facts.2,
       )
@@ -294,9 +296,9 @@ module _ (n : NetState) (past : List Entry) (shape : IsLayout n.layout) (s : Sta
       let head : same_id (message past (t.head).id).id x ≡ true = ap (λ z. same_id z x) (message-id past (t.head).id ∙ t.id) ∙ same_id-self x in
       let from_here : (k.from == a) ≡ true = eq-eqb k.from a from-a in
       let way_back : is_under_way x a ((place b n).waiting (record { port = q; route = r })) ≡ true = ap (is_under_way x a) queue ∙ and_from (same_id (message past (t.head).id).id x) (k.from == a) head from_here in (
-        and_from (has_range_of_id x && names_port q && is_route r && is_told v) (has_ranges_of_answer k.clock v)
-            (and_from (has_range_of_id x && names_port q && is_route r) (is_told v)
-            (and_from (has_range_of_id x && names_port q) (is_route r) (and_from (has_range_of_id x) (names_port q) facts.0 t.named) way) facts.2) ranges,
+        and_from (has_range_of_id x && is_port q && is_route r && is_told v) (has_ranges_of_answer k.clock v)
+            (and_from (has_range_of_id x && is_port q && is_route r) (is_told v)
+            (and_from (has_range_of_id x && is_port q) (is_route r) (and_from (has_range_of_id x) (is_port q) facts.0 t.named) way) facts.2) ranges,
         and_from (is_under_way x a ((place b n).waiting (record { port = q; route = r })) && is_known_answer (place b n).layout v) (may_teach (place b n).layout q v)
             (and_from (is_under_way x a ((place b n).waiting (record { port = q; route = r }))) (is_known_answer (place b n).layout v) way_back (ap (λ (z : Layout). is_known_answer z v) layout_at ∙ known-answer n.layout v (facts.1).places))
             (ap (λ (z : Layout). may_teach z q v) layout_at ∙ teaches n.layout q v facts.3),
@@ -408,7 +410,7 @@ module _ (n : NetState) (past : List Entry) (shape : IsLayout n.layout) (s : Sta
     well : IsWellMade n.layout q f (on q past)
     well = subst (λ o. MadeWell n.layout q o (on q past)) made (made-well n.layout past q shape legal s.causal)
 
-    actor-fits : (names_actor w ≡ true) × (has_actor n.layout w ≡ true)
+    actor-fits : (is_actor w ≡ true) × (has_actor n.layout w ≡ true)
     actor-fits = subst (ActorFits n.layout) spot well.actor
 
     on-its-way : IsOnItsWay n.layout q w f.path
@@ -457,8 +459,8 @@ module _ (n : NetState) (past : List Entry) (shape : IsLayout n.layout) (s : Sta
         (and_from _ (nat_le (length (map (message past) (drop f.taken f.accepted))) f.capacity)
         (and_from _ (nat_le f.taken k.clock)
         (and_from _ (nat_le (length f.path - 1) k.clock)
-        (and_from (names_port q && names_actor w) (nat_le 1 f.capacity && nat_le f.capacity 64)
-        (and_from (names_port q) (names_actor w) names actor-fits.0) small) hop_low) first_low) few) msgs) clients
+        (and_from (is_port q && is_actor w) (nat_le 1 f.capacity && nat_le f.capacity 64)
+        (and_from (is_port q) (is_actor w) names actor-fits.0) small) hop_low) first_low) few) msgs) clients
 
     not-held : is_none (find q (place b n).ports) ≡ true
     not-held = ap is_none (s.ports b q ∙ ap (record_here past (on q past) q b) made ∙ ap (record_held past (on q past) q b f) spot)

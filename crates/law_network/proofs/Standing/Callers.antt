@@ -5,7 +5,7 @@ use Rattle.chorus_ui.specs.declared.layout.Layout.{Layout}
 use Rattle.chorus_ui.specs.Layout.{has_actor, place_at}
 use Rattle.chorus_entry.specs.declared.entry.Entry.{Entry}
 use Rattle.chorus_entry.specs.declared.act.Act.{Act}
-use Rattle.chorus_entry.specs.Kinds.{names_actor}
+use Rattle.chorus_ui.specs.NameKind.{is_actor}
 use Rattle.chorus_world.specs.Views.{by, is_by}
 use Rattle.chorus_world.specs.Seats.{posts_after, posts_stay, stays_at, requests_after, hand_after}
 use Rattle.chorus_world.proofs.Steps.LegalLemmas.{skips, keeps}
@@ -51,7 +51,7 @@ mine-says past t a c all o h =
     let e = next_entry a t in
     record {
       seat = refl;
-      kind = ap names_actor o.actor ∙ h.kind;
+      kind = ap is_actor o.actor ∙ h.kind;
       actor = ap (has_actor l) o.actor ∙ h.actor;
       posts = o.posts ∙ ap (posts_after a) h.posts;
       given = o.given ∙ ap (requests_after a) h.given;

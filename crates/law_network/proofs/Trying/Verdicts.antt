@@ -13,7 +13,8 @@ use Rattle.chorus_entry.specs.declared.act.Act.TheVariants as acts
 use Rattle.chorus_entry.specs.declared.packet.Cargo.TheVariants as cargos
 use Rattle.chorus_entry.specs.Act.{message_of, held_port_of}
 use Rattle.chorus_entry.specs.Answer.{is_final}
-use Rattle.chorus_entry.specs.Kinds.{has_kinds, names_port}
+use Rattle.chorus_ui.specs.NameKind.{is_port}
+use Rattle.chorus_entry.specs.Kinds.{has_kinds}
 use Rattle.chorus_entry.proofs.Same.{same_id-self}
 use Rattle.chorus_world.specs.declared.place.Location.{Location}
 use Rattle.chorus_world.specs.declared.message.Progress.{Progress}
@@ -63,7 +64,7 @@ pub record Decides (a : Answer) (x : MsgId) (q : Ui) (h : ℕ) : Type 0 where
   pub posts : posts_or_hears (decision x q h a) ≡ false
   pub asks : asks_or_chooses (decision x q h a) ≡ false
   pub takes : (past : List Entry) (s : ℕ) → reply_taken_by past s (decision x q h a) ≡ None
-  pub kinds : has_kinds (decision x q h a) ≡ names_port q
+  pub kinds : has_kinds (decision x q h a) ≡ is_port q
   pub fits : (past : List Entry) (p : ℕ) (actor : Ui) → fits_caller past p actor (decision x q h a) ≡ true
   pub looks : (l : Layout) (p : ℕ) → LooksAtHome l p (decision x q h a)
 

@@ -5,7 +5,7 @@ use Rattle.chorus_ui.specs.declared.layout.Layout.{Layout}
 use Rattle.chorus_entry.specs.declared.entry.Entry.{Entry}
 use Rattle.chorus_entry.specs.declared.act.Act.{Act}
 use Rattle.chorus_entry.specs.Act.{message_of}
-use Rattle.chorus_entry.specs.Kinds.{names_port}
+use Rattle.chorus_ui.specs.NameKind.{is_port}
 use Rattle.chorus_world.specs.declared.place.Sent.{Sent}
 use Rattle.chorus_world.specs.declared.message.Progress.TheVariants.{Idle}
 use Rattle.chorus_world.specs.Views.{at, about, is_about}
@@ -45,7 +45,7 @@ pub record GoesFirst (past : List Entry) (p : ℕ) (k : Key) (v : Wait) (c : ℕ
   pub only : v.only ≡ site_asked v.message.id past
   pub home : v.home ≡ home past v.message.id
   pub sent : find_sent v.message.id (sent (at p past)) ≡ Some (record { id = v.message.id; port = k.port; route = k.route })
-  pub named : names_port k.port ≡ true
+  pub named : is_port k.port ≡ true
   pub posted : IsPosted past v.message.id
   pub first : is_first v.message.id k.port (at p past) ≡ true
   pub idle : progress (about v.message.id past) ≡ Idle
@@ -117,7 +117,7 @@ module _ (n : NetState) (us : List Outgoing) (past : List Entry) (t : Turn) (w :
         only = ap (λ z. site_asked z past) back;
         home = ap (home past) back;
         sent = subst (λ z. find_sent z (sent (at p past)) ≡ Some (record { id = z; port = k.port; route = k.route })) back (free.found ∙ ap (λ z. Some z) is);
-        named = ap names_port (sym parts.0) ∙ found-has (λ (j : Sent). names_port j.port ≡ true) m.id (sent (at p past)) m (sent-named l past p legal) free.found;
+        named = ap is_port (sym parts.0) ∙ found-has (λ (j : Sent). is_port j.port ≡ true) m.id (sent (at p past)) m (sent-named l past p legal) free.found;
         posted = subst (IsPosted past) back posted;
         first = subst (λ z. is_first z k.port (at p past) ≡ true) back first;
         idle = subst (λ z. progress (about z past) ≡ Idle) back idle;

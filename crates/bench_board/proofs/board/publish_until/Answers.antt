@@ -8,8 +8,8 @@ use Rattle.bench_board.proofs.board.publish_until.Goals as goal
 pub publish-requires-clause-longer : goal.publish-requires-clause-longer
 publish-requires-clause-longer g c = ([], ap (λ log. log ++ []) c.loop.invariant.1)
 
-pub publish-requires-clause-one_place : goal.publish-requires-clause-one_place
-publish-requires-clause-one_place g c i j d e at_i at_j = absurd cc
+pub publish-requires-clause-of_place : goal.publish-requires-clause-of_place
+publish-requires-clause-of_place g c i e at_i = absurd cc
 
 pub publish-requires-clause-located : goal.publish-requires-clause-located
 publish-requires-clause-located g c q here =

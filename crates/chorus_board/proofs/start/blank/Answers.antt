@@ -4,4 +4,4 @@ use Rattle.chorus_board.proofs.start.blank.Goals as goal
 
 pub returns-clause-fine : goal.returns-clause-fine
 returns-clause-fine c =
-    first_fine c.args.layout (record { hints = c.in_ok-with_room.field-0; upto = 0; seen = c.again.result }) c.in_ok-with_room.ensures.value refl (ap (λ s. s.log) c.again.ensures ∙ c.requires)
+    first_fine c.args.layout (record { hints = c.in_ok-with_room.field-0; place = c.args.place; upto = 0; seen = c.again.result }) c.in_ok-with_room.ensures.value refl (ap (λ s. s.log) c.again.ensures ∙ c.requires)

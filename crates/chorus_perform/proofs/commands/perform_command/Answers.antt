@@ -11,13 +11,13 @@ returns-in_err-try_command-clause-err g c =
 
 pub returns-in_err-pump_next-clause-err : goal.returns-in_err-pump_next-clause-err
 returns-in_err-pump_next-clause-err g c =
-    let not : c.try_command.result ≢ Ok true = λ e. absurd (let bad = sym c.in_ok-try_command.was ∙ e in let is = c.if-try_command.false in cc) in
+    let not : c.try_command.result ≢ Ok true = λ e. absurd (let bad = sym c.in_ok-try_command.was ∙ e in let is = c.if-branch.false in cc) in
     on-err c.from_residual-in_err-pump_next.result _
     (goes-none c.args.pass.now c.try_command.new.pass c.pump_next.new.pass (goes-none c.args.pass.now c.loop.pass c.try_command.new.pass c.loop.invariant.1 (c.try_command.ensures.not_done not)) c.in_err-pump_next.ensures.goes)
 
 pub loop-preserved : goal.loop-preserved
 loop-preserved g c =
-    let not : c.try_command.result ≢ Ok true = λ e. absurd (let bad = sym c.in_ok-try_command.was ∙ e in let is = c.if-try_command.false in cc) in (
+    let not : c.try_command.result ≢ Ok true = λ e. absurd (let bad = sym c.in_ok-try_command.was ∙ e in let is = c.if-branch.false in cc) in (
       c.pump_next.ensures.pass,
       goes-none c.args.pass.now c.try_command.new.pass c.pump_next.new.pass (goes-none c.args.pass.now c.loop.pass c.try_command.new.pass c.loop.invariant.1 (c.try_command.ensures.not_done not)) c.pump_next.ensures.goes,
       c.pump_next.ensures.share ∙ c.loop.invariant.2,

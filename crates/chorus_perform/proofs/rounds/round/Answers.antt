@@ -1,3 +1,5 @@
+use Rattle.std.proofs.Common.{◌≡◌, true, Ok, ◌∙◌, arith}
+use Rattle.chorus_perform.proofs.Idling.{round-over}
 use Rattle.chorus_perform.proofs.Steps.{goes-none}
 use Rattle.chorus_perform.proofs.rounds.round.Goals as goal
 

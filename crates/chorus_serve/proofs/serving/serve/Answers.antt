@@ -2,8 +2,8 @@ use Rattle.std.proofs.Common.{sym, ◌∙◌, ap}
 use Rattle.std.proofs.lemmas.Result.{IfOk-weaker, on_err_weaker}
 use Rattle.chorus_serve.specs.Desks.{DeskOf, in_hand, seen}
 use Rattle.chorus_serve.specs.Serving.{Answers}
-use Rattle.chorus_serve.specs.Working.{DealsWith}
-use Rattle.chorus_serve.proofs.Joining.{sealed-rests, none-idle, held-rests, dealt-answers, ok-emptied, in-none, on-err}
+use Rattle.chorus_serve.specs.Working.{HandlesPacket}
+use Rattle.chorus_serve.proofs.Joining.{sealed-rests, none-idle, held-rests, handled-answers, ok-emptied, in-none, on-err}
 use Rattle.chorus_serve.proofs.serving.serve.Goals as goal
 
 pub returns-in_err-from-clause-refused : goal.returns-in_err-from-clause-refused
@@ -29,11 +29,11 @@ returns-clause-ok g c =
     let b = seen g.E.Ends.links g.E.Ends.packet c.send_out.new.desk in
     let up = seen g.E.Ends.links g.E.Ends.packet c.take_up.new.desk in
     let d = seen g.E.Ends.links g.E.Ends.packet c.lay_down.new.desk in
-    let e = seen g.E.Ends.links g.E.Ends.packet c.deal_with.new.desk in
+    let e = seen g.E.Ends.links g.E.Ends.packet c.handle_packet.new.desk in
     let w = c.args.caller.now in
-    let x = c.deal_with.new.caller in
-    IfOk-weaker c.deal_with.result (λ pump. DealsWith pump c.in-Some.from c.in-Some.packet d e w x) (λ pump. Answers pump a e w x)
-    (dealt-answers a b up c.send_out.ensures.sends c.take_up.ensures.took d e c.lay_down.ensures.same c.in-Some.from c.in-Some.packet (sym c.in_ok-from.ensures.packet ∙ c.in-Some.is) w x) c.deal_with.ensures.ok
+    let x = c.handle_packet.new.caller in
+    IfOk-weaker c.handle_packet.result (λ pump. HandlesPacket pump c.in-Some.from c.in-Some.packet d e w x) (λ pump. Answers pump a e w x)
+    (handled-answers a b up c.send_out.ensures.sends c.take_up.ensures.took d e c.lay_down.ensures.same c.in-Some.from c.in-Some.packet (sym c.in_ok-from.ensures.packet ∙ c.in-Some.is) w x) c.handle_packet.ensures.ok
 
 pub returns-clause-emptied : goal.returns-clause-emptied
 returns-clause-emptied g c =
@@ -41,9 +41,9 @@ returns-clause-emptied g c =
     let b = seen g.E.Ends.links g.E.Ends.packet c.send_out.new.desk in
     let up = seen g.E.Ends.links g.E.Ends.packet c.take_up.new.desk in
     let d = seen g.E.Ends.links g.E.Ends.packet c.lay_down.new.desk in
-    let e = seen g.E.Ends.links g.E.Ends.packet c.deal_with.new.desk in
+    let e = seen g.E.Ends.links g.E.Ends.packet c.handle_packet.new.desk in
     ok-emptied a b up c.send_out.ensures.sends c.take_up.ensures.took d e c.lay_down.ensures.same c.in-Some.from c.in-Some.packet (sym c.in_ok-from.ensures.packet ∙ c.in-Some.is) c.args.caller.now
-    c.deal_with.new.caller c.in_ok-send_out.ensures.emptied c.deal_with.result c.deal_with.ensures.ok
+    c.handle_packet.new.caller c.in_ok-send_out.ensures.emptied c.handle_packet.result c.handle_packet.ensures.ok
 
 pub returns-clause-refused : goal.returns-clause-refused
 returns-clause-refused g c =
@@ -51,8 +51,8 @@ returns-clause-refused g c =
     let b = seen g.E.Ends.links g.E.Ends.packet c.send_out.new.desk in
     let up = seen g.E.Ends.links g.E.Ends.packet c.take_up.new.desk in
     let d = seen g.E.Ends.links g.E.Ends.packet c.lay_down.new.desk in
-    let e = seen g.E.Ends.links g.E.Ends.packet c.deal_with.new.desk in
-    on_err_weaker c.deal_with.result
+    let e = seen g.E.Ends.links g.E.Ends.packet c.handle_packet.new.desk in
+    on_err_weaker c.handle_packet.result
     (held-rests a b up c.send_out.ensures.sends c.take_up.ensures.took d e c.lay_down.ensures.same c.in-Some.from c.in-Some.packet (sym c.in_ok-from.ensures.packet ∙ c.in-Some.is) c.args.caller.now
-    c.deal_with.new.caller)
-    c.deal_with.ensures.refused
+    c.handle_packet.new.caller)
+    c.handle_packet.ensures.refused

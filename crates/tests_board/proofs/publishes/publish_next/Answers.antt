@@ -1,8 +1,9 @@
-use Rattle.std.proofs.Common.{◌+◌, ◌%◌, ◌∷◌, [], ◌++◌, ap, sym, ◌∙◌}
+use Rattle.std.proofs.Common.{◌+◌, ◌%◌, ◌∷◌, [], ◌++◌, ap, sym, ◌∙◌, subst}
 use Rattle.chorus_world.specs.Places.{farther}
 use Rattle.chorus_board.specs.Boards.{layout_of}
-use Rattle.chorus_board.specs.Located.{located_after, told_of}
-use Rattle.tests_board.proofs.Departures.{next_entry, next_departures, length_departures, departures_of_one_place, departures_located}
+use Rattle.chorus_board.specs.Located.{located_after, told_of, IsOfPlace}
+use Rattle.tests_board.specs.Moves.{departures}
+use Rattle.tests_board.proofs.Departures.{next_entry, next_departures, length_departures, departures_of_place, departures_located}
 use Rattle.tests_board.proofs.publishes.publish_next.Goals as goal
 
 pub publish-requires-clause-longer : goal.publish-requires-clause-longer
@@ -13,8 +14,9 @@ publish-requires-clause-longer g c =
 pub publish-requires-clause-count : goal.publish-requires-clause-count
 publish-requires-clause-count g c = sym (length_departures c.args.port (c.args.count + 1))
 
-pub publish-requires-clause-one_place : goal.publish-requires-clause-one_place
-publish-requires-clause-one_place g c = departures_of_one_place c.args.port (c.args.count + 1)
+pub publish-requires-clause-of_place : goal.publish-requires-clause-of_place
+publish-requires-clause-of_place g c =
+    subst (λ p. IsOfPlace p (departures c.args.port (c.args.count + 1))) (sym c.requires.so_far.2) (departures_of_place c.args.port (c.args.count + 1))
 
 pub publish-requires-clause-located : goal.publish-requires-clause-located
 publish-requires-clause-located g c q here =

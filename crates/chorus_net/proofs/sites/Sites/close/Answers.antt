@@ -9,8 +9,10 @@ returns-clause-ok c =
     let ps = c.self.inside.places.items in
     let a = c.take_apart.ensures in
     record {
-      journals = a.journals ∙ sym (journals-are c.self.inside.places.items) ∙ ap (λ (v : SitesState). journals (net v)) c.self.view_is;
-      rest = a.rest ∙ sym (packets-are c.self.inside.places.items) ∙ ap (λ (v : SitesState). packets_left (net v)) c.self.view_is;
-      ports = a.ports ∙ sym (ports-are c.self.inside.places.items) ∙ ap (λ (v : SitesState). placed (net v)) c.self.view_is;
+      left = record {
+        journals = a.journals ∙ sym (journals-are c.self.inside.places.items) ∙ ap (λ (v : SitesState). journals (net v)) c.self.view_is;
+        rest = a.rest ∙ sym (packets-are c.self.inside.places.items) ∙ ap (λ (v : SitesState). packets_left (net v)) c.self.view_is;
+        ports = a.ports ∙ sym (ports-are c.self.inside.places.items) ∙ ap (λ (v : SitesState). placed (net v)) c.self.view_is;
+      };
       origin = a.origin;
     }

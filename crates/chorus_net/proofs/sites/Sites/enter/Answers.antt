@@ -3,7 +3,7 @@ use Rattle.std.proofs.lemmas.Bool.{and_from}
 use Rattle.std.proofs.lemmas.List.{length_push}
 use Rattle.std.proofs.lemmas.Option.{slice_get_read}
 use Rattle.chorus_ui.specs.Layout.{has_actor, creation_place}
-use Rattle.chorus_entry.specs.Kinds.{names_actor}
+use Rattle.chorus_ui.specs.NameKind.{is_actor}
 use Rattle.chorus_calls.specs.Callers.{Seated, new_caller}
 use Rattle.law_network.specs.Calls.{entering, last_of}
 use Rattle.chorus_net.specs.Sites.{SitesState, net}
@@ -32,7 +32,7 @@ invariant_of-self-2 c =
       shape = i.shape;
       places = i.places;
       all = i.all;
-      scheduled = next-event l (net s) _ (entering c.args.actor (net s)) i.scheduled (and_from (names_actor c.args.actor) (has_actor l c.args.actor) c.requires actor)
+      scheduled = next-event l (net s) _ (entering c.args.actor (net s)) i.scheduled (and_from (is_actor c.args.actor) (has_actor l c.args.actor) c.requires actor)
           (λ j. record { layout = c.self.inside.layout; places = (net s).places; packets = (net s).packets; callers = callers j });
       some_seat = omega (arith, count);
       few_seats = omega (arith, count, full, few, made);

@@ -6,10 +6,15 @@ use Rattle.chorus_turn.proofs.Gives.{held_value}
 use Rattle.chorus_turn.proofs.Parts.{news_by}
 use Rattle.chorus_turn.proofs.turns.Turns.work.Goals as goal
 
-pub run-out-requires : goal.run-out-requires
-run-out-requires g c = let t = c.take-found.ensures.free c.if-found-ne0.false in
+pub run-out-requires-clause-accepts : goal.run-out-requires-clause-accepts
+run-out-requires-clause-accepts g c = let t = c.take-found.ensures.free c.if-found-ne0.false in
     let same : t.0 ≡ c.lift-state.result = ap (held_value t.0) (sym (ap (λ x. x.1) t.2) ∙ c.lift-state.ensures.lifted.0) in
     subst (λ (x : g.row.S.Denot). g.J.Job.accepts c.args.job.now (g.S.Kept.mark x) c.args.number) same (c.requires.job (g.S.Kept.mark t.0) t.4)
+
+pub run-out-requires-clause-fits : goal.run-out-requires-clause-fits
+run-out-requires-clause-fits g c = let t = c.take-found.ensures.free c.if-found-ne0.false in
+    let same : t.0 ≡ c.lift-state.result = ap (held_value t.0) (sym (ap (λ x. x.1) t.2) ∙ c.lift-state.ensures.lifted.0) in
+    (t.1, subst (λ (x : g.row.S.Denot). IsJournal g.S.Kept.entries g.S.Kept.fits x t.1) same t.3)
 
 pub give-requires-clause-state : goal.give-requires-clause-state
 give-requires-clause-state g c = let t = c.take-found.ensures.free c.if-found-ne0.false in let lifted = c.lift-state.ensures.lifted in let mark = t.4 in let run = c.run-out.ensures in

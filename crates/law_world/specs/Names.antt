@@ -1,0 +1,119 @@
+-- Names: how ports, groups and messages get theirs, and where a port is that an actor holds. l is a layout, past what stands before the
+-- entry e, q is a port, g a group, a an actor, p a place.
+use Rattle.std.specs.Prelude.{ℕ, ◌≡◌, ◌≤◌, ◌<◌, ◌↔◌, Bool, true, false, List, ◌∷◌, count_by, Option, Some, None, is_some}
+use Rattle.chorus_ui.specs.declared.kind.Kind.TheVariants as kinds
+use Rattle.chorus_ui.specs.declared.limits.TheConstants.{PORTS_PER_SITE_LIMIT, GROUPS_PER_SITE_LIMIT}
+use Rattle.chorus_ui.specs.declared.ui.Ui.{Ui}
+use Rattle.chorus_ui.specs.declared.layout.Layout.{Layout}
+use Rattle.chorus_ui.specs.Layout.{IsLayout, can_make_port, creation_place, group_place, place_at}
+use Rattle.chorus_entry.specs.declared.command.Command.{Command}
+use Rattle.chorus_entry.specs.declared.command.Command.TheVariants as commands
+use Rattle.chorus_entry.specs.declared.dest.Dest.{Dest}
+use Rattle.chorus_entry.specs.declared.entry.Entry.{Entry}
+use Rattle.chorus_entry.specs.declared.id.MsgId.{MsgId}
+use Rattle.chorus_entry.specs.declared.message.Message.{Message}
+use Rattle.chorus_entry.specs.declared.act.Act.{Act}
+use Rattle.chorus_entry.specs.declared.act.Act.TheVariants.{Make, MakeFull, Post, NotHere, GroupMake, GroupsFull}
+use Rattle.chorus_entry.specs.MsgId.{same_id}
+use Rattle.chorus_world.specs.declared.port.Spot.TheVariants.{Held}
+use Rattle.chorus_world.specs.Views.{on, is_group, makes_group}
+use Rattle.chorus_world.specs.Ports.{PortState, fate, last_of}
+use Rattle.chorus_world.specs.Places.{makes, is_made_here}
+use Rattle.chorus_world.specs.Posts.{post_of}
+use Rattle.chorus_world.specs.Steps.{is_legal}
+use Rattle.chorus_world.specs.Runs.{is_held_by, is_run}
+use Rattle.chorus_world.specs.Commands.{answers}
+
+-- A name is made once.
+
+-- at most one entry makes the port
+abbrev pub MakesOnce : List Entry → Type 0
+MakesOnce past = (q : Ui) → count_by (λ (e : Entry). makes q e.act) past ≤ 1
+
+-- at most one makes the group
+abbrev pub MakesGroupsOnce : List Entry → Type 0
+MakesGroupsOnce past = (g : Ui) → count_by (λ (e : Entry). makes_group g e.act) past ≤ 1
+
+-- and at most one posts a message with this id
+abbrev pub posts : MsgId → Act → Bool
+posts x (Post m d) = same_id m.id x
+posts x _ = false
+
+abbrev pub PostsOnce : List Entry → Type 0
+PostsOnce past = (x : MsgId) → count_by (λ (e : Entry). posts x e.act) past ≤ 1
+
+-- The next name is the least.
+
+-- the port can be made at the place p, was not made, and has the least number of such a one
+pub record IsLeastPort (l : Layout) (past : List Entry) (p : ℕ) (q : Ui) : Type 0 where
+  pub can : can_make_port l q ≡ true
+  pub place : creation_place l q ≡ p
+  pub new : is_made_here q past ≡ false
+  pub least :
+      (n : ℕ) → 1 ≤ n → n < q.number → creation_place l (record q { number = n }) ≡ p → is_made_here (record q { number = n }) past ≡ true
+
+abbrev pub MakesTheLeast : Layout → List Entry → Entry → Type 0
+MakesTheLeast l past e =
+    (q a : Ui) (c : ℕ) → e.act ≡ Make q a c → IsLeastPort l past e.place q × (q.site ≡ a.site) × (place_at l a.site a ≡ e.place)
+
+-- where no port can be made any more, each one was made that the place makes
+abbrev pub MadeAllPorts : Layout → List Entry → Entry → Type 0
+MadeAllPorts l past e =
+    (a : Ui) (n : ℕ) → e.act ≡ MakeFull a → 1 ≤ n → n ≤ PORTS_PER_SITE_LIMIT →
+    creation_place l (record { site = a.site; kind = kinds.Port; number = n }) ≡ e.place →
+    is_made_here (record { site = a.site; kind = kinds.Port; number = n }) past ≡ true
+
+-- the same of groups, which stand at the first place of their site
+pub record IsLeastGroup (l : Layout) (past : List Entry) (p : ℕ) (g : Ui) : Type 0 where
+  pub some : 1 ≤ g.number
+  pub few : g.number ≤ GROUPS_PER_SITE_LIMIT
+  pub place : group_place l g ≡ Some p
+  pub new : is_group g past ≡ false
+  pub least : (n : ℕ) → 1 ≤ n → n < g.number → is_group (record g { number = n }) past ≡ true
+
+abbrev pub GroupMakesTheLeast : Layout → List Entry → Entry → Type 0
+GroupMakesTheLeast l past e = (g : Ui) → e.act ≡ GroupMake g → IsLeastGroup l past e.place g
+
+abbrev pub MadeAllGroups : List Entry → Entry → Type 0
+MadeAllGroups past e =
+    (s n : ℕ) → e.act ≡ GroupsFull s → 1 ≤ n → n ≤ GROUPS_PER_SITE_LIMIT →
+    is_group (record { site = s; kind = kinds.Group; number = n }) past ≡ true
+
+-- and of messages: the id of a post is of its seat, is no copy's, was not posted, and has the least number of such a one
+pub record IsLeastId (past : List Entry) (s : ℕ) (x : MsgId) : Type 0 where
+  pub seat : x.seat ≡ s
+  pub own : x.copy ≡ 0
+  pub some : 1 ≤ x.number
+  pub new : post_of x past ≡ None
+  pub least : (n : ℕ) → 1 ≤ n → n < x.number → is_some (post_of (record x { number = n }) past) ≡ true
+
+abbrev pub PostsTheLeast : List Entry → Entry → Type 0
+PostsTheLeast past e = (m : Message) (d : Dest) → e.act ≡ Post m d → IsLeastId past e.seat m.id
+
+-- Where a port is.
+
+-- a port that an actor holds is at the port's place on the site of the actor
+abbrev pub IsAtActorsSite : Type 0
+IsAtActorsSite =
+    (l : Layout) (past : List Entry) (q a : Ui) (f : PortState) → IsLayout l → is_legal l past ≡ true →
+    fate (on q past) ≡ Some f → f.spot ≡ Held a → last_of 0 f.path ≡ place_at l a.site q
+
+-- the actor holds the port, at whatever place
+abbrev pub holds : Ui → Option PortState → Bool
+holds a None = false
+holds a (Some f) = is_held_by a f.spot
+
+-- the port that a command wants its caller's actor to hold: to receive from it, to move it or to delete it
+abbrev pub port_wanted : Command → Option Ui
+port_wanted (commands.Take q) = Some q
+port_wanted (commands.Move q a) = Some q
+port_wanted (commands.Delete q) = Some q
+port_wanted _ = None
+
+-- In a run, NotHere answers such a command exactly where the actor of its caller does not hold the port. That the answer stands at the
+-- place of the command is all that this needs of the place.
+abbrev pub NotHereMeansNotHeld : Type 0
+NotHereMeansNotHeld =
+    (l : Layout) (callers : ℕ → Option Ui) (past : List Entry) (e : Entry) (a q : Ui) (c : Command) →
+    IsLayout l → is_run l callers (e ∷ past) ≡ true → callers e.seat ≡ Some a → answers l past a c e ≡ true → port_wanted c ≡ Some q →
+    (e.act ≡ NotHere q) ↔ (holds a (fate (on q past)) ≡ false)

@@ -1,0 +1,66 @@
+use Rattle.std.proofs.Common.{◌+◌, ◌≤◌, ◌^◌, length, ap, sym, subst, ◌∙◌, arith}
+use Rattle.chorus_ui.specs.Layout.{has_place}
+use Rattle.chorus_groups.specs.Made.{made_of}
+use Rattle.law_machine.specs.PlaceState.{Turn, greatest_clock}
+use Rattle.law_machine.specs.Choosing.{choice}
+use Rattle.place_state.specs.Tables.{Tables, state, turn}
+use Rattle.place_unsettled.specs.Queues.{queue}
+use Rattle.place_state.specs.Groups.{HaveLines, members_of, waiting_for, courses_of}
+use Rattle.place_groups.proofs.GroupTurns.{on-err, posted-here, posted-clock, members-copies}
+use Rattle.place_groups.proofs.turns.post_here.Goals as goal
+
+pub returns-in_err-chosen-clause-refused : goal.returns-in_err-chosen-clause-refused
+returns-in_err-chosen-clause-refused c = on-err _ _ (c.prepare.ensures.turn c.args.caller.now)
+
+pub post_alone-requires-clause-clock : goal.post_alone-requires-clause-clock
+post_alone-requires-clause-clock c =
+    let same = ap greatest_clock (c.prepare.ensures.turn c.args.caller.now) in
+    let clock = c.requires.clock in
+    omega (arith, same, clock)
+
+pub carry_out-requires-clause-home : goal.carry_out-requires-clause-home
+carry_out-requires-clause-home c =
+    let layout = ap (λ (p : Tables). p.layout) c.post_alone.ensures.same ∙ ap (λ (t : Turn). t.place.layout) (c.prepare.ensures.turn c.args.caller.now) in
+    (λ i. has_place (layout i) (c.number-home.ensures.value i)) ∙ c.number-home.ensures.in_layout
+
+pub carry_out-requires-clause-clock : goal.carry_out-requires-clause-clock
+carry_out-requires-clause-clock c =
+    let same = ap greatest_clock (c.prepare.ensures.turn c.args.caller.now) in
+    let post = ap greatest_clock c.post_alone.ensures.turn in
+    let one = posted-clock c.args.message c.args.dest (turn c.prepare.new.tables c.args.caller.now) in
+    let clock = c.requires.clock in
+    omega (arith, same, post, one, clock)
+
+pub returns-clause-ok : goal.returns-clause-ok
+returns-clause-ok c =
+    posted-here c.args.message c.args.dest c.args.group c.number-home.result c.in_ok-chosen.chosen.copies.items (turn c.args.tables.now c.args.caller.now)
+    (turn c.prepare.new.tables c.args.caller.now) (turn c.post_alone.new.self c.post_alone.new.caller) _ c.requires.group c.number-home.ensures.value
+    (c.prepare.ensures.turn c.args.caller.now) c.post_alone.ensures.turn c.in_ok-chosen.ensures.copies c.carry_out.ensures.turn
+
+pub returns-clause-reply : goal.returns-clause-reply
+returns-clause-reply c =
+    let all = choice c.args.dest (state c.args.tables.now) in
+    c.reply_of-reply.ensures all
+    (c.in_ok-chosen.ensures.ready.chosen ∙ ap made_of (ap members_of c.in_ok-chosen.ensures.copies ∙ members-copies c.args.message c.args.dest c.number-home.result 1 all))
+
+pub carry_out-requires-clause-ready : goal.carry_out-requires-clause-ready
+carry_out-requires-clause-ready c =
+    let g = c.args.group in
+    let copies = c.in_ok-chosen.chosen.copies.items in
+    let ms = members_of copies in
+    let r = c.in_ok-chosen.ensures.ready in
+    let same = c.post_alone.ensures.same in
+    let waits = ap (λ (p : Tables). waiting_for g ms (queue p.waits)) same in
+    let enough = r.spare in
+    let left = c.post_alone.ensures.spare in
+    record {
+      chosen = r.chosen;
+      kinds = r.kinds;
+      distinct = r.distinct;
+      copied = r.copied;
+      courses = r.courses ∙ ap (λ (p : Tables). courses_of g (state p) copies) (sym same);
+      lines = subst (λ (p : Tables). HaveLines g p.waits ms) (sym same) r.lines;
+      few = subst (λ (p : Tables). waiting_for g ms (queue p.waits) + length copies ≤ 2 ^ 62) (sym same) r.few;
+      spare = omega (arith, waits, enough, left);
+      room = subst (λ (p : Tables). 1 + waiting_for g ms (queue p.waits) + length copies + length copies ≤ p.room) (sym same) r.room;
+    }

@@ -1,0 +1,53 @@
+-- What the machine does on a command with calls, by what its code found.
+-- t is the turn before, u the turn after, m a message, q a port, c the caller.
+use Rattle.std.proofs.Common.{◌≡◌, ℕ, ◌+◌, ◌≤◌, ◌==◌, ◌&&◌, Bool, true, false, cond, Option, Some, None, List, [], ◌∷◌, refl, sym, ◌∙◌, ap, subst, arith}
+use Rattle.chorus_ui.specs.declared.ui.Ui.{Ui}
+use Rattle.chorus_entry.specs.declared.id.MsgId.{MsgId}
+use Rattle.chorus_entry.specs.declared.dest.Dest.{Dest}
+use Rattle.chorus_entry.specs.declared.tag.Tag.{Tag}
+use Rattle.chorus_entry.specs.declared.tag.Tag.TheVariants as tags
+use Rattle.chorus_entry.specs.declared.message.Message.{Message}
+use Rattle.chorus_entry.specs.declared.answer.Answer.{Answer}
+use Rattle.chorus_entry.specs.declared.command.Command.{Command}
+use Rattle.chorus_entry.specs.declared.act.Act.{Act}
+use Rattle.chorus_entry.specs.declared.packet.Packet.{Packet}
+use Rattle.chorus_entry.specs.declared.packet.Cargo.{Cargo}
+use Rattle.chorus_calls.specs.Clients.{Call, Calling, is_outstanding, with_call as client_with, after_begin, after_cancel}
+use Rattle.chorus_calls.specs.Callers.{Seated, with_client, after_post}
+use Rattle.chorus_ports.specs.Table.{find, replace}
+use Rattle.chorus_ports.specs.Taking.{after_take}
+use Rattle.place_unsettled.specs.declared.wait.Key.{Key}
+use Rattle.place_unsettled.specs.declared.wait.Wait.{Wait}
+use Rattle.place_unsettled.specs.Queues.{changed, with_last}
+use Rattle.law_machine.specs.declared.reply.Reply.{Reply}
+use Rattle.law_machine.specs.PlaceState.{Turn, newest, unchanged, say, note}
+use Rattle.law_machine.specs.PlaceMachine.{act, work}
+use Rattle.law_machine.specs.Own.{own}
+use Rattle.law_machine.specs.Doing.{does, direct, post, poster, posts, posts_direct, posts_to_group, chooses_own, asks, choosing_place, after_tag, ends, holding, takes, first_message}
+use Rattle.law_machine.specs.Choosing.{choice, by_group, all_go, chooses, chooses_all, chooses_these}
+use Rattle.law_machine.specs.Trying.{verdict_here, tries, settles_here, goes_on, goes_unless, go}
+use Rattle.law_machine.specs.Working.{opens}
+use Rattle.law_machine.specs.Replies.{post_reply}
+use Rattle.place_state.specs.Commands.{Performed}
+use Rattle.place_state.specs.Steps.{posted, told_by}
+use Rattle.place_state.specs.Tables.{Tables, turn}
+use Rattle.place_turns.specs.CallTurns.{with_call}
+use Rattle.place_turns.proofs.Posting.{post-performs}
+
+-- p are the tables before room was made, r behind it, and d the caller as it posts the message n, which is m, to the port q
+pub post-done : (command : Command) (m n : Message) (q to : Ui) (p r : Tables) (c d : Seated) (u : Turn) (told : Reply) (id : MsgId)
+    → own command (turn p c) ≡ Act.Post m (Dest.Port q) → to ≡ q → n ≡ m → ((x : Seated) → turn r x ≡ turn p x) → d ≡ after_tag m.tag q m.body c
+    → u ≡ go (direct to) (posted n to (turn r d)) → id ≡ n.id → told ≡ post_reply id u.place.journal → Performed command (turn p c) u told
+post-done command m n q to p r c d u told id o at is room caller e name a =
+    post-performs command m q (turn p c) u told o
+    (e ∙ ap (λ x. go (direct x) (posted n x (turn r d))) at ∙ ap (λ x. go (direct q) (posted x q (turn r d))) is
+    ∙ ap (λ x. go (direct q) (posted m q x)) (room d ∙ ap (turn p) caller))
+    (a ∙ ap (λ x. post_reply x u.place.journal) (name ∙ ap (λ (x : Message). x.id) is))
+
+-- the call that is outstanding already stays as it is
+pub same-call : (q back : Ui) (body : List ℕ) (c : Seated) (call : Call) → c.client.outstanding ≡ Some call → c ≡ with_call q back body c
+same-call q back body c call h = by c.client.outstanding h refl
+  where
+    by : (o : Option Call) → o ≡ Some call → c.client.outstanding ≡ o → c ≡ with_call q back body c
+    by None e f = absurd (cc)
+    by (Some x) e f = sym (ap (λ (o : Option Call). record c { client = after_begin (record c.client { outstanding = o }) q back body }) f ∙ ap (λ (o : Option Call). record c { client = record c.client { outstanding = o } }) (sym f))

@@ -1,0 +1,183 @@
+//! Whole turns that post a message to a port: the room that they need is taken before their first change.
+
+ghost use Rattle.std.specs.Prelude.{◌≡◌, ◌<◌, ◌≤◌, reverse, OnOk, OnErr, IfOk};
+ghost use Rattle.chorus_ui.specs.declared.kind.Kind.TheVariants as Kind;
+ghost use Rattle.chorus_ui.specs.declared.limits.TheConstants.{CLOCK_LIMIT};
+ghost use Rattle.chorus_entry.specs.declared.command.Command.TheVariants as Command;
+ghost use Rattle.chorus_entry.specs.declared.dest.Dest.TheVariants as Dest;
+ghost use Rattle.chorus_entry.specs.declared.tag.Tag.TheVariants as Tag;
+ghost use Rattle.law_machine.specs.PlaceState.{greatest_clock};
+ghost use Rattle.law_machine.specs.Own.{next_message};
+ghost use Rattle.law_machine.specs.Trying.{go};
+ghost use Rattle.law_machine.specs.Doing.{direct};
+ghost use Rattle.law_machine.specs.Replies.{verdict_reply, post_reply};
+ghost use Rattle.chorus_calls.specs.Callers.{Seated};
+ghost use Rattle.place_state.specs.Room.{KeepsRoom};
+ghost use Rattle.place_state.specs.Tables.{turn, IsSound};
+ghost use Rattle.place_state.specs.Steps.{posted};
+ghost use Rattle.place_state.specs.Commands.{Performed, StaysOut};
+ghost use Rattle.place_turns.specs.Posting.{last_answer, IsReady};
+
+use chorus_calls::Caller;
+use chorus_entry::{Answer, Body, Entry, Message, MsgId, Tag};
+use chorus_ui::Ui;
+use law_machine::Reply;
+use place_state::next_message;
+use place_tables::Tables;
+use place_unsettled::{Key, Wait};
+use std::alloc::AllocError;
+
+/// What the post of a message to a port takes that can fail: copies of the message, to wait, and of the one that will be tried
+/// at another place.
+#[derive(Debug, Drop)]
+pub(crate) struct Ready {
+    port: Ui,
+    message: Message,
+    wait: Wait,
+    again: Option<Wait>,
+}
+
+/// The reply by the verdict of a direct message.
+fn verdict_reply(msg: MsgId, answer: Answer) -> Reply
+    ensures { result ≡ verdict_reply msg answer }
+{
+    match answer {
+        Answer::Accepted { pos } => Reply::Accepted { msg, pos },
+        Answer::Full { len } => Reply::Full { msg, len },
+        Answer::Early { hop } => Reply::Early { msg, hop },
+        Answer::NoPort => Reply::NoPort(msg),
+        Answer::Already => Reply::Already(msg),
+        Answer::ClientsFull => Reply::ClientsFull(msg),
+        Answer::Gone => Reply::Gone(msg),
+        _ => Reply::Posted(msg),
+    }
+}
+
+/// The answer that the last entry gives, where it is a decision or a choice.
+fn last_answer(entries: &[Entry]) -> Option<Answer>
+    ensures { result ≡ last_answer (reverse entries.now) }
+{
+    let len = entries.len();
+    if len == 0 {
+        return None;
+    }
+    entries[len - 1].act.answer()
+}
+
+/// Posts the caller's next message, with this tag, to a port, and lets it go. Gives its id.
+fn post_to(
+    tables: &mut Tables,
+    port: Ui,
+    tag: Tag,
+    body: Body,
+    caller: &mut Caller,
+) -> Result<MsgId, AllocError>
+    requires kind { port.kind ≡ Kind.Port }
+    requires posts { caller.old.posts < u32.MAX }
+    requires sound { IsSound (next_message tag body caller.old) }
+    requires clock { greatest_clock (turn tables.old caller.old) < CLOCK_LIMIT }
+    ensures ok { OnOk result (turn tables.new caller.new ≡
+        go (direct port)
+        (posted (next_message tag body caller.old) port (turn tables.old caller.old))) }
+    ensures id { IfOk result (λ id. id ≡ (next_message tag body caller.old).id) }
+    ensures refused { OnErr result (turn tables.new caller.new ≡ turn tables.old caller.old) }
+    ensures out { StaysOut tables.old.out tables.new.out }
+    ensures kept { KeepsRoom tables.old tables.new }
+{
+    let ready = ready_post(tables, port, tag, body, caller)?;
+    Ok(post_prepared(tables, ready, caller))
+}
+
+/// Takes what the post of the caller's next message, with this tag, to a port needs. Changes nothing else, whatever the
+/// answer.
+pub(crate) fn ready_post(
+    tables: &mut Tables,
+    port: Ui,
+    tag: Tag,
+    body: Body,
+    caller: &Caller,
+) -> Result<Ready, AllocError>
+    requires kind { port.kind ≡ Kind.Port }
+    requires posts { caller.now.posts < u32.MAX }
+    requires sound { IsSound (next_message tag body caller.now) }
+    ensures port { IfOk result (λ ready. ready.port ≡ port) }
+    ensures message { IfOk result (λ ready. ready.message ≡ next_message tag body caller.now) }
+    ensures ready { IfOk result (λ ready. IsReady ready tables.new) }
+    ensures turn { (c : Seated) → turn tables.new c ≡ turn tables.old c }
+    ensures out { StaysOut tables.old.out tables.new.out }
+    ensures kept { KeepsRoom tables.old tables.new }
+{
+    let key = Key { port, route: None };
+    let waits = tables.waiting_for(&key);
+    let reports = tables.most_reports(&key);
+    tables.make_room(waits + 2, reports + 1)?;
+    let message = next_message(caller, tag, body);
+    let wait = Wait {
+        message: message.copied(0)?,
+        only: None,
+        home: tables.number(),
+    };
+    let again = tables.copy_leaving(&key, 0, Some(&wait), Answer::NoPort)?;
+    tables.make_line(&key)?;
+    Ok(Ready {
+        port,
+        message,
+        wait,
+        again,
+    })
+}
+
+/// Posts a message for which all is there, and lets it go. Takes no memory. Gives its id.
+pub(crate) fn post_prepared(tables: &mut Tables, ready: Ready, caller: &mut Caller) -> MsgId
+    requires ready { IsReady ready tables.old }
+    requires posts { caller.old.posts < u32.MAX }
+    requires clock { greatest_clock (turn tables.old caller.old) < CLOCK_LIMIT }
+    ensures turn { turn tables.new caller.new ≡
+        go (direct ready.port) (posted ready.message ready.port (turn tables.old caller.old)) }
+    ensures id { result ≡ ready.message.id }
+    ensures out { tables.new.out ≡ tables.old.out }
+    ensures kept { KeepsRoom tables.old tables.new }
+{
+    let Ready {
+        port,
+        message,
+        wait,
+        again,
+    } = ready;
+    let key = Key { port, route: None };
+    let id = message.id;
+    tables.post(&key, message, wait, caller);
+    tables.go(&key, again, caller);
+    id
+}
+
+/// The reply to a post to a port, at the end of its turn: what the last entry says of it.
+pub(crate) fn post_reply(tables: &Tables, id: MsgId) -> Reply
+    ensures { result ≡ post_reply id tables.now.journal.past }
+{
+    match last_answer(tables.entries()) {
+        Some(answer) => verdict_reply(id, answer),
+        None => Reply::Posted(id),
+    }
+}
+
+/// Sends a message to a port. Want of memory changes nothing.
+pub fn send_to_port(
+    tables: &mut Tables,
+    port: Ui,
+    body: Body,
+    caller: &mut Caller,
+) -> Result<Reply, AllocError>
+    requires kind { port.kind ≡ Kind.Port }
+    requires posts { caller.old.posts < u32.MAX }
+    requires sound { IsSound (next_message Tag.Plain body caller.old) }
+    requires clock { greatest_clock (turn tables.old caller.old) < CLOCK_LIMIT }
+    ensures performed { IfOk result (λ reply. Performed (Command.Send (Dest.Port port) body)
+        (turn tables.old caller.old) (turn tables.new caller.new) reply) }
+    ensures refused { OnErr result (turn tables.new caller.new ≡ turn tables.old caller.old) }
+    ensures out { StaysOut tables.old.out tables.new.out }
+    ensures kept { KeepsRoom tables.old tables.new }
+{
+    let id = post_to(tables, port, Tag::Plain, body, caller)?;
+    Ok(post_reply(tables, id))
+}
