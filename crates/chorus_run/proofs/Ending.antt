@@ -2,7 +2,7 @@
 use Rattle.std.proofs.Common.{ℕ, zero, suc, true, false, ◌≡◌, ◌<◌, ◌≤◌, inl, inr, List, [], ◌∷◌, length, Option, Some, None, IfSome, IfOk, OnOk, OnErr, Result, Ok, Err, slice_index_or, Bor, refl, sym, ◌∙◌, ap, subst, arith}
 use Rattle.std.specs.declared.alloc.AllocError.{AllocError}
 use Rattle.chorus_ui.specs.declared.layout.Layout.{Layout}
-use Rattle.chorus_ui.specs.Layout.{IsLayout}
+use Rattle.chorus_ui.specs.Layout.{IsLayout, places}
 use Rattle.chorus_ui.specs.declared.limits.TheConstants.{CLOCK_LIMIT}
 use Rattle.chorus_entry.specs.declared.entry.Entry.{Entry}
 use Rattle.chorus_merge.specs.Steps.{lent}
@@ -26,6 +26,7 @@ use Rattle.chorus_report.specs.Headline.{AreWithinUnless, HasClock, Plays, Runs,
 use Rattle.chorus_report.specs.Ending.{EndsFor, HasWorn, IsFinished}
 use Rattle.chorus_report.proofs.Ends.{finished-so}
 use Rattle.chorus_run.specs.Threads.{HasWornOf, IsOfNucleus, IsPlayedOn, StopsAt}
+use Rattle.chorus_run.proofs.Owning.{is-of-nucleus}
 use Rattle.chorus_run.proofs.Playing.{plays-first, plays-done, plays-write}
 
 -- an entry of a list that was lent has the clock
@@ -51,12 +52,10 @@ plays-all n c v closed same keeps performed even h =
     let shape = subst IsLayout (sym same) h.shape in
     let closes = subst (λ k. ClosesFor k (known v) closed) (sym same) h.for_actors in
     let even' = subst (λ k. IsEven k (known v)) (sym same) even in
+    let done = plays-done c shape keeps true (known v) performed closed closes refl even' in
     record {
-      plays = (
-        plays-done c shape keeps true (known v) performed closed closes refl even',
-        plays-write c shape keeps true (known v) performed closed closes refl even',
-      );
-      origin = record { last = v; closes = h };
+      plays = (done, plays-write c shape keeps true (known v) performed closed closes refl even');
+      origin = is-of-nucleus n v closed (done.places_are ∙ ap places same) h;
       high = λ clock is. no-clock clock is;
       entry = λ clock is. no-clock clock is;
       of_pass = λ clock is. no-clock clock is;
@@ -71,9 +70,10 @@ some-is x y h = cc
 played-worn : (n : Nucleus) (c : Scene) (v : Pass) (closed : Closed) (clock : ℕ) → c.layout ≡ layout_of n → Keeps c → HasPerformed false c (known v) → IsClosed n v closed → CLOCK_LIMIT ≤ clock → HasClock clock (merge_of closed) → worn_by v ≡ Some clock → IsPlayedOn n c (Some clock) closed
 played-worn n c v closed clock same keeps performed h high entry worn =
     let closes = subst (λ k. ClosesFor k (known v) closed) (sym same) h.for_actors in
+    let first = plays-first c (subst IsLayout (sym same) h.shape) keeps false (known v) performed closed closes clock in
     record {
-      plays = plays-first c (subst IsLayout (sym same) h.shape) keeps false (known v) performed closed closes clock;
-      origin = record { last = v; closes = h };
+      plays = first;
+      origin = is-of-nucleus n v closed (first.places_are ∙ ap places same) h;
       high = λ k is. subst (λ m. CLOCK_LIMIT ≤ m) (some-is clock k is) high;
       entry = λ k is. subst (λ m. HasClock m (merge_of closed)) (some-is clock k is) entry;
       of_pass = λ k is. closed-worn n v closed h ∙ worn ∙ is;

@@ -1,5 +1,4 @@
 pub mod Totals
-pub mod Evening
-pub mod Seeing
+pub mod Owning
 pub mod Playing
 pub mod Ending

@@ -10,6 +10,7 @@ use Rattle.chorus_ui.specs.declared.ui.Ui.{Ui}
 use Rattle.chorus_ui.specs.declared.layout.Layout.{Layout}
 use Rattle.chorus_ui.specs.Layout.{IsLayout, places, has_actor}
 use Rattle.chorus_entry.specs.declared.command.Command.{Command}
+use Rattle.chorus_entry.specs.declared.packet.Packet.{Packet}
 use Rattle.chorus_ui.specs.NameKind.{is_actor}
 use Rattle.chorus_world.specs.Views.{by}
 use Rattle.chorus_world.specs.Runs.{is_run}
@@ -17,12 +18,15 @@ use Rattle.chorus_world.specs.Commands.{performs}
 use Rattle.chorus_turn.specs.declared.knowledge.Note.{Note}
 use Rattle.chorus_turn.specs.declared.knowledge.Placed.{Placed}
 use Rattle.chorus_turn.specs.declared.knowledge.Knowledge.{Knowledge}
-use Rattle.chorus_turn.specs.Knowing.{seen_at}
 use Rattle.law_closing.specs.Places.{PlaceNote}
+use Rattle.law_closing.specs.Closing.{IsPlace}
 use Rattle.law_closing.specs.Remarks.{turns_at, turns_in}
+use Rattle.law_closing.proofs.Seen.{all-seen}
 use Rattle.law_history.specs.Counts.{put_count, got_count}
 use Rattle.law_history.specs.Journals.{Comer, events}
 use Rattle.law_history.specs.Runs.{commands_given, actor_among, merged_at, MergesAsARun, KeepsPromises}
+use Rattle.law_history.proofs.Left.{counts-tell}
+use Rattle.law_history.proofs.Listed.{schedules-leave-lists}
 use Rattle.law_history.proofs.Merging.{journals-merge-as-a-run, journals-keep-promises}
 use Rattle.law_network.specs.Calls.{first_actor}
 use Rattle.law_network.specs.Network.{NetState, Event, schedule}
@@ -34,15 +38,14 @@ use Rattle.chorus_scene.specs.declared.limits.TheConstants.{COMMANDS_LIMIT}
 use Rattle.chorus_scene.specs.Scene.{Scene, Script}
 use Rattle.chorus_scene.specs.Setup.{setup_commands}
 use Rattle.chorus_scene.specs.Limits.{Keeps, script_keeps, command_keeps, is_actor_of, is_site}
-use Rattle.chorus_nucleus.specs.Closing.{AreIn, AreActors, ClosesAs, ClosesFor}
-use Rattle.chorus_perform.specs.Rounds.{IsEven}
+use Rattle.law_closing.specs.Actors.{AreIn, AreActors}
+use Rattle.chorus_nucleus.specs.Closing.{ClosesAs, ClosesFor}
+use Rattle.chorus_perform.specs.Rounds.{IsEven, turns_seen}
 use Rattle.chorus_perform.specs.Scripts.{IsPerformedBy, IsOfScript, HasPerformed}
 use Rattle.chorus_report.specs.Headline.{past_of, PerformsAll, PerformsFirst, Plays, callers_of, commands_by}
-use Rattle.chorus_report.proofs.Playing.{performs-none, past-is, plays-so, quiet-of}
+use Rattle.chorus_report.proofs.Playing.{performs-none, past-is, plays-so}
 use Rattle.chorus_report.proofs.Seating.{run-more, run-ungiven}
-use Rattle.chorus_run.proofs.Evening.{even-leaves-none}
-use Rattle.chorus_run.proofs.Seeing.{all-seen}
-use Rattle.chorus_run.proofs.Totals.{total-upto}
+use Rattle.chorus_run.proofs.Totals.{none-by-link, total-upto}
 
 abbrev K : Type 0
 K = Knowledge PlaceNote
@@ -133,8 +136,8 @@ pub are-actors : (c : Scene) (all : Bool) (v : K) → IsLayout c.layout → Keep
 are-actors c all v shape keeps h = record {
   own = subst (λ q. AreIn (actors_of c q) v.mine) (sym h.seat) h.setup.within;
   noted = notes-in c all v h;
-  kinds = λ q. (actors-fit c shape keeps q).0;
-  has = λ q. (actors-fit c shape keeps q).1;
+  kinds = λ q lt. (actors-fit c shape keeps q).0;
+  has = λ q lt. (actors-fit c shape keeps q).1;
 }
 
 module _ (c : Scene) (shape : IsLayout c.layout) (keeps : Keeps c) (all : Bool) (v : K) (h : HasPerformed all c v) (closed : Closed) (closes : ClosesFor c.layout v closed) where
@@ -282,19 +285,27 @@ module _ (c : Scene) (shape : IsLayout c.layout) (keeps : Keeps c) (all : Bool) 
   -- Where nothing is left.
 
   module _ (whole : all ≡ true) (even : IsEven c.layout v) where
-    same-turns : (p : ℕ) → p < places l → so.of_places (p + 1) ≡ turns_at (p + 1) (seen_at (p + 1) v)
+    same-turns : (p : ℕ) → p < places l → so.of_places (p + 1) ≡ turns_seen v (p + 1)
     same-turns p lt =
-        so.made (p + 1) (omega arith, omega (arith, lt)) ∙ ap (turns_at (p + 1)) (all-seen (places l) so.log v so.tells even.seen p lt)
+        let is : IsPlace (places l) (p + 1) = (omega arith, omega (arith, lt)) in
+        so.made (p + 1) is ∙ ap (turns_at (p + 1)) (all-seen (places l) so.log v so.tells even.seen (p + 1) is)
 
-    no-packets : n.packets ≡ []
-    no-packets =
-        even-leaves-none l shape comers so.of_places so.of_seats so.closing kept.turns so.histories kept.scheduled
-        (total-upto (places l) (λ p. put_count (so.of_places (p + 1))) (λ p. put_count (turns_at (p + 1) (seen_at (p + 1) v))) (λ p lt. ap put_count (same-turns p lt))
+    no-links : (a b : ℕ) → so.closing.links a b ≡ []
+    no-links =
+        (counts-tell l comers so.of_places so.of_seats so.closing shape so.histories).even
+        (total-upto (places l) (λ k. put_count (so.of_places (k + 1))) (λ k. put_count (turns_seen v (k + 1))) (λ k lt. ap put_count (same-turns k lt))
         ∙ even.even
-        ∙ sym (total-upto (places l) (λ p. got_count (so.of_places (p + 1))) (λ p. got_count (turns_at (p + 1) (seen_at (p + 1) v))) (λ p lt. ap got_count (same-turns p lt))))
+        ∙ sym (total-upto (places l) (λ k. got_count (so.of_places (k + 1))) (λ k. got_count (turns_seen v (k + 1))) (λ k lt. ap got_count (same-turns k lt))))
+
+    no-rest : closed.rest.items ≡ []
+    no-rest =
+        is_left.rest ∙ (schedules-leave-lists l comers so.of_places so.of_seats so.closing kept.turns shape so.histories kept.scheduled).packets
+        ∙ none-by-link (places l) so.closing.links no-links
 
     rests : IsQuiet l (past_of closed) closed.rest.items
-    rests = quiet-of l shape closed es kept.scheduled.may is_left (kept.promises.quiet no-packets)
+    rests =
+        subst (λ past. IsQuiet l past closed.rest.items) (sym merged-is)
+        (subst (λ (rest : List Packet). IsQuiet l (merged_at l so.closing) rest) (sym no-rest) (merges.quiet no-links))
 
     pub plays-done : Plays l (callers_of c) (commands_by c) Status.Done closed
     plays-done =
