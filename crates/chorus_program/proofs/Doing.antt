@@ -18,6 +18,7 @@ use Rattle.chorus_replay.specs.Ordered.{Replays}
 use Rattle.chorus_run.specs.Ends.{EndsAsRun}
 use Rattle.chorus_run.specs.Threads.{HasWornOf, IsOfNucleus}
 use Rattle.chorus_audit.specs.Output.{Prints, ReadsBy}
+use Rattle.chorus_lossy.specs.Output as lossy
 use Rattle.chorus_lossy.specs.Output.{CarriesInput}
 use Rattle.chorus_words.specs.declared.words.Words.{Words}
 use Rattle.chorus_words.specs.declared.words.Words.TheVariants as words
@@ -104,3 +105,17 @@ module _ {S K : Type 0} (f : Finished) (is : f ≡ record { status = Memory; clo
   does-none n (words.Load first commands) = record { unread = refl; loads = loads-none first commands }
   does-none n (words.Audit sites turns) = audits-none (places_each sites turns)
   does-none n (words.Lossy first) = carries-none first
+
+-- What is done has its cause, and is no Usage.
+
+module _ {S K : Type 0} (n : Nucleus) (f : Finished) (left : S → Option (List ℕ)) (faults : S → ℕ) (reliable : S → Type 0) (from rest : S) (held : K → Option (List ℕ)) (failures : K → ℕ) (old new : K) where
+  pub no-usage : (asked : Words) → Does n asked f left faults reliable from rest held failures old new → f.status ≡ Status.Usage → ⊥
+  no-usage words.Replay d is = d.reads.usage is
+  no-usage words.Run d is = d.reads.usage is
+  no-usage (words.RunOn turns) d is = d.reads.usage is
+  no-usage (words.Load first commands) d is = subst EndsUnread is d.loads.status
+  no-usage (words.Audit sites turns) d is = subst (λ s. ReadsBy s (left from) (left rest)) is d.reads
+  no-usage (words.Lossy first) d is = let h = d.carries in subst (λ s. lossy.ReadsBy s h.0 (left from) (left rest)) is h.1
+
+  pub does-same : (asked other : Words) → asked ≡ other → Does n asked f left faults reliable from rest held failures old new → Does n other f left faults reliable from rest held failures old new
+  does-same asked other same d = subst (λ (w : Words). Does n w f left faults reliable from rest held failures old new) same d

@@ -16,4 +16,4 @@ mod starting;
 pub use circle::what_is_replayed_is_legal;
 pub use ending::{ended, without_words};
 pub use running::{PROGRAM_SITES, program};
-pub use standard::process;
+pub use standard::{layout_for, process};

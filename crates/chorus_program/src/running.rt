@@ -1,9 +1,9 @@
 //! What the program does, by its words.
 
-ghost use Rattle.std.specs.Prelude.{◌≡◌, ◌⊎◌, map};
+ghost use Rattle.std.specs.Prelude.{◌≡◌, ◌⊎◌, map, IfOk, IfSome, Some};
 ghost use Rattle.chorus_words.specs.declared.words.Words.{Words};
 ghost use Rattle.chorus_words.specs.Words.{IsWithin};
-ghost use Rattle.chorus_nucleus.specs.Passes.{layout_of, IsPassOf};
+ghost use Rattle.chorus_nucleus.specs.Passes.{IsPassOf};
 ghost use Rattle.chorus_perform.specs.Scripts.{IsOpening};
 ghost use Rattle.chorus_program.specs.Running.{AskOf, Does, EndsWithCause, Suits};
 
@@ -14,7 +14,7 @@ use chorus_report::Finished;
 use chorus_run::{Gate, close_unused, run};
 use chorus_show::Status;
 use chorus_words::{Words, read_words};
-use std::alloc::Global;
+use std::alloc::{AllocError, Global};
 use std::sync::Wait;
 use std::thread::Threads;
 
@@ -52,24 +52,44 @@ pub fn program<'a, R: Threads + Wait + Sync, S: Source, K: Sink, G: Gate>(
     ensures causes { EndsWithCause result S.faults S.reliable source.old source.new
         K.faults sink.old sink.new }
 {
-    match read_words(alloc, words) {
-        Ok(Some(asked)) => match suits(&nucleus, asked) {
-            true => does(alloc, rt, asked, source, sink, nucleus, pass, gate),
-            false => turn_away(rt, nucleus, pass, Status::Usage),
-        },
+    match asked_of(alloc, words, &nucleus) {
+        Ok(Some(asked)) => does(alloc, rt, asked, source, sink, nucleus, pass, gate),
         Ok(None) => turn_away(rt, nucleus, pass, Status::Usage),
         Err(_) => turn_away(rt, nucleus, pass, Status::Memory),
     }
 }
 
-/// Whether the nucleus has the places for which the words ask.
-fn suits(nucleus: &Nucleus, asked: Words) -> bool
-    ensures yes { result ≡ true → Suits nucleus.now asked }
-    ensures no { Suits nucleus.now asked → result ≡ true }
+/// What the words ask of a program with the nucleus. None exactly where they ask nothing of it; want of memory is the one error.
+fn asked_of<'a>(
+    alloc: Global,
+    words: &'a [&'a str],
+    nucleus: &Nucleus,
+) -> Result<Option<Words>, AllocError>
+    ensures some { IfOk result (λ read.
+        IfSome read (AskOf nucleus.now (map (λ word. word.now) words.now))) }
+    ensures listed { (asked : Words) → AskOf nucleus.now (map (λ word. word.now) words.now) asked →
+        IfOk result (λ read. read ≡ Some asked) }
+{
+    match read_words(alloc, words)? {
+        Some(asked) => Ok(if_it_suits(nucleus, asked)),
+        None => Ok(None),
+    }
+}
+
+/// What is asked, where the nucleus has the places for it.
+fn if_it_suits(nucleus: &Nucleus, asked: Words) -> Option<Words>
+    ensures some { IfSome result (λ read. (read ≡ asked) × Suits nucleus.now read) }
+    ensures suits { Suits nucleus.now asked → result ≡ Some asked }
 {
     match asked {
-        Words::RunOn { turns } => turns == nucleus.layout().turns(),
-        _ => true,
+        Words::RunOn { turns } => {
+            if turns == nucleus.layout().turns() {
+                Some(asked)
+            } else {
+                None
+            }
+        }
+        _ => Some(asked),
     }
 }
 

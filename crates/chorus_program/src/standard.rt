@@ -41,8 +41,8 @@ fn run(rt: &HostRuntime) -> io::Result<Status> {
     Ok(status)
 }
 
-/// The sites of the nucleus for these words: with as many places each as `run TURNS` asks, and one else.
-fn layout_for<'a>(alloc: Global, words: &'a [&'a str]) -> Layout {
+/// The sites of the nucleus with which these words are done: with as many places each as `run TURNS` asks, and one else.
+pub fn layout_for<'a>(alloc: Global, words: &'a [&'a str]) -> Layout {
     let turns = match read_words(alloc, words) {
         Ok(Some(Words::RunOn { turns })) => turns,
         _ => 1,
