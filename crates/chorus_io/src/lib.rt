@@ -26,5 +26,5 @@ pub use mem_source::MemSource;
 pub use reading::{ReadAll, read_all};
 pub use sink::Sink;
 pub use source::Source;
-pub use standard::{StdErrors, StdSink, StdSource};
+pub use standard::{StdErrors, StdSink, StdSource, StdStream};
 pub use writing::write_all;

@@ -40,63 +40,34 @@ impl Source for StdSource {
     }
 }
 
-/// Standard output.
+/// A standard stream to which bytes are written.
 #[derive(Drop)]
-pub struct StdSink {
-    stdout: Stdout,
+pub struct StdStream<W: Write + Drop> {
+    stream: W,
     faults: u64,
 }
 
-impl StdSink {
-    /// No fault was met yet.
-    pub fn new(stdout: Stdout) -> Self
-        ensures { ⟦<StdSink as Sink>⟧.faults result ≡ 0 }
-    {
-        StdSink { stdout, faults: 0 }
-    }
-}
-
-impl Sink for StdSink {
-    ghost faults = { λ s. s.faults };
-
-    /// Fails also where the device takes no byte.
-    fn write(&mut self, bytes: &[u8]) -> Result<usize, Failed> {
-        match self.stdout.write(bytes) {
-            Ok(n) if n > 0 => Ok(n),
-            _ => {
-                self.faults = raise(self.faults);
-                Err(Failed)
-            }
-        }
-    }
-
-    fn faults(&self) -> u64 {
-        self.faults
-    }
-}
+/// Standard output.
+pub type StdSink = StdStream<Stdout>;
 
 /// Standard error.
-#[derive(Drop)]
-pub struct StdErrors {
-    stderr: Stderr,
-    faults: u64,
-}
+pub type StdErrors = StdStream<Stderr>;
 
-impl StdErrors {
+impl<W: Write + Drop> StdStream<W> {
     /// No fault was met yet.
-    pub fn new(stderr: Stderr) -> Self
-        ensures { ⟦<StdErrors as Sink>⟧.faults result ≡ 0 }
+    pub fn new(stream: W) -> Self
+        ensures { ⟦<StdStream<W> as Sink>⟧.faults result ≡ 0 }
     {
-        StdErrors { stderr, faults: 0 }
+        StdStream { stream, faults: 0 }
     }
 }
 
-impl Sink for StdErrors {
+impl<W: Write + Drop> Sink for StdStream<W> {
     ghost faults = { λ s. s.faults };
 
     /// Fails also where the device takes no byte.
     fn write(&mut self, bytes: &[u8]) -> Result<usize, Failed> {
-        match self.stderr.write(bytes) {
+        match self.stream.write(bytes) {
             Ok(n) if n > 0 => Ok(n),
             _ => {
                 self.faults = raise(self.faults);

@@ -1,8 +1,8 @@
 //! Bytes carried from one end to the other.
 
 ghost use Rattle.std.specs.Prelude.{◌≡◌, IfOk, OnOk, OnErr};
-ghost use Rattle.chorus_transport.specs.Sending.{new_sending, next_number};
-ghost use Rattle.chorus_transport.specs.Receiving.{new_receiving, ack_of};
+ghost use Rattle.chorus_transport.specs.Sending.{next_number};
+ghost use Rattle.chorus_transport.specs.Receiving.{ack_of};
 ghost use Rattle.chorus_lossy.specs.declared.line.TheConstants.{WINDOW};
 ghost use Rattle.chorus_lossy.specs.Line.{chunk_count, ends, new_ends};
 ghost use Rattle.chorus_lossy.specs.Carrying.{IsCarried, IsWithin};

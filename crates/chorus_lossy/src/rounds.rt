@@ -1,6 +1,6 @@
 //! The parts of a round, and the rounds.
 
-ghost use Rattle.std.specs.Prelude.{◌≡◌, ◌<◌, ◌≤◌, ◌+◌, ◌-◌, ◌^◌, ◌%◌, ◌==◌, ℕ, [], List, length, OnOk, OnErr, not};
+ghost use Rattle.std.specs.Prelude.{◌≡◌, ◌<◌, ◌≤◌, ◌+◌, ◌-◌, ◌^◌, ◌%◌, ◌==◌, ℕ, [], length, OnOk, OnErr, not};
 ghost use Rattle.chorus_draw.specs.Draws.{next_state, number_of};
 ghost use Rattle.chorus_transport.specs.Sending.{Sending};
 ghost use Rattle.chorus_transport.specs.Receiving.{Receiving};

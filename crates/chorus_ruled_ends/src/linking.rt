@@ -3,8 +3,8 @@
 ghost use Rattle.std.specs.Prelude.{◌≡◌, ◌+◌, ◌≤◌, ◌<◌, ◌++◌, Some, None, length, vec_len, slice_set, IfOk, OnOk};
 ghost use Rattle.chorus_ui.specs.Layout.{places};
 ghost use Rattle.chorus_link.specs.Ends.{packets_left};
-ghost use Rattle.chorus_ruled_ends.specs.Ruled.{Ruled, end_to, end_from, sent_by, received_by};
-ghost use Rattle.chorus_ruled_ends.specs.Linked.{HaveSlots, AreLinked, LinksBelow, LinksOne, AreOfOneLink, out_of, into_of, HasLink};
+ghost use Rattle.chorus_ruled_ends.specs.Ruled.{end_to, end_from, sent_by, received_by};
+ghost use Rattle.chorus_ruled_ends.specs.Linked.{HaveSlots, AreLinked, LinksBelow, LinksOne, AreOfOneLink};
 
 use crate::ruled::RuledEnds;
 use chorus_frame::Frame;

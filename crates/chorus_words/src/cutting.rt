@@ -1,21 +1,21 @@
 //! The words, cut by `clap`.
 
-ghost use Rattle.std.specs.Prelude.{◌≡◌, ◌<◌, ◌≤◌, List, ℕ, length, map, slice_get, IfOk, IfSome, IsNone, true, codes};
+ghost use Rattle.std.specs.Prelude.{◌≡◌, ◌<◌, ◌≤◌, ℕ, length, map, IfOk, IfSome, IsNone, true};
 ghost use Rattle.std.specs.List.{list_all};
-ghost use Rattle.clap.specs.Words.{app_of, first_value, found_of};
+ghost use Rattle.clap.specs.Words.{app_of};
 ghost use Rattle.chorus_words.specs.Cutting.{is_value, the_command, IsCut};
 
 use clap::error::ErrorKind;
 use clap::{Arg, ArgMatches, Command};
 use std::alloc::{AllocError, Global};
 
-/// The first word, by its name in the command.
+/// What the words ask for, the first of them, by its name in the command.
 pub(crate) const WHAT: &str = "what";
 
-/// The second.
+/// The first value that goes with it: the second word.
 pub(crate) const FIRST: &str = "first";
 
-/// The third.
+/// The second value: the third word.
 pub(crate) const SECOND: &str = "second";
 
 /// What `clap` cuts the words into. None exactly where there are more than three. Each word is a value: not empty, and not

@@ -8,3 +8,4 @@ pub mod Turning
 pub mod Choosing
 pub mod Naming
 pub mod Holding
+pub mod Examples

@@ -1,3 +1,3 @@
 pub mod Arriving
 pub mod Openable
-pub mod Hearing
+pub mod Verdicts

@@ -6,7 +6,7 @@ use Rattle.law_machine.specs.Working.{taught_of}
 use Rattle.place_state.specs.Tables.{Tables, turn}
 use Rattle.place_unsettled.specs.Queues.{queue}
 use Rattle.place_state.specs.Going.{leaving_to, waits_for, reports}
-use Rattle.place_packets.proofs.Hearing.{tell-length, tell-clock, tell-leaving, worked}
+use Rattle.place_packets.proofs.Verdicts.{tell-length, tell-clock, tell-leaving, worked}
 use Rattle.place_packets.proofs.hearing.hear_verdict.Goals as goal
 
 pub go-requires-clause-again : goal.go-requires-clause-again

@@ -1,7 +1,7 @@
 use Rattle.std.proofs.Common.{arith}
 use Rattle.place_state.specs.Tables.{turn}
 use Rattle.place_packets.proofs.Openable.{may-open}
-use Rattle.place_packets.proofs.open.open.Goals as goal
+use Rattle.place_packets.proofs.opening.open.Goals as goal
 
 pub open_cargo-requires-clause-may : goal.open_cargo-requires-clause-may
 open_cargo-requires-clause-may c =

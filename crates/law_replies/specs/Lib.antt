@@ -1,0 +1,5 @@
+pub mod Replies
+pub mod Taking
+pub mod AsPosted
+pub mod Networks
+pub mod Turns
