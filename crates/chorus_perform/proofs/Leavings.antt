@@ -16,7 +16,7 @@ use Rattle.law_history.specs.Runs.{commands_given}
 use Rattle.law_closing.specs.Places.{PlaceNote}
 use Rattle.law_closing.specs.Remarks.{turns_in}
 use Rattle.chorus_scene.specs.Scene.{Scene, Script}
-use Rattle.chorus_scene.specs.Setup.{setup_commands}
+use Rattle.chorus_report.specs.Setup.{setup_commands}
 use Rattle.chorus_nucleus.specs.declared.nucleus.Nucleus.{Nucleus}
 use Rattle.chorus_nucleus.specs.declared.pass.Pass.{Pass}
 use Rattle.chorus_nucleus.specs.Passes.{known, caller_of}

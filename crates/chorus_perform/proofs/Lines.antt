@@ -10,7 +10,7 @@ use Rattle.chorus_scene.specs.declared.scenario.SetupLine.{SetupLine}
 use Rattle.chorus_scene.specs.declared.scenario.SetupLine.TheVariants as setups
 use Rattle.chorus_scene.specs.Scene.{Scene}
 use Rattle.chorus_scene.specs.Limits.{Keeps, setup_keeps, setup_line_keeps}
-use Rattle.chorus_scene.specs.Setup.{setup_command, setup_commands}
+use Rattle.chorus_report.specs.Setup.{setup_command, setup_commands}
 use Rattle.chorus_nucleus.specs.declared.pass.Pass.{Pass}
 use Rattle.chorus_perform.specs.Going.{Goes}
 use Rattle.chorus_perform.proofs.Steps.{step-more}

@@ -8,7 +8,7 @@ use Rattle.chorus_turn.specs.declared.knowledge.Note.{Note}
 use Rattle.chorus_turn.specs.Knowing.{note_of}
 use Rattle.law_closing.specs.Places.{PlaceNote}
 use Rattle.chorus_scene.specs.Scene.{Scene, Script}
-use Rattle.chorus_scene.specs.Setup.{setup_commands}
+use Rattle.chorus_report.specs.Setup.{setup_commands}
 use Rattle.chorus_nucleus.specs.declared.nucleus.Nucleus.{Nucleus}
 use Rattle.chorus_nucleus.specs.declared.pass.Pass.{Pass}
 use Rattle.chorus_nucleus.specs.Passes.{known, caller_of, IsPassOf}

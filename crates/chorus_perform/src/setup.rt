@@ -2,7 +2,7 @@
 
 ghost use Rattle.std.specs.Prelude.{◌≡◌, OnOk, OnErr};
 ghost use Rattle.chorus_scene.specs.Limits.{Keeps};
-ghost use Rattle.chorus_scene.specs.Setup.{setup_commands};
+ghost use Rattle.chorus_report.specs.Setup.{setup_commands};
 ghost use Rattle.chorus_nucleus.specs.Passes.{IsPassOf};
 ghost use Rattle.chorus_perform.specs.Going.{Goes, GoesAsFar};
 
@@ -10,6 +10,7 @@ use crate::commands::perform_command;
 use crate::share::Share;
 use crate::stopped::Halted;
 use chorus_nucleus::{Nucleus, Pass};
+use chorus_report::setup_command;
 use chorus_scene::Scenario;
 use std::sync::Wait;
 
@@ -28,7 +29,7 @@ pub(crate) fn set_up<R: Wait>(
 {
     let mut share = Share::of_all(nucleus.layout());
     for index in 0..scenario.setup().len() {
-        let command = scenario.setup()[index].command();
+        let command = setup_command(&scenario.setup()[index]);
         perform_command(rt, nucleus, pass, &command, &mut share)?;
     }
     Ok(())

@@ -21,7 +21,7 @@ use Rattle.chorus_scene.specs.declared.scenario.Step as step
 use Rattle.chorus_scene.specs.declared.scenario.Step.TheVariants as steps
 use Rattle.chorus_scene.specs.Scene.{Scene, Script}
 use Rattle.chorus_scene.specs.Grammar.{script_at, is_step}
-use Rattle.chorus_scene.specs.Setup.{setup_commands}
+use Rattle.chorus_report.specs.Setup.{setup_commands}
 use Rattle.chorus_replay.specs.Order.{in_setup, entering, step_tasks, in_schedule, then_drain, left_from, order, tasks}
 use Rattle.chorus_report.specs.Headline.{callers_of}
 

@@ -23,7 +23,7 @@ use Rattle.chorus_scene.specs.declared.scenario.Step.TheVariants as steps
 use Rattle.chorus_scene.specs.Scene.{Scene, Script}
 use Rattle.chorus_scene.specs.Grammar.{script_at, no_script, is_step}
 use Rattle.chorus_scene.specs.Limits.{Keeps, step_keeps, schedule_keeps}
-use Rattle.chorus_scene.specs.Setup.{setup_command}
+use Rattle.chorus_report.specs.Setup.{setup_command}
 use Rattle.chorus_replay.specs.Order.{after_setup, set_up, in_setup, entering, step_tasks, in_schedule, then_drain, left_from, order}
 use Rattle.chorus_net.specs.Worn.{IsUnworn}
 use Rattle.chorus_replay.specs.Performing.{AreLeft, IsBefore, AreNext, to_set_up, to_enter, to_follow, to_finish}

@@ -25,7 +25,7 @@ use Rattle.chorus_scene.specs.Scene.{Scene, Script}
 use Rattle.chorus_scene.specs.Making.{next_port, made_after, members_of}
 use Rattle.chorus_scene.specs.Grammar.{most_bytes, script_at, no_script, is_step}
 use Rattle.chorus_scene.specs.Limits.{Keeps, is_site, is_actor_of, is_place_of, command_is_of, bytes_sent, is_of_version, command_keeps, script_keeps, setup_line_keeps, setup_keeps, step_keeps, schedule_keeps}
-use Rattle.chorus_scene.specs.Setup.{setup_command, setup_commands}
+use Rattle.chorus_report.specs.Setup.{setup_command, setup_commands}
 use Rattle.chorus_replay.specs.Order.{in_setup, set_up, entering, step_tasks, in_schedule, then_drain, left_from, order, tasks}
 use Rattle.chorus_replay.proofs.Given.{commands-given, commands-none}
 use Rattle.chorus_replay.proofs.Callers.{actors_by, actors-append, acts-none, entering-all, step-none, schedule-none, drains-none, left-none}

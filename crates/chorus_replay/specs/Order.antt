@@ -9,7 +9,7 @@ use Rattle.law_network.specs.Calls.{starting, last_of}
 use Rattle.law_network.specs.Tasks.{Task, Do, Drain}
 use Rattle.chorus_scene.specs.Scene.{Scene, Script}
 use Rattle.chorus_scene.specs.Grammar.{script_at, is_step}
-use Rattle.chorus_scene.specs.Setup.{setup_commands}
+use Rattle.chorus_report.specs.Setup.{setup_commands}
 use Rattle.chorus_scene.specs.declared.scenario.Step as step
 use Rattle.chorus_scene.specs.declared.scenario.Step.TheVariants as steps
 

@@ -13,6 +13,7 @@ ghost use Rattle.chorus_net.specs.Sites.{net};
 use crate::following::{finish, follow};
 use chorus_net::{EnterFault, Sites};
 use chorus_place::PlaceFault;
+use chorus_report::setup_command;
 use chorus_scene::Scenario;
 use std::alloc::{AllocError, Global};
 
@@ -77,7 +78,7 @@ fn set_up(sites: &mut Sites, scenario: &Scenario) -> Result<(), PlaceFault>
         IsWornAt scenario.now clock (net sites.new) }
 {
     for line in scenario.setup() {
-        sites.act(0, line.command())?;
+        sites.act(0, setup_command(line))?;
     }
     Ok(())
 }

@@ -36,7 +36,7 @@ use Rattle.chorus_net.specs.Closing.{IsLeft}
 use Rattle.chorus_show.specs.declared.status.Status.{Status}
 use Rattle.chorus_scene.specs.declared.limits.TheConstants.{COMMANDS_LIMIT}
 use Rattle.chorus_scene.specs.Scene.{Scene, Script}
-use Rattle.chorus_scene.specs.Setup.{setup_commands}
+use Rattle.chorus_report.specs.Setup.{setup_commands}
 use Rattle.chorus_scene.specs.Limits.{Keeps, script_keeps, command_keeps, is_actor_of, is_site}
 use Rattle.law_closing.specs.Actors.{AreIn, AreActors}
 use Rattle.chorus_nucleus.specs.Closing.{ClosesAs, ClosesFor}

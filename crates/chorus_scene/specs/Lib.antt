@@ -1,6 +1,5 @@
 pub mod Scene
 pub mod Making
-pub mod Setup
 pub mod Line
 pub mod Grammar
 pub mod Limits

@@ -19,21 +19,6 @@ pub enum SetupLine {
     Member { group: Ui, port: Ui },
 }
 
-impl SetupLine {
-    ghost use Rattle.chorus_scene.specs.Setup.{setup_command};
-
-    /// The command by which seat 0 performs the line.
-    pub fn command(&self) -> Command
-        ensures { result ≡ setup_command self.now }
-    {
-        match *self {
-            SetupLine::Port { actor, capacity } => Command::Make { actor, capacity },
-            SetupLine::Group { site } => Command::GroupMake { site },
-            SetupLine::Member { group, port } => Command::Join { group, port },
-        }
-    }
-}
-
 /// One step of a schedule.
 #[derive(Clone, Copy, Debug)]
 pub enum Step {

@@ -1,6 +1,6 @@
 use Rattle.std.proofs.Common.{◌≡◌, take}
 use Rattle.chorus_ui.specs.Layout.{places}
-use Rattle.chorus_scene.specs.Setup.{setup_commands}
+use Rattle.chorus_report.specs.Setup.{setup_commands}
 use Rattle.chorus_nucleus.specs.Passes.{layout_of, IsPassOf}
 use Rattle.chorus_perform.specs.Going.{Goes}
 use Rattle.chorus_perform.proofs.setup.set_up.Given as goal

@@ -3,7 +3,7 @@ use Rattle.std.proofs.lemmas.Bool.{false≢true}
 use Rattle.std.proofs.lemmas.Option.{slice_get_read}
 use Rattle.chorus_net.specs.Sites.{net}
 use Rattle.chorus_replay.specs.Order.{order, set_up}
-use Rattle.chorus_scene.specs.Setup.{setup_commands}
+use Rattle.chorus_report.specs.Setup.{setup_commands}
 use Rattle.chorus_replay.proofs.Loops.{enter_from, enter-next, after-some, enter-first, seats-few, scripts-few}
 use Rattle.chorus_replay.proofs.Stepping.{can, enter-done, enter-may}
 use Rattle.chorus_replay.proofs.performing.enter.Goals as goal

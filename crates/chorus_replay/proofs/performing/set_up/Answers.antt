@@ -17,23 +17,23 @@ pub act-requires : goal.act-requires
 act-requires c =
     let scene = c.args.scenario.now in
     let read = slice_get_read _ _ _ _ refl c.loop-line-test.true c.line-item.is in
-    let next = setup-next scene _ _ _ _ _ c.setup-line-items.ensures read c.command.ensures c.loop-line.invariant.0 in
-    step-may (can scene c.requires.shape c.requires.keeps) (Act 0 c.command.result) (setup_from scene (c.loop-line.line-index + 1)) (net c.loop-line.sites) next
+    let next = setup-next scene _ _ _ _ _ c.setup-line-items.ensures read c.setup_command.ensures c.loop-line.invariant.0 in
+    step-may (can scene c.requires.shape c.requires.keeps) (Act 0 c.setup_command.result) (setup_from scene (c.loop-line.line-index + 1)) (net c.loop-line.sites) next
 
 pub returns-in_err-act-clause-worn : goal.returns-in_err-act-clause-worn
 returns-in_err-act-clause-worn c clock is =
     let scene = c.args.scenario.now in
     let read = slice_get_read _ _ _ _ refl c.loop-line-test.true c.line-item.is in
-    let next = setup-next scene _ _ _ _ _ c.setup-line-items.ensures read c.command.ensures c.loop-line.invariant.0 in
+    let next = setup-next scene _ _ _ _ _ c.setup-line-items.ensures read c.setup_command.ensures c.loop-line.invariant.0 in
     let p = err_from_is_err_and c.from_residual.result c.from_residual.ensures.1 in
-    act-worn (can scene c.requires.shape c.requires.keeps) 0 c.command.result _ _ _ clock next c.in_err-act.ensures.refused
+    act-worn (can scene c.requires.shape c.requires.keeps) 0 c.setup_command.result _ _ _ clock next c.in_err-act.ensures.refused
     ((c.act.ensures.worn clock).0 (exit c.from_residual.result c.act.result _ p.0 _ p.1 p.2 c.in_err-act.was is))
 
 pub loop-line-preserved : goal.loop-line-preserved
 loop-line-preserved c =
     let scene = c.args.scenario.now in
     let read = slice_get_read _ _ _ _ refl c.loop-line-test.true c.line-item.is in
-    let next = setup-next scene _ _ _ _ _ c.setup-line-items.ensures read c.command.ensures c.loop-line.invariant.0 in (
-      act-done (can scene c.requires.shape c.requires.keeps) 0 c.command.result _ _ _ next c.in_ok-act.ensures.ok (act-unworn c.act.result c.in_ok-act.field-0 _ c.in_ok-act.was c.act.ensures.worn),
-      setup-now scene _ _ _ _ _ _ c.setup-line-items.ensures read c.command.ensures c.loop-line.invariant.1 c.in_ok-act.ensures.ok,
+    let next = setup-next scene _ _ _ _ _ c.setup-line-items.ensures read c.setup_command.ensures c.loop-line.invariant.0 in (
+      act-done (can scene c.requires.shape c.requires.keeps) 0 c.setup_command.result _ _ _ next c.in_ok-act.ensures.ok (act-unworn c.act.result c.in_ok-act.field-0 _ c.in_ok-act.was c.act.ensures.worn),
+      setup-now scene _ _ _ _ _ _ c.setup-line-items.ensures read c.setup_command.ensures c.loop-line.invariant.1 c.in_ok-act.ensures.ok,
     )

@@ -1,7 +1,7 @@
 use Rattle.std.proofs.Common.{◌≡◌, take, map, reverse, ◌∷◌}
 use Rattle.law_network.specs.Network.{Act, schedule}
 use Rattle.law_network.specs.Calls.{starting}
-use Rattle.chorus_scene.specs.Setup.{setup_command}
+use Rattle.chorus_report.specs.Setup.{setup_command}
 use Rattle.chorus_replay.specs.Performing.{IsBefore}
 use Rattle.chorus_net.specs.Sites.{net}
 use Rattle.chorus_replay.proofs.Loops.{setup_from}
