@@ -5,7 +5,7 @@ use Rattle.chorus_perform.proofs.Leavings.{is-set-up, performed-setup, performed
 use Rattle.chorus_perform.proofs.performing.perform_all.Goals as goal
 
 pub run_scripts-requires-clause-setup : goal.run_scripts-requires-clause-setup
-run_scripts-requires-clause-setup g c κs = is-set-up c.args.scenario.now c.args.pass.now c.set_up.new.pass c.requires.opening c.in_ok-set_up.ensures.ok
+run_scripts-requires-clause-setup g c κs within = is-set-up c.args.scenario.now c.args.pass.now c.set_up.new.pass c.requires.opening c.in_ok-set_up.ensures.ok
 
 pub returns-in_err-set_up-clause-stopped : goal.returns-in_err-set_up-clause-stopped
 returns-in_err-set_up-clause-stopped g c =
