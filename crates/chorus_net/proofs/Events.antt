@@ -21,7 +21,8 @@ use Rattle.law_network.specs.Network.{NetState, Event, Act, place, with_place, e
 use Rattle.law_network.specs.History.{put_by, put_in, taken_with}
 use Rattle.law_network.specs.Schedules.{may_give, has_number_left, may_happen, may_be}
 use Rattle.law_network.specs.Calls.{first_actor}
-use Rattle.law_network.proofs.Holdings.Passing.{IsBetweenPlaces, packets-lie-between}
+use Rattle.law_network.specs.ByPlace.{IsBetweenPlaces}
+use Rattle.law_network.proofs.Holdings.Passing.{packets-lie-between}
 use Rattle.law_network.proofs.Places.Layouts.{schedule-keeps}
 use Rattle.law_network.proofs.Promises.Promised.{stands-at}
 use Rattle.chorus_place.specs.Calls.{Place, state, Ended, MayCall, Stays, with_all}

@@ -28,7 +28,8 @@ use Rattle.law_network.specs.Stands.{Stands}
 use Rattle.law_network.proofs.Places.PlacesStay.{stands_in}
 use Rattle.law_network.proofs.Standing.Turning.{number-is, layout-is, stands-there}
 use Rattle.law_network.proofs.Events.HavePlaces.{have-places}
-use Rattle.law_network.proofs.Holdings.Passing.{IsBetweenPlaces, packets-between}
+use Rattle.law_network.specs.ByPlace.{IsBetweenPlaces}
+use Rattle.law_network.proofs.Holdings.Passing.{packets-between}
 use Rattle.law_version.proofs.Places.{layout_on, place_on, turn_on, Within, CommandWithin, CallerWithin, MembersWithin, CargoWithin, has-same, actor-same, group-same, act-on, work-on}
 use Rattle.law_version.proofs.Pasts.{both-have, EntryWithin, members-within, caller-within, here-within}
 use Rattle.law_version.proofs.Packets.{tried-site, told-site}
