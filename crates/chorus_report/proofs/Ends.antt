@@ -1,6 +1,7 @@
 -- How reading ends, and what is so of a call that was finished.
 use Rattle.std.proofs.Common.{◌≡◌, ◌≢◌, ◌≤◌, ◌⊎◌, inl, inr, ℕ, List, Option, Some, None, IfSome, IfOk, Result, Ok, Err, refl, sym, ◌∙◌, ap, subst}
 use Rattle.std.specs.declared.alloc.AllocError.{AllocError}
+use Rattle.std.proofs.lemmas.Bool.{false≢true}
 use Rattle.chorus_io.specs.Count.{Rose}
 use Rattle.chorus_ui.specs.declared.layout.Layout.{Layout}
 use Rattle.chorus_net.specs.declared.closed.Closed.{Closed}
@@ -114,7 +115,7 @@ gave-up-writes text s f held failures old new gives is same =
     by s g = record {
       write_fault = λ e. absurd (subst GivesUp e g);
       worn = λ clock e. absurd (subst GivesUp e g);
-      closed = (λ h. absurd h, λ h. absurd (none s g h));
+      closed = (λ h. absurd (false≢true h), λ h. absurd (none s g h));
       unwritten = λ d w. same;
       prints = writes s g;
     }
