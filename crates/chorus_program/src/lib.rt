@@ -13,7 +13,7 @@ mod running;
 mod standard;
 mod starting;
 
-pub use circle::what_is_replayed_is_legal;
+pub use circle::what_is_printed_is_legal;
 pub use ending::{ended, without_words};
 pub use running::{PROGRAM_SITES, program};
 pub use standard::{layout_for, process};
