@@ -229,7 +229,7 @@ module _ {l : Layout} {all : List Task} (can : CanBe l all) where
   pub worn-has : (clock : ℕ) (closed : Closed) → ArePlayed l all (Some clock) closed → HasClock clock (merge_of closed)
   worn-has clock closed p =
       let b = p.1.0 in
-      let past : merged_past (schedule l b.events) ≡ past_of closed = ap merged_past (sym b.is) ∙ ap (λ js. reverse (merged js)) (sym p.1.1.journals) in
+      let past : merged_past (schedule l b.events) ≡ past_of closed = ap merged_past (sym b.is) ∙ ap (λ js. reverse (merged js)) (sym p.1.1.left.journals) in
       has-reverse clock (merge_of closed) (subst (HasClock clock) past (worn-in-merge l b.events can.shape b.may b.clocks b.worn.next clock b.worn.is b.worn.worn))
 
   pub worn-high : (clock : ℕ) (closed : Closed) → ArePlayed l all (Some clock) closed → CLOCK_LIMIT ≤ clock

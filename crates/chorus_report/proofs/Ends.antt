@@ -126,3 +126,6 @@ reads-as l m s f left faults reliable old new same is h =
 
 pub none-closed : (s : Status) (f : Finished) (P : Status → Closed → Type 0) → f ≡ record { status = s; closed = None } → IfSome f.closed (P f.status)
 none-closed s f P is = subst (λ (z : Finished). IfSome z.closed (P z.status)) (sym is) tt
+
+pub reads-at : {S : Type 0} (l m : Layout) (s : Status) (left : S → Option (List ℕ)) (faults : S → ℕ) (reliable : S → Type 0) (old new : S) → l ≡ m → EndsReading l s left faults reliable old new → EndsReading m s left faults reliable old new
+reads-at l m s left faults reliable old new same h = subst (λ z. EndsReading z s left faults reliable old new) same h

@@ -3,8 +3,7 @@ use Rattle.chorus_ui.specs.Layout.{IsLayout}
 use Rattle.chorus_net.specs.Sites.{net}
 use Rattle.chorus_report.specs.declared.finished.Finished.{Finished}
 use Rattle.chorus_report.specs.Reading.{IsGiven}
-use Rattle.chorus_report.specs.Ending.{EndsReading}
-use Rattle.chorus_report.proofs.Ends.{gave-up-writes, none-closed, reads-as}
+use Rattle.chorus_report.proofs.Ends.{gave-up-writes, none-closed, reads-as, reads-at}
 use Rattle.chorus_replay.specs.Order.{order}
 use Rattle.chorus_replay.specs.Ordered.{Replays}
 use Rattle.chorus_replay.proofs.Ending.{has-worn, replays-so}
@@ -33,7 +32,7 @@ returns g c =
     let shape = subst IsLayout (sym (ok.0 ∙ value)) c.layout.ensures.shape in
     let told = g.S.Source.left c.args.source.now in
     record {
-      reads = subst (λ l. EndsReading l c.finish.result.status _ _ _ _ _) value (c.in-Ok.ensures.reads c.finish.result.status c.finish.ensures.status);
+      reads = reads-at c.layout.result (net c.args.sites).layout c.finish.result.status _ _ _ _ _ value (c.in-Ok.ensures.reads c.finish.result.status c.finish.ensures.status);
       writes = c.finish.ensures.writes;
       replays = replays-so scene shape ok.1 (net c.args.sites).layout told c.play-played.result c.finish.result.status c.finish.result.closed (ok.0 ∙ value)
           (subst (λ l. IsGiven l told (Ok scene)) value c.in-Ok.ensures.given) c.play-played.ensures c.finish.ensures.finished (c.finish.ensures.within refl);

@@ -2,8 +2,7 @@ use Rattle.std.proofs.Common.{Ok, ◌∙◌, subst, refl}
 use Rattle.chorus_nucleus.specs.Passes.{layout_of}
 use Rattle.chorus_report.specs.Reading.{IsGiven}
 use Rattle.chorus_report.specs.Headline.{Runs}
-use Rattle.chorus_report.specs.Ending.{EndsReading}
-use Rattle.chorus_report.proofs.Ends.{gave-up-writes, none-closed, reads-as}
+use Rattle.chorus_report.proofs.Ends.{gave-up-writes, none-closed, reads-as, reads-at}
 use Rattle.chorus_run.specs.Threads.{HasWornOf, IsOfNucleus}
 use Rattle.chorus_run.proofs.Ending.{has-worn, origin-so, worn-so, runs-so}
 use Rattle.chorus_run.proofs.running.run.Goals as goal
@@ -31,7 +30,7 @@ returns g c =
     let closed = c.finish.result.closed in
     let finished = c.finish.ensures.finished in
     record {
-      reads = subst (λ l. EndsReading l status _ _ _ _ _) c.layout.ensures (c.in-Ok.ensures.reads status c.finish.ensures.status);
+      reads = reads-at c.layout.result (layout_of n) status _ _ _ _ _ c.layout.ensures (c.in-Ok.ensures.reads status c.finish.ensures.status);
       writes = c.finish.ensures.writes;
       runs = runs-so n scene played status c.play-played.ensures (layout_of n) told closed (c.in-Ok.ensures.ok.0 ∙ c.layout.ensures) given finished (c.finish.ensures.within refl);
       origin = origin-so n scene played status c.play-played.ensures closed finished;
