@@ -3,3 +3,4 @@ pub mod Lines
 pub mod Comings
 pub mod Leavings
 pub mod Idling
+pub mod Opening
