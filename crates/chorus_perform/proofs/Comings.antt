@@ -76,12 +76,24 @@ module _ (c : Scene) (keeps : Keeps c) (i : ℕ) (script : Script) (at : slice_g
 
 pub has-run : (n : Nucleus) (c : Scene) (i : ℕ) (script : Script) (a : Runner) (d : Pass) (cs : List Command) (r : Result (Unit {0}) Halted) (b : Bool) → slice_get c.scripts i ≡ Some script → b ≡ is_ok r → IsPassOf n d → cs ≡ script.commands → OnOk r (Goes cs a.pass d) → OnErr r (GoesAsFar cs a.pass d) → HasRunAt n c i a (record { pass = d; done = b })
 has-run n c i script a d cs (Ok u) b at is pass same ok err = record {
-  pass = pass; script = script; is = at; given = cs; left = [];
-  whole = sym same ∙ sym (append-nil cs); goes = ok; all = λ e. refl;
+  pass = pass;
+  script = script;
+  is = at;
+  given = cs;
+  left = [];
+  whole = sym same ∙ sym (append-nil cs);
+  goes = ok;
+  all = λ e. refl;
 }
 has-run n c i script a d cs (Err e) b at is pass same ok err = record {
-  pass = pass; script = script; is = at; given = err.given; left = err.left;
-  whole = sym same ∙ err.whole; goes = err.goes; all = λ e. absurd (false≢true (sym is ∙ e));
+  pass = pass;
+  script = script;
+  is = at;
+  given = err.given;
+  left = err.left;
+  whole = sym same ∙ err.whole;
+  goes = err.goes;
+  all = λ e. absurd (false≢true (sym is ∙ e));
 }
 
 -- It comes.

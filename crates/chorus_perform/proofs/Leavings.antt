@@ -125,10 +125,13 @@ retired-more n c all r a b d m count e o w = record {
   where
     note : Note PlaceNote
     note = note_of (known r.pass)
+
     notes-are : (known d).notes ≡ (known b).notes ++ note ∷ []
     notes-are = ap (λ (v : Knowledge PlaceNote). v.notes) w.knows ∙ ap (λ (ns : List (Note PlaceNote)). (known b).notes ++ note ∷ ns) o.notes
+
     turned : reverse (known d).notes ≡ note ∷ reverse (known b).notes
     turned = ap (λ (ns : List (Note PlaceNote)). reverse ns) notes-are ∙ reverse-append (known b).notes (note ∷ [])
+
     scripts : (i : ℕ) (x : Note PlaceNote) → slice_get (reverse (known d).notes) i ≡ Some x → IsOfScript (r.done && all) c (m + i) x
     scripts zero x h =
         let is : note ≡ x = (let here : Some note ≡ Some x = sym (ap (λ (ns : List (Note PlaceNote)). slice_get ns zero) turned) ∙ h in cc) in
@@ -146,11 +149,11 @@ retired-more n c all r a b d m count e o w = record {
 -- of runners without the last one
 pub but-last : (n : Nucleus) (c : Scene) (rs : List Runner) (r : Runner) → AreEnding n c (rs ++ r ∷ []) → AreEnding n c rs × IsEndingAt n c (length rs) r
 but-last n c rs r h = (
-    record {
-      each = λ i d lt. (let more = length-append rs (r ∷ []) in let lt' : i < length (rs ++ r ∷ []) = omega (arith, lt, more) in subst (IsEndingAt n c i) (get_or_append_left rs (r ∷ []) d i lt) (h.each i d lt'));
-    },
-    (let more = length-append rs (r ∷ []) in let lt : length rs < length (rs ++ r ∷ []) = omega (arith, more) in subst (IsEndingAt n c (length rs)) (get_or-append_seam rs r [] r) (h.each (length rs) r lt)),
-  )
+  record {
+    each = λ i d lt. (let more = length-append rs (r ∷ []) in let lt' : i < length (rs ++ r ∷ []) = omega (arith, lt, more) in subst (IsEndingAt n c i) (get_or_append_left rs (r ∷ []) d i lt) (h.each i d lt'));
+  },
+  (let more = length-append rs (r ∷ []) in let lt : length rs < length (rs ++ r ∷ []) = omega (arith, more) in subst (IsEndingAt n c (length rs)) (get_or-append_seam rs r [] r) (h.each (length rs) r lt)),
+)
 
 -- What all leave.
 

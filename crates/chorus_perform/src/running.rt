@@ -28,10 +28,15 @@ pub(crate) fn perform_scripts<R: Threads + Wait + Sync, G: Gate>(
 {
     let threads = runners.len();
     if threads > 0 {
-        thread::for_each_mut(rt, runners, threads, &|index: usize, runner: &mut Runner|
-            requires { Keeps scenario.now × IsReadyAt nucleus.now scenario.now index runner.old }
-            ensures { HasRunAt nucleus.entry.now scenario.entry.now index runner.old runner.new }
-        { perform_script(rt, nucleus, scenario, index, gate, runner) });
+        thread::for_each_mut(
+            rt,
+            runners,
+            threads,
+            &|index: usize, runner: &mut Runner|
+                requires { Keeps scenario.now × IsReadyAt nucleus.now scenario.now index runner.old }
+                ensures { HasRunAt nucleus.entry.now scenario.entry.now index runner.old runner.new }
+            { perform_script(rt, nucleus, scenario, index, gate, runner) },
+        );
     }
 }
 

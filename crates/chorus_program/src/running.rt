@@ -43,8 +43,7 @@ pub fn program<'a, R: Threads + Wait + Sync, S: Source, K: Sink, G: Gate>(
     ensures usage { result.status ≡ Status.Usage →
         ((asked : Words) → ¬ (AskOf nucleus (map (λ word. word.now) words.now) asked))
         × (source.new ≡ source.old) × (sink.new ≡ sink.old) }
-    ensures listed {
-        ((asked : Words) → ¬ (AskOf nucleus (map (λ word. word.now) words.now) asked)) →
+    ensures listed { ((asked : Words) → ¬ (AskOf nucleus (map (λ word. word.now) words.now) asked)) →
         (result.status ≡ Status.Usage) ⊎ (result.status ≡ Status.Memory) }
     ensures does { (asked : Words) → AskOf nucleus (map (λ word. word.now) words.now) asked →
         Does nucleus asked result S.left S.faults S.reliable source.old source.new

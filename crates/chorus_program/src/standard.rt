@@ -34,7 +34,17 @@ fn run(rt: &HostRuntime) -> io::Result<Status> {
     let layout = layout_for(alloc, &words);
     let status = match Nucleus::start(alloc, rt, layout) {
         Ok((nucleus, pass)) => {
-            program(alloc, rt, &words, &mut source, &mut sink, nucleus, pass, &OpenGate).status
+            program(
+                alloc,
+                rt,
+                &words,
+                &mut source,
+                &mut sink,
+                nucleus,
+                pass,
+                &OpenGate,
+            )
+            .status
         }
         Err(_) => Status::Memory,
     };

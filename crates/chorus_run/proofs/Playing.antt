@@ -127,6 +127,7 @@ notes-in c all v h =
   where
     succ : (i : ℕ) → i + 1 ≡ suc i
     succ i = omega arith
+
     one : (i : ℕ) (n : Note PlaceNote) → IsOfScript all c i n → AreIn (actors_of c n.seat) n.mine
     one i n o =
         let is : o.script.actor ≡ actors_of c n.seat = sym (ap (λ (p : Option Ui). unwrap_or p first_actor) (ap (callers_of c) (o.seat ∙ succ i) ∙ actor-at c i o.script o.is)) in
@@ -256,16 +257,17 @@ module _ (c : Scene) (shape : IsLayout c.layout) (keeps : Keeps c) (all : Bool) 
         let came : actor_among comers (suc i) ≡ Some actor = who (suc i) lt ∙ sym (given-in (suc i) lt) ∙ is in
         did-made (suc i) actor one.script.actor given one.script.commands found.note.mine found.turns one.performed (some-of one.script.commands given (sym (commands-at c i one.script one.is) ∙ what)) came)
     | inr le ↦ record {
-        done = [];
-        left = given;
-        whole = refl;
-        performs_them = performs-none l (suc i) actor (past_of closed) (ap (by (suc i)) merged-is ∙ run-ungiven l (actor_among comers) (suc i) (merged_at l so.closing) merges.run (nobody (suc i) le));
-        none_left = λ t. absurd (let beyond = too-many t le in let there = within (slice_get c.scripts i) refl (sym (slice_get-map (λ (s : Script). s.actor) c.scripts i) ∙ is) in omega (arith, beyond, there));
-      }
+      done = [];
+      left = given;
+      whole = refl;
+      performs_them = performs-none l (suc i) actor (past_of closed) (ap (by (suc i)) merged-is ∙ run-ungiven l (actor_among comers) (suc i) (merged_at l so.closing) merges.run (nobody (suc i) le));
+      none_left = λ t. absurd (let beyond = too-many t le in let there = within (slice_get c.scripts i) refl (sym (slice_get-map (λ (s : Script). s.actor) c.scripts i) ∙ is) in omega (arith, beyond, there));
+    }
   ]
     where
       too-many : all ≡ true → v.made ≤ suc i → length c.scripts ≤ i
       too-many t le = let count = h.count t in let e = h.ended in omega (arith, count, e, le)
+
       within : (o : Option Script) → slice_get c.scripts i ≡ o → option_map (λ (s : Script). s.actor) o ≡ Some actor → i < length c.scripts
       within None e none = absurd (cc)
       within (Some x) e some = inside c.scripts i x e

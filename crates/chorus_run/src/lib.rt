@@ -14,8 +14,8 @@
 mod closing;
 mod running;
 
-pub use closing::close_unused;
 pub use chorus_perform::{Gate, OpenGate, Stopped, perform};
 pub use chorus_replay::{LOAD_LIMIT, LOAD_SITES, load, replay};
 pub use chorus_report::Finished;
+pub use closing::close_unused;
 pub use running::run;

@@ -15,7 +15,12 @@ fn replayed(rt: &(impl Abort + Threads + Wait + Sync), alloc: Global, scenario: 
     written
 }
 
-fn assert_audited(rt: &(impl Abort + Threads + Wait + Sync), alloc: Global, journal: &str, verdict: &str) {
+fn assert_audited(
+    rt: &(impl Abort + Threads + Wait + Sync),
+    alloc: Global,
+    journal: &str,
+    verdict: &str,
+) {
     assert_prints(rt, alloc, &["audit", "16", "1"], journal, verdict);
 }
 

@@ -29,7 +29,13 @@ fn assert_ended(
 }
 
 /// Asserts the exit status and the line that is written, and that a line that cannot be written changes no exit status.
-fn assert_ends(rt: &(impl Abort + Threads + Wait + Sync), alloc: Global, status: Status, number: u8, line: &str) {
+fn assert_ends(
+    rt: &(impl Abort + Threads + Wait + Sync),
+    alloc: Global,
+    status: Status,
+    number: u8,
+    line: &str,
+) {
     assert_ended(rt, alloc, status, &[], number, line);
     assert_ended(rt, alloc, status, &[1], number, "");
 }

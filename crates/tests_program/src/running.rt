@@ -34,20 +34,34 @@ fn ends_with<R: Abort + Threads + Wait + Sync, S: Source, K: Sink>(
 }
 
 /// A source of the text. `failing` lists the reads that fail.
-pub(crate) fn source_of(rt: &(impl Abort + Threads + Wait + Sync), alloc: Global, text: &str, failing: &[u64]) -> MemSource {
+pub(crate) fn source_of(
+    rt: &(impl Abort + Threads + Wait + Sync),
+    alloc: Global,
+    text: &str,
+    failing: &[u64],
+) -> MemSource {
     let bytes = Vec::from_slice(alloc, text.as_bytes()).expect(rt, "memory");
     MemSource::new(bytes, Vec::from_slice(alloc, failing).expect(rt, "memory"))
 }
 
 /// An empty sink that takes so many bytes at a write. `failing` lists the writes that fail.
-pub(crate) fn sink_of(rt: &(impl Abort + Threads + Wait + Sync), alloc: Global, most: usize, failing: &[u64]) -> MemSink {
+pub(crate) fn sink_of(
+    rt: &(impl Abort + Threads + Wait + Sync),
+    alloc: Global,
+    most: usize,
+    failing: &[u64],
+) -> MemSink {
     assert!(rt; most > 0);
     let failing = Vec::from_slice(alloc, failing).expect(rt, "memory");
     MemSink::new(alloc, most, failing)
 }
 
 /// What the sink holds.
-pub(crate) fn text_in(rt: &(impl Abort + Threads + Wait + Sync), alloc: Global, sink: &MemSink) -> String {
+pub(crate) fn text_in(
+    rt: &(impl Abort + Threads + Wait + Sync),
+    alloc: Global,
+    sink: &MemSink,
+) -> String {
     let bytes = Vec::from_slice(alloc, sink.bytes()).expect(rt, "memory");
     String::from_utf8(bytes).ok().expect(rt, "a text")
 }
@@ -80,7 +94,12 @@ pub(crate) fn run_over<S: Source>(
 }
 
 /// What the program does for these words and this input.
-pub(crate) fn run_on(rt: &(impl Abort + Threads + Wait + Sync), alloc: Global, words: &[&str], input: &str) -> Run {
+pub(crate) fn run_on(
+    rt: &(impl Abort + Threads + Wait + Sync),
+    alloc: Global,
+    words: &[&str],
+    input: &str,
+) -> Run {
     let mut source = source_of(rt, alloc, input, &[]);
     run_over(rt, alloc, words, &mut source, 64, &[])
 }

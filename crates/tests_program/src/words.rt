@@ -14,11 +14,20 @@ const LOADS_NOTHING: &str =
 const LOADS_ONE_COMMAND: &str =
     "summary\nposted 1\naccepted 1\ntaken 0\nqueued 1\nmoving 0\nrefused 0\nstale 0\ndeparts 0\nend\n";
 
-fn asked_by(rt: &(impl Abort + Threads + Wait + Sync), alloc: Global, words: &[&str]) -> Option<Words> {
+fn asked_by(
+    rt: &(impl Abort + Threads + Wait + Sync),
+    alloc: Global,
+    words: &[&str],
+) -> Option<Words> {
     read_words(alloc, words).expect(rt, "memory")
 }
 
-fn assert_reads(rt: &(impl Abort + Threads + Wait + Sync), alloc: Global, words: &[&str], asked: Option<Words>) {
+fn assert_reads(
+    rt: &(impl Abort + Threads + Wait + Sync),
+    alloc: Global,
+    words: &[&str],
+    asked: Option<Words>,
+) {
     let read = asked_by(rt, alloc, words);
     assert!(rt; read == asked, "{words:?}");
 }
@@ -70,7 +79,12 @@ fn the_list_and_nothing_else(rt: HostRuntime) {
 }
 
 /// Asserts how the program ends on an empty text, and that it writes nothing.
-fn assert_ends(rt: &(impl Abort + Threads + Wait + Sync), alloc: Global, words: &[&str], status: Status) {
+fn assert_ends(
+    rt: &(impl Abort + Threads + Wait + Sync),
+    alloc: Global,
+    words: &[&str],
+    status: Status,
+) {
     let run = run_on(rt, alloc, words, "");
     assert_same(rt, run.status, status, words);
     assert!(rt; run.written.is_empty(), "{words:?}");

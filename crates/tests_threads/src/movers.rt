@@ -17,7 +17,11 @@ const ROUNDS: u64 = 40;
 /// first mover then deletes it.
 fn movers_and_senders(alloc: Global, with_delete: bool) -> Result<String, AllocError> {
     let mut text = String::new(alloc);
-    text.push_str(if with_delete { "chorus 2\n" } else { "chorus 1\n" })?;
+    text.push_str(if with_delete {
+        "chorus 2\n"
+    } else {
+        "chorus 1\n"
+    })?;
     text.push_str("sites 7\nport 1.p.1 1.a.1 64\n")?;
     for site in ["1", "2", "3"] {
         let next = match site {

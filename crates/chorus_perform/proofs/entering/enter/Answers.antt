@@ -10,7 +10,7 @@ loop-index-preserved c =
     let lt : c.loop-index.index < length c.args.scenario.now.scripts = subst (λ xs. c.loop-index.index < length xs) c.scripts-index-end.ensures c.loop-index-test.true in
     let at = found-at c.scripts.result.now c.args.scenario.now.scripts c.loop-index.index c.index-scripts-index.result c.scripts.ensures lt c.index-scripts-index.is in
     let new = new-ready c.args.nucleus.now c.args.scenario.now c.loop-index.index c.index-scripts-index.result c.actor.result c.loop-index.pass c.enter.new.pass c.in-Ok.entered at lt c.in-Ok.ensures.ok
-        c.loop-index.invariant.1.keeper.made c.actor.ensures in (
+    c.loop-index.invariant.1.keeper.made c.actor.ensures in (
       c.in-Ok.ensures.keeper.pass,
       entered-more c.args.nucleus.now c.actor.result c.args.pass.now c.loop-index.pass c.enter.new.pass c.in-Ok.entered c.loop-index.index c.loop-index.invariant.1 c.in-Ok.ensures.ok c.in-Ok.ensures.keeper.caller,
       subst (AreReady c.args.nucleus.now c.args.scenario.now) (sym c.in-Ok-push.ensures.items) (ready-more c.args.nucleus.now c.args.scenario.now c.loop-index.runners.items _ c.loop-index.index (omega (arith, c.loop-index.runners.ok.0, c.loop-index.invariant.3)) c.loop-index.invariant.2 new),

@@ -20,6 +20,6 @@ loop-runner-preserved c =
       c.retire_one-all.ensures.retires.pass,
       both.0,
       retired-step n scene c.loop-runner.all c.retire_one-all.result runner c.args.pass.now c.loop-runner.pass c.retire_one-all.new.pass (vec_len c.loop-runner.runners) (vec_len now) (vec_len c.args.runners)
-      was c.loop-runner.invariant.3 c.retire_one-all.ensures.done c.loop-runner.invariant.2 (subst (λ k. IsEndingAt n scene k runner) (let e : length now.items ≡ vec_len now = omega (arith, len) in e) both.1) c.retire_one-all.ensures.retires,
+          was c.loop-runner.invariant.3 c.retire_one-all.ensures.done c.loop-runner.invariant.2 (subst (λ k. IsEndingAt n scene k runner) (let e : length now.items ≡ vec_len now = omega (arith, len) in e) both.1) c.retire_one-all.ensures.retires,
       omega (arith, was, c.loop-runner.invariant.3),
     )
