@@ -22,11 +22,11 @@ use Rattle.chorus_run.specs.Threads.{HasOwn, IsOfNucleus}
 -- the entries of a seat, with remarks and without
 by-entries : (q : ℕ) (log : List (Remarked PlaceNote)) → by q (entries_of log) ≡ entries_of (by_seat q log)
 by-entries q [] = refl
-by-entries q (r ∷ rs) = go (r.entry.seat == q)
+by-entries q (r ∷ rs) = go (r.entry.seat == q) (by-entries q rs)
   where
-    go : (b : Bool) → cond b (r.entry ∷ by q (entries_of rs)) (by q (entries_of rs)) ≡ entries_of (cond b (r ∷ by_seat q rs) (by_seat q rs))
-    go true = ap (λ es. r.entry ∷ es) (by-entries q rs)
-    go false = by-entries q rs
+    go : (b : Bool) → by q (entries_of rs) ≡ entries_of (by_seat q rs) → cond b (r.entry ∷ by q (entries_of rs)) (by q (entries_of rs)) ≡ entries_of (cond b (r ∷ by_seat q rs) (by_seat q rs))
+    go true h = ap (λ es. r.entry ∷ es) h
+    go false h = h
 
 has-own : (p q : ℕ) (journal : List Entry) (log : List (Remarked PlaceNote)) (mine : List (Placed PlaceNote)) → journal ≡ entries_of log → by_seat q log ≡ at_place p mine → HasOwn p journal q mine
 has-own p q journal log mine is shows = ap (by q) is ∙ by-entries q log ∙ ap entries_of shows

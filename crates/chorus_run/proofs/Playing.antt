@@ -149,10 +149,10 @@ module _ (c : Scene) (shape : IsLayout c.layout) (keeps : Keeps c) (all : Bool) 
   comers = (closes (actors_of c) (are-actors c all v shape keeps h)).0
 
   who : (q : ℕ) → q < v.made → actor_among comers q ≡ Some (actors_of c q)
-  who = (closes (actors_of c) (are-actors c all v shape keeps h)).1.0
+  who = (closes (actors_of c) (are-actors c all v shape keeps h)).1
 
   abbrev so : ClosesAs c.layout v comers closed
-  so = (closes (actors_of c) (are-actors c all v shape keeps h)).1.1
+  so = (closes (actors_of c) (are-actors c all v shape keeps h)).2
 
   kept : KeepsPromises l comers so.of_places so.of_seats so.closing
   kept = journals-keep-promises l comers so.of_places so.of_seats so.closing shape so.histories
