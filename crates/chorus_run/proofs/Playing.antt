@@ -301,7 +301,7 @@ module _ (c : Scene) (shape : IsLayout c.layout) (keeps : Keeps c) (all : Bool) 
 
     no-rest : closed.rest.items ≡ []
     no-rest =
-        is_left.rest ∙ (schedules-leave-lists l comers so.of_places so.of_seats so.closing kept.turns shape so.histories kept.scheduled).packets
+        is_left.rest ∙ (schedules-leave-lists l comers so.of_places so.of_seats so.closing kept.turns shape kept.scheduled).packets
         ∙ none-by-link (places l) so.closing.links no-links
 
     rests : IsQuiet l (past_of closed) closed.rest.items
