@@ -4,19 +4,14 @@ use Rattle.std.proofs.KnownBytes.{Consumes-nil}
 use Rattle.chorus_ui.specs.declared.layout.Layout.{Layout}
 use Rattle.chorus_show.specs.declared.status.Status.{Status}
 use Rattle.chorus_show.specs.declared.status.Status.TheVariants.{Memory}
-use Rattle.chorus_nucleus.specs.declared.nucleus.Nucleus.{Nucleus}
-use Rattle.chorus_nucleus.specs.Passes.{layout_of}
 use Rattle.chorus_report.specs.declared.finished.Finished.{Finished}
 use Rattle.chorus_report.specs.Ending.{EndsReading, EndsWriting}
-use Rattle.chorus_report.specs.Headline.{Runs}
 use Rattle.chorus_report.specs.Output.{EndsUnread, summary_of, text_of}
 use Rattle.chorus_report.specs.Reading.{ReadsNoFurther}
 use Rattle.chorus_report.proofs.Ends.{ends-memory, gave-up-writes, none-closed, reads-as}
 use Rattle.chorus_replay.specs.Ends.{EndsAsLoad, EndsAsReplay}
 use Rattle.chorus_replay.specs.Load.{Loads}
 use Rattle.chorus_replay.specs.Ordered.{Replays}
-use Rattle.chorus_run.specs.Ends.{EndsAsRun}
-use Rattle.chorus_run.specs.Threads.{HasWornOf, IsOfNucleus}
 use Rattle.chorus_audit.specs.Output.{Prints, ReadsBy}
 use Rattle.chorus_lossy.specs.Output as lossy
 use Rattle.chorus_lossy.specs.Output.{CarriesInput}
@@ -69,15 +64,6 @@ module _ {S K : Type 0} (f : Finished) (is : f ≡ record { status = Memory; clo
     replays = none-closed Memory f (Replays replay_layout (left from)) is;
   }
 
-  pub runs-none : (n : Nucleus) → EndsAsRun n f left faults reliable from from held failures old old
-  runs-none n = record {
-    reads = reads-none (layout_of n);
-    writes = writes-none (text_of f.closed);
-    runs = none-closed Memory f (Runs (layout_of n) (left from)) is;
-    origin = none-closed Memory f (λ s. IsOfNucleus n) is;
-    worn = none-closed Memory f HasWornOf is;
-  }
-
   pub loads-none : (first commands : ℕ) → EndsAsLoad first commands f held failures old old
   loads-none first commands = record {
     status = subst EndsUnread (sym (ap (λ (x : Finished). x.status) is)) tt;
@@ -98,24 +84,20 @@ module _ {S K : Type 0} (f : Finished) (is : f ≡ record { status = Memory; clo
     carries = subst (λ (x : Finished). CarriesInput first x.status (left from) (left from) (held old) (held old)) (sym is) ([], (Consumes-nil (left from), omega arith), refl);
   }
 
-  pub does-none : (n : Nucleus) (asked : Words) → Does n asked f left faults reliable from from held failures old old
-  does-none n words.Replay = replays-none
-  does-none n words.Run = runs-none n
-  does-none n (words.RunOn turns) = runs-none n
-  does-none n (words.Load first commands) = record { unread = refl; loads = loads-none first commands }
-  does-none n (words.Audit sites turns) = audits-none (places_each sites turns)
-  does-none n (words.Lossy first) = carries-none first
+  pub does-none : (asked : Words) → Does asked f left faults reliable from from held failures old old
+  does-none words.Replay = replays-none
+  does-none (words.Load first commands) = record { unread = refl; loads = loads-none first commands }
+  does-none (words.Audit sites turns) = audits-none (places_each sites turns)
+  does-none (words.Lossy first) = carries-none first
 
 -- What is done has its cause, and is no Usage.
 
-module _ {S K : Type 0} (n : Nucleus) (f : Finished) (left : S → Option (List ℕ)) (faults : S → ℕ) (reliable : S → Type 0) (from rest : S) (held : K → Option (List ℕ)) (failures : K → ℕ) (old new : K) where
-  pub no-usage : (asked : Words) → Does n asked f left faults reliable from rest held failures old new → f.status ≡ Status.Usage → ⊥
+module _ {S K : Type 0} (f : Finished) (left : S → Option (List ℕ)) (faults : S → ℕ) (reliable : S → Type 0) (from rest : S) (held : K → Option (List ℕ)) (failures : K → ℕ) (old new : K) where
+  pub no-usage : (asked : Words) → Does asked f left faults reliable from rest held failures old new → f.status ≡ Status.Usage → ⊥
   no-usage words.Replay d is = d.reads.usage is
-  no-usage words.Run d is = d.reads.usage is
-  no-usage (words.RunOn turns) d is = d.reads.usage is
   no-usage (words.Load first commands) d is = subst EndsUnread is d.loads.status
   no-usage (words.Audit sites turns) d is = subst (λ s. ReadsBy s (left from) (left rest)) is d.reads
   no-usage (words.Lossy first) d is = let h = d.carries in subst (λ s. lossy.ReadsBy s h.0 (left from) (left rest)) is h.1
 
-  pub does-same : (asked other : Words) → asked ≡ other → Does n asked f left faults reliable from rest held failures old new → Does n other f left faults reliable from rest held failures old new
-  does-same asked other same d = subst (λ (w : Words). Does n w f left faults reliable from rest held failures old new) same d
+  pub does-same : (asked other : Words) → asked ≡ other → Does asked f left faults reliable from rest held failures old new → Does other f left faults reliable from rest held failures old new
+  does-same asked other same d = subst (λ (w : Words). Does w f left faults reliable from rest held failures old new) same d

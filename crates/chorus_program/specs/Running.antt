@@ -1,5 +1,5 @@
 -- What the program's words do.
--- n is the nucleus that the program was handed. A source and a sink are seen as `EndsReading` and `EndsWriting` see them; from and rest are
+-- A source and a sink are seen as `EndsReading` and `EndsWriting` see them; from and rest are
 -- the source, old and new the sink, before and after.
 use Rattle.std.specs.Prelude.{◌≡◌, ◌≢◌, ◌≤◌, ℕ, List, Option, None, IfSome, IsSome}
 use Rattle.chorus_io.specs.Count.{Rose}
@@ -9,16 +9,12 @@ use Rattle.chorus_audit.specs.Output.{Prints, ReadsBy}
 use Rattle.chorus_lossy.specs.Output.{CarriesInput}
 use Rattle.chorus_show.specs.declared.status.Status.{Status}
 use Rattle.chorus_show.specs.declared.status.Status.TheVariants.{Done, ReadFault, WriteFault, Worn}
-use Rattle.chorus_nucleus.specs.declared.nucleus.Nucleus.{Nucleus}
-use Rattle.chorus_nucleus.specs.Passes.{layout_of}
 use Rattle.chorus_report.specs.declared.finished.Finished.{Finished}
 use Rattle.chorus_report.specs.Headline.{HasClock, merge_of}
 use Rattle.chorus_report.specs.Output.{HandsOut}
 use Rattle.chorus_replay.specs.Ends.{EndsAsLoad, EndsAsReplay}
-use Rattle.chorus_run.specs.Ends.{EndsAsRun}
 use Rattle.chorus_words.specs.declared.words.Words.{Words}
 use Rattle.chorus_words.specs.declared.words.Words.TheVariants as words
-use Rattle.chorus_words.specs.Words.{Ask}
 use Rattle.chorus_program.specs.declared.running.TheConstants.{PROGRAM_SITES}
 
 -- so many sites, with so many places each
@@ -31,15 +27,6 @@ one_place_each sites = places_each sites 1
 -- the sites of a replay
 abbrev pub replay_layout : Layout
 replay_layout = one_place_each PROGRAM_SITES
-
--- `run TURNS` is asked of a nucleus whose sites have so many places
-abbrev pub Suits : Nucleus → Words → Type 0
-Suits n (words.RunOn turns) = turns ≡ (layout_of n).turns
-Suits n asked = Unit {0}
-
--- these words ask this of a program with the nucleus
-abbrev pub AskOf : Nucleus → List (List ℕ) → Words → Type 0
-AskOf n spelled asked = Ask spelled asked × Suits n asked
 
 -- nothing was closed, and the line of the verdict on what was read was written
 pub record EndsAsAudit (l : Layout) (finished : Finished) (left rest old new : Option (List ℕ)) : Type 0 where
@@ -58,18 +45,14 @@ pub record EndsUnreadAsLoad {S K : Type 0} (first commands : ℕ) (finished : Fi
   pub loads : EndsAsLoad first commands finished held failures old new
 
 -- what the words do
-abbrev pub Does : {S K : Type 0} → Nucleus → Words → Finished → (S → Option (List ℕ)) → (S → ℕ) → (S → Type 0) → S → S → (K → Option (List ℕ)) → (K → ℕ) → K → K → Type 0
-Does n words.Replay finished left faults reliable from rest held failures old new =
+abbrev pub Does : {S K : Type 0} → Words → Finished → (S → Option (List ℕ)) → (S → ℕ) → (S → Type 0) → S → S → (K → Option (List ℕ)) → (K → ℕ) → K → K → Type 0
+Does words.Replay finished left faults reliable from rest held failures old new =
     EndsAsReplay replay_layout finished left faults reliable from rest held failures old new
-Does n words.Run finished left faults reliable from rest held failures old new =
-    EndsAsRun n finished left faults reliable from rest held failures old new
-Does n (words.RunOn turns) finished left faults reliable from rest held failures old new =
-    EndsAsRun n finished left faults reliable from rest held failures old new
-Does n (words.Load first commands) finished left faults reliable from rest held failures old new =
+Does (words.Load first commands) finished left faults reliable from rest held failures old new =
     EndsUnreadAsLoad first commands finished from rest held failures old new
-Does n (words.Audit sites turns) finished left faults reliable from rest held failures old new =
+Does (words.Audit sites turns) finished left faults reliable from rest held failures old new =
     EndsAsAudit (places_each sites turns) finished (left from) (left rest) (held old) (held new)
-Does n (words.Lossy first) finished left faults reliable from rest held failures old new =
+Does (words.Lossy first) finished left faults reliable from rest held failures old new =
     EndsAsLossy first finished (left from) (left rest) (held old) (held new)
 
 -- Whatever the words are: a fault has its count, a clock that was worn its entry; without a fault of a source that has none its count

@@ -1,145 +1,65 @@
 //! What the program does, by its words.
 
-ghost use Rattle.std.specs.Prelude.{◌≡◌, ◌⊎◌, map, IfOk, IfSome, Some};
+ghost use Rattle.std.specs.Prelude.{◌≡◌, ◌⊎◌, map};
 ghost use Rattle.chorus_words.specs.declared.words.Words.{Words};
-ghost use Rattle.chorus_words.specs.Words.{IsWithin};
-ghost use Rattle.chorus_nucleus.specs.Passes.{IsPassOf};
-ghost use Rattle.chorus_perform.specs.Scripts.{IsOpening};
-ghost use Rattle.chorus_program.specs.Running.{AskOf, Does, EndsWithCause, Suits};
+ghost use Rattle.chorus_words.specs.Words.{Ask, IsWithin};
+ghost use Rattle.chorus_program.specs.Running.{Does, EndsWithCause};
 
 use crate::starting::{gave_up, start_audit, start_load, start_lossy, start_replay};
 use chorus_io::{Sink, Source};
-use chorus_nucleus::{Nucleus, Pass};
 use chorus_report::Finished;
-use chorus_run::{Gate, close_unused, run};
 use chorus_show::Status;
 use chorus_words::{Words, read_words};
-use std::alloc::{AllocError, Global};
-use std::sync::Wait;
-use std::thread::Threads;
+use std::alloc::Global;
 
-/// The sites of a replay, each with one place, and of the nucleus that the program starts.
+/// The sites of a replay, each with one place.
 pub const PROGRAM_SITES: u16 = 16;
 
 /// Does what the words say: `replay` replays the scenario that the source gives, and `load FIRST COMMANDS` performs the
-/// commands that are drawn, both on sites that are started for it; `run` performs the scenario on the running threads of the nucleus,
-/// and so does `run TURNS` where its sites have so many places; `audit SITES TURNS` audits the printed journal that the source gives;
-/// `lossy FIRST` carries what the source gives over a line that loses. Any other words are Usage, and then nothing is read or written.
-///
-/// The nucleus was just started, and the pass is its opening one. It is closed in any case. Want of memory is the one ending without a
-/// cause.
-pub fn program<'a, R: Threads + Wait + Sync, S: Source, K: Sink, G: Gate>(
+/// commands that are drawn, both on sites that are started for it; `audit SITES TURNS` audits the printed journal that the
+/// source gives; `lossy FIRST` carries what the source gives over a line that loses. Any other words are Usage, and then
+/// nothing is read or written. Want of memory is the one ending without a cause.
+pub fn program<'a, S: Source, K: Sink>(
     alloc: Global,
-    rt: &R,
     words: &'a [&'a str],
     source: &mut S,
     sink: &mut K,
-    nucleus: Nucleus,
-    pass: Pass,
-    gate: &G,
 ) -> Finished
-    requires pass { IsPassOf nucleus pass }
-    requires opening { IsOpening pass }
     ensures usage { result.status ≡ Status.Usage →
-        ((asked : Words) → ¬ (AskOf nucleus (map (λ word. word.now) words.now) asked))
+        ((asked : Words) → ¬ (Ask (map (λ word. word.now) words.now) asked))
         × (source.new ≡ source.old) × (sink.new ≡ sink.old) }
-    ensures listed {
-        ((asked : Words) → ¬ (AskOf nucleus (map (λ word. word.now) words.now) asked)) →
+    ensures listed { ((asked : Words) → ¬ (Ask (map (λ word. word.now) words.now) asked)) →
         (result.status ≡ Status.Usage) ⊎ (result.status ≡ Status.Memory) }
-    ensures does { (asked : Words) → AskOf nucleus (map (λ word. word.now) words.now) asked →
-        Does nucleus asked result S.left S.faults S.reliable source.old source.new
+    ensures does { (asked : Words) → Ask (map (λ word. word.now) words.now) asked →
+        Does asked result S.left S.faults S.reliable source.old source.new
         K.held K.faults sink.old sink.new }
     ensures causes { EndsWithCause result S.faults S.reliable source.old source.new
         K.faults sink.old sink.new }
 {
-    match asked_of(alloc, words, &nucleus) {
-        Ok(Some(asked)) => does(alloc, rt, asked, source, sink, nucleus, pass, gate),
-        Ok(None) => turn_away(rt, nucleus, pass, Status::Usage),
-        Err(_) => turn_away(rt, nucleus, pass, Status::Memory),
+    match read_words(alloc, words) {
+        Ok(Some(asked)) => does(alloc, asked, source, sink),
+        Ok(None) => gave_up(Status::Usage),
+        Err(_) => gave_up(Status::Memory),
     }
-}
-
-/// What the words ask of a program with the nucleus. None exactly where they ask nothing of it; want of memory is the one error.
-fn asked_of<'a>(
-    alloc: Global,
-    words: &'a [&'a str],
-    nucleus: &Nucleus,
-) -> Result<Option<Words>, AllocError>
-    ensures some { IfOk result (λ read.
-        IfSome read (AskOf nucleus.now (map (λ word. word.now) words.now))) }
-    ensures listed { (asked : Words) → AskOf nucleus.now (map (λ word. word.now) words.now) asked →
-        IfOk result (λ read. read ≡ Some asked) }
-{
-    match read_words(alloc, words)? {
-        Some(asked) => Ok(if_it_suits(nucleus, asked)),
-        None => Ok(None),
-    }
-}
-
-/// What is asked, where the nucleus has the places for it.
-fn if_it_suits(nucleus: &Nucleus, asked: Words) -> Option<Words>
-    ensures some { IfSome result (λ read. (read ≡ asked) × Suits nucleus.now read) }
-    ensures suits { Suits nucleus.now asked → result ≡ Some asked }
-{
-    match asked {
-        Words::RunOn { turns } => {
-            if turns == nucleus.layout().turns() {
-                Some(asked)
-            } else {
-                None
-            }
-        }
-        _ => Some(asked),
-    }
-}
-
-/// Closes the nucleus, and ends with this status before anything was read.
-fn turn_away<R: Wait>(rt: &R, nucleus: Nucleus, pass: Pass, status: Status) -> Finished
-    requires pass { IsPassOf nucleus pass }
-    requires opening { IsOpening pass }
-    ensures { result ≡ record { status = status; closed = None } }
-{
-    close_unused(rt, nucleus, pass);
-    gave_up(status)
 }
 
 /// Does what is asked.
-fn does<R: Threads + Wait + Sync, S: Source, K: Sink, G: Gate>(
+fn does<S: Source, K: Sink>(
     alloc: Global,
-    rt: &R,
     asked: Words,
     source: &mut S,
     sink: &mut K,
-    nucleus: Nucleus,
-    pass: Pass,
-    gate: &G,
 ) -> Finished
     requires within { IsWithin asked }
-    requires pass { IsPassOf nucleus pass }
-    requires opening { IsOpening pass }
-    ensures does { Does nucleus asked result S.left S.faults S.reliable source.old source.new
+    ensures does { Does asked result S.left S.faults S.reliable source.old source.new
         K.held K.faults sink.old sink.new }
     ensures causes { EndsWithCause result S.faults S.reliable source.old source.new
         K.faults sink.old sink.new }
 {
     match asked {
-        Words::Run => run(alloc, rt, source, sink, nucleus, pass, gate),
-        Words::RunOn { .. } => run(alloc, rt, source, sink, nucleus, pass, gate),
-        Words::Replay => {
-            close_unused(rt, nucleus, pass);
-            start_replay(alloc, source, sink)
-        }
-        Words::Load { first, commands } => {
-            close_unused(rt, nucleus, pass);
-            start_load(alloc, first, commands, sink)
-        }
-        Words::Audit { sites, turns } => {
-            close_unused(rt, nucleus, pass);
-            start_audit(alloc, sites, turns, source, sink)
-        }
-        Words::Lossy { first } => {
-            close_unused(rt, nucleus, pass);
-            start_lossy(alloc, first, source, sink)
-        }
+        Words::Replay => start_replay(alloc, source, sink),
+        Words::Load { first, commands } => start_load(alloc, first, commands, sink),
+        Words::Audit { sites, turns } => start_audit(alloc, sites, turns, source, sink),
+        Words::Lossy { first } => start_lossy(alloc, first, source, sink),
     }
 }

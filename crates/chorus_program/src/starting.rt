@@ -14,14 +14,14 @@ use chorus_io::{Sink, Source};
 use chorus_lossy::{WINDOW, lossy};
 use chorus_net::Sites;
 use chorus_report::Finished;
-use chorus_run::{LOAD_SITES, load, replay};
+use chorus_replay::{LOAD_SITES, load, replay};
 use chorus_show::Status;
 use chorus_transport::{Receiver, Sender};
 use chorus_ui::Layout;
 use std::alloc::{AllocError, Global};
 
 // A load performs as many commands as its words may ask.
-const _: () = prove!(chorus_words::LOAD_LIMIT == chorus_run::LOAD_LIMIT);
+const _: () = prove!(chorus_words::LOAD_LIMIT == chorus_replay::LOAD_LIMIT);
 
 /// Replays on sites that are started for it.
 pub(crate) fn start_replay<S: Source, K: Sink>(

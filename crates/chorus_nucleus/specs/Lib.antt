@@ -1,4 +1,0 @@
-pub mod Passes
-pub mod Calls
-pub mod Coming
-pub mod Closing

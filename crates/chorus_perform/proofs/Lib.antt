@@ -1,5 +1,0 @@
-pub mod Steps
-pub mod Lines
-pub mod Comings
-pub mod Leavings
-pub mod Idling

@@ -1,4 +1,0 @@
-pub mod Going
-pub mod Scripts
-pub mod Rounds
-pub mod Runners

@@ -1,4 +1,0 @@
-pub mod Totals
-pub mod Owning
-pub mod Playing
-pub mod Ending
