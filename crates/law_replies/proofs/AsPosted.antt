@@ -25,7 +25,7 @@ use Rattle.law_network.proofs.Standing.Grows.{message-id}
 use Rattle.law_replies.specs.AsPosted.{IsAsPosted}
 
 -- the post of an id has the id of which it is a copy, or its own
-found-id : (x : MsgId) (mine : List Entry) (d : Posted) → posted_in x mine ≡ Some d → d.message.id ≡ x
+pub found-id : (x : MsgId) (mine : List Entry) (d : Posted) → posted_in x mine ≡ Some d → d.message.id ≡ x
 found-id x [] d h = none_some d h
 found-id x (e ∷ mine) d h =
     elim (from_or (posted_in x mine) (posted_by x e.place e.act) d h) [

@@ -6,3 +6,5 @@ pub mod Own
 pub mod Turns
 pub mod AsPosted
 pub mod Networks
+pub mod Outcomes
+pub mod Told

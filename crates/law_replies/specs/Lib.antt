@@ -3,3 +3,4 @@ pub mod Taking
 pub mod AsPosted
 pub mod Networks
 pub mod Turns
+pub mod Outcomes

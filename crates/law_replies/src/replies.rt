@@ -1,6 +1,7 @@
 //! What a caller is told. The laws speak of the definitions alone and make no call.
 
 ghost use Rattle.law_replies.specs.Networks.{NetworksTell, SchedulesTell, TakesArePosted};
+ghost use Rattle.law_replies.specs.Outcomes.{LegalOutcomes, SchedulesOutcomes};
 ghost use Rattle.law_replies.specs.Turns.{TakesAppend, TurnsTell};
 
 /// A command gets a reply exactly where the entries of its turn say so.
@@ -24,4 +25,10 @@ pub fn a_take_hands_out_what_was_posted()
 /// A take appends the Take of the message and what ends the call behind it, or one Empty, or one NotHere, just as its reply tells.
 pub fn a_take_appends_its_acts()
     ensures { TakesAppend }
+{}
+
+/// A
+pub fn an_outcome_is_true()
+    ensures legal { LegalOutcomes }
+    ensures schedules { SchedulesOutcomes }
 {}

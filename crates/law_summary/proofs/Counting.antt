@@ -1,7 +1,7 @@
 -- The numbers of a summary, entry by entry.
-use Rattle.std.proofs.Common.{ℕ, ◌≡◌, ◌≢◌, ◌+◌, ◌-◌, ◌≤◌, nat_lt, Bool, true, false, ◌&&◌, not, cond, if◌then◌else◌, List, [], ◌∷◌, ◌++◌, length, reverse, Option, Some, None, is_some, refl, sym, ◌∙◌, ap, subst, arith, inl, inr, sum_by, count_by, ⊎_elim}
+use Rattle.std.proofs.Common.{ℕ, ◌≡◌, ◌≢◌, ◌+◌, ◌-◌, nat_lt, Bool, true, false, ◌&&◌, not, cond, if◌then◌else◌, List, [], ◌∷◌, ◌++◌, length, reverse, Option, Some, None, is_some, refl, sym, ◌∙◌, ap, subst, arith, inl, inr, sum_by, count_by, ⊎_elim}
 use Rattle.std.specs.Option.{option_or}
-use Rattle.std.proofs.lemmas.Bool.{and_parts, cases_Bool, false≢true, true≢false}
+use Rattle.std.proofs.lemmas.Bool.{cases_Bool, false≢true, true≢false}
 use Rattle.std.proofs.lemmas.List.{length_push, reverse-append}
 use Rattle.std.proofs.lemmas.List.Sums.{sum_by-append}
 use Rattle.chorus_ui.specs.declared.ui.Ui.{Ui}
@@ -20,20 +20,20 @@ use Rattle.chorus_world.specs.Views.{is_on, on, views}
 use Rattle.chorus_entry.specs.Same.{are_same}
 use Rattle.chorus_world.specs.Ports.{PortState, fate, fate_after, changed, new_port, is_held, is_held_at, is_moving, arrived}
 use Rattle.chorus_world.specs.Steps.{act_may, is_legal}
-use Rattle.chorus_world.specs.Fates.{MessageFate, Received, Queued, UnderWay, Discarded, fate_left}
+use Rattle.chorus_world.specs.Fates.{Received, fate_left}
 use Rattle.chorus_world.proofs.Steps.LegalLemmas.{legal_parts, on_is, skips, keeps}
 use Rattle.chorus_world.proofs.Ports.LineLemmas.{Needs, needs, MakesNew, held_at, coming, none_some}
 use Rattle.chorus_world.proofs.Ports.PortMoves.{make_new}
 use Rattle.chorus_world.proofs.Messages.MessageSteps.{legal_inv}
 use Rattle.chorus_show.specs.declared.queues.Spot.{Spot}
 use Rattle.chorus_show.specs.declared.queues.Spot.TheVariants.{Held, Moving, Ended}
-use Rattle.chorus_show.specs.Summary.{accepts, gives, count, waiting, put_by, spot_in, last_spot, same_spot, port_left, ports_at, waiting_at}
+use Rattle.chorus_show.specs.Summary.{accepts, gives, count, waiting, put_by, spot_in, last_spot, same_spot, port_left, ports_at}
 use Rattle.chorus_show.specs.Tally.{is_spot}
-use Rattle.law_summary.specs.Counted.{spot_of, spot_in_world, waiting_in_world, once_at, IsFateOf, FatesFollowPorts, CountsTheWorld, SummariesCountTheWorld}
+use Rattle.law_summary.specs.Counted.{spot_of, spot_in_world, waiting_in_world, IsFateOf, FatesFollowPorts, SummariesCountTheWorld}
 
 -- Lists in order, of which the newest entry is the last.
 
-count_more : {X : Type 0} → (test : X → Bool) (xs ys : List X) → count_by test (xs ++ ys) ≡ count_by test xs + count_by test ys
+pub count_more : {X : Type 0} → (test : X → Bool) (xs ys : List X) → count_by test (xs ++ ys) ≡ count_by test xs + count_by test ys
 count_more test xs ys = sum_by-append (λ x. cond (test x) 1 0) xs ys
 
 or_none : {X : Type 0} (o : Option X) → option_or o None ≡ o
@@ -95,7 +95,7 @@ one_more : (n m : ℕ) (b : Bool) → b ≡ true → m ≡ n + 1 → m ≡ n + c
 one_more n m true h e = e
 one_more n m false h e = absurd (false≢true h)
 
-no_more : (n : ℕ) → n ≡ n + 0
+pub no_more : (n : ℕ) → n ≡ n + 0
 no_more n = omega arith
 
 zero_more : (n : ℕ) → 0 + n ≡ n

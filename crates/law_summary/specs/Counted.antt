@@ -15,7 +15,7 @@ use Rattle.chorus_world.specs.Fates.{MessageFate, Queued, UnderWay, Discarded, f
 use Rattle.chorus_world.specs.Steps.{is_legal}
 use Rattle.chorus_show.specs.declared.queues.Spot.{Spot}
 use Rattle.chorus_show.specs.declared.queues.Spot.TheVariants.{Held, Moving, Ended}
-use Rattle.chorus_show.specs.Summary.{last_spot, waiting, ports_at, waiting_at}
+use Rattle.chorus_show.specs.Summary.{waiting, ports_at, waiting_at}
 use Rattle.chorus_show.specs.Tally.{is_spot}
 
 -- where a port is, in the summary's words
@@ -40,9 +40,13 @@ once_at spot o = if is_spot spot (spot_in_world o) then 1 else 0
 -- The ports of a spot are those that the world has there, each once; and the number printed for the spot is the sum of the
 -- messages that wait in them.
 pub record CountsTheWorld (past : List Entry) : Type 0 where
-  pub ports : (spot : Spot) (q : Ui) → count_by (same_ui q) (ports_at spot (reverse past)) ≡ once_at spot (fate (on q past))
+  pub ports :
+      (spot : Spot) (q : Ui) →
+      count_by (same_ui q) (ports_at spot (reverse past)) ≡ once_at spot (fate (on q past))
   pub waiting : (q : Ui) → waiting (reverse past) q ≡ waiting_in_world (fate (on q past))
-  pub sum : (spot : Spot) → waiting_at spot (reverse past) ≡ sum_by (λ q. waiting_in_world (fate (on q past))) (ports_at spot (reverse past))
+  pub sum :
+      (spot : Spot) →
+      waiting_at spot (reverse past) ≡ sum_by (λ q. waiting_in_world (fate (on q past))) (ports_at spot (reverse past))
 
 -- a message that is queued is in a port that is held, one under way in a port that moves, one discarded in a port that ended
 pub record IsFateOf (spot : Spot) (what : MessageFate) : Type 0 where

@@ -2,9 +2,10 @@
 //!
 //! `chorus_show` counts the entries of a journal and knows no world; `chorus_world` has the ports and what waits in them. The
 //! law says that both speak of the same: whoever reads `queued` and `moving` under a legal journal reads how many messages wait
-//! in the ports that the world holds, and in those that move. The crate has no code but the law, which makes no call.
+//! in the ports that the world holds, and in those that move; and so with each other number. The crate has no code but the law,
+//! which makes no call.
 //!
-//! Begin with `specs/Counted.antt`.
+//! Begin with `specs/Counted.antt`, and `Numbers`.
 
 #![tactic(auto)]
 

@@ -1,4 +1,5 @@
--- Calls: by what a call is settled, and how often. A past has its newest entry first, e is an entry and past what stands before it.
+-- Calls: by what a call is settled, and how often. A past has its newest entry first, e is an entry and past what
+-- stands before it.
 use Rattle.std.specs.Prelude.{ℕ, ◌≡◌, ◌≢◌, ◌≤◌, ◌⊎◌, ◌==◌, Bool, true, false, not, ◌&&◌, List, ◌∷◌, ◌++◌, count_by}
 use Rattle.std.specs.List.{list_all}
 use Rattle.chorus_ui.specs.declared.ui.Ui.{Ui}
@@ -59,8 +60,8 @@ leaves_hand past (Take q n x) = not (is_request (tag_of x past))
 leaves_hand past (Post m d) = not (is_reply m.tag)
 leaves_hand past _ = true
 
--- The seat s took the client's request of this number, which names `back` for the reply: it is the last request that s took, and s
--- posted no reply since. The client had called it.
+-- The seat s took the client's request of this number, which names `back` for the reply: it is the last request that s
+-- took, and s posted no reply since. The client had called it.
 pub record HasTaken (s client number : ℕ) (back : Ui) (past : List Entry) : Type 0 where
   pub entry : Entry
   pub port : Ui
@@ -75,8 +76,8 @@ pub record HasTaken (s client number : ℕ) (back : Ui) (past : List Entry) : Ty
   pub called : IsCalled client number back past
   pub last : list_all (λ e. leaves_hand past e.act) newer ≡ true
 
--- x is the reply to the client's request of this number: a seat that had taken the request posted it to `back`, the port that the
--- request names for it
+-- x is the reply to the client's request of this number: a seat that had taken the request posted it to `back`, the
+-- port that the request names for it
 pub record IsReplyTo (client number : ℕ) (x : MsgId) (back : Ui) (past : List Entry) : Type 0 where
   pub entry : Entry
   pub message : Message
@@ -105,7 +106,8 @@ pub record IsDone (number : ℕ) (past : List Entry) (e : Entry) : Type 0 where
 abbrev pub DoneByReply : List Entry → Entry → Type 0
 DoneByReply past e = (n : ℕ) → e.act ≡ Done n → IsDone n past e
 
--- a Late stands directly behind such a Take as well, of the reply to a request of another client, or to one that is settled
+-- a Late stands directly behind such a Take as well, of the reply to a request of another client, or to one that is
+-- settled
 pub record IsLate (number : ℕ) (past : List Entry) (e : Entry) : Type 0 where
   pub reply : MsgId
   pub back : Ui

@@ -1,5 +1,5 @@
--- Choices: whom a post to a group chooses, and in which order the members take turns. g is a group, q is a port; here are the entries of
--- the group's place, the newest first.
+-- Choices: whom a post to a group chooses, and in which order the members take turns. g is a group, q is a port; here
+-- are the entries of the group's place, the newest first.
 use Rattle.std.specs.Prelude.{ℕ, ◌≡◌, ◌<◌, Bool, true, false, not, ◌&&◌, ◌||◌, if◌then◌else◌, List, [], ◌∷◌, ◌++◌, length, Some}
 use Rattle.std.specs.Option.{unwrap_or}
 use Rattle.std.specs.List.{list_all}
@@ -53,8 +53,8 @@ pub record AreMembers (g : Ui) (here : List Entry) (qs : List Ui) : Type 0 where
 
 -- Whom a post chooses.
 
--- x was posted to the group, and this is where its members are chosen: the group's place, or the place of the post where the layout has
--- no such place
+-- x was posted to the group, and this is where its members are chosen: the group's place, or the place of the post
+-- where the layout has no such place
 pub record IsPostTo (l : Layout) (past : List Entry) (p : ℕ) (x : MsgId) (g : Ui) (post : Posted) : Type 0 where
   pub posted : post_of x past ≡ Some post
   pub own : x.copy ≡ 0
@@ -72,8 +72,8 @@ pub record IsFirstInTurn (test : Ui → Bool) (g : Ui) (here : List Entry) (qs :
   pub turn : in_turn g here ≡ before ++ member ∷ after
   pub first : list_all (λ q. not (test q)) before ≡ true
 
--- all members, where it is posted to all; one, the first in turn, where it is posted to one; and where it is posted to one at a site, the
--- first in turn of those that the place locates there
+-- all members, where it is posted to all; one, the first in turn, where it is posted to one; and where it is posted to
+-- one at a site, the first in turn of those that the place locates there
 abbrev pub NamesMembers : Layout → Ui → List Entry → Dest → List Ui → Type 0
 NamesMembers l g here (dests.Port q) qs = ⊥
 NamesMembers l g here (dests.All h) qs = AreMembers g here qs × (0 < length qs)
@@ -113,14 +113,18 @@ turns g (Join h q) = same_ui h g
 turns g (Leave h q) = same_ui h g
 turns g _ = false
 
--- Who is chosen alone is the last in turn then, and those that were before it are so after the others; where one leaves, the others keep
--- their turn; and where one joins, the first in turn stays the first. No other act changes the turns.
+-- Who is chosen alone is the last in turn then, and those that were before it are so after the others; where one
+-- leaves, the others keep their turn; and where one joins, the first in turn stays the first. No other act changes the
+-- turns.
 pub record KeepsTurns (g : Ui) (here : List Entry) (e : Entry) : Type 0 where
   pub chosen :
-      (x : MsgId) (q : Ui) (before after : List Ui) → e.act ≡ Choose x g (q ∷ []) → in_turn g here ≡ before ++ q ∷ after →
+      (x : MsgId) (q : Ui) (before after : List Ui) → e.act ≡ Choose x g (q ∷ []) →
+      in_turn g here ≡ before ++ q ∷ after →
       in_turn g (e ∷ here) ≡ after ++ before ++ q ∷ []
   pub left : (q : Ui) → e.act ≡ Leave g q → in_turn g (e ∷ here) ≡ without q (in_turn g here)
-  pub joined : (q : Ui) → e.act ≡ Join g q → first_of (in_turn g (e ∷ here)) ≡ Some (unwrap_or (first_of (in_turn g here)) q)
+  pub joined :
+      (q : Ui) → e.act ≡ Join g q →
+      first_of (in_turn g (e ∷ here)) ≡ Some (unwrap_or (first_of (in_turn g here)) q)
   pub same : turns g e.act ≡ false → in_turn g (e ∷ here) ≡ in_turn g here
 
 abbrev pub TurnsGoOn : List Entry → Entry → Type 0

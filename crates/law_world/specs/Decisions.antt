@@ -1,5 +1,5 @@
--- Decisions: on what a place decides, why it decides so, and that no other decision is possible there. l is a layout, past what stands
--- before the entry e, and e decides on the message x for the port q.
+-- Decisions: on what a place decides, why it decides so, and that no other decision is possible there. l is a layout,
+-- past what stands before the entry e, and e decides on the message x for the port q.
 use Rattle.std.specs.Prelude.{ℕ, ◌≡◌, ◌≤◌, ◌⊎◌, ◌↔◌, ◌==◌, Bool, true, false, not, ◌&&◌, if◌then◌else◌, List, [], ◌∷◌, length, Option, Some, None, slice_get}
 use Rattle.std.specs.List.{list_any}
 use Rattle.chorus_ui.specs.declared.ui.Ui.{Ui}
@@ -30,7 +30,8 @@ pub record IsTriedHere (past : List Entry) (p : ℕ) (x : MsgId) (q : Ui) (hop :
   pub from : ℕ
   pub is : progress (about x past) ≡ Tried from q p hop
 
--- x is the next to be tried from the place p, which locates the port at itself by this hop, and is on the site that x asks for
+-- x is the next to be tried from the place p, which locates the port at itself by this hop, and is on the site that x
+-- asks for
 pub record IsNextHere (l : Layout) (past : List Entry) (p : ℕ) (x : MsgId) (q : Ui) (hop : ℕ) : Type 0 where
   pub first : is_first x q (at p past) ≡ true
   pub within : has_site l q.site ≡ true
@@ -85,18 +86,21 @@ IsOnItsWayTo p hop q past = (a : Ui) × (last_move q past ≡ Some (Depart q p a
 abbrev pub IsTooLate : Layout → List Entry → Entry → MsgId → Ui → ℕ → Type 0
 IsTooLate l past e x q tried = (to : ℕ) × (hop : ℕ) × IsPassed l past e x q tried to hop
 
--- What is decided on x, which is to be decided here for the port q and came by the hop `tried`, is told by the port: whether it is held
--- here, was deleted here, was never made, or is on its way here. Of a message that came too late, AnswersNewer of the world's own laws
--- says what is decided; there is no other case.
+-- What is decided on x, which is to be decided here for the port q and came by the hop `tried`, is told by the port:
+-- whether it is held here, was deleted here, was never made, or is on its way here. Of a message that came too late,
+-- AnswersNewer of the world's own laws says what is decided; there is no other case.
 pub record HasItsCause (l : Layout) (past : List Entry) (e : Entry) (x : MsgId) (q : Ui) (tried : ℕ) : Type 0 where
   pub met : (port_met e.act ≡ Some q) ↔ (is_held_at e.place (fate (on q past)) ≡ true)
   pub gone : (e.act ≡ Gone x q) ↔ (is_deleted q (at e.place past) ≡ true)
   pub no_port : (e.act ≡ NoPort x q) ↔ (is_made_here q past ≡ false)
-  pub early : (hop : ℕ) → (e.act ≡ Early x q hop) ↔ (IsOnItsWayTo e.place hop q past × (IsTooLate l past e x q tried → ⊥))
+  pub early :
+      (hop : ℕ) →
+      (e.act ≡ Early x q hop) ↔ (IsOnItsWayTo e.place hop q past × (IsTooLate l past e x q tried → ⊥))
 
 abbrev pub DecidesByThePort : Layout → List Entry → Entry → Type 0
 DecidesByThePort l past e =
-    (x : MsgId) (q : Ui) (tried : ℕ) → is_decision e.act ≡ true → message_of e.act ≡ Some x → IsToDecide l past e.place x q tried →
+    (x : MsgId) (q : Ui) (tried : ℕ) → is_decision e.act ≡ true → message_of e.act ≡ Some x →
+    IsToDecide l past e.place x q tried →
     HasItsCause l past e x q tried
 
 -- a NoPort stands only for a port that was never made
@@ -129,7 +133,8 @@ pub record IsRepeated (past : List Entry) (x : MsgId) (q : Ui) : Type 0 where
 -- a port that decides by itself answers Already exactly to such a one
 abbrev pub AlreadyWhereAccepted : List Entry → Entry → Type 0
 AlreadyWhereAccepted past e =
-    (x : MsgId) (q : Ui) → message_of e.act ≡ Some x → port_met e.act ≡ Some q → (e.act ≡ Already x q) ↔ IsRepeated past x q
+    (x : MsgId) (q : Ui) → message_of e.act ≡ Some x → port_met e.act ≡ Some q →
+    (e.act ≡ Already x q) ↔ IsRepeated past x q
 
 -- these are the clients of which the port accepted a request, each once
 abbrev pub has_number : ℕ → List ℕ → Bool
@@ -155,7 +160,8 @@ pub record IsOfOneTooMany (past : List Entry) (x : MsgId) (q : Ui) : Type 0 wher
 -- and it answers ClientsFull exactly to such a one
 abbrev pub ClientsFullWhereManyAre : List Entry → Entry → Type 0
 ClientsFullWhereManyAre past e =
-    (x : MsgId) (q : Ui) → message_of e.act ≡ Some x → port_met e.act ≡ Some q → (e.act ≡ ClientsFull x q) ↔ IsOfOneTooMany past x q
+    (x : MsgId) (q : Ui) → message_of e.act ≡ Some x → port_met e.act ≡ Some q →
+    (e.act ≡ ClientsFull x q) ↔ IsOfOneTooMany past x q
 
 -- No other decision.
 
@@ -163,5 +169,6 @@ ClientsFullWhereManyAre past e =
 abbrev pub OneDecisionIsPossible : Type 0
 OneDecisionIsPossible =
     (l : Layout) (past : List Entry) (e f : Entry) (x : MsgId) → IsLayout l → is_legal l past ≡ true →
-    may l past e ≡ true → may l past f ≡ true → e.place ≡ f.place → is_decision e.act ≡ true → is_decision f.act ≡ true →
+    may l past e ≡ true → may l past f ≡ true → e.place ≡ f.place →
+    is_decision e.act ≡ true → is_decision f.act ≡ true →
     message_of e.act ≡ Some x → message_of f.act ≡ Some x → e.act ≡ f.act

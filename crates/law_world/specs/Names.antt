@@ -1,5 +1,5 @@
--- Names: how ports, groups and messages get theirs, and where a port is that an actor holds. l is a layout, past what stands before the
--- entry e, q is a port, g a group, a an actor, p a place.
+-- Names: how ports, groups and messages get theirs, and where a port is that an actor holds. l is a layout, past what
+-- stands before the entry e, q is a port, g a group, a an actor, p a place.
 use Rattle.std.specs.Prelude.{ℕ, ◌≡◌, ◌≤◌, ◌<◌, ◌↔◌, Bool, true, false, List, ◌∷◌, count_by, Option, Some, None, is_some}
 use Rattle.chorus_ui.specs.declared.kind.Kind.TheVariants as kinds
 use Rattle.chorus_ui.specs.declared.limits.TheConstants.{PORTS_PER_SITE_LIMIT, GROUPS_PER_SITE_LIMIT}
@@ -50,11 +50,13 @@ pub record IsLeastPort (l : Layout) (past : List Entry) (p : ℕ) (q : Ui) : Typ
   pub place : creation_place l q ≡ p
   pub new : is_made_here q past ≡ false
   pub least :
-      (n : ℕ) → 1 ≤ n → n < q.number → creation_place l (record q { number = n }) ≡ p → is_made_here (record q { number = n }) past ≡ true
+      (n : ℕ) → 1 ≤ n → n < q.number → creation_place l (record q { number = n }) ≡ p →
+      is_made_here (record q { number = n }) past ≡ true
 
 abbrev pub MakesTheLeast : Layout → List Entry → Entry → Type 0
 MakesTheLeast l past e =
-    (q a : Ui) (c : ℕ) → e.act ≡ Make q a c → IsLeastPort l past e.place q × (q.site ≡ a.site) × (place_at l a.site a ≡ e.place)
+    (q a : Ui) (c : ℕ) → e.act ≡ Make q a c →
+    IsLeastPort l past e.place q × (q.site ≡ a.site) × (place_at l a.site a ≡ e.place)
 
 -- where no port can be made any more, each one was made that the place makes
 abbrev pub MadeAllPorts : Layout → List Entry → Entry → Type 0
@@ -79,7 +81,8 @@ MadeAllGroups past e =
     (s n : ℕ) → e.act ≡ GroupsFull s → 1 ≤ n → n ≤ GROUPS_PER_SITE_LIMIT →
     is_group (record { site = s; kind = kinds.Group; number = n }) past ≡ true
 
--- and of messages: the id of a post is of its seat, is no copy's, was not posted, and has the least number of such a one
+-- and of messages: the id of a post is of its seat, is no copy's, was not posted, and has the least number of such a
+-- one
 pub record IsLeastId (past : List Entry) (s : ℕ) (x : MsgId) : Type 0 where
   pub seat : x.seat ≡ s
   pub own : x.copy ≡ 0
@@ -110,10 +113,11 @@ port_wanted (commands.Move q a) = Some q
 port_wanted (commands.Delete q) = Some q
 port_wanted _ = None
 
--- In a run, NotHere answers such a command exactly where the actor of its caller does not hold the port. That the answer stands at the
--- place of the command is all that this needs of the place.
+-- In a run, NotHere answers such a command exactly where the actor of its caller does not hold the port. That the
+-- answer stands at the place of the command is all that this needs of the place.
 abbrev pub NotHereMeansNotHeld : Type 0
 NotHereMeansNotHeld =
     (l : Layout) (callers : ℕ → Option Ui) (past : List Entry) (e : Entry) (a q : Ui) (c : Command) →
-    IsLayout l → is_run l callers (e ∷ past) ≡ true → callers e.seat ≡ Some a → answers l past a c e ≡ true → port_wanted c ≡ Some q →
+    IsLayout l → is_run l callers (e ∷ past) ≡ true → callers e.seat ≡ Some a →
+    answers l past a c e ≡ true → port_wanted c ≡ Some q →
     (e.act ≡ NotHere q) ↔ (holds a (fate (on q past)) ≡ false)

@@ -10,10 +10,10 @@ pub fn a_name_is_made_once()
     ensures message { LegalAlways PostsOnce }
 {}
 
-/// A Make gives the least number that was not made, of those whose place it stands at, on the site of its actor (`port`); and MakeFull
-/// stands only where each of these was made, up to 32 (`ports_full`). A GroupMake gives the least number of its site that was not made
-/// (`group`), and GroupsFull stands only where all four were (`groups_full`). A Post gives the least number that its seat has not used
-/// (`message`).
+/// A Make gives the least number that was not made, of those whose place it stands at, on the site of its actor (`port`); and
+/// MakeFull stands only where each of these was made, up to 32 (`ports_full`). A GroupMake gives the least number of its site
+/// that was not made (`group`), and GroupsFull stands only where all four were (`groups_full`). A Post gives the least number
+/// that its seat has not used (`message`).
 pub fn the_next_name_is_the_least()
     ensures port { LayoutEntries MakesTheLeast }
     ensures ports_full { LayoutEntries MadeAllPorts }
@@ -22,8 +22,9 @@ pub fn the_next_name_is_the_least()
     ensures message { LegalEntries (λ l. PostsTheLeast) }
 {}
 
-/// A port that an actor holds is at the port's place on the actor's site (`place`). So in a run NotHere answers a command to receive from
-/// a port, to move it or to delete it exactly where its caller's actor does not hold the port, at whatever place (`held`).
+/// A port that an actor holds is at the port's place on the actor's site (`place`). So in a run NotHere answers a command to
+/// receive from a port, to move it or to delete it exactly where its caller's actor does not hold the port, at whatever place
+/// (`held`).
 pub fn not_here_means_not_held()
     ensures place { IsAtActorsSite }
     ensures held { NotHereMeansNotHeld }
