@@ -44,6 +44,17 @@ module _ {S K : Type 0} (f : Finished) (left : S → Option (List ℕ)) (faults 
 
 -- Where there was no memory, nothing was read or written.
 
+module _ {K : Type 0} (f : Finished) (is : f ≡ record { status = Memory; closed = None }) (held : K → Option (List ℕ)) (failures : K → ℕ) (old : K) where
+  writes-none : (text : List ℕ) → EndsWriting text f held failures old old
+  writes-none text = gave-up-writes text Memory f held failures old old tt is refl
+
+  pub loads-none : (first commands : ℕ) → EndsAsLoad first commands f held failures old old
+  loads-none first commands = record {
+    status = subst EndsUnread (sym (ap (λ (x : Finished). x.status) is)) tt;
+    writes = writes-none (summary_of f.closed);
+    loads = none-closed Memory f (Loads first commands) is;
+  }
+
 module _ {S K : Type 0} (f : Finished) (is : f ≡ record { status = Memory; closed = None }) (left : S → Option (List ℕ)) (faults : S → ℕ) (reliable : S → Type 0) (from : S) (held : K → Option (List ℕ)) (failures : K → ℕ) (old : K) where
   read-none : ReadsNoFurther (left from) (left from)
   read-none = ([], (Consumes-nil (left from), omega arith))
@@ -51,24 +62,14 @@ module _ {S K : Type 0} (f : Finished) (is : f ≡ record { status = Memory; clo
   reads-none : (l : Layout) → EndsReading l f.status left faults reliable from from
   reads-none l = reads-as l l Memory f left faults reliable from from refl is (ends-memory l left faults reliable from from (λ h. refl) read-none)
 
-  writes-none : (text : List ℕ) → EndsWriting text f held failures old old
-  writes-none text = gave-up-writes text Memory f held failures old old tt is refl
-
   closes-none : f.closed ≡ None
   closes-none = ap (λ (x : Finished). x.closed) is
 
   pub replays-none : EndsAsReplay replay_layout f left faults reliable from from held failures old old
   replays-none = record {
     reads = reads-none replay_layout;
-    writes = writes-none (text_of f.closed);
+    writes = writes-none f is held failures old (text_of f.closed);
     replays = none-closed Memory f (Replays replay_layout (left from)) is;
-  }
-
-  pub loads-none : (first commands : ℕ) → EndsAsLoad first commands f held failures old old
-  loads-none first commands = record {
-    status = subst EndsUnread (sym (ap (λ (x : Finished). x.status) is)) tt;
-    writes = writes-none (summary_of f.closed);
-    loads = none-closed Memory f (Loads first commands) is;
   }
 
   audits-none : (l : Layout) → EndsAsAudit l f (left from) (left from) (held old) (held old)
@@ -86,7 +87,7 @@ module _ {S K : Type 0} (f : Finished) (is : f ≡ record { status = Memory; clo
 
   pub does-none : (asked : Words) → Does asked f left faults reliable from from held failures old old
   does-none words.Replay = replays-none
-  does-none (words.Load first commands) = record { unread = refl; loads = loads-none first commands }
+  does-none (words.Load first commands) = record { unread = refl; loads = loads-none f is held failures old first commands }
   does-none (words.Audit sites turns) = audits-none (places_each sites turns)
   does-none (words.Lossy first) = carries-none first
 
