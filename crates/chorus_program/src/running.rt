@@ -44,12 +44,7 @@ pub fn program<'a, S: Source, K: Sink>(
 }
 
 /// Does what is asked.
-fn does<S: Source, K: Sink>(
-    alloc: Global,
-    asked: Words,
-    source: &mut S,
-    sink: &mut K,
-) -> Finished
+fn does<S: Source, K: Sink>(alloc: Global, asked: Words, source: &mut S, sink: &mut K) -> Finished
     requires within { IsWithin asked }
     ensures does { Does asked result S.left S.faults S.reliable source.old source.new
         K.held K.faults sink.old sink.new }

@@ -103,6 +103,7 @@ gave-up-writes text s f held failures old new gives is same =
     writes Status.WriteFault g = absurd g
     writes Status.Memory g = ap held same
     writes (Status.Worn clock) g = absurd g
+
     none : (s : Status) → GivesUp s → HandsOut s → ⊥
     none Status.Done g h = g
     none Status.Usage g h = g
@@ -111,6 +112,7 @@ gave-up-writes text s f held failures old new gives is same =
     none Status.WriteFault g h = g
     none Status.Memory g h = h
     none (Status.Worn clock) g h = g
+
     by : (s : Status) → GivesUp s → EndsWriting text (record { status = s; closed = None }) held failures old new
     by s g = record {
       write_fault = λ e. absurd (subst GivesUp e g);
