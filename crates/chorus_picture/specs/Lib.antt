@@ -1,0 +1,9 @@
+pub mod Filling
+pub mod Columns
+pub mod Rows
+pub mod Marks
+pub mod RuleWords
+pub mod Shapes
+pub mod Sheet
+pub mod Tables
+pub mod Lines
