@@ -10,7 +10,19 @@ use Rattle.law_picture.specs.declared.row.Row.{Row}
 use Rattle.law_picture.specs.declared.bar.Bar.{Bar}
 use Rattle.law_picture.specs.Causes.{latest, row_of}
 use Rattle.law_picture.specs.Bars.{bar, bar_after, waits_after, waits_in}
-use Rattle.chorus_picture.specs.Tables.{row_in}
+use Rattle.chorus_entry.specs.Same.{are_same}
+use Rattle.chorus_entry.specs.Act.{message_of, held_port_of}
+use Rattle.chorus_entry.specs.MsgId.{same_id}
+use Rattle.chorus_ui.specs.Name.{same_ui}
+use Rattle.chorus_ui.proofs.Names.{from_same_ui}
+use Rattle.chorus_world.proofs.Messages.SendingLemmas.{same_id_sym}
+use Rattle.checker_rows.proofs.KeyLemmas.{ui_sym}
+use Rattle.std.specs.HashMap.{get}
+use Rattle.law_picture.specs.Bars.{keeps}
+use Rattle.chorus_picture.specs.Shapes.{clock_before}
+use Rattle.chorus_picture.specs.declared.limits.TheConstants.{ENTRIES_LIMIT}
+use Rattle.chorus_picture.specs.declared.tables.Tables.{Tables}
+use Rattle.chorus_picture.specs.Tables.{AreTables, BarsAfter, HaveFew, RowsAfter, bar_next, bar_of, row_in}
 
 -- the bar of a port begins where the latest entry on its line stands
 pub latest_on : (q : Ui) (past : List Entry) → latest (is_on (Some q)) past ≡ row_in (bar q past)
@@ -37,3 +49,52 @@ waits_few q (e ∷ past) = go (is_on (Some q) e) refl
     go : (b : Bool) → is_on (Some q) e ≡ b → waits_in (bar q (e ∷ past)) ≤ length (e ∷ past)
     go true h = rw h (fewer e.act (waits_in (bar q past)) (length past) (waits_few q past))
     go false h = rw h (omega (arith, waits_few q past))
+
+-- so there is room for one more
+pub have_few : (t : Tables) (past : List Entry) → AreTables t past → t.number < ENTRIES_LIMIT → HaveFew (bar_of t.bars)
+have_few t past h few q = omega (arith, ap waits_in (h.bars q), waits_few q past, h.number, few)
+
+-- What one entry more makes of the tables.
+
+pub message_put : (e : Entry) (r : Row) (x : MsgId) (old new : MsgId → Option Row) → Some x ≡ message_of e.act
+    → ((y : MsgId) → new y ≡ cond (same_id x y) (Some r) (old y)) → RowsAfter e r old new
+message_put e r x old new named put y =
+    put y ∙ ap (λ b. cond b (Some r) (old y)) (same_id_sym x y ∙ ap (are_same same_id (Some y)) named)
+
+pub message_kept : (e : Entry) (r : Row) (old : MsgId → Option Row) → None ≡ message_of e.act → RowsAfter e r old old
+message_kept e r old none y = ap (λ o. cond (are_same same_id (Some y) o) (Some r) (old y)) none
+
+same_bar : (q p : Ui) (r : Row) (a : Act) (old : Ui → Option Bar) → same_ui p q ≡ true → Some (bar_next r a (old p)) ≡ Some (bar_next r a (old q))
+same_bar q p r a old same = ap (λ u. Some (bar_next r a (old u))) (from_same_ui p q same)
+
+pub bar_put : (e : Entry) (r : Row) (p : Ui) (old new : Ui → Option Bar) → Some p ≡ held_port_of e.act
+    → ((q : Ui) → new q ≡ cond (same_ui p q) (Some (bar_next r e.act (old p))) (old q)) → BarsAfter e r old new
+bar_put e r p old new named put q = put q ∙ go (same_ui p q) refl ∙ ap (λ b. cond b (Some (bar_next r e.act (old q))) (old q)) (ui_sym p q ∙ ap (are_same same_ui (Some q)) named)
+  where
+    go : (b : Bool) → same_ui p q ≡ b
+        → cond (same_ui p q) (Some (bar_next r e.act (old p))) (old q) ≡ cond (same_ui p q) (Some (bar_next r e.act (old q))) (old q)
+    go true h = rw h (same_bar q p r e.act old h)
+    go false h = rw h refl
+
+pub bar_kept : (e : Entry) (r : Row) (old : Ui → Option Bar) → None ≡ held_port_of e.act → BarsAfter e r old old
+bar_kept e r old none q = ap (λ o. cond (are_same same_ui (Some q) o) (Some (bar_next r e.act (old q))) (old q)) none
+
+row_same : (n p c m : ℕ) → n ≡ m → (let a : Row = record { number = n; place = p; clock = c } in a) ≡ record { number = m; place = p; clock = c }
+row_same n p c m h = cc
+
+-- the tables follow
+pub grows : (s t : Tables) (past : List Entry) (e : Entry) (r : Row) → AreTables s past
+    → r ≡ record { number = s.number; place = e.place; clock = e.clock }
+    → RowsAfter e r (get same_id s.messages) (get same_id t.messages) → BarsAfter e r (bar_of s.bars) (bar_of t.bars)
+    → t.number ≡ s.number + 1 → t.clock ≡ Some e.clock → AreTables t (e ∷ past)
+grows s t past e r h is rows bars number clock = record {
+    number = omega (arith, number, h.number);
+    clock = clock;
+    messages = λ x. rows x ∙ ap (λ o. cond (is_about (Some x) e) (Some r) o) (h.messages x)
+        ∙ ap (λ k. cond (is_about (Some x) e) (Some k) (latest (is_about (Some x)) past)) here;
+    bars = λ q. bars q ∙ ap (λ o. cond (is_on (Some q) e) (Some (bar_next r e.act o)) o) (h.bars q)
+        ∙ ap (λ k. cond (is_on (Some q) e) (Some (bar_next k e.act (bar q past))) (bar q past)) here;
+  }
+  where
+    here : r ≡ row_of past e
+    here = is ∙ row_same s.number e.place e.clock (length past) h.number

@@ -1,3 +1,4 @@
 mod Columns
 mod Front
 mod Kept
+mod RowTexts

@@ -7,3 +7,6 @@ pub mod Shapes
 pub mod Sheet
 pub mod Tables
 pub mod Lines
+pub mod Found
+pub mod Picture
+pub mod Output

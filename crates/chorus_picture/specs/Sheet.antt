@@ -42,10 +42,10 @@ bars_left past y c = flat_map (λ q. bar_left c q y (bar q past)) c.ports
 
 -- The heads.
 
-abbrev pub band : List ColumnShape → ℕ → List ℕ
-band cs y =
+abbrev pub band : ℕ → ℕ → List ℕ
+band right y =
     filled (codes "<rect class='band' y='@' width='@' height='40'/><text x='8' y='@'>clock</text><text x='@' y='@'>caller</text><text x='@' y='@'>entry</text>\n")
-    (y ∷ width cs ∷ (y + 32) ∷ (right_edge cs + 12) ∷ (y + 32) ∷ (right_edge cs + 72) ∷ (y + 32) ∷ [])
+    (y ∷ (right + 660) ∷ (y + 32) ∷ (right + 12) ∷ (y + 32) ∷ (right + 72) ∷ (y + 32) ∷ [])
 
 abbrev pub place_head : ℕ → ℕ → ℕ → ℕ → List ℕ
 place_head x y site place =
@@ -61,7 +61,7 @@ column_head l y c =
     place_head c.x y (site_of l c.place) c.place ++ flat_map (λ q. lane_head (lane_of q c + 9) (y + 38) q) c.ports
 
 abbrev pub head_at : Layout → List ColumnShape → ℕ → List ℕ
-head_at l cs y = band cs y ++ flat_map (column_head l y) cs
+head_at l cs y = band (right_edge cs) y ++ flat_map (column_head l y) cs
 
 -- so many heads from this one on, one before each 32 rows
 abbrev pub heads_from : Layout → List ColumnShape → ℕ → ℕ → List ℕ
