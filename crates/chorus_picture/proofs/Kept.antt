@@ -8,7 +8,7 @@ use Rattle.chorus_entry.specs.declared.act.Act.TheVariants.{Make, Accept, Take}
 use Rattle.chorus_world.specs.Views.{is_about, is_on}
 use Rattle.law_picture.specs.declared.row.Row.{Row}
 use Rattle.law_picture.specs.declared.bar.Bar.{Bar}
-use Rattle.law_picture.specs.Causes.{latest, row_of}
+use Rattle.law_picture.specs.Causes.{caused_by, from_elsewhere, goes_on_by, latest, port_arrived, row_of}
 use Rattle.law_picture.specs.Bars.{bar, bar_after, waits_after, waits_in}
 use Rattle.chorus_entry.specs.Same.{are_same}
 use Rattle.chorus_entry.specs.Act.{message_of, held_port_of}
@@ -19,10 +19,13 @@ use Rattle.chorus_world.proofs.Messages.SendingLemmas.{same_id_sym}
 use Rattle.checker_rows.proofs.KeyLemmas.{ui_sym}
 use Rattle.std.specs.HashMap.{get}
 use Rattle.law_picture.specs.Bars.{keeps}
-use Rattle.chorus_picture.specs.Shapes.{clock_before}
+use Rattle.std.specs.List.{flat_map}
+use Rattle.chorus_picture.specs.Columns.{ColumnShape}
+use Rattle.chorus_picture.specs.Shapes.{clock_before, row_text, row_with}
+use Rattle.chorus_picture.specs.Sheet.{bars_left}
 use Rattle.chorus_picture.specs.declared.limits.TheConstants.{ENTRIES_LIMIT}
 use Rattle.chorus_picture.specs.declared.tables.Tables.{Tables}
-use Rattle.chorus_picture.specs.Tables.{AreTables, BarsAfter, HaveFew, RowsAfter, bar_next, bar_of, row_in}
+use Rattle.chorus_picture.specs.Tables.{AreTables, BarsAfter, Grows, HaveFew, RowsAfter, bar_next, bar_of, cause_in, last_by, message_row, row_by, row_in, row_next}
 
 -- the bar of a port begins where the latest entry on its line stands
 pub latest_on : (q : Ui) (past : List Entry) → latest (is_on (Some q)) past ≡ row_in (bar q past)
@@ -79,22 +82,39 @@ bar_put e r p old new named put q = put q ∙ go (same_ui p q) refl ∙ ap (λ b
 pub bar_kept : (e : Entry) (r : Row) (old : Ui → Option Bar) → None ≡ held_port_of e.act → BarsAfter e r old old
 bar_kept e r old none q = ap (λ o. cond (are_same same_ui (Some q) o) (Some (bar_next r e.act (old q))) (old q)) none
 
-row_same : (n p c m : ℕ) → n ≡ m → (let a : Row = record { number = n; place = p; clock = c } in a) ≡ record { number = m; place = p; clock = c }
-row_same n p c m h = cc
-
 -- the tables follow
-pub grows : (s t : Tables) (past : List Entry) (e : Entry) (r : Row) → AreTables s past
-    → r ≡ record { number = s.number; place = e.place; clock = e.clock }
-    → RowsAfter e r (get same_id s.messages) (get same_id t.messages) → BarsAfter e r (bar_of s.bars) (bar_of t.bars)
-    → t.number ≡ s.number + 1 → t.clock ≡ Some e.clock → AreTables t (e ∷ past)
-grows s t past e r h is rows bars number clock = record {
-    number = omega (arith, number, h.number);
-    clock = clock;
-    messages = λ x. rows x ∙ ap (λ o. cond (is_about (Some x) e) (Some r) o) (h.messages x)
+pub grows : (s t : Tables) (past : List Entry) (e : Entry) → AreTables s past → Grows e s t → AreTables t (e ∷ past)
+grows s t past e h g = record {
+    number = omega (arith, g.number, h.number);
+    clock = g.clock;
+    messages = λ x. g.messages x ∙ ap (λ o. cond (is_about (Some x) e) (Some (row_next s e)) o) (h.messages x)
         ∙ ap (λ k. cond (is_about (Some x) e) (Some k) (latest (is_about (Some x)) past)) here;
-    bars = λ q. bars q ∙ ap (λ o. cond (is_on (Some q) e) (Some (bar_next r e.act o)) o) (h.bars q)
+    bars = λ q. g.bars q ∙ ap (λ o. cond (is_on (Some q) e) (Some (bar_next (row_next s e) e.act o)) o) (h.bars q)
         ∙ ap (λ k. cond (is_on (Some q) e) (Some (bar_next k e.act (bar q past))) (bar q past)) here;
   }
   where
-    here : r ≡ row_of past e
-    here = is ∙ row_same s.number e.place e.clock (length past) h.number
+    here : row_next s e ≡ row_of past e
+    here = ap (λ n. record { number = n; place = e.place; clock = e.clock }) h.number
+
+-- What they say of an entry is what the past says.
+
+message_is : (t : Tables) (past : List Entry) (o : Option MsgId) → AreTables t past → message_row t o ≡ latest (is_about o) past
+message_is t past None h = sym (latest_none past)
+message_is t past (Some x) h = h.messages x
+
+last_is : (t : Tables) (past : List Entry) (p : Option Ui) (o : Option MsgId) → AreTables t past → last_by t p o ≡ latest (goes_on_by p o) past
+last_is t past (Some q) o h = ap row_in (h.bars q) ∙ sym (latest_on q past)
+last_is t past None o h = message_is t past o h
+
+cause_is : (t : Tables) (past : List Entry) (e : Entry) → AreTables t past → cause_in t e ≡ caused_by past e
+cause_is t past e h = ap (from_elsewhere e) (last_is t past (port_arrived e.act) (message_of e.act) h)
+
+bars_are : (t : Tables) (past : List Entry) → AreTables t past → bar_of t.bars ≡ (λ q. bar q past)
+bars_are t past h = λ i q. h.bars q i
+
+pub row_is : (cs : List ColumnShape) (t : Tables) (past : List Entry) (e : Entry) → AreTables t past → row_by cs t e ≡ row_text cs past e
+row_is cs t past e h = λ i. row_with cs (bars_are t past h i) (h.number i) (h.clock i) e (cause_is t past e h i)
+
+pub left_is : (cs : List ColumnShape) (t : Tables) (past : List Entry) (y : ℕ) → AreTables t past
+    → flat_map (bars_left (bar_of t.bars) y) cs ≡ flat_map (bars_left (λ q. bar q past) y) cs
+left_is cs t past y h = λ i. flat_map (bars_left (bars_are t past h i) y) cs

@@ -1,4 +1,5 @@
 mod Columns
+mod Drawing
 mod Front
 mod Kept
 mod RowTexts

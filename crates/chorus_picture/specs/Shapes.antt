@@ -57,9 +57,9 @@ bar_held cs q y None = []
 bar_held cs q y (Some b) = if b.held then bar_at q b y (column_at b.row.place cs) else []
 
 -- an entry on the line of a port ends its bar, and may begin the next one
-abbrev pub bar_above : List ColumnShape → List Entry → ℕ → Option Ui → List ℕ
-bar_above cs past y None = []
-bar_above cs past y (Some q) = bar_held cs q y (bar q past)
+abbrev pub bar_above : List ColumnShape → (Ui → Option Bar) → ℕ → Option Ui → List ℕ
+bar_above cs bars y None = []
+bar_above cs bars y (Some q) = bar_held cs q y (bars q)
 
 -- An arrow, from the side of the mark of the entry that put the packet, over to the column of the one that works it off, and down
 -- to that one's mark. It goes to the right where its place is a later one.
@@ -114,14 +114,15 @@ entry_in m right x y e =
 abbrev pub entry_at : List ColumnShape → ℕ → Entry → Option Row → List ℕ
 entry_at cs row e cause = entry_in (mark_of cause e.act) (right_edge cs) (x_of (column_at e.place cs)) (row_y row) e
 
--- all that stands for an entry behind these
-abbrev pub row_with : List ColumnShape → List Entry → ℕ → Entry → Option Row → List ℕ
-row_with cs past row e cause =
-    tick cs (row_y row) (is_new_clock (clock_before past) e.clock) ++ bar_above cs past (row_y row) (held_port_of e.act)
+-- All that stands for an entry: behind so many others, of which the last one has this clock, with these bars, by what caused it.
+abbrev pub row_with : List ColumnShape → (Ui → Option Bar) → ℕ → Option ℕ → Entry → Option Row → List ℕ
+row_with cs bars row last e cause =
+    tick cs (row_y row) (is_new_clock last e.clock) ++ bar_above cs bars (row_y row) (held_port_of e.act)
     ++ arrow cs row e cause ++ entry_at cs row e cause
 
+-- for an entry behind these
 abbrev pub row_text : List ColumnShape → List Entry → Entry → List ℕ
-row_text cs past e = row_with cs past (length past) e (caused_by past e)
+row_text cs past e = row_with cs (λ q. bar q past) (length past) (clock_before past) e (caused_by past e)
 
 -- and for each of the entries behind these
 abbrev pub rows : List ColumnShape → List Entry → List Entry → List ℕ

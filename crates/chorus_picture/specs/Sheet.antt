@@ -8,7 +8,6 @@ use Rattle.chorus_ui.specs.Layout.{site_of}
 use Rattle.chorus_ui.specs.Text.{name_text}
 use Rattle.chorus_entry.specs.declared.entry.Entry.{Entry}
 use Rattle.law_picture.specs.declared.bar.Bar.{Bar}
-use Rattle.law_picture.specs.Bars.{bar}
 use Rattle.chorus_picture.specs.Filling.{filled}
 use Rattle.chorus_picture.specs.Columns.{ColumnShape, lane_of, right_edge, width}
 use Rattle.chorus_picture.specs.Rows.{heads, end_y}
@@ -37,8 +36,8 @@ abbrev pub bar_left : ColumnShape → Ui → ℕ → Option Bar → List ℕ
 bar_left c q y None = []
 bar_left c q y (Some b) = if b.held && (b.row.place == c.place) then bar_in q b y c else []
 
-abbrev pub bars_left : List Entry → ℕ → ColumnShape → List ℕ
-bars_left past y c = flat_map (λ q. bar_left c q y (bar q past)) c.ports
+abbrev pub bars_left : (Ui → Option Bar) → ℕ → ColumnShape → List ℕ
+bars_left bars y c = flat_map (λ q. bar_left c q y (bars q)) c.ports
 
 -- The heads.
 

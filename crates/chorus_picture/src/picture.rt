@@ -1,8 +1,7 @@
 //! A journal that a source gives, drawn into a sink.
 
-ghost use Rattle.std.specs.Prelude.{◌≡◌, ◌≢◌, ◌≤◌, [], List, length, reverse, IfOk, OnOk, IsErrOf};
+ghost use Rattle.std.specs.Prelude.{◌≡◌, ◌≤◌, [], length, reverse, IfOk, OnOk, IsErrOf};
 ghost use Rattle.std.specs.Io.KnownBytes.{Appends};
-ghost use Rattle.chorus_entry.specs.declared.entry.Entry.{Entry};
 ghost use Rattle.chorus_io.specs.Bytes.{AppendsPrefix};
 ghost use Rattle.chorus_io.specs.Count.{Rose};
 ghost use Rattle.chorus_audit.specs.declared.limits.TheConstants.{AUDIT_LIMIT};
@@ -10,9 +9,9 @@ ghost use Rattle.chorus_picture.specs.declared.limits.TheConstants.{ENTRIES_LIMI
 ghost use Rattle.chorus_picture.specs.declared.picture.Stop.TheVariants.{Memory, Write};
 ghost use Rattle.chorus_picture.specs.Output.{Draws, ReadsBy};
 ghost use Rattle.chorus_picture.specs.Picture.{behind_rows, picture_text};
-ghost use Rattle.chorus_picture.specs.Shapes.{row_text, rows};
+ghost use Rattle.chorus_picture.specs.Shapes.{rows};
 ghost use Rattle.chorus_picture.specs.Sheet.{front};
-ghost use Rattle.chorus_picture.specs.Tables.{AreTables};
+ghost use Rattle.chorus_picture.specs.Tables.{AreTables, row_by};
 
 use crate::column::{Column, columns};
 use crate::found::{push_foot, push_found};
@@ -172,10 +171,10 @@ fn write_row<K: Sink>(
     entry: &Entry,
     sink: &mut K,
 ) -> Result<(), Stop>
-    ensures ok { OnOk result ((past : List Entry) → AreTables tables.now past →
-        Appends (K.held sink.old) (K.held sink.new) (row_text columns.now past entry.now)) }
-    ensures prefix { (past : List Entry) → AreTables tables.now past →
-        AppendsPrefix (K.held sink.old) (K.held sink.new) (row_text columns.now past entry.now) }
+    ensures ok { OnOk result (Appends (K.held sink.old) (K.held sink.new)
+        (row_by columns.now tables.now entry.now)) }
+    ensures prefix { AppendsPrefix (K.held sink.old) (K.held sink.new)
+        (row_by columns.now tables.now entry.now) }
     ensures failed { IsErrOf result Stop.Write → Rose (K.faults sink.old) (K.faults sink.new) }
     ensures never_falls { K.faults sink.old ≤ K.faults sink.new }
 {

@@ -1,12 +1,11 @@
 //! What stands in a picture for an entry, for a packet and for a port.
 
-ghost use Rattle.std.specs.Prelude.{◌≡◌, ◌<◌, ◌^◌, ◌++◌, List, OnOk, Some};
-ghost use Rattle.chorus_entry.specs.declared.entry.Entry.{Entry};
+ghost use Rattle.std.specs.Prelude.{◌≡◌, ◌<◌, ◌^◌, ◌++◌, OnOk, Some};
 ghost use Rattle.chorus_show.specs.Lines.{act_text};
 ghost use Rattle.law_picture.specs.Causes.{packet_of};
-ghost use Rattle.chorus_picture.specs.Tables.{AreTables};
+ghost use Rattle.chorus_picture.specs.Tables.{bar_of, row_by};
 ghost use Rattle.chorus_picture.specs.Rows.{row_y};
-ghost use Rattle.chorus_picture.specs.Shapes.{arrow, arrow_to, bar_above, bar_class, bar_down, bar_held, bar_in, entry_at, is_new_clock, mark_at, row_text, start_x, stop_x, texts_at, tick, turn_x};
+ghost use Rattle.chorus_picture.specs.Shapes.{arrow, arrow_to, bar_above, bar_class, bar_down, bar_held, bar_in, entry_at, is_new_clock, mark_at, start_x, stop_x, texts_at, tick, turn_x};
 
 use crate::column::{Column, column_at, right_edge, x_at};
 use crate::filling::{push_filled, push_markup, push_shown};
@@ -26,8 +25,8 @@ pub(crate) fn push_row(
     entry: &Entry,
     out: &mut Vec<u8>,
 ) -> Result<(), AllocError>
-    ensures { OnOk result ((past : List Entry) → AreTables tables.now past
-        → out.new.items ≡ out.old.items ++ row_text columns.now past entry.now) }
+    ensures { OnOk result
+        (out.new.items ≡ out.old.items ++ row_by columns.now tables.now entry.now) }
 {
     let row = tables.number;
     let cause = tables.cause(entry);
@@ -68,8 +67,8 @@ fn push_bar_above(
     port: Option<Ui>,
     out: &mut Vec<u8>,
 ) -> Result<(), AllocError>
-    ensures { OnOk result ((past : List Entry) → AreTables tables.now past →
-        out.new.items ≡ out.old.items ++ bar_above columns.now past (row_y row) port) }
+    ensures { OnOk result (out.new.items ≡ out.old.items
+        ++ bar_above columns.now (bar_of tables.now.bars) (row_y row) port) }
 {
     if let Some(port) = port {
         push_held(columns, port, row_y(row), tables.bar(port), out)?;

@@ -1,11 +1,10 @@
 //! The sheet of a picture: its size and its style, the lines of its columns, their heads, and the bars that go to the end.
 
-ghost use Rattle.std.specs.Prelude.{◌≡◌, ◌<◌, ◌+◌, ◌^◌, ◌++◌, List, OnOk};
+ghost use Rattle.std.specs.Prelude.{◌≡◌, ◌<◌, ◌+◌, ◌^◌, ◌++◌, OnOk};
 ghost use Rattle.std.specs.List.{flat_map};
 ghost use Rattle.chorus_ui.specs.Layout.{site_of};
-ghost use Rattle.chorus_entry.specs.declared.entry.Entry.{Entry};
 ghost use Rattle.chorus_picture.specs.Columns.{lane_of};
-ghost use Rattle.chorus_picture.specs.Tables.{AreTables};
+ghost use Rattle.chorus_picture.specs.Tables.{bar_of};
 ghost use Rattle.chorus_picture.specs.Sheet.{all_heads, band, bar_left, bars_left, column_head, front, head_at, heads_from, lane_head, line_of, opening_tag, paper, place_head};
 
 use crate::column::{Column, right_edge};
@@ -64,8 +63,8 @@ pub(crate) fn push_bars_left(
     y: u64,
     out: &mut Vec<u8>,
 ) -> Result<(), AllocError>
-    ensures { OnOk result ((past : List Entry) → AreTables tables.now past →
-        out.new.items ≡ out.old.items ++ flat_map (bars_left past y) columns.now) }
+    ensures { OnOk result (out.new.items ≡ out.old.items
+        ++ flat_map (bars_left (bar_of tables.now.bars) y) columns.now) }
 {
     for column in columns {
         push_column_bars(column, tables, y, out)?;
@@ -80,8 +79,8 @@ fn push_column_bars(
     y: u64,
     out: &mut Vec<u8>,
 ) -> Result<(), AllocError>
-    ensures { OnOk result ((past : List Entry) → AreTables tables.now past →
-        out.new.items ≡ out.old.items ++ bars_left past y column.now) }
+    ensures { OnOk result
+        (out.new.items ≡ out.old.items ++ bars_left (bar_of tables.now.bars) y column.now) }
 {
     let ports = column.ports();
     for port in ports {

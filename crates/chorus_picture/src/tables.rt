@@ -1,13 +1,12 @@
 //! What is kept of the entries that are drawn: where the last one about each message stands, and the bar of each port.
 
-ghost use Rattle.std.specs.Prelude.{◌≡◌, ◌<◌, [], ◌∷◌, List, OnOk, Some};
+ghost use Rattle.std.specs.Prelude.{◌≡◌, ◌<◌, [], OnOk};
 ghost use Rattle.std.specs.HashMap.{get};
 ghost use Rattle.chorus_entry.specs.MsgId.{same_id};
-ghost use Rattle.chorus_entry.specs.declared.entry.Entry.{Entry};
-ghost use Rattle.law_picture.specs.Causes.{caused_by, from_elsewhere, goes_on, latest};
-ghost use Rattle.law_picture.specs.Bars.{bar, keeps, waits_after, waits_in};
+ghost use Rattle.law_picture.specs.Causes.{from_elsewhere, port_arrived};
+ghost use Rattle.law_picture.specs.Bars.{keeps, waits_after, waits_in};
 ghost use Rattle.chorus_picture.specs.declared.limits.TheConstants.{ENTRIES_LIMIT};
-ghost use Rattle.chorus_picture.specs.Tables.{AreTables, BarsAfter, HaveFew, RowsAfter, bar_of, row_in};
+ghost use Rattle.chorus_picture.specs.Tables.{AreTables, BarsAfter, Grows, HaveFew, RowsAfter, bar_of, cause_in, last_by, message_row, row_in};
 
 use checker_rows::keys::PortKey;
 use chorus_entry::{Act, Entry, MsgId};
@@ -44,39 +43,46 @@ impl Tables {
 
     /// The bar of the port.
     pub(crate) fn bar(&self, port: Ui) -> Option<Bar>
-        ensures { (past : List Entry) → AreTables self.now past → result ≡ bar port past }
+        ensures { result ≡ bar_of self.now.bars port }
     {
         bar_of(&self.bars, port)
     }
 
     /// Where the entry stands that put the packet which this one works off.
     pub(crate) fn cause(&self, entry: &Entry) -> Option<Row>
-        ensures { (past : List Entry) → AreTables self.now past →
-            result ≡ caused_by past entry.now }
+        ensures { result ≡ cause_in self.now entry.now }
     {
-        from_elsewhere(entry, self.last(&entry.act)?)
+        from_elsewhere(
+            entry,
+            self.last(port_arrived(&entry.act), entry.act.message()),
+        )
     }
 
-    /// Where the entry stands from which this act goes on.
-    fn last(&self, act: &Act) -> Option<Row>
-        ensures { (past : List Entry) → AreTables self.now past →
-            result ≡ latest (goes_on act.now) past }
+    /// Where the last entry stands on the line of the port that arrives, or else about the message.
+    fn last(&self, port: Option<Ui>, message: Option<MsgId>) -> Option<Row>
+        ensures { result ≡ last_by self.now port message }
     {
-        match act {
-            Act::Arrive { port, .. } => row_in(self.bar(*port)),
-            other => match other.message() {
-                Some(id) => self.messages.get(&id).copied(),
-                None => None,
-            },
+        match port {
+            Some(port) => row_in(self.bar(port)),
+            None => self.message_row(message),
+        }
+    }
+
+    /// Where the last entry about the message stands.
+    fn message_row(&self, message: Option<MsgId>) -> Option<Row>
+        ensures { result ≡ message_row self.now message }
+    {
+        match message {
+            Some(id) => self.messages.get(&id).copied(),
+            None => None,
         }
     }
 
     /// The tables with one entry more. After an error they are of no use.
     pub(crate) fn add(&mut self, entry: &Entry) -> Result<(), AllocError>
         requires few { self.old.number < ENTRIES_LIMIT }
-        requires tables { (past : List Entry) × AreTables self.old past }
-        ensures { OnOk result ((past : List Entry) → AreTables self.old past
-            → AreTables self.new (entry.now ∷ past)) }
+        requires waits { HaveFew (bar_of self.old.bars) }
+        ensures { OnOk result (Grows entry.now self.old self.new) }
     {
         let row = Row {
             number: self.number,
@@ -152,13 +158,22 @@ fn row_in(bar: Option<Bar>) -> Option<Row>
 }
 
 /// The row, where it is one of another place than the entry's.
-fn from_elsewhere(entry: &Entry, row: Row) -> Option<Row>
-    ensures { result ≡ from_elsewhere entry.now (Some row) }
+fn from_elsewhere(entry: &Entry, row: Option<Row>) -> Option<Row>
+    ensures { result ≡ from_elsewhere entry.now row }
 {
-    if row.place == entry.place {
-        None
-    } else {
-        Some(row)
+    match row {
+        Some(row) if row.place == entry.place => None,
+        other => other,
+    }
+}
+
+/// The port that an act brings from another place.
+fn port_arrived(act: &Act) -> Option<Ui>
+    ensures { result ≡ port_arrived act.now }
+{
+    match act {
+        Act::Arrive { port, .. } => Some(*port),
+        _ => None,
     }
 }
 

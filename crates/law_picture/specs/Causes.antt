@@ -1,10 +1,12 @@
 -- Causes: which entry put the packet that an entry works off. A past has its newest entry first.
 -- e is an entry, x the id of a message, q a port, a an act.
 use Rattle.std.specs.Prelude.{◌==◌, Bool, if◌then◌else◌, List, [], ◌∷◌, length, Option, Some, None}
+use Rattle.chorus_ui.specs.declared.ui.Ui.{Ui}
 use Rattle.chorus_entry.specs.declared.entry.Entry.{Entry}
+use Rattle.chorus_entry.specs.declared.id.MsgId.{MsgId}
 use Rattle.chorus_entry.specs.declared.act.Act.{Act}
 use Rattle.chorus_entry.specs.declared.act.Act.TheVariants.{Arrive, Told, Heard, Choose, NoMember}
-use Rattle.chorus_entry.specs.Act.{message_of, is_decision}
+use Rattle.chorus_entry.specs.Act.{message_of}
 use Rattle.chorus_world.specs.Views.{is_about, is_on}
 use Rattle.law_picture.specs.declared.row.Row.{Row}
 use Rattle.law_picture.specs.declared.row.PacketKind.{PacketKind}
@@ -20,9 +22,17 @@ latest test [] = None
 latest test (e ∷ past) = if test e then Some (row_of past e) else latest test past
 
 -- An entry goes on where another one ended: an Arrive where the port departed, any other one where its message was left.
+
+abbrev pub port_arrived : Act → Option Ui
+port_arrived (Arrive q hop) = Some q
+port_arrived _ = None
+
+abbrev pub goes_on_by : Option Ui → Option MsgId → Entry → Bool
+goes_on_by (Some q) x = is_on (Some q)
+goes_on_by None x = is_about x
+
 abbrev pub goes_on : Act → Entry → Bool
-goes_on (Arrive q hop) = is_on (Some q)
-goes_on a = is_about (message_of a)
+goes_on a = goes_on_by (port_arrived a) (message_of a)
 
 -- Where that is another place, a packet came from there.
 abbrev pub from_elsewhere : Entry → Option Row → Option Row
