@@ -3,7 +3,7 @@
 /// The style, and the shapes of marks and arrow heads.
 pub(crate) const STYLE: &str = "\
 <style>\n\
-text{font:12px monospace;fill:#222}\n\
+text{font:12px monospace;fill:#222;white-space:pre}\n\
 path{fill:none}\n\
 .paper{fill:#fff}\n\
 .band{fill:#eaeef4;fill-opacity:.9}\n\
