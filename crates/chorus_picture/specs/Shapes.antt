@@ -15,7 +15,7 @@ use Rattle.law_picture.specs.Causes.{caused_by, packet_of}
 use Rattle.law_picture.specs.Bars.{bar}
 use Rattle.chorus_picture.specs.declared.mark.Mark.{Mark}
 use Rattle.chorus_picture.specs.Filling.{filled, markup, shown}
-use Rattle.chorus_picture.specs.Columns.{ColumnShape, column_at, lane_of, right_of, right_edge, width, x_of}
+use Rattle.chorus_picture.specs.Columns.{ColumnShape, column_at, lane_of, right_of, right_edge, x_of}
 use Rattle.chorus_picture.specs.Rows.{row_y}
 use Rattle.chorus_picture.specs.Marks.{mark_of, mark_name, packet_name}
 
@@ -30,7 +30,7 @@ is_new_clock None clock = false
 is_new_clock (Some last) clock = not (last == clock)
 
 abbrev pub tick : List ColumnShape → ℕ → Bool → List ℕ
-tick cs y b = if b then filled (codes "<path class='tick' d='M8 @H@'/>\n") ((y - 9) ∷ (width cs - 8) ∷ []) else []
+tick cs y b = if b then filled (codes "<path class='tick' d='M8 @H@'/>\n") ((y - 9) ∷ (right_edge cs + 652) ∷ []) else []
 
 -- The bar of a port, from the last entry on its line down to y, with how many messages wait.
 
