@@ -1,6 +1,6 @@
 -- What was drawn after so many rows.
 use Rattle.std.proofs.Common.{◌≡◌, ℕ, ◌+◌, ◌<◌, ◌≤◌, List, [], ◌∷◌, ◌++◌, length, take, drop, reverse, Option, slice_index_or, refl, sym, ap, ◌∙◌, subst, append_assoc, append-nil, take-append-drop, arith}
-use Rattle.std.proofs.lemmas.List.{reverse-append, take_all}
+use Rattle.std.proofs.lemmas.List.{length-reverse, length-take-le, reverse-append, take_all}
 use Rattle.std.proofs.lemmas.Grind.{take_at_read}
 use Rattle.std.specs.Io.KnownBytes.{Appends}
 use Rattle.std.proofs.KnownBytes.{Appends-nil, Appends-trans}
@@ -10,8 +10,9 @@ use Rattle.chorus_entry.specs.declared.entry.Entry.{Entry}
 use Rattle.chorus_picture.specs.Columns.{ColumnShape}
 use Rattle.chorus_picture.specs.Shapes.{row_text, rows}
 use Rattle.chorus_picture.specs.declared.tables.Tables.{Tables}
-use Rattle.chorus_picture.specs.Tables.{AreTables, Grows, row_by}
-use Rattle.chorus_picture.proofs.Kept.{grows, row_is}
+use Rattle.chorus_picture.specs.declared.limits.TheConstants.{ENTRIES_LIMIT}
+use Rattle.chorus_picture.specs.Tables.{AreTables, Grows, HaveFew, bar_of, row_by}
+use Rattle.chorus_picture.proofs.Kept.{grows, have_few, row_is}
 use Rattle.chorus_picture.proofs.RowTexts.{rows_more, rows_next}
 
 pub record Drawn (old new : Option (List ℕ)) (cs : List ColumnShape) (es : List Entry) (i : ℕ) (t : Tables) (before now : ℕ) : Type 0 where
@@ -71,3 +72,11 @@ pub drawn_all : (old new : Option (List ℕ)) (cs : List ColumnShape) (es : List
 drawn_all old new cs es i t before now h all =
     let whole = take_all i es all in
     (subst (λ xs. Appends old new (rows cs [] xs)) whole h.text, subst (λ xs. AreTables t (reverse xs)) whole h.tables)
+
+-- there is room in the tables for the next one
+pub drawn_room : (old new : Option (List ℕ)) (cs : List ColumnShape) (es : List Entry) (i : ℕ) (t : Tables) (before now : ℕ)
+    → Drawn old new cs es i t before now → i < length es → length es ≤ ENTRIES_LIMIT → (t.number < ENTRIES_LIMIT) × HaveFew (bar_of t.bars)
+drawn_room old new cs es i t before now h less few =
+    let so-far : length (reverse (take i es)) ≤ i = omega (arith, length-reverse (take i es), length-take-le i es (omega (arith, less))) in
+    let number : t.number < ENTRIES_LIMIT = omega (arith, h.tables.number, so-far, less, few) in
+    (number, have_few t (reverse (take i es)) h.tables number)
