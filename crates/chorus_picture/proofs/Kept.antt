@@ -82,6 +82,9 @@ bar_put e r p old new named put q = put q ∙ go (same_ui p q) refl ∙ ap (λ b
 pub bar_kept : (e : Entry) (r : Row) (old : Ui → Option Bar) → None ≡ held_port_of e.act → BarsAfter e r old old
 bar_kept e r old none q = ap (λ o. cond (are_same same_ui (Some q) o) (Some (bar_next r e.act (old q))) (old q)) none
 
+abbrev row_at : ℕ → ℕ → ℕ → Row
+row_at n p c = record { number = n; place = p; clock = c }
+
 -- the tables follow
 pub grows : (s t : Tables) (past : List Entry) (e : Entry) → AreTables s past → Grows e s t → AreTables t (e ∷ past)
 grows s t past e h g = record {
@@ -94,7 +97,7 @@ grows s t past e h g = record {
   }
   where
     here : row_next s e ≡ row_of past e
-    here = ap (λ n. record { number = n; place = e.place; clock = e.clock }) h.number
+    here = ap (λ n. row_at n e.place e.clock) h.number
 
 -- What they say of an entry is what the past says.
 
