@@ -95,19 +95,20 @@ module _ (l : Layout) (past : List Entry) (legal : is_legal l past ≡ true) (r 
 
 came : (l : Layout) (past : List Entry) (x : MsgId) → is_legal l past ≡ true → Came (progress (about x past)) (latest (is_about (Some x)) past)
 came l [] x h = tt
-came l (e ∷ past) x h = go (is_about (Some x) e) refl
+came l (e ∷ past) x h = go (is_about (Some x) e) refl (came l past x (legal_parts l e past h).1)
   where
     two : (act_may l (views past e.place e.seat e.act) e.place e.seat e.act ≡ true) × (is_legal l past ≡ true)
     two = legal_parts l e past h
 
-    go : (b : Bool) → is_about (Some x) e ≡ b → Came (progress (about x (e ∷ past))) (latest (is_about (Some x)) (e ∷ past))
-    go true t =
+    go : (b : Bool) → is_about (Some x) e ≡ b → Came (progress (about x past)) (latest (is_about (Some x)) past)
+        → Came (progress (about x (e ∷ past))) (latest (is_about (Some x)) (e ∷ past))
+    go true t old =
         subst (λ o. Came (progress (about x (e ∷ past))) o) (sym (latest_here (is_about (Some x)) e past t))
         (subst (λ z. Came z (Some (row_of past e))) (sym (ap progress (keeps (is_about (Some x)) e past t)))
         (step l past two.1 e.place e.seat x (legal_messages l past two.1 x) (row_of past e) refl e.act (id_is x (message_of e.act) t) two.0))
-    go false n =
+    go false n old =
         subst (λ o. Came (progress (about x (e ∷ past))) o) (sym (latest_skips (is_about (Some x)) e past n))
-        (subst (λ z. Came z (latest (is_about (Some x)) past)) (sym (ap progress (skips (is_about (Some x)) e past n))) (came l past x two.1))
+        (subst (λ z. Came z (latest (is_about (Some x)) past)) (sym (ap progress (skips (is_about (Some x)) e past n))) old)
 
 -- a row of another place is kept
 elsewhere_is : (e : Entry) (row : Row) (p : ℕ) → row.place ≡ p → p ≢ e.place → from_elsewhere e (Some row) ≡ Some row
@@ -163,10 +164,10 @@ pub record Stood (past : List Entry) (r : Row) : Type 0 where
 
 stood : (test : Entry → Bool) (past : List Entry) (r : Row) → latest test past ≡ Some r → Stood past r
 stood test [] r h = absurd (cc)
-stood test (e ∷ past) r h = go (test e) refl
+stood test (e ∷ past) r h = go (test e) refl (stood test past r)
   where
-    go : (b : Bool) → test e ≡ b → Stood (e ∷ past) r
-    go true t = record {
+    go : (b : Bool) → test e ≡ b → (latest test past ≡ Some r → Stood past r) → Stood (e ∷ past) r
+    go true t further = record {
       entry = e;
       newer = [];
       older = past;
@@ -176,8 +177,8 @@ stood test (e ∷ past) r h = go (test e) refl
       where
         some_row : (a b : Row) → Some a ≡ Some b → a ≡ b
         some_row a b k = cc
-    go false n =
-        let old = stood test past r (sym (latest_skips test e past n) ∙ h) in
+    go false n further =
+        let old = further (sym (latest_skips test e past n) ∙ h) in
         record { entry = old.entry; newer = e ∷ old.newer; older = old.older; stands = ap (λ es. e ∷ es) old.stands; row = old.row }
 
 pub arrows_lead_forward : ArrowsLeadForward

@@ -127,27 +127,24 @@ bar_skips q e past h = rw h refl
 
 agree : (l : Layout) (past : List Entry) (q : Ui) → IsLayout l → is_legal l past ≡ true → Agrees (fate (on q past)) (bar q past)
 agree l [] q shape h = tt
-agree l (e ∷ past) q shape h = go (is_on (Some q) e) refl
+agree l (e ∷ past) q shape h = go (is_on (Some q) e) refl (agree l past q shape (legal_parts l e past h).1)
   where
     two : (act_may l (views past e.place e.seat e.act) e.place e.seat e.act ≡ true) × (is_legal l past ≡ true)
     two = legal_parts l e past h
 
-    old : Agrees (fate (on q past)) (bar q past)
-    old = agree l past q shape two.1
-
-    by-fate : held_port_of e.act ≡ Some q → (o : Option PortState) → fate (on q past) ≡ o → Agrees (fate_after e.place e.act o) (Some (bar_after past e (bar q past)))
-    by-fate m None is =
+    by-fate : Agrees (fate (on q past)) (bar q past) → held_port_of e.act ≡ Some q → (o : Option PortState) → fate (on q past) ≡ o → Agrees (fate_after e.place e.act o) (Some (bar_after past e (bar q past)))
+    by-fate old m None is =
         made_step past e e.act (bar q past) q refl m (subst (Needs e.place e.act) is (needs l past e.clock e.place e.seat e.act q m two.0))
-    by-fate m (Some f) is =
+    by-fate old m (Some f) is =
         held_step past e e.act f (bar q past) refl (subst (λ o. Agrees o (bar q past)) is old) (keeps_to_capacity l past shape two.1 q f is).0
         (subst (Needs e.place e.act) is (needs l past e.clock e.place e.seat e.act q m two.0)) q m
 
-    go : (b : Bool) → is_on (Some q) e ≡ b → Agrees (fate (on q (e ∷ past))) (bar q (e ∷ past))
-    go true t =
+    go : (b : Bool) → is_on (Some q) e ≡ b → Agrees (fate (on q past)) (bar q past) → Agrees (fate (on q (e ∷ past))) (bar q (e ∷ past))
+    go true t old =
         subst (λ o. Agrees (fate (on q (e ∷ past))) o) (sym (bar_here q e past t))
         (subst (λ z. Agrees (fate z) (Some (bar_after past e (bar q past)))) (sym (keeps (is_on (Some q)) e past t))
-        (by-fate (on_is q (held_port_of e.act) t) (fate (on q past)) refl))
-    go false n =
+        (by-fate old (on_is q (held_port_of e.act) t) (fate (on q past)) refl))
+    go false n old =
         subst (λ o. Agrees (fate (on q (e ∷ past))) o) (sym (bar_skips q e past n))
         (subst (λ z. Agrees (fate z) (bar q past)) (sym (skips (is_on (Some q)) e past n)) old)
 
