@@ -1,0 +1,6 @@
+pub mod Draining
+pub mod Dealing
+pub mod Filling
+pub mod Collecting
+pub mod Retiring
+pub mod Handing
