@@ -69,4 +69,51 @@ fn fill<R: Wait + Abort>(rt: &R, nucleus: &Nucleus, pass: &mut Pass, ports: u64,
     }
 }
 
-// The crews of the rows come here: two ports and two workers that must meet (`row_crew`), and sixteen workers over 64 ports.
+/// The pairs of so many ports of site 1 with the actor that holds them.
+fn pairs(rt: &impl Abort, alloc: Global, ports: u64) -> Vec<(Ui, Ui)> {
+    let mut all = Vec::new(alloc);
+    for number in 1..=ports {
+        all.push((port_number(rt, number), actor(rt, "1.a.1"))).expect(rt, "memory");
+    }
+    all
+}
+
+/// Two messages in two ports, and a handler that holds each until the other was begun: a crew that works on one thread meets the limit.
+#[test]
+fn row_crew(rt: HostRuntime) {
+    let (nucleus, mut pass) = start(&rt, rt.alloc(), 1);
+    fill(&rt, &nucleus, &mut pass, 2, 1);
+    let handler = Meets {
+        begun: [AtomicU64::new(0), AtomicU64::new(0)],
+        missed: AtomicU64::new(0),
+    };
+    let ports = pairs(&rt, rt.alloc(), 2);
+    assert!(&rt; pass.keeper() && pass.worn().is_none());
+    let handled = crew(&rt, rt.alloc(), &nucleus, &mut pass, ports.as_slice(), 2, &handler)
+        .expect(&rt, "handled");
+    for one in handled.iter() {
+        assert!(&rt; one.from == 0 && one.count == 1 && one.total == 1);
+    }
+    assert!(&rt; handler.missed.load(Ordering::SeqCst) == 0);
+    assert!(&rt; pass.made() == 3 && pass.ended() == 2);
+    let _closed = close(&rt, nucleus, pass);
+}
+
+/// Sixteen workers over 64 ports with 64 messages each: each message is handled once.
+#[test]
+fn a_crew_handles_each_message_once(rt: HostRuntime) {
+    let (nucleus, mut pass) = start(&rt, rt.alloc(), 1);
+    fill(&rt, &nucleus, &mut pass, 64, 64);
+    let handler = Counts {
+        calls: AtomicU64::new(0),
+    };
+    let ports = pairs(&rt, rt.alloc(), 64);
+    assert!(&rt; pass.keeper() && pass.worn().is_none());
+    let handled = crew(&rt, rt.alloc(), &nucleus, &mut pass, ports.as_slice(), 16, &handler)
+        .expect(&rt, "handled");
+    for one in handled.iter() {
+        assert!(&rt; one.from == 0 && one.count == 64 && one.total == 64);
+    }
+    assert!(&rt; handled.len() == 64 && handler.calls.load(Ordering::SeqCst) == 64 * 64);
+    let _closed = close(&rt, nucleus, pass);
+}
