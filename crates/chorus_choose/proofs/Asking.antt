@@ -176,3 +176,5 @@ after-rounds n earlier ports (Err e) a b c f s = record {
 pub round-more : (n : Nucleus) (earlier ports : List Ui) (looked : ℕ) (a b c : Pass) → Looked n earlier a b → IsReceive n [] ports (Ok (receives.Empty looked)) b c → Looked n (earlier ++ ports) a c
 round-more n earlier ports looked a b c f s =
     looked-append n earlier ports a b c f record { keeps = s.keeps; missed = s.received.1; worn = s.worn ∙ worn-ok (worn_by b) (receives.Empty looked) }
+
+pub ruleset looks = (looked-none, looked-all)

@@ -15,6 +15,7 @@ impl Chooser {
     ///
     /// Each port is judged when it is looked at; nothing is said of all ports at one moment. A fault is that of the take that gave it,
     /// and the entries before it stand. Takes no memory but what a turn takes.
+    #[tactic(auto, using(crate::proofs::Asking::looks))]
     pub fn receive(&self, nucleus: &Nucleus, pass: &mut Pass) -> Result<Received, CallFault>
         requires { IsPassOf nucleus.now pass.old }
         ensures { IsReceive nucleus.now [] (ports_of self.now) result pass.old pass.new }

@@ -16,6 +16,7 @@ use std::sync::Wait;
 
 impl Chooser {
     /// A receive that tries each take again while another pass has the place.
+    #[tactic(auto, using(crate::proofs::Asking::looks))]
     fn round<R: Wait>(
         &self,
         rt: &R,

@@ -4,3 +4,4 @@ pub mod Filling
 pub mod Collecting
 pub mod Retiring
 pub mod Handing
+pub mod Entering

@@ -131,3 +131,5 @@ take-after n q (Err f) a b c w h = record {
   fault = fault-from n q f a b c w h.fault;
   worn = h.worn ∙ ap (λ o. worn_after {T = Option TakenMessage} o (Err f)) w.worn;
 }
+
+pub ruleset trying = (waited-none, waited-more, take-after)

@@ -42,6 +42,7 @@ pub fn take_once(
 
 /// Takes the first message of the port, and tries again while another pass has the place. So it never answers `Busy`; no entry is
 /// appended by a try that found the place held.
+#[tactic(auto, using(crate::proofs::Trying::trying))]
 pub fn take_when_free<R: Wait>(
     rt: &R,
     nucleus: &Nucleus,
