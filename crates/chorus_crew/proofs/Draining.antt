@@ -113,3 +113,5 @@ module _ (value : Ui → ℕ → Message → ℕ) (n : Nucleus) (q : Ui) (from c
     };
     worn = h.worn ∙ ap (λ o. worn_after {T = Option TakenMessage} o (Err f)) d.worn ∙ worn-err (Option TakenMessage) Tally (worn_by a) f;
   }
+
+pub ruleset draining = (drained-none, drains, handles)

@@ -16,7 +16,9 @@ use Rattle.chorus_nucleus.specs.Passes.{known, worn_by, IsPassOf}
 use Rattle.chorus_nucleus.specs.Coming.{Retires}
 use Rattle.chorus_take.specs.Taking.{SeesMore}
 use Rattle.chorus_take.proofs.Trying.{sees-then}
+use Rattle.chorus_ui.specs.declared.ui.Ui.{Ui}
 use Rattle.chorus_crew.specs.declared.job.Done.{Done}
+use Rattle.chorus_crew.specs.declared.job.Job.{Job}
 use Rattle.chorus_crew.specs.declared.job.Tally.{Tally}
 use Rattle.chorus_crew.specs.declared.handler.Handled.{Handled}
 use Rattle.chorus_nucleus.specs.declared.fault.CallFault.{CallFault}
@@ -43,9 +45,7 @@ by-keeper true x y e = absurd (cc)
 by-keeper false x y e = refl
 
 pub takes-in-more : (n : Nucleus) (a b c p : Pass) (ended : List Pass) → TakesIn n a b ended → IsPlain n p → Retires n p b c → TakesIn n a c (ended ++ p ∷ [])
-takes-in-more n a b c p ended t plain r =
-    let k : (z : Knowledge PlaceNote) × (known c ≡ z) = (after_retirement (known b) (known p), r.knows) in
-    record {
+takes-in-more n a b c p ended t plain r = record {
       pass = r.pass;
       seat = ap (λ (z : Knowledge PlaceNote). z.seat) r.knows ∙ t.seat;
       keeper = ap (λ (z : Knowledge PlaceNote). z.keeper) r.knows ∙ by-keeper (known p).keeper true (known b).keeper plain.keeper ∙ t.keeper;
@@ -78,10 +78,10 @@ handled-append : (xs : List Done) (d : Done) → handled_of (xs ++ d ∷ []) ≡
 handled-append [] d = append-nil (handled_with d.port d.result)
 handled-append (x ∷ xs) d = ap (λ zs. handled_with x.port x.result ++ zs) (handled-append xs d) ∙ sym (append_assoc (handled_with x.port x.result) (handled_of xs) (handled_with d.port d.result))
 
-done-append : (xs : List Done) (d : Done) → is_done (xs ++ d ∷ []) ≡ (Rattle.std.proofs.Common.cond (is_done xs) (is_ok d.result) false)
+done-append : (xs : List Done) (d : Done) → is_done (xs ++ d ∷ []) ≡ (cond (is_done xs) (is_ok d.result) false)
 done-append [] d = by (is_ok d.result)
   where
-    by : (b : Bool) → Rattle.std.proofs.Common.cond b true false ≡ b
+    by : (b : Bool) → cond b true false ≡ b
     by true = refl
     by false = refl
 done-append (x ∷ xs) d = by (is_ok x.result) (done-append xs d)
@@ -186,3 +186,35 @@ slot-plain n s d f e = subst (λ (x : Done). IsPlain n x.pass) (slot-done f.0 d 
 pub all-reverse : {A : Type 0} (P : A → Type 0) (xs : List A) → All P xs → All P (reverse xs)
 all-reverse P [] a = All-nil P
 all-reverse P (x ∷ xs) a = subst (All P) (sym (reverse-append (x ∷ []) xs)) (All-append P (reverse xs) (x ∷ []) (all-reverse P xs (All-tail P x xs a)) (All-cons P x [] (All-head P x xs a) (All-nil P)))
+
+-- What one job more gave.
+
+pub ok-more : (handled now : List Handled) (h : Handled) (q : Ui) (r : Result Tally CallFault) (t : Tally) → r ≡ Ok t → h.port ≡ q → (h.from ≡ t.from) × (h.count ≡ t.count) × (h.total ≡ t.total)
+    → now ≡ handled ++ h ∷ [] → now ≡ handled ++ handled_with q r
+ok-more handled now h q r t is port numbers pushed =
+    let same : h ≡ record { port = q; from = t.from; count = t.count; total = t.total } = (λ i. record { port = port i; from = numbers.0 i; count = numbers.1 i; total = numbers.2 i }) in
+    pushed ∙ ap (λ (x : Handled). handled ++ x ∷ []) same ∙ ap (λ (x : Result Tally CallFault). handled ++ handled_with q x) (sym is)
+
+pub err-more : (handled : List Handled) (q : Ui) (r : Result Tally CallFault) (f : CallFault) → r ≡ Err f → handled ≡ handled ++ handled_with q r
+err-more handled q r f is = sym (append-nil handled) ∙ ap (λ (x : Result Tally CallFault). handled ++ handled_with q x) (sym is)
+
+pub all-ok : (all : Bool) (r : Result Tally CallFault) (t : Tally) → r ≡ Ok t → all ≡ (cond all (is_ok r) false)
+all-ok all r t is = by all ∙ ap (λ (x : Result Tally CallFault). cond all (is_ok x) false) (sym is)
+  where
+    by : (b : Bool) → b ≡ (cond b true false)
+    by true = refl
+    by false = refl
+
+pub all-err : (all : Bool) (r : Result Tally CallFault) (f : CallFault) → r ≡ Err f → false ≡ (cond all (is_ok r) false)
+all-err all r f is = by all ∙ ap (λ (x : Result Tally CallFault). cond all (is_ok x) false) (sym is)
+  where
+    by : (b : Bool) → false ≡ (cond b false false)
+    by true = refl
+    by false = refl
+
+-- The jobs that are popped, one after another.
+
+pub turned-more : (ended : List Pass) (rest : List Job) (job : Job) (all : List Pass) → ended ++ map (λ (j : Job). j.pass) (reverse (rest ++ job ∷ [])) ≡ all
+    → (ended ++ job.pass ∷ []) ++ map (λ (j : Job). j.pass) (reverse rest) ≡ all
+turned-more ended rest job all e =
+    append_assoc ended (job.pass ∷ []) (map (λ (j : Job). j.pass) (reverse rest)) ∙ ap (λ zs. ended ++ map (λ (j : Job). j.pass) zs) (sym (reverse-append rest (job ∷ []))) ∙ e

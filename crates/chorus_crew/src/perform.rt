@@ -33,6 +33,7 @@ fn first_of(count: u64, from: u64, pos: u64) -> u64
 }
 
 /// Takes and handles the messages of the port, until there is none for the caller.
+#[tactic(auto, using(crate::proofs::Draining::draining))]
 fn drain<H: Handler, R: Wait>(
     rt: &R,
     nucleus: &Nucleus,
