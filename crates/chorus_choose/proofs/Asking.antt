@@ -15,6 +15,7 @@ use Rattle.chorus_nucleus.specs.Passes.{layout_of, known, worn_by, IsPassOf}
 use Rattle.chorus_nucleus.specs.Calls.{worn_after}
 use Rattle.chorus_take.specs.declared.message.TakenMessage.{TakenMessage}
 use Rattle.chorus_take.specs.Taking.{Appends, IsMiss, Misses, HasOrigin, Gives, KeepsPass, IsFault, IsTake, reply_with}
+use Rattle.chorus_take.proofs.Taking.{worn-ok, worn-err}
 use Rattle.chorus_take.proofs.Trying.{appends-none, appends-then, keeps-none, keeps-then}
 use Rattle.chorus_choose.specs.declared.chooser.Enabled.{Enabled}
 use Rattle.chorus_choose.specs.declared.received.Received.{Received}
@@ -51,18 +52,6 @@ gives-after l earlier ports q r v m u a b = record {
   origin = b.origin;
 }
 
--- The worn clock of an answer that is handed on.
-
-worn-ok : {T : Type 0} (o : Option ℕ) (x : T) → worn_after o (Ok x) ≡ o
-worn-ok None x = refl
-worn-ok (Some clock) x = refl
-
-worn-err : (S T : Type 0) (o : Option ℕ) (f : CallFault) → worn_after {T = S} o (Err f) ≡ worn_after {T = T} o (Err f)
-worn-err S T (Some clock) f = refl
-worn-err S T None (CallFault.Busy by) = refl
-worn-err S T None (CallFault.Memory none) = refl
-worn-err S T None (CallFault.Worn clock) = refl
-
 -- A look at some ports in vain.
 
 pub record Looked (n : Nucleus) (asked : List Ui) (old new : Pass) : Type 0 where
@@ -81,7 +70,7 @@ looked-append n ps qs a b c f s = record {
 }
 
 looked-one : (n : Nucleus) (q : Ui) (b c : Pass) → IsTake n q (Ok None) b c → Looked n (q ∷ []) b c
-looked-one n q b c t = record { keeps = t.keeps; missed = missed-one q (known b) (known c) t.answer; worn = t.worn ∙ worn-ok (worn_by b) None }
+looked-one n q b c t = record { keeps = t.keeps; missed = missed-one q (known b) (known c) t.answer; worn = t.worn ∙ worn-ok {T = Option TakenMessage} (worn_by b) None }
 
 pub looked-all : (n : Nucleus) (ports : List Ui) (looked : ℕ) (a b : Pass) → looked ≡ length ports → Looked n ports a b → IsReceive n [] ports (Ok (receives.Empty looked)) a b
 looked-all n ports looked a b count h = record {

@@ -18,6 +18,7 @@ use Rattle.chorus_nucleus.specs.Passes.{layout_of, known, worn_by, IsPassOf}
 use Rattle.chorus_nucleus.specs.Calls.{worn_after}
 use Rattle.chorus_take.specs.declared.message.TakenMessage.{TakenMessage}
 use Rattle.chorus_take.specs.Taking.{Appends, Misses, HasOrigin, Gives, SeesMore, KeepsPass, IsTake, reply_with}
+use Rattle.chorus_take.proofs.Taking.{worn-ok, worn-err}
 use Rattle.chorus_take.proofs.Trying.{appends-none, appends-then, appends-still, origin-later, keeps-none, keeps-then}
 use Rattle.chorus_crew.specs.declared.job.Tally.{Tally}
 use Rattle.chorus_crew.specs.Handling.{took_acts, AreGiven, first_position, worth, Counts, Handles, Drains}
@@ -49,16 +50,6 @@ pub record Drained (value : Ui → ℕ → Message → ℕ) (n : Nucleus) (q : U
   pub appends : Appends (took_acts q took) (known old) (known new)
   pub counts : Counts value q took from count total
   pub worn : worn_by new ≡ worn_by old
-
-worn-ok : {T : Type 0} (o : Option ℕ) (x : T) → worn_after o (Ok x) ≡ o
-worn-ok None x = refl
-worn-ok (Some clock) x = refl
-
-worn-err : (S T : Type 0) (o : Option ℕ) (f : CallFault) → worn_after {T = S} o (Err f) ≡ worn_after {T = T} o (Err f)
-worn-err S T (Some clock) f = refl
-worn-err S T None (CallFault.Busy by) = refl
-worn-err S T None (CallFault.Memory none) = refl
-worn-err S T None (CallFault.Worn clock) = refl
 
 pub drained-none : (value : Ui → ℕ → Message → ℕ) (n : Nucleus) (q : Ui) (a : Pass) → IsPassOf n a → Drained value n q 0 0 0 a a
 drained-none value n q a is = record {

@@ -25,7 +25,7 @@ use Rattle.law_history.proofs.Lists.{reverse-first}
 use Rattle.chorus_turn.specs.declared.knowledge.Remarked.{Remarked}
 use Rattle.chorus_turn.specs.declared.knowledge.Placed.{Placed}
 use Rattle.chorus_turn.specs.declared.knowledge.Knowledge.{Knowledge}
-use Rattle.chorus_turn.specs.Lists.{StartsWith, list_put}
+use Rattle.chorus_turn.specs.Lists.{StartsWith, list_at, list_put}
 use Rattle.chorus_turn.specs.Journals.{with_place}
 use Rattle.chorus_turn.specs.Knowing.{seen_at, after_turn}
 use Rattle.chorus_turn.proofs.Fronts.{put_here, put_elsewhere, starts_itself, starts_more, starts_same}
@@ -36,8 +36,8 @@ use Rattle.chorus_nucleus.specs.declared.fault.CallFault.{CallFault}
 use Rattle.chorus_nucleus.specs.declared.fault.CallFault.TheVariants as faults
 use Rattle.chorus_nucleus.specs.declared.nucleus.Nucleus.{Nucleus}
 use Rattle.chorus_nucleus.specs.declared.pass.Pass.{Pass}
-use Rattle.chorus_nucleus.specs.Passes.{layout_of, known, caller_of}
-use Rattle.chorus_nucleus.specs.Calls.{FindsWorn, Because, Performs, IsCall, place_of}
+use Rattle.chorus_nucleus.specs.Passes.{layout_of, known, caller_of, worn_by}
+use Rattle.chorus_nucleus.specs.Calls.{FindsWorn, Because, Performs, IsCall, place_of, worn_after}
 use Rattle.chorus_take.specs.declared.message.TakenMessage.{TakenMessage}
 use Rattle.chorus_take.specs.Taking.{acts_made, Appends, Misses, HasOrigin, Gives, SeesMore, KeepsPass, IsFault, IsTake}
 
@@ -48,24 +48,24 @@ made-acts p k r (e ∷ es) = ap (λ zs. e.act ∷ zs) (made-acts p (k + 1) r es)
 -- What a pass has seen grows.
 
 sees-put : (p : ℕ) (all : List (Remarked PlaceNote)) (v : Knowledge PlaceNote) (row : List (List (Remarked PlaceNote))) → row ≡ list_put p all v.seen
-    → StartsWith all (seen_at p v) → (k : ℕ) → StartsWith (Rattle.chorus_turn.specs.Lists.list_at k row) (seen_at k v)
+    → StartsWith all (seen_at p v) → (k : ℕ) → StartsWith (list_at k row) (seen_at k v)
 sees-put p all v row is starts k =
-    subst (λ z. StartsWith (Rattle.chorus_turn.specs.Lists.list_at k z) (seen_at k v)) (sym is)
+    subst (λ z. StartsWith (list_at k z) (seen_at k v)) (sym is)
     (dite (ℕ_discrete k p)
-      (λ e. subst (λ j. StartsWith (Rattle.chorus_turn.specs.Lists.list_at j (list_put p all v.seen)) (seen_at j v)) (sym e)
-          (starts_same all (Rattle.chorus_turn.specs.Lists.list_at p (list_put p all v.seen)) (seen_at p v) (put_here p all v.seen) starts))
-      (λ apart. starts_same (seen_at k v) (Rattle.chorus_turn.specs.Lists.list_at k (list_put p all v.seen)) (seen_at k v) (put_elsewhere p k all v.seen apart) (starts_itself (seen_at k v))))
+      (λ e. subst (λ j. StartsWith (list_at j (list_put p all v.seen)) (seen_at j v)) (sym e)
+          (starts_same all (list_at p (list_put p all v.seen)) (seen_at p v) (put_here p all v.seen) starts))
+      (λ apart. starts_same (seen_at k v) (list_at k (list_put p all v.seen)) (seen_at k v) (put_elsewhere p k all v.seen apart) (starts_itself (seen_at k v))))
 
 pub sees-turn : (p : ℕ) (found news : List (Remarked PlaceNote)) (v u : Knowledge PlaceNote) → u ≡ after_turn p found news v → StartsWith found (seen_at p v) → SeesMore v u
 sees-turn p found news v u knows starts k = sees-put p (found ++ news) v u.seen (ap (λ (z : Knowledge PlaceNote). z.seen) knows) (starts_more found (seen_at p v) news starts) k
 
 pub sees-same : (v u : Knowledge PlaceNote) → u.seen ≡ v.seen → SeesMore v u
-sees-same v u same k = starts_same (seen_at k v) (seen_at k u) (seen_at k v) (ap (λ row. Rattle.chorus_turn.specs.Lists.list_at k row) same) (starts_itself (seen_at k v))
+sees-same v u same k = starts_same (seen_at k v) (seen_at k u) (seen_at k v) (ap (λ row. list_at k row) same) (starts_itself (seen_at k v))
 
 sees-fault : (l : Layout) (p : ℕ) (f : CallFault) (v u : Knowledge PlaceNote) (w x : Seated) → Because FindsWorn f l p v w u x → SeesMore v u
 sees-fault l p (faults.Busy by) v u w x b = sees-same v u (ap (λ (z : Knowledge PlaceNote). z.seen) b.0.knows)
-sees-fault l p (faults.Memory none) v u w x b = sees-turn p b.1.found [] v u b.1.knows b.1.shows.begins
-sees-fault l p (faults.Worn clock) v u w x b = sees-turn p b.looks.found [] v u b.looks.knows b.looks.shows.begins
+sees-fault l p (faults.Memory none) v w u x b = sees-turn p b.1.found [] v u b.1.knows b.1.shows.begins
+sees-fault l p (faults.Worn clock) v w u x b = sees-turn p b.looks.found [] v u b.looks.knows b.looks.shows.begins
 
 -- What a turn with a Take made.
 
@@ -105,6 +105,18 @@ module _ (l : Layout) (p : ℕ) (q : Ui) (r : Reply) (v u : Knowledge PlaceNote)
         (starts_more h.turn.found h.turn.found (remarked _ all) (starts_itself h.turn.found));
   }
 
+-- The worn clock of an answer that is handed on.
+
+pub worn-ok : {T : Type 0} (o : Option ℕ) (x : T) → worn_after o (Ok x) ≡ o
+worn-ok None x = refl
+worn-ok (Some clock) x = refl
+
+pub worn-err : (S T : Type 0) (o : Option ℕ) (f : CallFault) → worn_after {T = S} o (Err f) ≡ worn_after {T = T} o (Err f)
+worn-err S T (Some clock) f = refl
+worn-err S T None (faults.Busy by) = refl
+worn-err S T None (faults.Memory none) = refl
+worn-err S T None (faults.Worn clock) = refl
+
 -- The call.
 
 module _ (n : Nucleus) (q : Ui) (old new : Pass) where
@@ -116,6 +128,9 @@ module _ (n : Nucleus) (q : Ui) (old new : Pass) where
 
   made : (r : Reply) → IsCall n (Command.Take q) old new (Ok r) → Appends (taken_acts q r) (known old) (known new)
   made r h = appends (layout_of n) (place_of n (Command.Take q) old) q r (known old) (known new) (caller_of old) (caller_of new) h.turn
+
+  worn-as : (r : Reply) (a : Option TakenMessage) → IsCall n (Command.Take q) old new (Ok r) → worn_by new ≡ worn_after {T = Option TakenMessage} (worn_by old) (Ok a)
+  worn-as r a h = h.worn ∙ worn-ok (worn_by old) r ∙ sym (worn-ok (worn_by old) a)
 
   pub answered : (r : Reply) → IsCall n (Command.Take q) old new (Ok r) → answers_take r ≡ true
   answered r h = is-answer (layout_of n) (place_of n (Command.Take q) old) q r (known old) (known new) (caller_of old) (caller_of new) h.turn
@@ -130,7 +145,7 @@ module _ (n : Nucleus) (q : Ui) (old new : Pass) where
           origin = origin (layout_of n) (place_of n (Command.Take q) old) q r (known old) (known new) (caller_of old) (caller_of new) h.turn;
         };
         fault = tt;
-        worn = h.worn;
+        worn = worn-as r (Some record { position = pos; message = m; settled = settled }) h;
       }
 
   pub empty : IsCall n (Command.Take q) old new (Ok Reply.Empty) → IsTake n q (Ok None) old new
@@ -138,7 +153,7 @@ module _ (n : Nucleus) (q : Ui) (old new : Pass) where
     keeps = kept (Ok Reply.Empty) h (sees-ok Reply.Empty h);
     answer = record { act = Act.Empty q; miss = inl refl; appends = made Reply.Empty h };
     fault = tt;
-    worn = h.worn;
+    worn = worn-as Reply.Empty None h;
   }
 
   pub not-here : IsCall n (Command.Take q) old new (Ok Reply.NotHere) → IsTake n q (Ok None) old new
@@ -146,15 +161,15 @@ module _ (n : Nucleus) (q : Ui) (old new : Pass) where
     keeps = kept (Ok Reply.NotHere) h (sees-ok Reply.NotHere h);
     answer = record { act = Act.NotHere q; miss = inr refl; appends = made Reply.NotHere h };
     fault = tt;
-    worn = h.worn;
+    worn = worn-as Reply.NotHere None h;
   }
 
   pub refused : (f : CallFault) → IsCall n (Command.Take q) old new (Err f) → IsTake n q (Err f) old new
   refused f h = record {
-    keeps = kept (Err f) h (sees-fault (layout_of n) (place_of n (Command.Take q) old) f (known old) (known new) (caller_of old) (caller_of new) h.fault);
+    keeps = kept (Err f) h (sees-fault (layout_of n) (place_of n (Command.Take q) old) f (known old) (caller_of old) (known new) (caller_of new) h.fault);
     answer = tt;
     fault = record { tried = known old; before = refl; because = h.fault; mine = h.refused.mine; caller = h.refused.caller };
-    worn = h.worn;
+    worn = h.worn ∙ worn-err Reply (Option TakenMessage) (worn_by old) f;
   }
 
 pub ruleset calls = (answered, taken, empty, not-here, refused)
