@@ -9,3 +9,5 @@ mod crews;
 mod ground;
 #[cfg(test)]
 mod ringing;
+#[cfg(test)]
+mod serving;
