@@ -14,6 +14,7 @@ use std::alloc::{AllocError, Global};
 const DEQUE_ROOM: usize = 64;
 
 /// What the jobs are shared by, done with and collected in.
+#[derive(Drop)]
 pub(crate) struct Tools {
     pub(crate) owner: Owner,
     pub(crate) thief: Thief,
