@@ -6,12 +6,11 @@ use Rattle.chorus_ui.specs.declared.ui.Ui.{Ui}
 use Rattle.chorus_ui.specs.Name.{same_ui}
 use Rattle.chorus_ui.specs.NameKind.{is_port}
 use Rattle.chorus_choose.specs.declared.chooser.Enabled.{Enabled}
-use Rattle.chorus_choose.specs.declared.chooser.TheConstants.{ENABLED_LIMIT}
 use Rattle.chorus_choose.specs.declared.fault.EnableFault.{EnableFault}
 use Rattle.chorus_choose.specs.declared.fault.EnableFault.TheVariants as faults
 
 abbrev pub enabled_limit : ℕ
-enabled_limit = ENABLED_LIMIT
+enabled_limit = 32
 
 abbrev pub ports_of : List Enabled → List Ui
 ports_of xs = map (λ (x : Enabled). x.port) xs
