@@ -1,15 +1,14 @@
 -- What was posted under an id, by the post of the id and by the entry that posted it; and that a place gives out what was posted.
 -- A past has its newest entry first, x is an id, q a port, p the number of a place, f what became of a port.
-use Rattle.std.proofs.Common.{ℕ, zero, suc, ◌≡◌, ◌-◌, ◌==◌, Bool, true, false, cond, List, [], ◌∷◌, ◌++◌, map, length, drop, Option, Some, None, slice_get, refl, sym, ◌∙◌, ap, subst, inl, inr}
+use Rattle.std.proofs.Common.{ℕ, zero, suc, ◌≡◌, ◌==◌, Bool, true, false, cond, List, [], ◌∷◌, map, drop, Option, Some, None, slice_get, refl, sym, ◌∙◌, ap, inl, inr}
 use Rattle.chorus_ui.specs.declared.ui.Ui.{Ui}
 use Rattle.chorus_ui.specs.declared.layout.Layout.{Layout}
 use Rattle.chorus_entry.specs.declared.entry.Entry.{Entry}
 use Rattle.chorus_entry.specs.declared.id.MsgId.{MsgId}
 use Rattle.chorus_entry.specs.declared.message.Message.{Message}
-use Rattle.chorus_entry.specs.declared.record.PortRecord.{PortRecord}
 use Rattle.chorus_world.specs.declared.port.Spot.{Spot}
 use Rattle.chorus_world.specs.declared.port.Spot.TheVariants as spots
-use Rattle.chorus_world.specs.Views.{on, by, is_by}
+use Rattle.chorus_world.specs.Views.{on, by}
 use Rattle.chorus_world.specs.Ports.{PortState, fate, last_of}
 use Rattle.chorus_world.specs.Posts.{Posted, post_of, posted_in, posted_by, source, as_posted}
 use Rattle.chorus_world.specs.Steps.{is_legal}
@@ -18,7 +17,7 @@ use Rattle.chorus_world.proofs.Groups.ChoiceLemmas.{posted_is}
 use Rattle.chorus_world.proofs.Messages.SendingLemmas.{from_or}
 use Rattle.chorus_world.proofs.Messages.AcceptedLemmas.{accepted_posted}
 use Rattle.chorus_world.proofs.Ports.LineLemmas.{none_some}
-use Rattle.law_world.proofs.Entries.{post-stands, stood-post}
+use Rattle.law_replies.proofs.Posts.{post-stands, stood-post}
 use Rattle.law_machine.specs.Doing.{first_in, first_message}
 use Rattle.law_network.specs.Records.{message, record_for, record_held, record_here, record_at}
 use Rattle.law_network.proofs.Standing.Grows.{message-id}

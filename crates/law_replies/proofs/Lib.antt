@@ -1,4 +1,5 @@
 pub mod Saying
+pub mod Posts
 pub mod Posting
 pub mod Taking
 pub mod Rows
@@ -6,5 +7,8 @@ pub mod Own
 pub mod Turns
 pub mod AsPosted
 pub mod Networks
-pub mod Outcomes
+pub mod Decided
 pub mod Told
+pub mod Cutting
+pub mod Histories
+pub mod Examples

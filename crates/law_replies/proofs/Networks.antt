@@ -19,11 +19,10 @@ use Rattle.chorus_world.proofs.Sorted.Holders.{run_is_legal}
 use Rattle.chorus_ports.specs.Table.{find}
 use Rattle.chorus_calls.specs.Callers.{Seated}
 use Rattle.law_machine.specs.declared.reply.Reply.{Reply}
-use Rattle.law_machine.specs.PlaceState.{PlaceState, Turn}
-use Rattle.law_machine.specs.Own.{own}
+use Rattle.law_machine.specs.PlaceState.{Turn}
 use Rattle.law_machine.specs.Doing.{first_message}
 use Rattle.law_machine.specs.Replies.{reply}
-use Rattle.law_network.specs.Network.{NetState, Act, Event, place, turn_for, replied, schedule}
+use Rattle.law_network.specs.Network.{NetState, Event, place, turn_for, replied, schedule}
 use Rattle.law_network.specs.Schedules.{may_happen, may_be}
 use Rattle.law_network.specs.Stands.{Stands, actor_of}
 use Rattle.law_network.specs.Ready.{IsReady}
@@ -37,7 +36,7 @@ use Rattle.law_replies.specs.AsPosted.{IsAsPosted}
 use Rattle.law_replies.specs.Networks.{IsToldSo, NetworksTell, SchedulesTell, TakesArePosted}
 use Rattle.law_replies.proofs.Own.{IsFit, own-fits}
 use Rattle.law_replies.proofs.AsPosted.{IsPostOf, as-posted, post-of, one-message, first-posted}
-use Rattle.law_replies.proofs.Rows.{GivesFirst, IsAnswering, entries, reply-tells}
+use Rattle.law_replies.proofs.Rows.{GivesFirst, IsAnswering, reply-tells}
 
 -- the same was posted under each id
 abbrev pub TellsPosts : List Entry → List Entry → Type 0

@@ -5,7 +5,6 @@ use Rattle.std.proofs.lemmas.List.{reverse-append, reverse-reverse}
 use Rattle.std.proofs.lemmas.List.Elements.{All-head, All-tail}
 use Rattle.chorus_entry.specs.declared.entry.Entry.{Entry}
 use Rattle.chorus_entry.specs.declared.act.Act.{Act}
-use Rattle.chorus_world.specs.SentLaws.{StandsIn}
 use Rattle.law_replies.specs.Replies.{Says}
 
 pub says-now : (e : Entry) (es : List Entry) (a : Act) → e.act ≡ a → Says (e ∷ es) a

@@ -1,6 +1,6 @@
 -- What a take appends behind its Take, and how it tells whether a call was ended.
 -- `rest` are the entries behind the Take, own is the Take, the newest stand first.
-use Rattle.std.proofs.Common.{ℕ, ◌≡◌, ◌==◌, Bool, true, false, ◌&&◌, cond, List, [], ◌∷◌, ◌++◌, map, Option, Some, None, refl, sym, ◌∙◌, ap, subst, inl, inr}
+use Rattle.std.proofs.Common.{ℕ, ◌≡◌, ◌==◌, Bool, true, false, ◌&&◌, cond, List, [], ◌∷◌, ◌++◌, Option, Some, None, refl, sym, ◌∙◌, ap, inl, inr}
 use Rattle.chorus_ui.specs.declared.ui.Ui.{Ui}
 use Rattle.chorus_entry.specs.declared.entry.Entry.{Entry}
 use Rattle.chorus_entry.specs.declared.id.MsgId.{MsgId}
@@ -18,7 +18,7 @@ use Rattle.law_machine.specs.Doing.{holding, ends}
 use Rattle.law_machine.specs.Replies.{settling}
 use Rattle.law_replies.specs.Replies.{Says, IsSettledAs}
 use Rattle.law_replies.specs.Taking.{settled_acts, acts_of}
-use Rattle.law_replies.proofs.Saying.{says-now, says-front, says-behind, says-either, says-only, says-nothing}
+use Rattle.law_replies.proofs.Saying.{says-now, says-front, says-either, says-only, says-nothing}
 
 -- behind the Take stands what ends the call, where a reply was taken
 abbrev pub Ended : Act → Tag → Turn → Turn → Type 0

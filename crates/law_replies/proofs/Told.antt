@@ -1,7 +1,6 @@
 -- What a place knows of a message is told by its entries, and its outcome says so.
 -- x is an id, a an answer, `here` are entries of one place.
-use Rattle.std.proofs.Common.{ℕ, zero, suc, ◌≡◌, ◌≤◌, ◌↔◌, nat_le, Bool, true, false, cond, List, [], ◌∷◌, ◌++◌, length, Option, Some, None, refl, sym, ◌∙◌, ap, subst, inl, inr, ◌⊎◌, append_assoc, arith}
-use Rattle.std.specs.List.{filter}
+use Rattle.std.proofs.Common.{ℕ, ◌≡◌, ◌≤◌, nat_le, Bool, true, false, cond, List, [], ◌∷◌, ◌++◌, length, Option, Some, None, refl, sym, ◌∙◌, ap, subst, inl, inr, ◌⊎◌, append_assoc, arith}
 use Rattle.std.specs.Option.{option_or}
 use Rattle.std.proofs.lemmas.Bool.{false≢true, true≢false, eq-eqb, leb-true, le-leb}
 use Rattle.chorus_ui.specs.declared.ui.Ui.{Ui}
@@ -21,20 +20,18 @@ use Rattle.chorus_entry.specs.Dest.{group_in}
 use Rattle.chorus_entry.specs.MsgId.{same_id}
 use Rattle.chorus_entry.specs.Same.{are_same}
 use Rattle.chorus_entry.proofs.Same.{same_id-self}
-use Rattle.chorus_world.specs.Views.{views, at, by, is_by}
+use Rattle.chorus_world.specs.Views.{at, by, is_by}
 use Rattle.chorus_entry.specs.Order.{is_at}
-use Rattle.chorus_world.specs.GroupLaws.{copies_of}
 use Rattle.chorus_world.specs.Posts.{Posted, post_of, posted_in, posted_by, source}
 use Rattle.chorus_world.specs.SentLaws.{StandsIn}
-use Rattle.chorus_world.specs.Steps.{act_may, is_legal}
+use Rattle.chorus_world.specs.Steps.{is_legal}
 use Rattle.chorus_world.proofs.Messages.MessageInvariant.{legal_messages}
 use Rattle.chorus_world.proofs.Messages.PostLemmas.{choose_needs, asked_facts, post_kept}
 use Rattle.chorus_world.proofs.Messages.SendingLemmas.{or_some, from_or}
 use Rattle.chorus_world.proofs.Messages.Told.{tells_the_verdict, hears_the_end}
-use Rattle.chorus_world.proofs.Moments.{legal-older}
 use Rattle.chorus_world.proofs.Ports.LineLemmas.{none_some, id_is}
-use Rattle.chorus_world.proofs.Steps.LegalLemmas.{legal_parts, keeps, skips}
-use Rattle.law_world.proofs.Entries.{stands-later, post-stands, stood-post, stood-may}
+use Rattle.chorus_world.proofs.Steps.LegalLemmas.{legal_parts, keeps}
+use Rattle.law_replies.proofs.Posts.{within, legal-at, post-stands, stood-post, stood-may}
 use Rattle.law_machine.specs.declared.outcome.Outcome.{Outcome}
 use Rattle.law_machine.specs.Outcomes as machine
 use Rattle.law_machine.specs.Outcomes.{said_of, answer_by, answer_for, count_in, outcome_of, outcome}
@@ -45,7 +42,7 @@ use Rattle.law_replies.specs.Replies.{Says}
 use Rattle.law_replies.specs.Outcomes.{Decides, Became, TellsEnd, IsTold, IsPostedHere, IsKnown, OutcomeIsTrue, LegalOutcomes, SchedulesOutcomes}
 use Rattle.law_replies.proofs.Saying.{says-now, says-behind, says-one-of, says-nothing}
 use Rattle.law_replies.proofs.AsPosted.{found-id}
-use Rattle.law_replies.proofs.Outcomes.{Kind, decides-about, decides-answer, decides-kind, to-decides, by-parts, became-later, became-once, verdict-became, copies-became}
+use Rattle.law_replies.proofs.Decided.{Kind, decides-about, decides-answer, decides-kind, to-decides, by-parts, became-later, became-once, verdict-became, copies-became}
 
 -- An act tells what the outcome reads of it.
 
@@ -137,17 +134,14 @@ module _ (l : Layout) (past here : List Entry) (legal : is_legal l past ≡ true
   older-became : (x : MsgId) (a : Answer) (e : Entry) (s : StandsIn e past) → Became x a s.older → Became x a past
   older-became x a e s b = subst (Became x a) (sym s.is) (subst (Became x a) (append_assoc s.newer (e ∷ []) s.older) (became-later x a (s.newer ++ e ∷ []) s.older b))
 
-  legal-at : (e : Entry) (s : StandsIn e past) → is_legal l (e ∷ s.older) ≡ true
-  legal-at e s = legal-older l s.newer (e ∷ s.older) (ap (is_legal l) (sym s.is) ∙ legal)
-
   told-became : (x : MsgId) (a : Answer) (e : Entry) (s : StandsIn e past) (act : Act) → e.act ≡ act → TellsEnd x a act → Became x a past
   told-became x a e s (acts.Told y b) is h =
       let at : e.act ≡ acts.Told x a = is ∙ (λ i. acts.Told (h.0 i) (h.1.0 i)) in
-      older-became x a e s (verdict-became x a s.older (tells_the_verdict l s.older e (legal-at e s) x a at h.1.1))
+      older-became x a e s (verdict-became x a s.older (tells_the_verdict l s.older e (legal-at l past e s legal) x a at h.1.1))
   told-became x a e s (acts.Heard y b) is h =
       let at : e.act ≡ acts.Heard x a = is ∙ (λ i. acts.Heard (h.0 i) (h.1 i)) in
-      let before = (legal_parts l e s.older (legal-at e s)).1 in
-      older-became x a e s (elim (hears_the_end l s.older e (legal-at e s) x a at) [
+      let before = (legal_parts l e s.older (legal-at l past e s legal)).1 in
+      older-became x a e s (elim (hears_the_end l s.older e (legal-at l past e s legal) x a at) [
         | inl v ↦ verdict-became x a s.older v
         | inr c ↦ subst (λ z. Became x z s.older) (sym c.0) (copies-became l s.older x before c.1)
       ])
@@ -176,7 +170,7 @@ module _ (l : Layout) (past here : List Entry) (legal : is_legal l past ≡ true
           let s = said.1.0 in
           let may = stood-may l past e (acts.Choose x g qs) s legal said.1.1 in
           let needs = choose_needs l s.older e.place e.seat x g qs may in
-          let asked = (asked_facts x s.older needs.from needs.dest (legal_messages l s.older (legal_parts l e s.older (legal-at e s)).1 x) needs.asked).1 in
+          let asked = (asked_facts x s.older needs.from needs.dest (legal_messages l s.older (legal_parts l e s.older (legal-at l past e s legal)).1 x) needs.asked).1 in
           let kept : post_of x past ≡ Some asked.post =
           ap (post_of x) s.is ∙ (ap (post_of x) (sym (append_assoc s.newer (e ∷ []) s.older)) ∙ post_kept x (s.newer ++ e ∷ []) s.older asked.post asked.posted) in
           (asked.post, kept, λ q is. (let none : None ≡ Some g = sym (ap group_in (sym asked.dest ∙ is)) ∙ needs.group in cc))
@@ -363,18 +357,6 @@ module _ (l : Layout) (past here : List Entry) (legal : is_legal l past ≡ true
         }
 
 -- The entries of a place stand among all.
-pub within : (test : Entry → Bool) (past : List Entry) (e : Entry) → StandsIn e (filter test past) → StandsIn e past
-within test [] e s = absurd (says-nothing e.act (e, (s, refl)))
-within test (f ∷ past) e s = go (test f) s (within test past e)
-  where
-    go : (b : Bool) → StandsIn e (cond b (f ∷ filter test past) (filter test past)) → (StandsIn e (filter test past) → StandsIn e past) → StandsIn e (f ∷ past)
-    go false k ih = stands-later f e past (ih k)
-    go true k ih = first k.newer k.is
-      where
-        first : (newer : List Entry) → f ∷ filter test past ≡ newer ++ e ∷ k.older → StandsIn e (f ∷ past)
-        first [] is = let same : f ≡ e = cc in record { newer = []; older = past; is = ap (λ z. z ∷ past) same }
-        first (g ∷ newer) is = let rest : filter test past ≡ newer ++ e ∷ k.older = cc in stands-later f e past (ih (record { newer = newer; older = k.older; is = rest }))
-
 pub legal-outcomes : LegalOutcomes
 legal-outcomes l past p x legal = outcome-is-true l past (at p past) legal (within (is_at p) past) x
 

@@ -1,12 +1,11 @@
 -- Replies of turns that a place took.
 -- s is a place, w a caller, es are the entries of a turn, the oldest first.
-use Rattle.std.proofs.Common.{ℕ, ◌≡◌, ◌↔◌, ◌≤◌, true, length, arith, List, [], ◌∷◌, ◌++◌, reverse, map, Option, Some, None, refl, sym, ◌∙◌, ap, subst, append_assoc}
+use Rattle.std.proofs.Common.{ℕ, ◌≡◌, ◌≤◌, true, length, arith, List, [], ◌∷◌, ◌++◌, reverse, Option, Some, None, refl, sym, ◌∙◌, ap, subst, append_assoc}
 use Rattle.std.proofs.lemmas.List.{append_cancel_right, reverse-append, reverse-reverse}
 use Rattle.chorus_ui.specs.declared.ui.Ui.{Ui}
 use Rattle.chorus_ui.specs.declared.layout.Layout.{Layout}
 use Rattle.chorus_entry.specs.declared.entry.Entry.{Entry}
 use Rattle.chorus_entry.specs.declared.id.MsgId.{MsgId}
-use Rattle.chorus_entry.specs.declared.message.Message.{Message}
 use Rattle.chorus_entry.specs.declared.record.PortRecord.{PortRecord}
 use Rattle.chorus_entry.specs.declared.act.Act.{Act}
 use Rattle.chorus_entry.specs.declared.act.Act.TheVariants as acts
@@ -21,14 +20,13 @@ use Rattle.chorus_ports.specs.Taking.{taken}
 use Rattle.chorus_calls.specs.declared.client.Settle.{Settle}
 use Rattle.chorus_calls.specs.declared.client.Settle.TheVariants as settles
 use Rattle.chorus_calls.specs.Callers.{Seated}
-use Rattle.place_unsettled.specs.declared.wait.Key.{Key}
 use Rattle.law_machine.specs.declared.reply.Reply.{Reply}
 use Rattle.law_machine.specs.PlaceState.{PlaceState, Turn, started, next_entry}
 use Rattle.law_machine.specs.Own.{own, take_act}
 use Rattle.law_machine.specs.Doing.{first_message, does}
-use Rattle.law_machine.specs.PlaceMachine.{begun, begun_by, act, work}
+use Rattle.law_machine.specs.PlaceMachine.{begun, begun_by, act}
 use Rattle.law_machine.specs.Replies.{settling, reply_to, reply}
-use Rattle.law_machine.proofs.Machine.Ready.{ReadyAt, ReadyHere, acts-ready, works-ready}
+use Rattle.law_machine.proofs.Machine.Ready.{ReadyHere, acts-ready, works-ready}
 use Rattle.law_network.proofs.Events.Said.{act-goes}
 use Rattle.law_history.specs.declared.turns.Input.{Input}
 use Rattle.law_history.specs.Histories.{Takes}

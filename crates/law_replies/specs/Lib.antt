@@ -4,3 +4,4 @@ pub mod AsPosted
 pub mod Networks
 pub mod Turns
 pub mod Outcomes
+pub mod Histories

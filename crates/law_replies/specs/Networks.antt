@@ -1,4 +1,4 @@
--- Replies in networks and in schedules: what a caller is told is what its turn appended, and what it receives is what was posted.
+-- Replies in networks and in schedules: what a caller is told is what its turn appended, and what it receives was posted.
 -- n is a network, es are events, the latest first, `older` those before the command and `later` those from there on.
 use Rattle.std.specs.Prelude.{ℕ, ◌≡◌, ◌↔◌, true, List, ◌++◌, Option, Some, is_some, slice_get}
 use Rattle.chorus_ui.specs.declared.layout.Layout.{Layout}
@@ -17,8 +17,8 @@ use Rattle.law_network.specs.Left.{merged_past}
 use Rattle.law_replies.specs.Replies.{Tells}
 use Rattle.law_replies.specs.AsPosted.{IsAsPosted}
 
--- the command of a seat to which somebody came gets the reply that the entries of its turn tell, and no other one; a message that it
--- receives is the one that was posted
+-- the command of a seat to which somebody came gets the reply that the entries of its turn tell, and no other one; a message
+-- that it receives is the one that was posted
 abbrev pub IsToldSo : NetState → List Entry → Type 0
 IsToldSo n past =
     (seat : ℕ) (command : Command) (r : Reply) → is_some (slice_get n.callers seat) ≡ true →
@@ -35,6 +35,7 @@ SchedulesTell = OfSchedules (λ l es n. IsToldSo n (merged_past n))
 -- a message that is received stands as posted in the merge of the journals, then and after whatever comes later
 abbrev pub TakesArePosted : Type 0
 TakesArePosted =
-    (l : Layout) (later older : List Event) (seat : ℕ) (command : Command) (position : ℕ) (m : Message) (settled : Option Settle) →
-    IsLayout l → may_be l (later ++ older) ≡ true → replied seat command (schedule l older) ≡ Some (Reply.Taken position m settled) →
+    (l : Layout) (later older : List Event) (seat : ℕ) (command : Command) (position : ℕ) (m : Message)
+    (settled : Option Settle) → IsLayout l → may_be l (later ++ older) ≡ true →
+    replied seat command (schedule l older) ≡ Some (Reply.Taken position m settled) →
     IsAsPosted m (merged_past (schedule l (later ++ older)))

@@ -69,7 +69,8 @@ Tells gives es Reply.NotHere = (q : Ui) × Says es (Act.NotHere q)
 -- moving and deleting
 Tells gives es Reply.Rehomed = (q : Ui) × ((actor : Ui) × Says es (Act.Rehome q actor))
 Tells gives es (Reply.Departed hop) = (q : Ui) × ((to : ℕ) × ((actor : Ui) × Says es (Act.Depart q to actor hop)))
-Tells gives es (Reply.Deleted count) = (q : Ui) × ((xs : List MsgId) × (Says es (Act.Delete q xs) × (length xs ≡ count)))
+Tells gives es (Reply.Deleted count) =
+    (q : Ui) × ((xs : List MsgId) × (Says es (Act.Delete q xs) × (length xs ≡ count)))
 -- groups
 Tells gives es Reply.Joined = (g : Ui) × ((q : Ui) × Says es (Act.Join g q))
 Tells gives es Reply.Left = (g : Ui) × ((q : Ui) × Says es (Act.Leave g q))

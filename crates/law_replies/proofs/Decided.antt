@@ -1,43 +1,34 @@
--- What the place of a post tells of it is so.
+-- What is decided of a message is decided once, and what its verdict and its copies tell of it.
 -- x is an id, a an answer, `here` are entries that stand in past, a legal list.
-use Rattle.std.proofs.Common.{ℕ, ◌≡◌, ◌<◌, ◌≤◌, ◌==◌, nat_le, Bool, true, false, ◌&&◌, ◌||◌, cond, List, [], ◌∷◌, ◌++◌, length, Option, Some, None, refl, sym, ◌∙◌, ap, subst, inl, inr, ◌⊎◌, append_assoc, append-nil, arith}
+use Rattle.std.proofs.Common.{◌≡◌, ◌<◌, Bool, true, false, ◌&&◌, ◌||◌, cond, List, [], ◌∷◌, ◌++◌, length, Option, Some, None, refl, sym, ◌∙◌, ap, subst, inl, inr, ◌⊎◌, append-nil, arith}
 use Rattle.std.specs.Option.{option_or}
-use Rattle.std.proofs.lemmas.Bool.{false≢true, true≢false, and_parts, and_from, cases_Bool, eq-eqb}
+use Rattle.std.proofs.lemmas.Bool.{false≢true, and_parts, and_from}
 use Rattle.chorus_ui.specs.declared.ui.Ui.{Ui}
 use Rattle.chorus_ui.specs.declared.layout.Layout.{Layout}
 use Rattle.chorus_entry.specs.declared.entry.Entry.{Entry}
 use Rattle.chorus_entry.specs.declared.id.MsgId.{MsgId}
-use Rattle.chorus_entry.specs.declared.dest.Dest.{Dest}
-use Rattle.chorus_entry.specs.declared.dest.Dest.TheVariants as dests
 use Rattle.chorus_entry.specs.declared.answer.Answer.{Answer}
 use Rattle.chorus_entry.specs.declared.answer.Answer.TheVariants as A
 use Rattle.chorus_entry.specs.declared.act.Act.{Act}
 use Rattle.chorus_entry.specs.declared.act.Act.TheVariants as acts
 use Rattle.chorus_entry.specs.Act.{is_verdict, answer_of, message_of}
-use Rattle.chorus_entry.specs.Answer.{is_final}
-use Rattle.chorus_entry.specs.Dest.{group_in}
 use Rattle.chorus_entry.specs.MsgId.{same_id}
 use Rattle.chorus_entry.specs.Same.{are_same}
 use Rattle.chorus_entry.proofs.Same.{same_id-self}
-use Rattle.chorus_world.specs.Views.{views, is_about, about, by, is_by}
+use Rattle.chorus_world.specs.Views.{views, is_about, about, by}
 use Rattle.chorus_world.specs.Groups.{chooses, is_chosen}
 use Rattle.chorus_world.specs.GroupLaws.{copies_of, copies_by}
 use Rattle.chorus_world.specs.Places.{copies}
 use Rattle.chorus_world.specs.Messages.{verdict, verdict_by}
-use Rattle.chorus_world.specs.Posts.{Posted, post_of, posted_in, posted_by, source}
-use Rattle.chorus_world.specs.SentLaws.{StandsIn}
 use Rattle.chorus_world.specs.Steps.{act_may, is_legal}
 use Rattle.chorus_world.proofs.Groups.FunctionalLaws.{copies_case, copies_length, no_copies}
 use Rattle.chorus_world.proofs.Messages.MessageInvariant.{legal_messages}
-use Rattle.chorus_world.proofs.Messages.PostLemmas.{ChoiceNeeds, choose_needs, asked_facts, post_kept, own_source}
+use Rattle.chorus_world.proofs.Messages.PostLemmas.{choose_needs, asked_facts}
 use Rattle.chorus_world.proofs.Messages.SendingLemmas.{from_or, or_some}
 use Rattle.chorus_world.proofs.Messages.StageLemmas.{IsOpen}
-use Rattle.chorus_world.proofs.Messages.Told.{tells_the_verdict, hears_the_end}
 use Rattle.chorus_world.proofs.Messages.VerdictLemmas.{verdict_open, verdict_about}
-use Rattle.chorus_world.proofs.Moments.{legal-older}
 use Rattle.chorus_world.proofs.Ports.LineLemmas.{none_some, id_is}
 use Rattle.chorus_world.proofs.Steps.LegalLemmas.{legal_parts, keeps, skips}
-use Rattle.law_world.proofs.Entries.{stands-later, post-stands, stood-post}
 use Rattle.law_replies.specs.Replies.{Says}
 use Rattle.law_replies.specs.Outcomes.{Decides, Became}
 use Rattle.law_replies.proofs.Saying.{says-now, says-behind, says-one-of, says-nothing}
