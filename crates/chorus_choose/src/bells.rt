@@ -12,8 +12,9 @@ use std::sync::Wait;
 pub fn bell(alloc: Global) -> Result<(Ringer, Waiter), AllocError>
     ensures { IfOk result (λ b. (ringer_bell b.0 ≡ waiter_bell b.1) × (waits_of b.1 ≡ 0)) }
 {
-    let (parker, pass): (RuledParker<BellCounts, Tokens>, Pass<BellCounts>) =
-        RuledParker::ruled(alloc)?;
+    let (parker, pass): (RuledParker<BellCounts, Tokens>, Pass<BellCounts>) = RuledParker::ruled(
+        alloc,
+    )?;
     let unparker = parker.unparker().clone()?;
     Ok((Ringer { unparker }, Waiter { parker, pass }))
 }

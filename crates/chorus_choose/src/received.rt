@@ -15,7 +15,9 @@ pub enum Received {
         settled: Option<Settle>,
     },
     /// No enabled port had a message for the caller when it was looked at; so many were looked at, all of them.
-    Empty { looked: u16 },
+    Empty {
+        looked: u16,
+    },
 }
 
 /// What a receive that waits gives.

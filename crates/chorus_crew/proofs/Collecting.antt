@@ -43,12 +43,12 @@ pub begins-all : (deque thief : RowsId × Global) (n : Nucleus) (put : List Job)
 begins-all deque thief n put hands same jobs ready =
     All-weaker (λ (h : Hand). IsPassOf deque h.hold × (view h.hold ≡ share 1 put []) × (h.done.items ≡ [])) (λ (h : Hand). Begins thief n (view h.hold).put h)
     (λ h r. let is : (view h.hold).put ≡ put = ap (λ (v : Share). v.put) r.1 in
-      record {
-        pass = subst (λ d. IsPassOf d h.hold) (sym same) r.0;
-        view_is = r.1 ∙ ap (λ l. share 1 l []) (sym is);
-        empty = r.2;
-        jobs = subst (All (IsJobOf n)) (sym is) jobs;
-      })
+    record {
+      pass = subst (λ d. IsPassOf d h.hold) (sym same) r.0;
+      view_is = r.1 ∙ ap (λ l. share 1 l []) (sym is);
+      empty = r.2;
+      jobs = subst (All (IsJobOf n)) (sym is) jobs;
+    })
     hands ready
 
 module _ (value : Ui → ℕ → Message → ℕ) (n : Nucleus) where

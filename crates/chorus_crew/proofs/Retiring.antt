@@ -46,18 +46,18 @@ by-keeper false x y e = refl
 
 pub takes-in-more : (n : Nucleus) (a b c p : Pass) (ended : List Pass) → TakesIn n a b ended → IsPlain n p → Retires n p b c → TakesIn n a c (ended ++ p ∷ [])
 takes-in-more n a b c p ended t plain r = record {
-      pass = r.pass;
-      seat = ap (λ (z : Knowledge PlaceNote). z.seat) r.knows ∙ t.seat;
-      keeper = ap (λ (z : Knowledge PlaceNote). z.keeper) r.knows ∙ by-keeper (known p).keeper true (known b).keeper plain.keeper ∙ t.keeper;
-      made = ap (λ (z : Knowledge PlaceNote). z.made) r.knows ∙ by-keeper (known p).keeper (known p).made (known b).made plain.keeper ∙ t.made;
-      mine = ap (λ (z : Knowledge PlaceNote). z.mine) r.knows ∙ t.mine;
-      caller = r.caller ∙ t.caller;
-      notes = ap (λ (z : Knowledge PlaceNote). z.notes) r.knows ∙ ap (λ zs. (known b).notes ++ (note_of (known p) ∷ zs)) plain.notes ∙ ap (λ zs. zs ++ note_of (known p) ∷ []) t.notes
-          ∙ append_assoc (known a).notes (notes ended) (note_of (known p) ∷ []) ∙ ap (λ zs. (known a).notes ++ zs) (sym (map-append (λ (z : Pass). note_of (known z)) ended (p ∷ [])));
-      seen = All-push (λ (z : Pass). SeesMore (known z) (known c)) ended p
-          (All-weaker (λ (z : Pass). SeesMore (known z) (known b)) (λ (z : Pass). SeesMore (known z) (known c)) (λ z more. sees-then (known z) (known b) (known c) more (λ k. (r.sees k).0)) ended t.seen)
-          (λ k. (r.sees k).1);
-    }
+  pass = r.pass;
+  seat = ap (λ (z : Knowledge PlaceNote). z.seat) r.knows ∙ t.seat;
+  keeper = ap (λ (z : Knowledge PlaceNote). z.keeper) r.knows ∙ by-keeper (known p).keeper true (known b).keeper plain.keeper ∙ t.keeper;
+  made = ap (λ (z : Knowledge PlaceNote). z.made) r.knows ∙ by-keeper (known p).keeper (known p).made (known b).made plain.keeper ∙ t.made;
+  mine = ap (λ (z : Knowledge PlaceNote). z.mine) r.knows ∙ t.mine;
+  caller = r.caller ∙ t.caller;
+  notes = ap (λ (z : Knowledge PlaceNote). z.notes) r.knows ∙ ap (λ zs. (known b).notes ++ (note_of (known p) ∷ zs)) plain.notes ∙ ap (λ zs. zs ++ note_of (known p) ∷ []) t.notes
+      ∙ append_assoc (known a).notes (notes ended) (note_of (known p) ∷ []) ∙ ap (λ zs. (known a).notes ++ zs) (sym (map-append (λ (z : Pass). note_of (known z)) ended (p ∷ [])));
+  seen = All-push (λ (z : Pass). SeesMore (known z) (known c)) ended p
+      (All-weaker (λ (z : Pass). SeesMore (known z) (known b)) (λ (z : Pass). SeesMore (known z) (known c)) (λ z more. sees-then (known z) (known b) (known c) more (λ k. (r.sees k).0)) ended t.seen)
+      (λ k. (r.sees k).1);
+}
 
 -- Jobs that are done, in their order.
 

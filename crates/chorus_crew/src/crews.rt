@@ -95,5 +95,14 @@ pub fn crew<H: Handler, R: Threads + Wait + Sync>(
     let Ok(handled) = Vec::with_capacity(alloc, ports.len()) else {
         return Err(CrewFault::Memory(AllocError));
     };
-    crew_with(rt, nucleus, pass, ports, tools, handled, usize::from(workers), handler)
+    crew_with(
+        rt,
+        nucleus,
+        pass,
+        ports,
+        tools,
+        handled,
+        usize::from(workers),
+        handler,
+    )
 }

@@ -64,12 +64,7 @@ fn drain<H: Handler, R: Wait>(
 }
 
 /// Does a job.
-pub(crate) fn perform<H: Handler, R: Wait>(
-    rt: &R,
-    nucleus: &Nucleus,
-    handler: &H,
-    job: Job,
-) -> Done
+pub(crate) fn perform<H: Handler, R: Wait>(rt: &R, nucleus: &Nucleus, handler: &H, job: Job) -> Done
     requires { IsJobOf nucleus.now job }
     ensures { IsDoneOf (H.value handler.now) nucleus.now job result }
 {

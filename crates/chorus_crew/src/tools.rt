@@ -50,11 +50,7 @@ fn slots_for(alloc: Global, count: usize) -> Result<Vec<Option<Done>>, AllocErro
 }
 
 /// Takes memory for so many jobs and workers.
-pub(crate) fn tools_for(
-    alloc: Global,
-    count: usize,
-    workers: usize,
-) -> Result<Tools, AllocError>
+pub(crate) fn tools_for(alloc: Global, count: usize, workers: usize) -> Result<Tools, AllocError>
     ensures { IfOk result (AreTools count workers) }
 {
     let owner = Owner::fifo_as(alloc, DEQUE_ROOM)?;

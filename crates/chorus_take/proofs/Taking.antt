@@ -52,9 +52,9 @@ sees-put : (p : ℕ) (all : List (Remarked PlaceNote)) (v : Knowledge PlaceNote)
 sees-put p all v row is starts k =
     subst (λ z. StartsWith (list_at k z) (seen_at k v)) (sym is)
     (dite (ℕ_discrete k p)
-      (λ e. subst (λ j. StartsWith (list_at j (list_put p all v.seen)) (seen_at j v)) (sym e)
-          (starts_same all (list_at p (list_put p all v.seen)) (seen_at p v) (put_here p all v.seen) starts))
-      (λ apart. starts_same (seen_at k v) (list_at k (list_put p all v.seen)) (seen_at k v) (put_elsewhere p k all v.seen apart) (starts_itself (seen_at k v))))
+    (λ e. subst (λ j. StartsWith (list_at j (list_put p all v.seen)) (seen_at j v)) (sym e)
+    (starts_same all (list_at p (list_put p all v.seen)) (seen_at p v) (put_here p all v.seen) starts))
+    (λ apart. starts_same (seen_at k v) (list_at k (list_put p all v.seen)) (seen_at k v) (put_elsewhere p k all v.seen apart) (starts_itself (seen_at k v))))
 
 pub sees-turn : (p : ℕ) (found news : List (Remarked PlaceNote)) (v u : Knowledge PlaceNote) → u ≡ after_turn p found news v → StartsWith found (seen_at p v) → SeesMore v u
 sees-turn p found news v u knows starts k = sees-put p (found ++ news) v u.seen (ap (λ (z : Knowledge PlaceNote). z.seen) knows) (starts_more found (seen_at p v) news starts) k

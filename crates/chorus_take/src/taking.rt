@@ -24,11 +24,13 @@ pub fn take_once(
     ensures { IsTake nucleus.now port result pass.old pass.new }
 {
     match nucleus.take(pass, port) {
-        Ok(Reply::Taken {
-            pos,
-            message,
-            settled,
-        }) => Ok(Some(TakenMessage {
+        Ok(
+            Reply::Taken {
+                pos,
+                message,
+                settled,
+            },
+        ) => Ok(Some(TakenMessage {
             position: pos,
             message,
             settled,

@@ -59,15 +59,15 @@ module _ (l : Layout) (v : Knowledge PlaceNote) (comers : List Comer) (c : Close
       let log : k.log o.place ≡ o.found ++ (o.seen.0 ++ seen.0) = seen.1 ∙ ap (λ zs. zs ++ seen.0) o.seen.1 ∙ append_assoc o.found o.seen.0 seen.0 in
       subst (IsAsPosted m) merge
       (histories-take-posted l comers k.of_places k.of_seats k.closing o.place o.state
-        record {
-          shape = shape;
-          histories = k.histories;
-          older = turns_at o.place o.found;
-          later = turns_at o.place (o.seen.0 ++ seen.0);
-          turns = k.made o.place is ∙ ap (turns_at o.place) log ∙ turns-append o.place o.found (o.seen.0 ++ seen.0);
-          leads = o.leads;
-        }
-        o.caller (Command.Take q) position m settled o.gives)
+      record {
+        shape = shape;
+        histories = k.histories;
+        older = turns_at o.place o.found;
+        later = turns_at o.place (o.seen.0 ++ seen.0);
+        turns = k.made o.place is ∙ ap (turns_at o.place) log ∙ turns-append o.place o.found (o.seen.0 ++ seen.0);
+        leads = o.leads;
+      }
+      o.caller (Command.Take q) position m settled o.gives)
 
 pub messages-taken-were-posted : MessagesTakenWerePosted
 messages-taken-were-posted l v comers c q position m settled shape k o = posted l v comers c shape k q position m settled o

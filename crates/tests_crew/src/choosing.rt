@@ -12,17 +12,26 @@ use std::process::Abort;
 use std::sync::Wait;
 
 /// Receives this body of this port, at position 0.
-fn assert_taken(rt: &impl Abort, nucleus: &Nucleus, pass: &mut Pass, chooser: &Chooser, from: &str, body: &[u8])
+fn assert_taken(
+    rt: &impl Abort,
+    nucleus: &Nucleus,
+    pass: &mut Pass,
+    chooser: &Chooser,
+    from: &str,
+    body: &[u8],
+)
     requires { IsPassOf nucleus.now pass.old }
     ensures { IsPassOf nucleus.now pass.new }
 {
     match chooser.receive(nucleus, pass) {
-        Ok(Received::Taken {
-            port: taken,
-            pos,
-            message,
-            settled,
-        }) => {
+        Ok(
+            Received::Taken {
+                port: taken,
+                pos,
+                message,
+                settled,
+            },
+        ) => {
             assert!(rt; taken == port(rt, from) && pos == 0 && settled.is_none());
             assert!(rt; message.body.bytes() == body);
         }
@@ -85,7 +94,12 @@ fn equal_priorities_and_ports_of_others(rt: HostRuntime) {
     send(&rt, &nucleus, &mut pass, two, b"b");
     assert_taken(&rt, &nucleus, &mut pass, &chooser, "1.p.2", b"b");
     for port in [one, two] {
-        let moved = insist(&rt, &nucleus, &mut pass, &Command::Move { port, actor: other });
+        let moved = insist(
+            &rt,
+            &nucleus,
+            &mut pass,
+            &Command::Move { port, actor: other },
+        );
         assert!(&rt; moved == Reply::Rehomed);
     }
     assert_empty(&rt, &nucleus, &mut pass, &chooser, 2);

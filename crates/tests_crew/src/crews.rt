@@ -73,7 +73,8 @@ fn fill<R: Wait + Abort>(rt: &R, nucleus: &Nucleus, pass: &mut Pass, ports: u64,
 fn pairs(rt: &impl Abort, alloc: Global, ports: u64) -> Vec<(Ui, Ui)> {
     let mut all = Vec::new(alloc);
     for number in 1..=ports {
-        all.push((port_number(rt, number), actor(rt, "1.a.1"))).expect(rt, "memory");
+        all.push((port_number(rt, number), actor(rt, "1.a.1")))
+            .expect(rt, "memory");
     }
     all
 }
@@ -89,8 +90,16 @@ fn row_crew(rt: HostRuntime) {
     };
     let ports = pairs(&rt, rt.alloc(), 2);
     assert!(&rt; pass.keeper() && pass.worn().is_none());
-    let handled = crew(&rt, rt.alloc(), &nucleus, &mut pass, ports.as_slice(), 2, &handler)
-        .expect(&rt, "handled");
+    let handled = crew(
+        &rt,
+        rt.alloc(),
+        &nucleus,
+        &mut pass,
+        ports.as_slice(),
+        2,
+        &handler,
+    )
+    .expect(&rt, "handled");
     for one in handled.iter() {
         assert!(&rt; one.from == 0 && one.count == 1 && one.total == 1);
     }
@@ -109,8 +118,16 @@ fn a_crew_handles_each_message_once(rt: HostRuntime) {
     };
     let ports = pairs(&rt, rt.alloc(), 64);
     assert!(&rt; pass.keeper() && pass.worn().is_none());
-    let handled = crew(&rt, rt.alloc(), &nucleus, &mut pass, ports.as_slice(), 16, &handler)
-        .expect(&rt, "handled");
+    let handled = crew(
+        &rt,
+        rt.alloc(),
+        &nucleus,
+        &mut pass,
+        ports.as_slice(),
+        16,
+        &handler,
+    )
+    .expect(&rt, "handled");
     for one in handled.iter() {
         assert!(&rt; one.from == 0 && one.count == 64 && one.total == 64);
     }

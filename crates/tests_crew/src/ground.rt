@@ -91,10 +91,15 @@ pub(crate) fn make<R: Wait + Abort>(rt: &R, nucleus: &Nucleus, pass: &mut Pass, 
     ensures { IsPassOf nucleus.now pass.new }
 {
     let owner = actor(rt, "1.a.1");
-    match insist(rt, nucleus, pass, &Command::Make {
-        actor: owner,
-        capacity,
-    }) {
+    match insist(
+        rt,
+        nucleus,
+        pass,
+        &Command::Make {
+            actor: owner,
+            capacity,
+        },
+    ) {
         Reply::Made(_) => {}
         _ => panic!(rt; "not made"),
     }

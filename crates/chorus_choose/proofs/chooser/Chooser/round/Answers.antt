@@ -12,10 +12,10 @@ returns-in-Ok-Some-clause-round g c =
     let v : c.args.self.now ≡ xs = search rules in
     let h : c.loop-looked.looked < length xs = omega (arith, c.loop-looked-test.true) in
     let m : Looked c.args.nucleus.now (ports_of (take c.loop-looked.looked xs)) c.args.pass.now c.loop-looked.pass =
-        subst (λ (l : List Enabled). Looked c.args.nucleus.now (ports_of (take c.loop-looked.looked l)) c.args.pass.now c.loop-looked.pass) v c.loop-looked.invariant.looked in
+    subst (λ (l : List Enabled). Looked c.args.nucleus.now (ports_of (take c.loop-looked.looked l)) c.args.pass.now c.loop-looked.pass) v c.loop-looked.invariant.looked in
     let k = rw c.in-Ok-Some.field-0-is at c.in-Ok-Some.ensures.take in
     subst (λ (l : List Enabled). IsReceive c.args.nucleus.now [] (ports_of l) (Ok (receives.Taken c.index.result.now.port c.in-Ok-Some.taken.position c.in-Ok-Some.taken.message c.in-Ok-Some.taken.settled)) c.args.pass.now c.take_when_free.new.pass) (sym v)
-        (gives c.args.nucleus.now xs c.loop-looked.looked c.index.result.now c.args.pass.now c.loop-looked.pass c.take_when_free.new.pass h c.index.ensures m c.in-Ok-Some.taken k)
+    (gives c.args.nucleus.now xs c.loop-looked.looked c.index.result.now c.args.pass.now c.loop-looked.pass c.take_when_free.new.pass h c.index.ensures m c.in-Ok-Some.taken k)
 
 pub returns-in-Err-clause-round : goal.returns-in-Err-clause-round
 returns-in-Err-clause-round g c =
@@ -23,9 +23,9 @@ returns-in-Err-clause-round g c =
     let v : c.args.self.now ≡ xs = search rules in
     let h : c.loop-looked.looked < length xs = omega (arith, c.loop-looked-test.true) in
     let m : Looked c.args.nucleus.now (ports_of (take c.loop-looked.looked xs)) c.args.pass.now c.loop-looked.pass =
-        subst (λ (l : List Enabled). Looked c.args.nucleus.now (ports_of (take c.loop-looked.looked l)) c.args.pass.now c.loop-looked.pass) v c.loop-looked.invariant.looked in
+    subst (λ (l : List Enabled). Looked c.args.nucleus.now (ports_of (take c.loop-looked.looked l)) c.args.pass.now c.loop-looked.pass) v c.loop-looked.invariant.looked in
     subst (λ (l : List Enabled). IsReceive c.args.nucleus.now [] (ports_of l) (Err c.in-Err.fault) c.args.pass.now c.take_when_free.new.pass) (sym v)
-        (stops c.args.nucleus.now xs c.loop-looked.looked c.index.result.now c.args.pass.now c.loop-looked.pass c.take_when_free.new.pass h c.index.ensures m c.in-Err.fault c.in-Err.ensures.take)
+    (stops c.args.nucleus.now xs c.loop-looked.looked c.index.result.now c.args.pass.now c.loop-looked.pass c.take_when_free.new.pass h c.index.ensures m c.in-Err.fault c.in-Err.ensures.take)
 
 pub loop-looked-preserved : goal.loop-looked-preserved
 loop-looked-preserved g c =
@@ -33,7 +33,7 @@ loop-looked-preserved g c =
     let v : c.args.self.now ≡ xs = search rules in
     let h : c.loop-looked.looked < length xs = omega (arith, c.loop-looked-test.true) in
     let m : Looked c.args.nucleus.now (ports_of (take c.loop-looked.looked xs)) c.args.pass.now c.loop-looked.pass =
-        subst (λ (l : List Enabled). Looked c.args.nucleus.now (ports_of (take c.loop-looked.looked l)) c.args.pass.now c.loop-looked.pass) v c.loop-looked.invariant.looked in
+    subst (λ (l : List Enabled). Looked c.args.nucleus.now (ports_of (take c.loop-looked.looked l)) c.args.pass.now c.loop-looked.pass) v c.loop-looked.invariant.looked in
     let v_len : length c.args.self.now ≡ length xs = ap length v in
     let k = rw c.in-Ok-None.field-0-is at c.in-Ok-None.ensures.take in
     record {

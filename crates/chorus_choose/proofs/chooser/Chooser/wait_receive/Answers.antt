@@ -7,22 +7,28 @@ use Rattle.chorus_choose.proofs.chooser.Chooser.wait_receive.Goals as goal
 pub returns-in-Err-clause-rounds : goal.returns-in-Err-clause-rounds
 returns-in-Err-clause-rounds g c =
     let i = c.loop.invariant in
-    let ports = ports_of c.args.self.now in
-    (i.n, i.waits, record {
-      parks = tt;
-      last = after-rounds c.args.nucleus.now (rounds i.n ports) ports (Err c.in-Err.fault) c.args.pass.now c.loop.pass c.round.new.pass i.looked c.in-Err.ensures.round;
-    })
+    let ports = ports_of c.args.self.now in (
+      i.n,
+      i.waits,
+      record {
+        parks = tt;
+        last = after-rounds c.args.nucleus.now (rounds i.n ports) ports (Err c.in-Err.fault) c.args.pass.now c.loop.pass c.round.new.pass i.looked c.in-Err.ensures.round;
+      },
+    )
 
 pub returns-in-Taken-clause-rounds : goal.returns-in-Taken-clause-rounds
 returns-in-Taken-clause-rounds g c =
     let i = c.loop.invariant in
     let ports = ports_of c.args.self.now in
     let r : IsReceive c.args.nucleus.now [] ports (Ok c.in-Ok.received) c.loop.pass c.round.new.pass = c.in-Ok.ensures.round in
-    let s = rw c.in-Taken.is at r in
-    (i.n, i.waits, record {
-      parks = i.parks;
-      last = after-rounds c.args.nucleus.now (rounds i.n ports) ports _ c.args.pass.now c.loop.pass c.round.new.pass i.looked s;
-    })
+    let s = rw c.in-Taken.is at r in (
+      i.n,
+      i.waits,
+      record {
+        parks = i.parks;
+        last = after-rounds c.args.nucleus.now (rounds i.n ports) ports _ c.args.pass.now c.loop.pass c.round.new.pass i.looked s;
+      },
+    )
 
 pub loop-preserved : goal.loop-preserved
 loop-preserved g c =
