@@ -1,6 +1,6 @@
 -- Jobs are made, one after another, and retired again where there is no memory for the next.
 -- n is the nucleus, a, b and c are the caller's pass at three moments.
-use Rattle.std.proofs.Common.{◌≡◌, ℕ, ◌+◌, true, List, [], ◌∷◌, map, length, reverse, refl, sym, ap, ◌∙◌, subst, arith}
+use Rattle.std.proofs.Common.{◌≡◌, ℕ, zero, suc, ◌+◌, ◌≤◌, ◌<◌, true, take, get_or, List, [], ◌∷◌, map, length, reverse, refl, sym, ap, ◌∙◌, subst, arith}
 use Rattle.std.specs.List.{All}
 use Rattle.std.proofs.lemmas.List.{length-reverse, length-map}
 use Rattle.std.proofs.lemmas.List.Elements.{All-weaker}
@@ -14,10 +14,10 @@ use Rattle.chorus_nucleus.specs.declared.pass.Pass.{Pass}
 use Rattle.chorus_nucleus.specs.Passes.{known, IsPassOf}
 use Rattle.chorus_nucleus.specs.Coming.{IsKeptKeeper}
 use Rattle.chorus_crew.specs.declared.job.Job.{Job}
-use Rattle.chorus_crew.specs.Jobs.{IsPlain, AreEntered, HasDrawn}
+use Rattle.chorus_crew.specs.Jobs.{IsPlain, IsEntered, AreEntered, HasDrawn}
 use Rattle.chorus_crew.specs.Retiring.{TakesIn, TookAlone, IsRetired}
 use Rattle.chorus_crew.proofs.Retiring.{all-reverse}
-use Rattle.chorus_crew.proofs.Handing.{retired, fresh-all, notes-alone, notes-count, entered-count}
+use Rattle.chorus_crew.proofs.Handing.{retired, fresh-all, notes-alone, notes-count, entered-count, entered-more}
 
 pub drawn-none : (n : Nucleus) (a : Pass) → IsPassOf n a → HasDrawn n 0 a a
 drawn-none n a is = record {
@@ -51,3 +51,21 @@ undone n k pairs jobs a b c keeper count e d t =
     retired n k a b c ended keeper d t
     (notes-count ended ∙ length-map (reverse jobs) (λ (j : Job). j.pass) ∙ length-reverse jobs ∙ entered-count n 0 (known a).made pairs jobs e ∙ count)
     (notes-alone (reverse jobs) (all-reverse (λ (j : Job). TookAlone (known j.pass).mine) jobs fresh))
+
+take-next : {A : Type 0} (xs : List A) (k : ℕ) (d : A) → k < length xs → take (k + 1) xs ≡ take k xs ++ get_or xs k d ∷ []
+take-next [] k d h = absurd (omega arith)
+take-next (x ∷ xs) zero d h = refl
+take-next (x ∷ xs) (suc k) d h = let e : suc k + 1 ≡ suc (k + 1) = omega arith in rw e (ap (λ zs. x ∷ zs) (take-next xs k d (omega arith)))
+
+take-length : {A : Type 0} (xs : List A) (k : ℕ) → k ≤ length xs → length (take k xs) ≡ k
+take-length xs zero h = refl
+take-length [] (suc k) h = absurd (omega (arith, h))
+take-length (x ∷ xs) (suc k) h = ap suc (take-length xs k (omega (arith, h)))
+
+-- the job of the next pair was made
+pub entered-next : (n : Nucleus) (seat at next : ℕ) (pairs : List (Ui × Ui)) (p d : Ui × Ui) (jobs : List Job) (j : Job) → at < length pairs → p ≡ get_or pairs at d → next ≡ seat + at
+    → AreEntered n 0 seat (take at pairs) jobs → IsEntered n at next p.0 j → AreEntered n 0 seat (take (at + 1) pairs) (jobs ++ j ∷ [])
+entered-next n seat at next pairs p d jobs j small is number e here =
+    let len = take-length pairs at (omega (arith, small)) in
+    subst (λ zs. AreEntered n 0 seat zs (jobs ++ j ∷ [])) (sym (take-next pairs at d small ∙ ap (λ x. take at pairs ++ x ∷ []) (sym is)))
+    (entered-more n 0 seat at next (take at pairs) p jobs j e (omega (arith, len)) (omega (arith, len, number)) here)
