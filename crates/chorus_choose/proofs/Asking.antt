@@ -15,7 +15,7 @@ use Rattle.chorus_nucleus.specs.Passes.{layout_of, known, worn_by, IsPassOf}
 use Rattle.chorus_nucleus.specs.Calls.{worn_after}
 use Rattle.chorus_take.specs.declared.message.TakenMessage.{TakenMessage}
 use Rattle.chorus_take.specs.Taking.{Appends, IsMiss, Misses, HasOrigin, Gives, KeepsPass, IsFault, IsTake, reply_with}
-use Rattle.chorus_take.proofs.Taking.{worn-ok, worn-err}
+use Rattle.chorus_take.proofs.Turns.{worn-ok, worn-err}
 use Rattle.chorus_take.proofs.Trying.{appends-none, appends-then, keeps-none, keeps-then}
 use Rattle.chorus_choose.specs.declared.chooser.Enabled.{Enabled}
 use Rattle.chorus_choose.specs.declared.received.Received.{Received}

@@ -18,7 +18,7 @@ use Rattle.chorus_nucleus.specs.Passes.{layout_of, known, worn_by, IsPassOf}
 use Rattle.chorus_nucleus.specs.Calls.{worn_after}
 use Rattle.chorus_take.specs.declared.message.TakenMessage.{TakenMessage}
 use Rattle.chorus_take.specs.Taking.{Appends, Misses, HasOrigin, Gives, SeesMore, KeepsPass, IsTake, reply_with}
-use Rattle.chorus_take.proofs.Taking.{worn-ok, worn-err}
+use Rattle.chorus_take.proofs.Turns.{worn-ok, worn-err}
 use Rattle.chorus_take.proofs.Trying.{appends-none, appends-then, appends-still, origin-later, keeps-none, keeps-then}
 use Rattle.chorus_crew.specs.declared.job.Tally.{Tally}
 use Rattle.chorus_crew.specs.Handling.{took_acts, AreGiven, first_position, worth, Counts, Handles, Drains}

@@ -1,7 +1,7 @@
 pub mod Draining
-pub mod Dealing
+pub mod Deque
 pub mod Filling
 pub mod Collecting
-pub mod Retiring
+pub mod Ended
 pub mod Handing
-pub mod Entering
+pub mod Entered

@@ -19,7 +19,7 @@ use Rattle.chorus_nucleus.specs.Passes.{layout_of, known, caller_of, worn_by, Is
 use Rattle.chorus_nucleus.specs.Calls.{FindsWorn, Because, place_of, worn_after}
 use Rattle.chorus_take.specs.declared.message.TakenMessage.{TakenMessage}
 use Rattle.chorus_take.specs.Taking.{acts_made, Appends, Misses, HasOrigin, Gives, Answers, SeesMore, KeepsPass, IsFault, IsTake}
-use Rattle.chorus_take.proofs.Taking.{sees-same}
+use Rattle.chorus_take.proofs.Turns.{sees-same}
 
 -- Entries.
 

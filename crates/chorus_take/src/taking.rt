@@ -13,7 +13,7 @@ use std::thread;
 
 /// Takes the first message of the port, in one turn at the port's place on the caller's site. None comes exactly where the caller's
 /// actor does not hold the port there, or no message waits in it. The faults are those of [`Nucleus::take`], which tries the place once.
-#[tactic(auto, using(crate::proofs::Taking::calls))]
+#[tactic(auto, using(crate::proofs::Turns::calls))]
 pub fn take_once(
     nucleus: &Nucleus,
     pass: &mut Pass,

@@ -6,7 +6,7 @@ use Rattle.law_closing.specs.Places.{PlaceNote}
 use Rattle.chorus_nucleus.specs.Passes.{known}
 use Rattle.chorus_crew.specs.declared.job.Job.{Job}
 use Rattle.chorus_crew.specs.Jobs.{AreEntered}
-use Rattle.chorus_crew.proofs.Entering.{drawn-none, drawn-more, entered-next}
+use Rattle.chorus_crew.proofs.Entered.{drawn-none, drawn-more, entered-next}
 use Rattle.chorus_crew.proofs.entering.enter_all.Goals as goal
 
 pub loop-index-init : goal.loop-index-init

@@ -3,7 +3,7 @@ use Rattle.std.specs.List.{All}
 use Rattle.chorus_crew.specs.declared.job.Done.{Done}
 use Rattle.chorus_crew.specs.Retiring.{IsFullSlot}
 use Rattle.chorus_crew.proofs.Filling.{all_front, all_last}
-use Rattle.chorus_crew.proofs.Retiring.{all-reverse, slot-plain, collected-none, collected-more, collected-all, ok-more, err-more, all-ok, all-err}
+use Rattle.chorus_crew.proofs.Ended.{all-reverse, slot-plain, collected-none, collected-more, collected-all, ok-more, err-more, all-ok, all-err}
 use Rattle.chorus_crew.proofs.retiring.retire_done.Goals as goal
 
 pub loop-slot-init : goal.loop-slot-init

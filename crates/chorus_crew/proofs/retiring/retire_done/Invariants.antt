@@ -1,7 +1,7 @@
 use Rattle.std.proofs.Common.{◌+◌, ◌≤◌, vec_len, vec_capacity}
 use Rattle.std.specs.List.{All}
 use Rattle.chorus_crew.specs.Retiring.{IsFullSlot}
-use Rattle.chorus_crew.proofs.Retiring.{Collected}
+use Rattle.chorus_crew.proofs.Ended.{Collected}
 use Rattle.chorus_crew.proofs.retiring.retire_done.Given as goal
 
 abbrev pub invariant-loop-slot : goal.invariant-loop-slot

@@ -4,7 +4,7 @@ use Rattle.chorus_nucleus.specs.declared.pass.Pass.{Pass}
 use Rattle.chorus_crew.specs.declared.job.Job.{Job}
 use Rattle.chorus_crew.specs.Jobs.{IsPlain}
 use Rattle.chorus_crew.proofs.Filling.{all_front, all_last}
-use Rattle.chorus_crew.proofs.Retiring.{takes-in-none, takes-in-more, turned-more}
+use Rattle.chorus_crew.proofs.Ended.{takes-in-none, takes-in-more, turned-more}
 use Rattle.chorus_crew.proofs.retiring.retire_jobs.Goals as goal
 
 pub loop-job-init : goal.loop-job-init

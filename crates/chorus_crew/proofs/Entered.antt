@@ -16,7 +16,7 @@ use Rattle.chorus_nucleus.specs.Coming.{IsKeptKeeper}
 use Rattle.chorus_crew.specs.declared.job.Job.{Job}
 use Rattle.chorus_crew.specs.Jobs.{IsPlain, IsEntered, AreEntered, HasDrawn}
 use Rattle.chorus_crew.specs.Retiring.{TakesIn, TookAlone, IsRetired}
-use Rattle.chorus_crew.proofs.Retiring.{all-reverse}
+use Rattle.chorus_crew.proofs.Ended.{all-reverse}
 use Rattle.chorus_crew.proofs.Handing.{retired, fresh-all, notes-alone, notes-count, entered-count, entered-more}
 
 pub drawn-none : (n : Nucleus) (a : Pass) → IsPassOf n a → HasDrawn n 0 a a
