@@ -1,7 +1,7 @@
 -- On what is to be decided at a place a decision may come next.
-use Rattle.std.proofs.Common.{ℕ, ◌≡◌, ◌≢◌, ◌⊎◌, ◌+◌, ◌-◌, ◌<◌, ◌≤◌, ◌==◌, nat_lt, nat_le, Bool, true, false, not, ◌&&◌, ◌||◌, cond, List, [], ◌∷◌, length, Option, Some, None, is_some, is_none, refl, sym, ◌∙◌, ap, subst, arith, inl, inr}
+use Rattle.std.proofs.Common.{ℕ, ◌≡◌, ◌+◌, ◌-◌, ◌<◌, ◌==◌, nat_lt, Bool, true, false, not, ◌&&◌, ◌||◌, cond, List, length, Option, Some, None, is_some, is_none, refl, sym, ◌∙◌, ap, subst, arith, inl, inr}
 use Rattle.std.specs.Prelude.{slice_get}
-use Rattle.std.proofs.lemmas.Bool.{and_parts, and_from, and_cases, eqb-true, eqb-false, eq-eqb, ltb-true, ltb-false, lt-ltb, le-leb, not-true, not-false, false≢true, true≢false, cases_Bool, cases_lt}
+use Rattle.std.proofs.lemmas.Bool.{and_parts, and_from, and_cases, eqb-true, eqb-false, eq-eqb, ltb-false, lt-ltb, le-leb, not-true, not-false, false≢true, true≢false, cases_Bool, cases_lt}
 use Rattle.std.proofs.lemmas.Option.{slice_get_within}
 use Rattle.chorus_ui.specs.declared.ui.Ui.{Ui}
 use Rattle.chorus_ui.specs.declared.layout.Layout.{Layout}
@@ -22,13 +22,12 @@ use Rattle.chorus_world.specs.declared.port.Spot.{Spot}
 use Rattle.chorus_world.specs.declared.port.Spot.TheVariants.{Held, Moving, Ended}
 use Rattle.chorus_world.specs.declared.step.Due.{Due}
 use Rattle.chorus_world.specs.declared.step.Due.TheVariants.{NotDue, ByTry, AtHome}
-use Rattle.chorus_world.specs.Views.{views, views_about, at, about, on}
+use Rattle.chorus_world.specs.Views.{views, views_about, at, on}
 use Rattle.chorus_world.specs.Ports.{PortState, fate, is_made, is_held, is_moving, is_ended, is_last, last_of, is_held_at, is_ended_at, is_coming, has_room, is_full, waiting}
 use Rattle.chorus_world.specs.Posts.{site_asked, is_on_site}
 use Rattle.chorus_world.specs.Clients.{is_already, finds_clients_full}
-use Rattle.chorus_world.specs.Messages.{progress}
 use Rattle.chorus_world.specs.Places.{sent, is_deleted, located, is_location, just_taken, last_clock}
-use Rattle.chorus_world.specs.Steps.{act_may, may, is_legal, is_beyond, is_due_with, is_tried_with, is_due, due_by_try, due_at_home, meets, suits, may_enter, may_stand_behind, is_early, is_to_go}
+use Rattle.chorus_world.specs.Steps.{act_may, is_legal, is_due_with, is_tried_with, is_due, due_by_try, due_at_home, meets, may_enter, may_stand_behind, is_early}
 use Rattle.chorus_world.specs.LocationLaws.{path_of}
 use Rattle.chorus_world.proofs.Sorted.Local.{is_kept}
 use Rattle.chorus_world.proofs.Ports.PortSteps.{spot_in, next_at_home}
@@ -39,7 +38,7 @@ use Rattle.chorus_world.proofs.Messages.SendingLemmas.{some_is}
 use Rattle.chorus_world.proofs.Messages.SentFacts.{sent-named, found-has}
 use Rattle.chorus_world.proofs.Messages.StageFacts.{StageFacts, keeps-stages}
 use Rattle.chorus_world.proofs.Messages.MessageSteps.{Fits, first_sent, legal_inv, locates}
-use Rattle.law_world.specs.Decisions.{IsTriedHere, IsNextHere, IsToDecide, MayDecide, SomeDecisionIsPossible}
+use Rattle.law_world.specs.Decisions.{IsTriedHere, IsToDecide, SomeDecisionIsPossible}
 use Rattle.law_world.proofs.Deciding.{hop_of, due_of, due-is}
 
 -- What is due with a hop passes each test that the hop passes.
