@@ -1,0 +1,13 @@
+pub mod Packets
+pub mod Lists
+pub mod Turns
+pub mod Neighbours
+pub mod Normals
+pub mod Races
+pub mod Searching
+pub mod Exploring
+pub mod Alike
+pub mod Nets
+pub mod Replays
+pub mod Carriers
+pub mod Walking

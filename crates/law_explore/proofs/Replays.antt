@@ -1,0 +1,228 @@
+-- The same moves come to the same, whoever delivers.
+use Rattle.std.proofs.Common.{ℕ, zero, suc, ◌≡◌, ◌≤◌, ◌==◌, Bool, true, false, cond, List, [], ◌∷◌, ◌++◌, length, map, Option, Some, None, is_some, slice_get, slice_set, inl, inr, refl, sym, ◌∙◌, ap, subst, arith}
+use Rattle.std.specs.List.{flat_map, filter_map}
+use Rattle.std.specs.Option.{option_map, option_or}
+use Rattle.std.proofs.lemmas.Bool.{false≢true, and_parts, and_from, cases_Bool, eqb-false}
+use Rattle.chorus_ui.specs.declared.ui.Ui.{Ui}
+use Rattle.chorus_ui.specs.declared.layout.Layout.{Layout}
+use Rattle.chorus_entry.specs.declared.act.Act as acts
+use Rattle.chorus_entry.specs.declared.command.Command.{Command}
+use Rattle.chorus_entry.specs.declared.entry.Entry.{Entry}
+use Rattle.chorus_entry.specs.declared.id.MsgId.{MsgId}
+use Rattle.chorus_world.specs.declared.place.Sent.{Sent}
+use Rattle.chorus_world.specs.GroupLaws.{copies_of, copies_by}
+use Rattle.chorus_world.specs.Messages.{verdict, verdict_by}
+use Rattle.chorus_ports.specs.Table as table
+use Rattle.chorus_calls.specs.Callers.{Seated}
+use Rattle.law_machine.specs.PlaceState.{PlaceState}
+use Rattle.law_network.specs.Packets.{first_on}
+use Rattle.law_network.specs.Network.{NetState, Event, Act, Deliver, happened}
+use Rattle.law_network.proofs.Standing.CallerList.{get-other, get-replaced}
+use Rattle.law_explore.specs.Alike.{ActAlike, PlacesAlike, CallerAlike, NetsAlike, AreSameMove}
+use Rattle.law_explore.specs.Neighbours.{seat_of, is_ready}
+use Rattle.law_explore.specs.Search.{state_after, IsHistory}
+use Rattle.law_explore.specs.Races.{Move, Go, Carry, Race, Position, next_of, are_linked, event_of, scripts_after, own_by, own_of, answers_after, position_after, is_ready_by, racing}
+use Rattle.law_explore.specs.Outcome.{answer_facts, plain_answer, Judged, port_fact, posts_in, verdict_in, copies_in, made_in, made_by, made_at, held_in, outcome_with}
+use Rattle.law_explore.specs.Laws.{RacesAlike, MovesComeToTheSame}
+use Rattle.law_explore.proofs.Alike.{keep_acts, owns-alike}
+use Rattle.law_explore.proofs.Nets.{nets-stay-alike, begins, some-too}
+use Rattle.law_explore.proofs.Races.{caller, turn, is}
+
+-- What is asked of journals is a function of their acts.
+
+acts-verdict : (x : MsgId) (j k : List Entry) → ActAlike j k → verdict x j ≡ verdict x k
+acts-verdict x [] [] h = refl
+acts-verdict x [] (f ∷ k) h = absurd (cc)
+acts-verdict x (e ∷ j) [] h = absurd (cc)
+acts-verdict x (e ∷ j) (f ∷ k) h =
+    let same : e.act ≡ f.act = cc in
+    let rest : ActAlike j k = cc in
+    λ i. option_or (acts-verdict x j k rest i) (verdict_by x (same i))
+
+acts-copies : (x : MsgId) (j k : List Entry) → ActAlike j k → copies_of x j ≡ copies_of x k
+acts-copies x [] [] h = refl
+acts-copies x [] (f ∷ k) h = absurd (cc)
+acts-copies x (e ∷ j) [] h = absurd (cc)
+acts-copies x (e ∷ j) (f ∷ k) h =
+    let same : e.act ≡ f.act = cc in
+    let rest : ActAlike j k = cc in
+    λ i. acts-copies x j k rest i ++ copies_by x (same i)
+
+acts-made : (j k : List Entry) → ActAlike j k → made_by j ≡ made_by k
+acts-made [] [] h = refl
+acts-made [] (f ∷ k) h = absurd (cc)
+acts-made (e ∷ j) [] h = absurd (cc)
+acts-made (e ∷ j) (f ∷ k) h =
+    let same : e.act ≡ f.act = cc in
+    let rest : ActAlike j k = cc in
+    λ i. acts-made j k rest i ++ made_in (same i)
+
+places-verdict : (x : MsgId) (ss rs : List PlaceState) → PlacesAlike ActAlike ss rs → verdict_in x ss ≡ verdict_in x rs
+places-verdict x [] [] h = refl
+places-verdict x [] (r ∷ rs) h = absurd h
+places-verdict x (s ∷ ss) [] h = absurd h
+places-verdict x (s ∷ ss) (r ∷ rs) h =
+    (λ i. option_or (acts-verdict x s.journal (h.0).journal (h.0).journals i) (places-verdict x ss rs h.1 i))
+    ∙ ap (λ (z : PlaceState). option_or (verdict x z.journal) (verdict_in x rs)) (sym (h.0).is)
+
+places-copies : (x : MsgId) (ss rs : List PlaceState) → PlacesAlike ActAlike ss rs → copies_in x ss ≡ copies_in x rs
+places-copies x [] [] h = refl
+places-copies x [] (r ∷ rs) h = absurd h
+places-copies x (s ∷ ss) [] h = absurd h
+places-copies x (s ∷ ss) (r ∷ rs) h =
+    (λ i. map (λ (m : Sent). m.id) (acts-copies x s.journal (h.0).journal (h.0).journals i) ++ places-copies x ss rs h.1 i)
+    ∙ ap (λ (z : PlaceState). map (λ (m : Sent). m.id) (copies_of x z.journal) ++ copies_in x rs) (sym (h.0).is)
+
+places-made : (ss rs : List PlaceState) → PlacesAlike ActAlike ss rs → made_at ss ≡ made_at rs
+places-made [] [] h = refl
+places-made [] (r ∷ rs) h = absurd h
+places-made (s ∷ ss) [] h = absurd h
+places-made (s ∷ ss) (r ∷ rs) h =
+    (λ i. acts-made s.journal (h.0).journal (h.0).journals i ++ places-made ss rs h.1 i)
+    ∙ ap (λ (z : PlaceState). made_by z.journal ++ made_at rs) (sym (h.0).is)
+
+places-held : (q : Ui) (ss rs : List PlaceState) → PlacesAlike ActAlike ss rs → held_in q ss ≡ held_in q rs
+places-held q [] [] h = refl
+places-held q [] (r ∷ rs) h = absurd h
+places-held q (s ∷ ss) [] h = absurd h
+places-held q (s ∷ ss) (r ∷ rs) h =
+    ap (option_or (table.find q s.ports)) (places-held q ss rs h.1)
+    ∙ ap (λ (z : PlaceState). option_or (table.find q z.ports) (held_in q rs)) (sym (h.0).is)
+
+pub outcomes : (told : List (List acts.Act)) (ss rs : List PlaceState) → PlacesAlike ActAlike ss rs → outcome_with told ss ≡ outcome_with told rs
+outcomes told ss rs h =
+    λ i. answer_facts 1 told
+    ++ map (λ (x : MsgId). Judged x (option_map plain_answer (places-verdict x ss rs h i)))
+    (flat_map (λ (x : MsgId). x ∷ places-copies x ss rs h i) (posts_in told))
+    ++ filter_map (λ (q : Ui). option_map port_fact (places-held q ss rs h i)) (places-made ss rs h i)
+
+-- Who was there stays there.
+
+pub stays-there : (e : Event) (n : NetState) (j : ℕ) → is_ready e n ≡ true → is_some (slice_get n.callers j) ≡ true → is_some (slice_get (happened e n).callers j) ≡ true
+stays-there e n j ready some =
+    let t = turn e n ready in
+    let w = caller e n ready in
+    ap (λ (m : NetState). is_some (slice_get m.callers j)) (is e n ready)
+    ∙ elim (cases_Bool (seat_of e == j)) [
+      | inl here ↦
+          (ap (λ k. is_some (slice_get (slice_set n.callers (seat_of e) t.caller) k)) (sym (equal (seat_of e) j here))
+          ∙ ap is_some (get-replaced n.callers (seat_of e) w.0 t.caller w.1))
+      | inr away ↦ (ap is_some (get-other n.callers (seat_of e) j t.caller (eqb-false (seat_of e) j away)) ∙ some)
+    ]
+  where
+    equal : (a b : ℕ) → (a == b) ≡ true → a ≡ b
+    equal a b g = grind (arith, g)
+
+pub length-set : {A : Type 0} (xs : List A) (i : ℕ) (x : A) → length (slice_set xs i x) ≡ length xs
+length-set [] i x = refl
+length-set (y ∷ xs) zero x = refl
+length-set (y ∷ xs) (suc i) x = ap suc (length-set xs i x)
+
+pub long : (m : Move) (left : List (List Command)) → length (scripts_after m left) ≡ length left
+long (Go i) left = length-set left i _
+long (Carry a b) left = refl
+
+short : (left : List (List Command)) (i : ℕ) (c : Command) → next_of (slice_get left i) ≡ Some c → suc i ≤ length left
+short [] i c h = absurd (cc)
+short (cs ∷ left) zero c h = omega arith
+short (cs ∷ left) (suc i) c h = let le = short left i c h in omega (arith, le)
+
+module _ (l : Layout) (count : ℕ) (one other : ℕ → ℕ) (behind : (b k : ℕ) → 1 ≤ k → k ≤ count → (one b ≡ k → ⊥) × (other b ≡ k → ⊥)) where
+  pub record Stay (s t : Position) : Type 0 where
+    pub nets : NetsAlike ActAlike count s.net t.net
+    pub left : t.left ≡ s.left
+    pub told : t.told ≡ s.told
+    pub all : length s.left ≡ count
+    pub there : (b : ℕ) → is_some (slice_get t.net.callers (other b)) ≡ true
+
+  -- may come in the second too, and they stay alike
+  abbrev Follows : Move → Position → Position → Type 0
+  Follows m s t = (is_ready_by (event_of l other m t.left) t.net ≡ true) × Stay (position_after (event_of l one m s.left) m s) (position_after (event_of l other m t.left) m t)
+
+  module _ (s t : Position) (h : Stay s t) where
+    goes : (m : Move) (e f : Event) → event_of l one m s.left ≡ Some e → event_of l other m t.left ≡ Some f → is_ready f t.net ≡ true → AreSameMove count e f s.net t.net → own_of f t.net ≡ own_of e s.net → Follows m s t
+    goes m e f is_e is_f ready same own = (
+      ap (λ x. is_ready_by x t.net) is_f ∙ ready,
+      subst (λ x. Stay (position_after x m s) (position_after (event_of l other m t.left) m t)) (sym is_e)
+          (subst (λ x. Stay (position_after (Some e) m s) (position_after x m t)) (sym is_f)
+          (record {
+            nets = nets-stay-alike ActAlike keep_acts count s.net t.net e f h.nets same;
+            left = ap (scripts_after m) h.left;
+            told = (λ i. answers_after m (own i) (h.told i));
+            all = long m s.left ∙ h.all;
+            there = λ b. stays-there f t.net (other b) ready (h.there b);
+          })),
+    )
+
+    pub follows : (m : Move) → is_ready_by (event_of l one m s.left) s.net ≡ true → Follows m s t
+    follows (Go i) ready = by (next_of (slice_get s.left i)) refl ready
+      where
+        by : (o : Option Command) → next_of (slice_get s.left i) ≡ o → is_ready_by (option_map (λ (c : Command). Act (suc i) c) o) s.net ≡ true → Follows (Go i) s t
+        by None e k = absurd (false≢true k)
+        by (Some c) e k =
+            let low : 1 ≤ suc i = omega arith in
+            let high : suc i ≤ count = subst (λ z. suc i ≤ z) h.all (short s.left i c e) in
+            let alike = h.nets.callers (suc i) low high in
+            let is_e : event_of l one (Go i) s.left ≡ Some (Act (suc i) c) = ap (option_map (λ (d : Command). Act (suc i) d)) e in
+            let is_f : event_of l other (Go i) t.left ≡ Some (Act (suc i) c) = ap (λ (ls : List (List Command)). event_of l other (Go i) ls) h.left ∙ is_e in
+            goes (Go i) (Act (suc i) c) (Act (suc i) c) is_e is_f
+            (and_from (is_some (slice_get t.net.callers (suc i))) true (both (slice_get s.net.callers (suc i)) (slice_get t.net.callers (suc i)) alike (and_parts (is_some (slice_get s.net.callers (suc i))) true k).0) refl)
+            (inl (suc i, (c, (refl, refl, low, high))))
+            (sym (owned c low high (slice_get s.net.callers (suc i)) (slice_get t.net.callers (suc i)) alike))
+          where
+            both : (x z : Option Seated) → CallerAlike x z → is_some x ≡ true → is_some z ≡ true
+            both None z a g = absurd (false≢true g)
+            both (Some w) None a g = absurd a
+            both (Some w) (Some v) a g = refl
+
+            owned : (c : Command) → 1 ≤ suc i → suc i ≤ count → (x z : Option Seated) → CallerAlike x z → own_by c s.net x ≡ own_by c t.net z
+            owned c low high None None a = refl
+            owned c low high None (Some v) a = absurd a
+            owned c low high (Some w) None a = absurd a
+            owned c low high (Some w) (Some v) a =
+                ap (λ (x : acts.Act). Some x) (owns-alike ActAlike keep_acts c _ _ (begins ActAlike keep_acts count s.net t.net h.nets (suc i) c low high w v a))
+    follows (Carry a b) ready = by (are_linked l a b) refl ready
+      where
+        by : (x : Bool) → are_linked l a b ≡ x → is_ready_by (cond x (Some (Deliver (one b) a b)) None) s.net ≡ true → Follows (Carry a b) s t
+        by false e k = absurd (false≢true k)
+        by true e k =
+            let parts = and_parts (is_some (slice_get s.net.callers (one b))) (is_some (first_on a b s.net.packets)) k in
+            goes (Carry a b) (Deliver (one b) a b) (Deliver (other b) a b)
+            (ap (λ x. cond x (Some (Deliver (one b) a b)) None) e) (ap (λ x. cond x (Some (Deliver (other b) a b)) None) e)
+            (and_from (is_some (slice_get t.net.callers (other b))) (is_some (first_on a b t.net.packets)) (h.there b) (some-too a b s.net.packets t.net.packets h.nets.packets parts.1))
+            (inr (one b, (other b, (a, (b, (refl, refl, parts.0, h.there b, behind b))))))
+            refl
+
+-- Histories of races that are alike, move by move.
+module _ (r q : Race) (one other : ℕ → ℕ) (alike : RacesAlike r q one other) where
+  abbrev pub Stays : Position → Position → Type 0
+  Stays s t = Stay r.net.layout (length r.scripts) one other alike.behind s t
+
+  pub alike-after : (ms : List Move) → IsHistory (racing r one) ms → IsHistory (racing q other) ms × Stays (state_after (racing r one) ms) (state_after (racing q other) ms)
+  alike-after [] h = (
+    tt,
+    record {
+      nets = alike.nets;
+      left = alike.scripts;
+      told = ap (map (λ (cs : List Command). [])) alike.scripts;
+      all = refl;
+      there = alike.there;
+    },
+  )
+  alike-after (m ∷ ms) h =
+      let before = alike-after ms h.1 in
+      let s = state_after (racing r one) ms in
+      let t = state_after (racing q other) ms in
+      let next = follows r.net.layout (length r.scripts) one other alike.behind s t before.1 m h.0 in
+      let same = sym alike.nets.layout in (
+        (ap (λ (k : Layout). is_ready_by (event_of k other m t.left) t.net) (sym same) ∙ next.0, before.0),
+        subst (λ (k : Layout). Stays (position_after (event_of r.net.layout one m s.left) m s) (position_after (event_of k other m t.left) m t)) same next.1,
+      )
+
+pub moves_come_to_the_same : MovesComeToTheSame
+moves_come_to_the_same r q one other ms alike history =
+    let all = alike-after r q one other alike ms history in (
+      all.0,
+      ap (λ (told : List (List acts.Act)). outcome_with told (state_after (racing q other) ms).net.places) all.1.told
+          ∙ sym (outcomes (state_after (racing r one) ms).told (state_after (racing r one) ms).net.places (state_after (racing q other) ms).net.places all.1.nets.places),
+    )

@@ -1,0 +1,50 @@
+-- The laws of races.
+-- r and q are races, ms are moves.
+use Rattle.std.specs.Prelude.{ℕ, ◌≡◌, ◌<◌, ◌≤◌, true, List, length, is_some, slice_get, Contains}
+use Rattle.law_network.specs.Packets.{AreByLink}
+use Rattle.law_explore.specs.Alike.{ActAlike, NetsAlike}
+use Rattle.law_explore.specs.Search.{IsHistory, state_after, NormalsSuffice}
+use Rattle.law_explore.specs.Walk.{WalkKeeps}
+use Rattle.law_explore.specs.Races.{Race, Move, racing, replaying, next_moves, IsRace, IsWhole, IsNormalWhole, whole_histories}
+use Rattle.law_explore.specs.Outcome.{outcome_of, outcome_after}
+
+-- where each delivers whom one likes, each history has one in normal form that leaves the same, on the nose
+abbrev pub RacesNeedNormalsOnly : Type 0
+RacesNeedNormalsOnly = (r : Race) (who : ℕ → ℕ) → AreByLink r.net.packets → NormalsSuffice (racing r who)
+
+-- Whoever delivers, and whatever the clocks: the same moves come to the same.
+
+-- two races with the same scripts, on networks that are alike, and who delivers in the second is there and has no script
+pub record RacesAlike (r q : Race) (one other : ℕ → ℕ) : Type 0 where
+  pub scripts : q.scripts ≡ r.scripts
+  pub nets : NetsAlike ActAlike (length r.scripts) r.net q.net
+  pub there : (b : ℕ) → is_some (slice_get q.net.callers (other b)) ≡ true
+  pub behind : (b k : ℕ) → 1 ≤ k → k ≤ length r.scripts → (one b ≡ k → ⊥) × (other b ≡ k → ⊥)
+
+abbrev pub MovesComeToTheSame : Type 0
+MovesComeToTheSame =
+    (r q : Race) (one other : ℕ → ℕ) (ms : List Move) → RacesAlike r q one other → IsHistory (racing r one) ms →
+    IsHistory (racing q other) ms × (outcome_of (state_after (racing q other) ms) ≡ outcome_of (state_after (racing r one) ms))
+
+-- A race as a replay goes.
+
+-- a whole history in normal form that comes to the same, and is as long
+pub record HasNormalWhole (r : Race) (ms : List Move) : Type 0 where
+  pub moves : List Move
+  pub whole : IsNormalWhole r moves
+  pub comes : outcome_after r moves ≡ outcome_after r ms
+  pub as_long : length moves ≡ length ms
+
+abbrev pub NormalsComeToAll : Type 0
+NormalsComeToAll = (r : Race) (ms : List Move) → IsRace r → IsWhole r ms → HasNormalWhole r ms
+
+-- the search comes to each whole history in normal form that is not too long, and to no other
+abbrev pub RacesAreExplored : Type 0
+RacesAreExplored =
+    (r : Race) (most : ℕ) (ms : List Move) →
+    (IsNormalWhole r ms → length ms < most → Contains (whole_histories r most) ms) ×
+    (Contains (whole_histories r most) ms → IsNormalWhole r ms)
+
+-- the loop: at each step what was found, and then what is pending, is what the search finds
+abbrev pub RacesAreWalked : Type 0
+RacesAreWalked = (r : Race) → WalkKeeps (replaying r) (next_moves r)

@@ -1,0 +1,116 @@
+-- What comes of a race: facts of the end of a history, without the numbers that only tell when: clocks, positions and hops.
+-- k is the number of a script, i that of a command, both from 1; ps are places, x is an id, q a port.
+use Rattle.std.specs.Prelude.{ℕ, ◌+◌, List, [], ◌∷◌, ◌++◌, map, reverse, Option, Some, None}
+use Rattle.std.specs.List.{flat_map, filter_map}
+use Rattle.std.specs.Option.{option_map, option_or}
+use Rattle.chorus_ui.specs.declared.ui.Ui.{Ui}
+use Rattle.chorus_entry.specs.declared.act.Act as acts
+use Rattle.chorus_entry.specs.declared.act.Act.TheVariants as variants
+use Rattle.chorus_entry.specs.declared.answer.Answer.{Answer}
+use Rattle.chorus_entry.specs.declared.answer.Answer.TheVariants as answers
+use Rattle.chorus_entry.specs.declared.entry.Entry.{Entry}
+use Rattle.chorus_entry.specs.declared.id.MsgId.{MsgId}
+use Rattle.chorus_entry.specs.declared.message.Message.{Message}
+use Rattle.chorus_entry.specs.declared.record.PortRecord.{PortRecord}
+use Rattle.chorus_world.specs.Messages.{verdict}
+use Rattle.chorus_world.specs.GroupLaws.{copies_of}
+use Rattle.chorus_world.specs.declared.place.Sent.{Sent}
+use Rattle.chorus_ports.specs.Table as table
+use Rattle.law_machine.specs.PlaceState.{PlaceState}
+use Rattle.law_explore.specs.Search.{state_after}
+use Rattle.law_explore.specs.Races.{Race, Move, Position, replaying}
+
+-- One thing that is so at the end.
+pub data Fact : Type 0 where
+  -- the command of this number of a script is answered by this act
+  Answered : (script number : ℕ) (act : acts.Act) → Fact
+  -- the message has this verdict; none where it is a post to a group for which members were chosen: its copies have theirs
+  Judged : (message : MsgId) (verdict : Option Answer) → Fact
+  -- the port is held by this actor, and these messages wait in it
+  Held : (port actor : Ui) (waiting : List MsgId) → Fact
+
+-- of each script and each command how it was answered; of each message that these posted, and of its copies, the verdict; and each
+-- port that is held, in the order in which each place made them
+abbrev pub Outcome : Type 0
+Outcome = List Fact
+
+abbrev pub plain_act : acts.Act → acts.Act
+plain_act (variants.Take q position x) = variants.Take q 0 x
+plain_act (variants.Depart q to actor hop) = variants.Depart q to actor 0
+plain_act act = act
+
+abbrev pub plain_answer : Answer → Answer
+plain_answer (answers.Accepted position) = answers.Accepted 0
+plain_answer (answers.Early hop) = answers.Early 0
+plain_answer (answers.Elsewhere to hop) = answers.Elsewhere 0 0
+plain_answer answer = answer
+
+-- Answers.
+
+abbrev pub answers_from : ℕ → ℕ → List acts.Act → List Fact
+answers_from k i [] = []
+answers_from k i (act ∷ told) = Answered k i (plain_act act) ∷ answers_from k (i + 1) told
+
+-- of each script from script k on; each list has the latest act first
+abbrev pub answer_facts : ℕ → List (List acts.Act) → List Fact
+answer_facts k [] = []
+answer_facts k (told ∷ rest) = answers_from k 1 (reverse told) ++ answer_facts (k + 1) rest
+
+-- Messages.
+
+abbrev pub post_in : acts.Act → Option MsgId
+post_in (variants.Post m d) = Some m.id
+post_in act = None
+
+abbrev pub posts_in : List (List acts.Act) → List MsgId
+posts_in told = flat_map (λ (xs : List acts.Act). filter_map post_in (reverse xs)) told
+
+-- what a message came to, as the places tell; one place alone decides on it
+abbrev pub verdict_in : MsgId → List PlaceState → Option Answer
+verdict_in x [] = None
+verdict_in x (s ∷ ss) = option_or (verdict x s.journal) (verdict_in x ss)
+
+abbrev pub copies_in : MsgId → List PlaceState → List MsgId
+copies_in x [] = []
+copies_in x (s ∷ ss) = map (λ (m : Sent). m.id) (copies_of x s.journal) ++ copies_in x ss
+
+abbrev pub verdict_fact : List PlaceState → MsgId → Fact
+verdict_fact ps x = Judged x (option_map plain_answer (verdict_in x ps))
+
+abbrev pub verdict_facts : List (List acts.Act) → List PlaceState → List Fact
+verdict_facts told ps = map (verdict_fact ps) (flat_map (λ (x : MsgId). x ∷ copies_in x ps) (posts_in told))
+
+-- Ports: those that a place made, and those that are held anywhere.
+
+abbrev pub made_in : acts.Act → List Ui
+made_in (variants.Make q actor capacity) = q ∷ []
+made_in act = []
+
+abbrev pub made_by : List Entry → List Ui
+made_by [] = []
+made_by (e ∷ here) = made_by here ++ made_in e.act
+
+abbrev pub made_at : List PlaceState → List Ui
+made_at [] = []
+made_at (s ∷ ss) = made_by s.journal ++ made_at ss
+
+abbrev pub held_in : Ui → List PlaceState → Option PortRecord
+held_in q [] = None
+held_in q (s ∷ ss) = option_or (table.find q s.ports) (held_in q ss)
+
+abbrev pub port_fact : PortRecord → Fact
+port_fact q = Held q.ui q.actor (map (λ (m : Message). m.id) q.pending)
+
+abbrev pub port_facts : List PlaceState → List Fact
+port_facts ps = filter_map (λ (q : Ui). option_map port_fact (held_in q ps)) (made_at ps)
+
+-- It looks at tables and acts alone, at no clock and no merge.
+abbrev pub outcome_with : List (List acts.Act) → List PlaceState → Outcome
+outcome_with told ps = answer_facts 1 told ++ verdict_facts told ps ++ port_facts ps
+
+abbrev pub outcome_of : Position → Outcome
+outcome_of s = outcome_with s.told s.net.places
+
+-- what the moves come to
+abbrev pub outcome_after : Race → List Move → Outcome
+outcome_after r ms = outcome_of (state_after (replaying r) ms)

@@ -1,0 +1,63 @@
+//! The laws of races: what may come of the commands of several scripts, and of the deliveries between places, in any order.
+//!
+//! A layer that goes over the schedules of a race rests on this: two events that have nothing in common may change places; so each
+//! schedule has one in normal form that comes to the same, and those in normal form are all that need be gone through. The search over
+//! them, depth first, comes to each and to no other, and as a loop it keeps one list: what was found, and then what is pending. What a
+//! schedule comes to depends on no clock, and not on who delivers. The crate has no code but the laws, which make no call.
+//!
+//! Begin with `specs/Races.antt`, the moves of a race, and `specs/Outcome.antt`, what they come to; `specs/Explores.antt` says when all
+//! that may come of a race is said. `specs/Neighbours.antt` and `specs/Search.antt` have the two notions that the laws stand on.
+#![tactic(auto)]
+
+ghost use Rattle.law_explore.specs.Alike.{ActAlike, CommandsStayAlike, NetsStayAlike, PacketsStayAlike, ReadAlike};
+ghost use Rattle.law_explore.specs.Laws.{MovesComeToTheSame, NormalsComeToAll, RacesAreExplored, RacesAreWalked, RacesNeedNormalsOnly};
+ghost use Rattle.law_explore.specs.Neighbours.{NeighboursCommute, NeighboursStay};
+
+/// Of two events that may come, at two places and of two seats, each may come behind the other, and both orders leave one
+/// network, clocks and journals too.
+pub fn neighbours_commute()
+    ensures commute { NeighboursCommute }
+    ensures stay { NeighboursStay }
+{}
+
+/// Each history of a race has one in normal form, of the same length, that leaves the same network and the same of each script, whoever
+/// delivers.
+pub fn races_need_normals_only()
+    ensures { RacesNeedNormalsOnly }
+{}
+
+/// Where seat 0 delivers, as in a replay, each whole history has one in normal form, of the same length, that comes to the same outcome:
+/// two moves change places where their turns are at two places, though seat 0's clock then goes another way.
+pub fn normals_come_to_all()
+    ensures { NormalsComeToAll }
+{}
+
+/// A search over the histories in normal form comes to each whole one that is shorter than its depth, and to no other history.
+pub fn races_are_explored()
+    ensures { RacesAreExplored }
+{}
+
+/// The search as a loop: at each step what was found, followed by what is pending, is what the search finds.
+pub fn races_are_walked()
+    ensures { RacesAreWalked }
+{}
+
+/// What a turn does depends on no clock, and of a journal only on what is read of it: how many ports and groups were made, which
+/// groups there are, with their members and rotations, and which ports were deleted.
+pub fn turns_stay_alike()
+    ensures commands { CommandsStayAlike ReadAlike }
+    ensures packets { PacketsStayAlike ReadAlike }
+    ensures commands_too { CommandsStayAlike ActAlike }
+    ensures packets_too { PacketsStayAlike ActAlike }
+{}
+
+/// Of networks that are alike each event leaves networks that are alike, whoever delivers, and whatever the clocks.
+pub fn networks_stay_alike()
+    ensures reads { NetsStayAlike ReadAlike }
+    ensures acts { NetsStayAlike ActAlike }
+{}
+
+/// What moves come to does not depend on who delivers, nor on any clock.
+pub fn moves_come_to_the_same()
+    ensures { MovesComeToTheSame }
+{}
