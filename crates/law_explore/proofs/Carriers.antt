@@ -17,7 +17,9 @@ use Rattle.law_network.specs.Stands.{actor_of}
 use Rattle.law_explore.specs.Alike.{ActAlike, PlacesAlike, CallerAlike}
 use Rattle.law_explore.specs.Neighbours.{are_apart, command_place}
 use Rattle.law_explore.specs.Search.{IsHistory, IsNormal, fits, state_after}
-use Rattle.law_explore.specs.Races.{Move, Go, Carry, Race, Position, next_of, are_linked, event_of, is_ready_by, are_apart_by, are_neighbours, is_less, racing, seat_0, are_of_one_script, place_with, place_of_move, may_come, meet_nowhere, replaying, all_moves, next_moves, IsRace}
+use Rattle.law_explore.specs.declared.moves.Move.{Move}
+use Rattle.law_explore.specs.declared.moves.Move.TheVariants.{Go, Carry}
+use Rattle.law_explore.specs.Races.{Race, Position, next_of, are_linked, event_of, is_ready_by, are_apart_by, are_neighbours, is_less, racing, seat_0, are_of_one_script, place_with, place_of_move, may_come, meet_nowhere, replaying, all_moves, next_moves, IsRace}
 use Rattle.law_explore.specs.Outcome.{outcome_of}
 use Rattle.law_explore.specs.Laws.{RacesAlike, NormalsComeToAll}
 use Rattle.law_explore.proofs.Races.{races_need_normals_only}

@@ -9,7 +9,9 @@ use Rattle.chorus_ui.specs.Layout.{places, has_place}
 use Rattle.chorus_entry.specs.declared.command.Command.{Command}
 use Rattle.law_network.specs.Network.{Act, Deliver, numbers, place_numbers}
 use Rattle.law_explore.specs.Search.{ListsNext}
-use Rattle.law_explore.specs.Races.{Move, Go, Carry, Race, Position, next_of, event_of, are_linked, is_ready_by, seat_0, may_come, replaying, links_to, links_between, all_moves, next_moves}
+use Rattle.law_explore.specs.declared.moves.Move.{Move}
+use Rattle.law_explore.specs.declared.moves.Move.TheVariants.{Go, Carry}
+use Rattle.law_explore.specs.Races.{Race, Position, next_of, event_of, are_linked, is_ready_by, seat_0, may_come, replaying, links_to, links_between, all_moves, next_moves}
 use Rattle.law_explore.specs.Laws.{RacesAreExplored}
 use Rattle.law_explore.proofs.Searching.{none, here, there, which, finds_all, finds_no_other}
 

@@ -18,7 +18,9 @@ use Rattle.law_network.specs.Stands.{actor_of}
 use Rattle.law_network.proofs.Standing.CallerList.{get-other, get-replaced}
 use Rattle.law_explore.specs.Neighbours.{seat_of, command_place, place_of, are_apart, has_packet, is_ready, AreNeighbours}
 use Rattle.law_explore.specs.Search.{Commutes}
-use Rattle.law_explore.specs.Races.{Move, Go, Carry, Race, Position, next_of, behind_next, are_linked, event_of, scripts_after, position_after, is_ready_by, are_apart_by, are_neighbours, is_less, own_of, with_answer, answers_after, racing}
+use Rattle.law_explore.specs.declared.moves.Move.{Move}
+use Rattle.law_explore.specs.declared.moves.Move.TheVariants.{Go, Carry}
+use Rattle.law_explore.specs.Races.{Race, Position, next_of, behind_next, are_linked, event_of, scripts_after, position_after, is_ready_by, are_apart_by, are_neighbours, is_less, own_of, with_answer, answers_after, racing}
 use Rattle.law_explore.specs.Laws.{RacesNeedNormalsOnly}
 use Rattle.law_explore.proofs.Packets.{IsFrom, order-all}
 use Rattle.law_explore.proofs.Lists.{list-swap, list-other}

@@ -21,7 +21,9 @@ use Rattle.law_network.proofs.Standing.CallerList.{get-other, get-replaced}
 use Rattle.law_explore.specs.Alike.{ActAlike, PlacesAlike, CallerAlike, NetsAlike, AreSameMove}
 use Rattle.law_explore.specs.Neighbours.{seat_of, is_ready}
 use Rattle.law_explore.specs.Search.{state_after, IsHistory}
-use Rattle.law_explore.specs.Races.{Move, Go, Carry, Race, Position, next_of, are_linked, event_of, scripts_after, own_by, own_of, answers_after, position_after, is_ready_by, racing}
+use Rattle.law_explore.specs.declared.moves.Move.{Move}
+use Rattle.law_explore.specs.declared.moves.Move.TheVariants.{Go, Carry}
+use Rattle.law_explore.specs.Races.{Race, Position, next_of, are_linked, event_of, scripts_after, own_by, own_of, answers_after, position_after, is_ready_by, racing}
 use Rattle.law_explore.specs.Outcome.{answer_facts, plain_answer, Judged, port_fact, posts_in, verdict_in, copies_in, made_in, made_by, made_at, held_in, outcome_with}
 use Rattle.law_explore.specs.Laws.{RacesAlike, MovesComeToTheSame}
 use Rattle.law_explore.proofs.Alike.{keep_acts, owns-alike}

@@ -2,7 +2,8 @@
 -- r is a race, ms are moves, f is what was found; what the moves come to may be told in any form, as a text.
 use Rattle.std.specs.Prelude.{ℕ, zero, suc, ◌≡◌, ◌≢◌, ◌⊎◌, List, [], ◌∷◌, map, Contains}
 use Rattle.std.specs.List.{All, AllPairs}
-use Rattle.law_explore.specs.Races.{Race, Move, IsWhole, IsNormalWhole}
+use Rattle.law_explore.specs.declared.moves.Move.{Move}
+use Rattle.law_explore.specs.Races.{Race, IsWhole, IsNormalWhole}
 
 -- an outcome, how many of the histories that were gone through come to it, and one of them
 pub record Found (O : Type 0) : Type 0 where

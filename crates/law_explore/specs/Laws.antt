@@ -5,7 +5,8 @@ use Rattle.law_network.specs.Packets.{AreByLink}
 use Rattle.law_explore.specs.Alike.{ActAlike, NetsAlike}
 use Rattle.law_explore.specs.Search.{IsHistory, state_after, NormalsSuffice}
 use Rattle.law_explore.specs.Walk.{WalkKeeps}
-use Rattle.law_explore.specs.Races.{Race, Move, racing, replaying, next_moves, IsRace, IsWhole, IsNormalWhole, whole_histories}
+use Rattle.law_explore.specs.declared.moves.Move.{Move}
+use Rattle.law_explore.specs.Races.{Race, racing, replaying, next_moves, IsRace, IsWhole, IsNormalWhole, whole_histories}
 use Rattle.law_explore.specs.Outcome.{outcome_of, outcome_after}
 
 -- where each delivers whom one likes, each history has one in normal form that leaves the same, on the nose

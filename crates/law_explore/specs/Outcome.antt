@@ -18,7 +18,8 @@ use Rattle.chorus_world.specs.declared.place.Sent.{Sent}
 use Rattle.chorus_ports.specs.Table as table
 use Rattle.law_machine.specs.PlaceState.{PlaceState}
 use Rattle.law_explore.specs.Search.{state_after}
-use Rattle.law_explore.specs.Races.{Race, Move, Position, replaying}
+use Rattle.law_explore.specs.declared.moves.Move.{Move}
+use Rattle.law_explore.specs.Races.{Race, Position, replaying}
 
 -- One thing that is so at the end.
 pub data Fact : Type 0 where

@@ -12,13 +12,10 @@ use Rattle.law_machine.specs.Own.{own}
 use Rattle.law_network.specs.Packets.{AreByLink}
 use Rattle.law_network.specs.Network.{NetState, Event, Enter, Act, Deliver, happened, numbers, place_numbers, turn_for}
 use Rattle.law_network.specs.Stands.{actor_of}
+use Rattle.law_explore.specs.declared.moves.Move.{Move}
+use Rattle.law_explore.specs.declared.moves.Move.TheVariants.{Go, Carry}
 use Rattle.law_explore.specs.Neighbours.{command_place, are_apart, is_ready}
 use Rattle.law_explore.specs.Search.{System, IsComplete, IsNormal, ends_from}
-
--- The next command of a script, or the delivery of the first packet from a to b.
-pub data Move : Type 0 where
-  Go : (script : ℕ) → Move
-  Carry : (from to : ℕ) → Move
 
 -- the network when all callers have entered, and the scripts; script i is that of seat i + 1
 pub record Race : Type 0 where

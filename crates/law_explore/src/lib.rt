@@ -9,9 +9,13 @@
 //! that may come of a race is said. `specs/Neighbours.antt` and `specs/Search.antt` have the two notions that the laws stand on.
 #![tactic(auto)]
 
+mod moves;
+
 ghost use Rattle.law_explore.specs.Alike.{ActAlike, CommandsStayAlike, NetsStayAlike, PacketsStayAlike, ReadAlike};
 ghost use Rattle.law_explore.specs.Laws.{MovesComeToTheSame, NormalsComeToAll, RacesAreExplored, RacesAreWalked, RacesNeedNormalsOnly};
 ghost use Rattle.law_explore.specs.Neighbours.{NeighboursCommute, NeighboursStay};
+
+pub use moves::Move;
 
 /// Of two events that may come, at two places and of two seats, each may come behind the other, and both orders leave one
 /// network, clocks and journals too.
