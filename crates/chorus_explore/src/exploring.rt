@@ -48,7 +48,7 @@ struct Search {
 /// Goes over the schedules of the scenario, those in normal form, and carries out so many events at most: gives the text of what may
 /// come.
 pub fn explore(alloc: Global, scenario: &Scenario, most: u32) -> Result<Vec<u8>, ExploreFault> {
-    let explored = match search(alloc, scenario, u64::from(most)) {
+    let explored = match go_over(alloc, scenario, u64::from(most)) {
         Ok(explored) => explored,
         Err(PlaceFault::Memory(_)) => return Err(ExploreFault::Memory),
         Err(PlaceFault::Worn { clock }) => return Err(ExploreFault::Worn { clock }),
@@ -59,7 +59,7 @@ pub fn explore(alloc: Global, scenario: &Scenario, most: u32) -> Result<Vec<u8>,
     }
 }
 
-fn search(alloc: Global, scenario: &Scenario, most: u64) -> Result<Explored, PlaceFault> {
+fn go_over(alloc: Global, scenario: &Scenario, most: u64) -> Result<Explored, PlaceFault> {
     let mut search = Search {
         explored: Explored {
             findings: Findings::new(alloc),
