@@ -74,7 +74,11 @@ fn go_over(alloc: Global, scenario: &Scenario, most: u64) -> Result<Explored, Pl
     let mut stage = Stage::begin(alloc, scenario)?;
     let candidates = stage.candidates(alloc, scenario)?;
     search.come_to(alloc, stage, candidates)?;
-    while search.step(alloc, scenario, most)? {}
+    for _step in 0..u64::MAX {
+        if !search.step(alloc, scenario, most)? {
+            break;
+        }
+    }
     Ok(search.explored)
 }
 
@@ -110,7 +114,7 @@ impl Search {
             None => self.again(alloc, scenario)?,
         };
         stage.go(scenario, candidate.mv)?;
-        self.explored.events += 1;
+        self.explored.events = self.explored.events.saturating_add(1);
         self.moves.reserve(1)?;
         self.moves.push_reserved(candidate.mv);
         let mut candidates = stage.candidates(alloc, scenario)?;
@@ -142,7 +146,7 @@ impl Search {
         if candidates.is_empty() {
             let text = outcome_text(alloc, &stage.close(alloc)?)?;
             self.explored.findings.add(alloc, text, &self.moves)?;
-            self.explored.histories += 1;
+            self.explored.histories = self.explored.histories.saturating_add(1);
             let _ = self.moves.pop();
             return Ok(());
         }

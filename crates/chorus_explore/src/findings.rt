@@ -1,5 +1,7 @@
 //! The outcomes that were found, each once.
 
+ghost use Rattle.std.specs.Prelude.{◌≡◌, ◌<◌, length, IfSome};
+
 use law_explore::Move;
 use std::alloc::{AllocError, Global};
 
@@ -37,22 +39,28 @@ impl Findings {
     ) -> Result<(), AllocError> {
         let sum = sum_of(&text);
         match self.position(&text, sum) {
-            Some(index) => self.items[index].histories += 1,
+            Some(index) => {
+                let item = &mut self.items[index];
+                item.histories = item.histories.saturating_add(1);
+            }
             None => {
                 let moves = Vec::from_slice(alloc, moves)?;
-                self.items.push(Finding {
+                self.items.reserve(1)?;
+                self.items.push_reserved(Finding {
                     text,
                     sum,
                     histories: 1,
                     moves,
-                })?;
+                });
             }
         }
         Ok(())
     }
 
     /// Where the outcome of these lines stands.
-    fn position(&self, text: &[u8], sum: u64) -> Option<usize> {
+    fn position(&self, text: &[u8], sum: u64) -> Option<usize>
+        ensures inside { IfSome result (λ index. index < length self.now.items.items) }
+    {
         for index in 0..self.items.len() {
             let item = &self.items[index];
             if item.sum == sum && item.text.as_slice() == text {

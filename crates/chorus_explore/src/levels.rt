@@ -24,13 +24,14 @@ impl Level {
         ensures candidates { self.new.candidates ≡ self.old.candidates }
         ensures seen { self.new.seen ≤ length self.new.candidates.items }
     {
-        while self.seen < self.candidates.len() {
-            let candidate = self.candidates[self.seen];
-            self.seen += 1;
+        for index in self.seen..self.candidates.len() {
+            let candidate = self.candidates[index];
             if !candidate.is_asleep {
+                self.seen = index + 1;
                 return Some(candidate);
             }
         }
+        self.seen = self.candidates.len();
         None
     }
 }

@@ -2,7 +2,7 @@
 
 use crate::facts::{push_held, push_judged};
 use crate::stage::Ended;
-use chorus_entry::{Act, Answer, Entry, MsgId};
+use chorus_entry::{Act, Answer, Entry, Members, MsgId};
 use chorus_ui::Ui;
 use law_network::Placed;
 use std::alloc::{AllocError, Global};
@@ -11,18 +11,28 @@ use std::alloc::{AllocError, Global};
 /// the verdict; and each port that is held, in the order in which each place made them.
 pub(crate) fn outcome_text(alloc: Global, ended: &Ended) -> Result<Vec<u8>, AllocError> {
     let mut text = Vec::new(alloc);
-    for answers in &ended.answers {
-        text.extend_from_slice(answers)?;
+    for script in &ended.scripts {
+        text.extend_from_slice(&script.answers)?;
     }
-    for posts in &ended.posts {
-        for id in posts {
-            push_verdicts(*id, &ended.closed.journals, &mut text)?;
-        }
+    for script in &ended.scripts {
+        push_posts(&script.posts, &ended.closed.journals, &mut text)?;
     }
     for journal in &ended.closed.journals {
         push_ports(journal, &ended.closed.ports, &mut text)?;
     }
     Ok(text)
+}
+
+/// Appends the lines of the messages and of their copies.
+fn push_posts(
+    posts: &[MsgId],
+    journals: &[Vec<Entry>],
+    text: &mut Vec<u8>,
+) -> Result<(), AllocError> {
+    for id in posts {
+        push_verdicts(*id, journals, text)?;
+    }
+    Ok(())
 }
 
 /// Appends the lines of the message and of its copies.
@@ -48,21 +58,21 @@ fn push_copies(
     for entry in journal {
         if let Act::Choose { id: chosen, members, .. } = &entry.act {
             if *chosen == id {
-                push_each_copy(id, members.uis().len(), journals, text)?;
+                push_each_copy(id, members, journals, text)?;
             }
         }
     }
     Ok(())
 }
 
-/// Appends the lines of so many copies.
+/// Appends the lines of the copies, one for each of these members.
 fn push_each_copy(
     id: MsgId,
-    count: usize,
+    members: &Members,
     journals: &[Vec<Entry>],
     text: &mut Vec<u8>,
 ) -> Result<(), AllocError> {
-    for index in 0..count {
+    for index in 0..members.uis().len() {
         let copy = MsgId {
             seat: id.seat,
             number: id.number,
@@ -76,13 +86,30 @@ fn push_each_copy(
 /// The verdict of the message. None where it has none.
 fn verdict_in(id: MsgId, journals: &[Vec<Entry>]) -> Option<Answer> {
     for journal in journals {
-        for entry in journal {
-            if entry.act.is_verdict() && entry.act.message() == Some(id) {
-                return entry.act.answer();
-            }
+        let verdict = verdict_at(id, journal);
+        if verdict.is_some() {
+            return verdict;
         }
     }
     None
+}
+
+/// The verdict of the message that the journal tells.
+fn verdict_at(id: MsgId, journal: &[Entry]) -> Option<Answer> {
+    for entry in journal {
+        if entry.act.is_verdict() && is_about(&entry.act, id) {
+            return entry.act.answer();
+        }
+    }
+    None
+}
+
+/// Whether the act is about the message.
+fn is_about(act: &Act, id: MsgId) -> bool {
+    match act.message() {
+        Some(other) => id == other,
+        None => false,
+    }
 }
 
 /// Appends the lines of the ports that the journal makes, where they are held.

@@ -1,5 +1,7 @@
 //! The text of what may come of a race.
 
+ghost use Rattle.std.specs.Prelude.{◌≡◌, ◌≤◌, length};
+
 use crate::exploring::Explored;
 use chorus_ui::push_decimal;
 use law_explore::Move;
@@ -93,31 +95,32 @@ fn line_end(text: &[u8]) -> usize {
 }
 
 /// Behind the last fact of the same subject, or behind all.
-fn place_in(facts: &[Told<'_>], line: &[u8]) -> usize {
-    let subject = subject_end(line);
-    let mut index = facts.len();
-    while index > 0 {
-        let other = facts[index - 1].line;
-        if subject_end(other) == subject && other[..subject] == line[..subject] {
-            return index;
+fn place_in(facts: &[Told<'_>], line: &[u8]) -> usize
+    ensures { result ≤ length facts.now }
+{
+    let subject = subject_of(line);
+    let mut place = 0;
+    for index in 0..facts.len() {
+        if subject_of(facts[index].line) == subject {
+            place = index + 1;
         }
-        index -= 1;
     }
-    facts.len()
+    if place == 0 { facts.len() } else { place }
 }
 
-/// Where the words end that name the subject: three of an answer, two of anything else.
-fn subject_end(line: &[u8]) -> usize {
-    let mut words = if line.first() == Some(&b'a') { 3 } else { 2 };
+/// The words that name the subject: three of an answer, two of anything else.
+fn subject_of(line: &[u8]) -> &[u8] {
+    let words = if line.first() == Some(&b'a') { 3 } else { 2 };
+    let mut spaces: u32 = 0;
     for index in 0..line.len() {
         if line[index] == b' ' || line[index] == b'\n' {
-            words -= 1;
-            if words == 0 {
-                return index;
+            if spaces.saturating_add(1) >= words {
+                return &line[..index];
             }
+            spaces = spaces.saturating_add(1);
         }
     }
-    line.len()
+    line
 }
 
 /// Appends the moves as the steps of a schedule.

@@ -1,32 +1,42 @@
 //! The sites of a scenario behind its setup, on which the moves of a race are performed.
 
+ghost use Rattle.std.specs.Prelude.{◌≡◌, true};
+ghost use Rattle.law_network.specs.Network.{Act};
+ghost use Rattle.law_network.specs.Schedules.{may_happen};
+ghost use Rattle.chorus_net.specs.Sites.{net};
+
 use crate::candidates::Candidate;
 use crate::facts::push_answered;
-use chorus_entry::{Act, Command, MsgId};
+use chorus_entry::{Act, Command, Entry, MsgId};
 use chorus_net::{Closed, EnterFault, Sites};
-use chorus_place::{PlaceFault, place_for};
-use chorus_scene::{Scenario, SetupLine};
+use chorus_place::PlaceFault;
+use chorus_scene::{Scenario, Script, SetupLine};
 use law_explore::Move;
 use std::alloc::{AllocError, Global};
 
-/// The sites, how far the scripts are, and what their commands were answered.
+/// How far a script is.
+#[derive(Debug, Drop)]
+pub(crate) struct Progress {
+    /// The number of its next command, counted from 0.
+    next: usize,
+    /// The lines of what its commands were answered.
+    pub(crate) answers: Vec<u8>,
+    /// The messages that it posted.
+    pub(crate) posts: Vec<MsgId>,
+}
+
+/// The sites, and how far the scripts are.
 #[derive(Debug, Drop)]
 pub(crate) struct Stage {
     sites: Sites,
-    /// Of each script the number of its next command, counted from 0.
-    next: Vec<usize>,
-    /// Of each script the lines of the answers.
-    answers: Vec<Vec<u8>>,
-    /// Of each script the messages that it posted.
-    posts: Vec<Vec<MsgId>>,
+    scripts: Vec<Progress>,
 }
 
 /// What is left of a stage.
 #[derive(Debug, Drop)]
 pub(crate) struct Ended {
     pub(crate) closed: Closed,
-    pub(crate) answers: Vec<Vec<u8>>,
-    pub(crate) posts: Vec<Vec<MsgId>>,
+    pub(crate) scripts: Vec<Progress>,
 }
 
 impl Stage {
@@ -34,64 +44,57 @@ impl Stage {
     pub(crate) fn begin(alloc: Global, scenario: &Scenario) -> Result<Stage, PlaceFault> {
         let mut sites = Sites::start(alloc, scenario.layout())?;
         for line in scenario.setup() {
-            sites.act(0, setup_command(line))?;
-        }
-        let count = scenario.scripts().len();
-        let mut answers = Vec::with_capacity(alloc, count)?;
-        let mut posts = Vec::with_capacity(alloc, count)?;
-        for script in scenario.scripts() {
-            match sites.enter(script.actor()) {
-                Ok(_) => {}
-                Err(EnterFault::Memory(error)) => return Err(PlaceFault::Memory(error)),
-                Err(EnterFault::NoActor) => unreachable!(),
-                Err(EnterFault::NoSeat { .. }) => unreachable!(),
+            let command = setup_command(line);
+            if sites.may_act(0, &command) {
+                sites.act(0, command)?;
             }
-            answers.push_reserved(Vec::new(alloc));
-            posts.push_reserved(Vec::new(alloc));
         }
-        Ok(Stage {
-            sites,
-            next: vec![in alloc; 0; count]?,
-            answers,
-            posts,
-        })
+        let mut scripts = Vec::new(alloc);
+        for script in scenario.scripts() {
+            enter(&mut sites, script)?;
+            scripts.reserve(1)?;
+            scripts.push_reserved(Progress {
+                next: 0,
+                answers: Vec::new(alloc),
+                posts: Vec::new(alloc),
+            });
+        }
+        Ok(Stage { sites, scripts })
     }
 
     /// Performs a move that may come.
     pub(crate) fn go(&mut self, scenario: &Scenario, mv: Move) -> Result<(), PlaceFault> {
         match mv {
-            Move::Go { script } => self.perform(scenario, usize::from(script)),
-            Move::Carry { from, to } => {
-                self.sites.deliver(from, to)?;
-                Ok(())
-            }
+            Move::Go { script } => match scenario.scripts().get(usize::from(script)) {
+                Some(given) => self.perform(script, given),
+                None => Ok(()),
+            },
+            Move::Carry { from, to } => self.carry(from, to),
         }
     }
 
-    /// Performs the next command of the script.
-    fn perform(&mut self, scenario: &Scenario, script: usize) -> Result<(), PlaceFault> {
-        let number = self.next[script];
-        let command = scenario.scripts()[script].commands()[number].copied()?;
-        let place = place_for(
-            scenario.layout(),
-            scenario.scripts()[script].actor(),
-            &command,
-        );
-        let before = self.sites.journal(place).len();
-        self.sites.act(script as u32 + 1, command)?;
-        let act = &self.sites.journal(place)[before].act;
-        push_answered(
-            script as u64 + 1,
-            number as u64 + 1,
-            act,
-            &mut self.answers[script],
-        )?;
-        if let Act::Post { message, .. } = act {
-            self.posts[script].reserve(1)?;
-            self.posts[script].push_reserved(message.id);
+    /// Delivers the first packet that waits from the one place to the other.
+    fn carry(&mut self, from: u16, to: u16) -> Result<(), PlaceFault> {
+        let layout = self.sites.layout();
+        if layout.has_place(from) && layout.has_place(to) && from != to {
+            self.sites.deliver(from, to)?;
         }
-        self.next[script] += 1;
         Ok(())
+    }
+
+    /// Performs the next command of the script, which stands there.
+    fn perform(&mut self, index: u16, script: &Script) -> Result<(), PlaceFault> {
+        let seat = u32::from(index) + 1;
+        let Some(progress) = self.scripts.get_mut(usize::from(index)) else {
+            return Ok(());
+        };
+        let Some(command) = script.commands().get(progress.next) else {
+            return Ok(());
+        };
+        if !self.sites.may_act(seat, command) {
+            return Ok(());
+        }
+        answer(&mut self.sites, seat, script, command.copied()?, progress)
     }
 
     /// The moves that may come next, scripts first, then deliveries by their places. None is asleep.
@@ -101,45 +104,54 @@ impl Stage {
         scenario: &Scenario,
     ) -> Result<Vec<Candidate>, AllocError> {
         let mut candidates = Vec::new(alloc);
-        for (index, script) in scenario.scripts().iter().enumerate() {
-            if let Some(command) = script.commands().get(self.next[index]) {
+        let count = scenario.scripts().len().min(self.scripts.len());
+        for index in 0..count {
+            let script = &scenario.scripts()[index];
+            if let Some(command) = script.commands().get(self.scripts[index].next) {
                 candidates.push(Candidate {
                     mv: Move::Go {
                         script: index as u16,
                     },
-                    place: place_for(scenario.layout(), script.actor(), command),
+                    place: self.place_for(script, command),
                     is_asleep: false,
                 })?;
             }
         }
-        let count = scenario.layout().places();
-        let mut from = 1;
-        while from <= count {
-            self.carries(from, count, &mut candidates)?;
-            from += 1;
+        let places = self.sites.layout().places();
+        for from in 1..=places {
+            self.carries(from, places, &mut candidates)?;
         }
         Ok(candidates)
+    }
+
+    /// The place at which a command of the script is carried out.
+    fn place_for(&self, script: &Script, command: &Command) -> u16 {
+        place_on(&self.sites, script, command)
     }
 
     /// Adds the deliveries from the place.
     fn carries(
         &mut self,
         from: u16,
-        count: u16,
+        places: u16,
         candidates: &mut Vec<Candidate>,
     ) -> Result<(), AllocError> {
-        let mut to = 1;
-        while to <= count {
-            if from != to && self.sites.waits(from, to) {
+        for to in 1..=places {
+            if self.may_carry(from, to) {
                 candidates.push(Candidate {
                     mv: Move::Carry { from, to },
                     place: to,
                     is_asleep: false,
                 })?;
             }
-            to += 1;
         }
         Ok(())
+    }
+
+    /// Whether a packet waits to go from the one place to the other, which are two places of the layout.
+    fn may_carry(&mut self, from: u16, to: u16) -> bool {
+        let layout = self.sites.layout();
+        layout.has_place(from) && layout.has_place(to) && from != to && self.sites.waits(from, to)
     }
 
     /// Closes the sites.
@@ -147,8 +159,7 @@ impl Stage {
         match self.sites.close(alloc) {
             Ok(closed) => Ok(Ended {
                 closed,
-                answers: self.answers,
-                posts: self.posts,
+                scripts: self.scripts,
             }),
             Err((_, error)) => Err(error),
         }
@@ -161,5 +172,59 @@ fn setup_command(line: &SetupLine) -> Command {
         SetupLine::Port { actor, capacity } => Command::Make { actor, capacity },
         SetupLine::Group { site } => Command::GroupMake { site },
         SetupLine::Member { group, port } => Command::Join { group, port },
+    }
+}
+
+/// Enters the caller of the script.
+fn enter(sites: &mut Sites, script: &Script) -> Result<(), AllocError> {
+    if !script.actor().is_actor() {
+        return Ok(());
+    }
+    match sites.enter(script.actor()) {
+        Err(EnterFault::Memory(error)) => Err(error),
+        _ => Ok(()),
+    }
+}
+
+/// The place at which a command of the script is carried out; 0 where none is.
+fn place_on(sites: &Sites, script: &Script, command: &Command) -> u16 {
+    let layout = sites.layout();
+    if layout.has_site(script.actor().site()) && command.meets_conditions() {
+        command.place_for(layout, script.actor())
+    } else {
+        0
+    }
+}
+
+/// Performs the command, which may be given, and keeps how it was answered.
+fn answer(
+    sites: &mut Sites,
+    seat: u32,
+    script: &Script,
+    command: Command,
+    progress: &mut Progress,
+) -> Result<(), PlaceFault>
+    requires { may_happen (Act seat command) (net sites.old) ≡ true }
+{
+    let place = place_on(sites, script, &command);
+    let before = entries_at(sites, place).len();
+    sites.act(seat, command)?;
+    progress.next = progress.next.saturating_add(1);
+    if let Some(entry) = entries_at(sites, place).get(before) {
+        push_answered(u64::from(seat), progress.next as u64, &entry.act, &mut progress.answers)?;
+        if let Act::Post { message, .. } = &entry.act {
+            progress.posts.reserve(1)?;
+            progress.posts.push_reserved(message.id);
+        }
+    }
+    Ok(())
+}
+
+/// The journal of the place so far; none where the layout does not have it.
+fn entries_at(sites: &Sites, place: u16) -> &[Entry] {
+    if sites.layout().has_place(place) {
+        sites.journal(place)
+    } else {
+        &[]
     }
 }

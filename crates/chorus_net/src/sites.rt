@@ -18,6 +18,7 @@ ghost use Rattle.chorus_net.specs.Worn.{IsWornIn};
 use crate::closed::Closed;
 use crate::closing::{count_packets, count_ports, take_apart};
 use crate::fault::EnterFault;
+use crate::giving::may_give;
 use crate::starting::start_places;
 use chorus_calls::Caller;
 use chorus_entry::{Command, Entry};
@@ -117,6 +118,17 @@ impl Sites {
         let last = self.callers[0].last();
         self.callers.push_reserved(Caller::new(made, actor, last));
         Ok(made)
+    }
+
+    /// Whether the seat may give the command: it was given to a caller, the command meets its conditions and has a body within the
+    /// limit, and where it posts, the caller has posted fewer than 2^32 - 1 messages.
+    pub fn may_act(&self, seat: u32, command: &Command) -> bool
+        ensures { result ≡ may_happen (Act seat command.now) (net self.now) }
+    {
+        match self.callers.get(seat as usize) {
+            Some(caller) => may_give(caller, command),
+            None => false,
+        }
     }
 
     /// Performs a command of the seat at its place, and gives the reply.

@@ -11,3 +11,4 @@ pub mod Nets
 pub mod Replays
 pub mod Carriers
 pub mod Walking
+pub mod Showing
