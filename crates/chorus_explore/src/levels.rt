@@ -1,7 +1,7 @@
 //! The levels of a search: the positions on the way to the one that was reached last.
 
-ghost use Rattle.std.specs.Prelude.{◌≡◌, ◌≤◌, [], ◌∷◌, length, IfSome, IsNone};
-ghost use Rattle.chorus_explore.specs.Levels.{awake, unseen, taken_of};
+ghost use Rattle.std.specs.Prelude.{◌≡◌, ◌≤◌, ◌<◌, ◌+◌, [], ◌∷◌, length, drop, slice_index_or, IfSome, IsNone};
+ghost use Rattle.chorus_explore.specs.Levels.{awake, unseen, taken_of, no_candidate};
 
 use crate::candidates::Candidate;
 
@@ -20,18 +20,36 @@ impl Level {
         requires { self.old.seen ≤ length self.old.candidates.items }
         ensures some { IfSome result (λ c. awake (unseen self.old) ≡ c ∷ awake (unseen self.new)) }
         ensures none { IsNone result → awake (unseen self.old) ≡ [] }
-        ensures taken { IfSome result (λ c. (c.mv ≡ taken_of self.new) × (1 ≤ self.new.seen)) }
+        ensures taken { IfSome result (λ c. c.mv ≡ taken_of self.new) }
         ensures candidates { self.new.candidates ≡ self.old.candidates }
         ensures seen { self.new.seen ≤ length self.new.candidates.items }
+        ensures one { IfSome result (λ c. 1 ≤ self.new.seen) }
     {
-        for index in self.seen..self.candidates.len() {
-            let candidate = self.candidates[index];
-            if !candidate.is_asleep {
+        match awake_from(&self.candidates, self.seen) {
+            Some(index) => {
                 self.seen = index + 1;
-                return Some(candidate);
+                Some(self.candidates[index])
+            }
+            None => {
+                self.seen = self.candidates.len();
+                None
             }
         }
-        self.seen = self.candidates.len();
-        None
     }
+}
+
+/// Where the first candidate stands, from this one on, that is awake. None where none is.
+fn awake_from(candidates: &[Candidate], from: usize) -> Option<usize>
+    requires { from ≤ length candidates.now }
+    ensures inside { IfSome result (λ index. index < length candidates.now) }
+    ensures some { IfSome result (λ index. awake (drop from candidates.now)
+        ≡ slice_index_or candidates.now index no_candidate ∷ awake (drop (index + 1) candidates.now)) }
+    ensures none { IsNone result → awake (drop from candidates.now) ≡ [] }
+{
+    for index in from..candidates.len() {
+        if !candidates[index].is_asleep {
+            return Some(index);
+        }
+    }
+    None
 }

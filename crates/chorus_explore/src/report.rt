@@ -38,7 +38,7 @@ pub(crate) fn report(alloc: Global, explored: &Explored) -> Result<Vec<u8>, Allo
     Ok(text)
 }
 
-/// A fact, and the number of the first outcome that has it, from 1.
+/// A fact, and where the first outcome that has it stands.
 #[derive(Debug, Drop)]
 struct Told<'a> {
     line: &'a [u8],
@@ -56,42 +56,49 @@ fn push_facts(
     let mut seen: HashMap<&[u8], bool> = HashMap::new(alloc);
     let items = &explored.findings.items;
     for index in 0..items.len() {
-        let mut rest: &[u8] = &items[index].text;
-        while !rest.is_empty() {
-            let end = line_end(rest);
-            let (line, more) = rest.split_at(end);
-            rest = more;
-            if !seen.contains_key(line) {
-                let _ = seen.insert(line, true)?;
-                let place = place_in(&facts, line);
-                facts.insert(
-                    place,
-                    Told {
-                        line,
-                        outcome: index + 1,
-                    },
-                )?;
-                shown[index] = true;
-            }
-        }
+        let is_new = tell(&items[index].text, index, &mut seen, &mut facts)?;
+        shown[index] = shown[index] || is_new;
     }
     push_count("facts", facts.len() as u64, text)?;
     for fact in &facts {
-        push_decimal(fact.outcome as u64, text)?;
+        push_decimal((fact.outcome as u64).saturating_add(1), text)?;
         text.push(b' ')?;
         text.extend_from_slice(fact.line)?;
     }
     Ok(())
 }
 
-/// Where the first line ends, behind its LF.
-fn line_end(text: &[u8]) -> usize {
+/// Adds the lines of the outcome that were not told yet. Whether there was any.
+fn tell<'a>(
+    text: &'a [u8],
+    outcome: usize,
+    seen: &mut HashMap<&'a [u8], bool>,
+    facts: &mut Vec<Told<'a>>,
+) -> Result<bool, AllocError> {
+    let mut is_new = false;
+    let mut start = 0;
     for index in 0..text.len() {
         if text[index] == b'\n' {
-            return index + 1;
+            let line = line_at(text, start, index);
+            start = index + 1;
+            if !seen.contains_key(line) {
+                let _ = seen.insert(line, true)?;
+                let place = place_in(facts, line);
+                facts.insert(place, Told { line, outcome })?;
+                is_new = true;
+            }
         }
     }
-    text.len()
+    Ok(is_new)
+}
+
+/// The line from `start` on, up to its LF at `end` and with it.
+fn line_at(text: &[u8], start: usize, end: usize) -> &[u8] {
+    if start <= end && end < text.len() {
+        &text[start..end + 1]
+    } else {
+        &[]
+    }
 }
 
 /// Behind the last fact of the same subject, or behind all.
@@ -105,7 +112,10 @@ fn place_in(facts: &[Told<'_>], line: &[u8]) -> usize
             place = index + 1;
         }
     }
-    if place == 0 { facts.len() } else { place }
+    if place == 0 {
+        return facts.len();
+    }
+    place
 }
 
 /// The words that name the subject: three of an answer, two of anything else.

@@ -1,7 +1,7 @@
 //! The sites of a scenario behind its setup, on which the moves of a race are performed.
 
-ghost use Rattle.std.specs.Prelude.{◌≡◌, true};
-ghost use Rattle.law_network.specs.Network.{Act};
+ghost use Rattle.std.specs.Prelude.{◌≡◌, ◌≤◌, ◌<◌, ◌^◌, true, length};
+ghost use Rattle.law_network.specs.Network as network;
 ghost use Rattle.law_network.specs.Schedules.{may_happen};
 ghost use Rattle.chorus_net.specs.Sites.{net};
 
@@ -10,7 +10,7 @@ use crate::facts::push_answered;
 use chorus_entry::{Act, Command, Entry, MsgId};
 use chorus_net::{Closed, EnterFault, Sites};
 use chorus_place::PlaceFault;
-use chorus_scene::{Scenario, Script, SetupLine};
+use chorus_scene::{SCRIPTS_LIMIT, Scenario, Script, SetupLine};
 use law_explore::Move;
 use std::alloc::{AllocError, Global};
 
@@ -104,7 +104,7 @@ impl Stage {
         scenario: &Scenario,
     ) -> Result<Vec<Candidate>, AllocError> {
         let mut candidates = Vec::new(alloc);
-        let count = scenario.scripts().len().min(self.scripts.len());
+        let count = self.scripts_of(scenario);
         for index in 0..count {
             let script = &scenario.scripts()[index];
             if let Some(command) = script.commands().get(self.scripts[index].next) {
@@ -122,6 +122,15 @@ impl Stage {
             self.carries(from, places, &mut candidates)?;
         }
         Ok(candidates)
+    }
+
+    /// How many scripts there are, at most 16.
+    fn scripts_of(&self, scenario: &Scenario) -> usize
+        ensures { (result ≤ length scenario.now.scripts) × (result ≤ length self.now.scripts.items)
+            × (result < 2 ^ 16) }
+    {
+        let count = scenario.scripts().len().min(self.scripts.len());
+        count.min(SCRIPTS_LIMIT)
     }
 
     /// The place at which a command of the script is carried out.
@@ -204,7 +213,7 @@ fn answer(
     command: Command,
     progress: &mut Progress,
 ) -> Result<(), PlaceFault>
-    requires { may_happen (Act seat command) (net sites.old) ≡ true }
+    requires { may_happen (network.Act seat command) (net sites.old) ≡ true }
 {
     let place = place_on(sites, script, &command);
     let before = entries_at(sites, place).len();

@@ -12,3 +12,4 @@ pub mod Replays
 pub mod Carriers
 pub mod Walking
 pub mod Showing
+pub mod Examples
