@@ -1,6 +1,6 @@
 -- What the calls of a nucleus do.
 -- l is a layout, p the number of a place, c a command, v and w are what a pass knows and its caller before the call, u and x after it.
-use Rattle.std.specs.Prelude.{ℕ, ◌≡◌, ◌≤◌, ◌<◌, ◌+◌, ◌-◌, ◌^◌, min, ◌==◌, ◌⊎◌, List, [], ◌∷◌, ◌++◌, Option, Some, None, if◌then◌else◌, Result, Ok, Err, IfOk, IfErr, OnErr}
+use Rattle.std.specs.Prelude.{ℕ, ◌≡◌, ◌≤◌, ◌<◌, ◌+◌, ◌==◌, ◌-◌, ◌^◌, ◌⊎◌, min, List, [], ◌∷◌, ◌++◌, Option, Some, None, if◌then◌else◌, Result, Ok, Err, IfOk, IfErr, OnErr}
 use Rattle.chorus_ui.specs.declared.limits.TheConstants.{CLOCK_LIMIT}
 use Rattle.chorus_ui.specs.declared.layout.Layout.{Layout}
 use Rattle.chorus_entry.specs.declared.id.MsgId.{MsgId}
@@ -35,7 +35,7 @@ use Rattle.chorus_nucleus.specs.declared.fault.CallFault.{CallFault}
 use Rattle.chorus_nucleus.specs.declared.fault.CallFault.TheVariants as call_faults
 use Rattle.chorus_nucleus.specs.declared.nucleus.Nucleus.{Nucleus}
 use Rattle.chorus_nucleus.specs.declared.pass.Pass.{Pass}
-use Rattle.chorus_nucleus.specs.Passes.{layout_of, known, caller_of, worn_by, home_of, IsPassOf}
+use Rattle.chorus_nucleus.specs.Passes.{layout_of, known, caller_of, worn_by, sight_of, home_of, IsPassOf}
 
 abbrev pub fault_of : PlaceFault → CallFault
 fault_of (faults.Memory none) = call_faults.Memory none
@@ -124,6 +124,7 @@ pub record IsCall (n : Nucleus) (c : Command) (old new : Pass) (r : Result Reply
   pub worn : worn_by new ≡ worn_after (worn_by old) r
   pub gave_is : gave (known new) ≡ gave_after c r (gave (known old))
   pub grows : Grows (caller_of old) (caller_of new)
+  pub sight : sight_of new ≡ sight_of old
 
 -- what a pump of the place did: it worked off a packet, or has one in hand that it may not work off; or it was idle, and tells how
 -- many packets the turns of the journal that it found put, and, up to 2^64 - 1, how many they worked off
@@ -143,6 +144,7 @@ pub record IsPump (n : Nucleus) (p : ℕ) (old new : Pass) (r : Result Pump Call
   pub worn : worn_by new ≡ worn_after (worn_by old) r
   pub gave_is : gave (known new) ≡ gave (known old)
   pub stays : Stays (caller_of old) (caller_of new)
+  pub sight : sight_of new ≡ sight_of old
 
 -- what became of the message, as its own seat is told by a journal of its home place, the newest entry first
 abbrev pub outcome_for : ℕ → MsgId → List Entry → Outcome
@@ -158,3 +160,4 @@ pub record IsOutcome (n : Nucleus) (x : MsgId) (old new : Pass) (r : Result Outc
   pub caller : caller_of new ≡ caller_of old
   pub mine : (known new).mine ≡ (known old).mine
   pub worn : worn_by new ≡ worn_by old
+  pub sight : sight_of new ≡ sight_of old

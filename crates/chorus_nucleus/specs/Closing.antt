@@ -1,32 +1,31 @@
 -- What a nucleus hands out when it is closed.
 -- n is the nucleus, l its layout, v what the closing pass knew, actors has of each seat the actor of the pass with that number.
-use Rattle.std.specs.Prelude.{ℕ, ◌≡◌, ◌<◌, ◌≤◌, ◌+◌, true, List, length, Some, slice_get}
+use Rattle.std.specs.Prelude.{ℕ, ◌≡◌, ◌<◌, ◌≤◌, ◌+◌, List, length, Some, slice_get}
 use Rattle.std.specs.List.{All}
 use Rattle.chorus_ui.specs.declared.ui.Ui.{Ui}
 use Rattle.chorus_ui.specs.declared.layout.Layout.{Layout}
-use Rattle.chorus_ui.specs.Layout.{IsLayout, places, has_actor}
+use Rattle.chorus_ui.specs.Layout.{IsLayout, places}
+use Rattle.chorus_entry.specs.declared.entry.Entry.{Entry}
 use Rattle.chorus_entry.specs.declared.packet.Packet.{Packet}
 use Rattle.chorus_calls.specs.Callers.{Seated}
 use Rattle.law_machine.specs.PlaceState.{PlaceState}
 use Rattle.chorus_turn.specs.declared.close.Spent.{Spent}
-use Rattle.chorus_turn.specs.declared.knowledge.Placed.{Placed}
 use Rattle.chorus_turn.specs.declared.knowledge.Remarked.{Remarked}
 use Rattle.chorus_turn.specs.declared.knowledge.Note.{Note}
 use Rattle.chorus_turn.specs.declared.knowledge.Knowledge.{Knowledge}
 use Rattle.chorus_turn.specs.Passes as turns
 use Rattle.chorus_turn.specs.Calls.{AreOut}
+use Rattle.chorus_turn.specs.Journals.{entries_of}
 use Rattle.law_network.specs.Network.{schedule}
 use Rattle.law_history.specs.Network.{Network}
 use Rattle.law_history.specs.Runs.{actor_among}
 use Rattle.law_history.specs.Journals.{PlaceTurn, Comer, AreHistories, IsTheirSchedule, events}
 use Rattle.law_closing.specs.Places.{PlaceNote}
+use Rattle.law_closing.specs.Actors.{AreActors}
 use Rattle.law_closing.specs.Remarks.{turns_at, turns_in}
 use Rattle.law_closing.specs.Closing.{IsPlace, Tells}
-use Rattle.law_closing.specs.Actors.{AreActors}
 use Rattle.chorus_net.specs.declared.closed.Closed.{Closed}
 use Rattle.chorus_net.specs.Closing.{closed_journals, IsLeft, IsOfTurns}
-use Rattle.chorus_turn.specs.Journals.{entries_of}
-use Rattle.chorus_entry.specs.declared.entry.Entry.{Entry}
 use Rattle.chorus_nucleus.specs.declared.close.CloseFault.{CloseFault}
 use Rattle.chorus_nucleus.specs.declared.close.CloseFault.TheVariants as close_faults
 use Rattle.chorus_nucleus.specs.declared.nucleus.Nucleus.{Nucleus}
@@ -34,7 +33,7 @@ use Rattle.chorus_nucleus.specs.declared.pass.Pass.{Pass}
 use Rattle.chorus_nucleus.specs.Passes.{layout_of, known, worn_by}
 
 -- These came, as many as numbers were drawn. The journals with remarks tell all that the pass and those in its notes made, and the
--- turns of the places and of the seats are theirs; they are histories that fit each other. What was closed is the network of each
+-- turns of the places and of the seats are theirs; they are histories that fit each other. The journals are those that are handed out. What was closed is the network of each
 -- schedule of these turns.
 pub record ClosesAs (l : Layout) (v : Knowledge PlaceNote) (comers : List Comer) (closed : Closed) : Type 0 where
   pub log : ℕ → List (Remarked PlaceNote)

@@ -196,14 +196,17 @@ module _ (m : Message) (q : Ui) (t : Turn) (ready : ReadyAt (direct q) t) where
       let hop = (newest t1.place q).hop in
       let it = next_entry (decision m.id q hop a) t1 in (
         it ∷ [],
-        (refl, inr (record {
-          newer = [];
-          entry = it;
-          is = refl;
-          others = All-nil (λ (e : Entry). IsOther m.id e.act);
-          step = decision-step m.id q hop a (plain-here m q t.place.number t1.place a e);
-          reply = decision-answered m.id q hop a;
-        })),
+        (
+          refl,
+          inr (record {
+            newer = [];
+            entry = it;
+            is = refl;
+            others = All-nil (λ (e : Entry). IsOther m.id e.act);
+            step = decision-step m.id q hop a (plain-here m q t.place.number t1.place a e);
+            reply = decision-answered m.id q hop a;
+          }),
+        ),
       )
 
   pub direct-becomes : Result (posts_direct m q t)
@@ -317,8 +320,10 @@ module _ (m : Message) (d : Dest) (g : Ui) (t : Turn) (ready : (q : Ui) → Read
         queues = copies-apart m d g t.place.number 1 (q ∷ qs) t.place.waiting z (omega arith) apart-before;
       }) in (
         h.newer ++ it ∷ [],
-        (h.journal ∙ sym (append_assoc h.newer (it ∷ []) (next_entry (acts.Post m d) t ∷ t.place.journal)),
-        inr (record { newer = h.newer; entry = it; is = refl; others = h.others; step = refl; reply = refl })),
+        (
+          h.journal ∙ sym (append_assoc h.newer (it ∷ []) (next_entry (acts.Post m d) t ∷ t.place.journal)),
+          inr (record { newer = h.newer; entry = it; is = refl; others = h.others; step = refl; reply = refl }),
+        ),
       )
 
   -- the choice is that of the place before the turn
