@@ -62,15 +62,15 @@ sees-turn p found news v u knows starts k = sees-put p (found ++ news) v u.seen 
 pub sees-same : (v u : Knowledge PlaceNote) → u.seen ≡ v.seen → SeesMore v u
 sees-same v u same k = starts_same (seen_at k v) (seen_at k u) (seen_at k v) (ap (λ row. list_at k row) same) (starts_itself (seen_at k v))
 
-sees-fault : (l : Layout) (p : ℕ) (f : CallFault) (v u : Knowledge PlaceNote) (w x : Seated) → Because FindsWorn f l p v w u x → SeesMore v u
-sees-fault l p (faults.Busy by) v u w x b = sees-same v u (ap (λ (z : Knowledge PlaceNote). z.seen) b.0.knows)
+sees-fault : (l : Layout) (p : ℕ) (f : CallFault) (v : Knowledge PlaceNote) (w : Seated) (u : Knowledge PlaceNote) (x : Seated) → Because FindsWorn f l p v w u x → SeesMore v u
+sees-fault l p (faults.Busy by) v w u x b = sees-same v u (ap (λ (z : Knowledge PlaceNote). z.seen) b.0.knows)
 sees-fault l p (faults.Memory none) v w u x b = sees-turn p b.1.found [] v u b.1.knows b.1.shows.begins
 sees-fault l p (faults.Worn clock) v w u x b = sees-turn p b.looks.found [] v u b.looks.knows b.looks.shows.begins
 
 -- What a turn with a Take made.
 
 module _ (l : Layout) (p : ℕ) (q : Ui) (r : Reply) (v u : Knowledge PlaceNote) (w x : Seated) (h : Performs l p (Command.Take q) r v w u x) where
-  all : List Entry
+  abbrev all : List Entry
   all = h.turn.entry ∷ h.turn.later
 
   told : (acts_of all ≡ taken_acts q r) × (answers_take r ≡ true)
