@@ -7,7 +7,7 @@
 
 use chorus_io::{MemSink, MemSource, Sink, Source};
 use chorus_net::{Closed, Sites};
-use chorus_run::replay;
+use chorus_replay::replay;
 use chorus_scene::read;
 use chorus_ui::{Layout, push_decimal};
 use std::alloc::{AllocError, Global};

@@ -5,8 +5,8 @@ use Rattle.chorus_net.specs.declared.closed.Closed.{Closed}
 use Rattle.chorus_show.specs.declared.status.Status.{Status}
 use Rattle.chorus_show.specs.declared.status.Status.TheVariants.{Done, Usage, Scenario, ReadFault, WriteFault, Memory, Worn}
 use Rattle.chorus_show.specs.Bounds.{AreWithin}
-use Rattle.chorus_run.specs.Headline.{merge_of, past_of, callers_of, AreWithinUnless}
-use Rattle.chorus_program.specs.Circle.{ReplaysAreLegal}
+use Rattle.chorus_report.specs.Headline.{merge_of, past_of, callers_of, AreWithinUnless}
+use Rattle.chorus_program.specs.Circle.{RunsAreLegal}
 
 within-both : (status : Status) (closed : Closed) → AreWithinUnless status closed → ((clock : ℕ) → status ≡ Worn clock → AreWithin (merge_of closed)) → AreWithin (merge_of closed)
 within-both Done closed h worn = h
@@ -17,8 +17,8 @@ within-both WriteFault closed h worn = h
 within-both Memory closed h worn = h
 within-both (Worn clock) closed h worn = worn clock refl
 
-pub replays_are_legal : ReplaysAreLegal
-replays_are_legal l told status closed h worn few = (
+pub runs_are_legal : RunsAreLegal
+runs_are_legal l told status closed h worn few = (
   merge_of closed,
   record {
     number = few;

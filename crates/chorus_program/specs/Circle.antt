@@ -1,21 +1,21 @@
--- What a replay prints, an audit for the layout that ran it finds legal, if it takes a text of that length.
+-- What a replay or a run prints, an audit for the layout that ran it finds legal, if it takes a text of that length.
 use Rattle.std.specs.Prelude.{◌≡◌, ℕ, ◌<◌, ◌^◌, List, length, Option, Some}
 use Rattle.chorus_ui.specs.declared.layout.Layout.{Layout}
 use Rattle.chorus_show.specs.declared.status.Status.{Status}
 use Rattle.chorus_show.specs.declared.status.Status.TheVariants.{Worn}
 use Rattle.chorus_show.specs.Bounds.{AreWithin}
 use Rattle.chorus_net.specs.declared.closed.Closed.{Closed}
-use Rattle.chorus_run.specs.Headline.{Replays, merge_of}
-use Rattle.chorus_run.specs.Output.{text_of}
+use Rattle.chorus_report.specs.Headline.{Runs, merge_of}
+use Rattle.chorus_report.specs.Output.{text_of}
 use Rattle.chorus_audit.specs.declared.judging.Audit.TheVariants.{Legal}
 use Rattle.chorus_audit.specs.Tests.{IsVerdict}
 
 -- where the entries are fewer than 2^32. Where a clock was worn nothing was printed, and the entries are taken to be within the
 -- bounds of a line
-abbrev pub ReplaysAreLegal : Type 0
-ReplaysAreLegal =
+abbrev pub RunsAreLegal : Type 0
+RunsAreLegal =
     (l : Layout) (told : Option (List ℕ)) (status : Status) (closed : Closed) →
-    Replays l told status closed →
+    Runs l told status closed →
     ((clock : ℕ) → status ≡ Worn clock → AreWithin (merge_of closed)) →
     length (merge_of closed) < 2 ^ 32 →
     IsVerdict l (text_of (Some closed)) (Legal (length (merge_of closed)))

@@ -1,11 +1,25 @@
 -- What the program's words do.
-use Rattle.std.specs.Prelude.{ℕ}
+-- n is the nucleus that the program was handed. A source and a sink are seen as `EndsReading` and `EndsWriting` see them; from and rest are
+-- the source, old and new the sink, before and after.
+use Rattle.std.specs.Prelude.{◌≡◌, ◌≢◌, ◌≤◌, ℕ, List, Option, None, IfSome, IsSome}
+use Rattle.chorus_io.specs.Count.{Rose}
 use Rattle.chorus_ui.specs.declared.layout.Layout.{Layout}
+use Rattle.chorus_ui.specs.declared.limits.TheConstants.{CLOCK_LIMIT}
+use Rattle.chorus_audit.specs.Output.{Prints, ReadsBy}
+use Rattle.chorus_lossy.specs.Output.{CarriesInput}
 use Rattle.chorus_show.specs.declared.status.Status.{Status}
-use Rattle.chorus_run.specs.Output.{HandsOut}
+use Rattle.chorus_show.specs.declared.status.Status.TheVariants.{Done, ReadFault, WriteFault, Worn}
+use Rattle.chorus_nucleus.specs.declared.nucleus.Nucleus.{Nucleus}
+use Rattle.chorus_nucleus.specs.Passes.{layout_of}
+use Rattle.chorus_report.specs.declared.finished.Finished.{Finished}
+use Rattle.chorus_report.specs.Headline.{HasClock, merge_of}
+use Rattle.chorus_report.specs.Output.{HandsOut}
+use Rattle.chorus_replay.specs.Ends.{EndsAsLoad, EndsAsReplay}
+use Rattle.chorus_run.specs.Ends.{EndsAsRun}
 use Rattle.chorus_words.specs.declared.words.Words.{Words}
-use Rattle.chorus_words.specs.declared.words.Words.TheVariants.{Audit, Lossy}
-use Rattle.chorus_program.specs.declared.running.TheConstants.{REPLAY_SITES}
+use Rattle.chorus_words.specs.declared.words.Words.TheVariants as words
+use Rattle.chorus_words.specs.Words.{Ask}
+use Rattle.chorus_program.specs.declared.running.TheConstants.{PROGRAM_SITES}
 
 -- so many sites, with so many places each
 abbrev pub places_each : ℕ → ℕ → Layout
@@ -16,10 +30,54 @@ one_place_each sites = places_each sites 1
 
 -- the sites of a replay
 abbrev pub replay_layout : Layout
-replay_layout = one_place_each REPLAY_SITES
+replay_layout = one_place_each PROGRAM_SITES
 
--- what was closed is handed out; an audit closes nothing, and nor does what carries the input
-abbrev pub HandsOutBy : Words → Status → Type 0
-HandsOutBy (Audit sites turns) status = ⊥
-HandsOutBy (Lossy first) status = ⊥
-HandsOutBy asked status = HandsOut status
+-- `run TURNS` is asked of a nucleus whose sites have so many places
+abbrev pub Suits : Nucleus → Words → Type 0
+Suits n (words.RunOn turns) = turns ≡ (layout_of n).turns
+Suits n asked = Unit {0}
+
+-- these words ask this of a program with the nucleus
+abbrev pub AskOf : Nucleus → List (List ℕ) → Words → Type 0
+AskOf n spelled asked = Ask spelled asked × Suits n asked
+
+-- nothing was closed, and the line of the verdict on what was read was written
+pub record EndsAsAudit (l : Layout) (finished : Finished) (left rest old new : Option (List ℕ)) : Type 0 where
+  pub closed : finished.closed ≡ None
+  pub reads : ReadsBy finished.status left rest
+  pub prints : Prints l finished.status left old new
+
+-- nothing was closed, and what was read was carried
+pub record EndsAsLossy (first : ℕ) (finished : Finished) (left rest old new : Option (List ℕ)) : Type 0 where
+  pub closed : finished.closed ≡ None
+  pub carries : CarriesInput first finished.status left rest old new
+
+-- what was read stays
+pub record EndsUnreadAsLoad {S K : Type 0} (first commands : ℕ) (finished : Finished) (from rest : S) (held : K → Option (List ℕ)) (failures : K → ℕ) (old new : K) : Type 0 where
+  pub unread : rest ≡ from
+  pub loads : EndsAsLoad first commands finished held failures old new
+
+-- what the words do
+abbrev pub Does : {S K : Type 0} → Nucleus → Words → Finished → (S → Option (List ℕ)) → (S → ℕ) → (S → Type 0) → S → S → (K → Option (List ℕ)) → (K → ℕ) → K → K → Type 0
+Does n words.Replay finished left faults reliable from rest held failures old new =
+    EndsAsReplay replay_layout finished left faults reliable from rest held failures old new
+Does n words.Run finished left faults reliable from rest held failures old new =
+    EndsAsRun n finished left faults reliable from rest held failures old new
+Does n (words.RunOn turns) finished left faults reliable from rest held failures old new =
+    EndsAsRun n finished left faults reliable from rest held failures old new
+Does n (words.Load first commands) finished left faults reliable from rest held failures old new =
+    EndsUnreadAsLoad first commands finished from rest held failures old new
+Does n (words.Audit sites turns) finished left faults reliable from rest held failures old new =
+    EndsAsAudit (places_each sites turns) finished (left from) (left rest) (held old) (held new)
+Does n (words.Lossy first) finished left faults reliable from rest held failures old new =
+    EndsAsLossy first finished (left from) (left rest) (held old) (held new)
+
+-- Whatever the words are: a fault has its count, a clock that was worn its entry; without a fault of a source that has none its count
+-- stays; what was not to be written was not; and only what was written, or was to be, or stopped for a clock, has closed something.
+pub record EndsWithCause {S K : Type 0} (finished : Finished) (faults : S → ℕ) (reliable : S → Type 0) (from rest : S) (failures : K → ℕ) (old new : K) : Type 0 where
+  pub read_fault : finished.status ≡ ReadFault → Rose (faults from) (faults rest)
+  pub no_fault : reliable from → faults rest ≡ faults from
+  pub write_fault : finished.status ≡ WriteFault → Rose (failures old) (failures new)
+  pub worn : (clock : ℕ) → finished.status ≡ Worn clock → (CLOCK_LIMIT ≤ clock) × IfSome finished.closed (λ closed. HasClock clock (merge_of closed))
+  pub closed : IsSome finished.closed → HandsOut finished.status
+  pub unwritten : finished.status ≢ Done → finished.status ≢ WriteFault → new ≡ old

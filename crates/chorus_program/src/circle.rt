@@ -1,10 +1,10 @@
-//! What is replayed is legal.
+//! What is printed is legal.
 
-ghost use Rattle.chorus_program.specs.Circle.{ReplaysAreLegal};
+ghost use Rattle.chorus_program.specs.Circle.{RunsAreLegal};
 
-/// The law that what a replay prints is legal for the layout that ran it, where its entries are fewer than 2^32: an audit of it,
+/// The law that what a replay or a run prints is legal for the layout that ran it, where its entries are fewer than 2^32: an audit of it,
 /// if it is within [`AUDIT_LIMIT`](chorus_audit::AUDIT_LIMIT), finds that many. No text with more entries is legal, by the rules
 /// of an audit. The law makes no call.
-pub fn what_is_replayed_is_legal()
-    ensures { ReplaysAreLegal }
+pub fn what_is_printed_is_legal()
+    ensures { RunsAreLegal }
 {}

@@ -1,6 +1,6 @@
 //! The program.
 //!
-//! [`program`] does what the words say, between a source and a sink, and [`ended`] makes the exit status of how it ended, and the
+//! [`program`] does what the words say, between a source and a sink, with a nucleus that was started for it, and [`ended`] makes the exit status of how it ended, and the
 //! line that says what went wrong. [`process`] hands them the words and the streams of the process: it is all that `main` calls.
 //!
 //! Begin with [`program`].
@@ -11,8 +11,9 @@ mod circle;
 mod ending;
 mod running;
 mod standard;
+mod starting;
 
-pub use circle::what_is_replayed_is_legal;
+pub use circle::what_is_printed_is_legal;
 pub use ending::{ended, without_words};
-pub use running::{REPLAY_SITES, program};
-pub use standard::process;
+pub use running::{PROGRAM_SITES, program};
+pub use standard::{layout_for, process};

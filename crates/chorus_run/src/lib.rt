@@ -1,27 +1,21 @@
 //! The top calls: what the program does between its input and its output.
 //!
-//! [`replay`] reads a scenario from a source, replays it on one thread, and writes the journal and the summary to a sink;
-//! [`load`] performs commands that it draws, and writes the summary alone. The program rests on this: what comes out is the
-//! text of the merge of the journals that are handed out; they are those of the network after the scenario's or the load's
-//! tasks in their order; that merge is a run of the one-holder world for the callers, in which each command stands once, in
-//! its caller's order, with the entry that answers it; the records and packets that are handed out stand for its ports; and
-//! each other ending but want of memory has its cause.
+//! [`run`] reads a scenario from a source, performs it on the running threads of a nucleus, and writes the journal and the summary to a
+//! sink; [`replay`] does so on one thread, and [`load`] performs commands that it draws. The program rests on this: what `run` prints is
+//! the merged journal of the nucleus that it was handed, whatever its threads did and in which order; that merge is a run of the
+//! one-holder world for the scenario's callers, in which each command stands once, in its script's order, with the entry that answers
+//! it; the records and packets that are handed out stand for its ports; nothing is left to be done; and each other ending but want of
+//! memory has its cause. Of `replay` and `load` it is said where they stand.
 //!
-//! Begin with `replay`.
+//! Begin with `running`.
 
 #![tactic(auto)]
 
-mod drawing;
-mod ending;
-mod finished;
-mod following;
-mod laws;
-mod loading;
-mod on_one_thread;
-mod performing;
+mod closing;
+mod running;
 
-pub use drawing::LOAD_SITES;
-pub use finished::Finished;
-pub use laws::{a_load_has_one_outcome, a_replay_has_one_outcome};
-pub use loading::{LOAD_LIMIT, load};
-pub use on_one_thread::replay;
+pub use chorus_perform::{Gate, OpenGate, Stopped, perform};
+pub use chorus_replay::{LOAD_LIMIT, LOAD_SITES, load, replay};
+pub use chorus_report::Finished;
+pub use closing::close_unused;
+pub use running::run;

@@ -1,5 +1,5 @@
 -- The words of the list are values, and are known by their first three.
-use Rattle.std.proofs.Common.{◌≡◌, ◌≢◌, ◌∙◌, ◌^◌, ◌<◌, ◌≤◌, ◌==◌, ◌&&◌, ◌||◌, Bool, false, nat_le, if◌then◌else◌, subst, ℕ, zero, suc, true, true≢false, List, [], ◌∷◌, Option, Some, None, refl, sym, ap, ap₂, arith, codes, decimal, get_or, length, slice_get}
+use Rattle.std.proofs.Common.{◌≡◌, ◌≢◌, ◌∙◌, ◌^◌, ◌<◌, ◌≤◌, ◌+◌, ◌*◌, ◌==◌, ◌&&◌, ◌||◌, Bool, false, nat_le, if◌then◌else◌, subst, ℕ, zero, suc, true, true≢false, List, [], ◌∷◌, Option, Some, None, refl, sym, ap, ap₂, arith, codes, decimal, get_or, length, slice_get}
 use Rattle.std.specs.List.{list_all}
 use Rattle.std.proofs.lemmas.Grind.{common_steps}
 use Rattle.std.proofs.lemmas.Fmt.{decimal_digit, decimal_injective, first_decimal}
@@ -7,8 +7,8 @@ use Rattle.std.specs.Option.{IfSome, IsNone, is_some, unwrap_or}
 use Rattle.std.proofs.lemmas.Bool.Decides.{nat_tests}
 use Rattle.chorus_ui.specs.Layout.{IsLayout, Shape, is_layout, new_layout}
 use Rattle.chorus_words.specs.declared.words.Words.{Words}
-use Rattle.chorus_words.specs.declared.words.Words.TheVariants.{Replay, Load, Audit, Lossy}
-use Rattle.chorus_words.specs.Words.{Ask, IsWithin, spelled}
+use Rattle.chorus_words.specs.declared.words.Words.TheVariants.{Replay, Run, RunOn, Load, Audit, Lossy}
+use Rattle.chorus_words.specs.Words.{Ask, IsTurns, IsWithin, spelled}
 use Rattle.chorus_words.specs.Cutting.{AskByThree, is_value}
 
 digit_value : (ds : List ℕ) → 48 ≤ get_or ds 0 0 → is_value ds ≡ true
@@ -21,6 +21,8 @@ decimal_value (suc n) h = digit_value (decimal (suc n)) (omega (arith, first_dec
 
 pub spelled_values : (asked : Words) → IsWithin asked → list_all is_value (spelled asked) ≡ true
 spelled_values Replay w = refl
+spelled_values Run w = refl
+spelled_values (RunOn turns) w = rw (decimal_value turns (omega (arith, w.turns_to_four))) refl
 spelled_values (Load first commands) w = rw (decimal_value first w.0, decimal_value commands (omega (arith, w.1))) refl
 spelled_values (Audit sites turns) w =
     rw (decimal_value sites (omega (arith, w.sites_to_max)), decimal_value turns (omega (arith, w.turns_to_four))) refl
@@ -50,6 +52,8 @@ same_three xs (y ∷ y' ∷ y'' ∷ y''' ∷ ys) lx ly e f g = absurd (omega ari
 
 few_words : (asked : Words) → length (spelled asked) ≤ 3
 few_words Replay = omega arith
+few_words Run = omega arith
+few_words (RunOn turns) = omega arith
 few_words (Load first commands) = omega arith
 few_words (Audit sites turns) = omega arith
 few_words (Lossy first) = omega arith
@@ -74,27 +78,24 @@ same_number m n h k e = decimal_injective m n h k (the_word (decimal m) (decimal
 other_word : Some (codes "load") ≡ Some (codes "audit") → ⊥
 other_word e = true≢false (ap (λ (w : List ℕ). length w == 4) (the_word (codes "load") (codes "audit") e))
 
+-- a row is known by how many words it has, and by how long the first of them is
+abbrev size : List (List ℕ) → ℕ
+size [] = 0
+size (w ∷ ws) = length w * 4 + length ws
+
 one_spelling : (a b : Words) → IsWithin a → IsWithin b → spelled a ≡ spelled b → a ≡ b
 one_spelling Replay Replay w v e = refl
-one_spelling Replay (Load first commands) w v e = absurd (no_word (decimal first) (ap (λ l. slice_get l 1) e))
-one_spelling Replay (Audit sites turns) w v e = absurd (no_word (decimal sites) (ap (λ l. slice_get l 1) e))
-one_spelling Replay (Lossy first) w v e = absurd (no_word (decimal first) (ap (λ l. slice_get l 1) e))
-one_spelling (Load first commands) Replay w v e = absurd (no_word (decimal first) (sym (ap (λ l. slice_get l 1) e)))
+one_spelling Run Run w v e = refl
+one_spelling (RunOn turns) (RunOn t) w v e =
+    ap RunOn (same_number turns t (omega (arith, w.turns_to_four)) (omega (arith, v.turns_to_four)) (ap (λ l. slice_get l 1) e))
 one_spelling (Load first commands) (Load f c) w v e = ap₂ Load
     (same_number first f w.0 v.0 (ap (λ l. slice_get l 1) e))
     (same_number commands c (omega (arith, w.1)) (omega (arith, v.1)) (ap (λ l. slice_get l 2) e))
-one_spelling (Load first commands) (Audit sites turns) w v e = absurd (other_word (ap (λ l. slice_get l 0) e))
-one_spelling (Load first commands) (Lossy f) w v e = absurd (no_word (decimal commands) (sym (ap (λ l. slice_get l 2) e)))
-one_spelling (Audit sites turns) Replay w v e = absurd (no_word (decimal sites) (sym (ap (λ l. slice_get l 1) e)))
-one_spelling (Audit sites turns) (Load first commands) w v e = absurd (other_word (sym (ap (λ l. slice_get l 0) e)))
 one_spelling (Audit sites turns) (Audit s t) w v e = ap₂ Audit
     (same_number sites s (omega (arith, w.sites_to_max)) (omega (arith, v.sites_to_max)) (ap (λ l. slice_get l 1) e))
     (same_number turns t (omega (arith, w.turns_to_four)) (omega (arith, v.turns_to_four)) (ap (λ l. slice_get l 2) e))
-one_spelling (Audit sites turns) (Lossy first) w v e = absurd (no_word (decimal turns) (sym (ap (λ l. slice_get l 2) e)))
-one_spelling (Lossy first) Replay w v e = absurd (no_word (decimal first) (sym (ap (λ l. slice_get l 1) e)))
-one_spelling (Lossy first) (Load f commands) w v e = absurd (no_word (decimal commands) (ap (λ l. slice_get l 2) e))
-one_spelling (Lossy first) (Audit sites turns) w v e = absurd (no_word (decimal turns) (ap (λ l. slice_get l 2) e))
 one_spelling (Lossy first) (Lossy f) w v e = ap Lossy (same_number first f w v (ap (λ l. slice_get l 1) e))
+one_spelling a b w v e = absurd (let same : size (spelled a) ≡ size (spelled b) = ap size e in omega (arith, same))
 
 pub ask_once : (ws : List (List ℕ)) (a b : Words) → Ask ws a → Ask ws b → a ≡ b
 ask_once ws a b m n = one_spelling a b m.1 n.1 (sym m.0 ∙ n.0)
@@ -144,6 +145,8 @@ no_layout_read m n sites turns e f small less none l h p q =
 no_audit_of : (sites turns : List ℕ) → ((l : Shape) → IsLayout l → sites ≡ decimal l.sites → turns ≡ decimal l.turns → ⊥)
     → (asked : Words) → AskByThree (Some (codes "audit")) (Some sites) (Some turns) asked → ⊥
 no_audit_of sites turns none Replay by = no_word sites (sym by.1)
+no_audit_of sites turns none Run by = no_word sites (sym by.1)
+no_audit_of sites turns none (RunOn t) by = no_word turns (sym by.2)
 no_audit_of sites turns none (Load first commands) by = other_word (sym by.0)
 no_audit_of sites turns none (Lossy first) by = no_word turns (sym by.2)
 no_audit_of sites turns none (Audit s t) by = none (record { sites = s; turns = t }) by.3 (the_word sites (decimal s) by.1) (the_word turns (decimal t) by.2)
@@ -153,3 +156,21 @@ pub no_audit : (sites turns : List ℕ) (what first second : Option (List ℕ)) 
     → (asked : Words) → AskByThree what first second asked → ⊥
 no_audit sites turns what first second e f g none asked by =
     no_audit_of sites turns none asked (sym e ∙ by.0, sym f ∙ by.1, sym g ∙ by.2, by.3)
+
+-- A word that is no number of places.
+
+no_run_of : (turns : List ℕ) → ((n : ℕ) → IsTurns n → turns ≡ decimal n → ⊥) → (asked : Words) → AskByThree (Some (codes "run")) (Some turns) None asked → ⊥
+no_run_of turns none (RunOn n) by = none n by.3 (the_word turns (decimal n) by.1)
+no_run_of turns none Run by = no_word turns (sym by.1)
+no_run_of turns none asked by =
+    absurd (let word : codes "run" ≡ unwrap_or (slice_get (spelled asked) 0) [] = the_word (codes "run") (unwrap_or (slice_get (spelled asked) 0) []) by.0 in let long = ap (λ (w : List ℕ). length w) word in omega (arith, long))
+
+pub no_run : (turns : List ℕ) (what first second : Option (List ℕ)) → what ≡ Some (codes "run") → first ≡ Some turns → second ≡ None
+    → ((n : ℕ) → IsTurns n → turns ≡ decimal n → ⊥) → (asked : Words) → AskByThree what first second asked → ⊥
+no_run turns what first second e f g none asked by = no_run_of turns none asked (sym e ∙ by.0, sym f ∙ by.1, sym g ∙ by.2, by.3)
+
+pub no_turns_read : (m : ℕ) (word : List ℕ) → word ≡ decimal m → m < 2 ^ 16 → IsNone (new_layout 1 m) → (n : ℕ) → IsTurns n → word ≡ decimal n → ⊥
+no_turns_read m word e small none n h is =
+    let same : n ≡ m = decimal_injective n m (omega (arith, h.turns_to_four)) (omega (arith, small)) (sym is ∙ e) in
+    let l : Shape = record { sites = 1; turns = n } in
+    some_if (is_layout l) l (layout_fits l h) (subst (λ k. IsNone (new_layout 1 k)) (sym same) none)

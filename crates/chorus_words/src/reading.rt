@@ -4,7 +4,7 @@ ghost use Rattle.std.specs.Prelude.{◌≡◌, ◌^◌, ◌<◌, ◌≤◌, ℕ,
 ghost use Rattle.std.specs.List.{list_all};
 ghost use Rattle.chorus_ui.specs.Layout.{IsLayout, Shape};
 ghost use Rattle.chorus_words.specs.declared.words.TheConstants.{LOAD_LIMIT};
-ghost use Rattle.chorus_words.specs.Words.{Ask};
+ghost use Rattle.chorus_words.specs.Words.{Ask, IsTurns};
 ghost use Rattle.chorus_words.specs.Cutting.{is_value, AskByThree};
 
 use crate::cutting::{FIRST, SECOND, WHAT, cut};
@@ -54,6 +54,10 @@ fn asked_by(what: Option<&str>, first: Option<&str>, second: Option<&str>) -> Op
 {
     match (what?, first, second) {
         ("replay", None, None) => Some(Words::Replay),
+        ("run", None, None) => Some(Words::Run),
+        ("run", Some(turns), None) => Some(Words::RunOn {
+            turns: turns_of(turns)?,
+        }),
         ("load", Some(first), Some(commands)) => Some(Words::Load {
             first: parse_decimal(first.as_bytes())?,
             commands: commands_of(commands)?,
@@ -70,6 +74,15 @@ fn asked_by(what: Option<&str>, first: Option<&str>, second: Option<&str>) -> Op
         }),
         _ => None,
     }
+}
+
+/// The number of places of a site whose decimal the word is. None exactly where a site may not have so many.
+fn turns_of(word: &str) -> Option<u16>
+    ensures some { IfSome result (λ n. (word.now ≡ decimal n) × IsTurns n) }
+    ensures none { IsNone result → (n : ℕ) → IsTurns n → ¬ (word.now ≡ decimal n) }
+{
+    let layout = Layout::new(1, small_decimal(word)?)?;
+    Some(layout.turns())
 }
 
 /// The layout whose sites and places per site these decimals are. None exactly where there is none.

@@ -8,6 +8,10 @@ pub const LOAD_LIMIT: u32 = 65_536;
 pub enum Words {
     /// `replay`: a scenario is replayed.
     Replay,
+    /// `run`: a scenario is performed on running threads.
+    Run,
+    /// `run TURNS`: so it is on sites with so many places each: 1, 2 or 4.
+    RunOn { turns: u16 },
     /// `load FIRST COMMANDS`: so many commands, at most [`LOAD_LIMIT`], are drawn from the first state on.
     Load { first: u64, commands: u32 },
     /// `audit SITES TURNS`: a printed journal is audited, for so many sites with so many places each: a layout that exists.

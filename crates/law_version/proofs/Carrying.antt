@@ -11,7 +11,7 @@ use Rattle.law_network.specs.Network.{NetState, Event, Enter, Act, Deliver, afte
 use Rattle.law_network.specs.Schedules.{may_be}
 use Rattle.law_network.specs.Tasks.{Task, Do, Drain, CarryOut}
 use Rattle.law_network.proofs.Draining.Drains.{idle, round-deliveries}
-use Rattle.chorus_run.proofs.Stepping.{may-suffix}
+use Rattle.chorus_replay.proofs.Stepping.{may-suffix}
 use Rattle.law_version.proofs.Places.{layout_on}
 use Rattle.law_version.proofs.Nets.{net_on, EventWithin, is_near, near}
 use Rattle.law_version.proofs.Schedules.{Agree, agree}

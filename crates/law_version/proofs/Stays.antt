@@ -27,14 +27,16 @@ use Rattle.chorus_scene.proofs.Law.{printed_again}
 use Rattle.chorus_show.specs.declared.status.Status.{Status}
 use Rattle.chorus_show.specs.Journal.{journal_text}
 use Rattle.chorus_show.specs.Summary.{summary_text}
-use Rattle.chorus_run.specs.Order.{in_setup, set_up, in_schedule, left_from, tasks}
-use Rattle.chorus_run.specs.Headline.{bytes_read, merge_of, IsOrdered}
-use Rattle.chorus_run.specs.Laws.{worn_clock}
-use Rattle.chorus_run.specs.Performing.{to_enter}
-use Rattle.chorus_run.proofs.Loops.{order-is}
-use Rattle.chorus_run.proofs.May.{tasks-may}
-use Rattle.chorus_run.proofs.Once.{Ends, All-done, Worn-at, ends-as, one-end}
-use Rattle.chorus_run.proofs.Stepping.{may-suffix}
+use Rattle.chorus_replay.specs.Order.{in_setup, set_up, in_schedule, left_from, tasks}
+use Rattle.chorus_report.specs.Reading.{bytes_read}
+use Rattle.chorus_report.specs.Headline.{merge_of}
+use Rattle.chorus_replay.specs.Ordered.{IsOrdered}
+use Rattle.chorus_replay.specs.Laws.{worn_clock}
+use Rattle.chorus_replay.specs.Performing.{to_enter}
+use Rattle.chorus_replay.proofs.Loops.{order-is}
+use Rattle.chorus_replay.proofs.May.{tasks-may}
+use Rattle.chorus_replay.proofs.Once.{Ends, All-done, Worn-at, ends-as, one-end}
+use Rattle.chorus_replay.proofs.Stepping.{may-suffix}
 use Rattle.law_version.specs.Version.{eight, sixteen, with_layout, SaysTheSame, IsOfVersionOne, MergesTheSame, AreAlike, ClosesTheSame, WritesTheSame}
 use Rattle.law_version.proofs.Places.{layout_on, place_on}
 use Rattle.law_version.proofs.Nets.{net_on, EventWithin, is_near, near}

@@ -29,8 +29,9 @@ use Rattle.chorus_scene.specs.Scene.{Scene, Script}
 use Rattle.chorus_scene.specs.Making.{next_port, next_group, made_after, members_of}
 use Rattle.chorus_scene.specs.Grammar.{most_bytes, script_at, no_script, is_step}
 use Rattle.chorus_scene.specs.Limits.{Keeps, is_site, is_actor_of, is_place_of, dest_is_of, command_is_of, bytes_sent, is_of_version, command_keeps, script_keeps, setup_line_keeps, setup_keeps, step_keeps, schedule_keeps}
-use Rattle.chorus_run.specs.Order.{setup_command, in_setup, set_up, entering, step_tasks, in_schedule, then_drain, left_from, order, tasks}
-use Rattle.chorus_run.proofs.May.{all-get, all-drop, place-fits}
+use Rattle.chorus_report.specs.Setup.{setup_command}
+use Rattle.chorus_replay.specs.Order.{in_setup, set_up, entering, step_tasks, in_schedule, then_drain, left_from, order, tasks}
+use Rattle.chorus_replay.proofs.May.{all-get, all-drop, place-fits}
 use Rattle.law_version.proofs.Places.{BothHave, Within, DestWithin, CommandWithin}
 use Rattle.law_version.proofs.Pasts.{both-have}
 use Rattle.law_version.proofs.Nets.{EventWithin, is_near}

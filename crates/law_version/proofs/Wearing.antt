@@ -19,8 +19,8 @@ use Rattle.law_network.specs.Tasks.{Task, Do, Drain}
 use Rattle.law_network.specs.History.{history}
 use Rattle.law_network.proofs.Places.Layouts.{schedule-keeps}
 use Rattle.chorus_net.specs.Worn.{compared_by, IsUnworn, AreUnworn}
-use Rattle.chorus_run.specs.Worn.{ComesNext, AreWornBy}
-use Rattle.chorus_run.proofs.Stepping.{may-suffix}
+use Rattle.chorus_replay.specs.Worn.{ComesNext, AreWornBy}
+use Rattle.chorus_replay.proofs.Stepping.{may-suffix}
 use Rattle.law_version.proofs.Places.{layout_on, CommandWithin}
 use Rattle.law_version.proofs.Nets.{net_on, EventWithin, is_near, near, IsWithin, turn-on, begun-on, far-none}
 use Rattle.law_version.proofs.Schedules.{is-within, Agree, agree}

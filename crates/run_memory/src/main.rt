@@ -11,7 +11,9 @@
 use chorus_io::{
     Failed, MemSink, MemSource, Sink, Source, StdErrors, StdSink, StdSource, read_all, write_all,
 };
-use chorus_program::program;
+use chorus_nucleus::Nucleus;
+use chorus_program::{layout_for, program};
+use chorus_run::OpenGate;
 use chorus_show::Status;
 use std::alloc::Global;
 use std::process::ExitCode;
@@ -37,7 +39,7 @@ fn run(rt: &HostRuntime) -> io::Result<u8> {
     };
     let mut source = MemSource::new(input, Vec::new(alloc));
     let mut sink = MemSink::new(alloc, 1, Vec::new(alloc));
-    let status = call(alloc, &words, &mut source, &mut sink);
+    let status = call(rt, alloc, &words, &mut source, &mut sink);
     let mut output = StdSink::new(rt.stdout());
     let mut errors = StdErrors::new(rt.stderr());
     Ok(match say(status, sink.bytes(), &mut output, &mut errors) {
@@ -46,9 +48,21 @@ fn run(rt: &HostRuntime) -> io::Result<u8> {
     })
 }
 
-/// How the call of these words ends.
-fn call<S: Source, K: Sink>(alloc: Global, words: &[&str], source: &mut S, sink: &mut K) -> Status {
-    program(alloc, words, source, sink).status
+/// How the call of these words ends, with a nucleus that is started for it.
+fn call<S: Source, K: Sink>(
+    rt: &HostRuntime,
+    alloc: Global,
+    words: &[&str],
+    source: &mut S,
+    sink: &mut K,
+) -> Status {
+    let layout = layout_for(alloc, words);
+    match Nucleus::start(alloc, rt, layout) {
+        Ok((nucleus, pass)) => {
+            program(alloc, rt, words, source, sink, nucleus, pass, &OpenGate).status
+        }
+        Err(_) => Status::Memory,
+    }
 }
 
 /// Puts out the bytes that a sink holds, and the line that says how the call ended.

@@ -6,6 +6,8 @@ use chorus_program::ended;
 use chorus_show::Status;
 use std::alloc::Global;
 use std::process::Abort;
+use std::sync::Wait;
+use std::thread::Threads;
 
 fn ended_with<K: Sink>(status: Status, errors: &mut K) -> u8 {
     ended(status, errors)
@@ -13,7 +15,7 @@ fn ended_with<K: Sink>(status: Status, errors: &mut K) -> u8 {
 
 /// Asserts the exit status and what is written, where these writes fail.
 fn assert_ended(
-    rt: &impl Abort,
+    rt: &(impl Abort + Threads + Wait + Sync),
     alloc: Global,
     status: Status,
     failing: &[u64],
@@ -27,13 +29,19 @@ fn assert_ended(
 }
 
 /// Asserts the exit status and the line that is written, and that a line that cannot be written changes no exit status.
-fn assert_ends(rt: &impl Abort, alloc: Global, status: Status, number: u8, line: &str) {
+fn assert_ends(
+    rt: &(impl Abort + Threads + Wait + Sync),
+    alloc: Global,
+    status: Status,
+    number: u8,
+    line: &str,
+) {
     assert_ended(rt, alloc, status, &[], number, line);
     assert_ended(rt, alloc, status, &[1], number, "");
 }
 
 /// The statuses with numbers in their lines.
-fn assert_ends_with_numbers(rt: &impl Abort, alloc: Global) {
+fn assert_ends_with_numbers(rt: &(impl Abort + Threads + Wait + Sync), alloc: Global) {
     let scenario = Status::Scenario {
         line: 12,
         reason: 3,

@@ -8,19 +8,33 @@ use crate::texts::{RETRY_ACROSS_A_MOVE, RETRY_ACROSS_A_MOVE_PRINTED};
 use chorus_show::Status;
 use std::alloc::Global;
 use std::process::Abort;
+use std::sync::Wait;
+use std::thread::Threads;
 
 /// What a load of 100 commands from 7 writes, worked out by another program.
 const LOADED: &str =
     "summary\nposted 69\naccepted 69\ntaken 3\nqueued 66\nmoving 0\nrefused 0\nstale 5\ndeparts 1\nend\n";
 
 /// How the words end on the scenario, and what is written, where the read and the write of these numbers fail; 0 is none.
-fn run(rt: &impl Abort, alloc: Global, words: &[&str], read: u64, write: u64) -> Run {
+fn run(
+    rt: &(impl Abort + Threads + Wait + Sync),
+    alloc: Global,
+    words: &[&str],
+    read: u64,
+    write: u64,
+) -> Run {
     let whole = source_of(rt, alloc, RETRY_ACROSS_A_MOVE, &[read]);
     run_over(rt, alloc, words, &mut Short { whole }, 1, &[write])
 }
 
 /// Asserts that a run with a fault ended with this status and a front of the whole output, of so many bytes.
-fn assert_ended(rt: &impl Abort, run: &Run, status: Status, whole: &str, count: u64) {
+fn assert_ended(
+    rt: &(impl Abort + Threads + Wait + Sync),
+    run: &Run,
+    status: Status,
+    whole: &str,
+    count: u64,
+) {
     let written = run.written.as_bytes();
     assert_same(rt, run.status, status, count);
     assert_same(rt, written.len() as u64, count, "bytes");
@@ -31,7 +45,12 @@ fn assert_ended(rt: &impl Abort, run: &Run, status: Status, whole: &str, count: 
 }
 
 /// Asserts that the words write the whole, and where a write fails, all before it.
-fn assert_each_write_fails(rt: &impl Abort, alloc: Global, words: &[&str], whole: &str) {
+fn assert_each_write_fails(
+    rt: &(impl Abort + Threads + Wait + Sync),
+    alloc: Global,
+    words: &[&str],
+    whole: &str,
+) {
     let count = whole.len() as u64;
     for written in 0..count {
         let run = run(rt, alloc, words, 0, written + 1);
@@ -53,13 +72,19 @@ fn each_write_of_a_load_fails(rt: HostRuntime) {
 }
 
 /// Asserts that the words write the whole where the read of this number fails.
-fn assert_writes_all(rt: &impl Abort, alloc: Global, words: &[&str], read: u64, whole: &str) {
+fn assert_writes_all(
+    rt: &(impl Abort + Threads + Wait + Sync),
+    alloc: Global,
+    words: &[&str],
+    read: u64,
+    whole: &str,
+) {
     let run = run(rt, alloc, words, read, 0);
     assert_ended(rt, &run, Status::Done, whole, whole.len() as u64);
 }
 
 /// Asserts that a replay reads each byte and then finds the end, and where a read fails, writes nothing.
-fn assert_each_read_fails(rt: &impl Abort, alloc: Global) {
+fn assert_each_read_fails(rt: &(impl Abort + Threads + Wait + Sync), alloc: Global) {
     let words = ["replay"];
     let whole = RETRY_ACROSS_A_MOVE_PRINTED;
     let reads = RETRY_ACROSS_A_MOVE.len() as u64;

@@ -3,11 +3,15 @@
 //! The contract of `program` is long, so it is called in one function, which is generic in its source and sink.
 
 use chorus_io::{MemSink, MemSource, Sink, Source};
-use chorus_program::program;
+use chorus_nucleus::Nucleus;
+use chorus_program::{layout_for, program};
+use chorus_run::OpenGate;
 use chorus_show::Status;
 use std::alloc::Global;
 use std::fmt::Debug;
 use std::process::Abort;
+use std::sync::Wait;
+use std::thread::Threads;
 
 /// How the program ended, and what it wrote.
 #[derive(Drop)]
@@ -16,37 +20,55 @@ pub(crate) struct Run {
     pub(crate) written: String,
 }
 
-fn ends_with<S: Source, K: Sink>(
+fn ends_with<R: Abort + Threads + Wait + Sync, S: Source, K: Sink>(
+    rt: &R,
     alloc: Global,
     words: &[&str],
     source: &mut S,
     sink: &mut K,
 ) -> Status {
-    program(alloc, words, source, sink).status
+    let Ok((nucleus, pass)) = Nucleus::start(alloc, rt, layout_for(alloc, words)) else {
+        panic!(rt; "memory")
+    };
+    program(alloc, rt, words, source, sink, nucleus, pass, &OpenGate).status
 }
 
 /// A source of the text. `failing` lists the reads that fail.
-pub(crate) fn source_of(rt: &impl Abort, alloc: Global, text: &str, failing: &[u64]) -> MemSource {
+pub(crate) fn source_of(
+    rt: &(impl Abort + Threads + Wait + Sync),
+    alloc: Global,
+    text: &str,
+    failing: &[u64],
+) -> MemSource {
     let bytes = Vec::from_slice(alloc, text.as_bytes()).expect(rt, "memory");
     MemSource::new(bytes, Vec::from_slice(alloc, failing).expect(rt, "memory"))
 }
 
 /// An empty sink that takes so many bytes at a write. `failing` lists the writes that fail.
-pub(crate) fn sink_of(rt: &impl Abort, alloc: Global, most: usize, failing: &[u64]) -> MemSink {
+pub(crate) fn sink_of(
+    rt: &(impl Abort + Threads + Wait + Sync),
+    alloc: Global,
+    most: usize,
+    failing: &[u64],
+) -> MemSink {
     assert!(rt; most > 0);
     let failing = Vec::from_slice(alloc, failing).expect(rt, "memory");
     MemSink::new(alloc, most, failing)
 }
 
 /// What the sink holds.
-pub(crate) fn text_in(rt: &impl Abort, alloc: Global, sink: &MemSink) -> String {
+pub(crate) fn text_in(
+    rt: &(impl Abort + Threads + Wait + Sync),
+    alloc: Global,
+    sink: &MemSink,
+) -> String {
     let bytes = Vec::from_slice(alloc, sink.bytes()).expect(rt, "memory");
     String::from_utf8(bytes).ok().expect(rt, "a text")
 }
 
 /// Asserts that what is told of this is what is wanted.
 pub(crate) fn assert_same<T: PartialEq + Debug + Copy, W: Debug + Copy>(
-    rt: &impl Abort,
+    rt: &(impl Abort + Threads + Wait + Sync),
     told: T,
     wanted: T,
     of: W,
@@ -56,7 +78,7 @@ pub(crate) fn assert_same<T: PartialEq + Debug + Copy, W: Debug + Copy>(
 
 /// What the program does for these words, over this source and a sink that takes so many bytes at a write and fails at these writes.
 pub(crate) fn run_over<S: Source>(
-    rt: &impl Abort,
+    rt: &(impl Abort + Threads + Wait + Sync),
     alloc: Global,
     words: &[&str],
     source: &mut S,
@@ -64,7 +86,7 @@ pub(crate) fn run_over<S: Source>(
     failing: &[u64],
 ) -> Run {
     let mut sink = sink_of(rt, alloc, most, failing);
-    let status = ends_with(alloc, words, source, &mut sink);
+    let status = ends_with(rt, alloc, words, source, &mut sink);
     Run {
         status,
         written: text_in(rt, alloc, &sink),
@@ -72,14 +94,19 @@ pub(crate) fn run_over<S: Source>(
 }
 
 /// What the program does for these words and this input.
-pub(crate) fn run_on(rt: &impl Abort, alloc: Global, words: &[&str], input: &str) -> Run {
+pub(crate) fn run_on(
+    rt: &(impl Abort + Threads + Wait + Sync),
+    alloc: Global,
+    words: &[&str],
+    input: &str,
+) -> Run {
     let mut source = source_of(rt, alloc, input, &[]);
     run_over(rt, alloc, words, &mut source, 64, &[])
 }
 
 /// Asserts that for these words and this input the program does all, and writes this.
 pub(crate) fn assert_prints(
-    rt: &impl Abort,
+    rt: &(impl Abort + Threads + Wait + Sync),
     alloc: Global,
     words: &[&str],
     input: &str,

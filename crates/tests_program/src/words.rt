@@ -5,6 +5,8 @@ use chorus_show::Status;
 use chorus_words::{Words, read_words};
 use std::alloc::Global;
 use std::process::Abort;
+use std::sync::Wait;
+use std::thread::Threads;
 
 const LOADS_NOTHING: &str =
     "summary\nposted 0\naccepted 0\ntaken 0\nqueued 0\nmoving 0\nrefused 0\nstale 0\ndeparts 0\nend\n";
@@ -12,17 +14,26 @@ const LOADS_NOTHING: &str =
 const LOADS_ONE_COMMAND: &str =
     "summary\nposted 1\naccepted 1\ntaken 0\nqueued 1\nmoving 0\nrefused 0\nstale 0\ndeparts 0\nend\n";
 
-fn asked_by(rt: &impl Abort, alloc: Global, words: &[&str]) -> Option<Words> {
+fn asked_by(
+    rt: &(impl Abort + Threads + Wait + Sync),
+    alloc: Global,
+    words: &[&str],
+) -> Option<Words> {
     read_words(alloc, words).expect(rt, "memory")
 }
 
-fn assert_reads(rt: &impl Abort, alloc: Global, words: &[&str], asked: Option<Words>) {
+fn assert_reads(
+    rt: &(impl Abort + Threads + Wait + Sync),
+    alloc: Global,
+    words: &[&str],
+    asked: Option<Words>,
+) {
     let read = asked_by(rt, alloc, words);
     assert!(rt; read == asked, "{words:?}");
 }
 
 /// Asserts that the text is read as this first number of a load.
-fn assert_first(rt: &impl Abort, alloc: Global, text: &str, first: u64) {
+fn assert_first(rt: &(impl Abort + Threads + Wait + Sync), alloc: Global, text: &str, first: u64) {
     let commands = Words::Load {
         first,
         commands: 65_536,
@@ -31,13 +42,13 @@ fn assert_first(rt: &impl Abort, alloc: Global, text: &str, first: u64) {
 }
 
 /// Asserts that the text is read as no number, wherever one stands.
-fn assert_no_number(rt: &impl Abort, alloc: Global, text: &str) {
+fn assert_no_number(rt: &(impl Abort + Threads + Wait + Sync), alloc: Global, text: &str) {
     assert_reads(rt, alloc, &["load", text, "1"], None);
     assert_reads(rt, alloc, &["load", "1", text], None);
     assert_reads(rt, alloc, &["lossy", text], None);
 }
 
-fn assert_no_numbers(rt: &impl Abort, alloc: Global) {
+fn assert_no_numbers(rt: &(impl Abort + Threads + Wait + Sync), alloc: Global) {
     for text in [
         "",
         "-1",
@@ -68,13 +79,18 @@ fn the_list_and_nothing_else(rt: HostRuntime) {
 }
 
 /// Asserts how the program ends on an empty text, and that it writes nothing.
-fn assert_ends(rt: &impl Abort, alloc: Global, words: &[&str], status: Status) {
+fn assert_ends(
+    rt: &(impl Abort + Threads + Wait + Sync),
+    alloc: Global,
+    words: &[&str],
+    status: Status,
+) {
     let run = run_on(rt, alloc, words, "");
     assert_same(rt, run.status, status, words);
     assert!(rt; run.written.is_empty(), "{words:?}");
 }
 
-fn assert_no_words(rt: &impl Abort, alloc: Global) {
+fn assert_no_words(rt: &(impl Abort + Threads + Wait + Sync), alloc: Global) {
     let refused: [&[&str]; 9] = [
         &[],
         &["load", "7"],

@@ -1,4 +1,4 @@
-//! Tests of `chorus_run`: what scenarios print, what loads write, and how texts, sources and sinks end a run.
+//! Tests of `chorus_replay`: what scenarios print, what loads write, and how texts, sources and sinks end a run.
 #![tactic(auto)]
 
 #[cfg(test)]

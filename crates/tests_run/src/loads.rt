@@ -3,7 +3,7 @@
 use crate::running::{Run, assert_done, assert_ended, assert_same, run_of, sink_of};
 use chorus_io::Sink;
 use chorus_net::Sites;
-use chorus_run::{LOAD_LIMIT, LOAD_SITES, load};
+use chorus_replay::{LOAD_LIMIT, LOAD_SITES, load};
 use chorus_show::Status;
 use chorus_ui::Layout;
 use std::alloc::Global;

@@ -5,7 +5,7 @@
 
 use chorus_io::{MemSink, MemSource, Sink, Source};
 use chorus_net::Sites;
-use chorus_run::replay;
+use chorus_replay::replay;
 use chorus_show::Status;
 use chorus_ui::Layout;
 use std::alloc::Global;

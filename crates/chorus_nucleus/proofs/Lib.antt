@@ -1,0 +1,15 @@
+pub mod Counting
+pub mod Gave
+pub mod Threads
+pub mod Called
+pub mod Joined
+pub mod Asking
+pub mod Sights
+pub mod Arriving
+pub mod Beginning
+pub mod Opening
+pub mod Publishing
+pub mod Leaving
+pub mod Left
+pub mod Ended
+pub mod Running

@@ -1,0 +1,38 @@
+use Rattle.std.proofs.Common.{◌≡◌, Some, refl, sym, ◌∙◌, ap, subst, IfSome}
+use Rattle.chorus_turn.specs.Passes.{handed}
+use Rattle.chorus_board.specs.Located.{located_after, pair_of}
+use Rattle.chorus_board.specs.Boards.{entries_seen}
+use Rattle.chorus_nucleus.specs.Passes.{Reads, home_of}
+use Rattle.chorus_nucleus.specs.Reading.{Locates}
+use Rattle.chorus_nucleus.proofs.Publishing.{reads-same}
+use Rattle.chorus_nucleus.proofs.nucleus.Nucleus.locate.Goals as goal
+
+pub returns-in-Some : goal.returns-in-Some
+returns-in-Some c =
+    let n = c.args.self.now in
+    let is = c.requires.pass in
+    let home = home_of n.layout c.args.pass.now.caller in
+    let had : c.args.pass.now.sight.reader ≡ Some c.in-Some.own = sym c.take.ensures.value ∙ c.in-Some.is in
+    let own : Reads n.layout (handed n.turns) home c.in-Some.own = subst (λ o. IfSome o (λ r. Reads n.layout (handed n.turns) home r)) had is.sight.own in
+    let read = c.newest-found.new.self in
+    let told = c.newest-found.ensures in
+    record {
+      pass = record {
+        sites = is.sites;
+        turner = is.turner;
+        caller = is.caller;
+        sight = record {
+          own = reads-same n.layout (handed n.turns) home c.in-Some.own read told.reader own;
+          spare = is.sight.spare;
+          rows = is.sight.rows;
+          none = is.sight.none;
+        };
+      };
+      knows = refl;
+      caller = refl;
+      worn = refl;
+      found = subst (λ o. Locates n.layout c.args.port o (Some read) c.newest-found.result) (sym had)
+          (told.begins, told.located ∙ ap (λ k. pair_of (located_after k (entries_seen read) c.args.port)) own.layout, told.upto);
+      full = tt;
+      readers = λ q. refl;
+    }

@@ -1,0 +1,9 @@
+pub mod Passes
+pub mod Calls
+pub mod Readers
+pub mod Starting
+pub mod Coming
+pub mod Reading
+pub mod Leaving
+pub mod Closing
+pub mod Runs

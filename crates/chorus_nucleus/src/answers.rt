@@ -1,0 +1,43 @@
+//! The answers of calls, from those of their turns.
+ghost use Rattle.std.specs.Prelude.{◌≡◌};
+ghost use Rattle.chorus_nucleus.specs.Calls.{answered, worn_after};
+ghost use Rattle.chorus_nucleus.specs.Reading.{answered_publish};
+
+use crate::fault::CallFault;
+use chorus_place::PlaceFault;
+use chorus_turn::Busy;
+use std::alloc::AllocError;
+
+/// The answer of a call, from that of its turn.
+pub(crate) fn answer<T: Drop>(done: Result<Result<T, PlaceFault>, Busy>) -> Result<T, CallFault>
+    ensures { result ≡ answered done }
+{
+    match done {
+        Ok(Ok(x)) => Ok(x),
+        Ok(Err(PlaceFault::Memory(none))) => Err(CallFault::Memory(none)),
+        Ok(Err(PlaceFault::Worn { clock })) => Err(CallFault::Worn { clock }),
+        Err(busy) => Err(CallFault::Busy { by: busy.by }),
+    }
+}
+
+/// The same of a publish.
+pub(crate) fn answer_publish(done: Result<Result<(), AllocError>, Busy>) -> Result<(), CallFault>
+    ensures { result ≡ answered_publish done }
+{
+    match done {
+        Ok(Ok(())) => Ok(()),
+        Ok(Err(none)) => Err(CallFault::Memory(none)),
+        Err(busy) => Err(CallFault::Busy { by: busy.by }),
+    }
+}
+
+/// The first worn clock, after one call more.
+pub(crate) fn note_worn<T>(worn: Option<u64>, done: &Result<T, CallFault>) -> Option<u64>
+    ensures { result ≡ worn_after worn done.now }
+{
+    match (worn, done) {
+        (Some(clock), _) => Some(clock),
+        (None, Err(CallFault::Worn { clock })) => Some(*clock),
+        (None, _) => None,
+    }
+}

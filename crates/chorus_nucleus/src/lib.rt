@@ -1,0 +1,31 @@
+//! The nucleus of running threads: the places of a layout, at which callers take turns.
+//!
+//! Each call is one turn at one place, tries that place once and waits for nobody. The layer above rests on this: a call that answers
+//! has appended the entries that the place machine gives, of which the first is the command's own act; a pump works off one packet as
+//! that machine does, or adds nothing; a publish or a locate tells where ports are without an entry; and what a closed nucleus hands
+//! out is the network of every schedule of its turns, so that the merge of its journals is a run of the world.
+//!
+//! Begin with `pass` and `specs/Passes.antt` (what a nucleus and its passes keep), then `nucleus`, `acting` (a command's turn) and
+//! `specs/Calls.antt`, `close` and `specs/Closing.antt`.
+#![tactic(auto)]
+
+mod acting;
+mod answers;
+mod close;
+mod coming;
+mod commands;
+mod fault;
+mod laws;
+mod locate;
+mod nucleus;
+mod pass;
+mod pump;
+mod sight;
+mod starting;
+
+pub use close::CloseFault;
+pub use fault::CallFault;
+pub use laws::{a_closed_nucleus_is_a_run, each_message_stands_once};
+pub use locate::ReadersFull;
+pub use nucleus::Nucleus;
+pub use pass::Pass;

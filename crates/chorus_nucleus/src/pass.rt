@@ -1,0 +1,93 @@
+//! A caller's pass.
+ghost use Rattle.std.specs.Prelude.{◌≡◌, ◌≤◌, length};
+ghost use Rattle.law_network.specs.Calls.{first_actor};
+ghost use Rattle.chorus_nucleus.specs.Passes.{known, caller_of, worn_by, readers_at};
+
+use crate::sight::Sight;
+use chorus_calls::Caller;
+use chorus_turn::Pass as Turner;
+use chorus_ui::{Kind, Ui};
+use place_site::Remark;
+use std::mem;
+
+/// The leave to take turns at the places of one nucleus, in the name of a caller.
+#[derive(Drop)]
+pub struct Pass {
+    pub(crate) turner: Turner<Remark>,
+    pub(crate) caller: Caller,
+    pub(crate) worn: Option<u64>,
+    pub(crate) sight: Sight,
+}
+
+/// The first actor, that of seat 0.
+pub(crate) fn first_actor() -> Ui
+    ensures { result ≡ first_actor }
+{
+    Ui::new(1, Kind::Actor, 1).unwrap()
+}
+
+/// Takes the caller out; a new one stands there meanwhile.
+pub(crate) fn take_caller(pass: &mut Pass) -> Caller
+    ensures caller { result ≡ pass.old.caller }
+    ensures turner { pass.new.turner ≡ pass.old.turner }
+    ensures worn { pass.new.worn ≡ pass.old.worn }
+    ensures sight { pass.new.sight ≡ pass.old.sight }
+{
+    mem::replace(&mut pass.caller, Caller::new(0, first_actor(), 0))
+}
+
+impl Pass {
+    /// Its number, which is its caller's seat.
+    pub fn seat(&self) -> u32
+        ensures { result ≡ (known self.now).seat }
+    {
+        self.turner.seat()
+    }
+
+    /// How many passes were retired into it, also through others.
+    pub fn ended(&self) -> u32
+        ensures { result ≡ length (known self.now).notes }
+    {
+        self.turner.ended()
+    }
+
+    /// Whether it is the keeper, the one pass that draws numbers.
+    pub fn keeper(&self) -> bool
+        ensures { result ≡ (known self.now).keeper }
+    {
+        self.turner.keeper()
+    }
+
+    /// For the keeper the count of numbers drawn, at most 1,048,576; 0 for any other pass.
+    pub fn made(&self) -> u32
+        ensures { result ≡ (known self.now).made }
+    {
+        self.turner.made()
+    }
+
+    /// How many messages its caller posted.
+    pub fn posts(&self) -> u32
+        ensures { result ≡ (caller_of self.now).posts }
+    {
+        self.caller.posts()
+    }
+
+    /// The clock of the first Worn that came to this pass, by a call of its own or by a pass that was retired into it, in the order in
+    /// which they came. None exactly where there was none. Takes no memory.
+    pub fn worn(&self) -> Option<u64>
+        ensures { result ≡ worn_by self.now }
+    {
+        self.worn
+    }
+
+    /// How many readers of the board of this place, numbered from 1, it has for others; 0 where it is not the keeper.
+    pub fn readers(&self, place: u16) -> usize
+        requires { 1 ≤ place }
+        ensures { result ≡ readers_at place self.now }
+    {
+        match self.sight.spare.get(place as usize - 1) {
+            Some(readers) => readers.len(),
+            None => 0,
+        }
+    }
+}

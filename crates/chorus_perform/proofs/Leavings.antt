@@ -1,0 +1,269 @@
+-- What the passes leave, as they end.
+use Rattle.std.proofs.Common.{ℕ, zero, suc, ◌≡◌, ◌+◌, ◌-◌, ◌<◌, ◌≤◌, ◌&&◌, if◌then◌else◌, Bool, true, false, List, [], ◌∷◌, ◌++◌, take, length, reverse, Option, Some, None, Result, Ok, Err, slice_get, slice_index_or, refl, sym, ◌∙◌, ap, subst, inl, inr, arith}
+use Rattle.std.specs.Result.{OnOk, is_ok}
+use Rattle.std.proofs.lemmas.Bool.{and_parts, cases_lt, false≢true}
+use Rattle.std.proofs.lemmas.List.{append-nil, length-append, reverse-append, get_or_append_left}
+use Rattle.std.proofs.Math.Seq.{get_or-append_seam}
+use Rattle.std.proofs.lemmas.List.Elements.{All-nil}
+use Rattle.chorus_ui.specs.declared.ui.Ui.{Ui}
+use Rattle.chorus_entry.specs.declared.command.Command.{Command}
+use Rattle.law_network.specs.Calls.{first_actor}
+use Rattle.chorus_turn.specs.declared.knowledge.Knowledge.{Knowledge}
+use Rattle.chorus_turn.specs.declared.knowledge.Note.{Note}
+use Rattle.chorus_turn.specs.declared.knowledge.Placed.{Placed}
+use Rattle.chorus_turn.specs.Knowing.{note_of}
+use Rattle.law_history.specs.Runs.{commands_given}
+use Rattle.law_closing.specs.Places.{PlaceNote}
+use Rattle.law_closing.specs.Remarks.{turns_in}
+use Rattle.chorus_scene.specs.Scene.{Scene, Script}
+use Rattle.chorus_report.specs.Setup.{setup_commands}
+use Rattle.chorus_nucleus.specs.declared.nucleus.Nucleus.{Nucleus}
+use Rattle.chorus_nucleus.specs.declared.pass.Pass.{Pass}
+use Rattle.chorus_nucleus.specs.Passes.{known, caller_of}
+use Rattle.chorus_nucleus.specs.Calls.{gave}
+use Rattle.law_closing.specs.Actors.{AreIn}
+use Rattle.chorus_nucleus.specs.Coming.{Retires}
+use Rattle.chorus_perform.specs.declared.runner.Runner.{Runner}
+use Rattle.chorus_perform.specs.Going.{Goes, GoesAsFar}
+use Rattle.chorus_perform.specs.Scripts.{IsPerformedBy, IsOfScript, HasPerformed, IsOpening}
+use Rattle.chorus_perform.specs.Runners.{IsSetUp, HasEntered, IsReadyAt, HasRunAt, IsEndingAt, AreReady, HaveRun, AreEnding, HasRetired}
+
+-- What a pass that made nothing goes on to make.
+
+none-in : (actor : Ui) (mine : List (Placed PlaceNote)) → mine ≡ [] → AreIn actor mine
+none-in actor mine none = subst (AreIn actor) (sym none) (All-nil (λ (m : Placed PlaceNote). m.remarked.remark.before.actor ≡ actor))
+
+first-given : (given : List Command) (a b : Pass) → (known a).mine ≡ [] → Goes given a b → commands_given (turns_in (known b).mine) ≡ given
+first-given given a b none g = g.gave_is ∙ ap (λ (mine : List (Placed PlaceNote)). commands_given (turns_in mine) ++ given) none
+
+pub performed-by : (all : Bool) (actor : Ui) (commands given left : List Command) (a b : Pass) → (known a).mine ≡ [] → (caller_of a).actor ≡ actor → commands ≡ given ++ left → Goes given a b → (all ≡ true → left ≡ []) → IsPerformedBy all actor commands (known b).mine
+performed-by all actor commands given left a b none who whole g none_left = record {
+  left = left;
+  whole = whole ∙ ap (λ cs. cs ++ left) (sym (first-given given a b none g));
+  within = subst (λ actor. AreIn actor (known b).mine) who (g.within (none-in (caller_of a).actor (known a).mine none));
+  none_left = none_left;
+}
+
+less-performed : (x y : Bool) (actor : Ui) (commands : List Command) (mine : List (Placed PlaceNote)) → (x ≡ true → y ≡ true) → IsPerformedBy y actor commands mine → IsPerformedBy x actor commands mine
+less-performed x y actor commands mine h p = record { left = p.left; whole = p.whole; within = p.within; none_left = λ e. p.none_left (h e) }
+
+less-of-script : (x y : Bool) (c : Scene) (i : ℕ) (note : Note PlaceNote) → (x ≡ true → y ≡ true) → IsOfScript y c i note → IsOfScript x c i note
+less-of-script x y c i note h s = record { script = s.script; is = s.is; seat = s.seat; performed = less-performed x y s.script.actor s.script.commands note.mine h s.performed }
+
+-- A runner ends.
+
+pub is-ending : (n : Nucleus) (c : Scene) (i : ℕ) (a b : Runner) → IsReadyAt n c i a → HasRunAt n c i a b → IsEndingAt n c i b
+is-ending n c i a b r h = let new = r.new h.script h.is in record {
+  pass = h.pass;
+  notes = h.goes.same.1 ∙ new.notes;
+  keeper = h.goes.same.2 ∙ new.keeper;
+  script = record {
+    script = h.script;
+    is = h.is;
+    seat = h.goes.same.0 ∙ new.seat_is;
+    performed = performed-by b.done h.script.actor h.script.commands h.given h.left a.pass b.pass new.mine new.actor_is h.whole h.goes h.all;
+  };
+}
+
+not-run : (n : Nucleus) (c : Scene) (i : ℕ) (script : Script) (a : Runner) → slice_get c.scripts i ≡ Some script → IsReadyAt n c i a → IsEndingAt n c i a
+not-run n c i script a at r = let new = r.new script at in record {
+  pass = r.pass;
+  notes = new.notes;
+  keeper = new.keeper;
+  script = record {
+    script = script;
+    is = at;
+    seat = new.seat_is;
+    performed = record {
+      left = script.commands;
+      whole = ap (λ (made : List (Placed PlaceNote)). commands_given (turns_in made) ++ script.commands) (sym new.mine);
+      within = none-in script.actor (known a.pass).mine new.mine;
+      none_left = λ e. absurd (false≢true (sym r.begins ∙ e));
+    };
+  };
+}
+
+pub all-ended : (n : Nucleus) (c : Scene) (xs ys : List Runner) → length ys ≡ length xs → AreReady n c xs → HaveRun n c xs ys → AreEnding n c ys
+all-ended n c xs ys same ready ran = record {
+  each = λ i d lt. (let low : i < length xs = omega (arith, lt, same) in is-ending n c i (slice_index_or xs i d) (slice_index_or ys i d) (ready.each i d low) (ran.each i d low));
+}
+
+script-there : (xs : List Script) (i : ℕ) → i < length xs → (x : Script) × (slice_get xs i ≡ Some x)
+script-there [] i lt = absurd (omega (arith, lt))
+script-there (x ∷ xs) zero lt = (x, refl)
+script-there (x ∷ xs) (suc i) lt = script-there xs i (omega (arith, lt))
+
+pub none-ended : (n : Nucleus) (c : Scene) (rs : List Runner) → AreReady n c rs → AreEnding n c rs
+none-ended n c rs ready = record {
+  each = λ i d lt. (let r = ready.each i d lt in let s = script-there c.scripts i r.inside in not-run n c i s.0 (slice_index_or rs i d) s.1 r);
+}
+
+-- It is retired: the last one first.
+
+pub retired-none : (c : Scene) (m : ℕ) (a : Pass) → (known a).notes ≡ [] → HasRetired true c m 0 a a
+retired-none c m a none = record {
+  notes = ap (λ (ns : List (Note PlaceNote)). length ns) none;
+  scripts = λ i note h. absurd (let bad : None ≡ Some note = sym (ap (λ (ns : List (Note PlaceNote)). slice_get (reverse ns) i) none) ∙ h in cc);
+  seat = refl;
+  mine = refl;
+  keeper = refl;
+  made = refl;
+  caller = refl;
+}
+
+-- the notes are one more, and the one more stands first of them in reverse
+pub retired-more : (n : Nucleus) (c : Scene) (all : Bool) (r : Runner) (a b d : Pass) (m count : ℕ) → HasRetired all c (m + 1) count a b → IsEndingAt n c m r → Retires n r.pass b d → HasRetired (r.done && all) c m (count + 1) a d
+retired-more n c all r a b d m count e o w = record {
+  notes = (let is = ap (λ (ns : List (Note PlaceNote)). length ns) notes-are in let l = length-append (known b).notes (note ∷ []) in let was = e.notes in omega (arith, is, l, was));
+  scripts = scripts;
+  seat = ap (λ (v : Knowledge PlaceNote). v.seat) w.knows ∙ e.seat;
+  mine = ap (λ (v : Knowledge PlaceNote). v.mine) w.knows ∙ e.mine;
+  keeper = ap (λ (v : Knowledge PlaceNote). v.keeper) w.knows ∙ ap (λ k. if k then true else (known b).keeper) o.keeper ∙ e.keeper;
+  made = ap (λ (v : Knowledge PlaceNote). v.made) w.knows ∙ ap (λ k. if k then (known r.pass).made else (known b).made) o.keeper ∙ e.made;
+  caller = w.caller ∙ e.caller;
+}
+  where
+    note : Note PlaceNote
+    note = note_of (known r.pass)
+
+    notes-are : (known d).notes ≡ (known b).notes ++ note ∷ []
+    notes-are = ap (λ (v : Knowledge PlaceNote). v.notes) w.knows ∙ ap (λ (ns : List (Note PlaceNote)). (known b).notes ++ note ∷ ns) o.notes
+
+    turned : reverse (known d).notes ≡ note ∷ reverse (known b).notes
+    turned = ap (λ (ns : List (Note PlaceNote)). reverse ns) notes-are ∙ reverse-append (known b).notes (note ∷ [])
+
+    scripts : (i : ℕ) (x : Note PlaceNote) → slice_get (reverse (known d).notes) i ≡ Some x → IsOfScript (r.done && all) c (m + i) x
+    scripts zero x h =
+        let is : note ≡ x = (let here : Some note ≡ Some x = sym (ap (λ (ns : List (Note PlaceNote)). slice_get ns zero) turned) ∙ h in cc) in
+        subst (IsOfScript (r.done && all) c (m + 0)) is (subst (λ k. IsOfScript (r.done && all) c k note) (plus m) (less-of-script (r.done && all) r.done c m note (λ t. (and_parts r.done all t).0) o.script))
+      where
+        plus : (m : ℕ) → m ≡ m + 0
+        plus m = omega arith
+    scripts (suc i) x h =
+        let there : slice_get (reverse (known b).notes) i ≡ Some x = sym (ap (λ (ns : List (Note PlaceNote)). slice_get ns (suc i)) turned) ∙ h in
+        subst (λ k. IsOfScript (r.done && all) c k x) (next m i) (less-of-script (r.done && all) all c (m + 1 + i) x (λ t. (and_parts r.done all t).1) (e.scripts i x there))
+      where
+        next : (m i : ℕ) → m + 1 + i ≡ m + suc i
+        next m i = omega arith
+
+-- of runners without the last one
+pub but-last : (n : Nucleus) (c : Scene) (rs : List Runner) (r : Runner) → AreEnding n c (rs ++ r ∷ []) → AreEnding n c rs × IsEndingAt n c (length rs) r
+but-last n c rs r h = (
+  record {
+    each = λ i d lt. (let more = length-append rs (r ∷ []) in let lt' : i < length (rs ++ r ∷ []) = omega (arith, lt, more) in subst (IsEndingAt n c i) (get_or_append_left rs (r ∷ []) d i lt) (h.each i d lt'));
+  },
+  (let more = length-append rs (r ∷ []) in let lt : length rs < length (rs ++ r ∷ []) = omega (arith, more) in subst (IsEndingAt n c (length rs)) (get_or-append_seam rs r [] r) (h.each (length rs) r lt)),
+)
+
+-- What all leave.
+
+pub is-set-up : (c : Scene) (a b : Pass) → IsOpening a → Goes (setup_commands c) a b → IsSetUp c b
+is-set-up c a b o g = record {
+  keeper = record {
+    seat = g.same.0 ∙ o.keeper.seat;
+    keeper = g.same.2 ∙ o.keeper.keeper;
+    made = g.same.3 ∙ o.keeper.made;
+    notes = g.same.1 ∙ o.keeper.notes;
+  };
+  setup = performed-by true first_actor (setup_commands c) (setup_commands c) [] a b o.mine o.actor (sym (append-nil (setup_commands c))) g (λ e. refl);
+}
+
+pub performed-all : (c : Scene) (all : Bool) (a b d : Pass) (k : ℕ) → IsSetUp c a → HasEntered k a b → HasRetired all c 0 k b d → (all ≡ true → k ≡ length c.scripts) → HasPerformed all c (known d)
+performed-all c all a b d k s e o count = record {
+  seat = o.seat ∙ e.keeper.seat;
+  keeper = o.keeper ∙ e.keeper.keeper;
+  ended = (let m = o.made in let w = e.keeper.made in let n = o.notes in omega (arith, m, w, n));
+  count = λ h. (let n = o.notes in let q = count h in omega (arith, n, q));
+  setup = subst (IsPerformedBy all first_actor (setup_commands c)) (sym (o.mine ∙ e.mine)) (less-performed all true first_actor (setup_commands c) (known a).mine (λ h. refl) s.setup);
+  scripts = λ i note h. subst (λ j. IsOfScript all c j note) (none-more i) (o.scripts i note h);
+}
+  where
+    none-more : (i : ℕ) → 0 + i ≡ i
+    none-more i = omega arith
+
+pub less-done : (c : Scene) (x y : Bool) (v : Knowledge PlaceNote) → (x ≡ true → y ≡ true) → HasPerformed y c v → HasPerformed x c v
+less-done c x y v h p = record {
+  seat = p.seat;
+  keeper = p.keeper;
+  ended = p.ended;
+  count = λ e. p.count (h e);
+  setup = less-performed x y first_actor (setup_commands c) v.mine h p.setup;
+  scripts = λ i note is. less-of-script x y c i note h (p.scripts i note is);
+}
+
+no-notes : (c : Scene) (all : Bool) (notes : List (Note PlaceNote)) → notes ≡ [] → (i : ℕ) (note : Note PlaceNote) → slice_get (reverse notes) i ≡ Some note → IsOfScript all c i note
+no-notes c all notes none i note h =
+    absurd (let bad : None ≡ Some note = sym (ap (λ (ns : List (Note PlaceNote)). slice_get (reverse ns) i) none) ∙ h in cc)
+
+-- where the setup was performed alone, or the first lines of it
+pub performed-setup : (c : Scene) (a b : Pass) → IsOpening a → GoesAsFar (setup_commands c) a b → HasPerformed false c (known b)
+performed-setup c a b o far = let g = far.goes in record {
+  seat = g.same.0 ∙ o.keeper.seat;
+  keeper = g.same.2 ∙ o.keeper.keeper;
+  ended = (let m = g.same.3 in let w = o.keeper.made in let n = ap (λ (ns : List (Note PlaceNote)). length ns) (g.same.1 ∙ o.keeper.notes) in omega (arith, m, w, n));
+  count = λ e. absurd (false≢true e);
+  setup = performed-by false first_actor (setup_commands c) far.given far.left a b o.mine o.actor far.whole g (λ e. absurd (false≢true e));
+  scripts = no-notes c false (known b).notes (g.same.1 ∙ o.keeper.notes);
+}
+
+pub performed-alone : (c : Scene) (a : Pass) → IsSetUp c a → HasPerformed false c (known a)
+performed-alone c a s = record {
+  seat = s.keeper.seat;
+  keeper = s.keeper.keeper;
+  ended = (let w = s.keeper.made in let n = ap (λ (ns : List (Note PlaceNote)). length ns) s.keeper.notes in omega (arith, w, n));
+  count = λ e. absurd (false≢true e);
+  setup = less-performed false true first_actor (setup_commands c) (known a).mine (λ h. refl) s.setup;
+  scripts = no-notes c false (known a).notes s.keeper.notes;
+}
+
+-- and seat 0 goes on with no command
+pub performed-on : (c : Scene) (all : Bool) (a b : Pass) → (caller_of a).actor ≡ first_actor → HasPerformed all c (known a) → Goes [] a b → HasPerformed all c (known b)
+performed-on c all a b who p g = record {
+  seat = g.same.0 ∙ p.seat;
+  keeper = g.same.2 ∙ p.keeper;
+  ended = (let m = g.same.3 in let w = p.ended in let n = ap (λ (ns : List (Note PlaceNote)). length ns) g.same.1 in omega (arith, m, w, n));
+  count = λ h. (let n = ap (λ (ns : List (Note PlaceNote)). length ns) g.same.1 in let q = p.count h in omega (arith, n, q));
+  setup = record {
+    left = p.setup.left;
+    whole = p.setup.whole ∙ ap (λ cs. cs ++ p.setup.left) (sym (g.gave_is ∙ append-nil (gave (known a))));
+    within = subst (λ actor. AreIn actor (known b).mine) who (g.within (subst (λ actor. AreIn actor (known a).mine) (sym who) p.setup.within));
+    none_left = p.setup.none_left;
+  };
+  scripts = subst (λ (ns : List (Note PlaceNote)). (i : ℕ) (note : Note PlaceNote) → slice_get (reverse ns) i ≡ Some note → IsOfScript all c i note) (sym g.same.1) p.scripts;
+}
+
+take-front : (xs zs : List Runner) → take (length xs) (xs ++ zs) ≡ xs
+take-front [] zs = refl
+take-front (x ∷ xs) zs = ap (λ ys. x ∷ ys) (take-front xs zs)
+
+-- runners that were lent and come back
+pub put-back : (n : ℕ) (xs zs : List Runner) → n ≡ length xs → take n (xs ++ zs) ≡ xs
+put-back n xs zs is = ap (λ k. take k (xs ++ zs)) is ∙ take-front xs zs
+
+pub retired-less : (c : Scene) (x y : Bool) (m count : ℕ) (a b : Pass) → (x ≡ true → y ≡ true) → HasRetired y c m count a b → HasRetired x c m count a b
+retired-less c x y m count a b h r = record {
+  notes = r.notes;
+  scripts = λ i note is. less-of-script x y c (m + i) note h (r.scripts i note is);
+  seat = r.seat;
+  mine = r.mine;
+  keeper = r.keeper;
+  made = r.made;
+  caller = r.caller;
+}
+
+-- the scripts were run, as far as they were entered
+pub performed-so : (c : Scene) (x y : Bool) (a b d : Pass) (k : ℕ) → IsSetUp c a → HasEntered k a b → HasRetired x c 0 k b d → (y ≡ true → k ≡ length c.scripts) → HasPerformed (x && y) c (known d)
+performed-so c x y a b d k s e o count =
+    performed-all c (x && y) a b d k s e (retired-less c (x && y) x 0 k b d (λ h. (and_parts x y h).0) o) (λ h. count (and_parts x y h).1)
+
+-- a runner was popped and retired
+pub retired-step : (n : Nucleus) (c : Scene) (all done : Bool) (r : Runner) (a b d : Pass) (was now whole : ℕ) → was ≡ now + 1 → was ≤ whole → done ≡ r.done → HasRetired all c was (whole - was) a b → IsEndingAt n c now r → Retires n r.pass b d → HasRetired (done && all) c now (whole - now) a d
+retired-step n c all done r a b d was now whole is most same e o w =
+    let so_far = subst (λ k. HasRetired all c k (whole - was) a b) is e in
+    let more = retired-more n c all r a b d now (whole - was) so_far o w in
+    let count : whole - was + 1 ≡ whole - now = omega (arith, is, most) in
+    subst (λ k. HasRetired (done && all) c now k a d) count (subst (λ x. HasRetired (x && all) c now (whole - was + 1) a d) (sym same) more)
+
+pub on-ok-so : {A E : Type 0} (r : Result A E) (b : Bool) (P : Type 0) → b ≡ is_ok r → b ≡ true → OnOk r P → P
+on-ok-so (Ok a) b P is t p = p
+on-ok-so (Err e) b P is t p = absurd (false≢true (sym is ∙ t))

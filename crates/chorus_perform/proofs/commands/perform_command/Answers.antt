@@ -1,0 +1,25 @@
+use Rattle.std.proofs.Common.{◌≡◌, ◌≢◌, ◌∙◌, sym, ap, true, false, Ok, [], ◌∷◌, arith}
+use Rattle.chorus_perform.proofs.Steps.{on-err, goes-none, goes-later}
+use Rattle.chorus_perform.proofs.commands.perform_command.Goals as goal
+
+pub try_command-requires-clause-posts : goal.try_command-requires-clause-posts
+try_command-requires-clause-posts g c is = let few = c.requires.posts is in let more = c.loop.invariant.1.posts in omega (arith, few, more)
+
+pub returns-in_err-try_command-clause-err : goal.returns-in_err-try_command-clause-err
+returns-in_err-try_command-clause-err g c =
+    on-err c.from_residual.result _ (goes-none c.args.pass.now c.loop.pass c.try_command.new.pass c.loop.invariant.1 (c.try_command.ensures.not_done (λ e. absurd (let bad = sym c.in_err-try_command.was ∙ e in cc))))
+
+pub returns-in_err-pump_next-clause-err : goal.returns-in_err-pump_next-clause-err
+returns-in_err-pump_next-clause-err g c =
+    let not : c.try_command.result ≢ Ok true = λ e. absurd (let bad = sym c.in_ok-try_command.was ∙ e in let is = c.if-branch.false in cc) in
+    on-err c.from_residual-in_err-pump_next.result _
+    (goes-none c.args.pass.now c.try_command.new.pass c.pump_next.new.pass (goes-none c.args.pass.now c.loop.pass c.try_command.new.pass c.loop.invariant.1 (c.try_command.ensures.not_done not)) c.in_err-pump_next.ensures.goes)
+
+pub loop-preserved : goal.loop-preserved
+loop-preserved g c =
+    let not : c.try_command.result ≢ Ok true = λ e. absurd (let bad = sym c.in_ok-try_command.was ∙ e in let is = c.if-branch.false in cc) in (
+      c.pump_next.ensures.pass,
+      goes-none c.args.pass.now c.try_command.new.pass c.pump_next.new.pass (goes-none c.args.pass.now c.loop.pass c.try_command.new.pass c.loop.invariant.1 (c.try_command.ensures.not_done not)) c.pump_next.ensures.goes,
+      c.pump_next.ensures.share ∙ c.loop.invariant.2,
+      c.give_way-tries.ensures,
+    )

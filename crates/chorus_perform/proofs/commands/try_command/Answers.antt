@@ -1,0 +1,11 @@
+use Rattle.std.proofs.Common.{◌≡◌, ◌∙◌, sym, Ok}
+use Rattle.chorus_perform.proofs.Steps.{goes-call}
+use Rattle.chorus_perform.proofs.commands.try_command.Goals as goal
+use Rattle.chorus_perform.proofs.commands.try_command.Goals.{in-Ok, in-Err-Busy, in-Err}
+
+pub returns-clause-done : goal.returns-clause-done
+returns-clause-done c = elim c.match-act.branch [
+  | in-Ok w ↦ λ is. goes-call c.args.nucleus.now c.args.command.now c.args.pass.now c.act.new.pass _ w.in-Ok.ensures
+  | in-Err-Busy w ↦ λ is. absurd (let bad = sym w.result-is ∙ is in cc)
+  | in-Err w ↦ λ is. absurd (let bad = sym w.result-is ∙ is in cc)
+]

@@ -1,0 +1,28 @@
+use Rattle.std.proofs.Common.{ℕ, ◌≡◌, ◌<◌, ◌≤◌, ◌+◌, length, Err, sym, ◌∙◌, ap, subst, arith}
+use Rattle.chorus_turn.specs.Knowing.{limit}
+use Rattle.chorus_nucleus.specs.Passes.{known}
+use Rattle.chorus_perform.specs.Runners.{AreReady}
+use Rattle.chorus_perform.proofs.Comings.{found-at, entered-more, entered-same, new-ready, ready-more}
+use Rattle.chorus_perform.proofs.entering.enter.Goals as goal
+
+pub loop-index-preserved : goal.loop-index-preserved
+loop-index-preserved c =
+    let lt : c.loop-index.index < length c.args.scenario.now.scripts = subst (λ xs. c.loop-index.index < length xs) c.scripts-index-end.ensures c.loop-index-test.true in
+    let at = found-at c.scripts.result.now c.args.scenario.now.scripts c.loop-index.index c.index-scripts-index.result c.scripts.ensures lt c.index-scripts-index.is in
+    let new = new-ready c.args.nucleus.now c.args.scenario.now c.loop-index.index c.index-scripts-index.result c.actor.result c.loop-index.pass c.enter.new.pass c.in-Ok.entered at lt c.in-Ok.ensures.ok
+    c.loop-index.invariant.1.keeper.made c.actor.ensures in (
+      c.in-Ok.ensures.keeper.pass,
+      entered-more c.args.nucleus.now c.actor.result c.args.pass.now c.loop-index.pass c.enter.new.pass c.in-Ok.entered c.loop-index.index c.loop-index.invariant.1 c.in-Ok.ensures.ok c.in-Ok.ensures.keeper.caller,
+      subst (AreReady c.args.nucleus.now c.args.scenario.now) (sym c.in-Ok-push.ensures.items) (ready-more c.args.nucleus.now c.args.scenario.now c.loop-index.runners.items _ c.loop-index.index (omega (arith, c.loop-index.runners.ok.0, c.loop-index.invariant.3)) c.loop-index.invariant.2 new),
+      omega (arith, c.in-Ok-push.ensures.len, c.loop-index.invariant.3),
+      omega (arith, c.in-Ok-push.ensures.capacity, c.loop-index.invariant.4),
+    )
+
+pub unreachable-requires-in-Err-NoSeat : goal.unreachable-requires-in-Err-NoSeat
+unreachable-requires-in-Err-NoSeat c =
+    let told = (c.enter.ensures.no_seat c.in-Err-NoSeat.field-0-0).0 (c.in-Err-NoSeat.is ∙ ap (λ e. Err e) c.in-Err-NoSeat.field-0-is) in
+    let most : (known c.loop-index.pass).made ≡ limit = told.1 in
+    let made = c.loop-index.invariant.1.keeper.made in
+    let few = c.requires.keeps.few_scripts in
+    let lt : c.loop-index.index < length c.args.scenario.now.scripts = subst (λ xs. c.loop-index.index < length xs) c.scripts-index-end.ensures c.loop-index-test.true in
+    absurd (omega (arith, most, made, few, lt))

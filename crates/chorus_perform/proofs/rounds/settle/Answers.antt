@@ -1,0 +1,11 @@
+use Rattle.chorus_perform.proofs.Steps.{goes-none}
+use Rattle.chorus_perform.proofs.rounds.settle.Goals as goal
+
+pub returns-in_err-round-clause-goes : goal.returns-in_err-round-clause-goes
+returns-in_err-round-clause-goes g c = goes-none c.args.pass.now c.loop.pass c.round.new.pass c.loop.invariant.1 c.round.ensures.goes
+
+pub returns-then-branch-clause-goes : goal.returns-then-branch-clause-goes
+returns-then-branch-clause-goes g c = goes-none c.args.pass.now c.loop.pass c.round.new.pass c.loop.invariant.1 c.round.ensures.goes
+
+pub loop-preserved : goal.loop-preserved
+loop-preserved g c = (c.round.ensures.pass, goes-none c.args.pass.now c.loop.pass c.round.new.pass c.loop.invariant.1 c.round.ensures.goes)

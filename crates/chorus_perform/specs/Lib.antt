@@ -1,0 +1,4 @@
+pub mod Going
+pub mod Scripts
+pub mod Rounds
+pub mod Runners

@@ -1,0 +1,85 @@
+//! The passes of the scripts come and go.
+
+ghost use Rattle.std.specs.Prelude.{◌≡◌, ◌≤◌, [], length, OnOk};
+ghost use Rattle.std.specs.Vec.{vec_len, vec_capacity};
+ghost use Rattle.chorus_scene.specs.Limits.{Keeps};
+ghost use Rattle.chorus_nucleus.specs.Passes.{layout_of, known, IsPassOf};
+ghost use Rattle.chorus_nucleus.specs.Coming.{Retires};
+ghost use Rattle.chorus_perform.specs.Scripts.{IsKeeper};
+ghost use Rattle.chorus_perform.specs.Runners.{AreEnding, AreReady, HasEntered, HasRetired};
+
+use crate::runner::Runner;
+use crate::stopped::Halted;
+use chorus_net::EnterFault;
+use chorus_nucleus::{Nucleus, Pass};
+use chorus_scene::Scenario;
+
+/// Enters a pass for each script, in their order, for which there is room.
+pub(crate) fn enter(
+    nucleus: &Nucleus,
+    pass: &mut Pass,
+    scenario: &Scenario,
+    runners: &mut Vec<Runner>,
+) -> Result<(), Halted>
+    requires pass { IsPassOf nucleus.now pass.old }
+    requires keeper { IsKeeper 0 pass.old }
+    requires layout { scenario.now.layout ≡ layout_of nucleus.now }
+    requires keeps { Keeps scenario.now }
+    requires room { (runners.old.items ≡ [])
+        × (length scenario.now.scripts ≤ vec_capacity runners.old) }
+    ensures pass { IsPassOf nucleus.now pass.new }
+    ensures entered { HasEntered (vec_len runners.new) pass.old pass.new }
+    ensures ready { AreReady nucleus.now scenario.now runners.new.items }
+    ensures all { OnOk result (vec_len runners.new ≡ length scenario.now.scripts) }
+{
+    for index in 0..scenario.scripts().len() {
+        let entered = match nucleus.enter(pass, scenario.scripts()[index].actor()) {
+            Ok(entered) => entered,
+            Err(EnterFault::Memory(_)) => return Err(Halted),
+            Err(EnterFault::NoActor) => unreachable!(),
+            Err(EnterFault::NoSeat { .. }) => unreachable!(),
+        };
+        let runner = Runner {
+            pass: entered,
+            done: false,
+        };
+        match runners.push(runner) {
+            Ok(()) => {}
+            Err(_) => unreachable!(),
+        }
+    }
+    Ok(())
+}
+
+/// Retires the passes of the scripts, that of the last first. True where each performed all of its script.
+pub(crate) fn retire(
+    nucleus: &Nucleus,
+    mut runners: Vec<Runner>,
+    pass: &mut Pass,
+    scenario: &Scenario,
+) -> bool
+    requires pass { IsPassOf nucleus.now pass.old }
+    requires notes { (known pass.old).notes ≡ [] }
+    requires ending { AreEnding nucleus.now scenario.now runners.items }
+    ensures pass { IsPassOf nucleus.now pass.new }
+    ensures retired { HasRetired result scenario.now 0 (vec_len runners) pass.old pass.new }
+{
+    let _scenario = scenario;
+    let mut all = true;
+    while let Some(runner) = runners.pop() {
+        all = retire_one(nucleus, runner, pass) & all;
+    }
+    all
+}
+
+/// Retires one. True where it performed all of its script.
+fn retire_one(nucleus: &Nucleus, runner: Runner, pass: &mut Pass) -> bool
+    requires pass { IsPassOf nucleus.now pass.old }
+    requires own { IsPassOf nucleus.now runner.pass }
+    ensures retires { Retires nucleus.now runner.pass pass.old pass.new }
+    ensures done { result ≡ runner.done }
+{
+    let Runner { pass: own, done } = runner;
+    nucleus.retire(own, pass);
+    done
+}

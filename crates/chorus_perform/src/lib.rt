@@ -1,0 +1,27 @@
+//! A scenario on running threads: one thread for each script, on one nucleus.
+//!
+//! [`perform`] performs the setup by seat 0, the scripts side by side, and works off what is left. The layer above rests on this:
+//! whatever the threads did and in which order, the pass of each script gave the script's commands, each once and in their order, seat 0
+//! those of the setup, and as many packets were worked off as were put; where it stopped, each gave the first of its commands. What
+//! replies they got is the nucleus's, and that nothing is lost is what closing it tells.
+//!
+//! Begin with `performing`. `setup`, `entering`, `running` and `rounds` are its steps; `commands` performs the commands of a thread,
+//! `pumping` moves packets meanwhile, at the places of its `share`.
+
+#![tactic(auto)]
+
+mod commands;
+mod entering;
+mod gate;
+mod performing;
+mod pumping;
+mod rounds;
+mod runner;
+mod running;
+mod setup;
+mod share;
+mod stopped;
+
+pub use gate::{Gate, OpenGate};
+pub use performing::perform;
+pub use stopped::Stopped;

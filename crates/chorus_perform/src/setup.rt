@@ -1,0 +1,36 @@
+//! Seat 0 performs the setup.
+
+ghost use Rattle.std.specs.Prelude.{◌≡◌, OnOk, OnErr};
+ghost use Rattle.chorus_scene.specs.Limits.{Keeps};
+ghost use Rattle.chorus_report.specs.Setup.{setup_commands};
+ghost use Rattle.chorus_nucleus.specs.Passes.{IsPassOf};
+ghost use Rattle.chorus_perform.specs.Going.{Goes, GoesAsFar};
+
+use crate::commands::perform_command;
+use crate::share::Share;
+use crate::stopped::Halted;
+use chorus_nucleus::{Nucleus, Pass};
+use chorus_report::setup_command;
+use chorus_scene::Scenario;
+use std::sync::Wait;
+
+/// Performs the setup. No line of it posts a message.
+pub(crate) fn set_up<R: Wait>(
+    rt: &R,
+    nucleus: &Nucleus,
+    pass: &mut Pass,
+    scenario: &Scenario,
+) -> Result<(), Halted>
+    requires pass { IsPassOf nucleus.now pass.old }
+    requires keeps { Keeps scenario.now }
+    ensures pass { IsPassOf nucleus.now pass.new }
+    ensures ok { OnOk result (Goes (setup_commands scenario.now) pass.old pass.new) }
+    ensures err { OnErr result (GoesAsFar (setup_commands scenario.now) pass.old pass.new) }
+{
+    let mut share = Share::of_all(nucleus.layout());
+    for index in 0..scenario.setup().len() {
+        let command = setup_command(&scenario.setup()[index]);
+        perform_command(rt, nucleus, pass, &command, &mut share)?;
+    }
+    Ok(())
+}

@@ -1,0 +1,30 @@
+//! Why a scenario was not performed.
+
+ghost use Rattle.std.specs.Prelude.{◌≡◌, ℕ, Some};
+ghost use Rattle.chorus_nucleus.specs.Passes.{worn_by};
+
+use chorus_nucleus::Pass;
+use std::alloc::AllocError;
+
+/// Why not all of a scenario was performed.
+#[derive(Debug, Drop)]
+pub enum Stopped {
+    /// There was no memory.
+    Memory(AllocError),
+    /// A clock came to its limit: that of the first call that was refused for it.
+    Worn { clock: u64 },
+}
+
+/// A pass stopped: for the clock that it was told as worn, if it was told one, else for want of memory.
+#[derive(Clone, Copy, Debug)]
+pub(crate) struct Halted;
+
+/// Why all stopped, when all passes were retired into this one.
+pub(crate) fn reason(pass: &Pass) -> Stopped
+    ensures { (clock : ℕ) → result ≡ Stopped.Worn clock → worn_by pass.now ≡ Some clock }
+{
+    match pass.worn() {
+        Some(clock) => Stopped::Worn { clock },
+        None => Stopped::Memory(AllocError),
+    }
+}

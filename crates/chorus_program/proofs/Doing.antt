@@ -1,0 +1,122 @@
+-- What the words do, and each ending's cause.
+use Rattle.std.proofs.Common.{◌≡◌, ◌≢◌, ℕ, [], List, Option, None, Some, IfSome, IsSome, refl, sym, ap, subst, arith}
+use Rattle.std.proofs.KnownBytes.{Consumes-nil}
+use Rattle.chorus_ui.specs.declared.layout.Layout.{Layout}
+use Rattle.chorus_show.specs.declared.status.Status.{Status}
+use Rattle.chorus_show.specs.declared.status.Status.TheVariants.{Memory}
+use Rattle.chorus_nucleus.specs.declared.nucleus.Nucleus.{Nucleus}
+use Rattle.chorus_nucleus.specs.Passes.{layout_of}
+use Rattle.chorus_report.specs.declared.finished.Finished.{Finished}
+use Rattle.chorus_report.specs.Ending.{EndsReading, EndsWriting}
+use Rattle.chorus_report.specs.Headline.{Runs}
+use Rattle.chorus_report.specs.Output.{EndsUnread, summary_of, text_of}
+use Rattle.chorus_report.specs.Reading.{ReadsNoFurther}
+use Rattle.chorus_report.proofs.Ends.{ends-memory, gave-up-writes, none-closed, reads-as}
+use Rattle.chorus_replay.specs.Ends.{EndsAsLoad, EndsAsReplay}
+use Rattle.chorus_replay.specs.Load.{Loads}
+use Rattle.chorus_replay.specs.Ordered.{Replays}
+use Rattle.chorus_run.specs.Ends.{EndsAsRun}
+use Rattle.chorus_run.specs.Threads.{HasWornOf, IsOfNucleus}
+use Rattle.chorus_audit.specs.Output.{Prints, ReadsBy}
+use Rattle.chorus_lossy.specs.Output as lossy
+use Rattle.chorus_lossy.specs.Output.{CarriesInput}
+use Rattle.chorus_words.specs.declared.words.Words.{Words}
+use Rattle.chorus_words.specs.declared.words.Words.TheVariants as words
+use Rattle.chorus_program.specs.Running.{Does, EndsAsAudit, EndsAsLossy, EndsUnreadAsLoad, EndsWithCause, places_each, replay_layout}
+
+-- Causes.
+
+module _ {S K : Type 0} (f : Finished) (left : S → Option (List ℕ)) (faults : S → ℕ) (reliable : S → Type 0) (from rest : S) (held : K → Option (List ℕ)) (failures : K → ℕ) (old new : K) where
+  pub causes-of : (l : Layout) (text : List ℕ) → EndsReading l f.status left faults reliable from rest → EndsWriting text f held failures old new → EndsWithCause f faults reliable from rest failures old new
+  causes-of l text r w = record {
+    read_fault = r.read_fault;
+    no_fault = r.no_fault;
+    write_fault = w.write_fault;
+    worn = w.worn;
+    closed = w.closed.0;
+    unwritten = w.unwritten;
+  }
+
+  pub causes-of-load : (text : List ℕ) → EndsUnread f.status → rest ≡ from → EndsWriting text f held failures old new → EndsWithCause f faults reliable from rest failures old new
+  causes-of-load text ends same w = record {
+    read_fault = λ e. absurd (subst EndsUnread e ends);
+    no_fault = λ h. ap faults same;
+    write_fault = w.write_fault;
+    worn = w.worn;
+    closed = w.closed.0;
+    unwritten = w.unwritten;
+  }
+
+-- Where there was no memory, nothing was read or written.
+
+module _ {K : Type 0} (f : Finished) (is : f ≡ record { status = Memory; closed = None }) (held : K → Option (List ℕ)) (failures : K → ℕ) (old : K) where
+  writes-none : (text : List ℕ) → EndsWriting text f held failures old old
+  writes-none text = gave-up-writes text Memory f held failures old old tt is refl
+
+  pub loads-none : (first commands : ℕ) → EndsAsLoad first commands f held failures old old
+  loads-none first commands = record {
+    status = subst EndsUnread (sym (ap (λ (x : Finished). x.status) is)) tt;
+    writes = writes-none (summary_of f.closed);
+    loads = none-closed Memory f (Loads first commands) is;
+  }
+
+module _ {S K : Type 0} (f : Finished) (is : f ≡ record { status = Memory; closed = None }) (left : S → Option (List ℕ)) (faults : S → ℕ) (reliable : S → Type 0) (from : S) (held : K → Option (List ℕ)) (failures : K → ℕ) (old : K) where
+  read-none : ReadsNoFurther (left from) (left from)
+  read-none = ([], (Consumes-nil (left from), omega arith))
+
+  reads-none : (l : Layout) → EndsReading l f.status left faults reliable from from
+  reads-none l = reads-as l l Memory f left faults reliable from from refl is (ends-memory l left faults reliable from from (λ h. refl) read-none)
+
+  closes-none : f.closed ≡ None
+  closes-none = ap (λ (x : Finished). x.closed) is
+
+  pub replays-none : EndsAsReplay replay_layout f left faults reliable from from held failures old old
+  replays-none = record {
+    reads = reads-none replay_layout;
+    writes = writes-none f is held failures old (text_of f.closed);
+    replays = none-closed Memory f (Replays replay_layout (left from)) is;
+  }
+
+  pub runs-none : (n : Nucleus) → EndsAsRun n f left faults reliable from from held failures old old
+  runs-none n = record {
+    reads = reads-none (layout_of n);
+    writes = writes-none f is held failures old (text_of f.closed);
+    runs = none-closed Memory f (Runs (layout_of n) (left from)) is;
+    origin = none-closed Memory f (λ s. IsOfNucleus n) is;
+    worn = none-closed Memory f HasWornOf is;
+  }
+
+  audits-none : (l : Layout) → EndsAsAudit l f (left from) (left from) (held old) (held old)
+  audits-none l = record {
+    closed = closes-none;
+    reads = subst (λ (x : Finished). ReadsBy x.status (left from) (left from)) (sym is) ([], (Consumes-nil (left from), omega arith));
+    prints = subst (λ (x : Finished). Prints l x.status (left from) (held old) (held old)) (sym is) refl;
+  }
+
+  carries-none : (first : ℕ) → EndsAsLossy first f (left from) (left from) (held old) (held old)
+  carries-none first = record {
+    closed = closes-none;
+    carries = subst (λ (x : Finished). CarriesInput first x.status (left from) (left from) (held old) (held old)) (sym is) ([], (Consumes-nil (left from), omega arith), refl);
+  }
+
+  pub does-none : (n : Nucleus) (asked : Words) → Does n asked f left faults reliable from from held failures old old
+  does-none n words.Replay = replays-none
+  does-none n words.Run = runs-none n
+  does-none n (words.RunOn turns) = runs-none n
+  does-none n (words.Load first commands) = record { unread = refl; loads = loads-none f is held failures old first commands }
+  does-none n (words.Audit sites turns) = audits-none (places_each sites turns)
+  does-none n (words.Lossy first) = carries-none first
+
+-- What is done has its cause, and is no Usage.
+
+module _ {S K : Type 0} (n : Nucleus) (f : Finished) (left : S → Option (List ℕ)) (faults : S → ℕ) (reliable : S → Type 0) (from rest : S) (held : K → Option (List ℕ)) (failures : K → ℕ) (old new : K) where
+  pub no-usage : (asked : Words) → Does n asked f left faults reliable from rest held failures old new → f.status ≡ Status.Usage → ⊥
+  no-usage words.Replay d is = d.reads.usage is
+  no-usage words.Run d is = d.reads.usage is
+  no-usage (words.RunOn turns) d is = d.reads.usage is
+  no-usage (words.Load first commands) d is = subst EndsUnread is d.loads.status
+  no-usage (words.Audit sites turns) d is = subst (λ s. ReadsBy s (left from) (left rest)) is d.reads
+  no-usage (words.Lossy first) d is = let h = d.carries in subst (λ s. lossy.ReadsBy s h.0 (left from) (left rest)) is h.1
+
+  pub does-same : (asked other : Words) → asked ≡ other → Does n asked f left faults reliable from rest held failures old new → Does n other f left faults reliable from rest held failures old new
+  does-same asked other same d = subst (λ (w : Words). Does n w f left faults reliable from rest held failures old new) same d

@@ -1,0 +1,19 @@
+use Rattle.std.proofs.Common.{refl}
+use Rattle.chorus_program.proofs.Doing.{causes-of, causes-of-load}
+use Rattle.chorus_program.proofs.running.does.Goals as goal
+
+pub returns-in-Run-clause-causes : goal.returns-in-Run-clause-causes
+returns-in-Run-clause-causes g c =
+    causes-of c.run-in-Run.result _ _ _ _ _ _ _ _ _ _ _ c.run-in-Run.ensures.reads c.run-in-Run.ensures.writes
+
+pub returns-in-RunOn-clause-causes : goal.returns-in-RunOn-clause-causes
+returns-in-RunOn-clause-causes g c =
+    causes-of c.run-in-RunOn.result _ _ _ _ _ _ _ _ _ _ _ c.run-in-RunOn.ensures.reads c.run-in-RunOn.ensures.writes
+
+pub returns-in-Replay-clause-causes : goal.returns-in-Replay-clause-causes
+returns-in-Replay-clause-causes g c =
+    causes-of c.start_replay.result _ _ _ _ _ _ _ _ _ _ _ c.start_replay.ensures.reads c.start_replay.ensures.writes
+
+pub returns-in-Load-clause-causes : goal.returns-in-Load-clause-causes
+returns-in-Load-clause-causes g c =
+    causes-of-load c.start_load.result g.S.Source.left _ _ _ _ _ _ _ _ _ c.start_load.ensures.status refl c.start_load.ensures.writes

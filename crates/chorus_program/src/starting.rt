@@ -1,0 +1,109 @@
+//! What the words do on one thread, on sites and ends that are started for it.
+
+ghost use Rattle.std.specs.Prelude.{◌≡◌, ◌≤◌, None, IfOk};
+ghost use Rattle.chorus_ui.specs.Layout.{IsLayout};
+ghost use Rattle.chorus_net.specs.Sites.{net};
+ghost use Rattle.chorus_replay.specs.Ends.{EndsAsLoad, EndsAsReplay};
+ghost use Rattle.chorus_replay.specs.Ordered.{AreJustStarted};
+ghost use Rattle.chorus_words.specs.declared.words.TheConstants.{LOAD_LIMIT};
+ghost use Rattle.chorus_program.specs.Running.{EndsAsAudit, EndsAsLossy, EndsWithCause, one_place_each, places_each, replay_layout};
+
+use crate::running::PROGRAM_SITES;
+use chorus_audit::audit;
+use chorus_io::{Sink, Source};
+use chorus_lossy::{WINDOW, lossy};
+use chorus_net::Sites;
+use chorus_report::Finished;
+use chorus_run::{LOAD_SITES, load, replay};
+use chorus_show::Status;
+use chorus_transport::{Receiver, Sender};
+use chorus_ui::Layout;
+use std::alloc::{AllocError, Global};
+
+// A load performs as many commands as its words may ask.
+const _: () = prove!(chorus_words::LOAD_LIMIT == chorus_run::LOAD_LIMIT);
+
+/// Replays on sites that are started for it.
+pub(crate) fn start_replay<S: Source, K: Sink>(
+    alloc: Global,
+    source: &mut S,
+    sink: &mut K,
+) -> Finished
+    ensures { EndsAsReplay replay_layout result S.left S.faults S.reliable
+        source.old source.new K.held K.faults sink.old sink.new }
+{
+    match start(alloc, PROGRAM_SITES) {
+        Ok(sites) => replay(alloc, source, sink, sites),
+        Err(_) => gave_up(Status::Memory),
+    }
+}
+
+/// Performs a load on sites that are started for it.
+pub(crate) fn start_load<K: Sink>(
+    alloc: Global,
+    first: u64,
+    commands: u32,
+    sink: &mut K,
+) -> Finished
+    requires { commands ≤ LOAD_LIMIT }
+    ensures { EndsAsLoad first commands result K.held K.faults sink.old sink.new }
+{
+    match start(alloc, LOAD_SITES) {
+        Ok(sites) => load(alloc, first, commands, sink, sites),
+        Err(_) => gave_up(Status::Memory),
+    }
+}
+
+/// Audits what the source gives, for so many sites with so many places each.
+pub(crate) fn start_audit<S: Source, K: Sink>(
+    alloc: Global,
+    sites: u16,
+    turns: u16,
+    source: &mut S,
+    sink: &mut K,
+) -> Finished
+    requires { IsLayout (places_each sites turns) }
+    ensures audits { EndsAsAudit (places_each sites turns) result
+        (S.left source.old) (S.left source.new) (K.held sink.old) (K.held sink.new) }
+    ensures causes { EndsWithCause result S.faults S.reliable source.old source.new
+        K.faults sink.old sink.new }
+{
+    let layout = Layout::new(sites, turns).unwrap();
+    gave_up(audit(alloc, layout, source, sink))
+}
+
+/// Carries what the source gives over two ends that are made for it.
+pub(crate) fn start_lossy<S: Source, K: Sink>(
+    alloc: Global,
+    first: u64,
+    source: &mut S,
+    sink: &mut K,
+) -> Finished
+    ensures carries { EndsAsLossy first result
+        (S.left source.old) (S.left source.new) (K.held sink.old) (K.held sink.new) }
+    ensures causes { EndsWithCause result S.faults S.reliable source.old source.new
+        K.faults sink.old sink.new }
+{
+    let mut sender = Sender::new(alloc, WINDOW).unwrap();
+    let mut receiver = Receiver::new(alloc, WINDOW).unwrap();
+    gave_up(lossy(alloc, first, source, sink, &mut sender, &mut receiver))
+}
+
+/// Starts so many sites, with one place each.
+fn start(alloc: Global, sites: u16) -> Result<Sites, AllocError>
+    requires { IsLayout (one_place_each sites) }
+    ensures { IfOk result (λ started. AreJustStarted (net started)
+        × ((net started).layout ≡ one_place_each sites)) }
+{
+    Sites::start(alloc, Layout::new(sites, 1).unwrap())
+}
+
+/// What ended with this status and closed nothing.
+pub(crate) fn gave_up(status: Status) -> Finished
+    ensures { result ≡ record { status = status; closed = None } }
+{
+    Finished {
+        status,
+        closed: None,
+    }
+}

@@ -1,0 +1,36 @@
+-- The order of a replay, and that of a load, leave one outcome.
+-- l is a layout, ts are tasks, s and t are statuses.
+use Rattle.std.specs.Prelude.{ℕ, ◌≡◌, List, Option, Some, None}
+use Rattle.chorus_ui.specs.declared.layout.Layout.{Layout}
+use Rattle.chorus_ui.specs.Layout.{IsLayout}
+use Rattle.chorus_net.specs.declared.closed.Closed.{Closed}
+use Rattle.chorus_net.specs.Closing.{closed_journals}
+use Rattle.law_network.specs.Tasks.{Task}
+use Rattle.chorus_show.specs.declared.status.Status.{Status}
+use Rattle.chorus_show.specs.declared.status.Status.TheVariants.{Worn}
+use Rattle.chorus_replay.specs.Ordered.{IsOrdered}
+use Rattle.chorus_replay.specs.Load.{Loads}
+use Rattle.chorus_report.specs.Output.{summary}
+
+-- the clock that was worn, if one was
+abbrev pub worn_clock : Status → Option ℕ
+worn_clock (Worn clock) = Some clock
+worn_clock _ = None
+
+-- the same journals were closed, the same packets and the same ports
+pub record AreClosedAlike (one other : Closed) : Type 0 where
+  pub journals : closed_journals one ≡ closed_journals other
+  pub rest : one.rest.items ≡ other.rest.items
+  pub ports : one.ports.items ≡ other.ports.items
+
+-- two replays in the order of the same tasks wear the same clock or none, and close the same
+abbrev pub OrderedOnce : Type 0
+OrderedOnce =
+    (l : Layout) (ts : List Task) (s t : Status) (one other : Closed) → IsLayout l → IsOrdered l ts s one → IsOrdered l ts t other →
+    (worn_clock s ≡ worn_clock t) × AreClosedAlike one other
+
+-- so do two loads of the same words: what they write is the same
+abbrev pub LoadsOnce : Type 0
+LoadsOnce =
+    (first commands : ℕ) (s t : Status) (one other : Closed) → Loads first commands s one → Loads first commands t other →
+    (worn_clock s ≡ worn_clock t) × AreClosedAlike one other × (summary one ≡ summary other)

@@ -1,0 +1,7 @@
+pub mod Order
+pub mod Worn
+pub mod Ordered
+pub mod Performing
+pub mod Load
+pub mod Laws
+pub mod Ends

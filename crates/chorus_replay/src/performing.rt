@@ -1,0 +1,103 @@
+//! Performing a scenario on sites.
+
+ghost use Rattle.std.specs.Prelude.{◌≡◌, ℕ, [], ◌∷◌, IfOk, OnOk, IsErrOf};
+ghost use Rattle.chorus_ui.specs.Layout.{IsLayout};
+ghost use Rattle.chorus_scene.specs.Limits.{Keeps};
+ghost use Rattle.law_network.specs.Calls.{just_started};
+ghost use Rattle.law_network.specs.Tasks.{Drain};
+ghost use Rattle.chorus_replay.specs.Order.{set_up};
+ghost use Rattle.chorus_replay.specs.Ordered.{AreJustStarted};
+ghost use Rattle.chorus_replay.specs.Performing.{IsBefore, IsWornAt, IsPerformed, to_enter, to_follow};
+ghost use Rattle.chorus_net.specs.Sites.{net};
+
+use crate::following::{finish, follow};
+use chorus_net::{EnterFault, Sites};
+use chorus_place::PlaceFault;
+use chorus_report::setup_command;
+use chorus_scene::Scenario;
+use std::alloc::{AllocError, Global};
+
+/// Performs the scenario on the sites, which were just started, and gives the clock that was worn, if one was. Room is taken as it
+/// is needed: each place would take that of all commands ahead.
+pub(crate) fn perform(
+    alloc: Global,
+    sites: &mut Sites,
+    scenario: &Scenario,
+) -> Result<Option<u64>, AllocError>
+    requires just_started { AreJustStarted (net sites.old) }
+    requires layout { scenario.now.layout ≡ (net sites.old).layout }
+    requires keeps { Keeps scenario.now }
+    requires shape { IsLayout scenario.now.layout }
+    ensures { IfOk result (λ worn. IsPerformed scenario.now worn (net sites.new)) }
+{
+    match perform_tasks(alloc, sites, scenario) {
+        Ok(()) => Ok(None),
+        Err(PlaceFault::Worn { clock }) => Ok(Some(clock)),
+        Err(PlaceFault::Memory(error)) => Err(error),
+    }
+}
+
+/// Performs the setup by seat 0, enters the callers of the scripts, does the steps of the schedule, performs the commands that
+/// are left, with a drain behind each, and drains.
+fn perform_tasks(alloc: Global, sites: &mut Sites, scenario: &Scenario) -> Result<(), PlaceFault>
+    requires start { net sites.old ≡ just_started scenario.now.layout }
+    requires keeps { Keeps scenario.now }
+    requires shape { IsLayout scenario.now.layout }
+    ensures ok { OnOk result (IsBefore scenario.now [] (net sites.new)) }
+    ensures worn { (clock : ℕ) → IsErrOf result (PlaceFault.Worn clock) →
+        IsWornAt scenario.now clock (net sites.new) }
+{
+    set_up(sites, scenario)?;
+    enter(sites, scenario)?;
+    let next = follow(alloc, sites, scenario)?;
+    finish(sites, scenario, &next)?;
+    drain_last(sites, scenario)
+}
+
+/// Drains, when all else is done.
+fn drain_last(sites: &mut Sites, scenario: &Scenario) -> Result<(), PlaceFault>
+    requires before { IsBefore scenario.now (Drain 0 ∷ []) (net sites.old) }
+    requires keeps { Keeps scenario.now }
+    requires shape { IsLayout scenario.now.layout }
+    ensures ok { OnOk result (IsBefore scenario.now [] (net sites.new)) }
+    ensures worn { (clock : ℕ) → IsErrOf result (PlaceFault.Worn clock) →
+        IsWornAt scenario.now clock (net sites.new) }
+{
+    sites.drain()?;
+    Ok(())
+}
+
+/// Performs the setup, by seat 0.
+fn set_up(sites: &mut Sites, scenario: &Scenario) -> Result<(), PlaceFault>
+    requires start { net sites.old ≡ just_started scenario.now.layout }
+    requires keeps { Keeps scenario.now }
+    requires shape { IsLayout scenario.now.layout }
+    ensures ok { OnOk result (IsBefore scenario.now (to_enter scenario.now) (net sites.new)) }
+    ensures now { OnOk result (net sites.new ≡ set_up scenario.now) }
+    ensures worn { (clock : ℕ) → IsErrOf result (PlaceFault.Worn clock) →
+        IsWornAt scenario.now clock (net sites.new) }
+{
+    for line in scenario.setup() {
+        sites.act(0, setup_command(line))?;
+    }
+    Ok(())
+}
+
+/// Enters a seat for each script.
+fn enter(sites: &mut Sites, scenario: &Scenario) -> Result<(), AllocError>
+    requires before { IsBefore scenario.now (to_enter scenario.now) (net sites.old) }
+    requires now { net sites.old ≡ set_up scenario.now }
+    requires keeps { Keeps scenario.now }
+    requires shape { IsLayout scenario.now.layout }
+    ensures { OnOk result (IsBefore scenario.now (to_follow scenario.now) (net sites.new)) }
+{
+    for script in scenario.scripts() {
+        match sites.enter(script.actor()) {
+            Ok(_) => {}
+            Err(EnterFault::Memory(error)) => return Err(error),
+            Err(EnterFault::NoActor) => unreachable!(),
+            Err(EnterFault::NoSeat { .. }) => unreachable!(),
+        }
+    }
+    Ok(())
+}

@@ -1,0 +1,133 @@
+-- How reading ends, and what is so of a call that was finished.
+use Rattle.std.proofs.Common.{◌≡◌, ◌≢◌, ◌≤◌, ◌⊎◌, inl, inr, ℕ, List, Option, Some, None, IfSome, IfOk, Result, Ok, Err, refl, sym, ◌∙◌, ap, subst}
+use Rattle.std.specs.declared.alloc.AllocError.{AllocError}
+use Rattle.std.proofs.lemmas.Bool.{false≢true}
+use Rattle.chorus_io.specs.Count.{Rose}
+use Rattle.chorus_ui.specs.declared.layout.Layout.{Layout}
+use Rattle.chorus_net.specs.declared.closed.Closed.{Closed}
+use Rattle.chorus_show.specs.declared.status.Status.{Status}
+use Rattle.chorus_report.specs.declared.finished.Finished.{Finished}
+use Rattle.chorus_report.specs.declared.played.Played.{Played}
+use Rattle.chorus_report.specs.Reading.{IsGiven, IsRead, ReadsNoFurther}
+use Rattle.chorus_report.specs.Output.{EndsUnread, GivesUp, HandsOut, Writes}
+use Rattle.chorus_report.specs.Ending.{EndsReading, EndsWriting, EndsBy, EndsFor, IsFinished}
+
+module _ {S : Type 0} (l : Layout) (left : S → Option (List ℕ)) (faults : S → ℕ) (reliable : S → Type 0) (old new : S) (no_fault : reliable old → faults new ≡ faults old) where
+  pub ends-fault : Rose (faults old) (faults new) → ReadsNoFurther (left old) (left new) → EndsReading l Status.ReadFault left faults reliable old new
+  ends-fault rose most = record {
+    usage = λ h. cc;
+    scenario = λ line reason h. absurd (cc);
+    read_fault = λ h. rose;
+    no_fault = no_fault;
+    read = λ h k. absurd (h refl);
+    reads_at_most = most;
+  }
+
+  pub ends-memory : ReadsNoFurther (left old) (left new) → EndsReading l Status.Memory left faults reliable old new
+  ends-memory most = record {
+    usage = λ h. cc;
+    scenario = λ line reason h. absurd (cc);
+    read_fault = λ h. absurd (cc);
+    no_fault = no_fault;
+    read = λ h k. absurd (k refl);
+    reads_at_most = most;
+  }
+
+  pub ends-refused : (s : Status) (a b : ℕ) → s ≡ Status.Scenario a b → IsGiven l (left old) (Err (a, b)) → IsRead (left old) (left new) → ReadsNoFurther (left old) (left new) → EndsReading l s left faults reliable old new
+  ends-refused s a b is given read most = record {
+    usage = λ h. absurd (let both : Status.Scenario a b ≡ Status.Usage = sym is ∙ h in cc);
+    scenario = λ line reason h.
+        (let both : Status.Scenario a b ≡ Status.Scenario line reason = sym is ∙ h in
+        let one : a ≡ line = cc in
+        let two : b ≡ reason = cc in
+        subst (λ x. IsGiven l (left old) (Err (x, reason))) one (subst (λ y. IsGiven l (left old) (Err (a, y))) two given));
+    read_fault = λ h. absurd (let both : Status.Scenario a b ≡ Status.ReadFault = sym is ∙ h in cc);
+    no_fault = no_fault;
+    read = λ h k. read;
+    reads_at_most = most;
+  }
+
+  -- all was read, and the call ends as one that reads nothing
+  pub ends-read : IsRead (left old) (left new) → ReadsNoFurther (left old) (left new) → (s : Status) → EndsUnread s → EndsReading l s left faults reliable old new
+  ends-read read most s ends = record {
+    usage = λ h. absurd (subst EndsUnread h ends);
+    scenario = λ line reason h. absurd (subst EndsUnread h ends);
+    read_fault = λ h. absurd (subst EndsUnread h ends);
+    no_fault = no_fault;
+    read = λ h k. read;
+    reads_at_most = most;
+  }
+
+-- What is so of what was played, as it ends, is so when it is finished.
+
+ends-so : (P : Status → Closed → Type 0) (worn : Option ℕ) (s : Status) (closed : Closed) → EndsFor P worn closed → EndsBy worn s → P s closed
+ends-so P None s closed p (inl e) = subst (λ s. P s closed) (sym e) p.0
+ends-so P None s closed p (inr e) = subst (λ s. P s closed) (sym e) p.1
+ends-so P (Some clock) s closed p e = subst (λ s. P s closed) (sym e) p
+
+at-ok : (r : Result Played AllocError) (p : Played) (P : Played → Type 0) → r ≡ Ok p → IfOk r P → P p
+at-ok r p P is h = subst (λ r. IfOk r P) is h
+
+pub finished-so : (P : Status → Closed → Type 0) (r : Result Played AllocError) (s : Status) (o : Option Closed) → IfOk r (λ p. EndsFor P p.worn p.closed) → IfSome o (IsFinished r s) → IfSome o (P s)
+finished-so P r s None h f = tt
+finished-so P r s (Some closed) h f =
+    subst (P s) (sym f.closed_is) (ends-so P f.whole.worn s f.whole.closed (at-ok r f.whole (λ p. EndsFor P p.worn p.closed) f.is h) f.ends)
+
+-- a call that was finished has a clock that was worn
+pub finished-worn : (r : Result Played AllocError) (p : Played) (clock : ℕ) → r ≡ Ok p → p.worn ≡ Some clock → IsFinished r (Status.Worn clock) p.closed
+finished-worn r p clock is worn = record { whole = p; is = is; closed_is = refl; ends = subst (λ w. EndsBy w (Status.Worn clock)) (sym worn) refl }
+
+-- or was written
+pub finished-as : (r : Result Played AllocError) (p : Played) (s : Status) (o : Option Closed) → r ≡ Ok p → p.worn ≡ None → o ≡ Some p.closed → (s ≡ Status.Done) ⊎ (s ≡ Status.WriteFault) → IfSome o (IsFinished r s)
+finished-as r p s o is none closed how = subst (λ o. IfSome o (IsFinished r s)) (sym closed) (by how)
+  where
+    by : (s ≡ Status.Done) ⊎ (s ≡ Status.WriteFault) → IsFinished r s p.closed
+    by (inl e) = subst (λ s. IsFinished r s p.closed) (sym e) (record { whole = p; is = is; closed_is = refl; ends = subst (λ w. EndsBy w Status.Done) (sym none) (inl refl) })
+    by (inr e) = subst (λ s. IsFinished r s p.closed) (sym e) (record { whole = p; is = is; closed_is = refl; ends = subst (λ w. EndsBy w Status.WriteFault) (sym none) (inr refl) })
+
+pub none-of : (o : Option ℕ) → ((x : ℕ) → o ≡ Some x → ⊥) → o ≡ None
+none-of None h = refl
+none-of (Some x) h = absurd (h x refl)
+
+-- A call that gave up wrote nothing.
+
+pub gave-up-writes : {K : Type 0} (text : List ℕ) (s : Status) (f : Finished) (held : K → Option (List ℕ)) (failures : K → ℕ) (old new : K) → GivesUp s → f ≡ record { status = s; closed = None } → new ≡ old → EndsWriting text f held failures old new
+gave-up-writes text s f held failures old new gives is same =
+    subst (λ (z : Finished). EndsWriting text z held failures old new) (sym is) (by s gives)
+  where
+    writes : (s : Status) → GivesUp s → Writes s (held old) (held new) text
+    writes Status.Done g = absurd g
+    writes Status.Usage g = absurd g
+    writes (Status.Scenario line reason) g = ap held same
+    writes Status.ReadFault g = ap held same
+    writes Status.WriteFault g = absurd g
+    writes Status.Memory g = ap held same
+    writes (Status.Worn clock) g = absurd g
+
+    none : (s : Status) → GivesUp s → HandsOut s → ⊥
+    none Status.Done g h = g
+    none Status.Usage g h = g
+    none (Status.Scenario line reason) g h = h
+    none Status.ReadFault g h = h
+    none Status.WriteFault g h = g
+    none Status.Memory g h = h
+    none (Status.Worn clock) g h = g
+
+    by : (s : Status) → GivesUp s → EndsWriting text (record { status = s; closed = None }) held failures old new
+    by s g = record {
+      write_fault = λ e. absurd (subst GivesUp e g);
+      worn = λ clock e. absurd (subst GivesUp e g);
+      closed = (λ h. absurd (false≢true h), λ h. absurd (none s g h));
+      unwritten = λ d w. same;
+      prints = writes s g;
+    }
+
+pub reads-as : {S : Type 0} (l m : Layout) (s : Status) (f : Finished) (left : S → Option (List ℕ)) (faults : S → ℕ) (reliable : S → Type 0) (old new : S) → l ≡ m → f ≡ record { status = s; closed = None } → EndsReading l s left faults reliable old new → EndsReading m f.status left faults reliable old new
+reads-as l m s f left faults reliable old new same is h =
+    subst (λ z. EndsReading z f.status left faults reliable old new) same (subst (λ (t : Status). EndsReading l t left faults reliable old new) (sym (ap (λ (z : Finished). z.status) is)) h)
+
+pub none-closed : (s : Status) (f : Finished) (P : Status → Closed → Type 0) → f ≡ record { status = s; closed = None } → IfSome f.closed (P f.status)
+none-closed s f P is = subst (λ (z : Finished). IfSome z.closed (P z.status)) (sym is) tt
+
+pub reads-at : {S : Type 0} (l m : Layout) (s : Status) (left : S → Option (List ℕ)) (faults : S → ℕ) (reliable : S → Type 0) (old new : S) → l ≡ m → EndsReading l s left faults reliable old new → EndsReading m s left faults reliable old new
+reads-at l m s left faults reliable old new same h = subst (λ z. EndsReading z s left faults reliable old new) same h

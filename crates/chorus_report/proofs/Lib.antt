@@ -1,0 +1,5 @@
+pub mod Read
+pub mod Texts
+pub mod Ends
+pub mod Seating
+pub mod Playing

@@ -1,0 +1,91 @@
+-- What a top call promises of what it closed.
+-- l is a layout, c a scenario, k a seat.
+use Rattle.std.specs.Prelude.{ℕ, ◌≡◌, ◌+◌, ◌⊎◌, true, List, [], ◌∷◌, ◌++◌, length, map, reverse, Option, Some, Result, Ok, slice_get}
+use Rattle.chorus_ui.specs.declared.ui.Ui.{Ui}
+use Rattle.chorus_ui.specs.declared.layout.Layout.{Layout}
+use Rattle.chorus_ui.specs.Layout.{places}
+use Rattle.chorus_entry.specs.declared.entry.Entry.{Entry}
+use Rattle.chorus_entry.specs.declared.command.Command.{Command}
+use Rattle.chorus_merge.specs.Merge.{merged}
+use Rattle.chorus_world.specs.Views.{at}
+use Rattle.chorus_world.specs.Runs.{is_run}
+use Rattle.chorus_world.specs.Commands.{performs}
+use Rattle.chorus_world.specs.Always.{Always}
+use Rattle.chorus_world.specs.AcceptedLaws.{ReceivesInOrder, KeepsEachMessage}
+use Rattle.chorus_net.specs.declared.closed.Closed.{Closed}
+use Rattle.chorus_net.specs.Closing.{closed_journals}
+use Rattle.law_network.specs.Calls.{first_actor}
+use Rattle.law_network.specs.Holdings.{StandsFor, holdings_left}
+use Rattle.law_network.specs.Quiet.{IsQuiet}
+use Rattle.chorus_show.specs.Bounds.{AreWithin}
+use Rattle.chorus_show.specs.declared.status.Status.{Status}
+use Rattle.chorus_show.specs.declared.status.Status.TheVariants.{Worn}
+use Rattle.chorus_scene.specs.Scene.{Scene, Script}
+use Rattle.chorus_report.specs.Setup.{setup_commands}
+use Rattle.chorus_report.specs.Reading.{IsGiven}
+
+-- the merge of the journals, in order, and as a past of the world
+abbrev pub merge_of : Closed → List Entry
+merge_of closed = merged (closed_journals closed)
+
+abbrev pub past_of : Closed → List Entry
+past_of closed = reverse (merge_of closed)
+
+-- an entry of the list has this clock
+abbrev pub HasClock : ℕ → List Entry → Type 0
+HasClock clock [] = ⊥
+HasClock clock (e ∷ es) = (e.clock ≡ clock) ⊎ HasClock clock es
+
+-- it performs these commands of a seat, each once and in their order, by the entry that answers it
+abbrev pub PerformsAll : Layout → ℕ → Ui → Closed → List Command → Type 0
+PerformsAll l k actor closed commands = performs l k actor (past_of closed) (reverse commands) ≡ true
+
+-- or the first of them, where a clock was worn
+abbrev pub PerformsFirst : Layout → ℕ → Ui → Closed → List Command → Type 0
+PerformsFirst l k actor closed commands =
+    (done : List Command) × ((rest : List Command) × ((commands ≡ done ++ rest) × PerformsAll l k actor closed done))
+
+abbrev pub PerformsUnless : Status → Layout → ℕ → Ui → Closed → List Command → Type 0
+PerformsUnless (Worn clock) l k actor closed commands = PerformsFirst l k actor closed commands
+PerformsUnless status l k actor closed commands = PerformsAll l k actor closed commands
+
+-- nothing is left to be done, unless a clock was worn
+abbrev pub IsQuietUnless : Status → Layout → Closed → Type 0
+IsQuietUnless (Worn clock) l closed = Unit {0}
+IsQuietUnless status l closed = IsQuiet l (past_of closed) closed.rest.items
+
+-- What was closed plays what these callers give: the merge of the journals is a run of the world for the callers that performs
+-- their commands; at each moment of it each port gave out what it accepted first, in order, and each accepted message has one
+-- fate; the records and packets that are left stand for its ports; there is a journal for each place, with what the merge has at
+-- it; and nothing is left to be done.
+pub record Plays (l : Layout) (callers : ℕ → Option Ui) (commands : ℕ → Option (List Command)) (status : Status) (closed : Closed) : Type 0 where
+  pub run : is_run l callers (past_of closed) ≡ true
+  pub performed : (k : ℕ) (actor : Ui) (given : List Command) → callers k ≡ Some actor → commands k ≡ Some given → PerformsUnless status l k actor closed given
+  pub receives : Always ReceivesInOrder (past_of closed)
+  pub fates : Always KeepsEachMessage (past_of closed)
+  pub stands : StandsFor (past_of closed) (holdings_left l closed.ports.items closed.rest.items)
+  pub places_are : length (closed_journals closed) ≡ places l
+  pub journals : (p : ℕ) (journal : List Entry) → slice_get (closed_journals closed) p ≡ Some journal → journal ≡ reverse (at (p + 1) (past_of closed))
+  pub quiet : IsQuietUnless status l closed
+
+-- What a scenario gives.
+
+-- the callers: seat 0 in the first actor, and seat k in the actor of script k
+abbrev pub callers_of : Scene → ℕ → Option Ui
+callers_of c k = slice_get (first_actor ∷ map (λ (script : Script). script.actor) c.scripts) k
+
+-- the commands of each seat: those of the setup for seat 0, and those of script k for seat k
+abbrev pub commands_by : Scene → ℕ → Option (List Command)
+commands_by c k = slice_get (setup_commands c ∷ map (λ (script : Script). script.commands) c.scripts) k
+
+-- each entry is within the bounds of a line, unless a clock was worn: then none was printed
+abbrev pub AreWithinUnless : Status → Closed → Type 0
+AreWithinUnless (Worn clock) closed = Unit {0}
+AreWithinUnless status closed = AreWithin (merge_of closed)
+
+-- there is a scenario that the source gives, and what was closed plays it; its entries have lines
+pub record Runs (l : Layout) (told : Option (List ℕ)) (status : Status) (closed : Closed) : Type 0 where
+  pub scene : Scene
+  pub given : IsGiven l told (Ok scene)
+  pub plays : Plays l (callers_of scene) (commands_by scene) status closed
+  pub within : AreWithinUnless status closed

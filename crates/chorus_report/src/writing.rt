@@ -1,0 +1,112 @@
+//! The end of a call that played something: what was closed is written.
+
+ghost use Rattle.std.specs.Prelude.{◌≡◌, ◌⊎◌, Some, None, IfOk, IfSome};
+ghost use Rattle.chorus_io.specs.Count.{Rose};
+ghost use Rattle.chorus_show.specs.Bounds.{AreWithin};
+ghost use Rattle.chorus_show.specs.Report.{report};
+ghost use Rattle.chorus_report.specs.Headline.{AreWithinUnless, merge_of};
+ghost use Rattle.chorus_report.specs.Output.{EndsUnread, GivesUp, HandsOut, Writes, summary, text_as};
+ghost use Rattle.chorus_report.specs.Ending.{EndsWriting, HasWorn, IsFinished};
+
+use crate::finished::Finished;
+use crate::played::Played;
+use crate::text::Text;
+use chorus_io::{Sink, write_all};
+use chorus_merge::merge_lent;
+use chorus_net::Closed;
+use chorus_show::{Status, lent_journal_text, lent_summary_text};
+use std::alloc::{AllocError, Global};
+
+/// Ends a call by what it played: writes the text of what was closed, where it played all; ends with the clock that was worn, where
+/// one was, and with want of memory, where it could not play for that.
+pub fn finish<K: Sink>(
+    alloc: Global,
+    sink: &mut K,
+    played: Result<Played, AllocError>,
+    text: Text,
+) -> Finished
+    requires { IfOk played HasWorn }
+    ensures status { EndsUnread result.status }
+    ensures writes { EndsWriting (text_as text result.closed) result
+        K.held K.faults sink.old sink.new }
+    ensures finished { IfSome result.closed (IsFinished played result.status) }
+    ensures within { text ≡ Text.Report →
+        IfSome result.closed (AreWithinUnless result.status) }
+{
+    let Ok(played) = played else {
+        return gave_up(Status::Memory);
+    };
+    if let Some(clock) = played.worn {
+        return Finished {
+            status: Status::Worn { clock },
+            closed: Some(played.closed),
+        };
+    }
+    let Ok(bytes) = text_as(alloc, &played.closed, text) else {
+        return gave_up(Status::Memory);
+    };
+    print(sink, &bytes, played.closed)
+}
+
+/// A call that ended with this status, and closed nothing.
+pub fn gave_up(status: Status) -> Finished
+    requires { GivesUp status }
+    ensures { result ≡ record { status = status; closed = None } }
+{
+    Finished {
+        status,
+        closed: None,
+    }
+}
+
+/// The text of what was closed.
+fn text_as(alloc: Global, closed: &Closed, text: Text) -> Result<Vec<u8>, AllocError>
+    ensures text { IfOk result (λ bytes. bytes.items ≡ text_as text (Some closed.now)) }
+    ensures within { text ≡ Text.Report → IfOk result (λ bytes. AreWithin (merge_of closed.now)) }
+{
+    match text {
+        Text::Report => report_of(alloc, closed),
+        Text::Summary => summary_of(alloc, closed),
+    }
+}
+
+/// The journal text and the summary text of what was closed. No entry is copied.
+fn report_of(alloc: Global, closed: &Closed) -> Result<Vec<u8>, AllocError>
+    ensures text { IfOk result (λ text. text.items ≡ report (merge_of closed.now)) }
+    ensures within { IfOk result (λ text. AreWithin (merge_of closed.now)) }
+{
+    let entries = merge_lent(alloc, &closed.journals)?;
+    let mut text = Vec::new(alloc);
+    lent_journal_text(&entries, &mut text)?;
+    lent_summary_text(&entries, &mut text)?;
+    Ok(text)
+}
+
+/// The summary text of what was closed. No entry is copied.
+fn summary_of(alloc: Global, closed: &Closed) -> Result<Vec<u8>, AllocError>
+    ensures { IfOk result (λ text. text.items ≡ summary closed.now) }
+{
+    let entries = merge_lent(alloc, &closed.journals)?;
+    let mut summary = Vec::new(alloc);
+    lent_summary_text(&entries, &mut summary)?;
+    Ok(summary)
+}
+
+/// Writes the text of what was closed.
+fn print<K: Sink>(sink: &mut K, text: &[u8], closed: Closed) -> Finished
+    ensures status { (result.status ≡ Status.Done) ⊎ (result.status ≡ Status.WriteFault) }
+    ensures write_fault { result.status ≡ Status.WriteFault →
+        Rose (K.faults sink.old) (K.faults sink.new) }
+    ensures closed { result.closed ≡ Some closed }
+    ensures hands_out { HandsOut result.status }
+    ensures prints { Writes result.status (K.held sink.old) (K.held sink.new) text.now }
+{
+    let status = match write_all(sink, text) {
+        Ok(()) => Status::Done,
+        Err(_) => Status::WriteFault,
+    };
+    Finished {
+        status,
+        closed: Some(closed),
+    }
+}

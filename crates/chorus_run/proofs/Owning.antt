@@ -1,0 +1,49 @@
+-- Of each pass the journals that are handed out have just what it made.
+use Rattle.std.proofs.Common.{ℕ, zero, suc, ◌≡◌, ◌==◌, ◌+◌, ◌<◌, Bool, true, false, cond, List, [], ◌∷◌, length, Some, slice_get, refl, sym, ◌∙◌, ap, subst, arith}
+use Rattle.std.specs.List.{All}
+use Rattle.std.proofs.lemmas.List.Elements.{All-nil, All-cons, All-head, All-tail, All-weaker}
+use Rattle.chorus_entry.specs.declared.entry.Entry.{Entry}
+use Rattle.chorus_world.specs.Views.{by}
+use Rattle.chorus_turn.specs.declared.knowledge.Remarked.{Remarked}
+use Rattle.chorus_turn.specs.declared.knowledge.Placed.{Placed}
+use Rattle.chorus_turn.specs.declared.knowledge.Note.{Note}
+use Rattle.chorus_turn.specs.Journals.{at_place, by_seat, entries_of}
+use Rattle.chorus_turn.specs.Knowing.{Shows}
+use Rattle.chorus_ui.specs.Layout.{places}
+use Rattle.law_closing.specs.Places.{PlaceNote}
+use Rattle.chorus_net.specs.declared.closed.Closed.{Closed}
+use Rattle.chorus_net.specs.Closing.{closed_journals}
+use Rattle.chorus_nucleus.specs.declared.nucleus.Nucleus.{Nucleus}
+use Rattle.chorus_nucleus.specs.declared.pass.Pass.{Pass}
+use Rattle.chorus_nucleus.specs.Passes.{known, layout_of}
+use Rattle.chorus_nucleus.specs.Closing.{IsClosed}
+use Rattle.chorus_run.specs.Threads.{HasOwn, IsOfNucleus}
+
+-- the entries of a seat, with remarks and without
+by-entries : (q : ℕ) (log : List (Remarked PlaceNote)) → by q (entries_of log) ≡ entries_of (by_seat q log)
+by-entries q [] = refl
+by-entries q (r ∷ rs) = go (r.entry.seat == q) (by-entries q rs)
+  where
+    go : (b : Bool) → by q (entries_of rs) ≡ entries_of (by_seat q rs) → cond b (r.entry ∷ by q (entries_of rs)) (by q (entries_of rs)) ≡ entries_of (cond b (r ∷ by_seat q rs) (by_seat q rs))
+    go true h = ap (λ es. r.entry ∷ es) h
+    go false h = h
+
+has-own : (p q : ℕ) (journal : List Entry) (log : List (Remarked PlaceNote)) (mine : List (Placed PlaceNote)) → journal ≡ entries_of log → by_seat q log ≡ at_place p mine → HasOwn p journal q mine
+has-own p q journal log mine is shows = ap (by q) is ∙ by-entries q log ∙ ap entries_of shows
+
+inside : {X : Type 0} (xs : List X) (i : ℕ) (x : X) → slice_get xs i ≡ Some x → i < length xs
+inside [] i x e = absurd (cc)
+inside (y ∷ xs) zero x e = omega arith
+inside (y ∷ xs) (suc i) x e = let ih = inside xs i x e in omega (arith, ih)
+
+pub is-of-nucleus : (n : Nucleus) (last : Pass) (closed : Closed) → length (closed_journals closed) ≡ places (layout_of n) → IsClosed n last closed → IsOfNucleus n closed
+is-of-nucleus n last closed count h = record {
+  last = last;
+  closes = h;
+  own = λ p journal found. has-own (p + 1) (known last).seat journal (h.closes.log (p + 1)) (known last).mine (h.closes.entries p journal found) (shows p journal found).own;
+  noted = λ p journal found. All-weaker (λ (m : Note PlaceNote). by_seat m.seat (h.closes.log (p + 1)) ≡ at_place (p + 1) m.mine) (λ (m : Note PlaceNote). HasOwn (p + 1) journal m.seat m.mine)
+      (λ m s. has-own (p + 1) m.seat journal (h.closes.log (p + 1)) m.mine (h.closes.entries p journal found) s) (known last).notes (shows p journal found).noted;
+}
+  where
+    shows : (p : ℕ) (journal : List Entry) → slice_get (closed_journals closed) p ≡ Some journal → Shows (p + 1) (known last) (h.closes.log (p + 1))
+    shows p journal found = let lt = inside (closed_journals closed) p journal found in h.closes.tells.shows p (omega (arith, lt, count))

@@ -1,5 +1,0 @@
-use Rattle.chorus_run.proofs.LoadTasks.{loads-once}
-use Rattle.chorus_run.proofs.laws.a_load_has_one_outcome.Goals as goal
-
-pub returns : goal.returns
-returns c = loads-once

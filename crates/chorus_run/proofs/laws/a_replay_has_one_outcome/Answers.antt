@@ -1,5 +1,0 @@
-use Rattle.chorus_run.proofs.Once.{ordered-once}
-use Rattle.chorus_run.proofs.laws.a_replay_has_one_outcome.Goals as goal
-
-pub returns : goal.returns
-returns c = ordered-once

@@ -1,0 +1,59 @@
+-- What was performed on a nucleus and closed.
+-- n is the nucleus, c a scenario.
+use Rattle.std.specs.Prelude.{ℕ, ◌≡◌, ◌≤◌, ◌+◌, List, Option, Some, slice_get}
+use Rattle.std.specs.List.{All}
+use Rattle.chorus_ui.specs.declared.limits.TheConstants.{CLOCK_LIMIT}
+use Rattle.chorus_net.specs.declared.closed.Closed.{Closed}
+use Rattle.chorus_net.specs.Closing.{closed_journals, worn_of}
+use Rattle.chorus_entry.specs.declared.entry.Entry.{Entry}
+use Rattle.chorus_world.specs.Views.{by}
+use Rattle.chorus_turn.specs.declared.knowledge.Placed.{Placed}
+use Rattle.chorus_turn.specs.declared.knowledge.Note.{Note}
+use Rattle.chorus_turn.specs.Journals.{at_place, entries_of}
+use Rattle.law_closing.specs.Places.{PlaceNote}
+use Rattle.chorus_scene.specs.Scene.{Scene}
+use Rattle.chorus_show.specs.declared.status.Status.{Status}
+use Rattle.chorus_show.specs.declared.status.Status.TheVariants.{Worn}
+use Rattle.chorus_nucleus.specs.declared.nucleus.Nucleus.{Nucleus}
+use Rattle.chorus_nucleus.specs.declared.pass.Pass.{Pass}
+use Rattle.chorus_nucleus.specs.Passes.{known}
+use Rattle.chorus_nucleus.specs.Closing.{IsClosed}
+use Rattle.chorus_perform.specs.declared.stopped.Stopped.{Stopped}
+use Rattle.chorus_perform.specs.declared.stopped.Stopped.TheVariants as stops
+use Rattle.chorus_report.specs.declared.played.Played.{Played}
+use Rattle.chorus_report.specs.Headline.{HasClock, Plays, callers_of, commands_by, merge_of}
+use Rattle.chorus_report.specs.Ending.{EndsFor}
+
+-- the entries of the seat in the journal of the place p are those that its pass made there
+abbrev pub HasOwn : ℕ → List Entry → ℕ → List (Placed PlaceNote) → Type 0
+HasOwn p journal seat mine = by seat journal ≡ entries_of (at_place p mine)
+
+-- It is this nucleus that was closed, by one of its passes. The entries of the seat of that pass, and of each pass that was retired into
+-- it, are in each journal just those that the pass made at that place.
+pub record IsOfNucleus (n : Nucleus) (closed : Closed) : Type 0 where
+  pub last : Pass
+  pub closes : IsClosed n last closed
+  pub own : (p : ℕ) (journal : List Entry) → slice_get (closed_journals closed) p ≡ Some journal → HasOwn (p + 1) journal (known last).seat (known last).mine
+  pub noted : (p : ℕ) (journal : List Entry) → slice_get (closed_journals closed) p ≡ Some journal → All (λ (m : Note PlaceNote). HasOwn (p + 1) journal m.seat m.mine) (known last).notes
+
+-- where a clock was worn it is that of the pass that closed the nucleus
+abbrev pub HasWornOf : Status → Closed → Type 0
+HasWornOf status closed = (clock : ℕ) → status ≡ Worn clock → worn_of closed ≡ Some clock
+
+-- The scenario was performed on the nucleus, which was then closed: it plays the scenario to its end where no clock was worn, else up to
+-- that clock, which is at least 2^62 and that of an entry and of the closing pass.
+pub record IsPlayedOn (n : Nucleus) (c : Scene) (worn : Option ℕ) (closed : Closed) : Type 0 where
+  pub plays : EndsFor (Plays c.layout (callers_of c) (commands_by c)) worn closed
+  pub origin : IsOfNucleus n closed
+  pub high : (clock : ℕ) → worn ≡ Some clock → CLOCK_LIMIT ≤ clock
+  pub entry : (clock : ℕ) → worn ≡ Some clock → HasClock clock (merge_of closed)
+  pub of_pass : (clock : ℕ) → worn ≡ Some clock → worn_of closed ≡ Some clock
+
+-- it stopped for a clock that an entry of what was closed has
+pub record StopsAt (why : Stopped) (closed : Closed) (p : Played) : Type 0 where
+  pub clock : ℕ
+  pub is : why ≡ stops.Worn clock
+  pub closed_is : p.closed ≡ closed
+  pub worn : p.worn ≡ Some clock
+  pub entry : HasClock clock (merge_of closed)
+  pub high : CLOCK_LIMIT ≤ clock

@@ -1,0 +1,3 @@
+pub mod Pairs
+pub mod Rests
+pub mod Parting

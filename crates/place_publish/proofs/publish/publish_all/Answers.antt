@@ -1,0 +1,16 @@
+use Rattle.std.proofs.Common.{length, sym, ◌∙◌, subst, arith}
+use Rattle.place_publish.specs.Publishing.{IsUpTo}
+use Rattle.place_publish.proofs.Growing.{of-place, after-publish}
+use Rattle.place_publish.proofs.publish.publish_all.Goals as goal
+
+pub publish_first-requires-clause-of_place : goal.publish_first-requires-clause-of_place
+publish_first-requires-clause-of_place g c =
+    let at = subst (λ b. IsUpTo c.args.layout c.args.number c.args.journal.now (length c.args.journal.now) b) (sym c.published.ensures.board) c.requires.upto in
+    of-place c.args.layout c.args.number c.args.journal.now c.published.new.self (length c.args.journal.now) at.is c.requires.own
+
+pub returns-clause-board : goal.returns-clause-board
+returns-clause-board g c =
+    let at = subst (λ b. IsUpTo c.args.layout c.args.number c.args.journal.now (length c.args.journal.now) b) (sym c.published.ensures.board) c.requires.upto in
+    let same = c.publish_first.ensures.board in
+    after-publish c.args.layout c.args.number c.args.journal.now c.published.new.self c.publish_first.new.board (length c.args.journal.now) c.publish_first.result at.is
+    (same.1 ∙ at.is.layout, same.2 ∙ at.is.of_place) (omega arith) c.publish_first.ensures.published c.publish_first.ensures.unshown c.publish_first.ensures.begun

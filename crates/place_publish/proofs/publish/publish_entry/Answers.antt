@@ -1,0 +1,41 @@
+use Rattle.std.proofs.Common.{◌≡◌, ◌+◌, ◌≤◌, take, reverse, slice_get, Some, None, rules, sym, ◌∙◌, arith}
+use Rattle.place_publish.specs.Lessons.{lesson}
+use Rattle.place_publish.proofs.Growing.{slice-at, prefix-take, of-place, step-none, locates, after-publish, upto-publish}
+use Rattle.place_publish.proofs.publish.publish_entry.Goals as goal
+
+pub returns-in_default-lesson_of-clause-upto : goal.returns-in_default-lesson_of-clause-upto
+returns-in_default-lesson_of-clause-upto g c =
+    let at : slice_get c.args.journal.now c.args.index ≡ Some c.in-Some.entry.now = slice-at c.args.journal.now c.args.index c.in-Some.entry.now c.requires.within c.in-Some.ensures.lookup.1 in
+    let none : lesson (reverse (take c.args.index c.args.journal.now)) c.in-Some.entry.now ≡ None = sym c.lesson_of.ensures ∙ c.in_default-lesson_of.is in
+    step-none c.args.layout c.args.number c.args.journal.now c.args.board.now c.args.index c.in-Some.entry.now c.requires.upto at none
+
+pub publish_first-requires-clause-longer : goal.publish_first-requires-clause-longer
+publish_first-requires-clause-longer g c =
+    let le : c.begun.result ≤ c.args.index + 1 = search rules in
+    let n = c.begun.ensures in
+    prefix-take _ c.args.journal.now (c.args.index + 1) c.requires.upto.is.begun (omega (arith, le, n))
+
+pub publish_first-requires-clause-of_place : goal.publish_first-requires-clause-of_place
+publish_first-requires-clause-of_place g c = of-place c.args.layout c.args.number c.args.journal.now c.args.board.now (c.args.index + 1) c.requires.upto.is c.requires.own
+
+pub publish_first-requires-clause-located : goal.publish_first-requires-clause-located
+publish_first-requires-clause-located g c =
+    let at : slice_get c.args.journal.now c.args.index ≡ Some c.in-Some.entry.now = slice-at c.args.journal.now c.args.index c.in-Some.entry.now c.requires.within c.in-Some.ensures.lookup.1 in
+    locates c.args.layout c.args.number c.args.journal.now c.args.board.now c.args.index c.in-Some.entry.now c.in-Some-lesson_of.lesson c.requires.upto at
+    (sym c.lesson_of.ensures ∙ c.in-Some-lesson_of.is)
+
+pub returns-clause-board : goal.returns-clause-board
+returns-clause-board g c =
+    let lt = c.requires.within in
+    let is = c.requires.upto.is in
+    let same = c.publish_first.ensures.board in
+    after-publish c.args.layout c.args.number c.args.journal.now c.args.board.now c.publish_first.new.board (c.args.index + 1) c.publish_first.result is
+    (same.1 ∙ is.layout, same.2 ∙ is.of_place) (omega (arith, lt)) c.publish_first.ensures.published c.publish_first.ensures.unshown c.publish_first.ensures.begun
+
+pub returns-clause-upto : goal.returns-clause-upto
+returns-clause-upto g c =
+    let lt = c.requires.within in
+    let is = c.requires.upto.is in
+    let same = c.publish_first.ensures.board in
+    upto-publish c.args.layout c.args.number c.args.journal.now c.publish_first.new.board (c.args.index + 1) c.publish_first.result
+    (same.1 ∙ is.layout, same.2 ∙ is.of_place) (omega (arith, lt)) c.publish_first.ensures.published c.publish_first.ensures.begun

@@ -1,0 +1,39 @@
+-- What an entry teaches of a port.
+-- here are the entries before it, the newest first.
+use Rattle.std.specs.Prelude.{ℕ, ◌≡◌, List, Option, Some, None}
+use Rattle.chorus_ui.specs.declared.ui.Ui.{Ui}
+use Rattle.chorus_entry.specs.declared.act.Act.{Act}
+use Rattle.chorus_entry.specs.declared.act.Act.TheVariants.{Told, Depart, Arrive}
+use Rattle.chorus_entry.specs.declared.answer.Answer.{Answer}
+use Rattle.chorus_entry.specs.declared.answer.Answer.TheVariants as A
+use Rattle.chorus_entry.specs.declared.entry.Entry.{Entry}
+use Rattle.chorus_world.specs.declared.place.Sent.{Sent}
+use Rattle.chorus_world.specs.declared.place.Location.{Location}
+use Rattle.chorus_world.specs.Places.{find_sent, sent}
+use Rattle.chorus_board.specs.Located.{told_of}
+use Rattle.place_publish.specs.declared.lesson.Lesson.{Lesson}
+
+abbrev pub port_in : Option Sent → Option Ui
+port_in None = None
+port_in (Some m) = Some m.port
+
+-- what an answer about the port teaches
+abbrev pub lesson_told : Option Ui → Answer → Option Lesson
+lesson_told (Some q) (A.Stale to hop) = Some (record { ui = q; place = to; hop = hop })
+lesson_told (Some q) (A.Elsewhere to hop) = Some (record { ui = q; place = to; hop = hop })
+lesson_told _ _ = None
+
+-- what an act at the place p teaches
+abbrev pub lesson_in : ℕ → List Entry → Act → Option Lesson
+lesson_in p here (Arrive q hop) = Some (record { ui = q; place = p; hop = hop })
+lesson_in p here (Depart q to a hop) = Some (record { ui = q; place = to; hop = hop })
+lesson_in p here (Told x a) = lesson_told (port_in (find_sent x (sent here))) a
+lesson_in p here _ = None
+
+abbrev pub lesson : List Entry → Entry → Option Lesson
+lesson here e = lesson_in e.place here e.act
+
+-- what the lesson tells of the port q
+abbrev pub told_in : Option Lesson → Ui → Option Location
+told_in None q = None
+told_in (Some t) q = told_of q t.ui t.place t.hop

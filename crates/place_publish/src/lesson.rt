@@ -1,0 +1,109 @@
+//! What an entry teaches of a port.
+ghost use Rattle.std.specs.Prelude.{◌≡◌, ◌≤◌, length, reverse, take};
+ghost use Rattle.chorus_world.specs.Places.{find_sent, sent, sent_by, sent_to, copies};
+ghost use Rattle.place_publish.specs.Lessons.{lesson, lesson_told, port_in};
+
+use chorus_entry::{Act, Answer, Dest, Entry, MsgId};
+use chorus_ui::Ui;
+
+/// The port is at the place, by that hop.
+#[derive(Clone, Copy, Debug, PartialEq, Eq)]
+pub struct Lesson {
+    pub ui: Ui,
+    pub place: u16,
+    pub hop: u64,
+}
+
+/// The member to which the copy of the post goes.
+fn copy_in(post: MsgId, group: Ui, members: &[Ui], id: MsgId) -> Option<Ui>
+    ensures { result ≡ port_in (find_sent id (copies post group 1 members.now)) }
+{
+    let _ = group;
+    if post.seat != id.seat || post.number != id.number || id.copy == 0 {
+        return None;
+    }
+    match members.get(id.copy as usize - 1) {
+        Some(port) => Some(*port),
+        None => None,
+    }
+}
+
+/// The port to which the destination is.
+fn dest_in(post: MsgId, dest: &Dest, id: MsgId) -> Option<Ui>
+    ensures { result ≡ port_in (find_sent id (sent_to post dest.now)) }
+{
+    match dest {
+        Dest::Port(port) => { if post == id { Some(*port) } else { None } }
+        _ => None,
+    }
+}
+
+/// The port to which the act sends the message.
+fn sent_in(act: &Act, id: MsgId) -> Option<Ui>
+    ensures { result ≡ port_in (find_sent id (sent_by act.now)) }
+{
+    match act {
+        Act::Post { message, dest } => dest_in(message.id, dest, id),
+        Act::Choose {
+            id: post,
+            group,
+            members,
+        } => copy_in(*post, *group, members.uis(), id),
+        _ => None,
+    }
+}
+
+/// The port to which these entries sent the message.
+fn port_of(journal: &[Entry], upto: usize, id: MsgId) -> Option<Ui>
+    requires { upto ≤ length journal.now }
+    ensures { result ≡ port_in (find_sent id (sent (reverse (take upto journal.now)))) }
+{
+    let mut index = 0;
+    while index < upto {
+        let Some(entry) = journal.get(index) else {
+            unreachable!()
+        };
+        if let Some(port) = sent_in(&entry.act, id) {
+            return Some(port);
+        }
+        index += 1;
+    }
+    None
+}
+
+/// What the entry behind the first `upto` teaches.
+pub(crate) fn lesson_of(entry: &Entry, journal: &[Entry], upto: usize) -> Option<Lesson>
+    requires { upto ≤ length journal.now }
+    ensures { result ≡ lesson (reverse (take upto journal.now)) entry.now }
+{
+    match &entry.act {
+        Act::Arrive { port, hop } => Some(Lesson {
+            ui: *port,
+            place: entry.place,
+            hop: *hop,
+        }),
+        Act::Depart {
+            port,
+            to,
+            actor: _,
+            hop,
+        } => Some(Lesson {
+            ui: *port,
+            place: *to,
+            hop: *hop,
+        }),
+        Act::Told { id, answer } => told(port_of(journal, upto, *id), *answer),
+        _ => None,
+    }
+}
+
+/// What an answer about the port teaches.
+fn told(port: Option<Ui>, answer: Answer) -> Option<Lesson>
+    ensures { result ≡ lesson_told port answer }
+{
+    match (port, answer) {
+        (Some(ui), Answer::Stale { to, hop }) => Some(Lesson { ui, place: to, hop }),
+        (Some(ui), Answer::Elsewhere { to, hop }) => Some(Lesson { ui, place: to, hop }),
+        _ => None,
+    }
+}

@@ -1,0 +1,5 @@
+pub mod Sites
+pub mod Turning
+pub mod Drafts
+pub mod Jobs
+pub mod Reading
