@@ -1,5 +1,5 @@
 -- Pasts and holdings in which each accepted message has its fate, and some in which one has not.
-use Rattle.std.proofs.Common.{ℕ, ◌≡◌, List, [], ◌∷◌, Some, None, refl, sym, ◌∙◌, ap, arith}
+use Rattle.std.proofs.Common.{ℕ, ◌≡◌, List, [], ◌∷◌, Some, None, refl, ap, arith}
 use Rattle.std.proofs.lemmas.List.Elements.{All-head}
 use Rattle.chorus_ui.specs.declared.kind.Kind.TheVariants as kinds
 use Rattle.chorus_ui.specs.declared.ui.Ui.{Ui}
@@ -13,7 +13,6 @@ use Rattle.chorus_entry.specs.declared.tag.Tag.{Tag}
 use Rattle.chorus_entry.specs.declared.act.Act.{Act}
 use Rattle.chorus_world.specs.Fates.{MessageFate}
 use Rattle.chorus_world.specs.Fates.MessageFate.{Received, Queued, UnderWay, Discarded}
-use Rattle.chorus_world.specs.Steps.{is_legal}
 use Rattle.law_network.specs.Holdings.{Holding, At}
 use Rattle.law_network.specs.EachMessage.{HoldsAccepted}
 use Rattle.chorus_report.specs.Fates.{holdings_told, HasFate, HoldsByFate, WorldHolds}

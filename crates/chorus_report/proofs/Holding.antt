@@ -1,6 +1,6 @@
 -- Each accepted message has its fate, in the world of a legal past and in all holdings that stand for it.
-use Rattle.std.proofs.Common.{ℕ, zero, suc, ◌≡◌, ◌<◌, ◌≤◌, ◌-◌, Bool, true, false, cond, nat_lt, List, [], ◌∷◌, ◌++◌, Option, Some, None, slice_get, refl, sym, ◌∙◌, ap, subst, inl, inr, arith}
-use Rattle.std.specs.List.{All, filter, flat_map}
+use Rattle.std.proofs.Common.{ℕ, ◌≡◌, ◌<◌, ◌≤◌, ◌-◌, Bool, true, false, cond, nat_lt, List, [], ◌∷◌, ◌++◌, Option, Some, None, slice_get, refl, sym, ◌∙◌, ap, subst, inl, inr, arith}
+use Rattle.std.specs.List.{filter, flat_map}
 use Rattle.std.proofs.lemmas.Bool.{cases_Bool, false≢true, ltb-false}
 use Rattle.std.proofs.lemmas.List.{append-nil}
 use Rattle.std.proofs.lemmas.Option.{slice_get_within}
@@ -19,7 +19,7 @@ use Rattle.chorus_world.specs.Views.{on, is_on, views}
 use Rattle.chorus_world.specs.Ports.{PortState, fate, fate_after, is_made, last_of}
 use Rattle.chorus_world.specs.Fates.{MessageFate, fate_at, fate_left}
 use Rattle.chorus_world.specs.Fates.MessageFate.{Received, Discarded}
-use Rattle.chorus_world.specs.AcceptedLaws.{accepted_by, accepted_from, taken_by, taken_from}
+use Rattle.chorus_world.specs.AcceptedLaws.{accepted_from, taken_by, taken_from}
 use Rattle.chorus_world.specs.Steps.{is_legal, act_may}
 use Rattle.chorus_world.proofs.Steps.LegalLemmas.{legal_parts}
 use Rattle.chorus_world.proofs.Ports.ByFate.{received_by_fate, discarded_by_fate}
@@ -29,7 +29,7 @@ use Rattle.chorus_world.proofs.Messages.OnceLaws.{stands_once, keeps_each_messag
 use Rattle.law_network.specs.Records.{record_for}
 use Rattle.law_network.specs.UnderWay.{before_last}
 use Rattle.law_network.specs.Holdings.{Holding, At, OnTheWay, holds, told_in, told_of, holding_told, StandsFor}
-use Rattle.law_network.specs.EachMessage.{StandsByFate, HoldEachMessage}
+use Rattle.law_network.specs.EachMessage.{StandsByFate}
 use Rattle.law_network.proofs.Holdings.EachMessage.{holdings-hold-each}
 use Rattle.chorus_report.specs.Fates.{ports_in, with_made, holdings_told, HasFate, HoldsByFate, WorldHolds}
 
@@ -89,13 +89,13 @@ module _ (l : Layout) (layout : IsLayout l) (q : Ui) where
             | inl t ↦ (
                 let same : q ≡ r = from_same_ui q r t in
                 let makes : act_may l (views past e.place e.seat (Make q c n)) e.place e.seat (Make q c n) ≡ true =
-                    subst (λ z. act_may l (views past e.place e.seat z) e.place e.seat z ≡ true) (act ∙ ap (λ z. Make z c n) (sym same)) may in
+                subst (λ z. act_may l (views past e.place e.seat z) e.place e.seat z ≡ true) (act ∙ ap (λ z. Make z c n) (sym same)) may in
                 let new = (make_new l past e.place e.seat q c n layout ((legal_inv l past layout older).ports q) makes).0 in
                 let none : named q (ports_in past) ≡ [] = ih ∙ ap (λ o. once q (is_made o)) new in
                 let on-it : is_on (Some q) e ≡ true = ap (λ z. is_on (Some q) (record e { act = z })) act ∙ t in
                 let made : is_made (fate (on q (e ∷ past))) ≡ true =
-                    ap is_made (line-fate q past e (Make r c n) act (is_on (Some q) e))
-                    ∙ ap (λ b. is_made (cond b (fate_after e.place (Make r c n) (fate (on q past))) (fate (on q past)))) on-it in
+                ap is_made (line-fate q past e (Make r c n) act (is_on (Some q) e))
+                ∙ ap (λ b. is_made (cond b (fate_after e.place (Make r c n) (fate (on q past))) (fate (on q past)))) on-it in
                 subst (λ z. cond (same_ui z q) (z ∷ named q (ports_in past)) (named q (ports_in past)) ≡ once q (is_made (fate (on q (e ∷ past))))) same
                 (ap (λ b. cond b (q ∷ named q (ports_in past)) (named q (ports_in past))) (same_ui-self q) ∙ ap (λ zs. q ∷ zs) none ∙ ap (once q) (sym made)))
             | inr f ↦ (
