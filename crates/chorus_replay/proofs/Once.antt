@@ -1,5 +1,5 @@
 -- The order of a replay leaves one network, also where a clock is worn.
-use Rattle.std.proofs.Common.{ℕ, zero, suc, ◌≡◌, ◌<◌, ◌≤◌, ◌+◌, ◌⊎◌, true, List, [], ◌∷◌, ◌++◌, Option, Some, None, is_some, slice_get, Result, Ok, refl, sym, ◌∙◌, ap, subst, append_assoc, inl, inr, arith}
+use Rattle.std.proofs.Common.{ℕ, zero, suc, ◌≡◌, ◌<◌, ◌≤◌, ◌+◌, ◌⊎◌, true, List, [], ◌∷◌, ◌++◌, Option, Some, None, is_some, slice_get, Result, Ok, Err, refl, sym, ◌∙◌, ap, subst, append_assoc, inl, inr, arith}
 use Rattle.std.proofs.lemmas.List.Elements.{All-nil, All-cons, All-head, All-tail}
 use Rattle.chorus_ui.specs.declared.layout.Layout.{Layout}
 use Rattle.chorus_ui.specs.declared.limits.TheConstants.{CLOCK_LIMIT}
@@ -21,7 +21,7 @@ use Rattle.chorus_show.specs.Report.{report}
 use Rattle.chorus_show.specs.declared.status.Status.{Status}
 use Rattle.chorus_net.specs.Worn.{compared_by, IsUnworn, AreUnworn, IsInRounds}
 use Rattle.chorus_replay.specs.Worn.{AreWornBy, ComesNext}
-use Rattle.chorus_replay.specs.Ordered.{CarryAsFar, IsOrdered, Replays}
+use Rattle.chorus_replay.specs.Ordered.{CarryAsFar, IsOrdered}
 use Rattle.chorus_replay.specs.Order.{tasks}
 use Rattle.chorus_replay.specs.Laws.{worn_clock, OrderedOnce, ReplaysOnce}
 use Rattle.chorus_replay.proofs.Plays.{deliveries, behind}
@@ -266,7 +266,8 @@ ordered-once l ts s t one other shape a b =
 -- the bytes give one scenario, and its tasks leave one outcome
 
 one-scene : (x y : Scene) (r : Result Scene (ℕ × ℕ)) → r ≡ Ok x → r ≡ Ok y → x ≡ y
-one-scene x y r a b = let both : Ok {A = Scene} {B = ℕ × ℕ} x ≡ Ok y = sym a ∙ b in cc
+one-scene x y (Ok z) a b = let first : z ≡ x = cc in let second : z ≡ y = cc in sym first ∙ second
+one-scene x y (Err e) a b = absurd (cc)
 
 pub replays-once : ReplaysOnce
 replays-once l input s t one other shape a b =
