@@ -13,7 +13,7 @@ use Rattle.law_machine.specs.declared.reply.Reply.{Reply}
 use Rattle.law_machine.specs.declared.outcome.Outcome.{Outcome}
 use Rattle.law_machine.specs.declared.outcome.Outcome.TheVariants.{Unknown}
 use Rattle.law_machine.specs.PlaceState.{PlaceState, greatest_clock}
-use Rattle.law_machine.specs.PlaceMachine.{begun, begun_by}
+use Rattle.law_machine.specs.PlaceMachine.{begun}
 use Rattle.law_machine.specs.Own.{own}
 use Rattle.law_machine.specs.Replies.{reply}
 use Rattle.law_machine.specs.Outcomes.{outcome}
@@ -21,7 +21,10 @@ use Rattle.chorus_place.specs.declared.fault.PlaceFault.{PlaceFault}
 use Rattle.chorus_place.specs.declared.fault.PlaceFault.TheVariants as faults
 use Rattle.chorus_serve.specs.declared.pump.Pump.{Pump}
 use Rattle.chorus_serve.specs.declared.pump.Pump.TheVariants as pumps
+use Rattle.chorus_serve.specs.Desks.{DeskState}
+use Rattle.chorus_serve.specs.Serving.{KeepsInHand, IsIdle, IsWornBy, AreEmptied}
 use Rattle.chorus_turn.specs.declared.turns.Busy.{Busy}
+use Rattle.chorus_turn.specs.declared.knowledge.Remarked.{Remarked}
 use Rattle.chorus_turn.specs.declared.knowledge.Knowledge.{Knowledge}
 use Rattle.chorus_turn.specs.Knowing.{IsSamePass}
 use Rattle.chorus_turn.specs.Calls.{FoundBusy}
@@ -30,7 +33,8 @@ use Rattle.law_history.specs.Counts.{put_count, got_count}
 use Rattle.law_history.specs.Runs.{commands_given}
 use Rattle.law_closing.specs.Remarks.{turns_at, turns_in}
 use Rattle.law_closing.specs.Places.{PlaceNote}
-use Rattle.place_site.specs.Turning.{TakesTurn, Looks}
+use Rattle.place_site.specs.Sites.{IsJournalOf}
+use Rattle.place_site.specs.Turning.{TakesTurn, Looks, MayWork}
 use Rattle.chorus_nucleus.specs.declared.fault.CallFault.{CallFault}
 use Rattle.chorus_nucleus.specs.declared.fault.CallFault.TheVariants as call_faults
 use Rattle.chorus_nucleus.specs.declared.nucleus.Nucleus.{Nucleus}
@@ -91,13 +95,22 @@ pub record FindsWorn (l : Layout) (p clock : ℕ) (v : Knowledge PlaceNote) (w :
   pub worn : CLOCK_LIMIT ≤ clock
   pub greatest : clock ≡ greatest_clock (begun state w)
 
--- and the greatest of these clocks and of that of the packet in hand
-pub record FindsWornBy (l : Layout) (p clock : ℕ) (v : Knowledge PlaceNote) (w : Seated) (u : Knowledge PlaceNote) (x : Seated) : Type 0 where
+-- The desk of the place before and after a turn that found this journal: what waited there was sent, or a link was found full.
+pub record AreDesks (l : Layout) (p : ℕ) (found : List (Remarked PlaceNote)) (d e : DeskState) : Type 0 where
+  pub layout : d.place.layout ≡ l
+  pub number : d.place.number ≡ p
+  pub journal : IsJournalOf d found
+  pub emptied : AreEmptied d e
+
+-- a look at the place found the greatest of these clocks and of that of the packet in hand at the limit
+pub record FindsWornBy (l : Layout) (p clock : ℕ) (v : Knowledge PlaceNote) (w : Seated)
+    (u : Knowledge PlaceNote) (x : Seated) : Type 0 where
   pub state : PlaceState
-  pub packet : Packet
   pub looks : Looks l p state v w u x
-  pub worn : CLOCK_LIMIT ≤ clock
-  pub greatest : clock ≡ greatest_clock (begun_by state w packet)
+  pub before : DeskState
+  pub after : DeskState
+  pub desks : AreDesks l p looks.found before after
+  pub by : IsWornBy clock before after w
 
 -- why a call was refused: another pass held the place; or it looked at the place, and found no memory, or a worn clock
 abbrev pub Because : (Layout → ℕ → ℕ → Knowledge PlaceNote → Seated → Knowledge PlaceNote → Seated → Type 0) → CallFault → Layout → ℕ → Knowledge PlaceNote → Seated → Knowledge PlaceNote → Seated → Type 0
@@ -126,13 +139,27 @@ pub record IsCall (n : Nucleus) (c : Command) (old new : Pass) (r : Result Reply
   pub grows : Grows (caller_of old) (caller_of new)
   pub sight : sight_of new ≡ sight_of old
 
--- what a pump of the place did: it worked off a packet, or has one in hand that it may not work off; or it was idle, and tells how
--- many packets the turns of the journal that it found put, and, up to 2^64 - 1, how many they worked off
+-- the packet from there was worked off: it was lawful, and no clock was worn
+abbrev pub WorksOffAt : Layout → ℕ → ℕ → Knowledge PlaceNote → Seated → Knowledge PlaceNote → Seated → Type 0
+WorksOffAt l p from v w u x =
+    (s : PlaceState) × (k : Packet) × (t : TakesTurn l p (Input.Packet from k) s v w u x) × MayWork from k s w
+    × (d e : DeskState) × AreDesks l p t.found d e
+
+-- a packet from there is unlawful, and stays in hand
+abbrev pub KeepsInHandAt : Layout → ℕ → ℕ → Knowledge PlaceNote → Seated → Knowledge PlaceNote → Seated → Type 0
+KeepsInHandAt l p from v w u x =
+    (s : PlaceState) × (t : Looks l p s v w u x) × (k : Packet)
+    × (d e : DeskState) × AreDesks l p t.found d e × KeepsInHand from k d e w x
+
+-- What a pump of the place did: it worked off a packet, or keeps one in hand that may not be worked off; or it was idle, with nothing in
+-- hand and each link found empty, and tells how many packets the turns of the journal that it found put, and, up to 2^64 - 1, how many
+-- they worked off.
 abbrev pub Serves : Layout → ℕ → Pump → Knowledge PlaceNote → Seated → Knowledge PlaceNote → Seated → Type 0
-Serves l p (pumps.Served from) v w u x =
-    ((s : PlaceState) × (k : Packet) × TakesTurn l p (Input.Packet from k) s v w u x) ⊎ ((s : PlaceState) × Looks l p s v w u x)
+Serves l p (pumps.Served from) v w u x = WorksOffAt l p from v w u x ⊎ KeepsInHandAt l p from v w u x
 Serves l p (pumps.Idle put worked) v w u x =
-    (s : PlaceState) × (t : Looks l p s v w u x) × (put ≡ put_count (turns_at p t.found)) × (worked ≡ min (got_count (turns_at p t.found)) (2 ^ 64 - 1))
+    (s : PlaceState) × (t : Looks l p s v w u x) × (put ≡ put_count (turns_at p t.found))
+    × (worked ≡ min (got_count (turns_at p t.found)) (2 ^ 64 - 1))
+    × (d e : DeskState) × AreDesks l p t.found d e × IsIdle d e w x
 
 -- what a pump of the place p did
 pub record IsPump (n : Nucleus) (p : ℕ) (old new : Pass) (r : Result Pump CallFault) : Type 0 where
