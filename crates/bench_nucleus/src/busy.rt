@@ -6,7 +6,7 @@
 ghost use Rattle.std.specs.Prelude.{◌≡◌};
 ghost use Rattle.std.specs.Thread.{IsSync};
 ghost use Rattle.chorus_nucleus.specs.Passes.{IsPassOf};
-ghost use Rattle.bench_nucleus.specs.Holding.{GoesOn, IsLast, AreBoth};
+ghost use Rattle.bench_nucleus.specs.Holding.{GoesOn, IsKeeper, AreBoth};
 
 use crate::held::{Held, close, move_to, publish, start};
 use crate::names::port_of;
@@ -42,8 +42,8 @@ fn time_at<R: Threads + Sync + Wait + Clock>(
     keeper: Pass,
 ) -> (Pass, io::Result<(u32, f64)>)
     requires sync { IsSync R.row }
-    requires keeper { IsLast nucleus.now keeper }
-    ensures { IsLast nucleus.now result.0 }
+    requires keeper { IsKeeper nucleus.now 0 keeper }
+    ensures { IsKeeper nucleus.now 0 result.0 }
 {
     let mut held = match Held::start(rt, nucleus, keeper) {
         Ok(held) => held,

@@ -1,8 +1,8 @@
 //! Callers of two sites of a nucleus.
 
-ghost use Rattle.std.specs.Prelude.{◌≡◌, true, IfSome, IfOk, IfErr};
+ghost use Rattle.std.specs.Prelude.{ℕ, suc, ◌≡◌, true, IfSome, IfOk, IfErr};
 ghost use Rattle.chorus_nucleus.specs.Passes.{known, IsPassOf};
-ghost use Rattle.bench_nucleus.specs.Holding.{GoesOn, Admits, IsLast, AreBoth};
+ghost use Rattle.bench_nucleus.specs.Holding.{GoesOn, IsKeeper, IsOther, Enters, AreBoth};
 
 use crate::names::{BODY, actor_of, port_of};
 use crate::rounds::Callers;
@@ -23,7 +23,7 @@ pub(crate) struct Held<'a, R> {
 
 /// A nucleus of so many sites of one place each, and its opening pass.
 pub(crate) fn start<R: Wait>(alloc: Global, rt: &R, sites: u16) -> Option<(Nucleus, Pass)>
-    ensures { IfSome result (λ r. IsLast r.0 r.1) }
+    ensures { IfSome result (λ r. IsKeeper r.0 0 r.1) }
 {
     let layout = Layout::new(sites, 1)?;
     Nucleus::start(alloc, rt, layout).ok()
@@ -31,7 +31,7 @@ pub(crate) fn start<R: Wait>(alloc: Global, rt: &R, sites: u16) -> Option<(Nucle
 
 /// Ends the nucleus. Gives how many entries its journals have.
 pub(crate) fn close<R: Wait>(rt: &R, nucleus: Nucleus, pass: Pass) -> Option<usize>
-    requires { IsLast nucleus pass }
+    requires { IsKeeper nucleus 0 pass }
 {
     match nucleus.close(rt, pass) {
         Ok(closed) => Some(count(&closed.journals)),
@@ -48,13 +48,25 @@ fn count(journals: &[Vec<chorus_entry::Entry>]) -> usize {
 }
 
 /// A pass of the first actor of the site.
+#[tactic(auto, using(crate::proofs::Going::entered))]
 pub(crate) fn enter(nucleus: &Nucleus, keeper: &mut Pass, site: u16) -> Option<Pass>
     requires pass { IsPassOf nucleus.now keeper.old }
     requires keeper { (known keeper.old).keeper ≡ true }
-    ensures { Admits nucleus.now keeper.old keeper.new result }
+    ensures { (out : ℕ) → IsKeeper nucleus.now out keeper.old →
+        Enters nucleus.now out keeper.new result }
 {
     let actor = actor_of(site)?;
     nucleus.enter(keeper, actor).ok()
+}
+
+/// Ends a pass.
+pub(crate) fn retire(nucleus: &Nucleus, pass: Pass, keeper: &mut Pass)
+    requires pass { IsOther nucleus.now pass }
+    requires keeper { IsPassOf nucleus.now keeper.old }
+    ensures { (out : ℕ) → IsKeeper nucleus.now (suc out) keeper.old →
+        IsKeeper nucleus.now out keeper.new }
+{
+    nucleus.retire(pass, keeper);
 }
 
 /// Makes the first port of the site.
@@ -154,9 +166,9 @@ fn locate(nucleus: &Nucleus, pass: &mut Pass, site: u16) -> Option<()>
 impl<'a, R: Wait> Held<'a, R> {
     /// The callers, the second of whom enters. An error gives the keeper back.
     pub(crate) fn start(rt: &'a R, nucleus: &'a Nucleus, keeper: Pass) -> Result<Held<'a, R>, Pass>
-        requires { IsLast nucleus.now keeper }
+        requires { IsKeeper nucleus.now 0 keeper }
         ensures ok { IfOk result (λ h. AreBoth h.nucleus.now h.one h.two × (h.nucleus ≡ nucleus)) }
-        ensures err { IfErr result (λ pass. IsLast nucleus.now pass) }
+        ensures err { IfErr result (λ pass. IsKeeper nucleus.now 0 pass) }
     {
         let mut one = keeper;
         match enter(nucleus, &mut one, 2) {
@@ -182,7 +194,7 @@ impl<'a, R: Wait> Held<'a, R> {
     /// The second ends. Gives the keeper.
     pub(crate) fn end(self) -> Pass
         requires { AreBoth self.nucleus.now self.one self.two }
-        ensures { IsLast self.nucleus.now result }
+        ensures { IsKeeper self.nucleus.now 0 result }
     {
         let Held {
             nucleus,
@@ -190,7 +202,7 @@ impl<'a, R: Wait> Held<'a, R> {
             two,
             ..
         } = self;
-        nucleus.retire(two, &mut one);
+        retire(nucleus, two, &mut one);
         one
     }
 

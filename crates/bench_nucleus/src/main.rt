@@ -40,7 +40,7 @@ fn main(rt: HostRuntime) -> io::Result<()> {
         println!(rt; "{work}: {entries} entries")?;
     }
     for callers in [Callers::One, Callers::Four] {
-        let entries = callers.entries(&rt, rt.alloc(), FEW).ok_or(AllocError)?;
+        let (entries, _) = callers.run(&rt, rt.alloc(), FEW)?;
         println!(rt; "{callers}: {entries} entries")?;
     }
     Ok(())

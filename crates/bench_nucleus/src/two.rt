@@ -1,7 +1,7 @@
 //! A nucleus of two sites, from its start to its end.
 
 ghost use Rattle.std.specs.Prelude.{◌≡◌, IfOk, IfErr};
-ghost use Rattle.bench_nucleus.specs.Holding.{IsLast, AreBoth};
+ghost use Rattle.bench_nucleus.specs.Holding.{IsKeeper, AreBoth};
 
 use crate::held::{Held, close, start};
 use crate::paired::Paired;
@@ -52,8 +52,8 @@ fn work_at<R: Wait>(
     work: Work,
     count: u32,
 ) -> (Pass, Option<()>)
-    requires { IsLast nucleus.now keeper }
-    ensures { IsLast nucleus.now result.0 }
+    requires { IsKeeper nucleus.now 0 keeper }
+    ensures { IsKeeper nucleus.now 0 result.0 }
 {
     match Held::start(rt, nucleus, keeper) {
         Ok(mut held) => {
@@ -86,8 +86,8 @@ fn time_at<R: Wait + Clock>(
     nucleus: &Nucleus,
     keeper: Pass,
 ) -> (Pass, io::Result<Vec<Best>>)
-    requires { IsLast nucleus.now keeper }
-    ensures { IsLast nucleus.now result.0 }
+    requires { IsKeeper nucleus.now 0 keeper }
+    ensures { IsKeeper nucleus.now 0 result.0 }
 {
     match Held::start(rt, nucleus, keeper) {
         Ok(mut held) => {

@@ -35,11 +35,12 @@ pub record MayAct (w : Seated) (c : Command) (m : SiteMark) : Type 0 where
 abbrev pub AcceptsAct : Seated → Command → SiteMark → ℕ → Type 0
 AcceptsAct w c m seat = (w.seat ≡ seat) × MayAct w c m
 
--- Where the command was performed the job kept the place before it, the clocks were not worn, and it has the machine's reply. Where
--- it was worn, the greatest of the clocks is at the limit.
+-- Where the command was performed the job kept the place before it, the clocks were not worn, and it has the machine's
+-- reply. Where it was worn, the greatest of the clocks is at the limit.
 abbrev pub Acted : Command → Option (Snapshot Place) → Result Reply PlaceFault → Seated → DeskState → Type 0
 Acted c (Some z) (Ok r) w d =
-    (z.value ≡ d.place) × (r ≡ reply c (begun (state d.place) w)) × (greatest_clock (begun (state d.place) w) < CLOCK_LIMIT)
+    (z.value ≡ d.place) × (r ≡ reply c (begun (state d.place) w))
+        × (greatest_clock (begun (state d.place) w) < CLOCK_LIMIT)
 Acted c None (Err (faults.Memory none)) w d = Unit {0}
 Acted c None (Err (faults.Worn clock)) w d =
     (CLOCK_LIMIT ≤ clock) × (clock ≡ greatest_clock (begun (state d.place) w))
@@ -58,11 +59,14 @@ HasWorked None (Ok (pumps.Idle put worked)) w x d e = IsIdle d e w x × (put ≡
 HasWorked None (Err f) w x d e = Rests d e w x
 HasWorked _ _ w x d e = ⊥
 
--- the job kept the place before, and did this; what waited was sent, or a link was found full; a worn clock is that of what is in hand
+-- the job kept the place before, and did this; what waited was sent, or a link was found full; a worn clock is that of
+-- what is in hand
 abbrev pub Served : Option ℕ → Place → Result Pump PlaceFault → Seated → Seated → DeskState → DeskState → Type 0
 Served a z r w x d e =
-    (z ≡ d.place) × HasWorked a r w x d e × ((clock : ℕ) → IsErrOf r (faults.Worn clock) → IsWornBy clock d e w) × OnOk r (AreEmptied d e)
+    (z ≡ d.place) × HasWorked a r w x d e × ((clock : ℕ) → IsErrOf r (faults.Worn clock) → IsWornBy clock d e w)
+        × OnOk r (AreEmptied d e)
 
-abbrev pub ServedAt : Option ℕ → Option (Snapshot Place) → Result Pump PlaceFault → Seated → Seated → DeskState → DeskState → Type 0
+abbrev pub ServedAt : Option ℕ → Option (Snapshot Place) → Result Pump PlaceFault → Seated → Seated → DeskState
+    → DeskState → Type 0
 ServedAt a None r w x d e = ⊥
 ServedAt a (Some z) r w x d e = Served a z.value r w x d e

@@ -1,5 +1,6 @@
 -- What one turn notes, and what it did.
--- i is what the turn takes, s the place before it, w and x the caller before and after, v and u what the pass knows before and after.
+-- i is what the turn takes, s the place before it, w and x the caller before and after, v and u what the pass knows
+-- before and after.
 use Rattle.std.specs.Prelude.{ℕ, ◌≡◌, ◌<◌, ◌≤◌, true, List, [], ◌∷◌, ◌++◌, Option, Some, None, reverse}
 use Rattle.std.specs.declared.snapshot.Snapshot.{Snapshot}
 use Rattle.chorus_ui.specs.declared.limits.TheConstants.{CLOCK_LIMIT}
@@ -30,7 +31,8 @@ IsOwn (Input.Command c) s w e = e.act ≡ own c (begun s w)
 IsOwn (Input.Packet a k) s w e = Unit {0}
 
 -- The news are the entries of one turn that the place machine takes, each with the remark of the turn.
-pub record IsNews (i : Input Command Packet) (s : PlaceState) (w x : Seated) (news : List (Remarked PlaceNote)) : Type 0 where
+pub record IsNews (i : Input Command Packet) (s : PlaceState) (w x : Seated)
+    (news : List (Remarked PlaceNote)) : Type 0 where
   pub entry : Entry
   pub later : List Entry
   pub is : news ≡ remarked (noted (machine s.layout) s.number i s w) (entry ∷ later)
@@ -53,18 +55,21 @@ NotesAct c (Some z) w x news = IsNews (Input.Command c) (state z.value) w x news
 abbrev pub MayWork : ℕ → Packet → PlaceState → Seated → Type 0
 MayWork from k s w = (is_lawful from k s ≡ true) × (greatest_clock (begun_by s w k) < CLOCK_LIMIT)
 
--- what a job that serves notes, by the number of the place from which the packet came, if it worked one off, and by the place before
+-- what a job that serves notes, by the number of the place from which the packet came, if it worked one off, and by the
+-- place before
 abbrev pub NotesFrom : Option ℕ → Place → Seated → Seated → List (Remarked PlaceNote) → Type 0
 NotesFrom None z w x news = IsNoNews w x news
-NotesFrom (Some from) z w x news = (k : Packet) × MayWork from k (state z) w × IsNews (Input.Packet from k) (state z) w x news
+NotesFrom (Some from) z w x news = (k : Packet) × MayWork from k (state z) w
+    × IsNews (Input.Packet from k) (state z) w x news
 
 abbrev pub NotesServe : Option ℕ → Option (Snapshot Place) → Seated → Seated → List (Remarked PlaceNote) → Type 0
 NotesServe a None w x news = ⊥
 NotesServe a (Some z) w x news = NotesFrom a z.value w x news
 
--- A turn at the place p: the pass found a journal that leads to the state s, and added the entries that the machine gives. The clock of
--- the first is above the caller's last clock before, and at most that after.
-pub record TakesTurn (l : Layout) (p : ℕ) (i : Input Command Packet) (s : PlaceState) (v : Knowledge PlaceNote) (w : Seated) (u : Knowledge PlaceNote) (x : Seated) : Type 0 where
+-- A turn at the place p: the pass found a journal that leads to the state s, and added the entries that the machine
+-- gives. The clock of the first is above the caller's last clock before, and at most that after.
+pub record TakesTurn (l : Layout) (p : ℕ) (i : Input Command Packet) (s : PlaceState) (v : Knowledge PlaceNote)
+    (w : Seated) (u : Knowledge PlaceNote) (x : Seated) : Type 0 where
   pub found : List (Remarked PlaceNote)
   pub shows : Shows p v found
   pub entries : entries_of found ≡ reverse s.journal
@@ -81,7 +86,8 @@ pub record TakesTurn (l : Layout) (p : ℕ) (i : Input Command Packet) (s : Plac
   pub knows : u ≡ after_turn p found (remarked (noted (machine l) p i s w) (entry ∷ later)) v
 
 -- a look at the place p: the pass found a journal, and added nothing
-pub record Looks (l : Layout) (p : ℕ) (s : PlaceState) (v : Knowledge PlaceNote) (w : Seated) (u : Knowledge PlaceNote) (x : Seated) : Type 0 where
+pub record Looks (l : Layout) (p : ℕ) (s : PlaceState) (v : Knowledge PlaceNote) (w : Seated)
+    (u : Knowledge PlaceNote) (x : Seated) : Type 0 where
   pub found : List (Remarked PlaceNote)
   pub shows : Shows p v found
   pub entries : entries_of found ≡ reverse s.journal
