@@ -33,10 +33,6 @@ use Rattle.law_history.specs.Counts.{put_count, got_count}
 use Rattle.law_history.specs.Histories.{Takes}
 use Rattle.law_history.specs.PlaceTurns.{may_take, machine, turn}
 use Rattle.law_history.proofs.Rising.{place-rises}
-<<<<<<< HEAD
-=======
-use Rattle.law_history.specs.Runs.{with_command}
->>>>>>> 3ced3c8af8b0928279c4680ad6be315b4bfcd432
 use Rattle.law_closing.specs.Remarks.{turns_at}
 use Rattle.law_closing.specs.Places.{PlaceNote}
 use Rattle.law_closing.specs.Closing.{IsPlace}

@@ -62,11 +62,7 @@ abbrev pub readers_after : Layout → Pass → Pass → ℕ → ℕ
 readers_after l ended into q =
     let kept : ℕ = cond (known ended).keeper (readers_at q ended) (readers_at q into) in
     cond (q == home_of l (caller_of ended)) (given_back ((known ended).keeper || (known into).keeper)
-<<<<<<< HEAD
     (reader_of ended) kept) kept
-=======
-        (reader_of ended) kept) kept
->>>>>>> 3ced3c8af8b0928279c4680ad6be315b4bfcd432
 
 -- the pass `ended` was retired into `old`, which is now `new`
 pub record Retires (n : Nucleus) (ended old new : Pass) : Type 0 where

@@ -71,8 +71,4 @@ AClosedNucleusIsARun = (l : Layout) (v : Knowledge PlaceNote) (comers : List Com
 abbrev pub EachMessageStandsOnce : Type 0
 EachMessageStandsOnce =
     (l : Layout) (v : Knowledge PlaceNote) (comers : List Comer) (c : Closed) → IsLayout l → ClosesAs l v comers c
-<<<<<<< HEAD
     → HoldEachMessage (past_of c) (holdings_of l c)
-=======
-        → HoldEachMessage (past_of c) (holdings_of l c)
->>>>>>> 3ced3c8af8b0928279c4680ad6be315b4bfcd432

@@ -40,11 +40,7 @@ use Rattle.law_history.specs.PlaceTurns.{turn, may_take, brings_entry, is_other}
 use Rattle.law_closing.specs.Places.{PlaceNote}
 use Rattle.chorus_board.specs.declared.name.BoardName.{BoardName}
 use Rattle.place_site.specs.Sites.{mark, entries, IsJournalOf}
-<<<<<<< HEAD
 use Rattle.place_site.specs.Turning.{IsNews, IsNoNews, MayWork, NotesFrom, NotesAct}
-=======
-use Rattle.place_site.specs.Turning.{IsNews, IsNoNews, MayWork, NotesFrom, NotesAct, NotesServe}
->>>>>>> 3ced3c8af8b0928279c4680ad6be315b4bfcd432
 use Rattle.place_site.specs.Jobs.{MayAct, Acted, worked_from, HasWorked}
 use Rattle.place_site.proofs.Turning.{Flows, turned, moved, grown, layout-stays, number-stays}
 
@@ -177,20 +173,11 @@ served-goes z (Ok (pumps.Served from)) d e w x hold holds same place (k, inl h) 
     let got = worked d e w x from k place h log j in (
       got.0,
       got.1,
-<<<<<<< HEAD
       subst (λ b. NotesFrom (worked_from (Ok (pumps.Served from)) b) z w x got.0) (sym none) (
         k,
         subst (λ (q : Place). MayWork from k (state q) w) (sym same) (h.lawful, h.unworn),
         subst (λ (q : Place). IsNews (Input.Packet from k) (state q) w x got.0) (sym same) got.2,
       ),
-=======
-      subst (λ b. NotesFrom (worked_from (Ok (pumps.Served from)) b) z w x got.0) (sym none)
-          (
-            k,
-            subst (λ (q : Place). MayWork from k (state q) w) (sym same) (h.lawful, h.unworn),
-            subst (λ (q : Place). IsNews (Input.Packet from k) (state q) w x got.0) (sym same) got.2,
-          ),
->>>>>>> 3ced3c8af8b0928279c4680ad6be315b4bfcd432
     ))
 served-goes z (Ok (pumps.Served from)) d e w x hold holds same place (k, inr h) err log j =
     (let some : hold ≡ true = holds ∙ ap is_some h.hand in

@@ -1,8 +1,4 @@
-<<<<<<< HEAD
 use Rattle.std.proofs.Common.{refl, sym, ◌∙◌, subst}
-=======
-use Rattle.std.proofs.Common.{None, refl, sym, ◌∙◌, subst}
->>>>>>> 3ced3c8af8b0928279c4680ad6be315b4bfcd432
 use Rattle.chorus_turn.specs.Passes.{known, handed}
 use Rattle.chorus_nucleus.specs.Reading.{PublishDone}
 use Rattle.chorus_nucleus.proofs.Asking.{home-is}
