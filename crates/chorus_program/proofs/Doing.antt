@@ -107,6 +107,10 @@ module _ {S K : Type 0} (f : Finished) (is : f ≡ record { status = Memory; clo
   does-none n (words.Audit sites turns) = audits-none (places_each sites turns)
   does-none n (words.Lossy first) = carries-none first
 
+-- a replay on sites of a layout is one on those of an equal one
+pub replays-at : {S K : Type 0} (l m : Layout) (f : Finished) (left : S → Option (List ℕ)) (faults : S → ℕ) (reliable : S → Type 0) (from rest : S) (held : K → Option (List ℕ)) (failures : K → ℕ) (old new : K) → l ≡ m → EndsAsReplay l f left faults reliable from rest held failures old new → EndsAsReplay m f left faults reliable from rest held failures old new
+replays-at l m f left faults reliable from rest held failures old new same h = subst (λ (x : Layout). EndsAsReplay x f left faults reliable from rest held failures old new) same h
+
 -- What is done has its cause, and is no Usage.
 
 module _ {S K : Type 0} (n : Nucleus) (f : Finished) (left : S → Option (List ℕ)) (faults : S → ℕ) (reliable : S → Type 0) (from rest : S) (held : K → Option (List ℕ)) (failures : K → ℕ) (old new : K) where

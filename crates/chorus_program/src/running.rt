@@ -122,8 +122,7 @@ fn does<R: Threads + Wait + Sync, S: Source, K: Sink, G: Gate>(
         K.faults sink.old sink.new }
 {
     match asked {
-        Words::Run => run(alloc, rt, source, sink, nucleus, pass, gate),
-        Words::RunOn { .. } => run(alloc, rt, source, sink, nucleus, pass, gate),
+        Words::Run | Words::RunOn { .. } => run(alloc, rt, source, sink, nucleus, pass, gate),
         Words::Replay => {
             close_unused(rt, nucleus, pass);
             start_replay(alloc, source, sink)
