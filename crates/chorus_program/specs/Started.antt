@@ -13,6 +13,10 @@ use Rattle.chorus_words.specs.Words.{Ask}
 use Rattle.chorus_program.specs.declared.running.TheConstants.{PROGRAM_SITES}
 use Rattle.chorus_program.specs.Running.{Does, places_each}
 
+-- these words are not in the list
+abbrev pub AskNothing : List (List ℕ) → Type 0
+AskNothing spelled = (asked : Words) → ¬ (Ask spelled asked)
+
 -- the layout of the nucleus that is started: `run TURNS` asks so many places for each of its sites, and all else asks one
 abbrev pub layout_asked : Words → Layout
 layout_asked (words.RunOn turns) = places_each PROGRAM_SITES turns
@@ -21,10 +25,12 @@ layout_asked asked = places_each PROGRAM_SITES 1
 -- it is that of these words, and of one place each where the words ask nothing
 pub record IsLayoutFor (spelled : List (List ℕ)) (l : Layout) : Type 0 where
   pub asked : (asked : Words) → Ask spelled asked → l ≡ layout_asked asked
-  pub otherwise : ((asked : Words) → ¬ (Ask spelled asked)) → l ≡ places_each PROGRAM_SITES 1
+  pub otherwise : AskNothing spelled → l ≡ places_each PROGRAM_SITES 1
 
 -- what the words do, on a nucleus of that layout, unless there was no memory
-abbrev pub DoesOnOwn : {S K : Type 0} → Words → Finished → (S → Option (List ℕ)) → (S → ℕ) → (S → Type 0) → S → S → (K → Option (List ℕ)) → (K → ℕ) → K → K → Type 0
+abbrev pub DoesOnOwn : {S K : Type 0} → Words → Finished
+    → (S → Option (List ℕ)) → (S → ℕ) → (S → Type 0) → S → S
+    → (K → Option (List ℕ)) → (K → ℕ) → K → K → Type 0
 DoesOnOwn asked finished left faults reliable from rest held failures old new =
     (finished.status ≡ Memory)
     ⊎ ((n : Nucleus) × (layout_of n ≡ layout_asked asked) × Does n asked finished left faults reliable from rest held failures old new)

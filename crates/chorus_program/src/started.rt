@@ -1,16 +1,16 @@
 //! The program with a nucleus that is started for its words.
 
-ghost use Rattle.std.specs.Prelude.{◌≡◌, ◌⊎◌, map, IfOk};
+ghost use Rattle.std.specs.Prelude.{◌≡◌, map, IfOk};
 ghost use Rattle.chorus_words.specs.declared.words.Words.{Words};
 ghost use Rattle.chorus_words.specs.Words.{Ask, IsTurns, IsWithin};
 ghost use Rattle.chorus_nucleus.specs.Passes.{layout_of, IsPassOf};
 ghost use Rattle.chorus_perform.specs.Scripts.{IsOpening};
 ghost use Rattle.chorus_program.specs.declared.running.TheConstants.{PROGRAM_SITES};
-ghost use Rattle.chorus_program.specs.Running.{places_each, EndsWithCause};
-ghost use Rattle.chorus_program.specs.Started.{layout_asked, DoesOnOwn, IsLayoutFor};
+ghost use Rattle.chorus_program.specs.Running.{places_each, EndsWithCause, IsTurnedAway};
+ghost use Rattle.chorus_program.specs.Started.{layout_asked, AskNothing, DoesOnOwn, IsLayoutFor};
 
 use crate::running::{PROGRAM_SITES, program};
-use crate::starting::gave_up;
+use crate::starting::closed_nothing;
 use chorus_io::{Sink, Source};
 use chorus_nucleus::{Nucleus, Pass};
 use chorus_report::Finished;
@@ -32,10 +32,9 @@ pub fn start_program<'a, R: Threads + Wait + Sync, S: Source, K: Sink>(
     sink: &mut K,
 ) -> Finished
     ensures usage { result.status ≡ Status.Usage →
-        ((asked : Words) → ¬ (Ask (map (λ word. word.now) words.now) asked))
-        × (source.new ≡ source.old) × (sink.new ≡ sink.old) }
-    ensures listed { ((asked : Words) → ¬ (Ask (map (λ word. word.now) words.now) asked)) →
-        (result.status ≡ Status.Usage) ⊎ (result.status ≡ Status.Memory) }
+        AskNothing (map (λ word. word.now) words.now) }
+    ensures unlisted { AskNothing (map (λ word. word.now) words.now) →
+        IsTurnedAway result.status × (source.new ≡ source.old) × (sink.new ≡ sink.old) }
     ensures does { (asked : Words) → Ask (map (λ word. word.now) words.now) asked →
         DoesOnOwn asked result S.left S.faults S.reliable source.old source.new
         K.held K.faults sink.old sink.new }
@@ -44,7 +43,7 @@ pub fn start_program<'a, R: Threads + Wait + Sync, S: Source, K: Sink>(
 {
     match start_nucleus(alloc, rt, words) {
         Ok((nucleus, pass)) => program(alloc, rt, words, source, sink, nucleus, pass, &OpenGate),
-        Err(_) => gave_up(Status::Memory),
+        Err(_) => closed_nothing(Status::Memory),
     }
 }
 
