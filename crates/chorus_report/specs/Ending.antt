@@ -11,15 +11,16 @@ use Rattle.chorus_show.specs.declared.status.Status.TheVariants.{Done, Usage, Sc
 use Rattle.chorus_report.specs.declared.finished.Finished.{Finished}
 use Rattle.chorus_report.specs.declared.played.Played.{Played}
 use Rattle.chorus_report.specs.Reading.{IsGiven, IsRead, ReadsNoFurther}
-use Rattle.chorus_report.specs.Headline.{HasClock, merge_of, AreWithinUnless}
+use Rattle.chorus_report.specs.Headline.{HasClock, merge_of}
 use Rattle.chorus_report.specs.Output.{Writes, HandsOut}
 
 -- What was read of the source, by the status: never Usage; Scenario where the grammar refuses what was read, with that line and
--- reason; ReadFault where the count rose. But for these two and Memory all was read.
+-- reason; ReadFault where the count rose, and with no other status did it rise. But for these two and Memory all was read.
 pub record EndsReading {S : Type 0} (l : Layout) (status : Status) (left : S → Option (List ℕ)) (faults : S → ℕ) (reliable : S → Type 0) (old new : S) : Type 0 where
   pub usage : status ≢ Usage
   pub scenario : (line reason : ℕ) → status ≡ Scenario line reason → IsGiven l (left old) (Err (line, reason))
   pub read_fault : status ≡ ReadFault → Rose (faults old) (faults new)
+  pub steady : status ≢ ReadFault → faults new ≡ faults old
   pub no_fault : reliable old → faults new ≡ faults old
   pub read : status ≢ ReadFault → status ≢ Memory → IsRead (left old) (left new)
   pub reads_at_most : ReadsNoFurther (left old) (left new)
