@@ -65,7 +65,7 @@ module _ {S K : Type 0} (f : Finished) (is : f ≡ record { status = Memory; clo
   read-none = ([], (Consumes-nil (left from), omega arith))
 
   reads-none : (l : Layout) → EndsReading l f.status left faults reliable from from
-  reads-none l = reads-as l l Memory f left faults reliable from from refl is (ends-memory l left faults reliable from from (λ h. refl) read-none)
+  reads-none l = reads-as l l Memory f left faults reliable from from refl is (ends-memory l left faults reliable from from refl read-none)
 
   closes-none : f.closed ≡ None
   closes-none = ap (λ (x : Finished). x.closed) is

@@ -65,7 +65,7 @@ fn depart<R: Wait + Abort>(rt: &R, nucleus: &Nucleus, pass: &mut Pass)
     ensures { IsPassOf nucleus.now pass.new }
 {
     let moved = nucleus.move_port(pass, port(rt, "1.p.1"), actor(rt, "2.a.1"));
-    assert!(rt; moved == Ok(Reply::Departed(1)));
+    assert!(rt; moved == Ok(Reply::Departed { hop: 1 }));
     assert!(rt; matches!(pump(rt, nucleus, pass, 1), Pump::Idle { .. }));
 }
 

@@ -108,10 +108,10 @@ fn call<R: Wait + Abort>(rt: &R, nucleus: &Nucleus, pass: &mut Pass)
     assert!(rt; pass.posts() < u32::MAX);
     assert!(rt; nucleus.call(pass, there, back, b"q") == Ok(Reply::Posted(id(2, 2))));
     assert!(rt; pass.posts() < u32::MAX);
-    assert!(rt; nucleus.call(pass, there, back, b"q") == Ok(Reply::Outstanding(1)));
+    assert!(rt; nucleus.call(pass, there, back, b"q") == Ok(Reply::Outstanding { number: 1 }));
     assert!(rt; pass.posts() < u32::MAX);
     assert!(rt; nucleus.retry(pass) == Ok(Reply::Posted(id(2, 3))));
-    assert!(rt; nucleus.cancel(pass) == Ok(Reply::Cancelled(1)));
+    assert!(rt; nucleus.cancel(pass) == Ok(Reply::Cancelled { number: 1 }));
     assert!(rt; pass.posts() < u32::MAX);
     assert!(rt; nucleus.retry(pass) == Ok(Reply::NoCall));
     assert_idle(rt, nucleus, pass, 2);
@@ -170,8 +170,24 @@ fn send_and_take(rt: &impl Abort, nucleus: &Nucleus, pass: &mut Pass)
 {
     assert!(rt; pass.posts() < u32::MAX);
     let sent = nucleus.send(pass, Dest::Port(port(rt, "1.p.1")), b"a");
-    assert!(rt; sent == Ok(Reply::Posted(id(0, 1))));
+    let msg = id(0, 1);
+    assert!(rt; sent == Ok(Reply::Accepted { msg, pos: 0 }));
     assert_taken(rt, nucleus, pass, 0);
+}
+
+/// Asserts that the nucleus is not closed, since the one pass that was entered is out; nucleus and pass come back.
+fn refused<R: Wait + Abort>(rt: &R, nucleus: Nucleus, pass: Pass) -> (Nucleus, Pass)
+    requires { IsPassOf nucleus pass }
+    ensures { IsPassOf result.0 result.1 }
+{
+    assert!(rt; pass.keeper());
+    match nucleus.close(rt, pass) {
+        Err(CloseFault::PassesOut(nucleus, pass, out)) => {
+            assert!(rt; out.made == 2 && out.ended == 0);
+            (nucleus, pass)
+        }
+        _closed => panic!(rt; "closed with a pass out"),
+    }
 }
 
 #[test]
@@ -180,11 +196,7 @@ fn close_asks_for_all_passes(rt: HostRuntime) {
     let made = nucleus.make_port(&mut pass, actor(&rt, "1.a.1"), 2);
     assert!(rt; made == Ok(Reply::Made(port(&rt, "1.p.1"))));
     let second = enter(&rt, &nucleus, &mut pass, "1.a.1");
-    assert!(rt; pass.keeper());
-    let Err(CloseFault::PassesOut(nucleus, mut pass, out)) = nucleus.close(&rt, pass) else {
-        panic!(rt; "closed with a pass out")
-    };
-    assert!(rt; out.made == 2 && out.ended == 0);
+    let (nucleus, mut pass) = refused(&rt, nucleus, pass);
     send_and_take(&rt, &nucleus, &mut pass);
     retire(&nucleus, second, &mut pass);
     close(&rt, nucleus, pass);

@@ -104,12 +104,12 @@ fn two_at_once<R: Threads + Sync + Wait + Abort>(
         rt,
         move || -> Pass
             requires rt { IsSync R.row }
-            requires { IsPassOf nucleus.now first }
+            requires pass { IsPassOf nucleus.now first }
             ensures { IsPassOf nucleus.entry.now result }
         { work(rt, nucleus, first, first_plan) },
         move || -> Pass
             requires rt { IsSync R.row }
-            requires { IsPassOf nucleus.now second }
+            requires pass { IsPassOf nucleus.now second }
             ensures { IsPassOf nucleus.entry.now result }
         { work(rt, nucleus, second, second_plan) },
     )
@@ -153,12 +153,12 @@ fn four_at_once<R: Threads + Sync + Wait + Abort>(rt: &R, alloc: Global, turns: 
         rt,
         move || -> (Pass, Pass)
             requires rt { IsSync R.row }
-            requires { IsPassOf nucleus_there.now keeper × IsPassOf nucleus_there.now second }
+            requires passes { IsPassOf nucleus_there.now keeper × IsPassOf nucleus_there.now second }
             ensures { IsPassOf nucleus_there.entry.now result.0 × IsPassOf nucleus_there.entry.now result.1 }
         { two_at_once(rt, nucleus_there, (keeper, plan), (second, back)) },
         move || -> (Pass, Pass)
             requires rt { IsSync R.row }
-            requires { IsPassOf nucleus_there.now third × IsPassOf nucleus_there.now fourth }
+            requires passes { IsPassOf nucleus_there.now third × IsPassOf nucleus_there.now fourth }
             ensures { IsPassOf nucleus_there.entry.now result.0 × IsPassOf nucleus_there.entry.now result.1 }
         { two_at_once(rt, nucleus_there, (third, plan), (fourth, back)) },
     );
