@@ -18,6 +18,7 @@ use Rattle.chorus_nucleus.specs.declared.nucleus.Nucleus.{Nucleus}
 use Rattle.chorus_nucleus.specs.declared.pass.Pass.{Pass}
 use Rattle.chorus_nucleus.specs.Passes.{known}
 use Rattle.chorus_nucleus.specs.Closing.{IsClosed}
+use Rattle.chorus_perform.specs.Scripts.{IsSetUpFirst}
 use Rattle.chorus_perform.specs.declared.stopped.Stopped.{Stopped}
 use Rattle.chorus_perform.specs.declared.stopped.Stopped.TheVariants as stops
 use Rattle.chorus_report.specs.declared.played.Played.{Played}
@@ -28,13 +29,19 @@ use Rattle.chorus_report.specs.Ending.{EndsFor}
 abbrev pub HasOwn : ℕ → List Entry → ℕ → List (Placed PlaceNote) → Type 0
 HasOwn p journal seat mine = by seat journal ≡ entries_of (at_place p mine)
 
+abbrev pub HasOwnIn : Closed → ℕ → List (Placed PlaceNote) → Type 0
+HasOwnIn closed seat mine =
+    (p : ℕ) (journal : List Entry) → slice_get (closed_journals closed) p ≡ Some journal → HasOwn (p + 1) journal seat mine
+
 -- It is this nucleus that was closed, by one of its passes. The entries of the seat of that pass, and of each pass that was retired into
--- it, are in each journal just those that the pass made at that place.
+-- it, are in each journal just those that the pass made at that place. What the pass itself was asked, the setup, stands before all that
+-- the others made.
 pub record IsOfNucleus (n : Nucleus) (closed : Closed) : Type 0 where
   pub last : Pass
   pub closes : IsClosed n last closed
-  pub own : (p : ℕ) (journal : List Entry) → slice_get (closed_journals closed) p ≡ Some journal → HasOwn (p + 1) journal (known last).seat (known last).mine
-  pub noted : (p : ℕ) (journal : List Entry) → slice_get (closed_journals closed) p ≡ Some journal → All (λ (m : Note PlaceNote). HasOwn (p + 1) journal m.seat m.mine) (known last).notes
+  pub own : HasOwnIn closed (known last).seat (known last).mine
+  pub noted : All (λ (m : Note PlaceNote). HasOwnIn closed m.seat m.mine) (known last).notes
+  pub first : IsSetUpFirst (known last)
 
 -- where a clock was worn it is that of the pass that closed the nucleus
 abbrev pub HasWornOf : Status → Closed → Type 0
