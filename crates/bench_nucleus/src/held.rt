@@ -14,6 +14,7 @@ use std::alloc::Global;
 use std::sync::Wait;
 
 /// A nucleus of two sites and two passes: the keeper, in an actor of site 1, and one in an actor of site 2.
+#[derive(Drop)]
 pub(crate) struct Held<'a, R> {
     pub(crate) rt: &'a R,
     pub(crate) nucleus: &'a Nucleus,

@@ -36,6 +36,7 @@ impl fmt::Display for Callers {
 }
 
 /// The keeper, in an actor of site 1, and a pass in one of each of the sites 2 to 4.
+#[derive(Drop)]
 struct Four {
     one: Pass,
     two: Pass,
