@@ -179,10 +179,56 @@ fn plan_for(
     }
 }
 
-/// Four callers at once, two of each of two sites, of so many places each; what they did is legal.
-fn four_at_once<R: Threads + Sync + Wait + Abort>(rt: &R, alloc: Global, turns: u16)
-    requires { IsSync R.row }
+/// Four callers at once, two and two.
+fn all_at_once<R: Threads + Sync + Wait + Abort>(
+    rt: &R,
+    alloc: Global,
+    nucleus: &Nucleus,
+    one: (Pass, Pass),
+    two: (Pass, Pass),
+    plans: &[Plan; 4],
+) -> ((Pass, Pass), (Pass, Pass))
+    requires one { IsPassOf nucleus.now one.0 × IsPassOf nucleus.now one.1 }
+    requires two { IsPassOf nucleus.now two.0 × IsPassOf nucleus.now two.1 }
+    ensures one { IsPassOf nucleus.now result.0.0 × IsPassOf nucleus.now result.0.1 }
+    ensures two { IsPassOf nucleus.now result.1.0 × IsPassOf nucleus.now result.1.1 }
 {
+    let (keeper, second) = one;
+    let (third, fourth) = two;
+    let [first_plan, second_plan, third_plan, fourth_plan] = plans;
+    join(
+        rt,
+        move || -> (Pass, Pass)
+            requires rt { IsSync R.row }
+            requires passes { IsPassOf nucleus.now keeper × IsPassOf nucleus.now second }
+            ensures { IsPassOf nucleus.entry.now result.0 × IsPassOf nucleus.entry.now result.1 }
+        {
+            two_at_once(
+                rt,
+                alloc,
+                nucleus,
+                (keeper, first_plan),
+                (second, second_plan),
+            )
+        },
+        move || -> (Pass, Pass)
+            requires rt { IsSync R.row }
+            requires passes { IsPassOf nucleus.now third × IsPassOf nucleus.now fourth }
+            ensures { IsPassOf nucleus.entry.now result.0 × IsPassOf nucleus.entry.now result.1 }
+        {
+            two_at_once(
+                rt,
+                alloc,
+                nucleus,
+                (third, third_plan),
+                (fourth, fourth_plan),
+            )
+        },
+    )
+}
+
+/// Four callers at once, two of each of two sites, of so many places each; what they did is legal.
+fn four_at_once<R: Threads + Sync + Wait + Abort>(rt: &R, alloc: Global, turns: u16) {
     let (nucleus, mut keeper) = start(rt, alloc, 2, turns);
     let mut second = enter(rt, &nucleus, &mut keeper, "2.a.1");
     let third = enter(rt, &nucleus, &mut keeper, "1.a.2");
@@ -197,36 +243,13 @@ fn four_at_once<R: Threads + Sync + Wait + Abort>(rt: &R, alloc: Global, turns: 
         plan_for(rt, layout, "1.a.2", near, "2.a.2"),
         plan_for(rt, layout, "2.a.2", away, "1.a.2"),
     ];
-    let [first_plan, second_plan, third_plan, fourth_plan] = &plans;
-    let nucleus_there = &nucleus;
-    let ((mut keeper, second), (third, fourth)) = join(
+    let ((mut keeper, second), (third, fourth)) = all_at_once(
         rt,
-        move || -> (Pass, Pass)
-            requires rt { IsSync R.row }
-            requires passes { IsPassOf nucleus_there.now keeper × IsPassOf nucleus_there.now second }
-            ensures { IsPassOf nucleus_there.entry.now result.0 × IsPassOf nucleus_there.entry.now result.1 }
-        {
-            two_at_once(
-                rt,
-                alloc,
-                nucleus_there,
-                (keeper, first_plan),
-                (second, second_plan),
-            )
-        },
-        move || -> (Pass, Pass)
-            requires rt { IsSync R.row }
-            requires passes { IsPassOf nucleus_there.now third × IsPassOf nucleus_there.now fourth }
-            ensures { IsPassOf nucleus_there.entry.now result.0 × IsPassOf nucleus_there.entry.now result.1 }
-        {
-            two_at_once(
-                rt,
-                alloc,
-                nucleus_there,
-                (third, third_plan),
-                (fourth, fourth_plan),
-            )
-        },
+        alloc,
+        &nucleus,
+        (keeper, second),
+        (third, fourth),
+        &plans,
     );
     retire(&nucleus, second, &mut keeper);
     retire(&nucleus, third, &mut keeper);
