@@ -1,0 +1,31 @@
+use Rattle.std.proofs.Common.{◌≡◌, ◌+◌, ◌++◌, List, [], ◌∷◌, length, take, arith, refl, ap, subst, sym, ◌∙◌}
+use Rattle.std.proofs.lemmas.List.Elements.{All-get_or}
+use Rattle.chorus_ui.specs.declared.ui.Ui.{Ui}
+use Rattle.chorus_turn.specs.declared.knowledge.Knowledge.{Knowledge}
+use Rattle.law_closing.specs.Places.{PlaceNote}
+use Rattle.chorus_nucleus.specs.Passes.{known}
+use Rattle.chorus_crew.specs.declared.job.Job.{Job}
+use Rattle.chorus_crew.specs.Jobs.{AreEntered}
+use Rattle.chorus_crew.proofs.Entered.{drawn-none, drawn-more, entered-next}
+use Rattle.chorus_crew.proofs.entering.enter_all.Goals as goal
+
+pub loop-index-init : goal.loop-index-init
+loop-index-init c = record {
+  drawn = drawn-none c.args.nucleus.now c.args.pass.now c.requires.pass;
+  entered = subst (λ (l : List Job). AreEntered c.args.nucleus.now 0 (known c.args.pass.now).made [] l) (sym c.requires.room.0) tt;
+  room = c.requires.room.1;
+}
+
+pub loop-index-preserved : goal.loop-index-preserved
+loop-index-preserved c =
+    let i = c.loop-index.invariant in
+    let n = c.args.nucleus.now in
+    let e = c.in-Ok-enter_one.ensures.ok in
+    let items : c.push_reserved.new.self.items ≡ c.loop-index.jobs.items ++ c.in-Ok-enter_one.job ∷ [] = c.push_reserved.ensures.items in
+    record {
+      drawn = drawn-more n c.loop-index.index c.args.pass.now c.loop-index.pass c.enter_one.new.pass i.drawn c.enter_one.ensures.kept e.1;
+      entered = subst (λ (l : List Job). AreEntered n 0 (known c.args.pass.now).made (take (c.loop-index.index + 1) c.args.ports.now) l) (sym items)
+          (entered-next n (known c.args.pass.now).made c.loop-index.index (known c.loop-index.pass).made c.args.ports.now c.index-ports-index.result c.index-ports-index.result c.loop-index.jobs.items c.in-Ok-enter_one.job
+            c.loop-index-test.true c.index-ports-index.is (ap (λ (v : Knowledge PlaceNote). v.made) i.drawn.knows) i.entered e.0);
+      room = let r = i.room in let m = c.push_reserved.ensures.capacity in omega (arith, r, m);
+    }
