@@ -1,6 +1,6 @@
 -- Passes end in the caller's, one after another.
 -- n is the nucleus, a, b and c are the caller's pass at three moments, p is a pass that ends.
-use Rattle.std.proofs.Common.{◌≡◌, ℕ, ◌+◌, Bool, true, false, cond, Option, Some, None, Result, Ok, Err, List, [], ◌∷◌, ◌++◌, map, length, reverse, refl, sym, ap, ◌∙◌, subst, arith, append_assoc, append-nil, length-append}
+use Rattle.std.proofs.Common.{◌≡◌, ℕ, ◌+◌, Bool, true, false, ◌&&◌, cond, if◌then◌else◌, Option, Some, None, Result, Ok, Err, List, [], ◌∷◌, ◌++◌, map, length, reverse, refl, sym, ap, ◌∙◌, subst, arith, append_assoc, append-nil, length-append}
 use Rattle.std.specs.List.{All}
 use Rattle.std.specs.Option.{option_or}
 use Rattle.std.proofs.lemmas.List.{map-append, reverse-append}
@@ -64,11 +64,18 @@ takes-in-more n a b c p ended t plain r = record {
 slot-done : (a b : Done) → Some a ≡ Some b → a ≡ b
 slot-done a b e = cc
 
+kept-somes : List (Option Done) → List Done
+kept-somes [] = []
+kept-somes (Some d ∷ slots) = d ∷ kept-somes slots
+kept-somes (None ∷ slots) = kept-somes slots
+
+kept-same : (xs : List Done) → kept-somes (somes xs) ≡ xs
+unfolding kept-somes
+kept-same [] = refl
+kept-same (x ∷ xs) = ap (λ zs. x ∷ zs) (kept-same xs)
+
 somes-same : (xs ys : List Done) → somes xs ≡ somes ys → xs ≡ ys
-somes-same [] [] e = refl
-somes-same [] (y ∷ ys) e = absurd (cc)
-somes-same (x ∷ xs) [] e = absurd (cc)
-somes-same (x ∷ xs) (y ∷ ys) e = let h : x ≡ y = cc in let t : somes xs ≡ somes ys = cc in let more = somes-same xs ys t in (λ i. h i ∷ more i)
+somes-same xs ys e = sym (kept-same xs) ∙ ap kept-somes e ∙ kept-same ys
 
 worn-append : (o : Option ℕ) (xs : List Done) (d : Done) → worn_of o (xs ++ d ∷ []) ≡ option_or (worn_of o xs) (worn_by d.pass)
 worn-append o [] d = refl
@@ -81,12 +88,12 @@ handled-append (x ∷ xs) d = ap (λ zs. handled_with x.port x.result ++ zs) (ha
 done-append : (xs : List Done) (d : Done) → is_done (xs ++ d ∷ []) ≡ (cond (is_done xs) (is_ok d.result) false)
 done-append [] d = by (is_ok d.result)
   where
-    by : (b : Bool) → cond b true false ≡ b
+    by : (b : Bool) → (b && true) ≡ b
     by true = refl
     by false = refl
 done-append (x ∷ xs) d = by (is_ok x.result) (done-append xs d)
   where
-    by : (b : Bool) → is_done (xs ++ d ∷ []) ≡ (cond (is_done xs) (is_ok d.result) false) → (cond b (is_done (xs ++ d ∷ [])) false) ≡ (cond (cond b (is_done xs) false) (is_ok d.result) false)
+    by : (b : Bool) → is_done (xs ++ d ∷ []) ≡ (cond (is_done xs) (is_ok d.result) false) → (b && is_done (xs ++ d ∷ [])) ≡ (cond (b && is_done xs) (is_ok d.result) false)
     by true e = e
     by false e = refl
 
@@ -182,6 +189,16 @@ collected-all n a b all_slots slots handled all s e dones is =
 
 pub slot-plain : (n : Nucleus) (s : Option Done) (d : Done) → IsFullSlot n s → s ≡ Some d → IsPlain n d.pass
 slot-plain n s d f e = subst (λ (x : Done). IsPlain n x.pass) (slot-done f.0 d (sym f.1 ∙ e)) f.2
+
+some-none : (d : Done) → Some d ≡ None → ⊥
+some-none d e = absurd (cc)
+
+pub not-full : (n : Nucleus) (s : Option Done) → IsFullSlot n s → s ≡ None → ⊥
+not-full n s f e = some-none f.0 (sym f.1 ∙ e)
+
+pub no-slots : (slots : List (Option Done)) → length slots ≡ 0 → slots ≡ []
+no-slots [] e = refl
+no-slots (s ∷ slots) e = absurd (omega (arith, e))
 
 pub all-reverse : {A : Type 0} (P : A → Type 0) (xs : List A) → All P xs → All P (reverse xs)
 all-reverse P [] a = All-nil P

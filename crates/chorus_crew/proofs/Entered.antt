@@ -1,6 +1,6 @@
 -- Jobs are made, one after another, and retired again where there is no memory for the next.
 -- n is the nucleus, a, b and c are the caller's pass at three moments.
-use Rattle.std.proofs.Common.{◌≡◌, ℕ, zero, suc, ◌+◌, ◌≤◌, ◌<◌, true, take, get_or, List, [], ◌∷◌, map, length, reverse, refl, sym, ap, ◌∙◌, subst, arith}
+use Rattle.std.proofs.Common.{◌≡◌, ℕ, zero, suc, ◌+◌, ◌≤◌, ◌<◌, true, take, get_or, List, [], ◌∷◌, ◌++◌, map, length, reverse, refl, sym, ap, ◌∙◌, subst, arith}
 use Rattle.std.specs.List.{All}
 use Rattle.std.proofs.lemmas.List.{length-reverse, length-map}
 use Rattle.std.proofs.lemmas.List.Elements.{All-weaker}
@@ -57,7 +57,7 @@ take-next [] k d h = absurd (omega arith)
 take-next (x ∷ xs) zero d h = refl
 take-next (x ∷ xs) (suc k) d h = let e : suc k + 1 ≡ suc (k + 1) = omega arith in rw e (ap (λ zs. x ∷ zs) (take-next xs k d (omega arith)))
 
-take-length : {A : Type 0} (xs : List A) (k : ℕ) → k ≤ length xs → length (take k xs) ≡ k
+pub take-length : {A : Type 0} (xs : List A) (k : ℕ) → k ≤ length xs → length (take k xs) ≡ k
 take-length xs zero h = refl
 take-length [] (suc k) h = absurd (omega (arith, h))
 take-length (x ∷ xs) (suc k) h = ap suc (take-length xs k (omega (arith, h)))

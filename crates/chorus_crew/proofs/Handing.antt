@@ -1,7 +1,8 @@
 -- What a crew hands on: the passes of the jobs, and what they gave.
 -- n is the nucleus, l its layout, a, b and c are the caller's pass before the call, with all passes drawn, and at the end.
-use Rattle.std.proofs.Common.{◌≡◌, ℕ, zero, suc, ◌+◌, ◌≤◌, ◌<◌, Bool, true, false, cond, Option, Some, None, Result, Ok, Err, List, [], ◌∷◌, ◌++◌, map, length, reverse, refl, sym, ap, ◌∙◌, subst, arith, append-nil, inl, inr, slice_get}
+use Rattle.std.proofs.Common.{◌≡◌, ℕ, zero, suc, ◌+◌, ◌≤◌, ◌<◌, Bool, true, false, cond, Option, Some, None, Result, Ok, Err, IfOk, List, [], ◌∷◌, ◌++◌, map, length, reverse, refl, sym, ap, ◌∙◌, subst, arith, append-nil, slice_get}
 use Rattle.std.specs.List.{All}
+use Rattle.std.specs.Global.{Vec}
 use Rattle.std.proofs.lemmas.Bool.{and_parts}
 use Rattle.std.proofs.lemmas.List.Elements.{All-nil, All-cons, All-head, All-tail, All-weaker}
 use Rattle.chorus_ui.specs.declared.ui.Ui.{Ui}
@@ -11,6 +12,7 @@ use Rattle.chorus_entry.specs.declared.act.Act.{Act}
 use Rattle.chorus_entry.specs.declared.message.Message.{Message}
 use Rattle.chorus_turn.specs.declared.knowledge.Knowledge.{Knowledge}
 use Rattle.chorus_turn.specs.declared.knowledge.Note.{Note}
+use Rattle.chorus_turn.specs.Lists.{somes}
 use Rattle.chorus_turn.specs.Knowing.{note_of}
 use Rattle.law_closing.specs.Places.{PlaceNote}
 use Rattle.chorus_nucleus.specs.declared.fault.CallFault.{CallFault}
@@ -19,6 +21,7 @@ use Rattle.chorus_nucleus.specs.declared.pass.Pass.{Pass}
 use Rattle.chorus_nucleus.specs.Passes.{layout_of, known, caller_of, worn_by, IsPassOf}
 use Rattle.chorus_take.specs.declared.message.TakenMessage.{TakenMessage}
 use Rattle.chorus_take.specs.Taking.{acts_made, Appends, IsMiss, SeesMore, KeepsPass}
+use Rattle.chorus_crew.specs.declared.fault.CrewFault.{CrewFault}
 use Rattle.chorus_crew.specs.declared.handler.Handled.{Handled}
 use Rattle.chorus_crew.specs.declared.job.Done.{Done}
 use Rattle.chorus_crew.specs.declared.job.Job.{Job}
@@ -26,7 +29,7 @@ use Rattle.chorus_crew.specs.declared.job.Tally.{Tally}
 use Rattle.chorus_crew.specs.Handling.{took_acts, Drains, Handles}
 use Rattle.chorus_crew.specs.Jobs.{IsPlain, IsWork, IsJobOf, IsDoneOf, AreDoneOf, IsNumbered, IsEntered, AreEntered, HasDrawn, Worked}
 use Rattle.chorus_crew.specs.Retiring.{TakesIn, TookAlone, IsRetired, IsFullSlot, passes_of, handled_of, handled_with, is_done, is_ok, worn_of}
-use Rattle.chorus_crew.specs.Crews.{IsHandled, AreHandled, HasHandled, ArePairs}
+use Rattle.chorus_crew.specs.Crews.{IsHandled, AreHandled, HasHandled}
 use Rattle.chorus_crew.proofs.Draining.{given-later}
 
 abbrev notes_of : List Pass → List (Note PlaceNote)
@@ -74,14 +77,20 @@ done-plain : (value : Ui → ℕ → Message → ℕ) (n : Nucleus) (j : Job) (d
 done-plain value n j d p is = record { of_nucleus = is.work.keeps.pass; keeper = is.work.keeps.standing.2 ∙ p.keeper; notes = is.work.keeps.standing.1 ∙ p.notes }
 
 pub done-slots : (value : Ui → ℕ → Message → ℕ) (n : Nucleus) (index seat : ℕ) (pairs : List (Ui × Ui)) (jobs : List Job) (dones : List Done) → AreEntered n index seat pairs jobs → AreDoneOf value n jobs dones
-    → All (IsFullSlot n) (Rattle.chorus_turn.specs.Lists.somes dones)
+    → All (IsFullSlot n) (somes dones)
 done-slots value n index seat [] [] [] e d = All-nil (IsFullSlot n)
 done-slots value n index seat [] [] (x ∷ dones) e d = absurd d
 done-slots value n index seat [] (j ∷ jobs) dones e d = absurd e
 done-slots value n index seat (p ∷ pairs) [] dones e d = absurd e
 done-slots value n index seat (p ∷ pairs) (j ∷ jobs) [] e d = absurd d
 done-slots value n index seat (p ∷ pairs) (j ∷ jobs) (x ∷ dones) e d =
-    All-cons (IsFullSlot n) (Some x) (Rattle.chorus_turn.specs.Lists.somes dones) (x, refl, done-plain value n j x e.0.plain d.0) (done-slots value n (index + 1) (seat + 1) pairs jobs dones e.1 d.1)
+    All-cons (IsFullSlot n) (Some x) (somes dones) (x, refl, done-plain value n j x e.0.plain d.0) (done-slots value n (index + 1) (seat + 1) pairs jobs dones e.1 d.1)
+
+pub done-count : (value : Ui → ℕ → Message → ℕ) (n : Nucleus) (jobs : List Job) (dones : List Done) → AreDoneOf value n jobs dones → length (somes dones) ≡ length jobs
+done-count value n [] [] d = refl
+done-count value n [] (x ∷ dones) d = absurd d
+done-count value n (j ∷ jobs) [] d = absurd d
+done-count value n (j ∷ jobs) (x ∷ dones) d = ap suc (done-count value n jobs dones d.1)
 
 made-acts : (acts : List Act) (v u : Knowledge PlaceNote) → v.mine ≡ [] → Appends acts v u → acts_made u.mine ≡ acts
 made-acts acts v u none a = ap acts_made (a.grown ∙ ap (λ zs. zs ++ a.news) none) ∙ a.acts_are
@@ -181,3 +190,23 @@ module _ (value : Ui → ℕ → Message → ℕ) (n : Nucleus) (w : Knowledge P
       let rest = all-handled (index + 1) (seat + 1) pairs jobs dones e.1 d.1 both.1 (All-tail (λ (z : Pass). SeesMore (known z) w) x.pass (passes_of dones) more) in
       subst (AreHandled value (layout_of n) w seat (p ∷ pairs) (notes_of (passes_of (x ∷ dones)))) (sym (ap (λ zs. zs ++ handled_of dones) one.1))
       (d.0.work.keeps.standing.0 ∙ e.0.seat_is, subst (λ q. IsHandled value (layout_of n) w q (known x.pass).mine one.0) e.0.of_port one.2, rest)
+
+-- All that was drawn ended in the caller's pass.
+
+pub all-retired : (value : Ui → ℕ → Message → ℕ) (n : Nucleus) (pairs : List (Ui × Ui)) (jobs : List Job) (dones : List Done) (a b c : Pass) → (known a).keeper ≡ true → HasDrawn n (length pairs) a b
+    → AreEntered n 0 (known a).made pairs jobs → AreDoneOf value n jobs dones → TakesIn n b c (passes_of dones) → IsRetired n a c
+all-retired value n pairs jobs dones a b c keeper drawn e d t =
+    let k = done-alone value n 0 (known a).made pairs jobs dones e d in retired n (length pairs) a b c (passes_of dones) keeper drawn t k.1 k.0
+
+pub has-handled : (value : Ui → ℕ → Message → ℕ) (n : Nucleus) (pairs : List (Ui × Ui)) (jobs : List Job) (dones : List Done) (a b c : Pass) (handled : List Handled) → HasDrawn n (length pairs) a b
+    → AreEntered n 0 (known a).made pairs jobs → AreDoneOf value n jobs dones → TakesIn n b c (passes_of dones) → is_done dones ≡ true → handled ≡ handled_of dones → HasHandled value n pairs handled a c
+has-handled value n pairs jobs dones a b c handled drawn e d t all is = record {
+  news = notes_of (passes_of dones);
+  notes = t.notes ∙ ap (λ zs. zs ++ notes_of (passes_of dones)) (ap (λ (v : Knowledge PlaceNote). v.notes) drawn.knows);
+  each = subst (AreHandled value (layout_of n) (known c) (known a).made pairs (notes_of (passes_of dones))) (sym is) (all-handled value n (known c) 0 (known a).made pairs jobs dones e d all t.seen);
+}
+
+pub ok-handled : (value : Ui → ℕ → Message → ℕ) (n : Nucleus) (pairs : List (Ui × Ui)) (a c : Pass) (handled : Vec Handled) (all : Bool) (r : Result (Vec Handled) CrewFault) → IfOk r (λ v. (v ≡ handled) × (all ≡ true))
+    → (all ≡ true → HasHandled value n pairs handled.items a c) → IfOk r (λ v. HasHandled value n pairs v.items a c)
+ok-handled value n pairs a c handled all (Ok v) h f = subst (λ (w : Vec Handled). HasHandled value n pairs w.items a c) (sym h.0) (f h.1)
+ok-handled value n pairs a c handled all (Err e) h f = tt

@@ -5,4 +5,4 @@ pub mod Collecting
 pub mod Ended
 pub mod Handing
 pub mod Entered
-pub mod Pairs
+pub mod Asked

@@ -22,10 +22,10 @@ use Rattle.chorus_crew.specs.Handling.{took_acts, AreGiven, Counts}
 use Rattle.chorus_crew.specs.Jobs.{AreTheActors}
 
 -- the caller's pass draws numbers, and was not worn
-pub record IsCaller (n : Nucleus) (pass : Pass) : Type 0 where
-  pub pass : IsPassOf n pass
-  pub keeper : (known pass).keeper ≡ true
-  pub unworn : worn_by pass ≡ None
+pub record IsCaller (n : Nucleus) (p : Pass) : Type 0 where
+  pub pass : IsPassOf n p
+  pub keeper : (known p).keeper ≡ true
+  pub unworn : worn_by p ≡ None
 
 -- at most 64 pairs of a port and an actor of the layout
 pub record ArePairs (l : Layout) (pairs : List (Ui × Ui)) : Type 0 where

@@ -20,6 +20,28 @@ use std::alloc::{AllocError, Global};
 use std::sync::Wait;
 use std::thread::Threads;
 
+/// What the crew answers: with the clock that the caller's pass has as worn, and whether each job was done to its end.
+fn answer(
+    worn: Option<u64>,
+    all: bool,
+    handled: Vec<Handled>,
+) -> Result<Vec<Handled>, CrewFault>
+    ensures ok { IfOk result (λ v. (v ≡ handled) × (all ≡ true)) }
+    ensures worn { (clock : ℕ) → IsErrOf result (CrewFault.Worn clock) → worn ≡ Some clock }
+    ensures no_seat { (made : ℕ) → IsErrOf result (CrewFault.NoSeat made) → ⊥ }
+{
+    match worn {
+        Some(clock) => Err(CrewFault::Worn { clock }),
+        None => {
+            if all {
+                Ok(handled)
+            } else {
+                Err(CrewFault::Memory(AllocError))
+            }
+        }
+    }
+}
+
 /// Enters a pass for each pair, does the jobs, and retires all passes. There are numbers for them all.
 fn crew_with<H: Handler, R: Threads + Wait + Sync>(
     rt: &R,
@@ -49,13 +71,7 @@ fn crew_with<H: Handler, R: Threads + Wait + Sync>(
     }
     let mut slots = do_jobs(rt, nucleus, handler, tools, workers);
     let all = retire_done(nucleus, pass, &mut slots, &mut handled);
-    if let Some(clock) = pass.worn() {
-        return Err(CrewFault::Worn { clock });
-    }
-    if !all {
-        return Err(CrewFault::Memory(AllocError));
-    }
-    Ok(handled)
+    answer(pass.worn(), all, handled)
 }
 
 /// Handles all messages that wait in the ports, with so many workers in threads. Each pair has a port and the actor in which a new pass
@@ -66,7 +82,7 @@ fn crew_with<H: Handler, R: Threads + Wait + Sync>(
 /// one Empty or NotHere, stand in the pass's new note. At every answer each pass that the call drew is retired into the caller's. `NoSeat`
 /// comes exactly where fewer numbers are left than there are pairs; `Worn` tells the pass's first worn clock. Where no memory was found in the
 /// midst, what was taken till then is gone from the ports, and its totals are lost.
-#[tactic(auto, using(crate::proofs::Pairs::pairs_are))]
+#[tactic(auto, using(crate::proofs::Asked::pairs_are))]
 pub fn crew<H: Handler, R: Threads + Wait + Sync>(
     rt: &R,
     alloc: Global,

@@ -1,5 +1,6 @@
 //! Which pairs of a port and an actor a crew may be given.
 ghost use Rattle.std.specs.Prelude.{◌≡◌};
+ghost use Rattle.std.specs.List.{list_all};
 ghost use Rattle.chorus_crew.specs.Pairs.{is_pair, is_free, are_distinct, are_pairs};
 
 use chorus_ui::{Layout, Ui};
@@ -37,6 +38,13 @@ fn are_distinct(pairs: &[(Ui, Ui)]) -> bool
     }
 }
 
+/// Whether each has the name of a port and that of an actor of the layout.
+fn are_named(layout: Layout, pairs: &[(Ui, Ui)]) -> bool
+    ensures { result ≡ list_all (is_pair layout) pairs.now }
+{
+    pairs.iter().all(|pair| is_pair(layout, pair.0, pair.1))
+}
+
 /// Whether a crew may be given these pairs: there are at most 64 of them, each of a port and an actor of the layout, and the ports are
 /// distinct. Takes no memory.
 pub fn are_pairs(layout: Layout, pairs: &[(Ui, Ui)]) -> bool
@@ -45,6 +53,5 @@ pub fn are_pairs(layout: Layout, pairs: &[(Ui, Ui)]) -> bool
     if pairs.len() > PAIRS_LIMIT {
         return false;
     }
-    let named = pairs.iter().all(|pair| is_pair(layout, pair.0, pair.1));
-    named && are_distinct(pairs)
+    are_named(layout, pairs) && are_distinct(pairs)
 }

@@ -1,7 +1,8 @@
 //! What a worker does with a job.
-ghost use Rattle.std.specs.Prelude.{◌≡◌, ◌≢◌, ◌+◌, true};
+ghost use Rattle.std.specs.Prelude.{◌≡◌, ◌≢◌, ◌+◌, true, false, IfErr};
 ghost use Rattle.chorus_ui.specs.NameKind.{is_port};
 ghost use Rattle.chorus_nucleus.specs.Passes.{IsPassOf};
+ghost use Rattle.chorus_take.specs.Taking.{is_busy};
 ghost use Rattle.chorus_crew.specs.Jobs.{IsWork, IsJobOf, IsDoneOf};
 
 use crate::handler::Handler;
@@ -43,7 +44,8 @@ fn drain<H: Handler, R: Wait>(
 ) -> Result<Tally, CallFault>
     requires pass { IsPassOf nucleus.now pass.old }
     requires port { is_port port ≡ true }
-    ensures { IsWork (H.value handler.now) nucleus.now port result pass.old pass.new }
+    ensures work { IsWork (H.value handler.now) nucleus.now port result pass.old pass.new }
+    ensures free { IfErr result (λ f. is_busy f ≡ false) }
 {
     let mut from: u64 = 0;
     let mut count: u64 = 0;

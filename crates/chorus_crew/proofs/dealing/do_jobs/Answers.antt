@@ -1,12 +1,13 @@
 use Rattle.std.proofs.Common.{◌≡◌, ◌+◌, ◌<◌, ◌≤◌, ℕ, Option, List, [], ◌∷◌, ◌++◌, length, arith, refl, ap, subst, sym, ◌∙◌}
 use Rattle.std.specs.List.{All, Contains}
-use Rattle.crossbeam_deque.specs.Handles.{worker_deque, worker_view, stealer_deque}
+use Rattle.crossbeam_deque.specs.Handles.{worker_deque, worker_view, stealer_deque, view}
 use Rattle.chorus_crew.specs.declared.job.Job.{Job}
 use Rattle.chorus_crew.specs.declared.job.Done.{Done}
 use Rattle.chorus_crew.specs.declared.rule.Share.{Share}
 use Rattle.chorus_crew.specs.declared.steal.Hand.{Hand}
 use Rattle.chorus_crew.specs.Jobs.{IsJobOf, indices}
-use Rattle.chorus_crew.specs.Hands.{Ends, AreSlots, Fills}
+use Rattle.chorus_crew.specs.Deals.{AreReady}
+use Rattle.chorus_crew.specs.Hands.{Begins, Ends, AreSlots, Fills}
 use Rattle.chorus_crew.proofs.Collecting.{all-of, numbers-within, begins-all, ends-all, slots-none, slots-all, collected}
 use Rattle.chorus_crew.proofs.dealing.do_jobs.Goals as goal
 
@@ -15,9 +16,11 @@ pub all_steal-requires-clause-begins : goal.all_steal-requires-clause-begins
 all_steal-requires-clause-begins g c κs within =
     let n = c.args.nucleus in
     let put : List Job = (worker_view c.put_jobs.new.owner).put in
-    begins-all (worker_deque c.put_jobs.new.owner) (stealer_deque c.args.tools.thief) n.now put c.give_passes.new.hands.items
+    let thief = stealer_deque c.args.tools.thief in
+    subst (λ (l : List Hand). All (λ (h : Hand). Begins thief n.now (view h.hold).put h) l) (sym c.as_mut_slice.ensures.value)
+    (begins-all (worker_deque c.put_jobs.new.owner) thief n.now put c.give_passes.new.hands.items
     (c.requires.tools.thief ∙ sym c.put_jobs.ensures.deque.0)
-    (all-of (IsJobOf n.now) c.args.tools.jobs.items put c.requires.jobs c.put_jobs.ensures.dealt.put) c.give_passes.ensures.hands
+    (all-of (IsJobOf n.now) c.args.tools.jobs.items put c.requires.jobs c.put_jobs.ensures.dealt.put) c.give_passes.ensures.hands)
 
 -- They end: what each did is of the jobs that were put.
 pub take_in-requires-clause-hands : goal.take_in-requires-clause-hands
@@ -26,8 +29,9 @@ take_in-requires-clause-hands g c κs within =
     let n = c.args.nucleus.now in
     let put : List Job = (worker_view c.put_jobs.new.owner).put in
     let same : stealer_deque c.args.tools.thief ≡ worker_deque c.put_jobs.new.owner = c.requires.tools.thief ∙ sym c.put_jobs.ensures.deque.0 in
-    let all = ends-all V n (worker_deque c.put_jobs.new.owner) (stealer_deque c.args.tools.thief) put c.give_passes.new.hands.items c.all_steal.new.hands
-    same c.give_passes.ensures.hands c.all_steal.ensures.count c.all_steal.ensures.ends in
+    let ready = subst (AreReady (worker_deque c.put_jobs.new.owner) put) (sym c.as_mut_slice.ensures.value) c.give_passes.ensures.hands in
+    let all = ends-all V n (worker_deque c.put_jobs.new.owner) (stealer_deque c.args.tools.thief) put c.as_mut_slice.result.now c.all_steal.new.hands
+    same ready c.all_steal.ensures.count c.all_steal.ensures.ends in
     let kept : put ≡ (worker_view c.give_passes.new.owner).put = sym (ap (λ (v : Share). v.put) c.give_passes.ensures.view.0) in
     subst (λ d. All (λ (h : Hand). Ends V d n (worker_view c.give_passes.new.owner).put h) c.all_steal.new.hands) (sym c.give_passes.ensures.deque.0)
     (subst (λ (l : List Job). All (λ (h : Hand). Ends V (worker_deque c.put_jobs.new.owner) n l h) c.all_steal.new.hands) kept all)

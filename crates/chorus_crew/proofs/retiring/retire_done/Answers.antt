@@ -3,7 +3,7 @@ use Rattle.std.specs.List.{All}
 use Rattle.chorus_crew.specs.declared.job.Done.{Done}
 use Rattle.chorus_crew.specs.Retiring.{IsFullSlot}
 use Rattle.chorus_crew.proofs.Filling.{all_front, all_last}
-use Rattle.chorus_crew.proofs.Ended.{all-reverse, slot-plain, collected-none, collected-more, collected-all, ok-more, err-more, all-ok, all-err}
+use Rattle.chorus_crew.proofs.Ended.{all-reverse, slot-plain, collected-none, collected-more, collected-all, ok-more, err-more, all-ok, all-err, not-full, no-slots}
 use Rattle.chorus_crew.proofs.retiring.retire_done.Goals as goal
 
 pub loop-slot-init : goal.loop-slot-init
@@ -42,3 +42,35 @@ loop-slot-preserved c =
           (err-more c.loop-slot.handled.items c.in-Some-slot.done.port c.in-Some-slot.done.result c.in-Err.field-0 c.in-Err.is)
           (all-err c.loop-slot.all c.in-Some-slot.done.result c.in-Err.field-0 c.in-Err.is);
     }
+
+pub retire-requires-clause-pass : goal.retire-requires-clause-pass
+retire-requires-clause-pass c =
+    let n = c.args.nucleus.now in
+    let f = subst (λ (l : List (Option Done)). All (IsFullSlot n) l) c.in-Some.ensures.items c.loop-slot.invariant.full in
+    (slot-plain n c.in-Some.slot c.in-Some-slot.done (all_last (IsFullSlot n) c.pop.new.self.items c.in-Some.slot f) c.in-Some-slot.is).of_nucleus
+
+pub unreachable-requires : goal.unreachable-requires
+unreachable-requires c =
+    let n = c.args.nucleus.now in
+    let f = subst (λ (l : List (Option Done)). All (IsFullSlot n) l) c.in-Some.ensures.items c.loop-slot.invariant.full in
+    not-full n c.in-Some.slot (all_last (IsFullSlot n) c.pop.new.self.items c.in-Some.slot f) c.in-None.is
+
+pub returns-clause-retired : goal.returns-clause-retired
+returns-clause-retired c = λ dones is.
+    (collected-all c.args.nucleus.now c.args.pass.now c.loop-slot.pass c.args.slots.now.items c.loop-slot.slots.items c.loop-slot.handled.items c.loop-slot.all c.loop-slot.invariant.collected
+    (no-slots c.loop-slot.slots.items c.in_default.ensures.cases.0) dones is).takes_in
+
+pub returns-clause-worn : goal.returns-clause-worn
+returns-clause-worn c = λ dones is.
+    (collected-all c.args.nucleus.now c.args.pass.now c.loop-slot.pass c.args.slots.now.items c.loop-slot.slots.items c.loop-slot.handled.items c.loop-slot.all c.loop-slot.invariant.collected
+    (no-slots c.loop-slot.slots.items c.in_default.ensures.cases.0) dones is).worn
+
+pub returns-clause-handled : goal.returns-clause-handled
+returns-clause-handled c = λ dones is.
+    (collected-all c.args.nucleus.now c.args.pass.now c.loop-slot.pass c.args.slots.now.items c.loop-slot.slots.items c.loop-slot.handled.items c.loop-slot.all c.loop-slot.invariant.collected
+    (no-slots c.loop-slot.slots.items c.in_default.ensures.cases.0) dones is).handled_is
+
+pub returns-clause-done : goal.returns-clause-done
+returns-clause-done c = λ dones is.
+    (collected-all c.args.nucleus.now c.args.pass.now c.loop-slot.pass c.args.slots.now.items c.loop-slot.slots.items c.loop-slot.handled.items c.loop-slot.all c.loop-slot.invariant.collected
+    (no-slots c.loop-slot.slots.items c.in_default.ensures.cases.0) dones is).all_is
