@@ -1,5 +1,5 @@
 -- What became of a message, put together from what the turn told.
-use Rattle.std.proofs.Common.{ℕ, ◌≡◌, ◌==◌, if◌then◌else◌, List, [], Result, Ok, Err, IfOk, IfErr, refl, sym, ◌∙◌, ap, subst}
+use Rattle.std.proofs.Common.{ℕ, ◌≡◌, ◌==◌, if◌then◌else◌, List, [], Ok, Err, refl, sym, ◌∙◌, ap, subst}
 use Rattle.chorus_ui.specs.declared.layout.Layout.{Layout}
 use Rattle.chorus_ui.specs.declared.ui.Ui.{Ui}
 use Rattle.chorus_ui.specs.Layout.{places, place_at, creation_place}
@@ -12,7 +12,6 @@ use Rattle.law_machine.specs.Outcomes.{outcome}
 use Rattle.chorus_place.specs.Calls.{state}
 use Rattle.chorus_ruled_ends.specs.Ruled.{Ruled}
 use Rattle.chorus_turn.specs.declared.pass.Pass as turner
-use Rattle.chorus_turn.specs.declared.knowledge.Remarked.{Remarked}
 use Rattle.chorus_turn.specs.declared.knowledge.Knowledge.{Knowledge}
 use Rattle.chorus_turn.specs.Knowing.{IsSamePass}
 use Rattle.chorus_turn.specs.Passes as turns
@@ -38,7 +37,7 @@ home-is l w a site p actor on at = at ∙ ap (λ s. place_at l s a) on ∙ ap (c
 abbrev pub Asked : List (Site Ruled Packet) → MsgId → Outcome → ℕ → Knowledge PlaceNote → Knowledge PlaceNote → Type 0
 Asked handed x out p v u =
     Worked (λ (s : Site Ruled Packet). entries (desk_of s)) (λ (s : Site Ruled Packet) log. Fits (desk_of s) log × IsPublished (desk_of s) s.board) mark_of handed
-    (λ a b. out ≡ outcome x a.desk.place.journal) (λ news. news ≡ []) p v u
+    (λ a b. (out ≡ outcome x a.desk.place.journal) × (b ≡ a)) (λ news. news ≡ []) p v u
 
 module _ (n : Nucleus) (x : MsgId) (old : Pass) (after : turner.Pass PlaceNote) (p : ℕ) (is : IsPassOf n old) (of : turns.IsPassOf n.turns after) (standing : IsSamePass (turns.known old.turner) (turns.known after))
     (within : IsPlace (places n.layout) p) (here : p ≡ home_of n.layout old.caller) where
@@ -58,7 +57,7 @@ module _ (n : Nucleus) (x : MsgId) (old : Pass) (after : turner.Pass PlaceNote) 
         told = (
           state (desk_of t.before).place,
           subst (λ q. Looks n.layout q (state (desk_of t.before).place) (turns.known old.turner) old.caller (turns.known after) old.caller) here k.2,
-          e ∙ ap (λ o. if x.seat == old.caller.seat then o else Unknown) t.ran,
+          e ∙ ap (λ o. if x.seat == old.caller.seat then o else Unknown) t.ran.0,
         );
         fault = tt;
         caller = refl;

@@ -1,20 +1,19 @@
 -- What a call of a nucleus did, from what its turn did.
 -- l is the layout, p the place, d the desk before the turn, s its state, v and u what the pass knows before and after, w and x its
 -- caller before and after.
-use Rattle.std.proofs.Common.{ℕ, ◌≡◌, ◌<◌, ◌≤◌, ◌-◌, ◌^◌, nat_le, min, true, List, [], ◌∷◌, ◌++◌, reverse, Option, Some, None, Result, Ok, Err, IfOk, IfErr, OnErr, IsErrOf, refl, sym, ◌∙◌, ap, subst, inl, inr}
+use Rattle.std.proofs.Common.{ℕ, ◌≡◌, ◌<◌, ◌≤◌, ◌-◌, ◌^◌, nat_le, min, true, List, [], reverse, Option, Some, None, Result, Ok, Err, IfOk, IfErr, OnErr, refl, sym, ◌∙◌, ap, subst, inl, inr}
 use Rattle.std.specs.declared.snapshot.Snapshot.{Snapshot}
 use Rattle.chorus_ui.specs.declared.limits.TheConstants.{CLOCK_LIMIT}
 use Rattle.std.proofs.lemmas.List.{append-nil}
 use Rattle.std.proofs.lemmas.Bool.{and_parts, leb-true}
 use Rattle.chorus_ui.specs.declared.layout.Layout.{Layout}
 use Rattle.chorus_ui.specs.Layout.{places, has_place}
-use Rattle.chorus_entry.specs.declared.entry.Entry.{Entry}
 use Rattle.chorus_entry.specs.declared.command.Command.{Command}
 use Rattle.chorus_entry.specs.declared.packet.Packet.{Packet}
 use Rattle.chorus_calls.specs.Callers.{Seated}
 use Rattle.law_machine.specs.declared.reply.Reply.{Reply}
 use Rattle.law_machine.specs.PlaceState.{PlaceState, started, greatest_clock}
-use Rattle.law_machine.specs.PlaceMachine.{begun, begun_by}
+use Rattle.law_machine.specs.PlaceMachine.{begun}
 use Rattle.law_machine.specs.Replies.{reply}
 use Rattle.chorus_place.specs.Calls.{Place, state}
 use Rattle.chorus_place.specs.declared.fault.PlaceFault.{PlaceFault}
@@ -22,7 +21,7 @@ use Rattle.chorus_place.specs.declared.fault.PlaceFault.TheVariants as faults
 use Rattle.chorus_serve.specs.declared.pump.Pump.{Pump}
 use Rattle.chorus_serve.specs.declared.pump.Pump.TheVariants as pumps
 use Rattle.chorus_serve.specs.Desks.{DeskState, seen}
-use Rattle.chorus_serve.specs.Serving.{IsWornBy}
+use Rattle.chorus_serve.specs.Serving.{AreEmptied}
 use Rattle.chorus_ruled_ends.specs.Ruled.{Ruled, links}
 use Rattle.chorus_turn.specs.declared.turns.Busy.{Busy}
 use Rattle.chorus_turn.specs.declared.knowledge.Remarked.{Remarked}
@@ -32,8 +31,8 @@ use Rattle.chorus_turn.specs.Calls.{IsMarkAt, Worked, FoundBusy}
 use Rattle.law_history.specs.declared.turns.Input.{Input}
 use Rattle.law_history.specs.Counts.{put_count, got_count}
 use Rattle.law_history.specs.Histories.{Takes}
-use Rattle.law_history.specs.PlaceTurns.{may_take, machine}
-use Rattle.law_history.specs.Runs.{with_command}
+use Rattle.law_history.specs.PlaceTurns.{may_take, machine, turn}
+use Rattle.law_history.proofs.Rising.{place-rises}
 use Rattle.law_closing.specs.Remarks.{turns_at}
 use Rattle.law_closing.specs.Places.{PlaceNote}
 use Rattle.law_closing.specs.Closing.{IsPlace}
@@ -42,9 +41,8 @@ use Rattle.place_site.specs.Sites.{IsJournalOf, IsPublished, entries, Fits}
 use Rattle.place_site.specs.Jobs.{Acted, ServedAt}
 use Rattle.place_site.specs.Turning.{IsNews, IsNoNews, NotesAct, NotesServe, TakesTurn, Looks}
 use Rattle.chorus_nucleus.specs.declared.fault.CallFault.{CallFault}
-use Rattle.chorus_nucleus.specs.declared.fault.CallFault.TheVariants as call_faults
 use Rattle.chorus_nucleus.specs.Passes.{AreSites, IsCallerOf, mark_of}
-use Rattle.chorus_nucleus.specs.Calls.{answered, gave, gave_after, IsRefused, FindsWorn, FindsWornBy, Because, Performs, Serves, Grows, Stays}
+use Rattle.chorus_nucleus.specs.Calls.{answered, gave, gave_after, IsRefused, FindsWorn, FindsWornBy, AreDesks, WorksOffAt, Because, Performs, Serves, Grows, Stays}
 use Rattle.chorus_nucleus.proofs.Threads.{caller-turned, caller-looked, caller-refused}
 use Rattle.chorus_nucleus.proofs.Gave.{gave-turn, gave-look}
 use Rattle.chorus_nucleus.proofs.Counting.{command-grows, packet-stays, grows-none, stays-none}
@@ -69,18 +67,21 @@ module _ (l : Layout) (p : ℕ) (d : DeskState) (is : IsAt l p d) (v u : Knowled
       let s : PlaceState = state z in
       let same_layout : s.layout ≡ l = ap (λ (q : Place). q.layout) same ∙ is.layout in
       let same_number : s.number ≡ p = ap (λ (q : Place). q.number) same ∙ is.number in
+      let may : may_take l p i s w ≡ true = subst (λ m. may_take m p i s w ≡ true) same_layout (subst (λ q. may_take s.layout q i s w ≡ true) same_number n.may) in
       record {
         found = found;
         shows = shows;
         entries = journal.0 ∙ sym (ap (λ (q : Place). reverse q.journal) same);
         leads = subst (λ (q : Place). Takes (machine l) p (started l p) (turns_at p found) (state q)) (sym same)
             (leads-at d.place.layout l d.place.number p found (state d.place) is.layout is.number journal.1.keeps.takes);
-        may = subst (λ m. may_take m p i s w ≡ true) same_layout (subst (λ q. may_take s.layout q i s w ≡ true) same_number n.may);
+        may = may;
         entry = n.entry;
         later = n.later;
         clock = n.clock;
         own_act = n.own_act;
         journal = n.journal;
+        above = subst (λ (k : ℕ). w.last < k) (sym n.clock) ((place-rises l).above_caller p i s w may);
+        upto = subst (λ (k : ℕ). k ≤ x.last) (sym n.clock) (subst (λ (y : Seated). (turn i s w).first ≤ y.last) (sym n.after) ((place-rises l).to_caller p i s w may));
         after = n.after;
         knows = knows ∙ ap (λ ns. after_turn p found ns v) n.is;
       }
@@ -201,8 +202,13 @@ module _ (l : Layout) (handed : List (Site Ruled Packet)) (sites : AreSites l ha
 
   -- the same of a pump
 
-  pumped-ok : (took : Option ℕ) (before : Option (Snapshot Place)) (r : Pump) → Turned handed (λ d e. ServedAt took before (Ok r) w d e) (NotesServe took before w x) p v u → PumpDone l p (Ok r) v w u x
-  unfolding looked looks-on
+  desks : (b a : Site Ruled Packet) (found : List (Remarked PlaceNote)) → IsMarkAt mark_of handed p (mark_of b) → IsJournalOf (desk_of b) found → AreEmptied (desk_of b) (desk_of a)
+      → AreDesks l p found (desk_of b) (desk_of a)
+  desks b a found marked journal emptied =
+      (let at = at-place l handed sites p is b marked in record { layout = at.layout; number = at.number; journal = journal; emptied = emptied })
+
+  pumped-ok : (took : Option ℕ) (before : Option (Snapshot Place)) (r : Pump) → Turned handed (λ d e. ServedAt took before (Ok r) w x d e) (NotesServe took before w x) p v u → PumpDone l p (Ok r) v w u x
+  unfolding looked looks-on takes-turn
   pumped-ok took None r t = absurd t.ran
   pumped-ok (Some a) (Some z) (pumps.Served from) t =
       let at = at-place l handed sites p is t.before t.marked in
@@ -210,19 +216,35 @@ module _ (l : Layout) (handed : List (Site Ruled Packet)) (sites : AreSites l ha
       let same = t.ran.0 in
       let k = t.noted.0 in
       let s : PlaceState = state z.value in
-      let turn = takes-turn l p d at v u w x t.found t.news (Input.Packet a k) z.value same t.shows (t.journal.0, t.journal.1.0) t.noted.1 t.knows in
+      let turn = takes-turn l p d at v u w x t.found t.news (Input.Packet a k) z.value same t.shows (t.journal.0, t.journal.1.0) t.noted.2 t.knows in
+      let all : WorksOffAt l p a v w u x = (s, k, turn, t.noted.1, d, desk_of t.after, desks t.before t.after t.found t.marked (t.journal.0, t.journal.1.0) t.ran.3) in
       record {
-        caller = subst (λ q. IsCallerOf l q x) (sym t.knows) (caller-turned l p (Input.Packet a k) s v w x t.found t.news (ap (λ (q : Place). q.layout) same ∙ at.layout) is h t.noted.1);
-        served = inl (s, k, subst (λ n. TakesTurn l p (Input.Packet n k) s v w u x) t.ran.1 turn);
+        caller = subst (λ q. IsCallerOf l q x) (sym t.knows) (caller-turned l p (Input.Packet a k) s v w x t.found t.news (ap (λ (q : Place). q.layout) same ∙ at.layout) is h t.noted.2);
+        served = inl (subst (λ n. WorksOffAt l p n v w u x) t.ran.1.0 all);
         fault = tt;
         refused = tt;
         gave_is = gave-turn l p (Input.Packet a k) s v u w x turn ∙ append-nil (gave v);
-        stays = subst (Stays w) (sym t.noted.1.after) (packet-stays a k s w);
+        stays = subst (Stays w) (sym t.noted.2.after) (packet-stays a k s w);
       }
   pumped-ok (Some a) (Some z) (pumps.Idle put done) t = absurd t.ran.1
   pumped-ok None (Some z) (pumps.Served from) t =
       let k = looked t.before t.found t.news t.marked t.shows (t.journal.0, t.journal.1.0) t.noted t.knows in
-      record { caller = k.0; served = inr (state (desk_of t.before).place, k.2); fault = tt; refused = tt; gave_is = k.3; stays = stays-none w x t.noted.1 }
+      record {
+        caller = k.0;
+        served = inr (
+          state (desk_of t.before).place,
+          k.2,
+          t.ran.1.0,
+          desk_of t.before,
+          desk_of t.after,
+          desks t.before t.after t.found t.marked (t.journal.0, t.journal.1.0) t.ran.3,
+          t.ran.1.1,
+        );
+        fault = tt;
+        refused = tt;
+        gave_is = k.3;
+        stays = stays-none w x t.noted.1;
+      }
   pumped-ok None (Some z) (pumps.Idle put done) t =
       let k = looked t.before t.found t.news t.marked t.shows (t.journal.0, t.journal.1.0) t.noted t.knows in
       let d = desk_of t.before in
@@ -232,8 +254,12 @@ module _ (l : Layout) (handed : List (Site Ruled Packet)) (sites : AreSites l ha
         served = (
           state d.place,
           k.2,
-          t.ran.1.0 ∙ subst (λ q. d.place.out.puts ≡ put_count (turns_at q t.found)) at.number t.journal.1.0.puts,
-          t.ran.1.1 ∙ subst (λ q. d.worked ≡ min (got_count (turns_at q t.found)) (2 ^ 64 - 1)) at.number t.journal.1.0.worked,
+          t.ran.1.1 ∙ subst (λ q. d.place.out.puts ≡ put_count (turns_at q t.found)) at.number t.journal.1.0.puts,
+          t.ran.1.2 ∙ subst (λ q. d.worked ≡ min (got_count (turns_at q t.found)) (2 ^ 64 - 1)) at.number t.journal.1.0.worked,
+          d,
+          desk_of t.after,
+          desks t.before t.after t.found t.marked (t.journal.0, t.journal.1.0) t.ran.3,
+          t.ran.1.0,
         );
         fault = tt;
         refused = tt;
@@ -241,8 +267,9 @@ module _ (l : Layout) (handed : List (Site Ruled Packet)) (sites : AreSites l ha
         stays = stays-none w x t.noted.1;
       }
 
-  pumped-err : (took : Option ℕ) (before : Option (Snapshot Place)) (f : PlaceFault) → Turned handed (λ d e. ServedAt took before (Err f) w d e) (NotesServe took before w x) p v u
+  pumped-err : (took : Option ℕ) (before : Option (Snapshot Place)) (f : PlaceFault) → Turned handed (λ d e. ServedAt took before (Err f) w x d e) (NotesServe took before w x) p v u
       → PumpDone l p (answered (Ok (Err f))) v w u x
+  unfolding looked looks-on
   pumped-err took None f t = absurd t.ran
   pumped-err (Some a) (Some z) f t = absurd t.ran.1
   pumped-err None (Some z) (faults.Memory none) t =
@@ -254,14 +281,21 @@ module _ (l : Layout) (handed : List (Site Ruled Packet)) (sites : AreSites l ha
       record {
         caller = k.0;
         served = tt;
-        fault = record { state = state (desk_of t.before).place; packet = worn.packet; looks = k.2; worn = worn.worn; greatest = worn.greatest };
+        fault = record {
+          state = state (desk_of t.before).place;
+          looks = k.2;
+          before = desk_of t.before;
+          after = desk_of t.after;
+          desks = desks t.before t.after t.found t.marked (t.journal.0, t.journal.1.0) worn.emptied;
+          by = worn;
+        };
         refused = k.1;
         gave_is = k.3;
         stays = stays-none w x t.noted.1;
       })
 
   pub pump-done : (took : Option ℕ) (before : Option (Snapshot Place)) (done : Result (Result Pump PlaceFault) Busy)
-      → IfOk done (λ out. Turned handed (λ d e. ServedAt took before out w d e) (NotesServe took before w x) p v u)
+      → IfOk done (λ out. Turned handed (λ d e. ServedAt took before out w x d e) (NotesServe took before w x) p v u)
       → IfErr done (λ b. FoundBusy p b.by v u × (x ≡ w)) → PumpDone l p (answered done) v w u x
   pump-done took before (Ok (Ok r)) ok busy = pumped-ok took before r ok
   pump-done took before (Ok (Err f)) ok busy = pumped-err took before f ok

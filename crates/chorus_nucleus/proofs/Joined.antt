@@ -1,5 +1,5 @@
 -- The calls, put together from what their turns did.
-use Rattle.std.proofs.Common.{ℕ, ◌≡◌, ◌-◌, ◌^◌, ◌<◌, Bool, true, false, is_some, not, cond, Option, Some, None, Result, Ok, Err, IfOk, IfErr, IfSome, refl, sym, ◌∙◌, ap, subst, List, arith}
+use Rattle.std.proofs.Common.{ℕ, ◌≡◌, ◌-◌, ◌^◌, ◌<◌, Bool, true, false, cond, Option, Some, None, Result, Ok, Err, IfOk, IfErr, IfSome, refl, sym, ◌∙◌, ap, subst, List, arith}
 use Rattle.std.specs.declared.snapshot.Snapshot.{Snapshot}
 use Rattle.std.proofs.lemmas.Bool.{false≢true}
 use Rattle.chorus_ui.specs.declared.layout.Layout.{Layout}
@@ -110,7 +110,7 @@ as-call n c old before after w x p took done r worn sight is same caller seeing 
 pub as-pump : (n : Nucleus) (old : Pass) (before after : turner.Pass PlaceNote) (w x : Seated) (p : ℕ) (took : Option ℕ) (kept : Option (Snapshot Place)) (done : Result (Result Pump PlaceFault) Busy)
     (r : Result Pump CallFault) (worn : Option ℕ) (sight : Sight) → IsPassOf n old → before ≡ old.turner → w ≡ old.caller → sight ≡ old.sight → has_place n.layout p ≡ true
     → turns.IsPassOf n.turns after → IsSamePass (turns.known before) (turns.known after)
-    → IfOk done (λ out. Turned (turns.handed n.turns) (λ d e. ServedAt took kept out w d e) (NotesServe took kept w x) p (turns.known before) (turns.known after))
+    → IfOk done (λ out. Turned (turns.handed n.turns) (λ d e. ServedAt took kept out w x d e) (NotesServe took kept w x) p (turns.known before) (turns.known after))
     → IfErr done (λ b. FoundBusy p b.by (turns.known before) (turns.known after) × (x ≡ w)) → r ≡ answered done → worn ≡ worn_after old.worn r
     → IsPump n p old (record { turner = after; caller = x; worn = worn; sight = sight }) r
 as-pump n old before after w x p took kept done r worn sight is same caller seeing has of standing ok busy answer noted =

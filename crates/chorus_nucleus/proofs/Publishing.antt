@@ -1,9 +1,8 @@
 -- A publish, put together from what its turn did.
-use Rattle.std.proofs.Common.{ℕ, ◌≡◌, ◌≢◌, ◌==◌, Bool, true, false, cond, List, [], length, Option, Some, None, Result, Ok, Err, IfOk, IfErr, IfSome, refl, sym, ◌∙◌, ap, subst}
+use Rattle.std.proofs.Common.{ℕ, ◌≡◌, ◌≢◌, ◌-◌, slice_get, Bool, cond, List, [], length, Option, Some, None, Result, Ok, Err, IfOk, IfErr, OnOk, IfSome, refl, sym, ◌∙◌, ap, subst}
 use Rattle.std.specs.Global.{Vec}
 use Rattle.std.specs.declared.alloc.AllocError.{AllocError}
 use Rattle.std.proofs.lemmas.Bool.{eq-eqb, ne_eqb}
-use Rattle.std.proofs.lemmas.List.{append-nil}
 use Rattle.chorus_ui.specs.declared.layout.Layout.{Layout}
 use Rattle.chorus_ui.specs.Layout.{places}
 use Rattle.chorus_entry.specs.declared.entry.Entry.{Entry}
@@ -14,16 +13,15 @@ use Rattle.chorus_place.specs.Calls.{state}
 use Rattle.chorus_ruled_ends.specs.Ruled.{Ruled}
 use Rattle.chorus_turn.specs.declared.turns.Busy.{Busy}
 use Rattle.chorus_turn.specs.declared.pass.Pass as turner
-use Rattle.chorus_turn.specs.declared.knowledge.Remarked.{Remarked}
 use Rattle.chorus_turn.specs.declared.knowledge.Knowledge.{Knowledge}
 use Rattle.chorus_turn.specs.Journals.{entries_of}
-use Rattle.chorus_turn.specs.Knowing.{IsSamePass, after_turn}
+use Rattle.chorus_turn.specs.Knowing.{IsSamePass}
 use Rattle.chorus_turn.specs.Passes as turns
 use Rattle.chorus_turn.specs.Calls.{IsMarkAt, Worked, FoundBusy}
 use Rattle.law_closing.specs.Closing.{IsPlace}
 use Rattle.law_closing.specs.Places.{PlaceNote}
 use Rattle.chorus_board.specs.declared.reader.BoardReader.{BoardReader}
-use Rattle.chorus_board.specs.Boards.{name_of_book, IsSameReader}
+use Rattle.chorus_board.specs.Boards.{name_of_book, entries_published, IsSameReader}
 use Rattle.place_site.specs.declared.site.Site.{Site}
 use Rattle.place_site.specs.declared.site.SiteMark.{SiteMark}
 use Rattle.place_site.specs.Sites.{entries, Fits, IsPublished}
@@ -33,9 +31,8 @@ use Rattle.chorus_nucleus.specs.declared.nucleus.Nucleus.{Nucleus}
 use Rattle.chorus_nucleus.specs.declared.pass.Pass.{Pass}
 use Rattle.chorus_nucleus.specs.declared.sight.Sight.{Sight}
 use Rattle.chorus_nucleus.specs.declared.fault.CallFault.{CallFault}
-use Rattle.chorus_nucleus.specs.declared.fault.CallFault.TheVariants as call_faults
 use Rattle.chorus_nucleus.specs.Passes.{AreSites, Reads, AreSpare, row_at, IsCallerOf, IsPassOf, home_of, mark_of}
-use Rattle.chorus_nucleus.specs.Reading.{Followed, FollowsAt, Publishes, Unpublished, PublishDone, IsPublish, answered_publish}
+use Rattle.chorus_nucleus.specs.Reading.{HasPublished, Publishes, Unpublished, PublishDone, IsPublish, answered_publish}
 use Rattle.chorus_nucleus.proofs.Threads.{caller-refused}
 use Rattle.chorus_nucleus.proofs.Called.{desk_of, looked}
 use Rattle.chorus_nucleus.proofs.Joined.{sight-kept}
@@ -47,7 +44,7 @@ Sites = List (Site Ruled Packet)
 abbrev pub Published : Sites → Option BoardReader → Option BoardReader → Result (Unit {0}) AllocError → ℕ → Knowledge PlaceNote → Knowledge PlaceNote → Type 0
 Published handed o q out p v u =
     Worked (λ (s : Site Ruled Packet). entries (desk_of s)) (λ (s : Site Ruled Packet) log. Fits (desk_of s) log × IsPublished (desk_of s) s.board) mark_of handed
-    (λ x y. Follows o q (entries (desk_of x)) out) (λ news. news ≡ []) p v u
+    (λ x y. Follows o q (entries (desk_of x)) out × OnOk out (entries_published y.board ≡ entries (desk_of x)) × (y.desk ≡ x.desk)) (λ news. news ≡ []) p v u
 
 -- the job accepts a reader of the place's board
 pub may-read : (l : Layout) (handed : Sites) → AreSites l handed → (p : ℕ) → IsPlace (places l) p → (o : Option BoardReader) → IfSome o (λ r. Reads l handed p r)
@@ -73,22 +70,29 @@ reads-followed l handed p (Some r) (Some s) es (Err e) f h = subst (λ x. Reads 
 
 pub still-reads : (l : Layout) (handed : Sites) (p : ℕ) (o q : Option BoardReader) (v u : Knowledge PlaceNote) (done : Result (Result (Unit {0}) AllocError) Busy)
     → IfOk done (λ out. Published handed o q out p v u) → IfErr done (λ b. FoundBusy p b.by v u × (q ≡ o)) → IfSome o (λ r. Reads l handed p r) → IfSome q (λ r. Reads l handed p r)
-still-reads l handed p o q v u (Ok out) ok busy h = reads-followed l handed p o q (entries (desk_of ok.before)) out ok.ran h
+still-reads l handed p o q v u (Ok out) ok busy h = reads-followed l handed p o q (entries (desk_of ok.before)) out ok.ran.0 h
 still-reads l handed p o q v u (Err b) ok busy h = subst (λ x. IfSome x (λ r. Reads l handed p r)) (sym busy.1) h
 
-followed-so : (o q : Option BoardReader) (es : List Entry) (u : Unit {0}) → Follows {E = AllocError} o q es (Ok u) → Followed o q es
-followed-so None q es u f = f
-followed-so (Some r) None es u f = absurd f
-followed-so (Some r) (Some s) es u f = f
+followed-so : (E F : Type 0) (o q : Option BoardReader) (es : List Entry) (u : Unit {0}) → Follows {E = E} o q es (Ok u) → Follows {E = F} o q es (Ok tt)
+followed-so E F None q es u f = f
+followed-so E F (Some r) None es u f = absurd f
+followed-so E F (Some r) (Some s) es u f = f
 
 kept-so : (o q : Option BoardReader) (es : List Entry) (e : AllocError) → Follows o q es (Err e) → q ≡ o
 kept-so None q es e f = f
 kept-so (Some r) None es e f = absurd f
 kept-so (Some r) (Some s) es e f = ap Some f
 
+some-same : {A : Type 0} (o : Option A) (y z : A) → o ≡ Some y → o ≡ Some z → y ≡ z
+some-same o y z a b = (let e : Some y ≡ Some z = sym a ∙ b in cc)
+
+-- a place has one mark
+one-mark : {S M : Type 0} (mark : S → M) (handed : List S) (p : ℕ) (a b : M) → IsMarkAt mark handed p a → IsMarkAt mark handed p b → a ≡ b
+one-mark mark handed p a b (y, at, is) (z, too, of) = is ∙ ap mark (some-same (slice_get handed (p - 1)) y z at too) ∙ sym of
+
 module _ (l : Layout) (handed : Sites) (sites : AreSites l handed) (p : ℕ) (is : IsPlace (places l) p) (o q : Option BoardReader) (v u : Knowledge PlaceNote) (w : Seated) (h : IsCallerOf l v w) where
   pub publish-done : (done : Result (Result (Unit {0}) AllocError) Busy) → IfOk done (λ out. Published handed o q out p v u)
-      → IfErr done (λ b. FoundBusy p b.by v u × (q ≡ o)) → PublishDone l p o q (answered_publish done) v u w
+      → IfErr done (λ b. FoundBusy p b.by v u × (q ≡ o)) → PublishDone l handed p o q (answered_publish done) v u w
   publish-done (Ok (Ok x)) t busy =
       let none : IsNoNews w w t.news = (t.noted, refl) in
       let k = looked l handed sites p is v u w w h t.before t.found t.news t.marked t.shows (t.journal.0, t.journal.1.0) none t.knows in
@@ -97,7 +101,12 @@ module _ (l : Layout) (handed : Sites) (sites : AreSites l handed) (p : ℕ) (is
         looks = (
           state (desk_of t.before).place,
           k.2,
-          followed-so o q (entries_of k.2.found) x (subst (λ es. Follows {E = AllocError} o q es (Ok x)) (sym k.2.entries) t.ran),
+          (
+            t.after.board,
+            λ m at. ap (λ (z : SiteMark). z.board) (t.same_mark ∙ one-mark mark_of handed p (mark_of t.before) m t.marked at),
+            t.ran.1 ∙ sym k.2.entries,
+          ),
+          followed-so AllocError CallFault o q (entries_of k.2.found) x (subst (λ es. Follows {E = AllocError} o q es (Ok x)) (sym k.2.entries) t.ran.0),
         );
         fault = tt;
         mine = k.1.mine;
@@ -108,7 +117,7 @@ module _ (l : Layout) (handed : Sites) (sites : AreSites l handed) (p : ℕ) (is
       record {
         caller = k.0;
         looks = tt;
-        fault = ((state (desk_of t.before).place, k.2), kept-so o q (entries (desk_of t.before)) f t.ran);
+        fault = ((state (desk_of t.before).place, k.2), kept-so o q (entries (desk_of t.before)) f t.ran.0);
         mine = k.1.mine;
       }
   publish-done (Err b) t busy = record {
@@ -123,7 +132,7 @@ module _ (n : Nucleus) (p : ℕ) (old : Pass) (after : turner.Pass PlaceNote) (i
   home = home_of n.layout old.caller
 
   pub at-home : (q : Option BoardReader) (sight : Sight) (r : Result (Unit {0}) CallFault) → p ≡ home → sight.reader ≡ q → sight.spare ≡ old.sight.spare → IfSome q (λ s. Reads n.layout (turns.handed n.turns) p s)
-      → ((w : Seated) → IsCallerOf n.layout (turns.known old.turner) w → PublishDone n.layout p old.sight.reader q r (turns.known old.turner) (turns.known after) w)
+      → ((w : Seated) → IsCallerOf n.layout (turns.known old.turner) w → PublishDone n.layout (turns.handed n.turns) p old.sight.reader q r (turns.known old.turner) (turns.known after) w)
       → IsPublish n p old (record { turner = after; caller = old.caller; worn = old.worn; sight = sight }) r
   at-home q sight r here reader spare reads each =
       let done = each old.caller is.caller in
@@ -150,14 +159,15 @@ module _ (n : Nucleus) (p : ℕ) (old : Pass) (after : turner.Pass PlaceNote) (i
         readers = λ k. ap (λ (z : Vec (Vec BoardReader)). length (row_at k z.items)) spare;
       }
     where
-      published : (z : Result (Unit {0}) CallFault) → IfOk z (λ x. (s : PlaceState) × (t : Looks n.layout p s (turns.known old.turner) old.caller (turns.known after) old.caller) × Followed old.sight.reader q (entries_of t.found))
-          → IfOk z (λ x. Publishes n.layout p old.sight.reader sight.reader (turns.known old.turner) old.caller (turns.known after) old.caller)
+      published : (z : Result (Unit {0}) CallFault) → IfOk z (λ x. (s : PlaceState) × (t : Looks n.layout p s (turns.known old.turner) old.caller (turns.known after) old.caller) × HasPublished (turns.handed n.turns) p (entries_of t.found) × Follows {E = CallFault} old.sight.reader q (entries_of t.found) (Ok tt))
+          → IfOk z (λ x. Publishes n.layout (turns.handed n.turns) p old.sight.reader sight.reader (turns.known old.turner) old.caller (turns.known after) old.caller)
       published (Err f) h = tt
       published (Ok x) h = record {
         state = h.0;
         looks = h.1;
-        follows = subst (λ (b : Bool). cond b (Followed old.sight.reader sight.reader (entries_of h.1.found)) (sight.reader ≡ old.sight.reader)) (sym (eq-eqb p home here))
-            (subst (λ z. Followed old.sight.reader z (entries_of h.1.found)) (sym reader) h.2);
+        board = h.2;
+        follows = subst (λ (b : Bool). cond b (Follows {E = CallFault} old.sight.reader sight.reader (entries_of h.1.found) (Ok tt)) (sight.reader ≡ old.sight.reader)) (sym (eq-eqb p home here))
+            (subst (λ z. Follows {E = CallFault} old.sight.reader z (entries_of h.1.found) (Ok tt)) (sym reader) h.3);
       }
 
       failed : (z : Result (Unit {0}) CallFault) → IfErr z (λ f. Unpublished f n.layout p (turns.known old.turner) old.caller (turns.known after) old.caller × (q ≡ old.sight.reader))
@@ -166,7 +176,7 @@ module _ (n : Nucleus) (p : ℕ) (old : Pass) (after : turner.Pass PlaceNote) (i
       failed (Err f) h = (h.0, reader ∙ h.1)
 
   pub away : (q : Option BoardReader) (r : Result (Unit {0}) CallFault) → p ≢ home
-      → ((w : Seated) → IsCallerOf n.layout (turns.known old.turner) w → PublishDone n.layout p None q r (turns.known old.turner) (turns.known after) w)
+      → ((w : Seated) → IsCallerOf n.layout (turns.known old.turner) w → PublishDone n.layout (turns.handed n.turns) p None q r (turns.known old.turner) (turns.known after) w)
       → IsPublish n p old (record { turner = after; caller = old.caller; worn = old.worn; sight = old.sight }) r
   away q r other each =
       let done = each old.caller is.caller in
@@ -186,13 +196,14 @@ module _ (n : Nucleus) (p : ℕ) (old : Pass) (after : turner.Pass PlaceNote) (i
         readers = λ k. refl;
       }
     where
-      published : (z : Result (Unit {0}) CallFault) → IfOk z (λ x. (s : PlaceState) × (t : Looks n.layout p s (turns.known old.turner) old.caller (turns.known after) old.caller) × Followed None q (entries_of t.found))
-          → IfOk z (λ x. Publishes n.layout p old.sight.reader old.sight.reader (turns.known old.turner) old.caller (turns.known after) old.caller)
+      published : (z : Result (Unit {0}) CallFault) → IfOk z (λ x. (s : PlaceState) × (t : Looks n.layout p s (turns.known old.turner) old.caller (turns.known after) old.caller) × HasPublished (turns.handed n.turns) p (entries_of t.found) × Follows {E = CallFault} None q (entries_of t.found) (Ok tt))
+          → IfOk z (λ x. Publishes n.layout (turns.handed n.turns) p old.sight.reader old.sight.reader (turns.known old.turner) old.caller (turns.known after) old.caller)
       published (Err f) h = tt
       published (Ok x) h = record {
         state = h.0;
         looks = h.1;
-        follows = subst (λ (b : Bool). cond b (Followed old.sight.reader old.sight.reader (entries_of h.1.found)) (old.sight.reader ≡ old.sight.reader)) (sym (ne_eqb p home other)) refl;
+        board = h.2;
+        follows = subst (λ (b : Bool). cond b (Follows {E = CallFault} old.sight.reader old.sight.reader (entries_of h.1.found) (Ok tt)) (old.sight.reader ≡ old.sight.reader)) (sym (ne_eqb p home other)) refl;
       }
 
       failed : (z : Result (Unit {0}) CallFault) → IfErr z (λ f. Unpublished f n.layout p (turns.known old.turner) old.caller (turns.known after) old.caller × (q ≡ None))

@@ -1,5 +1,6 @@
 -- What the calls of a nucleus do.
--- l is a layout, p the number of a place, c a command, v and w are what a pass knows and its caller before the call, u and x after it.
+-- l is a layout, p the number of a place, c a command, v and w are what a pass knows and its caller before the call, u
+-- and x after it.
 use Rattle.std.specs.Prelude.{ℕ, ◌≡◌, ◌≤◌, ◌<◌, ◌+◌, ◌==◌, ◌-◌, ◌^◌, ◌⊎◌, min, List, [], ◌∷◌, ◌++◌, Option, Some, None, if◌then◌else◌, Result, Ok, Err, IfOk, IfErr, OnErr}
 use Rattle.chorus_ui.specs.declared.limits.TheConstants.{CLOCK_LIMIT}
 use Rattle.chorus_ui.specs.declared.layout.Layout.{Layout}
@@ -13,7 +14,7 @@ use Rattle.law_machine.specs.declared.reply.Reply.{Reply}
 use Rattle.law_machine.specs.declared.outcome.Outcome.{Outcome}
 use Rattle.law_machine.specs.declared.outcome.Outcome.TheVariants.{Unknown}
 use Rattle.law_machine.specs.PlaceState.{PlaceState, greatest_clock}
-use Rattle.law_machine.specs.PlaceMachine.{begun, begun_by}
+use Rattle.law_machine.specs.PlaceMachine.{begun}
 use Rattle.law_machine.specs.Own.{own}
 use Rattle.law_machine.specs.Replies.{reply}
 use Rattle.law_machine.specs.Outcomes.{outcome}
@@ -21,7 +22,10 @@ use Rattle.chorus_place.specs.declared.fault.PlaceFault.{PlaceFault}
 use Rattle.chorus_place.specs.declared.fault.PlaceFault.TheVariants as faults
 use Rattle.chorus_serve.specs.declared.pump.Pump.{Pump}
 use Rattle.chorus_serve.specs.declared.pump.Pump.TheVariants as pumps
+use Rattle.chorus_serve.specs.Desks.{DeskState}
+use Rattle.chorus_serve.specs.Serving.{KeepsInHand, IsIdle, IsWornBy, AreEmptied}
 use Rattle.chorus_turn.specs.declared.turns.Busy.{Busy}
+use Rattle.chorus_turn.specs.declared.knowledge.Remarked.{Remarked}
 use Rattle.chorus_turn.specs.declared.knowledge.Knowledge.{Knowledge}
 use Rattle.chorus_turn.specs.Knowing.{IsSamePass}
 use Rattle.chorus_turn.specs.Calls.{FoundBusy}
@@ -30,7 +34,8 @@ use Rattle.law_history.specs.Counts.{put_count, got_count}
 use Rattle.law_history.specs.Runs.{commands_given}
 use Rattle.law_closing.specs.Remarks.{turns_at, turns_in}
 use Rattle.law_closing.specs.Places.{PlaceNote}
-use Rattle.place_site.specs.Turning.{TakesTurn, Looks}
+use Rattle.place_site.specs.Sites.{IsJournalOf}
+use Rattle.place_site.specs.Turning.{TakesTurn, Looks, MayWork}
 use Rattle.chorus_nucleus.specs.declared.fault.CallFault.{CallFault}
 use Rattle.chorus_nucleus.specs.declared.fault.CallFault.TheVariants as call_faults
 use Rattle.chorus_nucleus.specs.declared.nucleus.Nucleus.{Nucleus}
@@ -76,8 +81,10 @@ pub record Stays (w x : Seated) : Type 0 where
   pub posts : x.posts ≡ w.posts
   pub given : x.client.given ≡ w.client.given
 
--- the command was performed at the place, in one turn: its first entry is the command's own act, and the reply is the machine's
-pub record Performs (l : Layout) (p : ℕ) (c : Command) (r : Reply) (v : Knowledge PlaceNote) (w : Seated) (u : Knowledge PlaceNote) (x : Seated) : Type 0 where
+-- the command was performed at the place, in one turn: its first entry is the command's own act, and the reply is the
+-- machine's
+pub record Performs (l : Layout) (p : ℕ) (c : Command) (r : Reply) (v : Knowledge PlaceNote) (w : Seated)
+    (u : Knowledge PlaceNote) (x : Seated) : Type 0 where
   pub state : PlaceState
   pub turn : TakesTurn l p (Input.Command c) state v w u x
   pub act : turn.entry.act ≡ own c (begun state w)
@@ -85,22 +92,34 @@ pub record Performs (l : Layout) (p : ℕ) (c : Command) (r : Reply) (v : Knowle
   pub unworn : greatest_clock (begun state w) < CLOCK_LIMIT
 
 -- a look at the place found the greater of its clock and the caller's at the limit
-pub record FindsWorn (l : Layout) (p clock : ℕ) (v : Knowledge PlaceNote) (w : Seated) (u : Knowledge PlaceNote) (x : Seated) : Type 0 where
+pub record FindsWorn (l : Layout) (p clock : ℕ) (v : Knowledge PlaceNote) (w : Seated) (u : Knowledge PlaceNote)
+    (x : Seated) : Type 0 where
   pub state : PlaceState
   pub looks : Looks l p state v w u x
   pub worn : CLOCK_LIMIT ≤ clock
   pub greatest : clock ≡ greatest_clock (begun state w)
 
--- and the greatest of these clocks and of that of the packet in hand
-pub record FindsWornBy (l : Layout) (p clock : ℕ) (v : Knowledge PlaceNote) (w : Seated) (u : Knowledge PlaceNote) (x : Seated) : Type 0 where
+-- The desk of the place before and after a turn that found this journal: what waited there was sent, or a link was
+-- found full.
+pub record AreDesks (l : Layout) (p : ℕ) (found : List (Remarked PlaceNote)) (d e : DeskState) : Type 0 where
+  pub layout : d.place.layout ≡ l
+  pub number : d.place.number ≡ p
+  pub journal : IsJournalOf d found
+  pub emptied : AreEmptied d e
+
+-- a look at the place found the greatest of these clocks and of that of the packet in hand at the limit
+pub record FindsWornBy (l : Layout) (p clock : ℕ) (v : Knowledge PlaceNote) (w : Seated)
+    (u : Knowledge PlaceNote) (x : Seated) : Type 0 where
   pub state : PlaceState
-  pub packet : Packet
   pub looks : Looks l p state v w u x
-  pub worn : CLOCK_LIMIT ≤ clock
-  pub greatest : clock ≡ greatest_clock (begun_by state w packet)
+  pub before : DeskState
+  pub after : DeskState
+  pub desks : AreDesks l p looks.found before after
+  pub by : IsWornBy clock before after w
 
 -- why a call was refused: another pass held the place; or it looked at the place, and found no memory, or a worn clock
-abbrev pub Because : (Layout → ℕ → ℕ → Knowledge PlaceNote → Seated → Knowledge PlaceNote → Seated → Type 0) → CallFault → Layout → ℕ → Knowledge PlaceNote → Seated → Knowledge PlaceNote → Seated → Type 0
+abbrev pub Because : (Layout → ℕ → ℕ → Knowledge PlaceNote → Seated → Knowledge PlaceNote → Seated → Type 0)
+    → CallFault → Layout → ℕ → Knowledge PlaceNote → Seated → Knowledge PlaceNote → Seated → Type 0
 Because finds_worn (call_faults.Busy by) l p v w u x = FoundBusy p by v u × (x ≡ w)
 Because finds_worn (call_faults.Memory none) l p v w u x = (s : PlaceState) × Looks l p s v w u x
 Because finds_worn (call_faults.Worn clock) l p v w u x = finds_worn l p clock v w u x
@@ -118,28 +137,45 @@ place_of n c pass = place_for (layout_of n) (caller_of pass).actor c
 pub record IsCall (n : Nucleus) (c : Command) (old new : Pass) (r : Result Reply CallFault) : Type 0 where
   pub pass : IsPassOf n new
   pub standing : IsSamePass (known old) (known new)
-  pub turn : IfOk r (λ x. Performs (layout_of n) (place_of n c old) c x (known old) (caller_of old) (known new) (caller_of new))
-  pub fault : IfErr r (λ f. Because FindsWorn f (layout_of n) (place_of n c old) (known old) (caller_of old) (known new) (caller_of new))
+  pub turn : IfOk r (λ x. Performs (layout_of n) (place_of n c old) c x (known old) (caller_of old) (known new)
+      (caller_of new))
+  pub fault : IfErr r (λ f. Because FindsWorn f (layout_of n) (place_of n c old) (known old) (caller_of old)
+      (known new) (caller_of new))
   pub refused : OnErr r (IsRefused (known old) (caller_of old) (known new) (caller_of new))
   pub worn : worn_by new ≡ worn_after (worn_by old) r
   pub gave_is : gave (known new) ≡ gave_after c r (gave (known old))
   pub grows : Grows (caller_of old) (caller_of new)
   pub sight : sight_of new ≡ sight_of old
 
--- what a pump of the place did: it worked off a packet, or has one in hand that it may not work off; or it was idle, and tells how
--- many packets the turns of the journal that it found put, and, up to 2^64 - 1, how many they worked off
+-- the packet from there was worked off: it was lawful, and no clock was worn
+abbrev pub WorksOffAt : Layout → ℕ → ℕ → Knowledge PlaceNote → Seated → Knowledge PlaceNote → Seated → Type 0
+WorksOffAt l p from v w u x =
+    (s : PlaceState) × (k : Packet) × (t : TakesTurn l p (Input.Packet from k) s v w u x) × MayWork from k s w
+    × (d e : DeskState) × AreDesks l p t.found d e
+
+-- a packet from there is unlawful, and stays in hand
+abbrev pub KeepsInHandAt : Layout → ℕ → ℕ → Knowledge PlaceNote → Seated → Knowledge PlaceNote → Seated → Type 0
+KeepsInHandAt l p from v w u x =
+    (s : PlaceState) × (t : Looks l p s v w u x) × (k : Packet)
+    × (d e : DeskState) × AreDesks l p t.found d e × KeepsInHand from k d e w x
+
+-- What a pump of the place did: it worked off a packet, or keeps one in hand that may not be worked off; or it was
+-- idle, with nothing in hand and each link found empty, and tells how many packets the turns of the journal that it
+-- found put, and, up to 2^64 - 1, how many they worked off.
 abbrev pub Serves : Layout → ℕ → Pump → Knowledge PlaceNote → Seated → Knowledge PlaceNote → Seated → Type 0
-Serves l p (pumps.Served from) v w u x =
-    ((s : PlaceState) × (k : Packet) × TakesTurn l p (Input.Packet from k) s v w u x) ⊎ ((s : PlaceState) × Looks l p s v w u x)
+Serves l p (pumps.Served from) v w u x = WorksOffAt l p from v w u x ⊎ KeepsInHandAt l p from v w u x
 Serves l p (pumps.Idle put worked) v w u x =
-    (s : PlaceState) × (t : Looks l p s v w u x) × (put ≡ put_count (turns_at p t.found)) × (worked ≡ min (got_count (turns_at p t.found)) (2 ^ 64 - 1))
+    (s : PlaceState) × (t : Looks l p s v w u x) × (put ≡ put_count (turns_at p t.found))
+    × (worked ≡ min (got_count (turns_at p t.found)) (2 ^ 64 - 1))
+    × (d e : DeskState) × AreDesks l p t.found d e × IsIdle d e w x
 
 -- what a pump of the place p did
 pub record IsPump (n : Nucleus) (p : ℕ) (old new : Pass) (r : Result Pump CallFault) : Type 0 where
   pub pass : IsPassOf n new
   pub standing : IsSamePass (known old) (known new)
   pub served : IfOk r (λ x. Serves (layout_of n) p x (known old) (caller_of old) (known new) (caller_of new))
-  pub fault : IfErr r (λ f. Because FindsWornBy f (layout_of n) p (known old) (caller_of old) (known new) (caller_of new))
+  pub fault : IfErr r (λ f. Because FindsWornBy f (layout_of n) p (known old) (caller_of old) (known new)
+      (caller_of new))
   pub refused : OnErr r (IsRefused (known old) (caller_of old) (known new) (caller_of new))
   pub worn : worn_by new ≡ worn_after (worn_by old) r
   pub gave_is : gave (known new) ≡ gave (known old)
@@ -154,9 +190,11 @@ outcome_for seat x journal = if x.seat == seat then outcome x journal else Unkno
 pub record IsOutcome (n : Nucleus) (x : MsgId) (old new : Pass) (r : Result Outcome CallFault) : Type 0 where
   pub pass : IsPassOf n new
   pub standing : IsSamePass (known old) (known new)
-  pub told : IfOk r (λ o. (s : PlaceState) × Looks (layout_of n) (home_of (layout_of n) (caller_of old)) s (known old) (caller_of old) (known new) (caller_of new)
+  pub told : IfOk r (λ o. (s : PlaceState) × Looks (layout_of n) (home_of (layout_of n) (caller_of old)) s (known old)
+      (caller_of old) (known new) (caller_of new)
       × (o ≡ outcome_for (caller_of old).seat x s.journal))
-  pub fault : IfErr r (λ f. (by : ℕ) × (f ≡ call_faults.Busy by) × FoundBusy (home_of (layout_of n) (caller_of old)) by (known old) (known new))
+  pub fault : IfErr r (λ f. (by : ℕ) × (f ≡ call_faults.Busy by)
+      × FoundBusy (home_of (layout_of n) (caller_of old)) by (known old) (known new))
   pub caller : caller_of new ≡ caller_of old
   pub mine : (known new).mine ≡ (known old).mine
   pub worn : worn_by new ≡ worn_by old

@@ -1,6 +1,6 @@
 -- How passes begin, come and go.
 -- n is a nucleus, l a layout, q the number of a place.
-use Rattle.std.specs.Prelude.{ℕ, ◌≡◌, ◌≢◌, ◌≤◌, ◌<◌, ◌+◌, ◌==◌, nat_lt, Bool, true, false, ◌&&◌, ◌||◌, cond, [], Option, Some, None, is_some}
+use Rattle.std.specs.Prelude.{ℕ, ◌≡◌, ◌≢◌, ◌≤◌, ◌+◌, ◌==◌, nat_lt, Bool, true, ◌&&◌, ◌||◌, cond, Option, Some, None, is_some}
 use Rattle.std.specs.Option.{option_or}
 use Rattle.chorus_ui.specs.declared.ui.Ui.{Ui}
 use Rattle.chorus_ui.specs.declared.layout.Layout.{Layout}
@@ -14,9 +14,10 @@ use Rattle.law_network.specs.Calls.{first_actor}
 use Rattle.law_closing.specs.Closing.{IsPlace}
 use Rattle.chorus_nucleus.specs.declared.nucleus.Nucleus.{Nucleus}
 use Rattle.chorus_nucleus.specs.declared.pass.Pass.{Pass}
-use Rattle.chorus_nucleus.specs.Passes.{layout_of, known, caller_of, worn_by, reader_of, readers_at, seen_by, home_of, IsPassOf}
+use Rattle.chorus_nucleus.specs.Passes.{layout_of, known, caller_of, worn_by, reader_of, readers_at, home_of, IsPassOf}
 
--- nothing happened yet, and the pass is the opening one, with seat 0 in the first actor; it has all readers but the one of its own
+-- nothing happened yet, and the pass is the opening one, with seat 0 in the first actor; it has all readers but the one
+-- of its own
 pub record IsStarted (l : Layout) (n : Nucleus) (pass : Pass) : Type 0 where
   pub layout : layout_of n ≡ l
   pub pass_of : IsPassOf n pass
@@ -33,7 +34,8 @@ pub record GetsReader (place : ℕ) (old new p : Pass) : Type 0 where
   pub others : (q : ℕ) → 1 ≤ q → q ≢ place → readers_at q new ≡ readers_at q old
   pub own : (q : ℕ) → readers_at q p ≡ 0
 
--- the pass p came, of a caller in the actor, with the next number and the keeper's last clock; it has seen what the keeper has seen
+-- the pass p came, of a caller in the actor, with the next number and the keeper's last clock; it has seen what the
+-- keeper has seen
 pub record Enters (n : Nucleus) (actor : Ui) (old new p : Pass) : Type 0 where
   pub pass : IsPassOf n p
   pub knows : known p ≡ newcomer (known old)
@@ -54,11 +56,13 @@ abbrev pub given_back : Bool → Option BoardReader → ℕ → ℕ
 given_back to_keeper None count = count
 given_back to_keeper (Some r) count = cond (to_keeper && nat_lt count READERS_PER_BOARD) (count + 1) count
 
--- how many readers of the place q the pass `into` has for others, after `ended` was retired into it: those of the keeper
+-- how many readers of the place q the pass `into` has for others, after `ended` was retired into it: those of the
+-- keeper
 abbrev pub readers_after : Layout → Pass → Pass → ℕ → ℕ
 readers_after l ended into q =
     let kept : ℕ = cond (known ended).keeper (readers_at q ended) (readers_at q into) in
-    cond (q == home_of l (caller_of ended)) (given_back ((known ended).keeper || (known into).keeper) (reader_of ended) kept) kept
+    cond (q == home_of l (caller_of ended)) (given_back ((known ended).keeper || (known into).keeper)
+    (reader_of ended) kept) kept
 
 -- the pass `ended` was retired into `old`, which is now `new`
 pub record Retires (n : Nucleus) (ended old new : Pass) : Type 0 where

@@ -1,5 +1,6 @@
 -- The places of a nucleus, as they were handed back when its table was closed.
--- l is the layout, ss are the places, ds the same without their boards, that of place p at p - 1, a, b and p are numbers of places.
+-- l is the layout, ss are the places, ds the same without their boards, that of place p at p - 1, a, b and p are
+-- numbers of places.
 use Rattle.std.specs.Prelude.{ℕ, ◌≡◌, ◌≢◌, ◌==◌, ◌+◌, cond, List, [], ◌++◌, length, map, reverse, slice_get, Option, Some, None}
 use Rattle.chorus_ui.specs.declared.layout.Layout.{Layout}
 use Rattle.chorus_ui.specs.Layout.{IsLayout, places}
@@ -47,7 +48,8 @@ abbrev pub held_of : Layout → ℕ → Option (DeskOf Ruled Packet) → ℕ →
 held_of l p None a = []
 held_of l p (Some d) a = held_in l p (seen links (λ f. f) d).hand a
 
--- what was sent from each place to each other one is what was received, followed by what is left; of a place to itself nothing is left
+-- what was sent from each place to each other one is what was received, followed by what is left; of a place to itself
+-- nothing is left
 pub record AreSettled (l : Layout) (ds : List (DeskOf Ruled Packet)) (left : ℕ → ℕ → List Packet) : Type 0 where
   pub each : (a b : ℕ) → IsPlace (places l) a → IsPlace (places l) b → a ≢ b →
       sent_of l a (desk_at a ds) b ≡ received_of l b (desk_at b ds) a ++ left a b
@@ -58,13 +60,15 @@ abbrev pub left_at : List (DeskOf Ruled Packet) → ℕ → ℕ → List Packet
 left_at ds a b = cond (b == a) [] (left_between ds a b)
 
 -- these places were closed, with this left on their links
-abbrev pub AreClosedWith : Layout → (ℕ → List (Remarked PlaceNote)) → Knowledge PlaceNote → List (DeskOf Ruled Packet) → (ℕ → ℕ → List Packet) → Type 0
+abbrev pub AreClosedWith : Layout → (ℕ → List (Remarked PlaceNote)) → Knowledge PlaceNote → List (DeskOf Ruled Packet)
+    → (ℕ → ℕ → List Packet) → Type 0
 AreClosedWith l log v ds left =
-    ArePlacesClosed l log v (λ p. state_of l p (desk_at p ds)) (λ a b. sent_of l a (desk_at a ds) b) (λ a b. waits_of l a (log a) (desk_at a ds) b)
+    ArePlacesClosed l log v (λ p. state_of l p (desk_at p ds)) (λ a b. sent_of l a (desk_at a ds) b)
+    (λ a b. waits_of l a (log a) (desk_at a ds) b)
     (λ a b. received_of l b (desk_at b ds) a) (λ a b. held_of l b (desk_at b ds) a) left
 
--- the table was closed: there is a link from each place to each other one; the journals with remarks are those of the places; and however
--- the links are settled, the places were closed
+-- the table was closed: there is a link from each place to each other one; the journals with remarks are those of the
+-- places; and however the links are settled, the places were closed
 pub record IsShut (n : Nucleus) (pass : Pass) (s : Shut) : Type 0 where
   pub worn : s.worn ≡ worn_by pass
   pub left : turns.IsLeftOf n.turns pass.turner s.spent
@@ -72,5 +76,7 @@ pub record IsShut (n : Nucleus) (pass : Pass) (s : Shut) : Type 0 where
   pub count : length s.sites.items ≡ places (layout_of n)
   pub linked : AreDesksLinked (desks_in s.sites.items)
   pub log : ℕ → List (Remarked PlaceNote)
-  pub told : (k : ℕ) (d : DeskOf Ruled Packet) → slice_get (desks_in s.sites.items) k ≡ Some d → entries_of (log (k + 1)) ≡ reverse d.place.journal
-  pub closed : (rest : ℕ → ℕ → List Packet) → AreSettled (layout_of n) (desks_in s.sites.items) rest → AreClosedWith (layout_of n) log (known pass) (desks_in s.sites.items) rest
+  pub told : (k : ℕ) (d : DeskOf Ruled Packet) → slice_get (desks_in s.sites.items) k ≡ Some d
+      → entries_of (log (k + 1)) ≡ reverse d.place.journal
+  pub closed : (rest : ℕ → ℕ → List Packet) → AreSettled (layout_of n) (desks_in s.sites.items) rest
+      → AreClosedWith (layout_of n) log (known pass) (desks_in s.sites.items) rest

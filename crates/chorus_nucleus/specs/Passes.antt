@@ -86,7 +86,9 @@ pub record AreSites (l : Layout) (handed : List (Site Ruled Packet)) : Type 0 wh
   pub shape : IsLayout l
   pub count : length handed ≡ places l
   pub marks : (p : ℕ) (m : SiteMark) → 1 ≤ p → IsMarkAt mark_of handed p m → (m.layout ≡ l) × (m.number ≡ p)
-  pub links : (a b : ℕ) (m n : SiteMark) → IsPlace (places l) a → IsPlace (places l) b → a ≢ b → IsMarkAt mark_of handed a m → IsMarkAt mark_of handed b n → (is_some (out_name b m.ends) ≡ true) × (out_name b m.ends ≡ into_name a n.ends)
+  pub links : (a b : ℕ) (m n : SiteMark) → IsPlace (places l) a → IsPlace (places l) b → a ≢ b
+      → IsMarkAt mark_of handed a m → IsMarkAt mark_of handed b n → (is_some (out_name b m.ends) ≡ true)
+      × (out_name b m.ends ≡ into_name a n.ends)
 
 -- the reader is of the board of the place p
 pub record Reads (l : Layout) (handed : List (Site Ruled Packet)) (p : ℕ) (r : BoardReader) : Type 0 where
@@ -104,14 +106,15 @@ pub record AreSpare (l : Layout) (handed : List (Site Ruled Packet)) (rows : Lis
   pub room : AreRoomy rows
 
 -- the own reader is of the home place's board; only the keeper has readers for others, of each place
-pub record IsSight (l : Layout) (handed : List (Site Ruled Packet)) (v : Knowledge PlaceNote) (w : Seated) (s : Sight) : Type 0 where
+pub record IsSight (l : Layout) (handed : List (Site Ruled Packet)) (v : Knowledge PlaceNote) (w : Seated)
+    (s : Sight) : Type 0 where
   pub own : IfSome s.reader (λ r. Reads l handed (home_of l w) r)
   pub spare : AreSpare l handed s.spare.items
   pub rows : v.keeper ≡ true → length s.spare.items ≡ places l
   pub none : v.keeper ≡ false → s.spare.items ≡ []
 
--- the thread of a pass: its turns, and those of each pass in its notes, go from a new caller of its seat, in an actor of the
--- layout, to the caller that it has
+-- the thread of a pass: its turns, and those of each pass in its notes, go from a new caller of its seat, in an actor
+-- of the layout, to the caller that it has
 pub record IsCallerOf (l : Layout) (v : Knowledge PlaceNote) (w : Seated) : Type 0 where
   pub seat : w.seat ≡ v.seat
   pub kind : is_actor w.actor ≡ true

@@ -1,5 +1,6 @@
 -- What a closed nucleus is.
--- l is its layout, v what the closing pass knew, comers are those who came, c is what was closed. A past has its newest entry first.
+-- l is its layout, v what the closing pass knew, comers are those who came, c is what was closed. A past has its newest
+-- entry first.
 use Rattle.std.specs.Prelude.{◌≡◌, ℕ, true, List, [], reverse, Some}
 use Rattle.std.specs.List.{All}
 use Rattle.chorus_ui.specs.declared.ui.Ui.{Ui}
@@ -37,17 +38,20 @@ past_of c = reverse (merged (closed_journals c))
 abbrev pub holdings_of : Layout → Closed → List Holding
 holdings_of l c = holdings_left l c.ports.items c.rest.items
 
--- it performs these commands for the seat, in their order
+-- it performs these commands for the seat, in their order, in the actor in which the seat came
 abbrev pub PerformsFor : Layout → List Comer → List Entry → ℕ → List Command → Type 0
-PerformsFor l comers past seat commands = (actor : Ui) → actor_among comers seat ≡ Some actor → performs l seat actor past (reverse commands) ≡ true
+PerformsFor l comers past seat commands = (actor : Ui) → actor_among comers seat ≡ Some actor
+    → performs l seat actor past (reverse commands) ≡ true
 
--- The merge is a run of the world for those who came, in which the commands of the pass and of each pass in its notes stand each once,
--- in their order. What was handed out stands for the world of the merge; and where no packet is left, nothing is left to be done.
--- Always each port's received messages are a beginning of its accepted ones, and each accepted message has one fate.
+-- The merge is a run of the world for those who came, in which the commands of the pass and of each pass in its notes
+-- stand each once, in their order. What was handed out stands for the world of the merge; and where no packet is left,
+-- nothing is left to be done. Always each port's received messages are a beginning of its accepted ones, and each
+-- accepted message has one fate.
 pub record IsARun (l : Layout) (v : Knowledge PlaceNote) (comers : List Comer) (c : Closed) : Type 0 where
   pub run : is_run l (actor_among comers) (past_of c) ≡ true
   pub performed : PerformsFor l comers (past_of c) v.seat (gave v)
-  pub noted : All (λ (n : Note PlaceNote). PerformsFor l comers (past_of c) n.seat (commands_given (turns_in n.mine))) v.notes
+  pub noted : All (λ (n : Note PlaceNote). PerformsFor l comers (past_of c) n.seat
+      (commands_given (turns_in n.mine))) v.notes
   pub stands : StandsFor (past_of c) (holdings_of l c)
   pub quiet : c.rest.items ≡ [] → IsQuiet l (past_of c) []
   pub receives : Always ReceivesInOrder (past_of c)
@@ -59,10 +63,12 @@ pub record IsARun (l : Layout) (v : Knowledge PlaceNote) (comers : List Comer) (
   pub choice_order : Always KeepsChoiceOrder (past_of c)
 
 abbrev pub AClosedNucleusIsARun : Type 0
-AClosedNucleusIsARun = (l : Layout) (v : Knowledge PlaceNote) (comers : List Comer) (c : Closed) → IsLayout l → ClosesAs l v comers c → IsARun l v comers c
+AClosedNucleusIsARun = (l : Layout) (v : Knowledge PlaceNote) (comers : List Comer) (c : Closed) → IsLayout l
+    → ClosesAs l v comers c → IsARun l v comers c
 
--- each message that a port accepted in the merge stands in what was handed out by its fate: once where it is queued or under way, and
--- not at all where it was received or discarded
+-- each message that a port accepted in the merge stands in what was handed out by its fate: once where it is queued or
+-- under way, and not at all where it was received or discarded
 abbrev pub EachMessageStandsOnce : Type 0
 EachMessageStandsOnce =
-    (l : Layout) (v : Knowledge PlaceNote) (comers : List Comer) (c : Closed) → IsLayout l → ClosesAs l v comers c → HoldEachMessage (past_of c) (holdings_of l c)
+    (l : Layout) (v : Knowledge PlaceNote) (comers : List Comer) (c : Closed) → IsLayout l → ClosesAs l v comers c
+    → HoldEachMessage (past_of c) (holdings_of l c)

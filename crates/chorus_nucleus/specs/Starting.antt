@@ -43,7 +43,8 @@ abbrev pub AreFresh : Layout → List (Site Ruled Packet) → List (Vec BoardRea
 AreFresh l ss vs rs = AreFreshFrom l 1 ss vs rs
 
 -- the last ends were taken, and the place of this number is at them
-pub record TakesLast (l : Layout) (number : ℕ) (s : Site Ruled Packet) (v : Vec BoardReader) (old new : List Ruled) : Type 0 where
+pub record TakesLast (l : Layout) (number : ℕ) (s : Site Ruled Packet) (v : Vec BoardReader)
+    (old new : List Ruled) : Type 0 where
   pub last : Ruled
   pub items : old ≡ new ++ last ∷ []
   pub fresh : IsFresh l number last s

@@ -4,7 +4,7 @@ ghost use Rattle.chorus_ui.specs.Layout.{has_actor};
 ghost use Rattle.chorus_ui.specs.NameKind.{is_actor};
 ghost use Rattle.chorus_turn.specs.Knowing.{limit};
 ghost use Rattle.chorus_net.specs.declared.fault.EnterFault.TheVariants as EnterFault;
-ghost use Rattle.chorus_nucleus.specs.Passes.{known, layout_of, AreRoomy, IsPassOf};
+ghost use Rattle.chorus_nucleus.specs.Passes.{known, layout_of, sight_of, AreRoomy, IsPassOf};
 ghost use Rattle.chorus_nucleus.specs.Readers.{Inherits};
 ghost use Rattle.chorus_nucleus.specs.Coming.{Enters, IsKeptKeeper, Retires};
 
@@ -54,7 +54,8 @@ impl Nucleus {
         ensures no_seat { (made : ℕ) → IsErrOf result (EnterFault.NoSeat made)
             ↔ ((has_actor (layout_of self.now) actor ≡ true)
             × ((known pass.old).made ≡ limit) × (made ≡ limit)) }
-        ensures refused { OnErr result (known pass.new ≡ known pass.old) }
+        ensures refused { OnErr result ((known pass.new ≡ known pass.old)
+            × (sight_of pass.new ≡ sight_of pass.old)) }
     {
         let Some(home) = self.layout.home(actor) else {
             return Err(EnterFault::NoActor);

@@ -67,8 +67,8 @@ impl Nucleus {
         ensures reader { IfSome result.0
             (λ r. Reads self.now.layout (turns.handed self.now.turns) place r) }
         ensures done { (w : Seated) → IsCallerOf self.now.layout (turns.known turner.old) w →
-            PublishDone self.now.layout place reader result.0 result.1 (turns.known turner.old)
-            (turns.known turner.new) w }
+            PublishDone self.now.layout (turns.handed self.now.turns) place reader result.0 result.1
+            (turns.known turner.old) (turns.known turner.new) w }
     {
         let mut job = Publishes { rt, reader };
         let done = self.turns.with(turner, place, &mut job);

@@ -1,7 +1,7 @@
 -- The passes of scripts come and run.
 use Rattle.std.specs.Result.{OnOk, OnErr, is_ok}
-use Rattle.std.proofs.Common.{ℕ, zero, suc, ◌≡◌, ◌+◌, ◌-◌, ◌^◌, ◌<◌, ◌≤◌, nat_le, ◌&&◌, Bool, true, false, List, [], ◌∷◌, ◌++◌, length, Option, Some, None, Result, Ok, Err, slice_get, slice_index_or, refl, sym, ◌∙◌, ap, subst, inl, inr, arith}
-use Rattle.std.specs.List.{All, list_all}
+use Rattle.std.proofs.Common.{ℕ, zero, suc, ◌≡◌, ◌+◌, ◌<◌, nat_le, ◌&&◌, Bool, true, false, List, [], ◌∷◌, ◌++◌, length, Some, Result, Ok, Err, slice_get, slice_index_or, refl, sym, ◌∙◌, ap, subst, inl, inr, arith}
+use Rattle.std.specs.List.{list_all}
 use Rattle.std.proofs.lemmas.Bool.{and_parts, cases_lt, leb-true, false≢true}
 use Rattle.std.proofs.lemmas.Option.{slice_get_read}
 use Rattle.std.proofs.lemmas.List.{append-nil, length-append, get_or_append_left}
@@ -27,8 +27,7 @@ use Rattle.chorus_nucleus.specs.Coming.{Enters}
 use Rattle.chorus_perform.specs.declared.runner.Runner.{Runner}
 use Rattle.chorus_perform.specs.declared.stopped.Halted.{Halted}
 use Rattle.chorus_perform.specs.Going.{Goes, GoesAsFar, MayPost, AllMeet}
-use Rattle.chorus_perform.specs.Scripts.{IsKeeper}
-use Rattle.chorus_perform.specs.Runners.{AreReady, HasEntered, IsNew, IsReadyAt, HasRunAt}
+use Rattle.chorus_perform.specs.Runners.{AreReady, AreEntered, HasEntered, IsNew, IsReadyAt, HasRunAt}
 
 -- A script of the scenario.
 
@@ -137,6 +136,10 @@ new-ready n c i script actor b d p at lt new made who = record {
   };
 }
 
+-- its caller has the last clock of the one that it came from
+pub begins-at : (n : Nucleus) (actor : Ui) (b d p : Pass) → Enters n actor b d p → (caller_of p).last ≡ (caller_of b).last
+begins-at n actor b d p new = ap (λ (w : Seated). w.last) new.caller
+
 pub ready-more : (n : Nucleus) (c : Scene) (rs : List Runner) (r : Runner) (i : ℕ) → length rs ≡ i → AreReady n c rs → IsReadyAt n c i r → AreReady n c (rs ++ r ∷ [])
 ready-more n c rs r i count h new = record {
   each = λ k d lt. elim (cases_lt k (length rs)) [
@@ -146,5 +149,18 @@ ready-more n c rs r i count h new = record {
         let same : k ≡ length rs = omega (arith, lt, high, more) in
         let here : slice_index_or (rs ++ r ∷ []) k d ≡ r = ap (λ j. slice_index_or (rs ++ r ∷ []) j d) same ∙ get_or-append_seam rs r [] d in
         subst (IsReadyAt n c k) (sym here) (subst (λ j. IsReadyAt n c j r) (sym (same ∙ count)) new))
+  ];
+}
+
+pub entered-also : (n : Nucleus) (c : Scene) (begun : ℕ) (rs : List Runner) (r : Runner) (i : ℕ) → length rs ≡ i → AreEntered n c begun rs → IsReadyAt n c i r → (caller_of r.pass).last ≡ begun → AreEntered n c begun (rs ++ r ∷ [])
+entered-also n c begun rs r i count h new last = record {
+  ready = ready-more n c rs r i count h.ready new;
+  last = λ k d lt. elim (cases_lt k (length rs)) [
+    | inl low ↦ ap (λ (z : Runner). (caller_of z.pass).last) (get_or_append_left rs (r ∷ []) d k low) ∙ h.last k d low
+    | inr high ↦
+        (let more = length-append rs (r ∷ []) in
+        let same : k ≡ length rs = omega (arith, lt, high, more) in
+        let here : slice_index_or (rs ++ r ∷ []) k d ≡ r = ap (λ j. slice_index_or (rs ++ r ∷ []) j d) same ∙ get_or-append_seam rs r [] d in
+        ap (λ (z : Runner). (caller_of z.pass).last) here ∙ last)
   ];
 }

@@ -1,10 +1,11 @@
 -- What the passes leave, as they end.
-use Rattle.std.proofs.Common.{ℕ, zero, suc, ◌≡◌, ◌+◌, ◌-◌, ◌<◌, ◌≤◌, ◌&&◌, if◌then◌else◌, Bool, true, false, List, [], ◌∷◌, ◌++◌, take, length, reverse, Option, Some, None, Result, Ok, Err, slice_get, slice_index_or, refl, sym, ◌∙◌, ap, subst, inl, inr, arith}
+use Rattle.std.proofs.Common.{ℕ, zero, suc, ◌≡◌, ◌+◌, ◌-◌, ◌<◌, ◌≤◌, ◌&&◌, if◌then◌else◌, Bool, true, false, List, [], ◌∷◌, ◌++◌, take, length, reverse, Some, None, Result, Ok, Err, slice_get, slice_index_or, refl, sym, ◌∙◌, ap, subst, inl, inr, arith}
 use Rattle.std.specs.Result.{OnOk, is_ok}
-use Rattle.std.proofs.lemmas.Bool.{and_parts, cases_lt, false≢true}
+use Rattle.std.specs.List.{All}
+use Rattle.std.proofs.lemmas.Bool.{and_parts, false≢true}
 use Rattle.std.proofs.lemmas.List.{append-nil, length-append, reverse-append, get_or_append_left}
 use Rattle.std.proofs.Math.Seq.{get_or-append_seam}
-use Rattle.std.proofs.lemmas.List.Elements.{All-nil}
+use Rattle.std.proofs.lemmas.List.Elements.{All-nil, All-cons, All-append}
 use Rattle.chorus_ui.specs.declared.ui.Ui.{Ui}
 use Rattle.chorus_entry.specs.declared.command.Command.{Command}
 use Rattle.law_network.specs.Calls.{first_actor}
@@ -14,7 +15,9 @@ use Rattle.chorus_turn.specs.declared.knowledge.Placed.{Placed}
 use Rattle.chorus_turn.specs.Knowing.{note_of}
 use Rattle.law_history.specs.Runs.{commands_given}
 use Rattle.law_closing.specs.Places.{PlaceNote}
+use Rattle.law_history.specs.Journals.{PlaceTurn}
 use Rattle.law_closing.specs.Remarks.{turns_in}
+use Rattle.chorus_calls.specs.Callers.{Seated}
 use Rattle.chorus_scene.specs.Scene.{Scene, Script}
 use Rattle.chorus_report.specs.Setup.{setup_commands}
 use Rattle.chorus_nucleus.specs.declared.nucleus.Nucleus.{Nucleus}
@@ -24,9 +27,9 @@ use Rattle.chorus_nucleus.specs.Calls.{gave}
 use Rattle.law_closing.specs.Actors.{AreIn}
 use Rattle.chorus_nucleus.specs.Coming.{Retires}
 use Rattle.chorus_perform.specs.declared.runner.Runner.{Runner}
-use Rattle.chorus_perform.specs.Going.{Goes, GoesAsFar}
+use Rattle.chorus_perform.specs.Going.{Goes, GoesAsFar, BeginAbove, BeginsUpTo, CommandsUpTo}
 use Rattle.chorus_perform.specs.Scripts.{IsPerformedBy, IsOfScript, HasPerformed, IsOpening}
-use Rattle.chorus_perform.specs.Runners.{IsSetUp, HasEntered, IsReadyAt, HasRunAt, IsEndingAt, AreReady, HaveRun, AreEnding, HasRetired}
+use Rattle.chorus_perform.specs.Runners.{IsSetUp, HasEntered, IsReadyAt, HasRunAt, IsEndingAt, AreReady, AreEntered, HaveRun, AreEnding, HasRetired}
 
 -- What a pass that made nothing goes on to make.
 
@@ -50,10 +53,22 @@ less-performed x y actor commands mine h p = record { left = p.left; whole = p.w
 less-of-script : (x y : Bool) (c : Scene) (i : ℕ) (note : Note PlaceNote) → (x ≡ true → y ≡ true) → IsOfScript y c i note → IsOfScript x c i note
 less-of-script x y c i note h s = record { script = s.script; is = s.is; seat = s.seat; performed = less-performed x y s.script.actor s.script.commands note.mine h s.performed }
 
+none-above : (clock : ℕ) (mine : List (Placed PlaceNote)) → mine ≡ [] → BeginAbove clock (turns_in mine)
+none-above clock mine none = subst (λ (made : List (Placed PlaceNote)). BeginAbove clock (turns_in made)) (sym none) (All-nil (λ (t : PlaceTurn). clock < t.first))
+
+none-up-to : (clock : ℕ) (mine : List (Placed PlaceNote)) → mine ≡ [] → CommandsUpTo clock (turns_in mine)
+none-up-to clock mine none = subst (λ (made : List (Placed PlaceNote)). CommandsUpTo clock (turns_in made)) (sym none) (All-nil (λ (t : PlaceTurn). BeginsUpTo clock t.first t.input))
+
+first-above : (given : List Command) (begun : ℕ) (a b : Pass) → (known a).mine ≡ [] → (caller_of a).last ≡ begun → Goes given a b → BeginAbove begun (turns_in (known b).mine)
+first-above given begun a b none last g = g.rises.above begun (omega (arith, last)) (none-above begun (known a).mine none)
+
+first-up-to : (given : List Command) (a b : Pass) → (known a).mine ≡ [] → Goes given a b → CommandsUpTo (caller_of b).last (turns_in (known b).mine)
+first-up-to given a b none g = g.rises.up_to (caller_of b).last (inr (omega arith)) (none-up-to (caller_of b).last (known a).mine none)
+
 -- A runner ends.
 
-pub is-ending : (n : Nucleus) (c : Scene) (i : ℕ) (a b : Runner) → IsReadyAt n c i a → HasRunAt n c i a b → IsEndingAt n c i b
-is-ending n c i a b r h = let new = r.new h.script h.is in record {
+pub is-ending : (n : Nucleus) (c : Scene) (begun i : ℕ) (a b : Runner) → IsReadyAt n c i a → (caller_of a.pass).last ≡ begun → HasRunAt n c i a b → IsEndingAt n c begun i b
+is-ending n c begun i a b r last h = let new = r.new h.script h.is in record {
   pass = h.pass;
   notes = h.goes.same.1 ∙ new.notes;
   keeper = h.goes.same.2 ∙ new.keeper;
@@ -63,10 +78,11 @@ is-ending n c i a b r h = let new = r.new h.script h.is in record {
     seat = h.goes.same.0 ∙ new.seat_is;
     performed = performed-by b.done h.script.actor h.script.commands h.given h.left a.pass b.pass new.mine new.actor_is h.whole h.goes h.all;
   };
+  later = first-above h.given begun a.pass b.pass new.mine last h.goes;
 }
 
-not-run : (n : Nucleus) (c : Scene) (i : ℕ) (script : Script) (a : Runner) → slice_get c.scripts i ≡ Some script → IsReadyAt n c i a → IsEndingAt n c i a
-not-run n c i script a at r = let new = r.new script at in record {
+not-run : (n : Nucleus) (c : Scene) (begun i : ℕ) (script : Script) (a : Runner) → slice_get c.scripts i ≡ Some script → IsReadyAt n c i a → IsEndingAt n c begun i a
+not-run n c begun i script a at r = let new = r.new script at in record {
   pass = r.pass;
   notes = new.notes;
   keeper = new.keeper;
@@ -81,11 +97,14 @@ not-run n c i script a at r = let new = r.new script at in record {
       none_left = λ e. absurd (false≢true (sym r.begins ∙ e));
     };
   };
+  later = none-above begun (known a.pass).mine new.mine;
 }
 
-pub all-ended : (n : Nucleus) (c : Scene) (xs ys : List Runner) → length ys ≡ length xs → AreReady n c xs → HaveRun n c xs ys → AreEnding n c ys
-all-ended n c xs ys same ready ran = record {
-  each = λ i d lt. (let low : i < length xs = omega (arith, lt, same) in is-ending n c i (slice_index_or xs i d) (slice_index_or ys i d) (ready.each i d low) (ran.each i d low));
+pub all-ended : (n : Nucleus) (c : Scene) (begun : ℕ) (xs ys : List Runner) → length ys ≡ length xs → AreEntered n c begun xs → HaveRun n c xs ys → AreEnding n c begun ys
+all-ended n c begun xs ys same entered ran = record {
+  each = λ i d lt.
+      (let low : i < length xs = omega (arith, lt, same) in
+      is-ending n c begun i (slice_index_or xs i d) (slice_index_or ys i d) (entered.ready.each i d low) (entered.last i d low) (ran.each i d low));
 }
 
 script-there : (xs : List Script) (i : ℕ) → i < length xs → (x : Script) × (slice_get xs i ≡ Some x)
@@ -93,15 +112,16 @@ script-there [] i lt = absurd (omega (arith, lt))
 script-there (x ∷ xs) zero lt = (x, refl)
 script-there (x ∷ xs) (suc i) lt = script-there xs i (omega (arith, lt))
 
-pub none-ended : (n : Nucleus) (c : Scene) (rs : List Runner) → AreReady n c rs → AreEnding n c rs
-none-ended n c rs ready = record {
-  each = λ i d lt. (let r = ready.each i d lt in let s = script-there c.scripts i r.inside in not-run n c i s.0 (slice_index_or rs i d) s.1 r);
+pub none-ended : (n : Nucleus) (c : Scene) (begun : ℕ) (rs : List Runner) → AreReady n c rs → AreEnding n c begun rs
+none-ended n c begun rs ready = record {
+  each = λ i d lt. (let r = ready.each i d lt in let s = script-there c.scripts i r.inside in not-run n c begun i s.0 (slice_index_or rs i d) s.1 r);
 }
 
 -- It is retired: the last one first.
 
 pub retired-none : (c : Scene) (m : ℕ) (a : Pass) → (known a).notes ≡ [] → HasRetired true c m 0 a a
 retired-none c m a none = record {
+  later = subst (λ (ns : List (Note PlaceNote)). All (λ (x : Note PlaceNote). BeginAbove (caller_of a).last (turns_in x.mine)) ns) (sym none) (All-nil (λ (x : Note PlaceNote). BeginAbove (caller_of a).last (turns_in x.mine)));
   notes = ap (λ (ns : List (Note PlaceNote)). length ns) none;
   scripts = λ i note h. absurd (let bad : None ≡ Some note = sym (ap (λ (ns : List (Note PlaceNote)). slice_get (reverse ns) i) none) ∙ h in cc);
   seat = refl;
@@ -111,9 +131,13 @@ retired-none c m a none = record {
   caller = refl;
 }
 
+abbrev LaterThan : ℕ → Note PlaceNote → Type 0
+LaterThan clock x = BeginAbove clock (turns_in x.mine)
+
 -- the notes are one more, and the one more stands first of them in reverse
-pub retired-more : (n : Nucleus) (c : Scene) (all : Bool) (r : Runner) (a b d : Pass) (m count : ℕ) → HasRetired all c (m + 1) count a b → IsEndingAt n c m r → Retires n r.pass b d → HasRetired (r.done && all) c m (count + 1) a d
+pub retired-more : (n : Nucleus) (c : Scene) (all : Bool) (r : Runner) (a b d : Pass) (m count : ℕ) → HasRetired all c (m + 1) count a b → IsEndingAt n c (caller_of a).last m r → Retires n r.pass b d → HasRetired (r.done && all) c m (count + 1) a d
 retired-more n c all r a b d m count e o w = record {
+  later = subst (All (LaterThan (caller_of a).last)) (sym notes-are) (All-append (LaterThan (caller_of a).last) (known b).notes (note ∷ []) e.later (All-cons (LaterThan (caller_of a).last) note [] o.later (All-nil (LaterThan (caller_of a).last))));
   notes = (let is = ap (λ (ns : List (Note PlaceNote)). length ns) notes-are in let l = length-append (known b).notes (note ∷ []) in let was = e.notes in omega (arith, is, l, was));
   scripts = scripts;
   seat = ap (λ (v : Knowledge PlaceNote). v.seat) w.knows ∙ e.seat;
@@ -147,12 +171,12 @@ retired-more n c all r a b d m count e o w = record {
         next m i = omega arith
 
 -- of runners without the last one
-pub but-last : (n : Nucleus) (c : Scene) (rs : List Runner) (r : Runner) → AreEnding n c (rs ++ r ∷ []) → AreEnding n c rs × IsEndingAt n c (length rs) r
-but-last n c rs r h = (
+pub but-last : (n : Nucleus) (c : Scene) (begun : ℕ) (rs : List Runner) (r : Runner) → AreEnding n c begun (rs ++ r ∷ []) → AreEnding n c begun rs × IsEndingAt n c begun (length rs) r
+but-last n c begun rs r h = (
   record {
-    each = λ i d lt. (let more = length-append rs (r ∷ []) in let lt' : i < length (rs ++ r ∷ []) = omega (arith, lt, more) in subst (IsEndingAt n c i) (get_or_append_left rs (r ∷ []) d i lt) (h.each i d lt'));
+    each = λ i d lt. (let more = length-append rs (r ∷ []) in let lt' : i < length (rs ++ r ∷ []) = omega (arith, lt, more) in subst (IsEndingAt n c begun i) (get_or_append_left rs (r ∷ []) d i lt) (h.each i d lt'));
   },
-  (let more = length-append rs (r ∷ []) in let lt : length rs < length (rs ++ r ∷ []) = omega (arith, more) in subst (IsEndingAt n c (length rs)) (get_or-append_seam rs r [] r) (h.each (length rs) r lt)),
+  (let more = length-append rs (r ∷ []) in let lt : length rs < length (rs ++ r ∷ []) = omega (arith, more) in subst (IsEndingAt n c begun (length rs)) (get_or-append_seam rs r [] r) (h.each (length rs) r lt)),
 )
 
 -- What all leave.
@@ -166,7 +190,12 @@ is-set-up c a b o g = record {
     notes = g.same.1 ∙ o.keeper.notes;
   };
   setup = performed-by true first_actor (setup_commands c) (setup_commands c) [] a b o.mine o.actor (sym (append-nil (setup_commands c))) g (λ e. refl);
+  first = first-up-to (setup_commands c) a b o.mine g;
 }
+
+no-notes-above : (clock : ℕ) (notes : List (Note PlaceNote)) → notes ≡ [] → All (λ (x : Note PlaceNote). BeginAbove clock (turns_in x.mine)) notes
+no-notes-above clock notes none =
+    subst (All (λ (x : Note PlaceNote). BeginAbove clock (turns_in x.mine))) (sym none) (All-nil (λ (x : Note PlaceNote). BeginAbove clock (turns_in x.mine)))
 
 pub performed-all : (c : Scene) (all : Bool) (a b d : Pass) (k : ℕ) → IsSetUp c a → HasEntered k a b → HasRetired all c 0 k b d → (all ≡ true → k ≡ length c.scripts) → HasPerformed all c (known d)
 performed-all c all a b d k s e o count = record {
@@ -175,6 +204,12 @@ performed-all c all a b d k s e o count = record {
   ended = (let m = o.made in let w = e.keeper.made in let n = o.notes in omega (arith, m, w, n));
   count = λ h. (let n = o.notes in let q = count h in omega (arith, n, q));
   setup = subst (IsPerformedBy all first_actor (setup_commands c)) (sym (o.mine ∙ e.mine)) (less-performed all true first_actor (setup_commands c) (known a).mine (λ h. refl) s.setup);
+  first = record {
+    begun = (caller_of b).last;
+    setup = subst (λ m. CommandsUpTo m (turns_in (known d).mine)) (sym (ap (λ (w : Seated). w.last) e.caller))
+        (subst (λ (made : List (Placed PlaceNote)). CommandsUpTo (caller_of a).last (turns_in made)) (sym (o.mine ∙ e.mine)) s.first);
+    scripts = o.later;
+  };
   scripts = λ i note h. subst (λ j. IsOfScript all c j note) (none-more i) (o.scripts i note h);
 }
   where
@@ -188,6 +223,7 @@ less-done c x y v h p = record {
   ended = p.ended;
   count = λ e. p.count (h e);
   setup = less-performed x y first_actor (setup_commands c) v.mine h p.setup;
+  first = p.first;
   scripts = λ i note is. less-of-script x y c i note h (p.scripts i note is);
 }
 
@@ -203,6 +239,11 @@ performed-setup c a b o far = let g = far.goes in record {
   ended = (let m = g.same.3 in let w = o.keeper.made in let n = ap (λ (ns : List (Note PlaceNote)). length ns) (g.same.1 ∙ o.keeper.notes) in omega (arith, m, w, n));
   count = λ e. absurd (false≢true e);
   setup = performed-by false first_actor (setup_commands c) far.given far.left a b o.mine o.actor far.whole g (λ e. absurd (false≢true e));
+  first = record {
+    begun = (caller_of b).last;
+    setup = first-up-to far.given a b o.mine g;
+    scripts = no-notes-above (caller_of b).last (known b).notes (g.same.1 ∙ o.keeper.notes);
+  };
   scripts = no-notes c false (known b).notes (g.same.1 ∙ o.keeper.notes);
 }
 
@@ -213,6 +254,11 @@ performed-alone c a s = record {
   ended = (let w = s.keeper.made in let n = ap (λ (ns : List (Note PlaceNote)). length ns) s.keeper.notes in omega (arith, w, n));
   count = λ e. absurd (false≢true e);
   setup = less-performed false true first_actor (setup_commands c) (known a).mine (λ h. refl) s.setup;
+  first = record {
+    begun = (caller_of a).last;
+    setup = s.first;
+    scripts = no-notes-above (caller_of a).last (known a).notes s.keeper.notes;
+  };
   scripts = no-notes c false (known a).notes s.keeper.notes;
 }
 
@@ -229,6 +275,11 @@ performed-on c all a b who p g = record {
     within = subst (λ actor. AreIn actor (known b).mine) who (g.within (subst (λ actor. AreIn actor (known a).mine) (sym who) p.setup.within));
     none_left = p.setup.none_left;
   };
+  first = record {
+    begun = p.first.begun;
+    setup = g.rises.up_to p.first.begun (inl refl) p.first.setup;
+    scripts = subst (All (λ (x : Note PlaceNote). BeginAbove p.first.begun (turns_in x.mine))) (sym g.same.1) p.first.scripts;
+  };
   scripts = subst (λ (ns : List (Note PlaceNote)). (i : ℕ) (note : Note PlaceNote) → slice_get (reverse ns) i ≡ Some note → IsOfScript all c i note) (sym g.same.1) p.scripts;
 }
 
@@ -242,6 +293,7 @@ put-back n xs zs is = ap (λ k. take k (xs ++ zs)) is ∙ take-front xs zs
 
 pub retired-less : (c : Scene) (x y : Bool) (m count : ℕ) (a b : Pass) → (x ≡ true → y ≡ true) → HasRetired y c m count a b → HasRetired x c m count a b
 retired-less c x y m count a b h r = record {
+  later = r.later;
   notes = r.notes;
   scripts = λ i note is. less-of-script x y c (m + i) note h (r.scripts i note is);
   seat = r.seat;
@@ -257,7 +309,7 @@ performed-so c x y a b d k s e o count =
     performed-all c (x && y) a b d k s e (retired-less c (x && y) x 0 k b d (λ h. (and_parts x y h).0) o) (λ h. count (and_parts x y h).1)
 
 -- a runner was popped and retired
-pub retired-step : (n : Nucleus) (c : Scene) (all done : Bool) (r : Runner) (a b d : Pass) (was now whole : ℕ) → was ≡ now + 1 → was ≤ whole → done ≡ r.done → HasRetired all c was (whole - was) a b → IsEndingAt n c now r → Retires n r.pass b d → HasRetired (done && all) c now (whole - now) a d
+pub retired-step : (n : Nucleus) (c : Scene) (all done : Bool) (r : Runner) (a b d : Pass) (was now whole : ℕ) → was ≡ now + 1 → was ≤ whole → done ≡ r.done → HasRetired all c was (whole - was) a b → IsEndingAt n c (caller_of a).last now r → Retires n r.pass b d → HasRetired (done && all) c now (whole - now) a d
 retired-step n c all done r a b d was now whole is most same e o w =
     let so_far = subst (λ k. HasRetired all c k (whole - was) a b) is e in
     let more = retired-more n c all r a b d now (whole - was) so_far o w in

@@ -1,6 +1,6 @@
 -- A pass goes on by one call more.
 use Rattle.std.specs.Result.{OnOk, OnErr}
-use Rattle.std.proofs.Common.{ℕ, zero, suc, take, take_all, drop, slice_index_or, Result, Ok, Err, ◌≡◌, ◌+◌, ◌-◌, ◌^◌, ◌<◌, ◌≤◌, ◌⊎◌, true, List, [], ◌∷◌, ◌++◌, length, refl, sym, ◌∙◌, ap, subst, inl, inr, arith, append_assoc}
+use Rattle.std.proofs.Common.{ℕ, zero, suc, take, take_all, drop, slice_index_or, Result, Ok, Err, ◌≡◌, ◌+◌, ◌<◌, ◌≤◌, List, [], ◌∷◌, ◌++◌, length, refl, sym, ◌∙◌, ap, subst, inl, inr, arith, append_assoc}
 use Rattle.std.proofs.lemmas.List.{append-nil, length-append, take_more}
 use Rattle.std.proofs.lemmas.List.Elements.{All-nil, All-cons, All-append}
 use Rattle.chorus_ui.specs.declared.ui.Ui.{Ui}
@@ -13,14 +13,16 @@ use Rattle.law_machine.specs.declared.reply.Reply.{Reply}
 use Rattle.law_machine.specs.PlaceState.{PlaceState}
 use Rattle.chorus_serve.specs.declared.pump.Pump.{Pump}
 use Rattle.chorus_serve.specs.declared.pump.Pump.TheVariants as pumps
-use Rattle.chorus_turn.specs.declared.knowledge.Remarked.{Remarked}
 use Rattle.chorus_turn.specs.declared.knowledge.Placed.{Placed}
 use Rattle.chorus_turn.specs.declared.knowledge.Knowledge.{Knowledge}
 use Rattle.chorus_turn.specs.Journals.{with_place}
 use Rattle.law_history.specs.declared.turns.Input.{Input}
-use Rattle.law_history.specs.PlaceTurns.{machine}
+use Rattle.law_history.specs.PlaceTurns.{machine, turn}
+use Rattle.law_history.specs.Journals.{PlaceTurn}
+use Rattle.law_history.proofs.Rising.{place-rises}
 use Rattle.law_closing.specs.Places.{PlaceNote}
-use Rattle.law_closing.specs.Remarks.{numbered, remarked}
+use Rattle.law_closing.specs.Remarks.{numbered, remarked, turn_of, turns_in}
+use Rattle.law_closing.proofs.Growth.{turns_in-append, turns_in-placed, turns_at-remarked}
 use Rattle.law_closing.specs.Growth.{noted}
 use Rattle.place_site.specs.Turning.{TakesTurn, Looks}
 use Rattle.chorus_nucleus.specs.declared.nucleus.Nucleus.{Nucleus}
@@ -29,7 +31,7 @@ use Rattle.chorus_nucleus.specs.declared.fault.CallFault.{CallFault}
 use Rattle.chorus_nucleus.specs.Passes.{layout_of, known, caller_of}
 use Rattle.chorus_nucleus.specs.Calls.{gave, IsCall, IsPump, Serves}
 use Rattle.law_closing.specs.Actors.{AreIn}
-use Rattle.chorus_perform.specs.Going.{Goes, GoesAsFar}
+use Rattle.chorus_perform.specs.Going.{Goes, GoesAsFar, Rises, BeginAbove, BeginsUpTo, CommandsUpTo}
 
 abbrev IsIn : Ui → Placed PlaceNote → Type 0
 IsIn actor m = m.remarked.remark.before.actor ≡ actor
@@ -43,6 +45,21 @@ goes-not a = record {
   same = (refl, refl, refl, refl);
   actor = refl;
   posts = omega arith;
+  rises = record { last = omega arith; above = λ clock le h. h; up_to = λ clock how h. h };
+}
+
+both-none : (xs ys : List Command) → xs ++ ys ≡ [] → (xs ≡ []) × (ys ≡ [])
+both-none [] ys h = (refl, h)
+both-none (x ∷ xs) ys h = absurd (cc)
+
+rises-then : (xs ys : List Command) (a b c : Pass) → Rises xs a b → Rises ys b c → Rises (xs ++ ys) a c
+rises-then xs ys a b c g h = record {
+  last = omega (arith, g.last, h.last);
+  above = λ clock le all. h.above clock (omega (arith, le, g.last)) (g.above clock le all);
+  up_to = λ clock how all. elim how [
+    | inl none ↦ (let both = both-none xs ys none in h.up_to clock (inl both.1) (g.up_to clock (inl both.0) all))
+    | inr le ↦ h.up_to clock (inr le) (g.up_to clock (inr (omega (arith, le, h.last))) all)
+  ];
 }
 
 pub goes-then : (xs ys : List Command) (a b c : Pass) → Goes xs a b → Goes ys b c → Goes (xs ++ ys) a c
@@ -52,6 +69,7 @@ goes-then xs ys a b c g h = record {
   same = (h.same.0 ∙ g.same.0, h.same.1 ∙ g.same.1, h.same.2 ∙ g.same.2, h.same.3 ∙ g.same.3);
   actor = h.actor ∙ g.actor;
   posts = omega (arith, g.posts, h.posts, length-append xs ys);
+  rises = rises-then xs ys a b c g.rises h.rises;
 }
 
 pub goes-none : (a b c : Pass) → Goes [] a b → Goes [] b c → Goes [] a c
@@ -78,6 +96,69 @@ turn-in l p i s v w u x t all =
     let news = with_place p (remarked r (t.entry ∷ t.later)) in
     subst (AreIn w.actor) (sym (ap (λ (k : Knowledge PlaceNote). k.mine) t.knows)) (All-append (IsIn w.actor) v.mine news all (before-in p 0 r (t.entry ∷ t.later)))
 
+-- it is one turn more, which began above the caller's clock, and at most at the one that the caller then has
+record Took (i : Input Command Packet) (v : Knowledge PlaceNote) (w : Seated) (u : Knowledge PlaceNote) (x : Seated) : Type 0 where
+  taken : PlaceTurn
+  is : turns_in u.mine ≡ turns_in v.mine ++ taken ∷ []
+  input : taken.input ≡ i
+  above : w.last < taken.first
+  up_to : taken.first ≤ x.last
+
+took : (l : Layout) (p : ℕ) (i : Input Command Packet) (s : PlaceState) (v : Knowledge PlaceNote) (w : Seated) (u : Knowledge PlaceNote) (x : Seated) → TakesTurn l p i s v w u x → Took i v w u x
+took l p i s v w u x t =
+    let r = noted (machine l) p i s w in
+    let news = remarked r (t.entry ∷ t.later) in
+    let clock = t.clock in
+    let high = (place-rises l).above_caller p i s w t.may in
+    let low = (place-rises l).to_caller p i s w t.may in
+    let last : x.last ≡ (turn i s w).caller.last = ap (λ (z : Seated). z.last) t.after in
+    record {
+      taken = turn_of p (record { entry = t.entry; remark = r });
+      is =
+          ap (λ (k : Knowledge PlaceNote). turns_in k.mine) t.knows ∙ turns_in-append v.mine (with_place p news)
+          ∙ ap (λ ts. turns_in v.mine ++ ts) (turns_in-placed p news ∙ turns_at-remarked p r t.entry t.later);
+      input = refl;
+      above = omega (arith, clock, high);
+      up_to = omega (arith, clock, low, last);
+    }
+
+module _ (i : Input Command Packet) (v : Knowledge PlaceNote) (w : Seated) (u : Knowledge PlaceNote) (x : Seated) (t : Took i v w u x) where
+  took-above : (clock : ℕ) → clock ≤ w.last → BeginAbove clock (turns_in v.mine) → BeginAbove clock (turns_in u.mine)
+  took-above clock le all =
+      let high = t.above in
+      subst (BeginAbove clock) (sym t.is)
+      (All-append (λ (z : PlaceTurn). clock < z.first) (turns_in v.mine) (t.taken ∷ []) all (All-cons (λ (z : PlaceTurn). clock < z.first) t.taken [] (omega (arith, le, high)) (All-nil (λ (z : PlaceTurn). clock < z.first))))
+
+  took-up-to : (clock : ℕ) → BeginsUpTo clock t.taken.first i → CommandsUpTo clock (turns_in v.mine) → CommandsUpTo clock (turns_in u.mine)
+  took-up-to clock le all =
+      subst (CommandsUpTo clock) (sym t.is)
+      (All-append (λ (z : PlaceTurn). BeginsUpTo clock z.first z.input) (turns_in v.mine) (t.taken ∷ []) all
+      (All-cons (λ (z : PlaceTurn). BeginsUpTo clock z.first z.input) t.taken [] (subst (BeginsUpTo clock t.taken.first) (sym t.input) le) (All-nil (λ (z : PlaceTurn). BeginsUpTo clock z.first z.input))))
+
+rises-call : (c : Command) (a b : Pass) → Took (Input.Command c) (known a) (caller_of a) (known b) (caller_of b) → Rises (c ∷ []) a b
+rises-call c a b t = record {
+  last = (let high = t.above in let low = t.up_to in omega (arith, high, low));
+  above = took-above (Input.Command c) (known a) (caller_of a) (known b) (caller_of b) t;
+  up_to = λ clock how. elim how [
+    | inl none ↦ absurd (cc)
+    | inr le ↦ (let low = t.up_to in took-up-to (Input.Command c) (known a) (caller_of a) (known b) (caller_of b) t clock (omega (arith, low, le)))
+  ];
+}
+
+rises-packet : (from : ℕ) (k : Packet) (a b : Pass) → Took (Input.Packet from k) (known a) (caller_of a) (known b) (caller_of b) → Rises [] a b
+rises-packet from k a b t = record {
+  last = (let high = t.above in let low = t.up_to in omega (arith, high, low));
+  above = took-above (Input.Packet from k) (known a) (caller_of a) (known b) (caller_of b) t;
+  up_to = λ clock how all. took-up-to (Input.Packet from k) (known a) (caller_of a) (known b) (caller_of b) t clock tt all;
+}
+
+rises-none : (a b : Pass) → (known b).mine ≡ (known a).mine → caller_of b ≡ caller_of a → Rises [] a b
+rises-none a b same caller = record {
+  last = (let e = ap (λ (w : Seated). w.last) caller in omega (arith, e));
+  above = λ clock le all. subst (λ mine. BeginAbove clock (turns_in mine)) (sym same) all;
+  up_to = λ clock how all. subst (λ mine. CommandsUpTo clock (turns_in mine)) (sym same) all;
+}
+
 same-in : (actor : Ui) (xs ys : List (Placed PlaceNote)) → ys ≡ xs → AreIn actor xs → AreIn actor ys
 same-in actor xs ys is all = subst (AreIn actor) (sym is) all
 
@@ -89,6 +170,14 @@ serve-in l p (pumps.Served from) v w u x (inl turn) all = turn-in l p (Input.Pac
 serve-in l p (pumps.Served from) v w u x (inr look) all = same-in w.actor v.mine u.mine (look-mine l p look.0 v w u x look.1) all
 serve-in l p (pumps.Idle put worked) v w u x look all = same-in w.actor v.mine u.mine (look-mine l p look.0 v w u x look.1) all
 
+serve-rises : (l : Layout) (p : ℕ) (pump : Pump) (a b : Pass) → Serves l p pump (known a) (caller_of a) (known b) (caller_of b) → Rises [] a b
+serve-rises l p (pumps.Served from) a b (inl turn) =
+    rises-packet from turn.1 a b (took l p (Input.Packet from turn.1) turn.0 (known a) (caller_of a) (known b) (caller_of b) turn.2)
+serve-rises l p (pumps.Served from) a b (inr look) =
+    rises-none a b (look-mine l p look.0 (known a) (caller_of a) (known b) (caller_of b) look.1) look.1.after
+serve-rises l p (pumps.Idle put worked) a b look =
+    rises-none a b (look-mine l p look.0 (known a) (caller_of a) (known b) (caller_of b) look.1) look.1.after
+
 pub goes-call : (n : Nucleus) (c : Command) (a b : Pass) (r : Reply) → IsCall n c a b (Ok r) → Goes (c ∷ []) a b
 goes-call n c a b r h = record {
   gave_is = h.gave_is;
@@ -96,6 +185,7 @@ goes-call n c a b r h = record {
   same = h.standing;
   actor = h.grows.actor;
   posts = h.grows.posts;
+  rises = rises-call c a b (took _ _ (Input.Command c) h.turn.state (known a) (caller_of a) (known b) (caller_of b) h.turn.turn);
 }
 
 pub goes-refused : (n : Nucleus) (c : Command) (a b : Pass) (f : CallFault) → IsCall n c a b (Err f) → Goes [] a b
@@ -105,6 +195,7 @@ goes-refused n c a b f h = record {
   same = h.standing;
   actor = h.grows.actor;
   posts = (let e = ap (λ (w : Seated). w.posts) h.refused.caller in omega (arith, e));
+  rises = rises-none a b h.refused.mine h.refused.caller;
 }
 
 pub goes-pump : (n : Nucleus) (p : ℕ) (a b : Pass) (r : Result Pump CallFault) → IsPump n p a b r → Goes [] a b
@@ -114,6 +205,7 @@ goes-pump n p a b (Ok pump) h = record {
   same = h.standing;
   actor = h.stays.actor;
   posts = omega (arith, h.stays.posts);
+  rises = serve-rises (layout_of n) p pump a b h.served;
 }
 goes-pump n p a b (Err f) h = record {
   gave_is = h.gave_is ∙ sym (append-nil (gave (known a)));
@@ -121,6 +213,7 @@ goes-pump n p a b (Err f) h = record {
   same = h.standing;
   actor = h.stays.actor;
   posts = omega (arith, h.stays.posts);
+  rises = rises-none a b h.refused.mine h.refused.caller;
 }
 
 -- Of a list of commands, one more.

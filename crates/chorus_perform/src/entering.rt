@@ -3,10 +3,10 @@
 ghost use Rattle.std.specs.Prelude.{◌≡◌, ◌≤◌, [], length, OnOk};
 ghost use Rattle.std.specs.Vec.{vec_len, vec_capacity};
 ghost use Rattle.chorus_scene.specs.Limits.{Keeps};
-ghost use Rattle.chorus_nucleus.specs.Passes.{layout_of, known, IsPassOf};
+ghost use Rattle.chorus_nucleus.specs.Passes.{caller_of, layout_of, known, IsPassOf};
 ghost use Rattle.chorus_nucleus.specs.Coming.{Retires};
 ghost use Rattle.chorus_perform.specs.Scripts.{IsKeeper};
-ghost use Rattle.chorus_perform.specs.Runners.{AreEnding, AreReady, HasEntered, HasRetired};
+ghost use Rattle.chorus_perform.specs.Runners.{AreEnding, AreEntered, HasEntered, HasRetired};
 
 use crate::runner::Runner;
 use crate::stopped::Halted;
@@ -29,7 +29,8 @@ pub(crate) fn enter(
         × (length scenario.now.scripts ≤ vec_capacity runners.old) }
     ensures pass { IsPassOf nucleus.now pass.new }
     ensures entered { HasEntered (vec_len runners.new) pass.old pass.new }
-    ensures ready { AreReady nucleus.now scenario.now runners.new.items }
+    ensures runners { AreEntered nucleus.now scenario.now (caller_of pass.old).last
+        runners.new.items }
     ensures all { OnOk result (vec_len runners.new ≡ length scenario.now.scripts) }
 {
     for index in 0..scenario.scripts().len() {
@@ -60,11 +61,11 @@ pub(crate) fn retire(
 ) -> bool
     requires pass { IsPassOf nucleus.now pass.old }
     requires notes { (known pass.old).notes ≡ [] }
-    requires ending { AreEnding nucleus.now scenario.now runners.items }
+    requires ending { AreEnding nucleus.now scenario.now (caller_of pass.old).last runners.items }
     ensures pass { IsPassOf nucleus.now pass.new }
     ensures retired { HasRetired result scenario.now 0 (vec_len runners) pass.old pass.new }
 {
-    let _scenario = scenario;
+    let _scenario = scenario; // for what is said of it
     let mut all = true;
     while let Some(runner) = runners.pop() {
         all = retire_one(nucleus, runner, pass) & all;

@@ -1,9 +1,10 @@
 //! A thread pumps.
 
-ghost use Rattle.std.specs.Prelude.{◌≡◌, [], true};
+ghost use Rattle.std.specs.Prelude.{◌≡◌, ◌<◌, ◌≤◌, [], true};
 ghost use Rattle.chorus_ui.specs.Layout.{has_place, places};
 ghost use Rattle.chorus_nucleus.specs.Passes.{layout_of, IsPassOf};
 ghost use Rattle.chorus_perform.specs.Going.{Goes};
+ghost use Rattle.chorus_perform.specs.declared.pumping.TheConstants.{IDLE_ROTATIONS};
 
 use crate::share::Share;
 use crate::stopped::Halted;
@@ -15,11 +16,8 @@ use std::thread;
 /// How often a thread pumps its home place behind a command, at most: a message to another site is a try and a verdict.
 const HOME_PUMPS: u32 = 3;
 
-/// How many rotations a thread pumps at most when its commands are done. What is then left is left to seat 0.
-const TAIL_ROTATIONS: u32 = 64;
-
-/// How many idle rotations end this earlier.
-const IDLE_ROTATIONS: u32 = 2;
+/// After how many idle rotations a thread whose commands are done is done. What is then left is left to seat 0.
+const IDLE_ROTATIONS: u32 = 64;
 
 /// Pumps a place once. False where it was idle, and where another thread has it, which is not waited for.
 pub(crate) fn pump<R: Wait>(
@@ -54,32 +52,33 @@ pub(crate) fn pump_behind<R: Wait>(
     ensures goes { Goes [] pass.old pass.new }
     ensures share { share.new.places ≡ share.old.places }
 {
-    pump_home(rt, nucleus, pass, share)?;
+    pump_at(rt, nucleus, pass, share.home(), HOME_PUMPS)?;
     pump_next(rt, nucleus, pass, share)?;
     Ok(())
 }
 
-/// Pumps the home place until it is idle, or a few times.
-fn pump_home<R: Wait>(
+/// Pumps a place until it is idle, or so many times.
+pub(crate) fn pump_at<R: Wait>(
     rt: &R,
     nucleus: &Nucleus,
     pass: &mut Pass,
-    share: &Share,
+    place: u16,
+    most: u32,
 ) -> Result<(), Halted>
     requires pass { IsPassOf nucleus.now pass.old }
-    requires share { share.now.places ≡ places (layout_of nucleus.now) }
+    requires place { has_place (layout_of nucleus.now) place ≡ true }
     ensures pass { IsPassOf nucleus.now pass.new }
     ensures goes { Goes [] pass.old pass.new }
 {
-    for _ in 0..HOME_PUMPS {
-        if !pump(rt, nucleus, pass, share.home())? {
+    for _ in 0..most {
+        if !pump(rt, nucleus, pass, place)? {
             return Ok(());
         }
     }
     Ok(())
 }
 
-/// Pumps the place whose turn it is. True where it worked off a packet.
+/// Pumps the place whose turn it is, unless it is the home place, which is pumped besides. True where it worked off a packet.
 pub(crate) fn pump_next<R: Wait>(
     rt: &R,
     nucleus: &Nucleus,
@@ -93,6 +92,9 @@ pub(crate) fn pump_next<R: Wait>(
     ensures share { share.new.places ≡ share.old.places }
 {
     let place = share.next_place();
+    if place == share.home() {
+        return Ok(false);
+    }
     pump(rt, nucleus, pass, place)
 }
 
@@ -109,21 +111,29 @@ pub(crate) fn pump_on<R: Wait>(
     ensures goes { Goes [] pass.old pass.new }
 {
     let mut idle = 0;
-    for _ in 0..TAIL_ROTATIONS {
-        idle = if rotate(rt, nucleus, pass, share)? {
-            0
-        } else {
-            idle + 1
-        };
+    for _ in rt.forever() {
+        let served = rotate(rt, nucleus, pass, share)?;
+        idle = rest(idle, served);
         if idle >= IDLE_ROTATIONS {
             return Ok(());
         }
-        thread::yield_now();
     }
-    Ok(())
+    unreachable!()
 }
 
-/// Pumps the home place, and each of the others once. True where one worked off a packet.
+/// Counts a rotation that was idle, and lets other threads run behind it.
+fn rest(idle: u32, served: bool) -> u32
+    requires { idle < IDLE_ROTATIONS }
+    ensures { result ≤ IDLE_ROTATIONS }
+{
+    if served {
+        return 0;
+    }
+    thread::yield_now();
+    idle + 1
+}
+
+/// Pumps the home place and each of the others once. True where one worked off a packet.
 fn rotate<R: Wait>(
     rt: &R,
     nucleus: &Nucleus,

@@ -6,12 +6,16 @@ ghost use Rattle.chorus_nucleus.specs.Passes.{known, layout_of, IsPassOf};
 ghost use Rattle.chorus_perform.specs.Going.{Goes};
 ghost use Rattle.chorus_perform.specs.Rounds.{IsEven, IsRound};
 
+use crate::pumping::pump_at;
 use crate::stopped::Halted;
 use chorus_nucleus::{CallFault, Nucleus, Pass};
 use chorus_serve::Pump;
 use std::sync::Wait;
 
-/// Pumps all places, round after round, until nothing is left.
+/// How often a place is pumped before the next one, where it is not idle.
+const TURNS_AT_A_PLACE: u32 = 32;
+
+/// Pumps all places until nothing is left: those with work several times each, and then a round that finds each idle.
 pub(crate) fn settle<R: Wait>(rt: &R, nucleus: &Nucleus, pass: &mut Pass) -> Result<(), Halted>
     requires pass { IsPassOf nucleus.now pass.old }
     ensures pass { IsPassOf nucleus.now pass.new }
@@ -19,11 +23,24 @@ pub(crate) fn settle<R: Wait>(rt: &R, nucleus: &Nucleus, pass: &mut Pass) -> Res
     ensures even { OnOk result (IsEven (layout_of nucleus.now) (known pass.new)) }
 {
     for _ in rt.forever() {
+        work_off(rt, nucleus, pass)?;
         if round(rt, nucleus, pass)? {
             return Ok(());
         }
     }
     unreachable!()
+}
+
+/// Pumps each place until it is idle, or several times.
+fn work_off<R: Wait>(rt: &R, nucleus: &Nucleus, pass: &mut Pass) -> Result<(), Halted>
+    requires pass { IsPassOf nucleus.now pass.old }
+    ensures pass { IsPassOf nucleus.now pass.new }
+    ensures goes { Goes [] pass.old pass.new }
+{
+    for index in 0..nucleus.layout().places() {
+        pump_at(rt, nucleus, pass, index + 1, TURNS_AT_A_PLACE)?;
+    }
+    Ok(())
 }
 
 /// Pumps each place once. True where nothing is left: each place was idle, and they worked off as many packets as they put.

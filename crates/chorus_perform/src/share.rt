@@ -5,8 +5,8 @@ ghost use Rattle.chorus_ui.specs.Layout.{places};
 
 use chorus_ui::{Layout, Ui};
 
-/// The places that a thread pumps: its home place, and those that no other thread pumps, which stand apart by the number of the
-/// threads. So of all threads each place has one that pumps it.
+/// The places that a thread pumps: its home place, and each place whose number is its own modulo the number of the threads. So each
+/// place is in the rotation of one thread.
 #[derive(Clone, Copy, Debug)]
 pub(crate) struct Share {
     places: u16,

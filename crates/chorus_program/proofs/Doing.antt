@@ -65,7 +65,7 @@ module _ {S K : Type 0} (f : Finished) (is : f ≡ record { status = Memory; clo
   read-none = ([], (Consumes-nil (left from), omega arith))
 
   reads-none : (l : Layout) → EndsReading l f.status left faults reliable from from
-  reads-none l = reads-as l l Memory f left faults reliable from from refl is (ends-memory l left faults reliable from from (λ h. refl) read-none)
+  reads-none l = reads-as l l Memory f left faults reliable from from refl is (ends-memory l left faults reliable from from refl read-none)
 
   closes-none : f.closed ≡ None
   closes-none = ap (λ (x : Finished). x.closed) is
@@ -106,6 +106,10 @@ module _ {S K : Type 0} (f : Finished) (is : f ≡ record { status = Memory; clo
   does-none n (words.Load first commands) = record { unread = refl; loads = loads-none f is held failures old first commands }
   does-none n (words.Audit sites turns) = audits-none (places_each sites turns)
   does-none n (words.Lossy first) = carries-none first
+
+-- a replay on sites of a layout is one on those of an equal one
+pub replays-at : {S K : Type 0} (l m : Layout) (f : Finished) (left : S → Option (List ℕ)) (faults : S → ℕ) (reliable : S → Type 0) (from rest : S) (held : K → Option (List ℕ)) (failures : K → ℕ) (old new : K) → l ≡ m → EndsAsReplay l f left faults reliable from rest held failures old new → EndsAsReplay m f left faults reliable from rest held failures old new
+replays-at l m f left faults reliable from rest held failures old new same h = subst (λ (x : Layout). EndsAsReplay x f left faults reliable from rest held failures old new) same h
 
 -- What is done has its cause, and is no Usage.
 

@@ -1,5 +1,5 @@
 -- How a replay ends, and how a load does.
-use Rattle.std.proofs.Common.{ℕ, ◌≡◌, List, reverse, Option, Some, None, IfSome, IfOk, Result, Ok, Err, sym, ap, subst}
+use Rattle.std.proofs.Common.{ℕ, ◌≡◌, List, reverse, Option, Some, None, IfSome, IfOk, Result, Ok, Err, subst}
 use Rattle.std.specs.declared.alloc.AllocError.{AllocError}
 use Rattle.chorus_ui.specs.declared.layout.Layout.{Layout}
 use Rattle.chorus_ui.specs.Layout.{IsLayout}
@@ -17,7 +17,7 @@ use Rattle.chorus_replay.specs.Load.{Loads, load_layout, load_order, load_tasks}
 use Rattle.chorus_replay.specs.Order.{order, tasks}
 use Rattle.chorus_replay.specs.Ordered.{IsOrdered, Replays}
 use Rattle.chorus_replay.specs.Performing.{ArePlayed, IsPlayed}
-use Rattle.chorus_replay.proofs.LoadTasks.{load-can, loads}
+use Rattle.chorus_replay.proofs.LoadTasks.{loads}
 use Rattle.chorus_replay.proofs.Plays.{replays-as}
 use Rattle.chorus_replay.proofs.Stepping.{CanBe, can, ordered-all, ordered-worn, worn-high, worn-has}
 

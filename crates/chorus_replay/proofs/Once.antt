@@ -1,5 +1,5 @@
 -- The order of a replay leaves one network, also where a clock is worn.
-use Rattle.std.proofs.Common.{ℕ, zero, suc, ◌≡◌, ◌<◌, ◌≤◌, ◌+◌, ◌⊎◌, true, List, [], ◌∷◌, ◌++◌, Option, Some, None, is_some, slice_get, refl, sym, ◌∙◌, ap, subst, append_assoc, inl, inr, arith}
+use Rattle.std.proofs.Common.{ℕ, zero, suc, ◌≡◌, ◌<◌, ◌≤◌, ◌+◌, ◌⊎◌, true, List, [], ◌∷◌, ◌++◌, Option, Some, None, is_some, slice_get, Result, Ok, Err, refl, sym, ◌∙◌, ap, subst, append_assoc, inl, inr, arith}
 use Rattle.std.proofs.lemmas.List.Elements.{All-nil, All-cons, All-head, All-tail}
 use Rattle.chorus_ui.specs.declared.layout.Layout.{Layout}
 use Rattle.chorus_ui.specs.declared.limits.TheConstants.{CLOCK_LIMIT}
@@ -14,11 +14,16 @@ use Rattle.law_network.specs.Schedules.{may_be}
 use Rattle.law_network.specs.Tasks.{Task, Do, Drain, IsDrain, CarryOut, AreDeliveries}
 use Rattle.law_network.proofs.Draining.Drains.{after-append, carried-out-once}
 use Rattle.law_network.proofs.Draining.Emptied.{drains-leave-nothing}
+use Rattle.chorus_merge.specs.Merge.{merged}
+use Rattle.chorus_scene.specs.Scene.{Scene}
+use Rattle.chorus_scene.specs.Grammar.{read_scene}
+use Rattle.chorus_show.specs.Report.{report}
 use Rattle.chorus_show.specs.declared.status.Status.{Status}
 use Rattle.chorus_net.specs.Worn.{compared_by, IsUnworn, AreUnworn, IsInRounds}
 use Rattle.chorus_replay.specs.Worn.{AreWornBy, ComesNext}
-use Rattle.chorus_replay.specs.Ordered.{CarryAsFar}
-use Rattle.chorus_replay.specs.Laws.{worn_clock, OrderedOnce}
+use Rattle.chorus_replay.specs.Ordered.{CarryAsFar, IsOrdered}
+use Rattle.chorus_replay.specs.Order.{tasks}
+use Rattle.chorus_replay.specs.Laws.{worn_clock, OrderedOnce, ReplaysOnce}
 use Rattle.chorus_replay.proofs.Plays.{deliveries, behind}
 use Rattle.chorus_replay.proofs.Stepping.{may-suffix}
 
@@ -257,3 +262,19 @@ ordered-once l ts s t one other shape a b =
         ports = (a.closes).left.ports ∙ ap placed same.1 ∙ sym (b.closes).left.ports;
       },
     )
+
+-- the bytes give one scenario, and its tasks leave one outcome
+
+one-scene : (x y : Scene) (r : Result Scene (ℕ × ℕ)) → r ≡ Ok x → r ≡ Ok y → x ≡ y
+one-scene x y (Ok z) a b = let first : z ≡ x = cc in let second : z ≡ y = cc in sym first ∙ second
+one-scene x y (Err e) a b = absurd (cc)
+
+pub replays-once : ReplaysOnce
+replays-once l input s t one other shape a b =
+    let first = a.runs.given in
+    let second = b.runs.given in
+    let bytes : first.bytes ≡ second.bytes = first.read ∙ sym second.read in
+    let same : a.runs.scene ≡ b.runs.scene = one-scene a.runs.scene b.runs.scene (read_scene l first.bytes) first.given (ap (read_scene l) bytes ∙ second.given) in
+    let there : IsOrdered l (tasks a.runs.scene) t other = subst (λ c. IsOrdered l (tasks c) t other) (sym same) b.ordered in
+    let outcome = ordered-once l (tasks a.runs.scene) s t one other shape a.ordered there in
+    (outcome.0, outcome.1, ap (λ js. report (merged js)) (outcome.1).journals)

@@ -1,20 +1,14 @@
 -- What was closed in the order of tasks plays what their callers give.
-use Rattle.std.proofs.Common.{ℕ, zero, suc, ◌≡◌, ◌==◌, ◌+◌, Bool, true, false, not, ◌&&◌, cond, List, [], ◌∷◌, ◌++◌, length, map, reverse, Option, Some, None, is_some, slice_get, Ok, refl, sym, ◌∙◌, ap, ap₂, subst, inl, inr, arith}
+use Rattle.std.proofs.Common.{ℕ, zero, suc, ◌≡◌, ◌==◌, Bool, true, false, cond, List, [], ◌∷◌, ◌++◌, map, reverse, Option, Some, None, is_some, slice_get, Ok, refl, sym, ◌∙◌, ap, ap₂, subst, inl, inr}
 use Rattle.std.specs.Option.{option_map}
 use Rattle.std.proofs.lemmas.Bool.{and_parts, eqb-true, false≢true}
-use Rattle.std.proofs.lemmas.List.{reverse-append, reverse-reverse, length-map}
+use Rattle.std.proofs.lemmas.List.{reverse-append, reverse-reverse}
 use Rattle.std.proofs.lemmas.List.Elements.{All-nil, All-tail, All-append}
 use Rattle.chorus_ui.specs.declared.ui.Ui.{Ui}
 use Rattle.chorus_ui.specs.declared.layout.Layout.{Layout}
-use Rattle.chorus_ui.specs.Layout.{IsLayout, places}
-use Rattle.chorus_entry.specs.declared.entry.Entry.{Entry}
+use Rattle.chorus_ui.specs.Layout.{IsLayout}
 use Rattle.chorus_entry.specs.declared.command.Command.{Command}
-use Rattle.chorus_entry.specs.declared.packet.Packet.{Packet}
-use Rattle.chorus_entry.specs.Act.{is_command_entry}
-use Rattle.chorus_merge.specs.Merge.{merged}
-use Rattle.chorus_world.specs.Views.{by, at, is_by}
-use Rattle.chorus_world.specs.Runs.{is_run}
-use Rattle.chorus_world.specs.Commands.{performs, is_own_of}
+use Rattle.chorus_world.specs.Commands.{performs}
 use Rattle.chorus_calls.specs.Callers.{Seated}
 use Rattle.chorus_net.specs.declared.closed.Closed.{Closed}
 use Rattle.law_network.specs.Calls.{starting}

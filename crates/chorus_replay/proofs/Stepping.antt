@@ -1,5 +1,5 @@
 -- The next task on the network that the tasks before it left.
-use Rattle.std.proofs.Common.{ℕ, ◌≡◌, ◌<◌, ◌≤◌, ◌+◌, ◌≢◌, ◌==◌, ◌&&◌, not, is_some, true, List, [], ◌∷◌, ◌++◌, reverse, Option, Some, None, IfSome, slice_get, refl, sym, ◌∙◌, ap, subst, subst₂, ◌⊎◌, append_assoc, append-nil, inl, inr}
+use Rattle.std.proofs.Common.{ℕ, ◌≡◌, ◌<◌, ◌≤◌, ◌≢◌, ◌==◌, ◌&&◌, not, is_some, true, List, [], ◌∷◌, ◌++◌, reverse, Option, Some, None, slice_get, refl, sym, ◌∙◌, ap, subst, append_assoc, append-nil, inl, inr}
 use Rattle.std.proofs.lemmas.Bool.{and_parts, and_from, eq-eqb, false≢true}
 use Rattle.std.proofs.lemmas.List.{reverse-append}
 use Rattle.chorus_ui.specs.declared.layout.Layout.{Layout}
@@ -32,7 +32,6 @@ use Rattle.chorus_net.specs.Drains.{Drains}
 use Rattle.chorus_replay.specs.Performing.{AreLeft, AreStopped, ArePerformed, ArePlayed, HaveClocks}
 use Rattle.chorus_replay.specs.Ordered.{IsOrdered}
 use Rattle.chorus_report.specs.Headline.{merge_of, past_of}
-use Rattle.chorus_report.specs.Output.{Writes}
 use Rattle.chorus_replay.proofs.May.{tasks-may, first-there}
 use Rattle.chorus_replay.proofs.Clocks.{BeginsSo, clocks-more, clocks-delivered, clocks-start, first-clock, worn-in-merge, has-reverse}
 use Rattle.chorus_replay.proofs.Plays.{deliveries, in-rounds}

@@ -8,9 +8,9 @@ use Rattle.chorus_net.specs.Closing.{closed_journals}
 use Rattle.law_network.specs.Tasks.{Task}
 use Rattle.chorus_show.specs.declared.status.Status.{Status}
 use Rattle.chorus_show.specs.declared.status.Status.TheVariants.{Worn}
-use Rattle.chorus_replay.specs.Ordered.{IsOrdered}
+use Rattle.chorus_replay.specs.Ordered.{IsOrdered, Replays}
 use Rattle.chorus_replay.specs.Load.{Loads}
-use Rattle.chorus_report.specs.Output.{summary}
+use Rattle.chorus_report.specs.Output.{summary, text_of}
 
 -- the clock that was worn, if one was
 abbrev pub worn_clock : Status → Option ℕ
@@ -26,11 +26,21 @@ pub record AreClosedAlike (one other : Closed) : Type 0 where
 -- two replays in the order of the same tasks wear the same clock or none, and close the same
 abbrev pub OrderedOnce : Type 0
 OrderedOnce =
-    (l : Layout) (ts : List Task) (s t : Status) (one other : Closed) → IsLayout l → IsOrdered l ts s one → IsOrdered l ts t other →
+    (l : Layout) (ts : List Task) (s t : Status) (one other : Closed) → IsLayout l → IsOrdered l ts s one →
+    IsOrdered l ts t other →
     (worn_clock s ≡ worn_clock t) × AreClosedAlike one other
+
+-- So what a replay closes and writes is a function of the layout and of the bytes that it reads: two replays of the
+-- same bytes wear the same clock or none, close the same, and their reports are one text.
+abbrev pub ReplaysOnce : Type 0
+ReplaysOnce =
+    (l : Layout) (input : List ℕ) (s t : Status) (one other : Closed) → IsLayout l → Replays l (Some input) s one →
+    Replays l (Some input) t other →
+    (worn_clock s ≡ worn_clock t) × AreClosedAlike one other × (text_of (Some one) ≡ text_of (Some other))
 
 -- so do two loads of the same words: what they write is the same
 abbrev pub LoadsOnce : Type 0
 LoadsOnce =
-    (first commands : ℕ) (s t : Status) (one other : Closed) → Loads first commands s one → Loads first commands t other →
+    (first commands : ℕ) (s t : Status) (one other : Closed) → Loads first commands s one →
+    Loads first commands t other →
     (worn_clock s ≡ worn_clock t) × AreClosedAlike one other × (summary one ≡ summary other)

@@ -1,5 +1,5 @@
 -- How reading ends, and what is so of a call that was finished.
-use Rattle.std.proofs.Common.{◌≡◌, ◌≢◌, ◌≤◌, ◌⊎◌, inl, inr, ℕ, List, Option, Some, None, IfSome, IfOk, Result, Ok, Err, refl, sym, ◌∙◌, ap, subst}
+use Rattle.std.proofs.Common.{◌≡◌, ◌⊎◌, inl, inr, ℕ, List, Option, Some, None, IfSome, IfOk, Result, Ok, Err, refl, sym, ◌∙◌, ap, subst}
 use Rattle.std.specs.declared.alloc.AllocError.{AllocError}
 use Rattle.std.proofs.lemmas.Bool.{false≢true}
 use Rattle.chorus_io.specs.Count.{Rose}
@@ -12,51 +12,57 @@ use Rattle.chorus_report.specs.Reading.{IsGiven, IsRead, ReadsNoFurther}
 use Rattle.chorus_report.specs.Output.{EndsUnread, GivesUp, HandsOut, Writes}
 use Rattle.chorus_report.specs.Ending.{EndsReading, EndsWriting, EndsBy, EndsFor, IsFinished}
 
-module _ {S : Type 0} (l : Layout) (left : S → Option (List ℕ)) (faults : S → ℕ) (reliable : S → Type 0) (old new : S) (no_fault : reliable old → faults new ≡ faults old) where
-  pub ends-fault : Rose (faults old) (faults new) → ReadsNoFurther (left old) (left new) → EndsReading l Status.ReadFault left faults reliable old new
-  ends-fault rose most = record {
+module _ {S : Type 0} (l : Layout) (left : S → Option (List ℕ)) (faults : S → ℕ) (reliable : S → Type 0) (old new : S) where
+  pub ends-fault : (reliable old → faults new ≡ faults old) → Rose (faults old) (faults new) → ReadsNoFurther (left old) (left new) → EndsReading l Status.ReadFault left faults reliable old new
+  ends-fault no_fault rose most = record {
     usage = λ h. cc;
     scenario = λ line reason h. absurd (cc);
     read_fault = λ h. rose;
+    steady = λ h. absurd (h refl);
     no_fault = no_fault;
     read = λ h k. absurd (h refl);
     reads_at_most = most;
   }
 
-  pub ends-memory : ReadsNoFurther (left old) (left new) → EndsReading l Status.Memory left faults reliable old new
-  ends-memory most = record {
-    usage = λ h. cc;
-    scenario = λ line reason h. absurd (cc);
-    read_fault = λ h. absurd (cc);
-    no_fault = no_fault;
-    read = λ h k. absurd (k refl);
-    reads_at_most = most;
-  }
+  -- the count stayed
+  module _ (same : faults new ≡ faults old) (most : ReadsNoFurther (left old) (left new)) where
+    pub ends-memory : EndsReading l Status.Memory left faults reliable old new
+    ends-memory = record {
+      usage = λ h. cc;
+      scenario = λ line reason h. absurd (cc);
+      read_fault = λ h. absurd (cc);
+      steady = λ h. same;
+      no_fault = λ h. same;
+      read = λ h k. absurd (k refl);
+      reads_at_most = most;
+    }
 
-  pub ends-refused : (s : Status) (a b : ℕ) → s ≡ Status.Scenario a b → IsGiven l (left old) (Err (a, b)) → IsRead (left old) (left new) → ReadsNoFurther (left old) (left new) → EndsReading l s left faults reliable old new
-  ends-refused s a b is given read most = record {
-    usage = λ h. absurd (let both : Status.Scenario a b ≡ Status.Usage = sym is ∙ h in cc);
-    scenario = λ line reason h.
-        (let both : Status.Scenario a b ≡ Status.Scenario line reason = sym is ∙ h in
-        let one : a ≡ line = cc in
-        let two : b ≡ reason = cc in
-        subst (λ x. IsGiven l (left old) (Err (x, reason))) one (subst (λ y. IsGiven l (left old) (Err (a, y))) two given));
-    read_fault = λ h. absurd (let both : Status.Scenario a b ≡ Status.ReadFault = sym is ∙ h in cc);
-    no_fault = no_fault;
-    read = λ h k. read;
-    reads_at_most = most;
-  }
+    pub ends-refused : (s : Status) (a b : ℕ) → s ≡ Status.Scenario a b → IsGiven l (left old) (Err (a, b)) → IsRead (left old) (left new) → EndsReading l s left faults reliable old new
+    ends-refused s a b is given read = record {
+      usage = λ h. absurd (let both : Status.Scenario a b ≡ Status.Usage = sym is ∙ h in cc);
+      scenario = λ line reason h.
+          (let both : Status.Scenario a b ≡ Status.Scenario line reason = sym is ∙ h in
+          let one : a ≡ line = cc in
+          let two : b ≡ reason = cc in
+          subst (λ x. IsGiven l (left old) (Err (x, reason))) one (subst (λ y. IsGiven l (left old) (Err (a, y))) two given));
+      read_fault = λ h. absurd (let both : Status.Scenario a b ≡ Status.ReadFault = sym is ∙ h in cc);
+      steady = λ h. same;
+      no_fault = λ h. same;
+      read = λ h k. read;
+      reads_at_most = most;
+    }
 
-  -- all was read, and the call ends as one that reads nothing
-  pub ends-read : IsRead (left old) (left new) → ReadsNoFurther (left old) (left new) → (s : Status) → EndsUnread s → EndsReading l s left faults reliable old new
-  ends-read read most s ends = record {
-    usage = λ h. absurd (subst EndsUnread h ends);
-    scenario = λ line reason h. absurd (subst EndsUnread h ends);
-    read_fault = λ h. absurd (subst EndsUnread h ends);
-    no_fault = no_fault;
-    read = λ h k. read;
-    reads_at_most = most;
-  }
+    -- all was read, and the call ends as one that reads nothing
+    pub ends-read : IsRead (left old) (left new) → (s : Status) → EndsUnread s → EndsReading l s left faults reliable old new
+    ends-read read s ends = record {
+      usage = λ h. absurd (subst EndsUnread h ends);
+      scenario = λ line reason h. absurd (subst EndsUnread h ends);
+      read_fault = λ h. absurd (subst EndsUnread h ends);
+      steady = λ h. same;
+      no_fault = λ h. same;
+      read = λ h k. read;
+      reads_at_most = most;
+    }
 
 -- What is so of what was played, as it ends, is so when it is finished.
 

@@ -1,5 +1,5 @@
 -- What was closed, where it is what a schedule leaves, plays what its callers gave.
-use Rattle.std.proofs.Common.{ℕ, zero, suc, ◌≡◌, ◌+◌, Bool, true, false, not, ◌&&◌, cond, List, [], ◌∷◌, length, map, reverse, Option, Some, None, slice_get, refl, sym, ◌∙◌, ap, subst, arith}
+use Rattle.std.proofs.Common.{ℕ, zero, suc, ◌≡◌, ◌+◌, Bool, true, false, not, ◌&&◌, cond, List, [], ◌∷◌, length, map, reverse, Option, Some, slice_get, refl, sym, ◌∙◌, ap, subst, arith}
 use Rattle.std.proofs.lemmas.List.{length-map}
 use Rattle.chorus_ui.specs.declared.ui.Ui.{Ui}
 use Rattle.chorus_ui.specs.declared.layout.Layout.{Layout}
@@ -13,7 +13,9 @@ use Rattle.chorus_world.specs.Views.{by, at, is_by}
 use Rattle.chorus_world.specs.Runs.{is_run}
 use Rattle.chorus_world.specs.Commands.{performs, is_own_of}
 use Rattle.chorus_world.specs.Always.{Always}
-use Rattle.chorus_world.specs.AcceptedLaws.{ReceivesInOrder, KeepsEachMessage}
+use Rattle.chorus_world.specs.AcceptedLaws.{ReceivesInOrder}
+use Rattle.chorus_world.proofs.Moments.{always-run}
+use Rattle.chorus_world.proofs.Sorted.Holders.{run_is_legal}
 use Rattle.chorus_net.specs.declared.closed.Closed.{Closed}
 use Rattle.chorus_net.specs.Closing.{closed_journals, IsLeft}
 use Rattle.law_network.specs.declared.placed.Placed.{Placed}
@@ -27,10 +29,12 @@ use Rattle.law_network.specs.Stands.{actor_of}
 use Rattle.law_network.proofs.Merge.Journals.{journals-are}
 use Rattle.law_network.proofs.Merge.Parts.{part}
 use Rattle.law_network.proofs.Places.Layouts.{schedule-keeps}
-use Rattle.law_network.proofs.Promises.Promised.{stands-at, runs-at, journals-at, closes-at, receives-at, fates-at}
+use Rattle.law_network.proofs.Promises.Promised.{stands-at, runs-at, journals-at, closes-at, receives-at}
 use Rattle.chorus_show.specs.declared.status.Status.{Status}
+use Rattle.chorus_report.specs.Fates.{WorldHolds}
 use Rattle.chorus_report.specs.Headline.{past_of, PerformsUnless, IsQuietUnless, Plays}
 use Rattle.chorus_report.proofs.Seating.{run-more}
+use Rattle.chorus_report.proofs.Holding.{holds-by-fate, world-holds}
 
 -- A seat that made nothing performs no command.
 
@@ -105,7 +109,8 @@ module _ (l : Layout) (shape : IsLayout l) (closed : Closed) (es : List Event) (
     run = runs;
     performed = performed;
     receives = subst (Always ReceivesInOrder) (sym past-is) (receives-at l es shape may);
-    fates = subst (Always KeepsEachMessage) (sym past-is) (fates-at l es shape may);
+    holds = always-run WorldHolds world-holds l callers (past_of closed) shape runs;
+    left = holds-by-fate l (past_of closed) shape (run_is_legal l callers (past_of closed) runs) (holdings_left l closed.ports.items closed.rest.items) stands-of;
     stands = stands-of;
     places_are = places-of;
     journals = journals-of;

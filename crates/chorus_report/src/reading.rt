@@ -1,9 +1,11 @@
 //! The scenario that a source gives.
 
-ghost use Rattle.std.specs.Prelude.{◌≡◌, IfOk, IfErr, OnOk, Ok};
+ghost use Rattle.std.specs.Prelude.{◌≡◌, ◌≢◌, ℕ, List, IfOk, IfErr, IfSome, IsErrOf, OnOk, Ok, Err};
+ghost use Rattle.chorus_io.specs.Bytes.{IsReadWhole, IsTooLong};
+ghost use Rattle.chorus_io.specs.Count.{Rose};
 ghost use Rattle.chorus_scene.specs.Limits.{Keeps};
 ghost use Rattle.chorus_show.specs.declared.status.Status.{Status};
-ghost use Rattle.chorus_report.specs.Reading.{IsGiven};
+ghost use Rattle.chorus_report.specs.Reading.{IsGiven, ReadsNoFurther};
 ghost use Rattle.chorus_report.specs.Output.{GivesUp, EndsUnread};
 ghost use Rattle.chorus_report.specs.Ending.{EndsReading};
 
@@ -28,7 +30,7 @@ pub fn read_scenario<S: Source>(
     ensures ends { IfErr result (λ status.
         EndsReading layout status S.left S.faults S.reliable source.old source.new) }
 {
-    let text = match read_all(alloc, source, TEXT_LIMIT) {
+    let text = match read_text(alloc, source) {
         Ok(text) => text,
         Err(ReadAll::Fault) => return Err(Status::ReadFault),
         Err(ReadAll::TooLong) => return Err(refused(TOO_LONG)),
@@ -40,6 +42,31 @@ pub fn read_scenario<S: Source>(
         Err(ReadFault::Memory(_)) => return Err(Status::Memory),
     };
     Ok(scenario)
+}
+
+/// The whole text of the source. Where its count of faults rose that is a fault, whatever was read.
+fn read_text<S: Source>(alloc: Global, source: &mut S) -> Result<Vec<u8>, ReadAll>
+    ensures whole { IfOk result (λ v. IfSome (S.left source.old) (λ input. v.items ≡ input)) }
+    ensures read { IfOk result (λ v.
+        IsReadWhole TEXT_LIMIT v.items (S.left source.old) (S.left source.new)) }
+    ensures too_long { IsErrOf result ReadAll.TooLong → (bytes : List ℕ)
+        × IsTooLong TEXT_LIMIT bytes (S.left source.old) (S.left source.new) }
+    ensures most { ReadsNoFurther (S.left source.old) (S.left source.new) }
+
+    ensures fault { IsErrOf result ReadAll.Fault →
+        Rose (S.faults source.old) (S.faults source.new) }
+    ensures steady { result ≢ Err ReadAll.Fault →
+        S.faults source.new ≡ S.faults source.old }
+    ensures reliable { S.reliable source.old →
+        S.faults source.new ≡ S.faults source.old }
+{
+    let before = source.faults();
+    let text = read_all(alloc, source, TEXT_LIMIT);
+    if source.faults() == before {
+        text
+    } else {
+        Err(ReadAll::Fault)
+    }
 }
 
 /// The status of a text that the grammar refuses.

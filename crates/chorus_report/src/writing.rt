@@ -1,6 +1,6 @@
 //! The end of a call that played something: what was closed is written.
 
-ghost use Rattle.std.specs.Prelude.{◌≡◌, ◌⊎◌, Some, None, IfOk, IfSome};
+ghost use Rattle.std.specs.Prelude.{◌≡◌, ◌⊎◌, ℕ, Some, None, Ok, IfOk, IfSome};
 ghost use Rattle.chorus_io.specs.Count.{Rose};
 ghost use Rattle.chorus_show.specs.Bounds.{AreWithin};
 ghost use Rattle.chorus_show.specs.Report.{report};
@@ -30,6 +30,8 @@ pub fn finish<K: Sink>(
     ensures writes { EndsWriting (text_as text result.closed) result
         K.held K.faults sink.old sink.new }
     ensures finished { IfSome result.closed (IsFinished played result.status) }
+    ensures worn { (whole : Played) (clock : ℕ) → played ≡ Ok whole → whole.worn ≡ Some clock →
+        result.status ≡ Status.Worn clock }
     ensures within { text ≡ Text.Report →
         IfSome result.closed (AreWithinUnless result.status) }
 {

@@ -17,7 +17,8 @@ use Rattle.chorus_nucleus.specs.declared.nucleus.Nucleus.{Nucleus}
 use Rattle.chorus_nucleus.specs.declared.pass.Pass.{Pass}
 use Rattle.chorus_nucleus.specs.Passes.{known, layout_of}
 use Rattle.chorus_nucleus.specs.Closing.{IsClosed}
-use Rattle.chorus_run.specs.Threads.{HasOwn, IsOfNucleus}
+use Rattle.chorus_perform.specs.Scripts.{IsSetUpFirst}
+use Rattle.chorus_run.specs.Threads.{HasOwn, HasOwnIn, IsOfNucleus}
 
 -- the entries of a seat, with remarks and without
 by-entries : (q : ℕ) (log : List (Remarked PlaceNote)) → by q (entries_of log) ≡ entries_of (by_seat q log)
@@ -36,14 +37,23 @@ inside [] i x e = absurd (cc)
 inside (y ∷ xs) zero x e = omega arith
 inside (y ∷ xs) (suc i) x e = let ih = inside xs i x e in omega (arith, ih)
 
-pub is-of-nucleus : (n : Nucleus) (last : Pass) (closed : Closed) → length (closed_journals closed) ≡ places (layout_of n) → IsClosed n last closed → IsOfNucleus n closed
-is-of-nucleus n last closed count h = record {
+pub is-of-nucleus : (n : Nucleus) (last : Pass) (closed : Closed) → length (closed_journals closed) ≡ places (layout_of n) → IsClosed n last closed → IsSetUpFirst (known last) → IsOfNucleus n closed
+is-of-nucleus n last closed count h first = record {
   last = last;
   closes = h;
   own = λ p journal found. has-own (p + 1) (known last).seat journal (h.closes.log (p + 1)) (known last).mine (h.closes.entries p journal found) (shows p journal found).own;
-  noted = λ p journal found. All-weaker (λ (m : Note PlaceNote). by_seat m.seat (h.closes.log (p + 1)) ≡ at_place (p + 1) m.mine) (λ (m : Note PlaceNote). HasOwn (p + 1) journal m.seat m.mine)
-      (λ m s. has-own (p + 1) m.seat journal (h.closes.log (p + 1)) m.mine (h.closes.entries p journal found) s) (known last).notes (shows p journal found).noted;
+  noted = all-at (known last).notes (λ p journal found.
+      All-weaker (λ (m : Note PlaceNote). by_seat m.seat (h.closes.log (p + 1)) ≡ at_place (p + 1) m.mine) (λ (m : Note PlaceNote). HasOwn (p + 1) journal m.seat m.mine)
+      (λ m s. has-own (p + 1) m.seat journal (h.closes.log (p + 1)) m.mine (h.closes.entries p journal found) s) (known last).notes (shows p journal found).noted);
+  first = first;
 }
   where
+    all-at : (notes : List (Note PlaceNote)) → ((p : ℕ) (journal : List Entry) → slice_get (closed_journals closed) p ≡ Some journal → All (λ (m : Note PlaceNote). HasOwn (p + 1) journal m.seat m.mine) notes) → All (λ (m : Note PlaceNote). HasOwnIn closed m.seat m.mine) notes
+    all-at [] each = All-nil (λ (m : Note PlaceNote). HasOwnIn closed m.seat m.mine)
+    all-at (m ∷ ms) each =
+        All-cons (λ (m : Note PlaceNote). HasOwnIn closed m.seat m.mine) m ms
+        (λ p journal found. All-head (λ (m : Note PlaceNote). HasOwn (p + 1) journal m.seat m.mine) m ms (each p journal found))
+        (all-at ms (λ p journal found. All-tail (λ (m : Note PlaceNote). HasOwn (p + 1) journal m.seat m.mine) m ms (each p journal found)))
+
     shows : (p : ℕ) (journal : List Entry) → slice_get (closed_journals closed) p ≡ Some journal → Shows (p + 1) (known last) (h.closes.log (p + 1))
     shows p journal found = let lt = inside (closed_journals closed) p journal found in h.closes.tells.shows p (omega (arith, lt, count))

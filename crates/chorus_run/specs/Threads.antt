@@ -18,6 +18,7 @@ use Rattle.chorus_nucleus.specs.declared.nucleus.Nucleus.{Nucleus}
 use Rattle.chorus_nucleus.specs.declared.pass.Pass.{Pass}
 use Rattle.chorus_nucleus.specs.Passes.{known}
 use Rattle.chorus_nucleus.specs.Closing.{IsClosed}
+use Rattle.chorus_perform.specs.Scripts.{IsSetUpFirst}
 use Rattle.chorus_perform.specs.declared.stopped.Stopped.{Stopped}
 use Rattle.chorus_perform.specs.declared.stopped.Stopped.TheVariants as stops
 use Rattle.chorus_report.specs.declared.played.Played.{Played}
@@ -28,20 +29,27 @@ use Rattle.chorus_report.specs.Ending.{EndsFor}
 abbrev pub HasOwn : ℕ → List Entry → ℕ → List (Placed PlaceNote) → Type 0
 HasOwn p journal seat mine = by seat journal ≡ entries_of (at_place p mine)
 
--- It is this nucleus that was closed, by one of its passes. The entries of the seat of that pass, and of each pass that was retired into
--- it, are in each journal just those that the pass made at that place.
+abbrev pub HasOwnIn : Closed → ℕ → List (Placed PlaceNote) → Type 0
+HasOwnIn closed seat mine =
+    (p : ℕ) (journal : List Entry) → slice_get (closed_journals closed) p ≡ Some journal →
+    HasOwn (p + 1) journal seat mine
+
+-- It is this nucleus that was closed, by one of its passes. The entries of the seat of that pass, and of each pass that
+-- was retired into it, are in each journal just those that the pass made at that place. What the pass itself was asked,
+-- the setup, stands before all that the others made.
 pub record IsOfNucleus (n : Nucleus) (closed : Closed) : Type 0 where
   pub last : Pass
   pub closes : IsClosed n last closed
-  pub own : (p : ℕ) (journal : List Entry) → slice_get (closed_journals closed) p ≡ Some journal → HasOwn (p + 1) journal (known last).seat (known last).mine
-  pub noted : (p : ℕ) (journal : List Entry) → slice_get (closed_journals closed) p ≡ Some journal → All (λ (m : Note PlaceNote). HasOwn (p + 1) journal m.seat m.mine) (known last).notes
+  pub own : HasOwnIn closed (known last).seat (known last).mine
+  pub noted : All (λ (m : Note PlaceNote). HasOwnIn closed m.seat m.mine) (known last).notes
+  pub first : IsSetUpFirst (known last)
 
 -- where a clock was worn it is that of the pass that closed the nucleus
 abbrev pub HasWornOf : Status → Closed → Type 0
 HasWornOf status closed = (clock : ℕ) → status ≡ Worn clock → worn_of closed ≡ Some clock
 
--- The scenario was performed on the nucleus, which was then closed: it plays the scenario to its end where no clock was worn, else up to
--- that clock, which is at least 2^62 and that of an entry and of the closing pass.
+-- The scenario was performed on the nucleus, which was then closed: it plays the scenario to its end where no clock was
+-- worn, else up to that clock, which is at least 2^62 and that of an entry and of the closing pass.
 pub record IsPlayedOn (n : Nucleus) (c : Scene) (worn : Option ℕ) (closed : Closed) : Type 0 where
   pub plays : EndsFor (Plays c.layout (callers_of c) (commands_by c)) worn closed
   pub origin : IsOfNucleus n closed

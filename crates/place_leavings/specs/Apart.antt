@@ -1,5 +1,6 @@
 -- What is taken of places when they are taken apart.
--- a and b are numbers of places, d is a place at its links, ds are these in their order, t is what is left of one, ts of each.
+-- a and b are numbers of places, d is a place at its links, ds are these in their order, t is what is left of one, ts
+-- of each.
 use Rattle.std.specs.Prelude.{ℕ, ◌≡◌, ◌≢◌, List, [], ◌∷◌, ◌++◌, length, map, reverse, Option, Some, None, option_to_list, slice_get, ◌-◌}
 use Rattle.chorus_entry.specs.declared.packet.Packet.{Packet}
 use Rattle.place_outbox.specs.Waiting.{list_to}
@@ -73,7 +74,8 @@ goes_from ds a b = held_from a (desk_at b ds) ++ (left_between ds a b ++ waits_t
 -- from each place to each other one there is a link
 abbrev pub AreDesksLinked : List (DeskOf Ruled Packet) → Type 0
 AreDesksLinked ds =
-    (a b : ℕ) → IsPlace (length ds) a → IsPlace (length ds) b → b ≢ a → AreOfOneLink (end_to b (ends_at a ds)) (end_from a (ends_at b ds))
+    (a b : ℕ) → IsPlace (length ds) a → IsPlace (length ds) b → b ≢ a
+    → AreOfOneLink (end_to b (ends_at a ds)) (end_from a (ends_at b ds))
 
 -- the journals, the packets by link, and the ports
 pub record IsParted (ds : List (DeskOf Ruled Packet)) (h : Parted) : Type 0 where

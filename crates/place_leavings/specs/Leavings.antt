@@ -1,6 +1,7 @@
 -- What is left of places, and taking it link by link.
--- a, b, p and q are numbers of places, s and t are what is left of a place, slots are these by places, that of place p at p - 1.
-use Rattle.std.specs.Prelude.{ℕ, zero, suc, ◌≡◌, ◌≢◌, ◌-◌, ◌<◌, ◌≤◌, ◌==◌, Bool, true, false, cond, List, [], ◌++◌, length, drop, Option, Some, None, is_some, option_to_list, slice_index_or}
+-- a, b, p and q are numbers of places, s and t are what is left of a place, slots are these by places, that of place p
+-- at p - 1.
+use Rattle.std.specs.Prelude.{ℕ, ◌≡◌, ◌≢◌, ◌-◌, ◌<◌, ◌≤◌, ◌==◌, Bool, true, false, cond, List, [], ◌++◌, length, drop, Option, Some, None, is_some, option_to_list, slice_index_or}
 use Rattle.chorus_entry.specs.declared.packet.Packet.{Packet}
 use Rattle.place_outbox.specs.Waiting.{list_to}
 use Rattle.chorus_link.specs.declared.ends.SendEnd.{SendEnd}
@@ -143,7 +144,8 @@ pub record TakesFrom (a : ℕ) (was now : List Packet) (old new : List (Option R
 -- what goes from each place up to a to each other one was taken
 pub record TakesRows (a : ℕ) (was now : List Packet) (old new : List (Option Remains)) : Type 0 where
   pub packets : now ≡ was ++ up_to a (from_one (length old) (goes_between old))
-  pub settled : (p q : ℕ) → 1 ≤ p → p ≤ a → IsPlace (length old) q → q ≢ p → Settles p (remains_of p old) q (remains_of q old)
+  pub settled : (p q : ℕ) → 1 ≤ p → p ≤ a → IsPlace (length old) q → q ≢ p
+      → Settles p (remains_of p old) q (remains_of q old)
   pub count : length new ≡ length old
   pub there : (q : ℕ) → 1 ≤ q → is_some (slot q new) ≡ is_some (slot q old)
   pub out : (p q : ℕ) → a < p → SameOut q (remains_of p old) (remains_of p new)
@@ -152,4 +154,5 @@ pub record TakesRows (a : ℕ) (was now : List Packet) (old new : List (Option R
 -- what goes from each place to each other one was taken
 pub record TakesAll (was now : List Packet) (old : List (Option Remains)) : Type 0 where
   pub packets : now ≡ was ++ by_link (length old) (goes_between old)
-  pub settled : (p q : ℕ) → IsPlace (length old) p → IsPlace (length old) q → q ≢ p → Settles p (remains_of p old) q (remains_of q old)
+  pub settled : (p q : ℕ) → IsPlace (length old) p → IsPlace (length old) q → q ≢ p
+      → Settles p (remains_of p old) q (remains_of q old)

@@ -1,5 +1,5 @@
 -- One entry more is published, or nothing more is taught.
-use Rattle.std.proofs.Common.{ℕ, zero, suc, ◌≡◌, ◌+◌, ◌-◌, ◌<◌, ◌≤◌, List, [], ◌∷◌, ◌++◌, length, take, drop, reverse, slice_get, get_or, Option, Some, None, Result, Ok, Err, OnOk, OnErr, refl, sym, ◌∙◌, ap, subst, arith}
+use Rattle.std.proofs.Common.{ℕ, zero, suc, ◌≡◌, ◌≢◌, ◌+◌, ◌-◌, ◌<◌, ◌≤◌, List, [], ◌∷◌, ◌++◌, length, take, drop, reverse, slice_get, get_or, Some, None, Result, Ok, Err, OnOk, OnErr, refl, sym, ◌∙◌, ap, subst, arith}
 use Rattle.std.proofs.lemmas.List.{take_more, take-append-drop, append-nil, append_assoc, length-append}
 use Rattle.std.proofs.Math.Seq.{take-append-add, take-append_seam}
 use Rattle.std.proofs.lemmas.List.Elements.{All-head, All-tail}
@@ -9,7 +9,7 @@ use mathlib.Core.List.{IsPrefix}
 use Rattle.chorus_ui.specs.declared.ui.Ui.{Ui}
 use Rattle.chorus_ui.specs.declared.layout.Layout.{Layout}
 use Rattle.chorus_entry.specs.declared.entry.Entry.{Entry}
-use Rattle.chorus_world.specs.Places.{farther, learned}
+use Rattle.chorus_world.specs.Places.{farther}
 use Rattle.std.specs.declared.alloc.AllocError.{AllocError}
 use Rattle.chorus_board.specs.declared.table.Table.{Table}
 use Rattle.chorus_board.specs.declared.board.Board.{Board}
@@ -68,6 +68,13 @@ all-at : {p : ℕ} (J : List Entry) (i : ℕ) (e : Entry) → All (λ (x : Entry
 all-at [] i e all at = absurd (cc)
 all-at {p} (x ∷ J) zero e all at = (let same : x ≡ e = cc in subst (λ (z : Entry). z.place ≡ p) same (All-head (λ (z : Entry). z.place ≡ p) x J all))
 all-at {p} (x ∷ J) (suc i) e all at = all-at J i e (All-tail (λ (z : Entry). z.place ≡ p) x J all) at
+
+pub same-prefix : (xs ys : List Entry) → ys ≡ xs → IsPrefix xs ys
+same-prefix xs ys same = ([], append-nil xs ∙ sym same)
+
+-- a beginning of what is not the whole is not the whole
+pub not-whole : (xs ys J : List Entry) (i : ℕ) → IsPrefix xs ys → length ys ≤ i → i < length J → xs ≢ J
+not-whole xs ys J i h low lt is = (let a = prefix-length xs ys h in let b = ap length is in absurd (omega (arith, a, b, low, lt)))
 
 module _ (l : Layout) (p : ℕ) (J : List Entry) where
   -- at the first entry that the board lacks
@@ -142,6 +149,12 @@ module _ (l : Layout) (p : ℕ) (J : List Entry) where
       → OnOk r (entries_published new ≡ take n J) → entries_begun new ≡ take n J → OnOk r (IsUpTo l p J n new)
   upto-publish new n (Ok x) same le ok begun = shown-now new n same le ok begun
   upto-publish new n (Err f) same le ok begun = tt
+
+  -- what is published grows
+  pub grows-publish : (old new : Board) (n : ℕ) (r : Result (Unit {0}) AllocError) → IsBoardAt l p J old → length (entries_published old) ≤ n
+      → OnOk r (entries_published new ≡ take n J) → OnErr r (shown new ≡ shown old) → IsPrefix (entries_published old) (entries_published new)
+  grows-publish old new n (Ok x) h le ok err = subst (IsPrefix (entries_published old)) (sym ok) (prefix-take (entries_published old) J n h.published le)
+  grows-publish old new n (Err f) h le ok err = same-prefix (entries_published old) (entries_published new) (ap (λ (t : Table). t.seen.log) err)
 
   -- a beginning of entries of the place is of the place
   pub of-place : (b : Board) (n : ℕ) → IsBoardAt l p J b → All (λ (e : Entry). e.place ≡ p) J → IsOfPlace (place_of b) (take n J)

@@ -21,4 +21,5 @@ pub record IsUpTo (l : Layout) (number : ℕ) (journal : List Entry) (index : �
   pub is : IsBoardAt l number journal board
   pub low : length (entries_published board) ≤ index
   pub high : index ≤ length journal
-  pub same : (q : Ui) → IsPortIn l q → located_after l (entries_published board) q ≡ located_after l (take index journal) q
+  pub same : (q : Ui) → IsPortIn l q →
+      located_after l (entries_published board) q ≡ located_after l (take index journal) q

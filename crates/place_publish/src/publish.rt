@@ -1,5 +1,6 @@
 //! A place publishes what its board lacks.
-ghost use Rattle.std.specs.Prelude.{◌≡◌, ◌+◌, ◌<◌, length, OnOk, All};
+ghost use Rattle.std.specs.Prelude.{◌≡◌, ◌+◌, ◌<◌, length, OnOk, IsOk, All};
+ghost use mathlib.Core.List.{IsPrefix};
 ghost use Rattle.chorus_entry.specs.declared.entry.Entry.{Entry};
 ghost use Rattle.chorus_ui.specs.declared.kind.Kind.TheVariants.{Port};
 ghost use Rattle.chorus_ui.specs.Layout.{IsLayout};
@@ -7,7 +8,7 @@ ghost use Rattle.chorus_board.specs.Boards.{entries_published, book_of};
 ghost use Rattle.place_publish.specs.Publishing.{IsBoardAt, IsUpTo};
 
 use crate::lesson::{Lesson, lesson_of};
-use crate::step::{assured, publish_first};
+use crate::step::{publish_first, wait_unless};
 use chorus_board::Board;
 use chorus_entry::Entry;
 use chorus_ui::{Kind, Layout, Ui};
@@ -28,6 +29,7 @@ fn publish_entry<R: Wait>(
     requires own { All (λ (e : Entry). e.place ≡ number) journal.now }
     ensures board { IsBoardAt layout number journal.now board.new }
     ensures upto { OnOk result (IsUpTo layout number journal.now (index + 1) board.new) }
+    ensures grows { IsPrefix (entries_published board.old) (entries_published board.new) }
     ensures book { book_of board.new ≡ book_of board.old }
 {
     let Some(entry) = journal.get(index) else {
@@ -38,15 +40,16 @@ fn publish_entry<R: Wait>(
         return Ok(());
     };
     let upto = index + 1;
-    assured(rt, lesson.ui.kind() == Kind::Port);
-    assured(rt, layout.can_make_port(lesson.ui));
-    assured(rt, board.begun() <= upto as u64);
+    wait_unless(rt, lesson.ui.kind() == Kind::Port);
+    wait_unless(rt, layout.can_make_port(lesson.ui));
+    wait_unless(rt, board.begun() <= upto as u64);
     publish_first(rt, board, lesson, journal, upto)
 }
 
 /// The first port of the layout, at hop 0, which teaches nothing.
 fn nothing() -> Lesson
-    ensures { (result.hop ≡ 0) × (result.ui.site ≡ 1) × (result.ui.number ≡ 1) × (result.ui.kind ≡ Port) }
+    ensures hop { result.hop ≡ 0 }
+    ensures ui { (result.ui.site ≡ 1) × (result.ui.number ≡ 1) × (result.ui.kind ≡ Port) }
 {
     Lesson {
         ui: Ui::new(1, Kind::Port, 1).unwrap(),
@@ -68,6 +71,9 @@ fn publish_all<R: Wait>(
     requires own { All (λ (e : Entry). e.place ≡ number) journal.now }
     ensures board { IsBoardAt layout number journal.now board.new }
     ensures published { OnOk result (entries_published board.new ≡ journal.now) }
+    ensures grows { IsPrefix (entries_published board.old) (entries_published board.new) }
+    ensures nothing_new { entries_published board.old ≡ journal.now →
+        (board.new ≡ board.old) × IsOk result }
     ensures book { book_of board.new ≡ book_of board.old }
 {
     let _ = (layout, number);
@@ -78,10 +84,10 @@ fn publish_all<R: Wait>(
     publish_first(rt, board, nothing(), journal, upto)
 }
 
-/// Publishes what the board of the place with this number lacks of its journal, which has that place's entries alone: each entry that tells where a port is, in their
-/// order, and at last that all entries are there. Where the board lacks nothing it publishes nothing.
+/// Publishes what the board of a place lacks of its journal: each entry that tells where a port is, in their order, and at last that all
+/// entries are there. Where the board lacks nothing it publishes nothing, and does not fail.
 ///
-/// It waits for readers that are inside. At want of memory, the one error, a beginning of what the board lacked is published, and the
+/// It waits for readers that are inside, and for ever where an entry tells of a port that the layout cannot make. At want of memory, the one error, a beginning of what the board lacked is published, and the
 /// next call goes on there.
 pub fn publish_missing<R: Wait>(
     rt: &R,
@@ -95,6 +101,9 @@ pub fn publish_missing<R: Wait>(
     requires own { All (λ (e : Entry). e.place ≡ number) journal.now }
     ensures board { IsBoardAt layout number journal.now board.new }
     ensures published { OnOk result (entries_published board.new ≡ journal.now) }
+    ensures grows { IsPrefix (entries_published board.old) (entries_published board.new) }
+    ensures nothing_new { entries_published board.old ≡ journal.now →
+        (board.new ≡ board.old) × IsOk result }
     ensures book { book_of board.new ≡ book_of board.old }
 {
     let mut index = board.published() as usize;

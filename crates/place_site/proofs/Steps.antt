@@ -1,7 +1,7 @@
 -- What a job does in one turn: a command, or a packet that is worked off, or nothing.
 -- d is the desk before, e the desk after, w and x the caller before and after.
-use Rattle.std.proofs.Common.{ℕ, ◌≡◌, ◌==◌, ◌+◌, ◌<◌, ◌≤◌, ◌-◌, ◌^◌, Bool, true, false, nat_lt, ◌&&◌, ◌||◌, not, cond, List, [], ◌++◌, reverse, is_some, Option, Some, None, option_to_list, Result, Ok, Err, IfOk, OnErr, IsErrOf, ◌↔◌, refl, sym, ◌∙◌, ap, subst, inl, inr, arith}
-use Rattle.std.proofs.lemmas.Bool.{cases_lt, and_parts, and_from, eq-eqb, ne_eqb, false≢true, lt-ltb}
+use Rattle.std.proofs.Common.{ℕ, ◌≡◌, ◌==◌, ◌<◌, ◌≤◌, ◌-◌, ◌^◌, Bool, true, false, nat_lt, ◌&&◌, ◌||◌, not, List, [], ◌++◌, reverse, is_some, Option, Some, None, option_to_list, Result, Ok, Err, IfOk, OnErr, IsErrOf, ◌↔◌, refl, sym, ◌∙◌, ap, subst, inl, inr, arith}
+use Rattle.std.proofs.lemmas.Bool.{cases_lt, and_parts, and_from, eq-eqb, false≢true, lt-ltb}
 use Rattle.std.proofs.lemmas.List.{append-nil}
 use Rattle.chorus_ui.specs.Layout.{has_place}
 use Rattle.chorus_entry.specs.declared.command.Command.{Command}
@@ -18,11 +18,10 @@ use Rattle.law_network.specs.Schedules.{has_number_left, may_give}
 use Rattle.law_machine.specs.PlaceState.{PlaceState, greatest_clock}
 use Rattle.law_machine.specs.PlaceMachine.{begun, act}
 use Rattle.law_machine.specs.Lawful.{is_lawful, is_lawful_cargo}
-use Rattle.chorus_place.specs.Calls.{Place, state, Ended, Stays}
-use Rattle.chorus_io.specs.Count.{raised}
+use Rattle.chorus_place.specs.Calls.{Place, state, Stays}
 use Rattle.chorus_ends.specs.Links.{Links}
 use Rattle.chorus_serve.specs.declared.held.Held.{Held}
-use Rattle.chorus_serve.specs.Desks.{DeskState, IsDesk, in_hand}
+use Rattle.chorus_serve.specs.Desks.{DeskState, in_hand}
 use Rattle.chorus_serve.specs.Working.{Performs}
 use Rattle.chorus_serve.specs.Serving.{Rests, WorksOff, Answers}
 use Rattle.law_machine.specs.declared.reply.Reply.{Reply}
@@ -34,16 +33,14 @@ use Rattle.chorus_ui.specs.declared.limits.TheConstants.{CLOCK_LIMIT}
 use Rattle.chorus_turn.specs.Journals.{GrowsBy}
 use Rattle.chorus_entry.specs.declared.entry.Entry.{Entry}
 use Rattle.std.specs.declared.snapshot.Snapshot.{Snapshot}
-use Rattle.std.proofs.lemmas.List.Elements.{All-nil, All-cons}
+use Rattle.std.proofs.lemmas.List.Elements.{All-nil}
 use Rattle.chorus_turn.specs.declared.knowledge.Remarked.{Remarked}
 use Rattle.law_history.specs.declared.turns.Input.{Input}
 use Rattle.law_history.specs.PlaceTurns.{turn, may_take, brings_entry, is_other}
 use Rattle.law_closing.specs.Places.{PlaceNote}
-use Rattle.chorus_serve.specs.Flows.{ComesNext}
-use Rattle.chorus_ui.specs.declared.layout.Layout.{Layout}
 use Rattle.chorus_board.specs.declared.name.BoardName.{BoardName}
 use Rattle.place_site.specs.Sites.{mark, entries, IsJournalOf}
-use Rattle.place_site.specs.Turning.{IsNews, IsNoNews, NotesFrom, NotesAct, NotesServe}
+use Rattle.place_site.specs.Turning.{IsNews, IsNoNews, MayWork, NotesFrom, NotesAct}
 use Rattle.place_site.specs.Jobs.{MayAct, Acted, worked_from, HasWorked}
 use Rattle.place_site.proofs.Turning.{Flows, turned, moved, grown, layout-stays, number-stays}
 
@@ -176,26 +173,31 @@ served-goes z (Ok (pumps.Served from)) d e w x hold holds same place (k, inl h) 
     let got = worked d e w x from k place h log j in (
       got.0,
       got.1,
-      subst (λ b. NotesFrom (worked_from (Ok (pumps.Served from)) b) z w x got.0) (sym none)
-          (k, subst (λ (q : Place). IsNews (Input.Packet from k) (state q) w x got.0) (sym same) got.2),
+      subst (λ b. NotesFrom (worked_from (Ok (pumps.Served from)) b) z w x got.0) (sym none) (
+        k,
+        subst (λ (q : Place). MayWork from k (state q) w) (sym same) (h.lawful, h.unworn),
+        subst (λ (q : Place). IsNews (Input.Packet from k) (state q) w x got.0) (sym same) got.2,
+      ),
     ))
 served-goes z (Ok (pumps.Served from)) d e w x hold holds same place (k, inr h) err log j =
     (let some : hold ≡ true = holds ∙ ap is_some h.hand in
     let got = rested d e w x h.rests.state (flows-rests d e w x h.rests) h.rests.caller log j in
     (got.0, got.1, subst (λ b. NotesFrom (worked_from (Ok (pumps.Served from)) b) z w x got.0) (sym some) got.2))
-served-goes z (Ok (pumps.Idle put worked)) d e w x hold holds same place ok err log j = rested d e w x ok.0.rests.state (flows-rests d e w x ok.0.rests) ok.0.rests.caller log j
+served-goes z (Ok (pumps.Idle put done)) d e w x hold holds same place ok err log j = rested d e w x ok.0.rests.state (flows-rests d e w x ok.0.rests) ok.0.rests.caller log j
 served-goes z (Err f) d e w x hold holds same place ok err log j = rested d e w x err.state (flows-rests d e w x err) err.caller log j
 
--- and that the job kept the place where a packet was worked off
-pub served-has : (z : Place) (r : Result Pump PlaceFault) (d e : DeskState) (w x : Seated) (hold : Bool) → hold ≡ is_some e.hand → IfOk r (λ p. Answers p d e w x)
-    → HasWorked (worked_from r hold) r d e
-served-has z (Ok (pumps.Served from)) d e w x hold holds (k, inl h) =
-    (let none : hold ≡ false = holds ∙ ap is_some h.hand in subst (λ b. HasWorked (worked_from (Ok (pumps.Served from)) b) (Ok (pumps.Served from)) d e) (sym none) refl)
-served-has z (Ok (pumps.Served from)) d e w x hold holds (k, inr h) =
-    (let some : hold ≡ true = holds ∙ ap is_some h.hand in subst (λ b. HasWorked (worked_from (Ok (pumps.Served from)) b) (Ok (pumps.Served from)) d e) (sym some) (k, h.hand))
-served-has z (Ok (pumps.Idle put done)) d e w x hold holds ok =
-    (let a = ok.0.rests.moved.counted.puts in let b = ok.1 in let n = ok.0.rests.worked in let m = ok.2 in (omega (arith, a, b), omega (arith, n, m)))
-served-has z (Err f) d e w x hold holds ok = tt
+-- and what was done
+pub served-has : (r : Result Pump PlaceFault) (d e : DeskState) (w x : Seated) (hold : Bool) → hold ≡ is_some e.hand → IfOk r (λ p. Answers p d e w x)
+    → OnErr r (Rests d e w x) → HasWorked (worked_from r hold) r w x d e
+served-has (Ok (pumps.Served from)) d e w x hold holds (k, inl h) err =
+    (let none : hold ≡ false = holds ∙ ap is_some h.hand in
+    subst (λ b. HasWorked (worked_from (Ok (pumps.Served from)) b) (Ok (pumps.Served from)) w x d e) (sym none) (refl, k, h))
+served-has (Ok (pumps.Served from)) d e w x hold holds (k, inr h) err =
+    (let some : hold ≡ true = holds ∙ ap is_some h.hand in
+    subst (λ b. HasWorked (worked_from (Ok (pumps.Served from)) b) (Ok (pumps.Served from)) w x d e) (sym some) (k, h))
+served-has (Ok (pumps.Idle put done)) d e w x hold holds ok err =
+    (let a = ok.0.rests.moved.counted.puts in let b = ok.1 in let n = ok.0.rests.worked in let m = ok.2 in (ok.0, omega (arith, a, b), omega (arith, n, m)))
+served-has (Err f) d e w x hold holds ok err = err
 
 -- something is in hand, as it is seen
 pub holding : {P : Type 0} (packet : P → Packet) (h : Option (Held P)) → is_some h ≡ is_some (in_hand packet h)

@@ -13,7 +13,8 @@ ReadsBoard m r = (name_read r ≡ m.board) × (layout_read r ≡ m.layout) × (p
 abbrev pub AcceptsReader : Option BoardReader → SiteMark → Type 0
 AcceptsReader o m = IfSome o (λ r. ReadsBoard m r)
 
--- what became of the reader where these entries were to be published: at Ok it has seen them, and they begin with what it had seen
+-- what became of the reader where these entries were to be published: at Ok it has seen them, and they begin with what
+-- it had seen
 abbrev pub Follows : {E : Type 0} → Option BoardReader → Option BoardReader → List Entry → Result (Unit {0}) E → Type 0
 Follows None k es out = k ≡ None
 Follows (Some r) None es out = ⊥

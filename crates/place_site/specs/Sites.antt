@@ -1,5 +1,5 @@
--- What turns see of a place: d is its desk, l its layout, p its number, a and b are numbers of other places, log are entries with
--- their remarks, the oldest first.
+-- What turns see of a place: d is its desk, l its layout, p its number, a and b are numbers of other places, log are
+-- entries with their remarks, the oldest first.
 use Rattle.std.specs.Prelude.{ℕ, ◌≡◌, ◌-◌, ◌^◌, min, cond, List, [], Option, option_to_list, reverse}
 use Rattle.std.specs.List.{All}
 use Rattle.chorus_ui.specs.declared.layout.Layout.{Layout}
@@ -26,8 +26,8 @@ use Rattle.chorus_board.specs.declared.name.BoardName.{BoardName}
 use Rattle.place_publish.specs.Publishing.{IsBoardAt}
 use Rattle.place_site.specs.declared.site.SiteMark.{SiteMark}
 
--- Of another place: what was sent to it, what waits to be sent, what was received from it, and what is in hand. Of any other
--- number nothing was sent or received, and what waits is what the turns put, if anything.
+-- Of another place: what was sent to it, what waits to be sent, what was received from it, and what is in hand. Of any
+-- other number nothing was sent or received, and what waits is what the turns put, if anything.
 
 abbrev pub sent_in : Layout → ℕ → Links → ℕ → List Packet
 sent_in l p k b = cond (is_other l p b) (k.sent b) []
@@ -42,9 +42,11 @@ abbrev pub held_in : Layout → ℕ → Option (ℕ × Packet) → ℕ → List 
 held_in l p hand a = cond (is_other l p a) (from_place a (option_to_list hand)) []
 
 -- the remarks lead from the started place to the state, and they tell what was sent, waits, was received and is in hand
-abbrev pub FitsAt : Layout → ℕ → PlaceState → Links → List (List Packet) → Option (ℕ × Packet) → List (Remarked PlaceNote) → Type 0
+abbrev pub FitsAt : Layout → ℕ → PlaceState → Links → List (List Packet) → Option (ℕ × Packet)
+    → List (Remarked PlaceNote) → Type 0
 FitsAt l p s k lists hand log =
-    Keeps (machine l) (started l p) p log s (sent_in l p k) (waits_in l p lists log) (received_in l p k) (held_in l p hand)
+    Keeps (machine l) (started l p) p log s (sent_in l p k) (waits_in l p lists log) (received_in l p k)
+    (held_in l p hand)
 
 -- and the desk counts what the turns put and, up to 2^64 - 1, what they worked off; and each entry is of the place
 pub record Fits (d : DeskState) (log : List (Remarked (Noted Seated Command Packet))) : Type 0 where

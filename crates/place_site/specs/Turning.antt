@@ -1,14 +1,17 @@
 -- What one turn notes, and what it did.
--- i is what the turn takes, s the place before it, w and x the caller before and after, v and u what the pass knows before and after.
-use Rattle.std.specs.Prelude.{ℕ, ◌≡◌, true, List, [], ◌∷◌, ◌++◌, Option, Some, None, reverse}
+-- i is what the turn takes, s the place before it, w and x the caller before and after, v and u what the pass knows
+-- before and after.
+use Rattle.std.specs.Prelude.{ℕ, ◌≡◌, ◌<◌, ◌≤◌, true, List, [], ◌∷◌, ◌++◌, Option, Some, None, reverse}
 use Rattle.std.specs.declared.snapshot.Snapshot.{Snapshot}
+use Rattle.chorus_ui.specs.declared.limits.TheConstants.{CLOCK_LIMIT}
 use Rattle.chorus_ui.specs.declared.layout.Layout.{Layout}
 use Rattle.chorus_entry.specs.declared.entry.Entry.{Entry}
 use Rattle.chorus_entry.specs.declared.command.Command.{Command}
 use Rattle.chorus_entry.specs.declared.packet.Packet.{Packet}
 use Rattle.chorus_calls.specs.Callers.{Seated}
-use Rattle.law_machine.specs.PlaceState.{PlaceState, started}
-use Rattle.law_machine.specs.PlaceMachine.{begun}
+use Rattle.law_machine.specs.PlaceState.{PlaceState, started, greatest_clock}
+use Rattle.law_machine.specs.PlaceMachine.{begun, begun_by}
+use Rattle.law_machine.specs.Lawful.{is_lawful}
 use Rattle.law_machine.specs.Own.{own}
 use Rattle.chorus_place.specs.Calls.{Place, state}
 use Rattle.chorus_turn.specs.declared.knowledge.Remarked.{Remarked}
@@ -28,7 +31,8 @@ IsOwn (Input.Command c) s w e = e.act ≡ own c (begun s w)
 IsOwn (Input.Packet a k) s w e = Unit {0}
 
 -- The news are the entries of one turn that the place machine takes, each with the remark of the turn.
-pub record IsNews (i : Input Command Packet) (s : PlaceState) (w x : Seated) (news : List (Remarked PlaceNote)) : Type 0 where
+pub record IsNews (i : Input Command Packet) (s : PlaceState) (w x : Seated)
+    (news : List (Remarked PlaceNote)) : Type 0 where
   pub entry : Entry
   pub later : List Entry
   pub is : news ≡ remarked (noted (machine s.layout) s.number i s w) (entry ∷ later)
@@ -47,17 +51,25 @@ abbrev pub NotesAct : Command → Option (Snapshot Place) → Seated → Seated 
 NotesAct c None w x news = IsNoNews w x news
 NotesAct c (Some z) w x news = IsNews (Input.Command c) (state z.value) w x news
 
--- what a job that serves notes, by the number of the place from which the packet came, if it worked one off, and by the place before
+-- the packet from there may be worked off, and no clock is worn
+abbrev pub MayWork : ℕ → Packet → PlaceState → Seated → Type 0
+MayWork from k s w = (is_lawful from k s ≡ true) × (greatest_clock (begun_by s w k) < CLOCK_LIMIT)
+
+-- what a job that serves notes, by the number of the place from which the packet came, if it worked one off, and by the
+-- place before
 abbrev pub NotesFrom : Option ℕ → Place → Seated → Seated → List (Remarked PlaceNote) → Type 0
 NotesFrom None z w x news = IsNoNews w x news
-NotesFrom (Some from) z w x news = (k : Packet) × IsNews (Input.Packet from k) (state z) w x news
+NotesFrom (Some from) z w x news = (k : Packet) × MayWork from k (state z) w
+    × IsNews (Input.Packet from k) (state z) w x news
 
 abbrev pub NotesServe : Option ℕ → Option (Snapshot Place) → Seated → Seated → List (Remarked PlaceNote) → Type 0
 NotesServe a None w x news = ⊥
 NotesServe a (Some z) w x news = NotesFrom a z.value w x news
 
--- A turn at the place p: the pass found a journal that leads to the state s, and added the entries that the machine gives.
-pub record TakesTurn (l : Layout) (p : ℕ) (i : Input Command Packet) (s : PlaceState) (v : Knowledge PlaceNote) (w : Seated) (u : Knowledge PlaceNote) (x : Seated) : Type 0 where
+-- A turn at the place p: the pass found a journal that leads to the state s, and added the entries that the machine
+-- gives. The clock of the first is above the caller's last clock before, and at most that after.
+pub record TakesTurn (l : Layout) (p : ℕ) (i : Input Command Packet) (s : PlaceState) (v : Knowledge PlaceNote)
+    (w : Seated) (u : Knowledge PlaceNote) (x : Seated) : Type 0 where
   pub found : List (Remarked PlaceNote)
   pub shows : Shows p v found
   pub entries : entries_of found ≡ reverse s.journal
@@ -68,11 +80,14 @@ pub record TakesTurn (l : Layout) (p : ℕ) (i : Input Command Packet) (s : Plac
   pub clock : entry.clock ≡ (turn i s w).first
   pub own_act : IsOwn i s w entry
   pub journal : (turn i s w).place.journal ≡ reverse later ++ entry ∷ s.journal
+  pub above : w.last < entry.clock
+  pub upto : entry.clock ≤ x.last
   pub after : x ≡ (turn i s w).caller
   pub knows : u ≡ after_turn p found (remarked (noted (machine l) p i s w) (entry ∷ later)) v
 
 -- a look at the place p: the pass found a journal, and added nothing
-pub record Looks (l : Layout) (p : ℕ) (s : PlaceState) (v : Knowledge PlaceNote) (w : Seated) (u : Knowledge PlaceNote) (x : Seated) : Type 0 where
+pub record Looks (l : Layout) (p : ℕ) (s : PlaceState) (v : Knowledge PlaceNote) (w : Seated)
+    (u : Knowledge PlaceNote) (x : Seated) : Type 0 where
   pub found : List (Remarked PlaceNote)
   pub shows : Shows p v found
   pub entries : entries_of found ≡ reverse s.journal

@@ -21,7 +21,7 @@ impl<E: Ends> Job<Site<E>> for Asks {
 
     ghost accepts = { λ j m seat. Unit {0} };
 
-    ghost ran = { λ j x seat k y out. out ≡ outcome j.id x.desk.place.journal };
+    ghost ran = { λ j x seat k y out. (out ≡ outcome j.id x.desk.place.journal) × (y ≡ x) };
 
     ghost notes = { λ j k news. news ≡ [] };
 

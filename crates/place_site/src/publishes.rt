@@ -1,8 +1,8 @@
 //! A place publishes what its board lacks, in one turn.
-ghost use Rattle.std.specs.Prelude.{◌≡◌, IfSome, All};
+ghost use Rattle.std.specs.Prelude.{◌≡◌, IfSome, OnOk, All};
 ghost use Rattle.chorus_entry.specs.declared.entry.Entry.{Entry};
 ghost use Rattle.chorus_ui.specs.Layout.{IsLayout};
-ghost use Rattle.chorus_board.specs.Boards.{book_of, IsReaderOf};
+ghost use Rattle.chorus_board.specs.Boards.{book_of, entries_published, IsReaderOf};
 ghost use Rattle.place_publish.specs.Publishing.{IsBoardAt};
 ghost use Rattle.place_site.specs.Reading.{Follows};
 
@@ -39,6 +39,7 @@ fn publish_for<R: Wait>(
     requires own { All (λ (e : Entry). e.place ≡ number) journal.now }
     requires reader { IfSome reader.old (λ r. IsReaderOf board.old r) }
     ensures board { IsBoardAt layout number journal.now board.new }
+    ensures published { OnOk result (entries_published board.new ≡ journal.now) }
     ensures book { book_of board.new ≡ book_of board.old }
     ensures follows { Follows reader.old reader.new journal.now result }
 {
@@ -55,7 +56,8 @@ fn publish_for<R: Wait>(
 }
 
 impl<'a, R: Wait, E: Ends> Job<Site<E>> for Publishes<'a, R> {
-    ghost use Rattle.std.specs.Prelude.{◌≡◌, []};
+    ghost use Rattle.std.specs.Prelude.{◌≡◌, [], OnOk};
+    ghost use Rattle.chorus_board.specs.Boards.{entries_published};
     ghost use Rattle.chorus_serve.specs.Desks.{seen};
     ghost use Rattle.place_site.specs.Sites.{entries};
     ghost use Rattle.place_site.specs.Reading.{Follows, AcceptsReader};
@@ -65,7 +67,9 @@ impl<'a, R: Wait, E: Ends> Job<Site<E>> for Publishes<'a, R> {
     ghost accepts = { λ j m seat. AcceptsReader j.reader m };
 
     ghost ran = { λ j x seat k y out. Follows j.reader k.reader
-        (entries (seen E.links E.packet x.desk)) out };
+        (entries (seen E.links E.packet x.desk)) out
+        × OnOk out (entries_published y.board ≡ entries (seen E.links E.packet x.desk))
+        × (y.desk ≡ x.desk) };
 
     ghost notes = { λ j k news. news ≡ [] };
 

@@ -42,7 +42,7 @@ impl<'a, R, E: Moves<R>> Job<Site<E>> for Serves<'a, R> {
 
     ghost accepts = { λ j m seat. j.caller.seat ≡ seat };
 
-    ghost ran = { λ j x seat k y out. ServedAt k.took k.before out j.caller
+    ghost ran = { λ j x seat k y out. ServedAt k.took k.before out j.caller k.caller
         (seen E.links E.packet x.desk) (seen E.links E.packet y.desk) };
 
     ghost notes = { λ j k news. NotesServe k.took k.before j.caller k.caller news };

@@ -67,13 +67,15 @@ pub(crate) fn assert_done(rt: &impl Abort, run: &Run) {
     assert!(rt; run.closed);
 }
 
-/// Asserts that what was printed is lawful on 16 sites with so many places each.
+/// Asserts that what was printed is lawful on 16 sites with so many places each, with as many entries as it says.
 pub(crate) fn assert_lawful(rt: &impl Abort, alloc: Global, turns: u16, printed: &str) {
     let layout = Layout::new(16, turns).expect(rt, "a layout");
     assert!(rt; printed.len() <= AUDIT_LIMIT);
     let audit = audit_text(alloc, layout, printed.as_bytes()).expect(rt, "memory");
     match audit {
-        Audit::Legal { .. } => {}
+        Audit::Legal { entries } => {
+            assert_eq!(rt; u64::from(entries), counted(rt, printed, "journal "))
+        }
         Audit::Wrong { .. } => panic!(rt; "{printed}"),
     }
 }

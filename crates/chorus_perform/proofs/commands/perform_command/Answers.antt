@@ -1,4 +1,4 @@
-use Rattle.std.proofs.Common.{◌≡◌, ◌≢◌, ◌∙◌, sym, ap, true, false, Ok, [], ◌∷◌, arith}
+use Rattle.std.proofs.Common.{◌≡◌, ◌≢◌, ◌∙◌, sym, true, Ok, [], ◌∷◌, arith}
 use Rattle.chorus_perform.proofs.Steps.{on-err, goes-none, goes-later}
 use Rattle.chorus_perform.proofs.commands.perform_command.Goals as goal
 
@@ -14,6 +14,11 @@ returns-in_err-pump_next-clause-err g c =
     let not : c.try_command.result ≢ Ok true = λ e. absurd (let bad = sym c.in_ok-try_command.was ∙ e in let is = c.if-branch.false in cc) in
     on-err c.from_residual-in_err-pump_next.result _
     (goes-none c.args.pass.now c.try_command.new.pass c.pump_next.new.pass (goes-none c.args.pass.now c.loop.pass c.try_command.new.pass c.loop.invariant.1 (c.try_command.ensures.not_done not)) c.in_err-pump_next.ensures.goes)
+
+pub returns-then-branch-clause-ok : goal.returns-then-branch-clause-ok
+returns-then-branch-clause-ok g c =
+    let is : c.try_command.result ≡ Ok true = (let was = c.in_ok-try_command.was in let yes = c.if-branch.true in cc) in
+    goes-later (c.args.command.now ∷ []) c.args.pass.now c.loop.pass c.try_command.new.pass c.loop.invariant.1 (c.try_command.ensures.done is)
 
 pub loop-preserved : goal.loop-preserved
 loop-preserved g c =

@@ -1,8 +1,9 @@
-use Rattle.std.proofs.Common.{ℕ, ◌≡◌, ◌<◌, ◌≤◌, ◌+◌, length, Err, sym, ◌∙◌, ap, subst, arith}
+use Rattle.std.proofs.Common.{◌≡◌, ◌<◌, length, Err, sym, ◌∙◌, ap, subst, arith}
 use Rattle.chorus_turn.specs.Knowing.{limit}
-use Rattle.chorus_nucleus.specs.Passes.{known}
-use Rattle.chorus_perform.specs.Runners.{AreReady}
-use Rattle.chorus_perform.proofs.Comings.{found-at, entered-more, entered-same, new-ready, ready-more}
+use Rattle.chorus_calls.specs.Callers.{Seated}
+use Rattle.chorus_nucleus.specs.Passes.{caller_of, known}
+use Rattle.chorus_perform.specs.Runners.{AreEntered}
+use Rattle.chorus_perform.proofs.Comings.{found-at, begins-at, entered-also, entered-more, new-ready}
 use Rattle.chorus_perform.proofs.entering.enter.Goals as goal
 
 pub loop-index-preserved : goal.loop-index-preserved
@@ -10,10 +11,12 @@ loop-index-preserved c =
     let lt : c.loop-index.index < length c.args.scenario.now.scripts = subst (λ xs. c.loop-index.index < length xs) c.scripts-index-end.ensures c.loop-index-test.true in
     let at = found-at c.scripts.result.now c.args.scenario.now.scripts c.loop-index.index c.index-scripts-index.result c.scripts.ensures lt c.index-scripts-index.is in
     let new = new-ready c.args.nucleus.now c.args.scenario.now c.loop-index.index c.index-scripts-index.result c.actor.result c.loop-index.pass c.enter.new.pass c.in-Ok.entered at lt c.in-Ok.ensures.ok
-    c.loop-index.invariant.1.keeper.made c.actor.ensures in (
+    c.loop-index.invariant.1.keeper.made c.actor.ensures in
+    let begun = (caller_of c.args.pass.now).last in
+    let last = begins-at c.args.nucleus.now c.actor.result c.loop-index.pass c.enter.new.pass c.in-Ok.entered c.in-Ok.ensures.ok ∙ ap (λ (w : Seated). w.last) c.loop-index.invariant.1.caller in (
       c.in-Ok.ensures.keeper.pass,
       entered-more c.args.nucleus.now c.actor.result c.args.pass.now c.loop-index.pass c.enter.new.pass c.in-Ok.entered c.loop-index.index c.loop-index.invariant.1 c.in-Ok.ensures.ok c.in-Ok.ensures.keeper.caller,
-      subst (AreReady c.args.nucleus.now c.args.scenario.now) (sym c.in-Ok-push.ensures.items) (ready-more c.args.nucleus.now c.args.scenario.now c.loop-index.runners.items _ c.loop-index.index (omega (arith, c.loop-index.runners.ok.0, c.loop-index.invariant.3)) c.loop-index.invariant.2 new),
+      subst (AreEntered c.args.nucleus.now c.args.scenario.now begun) (sym c.in-Ok-push.ensures.items) (entered-also c.args.nucleus.now c.args.scenario.now begun c.loop-index.runners.items _ c.loop-index.index (omega (arith, c.loop-index.runners.ok.0, c.loop-index.invariant.3)) c.loop-index.invariant.2 new last),
       omega (arith, c.in-Ok-push.ensures.len, c.loop-index.invariant.3),
       omega (arith, c.in-Ok-push.ensures.capacity, c.loop-index.invariant.4),
     )

@@ -1,10 +1,10 @@
 use Rattle.std.proofs.Common.{◌≡◌, ◌≤◌, length}
 use Rattle.std.specs.Vec.{vec_len, vec_capacity}
-use Rattle.chorus_nucleus.specs.Passes.{IsPassOf}
-use Rattle.chorus_perform.specs.Runners.{HasEntered, AreReady}
+use Rattle.chorus_nucleus.specs.Passes.{caller_of, IsPassOf}
+use Rattle.chorus_perform.specs.Runners.{HasEntered, AreEntered}
 use Rattle.chorus_perform.proofs.entering.enter.Given as goal
 
 abbrev pub invariant-loop-index : goal.invariant-loop-index
 invariant-loop-index l =
-    IsPassOf l.nucleus l.pass × HasEntered l.index l.fn.pass l.pass × AreReady l.nucleus l.scenario l.runners.items × (vec_len l.runners ≡ l.index)
+    IsPassOf l.nucleus l.pass × HasEntered l.index l.fn.pass l.pass × AreEntered l.nucleus l.scenario (caller_of l.fn.pass).last l.runners.items × (vec_len l.runners ≡ l.index)
     × (length l.scenario.scripts ≤ vec_capacity l.runners)

@@ -1,6 +1,6 @@
-use Rattle.std.proofs.Common.{◌≡◌, ◌≤◌, ◌-◌}
+use Rattle.std.proofs.Common.{◌≤◌, ◌-◌}
 use Rattle.std.specs.Vec.{vec_len}
-use Rattle.chorus_nucleus.specs.Passes.{IsPassOf}
+use Rattle.chorus_nucleus.specs.Passes.{caller_of, IsPassOf}
 use Rattle.chorus_perform.specs.Runners.{AreEnding, HasRetired}
 use Rattle.chorus_perform.proofs.entering.retire.Given as goal
 
@@ -9,6 +9,6 @@ decreases-loop-runner l = vec_len l.runners
 
 abbrev pub invariant-loop-runner : goal.invariant-loop-runner
 invariant-loop-runner l =
-    IsPassOf l.nucleus l.pass × AreEnding l.nucleus l.scenario l.runners.items
+    IsPassOf l.nucleus l.pass × AreEnding l.nucleus l.scenario (caller_of l.fn.pass).last l.runners.items
     × HasRetired l.all l.scenario (vec_len l.runners) (vec_len l.fn.runners - vec_len l.runners) l.fn.pass l.pass
     × (vec_len l.runners ≤ vec_len l.fn.runners)

@@ -2,24 +2,29 @@ use Rattle.std.proofs.Common.{◌≡◌, List, drop, length, ap, arith, sym, sub
 use Rattle.std.specs.Vec.{vec_len}
 use Rattle.std.specs.Global.{Global}
 use Rattle.chorus_perform.specs.declared.runner.Runner.{Runner}
-use Rattle.chorus_perform.specs.Runners.{AreReady, AreEnding, HasRetired}
-use Rattle.chorus_perform.proofs.Leavings.{all-ended, none-ended, on-ok-so, performed-so, put-back}
+use Rattle.chorus_calls.specs.Callers.{Seated}
+use Rattle.chorus_nucleus.specs.Passes.{caller_of}
+use Rattle.chorus_perform.specs.Runners.{AreEntered, AreEnding, HasRetired}
+use Rattle.chorus_perform.proofs.Leavings.{all-ended, none-ended, on-ok-so, performed-alone, performed-so, put-back}
 use Rattle.chorus_perform.proofs.performing.run_scripts.Goals as goal
 use Rattle.chorus_perform.proofs.performing.run_scripts.Goals.{then-entered, else-entered}
 
 pub retire-requires-clause-ending : goal.retire-requires-clause-ending
-retire-requires-clause-ending g c = elim c.if-entered.branch [
-  | then-entered w ↦
-      subst (λ (v : Vec Runner Global). AreEnding c.args.nucleus.now c.args.scenario.now v.items) (sym w.runners-is)
-      (subst (AreEnding c.args.nucleus.now c.args.scenario.now) (sym (put-back c.enter.new.runners.len w.perform_scripts.new.runners (drop (length w.perform_scripts.new.runners) c.enter.new.runners.items)
-      (let value = ap (λ (zs : List Runner). length zs) w.deref_mut.ensures.value in omega (arith, c.enter.new.runners.ok.0, w.perform_scripts.auto.runners, value))))
-      (all-ended c.args.nucleus.now c.args.scenario.now w.deref_mut.result.now w.perform_scripts.new.runners w.perform_scripts.auto.runners
-      (subst (AreReady c.args.nucleus.now c.args.scenario.now) (sym w.deref_mut.ensures.value) c.enter.ensures.ready)
-      w.perform_scripts.ensures))
-  | else-entered w ↦
-      subst (λ (v : Vec Runner Global). AreEnding c.args.nucleus.now c.args.scenario.now v.items) (sym w.runners-is)
-      (none-ended c.args.nucleus.now c.args.scenario.now c.enter.new.runners.items c.enter.ensures.ready)
-]
+retire-requires-clause-ending g c =
+    let begun = (caller_of c.enter.new.pass).last in
+    let entered = subst (λ m. AreEntered c.args.nucleus.now c.args.scenario.now m c.enter.new.runners.items) (sym (ap (λ (w : Seated). w.last) c.enter.ensures.entered.caller)) c.enter.ensures.runners in
+    elim c.if-entered.branch [
+      | then-entered w ↦
+          subst (λ (v : Vec Runner Global). AreEnding c.args.nucleus.now c.args.scenario.now begun v.items) (sym w.runners-is)
+          (subst (AreEnding c.args.nucleus.now c.args.scenario.now begun) (sym (put-back c.enter.new.runners.len w.perform_scripts.new.runners (drop (length w.perform_scripts.new.runners) c.enter.new.runners.items)
+          (let value = ap (λ (zs : List Runner). length zs) w.deref_mut.ensures.value in omega (arith, c.enter.new.runners.ok.0, w.perform_scripts.auto.runners, value))))
+          (all-ended c.args.nucleus.now c.args.scenario.now begun w.deref_mut.result.now w.perform_scripts.new.runners w.perform_scripts.auto.runners
+          (subst (AreEntered c.args.nucleus.now c.args.scenario.now begun) (sym w.deref_mut.ensures.value) entered)
+          w.perform_scripts.ensures))
+      | else-entered w ↦
+          subst (λ (v : Vec Runner Global). AreEnding c.args.nucleus.now c.args.scenario.now begun v.items) (sym w.runners-is)
+          (none-ended c.args.nucleus.now c.args.scenario.now begun c.enter.new.runners.items entered.ready)
+    ]
 
 pub returns-clause-performed : goal.returns-clause-performed
 returns-clause-performed g c =
@@ -31,3 +36,6 @@ returns-clause-performed g c =
     performed-so scene c.retire.result c.is_ok-entered.result c.args.pass.now c.enter.new.pass c.retire.new.pass (vec_len c.enter.new.runners) c.requires.setup c.enter.ensures.entered
     (subst (λ k. HasRetired c.retire.result scene 0 k c.enter.new.pass c.retire.new.pass) same c.retire.ensures.retired)
     (λ t. on-ok-so c.enter.result c.is_ok-entered.result _ c.is_ok-entered.ensures.value t c.enter.ensures.all)
+
+pub returns-in_default-clause-performed : goal.returns-in_default-clause-performed
+returns-in_default-clause-performed g c = performed-alone c.args.scenario.now c.args.pass.now c.requires.setup

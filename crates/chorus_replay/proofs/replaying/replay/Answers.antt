@@ -1,7 +1,6 @@
-use Rattle.std.proofs.Common.{Ok, None, IfSome, sym, ◌∙◌, ap, subst, refl}
+use Rattle.std.proofs.Common.{Ok, sym, ◌∙◌, subst, refl}
 use Rattle.chorus_ui.specs.Layout.{IsLayout}
 use Rattle.chorus_net.specs.Sites.{net}
-use Rattle.chorus_report.specs.declared.finished.Finished.{Finished}
 use Rattle.chorus_report.specs.Reading.{IsGiven}
 use Rattle.chorus_report.proofs.Ends.{gave-up-writes, none-closed, reads-as, reads-at}
 use Rattle.chorus_replay.specs.Order.{order}

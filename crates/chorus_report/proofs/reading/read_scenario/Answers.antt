@@ -3,40 +3,38 @@ use Rattle.chorus_scene.specs.Grammar.{read_scene, Refuses}
 use Rattle.chorus_scene.proofs.Kept.{kept}
 use Rattle.chorus_scene.proofs.Law.{printed_again}
 use Rattle.chorus_report.proofs.Ends.{ends-fault, ends-memory, ends-refused, ends-read}
-use Rattle.chorus_report.proofs.Read.{whole-given, long-given-as, within-most, long-most, whole-most}
+use Rattle.chorus_report.proofs.Read.{whole-given, long-given-as}
 use Rattle.chorus_report.proofs.reading.read_scenario.Goals as goal
 
 pub returns-in-Err-Fault-clause-ends : goal.returns-in-Err-Fault-clause-ends
 returns-in-Err-Fault-clause-ends g c =
-    let stopped = rw c.in-Err-Fault.field-0-is at c.in-Err-Fault.ensures.stopped in
-    ends-fault _ _ _ _ _ _ (λ h. (c.in-Err-Fault.ensures.reliable h).1) (c.in-Err-Fault.ensures.fault (cc)) (within-most _ _ stopped)
+    let e = c.in-Err-Fault.ensures in ends-fault _ _ _ _ _ _ e.reliable (e.fault (cc)) e.most
 
 pub returns-in-Err-Memory-clause-ends : goal.returns-in-Err-Memory-clause-ends
 returns-in-Err-Memory-clause-ends g c =
-    let stopped = rw c.in-Err-Memory.field-0-is at c.in-Err-Memory.ensures.stopped in
-    ends-memory _ _ _ _ _ _ (λ h. (c.in-Err-Memory.ensures.reliable h).1) (within-most _ _ stopped)
+    let e = c.in-Err-Memory.ensures in ends-memory _ _ _ _ _ _ (e.steady (λ h. cc)) e.most
 
 pub returns-in-Err-TooLong-clause-ends : goal.returns-in-Err-TooLong-clause-ends
 returns-in-Err-TooLong-clause-ends g c =
-    let stopped = rw c.in-Err-TooLong.field-0-is at c.in-Err-TooLong.ensures.stopped in
-    ends-refused _ _ _ _ _ _ (λ h. (c.in-Err-TooLong.ensures.reliable h).1) _ _ _ c.refused.ensures
-    (long-given-as _ _ _ stopped.0 _ _ stopped.1.0 stopped.1.1 (cc) (cc))
-    (record { bytes = stopped.0; read = inr stopped.1 }) (long-most _ _ stopped)
+    let e = c.in-Err-TooLong.ensures in
+    let long = e.too_long (cc) in
+    ends-refused _ _ _ _ _ _ (e.steady (λ h. cc)) e.most _ _ _ c.refused.ensures
+    (long-given-as _ _ _ long.0 _ _ long.1.0 long.1.1 (cc) (cc))
+    (record { bytes = long.0; read = inr long.1 })
 
 pub returns-in-Err-Scene-clause-ends : goal.returns-in-Err-Scene-clause-ends
 returns-in-Err-Scene-clause-ends g c =
     let text = c.in-Ok.text.items in
-    let read = c.in-Ok.ensures.read in
-    ends-refused _ _ _ _ _ _ (λ h. (c.in-Ok.ensures.reliable h).1) _ _ _ c.refused-in-Err-Scene.ensures
-    (whole-given _ _ text _ c.in-Ok.ensures.whole read.2
+    let e = c.in-Ok.ensures in
+    ends-refused _ _ _ _ _ _ (e.steady (λ h. cc)) e.most _ _ _ c.refused-in-Err-Scene.ensures
+    (whole-given _ _ text _ e.whole e.read.2
     (ap (read_scene c.args.layout) (sym c.deref.ensures.value) ∙ subst (λ f. Refuses f (read_scene c.args.layout c.deref.result.now)) c.in-Err-Scene.field-0-is c.in-Err-Scene.ensures))
-    (record { bytes = text; read = inl read }) (whole-most _ _ text read)
+    (record { bytes = text; read = inl e.read })
 
 pub returns-clause-reads : goal.returns-clause-reads
 returns-clause-reads g c =
-    let text = c.in-Ok.text.items in
-    let read = c.in-Ok.ensures.read in
-    ends-read _ _ _ _ _ _ (λ h. (c.in-Ok.ensures.reliable h).1) (record { bytes = text; read = inl read }) (whole-most _ _ text read)
+    let e = c.in-Ok.ensures in
+    ends-read _ _ _ _ _ _ (e.steady (λ h. cc)) e.most (record { bytes = c.in-Ok.text.items; read = inl e.read })
 
 pub returns-clause-ok : goal.returns-clause-ok
 returns-clause-ok g c =

@@ -1,4 +1,4 @@
-use Rattle.std.proofs.Common.{◌≡◌, ◌-◌, ◌+◌, ◌<◌, ◌≤◌, inl, inr, Some, sym, ◌∙◌, ap, arith, length}
+use Rattle.std.proofs.Common.{◌-◌, ◌<◌, ◌≤◌, inl, inr, sym, ◌∙◌, ap, arith, length}
 use Rattle.place_publish.specs.Lessons.{port_in}
 use Rattle.place_publish.proofs.Growing.{slice-at}
 use Rattle.place_publish.proofs.Copies.{copies-none, copies-at, slice-none, not-below, below, rest}

@@ -1,4 +1,4 @@
-use Rattle.std.proofs.Common.{◌≡◌, ◌+◌, slice_get, Some, None, rules, sym, ◌∙◌, ap, arith}
+use Rattle.std.proofs.Common.{◌≡◌, ◌+◌, slice_get, Some, sym, ◌∙◌, ap, arith}
 use Rattle.place_publish.specs.Lessons.{port_in}
 use Rattle.place_publish.proofs.Growing.{slice-at}
 use Rattle.place_publish.proofs.Senders.{sent-next, port-none, sent-further}

@@ -1,6 +1,8 @@
 use Rattle.std.proofs.Common.{length, sym, ◌∙◌, subst, arith}
+use mathlib.Core.List.{IsPrefix}
+use Rattle.chorus_board.specs.Boards.{entries_published}
 use Rattle.place_publish.specs.Publishing.{IsUpTo}
-use Rattle.place_publish.proofs.Growing.{of-place, after-publish}
+use Rattle.place_publish.proofs.Growing.{of-place, after-publish, grows-publish}
 use Rattle.place_publish.proofs.publish.publish_all.Goals as goal
 
 pub publish_first-requires-clause-of_place : goal.publish_first-requires-clause-of_place
@@ -14,3 +16,10 @@ returns-clause-board g c =
     let same = c.publish_first.ensures.board in
     after-publish c.args.layout c.args.number c.args.journal.now c.published.new.self c.publish_first.new.board (length c.args.journal.now) c.publish_first.result at.is
     (same.1 ∙ at.is.layout, same.2 ∙ at.is.of_place) (omega arith) c.publish_first.ensures.published c.publish_first.ensures.unshown c.publish_first.ensures.begun
+
+pub returns-clause-grows : goal.returns-clause-grows
+returns-clause-grows g c =
+    let at = subst (λ b. IsUpTo c.args.layout c.args.number c.args.journal.now (length c.args.journal.now) b) (sym c.published.ensures.board) c.requires.upto in
+    subst (λ b. IsPrefix (entries_published b) (entries_published c.publish_first.new.board)) c.published.ensures.board
+    (grows-publish c.args.layout c.args.number c.args.journal.now c.published.new.self c.publish_first.new.board (length c.args.journal.now) c.publish_first.result at.is
+    at.low c.publish_first.ensures.published c.publish_first.ensures.unshown)

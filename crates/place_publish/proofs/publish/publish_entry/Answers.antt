@@ -1,6 +1,6 @@
 use Rattle.std.proofs.Common.{◌≡◌, ◌+◌, ◌≤◌, take, reverse, slice_get, Some, None, rules, sym, ◌∙◌, arith}
 use Rattle.place_publish.specs.Lessons.{lesson}
-use Rattle.place_publish.proofs.Growing.{slice-at, prefix-take, of-place, step-none, locates, after-publish, upto-publish}
+use Rattle.place_publish.proofs.Growing.{slice-at, prefix-take, of-place, step-none, locates, after-publish, upto-publish, grows-publish}
 use Rattle.place_publish.proofs.publish.publish_entry.Goals as goal
 
 pub returns-in_default-lesson_of-clause-upto : goal.returns-in_default-lesson_of-clause-upto
@@ -39,3 +39,9 @@ returns-clause-upto g c =
     let same = c.publish_first.ensures.board in
     upto-publish c.args.layout c.args.number c.args.journal.now c.publish_first.new.board (c.args.index + 1) c.publish_first.result
     (same.1 ∙ is.layout, same.2 ∙ is.of_place) (omega (arith, lt)) c.publish_first.ensures.published c.publish_first.ensures.begun
+
+pub returns-clause-grows : goal.returns-clause-grows
+returns-clause-grows g c =
+    let low = c.requires.upto.low in
+    grows-publish c.args.layout c.args.number c.args.journal.now c.args.board.now c.publish_first.new.board (c.args.index + 1) c.publish_first.result c.requires.upto.is
+    (omega (arith, low)) c.publish_first.ensures.published c.publish_first.ensures.unshown

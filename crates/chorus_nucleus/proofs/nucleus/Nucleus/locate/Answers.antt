@@ -1,6 +1,6 @@
 use Rattle.std.proofs.Common.{◌≡◌, Some, refl, sym, ◌∙◌, ap, subst, IfSome}
 use Rattle.chorus_turn.specs.Passes.{handed}
-use Rattle.chorus_board.specs.Located.{located_after, pair_of}
+use Rattle.chorus_board.specs.Located.{located_after, pair_of, IsOfPlace}
 use Rattle.chorus_board.specs.Boards.{entries_seen}
 use Rattle.chorus_nucleus.specs.Passes.{Reads, home_of}
 use Rattle.chorus_nucleus.specs.Reading.{Locates}
@@ -31,8 +31,8 @@ returns-in-Some c =
       knows = refl;
       caller = refl;
       worn = refl;
-      found = subst (λ o. Locates n.layout c.args.port o (Some read) c.newest-found.result) (sym had)
-          (told.begins, told.located ∙ ap (λ k. pair_of (located_after k (entries_seen read) c.args.port)) own.layout, told.upto);
+      found = subst (λ o. Locates n.layout home c.args.port o (Some read) c.newest-found.result) (sym had)
+          (told.begins, subst (λ k. IsOfPlace k (entries_seen read)) own.place told.of_place, told.located ∙ ap (λ k. pair_of (located_after k (entries_seen read) c.args.port)) own.layout, told.upto);
       full = tt;
       readers = λ q. refl;
     }

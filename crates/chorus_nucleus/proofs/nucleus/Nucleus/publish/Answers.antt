@@ -1,5 +1,5 @@
-use Rattle.std.proofs.Common.{None, refl, sym, ◌∙◌, subst}
-use Rattle.chorus_turn.specs.Passes.{known}
+use Rattle.std.proofs.Common.{refl, sym, ◌∙◌, subst}
+use Rattle.chorus_turn.specs.Passes.{known, handed}
 use Rattle.chorus_nucleus.specs.Reading.{PublishDone}
 use Rattle.chorus_nucleus.proofs.Asking.{home-is}
 use Rattle.chorus_nucleus.proofs.Publishing.{at-home, away}
@@ -13,7 +13,7 @@ returns-then-place-place_at g c =
     let home = home-is n.layout old.caller c.actor-actor.result c.site.result c.place_at.result c.actor-actor.ensures c.site.ensures.value c.place_at.ensures.value in
     at-home n c.args.place old with.new.turner c.requires.pass with.ensures.turner with.ensures.standing with.result.0 record { reader = with.result.0; spare = old.sight.spare } with.result.1
     (c.if-place-place_at.true ∙ home) refl refl with.ensures.reader
-    (λ w h. subst (λ o. PublishDone n.layout c.args.place o with.result.0 with.result.1 (known old.turner) (known with.new.turner) w) c.take-own.ensures.value (with.ensures.done w h))
+    (λ w h. subst (λ o. PublishDone n.layout (handed n.turns) c.args.place o with.result.0 with.result.1 (known old.turner) (known with.new.turner) w) c.take-own.ensures.value (with.ensures.done w h))
 
 pub returns-else-place-place_at : goal.returns-else-place-place_at
 returns-else-place-place_at g c =

@@ -17,6 +17,6 @@ returns-clause-reader g c =
 
 pub returns-clause-done : goal.returns-clause-done
 returns-clause-done g c = λ w h.
-    subst (λ r. PublishDone c.args.self.now.layout c.args.place c.args.reader c.with-done.new.job.reader r (known c.args.turner.now) (known c.with-done.new.pass) w) (sym c.answer_publish.ensures)
+    subst (λ r. PublishDone c.args.self.now.layout (handed c.args.self.now.turns) c.args.place c.args.reader c.with-done.new.job.reader r (known c.args.turner.now) (known c.with-done.new.pass) w) (sym c.answer_publish.ensures)
     (publish-done c.args.self.now.layout (handed c.args.self.now.turns) c.requires.sites c.args.place (place-is c.args.self.now.layout c.args.place c.requires.place) c.args.reader c.with-done.new.job.reader
     (known c.args.turner.now) (known c.with-done.new.pass) w h c.with-done.result c.with-done.ensures.ok (same-held _ (λ j. j.reader) _ _ c.with-done.result c.with-done.ensures.busy))

@@ -5,10 +5,25 @@ use Rattle.chorus_board.specs.Boards.{name_of}
 use Rattle.chorus_turn.specs.Journals.{GrowsBy}
 use Rattle.chorus_serve.specs.Desks.{seen}
 use Rattle.place_site.specs.Sites.{entries}
+use Rattle.place_site.specs.Jobs.{HasWorked}
 use Rattle.place_site.specs.Turning.{NotesFrom}
 use Rattle.place_site.proofs.Published.{stays-published}
-use Rattle.place_site.proofs.Steps.{served-marks, served-grows, served-goes, holding}
+use Rattle.place_site.proofs.Steps.{served-marks, served-grows, served-goes, served-has, holding}
 use Rattle.place_site.proofs.serves.ServesJobSite.run.Goals as goal
+
+pub returns-clause-done : goal.returns-clause-done
+returns-clause-done g c =
+    let d = seen g.E.Ends.links g.E.Ends.packet c.args.state.now.desk in
+    let e = seen g.E.Ends.links g.E.Ends.packet c.serve-done.new.desk in
+    let w = c.args.self.now.caller in
+    let x = c.serve-done.new.caller in
+    let hold = c.is_holding.ensures ∙ holding g.E.Ends.packet c.serve-done.new.desk.hand in
+    let has = served-has c.serve-done.result d e w x c.is_holding.result hold c.serve-done.ensures.ok c.serve-done.ensures.refused in (
+      c.of.ensures ∙ c.place-place.ensures,
+      subst (λ o. HasWorked o c.serve-done.result w x d e) (sym c.worked_from-self.ensures) has,
+      c.serve-done.ensures.worn,
+      c.serve-done.ensures.emptied,
+    )
 
 pub returns-clause-mark : goal.returns-clause-mark
 returns-clause-mark g c =

@@ -1,0 +1,6 @@
+use Rattle.std.proofs.Common.{◌×◌}
+use Rattle.chorus_nucleus.specs.Passes.{IsPassOf}
+use Rattle.tests_nucleus.proofs.boards.assert_readers_end.Given as goal
+
+abbrev pub invariant-loop : goal.invariant-loop
+invariant-loop g l = IsPassOf l.nucleus l.keeper × IsPassOf l.nucleus l.into
