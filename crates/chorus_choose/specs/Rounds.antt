@@ -1,6 +1,7 @@
 -- What a receive appends.
--- n is a nucleus, l a layout, `asked` are ports that were asked in vain, one after another, `earlier` those of earlier rounds, `ports` those
--- of the receive in the order in which they are looked at; v and u are what the pass knows before and after.
+-- n is a nucleus, l a layout, `asked` are ports that were asked in vain, one after another,
+-- `earlier` those of earlier rounds, `ports` those of the receive in the order in which they are looked at; v and u are
+-- what the pass knows before and after.
 use Rattle.std.specs.Prelude.{ℕ, zero, suc, ◌≡◌, List, [], ◌∷◌, ◌++◌, length, Result, IfOk, IfErr}
 use Rattle.chorus_ui.specs.declared.ui.Ui.{Ui}
 use Rattle.chorus_ui.specs.declared.layout.Layout.{Layout}
@@ -31,8 +32,10 @@ pub record Missed (asked : List Ui) (v u : Knowledge PlaceNote) : Type 0 where
   pub misses : AreMisses asked acts
   pub appends : Appends acts v u
 
--- behind those in vain, of earlier rounds and of the ports before it, q gave a message, and what its take appended stands behind
-pub record GivesAfter (l : Layout) (earlier ports : List Ui) (q : Ui) (r : Reply) (v u : Knowledge PlaceNote) : Type 0 where
+-- behind those in vain, of earlier rounds and of the ports before it, q gave a message, and what its take appended
+-- stands behind
+pub record GivesAfter (l : Layout) (earlier ports : List Ui) (q : Ui) (r : Reply)
+    (v u : Knowledge PlaceNote) : Type 0 where
   pub front : List Ui
   pub rest : List Ui
   pub split : ports ≡ front ++ q ∷ rest
@@ -52,11 +55,13 @@ pub record StopsAfter (n : Nucleus) (earlier ports : List Ui) (f : CallFault) (o
   pub fault : IsFault n at f between new
 
 abbrev pub Receives : Layout → List Ui → List Ui → Received → Knowledge PlaceNote → Knowledge PlaceNote → Type 0
-Receives l earlier ports (receives.Taken q pos m settled) v u = GivesAfter l earlier ports q (Reply.Taken pos m settled) v u
+Receives l earlier ports (receives.Taken q pos m settled) v u =
+    GivesAfter l earlier ports q (Reply.Taken pos m settled) v u
 Receives l earlier ports (receives.Empty looked) v u = (looked ≡ length ports) × Missed (earlier ++ ports) v u
 
 -- what a receive did, with the rounds before it
-pub record IsReceive (n : Nucleus) (earlier ports : List Ui) (r : Result Received CallFault) (old new : Pass) : Type 0 where
+pub record IsReceive (n : Nucleus) (earlier ports : List Ui) (r : Result Received CallFault)
+    (old new : Pass) : Type 0 where
   pub keeps : KeepsPass n old new
   pub received : IfOk r (λ x. Receives (layout_of n) earlier ports x (known old) (known new))
   pub stopped : IfErr r (λ f. StopsAfter n earlier ports f old new)

@@ -15,6 +15,7 @@ last_round (Ok w) = Ok (receives.Taken w.port w.pos w.message w.settled)
 last_round (Err f) = Err f
 
 -- `count` whole rounds over the ports were in vain, and then one gave the message or was stopped
-pub record WaitsAndReceives (n : Nucleus) (count : ℕ) (ports : List Ui) (r : Result Waited CallFault) (old new : Pass) : Type 0 where
+pub record WaitsAndReceives (n : Nucleus) (count : ℕ) (ports : List Ui) (r : Result Waited CallFault)
+    (old new : Pass) : Type 0 where
   pub parks : IfOk r (λ w. w.parks ≡ min count (2 ^ 32 - 1))
   pub last : IsReceive n (rounds count ports) ports (last_round r) old new

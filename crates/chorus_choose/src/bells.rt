@@ -20,8 +20,8 @@ pub fn bell(alloc: Global) -> Result<(Ringer, Waiter), AllocError>
 }
 
 impl Ringer {
-    /// Puts a token into the bell, unless one is there, and wakes the caller that waits. So two rings may end one wait alone. Takes no
-    /// memory. No clause says that it does so, since nothing of the caller's changes.
+    /// Puts a token into the bell, unless one is there, and wakes the caller that waits. So two rings may end one wait
+    /// alone. Takes no memory. No clause says that it does so, since nothing of the caller's changes.
     pub fn ring(&self) {
         let mut pass = self.unparker.pass();
         self.unparker.unpark_as::<Rings>(&mut pass);

@@ -19,8 +19,8 @@ pub struct Enabled {
     pub priority: u8,
 }
 
-/// The enabled ports, at most 32, in the order in which they are looked at: greater priority first, and equal priorities in the order of
-/// enabling. The order is this project's own.
+/// The enabled ports, at most 32, in the order in which they are looked at: greater priority first, and equal
+/// priorities in the order of enabling. The order is this project's own.
 #[derive(Debug, Drop)]
 pub struct Chooser {
     pub(crate) enabled: Vec<Enabled>,
@@ -75,8 +75,8 @@ impl Chooser {
         })
     }
 
-    /// Enables a port, which the name must be, with a priority. `There` comes exactly where it is enabled, and else `EnabledFull` exactly
-    /// where 32 ports are. Takes no memory.
+    /// Enables a port, which the name must be, with a priority. `There` comes exactly where it is enabled, and else
+    /// `EnabledFull` exactly where 32 ports are. Takes no memory.
     #[tactic(auto, using(crate::proofs::Order::enabled_at))]
     pub fn enable(&mut self, port: Ui, priority: u8) -> Result<(), EnableFault>
         requires { is_port port ≡ true }

@@ -7,7 +7,8 @@ use chorus_ui::Ui;
 /// What a receive gives.
 #[derive(Debug, Drop, PartialEq, Eq)]
 pub enum Received {
-    /// The first message of this port, at this position. Where it is a reply, `settled` says whether it ended the caller's call.
+    /// The first message of this port, at this position. Where it is a reply, `settled` says whether it ended the
+    /// caller's call.
     Taken {
         port: Ui,
         pos: u64,

@@ -10,11 +10,11 @@ use chorus_nucleus::{CallFault, Nucleus, Pass};
 use chorus_take::take_once;
 
 impl Chooser {
-    /// Looks at the enabled ports in their order, each by one take, and takes from the first that the caller's actor holds with a message
-    /// when it is looked at. `Empty` comes exactly where there was none.
+    /// Looks at the enabled ports in their order, each by one take, and takes from the first that the caller's actor
+    /// holds with a message when it is looked at. `Empty` comes exactly where there was none.
     ///
-    /// Each port is judged when it is looked at; nothing is said of all ports at one moment. A fault is that of the take that gave it,
-    /// and the entries before it stand. Takes no memory but what a turn takes.
+    /// Each port is judged when it is looked at; nothing is said of all ports at one moment. A fault is that of the
+    /// take that gave it, and the entries before it stand. Takes no memory but what a turn takes.
     #[tactic(auto, using(crate::proofs::Asking::looks))]
     pub fn receive(&self, nucleus: &Nucleus, pass: &mut Pass) -> Result<Received, CallFault>
         requires { IsPassOf nucleus.now pass.old }

@@ -49,11 +49,11 @@ impl Chooser {
         })
     }
 
-    /// Receives, and where there was no message waits for a ring and receives again. While another pass has a place it tries the same
-    /// take again, so it never answers `Busy` and begins no round anew.
+    /// Receives, and where there was no message waits for a ring and receives again. While another pass has a place it
+    /// tries the same take again, so it never answers `Busy` and begins no round anew.
     ///
-    /// `parks` counts the waits, each of which took one token; at 4,294,967,295 it goes on without counting. At a fault the tokens that it
-    /// took are spent and the entries of its rounds stand.
+    /// `parks` counts the waits, each of which took one token; at 4,294,967,295 it goes on without counting. At a fault
+    /// the tokens that it took are spent and the entries of its rounds stand.
     pub fn wait_receive<R: Wait>(
         &self,
         rt: &R,

@@ -33,9 +33,10 @@ pub record ArePairs (l : Layout) (pairs : List (Ui × Ui)) : Type 0 where
   pub ports : All (λ (p : Ui × Ui). is_port p.0 ≡ true) pairs
   pub actors : AreTheActors l pairs
 
--- Of what the pass of a job made: the takes of the port, in the order in which they were handled, and then one Empty or NotHere; and the
--- numbers are those of these takes. Each message is that of a turn that the pass v has seen.
-pub record IsHandled (value : Ui → ℕ → Message → ℕ) (l : Layout) (v : Knowledge PlaceNote) (q : Ui) (made : List (Placed PlaceNote)) (h : Handled) : Type 0 where
+-- Of what the pass of a job made: the takes of the port, in the order in which they were handled, and then one Empty or
+-- NotHere; and the numbers are those of these takes. Each message is that of a turn that the pass v has seen.
+pub record IsHandled (value : Ui → ℕ → Message → ℕ) (l : Layout) (v : Knowledge PlaceNote) (q : Ui)
+    (made : List (Placed PlaceNote)) (h : Handled) : Type 0 where
   pub port : h.port ≡ q
   pub took : List TakenMessage
   pub given : AreGiven l q took v
@@ -45,14 +46,16 @@ pub record IsHandled (value : Ui → ℕ → Message → ℕ) (l : Layout) (v : 
   pub counts : Counts value q took h.from h.count h.total
 
 -- so of each pair, whose pass has the next number
-abbrev pub AreHandled : (Ui → ℕ → Message → ℕ) → Layout → Knowledge PlaceNote → ℕ → List (Ui × Ui) → List (Note PlaceNote) → List Handled → Type 0
+abbrev pub AreHandled : (Ui → ℕ → Message → ℕ) → Layout → Knowledge PlaceNote → ℕ → List (Ui × Ui)
+    → List (Note PlaceNote) → List Handled → Type 0
 AreHandled value l v seat [] [] [] = Unit {0}
 AreHandled value l v seat (p ∷ pairs) (m ∷ notes) (h ∷ handled) =
     (m.seat ≡ seat) × IsHandled value l v p.0 m.mine h × AreHandled value l v (seat + 1) pairs notes handled
 AreHandled value l v seat _ _ _ = ⊥
 
 -- all pairs were handled, and the pass of each is now a note of the caller's
-pub record HasHandled (value : Ui → ℕ → Message → ℕ) (n : Nucleus) (pairs : List (Ui × Ui)) (handled : List Handled) (old new : Pass) : Type 0 where
+pub record HasHandled (value : Ui → ℕ → Message → ℕ) (n : Nucleus) (pairs : List (Ui × Ui)) (handled : List Handled)
+    (old new : Pass) : Type 0 where
   pub news : List (Note PlaceNote)
   pub notes : (known new).notes ≡ (known old).notes ++ news
   pub each : AreHandled value (layout_of n) (known new) (known old).made pairs news handled

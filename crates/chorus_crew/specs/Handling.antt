@@ -1,5 +1,6 @@
 -- What the pass of a job makes.
--- q is the port, l the layout, value what a message at its position is worth, v and u are what the pass knows before and after.
+-- q is the port, l the layout, value what a message at its position is worth, v and u are
+-- what the pass knows before and after.
 use Rattle.std.specs.Prelude.{ℕ, ◌≡◌, ◌+◌, ◌%◌, ◌^◌, List, [], ◌∷◌, ◌++◌, length}
 use Rattle.std.specs.List.{All}
 use Rattle.chorus_ui.specs.declared.ui.Ui.{Ui}
@@ -32,7 +33,8 @@ worth value q [] = 0
 worth value q (t ∷ ts) = value q t.position t.message + worth value q ts
 
 -- the numbers are those of these takes
-pub record Counts (value : Ui → ℕ → Message → ℕ) (q : Ui) (took : List TakenMessage) (from count total : ℕ) : Type 0 where
+pub record Counts (value : Ui → ℕ → Message → ℕ) (q : Ui) (took : List TakenMessage)
+    (from count total : ℕ) : Type 0 where
   pub first : from ≡ first_position took
   pub number : count ≡ length took
   pub sum : total ≡ worth value q took % 2 ^ 64
@@ -44,7 +46,8 @@ pub record Handles (l : Layout) (q : Ui) (v u : Knowledge PlaceNote) : Type 0 wh
   pub appends : Appends (took_acts q took) v u
 
 -- these messages were taken and counted, and then there was none
-pub record Drains (value : Ui → ℕ → Message → ℕ) (l : Layout) (q : Ui) (from count total : ℕ) (v u : Knowledge PlaceNote) : Type 0 where
+pub record Drains (value : Ui → ℕ → Message → ℕ) (l : Layout) (q : Ui) (from count total : ℕ)
+    (v u : Knowledge PlaceNote) : Type 0 where
   pub took : List TakenMessage
   pub given : AreGiven l q took u
   pub last : Act

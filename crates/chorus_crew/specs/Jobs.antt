@@ -20,12 +20,14 @@ use Rattle.chorus_crew.specs.declared.job.Done.{Done}
 use Rattle.chorus_crew.specs.declared.job.Tally.{Tally}
 use Rattle.chorus_crew.specs.Handling.{Handles, Drains}
 
-abbrev pub Worked : (Ui → ℕ → Message → ℕ) → Layout → Ui → Result Tally CallFault → Knowledge PlaceNote → Knowledge PlaceNote → Type 0
+abbrev pub Worked : (Ui → ℕ → Message → ℕ) → Layout → Ui → Result Tally CallFault → Knowledge PlaceNote
+    → Knowledge PlaceNote → Type 0
 Worked value l q (Ok t) v u = Drains value l q t.from t.count t.total v u
 Worked value l q (Err f) v u = Handles l q v u
 
 -- the messages of the port were handled with this pass
-pub record IsWork (value : Ui → ℕ → Message → ℕ) (n : Nucleus) (q : Ui) (r : Result Tally CallFault) (old new : Pass) : Type 0 where
+pub record IsWork (value : Ui → ℕ → Message → ℕ) (n : Nucleus) (q : Ui) (r : Result Tally CallFault)
+    (old new : Pass) : Type 0 where
   pub keeps : KeepsPass n old new
   pub work : Worked value (layout_of n) q r (known old) (known new)
   pub worn : worn_by new ≡ worn_after (worn_by old) r
@@ -77,7 +79,8 @@ pub record IsEntered (n : Nucleus) (index seat : ℕ) (q : Ui) (job : Job) : Typ
 -- those of these pairs, in their order
 abbrev pub AreEntered : Nucleus → ℕ → ℕ → List (Ui × Ui) → List Job → Type 0
 AreEntered n index seat [] [] = Unit {0}
-AreEntered n index seat (p ∷ pairs) (j ∷ jobs) = IsEntered n index seat p.0 j × AreEntered n (index + 1) (seat + 1) pairs jobs
+AreEntered n index seat (p ∷ pairs) (j ∷ jobs) = IsEntered n index seat p.0 j
+    × AreEntered n (index + 1) (seat + 1) pairs jobs
 AreEntered n index seat _ _ = ⊥
 
 abbrev pub AreTheActors : Layout → List (Ui × Ui) → Type 0

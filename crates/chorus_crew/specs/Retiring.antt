@@ -52,7 +52,8 @@ worn_of o (d ∷ dones) = worn_of (option_or o (worn_by d.pass)) dones
 abbrev pub IsFullSlot : Nucleus → Option Done → Type 0
 IsFullSlot n s = (d : Done) × (s ≡ Some d) × IsPlain n d.pass
 
--- passes that draw no numbers were retired into the pass: their notes stand behind its own, and it has seen what they have
+-- passes that draw no numbers were retired into the pass: their notes stand behind its own, and it has seen what they
+-- have
 pub record TakesIn (n : Nucleus) (old new : Pass) (ended : List Pass) : Type 0 where
   pub pass : IsPassOf n new
   pub seat : (known new).seat ≡ (known old).seat
@@ -71,8 +72,8 @@ pub record TookAlone (made : List (Placed PlaceNote)) : Type 0 where
   pub vain : All (IsMiss port) rest
   pub acts : acts_made made ≡ took_acts port took ++ rest
 
--- the caller's pass is still the keeper, and each pass that was drawn ended in it: so the numbers drawn, less the passes ended, are as
--- before
+-- the caller's pass is still the keeper, and each pass that was drawn ended in it: so the numbers drawn, less the
+-- passes ended, are as before
 pub record IsRetired (n : Nucleus) (old new : Pass) : Type 0 where
   pub pass : IsPassOf n new
   pub keeper : (known new).keeper ≡ true

@@ -74,14 +74,15 @@ fn crew_with<H: Handler, R: Threads + Wait + Sync>(
     answer(pass.worn(), all, handled)
 }
 
-/// Handles all messages that wait in the ports, with so many workers in threads. Each pair has a port and the actor in which a new pass
-/// takes from it, as [`are_pairs`](crate::are_pairs) tells, and there are 1 to 16 workers. The caller's pass is the keeper, and was not
-/// worn.
+/// Handles all messages that wait in the ports, with so many workers in threads. Each pair has a port and the actor in
+/// which a new pass takes from it, as [`are_pairs`](crate::are_pairs) tells, and there are 1 to 16 workers. The
+/// caller's pass is the keeper, and was not worn.
 ///
-/// At Ok there is one `Handled` for each pair, in their order: the takes of its port, in the order in which they were handled, and then
-/// one Empty or NotHere, stand in the pass's new note. At every answer each pass that the call drew is retired into the caller's. `NoSeat`
-/// comes exactly where fewer numbers are left than there are pairs; `Worn` tells the pass's first worn clock. Where no memory was found in the
-/// midst, what was taken till then is gone from the ports, and its totals are lost.
+/// At Ok there is one `Handled` for each pair, in their order: the takes of its port, in the order in which they were
+/// handled, and then one Empty or NotHere, stand in the pass's new note. At every answer each pass that the call drew
+/// is retired into the caller's. `NoSeat` comes exactly where fewer numbers are left than there are pairs; `Worn` tells
+/// the pass's first worn clock. Where no memory was found in the midst, what was taken till then is gone from the
+/// ports, and its totals are lost.
 #[tactic(auto, using(crate::proofs::Asked::pairs_are))]
 pub fn crew<H: Handler, R: Threads + Wait + Sync>(
     rt: &R,

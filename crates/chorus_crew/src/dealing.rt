@@ -16,8 +16,8 @@ use chorus_nucleus::Nucleus;
 use std::sync::Wait;
 use std::thread::Threads;
 
-/// Does the jobs of the tools, each in the slot of its number: workers steal them out of the deque, and what they leave there, or what
-/// found no room there, the caller does itself.
+/// Does the jobs of the tools, each in the slot of its number: workers steal them out of the deque, and what they leave
+/// there, or what found no room there, the caller does itself.
 pub(crate) fn do_jobs<H: Handler, R: Threads + Wait + Sync>(
     rt: &R,
     nucleus: &Nucleus,

@@ -3,8 +3,8 @@
 use std::alloc::AllocError;
 use thiserror::Error;
 
-/// Why a crew gives no totals. Each pass that it entered is retired into the caller's, and the messages that were taken till then are
-/// gone from their ports.
+/// Why a crew gives no totals. Each pass that it entered is retired into the caller's, and the messages that were taken
+/// till then are gone from their ports.
 #[derive(Clone, Copy, Debug, PartialEq, Eq, Error)]
 pub enum CrewFault {
     /// There is no memory.

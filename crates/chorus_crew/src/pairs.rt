@@ -45,8 +45,8 @@ fn are_named(layout: Layout, pairs: &[(Ui, Ui)]) -> bool
     pairs.iter().all(|pair| is_pair(layout, pair.0, pair.1))
 }
 
-/// Whether a crew may be given these pairs: there are at most 64 of them, each of a port and an actor of the layout, and the ports are
-/// distinct. Takes no memory.
+/// Whether a crew may be given these pairs: there are at most 64 of them, each of a port and an actor of the layout,
+/// and the ports are distinct. Takes no memory.
 pub fn are_pairs(layout: Layout, pairs: &[(Ui, Ui)]) -> bool
     ensures { result ≡ are_pairs layout pairs.now }
 {

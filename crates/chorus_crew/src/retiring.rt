@@ -39,7 +39,8 @@ fn handled_by(port: Ui, tally: Tally) -> Handled
     }
 }
 
-/// Retires the passes of all jobs that are done, in order, collects what they gave, and says whether each was done to its end.
+/// Retires the passes of all jobs that are done, in order, collects what they gave, and says whether each was done to
+/// its end.
 pub(crate) fn retire_done(
     nucleus: &Nucleus,
     pass: &mut Pass,

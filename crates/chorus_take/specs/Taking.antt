@@ -47,8 +47,8 @@ pub record Misses (q : Ui) (v u : Knowledge PlaceNote) : Type 0 where
   pub miss : IsMiss q act
   pub appends : Appends (act ∷ []) v u
 
--- The turn that gave a reply: a place of the layout whose turns were those of the journal `found` gives it to a take of the port. The
--- pass has seen that journal, so it is a beginning of the place's when all is closed.
+-- The turn that gave a reply: a place of the layout whose turns were those of the journal `found` gives it to a take of
+-- the port. The pass has seen that journal, so it is a beginning of the place's when all is closed.
 pub record HasOrigin (l : Layout) (q : Ui) (r : Reply) (v : Knowledge PlaceNote) : Type 0 where
   pub place : ℕ
   pub found : List (Remarked PlaceNote)
@@ -84,11 +84,13 @@ pub record KeepsPass (n : Nucleus) (old new : Pass) : Type 0 where
   pub actor : (caller_of new).actor ≡ (caller_of old).actor
   pub sight : sight_of new ≡ sight_of old
 
--- Nothing was made; and why not: the last try found the place held, no memory, or a worn clock. `tried` is what the pass knew then.
+-- Nothing was made; and why not: the last try found the place held, no memory, or a worn clock. `tried` is what the
+-- pass knew then.
 pub record IsFault (n : Nucleus) (q : Ui) (f : CallFault) (old new : Pass) : Type 0 where
   pub tried : Knowledge PlaceNote
   pub before : tried.mine ≡ (known old).mine
-  pub because : Because FindsWorn f (layout_of n) (place_of n (Command.Take q) old) tried (caller_of old) (known new) (caller_of new)
+  pub because : Because FindsWorn f (layout_of n) (place_of n (Command.Take q) old) tried (caller_of old) (known new)
+      (caller_of new)
   pub mine : (known new).mine ≡ (known old).mine
   pub caller : caller_of new ≡ caller_of old
 

@@ -1,7 +1,7 @@
 //! One take of a port through a running nucleus.
 //!
-//! The layers above rest on this: what a take appended is told by its answer alone, and a message that it handed out keeps its origin,
-//! the turn that gave it, as long as the pass is known.
+//! The layers above rest on this: what a take appended is told by its answer alone, and a message that it handed out
+//! keeps its origin, the turn that gave it, as long as the pass is known.
 //!
 //! Begin with `specs/Taking.antt` (what a take makes), then `taking`.
 #![tactic(auto)]

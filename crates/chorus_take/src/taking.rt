@@ -11,8 +11,9 @@ use law_machine::Reply;
 use std::sync::Wait;
 use std::thread;
 
-/// Takes the first message of the port, in one turn at the port's place on the caller's site. None comes exactly where the caller's
-/// actor does not hold the port there, or no message waits in it. The faults are those of [`Nucleus::take`], which tries the place once.
+/// Takes the first message of the port, in one turn at the port's place on the caller's site. None comes exactly where
+/// the caller's actor does not hold the port there, or no message waits in it. The faults are those of
+/// [`Nucleus::take`], which tries the place once.
 #[tactic(auto, using(crate::proofs::Turns::calls))]
 pub fn take_once(
     nucleus: &Nucleus,
@@ -42,8 +43,8 @@ pub fn take_once(
     }
 }
 
-/// Takes the first message of the port, and tries again while another pass has the place. So it never answers `Busy`; no entry is
-/// appended by a try that found the place held.
+/// Takes the first message of the port, and tries again while another pass has the place. So it never answers `Busy`;
+/// no entry is appended by a try that found the place held.
 #[tactic(auto, using(crate::proofs::Trying::trying))]
 pub fn take_when_free<R: Wait>(
     rt: &R,

@@ -1,5 +1,6 @@
 -- What was taken was posted.
--- l is the layout of a nucleus, v what the closing pass knew, comers are those who came, c is what was closed, q a port.
+-- l is the layout of a nucleus, v what the closing pass knew, comers are those who came, c
+-- is what was closed, q a port.
 use Rattle.std.specs.Prelude.{ℕ, List, Option}
 use Rattle.chorus_ui.specs.declared.ui.Ui.{Ui}
 use Rattle.chorus_ui.specs.declared.layout.Layout.{Layout}
@@ -18,5 +19,6 @@ use Rattle.chorus_take.specs.Taking.{HasOrigin}
 
 abbrev pub MessagesTakenWerePosted : Type 0
 MessagesTakenWerePosted =
-    (l : Layout) (v : Knowledge PlaceNote) (comers : List Comer) (c : Closed) (q : Ui) (position : ℕ) (m : Message) (settled : Option Settle) →
+    (l : Layout) (v : Knowledge PlaceNote) (comers : List Comer) (c : Closed) (q : Ui) (position : ℕ) (m : Message)
+    (settled : Option Settle) →
     IsLayout l → ClosesAs l v comers c → HasOrigin l q (Reply.Taken position m settled) v → IsAsPosted m (past_of c)

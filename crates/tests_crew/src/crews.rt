@@ -19,8 +19,8 @@ use std::thread::{self, Threads};
 /// How many turns a handler waits for another at most.
 const WAIT_LIMIT: u64 = 1_000_000_000;
 
-/// Counts its calls, and sees whether two were made at once. A call takes from a microsecond to some hundreds, by the position; the
-/// value of a message is 1.
+/// Counts its calls, and sees whether two were made at once. A call takes from a microsecond to some hundreds, by the
+/// position; the value of a message is 1.
 #[derive(Drop)]
 struct Counts {
     calls: AtomicU64,
@@ -138,7 +138,8 @@ fn handled<H: Handler, R: Threads + Wait + Abort + Sync>(
     }
 }
 
-/// Asserts that two workers are at work at once: two messages in two ports, and a handler that holds each until the other was begun.
+/// Asserts that two workers are at work at once: two messages in two ports, and a handler that holds each until the
+/// other was begun.
 fn assert_two_work<R: Threads + Wait + Abort + Sync>(rt: &R, alloc: Global) {
     let (nucleus, mut pass) = start(rt, alloc, 1);
     fill(rt, &nucleus, &mut pass, 1, 2, 1);
@@ -163,7 +164,8 @@ fn row_crew(rt: HostRuntime) {
     assert_two_work(&rt, rt.alloc());
 }
 
-/// Asserts that a crew of 16 handles each of 64 messages in each of 64 ports once, and that two of them are at work at once.
+/// Asserts that a crew of 16 handles each of 64 messages in each of 64 ports once, and that two of them are at work at
+/// once.
 fn assert_each_once<R: Threads + Wait + Abort + Sync>(rt: &R, alloc: Global) {
     let (nucleus, mut pass) = start(rt, alloc, 2);
     fill(rt, &nucleus, &mut pass, 1, 32, 64);

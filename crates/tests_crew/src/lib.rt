@@ -1,4 +1,5 @@
-//! The tests of receiving on any enabled port (`chorus_choose`) and of the crew (`chorus_crew`), on threads of their own.
+//! The tests of receiving on any enabled port (`chorus_choose`) and of the crew (`chorus_crew`), on threads of their
+//! own.
 #![tactic(auto)]
 
 #[cfg(test)]

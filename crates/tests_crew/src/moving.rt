@@ -1,4 +1,5 @@
-//! 32 ports over four sites, which move while four callers send: one caller receives on all of them, and three bring them to it.
+//! 32 ports over four sites, which move while four callers send: one caller receives on all of them, and three bring
+//! them to it.
 
 ghost use Rattle.std.specs.Prelude.{◌≡◌, ◌<◌, true};
 ghost use Rattle.std.specs.Thread.{IsSync};
@@ -326,15 +327,19 @@ fn all_meet<R: Threads + Wait + Abort + Sync>(
             requires rt { IsSync R.row }
             requires one { IsPassOf nucleus.now a × IsPassOf nucleus.now b }
             requires two { IsPassOf nucleus.now c × IsPassOf nucleus.now d }
-            ensures one { IsPassOf nucleus.entry.now result.0.0 × IsPassOf nucleus.entry.now result.0.1 }
-            ensures two { IsPassOf nucleus.entry.now result.1.0 × IsPassOf nucleus.entry.now result.1.1 }
+            ensures one { IsPassOf nucleus.entry.now result.0.0
+                × IsPassOf nucleus.entry.now result.0.1 }
+            ensures two { IsPassOf nucleus.entry.now result.1.0
+                × IsPassOf nucleus.entry.now result.1.1 }
         { four(rt, nucleus, (a, b), (c, d), meeting, 0) },
         || -> ((Pass, Pass), (Pass, Pass))
             requires rt { IsSync R.row }
             requires one { IsPassOf nucleus.now e × IsPassOf nucleus.now f }
             requires two { IsPassOf nucleus.now g × IsPassOf nucleus.now h }
-            ensures one { IsPassOf nucleus.entry.now result.0.0 × IsPassOf nucleus.entry.now result.0.1 }
-            ensures two { IsPassOf nucleus.entry.now result.1.0 × IsPassOf nucleus.entry.now result.1.1 }
+            ensures one { IsPassOf nucleus.entry.now result.0.0
+                × IsPassOf nucleus.entry.now result.0.1 }
+            ensures two { IsPassOf nucleus.entry.now result.1.0
+                × IsPassOf nucleus.entry.now result.1.1 }
         { four(rt, nucleus, (e, f), (g, h), meeting, 4) },
     );
     retire_two(nucleus, one, keeper);
