@@ -156,6 +156,20 @@ retired n count a b c ended keeper d t len alone = record {
   alone = alone;
 }
 
+-- with none drawn
+pub retired-none : (n : Nucleus) (a : Pass) → IsPassOf n a → (known a).keeper ≡ true → IsRetired n a a
+retired-none n a is keeper = record {
+  pass = is;
+  keeper = keeper;
+  seat = refl;
+  mine = refl;
+  caller = refl;
+  news = [];
+  notes = sym (append-nil (known a).notes);
+  drawn = let e : (known a).made ≡ (known a).made + 0 = omega arith in e;
+  alone = All-nil (λ (m : Note PlaceNote). TookAlone m.mine);
+}
+
 -- What the jobs gave.
 
 handled-one : (value : Ui → ℕ → Message → ℕ) (l : Layout) (q port : Ui) (t : Tally) (v u w : Knowledge PlaceNote) → port ≡ q → v.mine ≡ [] → SeesMore u w → Drains value l q t.from t.count t.total v u

@@ -83,7 +83,6 @@ fn crew_with<H: Handler, R: Threads + Wait + Sync>(
 /// is retired into the caller's. `NoSeat` comes exactly where fewer numbers are left than there are pairs; `Worn` tells
 /// the pass's first worn clock. Where no memory was found in the midst, what was taken till then is gone from the
 /// ports, and its totals are lost.
-#[tactic(auto, using(crate::proofs::Asked::pairs_are))]
 pub fn crew<H: Handler, R: Threads + Wait + Sync>(
     rt: &R,
     alloc: Global,

@@ -1,5 +1,6 @@
 use Rattle.std.proofs.Common.{◌≡◌, ◌+◌, ◌<◌, ◌≤◌, ℕ, Option, List, [], ◌∷◌, ◌++◌, length, arith, refl, ap, subst, sym, ◌∙◌}
 use Rattle.std.specs.List.{All, Contains}
+use Rattle.std.proofs.lemmas.List.{with_items_is}
 use Rattle.crossbeam_deque.specs.Handles.{worker_deque, worker_view, stealer_deque, view}
 use Rattle.chorus_crew.specs.declared.job.Job.{Job}
 use Rattle.chorus_crew.specs.declared.job.Done.{Done}
@@ -33,8 +34,10 @@ take_in-requires-clause-hands g c κs within =
     let all = ends-all V n (worker_deque c.put_jobs.new.owner) (stealer_deque c.args.tools.thief) put c.as_mut_slice.result.now c.all_steal.new.hands
     same ready c.all_steal.ensures.count c.all_steal.ensures.ends in
     let kept : put ≡ (worker_view c.give_passes.new.owner).put = sym (ap (λ (v : Share). v.put) c.give_passes.ensures.view.0) in
-    subst (λ d. All (λ (h : Hand). Ends V d n (worker_view c.give_passes.new.owner).put h) c.all_steal.new.hands) (sym c.give_passes.ensures.deque.0)
-    (subst (λ (l : List Job). All (λ (h : Hand). Ends V (worker_deque c.put_jobs.new.owner) n l h) c.all_steal.new.hands) kept all)
+    let written = with_items_is c.give_passes.new.hands c.all_steal.new.hands (c.all_steal.ensures.count ∙ c.as_mut_slice.ensures.len) in
+    subst (λ (l : List Hand). All (λ (h : Hand). Ends V (worker_deque c.give_passes.new.owner) n (worker_view c.give_passes.new.owner).put h) l) (sym written)
+    (subst (λ d. All (λ (h : Hand). Ends V d n (worker_view c.give_passes.new.owner).put h) c.all_steal.new.hands) (sym c.give_passes.ensures.deque.0)
+    (subst (λ (l : List Job). All (λ (h : Hand). Ends V (worker_deque c.put_jobs.new.owner) n l h) c.all_steal.new.hands) kept all))
 
 pub take_in-requires-clause-numbers : goal.take_in-requires-clause-numbers
 take_in-requires-clause-numbers g c κs within =

@@ -58,19 +58,19 @@ unreachable-requires c =
 pub returns-clause-retired : goal.returns-clause-retired
 returns-clause-retired c = λ dones is.
     (collected-all c.args.nucleus.now c.args.pass.now c.loop-slot.pass c.args.slots.now.items c.loop-slot.slots.items c.loop-slot.handled.items c.loop-slot.all c.loop-slot.invariant.collected
-    (no-slots c.loop-slot.slots.items c.in_default.ensures.cases.0) dones is).takes_in
+    (no-slots c.loop-slot.slots.items (omega (arith, c.in_default.ensures.cases.0, c.loop-slot.slots.ok.0))) dones is).takes_in
 
 pub returns-clause-worn : goal.returns-clause-worn
 returns-clause-worn c = λ dones is.
     (collected-all c.args.nucleus.now c.args.pass.now c.loop-slot.pass c.args.slots.now.items c.loop-slot.slots.items c.loop-slot.handled.items c.loop-slot.all c.loop-slot.invariant.collected
-    (no-slots c.loop-slot.slots.items c.in_default.ensures.cases.0) dones is).worn
+    (no-slots c.loop-slot.slots.items (omega (arith, c.in_default.ensures.cases.0, c.loop-slot.slots.ok.0))) dones is).worn
 
 pub returns-clause-handled : goal.returns-clause-handled
 returns-clause-handled c = λ dones is.
     (collected-all c.args.nucleus.now c.args.pass.now c.loop-slot.pass c.args.slots.now.items c.loop-slot.slots.items c.loop-slot.handled.items c.loop-slot.all c.loop-slot.invariant.collected
-    (no-slots c.loop-slot.slots.items c.in_default.ensures.cases.0) dones is).handled_is
+    (no-slots c.loop-slot.slots.items (omega (arith, c.in_default.ensures.cases.0, c.loop-slot.slots.ok.0))) dones is).handled_is
 
 pub returns-clause-done : goal.returns-clause-done
 returns-clause-done c = λ dones is.
     (collected-all c.args.nucleus.now c.args.pass.now c.loop-slot.pass c.args.slots.now.items c.loop-slot.slots.items c.loop-slot.handled.items c.loop-slot.all c.loop-slot.invariant.collected
-    (no-slots c.loop-slot.slots.items c.in_default.ensures.cases.0) dones is).all_is
+    (no-slots c.loop-slot.slots.items (omega (arith, c.in_default.ensures.cases.0, c.loop-slot.slots.ok.0))) dones is).all_is
