@@ -14,14 +14,14 @@ use Rattle.chorus_nucleus.specs.declared.pass.Pass.{Pass}
 use Rattle.chorus_nucleus.specs.Passes.{layout_of, known, worn_by, IsPassOf}
 use Rattle.chorus_nucleus.specs.Calls.{worn_after}
 use Rattle.chorus_take.specs.declared.message.TakenMessage.{TakenMessage}
-use Rattle.chorus_take.specs.Taking.{Appends, IsMiss, Misses, HasOrigin, Gives, KeepsPass, IsFault, IsTake, reply_with}
+use Rattle.chorus_take.specs.Taking.{Appends, Misses, KeepsPass, IsTake, reply_with}
 use Rattle.chorus_take.proofs.Turns.{worn-ok, worn-err}
 use Rattle.chorus_take.proofs.Trying.{appends-none, appends-then, keeps-none, keeps-then}
 use Rattle.chorus_choose.specs.declared.chooser.Enabled.{Enabled}
 use Rattle.chorus_choose.specs.declared.received.Received.{Received}
 use Rattle.chorus_choose.specs.declared.received.Received.TheVariants as receives
 use Rattle.chorus_choose.specs.Looking.{ports_of}
-use Rattle.chorus_choose.specs.Rounds.{AreMisses, Missed, GivesAfter, StopsAfter, Receives, IsReceive}
+use Rattle.chorus_choose.specs.Rounds.{AreMisses, Missed, GivesAfter, Receives, IsReceive}
 
 -- Ports in vain.
 

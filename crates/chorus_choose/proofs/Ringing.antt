@@ -1,9 +1,6 @@
 -- Each step of a bell keeps its rule.
-use Rattle.std.proofs.Common.{◌≡◌, ℕ, ◌+◌, ◌≤◌, true, false, List, [], ◌∷◌, set, refl, arith}
-use mathlib.Core.Option.{some}
-use lib.ListN.{get_elem?}
+use Rattle.std.proofs.Common.{◌≡◌, ℕ, ◌+◌, true, false, [], ◌∷◌, refl, arith}
 use Rattle.crossbeam_utils.specs.Register.{Admits, Turns, TurnsAt}
-use Rattle.chorus_turn.specs.Lists.{total}
 use Rattle.chorus_turn.proofs.Counts.{total-set, total-push}
 use Rattle.chorus_choose.specs.declared.rule.BellCounts.{BellCounts}
 use Rattle.chorus_choose.specs.BellRule.{counts, Rung}

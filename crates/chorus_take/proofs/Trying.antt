@@ -1,6 +1,6 @@
 -- Takes one after another, and a take after tries that found the place held.
 -- n is a nucleus, l a layout, q a port, v, m and u are what a pass knows at three moments.
-use Rattle.std.proofs.Common.{ℕ, ◌≡◌, List, [], ◌∷◌, ◌++◌, Option, Some, None, Result, Ok, Err, IfOk, refl, sym, ◌∙◌, ap, subst, append_assoc, append-nil}
+use Rattle.std.proofs.Common.{ℕ, ◌≡◌, List, [], ◌∷◌, ◌++◌, Option, Some, None, Result, Ok, Err, refl, sym, ◌∙◌, ap, subst, append_assoc, append-nil}
 use Rattle.chorus_ui.specs.declared.ui.Ui.{Ui}
 use Rattle.chorus_ui.specs.declared.layout.Layout.{Layout}
 use Rattle.chorus_entry.specs.declared.act.Act.{Act}
@@ -16,9 +16,9 @@ use Rattle.chorus_nucleus.specs.declared.fault.CallFault.{CallFault}
 use Rattle.chorus_nucleus.specs.declared.nucleus.Nucleus.{Nucleus}
 use Rattle.chorus_nucleus.specs.declared.pass.Pass.{Pass}
 use Rattle.chorus_nucleus.specs.Passes.{layout_of, known, caller_of, worn_by, IsPassOf}
-use Rattle.chorus_nucleus.specs.Calls.{FindsWorn, Because, place_of, worn_after}
+use Rattle.chorus_nucleus.specs.Calls.{FindsWorn, Because, worn_after}
 use Rattle.chorus_take.specs.declared.message.TakenMessage.{TakenMessage}
-use Rattle.chorus_take.specs.Taking.{acts_made, Appends, Misses, HasOrigin, Gives, Answers, SeesMore, KeepsPass, IsFault, IsTake}
+use Rattle.chorus_take.specs.Taking.{acts_made, Appends, HasOrigin, Answers, SeesMore, KeepsPass, IsFault, IsTake}
 use Rattle.chorus_take.proofs.Turns.{sees-same}
 
 -- Entries.

@@ -1,6 +1,6 @@
 -- What a call with a Take did, as a take.
 -- n is a nucleus, l a layout, p the number of a place, q a port, v and u are what a pass knows before and after, w and x its caller.
-use Rattle.std.proofs.Common.{ℕ, ◌≡◌, ◌≢◌, ◌+◌, Bool, true, false, ◌&&◌, List, [], ◌∷◌, ◌++◌, reverse, Option, Some, None, Result, Ok, Err, refl, sym, ◌∙◌, ap, subst, inl, inr}
+use Rattle.std.proofs.Common.{ℕ, ◌≡◌, ◌+◌, true, List, [], ◌∷◌, ◌++◌, Option, Some, None, Result, Ok, Err, refl, sym, ◌∙◌, ap, subst, inl, inr}
 use mathlib.Core.Logic.{dite}
 use native.Mathlib.Decide.{ℕ_discrete}
 use Rattle.std.proofs.lemmas.Bool.{and_parts}
@@ -14,16 +14,12 @@ use Rattle.chorus_entry.specs.declared.message.Message.{Message}
 use Rattle.chorus_calls.specs.declared.client.Settle.{Settle}
 use Rattle.chorus_calls.specs.Callers.{Seated}
 use Rattle.law_machine.specs.declared.reply.Reply.{Reply}
-use Rattle.law_machine.specs.PlaceState.{PlaceState}
-use Rattle.law_machine.specs.PlaceMachine.{begun}
-use Rattle.law_machine.specs.Replies.{reply}
 use Rattle.law_replies.specs.Taking.{taken_acts, answers_take, acts_of}
 use Rattle.law_replies.proofs.Turns.{takes-append}
 use Rattle.law_history.specs.declared.turns.Input.{Input}
 use Rattle.law_history.specs.PlaceTurns.{may_come}
 use Rattle.law_history.proofs.Lists.{reverse-first}
 use Rattle.chorus_turn.specs.declared.knowledge.Remarked.{Remarked}
-use Rattle.chorus_turn.specs.declared.knowledge.Placed.{Placed}
 use Rattle.chorus_turn.specs.declared.knowledge.Knowledge.{Knowledge}
 use Rattle.chorus_turn.specs.Lists.{StartsWith, list_at, list_put}
 use Rattle.chorus_turn.specs.Journals.{with_place}
@@ -31,7 +27,6 @@ use Rattle.chorus_turn.specs.Knowing.{seen_at, after_turn}
 use Rattle.chorus_turn.proofs.Fronts.{put_here, put_elsewhere, starts_itself, starts_more, starts_same}
 use Rattle.law_closing.specs.Remarks.{numbered, remarked}
 use Rattle.law_closing.specs.Places.{PlaceNote}
-use Rattle.place_site.specs.Turning.{TakesTurn, Looks}
 use Rattle.chorus_nucleus.specs.declared.fault.CallFault.{CallFault}
 use Rattle.chorus_nucleus.specs.declared.fault.CallFault.TheVariants as faults
 use Rattle.chorus_nucleus.specs.declared.nucleus.Nucleus.{Nucleus}
@@ -39,7 +34,7 @@ use Rattle.chorus_nucleus.specs.declared.pass.Pass.{Pass}
 use Rattle.chorus_nucleus.specs.Passes.{layout_of, known, caller_of, worn_by}
 use Rattle.chorus_nucleus.specs.Calls.{FindsWorn, Because, Performs, IsCall, place_of, worn_after}
 use Rattle.chorus_take.specs.declared.message.TakenMessage.{TakenMessage}
-use Rattle.chorus_take.specs.Taking.{acts_made, Appends, Misses, HasOrigin, Gives, SeesMore, KeepsPass, IsFault, IsTake}
+use Rattle.chorus_take.specs.Taking.{acts_made, Appends, HasOrigin, SeesMore, KeepsPass, IsTake}
 
 made-acts : (p k : ℕ) (r : PlaceNote) (es : List Entry) → acts_made (with_place p (numbered k r es)) ≡ acts_of es
 made-acts p k r [] = refl

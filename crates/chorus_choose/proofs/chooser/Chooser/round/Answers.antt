@@ -1,4 +1,4 @@
-use Rattle.std.proofs.Common.{◌≡◌, ◌+◌, ◌<◌, ◌≤◌, List, [], Ok, Some, None, Err, arith, refl, sym, subst, length, take, ap, rules}
+use Rattle.std.proofs.Common.{◌≡◌, ◌+◌, ◌<◌, List, [], Ok, Err, arith, sym, subst, length, take, ap, rules}
 use Rattle.chorus_choose.specs.declared.chooser.Enabled.{Enabled}
 use Rattle.chorus_choose.specs.declared.received.Received.TheVariants as receives
 use Rattle.chorus_choose.specs.Looking.{ports_of}
