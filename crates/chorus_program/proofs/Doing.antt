@@ -22,7 +22,9 @@ use Rattle.chorus_lossy.specs.Output as lossy
 use Rattle.chorus_lossy.specs.Output.{CarriesInput}
 use Rattle.chorus_words.specs.declared.words.Words.{Words}
 use Rattle.chorus_words.specs.declared.words.Words.TheVariants as words
-use Rattle.chorus_program.specs.Running.{Does, EndsAsAudit, EndsAsLossy, EndsUnreadAsLoad, EndsWithCause, places_each, replay_layout}
+use Rattle.chorus_words.specs.Words.{Ask}
+use Rattle.chorus_program.specs.Running.{Does, EndsAsAudit, EndsAsLossy, EndsUnreadAsLoad, EndsWithCause, Suits, places_each, replay_layout}
+use Rattle.chorus_program.specs.Started.{IsLayoutFor}
 
 -- Causes.
 
@@ -124,3 +126,12 @@ module _ {S K : Type 0} (n : Nucleus) (f : Finished) (left : S → Option (List 
 
   pub does-same : (asked other : Words) → asked ≡ other → Does n asked f left faults reliable from rest held failures old new → Does n other f left faults reliable from rest held failures old new
   does-same asked other same d = subst (λ (w : Words). Does n w f left faults reliable from rest held failures old new) same d
+
+-- What is asked suits a nucleus that was started for it.
+pub suits : (spelled : List (List ℕ)) (n : Nucleus) → IsLayoutFor spelled (layout_of n) → (asked : Words) → Ask spelled asked → Suits n asked
+suits spelled n h words.Replay ask = tt
+suits spelled n h words.Run ask = tt
+suits spelled n h (words.RunOn turns) ask = sym (ap (λ (l : Layout). l.turns) (h.asked (words.RunOn turns) ask))
+suits spelled n h (words.Load first commands) ask = tt
+suits spelled n h (words.Audit sites turns) ask = tt
+suits spelled n h (words.Lossy first) ask = tt
