@@ -1,6 +1,6 @@
 -- What a list of pairs keeps that a crew is given.
 -- l is a layout.
-use Rattle.std.proofs.Common.{◌≡◌, ◌≤◌, Bool, true, ◌&&◌, nat_le, List, [], ◌∷◌, length}
+use Rattle.std.proofs.Common.{◌≡◌, Bool, true, ◌&&◌, nat_le, List, [], ◌∷◌, length}
 use Rattle.std.specs.List.{All, list_all}
 use Rattle.std.proofs.lemmas.Bool.{and_parts, leb-true}
 use Rattle.std.proofs.lemmas.List.Elements.{All-nil, All-cons}
@@ -10,7 +10,6 @@ use Rattle.chorus_ui.specs.Layout.{has_actor}
 use Rattle.chorus_ui.specs.NameKind.{is_actor, is_port}
 use Rattle.chorus_crew.specs.declared.pairs.TheConstants.{PAIRS_LIMIT}
 use Rattle.chorus_crew.specs.Pairs.{is_pair, are_distinct, are_pairs}
-use Rattle.chorus_crew.specs.Jobs.{AreTheActors}
 use Rattle.chorus_crew.specs.Crews.{ArePairs}
 
 all-true : {A : Type 0} (P : A → Bool) (Q : A → Type 0) (xs : List A) → ((x : A) → P x ≡ true → Q x) → list_all P xs ≡ true → All Q xs

@@ -3,8 +3,7 @@
 use Rattle.std.proofs.Common.{◌≡◌, ◌≢◌, ℕ, zero, suc, ◌+◌, ◌<◌, Option, Some, None, List, [], ◌∷◌, ◌++◌, length, map, slice_get, slice_index_or, refl, sym, ap, ◌∙◌, subst, arith}
 use Rattle.std.specs.List.{All, Contains}
 use Rattle.std.specs.Global.{Global}
-use Rattle.std.proofs.lemmas.List.Elements.{All-nil, All-cons, All-head, All-tail, All-contains, All-weaker, All-contains_itself}
-use Rattle.std.proofs.lemmas.Option.{slice_get_within}
+use Rattle.std.proofs.lemmas.List.Elements.{All-nil, All-cons, All-head, All-tail, All-contains, All-weaker}
 use Rattle.atomic_blocks.specs.Lent.{RowsId}
 use Rattle.crossbeam_deque.specs.Handles.{view, IsPassOf}
 use Rattle.chorus_ui.specs.declared.ui.Ui.{Ui}
@@ -16,7 +15,7 @@ use Rattle.chorus_crew.specs.declared.job.Job.{Job}
 use Rattle.chorus_crew.specs.declared.job.Done.{Done}
 use Rattle.chorus_crew.specs.declared.rule.Share.{Share}
 use Rattle.chorus_crew.specs.declared.steal.Hand.{Hand}
-use Rattle.chorus_crew.specs.Jobs.{IsJobOf, IsDoneIn, IsDoneOf, AreDoneOf, IsNumbered, indices}
+use Rattle.chorus_crew.specs.Jobs.{IsJobOf, IsDoneOf, AreDoneOf, IsNumbered, indices}
 use Rattle.chorus_crew.specs.Rule.{share}
 use Rattle.chorus_crew.specs.Deals.{IsDealt, AreReady}
 use Rattle.chorus_crew.specs.Hands.{Begins, Ends, AreSlots, Fills}

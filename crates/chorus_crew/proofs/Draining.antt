@@ -2,8 +2,7 @@
 -- n is the nucleus, l its layout, q the port, a, b and c are the pass at three moments.
 use mathlib.Core.Logic.{dite}
 use native.Mathlib.Decide.{ℕ_discrete}
-use Rattle.std.proofs.Common.{◌≡◌, ◌≢◌, ℕ, ◌+◌, ◌%◌, ◌^◌, Option, Some, None, Result, Ok, Err, List, [], ◌∷◌, ◌++◌, length, refl, sym, ap, ◌∙◌, subst, append_assoc, append-nil, arith, length-append}
-use Rattle.std.specs.List.{All}
+use Rattle.std.proofs.Common.{◌≡◌, ◌≢◌, ℕ, ◌+◌, ◌%◌, ◌^◌, Option, Some, None, Ok, Err, List, [], ◌∷◌, ◌++◌, length, refl, sym, ap, ◌∙◌, subst, append_assoc, append-nil, arith, length-append}
 use Rattle.std.proofs.lemmas.List.Elements.{All-nil, All-push, All-weaker}
 use Rattle.chorus_ui.specs.declared.ui.Ui.{Ui}
 use Rattle.chorus_ui.specs.declared.layout.Layout.{Layout}
@@ -17,11 +16,11 @@ use Rattle.chorus_nucleus.specs.declared.pass.Pass.{Pass}
 use Rattle.chorus_nucleus.specs.Passes.{layout_of, known, worn_by, IsPassOf}
 use Rattle.chorus_nucleus.specs.Calls.{worn_after}
 use Rattle.chorus_take.specs.declared.message.TakenMessage.{TakenMessage}
-use Rattle.chorus_take.specs.Taking.{Appends, Misses, HasOrigin, Gives, SeesMore, KeepsPass, IsTake, reply_with}
+use Rattle.chorus_take.specs.Taking.{Appends, HasOrigin, SeesMore, KeepsPass, IsTake, reply_with}
 use Rattle.chorus_take.proofs.Turns.{worn-ok, worn-err}
 use Rattle.chorus_take.proofs.Trying.{appends-none, appends-then, appends-still, origin-later, keeps-none, keeps-then}
 use Rattle.chorus_crew.specs.declared.job.Tally.{Tally}
-use Rattle.chorus_crew.specs.Handling.{took_acts, AreGiven, first_position, worth, Counts, Handles, Drains}
+use Rattle.chorus_crew.specs.Handling.{took_acts, AreGiven, first_position, worth, Counts}
 use Rattle.chorus_crew.specs.Jobs.{IsWork}
 
 pub took-append : (q : Ui) (xs ys : List TakenMessage) → took_acts q (xs ++ ys) ≡ took_acts q xs ++ took_acts q ys

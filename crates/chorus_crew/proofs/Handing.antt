@@ -1,10 +1,10 @@
 -- What a crew hands on: the passes of the jobs, and what they gave.
 -- n is the nucleus, l its layout, a, b and c are the caller's pass before the call, with all passes drawn, and at the end.
-use Rattle.std.proofs.Common.{◌≡◌, ℕ, zero, suc, ◌+◌, ◌≤◌, ◌<◌, Bool, true, false, cond, Option, Some, None, Result, Ok, Err, IfOk, List, [], ◌∷◌, ◌++◌, map, length, reverse, refl, sym, ap, ◌∙◌, subst, arith, append-nil, slice_get}
+use Rattle.std.proofs.Common.{◌≡◌, ℕ, zero, suc, ◌+◌, Bool, true, Some, Result, Ok, Err, IfOk, List, [], ◌∷◌, ◌++◌, map, length, refl, sym, ap, ◌∙◌, subst, arith, append-nil, slice_get}
 use Rattle.std.specs.List.{All}
 use Rattle.std.specs.Global.{Vec}
 use Rattle.std.proofs.lemmas.Bool.{and_parts}
-use Rattle.std.proofs.lemmas.List.Elements.{All-nil, All-cons, All-head, All-tail, All-weaker}
+use Rattle.std.proofs.lemmas.List.Elements.{All-nil, All-cons, All-head, All-tail}
 use Rattle.chorus_ui.specs.declared.ui.Ui.{Ui}
 use Rattle.chorus_ui.specs.declared.layout.Layout.{Layout}
 use Rattle.chorus_ui.specs.NameKind.{is_port}
@@ -18,17 +18,16 @@ use Rattle.law_closing.specs.Places.{PlaceNote}
 use Rattle.chorus_nucleus.specs.declared.fault.CallFault.{CallFault}
 use Rattle.chorus_nucleus.specs.declared.nucleus.Nucleus.{Nucleus}
 use Rattle.chorus_nucleus.specs.declared.pass.Pass.{Pass}
-use Rattle.chorus_nucleus.specs.Passes.{layout_of, known, caller_of, worn_by, IsPassOf}
-use Rattle.chorus_take.specs.declared.message.TakenMessage.{TakenMessage}
-use Rattle.chorus_take.specs.Taking.{acts_made, Appends, IsMiss, SeesMore, KeepsPass}
+use Rattle.chorus_nucleus.specs.Passes.{layout_of, known, IsPassOf}
+use Rattle.chorus_take.specs.Taking.{acts_made, Appends, IsMiss, SeesMore}
 use Rattle.chorus_crew.specs.declared.fault.CrewFault.{CrewFault}
 use Rattle.chorus_crew.specs.declared.handler.Handled.{Handled}
 use Rattle.chorus_crew.specs.declared.job.Done.{Done}
 use Rattle.chorus_crew.specs.declared.job.Job.{Job}
 use Rattle.chorus_crew.specs.declared.job.Tally.{Tally}
-use Rattle.chorus_crew.specs.Handling.{took_acts, Drains, Handles}
-use Rattle.chorus_crew.specs.Jobs.{IsPlain, IsWork, IsJobOf, IsDoneOf, AreDoneOf, IsNumbered, IsEntered, AreEntered, HasDrawn, Worked}
-use Rattle.chorus_crew.specs.Retiring.{TakesIn, TookAlone, IsRetired, IsFullSlot, passes_of, handled_of, handled_with, is_done, is_ok, worn_of}
+use Rattle.chorus_crew.specs.Handling.{took_acts, Drains}
+use Rattle.chorus_crew.specs.Jobs.{IsPlain, IsJobOf, IsDoneOf, AreDoneOf, IsNumbered, IsEntered, AreEntered, HasDrawn, Worked}
+use Rattle.chorus_crew.specs.Retiring.{TakesIn, TookAlone, IsRetired, IsFullSlot, passes_of, handled_of, handled_with, is_done, is_ok}
 use Rattle.chorus_crew.specs.Crews.{IsHandled, AreHandled, HasHandled}
 use Rattle.chorus_crew.proofs.Draining.{given-later}
 

@@ -1,6 +1,6 @@
 -- Jobs, and jobs that are done.
 -- n is the nucleus, l a layout, q a port, value what a message at its position is worth.
-use Rattle.std.specs.Prelude.{ℕ, ◌≡◌, ◌+◌, true, false, None, Some, List, [], ◌∷◌, map, Result, Ok, Err, IfErr, slice_get}
+use Rattle.std.specs.Prelude.{ℕ, ◌≡◌, ◌+◌, true, false, None, Some, List, [], ◌∷◌, map, Result, Ok, Err, slice_get}
 use Rattle.std.specs.List.{All, Contains}
 use Rattle.chorus_ui.specs.declared.ui.Ui.{Ui}
 use Rattle.chorus_ui.specs.declared.layout.Layout.{Layout}
@@ -14,7 +14,7 @@ use Rattle.chorus_nucleus.specs.declared.nucleus.Nucleus.{Nucleus}
 use Rattle.chorus_nucleus.specs.declared.pass.Pass.{Pass}
 use Rattle.chorus_nucleus.specs.Passes.{layout_of, known, caller_of, worn_by, IsPassOf}
 use Rattle.chorus_nucleus.specs.Calls.{worn_after}
-use Rattle.chorus_take.specs.Taking.{KeepsPass, SeesMore}
+use Rattle.chorus_take.specs.Taking.{KeepsPass}
 use Rattle.chorus_crew.specs.declared.job.Job.{Job}
 use Rattle.chorus_crew.specs.declared.job.Done.{Done}
 use Rattle.chorus_crew.specs.declared.job.Tally.{Tally}

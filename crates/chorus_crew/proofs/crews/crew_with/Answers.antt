@@ -1,4 +1,4 @@
-use Rattle.std.proofs.Common.{◌≡◌, ◌+◌, ◌≤◌, true, Option, List, [], length, arith, ap, subst, sym, ◌∙◌}
+use Rattle.std.proofs.Common.{◌≡◌, Option, List, length, arith, ap, subst, sym, ◌∙◌}
 use Rattle.std.specs.List.{All}
 use Rattle.chorus_nucleus.specs.Passes.{known}
 use Rattle.chorus_crew.specs.declared.job.Done.{Done}

@@ -1,14 +1,13 @@
-use Rattle.std.proofs.Common.{◌≡◌, ◌+◌, ◌<◌, ◌≤◌, ℕ, Option, List, [], ◌∷◌, ◌++◌, length, arith, refl, ap, subst, sym, ◌∙◌}
-use Rattle.std.specs.List.{All, Contains}
+use Rattle.std.proofs.Common.{◌≡◌, ◌<◌, List, length, ap, subst, sym, ◌∙◌}
+use Rattle.std.specs.List.{All}
 use Rattle.std.proofs.lemmas.List.{with_items_is}
 use Rattle.crossbeam_deque.specs.Handles.{worker_deque, worker_view, stealer_deque, view}
 use Rattle.chorus_crew.specs.declared.job.Job.{Job}
-use Rattle.chorus_crew.specs.declared.job.Done.{Done}
 use Rattle.chorus_crew.specs.declared.rule.Share.{Share}
 use Rattle.chorus_crew.specs.declared.steal.Hand.{Hand}
 use Rattle.chorus_crew.specs.Jobs.{IsJobOf, indices}
 use Rattle.chorus_crew.specs.Deals.{AreReady}
-use Rattle.chorus_crew.specs.Hands.{Begins, Ends, AreSlots, Fills}
+use Rattle.chorus_crew.specs.Hands.{Begins, Ends, AreSlots}
 use Rattle.chorus_crew.proofs.Collecting.{all-of, numbers-within, begins-all, ends-all, slots-none, slots-all, collected}
 use Rattle.chorus_crew.proofs.dealing.do_jobs.Goals as goal
 

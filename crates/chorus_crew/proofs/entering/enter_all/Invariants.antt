@@ -1,4 +1,4 @@
-use Rattle.std.proofs.Common.{◌≡◌, ◌≤◌, true, length, take, vec_capacity}
+use Rattle.std.proofs.Common.{◌≤◌, length, take, vec_capacity}
 use Rattle.chorus_nucleus.specs.Passes.{known}
 use Rattle.chorus_crew.specs.Jobs.{AreEntered, HasDrawn}
 use Rattle.chorus_crew.proofs.entering.enter_all.Given as goal

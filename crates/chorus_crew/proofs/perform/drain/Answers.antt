@@ -1,4 +1,4 @@
-use Rattle.std.proofs.Common.{◌≡◌, ◌+◌, ◌%◌, ◌^◌, ap}
+use Rattle.std.proofs.Common.{◌+◌, ◌%◌, ◌^◌, ap}
 use Rattle.chorus_crew.proofs.Draining.{drained-none, drained-more, drains, handles}
 use Rattle.chorus_crew.proofs.perform.drain.Goals as goal
 

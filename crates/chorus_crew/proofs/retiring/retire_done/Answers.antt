@@ -1,4 +1,4 @@
-use Rattle.std.proofs.Common.{◌≡◌, ◌+◌, Option, List, [], ◌∷◌, ◌++◌, length, arith, refl, ap, subst, sym}
+use Rattle.std.proofs.Common.{Option, List, [], ◌∷◌, length, arith, ap, subst, sym}
 use Rattle.std.specs.List.{All}
 use Rattle.chorus_crew.specs.declared.job.Done.{Done}
 use Rattle.chorus_crew.specs.Retiring.{IsFullSlot}
