@@ -7,6 +7,7 @@ use crate::ground::{actor, close, insist, make, port, port_of, send, start};
 use chorus_choose::{Chooser, EnableFault, NotEnabled, Received};
 use chorus_entry::{Act, Command};
 use chorus_nucleus::{Nucleus, Pass};
+use chorus_ui::Ui;
 use law_machine::Reply;
 use std::process::Abort;
 use std::sync::Wait;
@@ -48,6 +49,15 @@ fn assert_empty(rt: &impl Abort, nucleus: &Nucleus, pass: &mut Pass, chooser: &C
         Ok(Received::Empty { looked }) => assert!(rt; looked == count),
         _ => panic!(rt; "not empty"),
     }
+}
+
+/// Moves the port to another actor of its site.
+fn move_away<R: Wait + Abort>(rt: &R, nucleus: &Nucleus, pass: &mut Pass, port: Ui, actor: Ui)
+    requires { IsPassOf nucleus.now pass.old }
+    ensures { IsPassOf nucleus.now pass.new }
+{
+    let reply = insist(rt, nucleus, pass, &Command::Move { port, actor });
+    assert!(rt; reply == Reply::Rehomed);
 }
 
 #[test]
@@ -93,15 +103,8 @@ fn equal_priorities_and_ports_of_others(rt: HostRuntime) {
     send(&rt, &nucleus, &mut pass, one, b"a");
     send(&rt, &nucleus, &mut pass, two, b"b");
     assert_taken(&rt, &nucleus, &mut pass, &chooser, "1.p.2", b"b");
-    for port in [one, two] {
-        let moved = insist(
-            &rt,
-            &nucleus,
-            &mut pass,
-            &Command::Move { port, actor: other },
-        );
-        assert!(&rt; moved == Reply::Rehomed);
-    }
+    move_away(&rt, &nucleus, &mut pass, one, other);
+    move_away(&rt, &nucleus, &mut pass, two, other);
     assert_empty(&rt, &nucleus, &mut pass, &chooser, 2);
     let closed = close(&rt, nucleus, pass);
     let journal = &closed.journals[0];

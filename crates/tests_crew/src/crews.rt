@@ -63,26 +63,31 @@ impl Handler for Counts {
     }
 }
 
-/// Holds each port's first message until the other port's was begun.
+/// Holds the message of each of two ports until that of the other was begun.
 #[derive(Drop)]
 struct Meets {
-    begun: [AtomicU64; 2],
-    missed: AtomicU64,
+    first: AtomicBool,
+    second: AtomicBool,
+    missed: AtomicBool,
 }
 
 impl Handler for Meets {
     ghost value = { λ _ _ _ _. 1 };
 
     fn handle(&self, port: Ui, _pos: u64, _message: &Message) -> u64 {
-        let own = usize::from(port.number() == 2);
-        self.begun[own].store(1, Ordering::SeqCst);
+        let (own, other) = if port.number() == 2 {
+            (&self.second, &self.first)
+        } else {
+            (&self.first, &self.second)
+        };
+        own.store(true, Ordering::SeqCst);
         for _ in 0..WAIT_LIMIT {
-            if self.begun[1 - own].load(Ordering::SeqCst) == 1 {
+            if other.load(Ordering::SeqCst) {
                 return 1;
             }
             thread::yield_now();
         }
-        self.missed.store(1, Ordering::SeqCst);
+        self.missed.store(true, Ordering::SeqCst);
         1
     }
 }
@@ -144,8 +149,9 @@ fn assert_two_work<R: Threads + Wait + Abort + Sync>(rt: &R, alloc: Global) {
     let (nucleus, mut pass) = start(rt, alloc, 1);
     fill(rt, &nucleus, &mut pass, 1, 2, 1);
     let handler = Meets {
-        begun: [AtomicU64::new(0), AtomicU64::new(0)],
-        missed: AtomicU64::new(0),
+        first: AtomicBool::new(false),
+        second: AtomicBool::new(false),
+        missed: AtomicBool::new(false),
     };
     let mut ports = Vec::new(alloc);
     add_pairs(rt, &mut ports, 1, 2);
@@ -153,7 +159,7 @@ fn assert_two_work<R: Threads + Wait + Abort + Sync>(rt: &R, alloc: Global) {
     for one in all.iter() {
         assert!(rt; one.from == 0 && one.count == 1 && one.total == 1);
     }
-    assert!(rt; handler.missed.load(Ordering::SeqCst) == 0);
+    assert!(rt; !handler.missed.load(Ordering::SeqCst));
     assert!(rt; all.len() == 2 && pass.made() == 3 && pass.ended() == 2);
     let closed = close(rt, nucleus, pass);
     assert_lawful(rt, alloc, 1, &closed);

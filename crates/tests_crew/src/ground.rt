@@ -152,10 +152,9 @@ pub(crate) fn close<R: Wait + Abort>(rt: &R, nucleus: Nucleus, pass: Pass) -> Cl
 /// Asserts that the journals, merged, are lawful on so many sites.
 pub(crate) fn assert_lawful(rt: &impl Abort, alloc: Global, sites: u16, closed: &Closed) {
     let layout = Layout::new(sites, 1).expect(rt, "a layout");
-    let mut entries = merge(alloc, closed.journals.as_slice()).expect(rt, "memory");
-    entries.reverse();
+    let all = merge(alloc, closed.journals.as_slice()).expect(rt, "memory");
     let mut world = World::opening(alloc, layout).expect(rt, "memory");
-    while let Some(entry) = entries.pop() {
+    for entry in all {
         assert!(rt; world.apply(entry).is_ok());
     }
 }

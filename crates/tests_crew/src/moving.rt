@@ -153,7 +153,7 @@ fn bring<R: Wait + Abort>(
             return pass;
         }
         move_to(rt, nucleus, &mut pass, port_at(rt, index), first);
-        index = (index + 1) % PORTS;
+        index = index.wrapping_add(1) % PORTS;
         pump_all(rt, nucleus, &mut pass);
         thread::yield_now();
     }
@@ -193,7 +193,7 @@ fn receive_all<R: Wait + Abort>(
             Ok(Received::Empty { .. }) => {
                 let site = (2 + away % 3) as u16;
                 move_to(rt, nucleus, &mut pass, port_at(rt, away), actor_of(rt, site));
-                away = (away + 1) % PORTS;
+                away = away.wrapping_add(1) % PORTS;
                 pump_all(rt, nucleus, &mut pass);
             }
             Err(CallFault::Busy { .. }) => thread::yield_now(),

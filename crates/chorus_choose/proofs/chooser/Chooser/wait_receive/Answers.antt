@@ -1,8 +1,17 @@
-use Rattle.std.proofs.Common.{suc, [], Ok, Err, arith, rules}
+use Rattle.std.proofs.Common.{suc, [], Ok, Err, refl, arith, rules}
 use Rattle.chorus_choose.specs.Looking.{ports_of}
 use Rattle.chorus_choose.specs.Rounds.{IsReceive, rounds}
-use Rattle.chorus_choose.proofs.Asking.{after-rounds, round-more}
+use Rattle.chorus_choose.proofs.Asking.{looked-none, after-rounds, round-more}
 use Rattle.chorus_choose.proofs.chooser.Chooser.wait_receive.Goals as goal
+
+pub loop-init : goal.loop-init
+loop-init g c = record {
+  bell = refl;
+  n = 0;
+  parks = refl;
+  waits = omega arith;
+  looked = looked-none c.args.nucleus.now c.args.pass.now c.requires;
+}
 
 pub returns-in-Err-clause-rounds : goal.returns-in-Err-clause-rounds
 returns-in-Err-clause-rounds g c =
