@@ -21,11 +21,7 @@ use std::sync::Wait;
 use std::thread::Threads;
 
 /// What the crew answers: with the clock that the caller's pass has as worn, and whether each job was done to its end.
-fn answer(
-    worn: Option<u64>,
-    all: bool,
-    handled: Vec<Handled>,
-) -> Result<Vec<Handled>, CrewFault>
+fn answer(worn: Option<u64>, all: bool, handled: Vec<Handled>) -> Result<Vec<Handled>, CrewFault>
     ensures ok { IfOk result (λ v. (v ≡ handled) × (all ≡ true)) }
     ensures worn { (clock : ℕ) → IsErrOf result (CrewFault.Worn clock) → worn ≡ Some clock }
     ensures no_seat { (made : ℕ) → IsErrOf result (CrewFault.NoSeat made) → ⊥ }

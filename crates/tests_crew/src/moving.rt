@@ -94,13 +94,7 @@ fn is_accepted<R: Wait + Abort>(rt: &R, nucleus: &Nucleus, pass: &mut Pass, id: 
 }
 
 /// Sends the number to the port until it is accepted.
-fn send_number<R: Wait + Abort>(
-    rt: &R,
-    nucleus: &Nucleus,
-    pass: &mut Pass,
-    port: Ui,
-    number: u64,
-)
+fn send_number<R: Wait + Abort>(rt: &R, nucleus: &Nucleus, pass: &mut Pass, port: Ui, number: u64)
     requires port { is_port port ≡ true }
     requires pass { IsPassOf nucleus.now pass.old }
     ensures { IsPassOf nucleus.now pass.new }
@@ -137,12 +131,7 @@ fn send_all<R: Wait + Abort>(rt: &R, nucleus: &Nucleus, mut pass: Pass, sender: 
 }
 
 /// Brings the ports that it holds to site 1, until all messages are received.
-fn bring<R: Wait + Abort>(
-    rt: &R,
-    nucleus: &Nucleus,
-    mut pass: Pass,
-    meeting: &Meeting,
-) -> Pass
+fn bring<R: Wait + Abort>(rt: &R, nucleus: &Nucleus, mut pass: Pass, meeting: &Meeting) -> Pass
     requires { IsPassOf nucleus.now pass }
     ensures { IsPassOf nucleus.now result }
 {
@@ -192,7 +181,13 @@ fn receive_all<R: Wait + Abort>(
             }
             Ok(Received::Empty { .. }) => {
                 let site = (2 + away % 3) as u16;
-                move_to(rt, nucleus, &mut pass, port_at(rt, away), actor_of(rt, site));
+                move_to(
+                    rt,
+                    nucleus,
+                    &mut pass,
+                    port_at(rt, away),
+                    actor_of(rt, site),
+                );
                 away = away.wrapping_add(1) % PORTS;
                 pump_all(rt, nucleus, &mut pass);
             }

@@ -14,12 +14,14 @@ pub returns-in_default-with_capacity-clause-retired : goal.returns-in_default-wi
 returns-in_default-with_capacity-clause-retired g c = retired-none c.args.nucleus.now c.args.pass.now c.requires.caller.pass c.requires.caller.keeper
 
 pub returns-clause-no_seat : goal.returns-clause-no_seat
-returns-clause-no_seat g c = λ made.
-    (λ is. absurd (c.crew_with.ensures.no_seat made is), λ both.
-    let room = c.if-made-ports.false in
-    let is = c.made-made.ensures in
-    let full = both.1 in
-    absurd (omega (arith, room, is, full)))
+returns-clause-no_seat g c = λ made. (
+  λ is. absurd (c.crew_with.ensures.no_seat made is),
+  λ both.
+      let room = c.if-made-ports.false in
+      let is = c.made-made.ensures in
+      let full = both.1 in
+      absurd (omega (arith, room, is, full)),
+)
 
 pub crew_with-requires-clause-ports : goal.crew_with-requires-clause-ports
 crew_with-requires-clause-ports g c κs within = pairs_are (layout_of c.args.nucleus.now) c.args.ports.now c.requires.ports

@@ -55,6 +55,6 @@ loop-index-preserved c =
       drawn = drawn-more n c.loop-index.index c.args.pass.now c.loop-index.pass c.enter_one.new.pass i.drawn c.enter_one.ensures.kept e.1;
       entered = subst (λ (l : List Job). AreEntered n 0 (known c.args.pass.now).made (take (c.loop-index.index + 1) c.args.ports.now) l) (sym items)
           (entered-next n (known c.args.pass.now).made c.loop-index.index (known c.loop-index.pass).made c.args.ports.now c.index-ports-index.result c.index-ports-index.result c.loop-index.jobs.items c.in-Ok.job
-            c.loop-index-test.true c.index-ports-index.is (ap (λ (v : Knowledge PlaceNote). v.made) i.drawn.knows) i.entered e.0);
+          c.loop-index-test.true c.index-ports-index.is (ap (λ (v : Knowledge PlaceNote). v.made) i.drawn.knows) i.entered e.0);
       room = let r = i.room in let m = c.push_reserved.ensures.capacity in omega (arith, r, m);
     }
