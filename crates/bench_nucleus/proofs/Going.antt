@@ -15,19 +15,19 @@ use Rattle.bench_nucleus.specs.Holding.{GoesOn, IsKeeper, IsOther, Enters}
 
 pub keeper_goes_on : (n : Nucleus) (out : ℕ) (a b : Pass) → GoesOn n a b → IsKeeper n out a → IsKeeper n out b
 keeper_goes_on n out a b (of, seat, notes, keeper, made) k = record {
-  pass = of;
+  of_nucleus = of;
   keeper = keeper ∙ k.keeper;
   made = made ∙ k.made ∙ ap (λ (ns : List (Note PlaceNote)). length ns + suc out) (sym notes);
 }
 
 pub other_goes_on : (n : Nucleus) (a b : Pass) → GoesOn n a b → IsOther n a → IsOther n b
-other_goes_on n a b (of, seat, notes, keeper, made) k = record { pass = of; keeper = keeper ∙ k.keeper; notes = notes ∙ k.notes }
+other_goes_on n a b (of, seat, notes, keeper, made) k = record { of_nucleus = of; keeper = keeper ∙ k.keeper; notes = notes ∙ k.notes }
 
 pub entered : (n : Nucleus) (out : ℕ) (actor : Ui) (old new p : Pass) → IsKeptKeeper n old new → coming.Enters n actor old new p → IsKeeper n out old
     → Enters n out new (Some p)
 entered n out actor old new p kept came k = (
   record {
-    pass = kept.pass;
+    of_nucleus = kept.pass;
     keeper = ap (λ (v : Knowledge PlaceNote). v.keeper) came.drawn ∙ k.keeper;
     made = ap (λ (v : Knowledge PlaceNote). v.made) came.drawn
         ∙ ap (λ m. m + 1) k.made
@@ -35,7 +35,7 @@ entered n out actor old new p kept came k = (
         ∙ ap (λ (v : Knowledge PlaceNote). length v.notes + suc (suc out)) (sym came.drawn);
   },
   record {
-    pass = came.pass;
+    of_nucleus = came.pass;
     keeper = ap (λ (v : Knowledge PlaceNote). v.keeper) came.knows;
     notes = ap (λ (v : Knowledge PlaceNote). v.notes) came.knows;
   },
@@ -50,7 +50,7 @@ retired n out ended old new other r k =
     let b = length-append (known old).notes (note_of (known ended) ∷ (known ended).notes) in
     let none = ap (λ (ns : List (Note PlaceNote)). length ns) other.notes in
     record {
-      pass = r.pass;
+      of_nucleus = r.pass;
       keeper = ap (λ (v : Knowledge PlaceNote). v.keeper) r.knows ∙ ap (λ b. if b then true else (known old).keeper) other.keeper ∙ k.keeper;
       made = ap (λ (v : Knowledge PlaceNote). v.made) r.knows
           ∙ ap (λ b. if b then (known ended).made else (known old).made) other.keeper

@@ -11,13 +11,13 @@ GoesOn n old new = IsPassOf n new × IsSamePass (known old) (known new)
 
 -- the keeper, while so many other passes are out
 pub record IsKeeper (n : Nucleus) (out : ℕ) (pass : Pass) : Type 0 where
-  pub pass : IsPassOf n pass
+  pub of_nucleus : IsPassOf n pass
   pub keeper : (known pass).keeper ≡ true
   pub made : (known pass).made ≡ length (known pass).notes + suc out
 
 -- another pass, into which none was retired
 pub record IsOther (n : Nucleus) (pass : Pass) : Type 0 where
-  pub pass : IsPassOf n pass
+  pub of_nucleus : IsPassOf n pass
   pub keeper : (known pass).keeper ≡ false
   pub notes : (known pass).notes ≡ []
 

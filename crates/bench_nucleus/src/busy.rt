@@ -3,12 +3,11 @@
 //! One thread publishes what the board of a place lacks, which holds the place for some milliseconds; another one calls there again and
 //! again meanwhile.
 
-ghost use Rattle.std.specs.Prelude.{◌≡◌};
 ghost use Rattle.std.specs.Thread.{IsSync};
 ghost use Rattle.chorus_nucleus.specs.Passes.{IsPassOf};
-ghost use Rattle.bench_nucleus.specs.Holding.{GoesOn, IsKeeper, AreBoth};
+ghost use Rattle.bench_nucleus.specs.Holding.{GoesOn, AreBoth};
 
-use crate::held::{Held, close, move_to, publish, start};
+use crate::held::{Held, move_to, publish};
 use crate::names::port_of;
 use chorus_nucleus::{CallFault, Nucleus, Pass};
 use std::alloc::{AllocError, Global};
@@ -27,56 +26,68 @@ const CALLS: u32 = 1_000_000_000;
 pub(crate) fn time<R: Threads + Sync + Wait + Clock>(
     rt: &R,
     alloc: Global,
-) -> io::Result<(u32, f64)>
-    requires { IsSync R.row }
-{
-    let (nucleus, keeper) = start(alloc, rt, 2).ok_or(AllocError)?;
-    let (keeper, found) = time_at(rt, &nucleus, keeper);
-    close(rt, nucleus, keeper).ok_or(AllocError)?;
+) -> io::Result<(u32, f64)> {
+    let mut held = Held::start(rt, alloc).ok_or(AllocError)?;
+    let moved = move_often(&mut held);
+    let (held, found) = call_while_publishing(held);
+    let entries = held.end();
+    moved.ok_or(AllocError)?;
+    entries.ok_or(AllocError)?;
     found
 }
 
-fn time_at<R: Threads + Sync + Wait + Clock>(
-    rt: &R,
-    nucleus: &Nucleus,
-    keeper: Pass,
-) -> (Pass, io::Result<(u32, f64)>)
-    requires sync { IsSync R.row }
-    requires keeper { IsKeeper nucleus.now 0 keeper }
-    ensures { IsKeeper nucleus.now 0 result.0 }
+/// Publishes at place 1 in a thread, and calls there in another one.
+fn call_while_publishing<'a, R: Threads + Sync + Wait + Clock>(
+    held: Held<'a, R>,
+) -> (Held<'a, R>, io::Result<(u32, f64)>)
+    requires { AreBoth held.nucleus held.one held.two }
+    ensures { AreBoth result.0.nucleus result.0.one result.0.two }
 {
-    let mut held = match Held::start(rt, nucleus, keeper) {
-        Ok(held) => held,
-        Err(keeper) => return (keeper, Err(AllocError.into())),
-    };
-    if move_often(&mut held).is_none() {
-        return (held.end(), Err(AllocError.into()));
-    }
-    let Held { one, two, .. } = held;
-    let ((one, found), two) = join(
+    let Held {
         rt,
-        move || -> (Pass, io::Result<(u32, f64)>)
-            requires { IsPassOf nucleus.now one }
-            ensures { GoesOn nucleus.entry.now one result.0 }
-        { call_often(rt, nucleus, one) },
-        move || -> Pass
-            requires { IsPassOf nucleus.now two }
-            ensures { GoesOn nucleus.entry.now two result }
-        { publish_once(rt, nucleus, two) },
-    );
+        nucleus,
+        one,
+        two,
+    } = held;
+    let ((one, found), two) = publish_and_call(rt, &nucleus, one, two);
     let held = Held {
         rt,
         nucleus,
         one,
         two,
     };
-    (held.end(), found)
+    (held, found)
+}
+
+fn publish_and_call<R: Threads + Sync + Wait + Clock>(
+    rt: &R,
+    nucleus: &Nucleus,
+    one: Pass,
+    two: Pass,
+) -> ((Pass, io::Result<(u32, f64)>), Pass)
+    requires passes { IsPassOf nucleus.now one × IsPassOf nucleus.now two }
+    ensures one { GoesOn nucleus.now one result.0.0 }
+    ensures two { GoesOn nucleus.now two result.1 }
+{
+    join(
+        rt,
+        move || -> (Pass, io::Result<(u32, f64)>)
+            requires rt { IsSync R.row }
+            requires pass { IsPassOf nucleus.now one }
+            ensures { GoesOn nucleus.entry.now one result.0 }
+        { call_often(rt, nucleus, one) },
+        move || -> Pass
+            requires rt { IsSync R.row }
+            requires pass { IsPassOf nucleus.now two }
+            ensures { GoesOn nucleus.entry.now two result }
+        { publish_once(rt, nucleus, two) },
+    )
 }
 
 /// Moves the port of site 1 to site 2 and back, so often.
 fn move_often<R: Wait>(held: &mut Held<'_, R>) -> Option<()>
-    requires { AreBoth held.old.nucleus.now held.old.one held.old.two }
-    ensures { AreBoth held.new.nucleus.now held.new.one held.new.two }
+    requires { AreBoth held.old.nucleus held.old.one held.old.two }
+    ensures { AreBoth held.new.nucleus held.new.one held.new.two }
 {
     held.begin()?;
     for _ in 0..MOVES {
@@ -87,18 +98,18 @@ fn move_often<R: Wait>(held: &mut Held<'_, R>) -> Option<()>
 }
 
 fn move_there<R: Wait>(held: &mut Held<'_, R>) -> Option<()>
-    requires { AreBoth held.old.nucleus.now held.old.one held.old.two }
-    ensures { AreBoth held.new.nucleus.now held.new.one held.new.two }
+    requires { AreBoth held.old.nucleus held.old.one held.old.two }
+    ensures { AreBoth held.new.nucleus held.new.one held.new.two }
 {
-    move_to(held.nucleus, &mut held.one, 2)?;
+    move_to(&held.nucleus, &mut held.one, 2)?;
     held.go_over()
 }
 
 fn move_back<R: Wait>(held: &mut Held<'_, R>) -> Option<()>
-    requires { AreBoth held.old.nucleus.now held.old.one held.old.two }
-    ensures { AreBoth held.new.nucleus.now held.new.one held.new.two }
+    requires { AreBoth held.old.nucleus held.old.one held.old.two }
+    ensures { AreBoth held.new.nucleus held.new.one held.new.two }
 {
-    move_to(held.nucleus, &mut held.two, 1)?;
+    move_to(&held.nucleus, &mut held.two, 1)?;
     held.go_over()?;
     held.go_over()
 }
@@ -113,11 +124,7 @@ fn publish_once<R: Wait>(rt: &R, nucleus: &Nucleus, mut pass: Pass) -> Pass
 }
 
 /// Takes at the port of site 1 until the place was held, and is no more.
-fn call_often<R: Clock>(
-    rt: &R,
-    nucleus: &Nucleus,
-    mut pass: Pass,
-) -> (Pass, io::Result<(u32, f64)>)
+fn call_often<R: Clock>(rt: &R, nucleus: &Nucleus, mut pass: Pass) -> (Pass, io::Result<(u32, f64)>)
     requires { IsPassOf nucleus.now pass }
     ensures { GoesOn nucleus.now pass result.0 }
 {

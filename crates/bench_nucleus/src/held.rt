@@ -1,6 +1,6 @@
 //! Callers of two sites of a nucleus.
 
-ghost use Rattle.std.specs.Prelude.{ℕ, suc, ◌≡◌, true, IfSome, IfOk, IfErr};
+ghost use Rattle.std.specs.Prelude.{ℕ, suc, ◌≡◌, true, IfSome};
 ghost use Rattle.chorus_nucleus.specs.Passes.{known, IsPassOf};
 ghost use Rattle.bench_nucleus.specs.Holding.{GoesOn, IsKeeper, IsOther, Enters, AreBoth};
 
@@ -14,10 +14,10 @@ use std::alloc::Global;
 use std::sync::Wait;
 
 /// A nucleus of two sites and two passes: the keeper, in an actor of site 1, and one in an actor of site 2.
-#[derive(Drop)]
+/// It is not dropped: [`Held::end`] ends it.
 pub(crate) struct Held<'a, R> {
     pub(crate) rt: &'a R,
-    pub(crate) nucleus: &'a Nucleus,
+    pub(crate) nucleus: Nucleus,
     pub(crate) one: Pass,
     pub(crate) two: Pass,
 }
@@ -165,88 +165,88 @@ fn locate(nucleus: &Nucleus, pass: &mut Pass, site: u16) -> Option<()>
 }
 
 impl<'a, R: Wait> Held<'a, R> {
-    /// The callers, the second of whom enters. An error gives the keeper back.
-    pub(crate) fn start(rt: &'a R, nucleus: &'a Nucleus, keeper: Pass) -> Result<Held<'a, R>, Pass>
-        requires { IsKeeper nucleus.now 0 keeper }
-        ensures ok { IfOk result (λ h. AreBoth h.nucleus.now h.one h.two × (h.nucleus ≡ nucleus)) }
-        ensures err { IfErr result (λ pass. IsKeeper nucleus.now 0 pass) }
+    /// A nucleus that was just started, and both passes. None where there is no memory.
+    pub(crate) fn start(rt: &'a R, alloc: Global) -> Option<Held<'a, R>>
+        ensures { IfSome result (λ held. AreBoth held.nucleus held.one held.two) }
     {
-        let mut one = keeper;
-        match enter(nucleus, &mut one, 2) {
-            Some(two) => Ok(Held {
+        let (nucleus, mut one) = start(alloc, rt, 2)?;
+        match enter(&nucleus, &mut one, 2) {
+            Some(two) => Some(Held {
                 rt,
                 nucleus,
                 one,
                 two,
             }),
-            None => Err(one),
+            None => {
+                let _entries = close(rt, nucleus, one);
+                None
+            }
         }
     }
 
     /// Both make a port.
     pub(crate) fn begin(&mut self) -> Option<()>
-        requires { AreBoth self.old.nucleus.now self.old.one self.old.two }
-        ensures { AreBoth self.new.nucleus.now self.new.one self.new.two }
+        requires { AreBoth self.old.nucleus self.old.one self.old.two }
+        ensures { AreBoth self.new.nucleus self.new.one self.new.two }
     {
-        make(self.nucleus, &mut self.one, 1)?;
-        make(self.nucleus, &mut self.two, 2)
+        make(&self.nucleus, &mut self.one, 1)?;
+        make(&self.nucleus, &mut self.two, 2)
     }
 
-    /// The second ends. Gives the keeper.
-    pub(crate) fn end(self) -> Pass
-        requires { AreBoth self.nucleus.now self.one self.two }
-        ensures { IsKeeper self.nucleus.now 0 result }
+    /// Ends both passes and the nucleus. Gives how many entries its journals have, or None where there is no memory.
+    pub(crate) fn end(self) -> Option<usize>
+        requires { AreBoth self.nucleus self.one self.two }
     {
         let Held {
+            rt,
             nucleus,
             mut one,
             two,
-            ..
         } = self;
-        retire(nucleus, two, &mut one);
-        one
+        retire(&nucleus, two, &mut one);
+        close(rt, nucleus, one)
     }
 
     fn there(&mut self) -> Option<()>
-        requires { AreBoth self.old.nucleus.now self.old.one self.old.two }
-        ensures { AreBoth self.new.nucleus.now self.new.one self.new.two }
+        requires { AreBoth self.old.nucleus self.old.one self.old.two }
+        ensures { AreBoth self.new.nucleus self.new.one self.new.two }
     {
-        send(self.nucleus, &mut self.one, 2)?;
+        send(&self.nucleus, &mut self.one, 2)?;
         self.go_over()?;
-        take(self.nucleus, &mut self.two, 2)
+        take(&self.nucleus, &mut self.two, 2)
     }
 
     /// A packet goes from place 1 to place 2, and what is answered back.
     pub(crate) fn go_over(&mut self) -> Option<()>
-        requires { AreBoth self.old.nucleus.now self.old.one self.old.two }
-        ensures { AreBoth self.new.nucleus.now self.new.one self.new.two }
+        requires { AreBoth self.old.nucleus self.old.one self.old.two }
+        ensures { AreBoth self.new.nucleus self.new.one self.new.two }
     {
-        pump(self.rt, self.nucleus, &mut self.one, 1)?;
-        pump(self.rt, self.nucleus, &mut self.two, 2)?;
-        pump(self.rt, self.nucleus, &mut self.two, 2)?;
-        pump(self.rt, self.nucleus, &mut self.one, 1)
+        pump(self.rt, &self.nucleus, &mut self.one, 1)?;
+        pump(self.rt, &self.nucleus, &mut self.two, 2)?;
+        pump(self.rt, &self.nucleus, &mut self.two, 2)?;
+        pump(self.rt, &self.nucleus, &mut self.one, 1)
     }
 }
 
 impl<'a, R: Wait> Callers for Held<'a, R> {
-    ghost ready = { λ h. AreBoth h.nucleus.now h.one h.two };
+    ghost ready = { λ h. AreBoth h.nucleus h.one h.two };
 
     fn round(&mut self, work: Work) -> Option<()> {
         match work {
             Work::Here => {
-                send(self.nucleus, &mut self.one, 1)?;
-                take(self.nucleus, &mut self.one, 1)
+                send(&self.nucleus, &mut self.one, 1)?;
+                take(&self.nucleus, &mut self.one, 1)
             }
             Work::There => self.there(),
-            Work::Empty => take(self.nucleus, &mut self.one, 1),
-            Work::Pump => pump(self.rt, self.nucleus, &mut self.one, 1),
-            Work::Publish => publish(self.rt, self.nucleus, &mut self.one, 1),
+            Work::Empty => take(&self.nucleus, &mut self.one, 1),
+            Work::Pump => pump(self.rt, &self.nucleus, &mut self.one, 1),
+            Work::Publish => publish(self.rt, &self.nucleus, &mut self.one, 1),
             Work::News => {
-                take(self.nucleus, &mut self.one, 1)?;
-                publish(self.rt, self.nucleus, &mut self.one, 1)
+                take(&self.nucleus, &mut self.one, 1)?;
+                publish(self.rt, &self.nucleus, &mut self.one, 1)
             }
-            Work::Turn => ask(self.nucleus, &mut self.one),
-            Work::Locate => locate(self.nucleus, &mut self.one, 1),
+            Work::Turn => ask(&self.nucleus, &mut self.one),
+            Work::Locate => locate(&self.nucleus, &mut self.one, 1),
         }
     }
 }

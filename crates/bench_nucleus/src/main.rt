@@ -64,7 +64,10 @@ fn print_busy<R: Threads + Sync + Wait + Clock + Print>(rt: &R, alloc: Global) -
     println!(rt; "busy: {nanoseconds:.0} ns, the mean of {count}")
 }
 
-fn print_threads<R: Threads + Sync + Wait + Clock + Print>(rt: &R, alloc: Global) -> io::Result<()> {
+fn print_threads<R: Threads + Sync + Wait + Clock + Print>(
+    rt: &R,
+    alloc: Global,
+) -> io::Result<()> {
     let (one, four) = threads::bests(rt, alloc)?;
     let ratio = one / four;
     println!(rt; "one thread: {one:.0} ns a round, four threads: {four:.0} ns, ratio {ratio:.2}")

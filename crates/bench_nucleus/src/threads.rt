@@ -8,11 +8,10 @@ ghost use Rattle.bench_nucleus.specs.Four.{AreFour};
 use crate::held::{close, enter, make, retire, send, start, take};
 use chorus_nucleus::{Nucleus, Pass};
 use std::alloc::{AllocError, Global};
-use std::fmt;
-use std::io;
 use std::sync::Wait;
 use std::thread::{Threads, join};
 use std::time::{Clock, Duration, Instant};
+use std::{fmt, io};
 
 /// How many rounds of each caller are timed together.
 const MANY: u32 = 100_000;
@@ -51,9 +50,7 @@ impl Callers {
         rt: &R,
         alloc: Global,
         count: u32,
-    ) -> io::Result<(usize, Duration)>
-        requires { IsSync R.row }
-    {
+    ) -> io::Result<(usize, Duration)> {
         let (nucleus, keeper) = start(alloc, rt, 4).ok_or(AllocError)?;
         let (keeper, time) = self.run_at(rt, &nucleus, keeper, count);
         let entries = close(rt, nucleus, keeper).ok_or(AllocError)?;
@@ -67,7 +64,6 @@ impl Callers {
         mut keeper: Pass,
         count: u32,
     ) -> (Pass, io::Result<Duration>)
-        requires sync { IsSync R.row }
         requires keeper { IsKeeper nucleus.now 0 keeper }
         ensures { IsKeeper nucleus.now 0 result.0 }
     {
@@ -101,7 +97,6 @@ impl Callers {
         all: Four,
         count: u32,
     ) -> (Four, io::Result<Duration>)
-        requires sync { IsSync R.row }
         requires all { AreFour nucleus.now all }
         ensures { AreFour nucleus.now result.0 }
     {
@@ -156,7 +151,6 @@ impl Four {
     }
 
     fn at_once<R: Threads + Sync>(self, rt: &R, nucleus: &Nucleus, count: u32) -> Four
-        requires sync { IsSync R.row }
         requires all { AreFour nucleus.now self }
         ensures { AreFour nucleus.now result }
     {
@@ -198,7 +192,6 @@ fn two_at_once<R: Threads + Sync>(
     two: (Pass, u16),
     count: u32,
 ) -> (Pass, Pass)
-    requires sync { IsSync R.row }
     requires passes { IsPassOf nucleus.now one.0 × IsPassOf nucleus.now two.0 }
     ensures first { GoesOn nucleus.now one.0 result.0 }
     ensures second { GoesOn nucleus.now two.0 result.1 }
@@ -231,9 +224,10 @@ fn rounds_at(nucleus: &Nucleus, mut pass: Pass, site: u16, count: u32) -> Pass
 }
 
 /// The least time of a round in nanoseconds, on one thread and on four, in turns.
-pub(crate) fn bests<R: Threads + Sync + Wait + Clock>(rt: &R, alloc: Global) -> io::Result<(f64, f64)>
-    requires { IsSync R.row }
-{
+pub(crate) fn bests<R: Threads + Sync + Wait + Clock>(
+    rt: &R,
+    alloc: Global,
+) -> io::Result<(f64, f64)> {
     let mut one = f64::INFINITY;
     let mut four = f64::INFINITY;
     for _ in 0..TRIES {
@@ -244,9 +238,11 @@ pub(crate) fn bests<R: Threads + Sync + Wait + Clock>(rt: &R, alloc: Global) -> 
 }
 
 /// Nanoseconds of a round: the time of all rounds of all callers, by their count.
-fn mean<R: Threads + Sync + Wait + Clock>(rt: &R, alloc: Global, callers: Callers) -> io::Result<f64>
-    requires { IsSync R.row }
-{
+fn mean<R: Threads + Sync + Wait + Clock>(
+    rt: &R,
+    alloc: Global,
+    callers: Callers,
+) -> io::Result<f64> {
     let (_, time) = callers.run(rt, alloc, MANY)?;
     Ok(time.as_secs_f64() / f64::from(MANY) / 4.0 * 1_000_000_000.0)
 }

@@ -1,13 +1,11 @@
 //! A nucleus of two sites, from its start to its end.
 
-ghost use Rattle.std.specs.Prelude.{◌≡◌, IfOk, IfErr};
-ghost use Rattle.bench_nucleus.specs.Holding.{IsKeeper, AreBoth};
+ghost use Rattle.bench_nucleus.specs.Holding.{AreBoth};
 
-use crate::held::{Held, close, start};
+use crate::held::Held;
 use crate::paired::Paired;
 use crate::rounds::{mean, rounds};
 use crate::work::Work;
-use chorus_nucleus::{Nucleus, Pass};
 use std::alloc::{AllocError, Global};
 use std::io;
 use std::sync::Wait;
@@ -38,35 +36,16 @@ impl Best {
 
 /// Does the work so often at a nucleus. Gives how many entries came of it.
 pub(crate) fn entries_of<R: Wait>(rt: &R, alloc: Global, work: Work, count: u32) -> Option<usize> {
-    let (nucleus, keeper) = start(alloc, rt, 2)?;
-    let (keeper, done) = work_at(rt, &nucleus, keeper, work, count);
-    let entries = close(rt, nucleus, keeper);
+    let mut held = Held::start(rt, alloc)?;
+    let done = begin_and_work(&mut held, work, count);
+    let entries = held.end();
     done?;
     entries
 }
 
-fn work_at<R: Wait>(
-    rt: &R,
-    nucleus: &Nucleus,
-    keeper: Pass,
-    work: Work,
-    count: u32,
-) -> (Pass, Option<()>)
-    requires { IsKeeper nucleus.now 0 keeper }
-    ensures { IsKeeper nucleus.now 0 result.0 }
-{
-    match Held::start(rt, nucleus, keeper) {
-        Ok(mut held) => {
-            let done = begin_and_work(&mut held, work, count);
-            (held.end(), done)
-        }
-        Err(keeper) => (keeper, None),
-    }
-}
-
 fn begin_and_work<R: Wait>(held: &mut Held<'_, R>, work: Work, count: u32) -> Option<()>
-    requires { AreBoth held.old.nucleus.now held.old.one held.old.two }
-    ensures { AreBoth held.new.nucleus.now held.new.one held.new.two }
+    requires { AreBoth held.old.nucleus held.old.one held.old.two }
+    ensures { AreBoth held.new.nucleus held.new.one held.new.two }
 {
     held.begin()?;
     rounds(held, work, count)
@@ -74,28 +53,11 @@ fn begin_and_work<R: Wait>(held: &mut Held<'_, R>, work: Work, count: u32) -> Op
 
 /// Times each work, at a nucleus and at sites on one thread, in turns.
 pub(crate) fn bests<R: Wait + Clock>(rt: &R, alloc: Global) -> io::Result<Vec<Best>> {
-    let (nucleus, keeper) = start(alloc, rt, 2).ok_or(AllocError)?;
-    let (keeper, bests) = time_at(rt, alloc, &nucleus, keeper);
-    close(rt, nucleus, keeper).ok_or(AllocError)?;
+    let mut held = Held::start(rt, alloc).ok_or(AllocError)?;
+    let bests = begin_and_time(rt, alloc, &mut held);
+    let entries = held.end();
+    entries.ok_or(AllocError)?;
     bests
-}
-
-fn time_at<R: Wait + Clock>(
-    rt: &R,
-    alloc: Global,
-    nucleus: &Nucleus,
-    keeper: Pass,
-) -> (Pass, io::Result<Vec<Best>>)
-    requires { IsKeeper nucleus.now 0 keeper }
-    ensures { IsKeeper nucleus.now 0 result.0 }
-{
-    match Held::start(rt, nucleus, keeper) {
-        Ok(mut held) => {
-            let bests = begin_and_time(rt, alloc, &mut held);
-            (held.end(), bests)
-        }
-        Err(keeper) => (keeper, Err(AllocError.into())),
-    }
 }
 
 fn begin_and_time<R: Wait + Clock>(
@@ -103,8 +65,8 @@ fn begin_and_time<R: Wait + Clock>(
     alloc: Global,
     held: &mut Held<'_, R>,
 ) -> io::Result<Vec<Best>>
-    requires { AreBoth held.old.nucleus.now held.old.one held.old.two }
-    ensures { AreBoth held.new.nucleus.now held.new.one held.new.two }
+    requires { AreBoth held.old.nucleus held.old.one held.old.two }
+    ensures { AreBoth held.new.nucleus held.new.one held.new.two }
 {
     held.begin().ok_or(AllocError)?;
     let mut paired = Paired::start(alloc).ok_or(AllocError)?;
@@ -126,8 +88,8 @@ fn time<R: Wait + Clock>(
     paired: &mut Paired,
     best: &mut Best,
 ) -> io::Result<()>
-    requires { AreBoth held.old.nucleus.now held.old.one held.old.two }
-    ensures { AreBoth held.new.nucleus.now held.new.one held.new.two }
+    requires { AreBoth held.old.nucleus held.old.one held.old.two }
+    ensures { AreBoth held.new.nucleus held.new.one held.new.two }
 {
     best.nucleus = best.nucleus.min(mean(rt, held, best.work)?);
     if matches!(best.work, Work::Here | Work::There) {
