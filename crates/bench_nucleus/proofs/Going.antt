@@ -20,6 +20,10 @@ keeper_goes_on n out a b (of, seat, notes, keeper, made) k = record {
   made = made ∙ k.made ∙ ap (λ (ns : List (Note PlaceNote)). length ns + suc out) (sym notes);
 }
 
+pub goes_on_further : (n : Nucleus) (a b c : Pass) → GoesOn n a b → GoesOn n b c → GoesOn n a c
+goes_on_further n a b c (of, seat, notes, keeper, made) (of2, seat2, notes2, keeper2, made2) =
+    (of2, seat2 ∙ seat, notes2 ∙ notes, keeper2 ∙ keeper, made2 ∙ made)
+
 pub other_goes_on : (n : Nucleus) (a b : Pass) → GoesOn n a b → IsOther n a → IsOther n b
 other_goes_on n a b (of, seat, notes, keeper, made) k = record { of_nucleus = of; keeper = keeper ∙ k.keeper; notes = notes ∙ k.notes }
 

@@ -132,6 +132,7 @@ fn call_often<R: Clock>(rt: &R, nucleus: &Nucleus, mut pass: Pass) -> (Pass, io:
     (pass, found)
 }
 
+#[tactic(auto, using(crate::proofs::Going::goes_on_further))]
 fn count_refused<R: Clock>(rt: &R, nucleus: &Nucleus, pass: &mut Pass) -> io::Result<(u32, f64)>
     requires { IsPassOf nucleus.now pass.old }
     ensures { GoesOn nucleus.now pass.old pass.new }

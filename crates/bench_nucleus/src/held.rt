@@ -61,10 +61,12 @@ pub(crate) fn enter(nucleus: &Nucleus, keeper: &mut Pass, site: u16) -> Option<P
 }
 
 /// Ends a pass.
+#[tactic(auto, using(crate::proofs::Going::retired))]
 pub(crate) fn retire(nucleus: &Nucleus, pass: Pass, keeper: &mut Pass)
     requires pass { IsOther nucleus.now pass }
     requires keeper { IsPassOf nucleus.now keeper.old }
-    ensures { (out : ℕ) → IsKeeper nucleus.now (suc out) keeper.old →
+    ensures pass { IsPassOf nucleus.now keeper.new }
+    ensures keeper { (out : ℕ) → IsKeeper nucleus.now (suc out) keeper.old →
         IsKeeper nucleus.now out keeper.new }
 {
     nucleus.retire(pass, keeper);

@@ -111,6 +111,7 @@ impl Callers {
 
 impl Four {
     /// Each makes a port.
+    #[tactic(auto, using(crate::proofs::Going::keeper_goes_on, crate::proofs::Going::other_goes_on))]
     fn begin(&mut self, nucleus: &Nucleus)
         requires { AreFour nucleus.now self.old }
         ensures { AreFour nucleus.now self.new }
@@ -138,6 +139,7 @@ impl Four {
         one
     }
 
+    #[tactic(auto, using(crate::proofs::Going::keeper_goes_on, crate::proofs::Going::other_goes_on))]
     fn one_by_one(self, nucleus: &Nucleus, count: u32) -> Four
         requires { AreFour nucleus.now self }
         ensures { AreFour nucleus.now result }
@@ -150,6 +152,7 @@ impl Four {
         }
     }
 
+    #[tactic(auto, using(crate::proofs::Going::keeper_goes_on, crate::proofs::Going::other_goes_on))]
     fn at_once<R: Threads + Sync>(self, rt: &R, nucleus: &Nucleus, count: u32) -> Four
         requires all { AreFour nucleus.now self }
         ensures { AreFour nucleus.now result }
@@ -212,6 +215,7 @@ fn two_at_once<R: Threads + Sync>(
 }
 
 /// The rounds of one caller. What is refused leaves fewer entries.
+#[tactic(auto, using(crate::proofs::Going::goes_on_further))]
 fn rounds_at(nucleus: &Nucleus, mut pass: Pass, site: u16, count: u32) -> Pass
     requires { IsPassOf nucleus.now pass }
     ensures { GoesOn nucleus.now pass result }
