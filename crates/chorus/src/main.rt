@@ -6,5 +6,5 @@ use chorus_program::process;
 use std::process::ExitCode;
 
 fn main(rt: HostRuntime) -> ExitCode {
-    process(&rt)
+    process(&rt, &rt)
 }

@@ -22,7 +22,9 @@ use Rattle.chorus_lossy.specs.Output as lossy
 use Rattle.chorus_lossy.specs.Output.{CarriesInput}
 use Rattle.chorus_words.specs.declared.words.Words.{Words}
 use Rattle.chorus_words.specs.declared.words.Words.TheVariants as words
-use Rattle.chorus_program.specs.Running.{Does, EndsAsAudit, EndsAsLossy, EndsUnreadAsLoad, EndsWithCause, places_each, replay_layout}
+use Rattle.chorus_words.specs.Words.{Ask}
+use Rattle.chorus_program.specs.Running.{Does, EndsAsAudit, EndsAsLossy, EndsUnreadAsLoad, EndsWithCause, Suits, places_each, replay_layout}
+use Rattle.chorus_program.specs.Started.{IsLayoutFor}
 
 -- Causes.
 
@@ -65,7 +67,7 @@ module _ {S K : Type 0} (f : Finished) (is : f ≡ record { status = Memory; clo
   read-none = ([], (Consumes-nil (left from), omega arith))
 
   reads-none : (l : Layout) → EndsReading l f.status left faults reliable from from
-  reads-none l = reads-as l l Memory f left faults reliable from from refl is (ends-memory l left faults reliable from from (λ h. refl) read-none)
+  reads-none l = reads-as l l Memory f left faults reliable from from refl is (ends-memory l left faults reliable from from refl read-none)
 
   closes-none : f.closed ≡ None
   closes-none = ap (λ (x : Finished). x.closed) is
@@ -107,6 +109,10 @@ module _ {S K : Type 0} (f : Finished) (is : f ≡ record { status = Memory; clo
   does-none n (words.Audit sites turns) = audits-none (places_each sites turns)
   does-none n (words.Lossy first) = carries-none first
 
+-- a replay on sites of a layout is one on those of an equal one
+pub replays-at : {S K : Type 0} (l m : Layout) (f : Finished) (left : S → Option (List ℕ)) (faults : S → ℕ) (reliable : S → Type 0) (from rest : S) (held : K → Option (List ℕ)) (failures : K → ℕ) (old new : K) → l ≡ m → EndsAsReplay l f left faults reliable from rest held failures old new → EndsAsReplay m f left faults reliable from rest held failures old new
+replays-at l m f left faults reliable from rest held failures old new same h = subst (λ (x : Layout). EndsAsReplay x f left faults reliable from rest held failures old new) same h
+
 -- What is done has its cause, and is no Usage.
 
 module _ {S K : Type 0} (n : Nucleus) (f : Finished) (left : S → Option (List ℕ)) (faults : S → ℕ) (reliable : S → Type 0) (from rest : S) (held : K → Option (List ℕ)) (failures : K → ℕ) (old new : K) where
@@ -120,3 +126,12 @@ module _ {S K : Type 0} (n : Nucleus) (f : Finished) (left : S → Option (List 
 
   pub does-same : (asked other : Words) → asked ≡ other → Does n asked f left faults reliable from rest held failures old new → Does n other f left faults reliable from rest held failures old new
   does-same asked other same d = subst (λ (w : Words). Does n w f left faults reliable from rest held failures old new) same d
+
+-- What is asked suits a nucleus that was started for it.
+pub suits : (spelled : List (List ℕ)) (n : Nucleus) → IsLayoutFor spelled (layout_of n) → (asked : Words) → Ask spelled asked → Suits n asked
+suits spelled n h words.Replay ask = tt
+suits spelled n h words.Run ask = tt
+suits spelled n h (words.RunOn turns) ask = sym (ap (λ (l : Layout). l.turns) (h.asked (words.RunOn turns) ask))
+suits spelled n h (words.Load first commands) ask = tt
+suits spelled n h (words.Audit sites turns) ask = tt
+suits spelled n h (words.Lossy first) ask = tt

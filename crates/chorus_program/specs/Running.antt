@@ -1,14 +1,14 @@
 -- What the program's words do.
 -- n is the nucleus that the program was handed. A source and a sink are seen as `EndsReading` and `EndsWriting` see them; from and rest are
 -- the source, old and new the sink, before and after.
-use Rattle.std.specs.Prelude.{◌≡◌, ◌≢◌, ◌≤◌, ℕ, List, Option, None, IfSome, IsSome}
+use Rattle.std.specs.Prelude.{◌≡◌, ◌≢◌, ◌≤◌, ◌⊎◌, ℕ, List, Option, None, IfSome, IsSome}
 use Rattle.chorus_io.specs.Count.{Rose}
 use Rattle.chorus_ui.specs.declared.layout.Layout.{Layout}
 use Rattle.chorus_ui.specs.declared.limits.TheConstants.{CLOCK_LIMIT}
 use Rattle.chorus_audit.specs.Output.{Prints, ReadsBy}
 use Rattle.chorus_lossy.specs.Output.{CarriesInput}
 use Rattle.chorus_show.specs.declared.status.Status.{Status}
-use Rattle.chorus_show.specs.declared.status.Status.TheVariants.{Done, ReadFault, WriteFault, Worn}
+use Rattle.chorus_show.specs.declared.status.Status.TheVariants.{Done, Usage, ReadFault, WriteFault, Memory, Worn}
 use Rattle.chorus_nucleus.specs.declared.nucleus.Nucleus.{Nucleus}
 use Rattle.chorus_nucleus.specs.Passes.{layout_of}
 use Rattle.chorus_report.specs.declared.finished.Finished.{Finished}
@@ -41,6 +41,14 @@ Suits n asked = Unit {0}
 abbrev pub AskOf : Nucleus → List (List ℕ) → Words → Type 0
 AskOf n spelled asked = Ask spelled asked × Suits n asked
 
+-- these words ask nothing of it
+abbrev pub AskNothingOf : Nucleus → List (List ℕ) → Type 0
+AskNothingOf n spelled = (asked : Words) → ¬ (AskOf n spelled asked)
+
+-- words that ask nothing are Usage; want of memory for them is the one other ending
+abbrev pub IsTurnedAway : Status → Type 0
+IsTurnedAway status = (status ≡ Usage) ⊎ (status ≡ Memory)
+
 -- nothing was closed, and the line of the verdict on what was read was written
 pub record EndsAsAudit (l : Layout) (finished : Finished) (left rest old new : Option (List ℕ)) : Type 0 where
   pub closed : finished.closed ≡ None
@@ -58,7 +66,9 @@ pub record EndsUnreadAsLoad {S K : Type 0} (first commands : ℕ) (finished : Fi
   pub loads : EndsAsLoad first commands finished held failures old new
 
 -- what the words do
-abbrev pub Does : {S K : Type 0} → Nucleus → Words → Finished → (S → Option (List ℕ)) → (S → ℕ) → (S → Type 0) → S → S → (K → Option (List ℕ)) → (K → ℕ) → K → K → Type 0
+abbrev pub Does : {S K : Type 0} → Nucleus → Words → Finished
+    → (S → Option (List ℕ)) → (S → ℕ) → (S → Type 0) → S → S
+    → (K → Option (List ℕ)) → (K → ℕ) → K → K → Type 0
 Does n words.Replay finished left faults reliable from rest held failures old new =
     EndsAsReplay replay_layout finished left faults reliable from rest held failures old new
 Does n words.Run finished left faults reliable from rest held failures old new =
@@ -72,12 +82,16 @@ Does n (words.Audit sites turns) finished left faults reliable from rest held fa
 Does n (words.Lossy first) finished left faults reliable from rest held failures old new =
     EndsAsLossy first finished (left from) (left rest) (held old) (held new)
 
+-- what was closed has an entry of this clock, which is at least 2^62
+abbrev pub IsWornAt : ℕ → Finished → Type 0
+IsWornAt clock finished = (CLOCK_LIMIT ≤ clock) × IfSome finished.closed (λ closed. HasClock clock (merge_of closed))
+
 -- Whatever the words are: a fault has its count, a clock that was worn its entry; without a fault of a source that has none its count
 -- stays; what was not to be written was not; and only what was written, or was to be, or stopped for a clock, has closed something.
 pub record EndsWithCause {S K : Type 0} (finished : Finished) (faults : S → ℕ) (reliable : S → Type 0) (from rest : S) (failures : K → ℕ) (old new : K) : Type 0 where
   pub read_fault : finished.status ≡ ReadFault → Rose (faults from) (faults rest)
   pub no_fault : reliable from → faults rest ≡ faults from
   pub write_fault : finished.status ≡ WriteFault → Rose (failures old) (failures new)
-  pub worn : (clock : ℕ) → finished.status ≡ Worn clock → (CLOCK_LIMIT ≤ clock) × IfSome finished.closed (λ closed. HasClock clock (merge_of closed))
+  pub worn : (clock : ℕ) → finished.status ≡ Worn clock → IsWornAt clock finished
   pub closed : IsSome finished.closed → HandsOut finished.status
   pub unwritten : finished.status ≢ Done → finished.status ≢ WriteFault → new ≡ old

@@ -1,13 +1,13 @@
 //! What the program does, by its words.
 
-ghost use Rattle.std.specs.Prelude.{◌≡◌, ◌⊎◌, map, IfOk, IfSome, Some};
+ghost use Rattle.std.specs.Prelude.{◌≡◌, map, IfOk, IfSome, Some};
 ghost use Rattle.chorus_words.specs.declared.words.Words.{Words};
 ghost use Rattle.chorus_words.specs.Words.{IsWithin};
 ghost use Rattle.chorus_nucleus.specs.Passes.{IsPassOf};
 ghost use Rattle.chorus_perform.specs.Scripts.{IsOpening};
-ghost use Rattle.chorus_program.specs.Running.{AskOf, Does, EndsWithCause, Suits};
+ghost use Rattle.chorus_program.specs.Running.{AskNothingOf, AskOf, Does, EndsWithCause, IsTurnedAway, Suits};
 
-use crate::starting::{gave_up, start_audit, start_load, start_lossy, start_replay};
+use crate::starting::{closed_nothing, start_audit, start_load, start_lossy, start_replay};
 use chorus_io::{Sink, Source};
 use chorus_nucleus::{Nucleus, Pass};
 use chorus_report::Finished;
@@ -41,10 +41,9 @@ pub fn program<'a, R: Threads + Wait + Sync, S: Source, K: Sink, G: Gate>(
     requires pass { IsPassOf nucleus pass }
     requires opening { IsOpening pass }
     ensures usage { result.status ≡ Status.Usage →
-        ((asked : Words) → ¬ (AskOf nucleus (map (λ word. word.now) words.now) asked))
-        × (source.new ≡ source.old) × (sink.new ≡ sink.old) }
-    ensures listed { ((asked : Words) → ¬ (AskOf nucleus (map (λ word. word.now) words.now) asked)) →
-        (result.status ≡ Status.Usage) ⊎ (result.status ≡ Status.Memory) }
+        AskNothingOf nucleus (map (λ word. word.now) words.now) }
+    ensures unlisted { AskNothingOf nucleus (map (λ word. word.now) words.now) →
+        IsTurnedAway result.status × (source.new ≡ source.old) × (sink.new ≡ sink.old) }
     ensures does { (asked : Words) → AskOf nucleus (map (λ word. word.now) words.now) asked →
         Does nucleus asked result S.left S.faults S.reliable source.old source.new
         K.held K.faults sink.old sink.new }
@@ -99,7 +98,7 @@ fn turn_away<R: Wait>(rt: &R, nucleus: Nucleus, pass: Pass, status: Status) -> F
     ensures { result ≡ record { status = status; closed = None } }
 {
     close_unused(rt, nucleus, pass);
-    gave_up(status)
+    closed_nothing(status)
 }
 
 /// Does what is asked.
@@ -122,8 +121,7 @@ fn does<R: Threads + Wait + Sync, S: Source, K: Sink, G: Gate>(
         K.faults sink.old sink.new }
 {
     match asked {
-        Words::Run => run(alloc, rt, source, sink, nucleus, pass, gate),
-        Words::RunOn { .. } => run(alloc, rt, source, sink, nucleus, pass, gate),
+        Words::Run | Words::RunOn { .. } => run(alloc, rt, source, sink, nucleus, pass, gate),
         Words::Replay => {
             close_unused(rt, nucleus, pass);
             start_replay(alloc, source, sink)

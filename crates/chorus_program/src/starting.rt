@@ -34,7 +34,7 @@ pub(crate) fn start_replay<S: Source, K: Sink>(
 {
     match start(alloc, PROGRAM_SITES) {
         Ok(sites) => replay(alloc, source, sink, sites),
-        Err(_) => gave_up(Status::Memory),
+        Err(_) => closed_nothing(Status::Memory),
     }
 }
 
@@ -50,7 +50,7 @@ pub(crate) fn start_load<K: Sink>(
 {
     match start(alloc, LOAD_SITES) {
         Ok(sites) => load(alloc, first, commands, sink, sites),
-        Err(_) => gave_up(Status::Memory),
+        Err(_) => closed_nothing(Status::Memory),
     }
 }
 
@@ -69,7 +69,7 @@ pub(crate) fn start_audit<S: Source, K: Sink>(
         K.faults sink.old sink.new }
 {
     let layout = Layout::new(sites, turns).unwrap();
-    gave_up(audit(alloc, layout, source, sink))
+    closed_nothing(audit(alloc, layout, source, sink))
 }
 
 /// Carries what the source gives over two ends that are made for it.
@@ -86,7 +86,7 @@ pub(crate) fn start_lossy<S: Source, K: Sink>(
 {
     let mut sender = Sender::new(alloc, WINDOW).unwrap();
     let mut receiver = Receiver::new(alloc, WINDOW).unwrap();
-    gave_up(lossy(alloc, first, source, sink, &mut sender, &mut receiver))
+    closed_nothing(lossy(alloc, first, source, sink, &mut sender, &mut receiver))
 }
 
 /// Starts so many sites, with one place each.
@@ -99,7 +99,7 @@ fn start(alloc: Global, sites: u16) -> Result<Sites, AllocError>
 }
 
 /// What ended with this status and closed nothing.
-pub(crate) fn gave_up(status: Status) -> Finished
+pub(crate) fn closed_nothing(status: Status) -> Finished
     ensures { result ≡ record { status = status; closed = None } }
 {
     Finished {

@@ -11,12 +11,12 @@
 use chorus_io::{
     Failed, MemSink, MemSource, Sink, Source, StdErrors, StdSink, StdSource, read_all, write_all,
 };
-use chorus_nucleus::Nucleus;
-use chorus_program::{layout_for, program};
-use chorus_run::OpenGate;
+use chorus_program::start_program;
 use chorus_show::Status;
 use std::alloc::Global;
 use std::process::ExitCode;
+use std::sync::Wait;
+use std::thread::Threads;
 use std::{env, io};
 
 /// The exit status where the call did not begin.
@@ -26,43 +26,38 @@ const NOT_BEGUN: u8 = 64;
 const NOT_SAID: u8 = 65;
 
 fn main(rt: HostRuntime) -> ExitCode {
-    ExitCode::from(run(&rt).unwrap_or(NOT_BEGUN))
+    ExitCode::from(run(&rt, &rt).unwrap_or(NOT_BEGUN))
 }
 
-/// Does what the words after the program's name say, over memory. Gives the exit status.
-fn run(rt: &HostRuntime) -> io::Result<u8> {
-    let alloc = rt.alloc();
-    let words: Vec<String> = env::args(rt)?.skip(1).collect(alloc)?;
+/// Does what the words after the program's name say, over memory. Gives the exit status. The runtime is given twice, since only `main`
+/// has its leave to start threads and to wait.
+fn run<R: Threads + Wait + Sync>(host: &HostRuntime, rt: &R) -> io::Result<u8> {
+    let alloc = host.alloc();
+    let words: Vec<String> = env::args(host)?.skip(1).collect(alloc)?;
     let words: Vec<&str> = words.iter().map(|word| word.as_str()).collect(alloc)?;
-    let Ok(input) = read_all(alloc, &mut StdSource::new(rt.stdin()), usize::MAX) else {
+    let Ok(input) = read_all(alloc, &mut StdSource::new(host.stdin()), usize::MAX) else {
         return Ok(NOT_BEGUN);
     };
     let mut source = MemSource::new(input, Vec::new(alloc));
     let mut sink = MemSink::new(alloc, 1, Vec::new(alloc));
     let status = call(rt, alloc, &words, &mut source, &mut sink);
-    let mut output = StdSink::new(rt.stdout());
-    let mut errors = StdErrors::new(rt.stderr());
+    let mut output = StdSink::new(host.stdout());
+    let mut errors = StdErrors::new(host.stderr());
     Ok(match say(status, sink.bytes(), &mut output, &mut errors) {
         Ok(()) => status.number(),
         Err(_) => NOT_SAID,
     })
 }
 
-/// How the call of these words ends, with a nucleus that is started for it.
-fn call<S: Source, K: Sink>(
-    rt: &HostRuntime,
+/// How the call of these words ends.
+fn call<R: Threads + Wait + Sync, S: Source, K: Sink>(
+    rt: &R,
     alloc: Global,
     words: &[&str],
     source: &mut S,
     sink: &mut K,
 ) -> Status {
-    let layout = layout_for(alloc, words);
-    match Nucleus::start(alloc, rt, layout) {
-        Ok((nucleus, pass)) => {
-            program(alloc, rt, words, source, sink, nucleus, pass, &OpenGate).status
-        }
-        Err(_) => Status::Memory,
-    }
+    start_program(alloc, rt, words, source, sink).status
 }
 
 /// Puts out the bytes that a sink holds, and the line that says how the call ended.

@@ -178,7 +178,7 @@ fn send_and_take(rt: &impl Abort, nucleus: &Nucleus, pass: &mut Pass)
 /// Asserts that the nucleus is not closed, since the one pass that was entered is out; nucleus and pass come back.
 fn refused<R: Wait + Abort>(rt: &R, nucleus: Nucleus, pass: Pass) -> (Nucleus, Pass)
     requires { IsPassOf nucleus pass }
-    ensures { IsPassOf result.0 result.1 }
+    ensures { (result.0 ≡ nucleus) × (result.1 ≡ pass) }
 {
     assert!(rt; pass.keeper());
     match nucleus.close(rt, pass) {

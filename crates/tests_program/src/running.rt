@@ -1,11 +1,9 @@
 //! Runs of the program over memory, of which plain values are kept. What is not as it is to be ends the test.
 //!
-//! The contract of `program` is long, so it is called in one function, which is generic in its source and sink.
+//! The contract of `start_program` is long, so it is called in one function, which is generic in its source and sink.
 
 use chorus_io::{MemSink, MemSource, Sink, Source};
-use chorus_nucleus::Nucleus;
-use chorus_program::{layout_for, program};
-use chorus_run::OpenGate;
+use chorus_program::start_program;
 use chorus_show::Status;
 use std::alloc::Global;
 use std::fmt::Debug;
@@ -27,10 +25,7 @@ fn ends_with<R: Abort + Threads + Wait + Sync, S: Source, K: Sink>(
     source: &mut S,
     sink: &mut K,
 ) -> Status {
-    let Ok((nucleus, pass)) = Nucleus::start(alloc, rt, layout_for(alloc, words)) else {
-        panic!(rt; "memory")
-    };
-    program(alloc, rt, words, source, sink, nucleus, pass, &OpenGate).status
+    start_program(alloc, rt, words, source, sink).status
 }
 
 /// A source of the text. `failing` lists the reads that fail.

@@ -3,7 +3,22 @@
 /// No command.
 pub(crate) const NOTHING: &str = "chorus 1\nsites 1\nscript 1.a.1\nschedule\nend\n";
 
-/// What is printed for a port of capacity 1 to which two messages are sent.
+/// One script sends two messages to a port of capacity 1, and takes three times.
+pub(crate) const ON_ONE_SITE: &str = "\
+chorus 1
+sites 1
+port 1.p.1 1.a.1 1
+script 1.a.1
+send 1.p.1 =a
+send 1.p.1 =b
+take 1.p.1
+take 1.p.1
+take 1.p.1
+schedule
+end
+";
+
+/// What is printed for it, however it is performed.
 pub(crate) const ON_ONE_SITE_PRINTED: &str = "\
 journal 8
 1 1 0 make 1.p.1 1.a.1 1

@@ -64,6 +64,23 @@ fn assert_no_numbers(rt: &(impl Abort + Threads + Wait + Sync), alloc: Global) {
     }
 }
 
+/// Asserts how `run` is read, alone and with a number of places.
+fn assert_runs(rt: &(impl Abort + Threads + Wait + Sync), alloc: Global) {
+    assert_reads(rt, alloc, &["run"], Some(Words::Run));
+    for (text, asked) in [
+        ("1", Some(Words::RunOn { turns: 1 })),
+        ("2", Some(Words::RunOn { turns: 2 })),
+        ("4", Some(Words::RunOn { turns: 4 })),
+        ("0", None),
+        ("3", None),
+        ("8", None),
+        ("02", None),
+        ("", None),
+    ] {
+        assert_reads(rt, alloc, &["run", text], asked);
+    }
+}
+
 #[test]
 fn the_list_and_nothing_else(rt: HostRuntime) {
     let alloc = rt.alloc();
@@ -76,6 +93,7 @@ fn the_list_and_nothing_else(rt: HostRuntime) {
     assert_reads(&rt, alloc, &["lossy", most], Some(lossy));
     assert_no_numbers(&rt, alloc);
     assert_reads(&rt, alloc, &["load", "7", "65537"], None);
+    assert_runs(&rt, alloc);
 }
 
 /// Asserts how the program ends on an empty text, and that it writes nothing.
@@ -91,7 +109,7 @@ fn assert_ends(
 }
 
 fn assert_no_words(rt: &(impl Abort + Threads + Wait + Sync), alloc: Global) {
-    let refused: [&[&str]; 9] = [
+    let refused: [&[&str]; 11] = [
         &[],
         &["load", "7"],
         &["load", "07", "1"],
@@ -100,10 +118,26 @@ fn assert_no_words(rt: &(impl Abort + Threads + Wait + Sync), alloc: Global) {
         &["lossy"],
         &["lossy", "7", "1"],
         &["--help"],
-        &["run"],
+        &["run", "3"],
+        &["run", "1", "1"],
+        &["1", "run"],
     ];
     for words in refused {
         assert_ends(rt, alloc, words, Status::Usage);
+    }
+}
+
+/// Asserts that the words that read a scenario refuse an empty text.
+fn assert_refused(rt: &(impl Abort + Threads + Wait + Sync), alloc: Global) {
+    let reading: [&[&str]; 5] = [
+        &["replay"],
+        &["run"],
+        &["run", "1"],
+        &["run", "2"],
+        &["run", "4"],
+    ];
+    for words in reading {
+        assert_ends(rt, alloc, words, Status::Scenario { line: 1, reason: 9 });
     }
 }
 
@@ -111,8 +145,7 @@ fn assert_no_words(rt: &(impl Abort + Threads + Wait + Sync), alloc: Global) {
 fn words_of_the_program(rt: HostRuntime) {
     let alloc = rt.alloc();
     assert_no_words(&rt, alloc);
-    let empty = Status::Scenario { line: 1, reason: 9 };
-    assert_ends(&rt, alloc, &["replay"], empty);
+    assert_refused(&rt, alloc);
     assert_prints(&rt, alloc, &["lossy", "7"], "", "\nwire 0 0\n");
     assert_prints(&rt, alloc, &["lossy", "7"], "hello", "hello\nwire 1 0\n");
     assert_prints(&rt, alloc, &["load", "7", "0"], "", LOADS_NOTHING);

@@ -12,6 +12,7 @@ use std::thread::{self, Threads};
 const LOOKS: u32 = 1_000_000_000;
 
 /// Holds the first script until the second was about to perform its second command, and that one until the first was.
+#[derive(Drop)]
 struct Meeting {
     first_came: AtomicBool,
     second_came: AtomicBool,

@@ -4,11 +4,7 @@ use Rattle.chorus_program.proofs.running.does.Goals as goal
 
 pub returns-in-Run-clause-causes : goal.returns-in-Run-clause-causes
 returns-in-Run-clause-causes g c =
-    causes-of c.run-in-Run.result _ _ _ _ _ _ _ _ _ _ _ c.run-in-Run.ensures.reads c.run-in-Run.ensures.writes
-
-pub returns-in-RunOn-clause-causes : goal.returns-in-RunOn-clause-causes
-returns-in-RunOn-clause-causes g c =
-    causes-of c.run-in-RunOn.result _ _ _ _ _ _ _ _ _ _ _ c.run-in-RunOn.ensures.reads c.run-in-RunOn.ensures.writes
+    causes-of c.run.result _ _ _ _ _ _ _ _ _ _ _ c.run.ensures.reads c.run.ensures.writes
 
 pub returns-in-Replay-clause-causes : goal.returns-in-Replay-clause-causes
 returns-in-Replay-clause-causes g c =

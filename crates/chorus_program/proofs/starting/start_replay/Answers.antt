@@ -1,10 +1,8 @@
-use Rattle.std.proofs.Common.{subst}
-use Rattle.chorus_replay.specs.Ends.{EndsAsReplay}
-use Rattle.chorus_program.proofs.Doing.{replays-none}
+use Rattle.chorus_program.proofs.Doing.{replays-at, replays-none}
 use Rattle.chorus_program.proofs.starting.start_replay.Goals as goal
 
 pub returns-in-Ok : goal.returns-in-Ok
-returns-in-Ok g c = subst (λ l. EndsAsReplay l c.replay.result _ _ _ _ _ _ _ _ _) c.in-Ok.ensures.1 c.replay.ensures
+returns-in-Ok g c = replays-at _ _ _ _ _ _ _ _ _ _ _ _ c.in-Ok.ensures.1 c.replay.ensures
 
 pub returns-in-Err : goal.returns-in-Err
-returns-in-Err g c = replays-none c.gave_up.result c.gave_up.ensures _ _ _ _ _ _ _
+returns-in-Err g c = replays-none c.closed_nothing.result c.closed_nothing.ensures _ _ _ _ _ _ _

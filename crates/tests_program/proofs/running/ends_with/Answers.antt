@@ -1,5 +1,0 @@
-use Rattle.chorus_perform.proofs.Opening.{opening}
-use Rattle.tests_program.proofs.running.ends_with.Goals as goal
-
-pub program-requires-clause-opening : goal.program-requires-clause-opening
-program-requires-clause-opening g c = opening _ _ _ c.in-Ok.ensures
