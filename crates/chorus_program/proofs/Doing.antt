@@ -1,5 +1,6 @@
 -- What the words do, and each ending's cause.
-use Rattle.std.proofs.Common.{◌≡◌, ◌≢◌, ℕ, [], List, Option, None, Some, IfSome, IsSome, refl, sym, ap, subst, arith}
+use Rattle.std.proofs.Common.{◌≡◌, ◌≢◌, ◌∙◌, inl, inr, ℕ, true, [], List, Option, None, Some, IfSome, IsSome, refl, sym, ap, subst, arith}
+use Rattle.std.proofs.lemmas.Bool.{false≢true}
 use Rattle.std.proofs.KnownBytes.{Consumes-nil}
 use Rattle.chorus_ui.specs.declared.layout.Layout.{Layout}
 use Rattle.chorus_show.specs.declared.status.Status.{Status}
@@ -22,9 +23,8 @@ use Rattle.chorus_lossy.specs.Output as lossy
 use Rattle.chorus_lossy.specs.Output.{CarriesInput}
 use Rattle.chorus_words.specs.declared.words.Words.{Words}
 use Rattle.chorus_words.specs.declared.words.Words.TheVariants as words
-use Rattle.chorus_words.specs.Words.{Ask}
-use Rattle.chorus_program.specs.Running.{Does, EndsAsAudit, EndsAsLossy, EndsUnreadAsLoad, EndsWithCause, Suits, places_each, replay_layout}
-use Rattle.chorus_program.specs.Started.{IsLayoutFor}
+use Rattle.chorus_program.specs.Running.{runs, Does, DoesAlone, EndsAsAudit, EndsAsLossy, EndsUnreadAsLoad, EndsWithCause, places_each, replay_layout}
+use Rattle.chorus_program.specs.Started.{layout_asked, DoesOnOwn}
 
 -- Causes.
 
@@ -127,11 +127,49 @@ module _ {S K : Type 0} (n : Nucleus) (f : Finished) (left : S → Option (List 
   pub does-same : (asked other : Words) → asked ≡ other → Does n asked f left faults reliable from rest held failures old new → Does n other f left faults reliable from rest held failures old new
   does-same asked other same d = subst (λ (w : Words). Does n w f left faults reliable from rest held failures old new) same d
 
--- What is asked suits a nucleus that was started for it.
-pub suits : (spelled : List (List ℕ)) (n : Nucleus) → IsLayoutFor spelled (layout_of n) → (asked : Words) → Ask spelled asked → Suits n asked
-suits spelled n h words.Replay ask = tt
-suits spelled n h words.Run ask = tt
-suits spelled n h (words.RunOn turns) ask = sym (ap (λ (l : Layout). l.turns) (h.asked (words.RunOn turns) ask))
-suits spelled n h (words.Load first commands) ask = tt
-suits spelled n h (words.Audit sites turns) ask = tt
-suits spelled n h (words.Lossy first) ask = tt
+-- Words that are done on threads, and others.
+
+module _ {S K : Type 0} (f : Finished) (left : S → Option (List ℕ)) (faults : S → ℕ) (reliable : S → Type 0) (from rest : S) (held : K → Option (List ℕ)) (failures : K → ℕ) (old new : K) where
+  pub does-run : (n : Nucleus) (asked : Words) → runs asked ≡ true → EndsAsRun n f left faults reliable from rest held failures old new → Does n asked f left faults reliable from rest held failures old new
+  does-run n words.Replay is h = absurd (false≢true is)
+  does-run n words.Run is h = h
+  does-run n (words.RunOn turns) is h = h
+  does-run n (words.Load first commands) is h = absurd (false≢true is)
+  does-run n (words.Audit sites turns) is h = absurd (false≢true is)
+  does-run n (words.Lossy first) is h = absurd (false≢true is)
+
+  pub does-alone : (n : Nucleus) (asked : Words) → DoesAlone asked f left faults reliable from rest held failures old new → Does n asked f left faults reliable from rest held failures old new
+  does-alone n words.Replay h = h
+  does-alone n words.Run h = absurd h
+  does-alone n (words.RunOn turns) h = absurd h
+  does-alone n (words.Load first commands) h = h
+  does-alone n (words.Audit sites turns) h = h
+  does-alone n (words.Lossy first) h = h
+
+  pub runs-on-own : (n : Nucleus) (asked : Words) → runs asked ≡ true → layout_of n ≡ layout_asked asked → EndsAsRun n f left faults reliable from rest held failures old new → DoesOnOwn asked f left faults reliable from rest held failures old new
+  runs-on-own n words.Replay is same h = absurd (false≢true is)
+  runs-on-own n words.Run is same h = inr (n, same, h)
+  runs-on-own n (words.RunOn turns) is same h = inr (n, same, h)
+  runs-on-own n (words.Load first commands) is same h = absurd (false≢true is)
+  runs-on-own n (words.Audit sites turns) is same h = absurd (false≢true is)
+  runs-on-own n (words.Lossy first) is same h = absurd (false≢true is)
+
+  pub alone-on-own : (asked : Words) → DoesAlone asked f left faults reliable from rest held failures old new → DoesOnOwn asked f left faults reliable from rest held failures old new
+  alone-on-own words.Replay h = inr h
+  alone-on-own words.Run h = absurd h
+  alone-on-own (words.RunOn turns) h = absurd h
+  alone-on-own (words.Load first commands) h = inr h
+  alone-on-own (words.Audit sites turns) h = inr h
+  alone-on-own (words.Lossy first) h = inr h
+
+  pub own-same : (asked other : Words) → asked ≡ other → DoesOnOwn asked f left faults reliable from rest held failures old new → DoesOnOwn other f left faults reliable from rest held failures old new
+  own-same asked other same d = subst (λ (w : Words). DoesOnOwn w f left faults reliable from rest held failures old new) same d
+
+  pub own-no-usage : (asked : Words) → DoesOnOwn asked f left faults reliable from rest held failures old new → f.status ≡ Status.Usage → ⊥
+  own-no-usage asked (inl h) is = let both : Memory ≡ Status.Usage = sym (ap (λ (x : Finished). x.status) h.0) ∙ is in cc
+  own-no-usage words.Run (inr h) is = h.2.reads.usage is
+  own-no-usage (words.RunOn turns) (inr h) is = h.2.reads.usage is
+  own-no-usage words.Replay (inr d) is = d.reads.usage is
+  own-no-usage (words.Load first commands) (inr d) is = subst EndsUnread is d.loads.status
+  own-no-usage (words.Audit sites turns) (inr d) is = subst (λ s. ReadsBy s (left from) (left rest)) is d.reads
+  own-no-usage (words.Lossy first) (inr d) is = let h = d.carries in subst (λ s. lossy.ReadsBy s h.0 (left from) (left rest)) is h.1

@@ -1,7 +1,7 @@
 -- What the program's words do.
 -- n is the nucleus that the program was handed. A source and a sink are seen as `EndsReading` and `EndsWriting` see them; from and rest are
 -- the source, old and new the sink, before and after.
-use Rattle.std.specs.Prelude.{◌≡◌, ◌≢◌, ◌≤◌, ◌⊎◌, ℕ, List, Option, None, IfSome, IsSome}
+use Rattle.std.specs.Prelude.{◌≡◌, ◌≢◌, ◌≤◌, ◌⊎◌, ℕ, Bool, true, false, List, Option, None, IfSome, IsSome}
 use Rattle.chorus_io.specs.Count.{Rose}
 use Rattle.chorus_ui.specs.declared.layout.Layout.{Layout}
 use Rattle.chorus_ui.specs.declared.limits.TheConstants.{CLOCK_LIMIT}
@@ -65,22 +65,36 @@ pub record EndsUnreadAsLoad {S K : Type 0} (first commands : ℕ) (finished : Fi
   pub unread : rest ≡ from
   pub loads : EndsAsLoad first commands finished held failures old new
 
+-- these words are done on running threads
+abbrev pub runs : Words → Bool
+runs words.Run = true
+runs (words.RunOn turns) = true
+runs asked = false
+
+-- what the other words do
+abbrev pub DoesAlone : {S K : Type 0} → Words → Finished
+    → (S → Option (List ℕ)) → (S → ℕ) → (S → Type 0) → S → S
+    → (K → Option (List ℕ)) → (K → ℕ) → K → K → Type 0
+DoesAlone words.Replay finished left faults reliable from rest held failures old new =
+    EndsAsReplay replay_layout finished left faults reliable from rest held failures old new
+DoesAlone (words.Load first commands) finished left faults reliable from rest held failures old new =
+    EndsUnreadAsLoad first commands finished from rest held failures old new
+DoesAlone (words.Audit sites turns) finished left faults reliable from rest held failures old new =
+    EndsAsAudit (places_each sites turns) finished (left from) (left rest) (held old) (held new)
+DoesAlone (words.Lossy first) finished left faults reliable from rest held failures old new =
+    EndsAsLossy first finished (left from) (left rest) (held old) (held new)
+DoesAlone asked finished left faults reliable from rest held failures old new = ⊥
+
 -- what the words do
 abbrev pub Does : {S K : Type 0} → Nucleus → Words → Finished
     → (S → Option (List ℕ)) → (S → ℕ) → (S → Type 0) → S → S
     → (K → Option (List ℕ)) → (K → ℕ) → K → K → Type 0
-Does n words.Replay finished left faults reliable from rest held failures old new =
-    EndsAsReplay replay_layout finished left faults reliable from rest held failures old new
 Does n words.Run finished left faults reliable from rest held failures old new =
     EndsAsRun n finished left faults reliable from rest held failures old new
 Does n (words.RunOn turns) finished left faults reliable from rest held failures old new =
     EndsAsRun n finished left faults reliable from rest held failures old new
-Does n (words.Load first commands) finished left faults reliable from rest held failures old new =
-    EndsUnreadAsLoad first commands finished from rest held failures old new
-Does n (words.Audit sites turns) finished left faults reliable from rest held failures old new =
-    EndsAsAudit (places_each sites turns) finished (left from) (left rest) (held old) (held new)
-Does n (words.Lossy first) finished left faults reliable from rest held failures old new =
-    EndsAsLossy first finished (left from) (left rest) (held old) (held new)
+Does n asked finished left faults reliable from rest held failures old new =
+    DoesAlone asked finished left faults reliable from rest held failures old new
 
 -- what was closed has an entry of this clock, which is at least 2^62
 abbrev pub IsWornAt : ℕ → Finished → Type 0

@@ -19,4 +19,4 @@ pub use circle::what_is_printed_is_legal;
 pub use ending::{ended, without_words};
 pub use running::{PROGRAM_SITES, program};
 pub use standard::process;
-pub use started::{layout_for, start_program};
+pub use started::start_program;

@@ -1,11 +1,11 @@
 //! What the program does, by its words.
 
-ghost use Rattle.std.specs.Prelude.{◌≡◌, map, IfOk, IfSome, Some};
+ghost use Rattle.std.specs.Prelude.{◌≡◌, map, true, false, IfOk, IfSome, Some};
 ghost use Rattle.chorus_words.specs.declared.words.Words.{Words};
 ghost use Rattle.chorus_words.specs.Words.{IsWithin};
 ghost use Rattle.chorus_nucleus.specs.Passes.{IsPassOf};
 ghost use Rattle.chorus_perform.specs.Scripts.{IsOpening};
-ghost use Rattle.chorus_program.specs.Running.{AskNothingOf, AskOf, Does, EndsWithCause, IsTurnedAway, Suits};
+ghost use Rattle.chorus_program.specs.Running.{runs, AskNothingOf, AskOf, Does, DoesAlone, EndsWithCause, IsTurnedAway, Suits};
 
 use crate::starting::{closed_nothing, start_audit, start_load, start_lossy, start_replay};
 use chorus_io::{Sink, Source};
@@ -120,23 +120,39 @@ fn does<R: Threads + Wait + Sync, S: Source, K: Sink, G: Gate>(
     ensures causes { EndsWithCause result S.faults S.reliable source.old source.new
         K.faults sink.old sink.new }
 {
+    if runs(asked) {
+        return run(alloc, rt, source, sink, nucleus, pass, gate);
+    }
+    close_unused(rt, nucleus, pass);
+    does_alone(alloc, asked, source, sink)
+}
+
+/// Whether it is done on running threads.
+pub(crate) fn runs(asked: Words) -> bool
+    ensures { result ≡ runs asked }
+{
+    matches!(asked, Words::Run | Words::RunOn { .. })
+}
+
+/// Does what is asked, where that takes no running threads.
+pub(crate) fn does_alone<S: Source, K: Sink>(
+    alloc: Global,
+    asked: Words,
+    source: &mut S,
+    sink: &mut K,
+) -> Finished
+    requires within { IsWithin asked }
+    requires alone { runs asked ≡ false }
+    ensures does { DoesAlone asked result S.left S.faults S.reliable source.old source.new
+        K.held K.faults sink.old sink.new }
+    ensures causes { EndsWithCause result S.faults S.reliable source.old source.new
+        K.faults sink.old sink.new }
+{
     match asked {
-        Words::Run | Words::RunOn { .. } => run(alloc, rt, source, sink, nucleus, pass, gate),
-        Words::Replay => {
-            close_unused(rt, nucleus, pass);
-            start_replay(alloc, source, sink)
-        }
-        Words::Load { first, commands } => {
-            close_unused(rt, nucleus, pass);
-            start_load(alloc, first, commands, sink)
-        }
-        Words::Audit { sites, turns } => {
-            close_unused(rt, nucleus, pass);
-            start_audit(alloc, sites, turns, source, sink)
-        }
-        Words::Lossy { first } => {
-            close_unused(rt, nucleus, pass);
-            start_lossy(alloc, first, source, sink)
-        }
+        Words::Replay => start_replay(alloc, source, sink),
+        Words::Load { first, commands } => start_load(alloc, first, commands, sink),
+        Words::Audit { sites, turns } => start_audit(alloc, sites, turns, source, sink),
+        Words::Lossy { first } => start_lossy(alloc, first, source, sink),
+        Words::Run | Words::RunOn { .. } => unreachable!(),
     }
 }

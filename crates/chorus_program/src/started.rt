@@ -1,20 +1,20 @@
 //! The program with a nucleus that is started for its words.
 
-ghost use Rattle.std.specs.Prelude.{◌≡◌, map, IfOk};
+ghost use Rattle.std.specs.Prelude.{◌≡◌, map, true, IfOk};
 ghost use Rattle.chorus_words.specs.declared.words.Words.{Words};
 ghost use Rattle.chorus_words.specs.Words.{Ask, IsTurns, IsWithin};
 ghost use Rattle.chorus_nucleus.specs.Passes.{layout_of, IsPassOf};
 ghost use Rattle.chorus_perform.specs.Scripts.{IsOpening};
 ghost use Rattle.chorus_program.specs.declared.running.TheConstants.{PROGRAM_SITES};
-ghost use Rattle.chorus_program.specs.Running.{places_each, EndsWithCause, IsTurnedAway};
-ghost use Rattle.chorus_program.specs.Started.{layout_asked, AskNothing, DoesOnOwn, IsLayoutFor};
+ghost use Rattle.chorus_program.specs.Running.{places_each, runs, EndsWithCause, IsTurnedAway};
+ghost use Rattle.chorus_program.specs.Started.{layout_asked, AskNothing, DoesOnOwn};
 
-use crate::running::{PROGRAM_SITES, program};
+use crate::running::{PROGRAM_SITES, does_alone, runs};
 use crate::starting::closed_nothing;
 use chorus_io::{Sink, Source};
 use chorus_nucleus::{Nucleus, Pass};
 use chorus_report::Finished;
-use chorus_run::OpenGate;
+use chorus_run::{OpenGate, run};
 use chorus_show::Status;
 use chorus_ui::Layout;
 use chorus_words::{Words, read_words};
@@ -22,8 +22,8 @@ use std::alloc::{AllocError, Global};
 use std::sync::Wait;
 use std::thread::Threads;
 
-/// Does what the words say, by [`program`], with a nucleus that is started for them: of [`PROGRAM_SITES`] sites, with as many places
-/// each as `run TURNS` asks, and one place each for all other words. Where there is no memory for it, nothing was read or written.
+/// Does what the words say, as [`program`](crate::program) does. `run` and `run TURNS` are done on a nucleus that is started for them: of
+/// [`PROGRAM_SITES`] sites, with one place each, or with as many as `run TURNS` asks. No other words take one.
 pub fn start_program<'a, R: Threads + Wait + Sync, S: Source, K: Sink>(
     alloc: Global,
     rt: &R,
@@ -41,36 +41,49 @@ pub fn start_program<'a, R: Threads + Wait + Sync, S: Source, K: Sink>(
     ensures causes { EndsWithCause result S.faults S.reliable source.old source.new
         K.faults sink.old sink.new }
 {
-    match start_nucleus(alloc, rt, words) {
-        Ok((nucleus, pass)) => program(alloc, rt, words, source, sink, nucleus, pass, &OpenGate),
+    match read_words(alloc, words) {
+        Ok(Some(asked)) => does_on_own(alloc, rt, asked, source, sink),
+        Ok(None) => closed_nothing(Status::Usage),
         Err(_) => closed_nothing(Status::Memory),
     }
 }
 
-/// Starts the nucleus for these words.
-fn start_nucleus<'a, R: Wait>(
+/// Does what is asked.
+fn does_on_own<R: Threads + Wait + Sync, S: Source, K: Sink>(
     alloc: Global,
     rt: &R,
-    words: &'a [&'a str],
+    asked: Words,
+    source: &mut S,
+    sink: &mut K,
+) -> Finished
+    requires { IsWithin asked }
+    ensures does { DoesOnOwn asked result S.left S.faults S.reliable source.old source.new
+        K.held K.faults sink.old sink.new }
+    ensures causes { EndsWithCause result S.faults S.reliable source.old source.new
+        K.faults sink.old sink.new }
+{
+    if !runs(asked) {
+        return does_alone(alloc, asked, source, sink);
+    }
+    match start_nucleus(alloc, rt, asked) {
+        Ok((nucleus, pass)) => run(alloc, rt, source, sink, nucleus, pass, &OpenGate),
+        Err(_) => closed_nothing(Status::Memory),
+    }
+}
+
+/// Starts the nucleus for what is asked.
+fn start_nucleus<R: Wait>(
+    alloc: Global,
+    rt: &R,
+    asked: Words,
 ) -> Result<(Nucleus, Pass), AllocError>
-    ensures layout { IfOk result (λ started.
-        IsLayoutFor (map (λ word. word.now) words.now) (layout_of started.0)) }
+    requires { IsWithin asked }
+    ensures layout { IfOk result (λ started. layout_of started.0 ≡ layout_asked asked) }
     ensures pass { IfOk result (λ started. IsPassOf started.0 started.1) }
     ensures opening { IfOk result (λ started. IsOpening started.1) }
 {
-    let layout = layout_for(alloc, words)?;
-    let (nucleus, pass) = Nucleus::start(alloc, rt, layout)?;
+    let (nucleus, pass) = Nucleus::start(alloc, rt, layout_asked(asked))?;
     Ok((nucleus, pass))
-}
-
-/// The layout of the nucleus for these words. The only error is want of memory.
-pub fn layout_for<'a>(alloc: Global, words: &'a [&'a str]) -> Result<Layout, AllocError>
-    ensures { IfOk result (IsLayoutFor (map (λ word. word.now) words.now)) }
-{
-    match read_words(alloc, words)? {
-        Some(asked) => Ok(layout_asked(asked)),
-        None => Ok(with_places(1)),
-    }
 }
 
 /// The layout of the nucleus for what is asked.
