@@ -3,9 +3,12 @@
 //! The contract of `run` is long, so it is called in one function, which is generic in its source and sink, and what it did is kept as
 //! plain values ([`Run`]), of which nothing is known.
 
+ghost use Rattle.chorus_nucleus.specs.Passes.{IsPassOf};
+ghost use Rattle.chorus_perform.specs.Scripts.{IsOpening};
+
 use chorus_audit::{AUDIT_LIMIT, Audit, audit_text};
 use chorus_io::{MemSink, MemSource, Sink, Source};
-use chorus_nucleus::Nucleus;
+use chorus_nucleus::{Nucleus, Pass};
 use chorus_run::{Gate, run};
 use chorus_show::Status;
 use chorus_ui::Layout;
@@ -22,6 +25,18 @@ pub(crate) struct Run {
     pub(crate) written: String,
 }
 
+/// A nucleus of 16 sites with so many places each, and its opening pass.
+fn started<R: Abort + Threads + Wait + Sync>(rt: &R, alloc: Global, turns: u16) -> (Nucleus, Pass)
+    ensures pass { IsPassOf result.0 result.1 }
+    ensures opening { IsOpening result.1 }
+{
+    let layout = Layout::new(16, turns).expect(rt, "a layout");
+    let Ok((nucleus, pass)) = Nucleus::start(alloc, rt, layout) else {
+        panic!(rt; "memory")
+    };
+    (nucleus, pass)
+}
+
 /// Performs what the source gives on a nucleus of 16 sites with so many places each. Gives how that ended, and whether it handed out
 /// what it closed.
 fn run_on<R: Abort + Threads + Wait + Sync, S: Source, K: Sink, G: Gate>(
@@ -32,10 +47,7 @@ fn run_on<R: Abort + Threads + Wait + Sync, S: Source, K: Sink, G: Gate>(
     sink: &mut K,
     gate: &G,
 ) -> (Status, bool) {
-    let layout = Layout::new(16, turns).expect(rt, "a layout");
-    let Ok((nucleus, pass)) = Nucleus::start(alloc, rt, layout) else {
-        panic!(rt; "memory")
-    };
+    let (nucleus, pass) = started(rt, alloc, turns);
     let finished = run(alloc, rt, source, sink, nucleus, pass, gate);
     (finished.status, finished.closed.is_some())
 }
