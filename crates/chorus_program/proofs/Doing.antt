@@ -1,5 +1,5 @@
 -- What the words do, and each ending's cause.
-use Rattle.std.proofs.Common.{◌≡◌, ◌≢◌, ◌∙◌, inl, inr, ℕ, true, [], List, Option, None, Some, IfSome, IsSome, refl, sym, ap, subst, arith}
+use Rattle.std.proofs.Common.{◌≡◌, ◌∙◌, inl, inr, ℕ, true, [], List, Option, None, refl, sym, ap, subst, arith}
 use Rattle.std.proofs.lemmas.Bool.{false≢true}
 use Rattle.std.proofs.KnownBytes.{Consumes-nil}
 use Rattle.chorus_ui.specs.declared.layout.Layout.{Layout}
@@ -23,7 +23,7 @@ use Rattle.chorus_lossy.specs.Output as lossy
 use Rattle.chorus_lossy.specs.Output.{CarriesInput}
 use Rattle.chorus_words.specs.declared.words.Words.{Words}
 use Rattle.chorus_words.specs.declared.words.Words.TheVariants as words
-use Rattle.chorus_program.specs.Running.{runs, Does, DoesAlone, EndsAsAudit, EndsAsLossy, EndsUnreadAsLoad, EndsWithCause, places_each, replay_layout}
+use Rattle.chorus_program.specs.Running.{runs, Does, DoesAlone, EndsAsAudit, EndsAsLossy, EndsWithCause, places_each, replay_layout}
 use Rattle.chorus_program.specs.Started.{layout_asked, DoesOnOwn}
 
 -- Causes.

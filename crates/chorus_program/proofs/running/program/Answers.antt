@@ -1,5 +1,4 @@
-use Rattle.std.proofs.Common.{◌≡◌, Some, None, ap, sym, ◌∙◌}
-use Rattle.chorus_report.specs.declared.finished.Finished.{Finished}
+use Rattle.std.proofs.Common.{◌≡◌}
 use Rattle.chorus_program.proofs.Doing.{does-none, does-same, no-usage}
 use Rattle.chorus_program.proofs.running.program.Goals as goal
 

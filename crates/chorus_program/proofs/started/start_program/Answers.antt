@@ -1,4 +1,4 @@
-use Rattle.std.proofs.Common.{◌≡◌, Some, None, inl, refl}
+use Rattle.std.proofs.Common.{◌≡◌, inl, refl}
 use Rattle.chorus_program.proofs.Doing.{own-no-usage, own-same}
 use Rattle.chorus_program.proofs.started.start_program.Goals as goal
 
