@@ -1,6 +1,6 @@
 -- A pass comes, and one is retired.
 -- n is the nucleus, old and into are passes before the call, after and fresh what takes turns for the old pass and the new one, p is the home place, r what was taken of its readers.
-use Rattle.std.proofs.Common.{ℕ, ◌≡◌, ◌≢◌, ◌≤◌, ◌+◌, ◌==◌, ◌||◌, nat_lt, Bool, true, false, if◌then◌else◌, cond, List, [], ◌++◌, ◌∷◌, length, Option, Some, None, is_some, IfSome, refl, sym, ◌∙◌, ap, subst, inl, inr, ◌⊎◌, arith}
+use Rattle.std.proofs.Common.{ℕ, ◌≡◌, ◌≤◌, ◌+◌, ◌==◌, ◌||◌, nat_lt, Bool, true, false, if◌then◌else◌, cond, List, [], ◌++◌, ◌∷◌, length, Option, Some, None, IfSome, refl, sym, ◌∙◌, ap, subst, inl, inr, arith}
 use Rattle.std.specs.Global.{Vec}
 use Rattle.std.specs.Option.{option_or}
 use Rattle.std.proofs.lemmas.Bool.{false≢true, eq-eqb, ne_eqb, cases_eq}
@@ -26,9 +26,9 @@ use Rattle.place_site.specs.declared.site.Site.{Site}
 use Rattle.chorus_nucleus.specs.declared.nucleus.Nucleus.{Nucleus}
 use Rattle.chorus_nucleus.specs.declared.pass.Pass.{Pass}
 use Rattle.chorus_nucleus.specs.declared.sight.Sight.{Sight}
-use Rattle.chorus_nucleus.specs.Passes.{Reads, AreSpare, AreRoomy, IsCallerOf, IsPassOf, row_at, home_of, readers_at, readers_in}
-use Rattle.chorus_nucleus.specs.Readers.{TakesReader, Inherits, GivesReader, with_reader}
-use Rattle.chorus_nucleus.specs.Coming.{GetsReader, Enters, IsKeptKeeper, Retires, given_back, readers_after}
+use Rattle.chorus_nucleus.specs.Passes.{Reads, AreSpare, IsCallerOf, IsPassOf, row_at, home_of, readers_at}
+use Rattle.chorus_nucleus.specs.Readers.{TakesReader, Inherits, with_reader}
+use Rattle.chorus_nucleus.specs.Coming.{GetsReader, Enters, IsKeptKeeper, Retires, given_back}
 use Rattle.chorus_nucleus.proofs.Sights.{spare-taken, taken-count, taken-none, spare-inherited, inherited-count}
 use Rattle.chorus_nucleus.proofs.Threads.{caller-drew, caller-comes, caller-joined}
 

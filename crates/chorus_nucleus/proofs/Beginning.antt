@@ -27,17 +27,15 @@ use Rattle.chorus_entry.specs.declared.entry.Entry.{Entry}
 use Rattle.law_history.specs.Turns.{from_place}
 use Rattle.law_history.specs.PlaceTurns.{is_other}
 use Rattle.chorus_turn.specs.Journals.{entries_of}
-use Rattle.chorus_turn.specs.Calls.{IsMarkAt}
 use Rattle.law_closing.specs.Places.{PlaceNote}
-use Rattle.chorus_board.specs.declared.board.Board.{Board}
 use Rattle.chorus_board.specs.declared.reader.BoardReader.{BoardReader}
-use Rattle.chorus_board.specs.Boards.{book_of, book_read, name_of_book, IsNewIn}
+use Rattle.chorus_board.specs.Boards.{book_of, name_of_book, IsNewIn}
 use Rattle.place_publish.specs.Publishing.{IsBoardAt}
 use Rattle.place_site.specs.declared.site.Site.{Site}
 use Rattle.place_site.specs.declared.site.SiteMark.{SiteMark}
 use Rattle.place_site.specs.Sites as sites
 use Rattle.place_site.specs.Sites.{IsJournalOf, IsPublished}
-use Rattle.chorus_nucleus.specs.Passes.{AreSites, Reads, AreSpare, AreRoomy, row_at, readers_in, mark_of, out_name, into_name}
+use Rattle.chorus_nucleus.specs.Passes.{AreSites, Reads, AreSpare, AreRoomy, row_at, readers_in, out_name, into_name}
 use Rattle.chorus_nucleus.specs.Starting.{IsFresh, AreItsReaders, AreFreshFrom, AreFresh, HaveStarted}
 use Rattle.place_site.proofs.Turning.{fits-as}
 use Rattle.chorus_nucleus.proofs.Called.{place-is, desk_of}

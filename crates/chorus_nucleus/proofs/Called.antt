@@ -1,20 +1,19 @@
 -- What a call of a nucleus did, from what its turn did.
 -- l is the layout, p the place, d the desk before the turn, s its state, v and u what the pass knows before and after, w and x its
 -- caller before and after.
-use Rattle.std.proofs.Common.{ℕ, ◌≡◌, ◌<◌, ◌≤◌, ◌-◌, ◌^◌, nat_le, min, true, List, [], ◌∷◌, ◌++◌, reverse, Option, Some, None, Result, Ok, Err, IfOk, IfErr, OnErr, IsErrOf, refl, sym, ◌∙◌, ap, subst, inl, inr}
+use Rattle.std.proofs.Common.{ℕ, ◌≡◌, ◌<◌, ◌≤◌, ◌-◌, ◌^◌, nat_le, min, true, List, [], reverse, Option, Some, None, Result, Ok, Err, IfOk, IfErr, OnErr, refl, sym, ◌∙◌, ap, subst, inl, inr}
 use Rattle.std.specs.declared.snapshot.Snapshot.{Snapshot}
 use Rattle.chorus_ui.specs.declared.limits.TheConstants.{CLOCK_LIMIT}
 use Rattle.std.proofs.lemmas.List.{append-nil}
 use Rattle.std.proofs.lemmas.Bool.{and_parts, leb-true}
 use Rattle.chorus_ui.specs.declared.layout.Layout.{Layout}
 use Rattle.chorus_ui.specs.Layout.{places, has_place}
-use Rattle.chorus_entry.specs.declared.entry.Entry.{Entry}
 use Rattle.chorus_entry.specs.declared.command.Command.{Command}
 use Rattle.chorus_entry.specs.declared.packet.Packet.{Packet}
 use Rattle.chorus_calls.specs.Callers.{Seated}
 use Rattle.law_machine.specs.declared.reply.Reply.{Reply}
 use Rattle.law_machine.specs.PlaceState.{PlaceState, started, greatest_clock}
-use Rattle.law_machine.specs.PlaceMachine.{begun, begun_by}
+use Rattle.law_machine.specs.PlaceMachine.{begun}
 use Rattle.law_machine.specs.Replies.{reply}
 use Rattle.chorus_place.specs.Calls.{Place, state}
 use Rattle.chorus_place.specs.declared.fault.PlaceFault.{PlaceFault}
@@ -34,7 +33,6 @@ use Rattle.law_history.specs.Counts.{put_count, got_count}
 use Rattle.law_history.specs.Histories.{Takes}
 use Rattle.law_history.specs.PlaceTurns.{may_take, machine, turn}
 use Rattle.law_history.proofs.Rising.{place-rises}
-use Rattle.law_history.specs.Runs.{with_command}
 use Rattle.law_closing.specs.Remarks.{turns_at}
 use Rattle.law_closing.specs.Places.{PlaceNote}
 use Rattle.law_closing.specs.Closing.{IsPlace}
@@ -43,7 +41,6 @@ use Rattle.place_site.specs.Sites.{IsJournalOf, IsPublished, entries, Fits}
 use Rattle.place_site.specs.Jobs.{Acted, ServedAt}
 use Rattle.place_site.specs.Turning.{IsNews, IsNoNews, NotesAct, NotesServe, TakesTurn, Looks}
 use Rattle.chorus_nucleus.specs.declared.fault.CallFault.{CallFault}
-use Rattle.chorus_nucleus.specs.declared.fault.CallFault.TheVariants as call_faults
 use Rattle.chorus_nucleus.specs.Passes.{AreSites, IsCallerOf, mark_of}
 use Rattle.chorus_nucleus.specs.Calls.{answered, gave, gave_after, IsRefused, FindsWorn, FindsWornBy, AreDesks, WorksOffAt, Because, Performs, Serves, Grows, Stays}
 use Rattle.chorus_nucleus.proofs.Threads.{caller-turned, caller-looked, caller-refused}

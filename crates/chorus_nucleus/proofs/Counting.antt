@@ -20,7 +20,7 @@ use Rattle.place_unsettled.specs.declared.wait.Key.{Key}
 use Rattle.place_unsettled.specs.declared.wait.Wait.{Wait}
 use Rattle.place_unsettled.specs.Queues.{changed, with_last}
 use Rattle.law_machine.specs.PlaceState.{PlaceState, Turn, newest, unchanged, say, note}
-use Rattle.law_machine.specs.PlaceMachine.{begun, begun_by, act, work}
+use Rattle.law_machine.specs.PlaceMachine.{begun, begun_by, work}
 use Rattle.law_machine.specs.Own.{own}
 use Rattle.law_machine.specs.Doing.{does, direct, post, poster, posts, posts_direct, posts_to_group, chooses_own, asks, choosing_place, after_tag, ends, holding, takes, first_message}
 use Rattle.law_machine.specs.Choosing.{choice, by_group, all_go, chooses, chooses_all, chooses_these}

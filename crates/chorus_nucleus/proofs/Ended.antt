@@ -1,5 +1,5 @@
 -- The nucleus that was closed: its table was shut, and its places taken apart.
-use Rattle.std.proofs.Common.{ℕ, ◌≡◌, List, length, Option, refl, sym, ◌∙◌, ap, subst}
+use Rattle.std.proofs.Common.{◌≡◌, List, length, ◌∙◌, ap, subst}
 use Rattle.std.specs.Global.{Vec}
 use Rattle.chorus_ui.specs.Layout.{places}
 use Rattle.chorus_entry.specs.declared.entry.Entry.{Entry}

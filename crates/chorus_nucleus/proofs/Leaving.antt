@@ -23,7 +23,7 @@ use Rattle.law_history.specs.PlaceTurns.{machine, is_other}
 use Rattle.law_history.specs.Places.{by_link}
 use Rattle.law_closing.specs.Remarks.{turns_at}
 use Rattle.law_closing.specs.Closing.{IsPlace, Keeps, Tells}
-use Rattle.law_closing.specs.Places.{PlaceNote, HaveHistories}
+use Rattle.law_closing.specs.Places.{PlaceNote}
 use Rattle.place_site.specs.declared.site.Site.{Site}
 use Rattle.place_site.specs.Sites.{entries, Fits, IsPublished}
 use Rattle.place_site.proofs.Turning.{fits-as}

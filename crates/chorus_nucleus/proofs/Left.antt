@@ -1,10 +1,9 @@
 -- What was closed is the network of each schedule of its turns.
-use Rattle.std.proofs.Common.{ℕ, zero, suc, ◌≡◌, ◌+◌, ◌-◌, ◌<◌, List, [], ◌∷◌, length, map, reverse, Option, Some, slice_get, refl, sym, ◌∙◌, ap, subst, arith}
+use Rattle.std.proofs.Common.{ℕ, zero, suc, ◌≡◌, ◌+◌, ◌-◌, ◌<◌, List, [], ◌∷◌, length, map, reverse, Some, slice_get, refl, sym, ◌∙◌, ap, arith}
 use Rattle.chorus_ui.specs.declared.layout.Layout.{Layout}
 use Rattle.chorus_ui.specs.Layout.{places, IsLayout}
 use Rattle.chorus_entry.specs.declared.entry.Entry.{Entry}
 use Rattle.chorus_entry.specs.declared.packet.Packet.{Packet}
-use Rattle.chorus_calls.specs.Callers.{Seated}
 use Rattle.law_machine.specs.PlaceState.{PlaceState}
 use Rattle.chorus_place.specs.Calls.{Place, state}
 use Rattle.chorus_ruled_ends.specs.Ruled.{Ruled}
@@ -14,19 +13,17 @@ use Rattle.chorus_turn.specs.declared.knowledge.Knowledge.{Knowledge}
 use Rattle.chorus_turn.specs.Journals.{entries_of}
 use Rattle.law_network.specs.Left as left
 use Rattle.law_network.specs.Network.{schedule, numbers}
-use Rattle.law_history.specs.Network.{Network}
 use Rattle.law_history.specs.Journals.{PlaceTurn, Comer, IsTheirSchedule, events}
 use Rattle.law_history.specs.Places.{by_link}
 use Rattle.law_history.proofs.Listed.{schedules-leave-lists}
 use Rattle.law_closing.specs.Places.{PlaceNote, HaveHistories}
-use Rattle.law_closing.specs.Actors.{AreActors}
 use Rattle.law_closing.proofs.Places.{closed-places}
 use Rattle.law_closing.proofs.Actors.{closed-places-in}
 use Rattle.chorus_net.specs.declared.closed.Closed.{Closed}
 use Rattle.chorus_net.specs.Closing.{closed_journals, journals_in, ports_of, IsLeft}
 use Rattle.chorus_net.proofs.Parts.{journals-are, ports-are}
 use Rattle.place_leavings.specs.Apart.{desk_at, places_in, goes_from}
-use Rattle.chorus_nucleus.specs.Leaving.{state_of, left_at, sent_of, waits_of, received_of, held_of, AreClosedWith}
+use Rattle.chorus_nucleus.specs.Leaving.{state_of, left_at, waits_of, held_of, AreClosedWith}
 use Rattle.chorus_nucleus.specs.Closing.{ClosesAs, ClosesFor}
 use Rattle.chorus_nucleus.proofs.Beginning.{same-some}
 use Rattle.chorus_nucleus.proofs.Leaving.{rest-is}

@@ -1,6 +1,6 @@
 -- The nucleus that has started.
 -- l is the layout, ss are the places, vs the readers of their boards, n is the nucleus, a the first actor, w its caller, r the reader that was taken.
-use Rattle.std.proofs.Common.{ℕ, ◌≡◌, ◌≢◌, ◌≤◌, ◌<◌, ◌+◌, ◌-◌, ◌*◌, ◌%◌, ◌==◌, Bool, true, false, cond, List, [], ◌∷◌, length, Option, Some, None, is_some, IfSome, refl, sym, ◌∙◌, ap, subst, inl, inr, ◌⊎◌, arith}
+use Rattle.std.proofs.Common.{ℕ, ◌≡◌, ◌<◌, ◌+◌, ◌*◌, ◌==◌, true, cond, List, length, Option, Some, None, is_some, IfSome, refl, sym, ◌∙◌, ap, subst, inl, inr, arith}
 use Rattle.std.proofs.Math.Nat.{zero-mod, mul-pos}
 use Rattle.std.specs.Global.{Vec}
 use Rattle.std.proofs.lemmas.Bool.{false≢true, eq-eqb, ne_eqb, cases_eq}
@@ -27,7 +27,7 @@ use Rattle.chorus_nucleus.specs.Passes.{AreSites, AreSpare, Reads, IsCallerOf, r
 use Rattle.chorus_nucleus.specs.Readers.{Taken, TakesReader}
 use Rattle.chorus_nucleus.specs.Starting.{HaveStarted}
 use Rattle.chorus_nucleus.specs.Coming.{IsStarted}
-use Rattle.chorus_nucleus.proofs.Sights.{spare-taken, taken-count, taken-none}
+use Rattle.chorus_nucleus.proofs.Sights.{spare-taken, taken-count}
 use Rattle.chorus_nucleus.proofs.Threads.{caller-opens}
 use Rattle.chorus_nucleus.proofs.Beginning.{fresh-sites, fresh-spare, fresh-rows, first-is}
 

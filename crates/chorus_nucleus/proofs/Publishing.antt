@@ -1,9 +1,8 @@
 -- A publish, put together from what its turn did.
-use Rattle.std.proofs.Common.{ℕ, ◌≡◌, ◌≢◌, ◌-◌, slice_get, ◌==◌, Bool, true, false, cond, List, [], length, Option, Some, None, Result, Ok, Err, IfOk, IfErr, OnOk, IfSome, refl, sym, ◌∙◌, ap, subst}
+use Rattle.std.proofs.Common.{ℕ, ◌≡◌, ◌≢◌, ◌-◌, slice_get, Bool, cond, List, [], length, Option, Some, None, Result, Ok, Err, IfOk, IfErr, OnOk, IfSome, refl, sym, ◌∙◌, ap, subst}
 use Rattle.std.specs.Global.{Vec}
 use Rattle.std.specs.declared.alloc.AllocError.{AllocError}
 use Rattle.std.proofs.lemmas.Bool.{eq-eqb, ne_eqb}
-use Rattle.std.proofs.lemmas.List.{append-nil}
 use Rattle.chorus_ui.specs.declared.layout.Layout.{Layout}
 use Rattle.chorus_ui.specs.Layout.{places}
 use Rattle.chorus_entry.specs.declared.entry.Entry.{Entry}
@@ -14,10 +13,9 @@ use Rattle.chorus_place.specs.Calls.{state}
 use Rattle.chorus_ruled_ends.specs.Ruled.{Ruled}
 use Rattle.chorus_turn.specs.declared.turns.Busy.{Busy}
 use Rattle.chorus_turn.specs.declared.pass.Pass as turner
-use Rattle.chorus_turn.specs.declared.knowledge.Remarked.{Remarked}
 use Rattle.chorus_turn.specs.declared.knowledge.Knowledge.{Knowledge}
 use Rattle.chorus_turn.specs.Journals.{entries_of}
-use Rattle.chorus_turn.specs.Knowing.{IsSamePass, after_turn}
+use Rattle.chorus_turn.specs.Knowing.{IsSamePass}
 use Rattle.chorus_turn.specs.Passes as turns
 use Rattle.chorus_turn.specs.Calls.{IsMarkAt, Worked, FoundBusy}
 use Rattle.law_closing.specs.Closing.{IsPlace}
@@ -33,7 +31,6 @@ use Rattle.chorus_nucleus.specs.declared.nucleus.Nucleus.{Nucleus}
 use Rattle.chorus_nucleus.specs.declared.pass.Pass.{Pass}
 use Rattle.chorus_nucleus.specs.declared.sight.Sight.{Sight}
 use Rattle.chorus_nucleus.specs.declared.fault.CallFault.{CallFault}
-use Rattle.chorus_nucleus.specs.declared.fault.CallFault.TheVariants as call_faults
 use Rattle.chorus_nucleus.specs.Passes.{AreSites, Reads, AreSpare, row_at, IsCallerOf, IsPassOf, home_of, mark_of}
 use Rattle.chorus_nucleus.specs.Reading.{HasPublished, Publishes, Unpublished, PublishDone, IsPublish, answered_publish}
 use Rattle.chorus_nucleus.proofs.Threads.{caller-refused}

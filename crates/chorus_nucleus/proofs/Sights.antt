@@ -1,5 +1,5 @@
 -- Readers of boards that go from pass to pass.
-use Rattle.std.proofs.Common.{ℕ, zero, suc, ◌≡◌, ◌≢◌, ◌+◌, ◌-◌, ◌<◌, ◌≤◌, ◌==◌, ◌⊎◌, nat_lt, Bool, true, false, cond, List, [], ◌∷◌, ◌++◌, length, Option, Some, None, is_some, IfSome, refl, sym, ◌∙◌, ap, subst, inl, inr, arith}
+use Rattle.std.proofs.Common.{ℕ, ◌≡◌, ◌+◌, ◌-◌, ◌≤◌, nat_lt, Bool, true, false, cond, List, [], ◌∷◌, ◌++◌, length, Option, Some, None, is_some, IfSome, sym, ◌∙◌, ap, subst, inl, inr, arith}
 use Rattle.std.specs.List.{All}
 use Rattle.std.specs.Global.{Vec}
 use Rattle.std.proofs.lemmas.Bool.{cases_eq, cases_lt}
@@ -12,8 +12,8 @@ use Rattle.chorus_ruled_ends.specs.Ruled.{Ruled}
 use Rattle.chorus_board.specs.declared.reader.BoardReader.{BoardReader}
 use Rattle.chorus_board.specs.declared.start.TheConstants.{READERS_PER_BOARD}
 use Rattle.place_site.specs.declared.site.Site.{Site}
-use Rattle.chorus_nucleus.specs.Passes.{Reads, AreRoomy, AreSpare, row_at}
-use Rattle.chorus_nucleus.specs.Readers.{Taken, TakesReader, with_reader, GivesReader, Inherits}
+use Rattle.chorus_nucleus.specs.Passes.{Reads, AreSpare, row_at}
+use Rattle.chorus_nucleus.specs.Readers.{Taken, TakesReader, GivesReader, Inherits}
 
 module _ (l : Layout) (handed : List (Site Ruled Packet)) where
   abbrev Of : ℕ → BoardReader → Type 0

@@ -1,6 +1,6 @@
 -- How passes begin, come and go.
 -- n is a nucleus, l a layout, q the number of a place.
-use Rattle.std.specs.Prelude.{ℕ, ◌≡◌, ◌≢◌, ◌≤◌, ◌<◌, ◌+◌, ◌==◌, nat_lt, Bool, true, false, ◌&&◌, ◌||◌, cond, [], Option, Some, None, is_some}
+use Rattle.std.specs.Prelude.{ℕ, ◌≡◌, ◌≢◌, ◌≤◌, ◌+◌, ◌==◌, nat_lt, Bool, true, ◌&&◌, ◌||◌, cond, Option, Some, None, is_some}
 use Rattle.std.specs.Option.{option_or}
 use Rattle.chorus_ui.specs.declared.ui.Ui.{Ui}
 use Rattle.chorus_ui.specs.declared.layout.Layout.{Layout}
@@ -14,7 +14,7 @@ use Rattle.law_network.specs.Calls.{first_actor}
 use Rattle.law_closing.specs.Closing.{IsPlace}
 use Rattle.chorus_nucleus.specs.declared.nucleus.Nucleus.{Nucleus}
 use Rattle.chorus_nucleus.specs.declared.pass.Pass.{Pass}
-use Rattle.chorus_nucleus.specs.Passes.{layout_of, known, caller_of, worn_by, reader_of, readers_at, seen_by, home_of, IsPassOf}
+use Rattle.chorus_nucleus.specs.Passes.{layout_of, known, caller_of, worn_by, reader_of, readers_at, home_of, IsPassOf}
 
 -- nothing happened yet, and the pass is the opening one, with seat 0 in the first actor; it has all readers but the one
 -- of its own
@@ -62,7 +62,7 @@ abbrev pub readers_after : Layout → Pass → Pass → ℕ → ℕ
 readers_after l ended into q =
     let kept : ℕ = cond (known ended).keeper (readers_at q ended) (readers_at q into) in
     cond (q == home_of l (caller_of ended)) (given_back ((known ended).keeper || (known into).keeper)
-        (reader_of ended) kept) kept
+    (reader_of ended) kept) kept
 
 -- the pass `ended` was retired into `old`, which is now `new`
 pub record Retires (n : Nucleus) (ended old new : Pass) : Type 0 where

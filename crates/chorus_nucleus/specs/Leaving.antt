@@ -64,7 +64,7 @@ abbrev pub AreClosedWith : Layout → (ℕ → List (Remarked PlaceNote)) → Kn
     → (ℕ → ℕ → List Packet) → Type 0
 AreClosedWith l log v ds left =
     ArePlacesClosed l log v (λ p. state_of l p (desk_at p ds)) (λ a b. sent_of l a (desk_at a ds) b)
-        (λ a b. waits_of l a (log a) (desk_at a ds) b)
+    (λ a b. waits_of l a (log a) (desk_at a ds) b)
     (λ a b. received_of l b (desk_at b ds) a) (λ a b. held_of l b (desk_at b ds) a) left
 
 -- the table was closed: there is a link from each place to each other one; the journals with remarks are those of the

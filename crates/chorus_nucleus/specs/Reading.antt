@@ -42,7 +42,7 @@ FollowsAt home p old new es = cond (p == home) (Follows {E = CallFault} old new 
 abbrev pub HasPublished : List (Site Ruled Packet) → ℕ → List Entry → Type 0
 HasPublished handed p es =
     (b : Board) × ((m : SiteMark) → IsMarkAt mark_of handed p m → boards.name_of b ≡ m.board)
-        × (boards.entries_published b ≡ es)
+    × (boards.entries_published b ≡ es)
 
 -- the answer of a publish, from that of its turn
 abbrev pub answered_publish : Result (Result (Unit {0}) AllocError) Busy → Result (Unit {0}) CallFault
@@ -92,7 +92,7 @@ abbrev pub Locates : Layout → ℕ → Ui → Option BoardReader → Option Boa
 Locates l home port (Some r) (Some s) a =
     IsPrefix (boards.entries_seen r) (boards.entries_seen s) × IsOfPlace home (boards.entries_seen s)
     × (boards.pair_told a ≡ pair_of (located_after l (boards.entries_seen s) port))
-        × (a.upto ≡ length (boards.entries_seen s))
+    × (a.upto ≡ length (boards.entries_seen s))
 Locates l home port _ _ a = ⊥
 
 -- what a locate did: it took no turn

@@ -71,4 +71,4 @@ AClosedNucleusIsARun = (l : Layout) (v : Knowledge PlaceNote) (comers : List Com
 abbrev pub EachMessageStandsOnce : Type 0
 EachMessageStandsOnce =
     (l : Layout) (v : Knowledge PlaceNote) (comers : List Comer) (c : Closed) → IsLayout l → ClosesAs l v comers c
-        → HoldEachMessage (past_of c) (holdings_of l c)
+    → HoldEachMessage (past_of c) (holdings_of l c)

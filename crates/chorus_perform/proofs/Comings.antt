@@ -1,7 +1,7 @@
 -- The passes of scripts come and run.
 use Rattle.std.specs.Result.{OnOk, OnErr, is_ok}
-use Rattle.std.proofs.Common.{ℕ, zero, suc, ◌≡◌, ◌+◌, ◌-◌, ◌^◌, ◌<◌, ◌≤◌, nat_le, ◌&&◌, Bool, true, false, List, [], ◌∷◌, ◌++◌, length, Option, Some, None, Result, Ok, Err, slice_get, slice_index_or, refl, sym, ◌∙◌, ap, subst, inl, inr, arith}
-use Rattle.std.specs.List.{All, list_all}
+use Rattle.std.proofs.Common.{ℕ, zero, suc, ◌≡◌, ◌+◌, ◌<◌, nat_le, ◌&&◌, Bool, true, false, List, [], ◌∷◌, ◌++◌, length, Some, Result, Ok, Err, slice_get, slice_index_or, refl, sym, ◌∙◌, ap, subst, inl, inr, arith}
+use Rattle.std.specs.List.{list_all}
 use Rattle.std.proofs.lemmas.Bool.{and_parts, cases_lt, leb-true, false≢true}
 use Rattle.std.proofs.lemmas.Option.{slice_get_read}
 use Rattle.std.proofs.lemmas.List.{append-nil, length-append, get_or_append_left}
@@ -27,7 +27,6 @@ use Rattle.chorus_nucleus.specs.Coming.{Enters}
 use Rattle.chorus_perform.specs.declared.runner.Runner.{Runner}
 use Rattle.chorus_perform.specs.declared.stopped.Halted.{Halted}
 use Rattle.chorus_perform.specs.Going.{Goes, GoesAsFar, MayPost, AllMeet}
-use Rattle.chorus_perform.specs.Scripts.{IsKeeper}
 use Rattle.chorus_perform.specs.Runners.{AreReady, AreEntered, HasEntered, IsNew, IsReadyAt, HasRunAt}
 
 -- A script of the scenario.

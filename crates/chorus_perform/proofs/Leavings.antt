@@ -1,8 +1,8 @@
 -- What the passes leave, as they end.
-use Rattle.std.proofs.Common.{ℕ, zero, suc, ◌≡◌, ◌+◌, ◌-◌, ◌<◌, ◌≤◌, ◌&&◌, if◌then◌else◌, Bool, true, false, List, [], ◌∷◌, ◌++◌, take, length, reverse, Option, Some, None, Result, Ok, Err, slice_get, slice_index_or, refl, sym, ◌∙◌, ap, subst, inl, inr, arith}
+use Rattle.std.proofs.Common.{ℕ, zero, suc, ◌≡◌, ◌+◌, ◌-◌, ◌<◌, ◌≤◌, ◌&&◌, if◌then◌else◌, Bool, true, false, List, [], ◌∷◌, ◌++◌, take, length, reverse, Some, None, Result, Ok, Err, slice_get, slice_index_or, refl, sym, ◌∙◌, ap, subst, inl, inr, arith}
 use Rattle.std.specs.Result.{OnOk, is_ok}
 use Rattle.std.specs.List.{All}
-use Rattle.std.proofs.lemmas.Bool.{and_parts, cases_lt, false≢true}
+use Rattle.std.proofs.lemmas.Bool.{and_parts, false≢true}
 use Rattle.std.proofs.lemmas.List.{append-nil, length-append, reverse-append, get_or_append_left}
 use Rattle.std.proofs.Math.Seq.{get_or-append_seam}
 use Rattle.std.proofs.lemmas.List.Elements.{All-nil, All-cons, All-append}
@@ -28,7 +28,7 @@ use Rattle.law_closing.specs.Actors.{AreIn}
 use Rattle.chorus_nucleus.specs.Coming.{Retires}
 use Rattle.chorus_perform.specs.declared.runner.Runner.{Runner}
 use Rattle.chorus_perform.specs.Going.{Goes, GoesAsFar, BeginAbove, BeginsUpTo, CommandsUpTo}
-use Rattle.chorus_perform.specs.Scripts.{IsPerformedBy, IsOfScript, IsSetUpFirst, HasPerformed, IsOpening}
+use Rattle.chorus_perform.specs.Scripts.{IsPerformedBy, IsOfScript, HasPerformed, IsOpening}
 use Rattle.chorus_perform.specs.Runners.{IsSetUp, HasEntered, IsReadyAt, HasRunAt, IsEndingAt, AreReady, AreEntered, HaveRun, AreEnding, HasRetired}
 
 -- What a pass that made nothing goes on to make.

@@ -1,6 +1,6 @@
 -- A pass goes on by one call more.
 use Rattle.std.specs.Result.{OnOk, OnErr}
-use Rattle.std.proofs.Common.{ℕ, zero, suc, take, take_all, drop, slice_index_or, Result, Ok, Err, ◌≡◌, ◌+◌, ◌-◌, ◌^◌, ◌<◌, ◌≤◌, ◌⊎◌, true, List, [], ◌∷◌, ◌++◌, length, refl, sym, ◌∙◌, ap, subst, inl, inr, arith, append_assoc}
+use Rattle.std.proofs.Common.{ℕ, zero, suc, take, take_all, drop, slice_index_or, Result, Ok, Err, ◌≡◌, ◌+◌, ◌<◌, ◌≤◌, List, [], ◌∷◌, ◌++◌, length, refl, sym, ◌∙◌, ap, subst, inl, inr, arith, append_assoc}
 use Rattle.std.proofs.lemmas.List.{append-nil, length-append, take_more}
 use Rattle.std.proofs.lemmas.List.Elements.{All-nil, All-cons, All-append}
 use Rattle.chorus_ui.specs.declared.ui.Ui.{Ui}
@@ -13,7 +13,6 @@ use Rattle.law_machine.specs.declared.reply.Reply.{Reply}
 use Rattle.law_machine.specs.PlaceState.{PlaceState}
 use Rattle.chorus_serve.specs.declared.pump.Pump.{Pump}
 use Rattle.chorus_serve.specs.declared.pump.Pump.TheVariants as pumps
-use Rattle.chorus_turn.specs.declared.knowledge.Remarked.{Remarked}
 use Rattle.chorus_turn.specs.declared.knowledge.Placed.{Placed}
 use Rattle.chorus_turn.specs.declared.knowledge.Knowledge.{Knowledge}
 use Rattle.chorus_turn.specs.Journals.{with_place}

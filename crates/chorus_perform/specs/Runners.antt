@@ -1,7 +1,7 @@
 -- The passes of scripts come, run and go.
--- n is a nucleus, c a scenario, i the index of a script, from 0, a and b are a pass, or a runner, before and after, begun is the clock at
--- which the passes came.
-use Rattle.std.specs.Prelude.{ℕ, ◌≡◌, ◌<◌, ◌≤◌, ◌+◌, Bool, true, false, List, [], ◌++◌, length, reverse, Some, slice_get, slice_index_or}
+-- n is a nucleus, c a scenario, i the index of a script, from 0, a and b are a pass, or a runner, before and after,
+-- begun is the clock at which the passes came.
+use Rattle.std.specs.Prelude.{ℕ, ◌≡◌, ◌<◌, ◌+◌, Bool, true, false, List, [], ◌++◌, length, reverse, Some, slice_get, slice_index_or}
 use Rattle.std.specs.List.{All}
 use Rattle.chorus_ui.specs.declared.ui.Ui.{Ui}
 use Rattle.chorus_entry.specs.declared.command.Command.{Command}
@@ -80,17 +80,19 @@ pub record AreEntered (n : Nucleus) (c : Scene) (begun : ℕ) (rs : List Runner)
   pub last : (i : ℕ) (d : Runner) → i < length rs → (caller_of (slice_index_or rs i d).pass).last ≡ begun
 
 pub record HaveRun (n : Nucleus) (c : Scene) (before after : List Runner) : Type 0 where
-  pub each : (i : ℕ) (d : Runner) → i < length before → HasRunAt n c i (slice_index_or before i d) (slice_index_or after i d)
+  pub each : (i : ℕ) (d : Runner) → i < length before →
+      HasRunAt n c i (slice_index_or before i d) (slice_index_or after i d)
 
 pub record AreEnding (n : Nucleus) (c : Scene) (begun : ℕ) (rs : List Runner) : Type 0 where
   pub each : (i : ℕ) (d : Runner) → i < length rs → IsEndingAt n c begun i (slice_index_or rs i d)
 
--- the pass has the notes of the scripts from the index m on, that of the first last, whose turns began above its caller's clock, and all
--- else is as it was
+-- the pass has the notes of the scripts from the index m on, that of the first last, whose turns began above its
+-- caller's clock, and all else is as it was
 pub record HasRetired (all : Bool) (c : Scene) (m count : ℕ) (a b : Pass) : Type 0 where
   pub later : All (λ (x : Note PlaceNote). BeginAbove (caller_of a).last (turns_in x.mine)) (known b).notes
   pub notes : length (known b).notes ≡ count
-  pub scripts : (i : ℕ) (note : Note PlaceNote) → slice_get (reverse (known b).notes) i ≡ Some note → IsOfScript all c (m + i) note
+  pub scripts : (i : ℕ) (note : Note PlaceNote) → slice_get (reverse (known b).notes) i ≡ Some note →
+      IsOfScript all c (m + i) note
   pub seat : (known b).seat ≡ (known a).seat
   pub mine : (known b).mine ≡ (known a).mine
   pub keeper : (known b).keeper ≡ (known a).keeper

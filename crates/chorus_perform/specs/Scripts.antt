@@ -1,5 +1,6 @@
 -- What the passes of a scenario performed, and what seat 0 knows of it when all were retired into it.
--- c is a scenario, i the index of a script, from 0, so that its pass has seat i + 1. With all, all was performed, else a front of it.
+-- c is a scenario, i the index of a script, from 0, so that its pass has seat i + 1. With all, all was performed, else
+-- a front of it.
 use Rattle.std.specs.Prelude.{ℕ, ◌≡◌, ◌+◌, Bool, true, List, [], ◌++◌, length, reverse, Some, slice_get}
 use Rattle.std.specs.List.{All}
 use Rattle.chorus_ui.specs.declared.ui.Ui.{Ui}
@@ -31,9 +32,10 @@ pub record IsOpening (pass : Pass) : Type 0 where
   pub mine : (known pass).mine ≡ []
   pub actor : (caller_of pass).actor ≡ first_actor
 
--- What a pass made are turns of callers in this actor, and those with a command performed these commands, each once and in their order,
--- or the first of them.
-pub record IsPerformedBy (all : Bool) (actor : Ui) (commands : List Command) (mine : List (Placed PlaceNote)) : Type 0 where
+-- What a pass made are turns of callers in this actor, and those with a command performed these commands, each once and
+-- in their order, or the first of them.
+pub record IsPerformedBy (all : Bool) (actor : Ui) (commands : List Command)
+    (mine : List (Placed PlaceNote)) : Type 0 where
   pub left : List Command
   pub whole : commands ≡ commands_given (turns_in mine) ++ left
   pub within : AreIn actor mine
@@ -46,15 +48,15 @@ pub record IsOfScript (all : Bool) (c : Scene) (i : ℕ) (note : Note PlaceNote)
   pub seat : note.seat ≡ i + 1
   pub performed : IsPerformedBy all script.actor script.commands note.mine
 
--- The setup stands before the scripts: there is a clock up to which its commands were answered, and above which each turn of the passes
--- in the notes began.
+-- The setup stands before the scripts: there is a clock up to which its commands were answered, and above which each
+-- turn of the passes in the notes began.
 pub record IsSetUpFirst (v : Knowledge PlaceNote) : Type 0 where
   pub begun : ℕ
   pub setup : CommandsUpTo begun (turns_in v.mine)
   pub scripts : All (λ (n : Note PlaceNote). BeginAbove begun (turns_in n.mine)) v.notes
 
--- Seat 0 performed the setup, and into it were retired the passes that came, those of the first scripts, or of all: the notes of them
--- stand in its own, that of the first script last. It is the keeper, and no other pass is left.
+-- Seat 0 performed the setup, and into it were retired the passes that came, those of the first scripts, or of all: the
+-- notes of them stand in its own, that of the first script last. It is the keeper, and no other pass is left.
 pub record HasPerformed (all : Bool) (c : Scene) (v : Knowledge PlaceNote) : Type 0 where
   pub seat : v.seat ≡ 0
   pub keeper : v.keeper ≡ true

@@ -65,7 +65,7 @@ pub(crate) fn retire(
     ensures pass { IsPassOf nucleus.now pass.new }
     ensures retired { HasRetired result scenario.now 0 (vec_len runners) pass.old pass.new }
 {
-    let _scenario = scenario;
+    let _scenario = scenario; // for what is said of it
     let mut all = true;
     while let Some(runner) = runners.pop() {
         all = retire_one(nucleus, runner, pass) & all;

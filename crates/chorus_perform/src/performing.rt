@@ -25,7 +25,7 @@ use std::thread::Threads;
 /// The schedule is not used.
 ///
 /// Want of memory in one thread ends that thread alone. `Stopped` comes when all have come to an end: every pass that was entered is
-/// retired, and each performed the first of its commands. `Worn` comes only with the clock of the first call that was refused for it.
+/// retired, and each performed the first of its commands. `Worn` comes only with the clock that `pass.worn()` then has.
 pub fn perform<R: Threads + Wait + Sync, G: Gate>(
     alloc: Global,
     rt: &R,
@@ -67,7 +67,7 @@ fn perform_all<R: Threads + Wait + Sync, G: Gate>(
     ensures even { OnOk result (IsEven (layout_of nucleus.now) (known pass.new)) }
     ensures stopped { OnErr result (HasPerformed false scenario.now (known pass.new)) }
 {
-    let _layout = scenario.layout();
+    let _layout = scenario.layout(); // tells what a scenario keeps
     set_up(rt, nucleus, pass, scenario)?;
     if !run_scripts(alloc, rt, nucleus, pass, scenario, gate) {
         return Err(Halted);

@@ -33,8 +33,10 @@ pub(crate) fn perform_scripts<R: Threads + Wait + Sync, G: Gate>(
             runners,
             threads,
             &|index: usize, runner: &mut Runner|
-                requires { Keeps scenario.now × IsReadyAt nucleus.now scenario.now index runner.old }
-                ensures { HasRunAt nucleus.entry.now scenario.entry.now index runner.old runner.new }
+                requires { Keeps scenario.now
+                    × IsReadyAt nucleus.now scenario.now index runner.old }
+                ensures { HasRunAt nucleus.entry.now scenario.entry.now
+                    index runner.old runner.new }
             { perform_script(rt, nucleus, scenario, index, gate, runner) },
         );
     }

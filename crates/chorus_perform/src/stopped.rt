@@ -11,7 +11,7 @@ use std::alloc::AllocError;
 pub enum Stopped {
     /// There was no memory.
     Memory(AllocError),
-    /// A clock came to its limit: that of the first call that was refused for it.
+    /// A clock came to its limit: the one that the pass then has as worn.
     Worn { clock: u64 },
 }
 

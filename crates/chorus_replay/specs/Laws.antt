@@ -26,11 +26,12 @@ pub record AreClosedAlike (one other : Closed) : Type 0 where
 -- two replays in the order of the same tasks wear the same clock or none, and close the same
 abbrev pub OrderedOnce : Type 0
 OrderedOnce =
-    (l : Layout) (ts : List Task) (s t : Status) (one other : Closed) → IsLayout l → IsOrdered l ts s one → IsOrdered l ts t other →
+    (l : Layout) (ts : List Task) (s t : Status) (one other : Closed) → IsLayout l → IsOrdered l ts s one →
+    IsOrdered l ts t other →
     (worn_clock s ≡ worn_clock t) × AreClosedAlike one other
 
--- So what a replay closes and writes is a function of the layout and of the bytes that it reads: two replays of the same bytes wear the
--- same clock or none, close the same, and their reports are one text.
+-- So what a replay closes and writes is a function of the layout and of the bytes that it reads: two replays of the
+-- same bytes wear the same clock or none, close the same, and their reports are one text.
 abbrev pub ReplaysOnce : Type 0
 ReplaysOnce =
     (l : Layout) (input : List ℕ) (s t : Status) (one other : Closed) → IsLayout l → Replays l (Some input) s one →
@@ -40,5 +41,6 @@ ReplaysOnce =
 -- so do two loads of the same words: what they write is the same
 abbrev pub LoadsOnce : Type 0
 LoadsOnce =
-    (first commands : ℕ) (s t : Status) (one other : Closed) → Loads first commands s one → Loads first commands t other →
+    (first commands : ℕ) (s t : Status) (one other : Closed) → Loads first commands s one →
+    Loads first commands t other →
     (worn_clock s ≡ worn_clock t) × AreClosedAlike one other × (summary one ≡ summary other)

@@ -38,7 +38,8 @@ load_group = record { site = 1; kind = kinds.Group; number = 1 }
 abbrev pub site_by : ℕ → ℕ
 site_by n = n % LOAD_SITES + 1
 
--- the command of this number: half of them send to a port, a quarter take, the others send to one of the group or move a port
+-- the command of this number: half of them send to a port, a quarter take, the others send to one of the group or move
+-- a port
 abbrev pub drawn_command : ℕ → ℕ → Command
 drawn_command i r =
     let port = load_port (site_by (r / 8)) in

@@ -1,5 +1,6 @@
 -- The order of a replay: the tasks that a scenario gives, which are done one after the other when it is replayed.
--- c is a scenario, k the number of a script and of its seat. Lists stand in order, but for `tasks`, which has the latest first.
+-- c is a scenario, k the number of a script and of its seat. Lists stand in order, but for `tasks`, which has the
+-- latest first.
 use Rattle.std.specs.Prelude.{ℕ, ◌+◌, List, [], ◌∷◌, ◌++◌, map, drop, reverse, option_to_list, slice_get, count_by}
 use Rattle.std.specs.Option.{option_map}
 use Rattle.chorus_ui.specs.declared.layout.Layout.{Layout}
@@ -31,13 +32,15 @@ entering c = map (λ (script : Script). Enter script.actor (last_of (slice_get (
 -- A step performs the next command of its script, where these steps stand before it; seat 0 delivers and drains.
 abbrev pub step_tasks : List Script → List step.Step → step.Step → List Task
 step_tasks scripts before (steps.Step k) =
-    option_to_list (option_map (λ (command : Command). Do (Act k command)) (slice_get (script_at k scripts).commands (count_by (is_step k) before)))
+    option_to_list (option_map (λ (command : Command). Do (Act k command))
+    (slice_get (script_at k scripts).commands (count_by (is_step k) before)))
 step_tasks scripts before (steps.Deliver from to) = Do (Deliver 0 from to) ∷ []
 step_tasks scripts before steps.Drain = Drain 0 ∷ []
 
 abbrev pub in_schedule : List Script → List step.Step → List step.Step → List Task
 in_schedule scripts before [] = []
-in_schedule scripts before (step ∷ rest) = step_tasks scripts before step ++ in_schedule scripts (before ++ step ∷ []) rest
+in_schedule scripts before (step ∷ rest) =
+    step_tasks scripts before step ++ in_schedule scripts (before ++ step ∷ []) rest
 
 -- the commands that are left, script by script from script k on, and a drain behind each
 abbrev pub then_drain : ℕ → List Command → List Task
@@ -52,7 +55,8 @@ left_from schedule k (script ∷ scripts) =
 -- all of it, from the start of the sites on; a last drain ends it
 abbrev pub order : Scene → List Task
 order c =
-    map Do (starting ∷ in_setup c ++ entering c) ++ in_schedule c.scripts [] c.schedule ++ left_from c.schedule 1 c.scripts ++ Drain 0 ∷ []
+    map Do (starting ∷ in_setup c ++ entering c) ++ in_schedule c.scripts [] c.schedule
+    ++ left_from c.schedule 1 c.scripts ++ Drain 0 ∷ []
 
 abbrev pub tasks : Scene → List Task
 tasks c = reverse (order c)

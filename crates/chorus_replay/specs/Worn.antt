@@ -7,12 +7,14 @@ use Rattle.law_network.specs.Network.{Event, schedule}
 use Rattle.law_network.specs.Tasks.{Task, Do, Drain, CarryOut}
 use Rattle.chorus_net.specs.Worn.{compared_by, IsInRounds}
 
--- the events carry out the first of the tasks, and of a drain behind these the first deliveries; and this one comes next
+-- the events carry out the first of the tasks, and of a drain behind these the first deliveries; and this one comes
+-- next
 abbrev pub ComesNext : Layout → List Task → Event → List Event → Type 0
 ComesNext l [] next es = ⊥
 ComesNext l (Do event ∷ ts) next es = ((next ≡ event) × CarryOut l ts es) ⊎ ComesNext l ts next es
 ComesNext l (Drain seat ∷ ts) next es =
-    ((done : List Event) × ((older : List Event) × (IsInRounds l seat next done × (es ≡ done ++ older) × CarryOut l ts older)))
+    ((done : List Event) × ((older : List Event)
+    × (IsInRounds l seat next done × (es ≡ done ++ older) × CarryOut l ts older)))
     ⊎ ComesNext l ts next es
 
 -- the event that comes next compares this clock, from 2^62 on

@@ -1,5 +1,6 @@
 -- How a call ends that reads a scenario, plays it, and writes what it played.
--- A source is seen by what is left of it, its count of faults, and whether no read will fail; a sink by what it holds and its count.
+-- A source is seen by what is left of it, its count of faults, and whether no read will fail; a sink by what it holds
+-- and its count.
 use Rattle.std.specs.Prelude.{◌≡◌, ◌≢◌, ◌≤◌, ◌↔◌, ◌⊎◌, ℕ, List, Option, Some, None, IfSome, IsSome, Result, Ok, Err}
 use Rattle.std.specs.declared.alloc.AllocError.{AllocError}
 use Rattle.chorus_io.specs.Count.{Rose}
@@ -14,9 +15,11 @@ use Rattle.chorus_report.specs.Reading.{IsGiven, IsRead, ReadsNoFurther}
 use Rattle.chorus_report.specs.Headline.{HasClock, merge_of}
 use Rattle.chorus_report.specs.Output.{Writes, HandsOut}
 
--- What was read of the source, by the status: never Usage; Scenario where the grammar refuses what was read, with that line and
--- reason; ReadFault where the count rose, and with no other status did it rise. But for these two and Memory all was read.
-pub record EndsReading {S : Type 0} (l : Layout) (status : Status) (left : S → Option (List ℕ)) (faults : S → ℕ) (reliable : S → Type 0) (old new : S) : Type 0 where
+-- What was read of the source, by the status: never Usage; Scenario where the grammar refuses what was read, with that
+-- line and reason; ReadFault where the count rose, and with no other status did it rise. But for these two and Memory
+-- all was read.
+pub record EndsReading {S : Type 0} (l : Layout) (status : Status) (left : S → Option (List ℕ)) (faults : S → ℕ)
+    (reliable : S → Type 0) (old new : S) : Type 0 where
   pub usage : status ≢ Usage
   pub scenario : (line reason : ℕ) → status ≡ Scenario line reason → IsGiven l (left old) (Err (line, reason))
   pub read_fault : status ≡ ReadFault → Rose (faults old) (faults new)
@@ -25,11 +28,14 @@ pub record EndsReading {S : Type 0} (l : Layout) (status : Status) (left : S →
   pub read : status ≢ ReadFault → status ≢ Memory → IsRead (left old) (left new)
   pub reads_at_most : ReadsNoFurther (left old) (left new)
 
--- What was written of what was closed, by the status: WriteFault where the count rose; Worn with a clock of at least 2^62 that an
--- entry has; something was closed at Done, WriteFault and Worn alone. Of the text the sink took what the status says.
-pub record EndsWriting {K : Type 0} (text : List ℕ) (finished : Finished) (held : K → Option (List ℕ)) (faults : K → ℕ) (old new : K) : Type 0 where
+-- What was written of what was closed, by the status: WriteFault where the count rose; Worn with a clock of at least
+-- 2^62 that an entry has; something was closed at Done, WriteFault and Worn alone. Of the text the sink took what the
+-- status says.
+pub record EndsWriting {K : Type 0} (text : List ℕ) (finished : Finished) (held : K → Option (List ℕ)) (faults : K → ℕ)
+    (old new : K) : Type 0 where
   pub write_fault : finished.status ≡ WriteFault → Rose (faults old) (faults new)
-  pub worn : (clock : ℕ) → finished.status ≡ Worn clock → (CLOCK_LIMIT ≤ clock) × IfSome finished.closed (λ closed. HasClock clock (merge_of closed))
+  pub worn : (clock : ℕ) → finished.status ≡ Worn clock →
+      (CLOCK_LIMIT ≤ clock) × IfSome finished.closed (λ closed. HasClock clock (merge_of closed))
   pub closed : IsSome finished.closed ↔ HandsOut finished.status
   pub unwritten : finished.status ≢ Done → finished.status ≢ WriteFault → new ≡ old
   pub prints : Writes finished.status (held old) (held new) text
@@ -38,7 +44,8 @@ pub record EndsWriting {K : Type 0} (text : List ℕ) (finished : Finished) (hel
 
 -- the clock that was worn, if one was, is at least 2^62, and an entry of what was closed has it
 abbrev pub HasWorn : Played → Type 0
-HasWorn played = (clock : ℕ) → played.worn ≡ Some clock → (CLOCK_LIMIT ≤ clock) × HasClock clock (merge_of played.closed)
+HasWorn played = (clock : ℕ) → played.worn ≡ Some clock →
+    (CLOCK_LIMIT ≤ clock) × HasClock clock (merge_of played.closed)
 
 -- it ends by a clock that was worn, else by writing
 abbrev pub EndsBy : Option ℕ → Status → Type 0

@@ -1,6 +1,6 @@
--- What becomes of each message that a port accepted: it was received, or discarded with its deleted port, or it waits in one record or
--- one Transfer.
--- q and r are ports, i and j positions in them, x is the id of a message. A past has its newest entry first.
+-- What becomes of each message that a port accepted: it was received, or discarded with its deleted port, or it waits
+-- in one record or one Transfer. q and r are ports, i and j positions in them, x is the id of a message. A past has its
+-- newest entry first.
 use Rattle.std.specs.Prelude.{ℕ, ◌≡◌, ◌≤◌, ◌-◌, ◌↔◌, List, [], ◌∷◌, Some, slice_get}
 use Rattle.std.specs.List.{All, flat_map}
 use Rattle.chorus_ui.specs.declared.ui.Ui.{Ui}
@@ -39,19 +39,24 @@ IsReceived past q i x = slice_get (received (on q past)) i ≡ Some x
 -- the Delete entry of the port has it, behind those that were received
 abbrev pub IsDiscarded : List Entry → Ui → ℕ → MsgId → Type 0
 IsDiscarded past q i x =
-    (xs : List MsgId) × (discarded (on q past) ≡ Some xs) × (taken_by q past ≤ i) × (slice_get xs (i - taken_by q past) ≡ Some x)
+    (xs : List MsgId) × (discarded (on q past) ≡ Some xs) × (taken_by q past ≤ i)
+    × (slice_get xs (i - taken_by q past) ≡ Some x)
 
--- The entries tell exactly where it was received or discarded, and then it waits in none of the holdings; else it waits in one of them,
--- a record at a place or one in a Transfer, once.
-pub record HasFate (past : List Entry) (holdings : List Holding) (q : Ui) (i : ℕ) (x : MsgId) (what : MessageFate) : Type 0 where
+-- The entries tell exactly where it was received or discarded, and then it waits in none of the holdings; else it waits
+-- in one of them, a record at a place or one in a Transfer, once.
+pub record HasFate (past : List Entry) (holdings : List Holding) (q : Ui) (i : ℕ) (x : MsgId)
+    (what : MessageFate) : Type 0 where
   pub received : IsReceived past q i x ↔ (what ≡ Received)
   pub discarded : IsDiscarded past q i x ↔ (what ≡ Discarded)
   pub waits : StandsByFate holdings q i x what
 
--- Each message that a port accepted stands at one position of one port and has one fate; and nothing else waits in the holdings.
+-- Each message that a port accepted stands at one position of one port and has one fate; and nothing else waits in the
+-- holdings.
 pub record HoldsByFate (past : List Entry) (holdings : List Holding) : Type 0 where
-  pub alone : (q r : Ui) (i j : ℕ) (x : MsgId) → slice_get (accepted_by q past) i ≡ Some x → slice_get (accepted_by r past) j ≡ Some x → (q ≡ r) × (i ≡ j)
-  pub each : (q : Ui) (i : ℕ) (x : MsgId) → slice_get (accepted_by q past) i ≡ Some x → (what : MessageFate) × HasFate past holdings q i x what
+  pub alone : (q r : Ui) (i j : ℕ) (x : MsgId) → slice_get (accepted_by q past) i ≡ Some x →
+      slice_get (accepted_by r past) j ≡ Some x → (q ≡ r) × (i ≡ j)
+  pub each : (q : Ui) (i : ℕ) (x : MsgId) → slice_get (accepted_by q past) i ≡ Some x →
+      (what : MessageFate) × HasFate past holdings q i x what
   pub only : All (HoldsAccepted past) holdings
 
 -- so it is of the records and Transfers of the world

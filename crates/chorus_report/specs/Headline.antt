@@ -55,20 +55,23 @@ abbrev pub IsQuietUnless : Status → Layout → Closed → Type 0
 IsQuietUnless (Worn clock) l closed = Unit {0}
 IsQuietUnless status l closed = IsQuiet l (past_of closed) closed.rest.items
 
--- What was closed plays what these callers give: the merge of the journals is a run of the world for the callers that performs
--- their commands; at each moment of it each port gave out what it accepted first, in order, and each accepted message was received,
--- or discarded with its port, or waits in one record or Transfer of the world, once; at its end it does so in the records and packets
--- that are left, which stand for its ports; there is a journal for each place, with what the merge has at it; and nothing is left to be
--- done.
-pub record Plays (l : Layout) (callers : ℕ → Option Ui) (commands : ℕ → Option (List Command)) (status : Status) (closed : Closed) : Type 0 where
+-- What was closed plays what these callers give: the merge of the journals is a run of the world for the callers that
+-- performs their commands; at each moment of it each port gave out what it accepted first, in order, and each accepted
+-- message was received, or discarded with its port, or waits in one record or Transfer of the world, once; at its end
+-- it does so in the records and packets that are left, which stand for its ports; there is a journal for each place,
+-- with what the merge has at it; and nothing is left to be done.
+pub record Plays (l : Layout) (callers : ℕ → Option Ui) (commands : ℕ → Option (List Command)) (status : Status)
+    (closed : Closed) : Type 0 where
   pub run : is_run l callers (past_of closed) ≡ true
-  pub performed : (k : ℕ) (actor : Ui) (given : List Command) → callers k ≡ Some actor → commands k ≡ Some given → PerformsUnless status l k actor closed given
+  pub performed : (k : ℕ) (actor : Ui) (given : List Command) → callers k ≡ Some actor → commands k ≡ Some given →
+      PerformsUnless status l k actor closed given
   pub receives : Always ReceivesInOrder (past_of closed)
   pub holds : Always WorldHolds (past_of closed)
   pub left : HoldsByFate (past_of closed) (holdings_left l closed.ports.items closed.rest.items)
   pub stands : StandsFor (past_of closed) (holdings_left l closed.ports.items closed.rest.items)
   pub places_are : length (closed_journals closed) ≡ places l
-  pub journals : (p : ℕ) (journal : List Entry) → slice_get (closed_journals closed) p ≡ Some journal → journal ≡ reverse (at (p + 1) (past_of closed))
+  pub journals : (p : ℕ) (journal : List Entry) → slice_get (closed_journals closed) p ≡ Some journal →
+      journal ≡ reverse (at (p + 1) (past_of closed))
   pub quiet : IsQuietUnless status l closed
 
 -- What a scenario gives.

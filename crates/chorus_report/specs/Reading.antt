@@ -11,8 +11,8 @@ use Rattle.chorus_scene.specs.Grammar.{read_scene}
 abbrev pub bytes_read : List ℕ → List ℕ
 bytes_read input = take (TEXT_LIMIT + 1) input
 
--- there are bytes of which the grammar gives this outcome, a scenario, or the line and the reason of a refusal: those that are read
--- of the source, where it tells them
+-- there are bytes of which the grammar gives this outcome, a scenario, or the line and the reason of a refusal: those
+-- that are read of the source, where it tells them
 pub record IsGiven (l : Layout) (told : Option (List ℕ)) (outcome : Result Scene (ℕ × ℕ)) : Type 0 where
   pub bytes : List ℕ
   pub read : IfSome told (λ input. bytes ≡ bytes_read input)

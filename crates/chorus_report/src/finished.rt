@@ -8,6 +8,7 @@ use chorus_show::Status;
 pub struct Finished {
     /// Whether it did all, or why it did not.
     pub status: Status,
-    /// What was left when the sites, or the places of threads, were closed: Some exactly at `Done`, `WriteFault` and `Worn`.
+    /// What was left when the sites, or the places of threads, were closed: of a replay, a load and a run Some exactly at `Done`,
+    /// `WriteFault` and `Worn`. Of what plays no scenario and no load it is None.
     pub closed: Option<Closed>,
 }

@@ -1,5 +1,5 @@
 -- How a run ends.
-use Rattle.std.proofs.Common.{ℕ, zero, suc, true, false, ◌≡◌, ◌<◌, ◌≤◌, inl, inr, List, [], ◌∷◌, length, Option, Some, None, IfSome, IfOk, OnOk, OnErr, Result, Ok, Err, slice_index_or, Bor, refl, sym, ◌∙◌, ap, subst, arith}
+use Rattle.std.proofs.Common.{ℕ, zero, suc, true, false, ◌≡◌, ◌<◌, ◌≤◌, inl, inr, List, [], ◌∷◌, length, Option, Some, None, IfSome, IfOk, OnErr, Result, Ok, Err, slice_index_or, Bor, refl, sym, ◌∙◌, ap, subst, arith}
 use Rattle.std.specs.declared.alloc.AllocError.{AllocError}
 use Rattle.chorus_ui.specs.declared.layout.Layout.{Layout}
 use Rattle.chorus_ui.specs.Layout.{IsLayout, places}
@@ -7,7 +7,6 @@ use Rattle.chorus_ui.specs.declared.limits.TheConstants.{CLOCK_LIMIT}
 use Rattle.chorus_entry.specs.declared.entry.Entry.{Entry}
 use Rattle.chorus_merge.specs.Steps.{lent}
 use Rattle.chorus_net.specs.declared.closed.Closed.{Closed}
-use Rattle.chorus_net.specs.declared.closed.Origin.{Origin}
 use Rattle.chorus_net.specs.Closing.{worn_in, worn_of}
 use Rattle.chorus_scene.specs.Scene.{Scene}
 use Rattle.chorus_scene.specs.Limits.{Keeps}

@@ -1,5 +1,5 @@
 -- Sums and lists over places.
-use Rattle.std.proofs.Common.{ℕ, zero, suc, ◌≡◌, ◌+◌, ◌<◌, ◌==◌, Bool, true, false, cond, List, [], ◌++◌, refl, ◌∙◌, ap, ap₂, arith}
+use Rattle.std.proofs.Common.{ℕ, zero, suc, ◌≡◌, ◌<◌, ◌==◌, Bool, true, false, cond, List, [], ◌++◌, refl, ap₂, arith}
 use Rattle.law_history.specs.Counts.{total}
 use Rattle.law_history.specs.Places.{up_to, from_one, by_link}
 

@@ -1,6 +1,6 @@
 -- How a run ends.
--- A source and a sink are seen as `EndsReading` and `EndsWriting` see them; from and rest are the source, old and new the sink, before and
--- after.
+-- A source and a sink are seen as `EndsReading` and `EndsWriting` see them; from and rest are the source, old and new
+-- the sink, before and after.
 use Rattle.std.specs.Prelude.{ℕ, List, Option, IfSome}
 use Rattle.chorus_nucleus.specs.declared.nucleus.Nucleus.{Nucleus}
 use Rattle.chorus_nucleus.specs.Passes.{layout_of}
@@ -10,9 +10,10 @@ use Rattle.chorus_report.specs.Headline.{Runs}
 use Rattle.chorus_report.specs.Output.{text_of}
 use Rattle.chorus_run.specs.Threads.{HasWornOf, IsOfNucleus}
 
--- A scenario was read, for the layout of the nucleus; the report of what was closed was written; that plays the scenario, and it is this
--- nucleus; and a clock that was worn is that of the pass that closed it.
-pub record EndsAsRun {S K : Type 0} (n : Nucleus) (finished : Finished) (left : S → Option (List ℕ)) (faults : S → ℕ) (reliable : S → Type 0) (from rest : S) (held : K → Option (List ℕ)) (failures : K → ℕ) (old new : K) : Type 0 where
+-- A scenario was read, for the layout of the nucleus; the report of what was closed was written; that plays the
+-- scenario, and it is this nucleus; and a clock that was worn is that of the pass that closed it.
+pub record EndsAsRun {S K : Type 0} (n : Nucleus) (finished : Finished) (left : S → Option (List ℕ)) (faults : S → ℕ)
+    (reliable : S → Type 0) (from rest : S) (held : K → Option (List ℕ)) (failures : K → ℕ) (old new : K) : Type 0 where
   pub reads : EndsReading (layout_of n) finished.status left faults reliable from rest
   pub writes : EndsWriting (text_of finished.closed) finished held failures old new
   pub runs : IfSome finished.closed (Runs (layout_of n) (left from) finished.status)

@@ -31,11 +31,12 @@ HasOwn p journal seat mine = by seat journal ≡ entries_of (at_place p mine)
 
 abbrev pub HasOwnIn : Closed → ℕ → List (Placed PlaceNote) → Type 0
 HasOwnIn closed seat mine =
-    (p : ℕ) (journal : List Entry) → slice_get (closed_journals closed) p ≡ Some journal → HasOwn (p + 1) journal seat mine
+    (p : ℕ) (journal : List Entry) → slice_get (closed_journals closed) p ≡ Some journal →
+    HasOwn (p + 1) journal seat mine
 
--- It is this nucleus that was closed, by one of its passes. The entries of the seat of that pass, and of each pass that was retired into
--- it, are in each journal just those that the pass made at that place. What the pass itself was asked, the setup, stands before all that
--- the others made.
+-- It is this nucleus that was closed, by one of its passes. The entries of the seat of that pass, and of each pass that
+-- was retired into it, are in each journal just those that the pass made at that place. What the pass itself was asked,
+-- the setup, stands before all that the others made.
 pub record IsOfNucleus (n : Nucleus) (closed : Closed) : Type 0 where
   pub last : Pass
   pub closes : IsClosed n last closed
@@ -47,8 +48,8 @@ pub record IsOfNucleus (n : Nucleus) (closed : Closed) : Type 0 where
 abbrev pub HasWornOf : Status → Closed → Type 0
 HasWornOf status closed = (clock : ℕ) → status ≡ Worn clock → worn_of closed ≡ Some clock
 
--- The scenario was performed on the nucleus, which was then closed: it plays the scenario to its end where no clock was worn, else up to
--- that clock, which is at least 2^62 and that of an entry and of the closing pass.
+-- The scenario was performed on the nucleus, which was then closed: it plays the scenario to its end where no clock was
+-- worn, else up to that clock, which is at least 2^62 and that of an entry and of the closing pass.
 pub record IsPlayedOn (n : Nucleus) (c : Scene) (worn : Option ℕ) (closed : Closed) : Type 0 where
   pub plays : EndsFor (Plays c.layout (callers_of c) (commands_by c)) worn closed
   pub origin : IsOfNucleus n closed

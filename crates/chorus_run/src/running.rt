@@ -61,7 +61,7 @@ fn play<R: Threads + Wait + Sync, G: Gate>(
     ensures { IfOk result
         (λ played. IsPlayedOn nucleus scenario.now played.worn played.closed) }
 {
-    let _layout = scenario.layout();
+    let _layout = scenario.layout(); // tells what a scenario keeps
     let performed = perform(alloc, rt, &nucleus, &mut pass, scenario, gate);
     let closed = close(rt, nucleus, pass)?;
     match performed {

@@ -247,9 +247,9 @@ closes-the-same text c d s t one other v a b = text-replays text c d v s t one o
 
 pub writes-the-same : WritesTheSame
 writes-the-same input s t one other these those version =
-    let v : IsOfVersionOne (bytes_read input) these.scene those.scene = record {
-      eight = ap (read_scene eight) (sym (these.given).read) ∙ (these.given).given;
-      sixteen = ap (read_scene sixteen) (sym (those.given).read) ∙ (those.given).given;
+    let v : IsOfVersionOne (bytes_read input) these.runs.scene those.runs.scene = record {
+      eight = ap (read_scene eight) (sym (these.runs.given).read) ∙ (these.runs.given).given;
+      sixteen = ap (read_scene sixteen) (sym (those.runs.given).read) ∙ (those.runs.given).given;
       one = version;
     } in
-    closes-the-same (bytes_read input) these.scene those.scene s t one other v these.ordered those.ordered
+    closes-the-same (bytes_read input) these.runs.scene those.runs.scene s t one other v these.ordered those.ordered

@@ -61,5 +61,5 @@ ClosesTheSame =
 -- and with what `replay` promises of two sources that give the same bytes
 abbrev pub WritesTheSame : Type 0
 WritesTheSame =
-    (input : List ℕ) (s t : Status) (one other : Closed) (these : Replays eight (Some input) s one) (those : Replays sixteen (Some input) t other) →
-    (these.scene).version ≡ 1 → AreAlike s t one other
+    (input : List ℕ) (s t : Status) (one other : Closed) (these : Replays eight (Some input) s one)
+    (those : Replays sixteen (Some input) t other) → these.runs.scene.version ≡ 1 → AreAlike s t one other

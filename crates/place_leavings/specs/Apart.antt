@@ -75,7 +75,7 @@ goes_from ds a b = held_from a (desk_at b ds) ++ (left_between ds a b ++ waits_t
 abbrev pub AreDesksLinked : List (DeskOf Ruled Packet) → Type 0
 AreDesksLinked ds =
     (a b : ℕ) → IsPlace (length ds) a → IsPlace (length ds) b → b ≢ a
-        → AreOfOneLink (end_to b (ends_at a ds)) (end_from a (ends_at b ds))
+    → AreOfOneLink (end_to b (ends_at a ds)) (end_from a (ends_at b ds))
 
 -- the journals, the packets by link, and the ports
 pub record IsParted (ds : List (DeskOf Ruled Packet)) (h : Parted) : Type 0 where

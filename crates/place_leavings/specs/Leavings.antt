@@ -1,7 +1,7 @@
 -- What is left of places, and taking it link by link.
 -- a, b, p and q are numbers of places, s and t are what is left of a place, slots are these by places, that of place p
 -- at p - 1.
-use Rattle.std.specs.Prelude.{ℕ, zero, suc, ◌≡◌, ◌≢◌, ◌-◌, ◌<◌, ◌≤◌, ◌==◌, Bool, true, false, cond, List, [], ◌++◌, length, drop, Option, Some, None, is_some, option_to_list, slice_index_or}
+use Rattle.std.specs.Prelude.{ℕ, ◌≡◌, ◌≢◌, ◌-◌, ◌<◌, ◌≤◌, ◌==◌, Bool, true, false, cond, List, [], ◌++◌, length, drop, Option, Some, None, is_some, option_to_list, slice_index_or}
 use Rattle.chorus_entry.specs.declared.packet.Packet.{Packet}
 use Rattle.place_outbox.specs.Waiting.{list_to}
 use Rattle.chorus_link.specs.declared.ends.SendEnd.{SendEnd}

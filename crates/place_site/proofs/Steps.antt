@@ -1,7 +1,7 @@
 -- What a job does in one turn: a command, or a packet that is worked off, or nothing.
 -- d is the desk before, e the desk after, w and x the caller before and after.
-use Rattle.std.proofs.Common.{ℕ, ◌≡◌, ◌==◌, ◌+◌, ◌<◌, ◌≤◌, ◌-◌, ◌^◌, Bool, true, false, nat_lt, ◌&&◌, ◌||◌, not, cond, List, [], ◌++◌, reverse, is_some, Option, Some, None, option_to_list, Result, Ok, Err, IfOk, OnErr, IsErrOf, ◌↔◌, refl, sym, ◌∙◌, ap, subst, inl, inr, arith}
-use Rattle.std.proofs.lemmas.Bool.{cases_lt, and_parts, and_from, eq-eqb, ne_eqb, false≢true, lt-ltb}
+use Rattle.std.proofs.Common.{ℕ, ◌≡◌, ◌==◌, ◌<◌, ◌≤◌, ◌-◌, ◌^◌, Bool, true, false, nat_lt, ◌&&◌, ◌||◌, not, List, [], ◌++◌, reverse, is_some, Option, Some, None, option_to_list, Result, Ok, Err, IfOk, OnErr, IsErrOf, ◌↔◌, refl, sym, ◌∙◌, ap, subst, inl, inr, arith}
+use Rattle.std.proofs.lemmas.Bool.{cases_lt, and_parts, and_from, eq-eqb, false≢true, lt-ltb}
 use Rattle.std.proofs.lemmas.List.{append-nil}
 use Rattle.chorus_ui.specs.Layout.{has_place}
 use Rattle.chorus_entry.specs.declared.command.Command.{Command}
@@ -18,11 +18,10 @@ use Rattle.law_network.specs.Schedules.{has_number_left, may_give}
 use Rattle.law_machine.specs.PlaceState.{PlaceState, greatest_clock}
 use Rattle.law_machine.specs.PlaceMachine.{begun, act}
 use Rattle.law_machine.specs.Lawful.{is_lawful, is_lawful_cargo}
-use Rattle.chorus_place.specs.Calls.{Place, state, Ended, Stays}
-use Rattle.chorus_io.specs.Count.{raised}
+use Rattle.chorus_place.specs.Calls.{Place, state, Stays}
 use Rattle.chorus_ends.specs.Links.{Links}
 use Rattle.chorus_serve.specs.declared.held.Held.{Held}
-use Rattle.chorus_serve.specs.Desks.{DeskState, IsDesk, in_hand}
+use Rattle.chorus_serve.specs.Desks.{DeskState, in_hand}
 use Rattle.chorus_serve.specs.Working.{Performs}
 use Rattle.chorus_serve.specs.Serving.{Rests, WorksOff, Answers}
 use Rattle.law_machine.specs.declared.reply.Reply.{Reply}
@@ -34,16 +33,14 @@ use Rattle.chorus_ui.specs.declared.limits.TheConstants.{CLOCK_LIMIT}
 use Rattle.chorus_turn.specs.Journals.{GrowsBy}
 use Rattle.chorus_entry.specs.declared.entry.Entry.{Entry}
 use Rattle.std.specs.declared.snapshot.Snapshot.{Snapshot}
-use Rattle.std.proofs.lemmas.List.Elements.{All-nil, All-cons}
+use Rattle.std.proofs.lemmas.List.Elements.{All-nil}
 use Rattle.chorus_turn.specs.declared.knowledge.Remarked.{Remarked}
 use Rattle.law_history.specs.declared.turns.Input.{Input}
 use Rattle.law_history.specs.PlaceTurns.{turn, may_take, brings_entry, is_other}
 use Rattle.law_closing.specs.Places.{PlaceNote}
-use Rattle.chorus_serve.specs.Flows.{ComesNext}
-use Rattle.chorus_ui.specs.declared.layout.Layout.{Layout}
 use Rattle.chorus_board.specs.declared.name.BoardName.{BoardName}
 use Rattle.place_site.specs.Sites.{mark, entries, IsJournalOf}
-use Rattle.place_site.specs.Turning.{IsNews, IsNoNews, MayWork, NotesFrom, NotesAct, NotesServe}
+use Rattle.place_site.specs.Turning.{IsNews, IsNoNews, MayWork, NotesFrom, NotesAct}
 use Rattle.place_site.specs.Jobs.{MayAct, Acted, worked_from, HasWorked}
 use Rattle.place_site.proofs.Turning.{Flows, turned, moved, grown, layout-stays, number-stays}
 
@@ -176,12 +173,11 @@ served-goes z (Ok (pumps.Served from)) d e w x hold holds same place (k, inl h) 
     let got = worked d e w x from k place h log j in (
       got.0,
       got.1,
-      subst (λ b. NotesFrom (worked_from (Ok (pumps.Served from)) b) z w x got.0) (sym none)
-          (
-            k,
-            subst (λ (q : Place). MayWork from k (state q) w) (sym same) (h.lawful, h.unworn),
-            subst (λ (q : Place). IsNews (Input.Packet from k) (state q) w x got.0) (sym same) got.2,
-          ),
+      subst (λ b. NotesFrom (worked_from (Ok (pumps.Served from)) b) z w x got.0) (sym none) (
+        k,
+        subst (λ (q : Place). MayWork from k (state q) w) (sym same) (h.lawful, h.unworn),
+        subst (λ (q : Place). IsNews (Input.Packet from k) (state q) w x got.0) (sym same) got.2,
+      ),
     ))
 served-goes z (Ok (pumps.Served from)) d e w x hold holds same place (k, inr h) err log j =
     (let some : hold ≡ true = holds ∙ ap is_some h.hand in

@@ -1,6 +1,6 @@
 -- A turn more of a place, and packets that move.
 -- d is the desk before, e the desk after, w and x the caller before and after.
-use Rattle.std.proofs.Common.{ℕ, suc, ◌≡◌, ◌≤◌, ◌+◌, ◌-◌, ◌^◌, min, length, true, List, [], ◌∷◌, ◌++◌, map, reverse, Option, Some, None, option_to_list, refl, sym, ◌∙◌, ap, subst, arith, append_assoc}
+use Rattle.std.proofs.Common.{ℕ, suc, ◌≡◌, ◌+◌, ◌-◌, ◌^◌, min, length, true, List, [], ◌∷◌, ◌++◌, map, reverse, Option, Some, None, option_to_list, refl, sym, ◌∙◌, ap, subst, arith}
 use Rattle.std.specs.List.{All}
 use Rattle.std.proofs.lemmas.Bool.{and_parts}
 use Rattle.std.proofs.lemmas.List.{append-nil, map-append, reverse-append, reverse-reverse}

@@ -1,6 +1,6 @@
 -- What a job asks of a place, and what one run of it did.
 -- w and x are the caller before and after, d and e the desk before and after, c a command, m the mark of the place.
-use Rattle.std.specs.Prelude.{ℕ, ◌≡◌, ◌<◌, ◌≤◌, ◌↔◌, ◌^◌, ◌-◌, Bool, true, false, Option, Some, None, Result, Ok, Err, IsErrOf, OnOk}
+use Rattle.std.specs.Prelude.{ℕ, ◌≡◌, ◌<◌, ◌≤◌, ◌^◌, ◌-◌, Bool, true, false, Option, Some, None, Result, Ok, Err, IsErrOf, OnOk}
 use Rattle.std.specs.declared.snapshot.Snapshot.{Snapshot}
 use Rattle.chorus_ui.specs.declared.limits.TheConstants.{CLOCK_LIMIT}
 use Rattle.chorus_ui.specs.Layout.{has_place}
@@ -40,7 +40,7 @@ AcceptsAct w c m seat = (w.seat ≡ seat) × MayAct w c m
 abbrev pub Acted : Command → Option (Snapshot Place) → Result Reply PlaceFault → Seated → DeskState → Type 0
 Acted c (Some z) (Ok r) w d =
     (z.value ≡ d.place) × (r ≡ reply c (begun (state d.place) w))
-        × (greatest_clock (begun (state d.place) w) < CLOCK_LIMIT)
+    × (greatest_clock (begun (state d.place) w) < CLOCK_LIMIT)
 Acted c None (Err (faults.Memory none)) w d = Unit {0}
 Acted c None (Err (faults.Worn clock)) w d =
     (CLOCK_LIMIT ≤ clock) × (clock ≡ greatest_clock (begun (state d.place) w))
@@ -64,7 +64,7 @@ HasWorked _ _ w x d e = ⊥
 abbrev pub Served : Option ℕ → Place → Result Pump PlaceFault → Seated → Seated → DeskState → DeskState → Type 0
 Served a z r w x d e =
     (z ≡ d.place) × HasWorked a r w x d e × ((clock : ℕ) → IsErrOf r (faults.Worn clock) → IsWornBy clock d e w)
-        × OnOk r (AreEmptied d e)
+    × OnOk r (AreEmptied d e)
 
 abbrev pub ServedAt : Option ℕ → Option (Snapshot Place) → Result Pump PlaceFault → Seated → Seated → DeskState
     → DeskState → Type 0

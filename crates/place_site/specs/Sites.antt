@@ -46,7 +46,7 @@ abbrev pub FitsAt : Layout → ℕ → PlaceState → Links → List (List Packe
     → List (Remarked PlaceNote) → Type 0
 FitsAt l p s k lists hand log =
     Keeps (machine l) (started l p) p log s (sent_in l p k) (waits_in l p lists log) (received_in l p k)
-        (held_in l p hand)
+    (held_in l p hand)
 
 -- and the desk counts what the turns put and, up to 2^64 - 1, what they worked off; and each entry is of the place
 pub record Fits (d : DeskState) (log : List (Remarked (Noted Seated Command Packet))) : Type 0 where

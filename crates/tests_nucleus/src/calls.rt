@@ -178,7 +178,7 @@ fn send_and_take(rt: &impl Abort, nucleus: &Nucleus, pass: &mut Pass)
 /// Asserts that the nucleus is not closed, since the one pass that was entered is out; nucleus and pass come back.
 fn refused<R: Wait + Abort>(rt: &R, nucleus: Nucleus, pass: Pass) -> (Nucleus, Pass)
     requires { IsPassOf nucleus pass }
-    ensures { IsPassOf result.0 result.1 }
+    ensures { (result.0 ≡ nucleus) × (result.1 ≡ pass) }
 {
     assert!(rt; pass.keeper());
     match nucleus.close(rt, pass) {
@@ -200,4 +200,29 @@ fn close_asks_for_all_passes(rt: HostRuntime) {
     send_and_take(&rt, &nucleus, &mut pass);
     retire(&nucleus, second, &mut pass);
     close(&rt, nucleus, pass);
+}
+
+/// Seat 1 sends to the port of the keeper.
+fn send_to_keeper(rt: &impl Abort, nucleus: &Nucleus, pass: &mut Pass)
+    requires { IsPassOf nucleus.now pass.old }
+    ensures { IsPassOf nucleus.now pass.new }
+{
+    assert!(rt; pass.posts() < u32::MAX);
+    let sent = nucleus.send(pass, Dest::Port(port(rt, "1.p.1")), b"a");
+    assert!(rt; sent == Ok(Reply::Posted(id(1, 1))));
+}
+
+#[test]
+fn a_packet_goes_on_behind_its_sender(rt: HostRuntime) {
+    let (nucleus, mut pass) = start(&rt, rt.alloc(), 2, 1);
+    let made = nucleus.make_port(&mut pass, actor(&rt, "1.a.1"), 2);
+    assert!(rt; made == Ok(Reply::Made(port(&rt, "1.p.1"))));
+    let mut sender = enter(&rt, &nucleus, &mut pass, "2.a.1");
+    send_to_keeper(&rt, &nucleus, &mut sender);
+    retire(&nucleus, sender, &mut pass);
+    assert_idle(&rt, &nucleus, &mut pass, 2);
+    assert_served(&rt, &nucleus, &mut pass, 1, 2);
+    assert_taken(&rt, &nucleus, &mut pass, 0);
+    let closed = close(&rt, nucleus, pass);
+    assert!(rt; closed.rest.len() == 1);
 }

@@ -1,6 +1,6 @@
 //! What the tests do with a nucleus. What is not as it is to be ends the test.
 
-ghost use Rattle.std.specs.Prelude.{◌≡◌, true, ◌×◌};
+ghost use Rattle.std.specs.Prelude.{◌≡◌, true};
 ghost use Rattle.chorus_ui.specs.NameKind.{is_actor, is_port, is_group};
 ghost use Rattle.chorus_nucleus.specs.Passes.{IsPassOf};
 

@@ -1,14 +1,15 @@
 //! Callers on threads of their own.
 
-ghost use Rattle.std.specs.Prelude.{◌≡◌};
+ghost use Rattle.std.specs.Prelude.{◌≡◌, true};
 ghost use Rattle.std.specs.Thread.{IsSync};
+ghost use Rattle.chorus_entry.specs.Command.{meets_conditions};
 ghost use Rattle.chorus_nucleus.specs.Passes.{IsPassOf};
 
-use crate::ground::{actor, assert_legal, close, enter, retire, start};
-use chorus_entry::Dest;
+use crate::ground::{actor, assert_legal, close, enter, port, retire, start};
+use chorus_entry::{Body, Command, Dest};
 use chorus_nucleus::{CallFault, Nucleus, Pass};
 use chorus_place::Reply;
-use chorus_ui::Ui;
+use chorus_ui::{Layout, Ui};
 use std::alloc::Global;
 use std::process::Abort;
 use std::sync::Wait;
@@ -17,22 +18,28 @@ use std::thread::{self, Threads, join};
 /// How many rounds each caller makes.
 const ROUNDS: u32 = 100;
 
-/// What a caller works on: its own port, that of another caller, the actors of the two, and the place that it serves.
-#[derive(Clone, Copy)]
+/// What a caller works on: its own port, that of another caller, the actor to which it moves both, and the place that it serves.
+#[derive(Drop)]
 struct Plan {
     own: Ui,
     far: Ui,
-    here: Ui,
     there: Ui,
     place: u16,
 }
 
-/// The call was answered, or another pass was in the way.
-fn tried(rt: &impl Abort, answer: Result<Reply, CallFault>) {
-    match answer {
-        Ok(_) => {}
-        Err(CallFault::Busy { .. }) => thread::yield_now(),
-        Err(_) => panic!(rt; "refused"),
+/// Gives the command until no other pass is in the way.
+fn give<R: Wait + Abort>(rt: &R, nucleus: &Nucleus, pass: &mut Pass, command: &Command)
+    requires pass { IsPassOf nucleus.now pass.old }
+    requires conditions { meets_conditions command.now ≡ true }
+    ensures { IsPassOf nucleus.now pass.new }
+{
+    for _ in rt.forever() {
+        assert!(rt; pass.posts() < u32::MAX);
+        match nucleus.act(pass, command) {
+            Ok(_) => return,
+            Err(CallFault::Busy { .. }) => thread::yield_now(),
+            Err(_) => panic!(rt; "refused"),
+        }
     }
 }
 
@@ -49,49 +56,79 @@ fn serve<R: Wait + Abort>(rt: &R, nucleus: &Nucleus, pass: &mut Pass, place: u16
     }
 }
 
-/// Moves both ports, each to the other caller, where they are here.
-fn move_both(rt: &impl Abort, nucleus: &Nucleus, pass: &mut Pass, plan: Plan)
+/// Moves the port to the actor, where it is here.
+fn move_to<R: Wait + Abort>(rt: &R, nucleus: &Nucleus, pass: &mut Pass, port: Ui, actor: Ui)
     requires { IsPassOf nucleus.now pass.old }
     ensures { IsPassOf nucleus.now pass.new }
 {
-    assert!(rt; plan.own.is_port() && plan.far.is_port());
-    assert!(rt; plan.here.is_actor() && plan.there.is_actor());
-    tried(rt, nucleus.move_port(pass, plan.own, plan.there));
-    tried(rt, nucleus.move_port(pass, plan.far, plan.there));
+    assert!(rt; port.is_port() && actor.is_actor());
+    give(rt, nucleus, pass, &Command::Move { port, actor });
 }
 
-/// Sends to both ports, takes of its own, and serves.
-fn send_and_take<R: Wait + Abort>(rt: &R, nucleus: &Nucleus, pass: &mut Pass, plan: Plan)
+/// Sends to the other port, and takes of the own.
+fn send_and_take<R: Wait + Abort>(
+    rt: &R,
+    alloc: Global,
+    nucleus: &Nucleus,
+    pass: &mut Pass,
+    plan: &Plan,
+)
     requires { IsPassOf nucleus.now pass.old }
     ensures { IsPassOf nucleus.now pass.new }
 {
     assert!(rt; plan.own.is_port() && plan.far.is_port());
-    assert!(rt; pass.posts() < u32::MAX);
-    tried(rt, nucleus.send(pass, Dest::Port(plan.far), b"m"));
-    tried(rt, nucleus.take(pass, plan.own));
+    let dest = Dest::Port(plan.far);
+    let body = Body::new(alloc, b"m").expect(rt, "memory");
+    give(rt, nucleus, pass, &Command::Send { dest, body });
+    give(rt, nucleus, pass, &Command::Take { port: plan.own });
+}
+
+/// A round of a caller.
+fn round<R: Wait + Abort>(rt: &R, alloc: Global, nucleus: &Nucleus, pass: &mut Pass, plan: &Plan)
+    requires { IsPassOf nucleus.now pass.old }
+    ensures { IsPassOf nucleus.now pass.new }
+{
+    send_and_take(rt, alloc, nucleus, pass, plan);
     serve(rt, nucleus, pass, plan.place);
 }
 
-/// All rounds of a caller.
-fn work<R: Wait + Abort>(rt: &R, nucleus: &Nucleus, mut pass: Pass, plan: Plan) -> Pass
+/// Moves both ports, where they are here.
+fn move_both<R: Wait + Abort>(rt: &R, nucleus: &Nucleus, pass: &mut Pass, plan: &Plan)
+    requires { IsPassOf nucleus.now pass.old }
+    ensures { IsPassOf nucleus.now pass.new }
+{
+    move_to(rt, nucleus, pass, plan.own, plan.there);
+    move_to(rt, nucleus, pass, plan.far, plan.there);
+}
+
+/// All rounds of a caller, who then has posted so many messages.
+fn work<R: Wait + Abort>(
+    rt: &R,
+    alloc: Global,
+    nucleus: &Nucleus,
+    mut pass: Pass,
+    plan: &Plan,
+) -> Pass
     requires { IsPassOf nucleus.now pass }
     ensures { IsPassOf nucleus.now result }
 {
-    for round in 0..ROUNDS {
-        send_and_take(rt, nucleus, &mut pass, plan);
-        if round % 8 == 0 {
+    for number in 0..ROUNDS {
+        round(rt, alloc, nucleus, &mut pass, plan);
+        if number % 8 == 0 {
             move_both(rt, nucleus, &mut pass, plan);
         }
     }
+    assert!(rt; pass.posts() == ROUNDS);
     pass
 }
 
 /// Two callers at once.
 fn two_at_once<R: Threads + Sync + Wait + Abort>(
     rt: &R,
+    alloc: Global,
     nucleus: &Nucleus,
-    one: (Pass, Plan),
-    two: (Pass, Plan),
+    one: (Pass, &Plan),
+    two: (Pass, &Plan),
 ) -> (Pass, Pass)
     requires one { IsPassOf nucleus.now one.0 }
     requires two { IsPassOf nucleus.now two.0 }
@@ -106,66 +143,117 @@ fn two_at_once<R: Threads + Sync + Wait + Abort>(
             requires rt { IsSync R.row }
             requires pass { IsPassOf nucleus.now first }
             ensures { IsPassOf nucleus.entry.now result }
-        { work(rt, nucleus, first, first_plan) },
+        { work(rt, alloc, nucleus, first, first_plan) },
         move || -> Pass
             requires rt { IsSync R.row }
             requires pass { IsPassOf nucleus.now second }
             ensures { IsPassOf nucleus.entry.now result }
-        { work(rt, nucleus, second, second_plan) },
+        { work(rt, alloc, nucleus, second, second_plan) },
     )
 }
 
-/// The port that the caller makes in this actor.
-fn made(rt: &impl Abort, nucleus: &Nucleus, pass: &mut Pass, name: &str) -> Ui
+/// The caller makes a port in its actor.
+fn make(rt: &impl Abort, nucleus: &Nucleus, pass: &mut Pass, holder: &str, name: &str)
     requires { IsPassOf nucleus.now pass.old }
     ensures { IsPassOf nucleus.now pass.new }
 {
-    match nucleus.make_port(pass, actor(rt, name), 8) {
-        Ok(Reply::Made(port)) => port,
-        _ => panic!(rt; "no port"),
+    let made = nucleus.make_port(pass, actor(rt, holder), 8);
+    assert!(rt; made == Ok(Reply::Made(port(rt, name))));
+}
+
+/// What the caller in this actor works on: at its home place, with its own port and one that is the other callers', who are in the
+/// third actor.
+fn plan_for(
+    rt: &impl Abort,
+    layout: Layout,
+    holder: &str,
+    ports: (&str, &str),
+    there: &str,
+) -> Plan {
+    let (own, far) = ports;
+    Plan {
+        own: port(rt, own),
+        far: port(rt, far),
+        there: actor(rt, there),
+        place: layout.home(actor(rt, holder)).expect(rt, "a home"),
     }
 }
 
-/// Four callers at once, two of each of two sites, of so many places each; what they did is legal.
-fn four_at_once<R: Threads + Sync + Wait + Abort>(rt: &R, alloc: Global, turns: u16)
-    requires { IsSync R.row }
+/// Four callers at once, two and two.
+fn all_at_once<R: Threads + Sync + Wait + Abort>(
+    rt: &R,
+    alloc: Global,
+    nucleus: &Nucleus,
+    one: (Pass, Pass),
+    two: (Pass, Pass),
+    plans: &[Plan; 4],
+) -> ((Pass, Pass), (Pass, Pass))
+    requires one { IsPassOf nucleus.now one.0 × IsPassOf nucleus.now one.1 }
+    requires two { IsPassOf nucleus.now two.0 × IsPassOf nucleus.now two.1 }
+    ensures one { IsPassOf nucleus.now result.0.0 × IsPassOf nucleus.now result.0.1 }
+    ensures two { IsPassOf nucleus.now result.1.0 × IsPassOf nucleus.now result.1.1 }
 {
+    let (keeper, second) = one;
+    let (third, fourth) = two;
+    let [first_plan, second_plan, third_plan, fourth_plan] = plans;
+    join(
+        rt,
+        move || -> (Pass, Pass)
+            requires rt { IsSync R.row }
+            requires passes { IsPassOf nucleus.now keeper × IsPassOf nucleus.now second }
+            ensures { IsPassOf nucleus.entry.now result.0 × IsPassOf nucleus.entry.now result.1 }
+        {
+            two_at_once(
+                rt,
+                alloc,
+                nucleus,
+                (keeper, first_plan),
+                (second, second_plan),
+            )
+        },
+        move || -> (Pass, Pass)
+            requires rt { IsSync R.row }
+            requires passes { IsPassOf nucleus.now third × IsPassOf nucleus.now fourth }
+            ensures { IsPassOf nucleus.entry.now result.0 × IsPassOf nucleus.entry.now result.1 }
+        {
+            two_at_once(
+                rt,
+                alloc,
+                nucleus,
+                (third, third_plan),
+                (fourth, fourth_plan),
+            )
+        },
+    )
+}
+
+/// Four callers at once, two of each of two sites, of so many places each; what they did is legal.
+fn four_at_once<R: Threads + Sync + Wait + Abort>(rt: &R, alloc: Global, turns: u16) {
     let (nucleus, mut keeper) = start(rt, alloc, 2, turns);
     let mut second = enter(rt, &nucleus, &mut keeper, "2.a.1");
     let third = enter(rt, &nucleus, &mut keeper, "1.a.2");
     let fourth = enter(rt, &nucleus, &mut keeper, "2.a.2");
-    let plan = Plan {
-        own: made(rt, &nucleus, &mut keeper, "1.a.1"),
-        far: made(rt, &nucleus, &mut second, "2.a.1"),
-        here: actor(rt, "1.a.1"),
-        there: actor(rt, "2.a.1"),
-        place: 1,
-    };
-    let back = Plan {
-        own: plan.far,
-        far: plan.own,
-        here: plan.there,
-        there: plan.here,
-        place: turns + 1,
-    };
-    let nucleus_there = &nucleus;
-    let ((mut keeper, second), (third, fourth)) = join(
+    make(rt, &nucleus, &mut keeper, "1.a.1", "1.p.1");
+    make(rt, &nucleus, &mut second, "2.a.1", "2.p.1");
+    let layout = nucleus.layout();
+    let (near, away) = (("1.p.1", "2.p.1"), ("2.p.1", "1.p.1"));
+    let plans = [
+        plan_for(rt, layout, "1.a.1", near, "2.a.1"),
+        plan_for(rt, layout, "2.a.1", away, "1.a.1"),
+        plan_for(rt, layout, "1.a.2", near, "2.a.2"),
+        plan_for(rt, layout, "2.a.2", away, "1.a.2"),
+    ];
+    let ((mut keeper, second), (third, fourth)) = all_at_once(
         rt,
-        move || -> (Pass, Pass)
-            requires rt { IsSync R.row }
-            requires passes { IsPassOf nucleus_there.now keeper × IsPassOf nucleus_there.now second }
-            ensures { IsPassOf nucleus_there.entry.now result.0 × IsPassOf nucleus_there.entry.now result.1 }
-        { two_at_once(rt, nucleus_there, (keeper, plan), (second, back)) },
-        move || -> (Pass, Pass)
-            requires rt { IsSync R.row }
-            requires passes { IsPassOf nucleus_there.now third × IsPassOf nucleus_there.now fourth }
-            ensures { IsPassOf nucleus_there.entry.now result.0 × IsPassOf nucleus_there.entry.now result.1 }
-        { two_at_once(rt, nucleus_there, (third, plan), (fourth, back)) },
+        alloc,
+        &nucleus,
+        (keeper, second),
+        (third, fourth),
+        &plans,
     );
     retire(&nucleus, second, &mut keeper);
     retire(&nucleus, third, &mut keeper);
     retire(&nucleus, fourth, &mut keeper);
-    let layout = nucleus.layout();
     let closed = close(rt, nucleus, keeper);
     assert_legal(rt, alloc, layout, &closed.journals);
 }

@@ -1,4 +1,4 @@
-use Rattle.std.proofs.Common.{◌≡◌, ◌≢◌, ◌∙◌, sym, ap, true, false, Ok, [], ◌∷◌, arith}
+use Rattle.std.proofs.Common.{◌≡◌, ◌≢◌, ◌∙◌, sym, true, Ok, [], ◌∷◌, arith}
 use Rattle.chorus_perform.proofs.Steps.{on-err, goes-none, goes-later}
 use Rattle.chorus_perform.proofs.commands.perform_command.Goals as goal
 

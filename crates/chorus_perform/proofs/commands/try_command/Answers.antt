@@ -1,4 +1,4 @@
-use Rattle.std.proofs.Common.{◌≡◌, ◌∙◌, sym, Ok}
+use Rattle.std.proofs.Common.{◌∙◌, sym}
 use Rattle.chorus_perform.proofs.Steps.{goes-call, goes-refused}
 use Rattle.chorus_perform.proofs.commands.try_command.Goals as goal
 use Rattle.chorus_perform.proofs.commands.try_command.Goals.{in-Ok, in-Err-Busy, in-Err}

@@ -1,9 +1,9 @@
-use Rattle.std.proofs.Common.{ℕ, ◌≡◌, ◌<◌, ◌≤◌, ◌+◌, length, Err, sym, ◌∙◌, ap, subst, arith}
+use Rattle.std.proofs.Common.{◌≡◌, ◌<◌, length, Err, sym, ◌∙◌, ap, subst, arith}
 use Rattle.chorus_turn.specs.Knowing.{limit}
 use Rattle.chorus_calls.specs.Callers.{Seated}
 use Rattle.chorus_nucleus.specs.Passes.{caller_of, known}
 use Rattle.chorus_perform.specs.Runners.{AreEntered}
-use Rattle.chorus_perform.proofs.Comings.{found-at, begins-at, entered-also, entered-more, entered-same, new-ready}
+use Rattle.chorus_perform.proofs.Comings.{found-at, begins-at, entered-also, entered-more, new-ready}
 use Rattle.chorus_perform.proofs.entering.enter.Goals as goal
 
 pub loop-index-preserved : goal.loop-index-preserved

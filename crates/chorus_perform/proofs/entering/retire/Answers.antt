@@ -1,10 +1,10 @@
-use Rattle.std.proofs.Common.{ℕ, ◌≡◌, ◌+◌, ◌∷◌, ◌++◌, [], List, length, ap, subst, arith}
+use Rattle.std.proofs.Common.{◌≡◌, ◌+◌, ◌∷◌, ◌++◌, [], List, length, ap, subst, arith}
 use Rattle.std.proofs.lemmas.List.{length-append}
 use Rattle.std.specs.Vec.{vec_len}
 use Rattle.chorus_nucleus.specs.Passes.{caller_of}
 use Rattle.chorus_perform.specs.declared.runner.Runner.{Runner}
 use Rattle.chorus_perform.specs.Runners.{AreEnding, IsEndingAt}
-use Rattle.chorus_perform.proofs.Leavings.{but-last, retired-none, retired-step}
+use Rattle.chorus_perform.proofs.Leavings.{but-last, retired-step}
 use Rattle.chorus_perform.proofs.entering.retire.Goals as goal
 
 pub loop-runner-preserved : goal.loop-runner-preserved

@@ -1,4 +1,4 @@
-use Rattle.std.proofs.Common.{◌≡◌, ◌≤◌, ◌-◌}
+use Rattle.std.proofs.Common.{◌≤◌, ◌-◌}
 use Rattle.std.specs.Vec.{vec_len}
 use Rattle.chorus_nucleus.specs.Passes.{caller_of, IsPassOf}
 use Rattle.chorus_perform.specs.Runners.{AreEnding, HasRetired}

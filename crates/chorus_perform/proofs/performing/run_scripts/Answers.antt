@@ -14,17 +14,17 @@ retire-requires-clause-ending g c =
     let begun = (caller_of c.enter.new.pass).last in
     let entered = subst (λ m. AreEntered c.args.nucleus.now c.args.scenario.now m c.enter.new.runners.items) (sym (ap (λ (w : Seated). w.last) c.enter.ensures.entered.caller)) c.enter.ensures.runners in
     elim c.if-entered.branch [
-  | then-entered w ↦
-      subst (λ (v : Vec Runner Global). AreEnding c.args.nucleus.now c.args.scenario.now begun v.items) (sym w.runners-is)
-      (subst (AreEnding c.args.nucleus.now c.args.scenario.now begun) (sym (put-back c.enter.new.runners.len w.perform_scripts.new.runners (drop (length w.perform_scripts.new.runners) c.enter.new.runners.items)
-      (let value = ap (λ (zs : List Runner). length zs) w.deref_mut.ensures.value in omega (arith, c.enter.new.runners.ok.0, w.perform_scripts.auto.runners, value))))
-      (all-ended c.args.nucleus.now c.args.scenario.now begun w.deref_mut.result.now w.perform_scripts.new.runners w.perform_scripts.auto.runners
-      (subst (AreEntered c.args.nucleus.now c.args.scenario.now begun) (sym w.deref_mut.ensures.value) entered)
-      w.perform_scripts.ensures))
-  | else-entered w ↦
-      subst (λ (v : Vec Runner Global). AreEnding c.args.nucleus.now c.args.scenario.now begun v.items) (sym w.runners-is)
-      (none-ended c.args.nucleus.now c.args.scenario.now begun c.enter.new.runners.items entered.ready)
-]
+      | then-entered w ↦
+          subst (λ (v : Vec Runner Global). AreEnding c.args.nucleus.now c.args.scenario.now begun v.items) (sym w.runners-is)
+          (subst (AreEnding c.args.nucleus.now c.args.scenario.now begun) (sym (put-back c.enter.new.runners.len w.perform_scripts.new.runners (drop (length w.perform_scripts.new.runners) c.enter.new.runners.items)
+          (let value = ap (λ (zs : List Runner). length zs) w.deref_mut.ensures.value in omega (arith, c.enter.new.runners.ok.0, w.perform_scripts.auto.runners, value))))
+          (all-ended c.args.nucleus.now c.args.scenario.now begun w.deref_mut.result.now w.perform_scripts.new.runners w.perform_scripts.auto.runners
+          (subst (AreEntered c.args.nucleus.now c.args.scenario.now begun) (sym w.deref_mut.ensures.value) entered)
+          w.perform_scripts.ensures))
+      | else-entered w ↦
+          subst (λ (v : Vec Runner Global). AreEnding c.args.nucleus.now c.args.scenario.now begun v.items) (sym w.runners-is)
+          (none-ended c.args.nucleus.now c.args.scenario.now begun c.enter.new.runners.items entered.ready)
+    ]
 
 pub returns-clause-performed : goal.returns-clause-performed
 returns-clause-performed g c =

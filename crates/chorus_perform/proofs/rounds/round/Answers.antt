@@ -1,4 +1,4 @@
-use Rattle.std.proofs.Common.{◌≡◌, true, Ok, ◌∙◌, ap, subst, arith}
+use Rattle.std.proofs.Common.{◌≡◌, true, ◌∙◌, ap, subst, arith}
 use Rattle.chorus_ui.specs.Layout.{places}
 use Rattle.chorus_nucleus.specs.Passes.{known, layout_of}
 use Rattle.chorus_perform.specs.Rounds.{IsRound}

@@ -1,4 +1,4 @@
-use Rattle.std.proofs.Common.{ℕ, ◌≡◌, sym, subst, Some, slice_get}
+use Rattle.std.proofs.Common.{sym, subst}
 use Rattle.chorus_perform.specs.Going.{AllMeet}
 use Rattle.chorus_perform.proofs.Comings.{found-at, script-meets, script-may, has-run}
 use Rattle.chorus_perform.proofs.running.perform_script.Goals as goal

@@ -1,4 +1,4 @@
-use Rattle.std.proofs.Common.{ℕ, ◌≡◌, ◌+◌, ◌<◌, ◌∙◌, ap, subst, length, take}
+use Rattle.std.proofs.Common.{◌<◌, ◌∙◌, ap, subst, length, take}
 use Rattle.chorus_entry.specs.Command.{meets_conditions}
 use Rattle.chorus_report.specs.Setup.{setup_commands}
 use Rattle.chorus_perform.proofs.Steps.{on-err, goes-on, first-of}

@@ -1,4 +1,3 @@
-use Rattle.std.proofs.Common.{◌×◌}
 use Rattle.chorus_nucleus.specs.Passes.{IsPassOf}
 use Rattle.tests_nucleus.proofs.boards.assert_readers_end.Given as goal
 

@@ -1,5 +1,4 @@
 use Rattle.std.proofs.Common.{◌∙◌, ap}
-use Rattle.chorus_calls.specs.Callers.{Seated}
 use Rattle.chorus_nucleus.proofs.Called.{place-is}
 use Rattle.chorus_nucleus.proofs.Asking.{home-is, told-outcome, busy-outcome}
 use Rattle.std.proofs.Common.{◌==◌, if◌then◌else◌}

@@ -1,4 +1,4 @@
-use Rattle.std.proofs.Common.{None, refl, sym, ◌∙◌, subst}
+use Rattle.std.proofs.Common.{refl, sym, ◌∙◌, subst}
 use Rattle.chorus_turn.specs.Passes.{known, handed}
 use Rattle.chorus_nucleus.specs.Reading.{PublishDone}
 use Rattle.chorus_nucleus.proofs.Asking.{home-is}

@@ -1,0 +1,169 @@
+-- Ports that are asked one after another.
+-- n is a nucleus, l a layout, q a port, a, b and c are the pass at three moments, v, m and u are what a pass knows at three moments.
+use Rattle.std.proofs.Common.{◌≡◌, ℕ, zero, suc, ◌+◌, ◌<◌, length, take, drop, get_or, arith, Option, Some, None, Result, Ok, Err, List, [], ◌∷◌, ◌++◌, refl, sym, ap, subst, ◌∙◌, append_assoc}
+use Rattle.chorus_ui.specs.declared.ui.Ui.{Ui}
+use Rattle.chorus_ui.specs.declared.layout.Layout.{Layout}
+use Rattle.chorus_entry.specs.declared.act.Act.{Act}
+use Rattle.law_machine.specs.declared.reply.Reply.{Reply}
+use Rattle.law_replies.specs.Taking.{taken_acts}
+use Rattle.chorus_turn.specs.declared.knowledge.Knowledge.{Knowledge}
+use Rattle.law_closing.specs.Places.{PlaceNote}
+use Rattle.chorus_nucleus.specs.declared.fault.CallFault.{CallFault}
+use Rattle.chorus_nucleus.specs.declared.nucleus.Nucleus.{Nucleus}
+use Rattle.chorus_nucleus.specs.declared.pass.Pass.{Pass}
+use Rattle.chorus_nucleus.specs.Passes.{layout_of, known, worn_by, IsPassOf}
+use Rattle.chorus_nucleus.specs.Calls.{worn_after}
+use Rattle.chorus_take.specs.declared.message.TakenMessage.{TakenMessage}
+use Rattle.chorus_take.specs.Taking.{Appends, Misses, KeepsPass, IsTake, reply_with}
+use Rattle.chorus_take.proofs.Turns.{worn-ok, worn-err}
+use Rattle.chorus_take.proofs.Trying.{appends-none, appends-then, keeps-none, keeps-then}
+use Rattle.chorus_choose.specs.declared.chooser.Enabled.{Enabled}
+use Rattle.chorus_choose.specs.declared.received.Received.{Received}
+use Rattle.chorus_choose.specs.declared.received.Received.TheVariants as receives
+use Rattle.chorus_choose.specs.Looking.{ports_of}
+use Rattle.chorus_choose.specs.Rounds.{AreMisses, Missed, GivesAfter, Receives, IsReceive}
+
+-- Ports in vain.
+
+misses-append : (ps qs : List Ui) (xs ys : List Act) → AreMisses ps xs → AreMisses qs ys → AreMisses (ps ++ qs) (xs ++ ys)
+misses-append [] qs [] ys a b = b
+misses-append [] qs (x ∷ xs) ys a b = absurd a
+misses-append (p ∷ ps) qs [] ys a b = absurd a
+misses-append (p ∷ ps) qs (x ∷ xs) ys a b = (a.0, misses-append ps qs xs ys a.1 b)
+
+missed-append : (ps qs : List Ui) (v m u : Knowledge PlaceNote) → Missed ps v m → Missed qs m u → Missed (ps ++ qs) v u
+missed-append ps qs v m u a b = record {
+  acts = a.acts ++ b.acts;
+  misses = misses-append ps qs a.acts b.acts a.misses b.misses;
+  appends = appends-then a.acts b.acts v m u a.appends b.appends;
+}
+
+missed-one : (q : Ui) (v u : Knowledge PlaceNote) → Misses q v u → Missed (q ∷ []) v u
+missed-one q v u m = record { acts = m.act ∷ []; misses = (m.miss, tt); appends = m.appends }
+
+gives-after : (l : Layout) (earlier ports : List Ui) (q : Ui) (r : Reply) (v m u : Knowledge PlaceNote) → Missed earlier v m → GivesAfter l [] ports q r m u → GivesAfter l earlier ports q r v u
+gives-after l earlier ports q r v m u a b = record {
+  front = b.front;
+  rest = b.rest;
+  split = b.split;
+  acts = a.acts ++ b.acts;
+  misses = misses-append earlier b.front a.acts b.acts a.misses b.misses;
+  appends = subst (λ zs. Appends zs v u) (sym (append_assoc a.acts b.acts (taken_acts q r))) (appends-then a.acts (b.acts ++ taken_acts q r) v m u a.appends b.appends);
+  origin = b.origin;
+}
+
+-- A look at some ports in vain.
+
+pub record Looked (n : Nucleus) (asked : List Ui) (old new : Pass) : Type 0 where
+  pub keeps : KeepsPass n old new
+  pub missed : Missed asked (known old) (known new)
+  pub worn : worn_by new ≡ worn_by old
+
+pub looked-none : (n : Nucleus) (a : Pass) → IsPassOf n a → Looked n [] a a
+looked-none n a is = record { keeps = keeps-none n a is; missed = record { acts = []; misses = tt; appends = appends-none (known a) (known a) refl }; worn = refl }
+
+pub looked-append : (n : Nucleus) (ps qs : List Ui) (a b c : Pass) → Looked n ps a b → Looked n qs b c → Looked n (ps ++ qs) a c
+looked-append n ps qs a b c f s = record {
+  keeps = keeps-then n a b c f.keeps s.keeps;
+  missed = missed-append ps qs (known a) (known b) (known c) f.missed s.missed;
+  worn = s.worn ∙ f.worn;
+}
+
+looked-one : (n : Nucleus) (q : Ui) (b c : Pass) → IsTake n q (Ok None) b c → Looked n (q ∷ []) b c
+looked-one n q b c t = record { keeps = t.keeps; missed = missed-one q (known b) (known c) t.answer; worn = t.worn ∙ worn-ok {T = Option TakenMessage} (worn_by b) None }
+
+pub looked-all : (n : Nucleus) (ports : List Ui) (looked : ℕ) (a b : Pass) → looked ≡ length ports → Looked n ports a b → IsReceive n [] ports (Ok (receives.Empty looked)) a b
+looked-all n ports looked a b count h = record {
+  keeps = h.keeps;
+  received = (count, h.missed);
+  stopped = tt;
+  worn = h.worn ∙ sym (worn-ok (worn_by a) (receives.Empty looked));
+}
+
+-- The ports before one, in their order.
+
+ports-more : (xs : List Enabled) (i : ℕ) (d : Enabled) → i < length xs → ports_of (take (i + 1) xs) ≡ ports_of (take i xs) ++ (get_or xs i d).port ∷ []
+ports-more [] i d h = absurd (omega arith)
+ports-more (x ∷ xs) zero d h = refl
+ports-more (x ∷ xs) (suc i) d h = let e : suc i + 1 ≡ suc (i + 1) = omega arith in rw e (ap (λ zs. x.port ∷ zs) (ports-more xs i d (omega arith)))
+
+ports-split : (xs : List Enabled) (i : ℕ) (d : Enabled) → i < length xs → ports_of xs ≡ ports_of (take i xs) ++ ((get_or xs i d).port ∷ ports_of (drop (i + 1) xs))
+ports-split [] i d h = absurd (omega arith)
+ports-split (x ∷ xs) zero d h = refl
+ports-split (x ∷ xs) (suc i) d h = let e : suc i + 1 ≡ suc (i + 1) = omega arith in rw e (ap (λ zs. x.port ∷ zs) (ports-split xs i d (omega arith)))
+
+-- The take of the port at i, when those before it were asked in vain.
+module _ (n : Nucleus) (xs : List Enabled) (i : ℕ) (x : Enabled) (a b c : Pass) (h : i < length xs) (is : x ≡ get_or xs i x) (looked : Looked n (ports_of (take i xs)) a b) where
+  split : ports_of xs ≡ ports_of (take i xs) ++ (x.port ∷ ports_of (drop (i + 1) xs))
+  split = subst (λ (y : Enabled). ports_of xs ≡ ports_of (take i xs) ++ (y.port ∷ ports_of (drop (i + 1) xs))) (sym is) (ports-split xs i x h)
+
+  pub in-vain : IsTake n x.port (Ok None) b c → Looked n (ports_of (take (i + 1) xs)) a c
+  in-vain t =
+      subst (λ zs. Looked n zs a c) (sym (ports-more xs i x h))
+      (subst (λ (y : Enabled). Looked n (ports_of (take i xs) ++ y.port ∷ []) a c) is (looked-append n (ports_of (take i xs)) (x.port ∷ []) a b c looked (looked-one n x.port b c t)))
+
+  pub gives : (t : TakenMessage) → IsTake n x.port (Ok (Some t)) b c → IsReceive n [] (ports_of xs) (Ok (receives.Taken x.port t.position t.message t.settled)) a c
+  gives t h = record {
+    keeps = keeps-then n a b c looked.keeps h.keeps;
+    received = record {
+      front = ports_of (take i xs);
+      rest = ports_of (drop (i + 1) xs);
+      split = split;
+      acts = looked.missed.acts;
+      misses = looked.missed.misses;
+      appends = appends-then looked.missed.acts (taken_acts x.port (reply_with t)) (known a) (known b) (known c) looked.missed.appends h.answer.appends;
+      origin = h.answer.origin;
+    };
+    stopped = tt;
+    worn = h.worn ∙ worn-ok (worn_by b) (Some t) ∙ looked.worn ∙ sym (worn-ok (worn_by a) (receives.Taken x.port t.position t.message t.settled));
+  }
+
+  pub stops : (f : CallFault) → IsTake n x.port (Err f) b c → IsReceive n [] (ports_of xs) (Err f) a c
+  stops f h = record {
+    keeps = keeps-then n a b c looked.keeps h.keeps;
+    received = tt;
+    stopped = record {
+      front = ports_of (take i xs);
+      at = x.port;
+      rest = ports_of (drop (i + 1) xs);
+      split = split;
+      between = b;
+      missed = looked.missed;
+      fault = h.fault;
+    };
+    worn = h.worn ∙ ap (λ o. worn_after {T = Option TakenMessage} o (Err f)) looked.worn ∙ worn-err (Option TakenMessage) Received (worn_by a) f;
+  }
+
+-- A receive behind rounds in vain.
+
+after-received : (l : Layout) (earlier ports : List Ui) (x : Received) (v m u : Knowledge PlaceNote) → Missed earlier v m → Receives l [] ports x m u → Receives l earlier ports x v u
+after-received l earlier ports (receives.Taken q pos message settled) v m u a b = gives-after l earlier ports q (Reply.Taken pos message settled) v m u a b
+after-received l earlier ports (receives.Empty looked) v m u a b = (b.0, missed-append earlier ports v m u a b.1)
+
+pub after-rounds : (n : Nucleus) (earlier ports : List Ui) (r : Result Received CallFault) (a b c : Pass) → Looked n earlier a b → IsReceive n [] ports r b c → IsReceive n earlier ports r a c
+after-rounds n earlier ports (Ok x) a b c f s = record {
+  keeps = keeps-then n a b c f.keeps s.keeps;
+  received = after-received (layout_of n) earlier ports x (known a) (known b) (known c) f.missed s.received;
+  stopped = tt;
+  worn = s.worn ∙ ap (λ o. worn_after {T = Received} o (Ok x)) f.worn;
+}
+after-rounds n earlier ports (Err e) a b c f s = record {
+  keeps = keeps-then n a b c f.keeps s.keeps;
+  received = tt;
+  stopped = record {
+    front = s.stopped.front;
+    at = s.stopped.at;
+    rest = s.stopped.rest;
+    split = s.stopped.split;
+    between = s.stopped.between;
+    missed = missed-append earlier s.stopped.front (known a) (known b) (known s.stopped.between) f.missed s.stopped.missed;
+    fault = s.stopped.fault;
+  };
+  worn = s.worn ∙ ap (λ o. worn_after {T = Received} o (Err e)) f.worn;
+}
+
+pub round-more : (n : Nucleus) (earlier ports : List Ui) (looked : ℕ) (a b c : Pass) → Looked n earlier a b → IsReceive n [] ports (Ok (receives.Empty looked)) b c → Looked n (earlier ++ ports) a c
+round-more n earlier ports looked a b c f s =
+    looked-append n earlier ports a b c f record { keeps = s.keeps; missed = s.received.1; worn = s.worn ∙ worn-ok (worn_by b) (receives.Empty looked) }
+
+pub ruleset looks = (looked-none, looked-all)

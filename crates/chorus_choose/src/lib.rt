@@ -1,0 +1,27 @@
+//! Receiving on any enabled port, and a receive that waits.
+//!
+//! A [`Chooser`] has the enabled ports in the order in which they are looked at. [`Chooser::receive`] looks at each
+//! once, by one take of the nucleus, and takes from the first that has a message for the caller.
+//! [`Chooser::wait_receive`] waits for a ring of a [`bell()`] where there was none, and looks again. The user rests on
+//! this: the entries that a receive appended are told by its answer alone.
+//!
+//! Begin with `specs/Looking.antt` (the order), then `specs/Rounds.antt` (what a receive appends) and
+//! `specs/Bells.antt`.
+#![tactic(auto)]
+
+mod bells;
+mod chooser;
+mod ends;
+mod fault;
+mod laws;
+mod received;
+mod receiving;
+mod rule;
+mod waiting;
+
+pub use bells::bell;
+pub use chooser::{Chooser, ENABLED_LIMIT, Enabled};
+pub use ends::{Ringer, Waiter};
+pub use fault::{EnableFault, NotEnabled};
+pub use laws::looking_order;
+pub use received::{Received, Waited};

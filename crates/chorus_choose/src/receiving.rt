@@ -1,0 +1,44 @@
+//! A receive that does not wait.
+ghost use Rattle.chorus_nucleus.specs.Passes.{IsPassOf};
+ghost use Rattle.chorus_choose.specs.Looking.{ports_of};
+ghost use Rattle.chorus_choose.specs.Rounds.{IsReceive};
+ghost use Rattle.std.specs.Prelude.{[]};
+
+use crate::chooser::Chooser;
+use crate::received::Received;
+use chorus_nucleus::{CallFault, Nucleus, Pass};
+use chorus_take::take_once;
+
+impl Chooser {
+    /// Looks at the enabled ports in their order, each by one take, and takes from the first that the caller's actor
+    /// holds with a message when it is looked at. `Empty` comes exactly where there was none.
+    ///
+    /// Each port is judged when it is looked at; nothing is said of all ports at one moment. A fault is that of the
+    /// take that gave it, and the entries before it stand. Takes no memory but what a turn takes.
+    #[tactic(auto, using(crate::proofs::Asking::looks))]
+    pub fn receive(&self, nucleus: &Nucleus, pass: &mut Pass) -> Result<Received, CallFault>
+        requires { IsPassOf nucleus.now pass.old }
+        ensures { IsReceive nucleus.now [] (ports_of self.now) result pass.old pass.new }
+    {
+        let mut looked: usize = 0;
+        while looked < self.enabled.len() {
+            let port = self.enabled[looked].port;
+            match take_once(nucleus, pass, port) {
+                Ok(None) => {}
+                Ok(Some(taken)) => {
+                    return Ok(Received::Taken {
+                        port,
+                        pos: taken.position,
+                        message: taken.message,
+                        settled: taken.settled,
+                    });
+                }
+                Err(fault) => return Err(fault),
+            }
+            looked += 1;
+        }
+        Ok(Received::Empty {
+            looked: looked as u16,
+        })
+    }
+}

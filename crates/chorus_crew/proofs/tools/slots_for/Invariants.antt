@@ -1,0 +1,8 @@
+use Rattle.std.proofs.Common.{◌≡◌, ◌≤◌, None, length}
+use Rattle.std.specs.List.{All}
+use Rattle.std.specs.Prelude.{Option}
+use Rattle.chorus_crew.specs.declared.job.Done.{Done}
+use Rattle.chorus_crew.proofs.tools.slots_for.Given as goal
+
+abbrev pub invariant-loop : goal.invariant-loop
+invariant-loop l = (length l.slots.items ≡ l.counter) × (l.counter ≤ l.count) × All (λ (s : Option Done). s ≡ None) l.slots.items

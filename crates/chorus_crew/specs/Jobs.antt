@@ -1,0 +1,94 @@
+-- Jobs, and jobs that are done.
+-- n is the nucleus, l a layout, q a port, value what a message at its position is worth.
+use Rattle.std.specs.Prelude.{ℕ, ◌≡◌, ◌+◌, true, false, None, Some, List, [], ◌∷◌, map, Result, Ok, Err, slice_get}
+use Rattle.std.specs.List.{All, Contains}
+use Rattle.chorus_ui.specs.declared.ui.Ui.{Ui}
+use Rattle.chorus_ui.specs.declared.layout.Layout.{Layout}
+use Rattle.chorus_ui.specs.Layout.{has_actor}
+use Rattle.chorus_ui.specs.NameKind.{is_actor, is_port}
+use Rattle.chorus_entry.specs.declared.message.Message.{Message}
+use Rattle.chorus_turn.specs.declared.knowledge.Knowledge.{Knowledge}
+use Rattle.law_closing.specs.Places.{PlaceNote}
+use Rattle.chorus_nucleus.specs.declared.fault.CallFault.{CallFault}
+use Rattle.chorus_nucleus.specs.declared.nucleus.Nucleus.{Nucleus}
+use Rattle.chorus_nucleus.specs.declared.pass.Pass.{Pass}
+use Rattle.chorus_nucleus.specs.Passes.{layout_of, known, caller_of, worn_by, IsPassOf}
+use Rattle.chorus_nucleus.specs.Calls.{worn_after}
+use Rattle.chorus_take.specs.Taking.{KeepsPass}
+use Rattle.chorus_crew.specs.declared.job.Job.{Job}
+use Rattle.chorus_crew.specs.declared.job.Done.{Done}
+use Rattle.chorus_crew.specs.declared.job.Tally.{Tally}
+use Rattle.chorus_crew.specs.Handling.{Handles, Drains}
+
+abbrev pub Worked : (Ui → ℕ → Message → ℕ) → Layout → Ui → Result Tally CallFault → Knowledge PlaceNote
+    → Knowledge PlaceNote → Type 0
+Worked value l q (Ok t) v u = Drains value l q t.from t.count t.total v u
+Worked value l q (Err f) v u = Handles l q v u
+
+-- the messages of the port were handled with this pass
+pub record IsWork (value : Ui → ℕ → Message → ℕ) (n : Nucleus) (q : Ui) (r : Result Tally CallFault)
+    (old new : Pass) : Type 0 where
+  pub keeps : KeepsPass n old new
+  pub work : Worked value (layout_of n) q r (known old) (known new)
+  pub worn : worn_by new ≡ worn_after (worn_by old) r
+
+abbrev pub IsJobOf : Nucleus → Job → Type 0
+IsJobOf n job = IsPassOf n job.pass × (is_port job.port ≡ true)
+
+-- the job is done
+pub record IsDoneOf (value : Ui → ℕ → Message → ℕ) (n : Nucleus) (job : Job) (done : Done) : Type 0 where
+  pub index : done.index ≡ job.index
+  pub port : done.port ≡ job.port
+  pub work : IsWork value n job.port done.result job.pass done.pass
+
+-- one of these jobs is
+abbrev pub IsDoneIn : (Ui → ℕ → Message → ℕ) → Nucleus → List Job → Done → Type 0
+IsDoneIn value n jobs done = (job : Job) × Contains jobs job × IsDoneOf value n job done
+
+-- each of these jobs is, in their order
+abbrev pub AreDoneOf : (Ui → ℕ → Message → ℕ) → Nucleus → List Job → List Done → Type 0
+AreDoneOf value n [] [] = Unit {0}
+AreDoneOf value n (j ∷ jobs) (d ∷ dones) = IsDoneOf value n j d × AreDoneOf value n jobs dones
+AreDoneOf value n _ _ = ⊥
+
+-- each job has its place in the list as its number
+abbrev pub IsNumbered : List Job → Type 0
+IsNumbered jobs = (i : ℕ) (j : Job) → slice_get jobs i ≡ Some j → j.index ≡ i
+
+abbrev pub indices : List Job → List ℕ
+indices jobs = map (λ (j : Job). j.index) jobs
+
+abbrev pub done_indices : List Done → List ℕ
+done_indices dones = map (λ (d : Done). d.index) dones
+
+-- a pass of this nucleus that draws no numbers and into which none was retired
+pub record IsPlain (n : Nucleus) (pass : Pass) : Type 0 where
+  pub of_nucleus : IsPassOf n pass
+  pub keeper : (known pass).keeper ≡ false
+  pub notes : (known pass).notes ≡ []
+
+-- the job that was made for a pair, with a new pass of the next seat
+pub record IsEntered (n : Nucleus) (index seat : ℕ) (q : Ui) (job : Job) : Type 0 where
+  pub number : job.index ≡ index
+  pub of_port : job.port ≡ q
+  pub plain : IsPlain n job.pass
+  pub seat_is : (known job.pass).seat ≡ seat
+  pub nothing : (known job.pass).mine ≡ []
+  pub unworn : worn_by job.pass ≡ None
+
+-- those of these pairs, in their order
+abbrev pub AreEntered : Nucleus → ℕ → ℕ → List (Ui × Ui) → List Job → Type 0
+AreEntered n index seat [] [] = Unit {0}
+AreEntered n index seat (p ∷ pairs) (j ∷ jobs) = IsEntered n index seat p.0 j
+    × AreEntered n (index + 1) (seat + 1) pairs jobs
+AreEntered n index seat _ _ = ⊥
+
+abbrev pub AreTheActors : Layout → List (Ui × Ui) → Type 0
+AreTheActors l pairs = All (λ (p : Ui × Ui). (is_actor p.1 ≡ true) × (has_actor l p.1 ≡ true)) pairs
+
+-- the keeper has drawn so many numbers more, and is else as it was
+pub record HasDrawn (n : Nucleus) (count : ℕ) (old new : Pass) : Type 0 where
+  pub pass : IsPassOf n new
+  pub knows : known new ≡ record (known old) { made = (known old).made + count }
+  pub caller : caller_of new ≡ caller_of old
+  pub worn : worn_by new ≡ worn_by old

@@ -1,0 +1,9 @@
+pub mod Pairs
+pub mod Handling
+pub mod Jobs
+pub mod Rule
+pub mod Deals
+pub mod Hands
+pub mod Tools
+pub mod Retiring
+pub mod Crews

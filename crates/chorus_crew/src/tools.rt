@@ -1,0 +1,65 @@
+//! All that a crew takes memory for, before the first pass is drawn.
+ghost use Rattle.std.specs.Prelude.{◌≡◌, None, Option, [], IfOk, length};
+ghost use Rattle.std.specs.List.{All};
+ghost use Rattle.std.specs.Global.{Vec};
+ghost use Rattle.chorus_crew.specs.declared.job.Done.{Done};
+ghost use Rattle.chorus_crew.specs.Tools.{AreTools};
+
+use crate::job::{Done, Job};
+use crate::pairs::PAIRS_LIMIT;
+use crate::rule::{Owner, Thief};
+use crate::steal::Hand;
+use std::alloc::{AllocError, Global};
+
+/// What the jobs are shared by, done with and collected in.
+#[derive(Drop)]
+pub(crate) struct Tools {
+    pub(crate) owner: Owner,
+    pub(crate) thief: Thief,
+    pub(crate) rooms: Vec<Vec<Done>>,
+    pub(crate) hands: Vec<Hand>,
+    pub(crate) jobs: Vec<Job>,
+    pub(crate) refused: Vec<Job>,
+    pub(crate) slots: Vec<Option<Done>>,
+}
+
+/// Each worker's room for all jobs.
+fn rooms_for(alloc: Global, count: usize, workers: usize) -> Result<Vec<Vec<Done>>, AllocError>
+    ensures { IfOk result (λ r. (length r.items ≡ workers)
+        × All (λ (room : Vec Done). room.items ≡ []) r.items) }
+{
+    let mut rooms = Vec::with_capacity(alloc, workers)?;
+    for _ in 0..workers {
+        rooms.push(Vec::with_capacity(alloc, count)?)?;
+    }
+    Ok(rooms)
+}
+
+/// A slot for each job.
+fn slots_for(alloc: Global, count: usize) -> Result<Vec<Option<Done>>, AllocError>
+    ensures { IfOk result (λ r. (length r.items ≡ count)
+        × All (λ (s : Option Done). s ≡ None) r.items) }
+{
+    let mut slots = Vec::with_capacity(alloc, count)?;
+    for _ in 0..count {
+        slots.push(None)?;
+    }
+    Ok(slots)
+}
+
+/// Takes memory for so many jobs and workers.
+pub(crate) fn tools_for(alloc: Global, count: usize, workers: usize) -> Result<Tools, AllocError>
+    ensures { IfOk result (AreTools count workers) }
+{
+    let owner = Owner::fifo_as(alloc, PAIRS_LIMIT)?;
+    let thief = owner.stealer()?;
+    Ok(Tools {
+        owner,
+        thief,
+        rooms: rooms_for(alloc, count, workers)?,
+        hands: Vec::with_capacity(alloc, workers)?,
+        jobs: Vec::with_capacity(alloc, count)?,
+        refused: Vec::with_capacity(alloc, count)?,
+        slots: slots_for(alloc, count)?,
+    })
+}

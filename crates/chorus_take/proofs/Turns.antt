@@ -1,0 +1,170 @@
+-- What a call with a Take did, as a take.
+-- n is a nucleus, l a layout, p the number of a place, q a port, v and u are what a pass knows before and after, w and x its caller.
+use Rattle.std.proofs.Common.{ℕ, ◌≡◌, ◌+◌, true, List, [], ◌∷◌, ◌++◌, Option, Some, None, Result, Ok, Err, refl, sym, ◌∙◌, ap, subst, inl, inr}
+use mathlib.Core.Logic.{dite}
+use native.Mathlib.Decide.{ℕ_discrete}
+use Rattle.std.proofs.lemmas.Bool.{and_parts}
+use Rattle.chorus_ui.specs.declared.ui.Ui.{Ui}
+use Rattle.chorus_ui.specs.declared.layout.Layout.{Layout}
+use Rattle.chorus_ui.specs.Layout.{has_place}
+use Rattle.chorus_entry.specs.declared.entry.Entry.{Entry}
+use Rattle.chorus_entry.specs.declared.act.Act.{Act}
+use Rattle.chorus_entry.specs.declared.command.Command.{Command}
+use Rattle.chorus_entry.specs.declared.message.Message.{Message}
+use Rattle.chorus_calls.specs.declared.client.Settle.{Settle}
+use Rattle.chorus_calls.specs.Callers.{Seated}
+use Rattle.law_machine.specs.declared.reply.Reply.{Reply}
+use Rattle.law_replies.specs.Taking.{taken_acts, answers_take, acts_of}
+use Rattle.law_replies.proofs.Turns.{takes-append}
+use Rattle.law_history.specs.declared.turns.Input.{Input}
+use Rattle.law_history.specs.PlaceTurns.{may_come}
+use Rattle.law_history.proofs.Lists.{reverse-first}
+use Rattle.chorus_turn.specs.declared.knowledge.Remarked.{Remarked}
+use Rattle.chorus_turn.specs.declared.knowledge.Knowledge.{Knowledge}
+use Rattle.chorus_turn.specs.Lists.{StartsWith, list_at, list_put}
+use Rattle.chorus_turn.specs.Journals.{with_place}
+use Rattle.chorus_turn.specs.Knowing.{seen_at, after_turn}
+use Rattle.chorus_turn.proofs.Fronts.{put_here, put_elsewhere, starts_itself, starts_more, starts_same}
+use Rattle.law_closing.specs.Remarks.{numbered, remarked}
+use Rattle.law_closing.specs.Places.{PlaceNote}
+use Rattle.chorus_nucleus.specs.declared.fault.CallFault.{CallFault}
+use Rattle.chorus_nucleus.specs.declared.fault.CallFault.TheVariants as faults
+use Rattle.chorus_nucleus.specs.declared.nucleus.Nucleus.{Nucleus}
+use Rattle.chorus_nucleus.specs.declared.pass.Pass.{Pass}
+use Rattle.chorus_nucleus.specs.Passes.{layout_of, known, caller_of, worn_by}
+use Rattle.chorus_nucleus.specs.Calls.{FindsWorn, Because, Performs, IsCall, place_of, worn_after}
+use Rattle.chorus_take.specs.declared.message.TakenMessage.{TakenMessage}
+use Rattle.chorus_take.specs.Taking.{acts_made, Appends, HasOrigin, SeesMore, KeepsPass, IsTake}
+
+made-acts : (p k : ℕ) (r : PlaceNote) (es : List Entry) → acts_made (with_place p (numbered k r es)) ≡ acts_of es
+made-acts p k r [] = refl
+made-acts p k r (e ∷ es) = ap (λ zs. e.act ∷ zs) (made-acts p (k + 1) r es)
+
+-- What a pass has seen grows.
+
+sees-put : (p : ℕ) (all : List (Remarked PlaceNote)) (v : Knowledge PlaceNote) (row : List (List (Remarked PlaceNote))) → row ≡ list_put p all v.seen
+    → StartsWith all (seen_at p v) → (k : ℕ) → StartsWith (list_at k row) (seen_at k v)
+sees-put p all v row is starts k =
+    subst (λ z. StartsWith (list_at k z) (seen_at k v)) (sym is)
+    (dite (ℕ_discrete k p)
+    (λ e. subst (λ j. StartsWith (list_at j (list_put p all v.seen)) (seen_at j v)) (sym e)
+    (starts_same all (list_at p (list_put p all v.seen)) (seen_at p v) (put_here p all v.seen) starts))
+    (λ apart. starts_same (seen_at k v) (list_at k (list_put p all v.seen)) (seen_at k v) (put_elsewhere p k all v.seen apart) (starts_itself (seen_at k v))))
+
+pub sees-turn : (p : ℕ) (found news : List (Remarked PlaceNote)) (v u : Knowledge PlaceNote) → u ≡ after_turn p found news v → StartsWith found (seen_at p v) → SeesMore v u
+sees-turn p found news v u knows starts k = sees-put p (found ++ news) v u.seen (ap (λ (z : Knowledge PlaceNote). z.seen) knows) (starts_more found (seen_at p v) news starts) k
+
+pub sees-same : (v u : Knowledge PlaceNote) → u.seen ≡ v.seen → SeesMore v u
+sees-same v u same k = starts_same (seen_at k v) (seen_at k u) (seen_at k v) (ap (λ row. list_at k row) same) (starts_itself (seen_at k v))
+
+sees-fault : (l : Layout) (p : ℕ) (f : CallFault) (v : Knowledge PlaceNote) (w : Seated) (u : Knowledge PlaceNote) (x : Seated) → Because FindsWorn f l p v w u x → SeesMore v u
+sees-fault l p (faults.Busy by) v w u x b = sees-same v u (ap (λ (z : Knowledge PlaceNote). z.seen) b.0.knows)
+sees-fault l p (faults.Memory none) v w u x b = sees-turn p b.1.found [] v u b.1.knows b.1.shows.begins
+sees-fault l p (faults.Worn clock) v w u x b = sees-turn p b.looks.found [] v u b.looks.knows b.looks.shows.begins
+
+-- What a turn with a Take made.
+
+module _ (l : Layout) (p : ℕ) (q : Ui) (r : Reply) (v u : Knowledge PlaceNote) (w x : Seated) (h : Performs l p (Command.Take q) r v w u x) where
+  abbrev all : List Entry
+  all = h.turn.entry ∷ h.turn.later
+
+  told : (acts_of all ≡ taken_acts q r) × (answers_take r ≡ true)
+  told =
+      let t = takes-append h.state w q all (h.turn.journal ∙ sym (reverse-first h.turn.entry h.turn.later h.state.journal)) in
+      (subst (λ z. acts_of all ≡ taken_acts q z) (sym h.answer) t.0, subst (λ z. answers_take z ≡ true) (sym h.answer) t.1)
+
+  pub appends : Appends (taken_acts q r) v u
+  appends = record {
+    news = with_place p (remarked _ all);
+    grown = ap (λ (z : Knowledge PlaceNote). z.mine) h.turn.knows;
+    acts_are = made-acts p 0 _ all ∙ told.0;
+  }
+
+  pub is-answer : answers_take r ≡ true
+  is-answer = told.1
+
+  pub sees : SeesMore v u
+  sees = sees-turn p h.turn.found (remarked _ all) v u h.turn.knows h.turn.shows.begins
+
+  pub origin : HasOrigin l q r u
+  origin = record {
+    place = p;
+    found = h.turn.found;
+    state = h.state;
+    caller = w;
+    there = (and_parts (has_place l p) (may_come l p (Input.Command (Command.Take q)) w) h.turn.may).0;
+    leads = h.turn.leads;
+    gives = sym h.answer;
+    seen = starts_same (h.turn.found ++ remarked _ all) (seen_at p u) h.turn.found
+        (ap (λ (z : Knowledge PlaceNote). seen_at p z) h.turn.knows ∙ put_here p (h.turn.found ++ remarked _ all) v.seen)
+        (starts_more h.turn.found h.turn.found (remarked _ all) (starts_itself h.turn.found));
+  }
+
+-- The worn clock of an answer that is handed on.
+
+pub worn-ok : {T : Type 0} (o : Option ℕ) (x : T) → worn_after o (Ok x) ≡ o
+worn-ok None x = refl
+worn-ok (Some clock) x = refl
+
+pub worn-err : (S T : Type 0) (o : Option ℕ) (f : CallFault) → worn_after {T = S} o (Err f) ≡ worn_after {T = T} o (Err f)
+worn-err S T (Some clock) f = refl
+worn-err S T None (faults.Busy by) = refl
+worn-err S T None (faults.Memory none) = refl
+worn-err S T None (faults.Worn clock) = refl
+
+-- The call.
+
+module _ (n : Nucleus) (q : Ui) (old new : Pass) where
+  kept : (r : Result Reply CallFault) → IsCall n (Command.Take q) old new r → SeesMore (known old) (known new) → KeepsPass n old new
+  kept r h more = record { pass = h.pass; standing = h.standing; sees = more; seat = h.grows.seat; actor = h.grows.actor; sight = h.sight }
+
+  sees-ok : (r : Reply) → IsCall n (Command.Take q) old new (Ok r) → SeesMore (known old) (known new)
+  sees-ok r h = sees (layout_of n) (place_of n (Command.Take q) old) q r (known old) (known new) (caller_of old) (caller_of new) h.turn
+
+  made : (r : Reply) → IsCall n (Command.Take q) old new (Ok r) → Appends (taken_acts q r) (known old) (known new)
+  made r h = appends (layout_of n) (place_of n (Command.Take q) old) q r (known old) (known new) (caller_of old) (caller_of new) h.turn
+
+  worn-as : (r : Reply) (a : Option TakenMessage) → IsCall n (Command.Take q) old new (Ok r) → worn_by new ≡ worn_after {T = Option TakenMessage} (worn_by old) (Ok a)
+  worn-as r a h = h.worn ∙ worn-ok (worn_by old) r ∙ sym (worn-ok (worn_by old) a)
+
+  pub answered : (r : Reply) → IsCall n (Command.Take q) old new (Ok r) → answers_take r ≡ true
+  answered r h = is-answer (layout_of n) (place_of n (Command.Take q) old) q r (known old) (known new) (caller_of old) (caller_of new) h.turn
+
+  pub taken : (pos : ℕ) (m : Message) (settled : Option Settle) → IsCall n (Command.Take q) old new (Ok (Reply.Taken pos m settled))
+      → IsTake n q (Ok (Some record { position = pos; message = m; settled = settled })) old new
+  taken pos m settled h = let r = Reply.Taken pos m settled in
+      record {
+        keeps = kept (Ok r) h (sees-ok r h);
+        answer = record {
+          appends = made r h;
+          origin = origin (layout_of n) (place_of n (Command.Take q) old) q r (known old) (known new) (caller_of old) (caller_of new) h.turn;
+        };
+        fault = tt;
+        worn = worn-as r (Some record { position = pos; message = m; settled = settled }) h;
+      }
+
+  pub empty : IsCall n (Command.Take q) old new (Ok Reply.Empty) → IsTake n q (Ok None) old new
+  empty h = record {
+    keeps = kept (Ok Reply.Empty) h (sees-ok Reply.Empty h);
+    answer = record { act = Act.Empty q; miss = inl refl; appends = made Reply.Empty h };
+    fault = tt;
+    worn = worn-as Reply.Empty None h;
+  }
+
+  pub not-here : IsCall n (Command.Take q) old new (Ok Reply.NotHere) → IsTake n q (Ok None) old new
+  not-here h = record {
+    keeps = kept (Ok Reply.NotHere) h (sees-ok Reply.NotHere h);
+    answer = record { act = Act.NotHere q; miss = inr refl; appends = made Reply.NotHere h };
+    fault = tt;
+    worn = worn-as Reply.NotHere None h;
+  }
+
+  pub refused : (f : CallFault) → IsCall n (Command.Take q) old new (Err f) → IsTake n q (Err f) old new
+  refused f h = record {
+    keeps = kept (Err f) h (sees-fault (layout_of n) (place_of n (Command.Take q) old) f (known old) (caller_of old) (known new) (caller_of new) h.fault);
+    answer = tt;
+    fault = record { tried = known old; before = refl; because = h.fault; mine = h.refused.mine; caller = h.refused.caller };
+    worn = h.worn ∙ worn-err Reply (Option TakenMessage) (worn_by old) f;
+  }
+
+pub ruleset calls = (answered, taken, empty, not-here, refused)

@@ -1,0 +1,106 @@
+-- What a take of a port makes, and what it hands out.
+-- n is a nucleus, l a layout, q a port, v and u are what a pass knows before and after.
+use Rattle.std.specs.Prelude.{ℕ, ◌≡◌, ◌⊎◌, Bool, true, false, List, [], ◌∷◌, ◌++◌, map, Option, Some, None, Result, IfOk, IfErr}
+use Rattle.chorus_ui.specs.declared.ui.Ui.{Ui}
+use Rattle.chorus_ui.specs.declared.layout.Layout.{Layout}
+use Rattle.chorus_ui.specs.Layout.{has_place}
+use Rattle.chorus_entry.specs.declared.act.Act.{Act}
+use Rattle.chorus_entry.specs.declared.command.Command.{Command}
+use Rattle.chorus_calls.specs.Callers.{Seated}
+use Rattle.law_machine.specs.declared.reply.Reply.{Reply}
+use Rattle.law_machine.specs.PlaceState.{PlaceState, started}
+use Rattle.law_machine.specs.PlaceMachine.{begun}
+use Rattle.law_machine.specs.Replies.{reply}
+use Rattle.law_replies.specs.Taking.{taken_acts}
+use Rattle.law_history.specs.Histories.{Takes}
+use Rattle.law_history.specs.PlaceTurns.{machine}
+use Rattle.chorus_turn.specs.declared.knowledge.Remarked.{Remarked}
+use Rattle.chorus_turn.specs.declared.knowledge.Placed.{Placed}
+use Rattle.chorus_turn.specs.declared.knowledge.Knowledge.{Knowledge}
+use Rattle.chorus_turn.specs.Lists.{StartsWith}
+use Rattle.chorus_turn.specs.Knowing.{IsSamePass, seen_at}
+use Rattle.law_closing.specs.Remarks.{turns_at}
+use Rattle.law_closing.specs.Places.{PlaceNote}
+use Rattle.chorus_nucleus.specs.declared.fault.CallFault.{CallFault}
+use Rattle.chorus_nucleus.specs.declared.nucleus.Nucleus.{Nucleus}
+use Rattle.chorus_nucleus.specs.declared.pass.Pass.{Pass}
+use Rattle.chorus_nucleus.specs.Passes.{layout_of, known, caller_of, worn_by, sight_of, IsPassOf}
+use Rattle.chorus_nucleus.specs.Calls.{FindsWorn, Because, place_of, worn_after}
+use Rattle.chorus_take.specs.declared.message.TakenMessage.{TakenMessage}
+
+-- the acts of what a pass made, in order
+abbrev pub acts_made : List (Placed PlaceNote) → List Act
+acts_made made = map (λ (m : Placed PlaceNote). m.remarked.entry.act) made
+
+-- the pass made entries with these acts, and no others
+pub record Appends (acts : List Act) (v u : Knowledge PlaceNote) : Type 0 where
+  pub news : List (Placed PlaceNote)
+  pub grown : u.mine ≡ v.mine ++ news
+  pub acts_are : acts_made news ≡ acts
+
+-- the port was asked in vain
+abbrev pub IsMiss : Ui → Act → Type 0
+IsMiss q a = (a ≡ Act.Empty q) ⊎ (a ≡ Act.NotHere q)
+
+pub record Misses (q : Ui) (v u : Knowledge PlaceNote) : Type 0 where
+  pub act : Act
+  pub miss : IsMiss q act
+  pub appends : Appends (act ∷ []) v u
+
+-- The turn that gave a reply: a place of the layout whose turns were those of the journal `found` gives it to a take of
+-- the port. The pass has seen that journal, so it is a beginning of the place's when all is closed.
+pub record HasOrigin (l : Layout) (q : Ui) (r : Reply) (v : Knowledge PlaceNote) : Type 0 where
+  pub place : ℕ
+  pub found : List (Remarked PlaceNote)
+  pub state : PlaceState
+  pub caller : Seated
+  pub there : has_place l place ≡ true
+  pub leads : Takes (machine l) place (started l place) (turns_at place found) state
+  pub gives : reply (Command.Take q) (begun state caller) ≡ r
+  pub seen : StartsWith (seen_at place v) found
+
+-- a message was taken: the Take stands there with what ends the call behind it
+pub record Gives (l : Layout) (q : Ui) (r : Reply) (v u : Knowledge PlaceNote) : Type 0 where
+  pub appends : Appends (taken_acts q r) v u
+  pub origin : HasOrigin l q r u
+
+abbrev pub reply_with : TakenMessage → Reply
+reply_with m = Reply.Taken m.position m.message m.settled
+
+abbrev pub Answers : Layout → Ui → Option TakenMessage → Knowledge PlaceNote → Knowledge PlaceNote → Type 0
+Answers l q None v u = Misses q v u
+Answers l q (Some m) v u = Gives l q (reply_with m) v u
+
+-- of each place the pass has seen what it had seen, and maybe more
+abbrev pub SeesMore : Knowledge PlaceNote → Knowledge PlaceNote → Type 0
+SeesMore v u = (p : ℕ) → StartsWith (seen_at p u) (seen_at p v)
+
+-- what takes leave of a pass as it was
+pub record KeepsPass (n : Nucleus) (old new : Pass) : Type 0 where
+  pub pass : IsPassOf n new
+  pub standing : IsSamePass (known old) (known new)
+  pub sees : SeesMore (known old) (known new)
+  pub seat : (caller_of new).seat ≡ (caller_of old).seat
+  pub actor : (caller_of new).actor ≡ (caller_of old).actor
+  pub sight : sight_of new ≡ sight_of old
+
+-- Nothing was made; and why not: the last try found the place held, no memory, or a worn clock. `tried` is what the
+-- pass knew then.
+pub record IsFault (n : Nucleus) (q : Ui) (f : CallFault) (old new : Pass) : Type 0 where
+  pub tried : Knowledge PlaceNote
+  pub before : tried.mine ≡ (known old).mine
+  pub because : Because FindsWorn f (layout_of n) (place_of n (Command.Take q) old) tried (caller_of old) (known new)
+      (caller_of new)
+  pub mine : (known new).mine ≡ (known old).mine
+  pub caller : caller_of new ≡ caller_of old
+
+-- what a take of the port did
+pub record IsTake (n : Nucleus) (q : Ui) (r : Result (Option TakenMessage) CallFault) (old new : Pass) : Type 0 where
+  pub keeps : KeepsPass n old new
+  pub answer : IfOk r (λ a. Answers (layout_of n) q a (known old) (known new))
+  pub fault : IfErr r (λ f. IsFault n q f old new)
+  pub worn : worn_by new ≡ worn_after (worn_by old) r
+
+abbrev pub is_busy : CallFault → Bool
+is_busy (CallFault.Busy by) = true
+is_busy _ = false

@@ -1,0 +1,68 @@
+//! A take of a port: one try, and tries until the place is free.
+ghost use Rattle.std.specs.Prelude.{◌≡◌, true, false, IfErr};
+ghost use Rattle.chorus_ui.specs.NameKind.{is_port};
+ghost use Rattle.chorus_nucleus.specs.Passes.{IsPassOf};
+ghost use Rattle.chorus_take.specs.Taking.{IsTake, is_busy};
+
+use crate::message::TakenMessage;
+use chorus_nucleus::{CallFault, Nucleus, Pass};
+use chorus_ui::Ui;
+use law_machine::Reply;
+use std::sync::Wait;
+use std::thread;
+
+/// Takes the first message of the port, in one turn at the port's place on the caller's site. None comes exactly where
+/// the caller's actor does not hold the port there, or no message waits in it. The faults are those of
+/// [`Nucleus::take`], which tries the place once.
+#[tactic(auto, using(crate::proofs::Turns::calls))]
+pub fn take_once(
+    nucleus: &Nucleus,
+    pass: &mut Pass,
+    port: Ui,
+) -> Result<Option<TakenMessage>, CallFault>
+    requires pass { IsPassOf nucleus.now pass.old }
+    requires port { is_port port ≡ true }
+    ensures { IsTake nucleus.now port result pass.old pass.new }
+{
+    match nucleus.take(pass, port) {
+        Ok(
+            Reply::Taken {
+                pos,
+                message,
+                settled,
+            },
+        ) => Ok(Some(TakenMessage {
+            position: pos,
+            message,
+            settled,
+        })),
+        Ok(Reply::Empty) => Ok(None),
+        Ok(Reply::NotHere) => Ok(None),
+        Ok(_) => unreachable!(),
+        Err(fault) => Err(fault),
+    }
+}
+
+/// Takes the first message of the port, and tries again while another pass has the place. So it never answers `Busy`;
+/// no entry is appended by a try that found the place held.
+#[tactic(auto, using(crate::proofs::Trying::trying))]
+pub fn take_when_free<R: Wait>(
+    rt: &R,
+    nucleus: &Nucleus,
+    pass: &mut Pass,
+    port: Ui,
+) -> Result<Option<TakenMessage>, CallFault>
+    requires pass { IsPassOf nucleus.now pass.old }
+    requires port { is_port port ≡ true }
+    ensures take { IsTake nucleus.now port result pass.old pass.new }
+    ensures free { IfErr result (λ f. is_busy f ≡ false) }
+{
+    for _ in rt.forever() {
+        match take_once(nucleus, pass, port) {
+            Ok(answer) => return Ok(answer),
+            Err(CallFault::Busy { by: _ }) => thread::yield_now(),
+            Err(fault) => return Err(fault),
+        }
+    }
+    unreachable!()
+}

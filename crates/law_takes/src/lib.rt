@@ -1,0 +1,4 @@
+//! The law of what takes hand out through a running nucleus.
+#![tactic(auto)]
+
+pub mod takes;
