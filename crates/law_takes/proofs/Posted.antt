@@ -1,5 +1,5 @@
 -- A take's turn stands in the place's history when all is closed.
-use Rattle.std.proofs.Common.{ℕ, ◌≡◌, ◌≤◌, ◌<◌, ◌-◌, ◌+◌, nat_le, true, List, ◌++◌, map, reverse, Option, refl, sym, ◌∙◌, ap, subst, arith, append_assoc}
+use Rattle.std.proofs.Common.{ℕ, ◌≡◌, ◌-◌, ◌+◌, nat_le, true, List, ◌++◌, map, reverse, Option, sym, ◌∙◌, ap, subst, arith, append_assoc}
 use Rattle.std.specs.List.{filter}
 use Rattle.std.proofs.lemmas.List.{map-append}
 use Rattle.std.proofs.lemmas.List.Elements.{filter-append}
@@ -13,9 +13,8 @@ use Rattle.chorus_calls.specs.declared.client.Settle.{Settle}
 use Rattle.chorus_merge.specs.Merge.{merged}
 use Rattle.law_machine.specs.declared.reply.Reply.{Reply}
 use Rattle.law_network.specs.Network.{schedule}
-use Rattle.law_network.specs.Left.{merged_past}
 use Rattle.law_history.specs.Runs.{merged_at, KeepsPromises}
-use Rattle.law_history.specs.Journals.{Comer, PlaceTurn, events}
+use Rattle.law_history.specs.Journals.{Comer, events}
 use Rattle.law_history.proofs.Merging.{journals-keep-promises}
 use Rattle.law_closing.specs.Places.{PlaceNote}
 use Rattle.law_closing.specs.Closing.{IsPlace}
@@ -24,8 +23,7 @@ use Rattle.law_replies.specs.AsPosted.{IsAsPosted}
 use Rattle.law_replies.proofs.Histories.{histories-take-posted}
 use Rattle.chorus_turn.specs.declared.knowledge.Knowledge.{Knowledge}
 use Rattle.chorus_turn.specs.declared.knowledge.Remarked.{Remarked}
-use Rattle.chorus_turn.specs.Lists.{StartsWith}
-use Rattle.chorus_turn.specs.Knowing.{seen_at, Shows}
+use Rattle.chorus_turn.specs.Knowing.{Shows}
 use Rattle.chorus_net.specs.declared.closed.Closed.{Closed}
 use Rattle.chorus_net.specs.Closing.{IsLeft}
 use Rattle.chorus_nucleus.specs.Closing.{ClosesAs}

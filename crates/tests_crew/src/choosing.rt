@@ -6,13 +6,30 @@ ghost use Rattle.chorus_nucleus.specs.Passes.{IsPassOf};
 use crate::ground::{actor, close, insist, make, port, port_of, send, start};
 use chorus_choose::{Chooser, EnableFault, NotEnabled, Received};
 use chorus_entry::{Act, Command};
+use chorus_net::Closed;
 use chorus_nucleus::{Nucleus, Pass};
 use chorus_ui::Ui;
 use law_machine::Reply;
 use std::process::Abort;
 use std::sync::Wait;
 
-/// Receives this body of this port, at position 0.
+/// It is this body of this port, at position 0, and no reply.
+fn assert_message(rt: &impl Abort, received: Received, from: &str, body: &[u8]) {
+    match received {
+        Received::Taken {
+            port: taken,
+            pos,
+            message,
+            settled,
+        } => {
+            assert!(rt; taken == port(rt, from) && pos == 0 && settled.is_none());
+            assert!(rt; message.body.bytes() == body);
+        }
+        Received::Empty { looked: _ } => panic!(rt; "nothing taken"),
+    }
+}
+
+/// Receives this body of this port.
 fn assert_taken(
     rt: &impl Abort,
     nucleus: &Nucleus,
@@ -25,18 +42,8 @@ fn assert_taken(
     ensures { IsPassOf nucleus.now pass.new }
 {
     match chooser.receive(nucleus, pass) {
-        Ok(
-            Received::Taken {
-                port: taken,
-                pos,
-                message,
-                settled,
-            },
-        ) => {
-            assert!(rt; taken == port(rt, from) && pos == 0 && settled.is_none());
-            assert!(rt; message.body.bytes() == body);
-        }
-        _ => panic!(rt; "nothing taken"),
+        Ok(received) => assert_message(rt, received, from, body),
+        Err(_) => panic!(rt; "refused"),
     }
 }
 
@@ -48,6 +55,25 @@ fn assert_empty(rt: &impl Abort, nucleus: &Nucleus, pass: &mut Pass, chooser: &C
     match chooser.receive(nucleus, pass) {
         Ok(Received::Empty { looked }) => assert!(rt; looked == count),
         _ => panic!(rt; "not empty"),
+    }
+}
+
+/// How long the journal of the first place is.
+fn journal_length(closed: &Closed) -> usize {
+    match closed.journals.first() {
+        Some(journal) => journal.len(),
+        None => 0,
+    }
+}
+
+/// The entry with this index of the first place's journal has this act.
+fn assert_act(rt: &impl Abort, closed: &Closed, index: usize, act: &Act) {
+    let Some(journal) = closed.journals.first() else {
+        panic!(rt; "no journal")
+    };
+    match journal.get(index) {
+        Some(entry) => assert!(rt; entry.act == *act),
+        None => panic!(rt; "no entry"),
     }
 }
 
@@ -74,9 +100,8 @@ fn receive_by_priority(rt: HostRuntime) {
     assert_taken(&rt, &nucleus, &mut pass, &chooser, "1.p.1", b"a");
     assert_empty(&rt, &nucleus, &mut pass, &chooser, 2);
     let closed = close(&rt, nucleus, pass);
-    let journal = &closed.journals[0];
-    assert!(&rt; journal.len() == 11);
-    assert!(&rt; journal[7].act == Act::Empty { port: two });
+    assert!(&rt; journal_length(&closed) == 11);
+    assert_act(&rt, &closed, 7, &Act::Empty { port: two });
 }
 
 #[test]
@@ -107,7 +132,17 @@ fn equal_priorities_and_ports_of_others(rt: HostRuntime) {
     move_away(&rt, &nucleus, &mut pass, two, other);
     assert_empty(&rt, &nucleus, &mut pass, &chooser, 2);
     let closed = close(&rt, nucleus, pass);
-    let journal = &closed.journals[0];
-    assert!(&rt; journal[journal.len() - 2].act == Act::NotHere { port: two });
-    assert!(&rt; journal[journal.len() - 1].act == Act::NotHere { port: one });
+    let length = journal_length(&closed);
+    assert_act(
+        &rt,
+        &closed,
+        length.saturating_sub(2),
+        &Act::NotHere { port: two },
+    );
+    assert_act(
+        &rt,
+        &closed,
+        length.saturating_sub(1),
+        &Act::NotHere { port: one },
+    );
 }

@@ -86,26 +86,54 @@ fn chooser_of(rt: &impl Abort, alloc: Global, of: Ui) -> Chooser
     chooser
 }
 
+/// One sends and rings, and the other receives, each on a thread of its own.
+fn send_and_receive<R: Threads + Wait + Abort + Sync>(
+    rt: &R,
+    nucleus: &Nucleus,
+    passes: (Pass, Pass),
+    chooser: &Chooser,
+    bell: (Ringer, Waiter),
+    to: Ui,
+    count: u64,
+) -> (Pass, Pass)
+    requires port { is_port to ≡ true }
+    requires passes { IsPassOf nucleus.now passes.0 × IsPassOf nucleus.now passes.1 }
+    ensures { IsPassOf nucleus.now result.0 × IsPassOf nucleus.now result.1 }
+{
+    let (sender, receiver) = passes;
+    let (ringer, mut waiter) = bell;
+    join(
+        rt,
+        || -> Pass
+            requires port { is_port to ≡ true }
+            requires pass { IsPassOf nucleus.now sender }
+            ensures { IsPassOf nucleus.entry.now result }
+        { send_and_ring(rt, nucleus, sender, &ringer, to, count) },
+        || -> Pass
+            requires { IsPassOf nucleus.now receiver }
+            ensures { IsPassOf nucleus.entry.now result }
+        { receive_all(rt, nucleus, receiver, chooser, &mut waiter, count) },
+    )
+}
+
 /// A ring before the wait, and so many messages with a ring behind each, by a second thread.
 fn assert_all_received<R: Threads + Wait + Abort + Sync>(rt: &R, alloc: Global, count: u64) {
     let (nucleus, mut keeper) = start(rt, alloc, 1);
     let to = port(rt, "1.p.1");
     make(rt, &nucleus, &mut keeper, 1, 64);
     let chooser = chooser_of(rt, alloc, to);
-    let (ringer, mut waiter) = bell(alloc).expect(rt, "memory");
+    let (ringer, waiter) = bell(alloc).expect(rt, "memory");
     let sender = enter(rt, &nucleus, &mut keeper, "1.a.2");
     let receiver = enter(rt, &nucleus, &mut keeper, "1.a.1");
     ringer.ring();
-    let (sender, receiver) = join(
+    let (sender, receiver) = send_and_receive(
         rt,
-        || -> Pass
-            requires { IsPassOf nucleus.now sender }
-            ensures { IsPassOf nucleus.entry.now result }
-        { send_and_ring(rt, &nucleus, sender, &ringer, to, count) },
-        || -> Pass
-            requires { IsPassOf nucleus.now receiver }
-            ensures { IsPassOf nucleus.entry.now result }
-        { receive_all(rt, &nucleus, receiver, &chooser, &mut waiter, count) },
+        &nucleus,
+        (sender, receiver),
+        &chooser,
+        (ringer, waiter),
+        to,
+        count,
     );
     nucleus.retire(sender, &mut keeper);
     nucleus.retire(receiver, &mut keeper);
