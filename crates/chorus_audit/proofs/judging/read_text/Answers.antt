@@ -1,6 +1,6 @@
 use Rattle.std.proofs.Common.{◌≡◌, arith, subst}
 use Rattle.chorus_audit.proofs.Steps.{Found, found_next, legal_end, stop_end, summary_end}
-use Rattle.chorus_audit.proofs.judging.judged.Goals as goal
+use Rattle.chorus_audit.proofs.judging.read_text.Goals as goal
 
 pub loop-taken-preserved : goal.loop-taken-preserved
 loop-taken-preserved c =
