@@ -1,39 +1,48 @@
 -- Where the last entry about a message stands, by how far the message is on its way.
-use Rattle.std.proofs.Common.{ℕ, ◌≡◌, ◌≢◌, ◌==◌, Bool, true, false, List, [], ◌∷◌, ◌++◌, cond, Option, Some, None, refl, sym, ◌∙◌, ap, subst, inl, inr}
-use Rattle.std.proofs.lemmas.Bool.{eqb-true, eq-eqb, and_from, cond_both, false≢true}
+use Rattle.std.proofs.Common.{ℕ, ◌≡◌, ◌+◌, ◌==◌, ◌⊎◌, Bool, true, false, List, [], ◌∷◌, ◌++◌, cond, unwrap_or, Option, Some, None, refl, sym, ◌∙◌, ap, subst, inl, inr, arith}
+use Rattle.std.specs.Option.{option_or}
+use Rattle.std.proofs.lemmas.Bool.{eqb-true, eq-eqb, and_from, and_parts, cond_both, false≢true}
 use Rattle.chorus_ui.specs.declared.ui.Ui.{Ui}
 use Rattle.chorus_ui.specs.declared.layout.Layout.{Layout}
-use Rattle.chorus_ui.specs.Layout.{IsLayout}
+use Rattle.chorus_ui.specs.Layout.{group_place}
 use Rattle.chorus_ui.specs.Name.{same_ui}
 use Rattle.chorus_ui.proofs.Names.{same_ui-self}
 use Rattle.chorus_entry.specs.declared.entry.Entry.{Entry}
 use Rattle.chorus_entry.specs.declared.id.MsgId.{MsgId}
+use Rattle.chorus_entry.specs.declared.message.Message.{Message}
 use Rattle.chorus_entry.specs.declared.dest.Dest.{Dest}
 use Rattle.chorus_entry.specs.declared.dest.Dest.TheVariants as D
 use Rattle.chorus_entry.specs.declared.answer.Answer.{Answer}
 use Rattle.chorus_entry.specs.declared.answer.Answer.TheVariants as A
 use Rattle.chorus_entry.specs.declared.act.Act.{Act}
-use Rattle.chorus_entry.specs.declared.act.Act.TheVariants.{Post, Accept, Full, Already, ClientsFull, Stale, Early, NoPort, Elsewhere, NoMember, Choose, Try, Told, Heard, Arrive, Gone}
-use Rattle.chorus_entry.specs.Act.{is_decision, message_of}
+use Rattle.chorus_entry.specs.declared.act.Act.TheVariants.{Post, Accept, Full, Already, ClientsFull, Stale, Early, NoPort, Elsewhere, NoMember, Choose, Try, Told, Heard, Gone}
+use Rattle.chorus_entry.specs.Act.{message_of}
 use Rattle.chorus_entry.specs.Answer.{is_final}
+use Rattle.chorus_entry.specs.Dest.{group_in}
+use Rattle.chorus_entry.specs.MsgId.{same_id}
+use Rattle.chorus_entry.proofs.Same.{same_id-self}
+use Rattle.chorus_world.specs.declared.place.Sent.{Sent}
 use Rattle.chorus_world.specs.declared.message.Progress.{Progress}
-use Rattle.chorus_world.specs.declared.message.Progress.TheVariants.{Idle, Asked, Tried, Decided, Settled}
-use Rattle.chorus_world.specs.Views.{views, about, is_about}
+use Rattle.chorus_world.specs.declared.message.Progress.TheVariants.{Idle, Asked, Tried, Decided, Settled, Reported}
+use Rattle.chorus_world.specs.Views.{views, at, by, about, is_about}
 use Rattle.chorus_world.specs.Messages.{progress, progress_after, decided, told, settled}
+use Rattle.chorus_world.specs.Places.{sent, sent_by, find_sent}
+use Rattle.chorus_world.specs.Posts.{Posted, post_of}
+use Rattle.chorus_world.specs.Seats.{posts}
 use Rattle.chorus_world.specs.Steps.{act_may, is_legal}
-use Rattle.chorus_world.proofs.Steps.LegalLemmas.{legal_parts, keeps, skips}
+use Rattle.chorus_world.proofs.Steps.LegalLemmas.{entry, legal_parts, keeps, skips}
 use Rattle.chorus_world.proofs.Ports.LineLemmas.{none_some, id_is}
-use Rattle.chorus_world.proofs.Ports.PortMoves.{to_be_told}
-use Rattle.chorus_world.proofs.Messages.SendingLemmas.{some_is, first_here}
-use Rattle.chorus_world.proofs.Messages.StageLemmas.{MessageFacts, first_is_idle}
+use Rattle.chorus_world.proofs.Messages.SentLemmas.{find_sent_append}
+use Rattle.chorus_world.proofs.Messages.SendingLemmas.{sent_as, sent_stays, some_is, first_here, at_same}
+use Rattle.chorus_world.proofs.Messages.StageLemmas.{HasOrigin, IsAsked, IsUnknown, MessageFacts, Stage, first_is_idle}
 use Rattle.chorus_world.proofs.Messages.DueLemmas.{IsDue}
+use Rattle.chorus_world.proofs.Messages.PostLemmas.{ChoiceNeeds, asked_facts, choose_needs, no_member_needs, post_needs, post_stays}
 use Rattle.chorus_world.proofs.Messages.VerdictLemmas.{decision_due}
 use Rattle.chorus_world.proofs.Messages.MessageInvariant.{told_needs, legal_messages}
-use Rattle.chorus_world.proofs.Messages.Decided.{may_as}
-use Rattle.chorus_world.proofs.Messages.Ways.{Passes, passes}
+use Rattle.chorus_world.proofs.Seats.SenderLaws.{copy_home}
 use Rattle.law_picture.specs.declared.row.Row.{Row}
-use Rattle.law_picture.specs.Causes.{caused_by, from_elsewhere, goes_on, goes_on_by, latest, port_arrived, row_of}
-use Rattle.law_picture.specs.Laws.{ArrowsLeadForward, AsksHaveArrows, ComesFrom, HasArrow, TriesHaveArrows, VerdictsHaveArrows}
+use Rattle.law_picture.specs.Causes.{latest, row_of}
+use Rattle.law_picture.specs.Laws.{group_at, group_of}
 
 pub latest_here : (test : Entry → Bool) (e : Entry) (past : List Entry) → test e ≡ true → latest test (e ∷ past) ≡ Some (row_of past e)
 latest_here test e past h = rw h refl
@@ -41,172 +50,170 @@ latest_here test e past h = rw h refl
 pub latest_skips : (test : Entry → Bool) (e : Entry) (past : List Entry) → test e ≡ false → latest test (e ∷ past) ≡ latest test past
 latest_skips test e past h = rw h refl
 
-abbrev IsFrom : ℕ → Option Row → Type 0
+abbrev pub IsFrom : ℕ → Option Row → Type 0
 IsFrom p o = (row : Row) × (o ≡ Some row) × (row.place ≡ p)
 
--- the place that asked for a post, that tried a message, or that decided on one, is that of the last entry about it
-abbrev Came : Progress → Option Row → Type 0
-Came (Asked from d) o = IsFrom from o
-Came (Tried from q to hop) o = IsFrom from o
-Came (Decided from b q a) o = IsFrom b o
-Came _ o = Unit {0}
+-- the message was sent from there
+pub record IsHome (x : MsgId) (past : List Entry) (o : Option Row) : Type 0 where
+  pub row : Row
+  pub message : Sent
+  pub last : o ≡ Some row
+  pub sent : sent_as x row.place past ≡ Some message
 
-came-settled : (a : Answer) (o : Option Row) → Came (settled a) o
-came-settled a o = cond_both (is_final a) (Settled a) Idle (λ z. Came z o) (λ _. tt) (λ _. tt)
+-- what became of it was found there, at the place of its group where it has one
+pub record IsEnd (l : Layout) (x : MsgId) (past : List Entry) (o : Option Row) : Type 0 where
+  pub row : Row
+  pub post : Posted
+  pub last : o ≡ Some row
+  pub posted : post_of x past ≡ Some post
+  pub group : (p : ℕ) → group_of l (Some post) ≡ Some p → row.place ≡ p
 
-module _ (l : Layout) (past : List Entry) (legal : is_legal l past ≡ true) (r s : ℕ) (x : MsgId) (f : MessageFacts x past) (row : Row) (here : row.place ≡ r) where
-  from-here : IsFrom r (Some row)
-  from-here = (row, refl, here)
+-- the place that asked for a post, that tried a message, or that decided on one, is that of the last entry about it; and of one that
+-- waits it is the place that sent it, if there is one
+abbrev pub Came : Layout → MsgId → List Entry → Progress → Option Row → Type 0
+Came l x past Idle o = (o ≡ None) ⊎ IsHome x past o
+Came l x past (Asked from d) o = IsFrom from o
+Came l x past (Tried from q to hop) o = IsFrom from o
+Came l x past (Decided from b q a) o = IsFrom b o
+Came l x past (Settled a) o = IsEnd l x past o
+Came l x past Reported o = Unit {0}
 
-  decides : (a : Act) (q : Ui) (answer : Answer) → ((z : Progress) → progress_after r a z ≡ decided r q answer z) → IsDue x q r past → Came (progress_after r a (progress (about x past))) (Some row)
-  decides a q answer gives (inl t) =
+-- another entry changes nothing of it
+stays : (l : Layout) (x : MsgId) (past : List Entry) (e : Entry) (s : Progress) (o : Option Row) → Came l x past s o → Came l x (e ∷ past) s o
+stays l x past e Idle o (inl none) = inl none
+stays l x past e Idle o (inr h) = inr (record { row = h.row; message = h.message; last = h.last; sent = sent_stays x h.row.place past e h.message h.sent })
+stays l x past e (Asked from d) o h = h
+stays l x past e (Tried from q to hop) o h = h
+stays l x past e (Decided from b q a) o h = h
+stays l x past e (Settled a) o h =
+    record { row = h.row; post = h.post; last = h.last; posted = post_stays x past e h.post h.posted; group = h.group }
+stays l x past e Reported o h = tt
+
+-- a message of a group is sent from the group's place, where there is one
+chosen-there : (l : Layout) (g : Ui) (from p r : ℕ) → (unwrap_or (group_place l g) from == r) ≡ true → group_place l g ≡ Some p → r ≡ p
+chosen-there l g from p r h is = sym (eqb-true (unwrap_or (group_place l g) from) r h) ∙ ap (λ o. unwrap_or o from) is
+
+sent-end : (l : Layout) (x : MsgId) (past : List Entry) (row : Row) (m : Sent) → is_legal l past ≡ true → sent_as x row.place past ≡ Some m → IsEnd l x past (Some row)
+sent-end l x past row m legal k =
+    record { row = row; post = o.post; last = refl; posted = o.posted; group = λ p g. there p (group_in o.post.dest) refl g }
+  where
+    o : HasOrigin x past row.place m
+    o = (legal_messages l past legal x).origin row.place m k
+
+    there : (p : ℕ) (d : Option Ui) → group_in o.post.dest ≡ d → group_at l (group_in o.post.dest) ≡ Some p → row.place ≡ p
+    there p None e g = none_some p (ap (group_at l) (sym e) ∙ g)
+    there p (Some h) e g =
+        chosen-there l h o.post.place p row.place
+        (copy_home l past row.place x m h o.post legal k (o.route ∙ e) o.posted) (ap (group_at l) (sym e) ∙ g)
+
+came-settled : (l : Layout) (x : MsgId) (past : List Entry) (a : Answer) (row : Row) (m : Sent) → is_legal l past ≡ true → sent_as x row.place past ≡ Some m → Came l x past (settled a) (Some row)
+came-settled l x past a row m legal k =
+    cond_both (is_final a) (Settled a) Idle (λ z. Came l x past z (Some row))
+    (λ _. sent-end l x past row m legal k) (λ _. inr (record { row = row; message = m; last = refl; sent = k }))
+
+-- An entry about the message.
+
+abbrev After : Layout → List Entry → ℕ → ℕ → ℕ → MsgId → Act → Type 0
+After l past c r s x a =
+    Came l x (entry c r s a ∷ past) (progress_after r a (progress (about x past))) (Some (row_of past (entry c r s a)))
+
+-- a post to a port is sent from its place
+sent-now : (past : List Entry) (c r s : ℕ) (m : Message) (q : Ui) → sent_as m.id r past ≡ None
+    → sent_as m.id r (entry c r s (Post m (D.Port q)) ∷ past) ≡ Some (record { id = m.id; port = q; route = None })
+sent-now past c r s m q none =
+    let e = entry c r s (Post m (D.Port q)) in
+    let k : Sent = record { id = m.id; port = q; route = None } in
+    ap (λ es. find_sent m.id (sent es)) (at_same r e past refl)
+    ∙ find_sent_append m.id (sent (at r past)) (sent_by (Post m (D.Port q)))
+    ∙ ap (λ o. option_or o (find_sent m.id (sent_by (Post m (D.Port q))))) none
+    ∙ ap (λ b. cond b (Some k) None) (same_id-self m.id)
+
+unsent : (l : Layout) (past : List Entry) (r s : ℕ) (m : Message) (d : Dest) → MessageFacts m.id past → act_may l (views past r s (Post m d)) r s (Post m d) ≡ true → IsUnknown m.id past
+unsent l past r s m d f h =
+    let needs = post_needs l past r s m d h in
+    let number : m.id.number ≡ posts (by m.id.seat past) + 1 = needs.number ∙ ap (λ z. posts (by z past) + 1) (sym needs.seat) in
+    f.fresh (omega (arith, number))
+
+-- members are chosen for a post at the place of its group, where there is one
+chosen-end : (l : Layout) (past : List Entry) (e : Entry) (y : MsgId) (g : Ui) → MessageFacts y past → ChoiceNeeds l past e.place y g → IsEnd l y (e ∷ past) (Some (row_of past e))
+chosen-end l past e y g f needs =
+    record {
+      row = row_of past e;
+      post = asked.post;
+      last = refl;
+      posted = post_stays y past e asked.post asked.posted;
+      group = λ p there. chosen-there l g needs.from p e.place needs.place (sym (ap (group_at l) (ap group_in asked.dest ∙ needs.group)) ∙ there);
+    }
+  where
+    asked : IsAsked y past needs.from needs.dest
+    asked = (asked_facts y past needs.from needs.dest f needs.asked).1
+
+module _ (l : Layout) (past : List Entry) (c r s : ℕ) (before : is_legal l past ≡ true) where
+  decides : (x : MsgId) (a : Act) (q : Ui) (answer : Answer) → is_legal l (entry c r s a ∷ past) ≡ true → ((z : Progress) → progress_after r a z ≡ decided r q answer z) → IsDue x q r past → After l past c r s x a
+  decides x a q answer legal gives (inl t) =
+      let e = entry c r s a in
       let now : progress_after r a (progress (about x past)) ≡ Decided t.from r q answer =
       gives (progress (about x past)) ∙ ap (decided r q answer) t.is
       ∙ ap (λ b. cond b (Decided t.from r q answer) Idle) (and_from (r == r) (same_ui q q) (eq-eqb r r refl) (same_ui-self q)) in
-      subst (λ z. Came z (Some row)) (sym now) from-here
-  decides a q answer gives (inr first) =
-      let idle = (first_is_idle x q r past f (first_here x q r past first)).0 in
+      subst (λ z. Came l x (e ∷ past) z (Some (row_of past e))) (sym now) (row_of past e, refl, refl)
+  decides x a q answer legal gives (inr first) =
+      let e = entry c r s a in
+      let here = first_here x q r past first in
+      let idle = (first_is_idle x q r past (legal_messages l past before x) here).0 in
       let now : progress_after r a (progress (about x past)) ≡ settled answer = gives (progress (about x past)) ∙ ap (decided r q answer) idle in
-      subst (λ z. Came z (Some row)) (sym now) (came-settled answer (Some row))
+      subst (λ z. Came l x (e ∷ past) z (Some (row_of past e))) (sym now)
+      (came-settled l x (e ∷ past) answer (row_of past e) here.message legal (sent_stays x r past e here.message here.is))
 
-  step : (a : Act) → message_of a ≡ Some x → act_may l (views past r s a) r s a ≡ true → Came (progress_after r a (progress (about x past))) (Some row)
-  step (Post m (D.Port q)) e h = tt
-  step (Post m (D.All g)) e h = from-here
-  step (Post m (D.One g)) e h = from-here
-  step (Post m (D.OneAt g n)) e h = from-here
-  step (Choose y g qs) e h = tt
-  step (NoMember y g) e h = tt
-  step (Heard y a) e h = tt
-  step (Try y q to hop) e h = from-here
-  step (Told y a) e h =
-      let same : y ≡ x = some_is y x e in
-      let needs = told_needs l past r s x a (subst (λ z. act_may l (views past r s (Told z a)) r s (Told z a) ≡ true) same h) in
-      subst (λ z. Came (told a z) (Some row)) (sym needs.is) (came-settled a (Some row))
-  step (Accept y q n) e h = decides (Accept y q n) q (A.Accepted n) (λ z. refl) (decision_due l past r s (Accept y q n) x q refl e refl h)
-  step (Full y q n) e h = decides (Full y q n) q (A.Full n) (λ z. refl) (decision_due l past r s (Full y q n) x q refl e refl h)
-  step (Already y q) e h = decides (Already y q) q A.Already (λ z. refl) (decision_due l past r s (Already y q) x q refl e refl h)
-  step (ClientsFull y q) e h = decides (ClientsFull y q) q A.ClientsFull (λ z. refl) (decision_due l past r s (ClientsFull y q) x q refl e refl h)
-  step (Stale y q k to hop) e h = decides (Stale y q k to hop) q (A.Stale to hop) (λ z. refl) (decision_due l past r s (Stale y q k to hop) x q refl e refl h)
-  step (Early y q hop) e h = decides (Early y q hop) q (A.Early hop) (λ z. refl) (decision_due l past r s (Early y q hop) x q refl e refl h)
-  step (NoPort y q) e h = decides (NoPort y q) q A.NoPort (λ z. refl) (decision_due l past r s (NoPort y q) x q refl e refl h)
-  step (Elsewhere y q to hop) e h = decides (Elsewhere y q to hop) q (A.Elsewhere to hop) (λ z. refl) (decision_due l past r s (Elsewhere y q to hop) x q refl e refl h)
-  step (Gone y q) e h = decides (Gone y q) q A.Gone (λ z. refl) (decision_due l past r s (Gone y q) x q refl e refl h)
-  step _ e h = none_some x e
+  hears : (x : MsgId) (a : Answer) → is_legal l (entry c r s (Told x a) ∷ past) ≡ true → act_may l (views past r s (Told x a)) r s (Told x a) ≡ true → After l past c r s x (Told x a)
+  hears x a legal h =
+      let e = entry c r s (Told x a) in
+      let needs = told_needs l past r s x a h in
+      let way = (subst (Stage x past) needs.is (legal_messages l past before x).stage).2 in
+      subst (λ z. Came l x (e ∷ past) (told a z) (Some (row_of past e))) (sym needs.is)
+      (came-settled l x (e ∷ past) a (row_of past e) way.message legal (sent_stays x r past e way.message way.is))
 
-came : (l : Layout) (past : List Entry) (x : MsgId) → is_legal l past ≡ true → Came (progress (about x past)) (latest (is_about (Some x)) past)
-came l [] x h = tt
+  step : (x : MsgId) (a : Act) → message_of a ≡ Some x → is_legal l (entry c r s a ∷ past) ≡ true → act_may l (views past r s a) r s a ≡ true → After l past c r s x a
+  step x (Post m (D.Port q)) e legal h =
+      let new = unsent l past r s m (D.Port q) (legal_messages l past before m.id) h in
+      subst (λ y. After l past c r s y (Post m (D.Port q))) (some_is m.id x e)
+      (inr (record { row = row_of past (entry c r s (Post m (D.Port q))); message = _; last = refl; sent = sent-now past c r s m q (new.unsent r) }))
+  step x (Post m (D.All g)) e legal h = (row_of past (entry c r s (Post m (D.All g))), refl, refl)
+  step x (Post m (D.One g)) e legal h = (row_of past (entry c r s (Post m (D.One g))), refl, refl)
+  step x (Post m (D.OneAt g n)) e legal h = (row_of past (entry c r s (Post m (D.OneAt g n))), refl, refl)
+  step x (Choose y g qs) e legal h =
+      subst (λ z. After l past c r s z (Choose y g qs)) (some_is y x e)
+      (chosen-end l past (entry c r s (Choose y g qs)) y g (legal_messages l past before y) (choose_needs l past r s y g qs h))
+  step x (NoMember y g) e legal h =
+      subst (λ z. After l past c r s z (NoMember y g)) (some_is y x e)
+      (chosen-end l past (entry c r s (NoMember y g)) y g (legal_messages l past before y) (no_member_needs l past r s y g h))
+  step x (Heard y a) e legal h = tt
+  step x (Try y q to hop) e legal h = (row_of past (entry c r s (Try y q to hop)), refl, refl)
+  step x (Told y a) e legal h = subst (λ z. After l past c r s z (Told y a)) (some_is y x e) (hears y a legal h)
+  step x (Accept y q n) e legal h = decides x (Accept y q n) q (A.Accepted n) legal (λ z. refl) (decision_due l past r s (Accept y q n) x q refl e refl h)
+  step x (Full y q n) e legal h = decides x (Full y q n) q (A.Full n) legal (λ z. refl) (decision_due l past r s (Full y q n) x q refl e refl h)
+  step x (Already y q) e legal h = decides x (Already y q) q A.Already legal (λ z. refl) (decision_due l past r s (Already y q) x q refl e refl h)
+  step x (ClientsFull y q) e legal h = decides x (ClientsFull y q) q A.ClientsFull legal (λ z. refl) (decision_due l past r s (ClientsFull y q) x q refl e refl h)
+  step x (Stale y q k to hop) e legal h = decides x (Stale y q k to hop) q (A.Stale to hop) legal (λ z. refl) (decision_due l past r s (Stale y q k to hop) x q refl e refl h)
+  step x (Early y q hop) e legal h = decides x (Early y q hop) q (A.Early hop) legal (λ z. refl) (decision_due l past r s (Early y q hop) x q refl e refl h)
+  step x (NoPort y q) e legal h = decides x (NoPort y q) q A.NoPort legal (λ z. refl) (decision_due l past r s (NoPort y q) x q refl e refl h)
+  step x (Elsewhere y q to hop) e legal h = decides x (Elsewhere y q to hop) q (A.Elsewhere to hop) legal (λ z. refl) (decision_due l past r s (Elsewhere y q to hop) x q refl e refl h)
+  step x (Gone y q) e legal h = decides x (Gone y q) q A.Gone legal (λ z. refl) (decision_due l past r s (Gone y q) x q refl e refl h)
+  step x _ e legal h = none_some x e
+
+pub came : (l : Layout) (past : List Entry) (x : MsgId) → is_legal l past ≡ true → Came l x past (progress (about x past)) (latest (is_about (Some x)) past)
+came l [] x h = inl refl
 came l (e ∷ past) x h = go (is_about (Some x) e) refl (came l past x (legal_parts l e past h).1)
   where
     two : (act_may l (views past e.place e.seat e.act) e.place e.seat e.act ≡ true) × (is_legal l past ≡ true)
     two = legal_parts l e past h
 
-    go : (b : Bool) → is_about (Some x) e ≡ b → Came (progress (about x past)) (latest (is_about (Some x)) past)
-        → Came (progress (about x (e ∷ past))) (latest (is_about (Some x)) (e ∷ past))
+    go : (b : Bool) → is_about (Some x) e ≡ b → Came l x past (progress (about x past)) (latest (is_about (Some x)) past)
+        → Came l x (e ∷ past) (progress (about x (e ∷ past))) (latest (is_about (Some x)) (e ∷ past))
     go true t old =
-        subst (λ o. Came (progress (about x (e ∷ past))) o) (sym (latest_here (is_about (Some x)) e past t))
-        (subst (λ z. Came z (Some (row_of past e))) (sym (ap progress (keeps (is_about (Some x)) e past t)))
-        (step l past two.1 e.place e.seat x (legal_messages l past two.1 x) (row_of past e) refl e.act (id_is x (message_of e.act) t) two.0))
+        subst (λ o. Came l x (e ∷ past) (progress (about x (e ∷ past))) o) (sym (latest_here (is_about (Some x)) e past t))
+        (subst (λ z. Came l x (e ∷ past) z (Some (row_of past e))) (sym (ap progress (keeps (is_about (Some x)) e past t)))
+        (step l past e.clock e.place e.seat two.1 x e.act (id_is x (message_of e.act) t) h two.0))
     go false n old =
-        subst (λ o. Came (progress (about x (e ∷ past))) o) (sym (latest_skips (is_about (Some x)) e past n))
-        (subst (λ z. Came z (latest (is_about (Some x)) past)) (sym (ap progress (skips (is_about (Some x)) e past n))) old)
-
--- a row of another place is kept
-elsewhere_is : (e : Entry) (row : Row) (p : ℕ) → row.place ≡ p → p ≢ e.place → from_elsewhere e (Some row) ≡ Some row
-elsewhere_is e row p at ne = go (row.place == e.place) refl
-  where
-    go : (b : Bool) → (row.place == e.place) ≡ b → from_elsewhere e (Some row) ≡ Some row
-    go true h = absurd (ne (sym at ∙ eqb-true row.place e.place h))
-    go false h = rw h refl
-
-about_message : (a : Act) (x : MsgId) → message_of a ≡ Some x → port_arrived a ≡ None
-about_message (Arrive q hop) x m = none_some x m
-about_message _ x m = refl
-
--- an entry about a message that came from another place has an arrow from there
-has_arrow : (past : List Entry) (e : Entry) (x : MsgId) (p : ℕ) → message_of e.act ≡ Some x → IsFrom p (latest (is_about (Some x)) past) → p ≢ e.place → HasArrow past e p
-has_arrow past e x p m from ne = record {
-    row = from.0;
-    is =
-        (λ i. from_elsewhere e (latest (goes_on_by (about_message e.act x m i) (m i)) past))
-        ∙ ap (from_elsewhere e) from.1 ∙ elsewhere_is e from.0 p from.2 ne;
-    place = from.2;
-  }
-
-pub verdicts_have_arrows : (l : Layout) (past : List Entry) (e : Entry) → IsLayout l → is_legal l (e ∷ past) ≡ true → VerdictsHaveArrows past e
-verdicts_have_arrows l past e shape legal x answer is =
-    let before = (legal_parts l e past legal).1 in
-    let told = to_be_told e.place answer (progress (about x past)) (may_as l past e (Told x answer) legal is) in
-    let stage : progress (about x past) ≡ Decided e.place told.0 told.1 answer = told.2 in
-    let from = subst (λ z. Came z (latest (is_about (Some x)) past)) stage (came l past x before) in
-    let ways = subst (Passes l) stage (passes l past x shape before) in
-    (told.0, told.1, stage, has_arrow past e x told.0 (ap message_of is) from ways.2)
-
-pub tries_have_arrows : (l : Layout) (past : List Entry) (e : Entry) → IsLayout l → is_legal l (e ∷ past) ≡ true → TriesHaveArrows past e
-tries_have_arrows l past e shape legal x from hop q m decides stage =
-    let before = (legal_parts l e past legal).1 in
-    let came-from = subst (λ z. Came z (latest (is_about (Some x)) past)) stage (came l past x before) in
-    let ways = subst (Passes l) stage (passes l past x shape before) in
-    has_arrow past e x from m came-from (λ same. ways.2 (sym same))
-
-pub asks_have_arrows : (l : Layout) (past : List Entry) (e : Entry) → IsLayout l → is_legal l (e ∷ past) ≡ true → AsksHaveArrows past e
-asks_have_arrows l past e shape legal x from d m stage ne =
-    let before = (legal_parts l e past legal).1 in
-    has_arrow past e x from m (subst (λ z. Came z (latest (is_about (Some x)) past)) stage (came l past x before)) ne
-
--- Each arrow comes from an entry that stands before, of whatever list.
-
-pub record Stood (past : List Entry) (r : Row) : Type 0 where
-  pub entry : Entry
-  pub newer : List Entry
-  pub older : List Entry
-  pub stands : past ≡ newer ++ entry ∷ older
-  pub row : r ≡ row_of older entry
-
-stood : (test : Entry → Bool) (past : List Entry) (r : Row) → latest test past ≡ Some r → Stood past r
-stood test [] r h = absurd (cc)
-stood test (e ∷ past) r h = go (test e) refl (stood test past r)
-  where
-    go : (b : Bool) → test e ≡ b → (latest test past ≡ Some r → Stood past r) → Stood (e ∷ past) r
-    go true t further = record {
-      entry = e;
-      newer = [];
-      older = past;
-      stands = refl;
-      row = some_row r (row_of past e) (sym h ∙ latest_here test e past t);
-    }
-      where
-        some_row : (a b : Row) → Some a ≡ Some b → a ≡ b
-        some_row a b k = cc
-    go false n further =
-        let old = further (sym (latest_skips test e past n) ∙ h) in
-        record { entry = old.entry; newer = e ∷ old.newer; older = old.older; stands = ap (λ es. e ∷ es) old.stands; row = old.row }
-
-pub arrows_lead_forward : ArrowsLeadForward
-arrows_lead_forward past e r h = go (latest (goes_on e.act) past) refl
-  where
-    some_row : (a b : Row) → Some a ≡ Some b → a ≡ b
-    some_row a b k = cc
-
-    kept : (row : Row) (b : Bool) → (row.place == e.place) ≡ b → from_elsewhere e (Some row) ≡ Some r → (row ≡ r) × (row.place ≢ e.place)
-    kept row true t k = absurd (none_some r (sym (from_elsewhere_here row t) ∙ k))
-      where
-        from_elsewhere_here : (row : Row) → (row.place == e.place) ≡ true → from_elsewhere e (Some row) ≡ None
-        from_elsewhere_here row t = rw t refl
-    kept row false n k = (some_row row r (sym (from_elsewhere_there row n) ∙ k), λ same. false≢true (sym n ∙ eq-eqb row.place e.place same))
-      where
-        from_elsewhere_there : (row : Row) → (row.place == e.place) ≡ false → from_elsewhere e (Some row) ≡ Some row
-        from_elsewhere_there row n = rw n refl
-
-    go : (o : Option Row) → latest (goes_on e.act) past ≡ o → ComesFrom past e r
-    go None n = none_some r (sym (ap (from_elsewhere e) n) ∙ h)
-    go (Some row) s =
-        let k = kept row (row.place == e.place) refl (sym (ap (from_elsewhere e) s) ∙ h) in
-        let old = stood (goes_on e.act) past row s in
-        record {
-          entry = old.entry;
-          newer = old.newer;
-          older = old.older;
-          stands = old.stands;
-          row = sym k.0 ∙ old.row;
-          elsewhere = λ same. k.1 (ap (λ (z : Row). z.place) old.row ∙ same);
-        }
+        subst (λ o. Came l x (e ∷ past) (progress (about x (e ∷ past))) o) (sym (latest_skips (is_about (Some x)) e past n))
+        (subst (λ z. Came l x (e ∷ past) z (latest (is_about (Some x)) past)) (sym (ap progress (skips (is_about (Some x)) e past n)))
+        (stays l x past e (progress (about x past)) (latest (is_about (Some x)) past) old))

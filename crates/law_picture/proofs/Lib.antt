@@ -1,2 +1,4 @@
-mod Came
-mod Standing
+pub mod Came
+pub mod Standing
+pub mod Forward
+pub mod Arrows

@@ -6,6 +6,7 @@ use Rattle.chorus_entry.specs.declared.entry.Entry.{Entry}
 use Rattle.chorus_entry.specs.declared.act.Act.{Act}
 use Rattle.chorus_entry.specs.declared.act.Act.TheVariants.{Make, Accept, Take, Depart, Delete}
 use Rattle.chorus_world.specs.Views.{is_on}
+use Rattle.law_picture.specs.declared.row.Row.{Row}
 use Rattle.law_picture.specs.declared.bar.Bar.{Bar}
 use Rattle.law_picture.specs.Causes.{row_of}
 
@@ -33,3 +34,8 @@ bar_after past e old = record { row = row_of past e; waits = waits_after e.act (
 abbrev pub bar : Ui → List Entry → Option Bar
 bar q [] = None
 bar q (e ∷ past) = if is_on (Some q) e then Some (bar_after past e (bar q past)) else bar q past
+
+-- where the last of them stands
+abbrev pub row_in : Option Bar → Option Row
+row_in None = None
+row_in (Some b) = Some b.row
