@@ -193,17 +193,17 @@ head_end l text w is none = (AtHead (record { is_first = refl; is_rule = refl; n
 
 pub stop_end : (l : Layout) (text : List ℕ) (n : ℕ) (w : State) (rest : List ℕ) (taken rule : ℕ) → Found l text n w rest taken → taken < n → IsNoEntry rest rule ⊎ IsUnlawful w.layout w.past rest rule → IsRead l text (Wrong (taken + 2) rule) (reverse w.past)
 stop_end l text n w rest taken rule h less fails = (
-    AtEntry (record {
-      told = n;
-      entries = reverse w.past;
-      rest = rest;
-      begins = h.begins;
-      more_told = omega (arith, length-reverse w.past, h.count_is, less);
-      is_line = omega (arith, length-reverse w.past, h.count_is);
-      fails = moved fails;
-    }),
-    refl,
-  )
+  AtEntry (record {
+    told = n;
+    entries = reverse w.past;
+    rest = rest;
+    begins = h.begins;
+    more_told = omega (arith, length-reverse w.past, h.count_is, less);
+    is_line = omega (arith, length-reverse w.past, h.count_is);
+    fails = moved fails;
+  }),
+  refl,
+)
   where
     moved : IsNoEntry rest rule ⊎ IsUnlawful w.layout w.past rest rule → IsNoEntry rest rule ⊎ IsUnlawful l (reverse (reverse w.past)) rest rule
     moved (inl f) = inl f
@@ -236,16 +236,16 @@ module _ (l : Layout) (text : List ℕ) (n : ℕ) (w : State) (rest : List ℕ) 
 
   pub summary_end : (shared : ℕ) → rest ≢ summary_text entries → shared ≡ lines_shared rest (summary_text entries) → IsRead l text (Wrong (n + 2 + shared) 99) (reverse w.past)
   summary_end shared differs is = (
-      AtSummary (record {
-        entries = entries;
-        rest = rest;
-        begins = subst (λ m. Begins l text m entries rest) (sym len) begun;
-        differs = differs;
-        is_line = omega (arith, len, is);
-        is_rule = refl;
-      }),
-      sym all,
-    )
+    AtSummary (record {
+      entries = entries;
+      rest = rest;
+      begins = subst (λ m. Begins l text m entries rest) (sym len) begun;
+      differs = differs;
+      is_line = omega (arith, len, is);
+      is_rule = refl;
+    }),
+    sym all,
+  )
 
 -- and the verdict alone
 pub verdict_of : (l : Layout) (text : List ℕ) (audit : Audit) (es : List Entry) → IsRead l text audit es → IsVerdict l text audit

@@ -1,6 +1,6 @@
 //! A whole text, tested line by line.
 
-ghost use Rattle.std.specs.Prelude.{◌≡◌, ◌≢◌, ◌≤◌, ◌<◌, ◌↔◌, ◌^◌, ◌++◌, ℕ, List, length, reverse, IfOk, MatchOption, MatchResult};
+ghost use Rattle.std.specs.Prelude.{◌≡◌, ◌≢◌, ◌≤◌, ◌<◌, ◌↔◌, ◌^◌, ◌++◌, ℕ, List, length, reverse, IfOk, OnErr, MatchOption, MatchResult};
 ghost use Rattle.chorus_entry.specs.declared.entry.Entry.{Entry};
 ghost use Rattle.chorus_show.specs.Summary.{summary_text};
 ghost use Rattle.chorus_audit.specs.declared.limits.TheConstants.{AUDIT_LIMIT};
@@ -112,11 +112,12 @@ fn told(text: &[u8]) -> Option<(u32, &[u8])>
 }
 
 /// Takes the entry of the next line into the world, and gives the text behind that line. A line of no entry is refused by the
-/// rule [`NO_LINE`].
+/// rule [`NO_LINE`], and a refusal changes nothing.
 fn take_entry<'a>(alloc: Global, world: &mut World, text: &'a [u8]) -> Result<&'a [u8], WorldFault>
-    ensures { MatchResult result
+    ensures read { MatchResult result
         (λ rest. TakesEntry world.old world.new text.now rest.now)
         (IsStop world.old text.now) }
+    ensures unchanged { OnErr result (world.new ≡ world.old) }
 {
     let (line, rest) = cut(b'\n', text);
     let Some(rest) = rest else {

@@ -15,6 +15,9 @@ pub record Stood (past : List Entry) (r : Row) : Type 0 where
   pub stands : past ≡ newer ++ entry ∷ older
   pub row : r ≡ row_of older entry
 
+some_row : (a b : Row) → Some a ≡ Some b → a ≡ b
+some_row a b h = cc
+
 stood : (test : Entry → Bool) (past : List Entry) (r : Row) → latest test past ≡ Some r → Stood past r
 stood test [] r h = absurd (cc)
 stood test (e ∷ past) r h = go (test e) refl (stood test past r)
@@ -27,39 +30,41 @@ stood test (e ∷ past) r h = go (test e) refl (stood test past r)
       stands = refl;
       row = some_row r (row_of past e) (sym h ∙ latest_here test e past t);
     }
-      where
-        some_row : (a b : Row) → Some a ≡ Some b → a ≡ b
-        some_row a b k = cc
     go false n further =
         let old = further (sym (latest_skips test e past n) ∙ h) in
         record { entry = old.entry; newer = e ∷ old.newer; older = old.older; stands = ap (λ es. e ∷ es) old.stands; row = old.row }
 
-pub arrows_lead_forward : ArrowsLeadForward
-arrows_lead_forward past e r h = go (latest (goes_on e.act) past) refl
+-- the cause is the latest entry of its kind, and stands elsewhere
+pub caused-latest : (past : List Entry) (e : Entry) (r : Row) → caused_by past e ≡ Some r → (latest (goes_on e.act) past ≡ Some r) × (r.place ≢ e.place)
+caused-latest past e r h = go (latest (goes_on e.act) past) refl
   where
-    some_row : (a b : Row) → Some a ≡ Some b → a ≡ b
-    some_row a b k = cc
+    here : (row : Row) → (row.place == e.place) ≡ true → from_elsewhere e (Some row) ≡ None
+    here row t = rw t refl
 
-    kept : (row : Row) (b : Bool) → (row.place == e.place) ≡ b → from_elsewhere e (Some row) ≡ Some r → (row ≡ r) × (row.place ≢ e.place)
-    kept row true t k = absurd (none_some r (sym (from_elsewhere_here row t) ∙ k))
-      where
-        from_elsewhere_here : (row : Row) → (row.place == e.place) ≡ true → from_elsewhere e (Some row) ≡ None
-        from_elsewhere_here row t = rw t refl
-    kept row false n k = (some_row row r (sym (from_elsewhere_there row n) ∙ k), λ same. false≢true (sym n ∙ eq-eqb row.place e.place same))
-      where
-        from_elsewhere_there : (row : Row) → (row.place == e.place) ≡ false → from_elsewhere e (Some row) ≡ Some row
-        from_elsewhere_there row n = rw n refl
+    there : (row : Row) → (row.place == e.place) ≡ false → from_elsewhere e (Some row) ≡ Some row
+    there row n = rw n refl
 
-    go : (o : Option Row) → latest (goes_on e.act) past ≡ o → ComesFrom past e r
+    by : (row : Row) (b : Bool) → (row.place == e.place) ≡ b → from_elsewhere e (Some row) ≡ Some r → (Some row ≡ Some r) × (r.place ≢ e.place)
+    by row true t k = none_some r (sym (here row t) ∙ k)
+    by row false n k =
+        let same = some_row row r (sym (there row n) ∙ k) in
+        (ap Some same, λ place. false≢true (sym n ∙ eq-eqb row.place e.place (ap (λ (z : Row). z.place) same ∙ place)))
+
+    go : (o : Option Row) → latest (goes_on e.act) past ≡ o → (latest (goes_on e.act) past ≡ Some r) × (r.place ≢ e.place)
     go None n = none_some r (sym (ap (from_elsewhere e) n) ∙ h)
     go (Some row) s =
-        let k = kept row (row.place == e.place) refl (sym (ap (from_elsewhere e) s) ∙ h) in
-        let old = stood (goes_on e.act) past row s in
-        record {
-          entry = old.entry;
-          newer = old.newer;
-          older = old.older;
-          stands = old.stands;
-          row = sym k.0 ∙ old.row;
-          elsewhere = λ same. k.1 (ap (λ (z : Row). z.place) old.row ∙ same);
-        }
+        let two = by row (row.place == e.place) refl (sym (ap (from_elsewhere e) s) ∙ h) in
+        (s ∙ two.0, two.1)
+
+pub arrows_lead_forward : ArrowsLeadForward
+arrows_lead_forward past e r h =
+    let last = caused-latest past e r h in
+    let old = stood (goes_on e.act) past r last.0 in
+    record {
+      entry = old.entry;
+      newer = old.newer;
+      older = old.older;
+      stands = old.stands;
+      row = old.row;
+      elsewhere = λ same. last.1 (ap (λ (z : Row). z.place) old.row ∙ same);
+    }

@@ -39,13 +39,13 @@ before-two p q [] from to = refl
 before-two p q (r ∷ rs) from to = before-two q r rs from to
 
 -- the bar is that of the port
-record IsBarOf (f : PortState) (b : Bar) : Type 0 where
+pub record IsBarOf (f : PortState) (b : Bar) : Type 0 where
   held : b.held ≡ is_held f.spot
   waits : b.waits ≡ waiting f
   place : is_held f.spot ≡ true → b.row.place ≡ last_of 0 f.path
-  left : is_moving f.spot ≡ true → b.row.place ≡ before_last 0 0 f.path
+  pub left : is_moving f.spot ≡ true → b.row.place ≡ before_last 0 0 f.path
 
-abbrev Agrees : Option PortState → Option Bar → Type 0
+abbrev pub Agrees : Option PortState → Option Bar → Type 0
 Agrees None None = Unit {0}
 Agrees None (Some b) = ⊥
 Agrees (Some f) None = ⊥
@@ -153,7 +153,7 @@ bar_here q e past h = rw h refl
 bar_skips : (q : Ui) (e : Entry) (past : List Entry) → is_on (Some q) e ≡ false → bar q (e ∷ past) ≡ bar q past
 bar_skips q e past h = rw h refl
 
-agree : (l : Layout) (past : List Entry) (q : Ui) → IsLayout l → is_legal l past ≡ true → Agrees (fate (on q past)) (bar q past)
+pub agree : (l : Layout) (past : List Entry) (q : Ui) → IsLayout l → is_legal l past ≡ true → Agrees (fate (on q past)) (bar q past)
 agree l [] q shape h = tt
 agree l (e ∷ past) q shape h = go (is_on (Some q) e) refl (agree l past q shape (legal_parts l e past h).1)
   where

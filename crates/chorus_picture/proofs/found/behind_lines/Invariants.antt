@@ -1,0 +1,10 @@
+use Rattle.std.proofs.Common.{◌≡◌, length}
+use Rattle.chorus_picture.specs.Found.{behind_lines}
+use Rattle.chorus_picture.proofs.found.behind_lines.Given as goal
+
+abbrev pub invariant-loop-rest : goal.invariant-loop-rest
+invariant-loop-rest l =
+    behind_lines l.left l.rest.now ≡ behind_lines l.fn.lines l.fn.text.now
+
+abbrev pub decreases-loop-rest : goal.decreases-loop-rest
+decreases-loop-rest l = length l.rest.now

@@ -1,0 +1,5 @@
+mod Lists
+mod Leads
+mod Turns
+mod Quiet
+mod Schedules
