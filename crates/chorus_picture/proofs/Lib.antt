@@ -1,5 +1,5 @@
 mod Columns
-mod Drawing
+mod Drawn
 mod Front
 mod Kept
 mod ReadBack

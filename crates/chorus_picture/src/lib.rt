@@ -5,19 +5,19 @@
 //! put it, each port a bar beside the place that holds it. A text that is not lawful is drawn up to its first wrong line. Nothing that a
 //! journal says is read as markup ([`texts_are_read_as_they_are`]).
 //!
-//! Begin with `picture`. `column` has the columns, `shapes` what stands for an entry, `sheet` and `found` what stands round the rows;
+//! Begin with `drawing`. `column` has the columns, `shapes` what stands for an entry, `sheet` and `found` what stands round the rows;
 //! `tables` keeps what is asked of the entries before, so that a row costs about the same whatever went before.
 
 #![tactic(auto)]
 
 mod column;
+mod drawing;
 mod filling;
 mod found;
 mod laws;
 mod limits;
 mod lines;
 mod mark;
-mod picture;
 mod rows;
 mod rule_words;
 mod shapes;
@@ -25,6 +25,6 @@ mod sheet;
 mod style;
 mod tables;
 
+pub use drawing::picture;
 pub use laws::{marks_stand_apart, texts_are_read_as_they_are};
 pub use limits::ENTRIES_LIMIT;
-pub use picture::picture;

@@ -125,9 +125,11 @@ module _ (l : Layout) (mid past : List Entry) (p : ℕ) (x : MsgId) (c r : ℕ) 
       go k =
           let two = and_parts (h.post.place == p) (is_asking_place l p (group_in h.post.dest)) k in
           let home : h.post.place ≡ p = eqb-true h.post.place p two.0 in
-          let asked = asking l p (group_in h.post.dest) two.1 in
-          (_, ap (reported_as l x c answer) h.posted
-          ∙ ap (reported_to x c answer h.post.place) (group-far l h.post.place asked.0 (group_in h.post.dest) asked.1 (λ same. asked.2 (same ∙ home))))
+          let asked = asking l p (group_in h.post.dest) two.1 in (
+            _,
+            ap (reported_as l x c answer) h.posted
+                ∙ ap (reported_to x c answer h.post.place) (group-far l h.post.place asked.0 (group_in h.post.dest) asked.1 (λ same. asked.2 (same ∙ home))),
+          )
   is-under-way Reported last f h from = absurd f
 
 -- Ports.

@@ -51,7 +51,6 @@ StaysOrIsTouched l p mid past whole s =
 module _ (l : Layout) (shape : IsLayout l) (newer : List Entry) (e : Entry) (mid past : List Entry) (p : ℕ) (legal : is_legal l (newer ++ e ∷ (mid ++ past)) ≡ true)
     (newer-here : All (At p) newer) (here : At p e) (mid-here : All (At p) mid)
     (kept : (s : Subject) → StaysOrIsTouched l p mid past (newer ++ e ∷ (mid ++ past)) s) where
-
   from-here : is_legal l (e ∷ (mid ++ past)) ≡ true
   from-here = legal-part l newer (e ∷ (mid ++ past)) legal
 

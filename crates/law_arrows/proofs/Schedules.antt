@@ -206,7 +206,6 @@ module _ (n : NetState) (past : List Entry) (a b : ℕ) (caller : Seated) (k : P
   module _ (m : NetState) (new : List Entry) (stood : Stands m (new ++ past)) (lay : m.layout ≡ n.layout) (vs : List Outgoing) (packets : m.packets ≡ put_all vs (rest_on a b n.packets))
       (e : Entry) (touches : (s : Subject) → holds s k.cargo ≡ true → test_of s e ≡ true) (p : ℕ) (here : At p e)
       (later : List Entry) (whole : new ≡ later ++ e ∷ []) (places : All (At p) later) where
-
     kept : (mid : List Entry) → All (At p) mid → (s : Subject) → StaysOrIsTouched n.layout p (mid ++ e ∷ []) past (new ++ past) s
     kept mid all s = go (holds s k.cargo) refl
       where
@@ -243,7 +242,7 @@ module _ (n : NetState) (past : List Entry) (a b : ℕ) (caller : Seated) (k : P
       → new ≡ newer (begun_by (place b n) caller k).place.journal (work k (begun_by (place b n) caller k)).place.journal → arrows (new ++ past) ≡ arrow_of b k ∷ arrows past
   after-packet m new stood lay packets said =
       arrows-are m new stood lay (work k (begun_by (place b n) caller k)).puts packets e op.touches (place b n).number refl g.later whole g.places
-      ∙ ap (λ as. as ++ arrows past) (led e (number-is n.layout b n.places) refl)
+      ∙ ap (λ more. more ++ arrows past) (led e (number-is n.layout b n.places) refl)
     where
       e : Entry
       e = next_entry op.act (begun_by (place b n) caller k)
@@ -291,4 +290,4 @@ arrows_are_packets l (e ∷ es) shape may =
     let old = in-order l es shape two.1 in
     let new = in-order l (e ∷ es) shape may in
     step (schedule l es) (history l es) e (subst IsLayout (sym (schedule-keeps l es).layout) shape) two.0 old.0 new.0
-    ∙ ap (λ as. served_by e (schedule l es) ++ as) (arrows_are_packets l es shape two.1)
+    ∙ ap (λ more. served_by e (schedule l es) ++ more) (arrows_are_packets l es shape two.1)

@@ -130,11 +130,11 @@ held_step past e a f old is agrees within need = go a is need
 made_step : (past : List Entry) (e : Entry) (a : Act) (old : Option Bar) (q : Ui) → e.act ≡ a → held_port_of a ≡ Some q → Needs e.place a None
     → Agrees (fate_after e.place a None) (Some (bar_after past e old))
 made_step past e (Make r c n) old q i m h = record {
-    held = ap bars.keeps i;
-    waits = ap (λ c. waits_after c (waits_in old)) i;
-    place = λ _. refl;
-    left = λ k. absurd (false≢true k);
-  }
+  held = ap bars.keeps i;
+  waits = ap (λ c. waits_after c (waits_in old)) i;
+  place = λ _. refl;
+  left = λ k. absurd (false≢true k);
+}
 made_step past e (Accept x r n) old q i m h = absurd (false≢true h)
 made_step past e (Full x r n) old q i m h = absurd (false≢true h)
 made_step past e (Already x r) old q i m h = absurd (false≢true h)
@@ -239,8 +239,8 @@ comes l past p q hop shape legal h = go (bar q past) refl (subst (λ o. Agrees o
         record {
           from = way.from;
           last = ap place_of (latest_on q past ∙ ap row_in is)
-          ∙ ap Some (h.left (ap is_moving come.3) ∙ ap (before_last 0 0) way.is ∙ before-two 0 0 way.front way.from way.to);
+              ∙ ap Some (h.left (ap is_moving come.3) ∙ ap (before_last 0 0) way.is ∙ before-two 0 0 way.front way.from way.to);
           mover = ap (mover hop) come.2 ∙ ap (λ path. slice_get path (hop - 1)) way.is
-          ∙ ap (slice_get (way.front ++ way.from ∷ way.to ∷ [])) hop-is ∙ get-there way.front way.from way.to;
+              ∙ ap (slice_get (way.front ++ way.from ∷ way.to ∷ [])) hop-is ∙ get-there way.front way.from way.to;
           apart = λ same. way.apart (same ∙ sym to-is);
         }

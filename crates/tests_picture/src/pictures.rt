@@ -72,7 +72,11 @@ fn has(text: &[u8], piece: &str) -> bool {
 fn assert_drawn(rt: &impl Abort, alloc: Global, text: &str, middle: &str) {
     let run = run_on(rt, alloc, text, &[], 4096, &[]);
     assert_eq!(rt; run.status, Status::Done, "{text}");
-    assert!(rt; run.written.starts_with(b"<svg xmlns='http://www.w3.org/2000/svg' "), "{text}");
+    assert!(rt;
+        run.written
+            .starts_with(b"<svg xmlns='http://www.w3.org/2000/svg' "),
+        "{text}"
+    );
     assert!(rt; has(&run.written, middle), "{text}");
     assert!(rt; run.written.ends_with(b"</g>\n</svg>\n"), "{text}");
 }

@@ -1,5 +1,5 @@
-use Rattle.chorus_picture.proofs.Drawing.{Drawn}
-use Rattle.chorus_picture.proofs.picture.push_rows.Given as goal
+use Rattle.chorus_picture.proofs.Drawn.{Drawn}
+use Rattle.chorus_picture.proofs.drawing.push_rows.Given as goal
 
 -- the rows so far
 abbrev pub invariant-loop-entry : goal.invariant-loop-entry

@@ -1,5 +1,5 @@
-use Rattle.chorus_picture.proofs.Drawing.{drawn_all, drawn_next, drawn_none, drawn_room}
-use Rattle.chorus_picture.proofs.picture.push_rows.Goals as goal
+use Rattle.chorus_picture.proofs.Drawn.{drawn_all, drawn_next, drawn_none, drawn_room}
+use Rattle.chorus_picture.proofs.drawing.push_rows.Goals as goal
 
 pub loop-entry-init : goal.loop-entry-init
 loop-entry-init c = drawn_none _ _ _ _ c.requires.empty
