@@ -75,13 +75,13 @@ row_at n p c = record { number = n; place = p; clock = c }
 -- the tables follow
 pub grows : (s t : Tables) (past : List Entry) (e : Entry) → AreTables s past → Grows e s t → AreTables t (e ∷ past)
 grows s t past e h g = record {
-    number = omega (arith, g.number, h.number);
-    clock = g.clock;
-    messages = λ x. g.messages x ∙ ap (λ o. cond (is_about (Some x) e) (Some (row_next s e)) o) (h.messages x)
-        ∙ ap (λ k. cond (is_about (Some x) e) (Some k) (latest (is_about (Some x)) past)) here;
-    bars = λ q. g.bars q ∙ ap (λ o. cond (is_on (Some q) e) (Some (bar_next (row_next s e) e.act o)) o) (h.bars q)
-        ∙ ap (λ k. cond (is_on (Some q) e) (Some (bar_next k e.act (bar q past))) (bar q past)) here;
-  }
+  number = omega (arith, g.number, h.number);
+  clock = g.clock;
+  messages = λ x. g.messages x ∙ ap (λ o. cond (is_about (Some x) e) (Some (row_next s e)) o) (h.messages x)
+      ∙ ap (λ k. cond (is_about (Some x) e) (Some k) (latest (is_about (Some x)) past)) here;
+  bars = λ q. g.bars q ∙ ap (λ o. cond (is_on (Some q) e) (Some (bar_next (row_next s e) e.act o)) o) (h.bars q)
+      ∙ ap (λ k. cond (is_on (Some q) e) (Some (bar_next k e.act (bar q past))) (bar q past)) here;
+}
   where
     here : row_next s e ≡ row_of past e
     here = ap (λ n. row_at n e.place e.clock) h.number

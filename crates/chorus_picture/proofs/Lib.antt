@@ -2,6 +2,8 @@ mod Columns
 mod Drawn
 mod Front
 mod Kept
+mod Pieces
 mod ReadBack
 mod RowTexts
 mod StandApart
+mod Whole

@@ -7,9 +7,9 @@ use Rattle.chorus_picture.specs.Reading.{Reads, End, Plain, Entity, TextsAreRead
 module _ (cs text : List ℕ) (h : Reads cs text) where
   -- one of the five bytes
   named : (k c : ℕ) (name : List ℕ) → (c == k) ≡ true → entity k ≡ Some name → blank k ≡ k → Reads (38 ∷ (name ++ cs)) (blank c ∷ text)
-  named k c name is as stays =
+  named k c name is known stays =
       subst (λ b. Reads (38 ∷ (name ++ cs)) (blank b ∷ text)) (sym (eqb-true c k is))
-      (subst (λ b. Reads (38 ∷ (name ++ cs)) (b ∷ text)) (sym stays) (Entity k name cs text as h))
+      (subst (λ b. Reads (38 ∷ (name ++ cs)) (b ∷ text)) (sym stays) (Entity k name cs text known h))
 
   byte : (c : ℕ) → Reads (markup_byte c ++ cs) (blank c ∷ text)
   byte c = lt (c == 60) refl

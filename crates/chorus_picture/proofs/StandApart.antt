@@ -1,5 +1,5 @@
 -- Rows go down, and columns stand apart.
-use Rattle.std.proofs.Common.{◌≡◌, ◌==◌, ◌<◌, ◌≤◌, ◌+◌, ◌*◌, ◌-◌, ◌/◌, ◌⊎◌, ℕ, zero, suc, Bool, true, false, cond, List, [], ◌∷◌, ◌++◌, reverse, Option, None, Some, refl, sym, ap, ◌∙◌, subst, inl, inr, arith}
+use Rattle.std.proofs.Common.{◌≡◌, ◌≢◌, ◌==◌, ◌<◌, ◌≤◌, ◌+◌, ◌*◌, ◌-◌, ◌/◌, ◌⊎◌, ℕ, zero, suc, Bool, true, false, cond, List, [], ◌∷◌, ◌++◌, reverse, Option, None, Some, refl, sym, ap, ◌∙◌, subst, inl, inr, arith}
 use Rattle.std.specs.List.{All, list_any}
 use Rattle.std.proofs.lemmas.Bool.{and_parts, eq-eqb, eqb-false, eqb-true, leb-true, or_left, or_right}
 use Rattle.std.proofs.lemmas.List.{reverse-append}
@@ -49,26 +49,31 @@ found (suc n) p left r es c h =
     by-entry false k without with-it =
         let old = without k in record { from = omega (arith, old.from); behind = old.behind; place = old.place }
 
+above : (p r : ℕ) → p ≤ r → p ≢ r → p + 1 ≤ r
+above p r low ne = grind (arith, low, ne)
+
 -- each place with an entry has one
 has-one : (n p left r : ℕ) (es : List Entry) → p ≤ r → r < p + n → has_entry r es ≡ true → (c : ColumnShape) × (column_at r (columns_from n p left es) ≡ Some c)
 has-one zero p left r es low high some = absurd (omega (arith, low, high))
-has-one (suc n) p left r es low high some = by-place (p == r) refl
+has-one (suc n) p left r es low high some =
+    by-place (p == r) refl (λ left2 next. has-one n (p + 1) left2 r es next (omega (arith, high)) some)
   where
-    later : (p == r) ≡ false → (left2 : ℕ) → (c : ColumnShape) × (column_at r (columns_from n (p + 1) left2 es) ≡ Some c)
-    later other left2 = has-one n (p + 1) left2 r es (let ne = eqb-false p r other in grind (arith, low, ne)) (omega (arith, high)) some
-
-    by-entry : (p == r) ≡ false → (b : Bool) → (c : ColumnShape) × (column_at r (cond b (column_from left p es ∷ columns_from n (p + 1) (right_of (column_from left p es)) es) (columns_from n (p + 1) left es)) ≡ Some c)
-    by-entry other true =
-        let next = later other (right_of (column_from left p es)) in
+    by-entry : (p == r) ≡ false → ((left2 : ℕ) → (c : ColumnShape) × (column_at r (columns_from n (p + 1) left2 es) ≡ Some c)) → (b : Bool)
+        → (c : ColumnShape) × (column_at r (cond b (column_from left p es ∷ columns_from n (p + 1) (right_of (column_from left p es)) es) (columns_from n (p + 1) left es)) ≡ Some c)
+    by-entry other later true =
+        let next = later (right_of (column_from left p es)) in
         (next.0, ap (λ b. cond b (Some (column_from left p es)) (column_at r (columns_from n (p + 1) (right_of (column_from left p es)) es))) other ∙ next.1)
-    by-entry other false = later other left
+    by-entry other later false = later left
 
-    by-place : (b : Bool) → (p == r) ≡ b → (c : ColumnShape) × (column_at r (columns_from (suc n) p left es) ≡ Some c)
-    by-place true same =
-        let here : has_entry p es ≡ true = ap (λ k. has_entry k es) (eqb-true p r same) ∙ some in
-        (column_from left p es, ap (λ b. column_at r (cond b (column_from left p es ∷ columns_from n (p + 1) (right_of (column_from left p es)) es) (columns_from n (p + 1) left es))) here
-        ∙ ap (λ b. cond b (Some (column_from left p es)) (column_at r (columns_from n (p + 1) (right_of (column_from left p es)) es))) same)
-    by-place false other = by-entry other (has_entry p es)
+    by-place : (b : Bool) → (p == r) ≡ b → ((left2 : ℕ) → p + 1 ≤ r → (c : ColumnShape) × (column_at r (columns_from n (p + 1) left2 es) ≡ Some c)) → (c : ColumnShape) × (column_at r (columns_from (suc n) p left es) ≡ Some c)
+    by-place true same later =
+        let here : has_entry p es ≡ true = ap (λ k. has_entry k es) (eqb-true p r same) ∙ some in (
+          column_from left p es,
+          ap (λ b. column_at r (cond b (column_from left p es ∷ columns_from n (p + 1) (right_of (column_from left p es)) es) (columns_from n (p + 1) left es))) here
+              ∙ ap (λ b. cond b (Some (column_from left p es)) (column_at r (columns_from n (p + 1) (right_of (column_from left p es)) es))) same,
+        )
+    by-place false other later =
+        by-entry other (λ left2. later left2 (above p r low (eqb-false p r other))) (has_entry p es)
 
 -- of two of them the one of the later place stands to the right
 apart : (n k left p r : ℕ) (es : List Entry) (c d : ColumnShape) → p < r → column_at p (columns_from n k left es) ≡ Some c → column_at r (columns_from n k left es) ≡ Some d → right_of c + 64 ≤ d.x

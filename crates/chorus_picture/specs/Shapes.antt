@@ -29,23 +29,23 @@ abbrev pub is_new_clock : Option ℕ → ℕ → Bool
 is_new_clock None clock = false
 is_new_clock (Some last) clock = not (last == clock)
 
-abbrev pub tick : List ColumnShape → ℕ → Bool → List ℕ
+unfoldable pub tick : List ColumnShape → ℕ → Bool → List ℕ
 tick cs y b = if b then filled (codes "<path class='tick' d='M8 @H@'/>\n") ((y - 9) ∷ (right_edge cs + 652) ∷ []) else []
 
 -- The bar of a port, from the last entry on its line down to y, with how many messages wait.
 
-abbrev pub bar_class : ℕ → List ℕ
+unfoldable pub bar_class : ℕ → List ℕ
 bar_class waits = if waits == 0 then codes "idle" else codes "waits"
 
-abbrev pub bar_down : ℕ → ℕ → ℕ → ℕ → List ℕ
-bar_down waits lane top y =
+unfoldable pub bar_down : ℕ → ℕ → ℕ → ℕ → List ℕ
+bar_down waits lane top height =
     filled (codes ", @</title><rect x='@' y='@' width='12' height='@'/><text class='count' x='@' y='@'>@</text></g>\n")
-    (waits ∷ lane ∷ top ∷ (y - top) ∷ (lane + 6) ∷ (top + 13) ∷ waits ∷ [])
+    (waits ∷ lane ∷ top ∷ height ∷ (lane + 6) ∷ (top + 13) ∷ waits ∷ [])
 
-abbrev pub bar_in : Ui → Bar → ℕ → ColumnShape → List ℕ
+unfoldable pub bar_in : Ui → Bar → ℕ → ColumnShape → List ℕ
 bar_in q b y c =
     codes "<g class='" ++ bar_class b.waits ++ codes "'><title>" ++ name_text q
-    ++ bar_down b.waits (lane_of q c) (row_y b.row.number) y
+    ++ bar_down b.waits (lane_of q c) (row_y b.row.number) (y - row_y b.row.number)
 
 abbrev pub bar_at : Ui → Bar → ℕ → Option ColumnShape → List ℕ
 bar_at q b y None = []
@@ -73,11 +73,15 @@ turn_x rightward c = if rightward then c.x - 46 else right_of c + 6
 abbrev pub stop_x : Bool → ColumnShape → ℕ
 stop_x rightward c = if rightward then c.x - 7 else c.x + 7
 
-abbrev pub arrow_along : PacketKind → ℕ → ℕ → ℕ → ℕ → ℕ → ℕ → ℕ → List ℕ
+unfoldable pub points : ℕ → ℕ → ℕ → ℕ → ℕ → List ℕ
+points start top turn stop y = filled (codes "' d='M@ @H@L@ @'><title>") (start ∷ top ∷ turn ∷ stop ∷ y ∷ [])
+
+unfoldable pub ends : ℕ → ℕ → List ℕ
+ends from to = filled (codes ", line @ to line @</title></path>\n") (from ∷ to ∷ [])
+
+unfoldable pub arrow_along : PacketKind → ℕ → ℕ → ℕ → ℕ → ℕ → ℕ → ℕ → List ℕ
 arrow_along kind start top turn stop y from to =
-    codes "<path class='" ++ packet_name kind
-    ++ filled (codes "' d='M@ @H@L@ @'><title>") (start ∷ top ∷ turn ∷ stop ∷ y ∷ [])
-    ++ packet_name kind ++ filled (codes ", line @ to line @</title></path>\n") (from ∷ to ∷ [])
+    codes "<path class='" ++ packet_name kind ++ points start top turn stop y ++ packet_name kind ++ ends from to
 
 -- entries stand from line 2 of a journal on
 abbrev pub arrow_to : PacketKind → Bool → ℕ → Row → ℕ → Option ColumnShape → List ℕ
@@ -97,16 +101,21 @@ arrow cs row e (Some r) =
 abbrev pub line_text : Entry → List ℕ
 line_text e = phrase (decimal e.clock) (decimal e.place ∷ decimal e.seat ∷ act_text e.act ∷ [])
 
-abbrev pub mark_at : List ℕ → ℕ → ℕ → List ℕ
-mark_at name x y = codes "<use href='#" ++ name ++ filled (codes "' x='@' y='@'/>") (x ∷ y ∷ [])
+unfoldable pub spot : ℕ → ℕ → List ℕ
+spot x y = filled (codes "' x='@' y='@'/>") (x ∷ y ∷ [])
 
-abbrev pub texts_at : ℕ → ℕ → Entry → List ℕ
-texts_at right y e =
+unfoldable pub mark_at : List ℕ → ℕ → ℕ → List ℕ
+mark_at name x y = codes "<use href='#" ++ name ++ spot x y
+
+unfoldable pub texts_front : ℕ → ℕ → ℕ → ℕ → List ℕ
+texts_front right y clock seat =
     filled (codes "<text x='8' y='@'>@</text><text x='@' y='@'>@</text><text class='act' x='@' y='@'>")
-    (y ∷ e.clock ∷ (right + 12) ∷ y ∷ e.seat ∷ (right + 72) ∷ y ∷ [])
-    ++ shown (act_text e.act) ++ codes "</text></g>\n"
+    (y ∷ clock ∷ (right + 12) ∷ y ∷ seat ∷ (right + 72) ∷ y ∷ [])
 
-abbrev pub entry_in : Mark → ℕ → ℕ → ℕ → Entry → List ℕ
+unfoldable pub texts_at : ℕ → ℕ → Entry → List ℕ
+texts_at right y e = texts_front right y e.clock e.seat ++ shown (act_text e.act) ++ codes "</text></g>\n"
+
+unfoldable pub entry_in : Mark → ℕ → ℕ → ℕ → Entry → List ℕ
 entry_in m right x y e =
     codes "<g class='" ++ mark_name m ++ codes "'><title>" ++ markup (line_text e) ++ codes "</title>"
     ++ mark_at (mark_name m) x y ++ texts_at right (y + 4) e

@@ -15,16 +15,19 @@ use Rattle.chorus_picture.specs.Shapes.{bar_in}
 use Rattle.chorus_picture.specs.declared.style.TheConstants.{STYLE}
 
 -- the size
-abbrev pub opening_tag : ℕ → ℕ → List ℕ
+unfoldable pub opening_tag : ℕ → ℕ → List ℕ
 opening_tag w h =
     filled (codes "<svg xmlns='http://www.w3.org/2000/svg' xml:space='preserve' width='@' height='@' viewBox='0 0 @ @'>\n")
     (w ∷ h ∷ w ∷ h ∷ [])
 
-abbrev pub paper : ℕ → ℕ → List ℕ
+unfoldable pub paper : ℕ → ℕ → List ℕ
 paper w h = filled (codes "<rect class='paper' width='@' height='@'/>\n") (w ∷ h ∷ [])
 
+unfoldable pub line_at : ℕ → ℕ → List ℕ
+line_at x y = filled (codes "<path class='line' d='M@ 40V@'/>\n") (x ∷ y ∷ [])
+
 abbrev pub line_of : ℕ → ColumnShape → List ℕ
-line_of y c = filled (codes "<path class='line' d='M@ 40V@'/>\n") (c.x ∷ y ∷ [])
+line_of y c = line_at c.x y
 
 abbrev pub front : List ColumnShape → ℕ → List ℕ
 front cs n =
@@ -41,25 +44,27 @@ bars_left bars y c = flat_map (λ q. bar_left c q y (bars q)) c.ports
 
 -- The heads.
 
-abbrev pub band : ℕ → ℕ → List ℕ
+unfoldable pub band : ℕ → ℕ → List ℕ
 band right y =
     filled (codes "<rect class='band' y='@' width='@' height='40'/><text x='8' y='@'>clock</text><text x='@' y='@'>caller</text><text x='@' y='@'>entry</text>\n")
     (y ∷ (right + 660) ∷ (y + 32) ∷ (right + 12) ∷ (y + 32) ∷ (right + 72) ∷ (y + 32) ∷ [])
 
-abbrev pub place_head : ℕ → ℕ → ℕ → ℕ → List ℕ
+unfoldable pub place_head : ℕ → ℕ → ℕ → ℕ → List ℕ
 place_head x y site place =
     filled (codes "<text class='head' x='@' y='@'>site @</text><text class='head' x='@' y='@'>place @</text>\n")
     ((x + 6) ∷ (y + 16) ∷ site ∷ (x + 6) ∷ (y + 32) ∷ place ∷ [])
 
-abbrev pub lane_head : ℕ → ℕ → Ui → List ℕ
-lane_head x y q =
-    filled (codes "<text class='name' transform='rotate(-90 @ @)' x='@' y='@'>") (x ∷ y ∷ x ∷ y ∷ []) ++ name_text q ++ codes "</text>\n"
+unfoldable pub lane_front : ℕ → ℕ → List ℕ
+lane_front x y = filled (codes "<text class='name' transform='rotate(-90 @ @)' x='@' y='@'>") (x ∷ y ∷ x ∷ y ∷ [])
 
-abbrev pub column_head : Layout → ℕ → ColumnShape → List ℕ
+unfoldable pub lane_head : ℕ → ℕ → Ui → List ℕ
+lane_head x y q = lane_front x y ++ name_text q ++ codes "</text>\n"
+
+unfoldable pub column_head : Layout → ℕ → ColumnShape → List ℕ
 column_head l y c =
     place_head c.x y (site_of l c.place) c.place ++ flat_map (λ q. lane_head (lane_of q c + 9) (y + 38) q) c.ports
 
-abbrev pub head_at : Layout → List ColumnShape → ℕ → List ℕ
+unfoldable pub head_at : Layout → List ColumnShape → ℕ → List ℕ
 head_at l cs y = band (right_edge cs) y ++ flat_map (column_head l y) cs
 
 -- so many heads from this one on, one before each 32 rows

@@ -87,7 +87,11 @@ impl Column {
 }
 
 /// The columns of the entries.
-pub(crate) fn columns(alloc: Global, layout: Layout, entries: &[Entry]) -> Result<Vec<Column>, AllocError>
+pub(crate) fn columns(
+    alloc: Global,
+    layout: Layout,
+    entries: &[Entry],
+) -> Result<Vec<Column>, AllocError>
     requires { length entries.now ≤ ENTRIES_LIMIT }
     ensures { IfOk result (λ cs. cs.items ≡ columns layout entries.now) }
 {

@@ -8,7 +8,11 @@ use chorus_ui::push_decimal;
 use std::alloc::AllocError;
 
 /// Appends the template with the next number in place of each `@`.
-pub(crate) fn push_filled(template: &[u8], numbers: &[u64], out: &mut Vec<u8>) -> Result<(), AllocError>
+pub(crate) fn push_filled(
+    template: &[u8],
+    numbers: &[u64],
+    out: &mut Vec<u8>,
+) -> Result<(), AllocError>
     ensures { OnOk result (out.new.items ≡ out.old.items ++ filled template.now numbers.now) }
 {
     let [c, rest @ ..] = template else {

@@ -3,7 +3,7 @@
 ghost use Rattle.std.specs.Prelude.{◌≡◌, ◌<◌, ◌^◌, ◌-◌, ◌++◌, OnOk};
 ghost use Rattle.std.specs.List.{flat_map};
 ghost use Rattle.chorus_show.specs.Phrases.{byte_text, hex_digit};
-ghost use Rattle.chorus_picture.specs.Found.{behind_lines, foot, found_text, lawful_text, line_bytes, wrong_text};
+ghost use Rattle.chorus_picture.specs.Found.{behind_lines, foot, foot_front, found_text, lawful_front, lawful_text, line_bytes, rule_front, wrong_front, wrong_text};
 
 use crate::filling::{push_filled, push_markup, push_shown};
 use crate::rule_words::rule_words;
@@ -39,14 +39,22 @@ fn push_lawful(entries: &[Entry], number: u32, y: u64, out: &mut Vec<u8>) -> Res
 {
     let mut summary = Vec::new(*out.allocator());
     summary_text(entries, &mut summary)?;
-    push_filled(
-        b"<text x='8' y='@'>@ entries, all lawful</text><text class='sum' x='8' y='@'>",
-        &[y + 22, u64::from(number), y + 40],
-        out,
-    )?;
+    push_lawful_front(u64::from(number), y, out)?;
     push_markup(&summary, out)?;
     out.extend_from_slice(b"</text>\n")?;
     Ok(())
+}
+
+#[tactic(auto, unfolding(crate::specs::Found::lawful_front))]
+fn push_lawful_front(number: u64, y: u64, out: &mut Vec<u8>) -> Result<(), AllocError>
+    requires { y < 2 ^ 50 }
+    ensures { OnOk result (out.new.items ≡ out.old.items ++ lawful_front number y) }
+{
+    push_filled(
+        b"<text x='8' y='@'>@ entries, all lawful</text><text class='sum' x='8' y='@'>",
+        &[y + 22, number, y + 40],
+        out,
+    )
 }
 
 /// Appends the line that is wrong, and its rule.
@@ -57,20 +65,36 @@ fn push_wrong(text: &[u8], line: u32, rule: u8, y: u64, out: &mut Vec<u8>) -> Re
 {
     let mut wrong = Vec::new(*out.allocator());
     push_line_bytes(73, behind_lines(line.saturating_sub(1), text), &mut wrong)?;
-    push_filled(
-        b"<text class='wrong' x='8' y='@'>line @ is wrong: ",
-        &[y + 22, u64::from(line)],
-        out,
-    )?;
+    push_wrong_front(u64::from(line), y, out)?;
     push_shown(&wrong, out)?;
-    push_filled(
-        b"</text><text class='wrong' x='8' y='@'>rule @: ",
-        &[y + 40, u64::from(rule)],
-        out,
-    )?;
+    push_rule_front(u64::from(rule), y, out)?;
     push_markup(rule_words(rule).as_bytes(), out)?;
     out.extend_from_slice(b"</text>\n")?;
     Ok(())
+}
+
+#[tactic(auto, unfolding(crate::specs::Found::wrong_front))]
+fn push_wrong_front(line: u64, y: u64, out: &mut Vec<u8>) -> Result<(), AllocError>
+    requires { y < 2 ^ 50 }
+    ensures { OnOk result (out.new.items ≡ out.old.items ++ wrong_front line y) }
+{
+    push_filled(
+        b"<text class='wrong' x='8' y='@'>line @ is wrong: ",
+        &[y + 22, line],
+        out,
+    )
+}
+
+#[tactic(auto, unfolding(crate::specs::Found::rule_front))]
+fn push_rule_front(rule: u64, y: u64, out: &mut Vec<u8>) -> Result<(), AllocError>
+    requires { y < 2 ^ 50 }
+    ensures { OnOk result (out.new.items ≡ out.old.items ++ rule_front rule y) }
+{
+    push_filled(
+        b"</text><text class='wrong' x='8' y='@'>rule @: ",
+        &[y + 40, rule],
+        out,
+    )
 }
 
 /// The text behind so many lines.
@@ -131,8 +155,16 @@ pub(crate) fn push_foot(y: u64, out: &mut Vec<u8>) -> Result<(), AllocError>
     requires { y < 2 ^ 50 }
     ensures { OnOk result (out.new.items ≡ out.old.items ++ foot y) }
 {
-    push_filled(b"<g transform='translate(0 @)'>\n", &[y + 56], out)?;
+    push_foot_front(y, out)?;
     out.extend_from_slice(LEGEND.as_bytes())?;
     out.extend_from_slice(b"</g>\n</svg>\n")?;
     Ok(())
+}
+
+#[tactic(auto, unfolding(crate::specs::Found::foot_front))]
+fn push_foot_front(y: u64, out: &mut Vec<u8>) -> Result<(), AllocError>
+    requires { y < 2 ^ 50 }
+    ensures { OnOk result (out.new.items ≡ out.old.items ++ foot_front y) }
+{
+    push_filled(b"<g transform='translate(0 @)'>\n", &[y + 56], out)
 }

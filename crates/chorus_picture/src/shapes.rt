@@ -5,7 +5,7 @@ ghost use Rattle.chorus_show.specs.Lines.{act_text};
 ghost use Rattle.law_picture.specs.Causes.{packet_of};
 ghost use Rattle.chorus_picture.specs.Tables.{bar_of, row_by};
 ghost use Rattle.chorus_picture.specs.Rows.{row_y};
-ghost use Rattle.chorus_picture.specs.Shapes.{arrow, arrow_to, bar_above, bar_class, bar_down, bar_held, bar_in, entry_at, is_new_clock, mark_at, start_x, stop_x, texts_at, tick, turn_x};
+ghost use Rattle.chorus_picture.specs.Shapes.{arrow, arrow_to, bar_above, bar_class, bar_down, bar_held, bar_in, ends, entry_at, is_new_clock, mark_at, points, spot, start_x, stop_x, texts_at, texts_front, tick, turn_x};
 
 use crate::column::{Column, column_at, right_edge, x_at};
 use crate::filling::{push_filled, push_markup, push_shown};
@@ -48,13 +48,23 @@ fn is_new_clock(before: Option<u64>, clock: u64) -> bool
 }
 
 /// Appends the thin line above a row, where it has a new clock.
-fn push_tick(columns: &[Column], row: u32, is_new: bool, out: &mut Vec<u8>) -> Result<(), AllocError>
+#[tactic(auto, unfolding(crate::specs::Shapes::tick))]
+fn push_tick(
+    columns: &[Column],
+    row: u32,
+    is_new: bool,
+    out: &mut Vec<u8>,
+) -> Result<(), AllocError>
     ensures { OnOk result
         (out.new.items ≡ out.old.items ++ tick columns.now (row_y row) is_new) }
 {
     if is_new {
         let end = right_edge(columns) + 652;
-        push_filled(b"<path class='tick' d='M8 @H@'/>\n", &[row_y(row) - 9, end], out)?;
+        push_filled(
+            b"<path class='tick' d='M8 @H@'/>\n",
+            &[row_y(row) - 9, end],
+            out,
+        )?;
     }
     Ok(())
 }
@@ -96,6 +106,7 @@ fn push_held(
 }
 
 /// Appends the bar of a port down to y, with how many messages wait.
+#[tactic(auto, unfolding(crate::specs::Shapes::bar_in))]
 pub(crate) fn push_bar(
     column: &Column,
     port: Ui,
@@ -109,24 +120,39 @@ pub(crate) fn push_bar(
     out.extend_from_slice(bar_class(bar.waits).as_bytes())?;
     out.extend_from_slice(b"'><title>")?;
     port.text(out)?;
-    push_down(u64::from(bar.waits), column.lane(port), row_y(bar.row.number), y, out)?;
+    let top = row_y(bar.row.number);
+    push_down(
+        u64::from(bar.waits),
+        column.lane(port),
+        top,
+        y.saturating_sub(top),
+        out,
+    )?;
     Ok(())
 }
 
+#[tactic(auto, unfolding(crate::specs::Shapes::bar_class))]
 fn bar_class(waits: u32) -> &'static str
     ensures { result.now ≡ bar_class waits }
 {
     if waits == 0 { "idle" } else { "waits" }
 }
 
-fn push_down(waits: u64, lane: u64, top: u64, y: u64, out: &mut Vec<u8>) -> Result<(), AllocError>
+#[tactic(auto, unfolding(crate::specs::Shapes::bar_down))]
+fn push_down(
+    waits: u64,
+    lane: u64,
+    top: u64,
+    height: u64,
+    out: &mut Vec<u8>,
+) -> Result<(), AllocError>
     requires lane { lane < 2 ^ 40 }
     requires top { top < 2 ^ 40 }
-    ensures { OnOk result (out.new.items ≡ out.old.items ++ bar_down waits lane top y) }
+    ensures { OnOk result (out.new.items ≡ out.old.items ++ bar_down waits lane top height) }
 {
     push_filled(
         b", @</title><rect x='@' y='@' width='12' height='@'/><text class='count' x='@' y='@'>@</text></g>\n",
-        &[waits, lane, top, y.saturating_sub(top), lane + 6, top + 13, waits],
+        &[waits, lane, top, height, lane + 6, top + 13, waits],
         out,
     )
 }
@@ -167,6 +193,7 @@ struct Way {
     to: u32,
 }
 
+#[tactic(auto, unfolding(crate::specs::Shapes::arrow_along))]
 fn push_way(way: &Way, x: u64, column: &Column, out: &mut Vec<u8>) -> Result<(), AllocError>
     requires { x < 2 ^ 40 }
     ensures { OnOk result (out.new.items ≡ out.old.items
@@ -176,21 +203,55 @@ fn push_way(way: &Way, x: u64, column: &Column, out: &mut Vec<u8>) -> Result<(),
     let start = start_x(way.rightward, x);
     let turn = turn_x(way.rightward, column);
     let stop = stop_x(way.rightward, column);
-    let points = [start, row_y(way.from.number), turn, stop, row_y(way.to)];
-    let lines = [u64::from(way.from.number) + 2, u64::from(way.to) + 2];
     out.extend_from_slice(b"<path class='")?;
     out.extend_from_slice(name.as_bytes())?;
-    push_filled(b"' d='M@ @H@L@ @'><title>", &points, out)?;
+    push_points(
+        start,
+        row_y(way.from.number),
+        turn,
+        stop,
+        row_y(way.to),
+        out,
+    )?;
     out.extend_from_slice(name.as_bytes())?;
-    push_filled(b", line @ to line @</title></path>\n", &lines, out)?;
+    push_ends(u64::from(way.from.number) + 2, u64::from(way.to) + 2, out)?;
     Ok(())
+}
+
+#[tactic(auto, unfolding(crate::specs::Shapes::points))]
+fn push_points(
+    start: u64,
+    top: u64,
+    turn: u64,
+    stop: u64,
+    y: u64,
+    out: &mut Vec<u8>,
+) -> Result<(), AllocError>
+    ensures { OnOk result (out.new.items ≡ out.old.items ++ points start top turn stop y) }
+{
+    push_filled(
+        b"' d='M@ @H@L@ @'><title>",
+        &[start, top, turn, stop, y],
+        out,
+    )
+}
+
+#[tactic(auto, unfolding(crate::specs::Shapes::ends))]
+fn push_ends(from: u64, to: u64, out: &mut Vec<u8>) -> Result<(), AllocError>
+    ensures { OnOk result (out.new.items ≡ out.old.items ++ ends from to) }
+{
+    push_filled(b", line @ to line @</title></path>\n", &[from, to], out)
 }
 
 fn start_x(rightward: bool, x: u64) -> u64
     requires { x < 2 ^ 40 }
     ensures { result ≡ start_x rightward x }
 {
-    if rightward { x + 6 } else { x.saturating_sub(6) }
+    if rightward {
+        x + 6
+    } else {
+        x.saturating_sub(6)
+    }
 }
 
 fn turn_x(rightward: bool, column: &Column) -> u64
@@ -227,6 +288,7 @@ fn packet_of(act: &Act) -> PacketKind
 }
 
 /// Appends the entry with its mark.
+#[tactic(auto, unfolding(crate::specs::Shapes::entry_in))]
 fn push_entry(
     columns: &[Column],
     row: u32,
@@ -252,16 +314,25 @@ fn push_entry(
 }
 
 /// Appends the mark of this name.
+#[tactic(auto, unfolding(crate::specs::Shapes::mark_at))]
 fn push_mark(name: &str, x: u64, y: u64, out: &mut Vec<u8>) -> Result<(), AllocError>
     ensures { OnOk result (out.new.items ≡ out.old.items ++ mark_at name.now x y) }
 {
     out.extend_from_slice(b"<use href='#")?;
     out.extend_from_slice(name.as_bytes())?;
-    push_filled(b"' x='@' y='@'/>", &[x, y], out)?;
+    push_spot(x, y, out)?;
     Ok(())
 }
 
+#[tactic(auto, unfolding(crate::specs::Shapes::spot))]
+fn push_spot(x: u64, y: u64, out: &mut Vec<u8>) -> Result<(), AllocError>
+    ensures { OnOk result (out.new.items ≡ out.old.items ++ spot x y) }
+{
+    push_filled(b"' x='@' y='@'/>", &[x, y], out)
+}
+
 /// Appends the entry's clock, its caller and its act.
+#[tactic(auto, unfolding(crate::specs::Shapes::texts_at))]
 fn push_texts(
     right: u64,
     y: u64,
@@ -273,13 +344,26 @@ fn push_texts(
     requires act { act.now ≡ act_text entry.now.act }
     ensures { OnOk result (out.new.items ≡ out.old.items ++ texts_at right y entry.now) }
 {
-    let numbers = [y, entry.clock, right + 12, y, u64::from(entry.seat), right + 72, y];
-    push_filled(
-        b"<text x='8' y='@'>@</text><text x='@' y='@'>@</text><text class='act' x='@' y='@'>",
-        &numbers,
-        out,
-    )?;
+    push_texts_front(right, y, entry.clock, u64::from(entry.seat), out)?;
     push_shown(act, out)?;
     out.extend_from_slice(b"</text></g>\n")?;
     Ok(())
+}
+
+#[tactic(auto, unfolding(crate::specs::Shapes::texts_front))]
+fn push_texts_front(
+    right: u64,
+    y: u64,
+    clock: u64,
+    seat: u64,
+    out: &mut Vec<u8>,
+) -> Result<(), AllocError>
+    requires { right < 2 ^ 40 }
+    ensures { OnOk result (out.new.items ≡ out.old.items ++ texts_front right y clock seat) }
+{
+    push_filled(
+        b"<text x='8' y='@'>@</text><text x='@' y='@'>@</text><text class='act' x='@' y='@'>",
+        &[y, clock, right + 12, y, seat, right + 72, y],
+        out,
+    )
 }

@@ -5,7 +5,7 @@ ghost use Rattle.std.specs.List.{flat_map};
 ghost use Rattle.chorus_ui.specs.Layout.{site_of};
 ghost use Rattle.chorus_picture.specs.Columns.{lane_of};
 ghost use Rattle.chorus_picture.specs.Tables.{bar_of};
-ghost use Rattle.chorus_picture.specs.Sheet.{all_heads, band, bar_left, bars_left, column_head, front, head_at, heads_from, lane_head, line_of, opening_tag, paper, place_head};
+ghost use Rattle.chorus_picture.specs.Sheet.{all_heads, band, bar_left, bars_left, column_head, front, head_at, heads_from, lane_front, lane_head, line_at, line_of, opening_tag, paper, place_head};
 
 use crate::column::{Column, right_edge};
 use crate::filling::push_filled;
@@ -18,7 +18,11 @@ use law_picture::Bar;
 use std::alloc::AllocError;
 
 /// Appends all that stands before the rows, of which there are so many.
-pub(crate) fn push_front(columns: &[Column], count: u32, out: &mut Vec<u8>) -> Result<(), AllocError>
+pub(crate) fn push_front(
+    columns: &[Column],
+    count: u32,
+    out: &mut Vec<u8>,
+) -> Result<(), AllocError>
     ensures { OnOk result (out.new.items ≡ out.old.items ++ front columns.now count) }
 {
     let end = end_y(count);
@@ -30,6 +34,7 @@ pub(crate) fn push_front(columns: &[Column], count: u32, out: &mut Vec<u8>) -> R
     Ok(())
 }
 
+#[tactic(auto, unfolding(crate::specs::Sheet::opening_tag))]
 fn push_opening(width: u64, height: u64, out: &mut Vec<u8>) -> Result<(), AllocError>
     ensures { OnOk result (out.new.items ≡ out.old.items ++ opening_tag width height) }
 {
@@ -40,10 +45,15 @@ fn push_opening(width: u64, height: u64, out: &mut Vec<u8>) -> Result<(), AllocE
     )
 }
 
+#[tactic(auto, unfolding(crate::specs::Sheet::paper))]
 fn push_paper(width: u64, height: u64, out: &mut Vec<u8>) -> Result<(), AllocError>
     ensures { OnOk result (out.new.items ≡ out.old.items ++ paper width height) }
 {
-    push_filled(b"<rect class='paper' width='@' height='@'/>\n", &[width, height], out)
+    push_filled(
+        b"<rect class='paper' width='@' height='@'/>\n",
+        &[width, height],
+        out,
+    )
 }
 
 /// Appends the lines of the columns down to y.
@@ -51,9 +61,16 @@ fn push_lines(columns: &[Column], y: u64, out: &mut Vec<u8>) -> Result<(), Alloc
     ensures { OnOk result (out.new.items ≡ out.old.items ++ flat_map (line_of y) columns.now) }
 {
     for column in columns {
-        push_filled(b"<path class='line' d='M@ 40V@'/>\n", &[column.x(), y], out)?;
+        push_line(column.x(), y, out)?;
     }
     Ok(())
+}
+
+#[tactic(auto, unfolding(crate::specs::Sheet::line_at))]
+fn push_line(x: u64, y: u64, out: &mut Vec<u8>) -> Result<(), AllocError>
+    ensures { OnOk result (out.new.items ≡ out.old.items ++ line_at x y) }
+{
+    push_filled(b"<path class='line' d='M@ 40V@'/>\n", &[x, y], out)
 }
 
 /// Appends the bars of the ports that are held after the last entry, down to y.
@@ -140,6 +157,7 @@ fn push_heads_from(
 }
 
 /// Appends the head that begins at y.
+#[tactic(auto, unfolding(crate::specs::Sheet::head_at))]
 fn push_head(
     layout: Layout,
     columns: &[Column],
@@ -171,6 +189,7 @@ fn push_column_heads(
     Ok(())
 }
 
+#[tactic(auto, unfolding(crate::specs::Sheet::band))]
 fn push_band(right: u64, y: u64, out: &mut Vec<u8>) -> Result<(), AllocError>
     requires right { right < 2 ^ 40 }
     requires y { y < 2 ^ 50 }
@@ -178,12 +197,21 @@ fn push_band(right: u64, y: u64, out: &mut Vec<u8>) -> Result<(), AllocError>
 {
     push_filled(
         b"<rect class='band' y='@' width='@' height='40'/><text x='8' y='@'>clock</text><text x='@' y='@'>caller</text><text x='@' y='@'>entry</text>\n",
-        &[y, right + 660, y + 32, right + 12, y + 32, right + 72, y + 32],
+        &[
+            y,
+            right + 660,
+            y + 32,
+            right + 12,
+            y + 32,
+            right + 72,
+            y + 32,
+        ],
         out,
     )
 }
 
 /// Appends what stands over a column: its site and place, and the names of its ports over their lanes.
+#[tactic(auto, unfolding(crate::specs::Sheet::column_head))]
 fn push_column_head(
     layout: Layout,
     column: &Column,
@@ -207,6 +235,7 @@ fn site_of(layout: Layout, place: u16) -> u64
     u64::from(place.saturating_sub(1) / layout.turns()) + 1
 }
 
+#[tactic(auto, unfolding(crate::specs::Sheet::place_head))]
 fn push_place_head(
     x: u64,
     y: u64,
@@ -237,11 +266,23 @@ fn push_lane_heads(column: &Column, y: u64, out: &mut Vec<u8>) -> Result<(), All
     Ok(())
 }
 
+#[tactic(auto, unfolding(crate::specs::Sheet::lane_head))]
 fn push_lane_head(x: u64, y: u64, port: Ui, out: &mut Vec<u8>) -> Result<(), AllocError>
     ensures { OnOk result (out.new.items ≡ out.old.items ++ lane_head x y port) }
 {
-    push_filled(b"<text class='name' transform='rotate(-90 @ @)' x='@' y='@'>", &[x, y, x, y], out)?;
+    push_lane_front(x, y, out)?;
     port.text(out)?;
     out.extend_from_slice(b"</text>\n")?;
     Ok(())
+}
+
+#[tactic(auto, unfolding(crate::specs::Sheet::lane_front))]
+fn push_lane_front(x: u64, y: u64, out: &mut Vec<u8>) -> Result<(), AllocError>
+    ensures { OnOk result (out.new.items ≡ out.old.items ++ lane_front x y) }
+{
+    push_filled(
+        b"<text class='name' transform='rotate(-90 @ @)' x='@' y='@'>",
+        &[x, y, x, y],
+        out,
+    )
 }

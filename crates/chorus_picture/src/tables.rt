@@ -113,11 +113,7 @@ fn follow_messages(
 }
 
 /// The bars after the entry, which stands at the row.
-fn follow_bars(
-    bars: &mut HashMap<PortKey, Bar>,
-    row: Row,
-    entry: &Entry,
-) -> Result<(), AllocError>
+fn follow_bars(bars: &mut HashMap<PortKey, Bar>, row: Row, entry: &Entry) -> Result<(), AllocError>
     requires { HaveFew (bar_of bars.old) }
     ensures { OnOk result (BarsAfter entry.now row (bar_of bars.old) (bar_of bars.new)) }
 {

@@ -4,11 +4,11 @@ use Rattle.chorus_picture.proofs.drawing.push_rows.Goals as goal
 pub loop-entry-init : goal.loop-entry-init
 loop-entry-init c = drawn_none _ _ _ _ c.requires.empty
 
-pub add-requires-few : goal.add-requires-few
-add-requires-few c = (drawn_room _ _ _ _ _ _ c.loop-entry.invariant c.loop-entry-test.true c.requires.few).0
+pub add-requires-clause-few : goal.add-requires-clause-few
+add-requires-clause-few c = (drawn_room _ _ _ _ _ _ c.loop-entry.invariant c.loop-entry-test.true c.requires.few).0
 
-pub add-requires-waits : goal.add-requires-waits
-add-requires-waits c = (drawn_room _ _ _ _ _ _ c.loop-entry.invariant c.loop-entry-test.true c.requires.few).1
+pub add-requires-clause-waits : goal.add-requires-clause-waits
+add-requires-clause-waits c = (drawn_room _ _ _ _ _ _ c.loop-entry.invariant c.loop-entry-test.true c.requires.few).1
 
 pub loop-entry-preserved : goal.loop-entry-preserved
 loop-entry-preserved c =
