@@ -14,12 +14,14 @@ mod fields;
 mod journal;
 mod law;
 mod phrases;
+mod pieces;
 mod queues;
 mod status;
 mod summary;
 
 pub use journal::{entry_line, journal_text, lent_journal_text};
 pub use law::{a_line_has_one_entry, a_line_is_read_back};
+pub use pieces::{push_act, push_answer, push_id};
 pub use queues::Spot;
 pub use status::{Status, fault_text};
 pub use summary::{lent_summary_text, summary_text};

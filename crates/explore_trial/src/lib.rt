@@ -1,0 +1,6 @@
+//! A trial.
+#![tactic(auto)]
+
+mod candidates;
+mod findings;
+mod levels;
