@@ -1,3 +1,4 @@
 pub mod Sleeping
 pub mod Pending
 pub mod Counting
+pub mod Lines

@@ -1,3 +1,4 @@
 pub mod Candidates
 pub mod Levels
 pub mod Findings
+pub mod Facts

@@ -2,5 +2,6 @@
 #![tactic(auto)]
 
 mod candidates;
+mod facts;
 mod findings;
 mod levels;
