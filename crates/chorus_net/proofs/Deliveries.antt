@@ -37,7 +37,7 @@ pub set-apart : (ps : List Place) (a b i j : ℕ) (p q d : Place) → a ≡ 1 + 
 set-apart ps a b i j p q d from to lt apart =
     get_or-set_other (set ps i p) j i q d (λ e. apart (let f : a ≡ b = omega (arith, from, to, e) in f)) ∙ get_or-set_same ps i p d lt
 
-none-without : (b : ℕ) (ls : List (List Packet)) → slice_get (list_to b ls) 0 ≡ None → without_first b ls ≡ ls
+pub none-without : (b : ℕ) (ls : List (List Packet)) → slice_get (list_to b ls) 0 ≡ None → without_first b ls ≡ ls
 none-without b [] h = refl
 none-without zero ([] ∷ ls) h = refl
 none-without zero ((x ∷ l) ∷ ls) h = absurd (cc)

@@ -4,6 +4,7 @@ pub mod Changes
 pub mod Puts
 pub mod Events
 pub mod Deliveries
+pub mod Waiting
 pub mod Rounds
 pub mod Parts
 pub mod Rooms

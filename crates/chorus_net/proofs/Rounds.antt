@@ -1,13 +1,13 @@
 -- Rounds of deliveries, one after the other.
 use Rattle.std.proofs.Common.{ℕ, zero, suc, ◌≡◌, ◌≢◌, ◌+◌, ◌-◌, ◌<◌, ◌≤◌, ◌==◌, nat_le, Bool, true, false, ◌&&◌, cond, List, [], ◌∷◌, ◌++◌, length, reverse, get_or, Option, Some, None, is_some, slice_get, refl, sym, ◌∙◌, ap, subst, arith, append_assoc}
-use Rattle.std.proofs.lemmas.Bool.{and_from, and_parts, le-leb, leb-true, eq-eqb, ne_eqb}
+use Rattle.std.proofs.lemmas.Bool.{and_from, le-leb, eq-eqb, ne_eqb}
 use Rattle.std.proofs.lemmas.List.{reverse-append, append-nil}
 use Rattle.chorus_ui.specs.declared.layout.Layout.{Layout}
 use Rattle.chorus_ui.specs.declared.limits.TheConstants.{CLOCK_LIMIT}
 use Rattle.chorus_ui.specs.Layout.{has_place, places}
 use Rattle.chorus_entry.specs.declared.packet.Packet.{Packet}
 use Rattle.chorus_calls.specs.Callers.{Seated}
-use Rattle.place_outbox.specs.Waiting.{count, list_to}
+use Rattle.place_outbox.specs.Waiting.{count}
 use Rattle.law_network.specs.declared.delivery.Delivered.{Delivered}
 use Rattle.law_network.specs.Packets.{first_on}
 use Rattle.law_network.specs.Network.{NetState, Event, Deliver, numbers, place_numbers, happened, after, from_one, from_each, round, rounds, one_if, serves, served, delivered, delivery, delivery_of}
@@ -21,8 +21,8 @@ use Rattle.chorus_net.specs.Room.{UsesRoom, UsesRoomInRounds, puts_in, puts_of}
 use Rattle.chorus_net.proofs.Rooms.{uses-self, uses-one, uses-forward, uses-after, uses-reverse}
 use Rattle.chorus_net.specs.Sites.{SitesState, net, boxes, waiting_in, IsSites}
 use Rattle.chorus_net.specs.Worn.{IsUnworn, AreUnworn, ComeUnworn, IsWornIn}
-use Rattle.chorus_net.proofs.Boxes.{first-is, none-first}
-use Rattle.chorus_net.proofs.Changes.{are-boxes, box-of, length-boxes}
+use Rattle.chorus_net.proofs.Boxes.{none-first}
+use Rattle.chorus_net.proofs.Waiting.{first-waiting}
 use Rattle.chorus_net.proofs.Worn.{unworn-append, come-append, unworn-reverse, nothing-unworn}
 
 -- Events one after the other.
@@ -192,10 +192,7 @@ idle-place l a n none = idle-row l a n (places l) 1 none (omega arith) (omega ar
 
 pub idle-first : (s : SitesState) (a b i : ℕ) (p : Place) → IsSites s → a ≡ 1 + i → i < length s.places → p ≡ get_or s.places i p → has_place s.layout b ≡ true → count p.out.lists ≡ 0
     → first_on a b (waiting_in (boxes s.places)) ≡ None
-idle-first s a b i p h e lt at has none =
-    let high = leb-true b (places s.layout) (and_parts (nat_le 1 b) (nat_le b (places s.layout)) has).1 in
-    first-is a b i (places s.layout + 1) 1 (boxes s.places) (are-boxes s.layout 1 s.places h.places) (let n = length-boxes s.places in omega (arith, n, lt)) e (omega (arith, high))
-    ∙ ap (λ ls. slice_get (list_to b ls) 0) (box-of s.places i p at lt) ∙ none-first b p.out.lists none
+idle-first s a b i p h e lt at has none = first-waiting s a b i p h e lt at has ∙ none-first b p.out.lists none
 
 -- Rounds.
 

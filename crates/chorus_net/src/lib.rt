@@ -9,6 +9,7 @@
 mod closed;
 mod closing;
 mod fault;
+mod giving;
 mod sites;
 mod starting;
 

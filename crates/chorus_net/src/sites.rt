@@ -1,11 +1,12 @@
 //! The sites on one thread.
 
-ghost use Rattle.std.specs.Prelude.{◌≡◌, ◌≢◌, ℕ, [], ◌∷◌, ◌<◌, ◌≤◌, ◌↔◌, true, false, length, slice_get, All, IfOk, IsOk, OnOk, OnErr, IfErr, IsErrOf, Some, None, Ok};
+ghost use Rattle.std.specs.Prelude.{◌≡◌, ◌≢◌, ℕ, [], ◌∷◌, ◌<◌, ◌≤◌, ◌↔◌, true, false, length, reverse, is_some, slice_get, All, IfOk, IsOk, OnOk, OnErr, IfErr, IsErrOf, Some, None, Ok};
 ghost use Rattle.chorus_ui.specs.Layout.{IsLayout, has_actor, has_place};
 ghost use Rattle.chorus_ui.specs.declared.limits.TheConstants.{CLOCK_LIMIT, SEATS_LIMIT};
 ghost use Rattle.chorus_ui.specs.NameKind.{is_actor};
 ghost use Rattle.law_network.specs.Packets.{first_on};
 ghost use Rattle.law_network.specs.Network.{Act, happened, replied, delivery, place_numbers, from_one, from_each, round};
+ghost use Rattle.law_network.specs.Network.{place as place_of};
 ghost use Rattle.law_network.specs.Schedules.{may_happen};
 ghost use Rattle.law_network.specs.Calls.{just_started, entering, delivering, posts_of, compared, compared_at};
 ghost use Rattle.chorus_net.specs.Closing.{IsClosed};
@@ -17,9 +18,10 @@ ghost use Rattle.chorus_net.specs.Worn.{IsWornIn};
 use crate::closed::Closed;
 use crate::closing::{count_packets, count_ports, take_apart};
 use crate::fault::EnterFault;
+use crate::giving::may_give;
 use crate::starting::start_places;
 use chorus_calls::Caller;
-use chorus_entry::Command;
+use chorus_entry::{Command, Entry};
 use chorus_place::{Place, PlaceFault, Reply};
 use chorus_ui::{Kind, Layout, SEATS_LIMIT, Ui};
 use law_network::{Delivered, Quiet};
@@ -118,6 +120,17 @@ impl Sites {
         Ok(made)
     }
 
+    /// Whether the seat may give the command: it was given to a caller, the command meets its conditions and has a body within the
+    /// limit, and where it posts, the caller has posted fewer than 2^32 - 1 messages.
+    pub fn may_act(&self, seat: u32, command: &Command) -> bool
+        ensures { result ≡ may_happen (Act seat command.now) (net self.now) }
+    {
+        match self.callers.get(seat as usize) {
+            Some(caller) => may_give(caller, command),
+            None => false,
+        }
+    }
+
     /// Performs a command of the seat at its place, and gives the reply.
     ///
     /// It is refused as worn exactly where the greater of the place's and the seat's last clocks is at least 2^62, and else only
@@ -175,6 +188,31 @@ impl Sites {
                 Err(fault)
             }
         }
+    }
+
+    /// Whether a packet waits to go from the one place to the other. The first one is taken out and put back, so nothing changes.
+    pub fn waits(&mut self, from: u16, to: u16) -> bool
+        requires from { has_place self.old.layout from ≡ true }
+        requires to { has_place self.old.layout to ≡ true }
+        ensures value { result ≡ is_some (first_on from to (net self.old).packets) }
+        ensures same { net self.new ≡ net self.old }
+        ensures kept { KeepRoom self.old.places self.new.places }
+        ensures layout { self.new.layout ≡ self.old.layout }
+    {
+        let place = &mut self.places[usize::from(from) - 1];
+        let Some(packet) = place.out(to) else {
+            return false;
+        };
+        place.put_back(to, packet);
+        true
+    }
+
+    /// The journal of the place so far: its entries, in order.
+    pub fn journal(&self, place: u16) -> &[Entry]
+        requires { has_place self.now.layout place ≡ true }
+        ensures { reverse result.now ≡ (place_of place (net self.now)).journal }
+    {
+        self.places[usize::from(place) - 1].journal()
     }
 
     /// Seat 0 works off packets until none is left: in rounds, for each place rising, the first packet to each other place

@@ -47,12 +47,14 @@ impl Model for Place {
 }
 
 impl Place {
-    /// The place of this number, one of the layout, on which nothing happened yet. The only error is want of memory.
+    /// The place of this number, one of the layout, on which nothing happened yet. There is room for no entry or packet: what comes
+    /// takes memory until `reserve`. The only error is want of memory.
     pub fn start(alloc: Global, layout: Layout, number: u16) -> Result<Place, AllocError>
         requires { has_place layout number ≡ true }
         ensures state { IfOk result (λ place. state place ≡ started layout number) }
         ensures out { IfOk result (λ place. place.out.lists ≡ nothing_to (places layout)) }
         ensures puts { IfOk result (λ place. place.out.puts ≡ 0) }
+        ensures room { IfOk result (λ place. place.spare ≡ 0) }
         ensures layout { IfOk result (λ place. IsLayout layout) }
     {
         let tables = Tables::start(alloc, layout, number)?;

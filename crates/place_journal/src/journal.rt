@@ -50,10 +50,11 @@ impl Model for Journal {
 }
 
 impl Journal {
-    /// No entry, and room for the groups of a site.
+    /// No entry, and room for the groups of a site, but for no entry.
     pub fn with_room(alloc: Global, layout: Layout) -> Result<Journal, AllocError>
         ensures layout { IfOk result (λ journal. journal.layout ≡ layout) }
         ensures past { IfOk result (λ journal. journal.past ≡ []) }
+        ensures spare { IfOk result (λ journal. journal.spare ≡ 0) }
         ensures groups { IfOk result (λ journal. journal.groups ≡ new_table GROUPS_PER_SITE_LIMIT) }
     {
         let made = PortMarks::with_room(alloc, layout)?;
@@ -61,7 +62,7 @@ impl Journal {
         let groups = Groups::with_room(alloc, GROUPS_PER_SITE_LIMIT as u16)?;
         Ok(Journal {
             layout,
-            entries: Vec::new(alloc),
+            entries: Vec::with_capacity(alloc, 0)?,
             clock: 0,
             made_count: 0,
             made,

@@ -59,13 +59,14 @@ impl Model for Tables {
 }
 
 impl Tables {
-    /// The place of this number, on which nothing happened yet. The only error is want of memory.
+    /// The place of this number, on which nothing happened yet, with room for no entry. The only error is want of memory.
     pub fn start(alloc: Global, layout: Layout, number: u16) -> Result<Tables, AllocError>
         requires { has_place layout number ≡ true }
         ensures state { IfOk result (λ place. state place ≡ started layout number) }
         ensures out { IfOk result (λ place. place.out.lists ≡ nothing_to (places layout)) }
         ensures puts { IfOk result (λ place. place.puts ≡ []) }
         ensures count { IfOk result (λ place. place.out.puts ≡ 0) }
+        ensures room { IfOk result (λ place. place.journal.spare ≡ 0) }
         ensures layout { IfOk result (λ place. IsLayout layout) }
     {
         let most = PORTS_PER_SITE_LIMIT / u64::from(layout.turns());
