@@ -32,8 +32,8 @@ pub(crate) fn handle_packet<E: Ends>(
     packet: Packet,
 ) -> Result<Pump, PlaceFault>
     requires { desk.old.hand ≡ None }
-    ensures ok { IfOk result (λ pump. HandlesPacket pump from packet (seen E.links E.packet desk.old)
-        (seen E.links E.packet desk.new) caller.old caller.new) }
+    ensures ok { IfOk result (λ pump. HandlesPacket pump from packet
+        (seen E.links E.packet desk.old) (seen E.links E.packet desk.new) caller.old caller.new) }
     ensures refused { OnErr result (Holds from packet (seen E.links E.packet desk.old)
         (seen E.links E.packet desk.new) caller.old caller.new) }
     ensures worn { (clock : ℕ) → IsErrOf result (PlaceFault.Worn clock) →

@@ -37,7 +37,8 @@ pub trait Job<S: Kept> {
     /// Runs once, as the pass with this number. The state has a journal, and what is added to it are entries of this seat.
     fn run(&mut self, state: &mut S, seat: u32) -> Self::Out
         requires accepts { accepts self.old (S.mark state.old) seat }
-        requires fits { (log : List (Remarked S.Remark)) × IsJournal S.entries S.fits state.old log }
+        requires fits { (log : List (Remarked S.Remark)) ×
+            IsJournal S.entries S.fits state.old log }
         ensures done { ran self.old state.old seat self.new state.new result }
         ensures mark { S.mark state.new ≡ S.mark state.old }
         ensures entries { GrowsBy seat (S.entries state.old) (S.entries state.new) }
