@@ -16,6 +16,13 @@ pub(crate) struct Candidate {
     pub(crate) is_asleep: bool,
 }
 
+/// What is before the first move: no candidate.
+pub(crate) const NO_CANDIDATE: Candidate = Candidate {
+    mv: Move::Go { script: 0 },
+    place: 0,
+    is_asleep: true,
+};
+
 /// Whether they are one move.
 fn is_same(one: Move, other: Move) -> bool
     ensures { result ≡ same_move one other }

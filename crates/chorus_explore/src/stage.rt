@@ -1,16 +1,26 @@
 //! The sites of a scenario behind its setup, on which the moves of a race are performed.
 
-ghost use Rattle.std.specs.Prelude.{◌≡◌, ◌≤◌, ◌<◌, ◌^◌, true, length};
-ghost use Rattle.law_network.specs.Network as network;
-ghost use Rattle.law_network.specs.Schedules.{may_happen};
+ghost use Rattle.std.specs.Prelude.{◌≡◌, ℕ, ◌<◌, ◌+◌, ◌^◌, [], ◌∷◌, ◌++◌, true, length, map, option_to_list, Ok, IfOk, OnOk, IsErrOf};
+ghost use Rattle.chorus_ui.specs.Layout.{IsLayout, has_place};
+ghost use Rattle.chorus_place.specs.declared.fault.PlaceFault.TheVariants as PlaceFault;
+ghost use Rattle.chorus_scene.specs.Limits.{Keeps};
+ghost use Rattle.law_explore.specs.declared.moves.Move.TheVariants as Move;
+ghost use Rattle.law_explore.specs.Outcome.{Answered, post_in};
+ghost use Rattle.law_explore.specs.Races.{links_to, next_moves};
+ghost use Rattle.law_network.specs.Calls.{just_started};
+ghost use Rattle.law_network.specs.Network.{place_numbers};
+ghost use Rattle.law_schedule.specs.Shown.{race_of};
 ghost use Rattle.chorus_net.specs.Sites.{net};
+ghost use Rattle.chorus_explore.specs.Facts.{fact_line};
+ghost use Rattle.chorus_explore.specs.Stages.{AreAt, AreProgress, IsReached, IsSame, MayWear, candidate_behind, comes, coming, may_go, moves_of, position};
 
-use crate::candidates::Candidate;
+use crate::candidates::{Candidate, sleeps};
 use crate::facts::push_answered;
-use chorus_entry::{Act, Command, Entry, MsgId};
-use chorus_net::{Closed, EnterFault, Sites};
+use chorus_entry::{Act, MsgId};
+use chorus_net::Sites;
 use chorus_place::PlaceFault;
-use chorus_scene::{SCRIPTS_LIMIT, Scenario, Script, SetupLine};
+use chorus_replay::{enter, set_up};
+use chorus_scene::Scenario;
 use law_explore::Move;
 use std::alloc::{AllocError, Global};
 
@@ -25,215 +35,246 @@ pub(crate) struct Progress {
     pub(crate) posts: Vec<MsgId>,
 }
 
-/// The sites, and how far the scripts are.
+impl Progress {
+    /// One command more was performed, of the script of this number, and answered by the act.
+    fn answered(&mut self, script: u64, act: &Act) -> Result<(), AllocError>
+        requires { self.old.next < 2 ^ 32 }
+        ensures next { OnOk result (self.new.next ≡ self.old.next + 1) }
+        ensures answers { OnOk result (self.new.answers.items ≡ self.old.answers.items
+            ++ fact_line (Answered script (self.old.next + 1) act.now)) }
+        ensures posts { OnOk result (self.new.posts.items
+            ≡ self.old.posts.items ++ option_to_list (post_in act.now)) }
+    {
+        self.next += 1;
+        push_answered(script, self.next as u64, act, &mut self.answers)?;
+        if let Act::Post { message, .. } = act {
+            self.posts.reserve(1)?;
+            self.posts.push_reserved(message.id);
+        }
+        Ok(())
+    }
+}
+
+/// The sites, how far the scripts are, and the moves that led there.
 #[derive(Debug, Drop)]
 pub(crate) struct Stage {
     sites: Sites,
     scripts: Vec<Progress>,
-}
-
-/// What is left of a stage.
-#[derive(Debug, Drop)]
-pub(crate) struct Ended {
-    pub(crate) closed: Closed,
-    pub(crate) scripts: Vec<Progress>,
+    pub(crate) moves: Vec<Move>,
 }
 
 impl Stage {
     /// The sites when all callers have entered.
-    pub(crate) fn begin(alloc: Global, scenario: &Scenario) -> Result<Stage, PlaceFault> {
-        let mut sites = Sites::start(alloc, scenario.layout())?;
-        for line in scenario.setup() {
-            let command = setup_command(line);
-            if sites.may_act(0, &command) {
-                sites.act(0, command)?;
-            }
-        }
-        let mut scripts = Vec::new(alloc);
-        for script in scenario.scripts() {
-            enter(&mut sites, script)?;
-            scripts.reserve(1)?;
-            scripts.push_reserved(Progress {
-                next: 0,
-                answers: Vec::new(alloc),
-                posts: Vec::new(alloc),
-            });
-        }
-        Ok(Stage { sites, scripts })
+    pub(crate) fn begin(alloc: Global, scenario: &Scenario) -> Result<Stage, PlaceFault>
+        ensures ok { IfOk result (λ stage. IsReached scenario.now stage
+            × (stage.moves.items ≡ [])) }
+        ensures worn { (clock : ℕ) → IsErrOf result (PlaceFault.Worn clock) →
+            MayWear scenario.now clock }
+    {
+        let sites = Sites::start(alloc, scenario.layout())?;
+        let sites = entered(sites, scenario)?;
+        let scripts = no_progress(alloc, scenario)?;
+        let moves = Vec::new(alloc);
+        Ok(Stage {
+            sites,
+            scripts,
+            moves,
+        })
     }
 
-    /// Performs a move that may come.
-    pub(crate) fn go(&mut self, scenario: &Scenario, mv: Move) -> Result<(), PlaceFault> {
-        match mv {
-            Move::Go { script } => match scenario.scripts().get(usize::from(script)) {
-                Some(given) => self.perform(script, given),
-                None => Ok(()),
-            },
-            Move::Carry { from, to } => self.carry(from, to),
-        }
+    /// Performs a move that may come. False where its caller has posted all the messages that it may; then only the sites are as they
+    /// were.
+    pub(crate) fn go(&mut self, scenario: &Scenario, mv: Move) -> Result<bool, PlaceFault>
+        requires reached { IsReached scenario.now self.old }
+        requires may { may_go scenario.now mv (moves_of self.old) ≡ true }
+        ensures reached { result ≡ Ok true → IsReached scenario.now self.new }
+        ensures moves { result ≡ Ok true →
+            self.new.moves.items ≡ self.old.moves.items ++ mv ∷ [] }
+        ensures worn { (clock : ℕ) → IsErrOf result (PlaceFault.Worn clock) →
+            MayWear scenario.now clock }
+    {
+        self.moves.reserve(1)?;
+        let has_gone = match mv {
+            Move::Go { script } => self.perform(scenario, script)?,
+            Move::Carry { from, to } => self.carry(scenario, from, to)?,
+        };
+        self.moves.push_reserved(mv);
+        Ok(has_gone)
     }
 
-    /// Delivers the first packet that waits from the one place to the other.
-    fn carry(&mut self, from: u16, to: u16) -> Result<(), PlaceFault> {
-        let layout = self.sites.layout();
-        if layout.has_place(from) && layout.has_place(to) && from != to {
-            self.sites.deliver(from, to)?;
-        }
-        Ok(())
+    /// Delivers the first packet that waits from the one place to the other, where one does.
+    fn carry(&mut self, scenario: &Scenario, from: u16, to: u16) -> Result<bool, PlaceFault>
+        requires reached { IsReached scenario.now self.old }
+        requires may { may_go scenario.now (Move.Carry from to) (moves_of self.old) ≡ true }
+        ensures at { OnOk result
+            (AreAt scenario.now (Move.Carry from to ∷ moves_of self.old) self.new) }
+        ensures moves { self.new.moves ≡ self.old.moves }
+        ensures worn { (clock : ℕ) → IsErrOf result (PlaceFault.Worn clock) →
+            MayWear scenario.now clock }
+    {
+        self.sites.deliver(from, to)?;
+        Ok(true)
     }
 
-    /// Performs the next command of the script, which stands there.
-    fn perform(&mut self, index: u16, script: &Script) -> Result<(), PlaceFault> {
+    /// Performs the next command of the script that stands there. False where its caller has posted all the messages that it may.
+    fn perform(&mut self, scenario: &Scenario, index: u16) -> Result<bool, PlaceFault>
+        requires reached { IsReached scenario.now self.old }
+        requires may { may_go scenario.now (Move.Go index) (moves_of self.old) ≡ true }
+        ensures at { result ≡ Ok true →
+            AreAt scenario.now (Move.Go index ∷ moves_of self.old) self.new }
+        ensures moves { self.new.moves ≡ self.old.moves }
+        ensures worn { (clock : ℕ) → IsErrOf result (PlaceFault.Worn clock) →
+            MayWear scenario.now clock }
+    {
+        let script = usize::from(index);
         let seat = u32::from(index) + 1;
-        let Some(progress) = self.scripts.get_mut(usize::from(index)) else {
-            return Ok(());
-        };
-        let Some(command) = script.commands().get(progress.next) else {
-            return Ok(());
-        };
+        let given = &scenario.scripts()[script];
+        let command = &given.commands()[self.scripts[script].next];
         if !self.sites.may_act(seat, command) {
-            return Ok(());
+            return Ok(false);
         }
-        answer(&mut self.sites, seat, script, command.copied()?, progress)
+        let place = command.place_for(scenario.layout(), given.actor());
+        let before = self.sites.journal(place).len();
+        self.sites.act(seat, command.copied()?)?;
+        let act = &self.sites.journal(place)[before].act;
+        self.scripts[script].answered(u64::from(seat), act)?;
+        Ok(true)
     }
 
-    /// The moves that may come next, scripts first, then deliveries by their places. None is asleep.
+    /// The moves that may come behind the one taken, where these were the candidates before it: scripts first, then deliveries by their
+    /// places.
     pub(crate) fn candidates(
         &mut self,
         alloc: Global,
         scenario: &Scenario,
-    ) -> Result<Vec<Candidate>, AllocError> {
+        taken: Candidate,
+        before: &[Candidate],
+    ) -> Result<Vec<Candidate>, AllocError>
+        requires { IsReached scenario.now self.old }
+        ensures reached { IsReached scenario.now self.new }
+        ensures moves { self.new.moves ≡ self.old.moves }
+        ensures items { IfOk result (λ v. v.items ≡ map (candidate_behind taken before.now
+            (position scenario.now (moves_of self.old)))
+            (next_moves (race_of scenario.now) (position scenario.now (moves_of self.old)))) }
+    {
         let mut candidates = Vec::new(alloc);
-        let count = self.scripts_of(scenario);
-        for index in 0..count {
-            let script = &scenario.scripts()[index];
-            if let Some(command) = script.commands().get(self.scripts[index].next) {
-                candidates.push(Candidate {
-                    mv: Move::Go {
-                        script: index as u16,
-                    },
-                    place: self.place_for(script, command),
-                    is_asleep: false,
-                })?;
-            }
+        for index in 0..scenario.scripts().len() {
+            self.add_script(scenario, index, taken, before, &mut candidates)?;
         }
-        let places = self.sites.layout().places();
-        for from in 1..=places {
-            self.carries(from, places, &mut candidates)?;
+        for from in 1..=scenario.layout().places() {
+            self.add_links(scenario, from, taken, before, &mut candidates)?;
         }
         Ok(candidates)
     }
 
-    /// How many scripts there are, at most 16.
-    fn scripts_of(&self, scenario: &Scenario) -> usize
-        ensures { (result ≤ length scenario.now.scripts) × (result ≤ length self.now.scripts.items)
-            × (result < 2 ^ 16) }
-    {
-        let count = scenario.scripts().len().min(self.scripts.len());
-        count.min(SCRIPTS_LIMIT)
-    }
-
-    /// The place at which a command of the script is carried out.
-    fn place_for(&self, script: &Script, command: &Command) -> u16 {
-        place_on(&self.sites, script, command)
-    }
-
-    /// Adds the deliveries from the place.
-    fn carries(
-        &mut self,
-        from: u16,
-        places: u16,
+    /// Adds the next command of the script, where one is left.
+    fn add_script(
+        &self,
+        scenario: &Scenario,
+        index: usize,
+        taken: Candidate,
+        before: &[Candidate],
         candidates: &mut Vec<Candidate>,
-    ) -> Result<(), AllocError> {
-        for to in 1..=places {
-            if self.may_carry(from, to) {
-                candidates.push(Candidate {
-                    mv: Move::Carry { from, to },
-                    place: to,
-                    is_asleep: false,
-                })?;
-            }
+    ) -> Result<(), AllocError>
+        requires reached { IsReached scenario.now self.now }
+        requires index { index < length scenario.now.scripts }
+        ensures { OnOk result (candidates.new.items ≡ candidates.old.items
+            ++ coming scenario.now taken before.now
+            (position scenario.now (moves_of self.now)) (Move.Go index ∷ [])) }
+    {
+        let script = &scenario.scripts()[index];
+        if let Some(command) = script.commands().get(self.scripts[index].next) {
+            let mv = Move::Go {
+                script: index as u16,
+            };
+            candidates.push(Candidate {
+                mv,
+                place: command.place_for(scenario.layout(), script.actor()),
+                is_asleep: sleeps(mv, taken, before),
+            })?;
         }
         Ok(())
     }
 
-    /// Whether a packet waits to go from the one place to the other, which are two places of the layout.
-    fn may_carry(&mut self, from: u16, to: u16) -> bool {
-        let layout = self.sites.layout();
-        layout.has_place(from) && layout.has_place(to) && from != to && self.sites.waits(from, to)
-    }
-
-    /// Closes the sites.
-    pub(crate) fn close(self, alloc: Global) -> Result<Ended, AllocError> {
-        match self.sites.close(alloc) {
-            Ok(closed) => Ok(Ended {
-                closed,
-                scripts: self.scripts,
-            }),
-            Err((_, error)) => Err(error),
+    /// Adds the deliveries from the place.
+    fn add_links(
+        &mut self,
+        scenario: &Scenario,
+        from: u16,
+        taken: Candidate,
+        before: &[Candidate],
+        candidates: &mut Vec<Candidate>,
+    ) -> Result<(), AllocError>
+        requires reached { IsReached scenario.now self.old }
+        requires from { has_place scenario.now.layout from ≡ true }
+        ensures same { IsSame self.old self.new }
+        ensures items { OnOk result (candidates.new.items ≡ candidates.old.items
+            ++ coming scenario.now taken before.now (position scenario.now (moves_of self.old))
+            (links_to from (place_numbers scenario.now.layout))) }
+    {
+        for to in 1..=scenario.layout().places() {
+            self.add_link(scenario, from, to, taken, before, candidates)?;
         }
+        Ok(())
+    }
+
+    /// Adds the delivery from the one place to the other, where a packet waits.
+    fn add_link(
+        &mut self,
+        scenario: &Scenario,
+        from: u16,
+        to: u16,
+        taken: Candidate,
+        before: &[Candidate],
+        candidates: &mut Vec<Candidate>,
+    ) -> Result<(), AllocError>
+        requires reached { IsReached scenario.now self.old }
+        requires from { has_place scenario.now.layout from ≡ true }
+        requires to { has_place scenario.now.layout to ≡ true }
+        ensures same { IsSame self.old self.new }
+        ensures items { OnOk result (candidates.new.items ≡ candidates.old.items
+            ++ coming scenario.now taken before.now (position scenario.now (moves_of self.old))
+            (Move.Carry from to ∷ [])) }
+    {
+        if from != to && self.sites.waits(from, to) {
+            let mv = Move::Carry { from, to };
+            candidates.push(Candidate {
+                mv,
+                place: to,
+                is_asleep: sleeps(mv, taken, before),
+            })?;
+        }
+        Ok(())
     }
 }
 
-/// The command of a line of the setup.
-fn setup_command(line: &SetupLine) -> Command {
-    match *line {
-        SetupLine::Port { actor, capacity } => Command::Make { actor, capacity },
-        SetupLine::Group { site } => Command::GroupMake { site },
-        SetupLine::Member { group, port } => Command::Join { group, port },
-    }
-}
-
-/// Enters the caller of the script.
-fn enter(sites: &mut Sites, script: &Script) -> Result<(), AllocError> {
-    if !script.actor().is_actor() {
-        return Ok(());
-    }
-    match sites.enter(script.actor()) {
-        Err(EnterFault::Memory(error)) => Err(error),
-        _ => Ok(()),
-    }
-}
-
-/// The place at which a command of the script is carried out; 0 where none is.
-fn place_on(sites: &Sites, script: &Script, command: &Command) -> u16 {
-    let layout = sites.layout();
-    if layout.has_site(script.actor().site()) && command.meets_conditions() {
-        command.place_for(layout, script.actor())
-    } else {
-        0
-    }
-}
-
-/// Performs the command, which may be given, and keeps how it was answered.
-fn answer(
-    sites: &mut Sites,
-    seat: u32,
-    script: &Script,
-    command: Command,
-    progress: &mut Progress,
-) -> Result<(), PlaceFault>
-    requires { may_happen (network.Act seat command) (net sites.old) ≡ true }
+/// The sites, which were just started, when the setup is done and all callers have entered.
+fn entered(mut sites: Sites, scenario: &Scenario) -> Result<Sites, PlaceFault>
+    requires start { net sites ≡ just_started scenario.now.layout }
+    requires keeps { Keeps scenario.now }
+    ensures ok { IfOk result (λ s. net s ≡ (race_of scenario.now).net) }
+    ensures worn { (clock : ℕ) → IsErrOf result (PlaceFault.Worn clock) →
+        MayWear scenario.now clock }
 {
-    let place = place_on(sites, script, &command);
-    let before = entries_at(sites, place).len();
-    sites.act(seat, command)?;
-    progress.next = progress.next.saturating_add(1);
-    if let Some(entry) = entries_at(sites, place).get(before) {
-        push_answered(u64::from(seat), progress.next as u64, &entry.act, &mut progress.answers)?;
-        if let Act::Post { message, .. } = &entry.act {
-            progress.posts.reserve(1)?;
-            progress.posts.push_reserved(message.id);
-        }
-    }
-    Ok(())
+    let _layout = sites.layout();
+    set_up(&mut sites, scenario)?;
+    enter(&mut sites, scenario)?;
+    Ok(sites)
 }
 
-/// The journal of the place so far; none where the layout does not have it.
-fn entries_at(sites: &Sites, place: u16) -> &[Entry] {
-    if sites.layout().has_place(place) {
-        sites.journal(place)
-    } else {
-        &[]
+/// Nothing of each script was performed.
+fn no_progress(alloc: Global, scenario: &Scenario) -> Result<Vec<Progress>, AllocError>
+    ensures { IfOk result (λ v. AreProgress 1 scenario.now.scripts
+        (position scenario.now []).left (position scenario.now []).told v.items) }
+{
+    let mut scripts = Vec::new(alloc);
+    for _script in scenario.scripts() {
+        scripts.reserve(1)?;
+        scripts.push_reserved(Progress {
+            next: 0,
+            answers: Vec::new(alloc),
+            posts: Vec::new(alloc),
+        });
     }
+    Ok(scripts)
 }

@@ -10,7 +10,7 @@ use Rattle.explore_trial.specs.declared.candidates.Candidate.{Candidate}
 use Rattle.explore_trial.specs.declared.levels.Level.{Level}
 use Rattle.explore_trial.specs.declared.levels.TheConstants.{MOVES_LIMIT}
 use Rattle.explore_trial.specs.Candidates.{candidate_at, candidates_at}
-use Rattle.explore_trial.specs.Levels.{awake, unseen, beyond, pending_at, AreFoundOrPending}
+use Rattle.explore_trial.specs.Levels.{awake, unseen, beyond, pending_at, AreFoundOrPending, IsComing}
 
 module _ (r : Race) where
   -- those that fit are awake
@@ -49,18 +49,13 @@ module _ (r : Race) where
 
   -- Taking a move: between two levels it is come to a history.
 
-  -- the histories that were found, those that go on from the one that is come to, and what is pending at the levels above it
-  abbrev pub IsComing : List (List Move) → List Level → List Move → Type 0
-  IsComing found ls h =
-      (most : ℕ) → MOVES_LIMIT < most → found ++ (ends_from (replaying r) (next_moves r) (most - length ls) h ++ pending_at r most ls (drop 1 h)) ≡ whole_histories r most
-
-  pub begins : IsComing [] [] []
+  pub begins : IsComing r [] [] []
   begins most lt =
       let all : most - 0 ≡ most = omega arith in
       append-nil (ends_from (replaying r) (next_moves r) (most - 0) []) ∙ ap (λ (n : ℕ). ends_from (replaying r) (next_moves r) n []) all
 
   pub takes : (found : List (List Move)) (level level' : Level) (ls : List Level) (ms : List Move) (c : Candidate) → AreFoundOrPending r found (level ∷ ls) ms
-      → awake (unseen level) ≡ c ∷ awake (unseen level') → IsComing found (level' ∷ ls) (c.mv ∷ ms)
+      → awake (unseen level) ≡ c ∷ awake (unseen level') → IsComing r found (level' ∷ ls) (c.mv ∷ ms)
   takes found level level' ls ms c h e most lt =
       let d = most - 1 - length ls in
       let same : most - suc (length ls) ≡ most - 1 - length ls = omega arith in
@@ -74,7 +69,7 @@ module _ (r : Race) where
   gone found level ls ms h e most lt =
       ap (λ cs. found ++ (flat_map (beyond r (most - 1 - length ls) ms) cs ++ pending_at r most ls (drop 1 ms))) (sym e) ∙ h most lt
 
-  pub ends : (found : List (List Move)) (ls : List Level) (h : List Move) → IsComing found ls h → candidates_at r h ≡ [] → length ls ≤ MOVES_LIMIT
+  pub ends : (found : List (List Move)) (ls : List Level) (h : List Move) → IsComing r found ls h → candidates_at r h ≡ [] → length ls ≤ MOVES_LIMIT
       → AreFoundOrPending r (found ++ h ∷ []) ls (drop 1 h)
   ends found ls h coming e le most lt =
       let same : most - length ls ≡ suc (most - 1 - length ls) = omega arith in
@@ -83,7 +78,7 @@ module _ (r : Race) where
       (sym (comes-end (most - 1 - length ls) h e) ∙ ap (λ (n : ℕ). ends_from (replaying r) (next_moves r) n h) (sym same))
       ∙ coming most lt
 
-  pub deeper : (found : List (List Move)) (level : Level) (ls : List Level) (h : List Move) (c : Candidate) (cs : List Candidate) → IsComing found ls h
+  pub deeper : (found : List (List Move)) (level : Level) (ls : List Level) (h : List Move) (c : Candidate) (cs : List Candidate) → IsComing r found ls h
       → level.candidates.items ≡ candidates_at r h → level.candidates.items ≡ c ∷ cs → level.seen ≡ 0 → length ls ≤ MOVES_LIMIT → AreFoundOrPending r found (level ∷ ls) h
   deeper found level ls h c cs coming is some none le most lt =
       let same : most - length ls ≡ suc (most - 1 - length ls) = omega arith in

@@ -43,3 +43,26 @@ pending_at r most (level ∷ ls) ms =
 abbrev pub AreFoundOrPending : Race → List (List Move) → List Level → List Move → Type 0
 AreFoundOrPending r found ls ms =
     (most : ℕ) → MOVES_LIMIT < most → found ++ pending_at r most ls ms ≡ whole_histories r most
+
+-- a history is come to: those that were found, then those that go on from it, then what is pending at the levels above it
+abbrev pub IsComing : Race → List (List Move) → List Level → List Move → Type 0
+IsComing r found ls h =
+    (most : ℕ) → MOVES_LIMIT < most →
+    found ++ (ends_from (replaying r) (next_moves r) (most - length ls) h ++ pending_at r most ls (drop 1 h)) ≡ whole_histories r most
+
+-- no level has looked at more than there is
+abbrev pub HaveSeen : List Level → Type 0
+HaveSeen [] = Unit {0}
+HaveSeen (level ∷ ls) = level.seen ≤ length level.candidates.items
+
+-- the deepest level gives its next candidate that is awake, and is behind it
+abbrev pub Advances : Candidate → List Level → List Level → Type 0
+Advances c (level ∷ ls) (level' ∷ ls') =
+    (awake (unseen level) ≡ c ∷ awake (unseen level')) × (level'.candidates ≡ level.candidates)
+    × (level'.seen ≤ length level'.candidates.items)
+Advances c _ _ = ⊥
+
+-- or has none left
+abbrev pub IsDone : List Level → Type 0
+IsDone [] = Unit {0}
+IsDone (level ∷ ls) = awake (unseen level) ≡ []

@@ -2,6 +2,8 @@
 #![tactic(auto)]
 
 mod candidates;
+mod exploring;
 mod facts;
 mod findings;
 mod levels;
+mod stage;

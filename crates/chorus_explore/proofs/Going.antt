@@ -1,0 +1,112 @@
+-- The search, step by step: a move is taken, a history is come to, a level is gone from.
+-- c is a scenario, most is how many events may be carried out, r is a race, found are histories, ls are levels, ms and h are moves.
+use Rattle.std.proofs.Common.{ℕ, zero, suc, ◌≡◌, ◌≢◌, ◌+◌, ◌<◌, ◌≤◌, Bool, true, false, not, cond, List, [], ◌∷◌, ◌++◌, length, map, drop, reverse, get_or, option_to_list, Option, Some, None, is_some, IfSome, ◌⊎◌, inl, inr, refl, sym, ◌∙◌, ap, ap₂, subst, arith}
+use Rattle.std.specs.List.{All, Contains, filter}
+use Rattle.std.proofs.lemmas.Bool.{false≢true}
+use Rattle.std.proofs.lemmas.List.{append-nil, reverse-append, length-reverse, length_push}
+use Rattle.std.proofs.lemmas.List.Elements.{Contains-append_left, Contains-get_or}
+use Rattle.law_explore.specs.declared.moves.Move.{Move}
+use Rattle.law_explore.specs.Search.{IsHistory, fits, state_after}
+use Rattle.law_explore.specs.Races.{Race, may_come, place_of_move, replaying, next_moves, whole_histories, IsNormalWhole}
+use Rattle.law_explore.proofs.Searching.{here, there}
+use Rattle.law_explore.proofs.Exploring.{lists-next, races_are_explored}
+use Rattle.law_schedule.specs.Shown.{race_of}
+use Rattle.chorus_scene.specs.Scene.{Scene}
+use Rattle.chorus_explore.specs.declared.candidates.Candidate.{Candidate}
+use Rattle.chorus_explore.specs.declared.exploring.Explored.{Explored}
+use Rattle.chorus_explore.specs.declared.exploring.Search.{Search}
+use Rattle.chorus_explore.specs.declared.levels.Level.{Level}
+use Rattle.chorus_explore.specs.declared.levels.TheConstants.{MOVES_LIMIT}
+use Rattle.chorus_explore.specs.declared.stage.Stage.{Stage}
+use Rattle.chorus_explore.specs.Candidates.{candidate_at, candidates_at, sleeps_behind}
+use Rattle.chorus_explore.specs.Levels.{awake, unseen, pending_at, AreLevels, AreFoundOrPending, IsComing, HaveSeen, Advances, IsDone}
+use Rattle.chorus_explore.specs.Searches.{HasFound, IsOver, IsSearch, IsTaking, HasCome, HasStage, IsBehind, levels_of, path_of}
+use Rattle.chorus_explore.specs.Stages.{IsReached, candidate_behind, comes, may_go, moves_of, position}
+use Rattle.chorus_explore.proofs.Pending.{begins, takes, gone, ends, deeper}
+use Rattle.chorus_explore.proofs.Sleeping.{sleeps-is}
+
+-- What was found is whole and in normal form, as long as it is a front of all such.
+
+module _ (r : Race) where
+  front-whole : (found rest : List (List Move)) → found ++ rest ≡ whole_histories r (MOVES_LIMIT + 1) → All (IsNormalWhole r) found
+  front-whole found rest e k d lt =
+      let h = get_or found k d in
+      (races_are_explored r (MOVES_LIMIT + 1) h).1 (subst (λ xs. Contains xs h) e (Contains-append_left found rest h (Contains-get_or found k d lt)))
+
+  more : MOVES_LIMIT < MOVES_LIMIT + 1
+  more = omega arith
+
+  pub found-whole : (found : List (List Move)) (ls : List Level) (ms : List Move) → AreFoundOrPending r found ls ms → All (IsNormalWhole r) found
+  found-whole found ls ms h = front-whole found (pending_at r (MOVES_LIMIT + 1) ls ms) (h (MOVES_LIMIT + 1) more)
+
+  pub coming-whole : (found : List (List Move)) (ls : List Level) (h : List Move) → IsComing r found ls h → All (IsNormalWhole r) found
+  coming-whole found ls h coming = front-whole found _ (coming (MOVES_LIMIT + 1) more)
+
+  pub all-found : (found : List (List Move)) (ms : List Move) → AreFoundOrPending r found [] ms → (long : ℕ) → MOVES_LIMIT < long → found ≡ whole_histories r long
+  all-found found ms h long lt = sym (append-nil found) ∙ h long lt
+
+  -- Candidates.
+
+  -- one that is awake is one of the moves that may come
+  pub record IsListed (ms : List Move) (c : Candidate) : Type 0 where
+    pub is : c ≡ candidate_at r ms c.mv
+    pub may : may_come r.net.layout c.mv (state_after (replaying r) ms) ≡ true
+
+  awake-listed : (ms os : List Move) (n : ℕ) (c : Candidate) (cs : List Candidate) → awake (drop n (map (candidate_at r ms) os)) ≡ c ∷ cs → (o : Move) × (Contains os o × (c ≡ candidate_at r ms o))
+  awake-listed ms [] zero c cs e = absurd (cc)
+  awake-listed ms [] (suc n) c cs e = absurd (cc)
+  awake-listed ms (o ∷ os) (suc n) c cs e = (let rest = awake-listed ms os n c cs e in (rest.0, (there rest.0 o os rest.1.0, rest.1.1)))
+  awake-listed ms (o ∷ os) zero c cs e = by (not (candidate_at r ms o).is_asleep) e (awake-listed ms os zero c cs)
+    where
+      by : (b : Bool) → cond b (candidate_at r ms o ∷ awake (map (candidate_at r ms) os)) (awake (map (candidate_at r ms) os)) ≡ c ∷ cs
+          → (awake (map (candidate_at r ms) os) ≡ c ∷ cs → (p : Move) × (Contains os p × (c ≡ candidate_at r ms p)))
+          → (p : Move) × (Contains (o ∷ os) p × (c ≡ candidate_at r ms p))
+      by true k ih = (o, (here o os, (let same : candidate_at r ms o ≡ c = cc in sym same)))
+      by false k ih = (let rest = ih k in (rest.0, (there rest.0 o os rest.1.0, rest.1.1)))
+
+  pub listed : (ms : List Move) (level : Level) (c : Candidate) (cs : List Candidate) → level.candidates.items ≡ candidates_at r ms → awake (unseen level) ≡ c ∷ cs → IsListed ms c
+  listed ms level c cs are e =
+      let o = awake-listed ms (next_moves r (state_after (replaying r) ms)) level.seen c cs (ap (λ xs. awake (drop level.seen xs)) (sym are) ∙ e) in
+      let mv : c.mv ≡ o.0 = ap (λ (z : Candidate). z.mv) o.1.1 in
+      record {
+        is = o.1.1 ∙ ap (candidate_at r ms) (sym mv);
+        may = ap (λ m. may_come r.net.layout m (state_after (replaying r) ms)) mv ∙ (lists-next r (state_after (replaying r) ms) o.0).1 o.1.0;
+      }
+
+  map-same : (f g : Move → Candidate) → ((m : Move) → f m ≡ g m) → (os : List Move) → map f os ≡ map g os
+  map-same f g same [] = refl
+  map-same f g same (o ∷ os) = ap₂ (λ x xs. x ∷ xs) (same o) (map-same f g same os)
+
+  -- behind a move that was taken, those that sleep do not fit; before the first one none sleeps
+  pub behind-are : (ms : List Move) (taken : Candidate) (before : List Candidate) → taken ≡ candidate_at r ms taken.mv → may_come r.net.layout taken.mv (state_after (replaying r) ms) ≡ true
+      → before ≡ candidates_at r ms
+      → map (candidate_behind taken before (state_after (replaying r) (taken.mv ∷ ms))) (next_moves r (state_after (replaying r) (taken.mv ∷ ms))) ≡ candidates_at r (taken.mv ∷ ms)
+  behind-are ms taken before is may are =
+      map-same (candidate_behind taken before (state_after (replaying r) (taken.mv ∷ ms))) (candidate_at r (taken.mv ∷ ms))
+      (λ m. ap (λ b. record { mv = m; place = place_of_move m (state_after (replaying r) (taken.mv ∷ ms)); is_asleep = b })
+      (ap₂ (λ z cs. sleeps_behind m z cs) is are ∙ sleeps-is r ms m taken.mv may))
+      (next_moves r (state_after (replaying r) (taken.mv ∷ ms)))
+
+  pub first-are : (taken : Candidate) → map (candidate_behind taken [] (state_after (replaying r) [])) (next_moves r (state_after (replaying r) [])) ≡ candidates_at r []
+  first-are taken = map-same (candidate_behind taken [] (state_after (replaying r) [])) (candidate_at r []) (λ m. refl) (next_moves r (state_after (replaying r) []))
+
+  -- Levels.
+
+  pub have-seen : (ls : List Level) (ms : List Move) → AreLevels r ls ms → HaveSeen ls
+  have-seen [] ms h = tt
+  have-seen (level ∷ ls) ms h = h.1
+
+-- Lists that lose their last element.
+
+pub pop-drop : {X : Type 0} (xs ys : List X) (o : Option X) → xs ≡ ys ++ option_to_list o → (is_some o ≡ false → xs ≡ []) → reverse ys ≡ drop 1 (reverse xs)
+pop-drop xs ys (Some x) e none = ap (drop 1) (sym (ap reverse e ∙ reverse-append ys (x ∷ [])))
+pop-drop xs ys None e none =
+    let nil : ys ≡ [] = sym (append-nil ys) ∙ sym e ∙ none refl in
+    ap reverse nil ∙ sym (ap (λ zs. drop 1 (reverse zs)) (none refl))
+
+pub push-first : {X : Type 0} (xs : List X) (x : X) → reverse (xs ++ x ∷ []) ≡ x ∷ reverse xs
+push-first xs x = reverse-append xs (x ∷ [])
+
+pub empty-or-not : {X : Type 0} (xs : List X) → (xs ≡ []) ⊎ ((x : X) × ((ys : List X) × (xs ≡ x ∷ ys)))
+empty-or-not [] = inl refl
+empty-or-not (x ∷ ys) = inr (x, (ys, refl))
