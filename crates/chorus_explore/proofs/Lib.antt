@@ -6,3 +6,4 @@ pub mod Staging
 pub mod Racing
 pub mod Going
 pub mod Searching
+pub mod Explaining

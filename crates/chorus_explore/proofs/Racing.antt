@@ -3,21 +3,24 @@
 use Rattle.std.proofs.Common.{ℕ, zero, suc, ◌≡◌, ◌+◌, ◌<◌, ◌≤◌, ◌==◌, nat_le, Bool, true, false, ◌&&◌, not, cond, List, [], ◌∷◌, ◌++◌, length, map, reverse, Option, Some, None, is_some, slice_get, slice_set, refl, sym, ◌∙◌, ap, ap₂, subst, arith, append_assoc}
 use Rattle.std.specs.Option.{option_map}
 use Rattle.std.proofs.lemmas.Bool.{false≢true, and_parts, eqb-true}
-use Rattle.std.proofs.lemmas.List.{map-append, reverse-append, reverse-reverse, length-reverse}
+use Rattle.std.proofs.lemmas.List.{map-append, reverse-append, reverse-reverse, length-map}
 use Rattle.std.proofs.lemmas.Option.{slice_get-map}
 use Rattle.chorus_ui.specs.declared.layout.Layout.{Layout}
 use Rattle.chorus_ui.specs.declared.ui.Ui.{Ui}
 use Rattle.chorus_ui.specs.Layout.{has_place}
 use Rattle.chorus_entry.specs.declared.command.Command.{Command}
-use Rattle.chorus_entry.specs.declared.entry.Entry.{Entry}
+use Rattle.chorus_entry.specs.declared.packet.Packet.{Packet}
 use Rattle.chorus_entry.specs.Places.{place_for}
 use Rattle.chorus_calls.specs.Callers.{Seated}
-use Rattle.law_machine.specs.PlaceState.{PlaceState, Turn, started, next_entry}
-use Rattle.law_machine.specs.PlaceMachine.{act, begun}
+use Rattle.law_machine.specs.PlaceState.{PlaceState, next_entry}
+use Rattle.law_machine.specs.PlaceMachine.{act, begun_by, work}
 use Rattle.law_machine.specs.Own.{own}
 use Rattle.law_machine.proofs.Machine.Stays.{act-stays}
-use Rattle.law_network.specs.Network.{NetState, Event, Enter, Act, Deliver, happened, commanded, ended, place, place_in, with_place, schedule, turn_for}
+use Rattle.law_network.specs.Network.{NetState, Event, Enter, Act, Deliver, happened, commanded, delivered, works_off, place, place_in, with_place, schedule, turn_for}
+use Rattle.law_network.specs.Packets.{AreByLink, first_on, rest_on}
 use Rattle.law_network.specs.Calls.{first_actor, starting}
+use Rattle.law_network.proofs.Links.LinkViews.{rest-order}
+use Rattle.law_explore.proofs.Packets.{order-all}
 use Rattle.law_network.specs.Stands.{AreOf, actor_of}
 use Rattle.law_network.specs.Tasks.{Task, Do}
 use Rattle.law_network.proofs.Events.Said.{act-goes}
@@ -27,14 +30,14 @@ use Rattle.law_network.proofs.Standing.Turning.{stands-there, actor-some}
 use Rattle.law_explore.specs.declared.moves.Move.{Move}
 use Rattle.law_explore.specs.declared.moves.Move.TheVariants.{Go, Carry}
 use Rattle.law_explore.specs.Search.{IsHistory, state_after}
-use Rattle.law_explore.specs.Races.{Position, Race, next_of, behind_next, are_linked, event_of, own_of, own_by, with_answer, position_after, is_ready_by, seat_0, may_come, replaying}
+use Rattle.law_explore.specs.Races.{Position, Race, next_of, behind_next, are_linked, event_of, own_of, own_by, with_answer, position_after, is_ready_by, seat_0, may_come, replaying, IsRace}
 use Rattle.law_explore.proofs.Races.{same-actors, same-layout}
 use Rattle.law_schedule.specs.Shown.{race_of}
 use Rattle.chorus_scene.specs.Scene.{Scene, Script}
 use Rattle.chorus_report.specs.Setup.{setup_commands}
 use Rattle.chorus_net.specs.Sites.{IsScheduled}
 use Rattle.chorus_replay.specs.Order.{in_setup, entering}
-use Rattle.chorus_replay.proofs.Callers.{actors_in, actors_by, actor-after, actors-append, actors-reverse, acts-none, entering-all}
+use Rattle.chorus_replay.proofs.Callers.{actors_in, actors_by, actor_in, callers-after, actor-after, actors-append, actors-reverse, acts-none, entering-all}
 use Rattle.chorus_explore.specs.Stages.{position}
 
 -- Whose caller is whose.
@@ -140,3 +143,34 @@ entry-at old new past newer e was is =
     let new-is : new ≡ reverse past ++ e ∷ reverse newer =
     sym (reverse-reverse new) ∙ ap reverse is ∙ reverse-append newer (e ∷ past) ∙ ap (λ xs. xs ++ reverse newer) (reverse-append (e ∷ []) past) ∙ append_assoc (reverse past) (e ∷ []) (reverse newer) in
     ap₂ (λ xs (m : ℕ). slice_get xs m) new-is (ap length old-is) ∙ at-length (reverse past) e (reverse newer)
+
+-- A race may begin.
+
+packets-ordered : (l : Layout) (es : List Event) → AreByLink (schedule l es).packets
+packets-ordered l [] = tt
+packets-ordered l (Enter actor last ∷ es) = packets-ordered l es
+packets-ordered l (Act k d ∷ es) = by (slice_get (schedule l es).callers k) (packets-ordered l es)
+  where
+    by : (o : Option Seated) → AreByLink (schedule l es).packets → AreByLink (commanded k d o (schedule l es)).packets
+    by None h = h
+    by (Some w) h = order-all (act d (turn_for d w (schedule l es))).puts (schedule l es).packets h
+packets-ordered l (Deliver k a b ∷ es) = by (slice_get (schedule l es).callers k) (packets-ordered l es)
+  where
+    off : (w : Seated) (o : Option Packet) → AreByLink (schedule l es).packets → AreByLink (works_off k a b w o (schedule l es)).packets
+    off w None h = h
+    off w (Some q) h = order-all (work q (begun_by (place b (schedule l es)) w q)).puts (rest_on a b (schedule l es).packets) (rest-order a b (schedule l es).packets h)
+
+    by : (o : Option Seated) → AreByLink (schedule l es).packets → AreByLink (delivered k a b o (schedule l es)).packets
+    by None h = h
+    by (Some w) h = off w (first_on a b (schedule l es).packets) h
+
+pub is-race : (c : Scene) → IsRace (race_of c)
+is-race c =
+    let l = c.layout in
+    let es = reverse (base c) in
+    let callers = ap length (callers-after l es) in
+    let mapped = length-map (schedule l es).callers actor_in in
+    let all = ap length (came c) in
+    let actors = length-map c.scripts (λ (script : Script). script.actor) in
+    let scripts = length-map c.scripts (λ (script : Script). script.commands) in
+    record { order = packets-ordered l es; seats = omega (arith, callers, mapped, all, actors, scripts) }

@@ -5,3 +5,5 @@ pub mod Facts
 pub mod Stages
 pub mod Searches
 pub mod Outcomes
+pub mod Reports
+pub mod Explored

@@ -168,7 +168,8 @@ impl Search {
         }
         let candidates = self.candidates_behind(alloc, scenario, candidate, &mut stage)?;
         self.explored.events += 1;
-        self.moves.push(candidate.mv)?;
+        self.moves.reserve(1)?;
+        self.moves.push_reserved(candidate.mv);
         self.come_to(alloc, stage, candidates)?;
         Ok(true)
     }
