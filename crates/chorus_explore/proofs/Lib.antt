@@ -7,3 +7,5 @@ pub mod Racing
 pub mod Going
 pub mod Searching
 pub mod Explaining
+pub mod Telling
+pub mod Moving

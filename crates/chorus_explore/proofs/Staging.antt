@@ -1,14 +1,14 @@
 -- Scripts behind moves: how far each is, and one that goes on by a command.
 -- k is the number of a script, i its place in a list, left, told and p are its own; those of all are lists.
-use Rattle.std.proofs.Common.{ℕ, zero, suc, ◌≡◌, ◌+◌, ◌-◌, ◌<◌, ◌≤◌, List, [], ◌∷◌, ◌++◌, length, map, drop, reverse, get_or, set, option_to_list, Option, Some, None, slice_get, slice_set, refl, sym, ◌∙◌, ap, subst, arith, append_assoc, codes, decimal}
-use Rattle.std.specs.List.{cons_option, flat_map, filter_map}
+use Rattle.std.proofs.Common.{ℕ, zero, suc, ◌≡◌, ◌+◌, ◌-◌, ◌<◌, ◌≤◌, List, [], ◌∷◌, ◌++◌, length, map, drop, reverse, get_or, set, option_to_list, Option, Some, None, slice_get, slice_set, refl, sym, ◌∙◌, ap, ap₂, subst, arith, append_assoc, codes, decimal}
+use Rattle.std.specs.List.{All, cons_option, flat_map, filter_map}
 use Rattle.std.proofs.lemmas.List.{append-nil, reverse-append, length-reverse}
 use Rattle.std.proofs.lemmas.List.Concat.{flat_map-append}
 use Rattle.std.proofs.lemmas.List.Elements.{filter_map-append}
 use Rattle.chorus_entry.specs.declared.act.Act as acts
 use Rattle.chorus_entry.specs.declared.act.Act.TheVariants as variants
 use Rattle.chorus_entry.specs.declared.command.Command.{Command}
-use Rattle.law_explore.specs.Outcome.{Answered, plain_act, post_in, answers_from}
+use Rattle.law_explore.specs.Outcome.{Answered, plain_act, post_in, posts_in, answers_from, answer_facts}
 use Rattle.law_explore.specs.Races.{next_of, behind_next}
 use Rattle.chorus_scene.specs.Scene.{Script}
 use Rattle.chorus_show.specs.Phrases.{phrase}
@@ -143,3 +143,50 @@ one-more k all left told p new c a is next n answers posts =
     one : {X : Type 0} (o : Option X) → cons_option o [] ≡ option_to_list o
     one None = refl
     one (Some x) = refl
+
+-- What all scripts came to.
+
+pub answers-are : (k : ℕ) (ss : List Script) (lefts : List (List Command)) (tolds : List (List acts.Act)) (ps : List Progress) → AreProgress k ss lefts tolds ps
+    → flat_map fact_line (answer_facts k tolds) ≡ flat_map (λ (p : Progress). p.answers.items) ps
+answers-are k [] [] [] [] h = refl
+answers-are k (s ∷ ss) (l ∷ lefts) (t ∷ tolds) (p ∷ ps) h =
+    flat_map-append fact_line (answers_from k 1 (reverse t)) (answer_facts (k + 1) tolds)
+    ∙ ap₂ (λ xs ys. xs ++ ys) (sym h.0.answers) (answers-are (k + 1) ss lefts tolds ps h.1)
+answers-are k [] [] [] (p ∷ ps) h = absurd h
+answers-are k [] [] (t ∷ tolds) ps h = absurd h
+answers-are k [] (l ∷ lefts) tolds ps h = absurd h
+answers-are k (s ∷ ss) [] tolds ps h = absurd h
+answers-are k (s ∷ ss) (l ∷ lefts) [] ps h = absurd h
+answers-are k (s ∷ ss) (l ∷ lefts) (t ∷ tolds) [] h = absurd h
+
+pub posts-are : (k : ℕ) (ss : List Script) (lefts : List (List Command)) (tolds : List (List acts.Act)) (ps : List Progress) → AreProgress k ss lefts tolds ps
+    → posts_in tolds ≡ flat_map (λ (p : Progress). p.posts.items) ps
+posts-are k [] [] [] [] h = refl
+posts-are k (s ∷ ss) (l ∷ lefts) (t ∷ tolds) (p ∷ ps) h = ap₂ (λ xs ys. xs ++ ys) (sym h.0.posts) (posts-are (k + 1) ss lefts tolds ps h.1)
+posts-are k [] [] [] (p ∷ ps) h = absurd h
+posts-are k [] [] (t ∷ tolds) ps h = absurd h
+posts-are k [] (l ∷ lefts) tolds ps h = absurd h
+posts-are k (s ∷ ss) [] tolds ps h = absurd h
+posts-are k (s ∷ ss) (l ∷ lefts) [] ps h = absurd h
+posts-are k (s ∷ ss) (l ∷ lefts) (t ∷ tolds) [] h = absurd h
+
+-- nothing of these scripts was performed
+pub none-performed : (k : ℕ) (ss : List Script) (ps : List Progress) → length ps ≡ length ss → All (λ (p : Progress). (p.next ≡ 0) × (p.answers.items ≡ []) × (p.posts.items ≡ [])) ps
+    → AreProgress k ss (map (λ (s : Script). s.commands) ss) (map (λ (cs : List Command). []) (map (λ (s : Script). s.commands) ss)) ps
+none-performed k [] [] e all = tt
+none-performed k (s ∷ ss) (p ∷ ps) e all =
+    let one = all 0 p (omega arith) in (
+      record {
+        left = ap (λ (n : ℕ). drop n s.commands) (sym one.0);
+        few = (let n = one.0 in omega (arith, n));
+        count = sym one.0;
+        answers = one.1;
+        posts = one.2;
+      },
+      none-performed (k + 1) ss ps (same (length ps) (length ss) e) (λ i d lt. all (suc i) d (omega (arith, lt))),
+    )
+  where
+    same : (a b : ℕ) → suc a ≡ suc b → a ≡ b
+    same a b e = omega (arith, e)
+none-performed k [] (p ∷ ps) e all = absurd (omega (arith, e))
+none-performed k (s ∷ ss) [] e all = absurd (omega (arith, e))

@@ -5,6 +5,7 @@ use Rattle.std.specs.List.{flat_map, filter, filter_map}
 use Rattle.chorus_ui.specs.declared.limits.TheConstants.{CLOCK_LIMIT}
 use Rattle.chorus_entry.specs.declared.act.Act as acts
 use Rattle.chorus_entry.specs.declared.command.Command.{Command}
+use Rattle.chorus_entry.specs.declared.entry.Entry.{Entry}
 use Rattle.law_network.specs.Network.{NetState, Event}
 use Rattle.law_explore.specs.declared.moves.Move.{Move}
 use Rattle.law_explore.specs.Search.{IsHistory, state_after}
@@ -20,6 +21,7 @@ use Rattle.chorus_explore.specs.declared.stage.Progress.{Progress}
 use Rattle.chorus_explore.specs.declared.stage.Stage.{Stage}
 use Rattle.chorus_explore.specs.Candidates.{sleeps_behind}
 use Rattle.chorus_explore.specs.Facts.{fact_line, outcome_lines}
+use Rattle.chorus_explore.specs.Outcomes.{message_lines}
 
 -- where the moves lead
 abbrev pub position : Scene → List Move → Position
@@ -86,3 +88,7 @@ pub record WearsBehind (c : Scene) (clock : ℕ) : Type 0 where
 
 abbrev pub MayWear : Scene → ℕ → Type 0
 MayWear c clock = ((n : NetState) × IsWornAt c clock n) ⊎ WearsBehind c clock
+
+-- the lines of the messages that a script posted
+abbrev pub posted_lines : List (List Entry) → Progress → List ℕ
+posted_lines js p = flat_map (message_lines js) p.posts.items

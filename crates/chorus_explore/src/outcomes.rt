@@ -17,8 +17,23 @@ use chorus_ui::Ui;
 use law_network::Placed;
 use std::alloc::AllocError;
 
+/// Appends the lines of the messages and of their copies.
+pub(crate) fn push_messages(
+    ids: &[MsgId],
+    journals: &[Vec<Entry>],
+    text: &mut Vec<u8>,
+) -> Result<(), AllocError>
+    ensures { OnOk result (text.new.items
+        ≡ text.old.items ++ flat_map (message_lines (journals_of journals.now)) ids.now) }
+{
+    for id in ids {
+        push_message(*id, journals, text)?;
+    }
+    Ok(())
+}
+
 /// Appends the lines of the message and of its copies.
-pub(crate) fn push_message(
+fn push_message(
     id: MsgId,
     journals: &[Vec<Entry>],
     text: &mut Vec<u8>,
@@ -139,8 +154,23 @@ fn verdict_by(id: MsgId, act: &Act) -> Option<Answer>
     }
 }
 
+/// Appends the lines of the ports that the journals make, where they are held.
+pub(crate) fn push_all_ports(
+    journals: &[Vec<Entry>],
+    ports: &[Placed],
+    text: &mut Vec<u8>,
+) -> Result<(), AllocError>
+    ensures { OnOk result (text.new.items ≡ text.old.items
+        ++ flat_map (made_lines ports.now) (journals_of journals.now)) }
+{
+    for journal in journals {
+        push_ports(journal, ports, text)?;
+    }
+    Ok(())
+}
+
 /// Appends the lines of the ports that the journal makes, where they are held.
-pub(crate) fn push_ports(
+fn push_ports(
     journal: &[Entry],
     ports: &[Placed],
     text: &mut Vec<u8>,

@@ -1,5 +1,6 @@
 //! The sites of a scenario behind its setup, on which the moves of a race are performed.
 
+ghost use Rattle.std.specs.List.{flat_map};
 ghost use Rattle.std.specs.Prelude.{◌≡◌, ℕ, ◌<◌, ◌+◌, ◌^◌, [], ◌∷◌, ◌++◌, true, length, map, option_to_list, Ok, IfOk, OnOk, IsErrOf};
 ghost use Rattle.chorus_ui.specs.Layout.{IsLayout, has_place};
 ghost use Rattle.chorus_place.specs.declared.fault.PlaceFault.TheVariants as PlaceFault;
@@ -10,13 +11,17 @@ ghost use Rattle.law_explore.specs.Races.{links_to, next_moves};
 ghost use Rattle.law_network.specs.Calls.{just_started};
 ghost use Rattle.law_network.specs.Network.{place_numbers};
 ghost use Rattle.law_schedule.specs.Shown.{race_of};
+ghost use Rattle.chorus_merge.specs.Steps.{journals_of};
+ghost use Rattle.chorus_scene.specs.Scene.{Scene};
+ghost use Rattle.chorus_explore.specs.declared.stage.Progress.{Progress};
 ghost use Rattle.chorus_net.specs.Sites.{net};
 ghost use Rattle.chorus_explore.specs.Facts.{fact_line};
-ghost use Rattle.chorus_explore.specs.Stages.{AreAt, AreProgress, IsReached, IsSame, MayWear, candidate_behind, comes, coming, may_go, moves_of, position};
+ghost use Rattle.chorus_explore.specs.Stages.{AreAt, AreProgress, IsReached, IsSame, MayWear, candidate_behind, comes, coming, may_go, moves_of, position, posted_lines};
 
 use crate::candidates::{Candidate, sleeps};
 use crate::facts::push_answered;
-use chorus_entry::{Act, MsgId};
+use crate::outcomes::{push_all_ports, push_messages};
+use chorus_entry::{Act, Entry, MsgId};
 use chorus_net::Sites;
 use chorus_place::PlaceFault;
 use chorus_replay::{enter, set_up};
@@ -167,6 +172,22 @@ impl Stage {
         Ok(candidates)
     }
 
+    /// Closes the sites, and gives the lines of what the moves came to.
+    pub(crate) fn outcome(self, alloc: Global) -> Result<Vec<u8>, AllocError>
+        ensures { (c : Scene) → IsReached c self →
+            IfOk result (λ text. text.items ≡ comes c (moves_of self)) }
+    {
+        let closed = match self.sites.close(alloc) {
+            Ok(closed) => closed,
+            Err((_, error)) => return Err(error),
+        };
+        let mut text = Vec::new(alloc);
+        push_answers(&self.scripts, &mut text)?;
+        push_posts(&self.scripts, &closed.journals, &mut text)?;
+        push_all_ports(&closed.journals, &closed.ports, &mut text)?;
+        Ok(text)
+    }
+
     /// Adds the next command of the script, where one is left.
     fn add_script(
         &self,
@@ -246,6 +267,32 @@ impl Stage {
         }
         Ok(())
     }
+}
+
+/// Appends the lines of what the commands of the scripts were answered.
+fn push_answers(scripts: &[Progress], text: &mut Vec<u8>) -> Result<(), AllocError>
+    ensures { OnOk result (text.new.items
+        ≡ text.old.items ++ flat_map (λ (p : Progress). p.answers.items) scripts.now) }
+{
+    for progress in scripts {
+        text.extend_from_slice(&progress.answers)?;
+    }
+    Ok(())
+}
+
+/// Appends the lines of the messages that the scripts posted.
+fn push_posts(
+    scripts: &[Progress],
+    journals: &[Vec<Entry>],
+    text: &mut Vec<u8>,
+) -> Result<(), AllocError>
+    ensures { OnOk result (text.new.items ≡ text.old.items
+        ++ flat_map (posted_lines (journals_of journals.now)) scripts.now) }
+{
+    for progress in scripts {
+        push_messages(&progress.posts, journals, text)?;
+    }
+    Ok(())
 }
 
 /// The sites, which were just started, when the setup is done and all callers have entered.

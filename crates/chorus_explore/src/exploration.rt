@@ -1,7 +1,7 @@
 //! What may come of a scenario.
 
 ghost use Rattle.std.specs.Prelude.{ℕ, IfOk, IsErrOf};
-ghost use Rattle.chorus_explore.specs.declared.explore.ExploreFault.TheVariants as ExploreFault;
+ghost use Rattle.chorus_explore.specs.declared.exploration.ExploreFault.TheVariants as ExploreFault;
 ghost use Rattle.chorus_explore.specs.Explored.{IsExploration};
 ghost use Rattle.chorus_explore.specs.Stages.{MayWear};
 

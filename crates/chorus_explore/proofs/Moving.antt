@@ -1,0 +1,150 @@
+-- A stage that makes a move.
+-- c is a scenario, s the stage before, t behind it; a and b are numbers of places, i is the place of a script, d a command.
+use Rattle.std.proofs.Common.{ℕ, zero, suc, ◌≡◌, ◌≢◌, ◌+◌, ◌<◌, ◌==◌, Bool, true, false, ◌&&◌, not, cond, List, [], ◌∷◌, ◌++◌, length, map, drop, set, option_to_list, Option, Some, None, is_some, slice_get, slice_set, refl, sym, ◌∙◌, ap, ap₂, subst, arith}
+use Rattle.std.specs.List.{filter}
+use Rattle.std.specs.Option.{option_map}
+use Rattle.std.proofs.lemmas.Bool.{false≢true, and_parts, eq-eqb}
+use Rattle.chorus_ui.specs.declared.layout.Layout.{Layout}
+use Rattle.chorus_ui.specs.declared.ui.Ui.{Ui}
+use Rattle.chorus_ui.specs.Layout.{has_place}
+use Rattle.chorus_entry.specs.declared.act.Act as acts
+use Rattle.chorus_entry.specs.declared.command.Command.{Command}
+use Rattle.chorus_entry.specs.Places.{place_for}
+use Rattle.law_machine.specs.Own.{own}
+use Rattle.law_network.specs.Packets.{first_on}
+use Rattle.law_network.specs.Network.{NetState, Event, Act, Deliver, happened, turn_for}
+use Rattle.law_network.specs.Stands.{actor_of}
+use Rattle.law_explore.specs.declared.moves.Move.{Move}
+use Rattle.law_explore.specs.declared.moves.Move.TheVariants.{Go, Carry}
+use Rattle.law_explore.specs.Neighbours.{command_place}
+use Rattle.law_explore.specs.Outcome.{Answered, post_in}
+use Rattle.law_explore.specs.Races.{Position, next_of, behind_next, are_linked, event_of, own_by, own_of, with_answer, position_after, is_ready_by, seat_0, may_come, place_of_move, place_with}
+use Rattle.law_explore.specs.Search.{IsHistory}
+use Rattle.law_schedule.specs.Shown.{race_of}
+use Rattle.chorus_scene.specs.Scene.{Scene, Script}
+use Rattle.chorus_net.specs.Sites.{net}
+use Rattle.chorus_explore.specs.declared.candidates.Candidate.{Candidate}
+use Rattle.chorus_explore.specs.declared.stage.Progress.{Progress}
+use Rattle.chorus_explore.specs.declared.stage.Stage.{Stage}
+use Rattle.chorus_explore.specs.Facts.{fact_line}
+use Rattle.chorus_explore.specs.Stages.{AreAt, AreProgress, IsProgress, IsReached, candidate_behind, coming, may_go, moves_of, position}
+use Rattle.chorus_explore.proofs.Racing.{CallerAt, actor-at, caller-at, comes, position-layout, race-layout}
+use Rattle.chorus_explore.proofs.Staging.{ProgressAt, next-there, one-more, progress-at, progress-length, progress-set}
+
+some-same : {X : Type 0} (x y : X) → Some x ≡ Some y → x ≡ y
+some-same x y e = cc
+
+module _ (c : Scene) where
+  -- A delivery.
+
+  pub record IsLinked (a b : ℕ) (ms : List Move) : Type 0 where
+    pub from : has_place c.layout a ≡ true
+    pub to : has_place c.layout b ≡ true
+    pub apart : a ≢ b
+    pub event : event_of (race_of c).net.layout seat_0 (Carry a b) (position c ms).left ≡ Some (Deliver 0 a b)
+
+  pub linked : (a b : ℕ) (ms : List Move) → may_go c (Carry a b) ms ≡ true → IsLinked a b ms
+  linked a b ms h = by (are_linked (race_of c).net.layout a b) refl h
+    where
+      by : (x : Bool) → are_linked (race_of c).net.layout a b ≡ x → is_ready_by (cond x (Some (Deliver 0 a b)) None) (position c ms).net ≡ true → IsLinked a b ms
+      by false e k = absurd (false≢true k)
+      by true e k =
+          let l = (race_of c).net.layout in
+          let one = and_parts (has_place l a && has_place l b) (not (a == b)) e in
+          let two = and_parts (has_place l a) (has_place l b) one.0 in
+          record {
+            from = ap (λ (m : Layout). has_place m a) (sym (race-layout c)) ∙ two.0;
+            to = ap (λ (m : Layout). has_place m b) (sym (race-layout c)) ∙ two.1;
+            apart = λ same. false≢true (sym (ap not (eq-eqb a b same)) ∙ one.1);
+            event = ap (λ x. cond x (Some (Deliver 0 a b)) None) e;
+          }
+
+  pub carried : (a b : ℕ) (s t : Stage) → IsReached c s → may_go c (Carry a b) (moves_of s) ≡ true → net t.sites ≡ happened (Deliver 0 a b) (net s.sites) → t.scripts ≡ s.scripts
+      → AreAt c (Carry a b ∷ moves_of s) t
+  carried a b s t h may is same =
+      let after : position c (Carry a b ∷ moves_of s) ≡ position_after (Some (Deliver 0 a b)) (Carry a b) (position c (moves_of s)) =
+      ap (λ o. position_after o (Carry a b) (position c (moves_of s))) (linked a b (moves_of s) may).event in
+      record {
+        net = is ∙ ap (happened (Deliver 0 a b)) h.at.net ∙ sym (ap (λ (p : Position). p.net) after);
+        scripts = subst (λ (p : Position). AreProgress 1 c.scripts p.left p.told t.scripts.items) (sym after)
+            (subst (λ v. AreProgress 1 c.scripts (position c (moves_of s)).left (position c (moves_of s)).told v.items) (sym same) h.at.scripts);
+      }
+
+  -- A command.
+
+  -- the script that goes, its progress, and its caller
+  pub record Goes (i : ℕ) (s : Stage) (d : Command) : Type 0 where
+    pub at : ProgressAt 1 i c.scripts (position c (moves_of s)).left (position c (moves_of s)).told s.scripts.items
+    pub next : next_of (Some at.left) ≡ Some d
+    pub caller : CallerAt c (moves_of s) i at.script.actor
+
+  below-some : (s : Stage) → IsReached c s → (i : ℕ) → may_go c (Go i) (moves_of s) ≡ true → i < length c.scripts
+  below-some s h i may = by (slice_get (position c (moves_of s)).left i) refl may
+    where
+      within : {X : Type 0} (xs : List X) (j : ℕ) (x : X) → slice_get xs j ≡ Some x → j < length xs
+      within [] j x e = absurd (cc)
+      within (y ∷ xs) zero x e = omega arith
+      within (y ∷ xs) (suc j) x e = (let lt = within xs j x e in omega (arith, lt))
+
+      by : (o : Option (List Command)) → slice_get (position c (moves_of s)).left i ≡ o → is_ready_by (option_map (λ (d : Command). Act (suc i) d) (next_of o)) (position c (moves_of s)).net ≡ true → i < length c.scripts
+      by None e k = absurd (false≢true k)
+      by (Some left) e k =
+          let lt = within (position c (moves_of s)).left i left e in
+          let n = (progress-length 1 c.scripts (position c (moves_of s)).left (position c (moves_of s)).told s.scripts.items h.at.scripts).1 in
+          omega (arith, lt, n)
+
+  pub goes : (s : Stage) → IsReached c s → (i : ℕ) → may_go c (Go i) (moves_of s) ≡ true → (d : Command) × Goes i s d
+  goes s h i may =
+      let at = progress-at 1 i c.scripts (position c (moves_of s)).left (position c (moves_of s)).told s.scripts.items h.at.scripts (below-some s h i may) in
+      by at (next_of (Some at.left)) refl (ap (λ o. is_ready_by (option_map (λ (d : Command). Act (suc i) d) (next_of o)) (position c (moves_of s)).net) (sym at.is_left) ∙ may)
+    where
+      by : (at : ProgressAt 1 i c.scripts (position c (moves_of s)).left (position c (moves_of s)).told s.scripts.items) (o : Option Command) → next_of (Some at.left) ≡ o
+          → is_ready_by (option_map (λ (d : Command). Act (suc i) d) o) (position c (moves_of s)).net ≡ true → (d : Command) × Goes i s d
+      by at None e k = absurd (false≢true k)
+      by at (Some d) e k = (d, record { at = at; next = e; caller = caller-at c (moves_of s) h.history i at.script at.is_script })
+
+  pub performed : (i : ℕ) (s t : Stage) (d : Command) (new : Progress) → IsReached c s → (g : Goes i s d) → net t.sites ≡ happened (Act (suc i) d) (net s.sites) → t.scripts.items ≡ set s.scripts.items i new
+      → new.next ≡ g.at.p.next + 1
+      → new.answers.items ≡ g.at.p.answers.items ++ fact_line (Answered (1 + i) (g.at.p.next + 1) (own d (turn_for d g.caller.caller (position c (moves_of s)).net)))
+      → new.posts.items ≡ g.at.p.posts.items ++ option_to_list (post_in (own d (turn_for d g.caller.caller (position c (moves_of s)).net)))
+      → AreAt c (Go i ∷ moves_of s) t
+  performed i s t d new h g is scripts next answers posts =
+      let p = position c (moves_of s) in
+      let w = g.caller.caller in
+      let a = own d (turn_for d w p.net) in
+      let event : event_of (race_of c).net.layout seat_0 (Go i) p.left ≡ Some (Act (suc i) d) = ap (λ o. option_map (λ (x : Command). Act (suc i) x) (next_of o)) g.at.is_left ∙ ap (option_map (λ (x : Command). Act (suc i) x)) g.next in
+      let after : position c (Go i ∷ moves_of s) ≡ position_after (Some (Act (suc i) d)) (Go i) p = ap (λ o. position_after o (Go i) p) event in
+      let left : slice_set p.left i (behind_next (slice_get p.left i)) ≡ slice_set p.left i (behind_next (Some g.at.left)) = ap (λ o. slice_set p.left i (behind_next o)) g.at.is_left in
+      let told : slice_set p.told i (with_answer (own_of (Act (suc i) d) p.net) (slice_get p.told i)) ≡ slice_set p.told i (a ∷ g.at.told) =
+      ap₂ (λ o k. slice_set p.told i (with_answer (own_by d p.net o) k)) g.caller.is g.at.is_told in
+      let more = one-more (1 + i) g.at.script.commands g.at.left g.at.told g.at.p new d a g.at.is g.next next answers posts in
+      let all = progress-set 1 i c.scripts p.left p.told s.scripts.items g.at.script (behind_next (Some g.at.left)) (a ∷ g.at.told) new h.at.scripts g.at.is_script more in
+      record {
+        net = is ∙ ap (happened (Act (suc i) d)) h.at.net ∙ sym (ap (λ (q : Position). q.net) after);
+        scripts = subst (λ (q : Position). AreProgress 1 c.scripts q.left q.told t.scripts.items) (sym after)
+            (subst (λ ps. AreProgress 1 c.scripts _ _ ps) (sym scripts) (subst (λ xs. AreProgress 1 c.scripts xs _ _) (sym left) (subst (λ xs. AreProgress 1 c.scripts _ xs _) (sym told) all)));
+      }
+
+  -- Which of them may come.
+
+  pub script-comes : (s : Stage) → IsReached c s → (i : ℕ) → (at : ProgressAt 1 i c.scripts (position c (moves_of s)).left (position c (moves_of s)).told s.scripts.items)
+      → may_come (race_of c).net.layout (Go i) (position c (moves_of s)) ≡ is_some (slice_get at.script.commands at.p.next)
+  script-comes s h i at =
+      let p = position c (moves_of s) in
+      let w = caller-at c (moves_of s) h.history i at.script at.is_script in
+      let next : next_of (slice_get p.left i) ≡ slice_get at.script.commands at.p.next = ap next_of at.is_left ∙ ap (λ cs. next_of (Some cs)) at.is.left ∙ next-there at.p.next at.script.commands in
+      ap (λ o. is_ready_by (option_map (λ (x : Command). Act (suc i) x) o) p.net) next ∙ by (slice_get at.script.commands at.p.next) w.is
+    where
+      by : (o : Option Command) → slice_get (position c (moves_of s)).net.callers (suc i) ≡ Some (caller-at c (moves_of s) h.history i at.script at.is_script).caller
+          → is_ready_by (option_map (λ (x : Command). Act (suc i) x) o) (position c (moves_of s)).net ≡ is_some o
+      by None e = refl
+      by (Some d) e = ap (λ o. is_some o && true) e
+
+  pub script-place : (s : Stage) → IsReached c s → (i : ℕ) (d : Command) → (at : ProgressAt 1 i c.scripts (position c (moves_of s)).left (position c (moves_of s)).told s.scripts.items)
+      → slice_get at.script.commands at.p.next ≡ Some d → place_of_move (Go i) (position c (moves_of s)) ≡ place_for c.layout at.script.actor d
+  script-place s h i d at e =
+      let p = position c (moves_of s) in
+      let next : next_of (slice_get p.left i) ≡ Some d = ap next_of at.is_left ∙ ap (λ cs. next_of (Some cs)) at.is.left ∙ next-there at.p.next at.script.commands ∙ e in
+      ap (λ o. place_with o i p.net) next
+      ∙ ap (λ o. command_place p.net.layout d o) (actor-at c (moves_of s) h.history i at.script at.is_script)
+      ∙ ap (λ (l : Layout). place_for l at.script.actor d) (position-layout c (moves_of s) h.history)

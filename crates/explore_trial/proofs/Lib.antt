@@ -1,4 +1,0 @@
-pub mod Sleeping
-pub mod Pending
-pub mod Counting
-pub mod Lines
