@@ -1,9 +1,11 @@
 -- A stage that makes a move.
 -- c is a scenario, s the stage before, t behind it; a and b are numbers of places, i is the place of a script, d a command.
-use Rattle.std.proofs.Common.{ℕ, zero, suc, ◌≡◌, ◌≢◌, ◌+◌, ◌<◌, ◌==◌, Bool, true, false, ◌&&◌, not, cond, List, [], ◌∷◌, ◌++◌, length, map, drop, set, option_to_list, Option, Some, None, is_some, slice_get, slice_set, refl, sym, ◌∙◌, ap, ap₂, subst, arith}
+use Rattle.std.proofs.Common.{ℕ, zero, suc, ◌≡◌, ◌≢◌, ◌+◌, ◌<◌, ◌==◌, Bool, true, false, ◌&&◌, not, cond, List, [], ◌∷◌, ◌++◌, length, map, drop, reverse, set, option_to_list, Option, Some, None, is_some, slice_get, slice_set, refl, sym, ◌∙◌, ap, ap₂, subst, arith, append_assoc}
 use Rattle.std.specs.List.{filter}
 use Rattle.std.specs.Option.{option_map}
 use Rattle.std.proofs.lemmas.Bool.{false≢true, and_parts, eq-eqb}
+use Rattle.std.proofs.lemmas.List.{append-nil, map-append}
+use Rattle.std.proofs.lemmas.List.Elements.{filter-append}
 use Rattle.chorus_ui.specs.declared.layout.Layout.{Layout}
 use Rattle.chorus_ui.specs.declared.ui.Ui.{Ui}
 use Rattle.chorus_ui.specs.Layout.{has_place}
@@ -12,17 +14,18 @@ use Rattle.chorus_entry.specs.declared.command.Command.{Command}
 use Rattle.chorus_entry.specs.Places.{place_for}
 use Rattle.law_machine.specs.Own.{own}
 use Rattle.law_network.specs.Packets.{first_on}
-use Rattle.law_network.specs.Network.{NetState, Event, Act, Deliver, happened, turn_for}
+use Rattle.law_network.specs.Network.{NetState, Event, Act, Deliver, happened, numbers, turn_for}
 use Rattle.law_network.specs.Stands.{actor_of}
 use Rattle.law_explore.specs.declared.moves.Move.{Move}
 use Rattle.law_explore.specs.declared.moves.Move.TheVariants.{Go, Carry}
 use Rattle.law_explore.specs.Neighbours.{command_place}
 use Rattle.law_explore.specs.Outcome.{Answered, post_in}
-use Rattle.law_explore.specs.Races.{Position, next_of, behind_next, are_linked, event_of, own_by, own_of, with_answer, position_after, is_ready_by, seat_0, may_come, place_of_move, place_with}
+use Rattle.law_explore.specs.Races.{Position, next_of, behind_next, are_linked, event_of, own_by, own_of, with_answer, position_after, is_ready_by, seat_0, may_come, place_of_move, place_with, replaying, links_to, links_between}
 use Rattle.law_explore.specs.Search.{IsHistory}
 use Rattle.law_schedule.specs.Shown.{race_of}
 use Rattle.chorus_scene.specs.Scene.{Scene, Script}
 use Rattle.chorus_net.specs.Sites.{net}
+use Rattle.chorus_net.proofs.Rounds.{numbers-more}
 use Rattle.chorus_explore.specs.declared.candidates.Candidate.{Candidate}
 use Rattle.chorus_explore.specs.declared.stage.Progress.{Progress}
 use Rattle.chorus_explore.specs.declared.stage.Stage.{Stage}
@@ -148,3 +151,57 @@ module _ (c : Scene) where
       ap (λ o. place_with o i p.net) next
       ∙ ap (λ o. command_place p.net.layout d o) (actor-at c (moves_of s) h.history i at.script at.is_script)
       ∙ ap (λ (l : Layout). place_for l at.script.actor d) (position-layout c (moves_of s) h.history)
+
+  -- what nobody sees may change
+  pub same-reached : (s t : Stage) → IsReached c s → net t.sites ≡ net s.sites → t.scripts ≡ s.scripts → t.moves ≡ s.moves → IsReached c t
+  same-reached s t h same scripts moves =
+      let path : moves_of s ≡ moves_of t = ap (λ v. reverse v.items) (sym moves) in
+      record {
+        at = record {
+          net = same ∙ h.at.net ∙ ap (λ ms. (position c ms).net) path;
+          scripts = subst (λ v. AreProgress 1 c.scripts (position c (moves_of t)).left (position c (moves_of t)).told v.items) (sym scripts)
+              (subst (λ ms. AreProgress 1 c.scripts (position c ms).left (position c ms).told s.scripts.items) path h.at.scripts);
+        };
+        history = subst (IsHistory (replaying (race_of c))) path h.history;
+      }
+
+  -- Candidates.
+
+  module _ (taken : Candidate) (before : List Candidate) (p : Position) where
+    pub coming-append : (xs ys : List Move) → coming c taken before p (xs ++ ys) ≡ coming c taken before p xs ++ coming c taken before p ys
+    coming-append xs ys =
+        ap (map (candidate_behind taken before p)) (filter-append (λ (m : Move). may_come (race_of c).net.layout m p) xs ys)
+        ∙ map-append (candidate_behind taken before p) (filter (λ (m : Move). may_come (race_of c).net.layout m p) xs) (filter (λ (m : Move). may_come (race_of c).net.layout m p) ys)
+
+    pub one-comes : (m : Move) → may_come (race_of c).net.layout m p ≡ true → coming c taken before p (m ∷ []) ≡ candidate_behind taken before p m ∷ []
+    one-comes m h = ap (λ b. map (candidate_behind taken before p) (cond b (m ∷ []) [])) h
+
+    pub none-comes : (m : Move) → may_come (race_of c).net.layout m p ≡ false → coming c taken before p (m ∷ []) ≡ []
+    none-comes m h = ap (λ b. map (candidate_behind taken before p) (cond b (m ∷ []) [])) h
+
+  links-to-append : (a : ℕ) (xs ys : List ℕ) → links_to a (xs ++ ys) ≡ links_to a xs ++ links_to a ys
+  links-to-append a [] ys = refl
+  links-to-append a (x ∷ xs) ys = ap (λ ms. Carry a x ∷ ms) (links-to-append a xs ys)
+
+  links-append : (xs ys bs : List ℕ) → links_between (xs ++ ys) bs ≡ links_between xs bs ++ links_between ys bs
+  links-append [] ys bs = refl
+  links-append (x ∷ xs) ys bs = ap (λ ms. links_to x bs ++ ms) (links-append xs ys bs) ∙ sym (append_assoc (links_to x bs) (links_between xs bs) (links_between ys bs))
+
+  pub scripts-next : (n : ℕ) → map Go (numbers (n + 1) 0) ≡ map Go (numbers n 0) ++ Go n ∷ []
+  scripts-next n =
+      let e : n + 1 ≡ suc n = omega arith in
+      let z : 0 + n ≡ n = omega arith in
+      ap (λ (m : ℕ). map Go (numbers m 0)) e ∙ ap (map Go) (sym (numbers-more n 0)) ∙ map-append Go (numbers n 0) (0 + n ∷ []) ∙ ap (λ (m : ℕ). map Go (numbers n 0) ++ Go m ∷ []) z
+
+  pub link-next : (a n : ℕ) → links_to a (numbers (n + 1) 1) ≡ links_to a (numbers n 1) ++ Carry a (n + 1) ∷ []
+  link-next a n =
+      let e : n + 1 ≡ suc n = omega arith in
+      let z : 1 + n ≡ n + 1 = omega arith in
+      ap (λ (m : ℕ). links_to a (numbers m 1)) e ∙ ap (links_to a) (sym (numbers-more n 1)) ∙ links-to-append a (numbers n 1) (1 + n ∷ []) ∙ ap (λ (m : ℕ). links_to a (numbers n 1) ++ Carry a m ∷ []) z
+
+  pub links-next : (n : ℕ) (bs : List ℕ) → links_between (numbers (n + 1) 1) bs ≡ links_between (numbers n 1) bs ++ links_to (n + 1) bs
+  links-next n bs =
+      let e : n + 1 ≡ suc n = omega arith in
+      let z : 1 + n ≡ n + 1 = omega arith in
+      ap (λ (m : ℕ). links_between (numbers m 1) bs) e ∙ ap (λ xs. links_between xs bs) (sym (numbers-more n 1)) ∙ links-append (numbers n 1) (1 + n ∷ []) bs
+      ∙ ap (λ xs. links_between (numbers n 1) bs ++ xs) (append-nil (links_to (1 + n) bs)) ∙ ap (λ (m : ℕ). links_between (numbers n 1) bs ++ links_to m bs) z

@@ -62,12 +62,6 @@ pub record IsReached (c : Scene) (s : Stage) : Type 0 where
   pub at : AreAt c (moves_of s) s
   pub history : IsHistory (replaying (race_of c)) (moves_of s)
 
--- nothing changed but what nobody sees
-pub record IsSame (old new : Stage) : Type 0 where
-  pub net : net new.sites ≡ net old.sites
-  pub scripts : new.scripts ≡ old.scripts
-  pub moves : new.moves ≡ old.moves
-
 -- a move that may come behind the one taken, where these were the candidates before it
 abbrev pub candidate_behind : Candidate → List Candidate → Position → Move → Candidate
 candidate_behind taken before s m = record { mv = m; place = place_of_move m s; is_asleep = sleeps_behind m taken before }

@@ -16,7 +16,7 @@ ghost use Rattle.chorus_scene.specs.Scene.{Scene};
 ghost use Rattle.chorus_explore.specs.declared.stage.Progress.{Progress};
 ghost use Rattle.chorus_net.specs.Sites.{net};
 ghost use Rattle.chorus_explore.specs.Facts.{fact_line};
-ghost use Rattle.chorus_explore.specs.Stages.{AreAt, AreProgress, IsReached, IsSame, MayWear, candidate_behind, comes, coming, may_go, moves_of, position, posted_lines};
+ghost use Rattle.chorus_explore.specs.Stages.{AreAt, AreProgress, IsReached, MayWear, candidate_behind, comes, coming, may_go, moves_of, position, posted_lines};
 
 use crate::candidates::{Candidate, sleeps};
 use crate::facts::push_answered;
@@ -166,8 +166,8 @@ impl Stage {
         for index in 0..scenario.scripts().len() {
             self.add_script(scenario, index, taken, before, &mut candidates)?;
         }
-        for from in 1..=scenario.layout().places() {
-            self.add_links(scenario, from, taken, before, &mut candidates)?;
+        for index in 0..scenario.layout().places() {
+            self.add_links(scenario, index + 1, taken, before, &mut candidates)?;
         }
         Ok(candidates)
     }
@@ -228,13 +228,14 @@ impl Stage {
     ) -> Result<(), AllocError>
         requires reached { IsReached scenario.now self.old }
         requires from { has_place scenario.now.layout from ≡ true }
-        ensures same { IsSame self.old self.new }
+        ensures reached { IsReached scenario.now self.new }
+        ensures moves { self.new.moves ≡ self.old.moves }
         ensures items { OnOk result (candidates.new.items ≡ candidates.old.items
             ++ coming scenario.now taken before.now (position scenario.now (moves_of self.old))
             (links_to from (place_numbers scenario.now.layout))) }
     {
-        for to in 1..=scenario.layout().places() {
-            self.add_link(scenario, from, to, taken, before, candidates)?;
+        for index in 0..scenario.layout().places() {
+            self.add_link(scenario, from, index + 1, taken, before, candidates)?;
         }
         Ok(())
     }
@@ -252,7 +253,8 @@ impl Stage {
         requires reached { IsReached scenario.now self.old }
         requires from { has_place scenario.now.layout from ≡ true }
         requires to { has_place scenario.now.layout to ≡ true }
-        ensures same { IsSame self.old self.new }
+        ensures reached { IsReached scenario.now self.new }
+        ensures moves { self.new.moves ≡ self.old.moves }
         ensures items { OnOk result (candidates.new.items ≡ candidates.old.items
             ++ coming scenario.now taken before.now (position scenario.now (moves_of self.old))
             (Move.Carry from to ∷ [])) }
