@@ -1,6 +1,6 @@
 -- The search, step by step: a move is taken, a history is come to, a level is gone from.
 -- c is a scenario, most is how many events may be carried out, r is a race, found are histories, ls are levels, ms and h are moves.
-use Rattle.std.proofs.Common.{ℕ, zero, suc, ◌≡◌, ◌≢◌, ◌+◌, ◌<◌, ◌≤◌, Bool, true, false, not, cond, List, [], ◌∷◌, ◌++◌, length, map, drop, reverse, get_or, option_to_list, Option, Some, None, is_some, IfSome, ◌⊎◌, inl, inr, refl, sym, ◌∙◌, ap, ap₂, subst, arith}
+use Rattle.std.proofs.Common.{ℕ, zero, suc, ◌≡◌, ◌≢◌, ◌+◌, ◌-◌, ◌<◌, ◌≤◌, Bool, true, false, not, cond, List, [], ◌∷◌, ◌++◌, length, map, take, drop, reverse, get_or, set, option_to_list, Option, Some, None, is_some, slice_get, IfSome, Result, Ok, Err, IfOk, ◌⊎◌, inl, inr, refl, sym, ◌∙◌, ap, ap₂, subst, arith, append_assoc}
 use Rattle.std.specs.List.{All, Contains, filter}
 use Rattle.std.proofs.lemmas.Bool.{false≢true}
 use Rattle.std.proofs.lemmas.List.{append-nil, reverse-append, length-reverse, length_push}
@@ -110,3 +110,105 @@ push-first xs x = reverse-append xs (x ∷ [])
 pub empty-or-not : {X : Type 0} (xs : List X) → (xs ≡ []) ⊎ ((x : X) × ((ys : List X) × (xs ≡ x ∷ ys)))
 empty-or-not [] = inl refl
 empty-or-not (x ∷ ys) = inr (x, (ys, refl))
+
+-- A list by its last element.
+
+pub record Ends {X : Type 0} (xs : List X) : Type 0 where
+  pub front : List X
+  pub last : X
+  pub is : xs ≡ front ++ last ∷ []
+
+ends-of : {X : Type 0} (x : X) (xs : List X) → Ends (x ∷ xs)
+ends-of x [] = record { front = []; last = x; is = refl }
+ends-of x (y ∷ ys) = (let rest = ends-of y ys in record { front = x ∷ rest.front; last = rest.last; is = ap (λ zs. x ∷ zs) rest.is })
+
+ends-some : {X : Type 0} (xs : List X) → 0 < length xs → Ends xs
+ends-some [] lt = absurd (omega (arith, lt))
+ends-some (x ∷ xs) lt = ends-of x xs
+
+set-end : {X : Type 0} (front : List X) (last y : X) → set (front ++ last ∷ []) (length front) y ≡ front ++ y ∷ []
+set-end [] last y = refl
+set-end (x ∷ front) last y = ap (λ zs. x ∷ zs) (set-end front last y)
+
+get-end : {X : Type 0} (front : List X) (last d : X) → get_or (front ++ last ∷ []) (length front) d ≡ last
+get-end [] last d = refl
+get-end (x ∷ front) last d = get-end front last d
+
+module _ {X : Type 0} (xs : List X) (lt : 0 < length xs) where
+  at-end : length xs - 1 ≡ length (ends-some xs lt).front
+  at-end = (let n = ap length (ends-some xs lt).is ∙ length_push (ends-some xs lt).front (ends-some xs lt).last in omega (arith, n))
+
+  front-is : drop 1 (reverse xs) ≡ reverse (ends-some xs lt).front
+  front-is = ap (λ zs. drop 1 (reverse zs)) (ends-some xs lt).is ∙ ap (drop 1) (reverse-append (ends-some xs lt).front ((ends-some xs lt).last ∷ []))
+
+  pub first-is : (y : X) → y ≡ get_or xs (length xs - 1) y → reverse xs ≡ y ∷ drop 1 (reverse xs)
+  first-is y e =
+      let s = ends-some xs lt in
+      let last : y ≡ (ends-some xs lt).last = e ∙ ap (λ (n : ℕ). get_or xs n y) at-end ∙ ap (λ zs. get_or zs (length (ends-some xs lt).front) y) s.is ∙ get-end s.front s.last y in
+      ap reverse s.is ∙ reverse-append s.front (s.last ∷ []) ∙ ap₂ (λ a as_. a ∷ as_) (sym last) (sym front-is)
+
+  pub set-last : (y : X) → reverse (set xs (length xs - 1) y) ≡ y ∷ drop 1 (reverse xs)
+  set-last y =
+      let s = ends-some xs lt in
+      ap reverse (ap (λ (n : ℕ). set xs n y) at-end ∙ ap (λ zs. set zs (length (ends-some xs lt).front) y) s.is ∙ set-end s.front s.last y)
+      ∙ reverse-append s.front (y ∷ []) ∙ ap (λ as_. y ∷ as_) (sym front-is)
+
+pub if-some : {X : Type 0} (o : Option X) (P Q : X → Type 0) → IfSome o P → ((x : X) → P x → Q x) → IfSome o Q
+if-some None P Q h f = tt
+if-some (Some x) P Q h f = f x h
+
+-- the deepest level gives its next candidate
+pub advances-if : (o : Option Candidate) (xs : List Level) (l l' : Level) → 0 < length xs → l ≡ get_or xs (length xs - 1) l → IfSome o (λ c. awake (unseen l) ≡ c ∷ awake (unseen l')) → l'.candidates ≡ l.candidates
+    → l'.seen ≤ length l'.candidates.items → IfSome o (λ c. Advances c (reverse xs) (reverse (set xs (length xs - 1) l')))
+advances-if o xs l l' lt at some same seen =
+    if-some o (λ c. awake (unseen l) ≡ c ∷ awake (unseen l')) (λ c. Advances c (reverse xs) (reverse (set xs (length xs - 1) l'))) some
+    (λ c e. subst (λ as_. Advances c as_ (reverse (set xs (length xs - 1) l'))) (sym (first-is xs lt l at))
+    (subst (λ bs. Advances c (l ∷ drop 1 (reverse xs)) bs) (sym (set-last xs lt l')) (e, same, seen)))
+
+pub done-if : (xs : List Level) (l : Level) → 0 < length xs → l ≡ get_or xs (length xs - 1) l → awake (unseen l) ≡ [] → IsDone (reverse xs)
+done-if xs l lt at e = subst IsDone (sym (first-is xs lt l at)) e
+
+pub seen-last : (xs : List Level) (l : Level) → 0 < length xs → l ≡ get_or xs (length xs - 1) l → HaveSeen (reverse xs) → l.seen ≤ length l.candidates.items
+seen-last xs l lt at h = subst HaveSeen (first-is xs lt l at) h
+
+pub some-get : {X : Type 0} (xs : List X) (i : ℕ) (y : X) → slice_get xs i ≡ Some y → (i < length xs) × (y ≡ get_or xs i y)
+some-get [] i y e = absurd (cc)
+some-get (x ∷ xs) zero y e = (omega arith, cc)
+some-get (x ∷ xs) (suc i) y e = (let rest = some-get xs i y e in (let lt = rest.0 in omega (arith, lt), rest.1))
+
+pub last-first : {X : Type 0} (xs : List X) (y : X) → slice_get xs (length xs - 1) ≡ Some y → reverse xs ≡ y ∷ drop 1 (reverse xs)
+last-first xs y e = (let s = some-get xs (length xs - 1) y e in first-is xs (let lt = s.0 in omega (arith, lt)) y s.1)
+
+pub if-ok : {T E : Type 0} (r : Result T E) (P Q : T → Type 0) → IfOk r P → ((v : T) → P v → Q v) → IfOk r Q
+if-ok (Ok v) P Q h f = f v h
+if-ok (Err e) P Q h f = tt
+
+-- A history in its order: each move may come behind those before it.
+
+split-at : (xs : List Move) (i : ℕ) (d : Move) → i < length xs → xs ≡ take i xs ++ get_or xs i d ∷ drop (i + 1) xs
+split-at [] i d lt = absurd (omega (arith, lt))
+split-at (x ∷ xs) zero d lt = refl
+split-at (x ∷ xs) (suc i) d lt =
+    let n : suc (i + 1) ≡ suc i + 1 = omega arith in
+    ap (λ ys. x ∷ ys) (split-at xs i d (omega (arith, lt))) ∙ ap (λ (k : ℕ). x ∷ take i xs ++ get_or xs i d ∷ drop k (x ∷ xs)) n
+
+history-behind : (r : Race) (later ms : List Move) → IsHistory (replaying r) (later ++ ms) → IsHistory (replaying r) ms
+history-behind r [] ms h = h
+history-behind r (m ∷ later) ms h = history-behind r later ms h.1
+
+pub may-next : (r : Race) (xs : List Move) (i : ℕ) (d : Move) → i < length xs → IsHistory (replaying r) (reverse xs)
+    → may_come r.net.layout (get_or xs i d) (state_after (replaying r) (reverse (take i xs))) ≡ true
+may-next r xs i d lt h =
+    let x = get_or xs i d in
+    let is : reverse xs ≡ reverse (drop (i + 1) xs) ++ get_or xs i d ∷ reverse (take i xs) =
+    ap reverse (split-at xs i d lt) ∙ reverse-append (take i xs) (x ∷ drop (i + 1) xs) ∙ ap (λ zs. zs ++ reverse (take i xs)) (reverse-append (x ∷ []) (drop (i + 1) xs))
+    ∙ append_assoc (reverse (drop (i + 1) xs)) (x ∷ []) (reverse (take i xs)) in
+    (history-behind r (reverse (drop (i + 1) xs)) (x ∷ reverse (take i xs)) (subst (IsHistory (replaying r)) is h)).0
+
+pub some-first : {X : Type 0} (xs : List X) → (xs ≡ [] → ⊥) → (x : X) × ((ys : List X) × (xs ≡ x ∷ ys))
+some-first [] h = absurd (h refl)
+some-first (x ∷ ys) h = (x, (ys, refl))
+
+pub no-length : {X : Type 0} (xs : List X) → length xs ≡ 0 → xs ≡ []
+no-length [] e = refl
+no-length (x ∷ xs) e = absurd (omega (arith, e))

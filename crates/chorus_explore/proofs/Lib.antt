@@ -9,3 +9,4 @@ pub mod Searching
 pub mod Explaining
 pub mod Telling
 pub mod Moving
+pub mod Reporting

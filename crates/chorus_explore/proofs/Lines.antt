@@ -1,5 +1,5 @@
 -- Lines of lists, one element more.
-use Rattle.std.proofs.Common.{ℕ, zero, suc, ◌≡◌, ◌+◌, ◌<◌, List, [], ◌∷◌, ◌++◌, length, map, take, Option, Some, None, slice_get, refl, sym, ◌∙◌, ap, arith, append_assoc}
+use Rattle.std.proofs.Common.{ℕ, zero, suc, ◌≡◌, ◌+◌, ◌<◌, List, [], ◌∷◌, ◌++◌, length, map, take, drop, Option, Some, None, slice_get, refl, sym, ◌∙◌, ap, arith, append_assoc}
 use Rattle.std.specs.List.{flat_map}
 use Rattle.std.proofs.lemmas.List.{map-append, append-nil}
 use Rattle.std.proofs.lemmas.List.Concat.{flat_map-append}
@@ -32,3 +32,11 @@ waiting-next ms i m h =
     ∙ ap spaced (map-append id_text (waiting_in (take i ms)) (m.id ∷ []))
     ∙ flat_map-append (λ (field : List ℕ). 32 ∷ field) (map id_text (waiting_in (take i ms))) (id_text m.id ∷ [])
     ∙ ap (λ ys. spaced (map id_text (waiting_in (take i ms))) ++ ys) (append-nil (32 ∷ id_text m.id))
+
+pub drop-some : {X : Type 0} (xs : List X) (i : ℕ) → i < length xs → (x : X) × (drop i xs ≡ x ∷ drop (i + 1) xs)
+drop-some [] i lt = absurd (omega (arith, lt))
+drop-some (x ∷ xs) zero lt = (x, refl)
+drop-some (x ∷ xs) (suc i) lt =
+    let rest = drop-some xs i (omega (arith, lt)) in
+    let n : suc (i + 1) ≡ suc i + 1 = omega arith in
+    (rest.0, rest.1 ∙ ap (λ (k : ℕ). rest.0 ∷ drop k (x ∷ xs)) n)

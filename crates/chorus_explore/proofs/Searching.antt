@@ -1,6 +1,6 @@
 -- What the search keeps, as a move is taken, a history is come to, and a level is gone from.
 -- c is a scenario, most is how many events may be carried out, s is the search before, t behind it; e is what it came to.
-use Rattle.std.proofs.Common.{ℕ, suc, ◌≡◌, ◌≢◌, ◌+◌, ◌^◌, ◌<◌, ◌≤◌, true, false, List, [], ◌∷◌, ◌++◌, length, drop, reverse, get_or, Option, Some, None, IfSome, refl, sym, ◌∙◌, ap, ap₂, subst, arith}
+use Rattle.std.proofs.Common.{ℕ, suc, ◌≡◌, ◌≢◌, ◌+◌, ◌^◌, ◌<◌, ◌≤◌, true, false, List, [], ◌∷◌, ◌++◌, length, drop, reverse, get_or, option_to_list, Option, Some, None, IfSome, IsSome, ◌↔◌, refl, sym, ◌∙◌, ap, ap₂, subst, arith}
 use Rattle.std.specs.List.{All}
 use Rattle.std.proofs.lemmas.Bool.{false≢true}
 use Rattle.std.proofs.lemmas.List.{append-nil, length-reverse, length_push}
@@ -23,7 +23,7 @@ use Rattle.chorus_explore.specs.Levels.{awake, unseen, AreLevels, AreFoundOrPend
 use Rattle.chorus_explore.specs.Searches.{HasFound, IsOver, IsSearch, IsTaking, HasCome, HasStage, IsBehind, levels_of, path_of}
 use Rattle.chorus_explore.specs.Stages.{IsReached, comes, may_go, moves_of}
 use Rattle.chorus_explore.proofs.Counting.{count-most}
-use Rattle.chorus_explore.proofs.Going.{found-whole, coming-whole, all-found, listed, have-seen, push-first}
+use Rattle.chorus_explore.proofs.Going.{found-whole, coming-whole, all-found, listed, pop-drop, push-first}
 use Rattle.chorus_explore.proofs.Pending.{begins, takes, gone, ends, deeper}
 
 history-rest : (r : Race) (ms : List Move) → IsHistory (replaying r) ms → IsHistory (replaying r) (drop 1 ms)
@@ -270,3 +270,15 @@ module _ (c : Scene) (most : ℕ) where
         few_moves = (let l = ap length moves in omega (arith, l));
         uncut = cut;
       }
+
+pub no-items : {X : Type 0} (xs ys : List X) → length xs ≡ length ys → ys ≡ [] → xs ≡ []
+no-items [] ys e none = refl
+no-items (x ∷ xs) ys e none = (let n = ap length none in absurd (omega (arith, e, n)))
+
+-- the last one leaves, if there is one
+pub popped : {X : Type 0} (xs ys : List X) (o : Option X) → xs ≡ ys ++ option_to_list o → IsSome o ↔ (0 < length xs) → reverse ys ≡ drop 1 (reverse xs)
+popped {X = X} xs ys o e v = pop-drop xs ys o e (λ none. by xs (λ lt. false≢true (sym none ∙ v.1 lt)))
+  where
+    by : (zs : List X) → (0 < length zs → ⊥) → zs ≡ []
+    by [] h = refl
+    by (z ∷ zs) h = absurd (h (omega arith))

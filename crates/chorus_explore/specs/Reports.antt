@@ -96,11 +96,16 @@ abbrev pub is_named : ℕ → List Told → Bool
 is_named n [] = false
 is_named n (t ∷ told) = (t.outcome == n) || is_named n told
 
+abbrev pub is_shown : ℕ → Bool → List Told → Bool
+is_shown n few told = few || is_named n told
+
+abbrev pub schedule_text : ℕ → Bool → List Move → List ℕ
+schedule_text n shown moves = if shown then count_line (codes "schedule") n ++ flat_map step_line moves else []
+
 abbrev pub schedules_from : ℕ → Bool → List Told → List Finding → List ℕ
 schedules_from n few told [] = []
 schedules_from n few told (f ∷ fs) =
-    (if few || is_named n told then count_line (codes "schedule") n ++ flat_map step_line f.moves.items else [])
-    ++ schedules_from (n + 1) few told fs
+    schedule_text n (is_shown n few told) f.moves.items ++ schedules_from (n + 1) few told fs
 
 abbrev pub limit_line : Bool → List ℕ
 limit_line is_cut = (if is_cut then codes "some" else codes "all") ++ 10 ∷ []

@@ -122,10 +122,11 @@ impl Search {
         ensures kept { (self.new.explored ≡ self.old.explored)
             × (self.new.moves ≡ self.old.moves) × (self.new.stage ≡ self.old.stage) }
     {
-        match self.levels.last_mut() {
-            Some(level) => level.advance(),
-            None => None,
+        let count = self.levels.len();
+        if count == 0 {
+            return None;
         }
+        self.levels[count - 1].advance()
     }
 
     /// The deepest level is gone from, and the move to it. False where there was none.

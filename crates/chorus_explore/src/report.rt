@@ -1,9 +1,9 @@
 //! The text of what may come of a race.
 
-ghost use Rattle.std.specs.Prelude.{◌≡◌, ◌≤◌, ◌++◌, length, map, IfOk, OnOk};
+ghost use Rattle.std.specs.Prelude.{◌≡◌, ◌≢◌, ◌≤◌, ◌++◌, true, false, length, map, IfOk, OnOk};
 ghost use Rattle.std.specs.List.{flat_map};
 ghost use Rattle.chorus_show.specs.Journal.{count_line};
-ghost use Rattle.chorus_explore.specs.Reports.{are_few, facts_of, facts_text, front_words, is_named, is_told, limit_line, lines_in, outcomes_from, place_in, outcomes_text, report_text, same_bytes, schedules_from, step_line, subject_of, tell_line, tell_lines, told_of};
+ghost use Rattle.chorus_explore.specs.Reports.{are_few, facts_of, facts_text, front_words, is_named, is_shown, is_told, limit_line, lines_in, outcomes_from, place_in, outcomes_text, report_text, same_bytes, schedule_text, schedules_from, step_line, subject_of, tell_line, tell_lines, told_of};
 
 use crate::exploring::Explored;
 use crate::findings::Finding;
@@ -102,6 +102,13 @@ fn is_told(line: &[u8], facts: &[Told<'_>]) -> bool
 fn is_same(one: &[u8], other: &[u8]) -> bool
     ensures { result ≡ same_bytes one.now other.now }
 {
+    are_equal(one, other)
+}
+
+fn are_equal(one: &[u8], other: &[u8]) -> bool
+    ensures yes { result ≡ true → one.now ≡ other.now }
+    ensures no { result ≡ false → one.now ≢ other.now }
+{
     one == other
 }
 
@@ -191,12 +198,34 @@ fn push_schedules(
         ≡ text.old.items ++ schedules_from 1 is_few (map told_of facts.now) items.now) }
 {
     for index in 0..items.len() {
-        if is_few || is_named(index as u64 + 1, facts) {
-            push_count("schedule", index as u64 + 1, text)?;
-            push_steps(&items[index].moves, text)?;
-        }
+        let number = index as u64 + 1;
+        push_schedule(number, is_shown(number, is_few, facts), &items[index].moves, text)?;
     }
     Ok(())
+}
+
+/// Appends the schedule of the outcome of this number, where it is shown.
+fn push_schedule(
+    number: u64,
+    is_shown: bool,
+    moves: &[Move],
+    text: &mut Vec<u8>,
+) -> Result<(), AllocError>
+    ensures { OnOk result (text.new.items
+        ≡ text.old.items ++ schedule_text number is_shown moves.now) }
+{
+    if !is_shown {
+        return Ok(());
+    }
+    push_count("schedule", number, text)?;
+    push_steps(moves, text)
+}
+
+/// Whether the schedule of the outcome of this number is shown.
+fn is_shown(number: u64, is_few: bool, facts: &[Told<'_>]) -> bool
+    ensures { result ≡ is_shown number is_few (map told_of facts.now) }
+{
+    is_few || is_named(number, facts)
 }
 
 /// Whether a fact has this outcome.

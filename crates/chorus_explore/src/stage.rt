@@ -7,9 +7,9 @@ ghost use Rattle.chorus_place.specs.declared.fault.PlaceFault.TheVariants as Pla
 ghost use Rattle.chorus_scene.specs.Limits.{Keeps};
 ghost use Rattle.law_explore.specs.declared.moves.Move.TheVariants as Move;
 ghost use Rattle.law_explore.specs.Outcome.{Answered, post_in};
-ghost use Rattle.law_explore.specs.Races.{links_to, next_moves};
+ghost use Rattle.law_explore.specs.Races.{links_between, links_to, next_moves};
 ghost use Rattle.law_network.specs.Calls.{just_started};
-ghost use Rattle.law_network.specs.Network.{place_numbers};
+ghost use Rattle.law_network.specs.Network.{numbers, place_numbers};
 ghost use Rattle.law_schedule.specs.Shown.{race_of};
 ghost use Rattle.chorus_merge.specs.Steps.{journals_of};
 ghost use Rattle.chorus_scene.specs.Scene.{Scene};
@@ -163,12 +163,8 @@ impl Stage {
             (next_moves (race_of scenario.now) (position scenario.now (moves_of self.old)))) }
     {
         let mut candidates = Vec::new(alloc);
-        for index in 0..scenario.scripts().len() {
-            self.add_script(scenario, index, taken, before, &mut candidates)?;
-        }
-        for index in 0..scenario.layout().places() {
-            self.add_links(scenario, index + 1, taken, before, &mut candidates)?;
-        }
+        self.add_scripts(scenario, taken, before, &mut candidates)?;
+        self.add_deliveries(scenario, taken, before, &mut candidates)?;
         Ok(candidates)
     }
 
@@ -186,6 +182,25 @@ impl Stage {
         push_posts(&self.scripts, &closed.journals, &mut text)?;
         push_all_ports(&closed.journals, &closed.ports, &mut text)?;
         Ok(text)
+    }
+
+    /// Adds the next command of each script that has one left.
+    fn add_scripts(
+        &self,
+        scenario: &Scenario,
+        taken: Candidate,
+        before: &[Candidate],
+        candidates: &mut Vec<Candidate>,
+    ) -> Result<(), AllocError>
+        requires { IsReached scenario.now self.now }
+        ensures { OnOk result (candidates.new.items ≡ candidates.old.items
+            ++ coming scenario.now taken before.now (position scenario.now (moves_of self.now))
+            (map Move.Go (numbers (length scenario.now.scripts) 0))) }
+    {
+        for index in 0..scenario.scripts().len() {
+            self.add_script(scenario, index, taken, before, candidates)?;
+        }
+        Ok(())
     }
 
     /// Adds the next command of the script, where one is left.
@@ -213,6 +228,27 @@ impl Stage {
                 place: command.place_for(scenario.layout(), script.actor()),
                 is_asleep: sleeps(mv, taken, before),
             })?;
+        }
+        Ok(())
+    }
+
+    /// Adds the deliveries from each place.
+    fn add_deliveries(
+        &mut self,
+        scenario: &Scenario,
+        taken: Candidate,
+        before: &[Candidate],
+        candidates: &mut Vec<Candidate>,
+    ) -> Result<(), AllocError>
+        requires { IsReached scenario.now self.old }
+        ensures reached { IsReached scenario.now self.new }
+        ensures moves { self.new.moves ≡ self.old.moves }
+        ensures items { OnOk result (candidates.new.items ≡ candidates.old.items
+            ++ coming scenario.now taken before.now (position scenario.now (moves_of self.old))
+            (links_between (place_numbers scenario.now.layout) (place_numbers scenario.now.layout))) }
+    {
+        for index in 0..scenario.layout().places() {
+            self.add_links(scenario, index + 1, taken, before, candidates)?;
         }
         Ok(())
     }

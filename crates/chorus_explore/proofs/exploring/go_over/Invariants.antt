@@ -2,5 +2,5 @@ use Rattle.chorus_explore.specs.Searches.{IsSearch}
 use Rattle.chorus_explore.proofs.exploring.go_over.Given as goal
 
 -- the search keeps what it keeps
-abbrev pub invariant-loop-_step : goal.invariant-loop-_step
-invariant-loop-_step l = IsSearch l.scenario l.most l.search
+abbrev pub invariant-loop-step : goal.invariant-loop-step
+invariant-loop-step l = IsSearch l.scenario l.most l.search

@@ -6,4 +6,4 @@ use Rattle.chorus_explore.proofs.outcomes.push_each.Given as goal
 
 -- what is left completes the lines
 abbrev pub invariant-loop-index : goal.invariant-loop-index
-invariant-loop-index l = l.text.items ++ sent_lines (journals_of l.journals) (copies l.id l.group (l.index + 1) (drop l.index l.members)) ≡ l.initial.text.items ++ sent_lines (journals_of l.journals) (copies l.id l.group 1 l.members)
+invariant-loop-index l = l.text.items ++ sent_lines (journals_of l.journals) (copies l.id l.fn.group (l.index + 1) (drop l.index l.members)) ≡ l.initial.text.items ++ sent_lines (journals_of l.journals) (copies l.id l.fn.group 1 l.members)
