@@ -1,0 +1,149 @@
+-- Parties come and go.
+-- n is a nucleus, a, b and c are a pass at three moments, k counts those who came, ps are parties.
+use Rattle.std.proofs.Common.{ℕ, zero, suc, ◌≡◌, ◌+◌, ◌-◌, ◌<◌, ◌≤◌, if◌then◌else◌, Bool, true, false, List, [], ◌∷◌, ◌++◌, take, drop, length, Option, Some, None, slice_index_or, refl, sym, ◌∙◌, ap, subst, inl, inr, arith, append_assoc}
+use Rattle.std.proofs.lemmas.Bool.{cases_lt}
+use Rattle.std.proofs.lemmas.List.{length-append, get_or_append_left}
+use Rattle.std.proofs.lemmas.List.Elements.{All-nil, All-cons, All-append, All-weaker}
+use Rattle.std.proofs.Math.Seq.{get_or-append_seam}
+use Rattle.chorus_ui.specs.declared.ui.Ui.{Ui}
+use Rattle.chorus_turn.specs.declared.knowledge.Knowledge.{Knowledge}
+use Rattle.chorus_turn.specs.declared.knowledge.Note.{Note}
+use Rattle.chorus_turn.specs.Knowing.{note_of}
+use Rattle.law_closing.specs.Places.{PlaceNote}
+use Rattle.chorus_nucleus.specs.declared.nucleus.Nucleus.{Nucleus}
+use Rattle.chorus_nucleus.specs.declared.pass.Pass.{Pass}
+use Rattle.chorus_nucleus.specs.Passes.{known, caller_of, IsPassOf}
+use Rattle.chorus_nucleus.specs.Coming.{Enters, Retires}
+use Rattle.chorus_jobs.specs.declared.hand.Hand.{Hand}
+use Rattle.chorus_jobs.specs.declared.party.Party.{Party}
+use Rattle.chorus_jobs.specs.Hands.{AreKept, IsKept}
+use Rattle.chorus_jobs.specs.Parties.{AreParties, Draws, Goes, HaveAllEnded, HaveRun, IsKeeper, IsParty}
+use Rattle.chorus_jobs.proofs.Holding.{holds-none}
+
+-- They come.
+
+pub party-new : (n : Nucleus) (q : Ui) (actor : Ui) (a b : Pass) (p : Party) → Enters n actor a b p.pass → (known p.pass).seat ≡ p.hand.seat → p.hand.jobs.items ≡ [] → IsParty n q p
+party-new n q actor a b p new seat none = record {
+  pass = new.pass;
+  notes = ap (λ (v : Knowledge PlaceNote). v.notes) new.knows;
+  keeper = ap (λ (v : Knowledge PlaceNote). v.keeper) new.knows;
+  seat = seat;
+  holds = holds-none q (known p.pass).mine (caller_of p.pass).last p.hand.jobs.items none;
+}
+
+pub parties-none : (n : Nucleus) (q : Ui) (ps : List Party) → ps ≡ [] → AreParties n q ps
+parties-none n q ps none = record { each = λ i d lt. (let count = ap (λ (xs : List Party). length xs) none in absurd (omega (arith, lt, count))) }
+
+pub parties-more : (n : Nucleus) (q : Ui) (ps : List Party) (p : Party) → AreParties n q ps → IsParty n q p → AreParties n q (ps ++ p ∷ [])
+parties-more n q ps p all new = record {
+  each = λ i d lt. elim (cases_lt i (length ps)) [
+    | inl low ↦ subst (IsParty n q) (sym (get_or_append_left ps (p ∷ []) d i low)) (all.each i d low)
+    | inr high ↦
+        (let more = length-append ps (p ∷ []) in
+        let same : i ≡ length ps = omega (arith, lt, high, more) in
+        let here : slice_index_or (ps ++ p ∷ []) i d ≡ p = ap (λ j. slice_index_or (ps ++ p ∷ []) j d) same ∙ get_or-append_seam ps p [] d in
+        subst (IsParty n q) (sym here) new)
+  ];
+}
+
+pub keeper-drew : (k : ℕ) (p : Party) (a b : Pass) → Draws (Some p) a b → IsKeeper k 0 a → IsKeeper (k + 1) 0 b
+keeper-drew k p a b drawn h = record {
+  keeper = ap (λ (v : Knowledge PlaceNote). v.keeper) drawn ∙ h.keeper;
+  drawn_is = (let made = ap (λ (v : Knowledge PlaceNote). v.made) drawn in let was = h.drawn_is in omega (arith, made, was));
+  ended_is = ap (λ (v : Knowledge PlaceNote). length v.notes) drawn ∙ h.ended_is;
+}
+
+pub keeper-same : (k e : ℕ) (a b : Pass) → known b ≡ known a → IsKeeper k e a → IsKeeper k e b
+keeper-same k e a b same h = record {
+  keeper = ap (λ (v : Knowledge PlaceNote). v.keeper) same ∙ h.keeper;
+  drawn_is = ap (λ (v : Knowledge PlaceNote). v.made) same ∙ h.drawn_is;
+  ended_is = ap (λ (v : Knowledge PlaceNote). length v.notes) same ∙ h.ended_is;
+}
+
+pub keeper-goes : (n : Nucleus) (k e : ℕ) (a b : Pass) → Goes n a b → IsKeeper k e a → IsKeeper k e b
+keeper-goes n k e a b g h = record {
+  keeper = g.same.2 ∙ h.keeper;
+  drawn_is = g.same.3 ∙ h.drawn_is;
+  ended_is = ap (λ (notes : List (Note PlaceNote)). length notes) g.same.1 ∙ h.ended_is;
+}
+
+-- They run.
+
+pub have-run : (n : Nucleus) (q : Ui) (xs ys : List Party) → length ys ≡ length xs → HaveRun n q xs ys → AreParties n q ys
+have-run n q xs ys same h = record { each = λ i d lt. h.each i d (omega (arith, lt, same)) }
+
+pub not-run : (n : Nucleus) (q : Ui) (xs : List Party) → AreParties n q xs → HaveRun n q xs xs
+not-run n q xs h = record { each = λ i d lt. h.each i d lt }
+
+pub run-then : (n : Nucleus) (q : Ui) (xs ys zs : List Party) → length ys ≡ length xs → HaveRun n q ys zs → HaveRun n q xs zs
+run-then n q xs ys zs same h = record { each = λ i d lt. h.each i d (omega (arith, lt, same)) }
+
+take-front : (xs zs : List Party) → take (length xs) (xs ++ zs) ≡ xs
+take-front [] [] = refl
+take-front [] (z ∷ zs) = refl
+take-front (x ∷ xs) zs = ap (λ ys. x ∷ ys) (take-front xs zs)
+
+pub put-back : (k : ℕ) (xs zs : List Party) → k ≡ length xs → take k (xs ++ zs) ≡ xs
+put-back k xs zs is = ap (λ j. take j (xs ++ zs)) is ∙ take-front xs zs
+
+-- They go.
+
+pub parties-but-last : (n : Nucleus) (q : Ui) (ps : List Party) (p : Party) → AreParties n q (ps ++ p ∷ []) → AreParties n q ps × IsParty n q p
+parties-but-last n q ps p all =
+    let more = length-append ps (p ∷ []) in (
+      record { each = λ i d lt. subst (IsParty n q) (get_or_append_left ps (p ∷ []) d i lt) (all.each i d (omega (arith, lt, more))) },
+      subst (IsParty n q) (get_or-append_seam ps p [] p) (all.each (length ps) p (omega (arith, more))),
+    )
+
+pub keeper-retired : (n : Nucleus) (q : Ui) (k e : ℕ) (p : Party) (a b : Pass) → Retires n p.pass a b → IsParty n q p → IsKeeper k e a → IsKeeper k (e + 1) b
+keeper-retired n q k e p a b r is h =
+    let knows = r.knows in
+    let own = is.keeper in
+    record {
+      keeper = ap (λ (v : Knowledge PlaceNote). v.keeper) knows ∙ ap (λ x. if x then true else (known a).keeper) own ∙ h.keeper;
+      drawn_is = ap (λ (v : Knowledge PlaceNote). v.made) knows ∙ ap (λ x. if x then (known p.pass).made else (known a).made) own ∙ h.drawn_is;
+      ended_is =
+          (let count = ap (λ (v : Knowledge PlaceNote). length v.notes) knows in
+          let more = length-append (known a).notes (note_of (known p.pass) ∷ (known p.pass).notes) in
+          let none = ap (λ (notes : List (Note PlaceNote)). length notes) is.notes in
+          let was = h.ended_is in omega (arith, count, more, none, was));
+    }
+
+-- What they have in hand.
+
+pub kept-later : (q : Ui) (v u : Knowledge PlaceNote) (more : List (Note PlaceNote)) (hands : List Hand) → u.notes ≡ v.notes ++ more → AreKept q v hands → AreKept q u hands
+kept-later q v u more hands grown all = All-weaker (λ (hand : Hand). IsKept q v hand) (λ (hand : Hand). IsKept q u hand)
+    (λ hand k. record {
+      note = k.note;
+      newer = k.newer;
+      older = k.older ++ more;
+      stands = grown ∙ ap (λ zs. zs ++ more) k.stands ∙ append_assoc k.newer (k.note ∷ k.older) more;
+      seat_is = k.seat_is;
+      last = k.last;
+      holds = k.holds;
+    }) hands all
+
+pub kept-more : (n : Nucleus) (q : Ui) (p : Party) (a b : Pass) (hands : List Hand) → Retires n p.pass a b → IsParty n q p → AreKept q (known a) hands → AreKept q (known b) (hands ++ p.hand ∷ [])
+kept-more n q p a b hands r is all =
+    let notes = ap (λ (v : Knowledge PlaceNote). v.notes) r.knows in
+    All-append (λ (hand : Hand). IsKept q (known b) hand) hands (p.hand ∷ [])
+    (kept-later q (known a) (known b) (note_of (known p.pass) ∷ (known p.pass).notes) hands notes all)
+    (All-cons (λ (hand : Hand). IsKept q (known b) hand) p.hand []
+    record {
+      note = note_of (known p.pass);
+      newer = (known a).notes;
+      older = (known p.pass).notes;
+      stands = notes;
+      seat_is = is.seat;
+      last = (caller_of p.pass).last;
+      holds = is.holds;
+    }
+    (All-nil (λ (hand : Hand). IsKept q (known b) hand)))
+
+pub kept-none : (q : Ui) (v : Knowledge PlaceNote) (hands : List Hand) → hands ≡ [] → AreKept q v hands
+kept-none q v hands none = subst (AreKept q v) (sym none) (All-nil (λ (hand : Hand). IsKept q v hand))
+
+pub all-ended : (k : ℕ) (a : Pass) → IsKeeper k k a → HaveAllEnded a
+all-ended k a h = let made = h.drawn_is in let ended = h.ended_is in omega (arith, made, ended)
+
+pub ruleset comings = (party-new, parties-none, keeper-drew, keeper-same, keeper-goes, all-ended)
