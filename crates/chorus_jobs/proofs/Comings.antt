@@ -67,6 +67,16 @@ keeper-goes n k e a b g h = record {
   ended_is = ap (λ (notes : List (Note PlaceNote)). length notes) g.same.1 ∙ h.ended_is;
 }
 
+pub came : (n : Nucleus) (q : Ui) (p : Party) (a b : Pass) (ps more : List Party) → IsKeeper (length ps) 0 a → Draws (Some p) a b → AreParties n q ps → IsParty n q p → more ≡ ps ++ p ∷ [] → IsKeeper (length more) 0 b × AreParties n q more × (length more ≡ length ps + 1)
+came n q p a b ps more h drawn all new is =
+    let count = length-append ps (p ∷ []) in
+    let longer = ap (λ (xs : List Party). length xs) is in
+    let one : length ps + 1 ≡ length more = omega (arith, count, longer) in (
+      subst (λ k. IsKeeper k 0 b) one (keeper-drew (length ps) p a b drawn h),
+      subst (AreParties n q) (sym is) (parties-more n q ps p all new),
+      sym one,
+    )
+
 -- They run.
 
 pub have-run : (n : Nucleus) (q : Ui) (xs ys : List Party) → length ys ≡ length xs → HaveRun n q xs ys → AreParties n q ys
@@ -139,6 +149,16 @@ kept-more n q p a b hands r is all =
       holds = is.holds;
     }
     (All-nil (λ (hand : Hand). IsKept q (known b) hand)))
+
+pub went : (n : Nucleus) (q : Ui) (k : ℕ) (p : Party) (a b : Pass) (hands more : List Hand) → Retires n p.pass a b → IsParty n q p → IsKeeper k (length hands) a → AreKept q (known a) hands → more ≡ hands ++ p.hand ∷ [] → IsKeeper k (length more) b × AreKept q (known b) more × (length more ≡ length hands + 1)
+went n q k p a b hands more r is h all grown =
+    let count = length-append hands (p.hand ∷ []) in
+    let longer = ap (λ (xs : List Hand). length xs) grown in
+    let one : length hands + 1 ≡ length more = omega (arith, count, longer) in (
+      subst (λ e. IsKeeper k e b) one (keeper-retired n q k (length hands) p a b r is h),
+      subst (AreKept q (known b)) (sym grown) (kept-more n q p a b hands r is all),
+      sym one,
+    )
 
 pub kept-none : (q : Ui) (v : Knowledge PlaceNote) (hands : List Hand) → hands ≡ [] → AreKept q v hands
 kept-none q v hands none = subst (AreKept q v) (sym none) (All-nil (λ (hand : Hand). IsKept q v hand))

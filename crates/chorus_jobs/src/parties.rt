@@ -41,11 +41,15 @@ fn enter_one(
         Role::Worker { .. } => ROOM,
     };
     let _queue = queue;
-    let jobs = Vec::with_capacity(alloc, room).ok()?;
+    let Ok(jobs) = Vec::with_capacity(alloc, room) else {
+        return None;
+    };
     if !comer.actor.is_actor() {
         return None;
     }
-    let own = nucleus.enter(pass, comer.actor).ok()?;
+    let Ok(own) = nucleus.enter(pass, comer.actor) else {
+        return None;
+    };
     let seat = own.seat();
     Some(Party {
         pass: own,
