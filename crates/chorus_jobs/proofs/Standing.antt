@@ -124,7 +124,7 @@ module _ (n : Nucleus) (pass : Pass) (c : Closed) (q : Ui) (h : IsClosed n pass 
       let mine = subst (λ (zs : List (Remarked PlaceNote)). In m.remarked zs) (sym own) there in
       let by = λ (r : Remarked PlaceNote). r.entry.seat == note.seat in (
         in-past m.place m.remarked.entry place
-        (in-map (λ (r : Remarked PlaceNote). r.entry) m.remarked (h.closes.log m.place) (in-filter-back by m.remarked (h.closes.log m.place) mine)),
+            (in-map (λ (r : Remarked PlaceNote). r.entry) m.remarked (h.closes.log m.place) (in-filter-back by m.remarked (h.closes.log m.place) mine)),
         same-number m.remarked.entry.seat note.seat (in-filter-holds by m.remarked (h.closes.log m.place) mine),
       )
 

@@ -59,17 +59,17 @@ goes-call n command a b (Err f) h = record {
 pub goes-pump : (n : Nucleus) (place : ℕ) (a b : Pass) (r : Result Pump CallFault) → IsPump n place a b r → Goes n a b
 goes-pump n place a b (Ok (pumps.Served from)) h = elim h.served [
   | inl works ↦ (let t = works.1.1.0 in record {
-      pass = h.pass;
-      same = h.standing;
-      mine = (_, ap (λ (z : Knowledge PlaceNote). z.mine) t.knows);
-      last = omega (arith, t.above, t.upto);
-    })
+    pass = h.pass;
+    same = h.standing;
+    mine = (_, ap (λ (z : Knowledge PlaceNote). z.mine) t.knows);
+    last = omega (arith, t.above, t.upto);
+  })
   | inr keeps ↦ (let t = keeps.1.0 in record {
-      pass = h.pass;
-      same = h.standing;
-      mine = ([], ap (λ (z : Knowledge PlaceNote). z.mine) t.knows);
-      last = same-last (caller_of a) (caller_of b) t.after;
-    })
+    pass = h.pass;
+    same = h.standing;
+    mine = ([], ap (λ (z : Knowledge PlaceNote). z.mine) t.knows);
+    last = same-last (caller_of a) (caller_of b) t.after;
+  })
 ]
 goes-pump n place a b (Ok (pumps.Idle put worked)) h = let t = h.served.1.0 in record {
   pass = h.pass;
@@ -104,4 +104,5 @@ party-goes n q p p' is g seat jobs = record {
 }
 
 pub ruleset parties = (goes-not, goes-call, party-goes)
+
 pub ruleset calls = (goes-not, goes-call, goes-pump, goes-outcome)

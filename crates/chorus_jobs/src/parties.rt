@@ -102,12 +102,7 @@ fn run_one<R: Wait>(rt: &R, nucleus: &Nucleus, party: &mut Party, queue: Ui)
 }
 
 /// All of them run side by side, each in a thread of its own where one can be made.
-fn run_all<R: Threads + Wait + Sync>(
-    rt: &R,
-    nucleus: &Nucleus,
-    queue: Ui,
-    parties: &mut [Party],
-)
+fn run_all<R: Threads + Wait + Sync>(rt: &R, nucleus: &Nucleus, queue: Ui, parties: &mut [Party])
     requires parties { AreParties nucleus.now queue parties.old }
     requires queue { is_port queue ≡ true }
     ensures { HaveRun nucleus.now queue parties.old parties.new }

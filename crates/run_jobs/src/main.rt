@@ -34,11 +34,35 @@ fn run<R: Threads + Wait + Sync>(alloc: Global, rt: &R) -> Option<Finished> {
     let here = actor(1, 1)?;
     let there = actor(2, 1)?;
     let comers = [
-        Comer { actor: here, role: Role::Worker { next: there } },
-        Comer { actor: there, role: Role::Worker { next: here } },
-        Comer { actor: actor(3, 1)?, role: Role::Client { name: b'a', jobs: JOBS } },
-        Comer { actor: actor(3, 2)?, role: Role::Client { name: b'b', jobs: JOBS } },
-        Comer { actor: actor(1, 2)?, role: Role::Client { name: b'c', jobs: JOBS } },
+        Comer {
+            actor: here,
+            role: Role::Worker { next: there },
+        },
+        Comer {
+            actor: there,
+            role: Role::Worker { next: here },
+        },
+        Comer {
+            actor: actor(3, 1)?,
+            role: Role::Client {
+                name: b'a',
+                jobs: JOBS,
+            },
+        },
+        Comer {
+            actor: actor(3, 2)?,
+            role: Role::Client {
+                name: b'b',
+                jobs: JOBS,
+            },
+        },
+        Comer {
+            actor: actor(1, 2)?,
+            role: Role::Client {
+                name: b'c',
+                jobs: JOBS,
+            },
+        },
     ];
     run_queue(alloc, rt, Layout::new(3, 1)?, here, &comers).ok()
 }
