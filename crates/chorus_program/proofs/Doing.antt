@@ -18,11 +18,13 @@ use Rattle.chorus_replay.specs.Ordered.{Replays}
 use Rattle.chorus_run.specs.Ends.{EndsAsRun}
 use Rattle.chorus_run.specs.Threads.{HasWornOf, IsOfNucleus}
 use Rattle.chorus_audit.specs.Output.{Prints, ReadsBy}
+use Rattle.chorus_picture.specs.Output as picture
+use Rattle.chorus_picture.specs.Output.{Draws}
 use Rattle.chorus_lossy.specs.Output as lossy
 use Rattle.chorus_lossy.specs.Output.{CarriesInput}
 use Rattle.chorus_words.specs.declared.words.Words.{Words}
 use Rattle.chorus_words.specs.declared.words.Words.TheVariants as words
-use Rattle.chorus_program.specs.Running.{Does, EndsAsAudit, EndsAsLossy, EndsUnreadAsLoad, EndsWithCause, places_each, replay_layout}
+use Rattle.chorus_program.specs.Running.{Does, EndsAsAudit, EndsAsLossy, EndsAsPicture, EndsUnreadAsLoad, EndsWithCause, places_each, replay_layout}
 
 -- Causes.
 
@@ -93,6 +95,13 @@ module _ {S K : Type 0} (f : Finished) (is : f ≡ record { status = Memory; clo
     prints = subst (λ (x : Finished). Prints l x.status (left from) (held old) (held old)) (sym is) refl;
   }
 
+  draws-none : (l : Layout) → EndsAsPicture l f (left from) (left from) (held old) (held old)
+  draws-none l = record {
+    closed = closes-none;
+    reads = subst (λ (x : Finished). picture.ReadsBy l x.status (left from) (left from)) (sym is) ([], (Consumes-nil (left from), omega arith));
+    draws = subst (λ (x : Finished). Draws l x.status (left from) (held old) (held old)) (sym is) refl;
+  }
+
   carries-none : (first : ℕ) → EndsAsLossy first f (left from) (left from) (held old) (held old)
   carries-none first = record {
     closed = closes-none;
@@ -105,6 +114,7 @@ module _ {S K : Type 0} (f : Finished) (is : f ≡ record { status = Memory; clo
   does-none n (words.RunOn turns) = runs-none n
   does-none n (words.Load first commands) = record { unread = refl; loads = loads-none f is held failures old first commands }
   does-none n (words.Audit sites turns) = audits-none (places_each sites turns)
+  does-none n (words.Picture sites turns) = draws-none (places_each sites turns)
   does-none n (words.Lossy first) = carries-none first
 
 -- What is done has its cause, and is no Usage.
@@ -116,6 +126,7 @@ module _ {S K : Type 0} (n : Nucleus) (f : Finished) (left : S → Option (List 
   no-usage (words.RunOn turns) d is = d.reads.usage is
   no-usage (words.Load first commands) d is = subst EndsUnread is d.loads.status
   no-usage (words.Audit sites turns) d is = subst (λ s. ReadsBy s (left from) (left rest)) is d.reads
+  no-usage (words.Picture sites turns) d is = subst (λ s. picture.ReadsBy (places_each sites turns) s (left from) (left rest)) is d.reads
   no-usage (words.Lossy first) d is = let h = d.carries in subst (λ s. lossy.ReadsBy s h.0 (left from) (left rest)) is h.1
 
   pub does-same : (asked other : Words) → asked ≡ other → Does n asked f left faults reliable from rest held failures old new → Does n other f left faults reliable from rest held failures old new

@@ -6,6 +6,8 @@ use Rattle.chorus_io.specs.Count.{Rose}
 use Rattle.chorus_ui.specs.declared.layout.Layout.{Layout}
 use Rattle.chorus_ui.specs.declared.limits.TheConstants.{CLOCK_LIMIT}
 use Rattle.chorus_audit.specs.Output.{Prints, ReadsBy}
+use Rattle.chorus_picture.specs.Output as picture
+use Rattle.chorus_picture.specs.Output.{Draws}
 use Rattle.chorus_lossy.specs.Output.{CarriesInput}
 use Rattle.chorus_show.specs.declared.status.Status.{Status}
 use Rattle.chorus_show.specs.declared.status.Status.TheVariants.{Done, ReadFault, WriteFault, Worn}
@@ -47,6 +49,12 @@ pub record EndsAsAudit (l : Layout) (finished : Finished) (left rest old new : O
   pub reads : ReadsBy finished.status left rest
   pub prints : Prints l finished.status left old new
 
+-- nothing was closed, and the picture of what was read was written
+pub record EndsAsPicture (l : Layout) (finished : Finished) (left rest old new : Option (List ℕ)) : Type 0 where
+  pub closed : finished.closed ≡ None
+  pub reads : picture.ReadsBy l finished.status left rest
+  pub draws : Draws l finished.status left old new
+
 -- nothing was closed, and what was read was carried
 pub record EndsAsLossy (first : ℕ) (finished : Finished) (left rest old new : Option (List ℕ)) : Type 0 where
   pub closed : finished.closed ≡ None
@@ -69,6 +77,8 @@ Does n (words.Load first commands) finished left faults reliable from rest held 
     EndsUnreadAsLoad first commands finished from rest held failures old new
 Does n (words.Audit sites turns) finished left faults reliable from rest held failures old new =
     EndsAsAudit (places_each sites turns) finished (left from) (left rest) (held old) (held new)
+Does n (words.Picture sites turns) finished left faults reliable from rest held failures old new =
+    EndsAsPicture (places_each sites turns) finished (left from) (left rest) (held old) (held new)
 Does n (words.Lossy first) finished left faults reliable from rest held failures old new =
     EndsAsLossy first finished (left from) (left rest) (held old) (held new)
 

@@ -7,7 +7,7 @@ ghost use Rattle.chorus_nucleus.specs.Passes.{IsPassOf};
 ghost use Rattle.chorus_perform.specs.Scripts.{IsOpening};
 ghost use Rattle.chorus_program.specs.Running.{AskOf, Does, EndsWithCause, Suits};
 
-use crate::starting::{gave_up, start_audit, start_load, start_lossy, start_replay};
+use crate::starting::{gave_up, start_audit, start_load, start_lossy, start_picture, start_replay};
 use chorus_io::{Sink, Source};
 use chorus_nucleus::{Nucleus, Pass};
 use chorus_report::Finished;
@@ -23,8 +23,8 @@ pub const PROGRAM_SITES: u16 = 16;
 
 /// Does what the words say: `replay` replays the scenario that the source gives, and `load FIRST COMMANDS` performs the
 /// commands that are drawn, both on sites that are started for it; `run` performs the scenario on the running threads of the nucleus,
-/// and so does `run TURNS` where its sites have so many places; `audit SITES TURNS` audits the printed journal that the source gives;
-/// `lossy FIRST` carries what the source gives over a line that loses. Any other words are Usage, and then nothing is read or written.
+/// and so does `run TURNS` where its sites have so many places; `audit SITES TURNS` audits the printed journal that the source gives, and
+/// `picture SITES TURNS` draws it; `lossy FIRST` carries what the source gives over a line that loses. Any other words are Usage, and then nothing is read or written.
 ///
 /// The nucleus was just started, and the pass is its opening one. It is closed in any case. Want of memory is the one ending without a
 /// cause.
@@ -135,6 +135,10 @@ fn does<R: Threads + Wait + Sync, S: Source, K: Sink, G: Gate>(
         Words::Audit { sites, turns } => {
             close_unused(rt, nucleus, pass);
             start_audit(alloc, sites, turns, source, sink)
+        }
+        Words::Picture { sites, turns } => {
+            close_unused(rt, nucleus, pass);
+            start_picture(alloc, sites, turns, source, sink)
         }
         Words::Lossy { first } => {
             close_unused(rt, nucleus, pass);
