@@ -4,3 +4,4 @@ pub mod Comings
 pub mod Leavings
 pub mod Idling
 pub mod Opening
+mod Examples
