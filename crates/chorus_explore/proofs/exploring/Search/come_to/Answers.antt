@@ -22,7 +22,8 @@ returns-in_ok-add c = λ scene most h.
     let none : c.args.candidates.items ≡ [] = no-length c.args.candidates.items (omega (arith, zero, long)) in
     counts-leaf scene most s t c.args.stage c.args.candidates.items h text none (c.in_ok-text.ensures scene h.reached)
     (subst (λ xs. Counts c.in_ok-text.text.items (reverse xs) c.args.self.now.explored.findings.items.items c.add.new.self.items.items) c.deref.ensures.value c.in_ok-add.ensures.counts)
-    c.in_ok-add.ensures.sums refl refl refl refl (popped c.args.self.now.moves.items c.pop.new.self.items c.pop.result c.pop.ensures.items c.pop.ensures.variant) refl
+    c.in_ok-add.ensures.sums refl refl refl refl (popped c.args.self.now.moves.items c.pop.new.self.items c.pop.result c.pop.ensures.items
+    (λ some. (let a = c.pop.ensures.variant.0 some in let k = c.args.self.now.moves.ok.0 in omega (arith, a, k)), λ lt. c.pop.ensures.variant.1 (let k = c.args.self.now.moves.ok.0 in omega (arith, lt, k)))) refl
 
 pub returns-in_ok-push : goal.returns-in_ok-push
 returns-in_ok-push c = λ scene most h.
