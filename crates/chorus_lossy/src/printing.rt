@@ -7,7 +7,8 @@ ghost use Rattle.chorus_lossy.specs.Carrying.{IsWithin};
 ghost use Rattle.chorus_lossy.specs.Output.{HasCarried, Leaves, Prints, ReadsBy, lossy_text, text_with, wire_line};
 
 use crate::carrying::{Carried, carry};
-use chorus_io::{ReadAll, Sink, Source, read_all, write_all};
+use chorus_input::read_input;
+use chorus_io::{ReadAll, Sink, Source, write_all};
 use chorus_show::Status;
 use chorus_transport::{Receiver, Sender};
 use chorus_ui::push_decimal;
@@ -30,9 +31,10 @@ pub fn lossy<S: Source, K: Sink>(
     receiver: &mut Receiver,
 ) -> Status
     requires { ends sender.old receiver.old ≡ new_ends }
-    // Why it ended. Want of memory is the one free answer.
+    // Why it ended. Want of memory is the one free answer, and hides no read fault.
     ensures read_fault { result ≡ Status.ReadFault →
         Rose (S.faults source.old) (S.faults source.new) }
+    ensures steady { result ≡ Status.Memory → S.faults source.new ≡ S.faults source.old }
     ensures reliable { S.reliable source.old → S.faults source.new ≡ S.faults source.old }
     ensures write_fault { result ≡ Status.WriteFault →
         Rose (K.faults sink.old) (K.faults sink.new) }
@@ -44,7 +46,7 @@ pub fn lossy<S: Source, K: Sink>(
         × Leaves first result bytes (ends sender.new receiver.new) }
     ensures unwritten { result ≢ Status.Done → result ≢ Status.WriteFault → sink.new ≡ sink.old }
 {
-    let bytes = match read_all(alloc, source, INPUT_LIMIT) {
+    let bytes = match read_input(alloc, source, INPUT_LIMIT) {
         Ok(bytes) => bytes,
         Err(ReadAll::Fault) => return Status::ReadFault,
         Err(ReadAll::TooLong) => return Status::TOO_LONG,

@@ -3,6 +3,7 @@ pub mod Settling
 pub mod Deciding
 pub mod Moves
 pub mod Causes
+pub mod Possible
 pub mod Remembering
 pub mod Turning
 pub mod Choosing

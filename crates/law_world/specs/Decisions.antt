@@ -1,11 +1,11 @@
 -- Decisions: on what a place decides, why it decides so, and that no other decision is possible there. l is a layout,
 -- past what stands before the entry e, and e decides on the message x for the port q.
-use Rattle.std.specs.Prelude.{ℕ, ◌≡◌, ◌≤◌, ◌⊎◌, ◌↔◌, ◌==◌, Bool, true, false, not, ◌&&◌, if◌then◌else◌, List, [], ◌∷◌, length, Option, Some, None, slice_get}
+use Rattle.std.specs.Prelude.{ℕ, ◌≡◌, ◌<◌, ◌≤◌, ◌⊎◌, ◌↔◌, ◌==◌, Bool, true, false, not, ◌&&◌, if◌then◌else◌, List, [], ◌∷◌, length, Option, Some, None, slice_get}
 use Rattle.std.specs.List.{list_any}
 use Rattle.chorus_ui.specs.declared.ui.Ui.{Ui}
 use Rattle.chorus_ui.specs.declared.layout.Layout.{Layout}
 use Rattle.chorus_ui.specs.declared.limits.TheConstants.{CLIENTS_LIMIT}
-use Rattle.chorus_ui.specs.Layout.{IsLayout, has_site}
+use Rattle.chorus_ui.specs.Layout.{IsLayout, has_site, has_place}
 use Rattle.chorus_ui.specs.Name.{same_ui}
 use Rattle.chorus_entry.specs.declared.entry.Entry.{Entry}
 use Rattle.chorus_entry.specs.declared.id.MsgId.{MsgId}
@@ -18,7 +18,7 @@ use Rattle.chorus_world.specs.Views.{at, about, on}
 use Rattle.chorus_world.specs.Ports.{fate, is_held_at}
 use Rattle.chorus_world.specs.Posts.{tag_of, site_asked, is_on_site}
 use Rattle.chorus_world.specs.Messages.{progress}
-use Rattle.chorus_world.specs.Places.{is_first, is_made_here, is_deleted, located}
+use Rattle.chorus_world.specs.Places.{is_first, is_made_here, is_deleted, located, just_taken, last_clock}
 use Rattle.chorus_world.specs.Steps.{may, is_legal}
 use Rattle.chorus_world.specs.AcceptedLaws.{accepted_by}
 use Rattle.chorus_world.specs.DecisionLaws.{port_met, IsPassed, IsOffSite}
@@ -172,3 +172,18 @@ OneDecisionIsPossible =
     may l past e ≡ true → may l past f ≡ true → e.place ≡ f.place →
     is_decision e.act ≡ true → is_decision f.act ≡ true →
     message_of e.act ≡ Some x → message_of f.act ≡ Some x → e.act ≡ f.act
+
+-- a decision on x may come next at the place p, by the seat s with this clock
+pub record MayDecide (l : Layout) (past : List Entry) (p s time : ℕ) (x : MsgId) : Type 0 where
+  pub act : Act
+  pub decides : is_decision act ≡ true
+  pub about : message_of act ≡ Some x
+  pub comes_next : may l past (record { clock = time; place = p; seat = s; act = act }) ≡ true
+
+-- and on what is to be decided at a place one may, by any seat, at each clock above the last one there, unless the last entry there
+-- is the Take of a reply
+abbrev pub SomeDecisionIsPossible : Type 0
+SomeDecisionIsPossible =
+    (l : Layout) (past : List Entry) (p s time : ℕ) (x : MsgId) (q : Ui) (hop : ℕ) → IsLayout l → is_legal l past ≡ true →
+    has_place l p ≡ true → IsToDecide l past p x q hop → just_taken past (at p past) ≡ None → last_clock (at p past) < time →
+    MayDecide l past p s time x

@@ -1,7 +1,7 @@
 //! On what a place decides, why it decides so, and that nothing else can be decided there.
 
 ghost use Rattle.chorus_world.specs.Always.{LayoutEntries, LegalEntries};
-ghost use Rattle.law_world.specs.Decisions.{AlreadyWhereAccepted, ClientsFullWhereManyAre, DecidesByThePort, DecidesWhatIsDue, NoPortWasMade, OneDecisionIsPossible};
+ghost use Rattle.law_world.specs.Decisions.{AlreadyWhereAccepted, ClientsFullWhereManyAre, DecidesByThePort, DecidesWhatIsDue, NoPortWasMade, OneDecisionIsPossible, SomeDecisionIsPossible};
 
 /// What each decision says of the world before it.
 ///
@@ -23,7 +23,9 @@ pub fn a_decision_has_its_cause()
     ensures clients_full { LayoutEntries (λ l. ClientsFullWhereManyAre) }
 {}
 
-/// Two decisions on one message that may come next at one place are the same one.
+/// Two decisions on one message that may come next at one place are the same one (`most`). And on what is to be decided at a place one
+/// may come next there, by any seat, at each clock above the last one there, unless the last entry there is the Take of a reply (`some`).
 pub fn one_decision_is_possible()
-    ensures { OneDecisionIsPossible }
+    ensures most { OneDecisionIsPossible }
+    ensures some { SomeDecisionIsPossible }
 {}

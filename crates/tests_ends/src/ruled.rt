@@ -1,9 +1,11 @@
 //! Ends of links over which threads may meet. What is not as it is to be ends the test.
 
 use crate::memory::{assert_clock, receive, send};
-use chorus_ends::Ends;
+use chorus_ends::{Ends, Moves};
+use chorus_entry::{Body, Cargo, Message, MsgId, Packet, Tag};
 use chorus_ruled_ends::RuledEnds;
-use chorus_ui::{LINK_LIMIT, Layout};
+use chorus_ui::{BODY_LIMIT, Kind, LINK_LIMIT, Layout, Ui};
+use place_ranges::has_ranges;
 use std::alloc::Global;
 use std::process::Abort;
 use std::sync::Wait;
@@ -55,4 +57,60 @@ fn assert_carry_in_order<R: Abort + Wait>(rt: &R, alloc: Global) {
 #[test]
 fn ruled_ends_carry_packets_in_order(rt: HostRuntime) {
     assert_carry_in_order(&rt, rt.alloc());
+}
+
+/// A message of so many bytes, each the remainder of its position by 251, on its way from place 1 to a port of site 2.
+fn letter(rt: &impl Abort, alloc: Global, len: usize) -> Packet {
+    let mut bytes = Vec::new(alloc);
+    for at in 0..len {
+        bytes.push((at % 251) as u8).expect(rt, "memory");
+    }
+    assert!(rt; bytes.len() <= BODY_LIMIT);
+    let message = Message {
+        id: MsgId {
+            seat: 1,
+            number: 1,
+            copy: 0,
+        },
+        tag: Tag::Plain,
+        body: Body::new(alloc, &bytes).expect(rt, "memory"),
+    };
+    Packet {
+        clock: 1,
+        from: 1,
+        cargo: Cargo::Try {
+            message,
+            port: Ui::new(2, Kind::Port, 1).expect(rt, "a name"),
+            route: None,
+            only: None,
+            hop: 0,
+        },
+    }
+}
+
+/// The body of a message on its way.
+fn body_of<'a>(rt: &impl Abort, packet: &'a Packet) -> &'a [u8] {
+    match &packet.cargo {
+        Cargo::Try { message, .. } => message.body.bytes(),
+        _ => panic!(rt; "no message"),
+    }
+}
+
+/// Asserts that a message of so many bytes comes out of the link as it went in.
+fn assert_carries<R: Abort + Wait>(rt: &R, alloc: Global, len: usize) {
+    let (mut first, mut second) = two_places(rt, alloc);
+    let packet = letter(rt, alloc, len);
+    assert!(rt; has_ranges(&packet) && first.reaches(2) && second.reaches(1));
+    assert!(rt; first.push(rt, 2, packet).is_ok());
+    let parcel = second.pop(rt, 1).expect(rt, "a packet");
+    let packet = RuledEnds::unpack(parcel).ok().expect(rt, "memory");
+    assert!(rt; body_of(rt, &packet) == body_of(rt, &letter(rt, alloc, len)));
+    assert!(rt; body_of(rt, &packet).len() == len);
+}
+
+#[test]
+fn ruled_ends_carry_bodies_of_each_length(rt: HostRuntime) {
+    for len in [0, 1, 255, 256, 3_001, 4_095, 4_096] {
+        assert_carries(&rt, rt.alloc(), len);
+    }
 }

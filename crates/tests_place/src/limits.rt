@@ -2,7 +2,7 @@
 
 use crate::ground::Ground;
 use chorus_calls::Caller;
-use chorus_entry::{Body, Command};
+use chorus_entry::{Body, Command, Dest};
 use chorus_ui::{CLOCK_LIMIT, Kind, Ui};
 use std::alloc::Global;
 use std::process::Abort;
@@ -58,6 +58,39 @@ fn at_most_once_table_fills(rt: HostRuntime) {
     net.act(&ground, 1, Command::Cancel);
     net.act(&ground, 1, call(&rt, alloc, port));
     assert_ends(&ground, alloc, "clients", &net, TABLE_FILLS);
+}
+
+/// How it ends where a port with 64 messages is deleted: all are discarded, in their order.
+fn deleted_full(rt: &impl Abort, alloc: Global) -> String {
+    let mut text = String::new(alloc);
+    text.push_str("journal\n129 1 1 accept 1:64:0 1.p.1 63\n130 1 1 delete 1.p.1")
+        .expect(rt, "memory");
+    for number in 1..=64_u32 {
+        write!(text, " 1:{number}:0").expect(rt, "memory");
+    }
+    text.push_str("\ntold\n1 accepted 1:64:0 63\n1 deleted 64\n")
+        .expect(rt, "memory");
+    text
+}
+
+#[test]
+fn a_full_port_is_deleted(rt: HostRuntime) {
+    let alloc = rt.alloc();
+    let ground = Ground { rt: &rt };
+    let mut net = Net::start(&ground, alloc, 1, 1);
+    let port = named(&rt, "1.p.1");
+    let actor = named(&rt, "1.a.1");
+    let capacity = 64;
+    net.act(&ground, 0, Command::Make { actor, capacity });
+    net.enter(&ground, actor);
+    for _ in 0..64 {
+        let dest = Dest::Port(port);
+        let body = Body::new(alloc, b"m").expect(&rt, "memory");
+        net.act(&ground, 1, Command::Send { dest, body });
+    }
+    net.act(&ground, 1, Command::Delete { port });
+    let ends = deleted_full(&rt, alloc);
+    assert_ends(&ground, alloc, "a full port", &net, ends.as_str());
 }
 
 const MEMBERS_FILL: &str = "\

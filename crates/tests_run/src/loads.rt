@@ -41,6 +41,10 @@ const POSTS_ONE: &str =
 const POSTS_NINE: &str =
     "summary\nposted 9\naccepted 8\ntaken 1\nqueued 7\nmoving 0\nrefused 1\nstale 1\ndeparts 1\nend\n";
 
+/// The load of 2,000 commands from 7 on, by an independent simulator: all eight ports are full at the end, with 64 messages each.
+const FILLS_ALL_PORTS: &str =
+    "summary\nposted 1276\naccepted 555\ntaken 43\nqueued 512\nmoving 0\nrefused 721\nstale 140\ndeparts 20\nend\n";
+
 /// Performs a load on sites that are started for it. Gives how that ended, and whether it handed out what it closed.
 fn load_on<K: Sink>(
     rt: &impl Abort,
@@ -84,6 +88,11 @@ fn load_writes_its_summary(rt: HostRuntime) {
     assert_loads(&rt, rt.alloc(), 7, 1, POSTS_ONE);
     assert_loads(&rt, rt.alloc(), 15_768, 14, POSTS_NINE);
     assert_write_fails(&rt, rt.alloc());
+}
+
+#[test]
+fn load_fills_its_ports(rt: HostRuntime) {
+    assert_loads(&rt, rt.alloc(), 7, 2_000, FILLS_ALL_PORTS);
 }
 
 /// The number behind the word, with its blank, in a summary.

@@ -296,6 +296,58 @@ fn fills_to_capacity(rt: HostRuntime) {
     assert_fills(&rt, rt.alloc());
 }
 
+const ENDS_SIXTEEN_SENDERS: &str = "
+33 1 16 full 16:1:0 1.p.1 1
+summary
+posted 16
+accepted 1
+taken 0
+queued 1
+moving 0
+refused 15
+stale 0
+departs 0
+end
+";
+
+/// A scenario with a port of capacity 1, and a send to it by each of 16 scripts.
+fn sixteen_senders(rt: &impl Abort, alloc: Global) -> String {
+    let mut text = String::new(alloc);
+    text.push_str("chorus 1\nsites 1\nport 1.p.1 1.a.1 1\n")
+        .expect(rt, "memory");
+    for _ in 0..16 {
+        text.push_str("script 1.a.1\nsend 1.p.1 =x\n")
+            .expect(rt, "memory");
+    }
+    text.push_str("schedule\nend\n").expect(rt, "memory");
+    text
+}
+
+/// Asserts that the posts of the scripts stand in their order, each by the seat of its script.
+fn assert_sixteen_posts(rt: &impl Abort, alloc: Global, printed: &str) {
+    for seat in 1..=16_u64 {
+        let clock = 2 * seat;
+        let line = format!(in alloc;
+            "\n{clock} 1 {seat} post {seat}:1:0 port 1.p.1 plain =x\n"
+        ).expect(rt, "memory");
+        assert!(rt; printed.contains(line.as_str()), "{line}");
+    }
+}
+
+fn assert_sixteen_scripts(rt: &impl Abort, alloc: Global) {
+    let text = sixteen_senders(rt, alloc);
+    let run = replayed(rt, alloc, text.as_bytes(), &[], 4096, &[]);
+    assert_same(rt, run.status, Status::Done, "16 scripts");
+    assert_sixteen_posts(rt, alloc, run.written.as_str());
+    assert!(rt; run.written.as_str().starts_with("journal 33\n"));
+    assert!(rt; run.written.as_str().ends_with(ENDS_SIXTEEN_SENDERS));
+}
+
+#[test]
+fn sixteen_scripts_are_replayed(rt: HostRuntime) {
+    assert_sixteen_scripts(&rt, rt.alloc());
+}
+
 /// Asserts that a body of 241 bytes is refused.
 fn assert_long_body_is_refused(rt: &impl Abort, alloc: Global) {
     let body = letters(rt, alloc, 241);

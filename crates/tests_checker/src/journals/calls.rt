@@ -11,6 +11,7 @@ fn call_and_reply_on_one_site(rt: HostRuntime) {
         1 1 0 make 1.p.1 1.a.1 4
         ! 35: 2 1 1 outstanding 1
         ! 38: 2 1 1 cancel 1
+        ! 5: 2 1 1 post 1:1:0 port 1.p.1 request 2 1.p.1 =q
         2 1 1 post 1:1:0 port 1.p.1 request 1 1.p.1 =q
         ! 36: 3 1 1 no-call
         ! 8: 3 1 1 already 1:1:0 1.p.1
@@ -19,6 +20,8 @@ fn call_and_reply_on_one_site(rt: HostRuntime) {
         4 1 1 outstanding 1
         5 1 1 take 1.p.1 0 1:1:0
         ! 37: 6 1 1 no-request
+        ! 5: 6 1 1 post 1:2:0 port 1.p.1 reply 1 2 =s
+        ! 5: 6 1 1 post 1:2:0 port 1.p.1 reply 2 1 =s
         6 1 1 post 1:2:0 port 1.p.1 reply 1 1 =s
         7 1 1 accept 1:2:0 1.p.1 1
         8 1 1 take 1.p.1 1 1:2:0
@@ -56,6 +59,7 @@ fn retry_across_a_move_is_accepted_once(rt: HostRuntime) {
         13 3 3 take 1.p.1 0 1:1:0
         14 2 1 cancel 1
         14 3 3 post 3:1:0 port 2.p.1 reply 1 1 =ans
+        ! 5: 15 2 1 post 1:3:0 port 1.p.1 request 3 2.p.1 =r
         15 2 1 post 1:3:0 port 1.p.1 request 2 2.p.1 =r
         15 3 3 try 3:1:0 2.p.1 2 0
         16 2 1 try 1:3:0 1.p.1 3 1

@@ -40,6 +40,8 @@ fn report_reaches_the_home_place(rt: HostRuntime) {
         ! 18: 9 2 0 heard 1:1:1 accepted 0
         9 1 0 told 1:1:1 accepted 0
         10 2 0 heard 1:1:1 accepted 0
+        ! 18: 11 2 0 heard 1:1:1 accepted 0
+        ! 18: 11 2 0 heard 1:1:0 chosen 1
     ";
     assert_follows(&rt, rt.alloc(), 2, 1, journal);
 }
