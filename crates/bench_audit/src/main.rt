@@ -3,14 +3,17 @@
 //! The journal is lawful, and a pattern makes it: eight sites, on each a caller that sends to the port of the next site, where
 //! each message is taken. With no words a short journal is audited and what was found is printed, which never varies. With the
 //! word `time` it audits one of 100,008 entries, and prints megabytes per second, the best of some rounds in which the measured
-//! things take turns.
+//! things take turns; then it draws one of 9,968 entries, beside auditing it.
 #![tactic(auto)]
 
 mod journal;
 mod scenario;
 
 use chorus_audit::{AUDIT_LIMIT, Audit, audit_text};
+use chorus_io::{MemSink, MemSource};
+use chorus_picture::picture;
 use chorus_scene::read;
+use chorus_show::Status;
 use chorus_ui::Layout;
 use journal::journal_text;
 use scenario::scenario_text;
@@ -23,6 +26,9 @@ const FEW: u32 = 25;
 
 const MANY: u32 = 2_500;
 
+// As many as a picture may have.
+const DRAWN: u32 = 249;
+
 // Commands of each script of the scenario.
 const COMMANDS: u64 = 4_096;
 
@@ -33,7 +39,8 @@ fn main(rt: HostRuntime) -> io::Result<()> {
         .nth(1)
         .is_some_and(|word| word.as_str() == "time");
     if timed {
-        return print_rates(&rt, rt.alloc());
+        print_rates(&rt, rt.alloc())?;
+        return print_drawing(&rt, rt.alloc());
     }
     let text = journal_text(rt.alloc(), FEW)?;
     print_found(&rt, found(rt.alloc(), &text)?)
@@ -80,6 +87,39 @@ fn print_rates<R: Clock + Print>(rt: &R, alloc: Global) -> io::Result<()> {
     println!(rt;
         "audit {auditing:.1} MB/s, reading a scenario {reading:.0} (ratio {by_reading:.1}), one pass {passing:.0} (ratio {by_pass:.0})"
     )
+}
+
+fn print_drawing<R: Clock + Print>(rt: &R, alloc: Global) -> io::Result<()> {
+    let printed = journal_text(alloc, DRAWN)?;
+    let mut auditing: f64 = 0.0;
+    let mut drawing: f64 = 0.0;
+    for _ in 0..ROUNDS {
+        auditing = auditing.max(audit_rate(rt, alloc, &printed)?);
+        drawing = drawing.max(draw_rate(rt, alloc, &printed)?);
+    }
+    let by_auditing = drawing / auditing;
+    println!(rt;
+        "picture {drawing:.1} MB/s, audit of the same {auditing:.1} (ratio {by_auditing:.2})"
+    )
+}
+
+fn draw_rate<R: Clock>(rt: &R, alloc: Global, text: &[u8]) -> io::Result<f64> {
+    let mut source = MemSource::new(Vec::from_slice(alloc, text)?, Vec::new(alloc));
+    let mut sink = MemSink::new(alloc, 65_536, Vec::new(alloc));
+    let start = Instant::now(rt)?;
+    let mut bytes = 0;
+    if is_drawn(alloc, &mut source, &mut sink) {
+        bytes = text.len();
+    }
+    rate_since(rt, start, bytes)
+}
+
+// Whether the journal that the source gives is drawn.
+fn is_drawn(alloc: Global, source: &mut MemSource, sink: &mut MemSink) -> bool {
+    let Some(layout) = Layout::new(journal::SITES, 1) else {
+        return false;
+    };
+    picture(alloc, layout, source, sink) == Status::Done
 }
 
 fn audit_rate<R: Clock>(rt: &R, alloc: Global, text: &[u8]) -> io::Result<f64> {

@@ -17,10 +17,11 @@ use Rattle.chorus_show.specs.Lines.{entry_text}
 use Rattle.chorus_show.specs.Summary.{summary_text}
 use Rattle.chorus_show.specs.Reading.{lacks, below, u32_in}
 use Rattle.chorus_show.proofs.LineBack.{line, entry_line, count_lacks, back_n32}
+use Rattle.chorus_audit.specs.declared.judging.Audit.{Audit}
 use Rattle.chorus_audit.specs.declared.judging.Audit.TheVariants.{Legal, Wrong}
 use Rattle.chorus_show.specs.Bounds.{IsWithin, AreWithin}
 use Rattle.chorus_audit.specs.Calls.{behind}
-use Rattle.chorus_audit.specs.Tests.{head, Begins, IsNoEntry, IsUnlawful, lines_shared, AtHead, AtEntry, AtSummary, IsVerdict}
+use Rattle.chorus_audit.specs.Tests.{head, Begins, IsNoEntry, IsUnlawful, lines_shared, AtHead, AtEntry, AtSummary, IsRead, IsVerdict}
 use Rattle.chorus_audit.specs.Stops.{IsStop, TakesEntry}
 use Rattle.chorus_audit.proofs.Cutting.{cut_once}
 use Rattle.chorus_audit.proofs.Agreeing.{lines}
@@ -186,21 +187,23 @@ found_next l text n w v rest more taken h less t =
     let grown = one_more w.layout text n w.past rest more taken t.entry here less t.within t.is step.0 in
     subst (λ k. Found k text n v more (taken + 1)) h.layout_is (subst (λ u. Found w.layout text n u more (taken + 1)) step.1 grown)
 
--- the verdicts
-pub head_end : (l : Layout) (text : List ℕ) → ((n : ℕ) (rest : List ℕ) → n < 2 ^ 32 → text ≢ head n ++ rest) → IsVerdict l text (Wrong 1 99)
-head_end l text none = AtHead (record { is_first = refl; is_rule = refl; no_head = none })
+-- what was read, with the verdict
+pub head_end : (l : Layout) (text : List ℕ) (w : State) → w ≡ opening l → ((n : ℕ) (rest : List ℕ) → n < 2 ^ 32 → text ≢ head n ++ rest) → IsRead l text (Wrong 1 99) (reverse w.past)
+head_end l text w is none = (AtHead (record { is_first = refl; is_rule = refl; no_head = none }), ap (λ v. reverse v.past) is)
 
-pub stop_end : (l : Layout) (text : List ℕ) (n : ℕ) (w : State) (rest : List ℕ) (taken rule : ℕ) → Found l text n w rest taken → taken < n → IsNoEntry rest rule ⊎ IsUnlawful w.layout w.past rest rule → IsVerdict l text (Wrong (taken + 2) rule)
-stop_end l text n w rest taken rule h less fails =
-    AtEntry (record {
-      told = n;
-      entries = reverse w.past;
-      rest = rest;
-      begins = h.begins;
-      more_told = omega (arith, length-reverse w.past, h.count_is, less);
-      is_line = omega (arith, length-reverse w.past, h.count_is);
-      fails = moved fails;
-    })
+pub stop_end : (l : Layout) (text : List ℕ) (n : ℕ) (w : State) (rest : List ℕ) (taken rule : ℕ) → Found l text n w rest taken → taken < n → IsNoEntry rest rule ⊎ IsUnlawful w.layout w.past rest rule → IsRead l text (Wrong (taken + 2) rule) (reverse w.past)
+stop_end l text n w rest taken rule h less fails = (
+  AtEntry (record {
+    told = n;
+    entries = reverse w.past;
+    rest = rest;
+    begins = h.begins;
+    more_told = omega (arith, length-reverse w.past, h.count_is, less);
+    is_line = omega (arith, length-reverse w.past, h.count_is);
+    fails = moved fails;
+  }),
+  refl,
+)
   where
     moved : IsNoEntry rest rule ⊎ IsUnlawful w.layout w.past rest rule → IsNoEntry rest rule ⊎ IsUnlawful l (reverse (reverse w.past)) rest rule
     moved (inl f) = inl f
@@ -213,9 +216,8 @@ module _ (l : Layout) (text : List ℕ) (n : ℕ) (w : State) (rest : List ℕ) 
   begun : Begins l text n entries rest
   begun = subst (λ es. Begins l text n es rest) (sym all) h.begins
 
-  pub legal_end : rest ≡ summary_text entries → IsVerdict l text (Legal n)
-  legal_end is = (
-    entries,
+  legal_entries : rest ≡ summary_text entries → IsRead l text (Legal n) entries
+  legal_entries is = (
     record {
       number = subst (λ m. m < 4294967296) (sym len) begun.number;
       within = begun.within;
@@ -229,16 +231,26 @@ module _ (l : Layout) (text : List ℕ) (n : ℕ) (w : State) (rest : List ℕ) 
     len,
   )
 
-  pub summary_end : (shared : ℕ) → rest ≢ summary_text entries → shared ≡ lines_shared rest (summary_text entries) → IsVerdict l text (Wrong (n + 2 + shared) 99)
-  summary_end shared differs is =
-      AtSummary (record {
-        entries = entries;
-        rest = rest;
-        begins = subst (λ m. Begins l text m entries rest) (sym len) begun;
-        differs = differs;
-        is_line = omega (arith, len, is);
-        is_rule = refl;
-      })
+  pub legal_end : rest ≡ summary_text entries → IsRead l text (Legal n) (reverse w.past)
+  legal_end is = subst (IsRead l text (Legal n)) all (legal_entries is)
+
+  pub summary_end : (shared : ℕ) → rest ≢ summary_text entries → shared ≡ lines_shared rest (summary_text entries) → IsRead l text (Wrong (n + 2 + shared) 99) (reverse w.past)
+  summary_end shared differs is = (
+    AtSummary (record {
+      entries = entries;
+      rest = rest;
+      begins = subst (λ m. Begins l text m entries rest) (sym len) begun;
+      differs = differs;
+      is_line = omega (arith, len, is);
+      is_rule = refl;
+    }),
+    sym all,
+  )
+
+-- and the verdict alone
+pub verdict_of : (l : Layout) (text : List ℕ) (audit : Audit) (es : List Entry) → IsRead l text audit es → IsVerdict l text audit
+verdict_of l text (Legal n) es h = (es, h.0, h.1)
+verdict_of l text (Wrong line rule) es h = h.0
 
 -- an entry that the world does not take
 pub refused_stop : (w : State) (text row rest : List ℕ) (e : Entry) (fault : WorldFault) → text ≡ row ++ 10 ∷ rest → entry_text e ≡ row ++ 10 ∷ [] → IsWithin e → IsRefusal w e fault → IsStop w text fault

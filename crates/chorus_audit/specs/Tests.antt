@@ -82,6 +82,17 @@ abbrev pub IsVerdict : Layout → List ℕ → Audit → Type 0
 IsVerdict l text (Legal n) = (es : List Entry) × IsReport l text es × (length es ≡ n)
 IsVerdict l text (Wrong line rule) = IsWrong l text line rule
 
+-- the entries in front of the line that fails
+abbrev pub entries_before : {l : Layout} {text : List ℕ} {line rule : ℕ} → IsWrong l text line rule → List Entry
+entries_before (AtHead fails) = []
+entries_before (AtEntry fails) = fails.entries
+entries_before (AtSummary fails) = fails.entries
+
+-- what the audit finds, and the entries that were read: all of the report, or those in front of the line that fails
+abbrev pub IsRead : Layout → List ℕ → Audit → List Entry → Type 0
+IsRead l text (Legal n) es = IsReport l text es × (length es ≡ n)
+IsRead l text (Wrong line rule) es = (wrong : IsWrong l text line rule) × (es ≡ entries_before wrong)
+
 -- a text has one verdict
 abbrev pub TextsHaveOneVerdict : Type 0
 TextsHaveOneVerdict = (l : Layout) (text : List ℕ) (a b : Audit) → IsVerdict l text a → IsVerdict l text b → a ≡ b

@@ -9,7 +9,8 @@ ghost use Rattle.chorus_audit.specs.Output.{Prints, ReadsBy, verdict_text};
 
 use crate::judging::{Audit, audit_text};
 use crate::limits::AUDIT_LIMIT;
-use chorus_io::{ReadAll, Sink, Source, read_all, write_all};
+use chorus_input::read_input;
+use chorus_io::{ReadAll, Sink, Source, write_all};
 use chorus_show::Status;
 use chorus_ui::{Layout, push_decimal};
 use std::alloc::{AllocError, Global};
@@ -22,9 +23,10 @@ pub fn audit<S: Source, K: Sink>(
     source: &mut S,
     sink: &mut K,
 ) -> Status
-    // Why it ended. Want of memory is the one free answer.
+    // Why it ended. Want of memory is the one free answer, and hides no read fault.
     ensures read_fault { result ≡ Status.ReadFault →
         Rose (S.faults source.old) (S.faults source.new) }
+    ensures steady { result ≡ Status.Memory → S.faults source.new ≡ S.faults source.old }
     ensures reliable { S.reliable source.old → S.faults source.new ≡ S.faults source.old }
     ensures write_fault { result ≡ Status.WriteFault →
         Rose (K.faults sink.old) (K.faults sink.new) }
@@ -34,7 +36,7 @@ pub fn audit<S: Source, K: Sink>(
     ensures prints { Prints layout result (S.left source.old) (K.held sink.old) (K.held sink.new) }
     ensures unwritten { result ≢ Status.Done → result ≢ Status.WriteFault → sink.new ≡ sink.old }
 {
-    let text = match read_all(alloc, source, AUDIT_LIMIT) {
+    let text = match read_input(alloc, source, AUDIT_LIMIT) {
         Ok(text) => text,
         Err(ReadAll::Fault) => return Status::ReadFault,
         Err(ReadAll::TooLong) => return Status::TOO_LONG,

@@ -1,12 +1,12 @@
 //! A whole text, tested line by line.
 
-ghost use Rattle.std.specs.Prelude.{◌≡◌, ◌≢◌, ◌≤◌, ◌<◌, ◌↔◌, ◌^◌, ◌++◌, ℕ, List, length, IfOk, MatchOption, MatchResult};
+ghost use Rattle.std.specs.Prelude.{◌≡◌, ◌≢◌, ◌≤◌, ◌<◌, ◌↔◌, ◌^◌, ◌++◌, ℕ, List, length, reverse, IfOk, OnErr, MatchOption, MatchResult};
 ghost use Rattle.chorus_entry.specs.declared.entry.Entry.{Entry};
 ghost use Rattle.chorus_show.specs.Summary.{summary_text};
 ghost use Rattle.chorus_audit.specs.declared.limits.TheConstants.{AUDIT_LIMIT};
 ghost use Rattle.chorus_audit.specs.declared.judging.Audit.TheVariants.{Legal, Wrong};
 ghost use Rattle.chorus_audit.specs.Report.{IsReport};
-ghost use Rattle.chorus_audit.specs.Tests.{head, lines_shared, IsWrong, IsVerdict};
+ghost use Rattle.chorus_audit.specs.Tests.{head, lines_shared, IsRead, IsWrong, IsVerdict};
 ghost use Rattle.chorus_audit.specs.Stops.{IsStop, TakesEntry};
 
 use crate::cut::cut;
@@ -42,37 +42,58 @@ pub fn audit_text(alloc: Global, layout: Layout, text: &[u8]) -> Result<Audit, A
     judged(alloc, layout, text)
 }
 
-/// Tests the lines in order.
-fn judged(alloc: Global, layout: Layout, text: &[u8]) -> Result<Audit, AllocError>
+/// What is read of a text.
+#[derive(Drop)]
+pub struct Reading {
+    /// The entries that it begins with, each of which may come next, before the first line that fails.
+    pub world: World,
+    /// What an audit finds.
+    pub audit: Audit,
+}
+
+/// Reads the text as [`audit_text`] tests it: the entries in front of the first line that fails, or all of them where none does.
+pub fn read_text(alloc: Global, layout: Layout, text: &[u8]) -> Result<Reading, AllocError>
     requires { length text.now ≤ AUDIT_LIMIT }
-    ensures { IfOk result (IsVerdict layout text.now) }
+    ensures { IfOk result (λ reading.
+        IsRead layout text.now reading.audit (reverse reading.world.past)) }
 {
-    let Some((count, mut rest)) = told(text) else {
-        return Ok(Audit::Wrong {
-            line: 1,
-            rule: NO_LINE,
-        });
-    };
     let mut world = World::opening(alloc, layout)?;
+    let Some((count, mut rest)) = told(text) else {
+        return Ok(stopped(world, 1, NO_LINE));
+    };
     for taken in 0..count {
         match take_entry(alloc, &mut world, rest) {
             Ok(behind) => rest = behind,
-            Err(WorldFault::NotLegal { rule }) => {
-                return Ok(Audit::Wrong {
-                    line: taken + 2,
-                    rule,
-                });
-            }
+            Err(WorldFault::NotLegal { rule }) => return Ok(stopped(world, taken + 2, rule)),
             Err(WorldFault::Memory(error)) => return Err(error),
         }
     }
     match summary_fault(alloc, world.entries(), rest)? {
-        None => Ok(Audit::Legal { entries: count }),
-        Some(shared) => Ok(Audit::Wrong {
-            line: count + 2 + shared,
-            rule: NO_LINE,
+        None => Ok(Reading {
+            world,
+            audit: Audit::Legal { entries: count },
         }),
+        Some(shared) => Ok(stopped(world, count + 2 + shared, NO_LINE)),
     }
+}
+
+/// What is read of a text in which this line fails, by this rule.
+fn stopped(world: World, line: u32, rule: u8) -> Reading
+    ensures { result ≡ record { world = world; audit = Wrong line rule } }
+{
+    Reading {
+        world,
+        audit: Audit::Wrong { line, rule },
+    }
+}
+
+/// What an audit finds.
+fn judged(alloc: Global, layout: Layout, text: &[u8]) -> Result<Audit, AllocError>
+    requires { length text.now ≤ AUDIT_LIMIT }
+    ensures { IfOk result (IsVerdict layout text.now) }
+{
+    let reading = read_text(alloc, layout, text)?;
+    Ok(reading.audit)
 }
 
 /// The number of entries that the first line tells, and the text behind that line. None exactly where the first line tells none.
@@ -91,11 +112,12 @@ fn told(text: &[u8]) -> Option<(u32, &[u8])>
 }
 
 /// Takes the entry of the next line into the world, and gives the text behind that line. A line of no entry is refused by the
-/// rule [`NO_LINE`].
+/// rule [`NO_LINE`], and a refusal changes nothing.
 fn take_entry<'a>(alloc: Global, world: &mut World, text: &'a [u8]) -> Result<&'a [u8], WorldFault>
-    ensures { MatchResult result
+    ensures read { MatchResult result
         (λ rest. TakesEntry world.old world.new text.now rest.now)
         (IsStop world.old text.now) }
+    ensures unchanged { OnErr result (world.new ≡ world.old) }
 {
     let (line, rest) = cut(b'\n', text);
     let Some(rest) = rest else {

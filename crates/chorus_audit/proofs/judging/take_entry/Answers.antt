@@ -4,8 +4,8 @@ use Rattle.chorus_audit.specs.Calls.{behind}
 use Rattle.chorus_audit.proofs.Steps.{no_entry_line, refused_stop}
 use Rattle.chorus_audit.proofs.judging.take_entry.Goals as goal
 
-pub returns-in_err-apply-in-Ok-Some : goal.returns-in_err-apply-in-Ok-Some
-returns-in_err-apply-in-Ok-Some c =
+pub returns-in_err-apply-in-Ok-Some-clause-read : goal.returns-in_err-apply-in-Ok-Some-clause-read
+returns-in_err-apply-in-Ok-Some-clause-read c =
     let line = c.cut.result.0.now in
     let whole = c.cut.ensures.whole ∙ ap (λ o. line ++ behind 10 (option_copied o)) c.in-Some.is in
     let read = rw c.in-Ok-Some.field-0-is at c.in-Ok-Some.ensures.some in
@@ -13,8 +13,8 @@ returns-in_err-apply-in-Ok-Some c =
     whole read.1 read.0 c.in_err-apply-in-Ok-Some.ensures.refused in
     search (rules, stop)
 
-pub returns-in-Ok-None : goal.returns-in-Ok-None
-returns-in-Ok-None c =
+pub returns-in-Ok-None-clause-read : goal.returns-in-Ok-None-clause-read
+returns-in-Ok-None-clause-read c =
     let line = c.cut.result.0.now in
     let whole = c.cut.ensures.whole ∙ ap (λ o. line ++ behind 10 (option_copied o)) c.in-Some.is in
     inl (no_entry_line c.args.text.now line c.in-Some.rest.now whole c.cut.ensures.before (c.in-Ok-None.ensures.none (ap is_some c.in-Ok-None.field-0-is)))

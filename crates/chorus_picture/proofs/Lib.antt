@@ -1,0 +1,11 @@
+mod Columns
+mod Drawn
+mod Front
+mod Kept
+mod Pieces
+mod PlainNames
+mod MarkKinds
+mod ReadBack
+mod RowTexts
+mod StandApart
+mod Whole

@@ -1,0 +1,23 @@
+-- A text that is appended piece by piece.
+use Rattle.std.proofs.Common.{◌≡◌, ℕ, zero, suc, ◌+◌, ◌-◌, ◌*◌, ◌<◌, List, ◌++◌, ap, ◌∙◌, append_assoc, arith}
+use Rattle.chorus_ui.specs.declared.layout.Layout.{Layout}
+use Rattle.chorus_picture.specs.Columns.{ColumnShape}
+use Rattle.chorus_picture.specs.Sheet.{head_at, heads_from}
+
+pub two : (o a b m n : List ℕ) → m ≡ o ++ a → n ≡ m ++ b → n ≡ o ++ (a ++ b)
+two o a b m n one more = more ∙ ap (λ t. t ++ b) one ∙ append_assoc o a b
+
+pub three : (o a b c m n w : List ℕ) → m ≡ o ++ a → n ≡ m ++ b → w ≡ n ++ c → w ≡ o ++ ((a ++ b) ++ c)
+three o a b c m n w one more last = two o (a ++ b) c n w (two o a b m n one more) last
+
+pub four : (o a b c d m n v w : List ℕ) → m ≡ o ++ a → n ≡ m ++ b → v ≡ n ++ c → w ≡ v ++ d → w ≡ o ++ (((a ++ b) ++ c) ++ d)
+four o a b c d m n v w one more next last =
+    two o ((a ++ b) ++ c) d v w (three o a b c m n v one more next) last
+
+before : (n : ℕ) → n ≡ suc n - 1
+before n = omega arith
+
+-- one head and then the others
+pub heads_more : (l : Layout) (cs : List ColumnShape) (n k : ℕ) → 0 < n → heads_from l cs n k ≡ head_at l cs (616 * k) ++ heads_from l cs (n - 1) (k + 1)
+heads_more l cs zero k some = absurd (omega (arith, some))
+heads_more l cs (suc n) k some = ap (λ m. head_at l cs (616 * k) ++ heads_from l cs m (k + 1)) (before n)

@@ -1,0 +1,25 @@
+-- The picture of a journal: the bytes of the whole document.
+-- l is a layout, es are the entries, the oldest first, cs their columns, n their number.
+use Rattle.std.specs.Prelude.{ℕ, List, [], ◌++◌, length, reverse}
+use Rattle.std.specs.List.{flat_map}
+use Rattle.chorus_ui.specs.declared.layout.Layout.{Layout}
+use Rattle.chorus_entry.specs.declared.entry.Entry.{Entry}
+use Rattle.chorus_audit.specs.declared.judging.Audit.{Audit}
+use Rattle.law_picture.specs.Bars.{bar}
+use Rattle.chorus_picture.specs.Columns.{ColumnShape, columns}
+use Rattle.chorus_picture.specs.Rows.{end_y}
+use Rattle.chorus_picture.specs.Shapes.{rows}
+use Rattle.chorus_picture.specs.Sheet.{front, bars_left, all_heads}
+use Rattle.chorus_picture.specs.Found.{found_text, foot}
+
+-- what stands behind the rows
+abbrev pub behind_rows : Layout → List ℕ → List Entry → Audit → List ColumnShape → ℕ → List ℕ
+behind_rows l text es audit cs n =
+    flat_map (bars_left (λ q. bar q (reverse es)) (end_y n)) cs ++ all_heads l cs n ++ found_text text es audit (end_y n) ++ foot (end_y n)
+
+abbrev pub picture_on : Layout → List ℕ → List Entry → Audit → List ColumnShape → ℕ → List ℕ
+picture_on l text es audit cs n = front cs n ++ rows cs [] es ++ behind_rows l text es audit cs n
+
+-- what is drawn of a text, by the entries that it begins with and what an audit finds of it
+abbrev pub picture_text : Layout → List ℕ → List Entry → Audit → List ℕ
+picture_text l text es audit = picture_on l text es audit (columns l es) (length es)

@@ -1,0 +1,133 @@
+//! A journal that a source gives, drawn into a sink.
+
+ghost use Rattle.std.specs.Prelude.{◌≡◌, ◌≢◌, ◌≤◌, ◌++◌, [], length, reverse, IfOk, OnOk};
+ghost use Rattle.chorus_io.specs.Count.{Rose};
+ghost use Rattle.chorus_audit.specs.declared.limits.TheConstants.{AUDIT_LIMIT};
+ghost use Rattle.chorus_picture.specs.declared.limits.TheConstants.{ENTRIES_LIMIT};
+ghost use Rattle.chorus_picture.specs.Output.{Draws, ReadsBy};
+ghost use Rattle.chorus_picture.specs.Picture.{behind_rows, picture_text};
+ghost use Rattle.chorus_picture.specs.Shapes.{rows};
+ghost use Rattle.chorus_picture.specs.Tables.{AreTables};
+
+use crate::column::{Column, columns};
+use crate::found::{push_foot, push_found};
+use crate::limits::ENTRIES_LIMIT;
+use crate::rows::end_y;
+use crate::shapes::push_row;
+use crate::sheet::{push_bars_left, push_front, push_heads};
+use crate::tables::Tables;
+use chorus_audit::{AUDIT_LIMIT, Audit, read_text};
+use chorus_entry::Entry;
+use chorus_input::read_input;
+use chorus_io::{ReadAll, Sink, Source, write_all};
+use chorus_show::Status;
+use chorus_ui::Layout;
+use std::alloc::{AllocError, Global};
+
+/// Reads the source to its end, and writes the picture of the journal that it gave: of all its entries, or of those in front of the first
+/// line that an audit for the layout finds wrong. The status is `Done` for both. A text of more than [`AUDIT_LIMIT`] bytes, or of which
+/// more than [`ENTRIES_LIMIT`] entries are to be drawn, is [`Status::TOO_LONG`].
+pub fn picture<S: Source, K: Sink>(
+    alloc: Global,
+    layout: Layout,
+    source: &mut S,
+    sink: &mut K,
+) -> Status
+    // Why it ended. Want of memory is the one free answer, and hides no read fault.
+    ensures read_fault { result ≡ Status.ReadFault →
+        Rose (S.faults source.old) (S.faults source.new) }
+    ensures steady { result ≡ Status.Memory → S.faults source.new ≡ S.faults source.old }
+    ensures reliable { S.reliable source.old → S.faults source.new ≡ S.faults source.old }
+    ensures write_fault { result ≡ Status.WriteFault →
+        Rose (K.faults sink.old) (K.faults sink.new) }
+    ensures reads { ReadsBy layout result (S.left source.old) (S.left source.new) }
+
+    // What it did.
+    ensures draws { Draws layout result (S.left source.old) (K.held sink.old) (K.held sink.new) }
+    ensures unwritten { result ≢ Status.Done → result ≢ Status.WriteFault → sink.new ≡ sink.old }
+{
+    let text = match read_input(alloc, source, AUDIT_LIMIT) {
+        Ok(text) => text,
+        Err(ReadAll::Fault) => return Status::ReadFault,
+        Err(ReadAll::TooLong) => return Status::TOO_LONG,
+        Err(ReadAll::Memory(_)) => return Status::Memory,
+    };
+    let Ok(reading) = read_text(alloc, layout, &text) else {
+        return Status::Memory;
+    };
+    let entries = reading.world.entries();
+    if entries.len() > ENTRIES_LIMIT as usize {
+        return Status::TOO_LONG;
+    }
+    let Ok(drawn) = drawn(alloc, layout, &text, entries, reading.audit) else {
+        return Status::Memory;
+    };
+    match write_all(sink, &drawn) {
+        Ok(()) => Status::Done,
+        Err(_) => Status::WriteFault,
+    }
+}
+
+/// The picture of what was read of a text: of these entries, and of what an audit found.
+fn drawn(
+    alloc: Global,
+    layout: Layout,
+    text: &[u8],
+    entries: &[Entry],
+    audit: Audit,
+) -> Result<Vec<u8>, AllocError>
+    requires { length entries.now ≤ ENTRIES_LIMIT }
+    ensures { IfOk result (λ out. out.items ≡ picture_text layout text.now entries.now audit) }
+{
+    let columns = columns(alloc, layout, entries)?;
+    let mut tables = Tables::new(alloc);
+    let mut out = Vec::new(alloc);
+    push_front(&columns, entries.len() as u32, &mut out)?;
+    push_rows(&columns, entries, &mut tables, &mut out)?;
+    push_behind_rows(layout, text, entries, audit, &columns, &tables, &mut out)?;
+    Ok(out)
+}
+
+/// Appends the row of each entry, and fills the tables.
+fn push_rows(
+    columns: &[Column],
+    entries: &[Entry],
+    tables: &mut Tables,
+    out: &mut Vec<u8>,
+) -> Result<(), AllocError>
+    requires few { length entries.now ≤ ENTRIES_LIMIT }
+    requires empty { AreTables tables.old [] }
+    ensures rows { OnOk result
+        (out.new.items ≡ out.old.items ++ rows columns.now [] entries.now) }
+    ensures tables { OnOk result (AreTables tables.new (reverse entries.now)) }
+{
+    for entry in entries {
+        push_row(columns, tables, entry, out)?;
+        tables.add(entry)?;
+    }
+    Ok(())
+}
+
+/// Appends what stands behind the rows.
+fn push_behind_rows(
+    layout: Layout,
+    text: &[u8],
+    entries: &[Entry],
+    audit: Audit,
+    columns: &[Column],
+    tables: &Tables,
+    out: &mut Vec<u8>,
+) -> Result<(), AllocError>
+    requires few { length entries.now ≤ ENTRIES_LIMIT }
+    requires tables { AreTables tables.now (reverse entries.now) }
+    ensures { OnOk result (out.new.items ≡ out.old.items
+        ++ behind_rows layout text.now entries.now audit columns.now (length entries.now)) }
+{
+    let count = entries.len() as u32;
+    let end = end_y(count);
+    push_bars_left(columns, tables, end, out)?;
+    push_heads(layout, columns, count, out)?;
+    push_found(text, entries, audit, end, out)?;
+    push_foot(end, out)?;
+    Ok(())
+}

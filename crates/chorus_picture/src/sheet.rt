@@ -1,0 +1,288 @@
+//! The sheet of a picture: its size and its style, the lines of its columns, their heads, and the bars that go to the end.
+
+ghost use Rattle.std.specs.Prelude.{◌≡◌, ◌<◌, ◌+◌, ◌^◌, ◌++◌, OnOk};
+ghost use Rattle.std.specs.List.{flat_map};
+ghost use Rattle.chorus_ui.specs.Layout.{site_of};
+ghost use Rattle.chorus_picture.specs.Columns.{lane_of};
+ghost use Rattle.chorus_picture.specs.Tables.{bar_of};
+ghost use Rattle.chorus_picture.specs.Sheet.{all_heads, band, bar_left, bars_left, column_head, front, head_at, heads_from, lane_front, lane_head, line_at, line_of, opening_tag, paper, place_head};
+
+use crate::column::{Column, right_edge};
+use crate::filling::push_filled;
+use crate::rows::{end_y, heads};
+use crate::shapes::push_bar;
+use crate::style::STYLE;
+use crate::tables::Tables;
+use chorus_ui::{Layout, Ui};
+use law_picture::Bar;
+use std::alloc::AllocError;
+
+/// Appends all that stands before the rows, of which there are so many.
+pub(crate) fn push_front(
+    columns: &[Column],
+    count: u32,
+    out: &mut Vec<u8>,
+) -> Result<(), AllocError>
+    ensures { OnOk result (out.new.items ≡ out.old.items ++ front columns.now count) }
+{
+    let end = end_y(count);
+    let width = right_edge(columns) + 660;
+    push_opening(width, end + 234, out)?;
+    out.extend_from_slice(STYLE.as_bytes())?;
+    push_paper(width, end + 234, out)?;
+    push_lines(columns, end, out)?;
+    Ok(())
+}
+
+#[tactic(auto, unfolding(crate::specs::Sheet::opening_tag))]
+fn push_opening(width: u64, height: u64, out: &mut Vec<u8>) -> Result<(), AllocError>
+    ensures { OnOk result (out.new.items ≡ out.old.items ++ opening_tag width height) }
+{
+    push_filled(
+        b"<svg xmlns='http://www.w3.org/2000/svg' xml:space='preserve' width='@' height='@' viewBox='0 0 @ @'>\n",
+        &[width, height, width, height],
+        out,
+    )
+}
+
+#[tactic(auto, unfolding(crate::specs::Sheet::paper))]
+fn push_paper(width: u64, height: u64, out: &mut Vec<u8>) -> Result<(), AllocError>
+    ensures { OnOk result (out.new.items ≡ out.old.items ++ paper width height) }
+{
+    push_filled(
+        b"<rect class='paper' width='@' height='@'/>\n",
+        &[width, height],
+        out,
+    )
+}
+
+/// Appends the lines of the columns down to y.
+fn push_lines(columns: &[Column], y: u64, out: &mut Vec<u8>) -> Result<(), AllocError>
+    ensures { OnOk result (out.new.items ≡ out.old.items ++ flat_map (line_of y) columns.now) }
+{
+    for column in columns {
+        push_line(column.x(), y, out)?;
+    }
+    Ok(())
+}
+
+#[tactic(auto, unfolding(crate::specs::Sheet::line_at))]
+fn push_line(x: u64, y: u64, out: &mut Vec<u8>) -> Result<(), AllocError>
+    ensures { OnOk result (out.new.items ≡ out.old.items ++ line_at x y) }
+{
+    push_filled(b"<path class='line' d='M@ 40V@'/>\n", &[x, y], out)
+}
+
+/// Appends the bars of the ports that are held after the last entry, down to y.
+pub(crate) fn push_bars_left(
+    columns: &[Column],
+    tables: &Tables,
+    y: u64,
+    out: &mut Vec<u8>,
+) -> Result<(), AllocError>
+    ensures { OnOk result (out.new.items ≡ out.old.items
+        ++ flat_map (bars_left (bar_of tables.now.bars) y) columns.now) }
+{
+    for column in columns {
+        push_column_bars(column, tables, y, out)?;
+    }
+    Ok(())
+}
+
+/// Appends those of one column.
+fn push_column_bars(
+    column: &Column,
+    tables: &Tables,
+    y: u64,
+    out: &mut Vec<u8>,
+) -> Result<(), AllocError>
+    ensures { OnOk result
+        (out.new.items ≡ out.old.items ++ bars_left (bar_of tables.now.bars) y column.now) }
+{
+    let ports = column.ports();
+    for port in ports {
+        push_bar_left(column, *port, tables.bar(*port), y, out)?;
+    }
+    Ok(())
+}
+
+/// Appends the bar of the port down to y, where it is held in the column.
+fn push_bar_left(
+    column: &Column,
+    port: Ui,
+    bar: Option<Bar>,
+    y: u64,
+    out: &mut Vec<u8>,
+) -> Result<(), AllocError>
+    ensures { OnOk result (out.new.items ≡ out.old.items ++ bar_left column.now port y bar) }
+{
+    match bar {
+        Some(bar) if bar.held && bar.row.place == column.place() => {
+            push_bar(column, port, y, bar, out)
+        }
+        _ => Ok(()),
+    }
+}
+
+/// Appends the heads of so many rows.
+pub(crate) fn push_heads(
+    layout: Layout,
+    columns: &[Column],
+    count: u32,
+    out: &mut Vec<u8>,
+) -> Result<(), AllocError>
+    ensures { OnOk result
+        (out.new.items ≡ out.old.items ++ all_heads layout columns.now count) }
+{
+    push_heads_from(layout, columns, heads(count), 0, out)
+}
+
+/// Appends so many heads from this one on.
+fn push_heads_from(
+    layout: Layout,
+    columns: &[Column],
+    more: u32,
+    first: u32,
+    out: &mut Vec<u8>,
+) -> Result<(), AllocError>
+    requires { first + more < 2 ^ 32 }
+    ensures { OnOk result
+        (out.new.items ≡ out.old.items ++ heads_from layout columns.now more first) }
+{
+    if more == 0 {
+        return Ok(());
+    }
+    push_head(layout, columns, 616 * u64::from(first), out)?;
+    push_heads_from(layout, columns, more - 1, first + 1, out)
+}
+
+/// Appends the head that begins at y.
+#[tactic(auto, unfolding(crate::specs::Sheet::head_at))]
+fn push_head(
+    layout: Layout,
+    columns: &[Column],
+    y: u64,
+    out: &mut Vec<u8>,
+) -> Result<(), AllocError>
+    requires { y < 2 ^ 50 }
+    ensures { OnOk result (out.new.items ≡ out.old.items ++ head_at layout columns.now y) }
+{
+    push_band(right_edge(columns), y, out)?;
+    push_column_heads(layout, columns, y, out)?;
+    Ok(())
+}
+
+/// Appends what stands over the columns.
+fn push_column_heads(
+    layout: Layout,
+    columns: &[Column],
+    y: u64,
+    out: &mut Vec<u8>,
+) -> Result<(), AllocError>
+    requires { y < 2 ^ 50 }
+    ensures { OnOk result
+        (out.new.items ≡ out.old.items ++ flat_map (column_head layout y) columns.now) }
+{
+    for column in columns {
+        push_column_head(layout, column, y, out)?;
+    }
+    Ok(())
+}
+
+#[tactic(auto, unfolding(crate::specs::Sheet::band))]
+fn push_band(right: u64, y: u64, out: &mut Vec<u8>) -> Result<(), AllocError>
+    requires right { right < 2 ^ 40 }
+    requires y { y < 2 ^ 50 }
+    ensures { OnOk result (out.new.items ≡ out.old.items ++ band right y) }
+{
+    push_filled(
+        b"<rect class='band' y='@' width='@' height='40'/><text x='8' y='@'>clock</text><text x='@' y='@'>caller</text><text x='@' y='@'>entry</text>\n",
+        &[
+            y,
+            right + 660,
+            y + 32,
+            right + 12,
+            y + 32,
+            right + 72,
+            y + 32,
+        ],
+        out,
+    )
+}
+
+/// Appends what stands over a column: its site and place, and the names of its ports over their lanes.
+#[tactic(auto, unfolding(crate::specs::Sheet::column_head))]
+fn push_column_head(
+    layout: Layout,
+    column: &Column,
+    y: u64,
+    out: &mut Vec<u8>,
+) -> Result<(), AllocError>
+    requires { y < 2 ^ 50 }
+    ensures { OnOk result
+        (out.new.items ≡ out.old.items ++ column_head layout y column.now) }
+{
+    let site = site_of(layout, column.place());
+    push_place_head(column.x(), y, site, u64::from(column.place()), out)?;
+    push_lane_heads(column, y + 38, out)?;
+    Ok(())
+}
+
+/// The site of a place.
+fn site_of(layout: Layout, place: u16) -> u64
+    ensures { result ≡ site_of layout place }
+{
+    u64::from(place.saturating_sub(1) / layout.turns()) + 1
+}
+
+#[tactic(auto, unfolding(crate::specs::Sheet::place_head))]
+fn push_place_head(
+    x: u64,
+    y: u64,
+    site: u64,
+    place: u64,
+    out: &mut Vec<u8>,
+) -> Result<(), AllocError>
+    requires x { x < 2 ^ 40 }
+    requires y { y < 2 ^ 50 }
+    ensures { OnOk result (out.new.items ≡ out.old.items ++ place_head x y site place) }
+{
+    push_filled(
+        b"<text class='head' x='@' y='@'>site @</text><text class='head' x='@' y='@'>place @</text>\n",
+        &[x + 6, y + 16, site, x + 6, y + 32, place],
+        out,
+    )
+}
+
+/// Appends the names of the column's ports.
+fn push_lane_heads(column: &Column, y: u64, out: &mut Vec<u8>) -> Result<(), AllocError>
+    ensures { OnOk result (out.new.items ≡ out.old.items
+        ++ flat_map (λ q. lane_head (lane_of q column.now + 9) y q) column.now.ports) }
+{
+    let ports = column.ports();
+    for port in ports {
+        push_lane_head(column.lane(*port) + 9, y, *port, out)?;
+    }
+    Ok(())
+}
+
+#[tactic(auto, unfolding(crate::specs::Sheet::lane_head))]
+fn push_lane_head(x: u64, y: u64, port: Ui, out: &mut Vec<u8>) -> Result<(), AllocError>
+    ensures { OnOk result (out.new.items ≡ out.old.items ++ lane_head x y port) }
+{
+    push_lane_front(x, y, out)?;
+    port.text(out)?;
+    out.extend_from_slice(b"</text>\n")?;
+    Ok(())
+}
+
+#[tactic(auto, unfolding(crate::specs::Sheet::lane_front))]
+fn push_lane_front(x: u64, y: u64, out: &mut Vec<u8>) -> Result<(), AllocError>
+    ensures { OnOk result (out.new.items ≡ out.old.items ++ lane_front x y) }
+{
+    push_filled(
+        b"<text class='name' transform='rotate(-90 @ @)' x='@' y='@'>",
+        &[x, y, x, y],
+        out,
+    )
+}

@@ -1,0 +1,6 @@
+mod Lists
+mod Merges
+mod Leads
+mod Turns
+mod Quiet
+mod Schedules

@@ -1,0 +1,4 @@
+pub mod Came
+pub mod Standing
+pub mod Forward
+pub mod Arrows

@@ -1,0 +1,91 @@
+"""Compares the picture of a journal with the journal, by Python's XML parser and by packets that are followed here one by one.
+
+The program finds the cause of an entry as the last entry about the same message, or on the line of the same port, where that stands at
+another place. Here each packet is put into a list when an entry puts it, and taken out of it by the entry that works it off."""
+
+import xml.etree.ElementTree as ElementTree
+
+SVG = "{http://www.w3.org/2000/svg}"
+MARKS = ["own", "denied", "work", "follow", "stale", "lost"]
+KINDS = ["try", "verdict", "transfer", "ask", "report"]
+DECISIONS = ["accept", "full", "already", "clients-full", "stale", "early", "no-port", "elsewhere", "gone"]
+
+
+def packets(lines):
+    """Of the lines of a journal's entries, each packet that was worked off: its kind, and the entries that put it and worked it off."""
+    found, waiting, home = [], [], {}
+    for number, line in enumerate(lines):
+        clock, place, seat, act, *fields = line.split(" ")
+        post = fields[0].rsplit(":", 1)[0] if fields else ""
+
+        def put(kind, to, key):
+            waiting.append((kind, to, key, number))
+
+        def take(kind, key):
+            for packet in waiting:
+                if packet[0] == kind and packet[1] in (None, place) and packet[2] == key:
+                    waiting.remove(packet)
+                    found.append((kind, packet[3], number))
+                    return packet
+
+        def report():
+            if home.get(post, place) != place and not (act == "told" and fields[1] == "stale"):
+                put("report", home[post], fields[0])
+
+        if act == "post":
+            home[post] = place
+            if fields[1] != "port":
+                put("ask", None, fields[0])
+        elif act == "try":
+            put("try", fields[2], (fields[0], fields[1]))
+        elif act in DECISIONS:
+            tried = take("try", (fields[0], fields[1]))
+            if tried:
+                put("verdict", lines[tried[3]].split(" ")[1], fields[0])
+            elif not fields[0].endswith(":0"):
+                report()
+        elif act == "told":
+            take("verdict", fields[0])
+            if not fields[0].endswith(":0"):
+                report()
+        elif act in ("choose", "no-member"):
+            asked = take("ask", fields[0])
+            if asked and lines[asked[3]].split(" ")[1] == place:
+                found.pop()
+            report()
+        elif act == "heard":
+            take("report", fields[0])
+        elif act == "depart":
+            put("transfer", fields[1], (fields[0], fields[3]))
+        elif act == "arrive":
+            take("transfer", (fields[0], fields[1]))
+    return found
+
+
+def complaint(journal, picture):
+    """What is wrong with the picture of a lawful journal, or None."""
+    count = int(journal.split("\n", 1)[0].split(" ")[1])
+    lines = journal.split("\n")[1:1 + count]
+    root = ElementTree.fromstring(picture)
+    marks = [group for group in root.iter(SVG + "g") if group.get("class") in MARKS]
+    if [mark.find(SVG + "title").text for mark in marks] != lines:
+        return "its marks are not the entries of the journal"
+    heights = [int(mark.find(SVG + "use").get("y")) for mark in marks]
+    if heights != sorted(set(heights)):
+        return "a mark stands not below all before it"
+    columns = {}
+    for mark, line in zip(marks, lines):
+        x = int(mark.find(SVG + "use").get("x"))
+        if columns.setdefault(line.split(" ")[1], x) != x:
+            return "a mark stands in the column of another place"
+    if len(set(columns.values())) != len(columns):
+        return "two places have one column"
+    arrows = []
+    for path in root.iter(SVG + "path"):
+        if path.get("class") in KINDS and path.find(SVG + "title") is not None:
+            start, end = path.get("d")[1:].split("H")
+            points = [int(word) for word in start.split(" ") + end.replace("L", " ").split(" ")]
+            arrows.append((path.get("class"), heights.index(points[1]), heights.index(points[4])))
+    if sorted(arrows) != sorted(packets(lines)):
+        return "its arrows are not the packets of the journal"
+    return None
