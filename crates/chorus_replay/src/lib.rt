@@ -4,7 +4,8 @@
 //! that it draws, and writes the summary alone. The program rests on this: what comes out is the text of the merge of the journals that
 //! are handed out; they are those of the network after the scenario's or the load's tasks in their order; that merge is a run of the
 //! one-holder world for the callers, in which each command stands once, in its caller's order, with the entry that answers it; the
-//! records and packets that are handed out stand for its ports; and each other ending but want of memory has its cause.
+//! records and packets that are handed out stand for its ports; and each other ending but want of memory has its cause. [`set_up`] and
+//! [`enter`], its first two parts, are there for those who go on by moves of their own.
 //!
 //! Begin with `replaying`. `performing` and `following` perform a scenario, `loading` and `drawing` a load; `closing` closes the sites.
 
@@ -21,4 +22,5 @@ mod replaying;
 pub use drawing::LOAD_SITES;
 pub use laws::{a_load_has_one_outcome, a_replay_has_one_outcome};
 pub use loading::{LOAD_LIMIT, load};
+pub use performing::{enter, set_up};
 pub use replaying::replay;

@@ -67,8 +67,10 @@ fn drain_last(sites: &mut Sites, scenario: &Scenario) -> Result<(), PlaceFault>
     Ok(())
 }
 
-/// Performs the setup, by seat 0.
-fn set_up(sites: &mut Sites, scenario: &Scenario) -> Result<(), PlaceFault>
+/// Performs the scenario's setup by seat 0, on sites that were just started: the first part of a replay.
+///
+/// A clock that is worn, or want of memory, ends it with the commands before done.
+pub fn set_up(sites: &mut Sites, scenario: &Scenario) -> Result<(), PlaceFault>
     requires start { net sites.old ≡ just_started scenario.now.layout }
     requires keeps { Keeps scenario.now }
     requires shape { IsLayout scenario.now.layout }
@@ -83,8 +85,10 @@ fn set_up(sites: &mut Sites, scenario: &Scenario) -> Result<(), PlaceFault>
     Ok(())
 }
 
-/// Enters a seat for each script.
-fn enter(sites: &mut Sites, scenario: &Scenario) -> Result<(), AllocError>
+/// Enters a seat for each script behind [`set_up`], so that script k has seat k: the second part of a replay.
+///
+/// Want of memory is the one error, with the scripts before entered.
+pub fn enter(sites: &mut Sites, scenario: &Scenario) -> Result<(), AllocError>
     requires before { IsBefore scenario.now (to_enter scenario.now) (net sites.old) }
     requires now { net sites.old ≡ set_up scenario.now }
     requires keeps { Keeps scenario.now }

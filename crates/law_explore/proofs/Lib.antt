@@ -11,3 +11,5 @@ pub mod Nets
 pub mod Replays
 pub mod Carriers
 pub mod Walking
+pub mod Showing
+pub mod Examples

@@ -5,4 +5,5 @@ pub mod Walk
 pub mod Races
 pub mod Outcome
 pub mod Explores
+pub mod Replays
 pub mod Laws

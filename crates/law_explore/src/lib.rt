@@ -13,6 +13,7 @@ mod moves;
 
 ghost use Rattle.law_explore.specs.Alike.{ActAlike, CommandsStayAlike, NetsStayAlike, PacketsStayAlike, ReadAlike};
 ghost use Rattle.law_explore.specs.Laws.{MovesComeToTheSame, NormalsComeToAll, RacesAreExplored, RacesAreWalked, RacesNeedNormalsOnly};
+ghost use Rattle.law_explore.specs.Replays.{MovesAreReplayed};
 ghost use Rattle.law_explore.specs.Neighbours.{NeighboursCommute, NeighboursStay};
 
 pub use moves::Move;
@@ -64,4 +65,10 @@ pub fn networks_stay_alike()
 /// What moves come to does not depend on who delivers, nor on any clock.
 pub fn moves_come_to_the_same()
     ensures { MovesComeToTheSame }
+{}
+
+/// A schedule that does the moves, with a drain behind them, leaves the network that the moves come to, if they leave no packet: the drain
+/// finds nothing.
+pub fn moves_are_replayed()
+    ensures { MovesAreReplayed }
 {}

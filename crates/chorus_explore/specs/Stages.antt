@@ -1,0 +1,109 @@
+-- How far the sites and the scripts are behind moves.
+-- c is a scenario, ms are moves, the latest first, k is the number of a script, told are the acts that answered, the
+-- latest first.
+use Rattle.std.specs.Prelude.{ℕ, ◌≡◌, ◌≤◌, ◌+◌, ◌⊎◌, Bool, List, [], ◌∷◌, length, map, drop, reverse, Some, slice_get}
+use Rattle.std.specs.List.{flat_map, filter, filter_map}
+use Rattle.chorus_ui.specs.declared.limits.TheConstants.{CLOCK_LIMIT}
+use Rattle.chorus_entry.specs.declared.act.Act as acts
+use Rattle.chorus_entry.specs.declared.command.Command.{Command}
+use Rattle.chorus_entry.specs.declared.entry.Entry.{Entry}
+use Rattle.chorus_entry.specs.Places.{place_for}
+use Rattle.law_network.specs.Network.{NetState, Event}
+use Rattle.law_explore.specs.declared.moves.Move.{Move}
+use Rattle.law_explore.specs.Search.{IsHistory, state_after}
+use Rattle.law_explore.specs.Races.{Position, event_of, seat_0, next_of, place_of_move, may_come, replaying}
+use Rattle.law_explore.specs.Outcome.{post_in, answers_from, outcome_after}
+use Rattle.law_schedule.specs.Shown.{race_of}
+use Rattle.chorus_scene.specs.Scene.{Scene, Script}
+use Rattle.chorus_net.specs.Sites.{net}
+use Rattle.chorus_net.specs.Worn.{compared_by}
+use Rattle.chorus_replay.specs.Performing.{IsWornAt}
+use Rattle.chorus_explore.specs.declared.candidates.Candidate.{Candidate}
+use Rattle.chorus_explore.specs.declared.stage.Progress.{Progress}
+use Rattle.chorus_explore.specs.declared.stage.Stage.{Stage}
+use Rattle.chorus_explore.specs.Candidates.{sleeps_behind}
+use Rattle.chorus_explore.specs.Facts.{fact_line, outcome_lines}
+use Rattle.chorus_explore.specs.Outcomes.{message_lines}
+
+-- where the moves lead
+abbrev pub position : Scene → List Move → Position
+position c ms = state_after (replaying (race_of c)) ms
+
+-- the move may come behind these
+abbrev pub may_go : Scene → Move → List Move → Bool
+may_go c m ms = may_come (race_of c).net.layout m (position c ms)
+
+-- the lines of what a history comes to
+abbrev pub comes : Scene → List Move → List ℕ
+comes c ms = outcome_lines (outcome_after (race_of c) ms)
+
+-- a script of which so many commands were performed
+pub record IsProgress (k : ℕ) (all left : List Command) (told : List acts.Act) (p : Progress) : Type 0 where
+  pub rest : left ≡ drop p.next all
+  pub few : p.next ≤ length all
+  pub count : length told ≡ p.next
+  pub answers : p.answers.items ≡ flat_map fact_line (answers_from k 1 (reverse told))
+  pub posts : p.posts.items ≡ filter_map post_in (reverse told)
+
+-- those of all scripts, from script k on
+abbrev pub AreProgress : ℕ → List Script → List (List Command) → List (List acts.Act) → List Progress → Type 0
+AreProgress k [] [] [] [] = Unit {0}
+AreProgress k (s ∷ ss) (left ∷ lefts) (told ∷ tolds) (p ∷ ps) =
+    IsProgress k s.commands left told p × AreProgress (k + 1) ss lefts tolds ps
+AreProgress _ _ _ _ _ = ⊥
+
+-- the sites and the scripts are where the moves lead
+pub record AreAt (c : Scene) (ms : List Move) (s : Stage) : Type 0 where
+  pub net : net s.sites ≡ (position c ms).net
+  pub scripts : AreProgress 1 c.scripts (position c ms).left (position c ms).told s.scripts.items
+
+-- and the stage has these moves, which are a history
+abbrev pub moves_of : Stage → List Move
+moves_of s = reverse s.moves.items
+
+pub record IsReached (c : Scene) (s : Stage) : Type 0 where
+  pub at : AreAt c (moves_of s) s
+  pub history : IsHistory (replaying (race_of c)) (moves_of s)
+
+-- a move that may come behind the one taken, where these were the candidates before it
+abbrev pub candidate_behind : Candidate → List Candidate → Position → Move → Candidate
+candidate_behind taken before s m =
+    record { mv = m; place = place_of_move m s; is_asleep = sleeps_behind m taken before }
+
+-- of these moves those that may come
+abbrev pub coming : Scene → Candidate → List Candidate → Position → List Move → List Candidate
+coming c taken before s ms =
+    map (candidate_behind taken before s) (filter (λ (m : Move). may_come (race_of c).net.layout m s) ms)
+
+-- a clock is worn in the setup, or behind a history, by a move that may come there
+pub record WearsBehind (c : Scene) (clock : ℕ) : Type 0 where
+  pub moves : List Move
+  pub mv : Move
+  pub event : Event
+  pub history : IsHistory (replaying (race_of c)) (mv ∷ moves)
+  pub is : event_of (race_of c).net.layout seat_0 mv (position c moves).left ≡ Some event
+  pub compared : compared_by event (position c moves).net ≡ Some clock
+  pub worn : CLOCK_LIMIT ≤ clock
+
+abbrev pub MayWear : Scene → ℕ → Type 0
+MayWear c clock = ((n : NetState) × IsWornAt c clock n) ⊎ WearsBehind c clock
+
+-- the lines of the messages that a script posted
+abbrev pub posted_lines : List (List Entry) → Progress → List ℕ
+posted_lines js p = flat_map (message_lines js) p.posts.items
+
+-- this is the next command of script i, counted from 0, behind the moves
+abbrev pub IsNext : Scene → List Move → ℕ → Command → Type 0
+IsNext c ms i d = next_of (slice_get (position c ms).left i) ≡ Some d
+
+-- a command of the script
+pub record IsOfScript (c : Scene) (i : ℕ) (d : Command) : Type 0 where
+  pub script : Script
+  pub number : ℕ
+  pub is_script : slice_get c.scripts i ≡ Some script
+  pub is_command : slice_get script.commands number ≡ Some d
+
+-- it is performed at this place
+abbrev pub IsPlaceFor : Scene → ℕ → Command → ℕ → Type 0
+IsPlaceFor c i d place =
+    (script : Script) → slice_get c.scripts i ≡ Some script → place ≡ place_for c.layout script.actor d

@@ -1,0 +1,46 @@
+//! What may come of a scenario.
+
+ghost use Rattle.std.specs.Prelude.{ℕ, IfOk, IsErrOf};
+ghost use Rattle.chorus_explore.specs.declared.exploration.ExploreFault.TheVariants as ExploreFault;
+ghost use Rattle.chorus_explore.specs.Explored.{IsExploration};
+ghost use Rattle.chorus_explore.specs.Stages.{MayWear};
+
+use crate::exploring::go_over;
+use crate::report::report;
+use chorus_place::PlaceFault;
+use chorus_scene::Scenario;
+use std::alloc::Global;
+
+/// Why a scenario was not explored.
+#[derive(Clone, Copy, Debug, PartialEq, Eq)]
+pub enum ExploreFault {
+    /// There was no memory.
+    Memory,
+    /// A clock came to its limit.
+    Worn { clock: u64 },
+}
+
+/// Goes over the schedules of the scenario, those in normal form, and carries out so many events at most: gives the text of what may
+/// come.
+///
+/// At `all` nothing is missing; at `some`, where a limit was met, of the events, of the moves of a history or of the messages that a
+/// caller posts, what is told may come all the same. Worn comes only where a schedule wears that clock; want of memory is free.
+pub fn explore_scenario(
+    alloc: Global,
+    scenario: &Scenario,
+    most: u32,
+) -> Result<Vec<u8>, ExploreFault>
+    ensures explored { IfOk result (λ text. IsExploration scenario.now most text.items) }
+    ensures worn { (clock : ℕ) → IsErrOf result (ExploreFault.Worn clock) →
+        MayWear scenario.now clock }
+{
+    let explored = match go_over(alloc, scenario, u64::from(most)) {
+        Ok(explored) => explored,
+        Err(PlaceFault::Memory(_)) => return Err(ExploreFault::Memory),
+        Err(PlaceFault::Worn { clock }) => return Err(ExploreFault::Worn { clock }),
+    };
+    match report(alloc, &explored) {
+        Ok(text) => Ok(text),
+        Err(_) => Err(ExploreFault::Memory),
+    }
+}
