@@ -7,67 +7,67 @@ ghost use Rattle.chorus_nucleus.specs.Passes.{caller_of, layout_of, IsPassOf};
 ghost use Rattle.chorus_perform.specs.Going.{AllMeet, Goes, GoesAsFar, MayPost};
 
 use crate::gate::Gate;
-use crate::pumping::{pump_behind, pump_next, pump_on};
+use crate::pace::Pace;
+use crate::pumping::{pump_behind, pump_on};
 use crate::share::Share;
+use crate::stirs::Stirs;
 use crate::stopped::Halted;
 use chorus_entry::Command;
 use chorus_nucleus::{CallFault, Nucleus, Pass};
 use std::sync::Wait;
 use std::thread;
 
-/// How many tries of a command find its place busy before its thread lets others run.
-const TRIES: u32 = 4;
+/// How many tries of a command find its place busy before its thread lets others run. A turn takes about as long as these tries.
+const TRIES: u32 = 32;
 
-/// Performs the commands of a script, in order, and pumps behind each.
+/// Performs the commands of a script, in order, and pumps meanwhile and then.
 pub(crate) fn perform_commands<R: Wait, G: Gate>(
     rt: &R,
     nucleus: &Nucleus,
     pass: &mut Pass,
     commands: &[Command],
     number: u32,
-    share: &mut Share,
+    share: &Share,
+    stirs: &Stirs,
     gate: &G,
 ) -> Result<(), Halted>
     requires pass { IsPassOf nucleus.now pass.old }
     requires meets { AllMeet commands.now }
     requires may { MayPost (length commands.now) pass.old }
-    requires share { share.old.places ≡ places (layout_of nucleus.now) }
+    requires share { share.now.places ≡ places (layout_of nucleus.now) }
     ensures pass { IsPassOf nucleus.now pass.new }
     ensures ok { OnOk result (Goes commands.now pass.old pass.new) }
     ensures err { OnErr result (GoesAsFar commands.now pass.old pass.new) }
 {
+    let mut pace = Pace::new();
     for step in 0..commands.len() {
         gate.pass(number, step as u32);
-        perform_command(rt, nucleus, pass, &commands[step], share)?;
-        pump_behind(rt, nucleus, pass, share)?;
+        perform_command(rt, nucleus, pass, &commands[step])?;
+        pump_behind(rt, nucleus, pass, share, stirs, &mut pace)?;
     }
     gate.pass(number, commands.len() as u32);
-    pump_on(rt, nucleus, pass, share)
+    pump_on(rt, nucleus, pass, share, stirs)
 }
 
-/// Performs a command, and tries it again where its place is busy; it pumps meanwhile.
+/// Performs a command, and tries it again where its place is busy.
 pub(crate) fn perform_command<R: Wait>(
     rt: &R,
     nucleus: &Nucleus,
     pass: &mut Pass,
     command: &Command,
-    share: &mut Share,
 ) -> Result<(), Halted>
     requires pass { IsPassOf nucleus.now pass.old }
     requires conditions { meets_conditions command.now ≡ true }
     requires posts { is_post command.now ≡ true → (caller_of pass.old).posts < u32.MAX }
-    requires share { share.old.places ≡ places (layout_of nucleus.now) }
     ensures pass { IsPassOf nucleus.now pass.new }
     ensures ok { OnOk result (Goes (command.now ∷ []) pass.old pass.new) }
     ensures err { OnErr result (Goes [] pass.old pass.new) }
-    ensures share { share.new.places ≡ share.old.places }
 {
     let mut tries = 0;
     for _ in rt.forever() {
         if try_command(nucleus, pass, command)? {
             return Ok(());
         }
-        pump_next(rt, nucleus, pass, share)?;
         tries = give_way(tries);
     }
     unreachable!()

@@ -6,13 +6,16 @@
 //! replies they got is the nucleus's, and that nothing is lost is what closing it tells.
 //!
 //! Begin with `performing`. `setup`, `entering`, `running` and `rounds` are its steps; `commands` performs the commands of a thread,
-//! `pumping` moves packets meanwhile, at the places of its `share`.
+//! `pumping` moves packets meanwhile and then, at the `pace` and the places, its `share`, that are those of the thread.
+//!
+//! [`settle`], the last step, may be called alone, by what performs commands in another way: it pumps all places until nothing is left.
 
 #![tactic(auto)]
 
 mod commands;
 mod entering;
 mod gate;
+mod pace;
 mod performing;
 mod pumping;
 mod rounds;
@@ -20,8 +23,10 @@ mod runner;
 mod running;
 mod setup;
 mod share;
+mod stirs;
 mod stopped;
 
 pub use gate::{Gate, OpenGate};
 pub use performing::perform;
-pub use stopped::Stopped;
+pub use rounds::settle;
+pub use stopped::{Halted, Stopped};

@@ -4,20 +4,23 @@ ghost use Rattle.std.specs.Prelude.{◌≡◌, ◌<◌, ◌≤◌, [], true};
 ghost use Rattle.chorus_ui.specs.Layout.{has_place, places};
 ghost use Rattle.chorus_nucleus.specs.Passes.{layout_of, IsPassOf};
 ghost use Rattle.chorus_perform.specs.Going.{Goes};
-ghost use Rattle.chorus_perform.specs.declared.pumping.TheConstants.{IDLE_ROTATIONS};
+ghost use Rattle.chorus_perform.specs.declared.pumping.TheConstants.{IDLE_SWEEPS};
 
+use crate::pace::Pace;
 use crate::share::Share;
+use crate::stirs::Stirs;
 use crate::stopped::Halted;
 use chorus_nucleus::{CallFault, Nucleus, Pass};
 use chorus_serve::Pump;
 use std::sync::Wait;
 use std::thread;
 
-/// How often a thread pumps its home place behind a command, at most: a message to another site is a try and a verdict.
-const HOME_PUMPS: u32 = 3;
+/// How often a thread pumps a place that is not idle before it goes on.
+const PUMPS_AT_A_PLACE: u32 = 64;
 
-/// After how many idle rotations a thread whose commands are done is done. What is then left is left to seat 0.
-const IDLE_ROTATIONS: u32 = 64;
+/// After how many idle sweeps, during which no other thread did anything either, a thread whose commands are done is done. What is then
+/// left is left to seat 0.
+const IDLE_SWEEPS: u32 = 64;
 
 /// Pumps a place once. False where it was idle, and where another thread has it, which is not waited for.
 pub(crate) fn pump<R: Wait>(
@@ -39,116 +42,118 @@ pub(crate) fn pump<R: Wait>(
     }
 }
 
-/// Pumps behind a command: the home place until it is idle, or a few times, and then one of the others.
+/// Pumps the home place behind a command, where its turn has come.
 pub(crate) fn pump_behind<R: Wait>(
     rt: &R,
     nucleus: &Nucleus,
     pass: &mut Pass,
-    share: &mut Share,
+    share: &Share,
+    stirs: &Stirs,
+    pace: &mut Pace,
 ) -> Result<(), Halted>
     requires pass { IsPassOf nucleus.now pass.old }
-    requires share { share.old.places ≡ places (layout_of nucleus.now) }
+    requires share { share.now.places ≡ places (layout_of nucleus.now) }
     ensures pass { IsPassOf nucleus.now pass.new }
     ensures goes { Goes [] pass.old pass.new }
-    ensures share { share.new.places ≡ share.old.places }
 {
-    pump_at(rt, nucleus, pass, share.home(), HOME_PUMPS)?;
-    pump_next(rt, nucleus, pass, share)?;
+    if pace.is_due() {
+        stirs.add();
+        let served = pump_at(rt, nucleus, pass, share.home())?;
+        pace.note(served);
+    }
     Ok(())
 }
 
-/// Pumps a place until it is idle, or so many times.
+/// Pumps a place until it is idle, or many times. True where it worked off a packet.
 pub(crate) fn pump_at<R: Wait>(
     rt: &R,
     nucleus: &Nucleus,
     pass: &mut Pass,
     place: u16,
-    most: u32,
-) -> Result<(), Halted>
+) -> Result<bool, Halted>
     requires pass { IsPassOf nucleus.now pass.old }
     requires place { has_place (layout_of nucleus.now) place ≡ true }
     ensures pass { IsPassOf nucleus.now pass.new }
     ensures goes { Goes [] pass.old pass.new }
 {
-    for _ in 0..most {
+    for count in 0..PUMPS_AT_A_PLACE {
         if !pump(rt, nucleus, pass, place)? {
-            return Ok(());
+            return Ok(count > 0);
         }
     }
-    Ok(())
+    Ok(true)
 }
 
-/// Pumps the place whose turn it is, unless it is the home place, which is pumped besides. True where it worked off a packet.
-pub(crate) fn pump_next<R: Wait>(
-    rt: &R,
-    nucleus: &Nucleus,
-    pass: &mut Pass,
-    share: &mut Share,
-) -> Result<bool, Halted>
-    requires pass { IsPassOf nucleus.now pass.old }
-    requires share { share.old.places ≡ places (layout_of nucleus.now) }
-    ensures pass { IsPassOf nucleus.now pass.new }
-    ensures goes { Goes [] pass.old pass.new }
-    ensures share { share.new.places ≡ share.old.places }
-{
-    let place = share.next_place();
-    if place == share.home() {
-        return Ok(false);
-    }
-    pump(rt, nucleus, pass, place)
-}
-
-/// Pumps when all commands are done, until its places were idle for a while, so that seat 0 finds little.
+/// Pumps when all commands are done: the home place, and then the range of places, until all threads have come to rest, so that seat 0
+/// finds little.
 pub(crate) fn pump_on<R: Wait>(
     rt: &R,
     nucleus: &Nucleus,
     pass: &mut Pass,
-    share: &mut Share,
+    share: &Share,
+    stirs: &Stirs,
 ) -> Result<(), Halted>
     requires pass { IsPassOf nucleus.now pass.old }
-    requires share { share.old.places ≡ places (layout_of nucleus.now) }
+    requires share { share.now.places ≡ places (layout_of nucleus.now) }
+    ensures pass { IsPassOf nucleus.now pass.new }
+    ensures goes { Goes [] pass.old pass.new }
+{
+    pump_at(rt, nucleus, pass, share.home())?;
+    if share.before() < share.last() {
+        sweep_on(rt, nucleus, pass, share, stirs)?;
+    }
+    Ok(())
+}
+
+/// Sweeps over the range of places until all threads have come to rest, by what this one sees of them.
+fn sweep_on<R: Wait>(
+    rt: &R,
+    nucleus: &Nucleus,
+    pass: &mut Pass,
+    share: &Share,
+    stirs: &Stirs,
+) -> Result<(), Halted>
+    requires pass { IsPassOf nucleus.now pass.old }
+    requires share { share.now.places ≡ places (layout_of nucleus.now) }
     ensures pass { IsPassOf nucleus.now pass.new }
     ensures goes { Goes [] pass.old pass.new }
 {
     let mut idle = 0;
+    let mut seen = stirs.count();
     for _ in rt.forever() {
-        let served = rotate(rt, nucleus, pass, share)?;
-        idle = rest(idle, served);
-        if idle >= IDLE_ROTATIONS {
+        if sweep(rt, nucleus, pass, share)? {
+            stirs.add();
+        } else {
+            thread::yield_now();
+        }
+        let count = stirs.count();
+        idle = rest(idle, count == seen);
+        seen = count;
+        if idle >= IDLE_SWEEPS {
             return Ok(());
         }
     }
     unreachable!()
 }
 
-/// Counts a rotation that was idle, and lets other threads run behind it.
-fn rest(idle: u32, served: bool) -> u32
-    requires { idle < IDLE_ROTATIONS }
-    ensures { result ≤ IDLE_ROTATIONS }
+/// Counts a sweep behind which all was still.
+fn rest(idle: u32, still: bool) -> u32
+    requires { idle < IDLE_SWEEPS }
+    ensures { result ≤ IDLE_SWEEPS }
 {
-    if served {
-        return 0;
-    }
-    thread::yield_now();
-    idle + 1
+    if still { idle + 1 } else { 0 }
 }
 
-/// Pumps the home place and each of the others once. True where one worked off a packet.
-fn rotate<R: Wait>(
-    rt: &R,
-    nucleus: &Nucleus,
-    pass: &mut Pass,
-    share: &mut Share,
-) -> Result<bool, Halted>
+/// Pumps each place of the range until it is idle. True where one worked off a packet.
+fn sweep<R: Wait>(rt: &R, nucleus: &Nucleus, pass: &mut Pass, share: &Share) -> Result<bool, Halted>
     requires pass { IsPassOf nucleus.now pass.old }
-    requires share { share.old.places ≡ places (layout_of nucleus.now) }
+    requires share { share.now.places ≡ places (layout_of nucleus.now) }
     ensures pass { IsPassOf nucleus.now pass.new }
     ensures goes { Goes [] pass.old pass.new }
-    ensures share { share.new.places ≡ share.old.places }
 {
-    let mut served = pump(rt, nucleus, pass, share.home())?;
-    for _ in 0..share.rotation() {
-        let more = pump_next(rt, nucleus, pass, share)?;
+    let mut served = false;
+    for index in share.before()..share.last() {
+        let more = pump_at(rt, nucleus, pass, index + 1)?;
         served = served || more;
     }
     Ok(served)

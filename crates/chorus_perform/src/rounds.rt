@@ -12,11 +12,13 @@ use chorus_nucleus::{CallFault, Nucleus, Pass};
 use chorus_serve::Pump;
 use std::sync::Wait;
 
-/// How often a place is pumped before the next one, where it is not idle.
-const TURNS_AT_A_PLACE: u32 = 32;
-
-/// Pumps all places until nothing is left: those with work several times each, and then a round that finds each idle.
-pub(crate) fn settle<R: Wait>(rt: &R, nucleus: &Nucleus, pass: &mut Pass) -> Result<(), Halted>
+/// Pumps all places until nothing is left: those with work several times each, and then a round that finds each idle. The pass gives
+/// no command. At Ok it has seen each place, and they worked off as many packets as they put; where other threads go on meanwhile,
+/// that holds of what it has seen, and they may have put more.
+///
+/// `Halted` comes where a clock is worn, which `pass.worn()` then tells, or for want of memory. What was worked off till then stays
+/// so, and the pass is still one of the nucleus. A place that another pass has is tried again: it is waited for as long as it is had.
+pub fn settle<R: Wait>(rt: &R, nucleus: &Nucleus, pass: &mut Pass) -> Result<(), Halted>
     requires pass { IsPassOf nucleus.now pass.old }
     ensures pass { IsPassOf nucleus.now pass.new }
     ensures goes { Goes [] pass.old pass.new }
@@ -38,7 +40,7 @@ fn work_off<R: Wait>(rt: &R, nucleus: &Nucleus, pass: &mut Pass) -> Result<(), H
     ensures goes { Goes [] pass.old pass.new }
 {
     for index in 0..nucleus.layout().places() {
-        pump_at(rt, nucleus, pass, index + 1, TURNS_AT_A_PLACE)?;
+        pump_at(rt, nucleus, pass, index + 1)?;
     }
     Ok(())
 }

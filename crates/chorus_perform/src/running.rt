@@ -8,6 +8,7 @@ use crate::commands::perform_commands;
 use crate::gate::Gate;
 use crate::runner::Runner;
 use crate::share::Share;
+use crate::stirs::Stirs;
 use chorus_nucleus::Nucleus;
 use chorus_scene::Scenario;
 use std::sync::Wait;
@@ -27,6 +28,7 @@ pub(crate) fn perform_scripts<R: Threads + Wait + Sync, G: Gate>(
     ensures { HaveRun nucleus.now scenario.now runners.old runners.new }
 {
     let threads = runners.len();
+    let stirs = Stirs::new();
     if threads > 0 {
         thread::for_each_mut(
             rt,
@@ -37,7 +39,7 @@ pub(crate) fn perform_scripts<R: Threads + Wait + Sync, G: Gate>(
                     × IsReadyAt nucleus.now scenario.now index runner.old }
                 ensures { HasRunAt nucleus.entry.now scenario.entry.now
                     index runner.old runner.new }
-            { perform_script(rt, nucleus, scenario, index, gate, runner) },
+            { perform_script(rt, nucleus, scenario, index, &stirs, gate, runner) },
         );
     }
 }
@@ -48,6 +50,7 @@ fn perform_script<R: Wait, G: Gate>(
     nucleus: &Nucleus,
     scenario: &Scenario,
     index: usize,
+    stirs: &Stirs,
     gate: &G,
     runner: &mut Runner,
 )
@@ -57,15 +60,16 @@ fn perform_script<R: Wait, G: Gate>(
 {
     let script = &scenario.scripts()[index];
     let number = index as u32 + 1;
-    let threads = scenario.scripts().len() as u16;
-    let mut share = Share::new(nucleus.layout(), script.actor(), number as u16, threads);
+    let threads = scenario.scripts().len() as u32;
+    let share = Share::new(nucleus.layout(), script.actor(), number, threads);
     runner.done = perform_commands(
         rt,
         nucleus,
         &mut runner.pass,
         script.commands(),
         number,
-        &mut share,
+        &share,
+        stirs,
         gate,
     )
     .is_ok();

@@ -7,7 +7,6 @@ ghost use Rattle.chorus_nucleus.specs.Passes.{IsPassOf};
 ghost use Rattle.chorus_perform.specs.Going.{Goes, GoesAsFar};
 
 use crate::commands::perform_command;
-use crate::share::Share;
 use crate::stopped::Halted;
 use chorus_nucleus::{Nucleus, Pass};
 use chorus_report::setup_command;
@@ -27,10 +26,9 @@ pub(crate) fn set_up<R: Wait>(
     ensures ok { OnOk result (Goes (setup_commands scenario.now) pass.old pass.new) }
     ensures err { OnErr result (GoesAsFar (setup_commands scenario.now) pass.old pass.new) }
 {
-    let mut share = Share::of_all(nucleus.layout());
     for index in 0..scenario.setup().len() {
         let command = setup_command(&scenario.setup()[index]);
-        perform_command(rt, nucleus, pass, &command, &mut share)?;
+        perform_command(rt, nucleus, pass, &command)?;
     }
     Ok(())
 }

@@ -5,49 +5,46 @@ ghost use Rattle.chorus_ui.specs.Layout.{places};
 
 use chorus_ui::{Layout, Ui};
 
-/// The places that a thread pumps: its home place, and each place whose number is its own modulo the number of the threads. So each
-/// place is in the rotation of one thread.
+/// How many threads go on to pump when their commands are done, at most. All places are shared out among them. More would find less
+/// each, since a place waits for the verdict on a message before it tries the next one to the same port.
+const PUMPERS: u32 = 4;
+
+/// The places that a thread pumps: while it performs commands its home place, and when they are done a range of places. The ranges of
+/// the first threads have each place once; those of the other threads are empty.
 #[derive(Clone, Copy, Debug)]
 pub(crate) struct Share {
     places: u16,
     home: u16,
-    first: u16,
-    apart: u16,
-    next: u16,
+    /// The place before the first one of the range.
+    before: u16,
+    /// The last place of the range.
+    last: u16,
     ghost home_is: { (1 ≤ home) × (home ≤ places) },
-    ghost first_is: { (1 ≤ first) × (first ≤ places) },
-    ghost next_is: { (1 ≤ next) × (next ≤ places) },
+    ghost last_is: { last ≤ places },
 }
 
 impl Share {
-    /// The places that the thread with this number, from 1, of so many pumps, for a caller in this actor. A thread to which none
-    /// falls pumps its home place alone.
-    pub(crate) fn new(layout: Layout, actor: Ui, number: u16, threads: u16) -> Share
+    /// The places that the thread with this number, from 1, of so many pumps, for a caller in this actor.
+    pub(crate) fn new(layout: Layout, actor: Ui, number: u32, threads: u32) -> Share
         ensures { result.places ≡ places layout }
     {
+        let places = layout.places();
+        let pumpers = threads.min(PUMPERS);
         let home = home_place(layout, actor);
-        let mine = number >= 1 && number <= layout.places();
-        let first = if mine { number } else { home };
-        let apart = if mine { threads } else { layout.places() };
+        let mine = number >= 1 && number <= pumpers;
         Share {
-            places: layout.places(),
+            places,
             home,
-            first,
-            apart,
-            next: first,
-        }
-    }
-
-    /// All places, for a caller at the first.
-    pub(crate) fn of_all(layout: Layout) -> Share
-        ensures { result.places ≡ places layout }
-    {
-        Share {
-            places: layout.places(),
-            home: 1,
-            first: 1,
-            apart: 1,
-            next: 1,
+            before: if mine {
+                up_to(places, number - 1, pumpers)
+            } else {
+                0
+            },
+            last: if mine {
+                up_to(places, number, pumpers)
+            } else {
+                0
+            },
         }
     }
 
@@ -58,27 +55,29 @@ impl Share {
         self.home
     }
 
-    /// After how many places a rotation has come by all of them.
-    pub(crate) fn rotation(&self) -> u16 {
-        if self.apart == 0 {
-            return 1;
-        }
-        (self.places - self.first) / self.apart + 1
+    /// The place before the first one of the range.
+    pub(crate) fn before(&self) -> u16 {
+        self.before
     }
 
-    /// The place whose turn it is, of those of this thread in rotation.
-    pub(crate) fn next_place(&mut self) -> u16
-        ensures place { (1 ≤ result) × (result ≤ self.old.places) }
-        ensures places { self.new.places ≡ self.old.places }
+    /// The last place of the range.
+    pub(crate) fn last(&self) -> u16
+        ensures { result ≤ self.now.places }
     {
-        let place = self.next;
-        self.next = if self.places - place >= self.apart && self.apart > 0 {
-            place + self.apart
-        } else {
-            self.first
-        };
-        place
+        self.last
     }
+}
+
+/// How many places the first `number` of so many ranges have.
+fn up_to(places: u16, number: u32, ranges: u32) -> u16
+    requires { number ≤ 4 }
+    ensures { result ≤ places }
+{
+    if ranges == 0 {
+        return 0;
+    }
+    let all = places as u32;
+    (all * number / ranges).min(all) as u16
 }
 
 /// The home place of an actor of the layout.

@@ -15,9 +15,10 @@ pub enum Stopped {
     Worn { clock: u64 },
 }
 
-/// A pass stopped: for the clock that it was told as worn, if it was told one, else for want of memory.
+/// A pass stopped: for the clock that it was told as worn, if it was told one (`Pass::worn` then has it), else for want of memory.
+/// The nucleus and the pass are sound still: more calls may be tried, and the pass may be retired, or close the nucleus.
 #[derive(Clone, Copy, Debug)]
-pub(crate) struct Halted;
+pub struct Halted;
 
 /// Why all stopped, when all passes were retired into this one.
 pub(crate) fn reason(pass: &Pass) -> Stopped

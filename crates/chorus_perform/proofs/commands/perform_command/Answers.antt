@@ -9,12 +9,6 @@ pub returns-in_err-try_command-clause-err : goal.returns-in_err-try_command-clau
 returns-in_err-try_command-clause-err g c =
     on-err c.from_residual.result _ (goes-none c.args.pass.now c.loop.pass c.try_command.new.pass c.loop.invariant.1 (c.try_command.ensures.not_done (λ e. absurd (let bad = sym c.in_err-try_command.was ∙ e in cc))))
 
-pub returns-in_err-pump_next-clause-err : goal.returns-in_err-pump_next-clause-err
-returns-in_err-pump_next-clause-err g c =
-    let not : c.try_command.result ≢ Ok true = λ e. absurd (let bad = sym c.in_ok-try_command.was ∙ e in let is = c.if-branch.false in cc) in
-    on-err c.from_residual-in_err-pump_next.result _
-    (goes-none c.args.pass.now c.try_command.new.pass c.pump_next.new.pass (goes-none c.args.pass.now c.loop.pass c.try_command.new.pass c.loop.invariant.1 (c.try_command.ensures.not_done not)) c.in_err-pump_next.ensures.goes)
-
 pub returns-then-branch-clause-ok : goal.returns-then-branch-clause-ok
 returns-then-branch-clause-ok g c =
     let is : c.try_command.result ≡ Ok true = (let was = c.in_ok-try_command.was in let yes = c.if-branch.true in cc) in
@@ -23,8 +17,7 @@ returns-then-branch-clause-ok g c =
 pub loop-preserved : goal.loop-preserved
 loop-preserved g c =
     let not : c.try_command.result ≢ Ok true = λ e. absurd (let bad = sym c.in_ok-try_command.was ∙ e in let is = c.if-branch.false in cc) in (
-      c.pump_next.ensures.pass,
-      goes-none c.args.pass.now c.try_command.new.pass c.pump_next.new.pass (goes-none c.args.pass.now c.loop.pass c.try_command.new.pass c.loop.invariant.1 (c.try_command.ensures.not_done not)) c.pump_next.ensures.goes,
-      c.pump_next.ensures.share ∙ c.loop.invariant.2,
+      c.try_command.ensures.pass,
+      goes-none c.args.pass.now c.loop.pass c.try_command.new.pass c.loop.invariant.1 (c.try_command.ensures.not_done not),
       c.give_way-tries.ensures,
     )

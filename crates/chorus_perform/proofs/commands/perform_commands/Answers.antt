@@ -20,7 +20,6 @@ loop-step-preserved g c = (
   goes-on (take (c.loop-step.step + 1) c.args.commands.now) c.args.pass.now c.perform_command.new.pass c.pump_behind.new.pass
       (step-more c.args.commands.now c.loop-step.step c.index-commands-step.result c.args.pass.now c.loop-step.pass c.perform_command.new.pass c.loop-step-test.true c.index-commands-step.is c.loop-step.invariant.1 c.in_ok-perform_command.ensures.ok)
       c.pump_behind.ensures.goes,
-  c.pump_behind.ensures.share ∙ (c.perform_command.ensures.share ∙ c.loop-step.invariant.2),
 )
 
 pub returns-clause-ok : goal.returns-clause-ok

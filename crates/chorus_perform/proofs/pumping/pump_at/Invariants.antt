@@ -3,5 +3,5 @@ use Rattle.chorus_nucleus.specs.Passes.{IsPassOf}
 use Rattle.chorus_perform.specs.Going.{Goes}
 use Rattle.chorus_perform.proofs.pumping.pump_at.Given as goal
 
-abbrev pub invariant-loop : goal.invariant-loop
-invariant-loop g l = IsPassOf l.nucleus l.pass × Goes [] l.fn.pass l.pass
+abbrev pub invariant-loop-count : goal.invariant-loop-count
+invariant-loop-count g l = IsPassOf l.nucleus l.pass × Goes [] l.fn.pass l.pass
