@@ -1,9 +1,9 @@
 -- What the words do, and each ending's cause.
-use Rattle.std.proofs.Common.{◌≡◌, ◌≢◌, ℕ, [], List, Option, None, Some, IfSome, IsSome, refl, sym, ap, subst, arith}
+use Rattle.std.proofs.Common.{◌≡◌, ◌≢◌, ◌∙◌, ℕ, [], List, Option, None, Some, IfSome, IsSome, refl, sym, ap, subst, arith}
 use Rattle.std.proofs.KnownBytes.{Consumes-nil}
 use Rattle.chorus_ui.specs.declared.layout.Layout.{Layout}
 use Rattle.chorus_show.specs.declared.status.Status.{Status}
-use Rattle.chorus_show.specs.declared.status.Status.TheVariants.{Memory}
+use Rattle.chorus_show.specs.declared.status.Status.TheVariants.{Memory, ReadFault}
 use Rattle.chorus_nucleus.specs.declared.nucleus.Nucleus.{Nucleus}
 use Rattle.chorus_nucleus.specs.Passes.{layout_of}
 use Rattle.chorus_report.specs.declared.finished.Finished.{Finished}
@@ -18,12 +18,17 @@ use Rattle.chorus_replay.specs.Ordered.{Replays}
 use Rattle.chorus_run.specs.Ends.{EndsAsRun}
 use Rattle.chorus_run.specs.Threads.{HasWornOf, IsOfNucleus}
 use Rattle.chorus_audit.specs.Output.{Prints, ReadsBy}
+use Rattle.chorus_drawn_crew.specs.Ends.{EndsAsCrew}
+use Rattle.chorus_drawn_crew.specs.Text.{crew_text}
+use Rattle.chorus_drawn_crew.specs.Takes.{TakesUnless}
+use Rattle.chorus_picture.specs.Output as picture
+use Rattle.chorus_picture.specs.Output.{Draws}
 use Rattle.chorus_lossy.specs.Output as lossy
 use Rattle.chorus_lossy.specs.Output.{CarriesInput}
 use Rattle.chorus_words.specs.declared.words.Words.{Words}
 use Rattle.chorus_words.specs.declared.words.Words.TheVariants as words
 use Rattle.chorus_words.specs.Words.{Ask}
-use Rattle.chorus_program.specs.Running.{Does, EndsAsAudit, EndsAsLossy, EndsUnreadAsLoad, EndsWithCause, Suits, places_each, replay_layout}
+use Rattle.chorus_program.specs.Running.{Does, EndsAsAudit, EndsAsLossy, EndsAsPicture, EndsUnreadAsLoad, EndsWithCause, Suits, places_each, replay_layout}
 use Rattle.chorus_program.specs.Started.{IsLayoutFor}
 
 -- Causes.
@@ -33,6 +38,7 @@ module _ {S K : Type 0} (f : Finished) (left : S → Option (List ℕ)) (faults 
   causes-of l text r w = record {
     read_fault = r.read_fault;
     no_fault = r.no_fault;
+    steady = λ e. r.steady (λ f. absurd (let bad : Memory ≡ ReadFault = sym e ∙ f in cc));
     write_fault = w.write_fault;
     worn = w.worn;
     closed = w.closed.0;
@@ -43,6 +49,7 @@ module _ {S K : Type 0} (f : Finished) (left : S → Option (List ℕ)) (faults 
   causes-of-load text ends same w = record {
     read_fault = λ e. absurd (subst EndsUnread e ends);
     no_fault = λ h. ap faults same;
+    steady = λ e. ap faults same;
     write_fault = w.write_fault;
     worn = w.worn;
     closed = w.closed.0;
@@ -60,6 +67,14 @@ module _ {K : Type 0} (f : Finished) (is : f ≡ record { status = Memory; close
     status = subst EndsUnread (sym (ap (λ (x : Finished). x.status) is)) tt;
     writes = writes-none (summary_of f.closed);
     loads = none-closed Memory f (Loads first commands) is;
+  }
+
+  pub crews-none : (n : Nucleus) (first commands : ℕ) → EndsAsCrew n first commands f held failures old old
+  crews-none n first commands = record {
+    status = subst EndsUnread (sym (ap (λ (x : Finished). x.status) is)) tt;
+    writes = writes-none (crew_text first commands);
+    takes = none-closed Memory f (TakesUnless n first commands) is;
+    worn = none-closed Memory f HasWornOf is;
   }
 
 module _ {S K : Type 0} (f : Finished) (is : f ≡ record { status = Memory; closed = None }) (left : S → Option (List ℕ)) (faults : S → ℕ) (reliable : S → Type 0) (from : S) (held : K → Option (List ℕ)) (failures : K → ℕ) (old : K) where
@@ -95,6 +110,13 @@ module _ {S K : Type 0} (f : Finished) (is : f ≡ record { status = Memory; clo
     prints = subst (λ (x : Finished). Prints l x.status (left from) (held old) (held old)) (sym is) refl;
   }
 
+  draws-none : (l : Layout) → EndsAsPicture l f (left from) (left from) (held old) (held old)
+  draws-none l = record {
+    closed = closes-none;
+    reads = subst (λ (x : Finished). picture.ReadsBy l x.status (left from) (left from)) (sym is) ([], (Consumes-nil (left from), omega arith));
+    draws = subst (λ (x : Finished). Draws l x.status (left from) (held old) (held old)) (sym is) refl;
+  }
+
   carries-none : (first : ℕ) → EndsAsLossy first f (left from) (left from) (held old) (held old)
   carries-none first = record {
     closed = closes-none;
@@ -107,7 +129,9 @@ module _ {S K : Type 0} (f : Finished) (is : f ≡ record { status = Memory; clo
   does-none n (words.RunOn turns) = runs-none n
   does-none n (words.Load first commands) = record { unread = refl; loads = loads-none f is held failures old first commands }
   does-none n (words.Audit sites turns) = audits-none (places_each sites turns)
+  does-none n (words.Picture sites turns) = draws-none (places_each sites turns)
   does-none n (words.Lossy first) = carries-none first
+  does-none n (words.Crew first commands) = record { unread = refl; crews = crews-none f is held failures old n first commands }
 
 -- a replay on sites of a layout is one on those of an equal one
 pub replays-at : {S K : Type 0} (l m : Layout) (f : Finished) (left : S → Option (List ℕ)) (faults : S → ℕ) (reliable : S → Type 0) (from rest : S) (held : K → Option (List ℕ)) (failures : K → ℕ) (old new : K) → l ≡ m → EndsAsReplay l f left faults reliable from rest held failures old new → EndsAsReplay m f left faults reliable from rest held failures old new
@@ -122,6 +146,8 @@ module _ {S K : Type 0} (n : Nucleus) (f : Finished) (left : S → Option (List 
   no-usage (words.RunOn turns) d is = d.reads.usage is
   no-usage (words.Load first commands) d is = subst EndsUnread is d.loads.status
   no-usage (words.Audit sites turns) d is = subst (λ s. ReadsBy s (left from) (left rest)) is d.reads
+  no-usage (words.Picture sites turns) d is = subst (λ s. picture.ReadsBy (places_each sites turns) s (left from) (left rest)) is d.reads
+  no-usage (words.Crew first commands) d is = subst EndsUnread is d.crews.status
   no-usage (words.Lossy first) d is = let h = d.carries in subst (λ s. lossy.ReadsBy s h.0 (left from) (left rest)) is h.1
 
   pub does-same : (asked other : Words) → asked ≡ other → Does n asked f left faults reliable from rest held failures old new → Does n other f left faults reliable from rest held failures old new
@@ -134,4 +160,7 @@ suits spelled n h words.Run ask = tt
 suits spelled n h (words.RunOn turns) ask = sym (ap (λ (l : Layout). l.turns) (h.asked (words.RunOn turns) ask))
 suits spelled n h (words.Load first commands) ask = tt
 suits spelled n h (words.Audit sites turns) ask = tt
+suits spelled n h (words.Picture sites turns) ask = tt
 suits spelled n h (words.Lossy first) ask = tt
+suits spelled n h (words.Crew first commands) ask =
+    let same = ap (λ (l : Layout). l.sites) (h.asked (words.Crew first commands) ask) in omega (arith, same)

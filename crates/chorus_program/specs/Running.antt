@@ -6,6 +6,8 @@ use Rattle.chorus_io.specs.Count.{Rose}
 use Rattle.chorus_ui.specs.declared.layout.Layout.{Layout}
 use Rattle.chorus_ui.specs.declared.limits.TheConstants.{CLOCK_LIMIT}
 use Rattle.chorus_audit.specs.Output.{Prints, ReadsBy}
+use Rattle.chorus_picture.specs.Output as picture
+use Rattle.chorus_picture.specs.Output.{Draws}
 use Rattle.chorus_lossy.specs.Output.{CarriesInput}
 use Rattle.chorus_show.specs.declared.status.Status.{Status}
 use Rattle.chorus_show.specs.declared.status.Status.TheVariants.{Done, Usage, ReadFault, WriteFault, Memory, Worn}
@@ -16,6 +18,8 @@ use Rattle.chorus_report.specs.Headline.{HasClock, merge_of}
 use Rattle.chorus_report.specs.Output.{HandsOut}
 use Rattle.chorus_replay.specs.Ends.{EndsAsLoad, EndsAsReplay}
 use Rattle.chorus_run.specs.Ends.{EndsAsRun}
+use Rattle.chorus_drawn_crew.specs.declared.names.TheConstants.{CREW_PORTS}
+use Rattle.chorus_drawn_crew.specs.Ends.{EndsAsCrew}
 use Rattle.chorus_words.specs.declared.words.Words.{Words}
 use Rattle.chorus_words.specs.declared.words.Words.TheVariants as words
 use Rattle.chorus_words.specs.Words.{Ask}
@@ -32,9 +36,10 @@ one_place_each sites = places_each sites 1
 abbrev pub replay_layout : Layout
 replay_layout = one_place_each PROGRAM_SITES
 
--- `run TURNS` is asked of a nucleus whose sites have so many places
+-- `run TURNS` is asked of a nucleus whose sites have so many places, and a crew of one with a site for each of its ports
 abbrev pub Suits : Nucleus → Words → Type 0
 Suits n (words.RunOn turns) = turns ≡ (layout_of n).turns
+Suits n (words.Crew first commands) = CREW_PORTS ≤ (layout_of n).sites
 Suits n asked = Unit {0}
 
 -- these words ask this of a program with the nucleus
@@ -55,6 +60,12 @@ pub record EndsAsAudit (l : Layout) (finished : Finished) (left rest old new : O
   pub reads : ReadsBy finished.status left rest
   pub prints : Prints l finished.status left old new
 
+-- nothing was closed, and the picture of what was read was written
+pub record EndsAsPicture (l : Layout) (finished : Finished) (left rest old new : Option (List ℕ)) : Type 0 where
+  pub closed : finished.closed ≡ None
+  pub reads : picture.ReadsBy l finished.status left rest
+  pub draws : Draws l finished.status left old new
+
 -- nothing was closed, and what was read was carried
 pub record EndsAsLossy (first : ℕ) (finished : Finished) (left rest old new : Option (List ℕ)) : Type 0 where
   pub closed : finished.closed ≡ None
@@ -64,6 +75,10 @@ pub record EndsAsLossy (first : ℕ) (finished : Finished) (left rest old new : 
 pub record EndsUnreadAsLoad {S K : Type 0} (first commands : ℕ) (finished : Finished) (from rest : S) (held : K → Option (List ℕ)) (failures : K → ℕ) (old new : K) : Type 0 where
   pub unread : rest ≡ from
   pub loads : EndsAsLoad first commands finished held failures old new
+
+pub record EndsUnreadAsCrew {S K : Type 0} (n : Nucleus) (first commands : ℕ) (finished : Finished) (from rest : S) (held : K → Option (List ℕ)) (failures : K → ℕ) (old new : K) : Type 0 where
+  pub unread : rest ≡ from
+  pub crews : EndsAsCrew n first commands finished held failures old new
 
 -- what the words do
 abbrev pub Does : {S K : Type 0} → Nucleus → Words → Finished
@@ -79,18 +94,23 @@ Does n (words.Load first commands) finished left faults reliable from rest held 
     EndsUnreadAsLoad first commands finished from rest held failures old new
 Does n (words.Audit sites turns) finished left faults reliable from rest held failures old new =
     EndsAsAudit (places_each sites turns) finished (left from) (left rest) (held old) (held new)
+Does n (words.Picture sites turns) finished left faults reliable from rest held failures old new =
+    EndsAsPicture (places_each sites turns) finished (left from) (left rest) (held old) (held new)
 Does n (words.Lossy first) finished left faults reliable from rest held failures old new =
     EndsAsLossy first finished (left from) (left rest) (held old) (held new)
+Does n (words.Crew first commands) finished left faults reliable from rest held failures old new =
+    EndsUnreadAsCrew n first commands finished from rest held failures old new
 
 -- what was closed has an entry of this clock, which is at least 2^62
 abbrev pub IsWornAt : ℕ → Finished → Type 0
 IsWornAt clock finished = (CLOCK_LIMIT ≤ clock) × IfSome finished.closed (λ closed. HasClock clock (merge_of closed))
 
 -- Whatever the words are: a fault has its count, a clock that was worn its entry; without a fault of a source that has none its count
--- stays; what was not to be written was not; and only what was written, or was to be, or stopped for a clock, has closed something.
+-- stays, and want of memory hides no fault; what was not to be written was not; and only what was written, or was to be, or stopped for a clock, has closed something.
 pub record EndsWithCause {S K : Type 0} (finished : Finished) (faults : S → ℕ) (reliable : S → Type 0) (from rest : S) (failures : K → ℕ) (old new : K) : Type 0 where
   pub read_fault : finished.status ≡ ReadFault → Rose (faults from) (faults rest)
   pub no_fault : reliable from → faults rest ≡ faults from
+  pub steady : finished.status ≡ Memory → faults rest ≡ faults from
   pub write_fault : finished.status ≡ WriteFault → Rose (failures old) (failures new)
   pub worn : (clock : ℕ) → finished.status ≡ Worn clock → IsWornAt clock finished
   pub closed : IsSome finished.closed → HandsOut finished.status

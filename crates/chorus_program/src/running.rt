@@ -7,7 +7,10 @@ ghost use Rattle.chorus_nucleus.specs.Passes.{IsPassOf};
 ghost use Rattle.chorus_perform.specs.Scripts.{IsOpening};
 ghost use Rattle.chorus_program.specs.Running.{AskNothingOf, AskOf, Does, EndsWithCause, IsTurnedAway, Suits};
 
-use crate::starting::{closed_nothing, start_audit, start_load, start_lossy, start_replay};
+use crate::starting::{
+    closed_nothing, start_audit, start_load, start_lossy, start_picture, start_replay,
+};
+use chorus_drawn_crew::{CREW_PORTS, handle_drawn};
 use chorus_io::{Sink, Source};
 use chorus_nucleus::{Nucleus, Pass};
 use chorus_report::Finished;
@@ -23,8 +26,11 @@ pub const PROGRAM_SITES: u16 = 16;
 
 /// Does what the words say: `replay` replays the scenario that the source gives, and `load FIRST COMMANDS` performs the
 /// commands that are drawn, both on sites that are started for it; `run` performs the scenario on the running threads of the nucleus,
-/// and so does `run TURNS` where its sites have so many places; `audit SITES TURNS` audits the printed journal that the source gives;
-/// `lossy FIRST` carries what the source gives over a line that loses. Any other words are Usage, and then nothing is read or written.
+/// and so does `run TURNS` where its sites have so many places; `audit SITES TURNS` audits the printed journal that the source gives,
+/// and `picture SITES TURNS` draws it;
+/// `lossy FIRST` carries what the source gives over a line that loses; `crew FIRST COMMANDS` sends what the draws give to ports of the
+/// nucleus, where it has at least 8 sites, and prints what a crew handled there. Any other words are Usage, and then nothing is read or
+/// written.
 ///
 /// The nucleus was just started, and the pass is its opening one. It is closed in any case. Want of memory is the one ending without a
 /// cause.
@@ -87,6 +93,13 @@ fn if_it_suits(nucleus: &Nucleus, asked: Words) -> Option<Words>
                 None
             }
         }
+        Words::Crew { .. } => {
+            if CREW_PORTS <= nucleus.layout().sites() {
+                Some(asked)
+            } else {
+                None
+            }
+        }
         _ => Some(asked),
     }
 }
@@ -113,6 +126,7 @@ fn does<R: Threads + Wait + Sync, S: Source, K: Sink, G: Gate>(
     gate: &G,
 ) -> Finished
     requires within { IsWithin asked }
+    requires suits { Suits nucleus asked }
     requires pass { IsPassOf nucleus pass }
     requires opening { IsOpening pass }
     ensures does { Does nucleus asked result S.left S.faults S.reliable source.old source.new
@@ -134,9 +148,16 @@ fn does<R: Threads + Wait + Sync, S: Source, K: Sink, G: Gate>(
             close_unused(rt, nucleus, pass);
             start_audit(alloc, sites, turns, source, sink)
         }
+        Words::Picture { sites, turns } => {
+            close_unused(rt, nucleus, pass);
+            start_picture(alloc, sites, turns, source, sink)
+        }
         Words::Lossy { first } => {
             close_unused(rt, nucleus, pass);
             start_lossy(alloc, first, source, sink)
+        }
+        Words::Crew { first, commands } => {
+            handle_drawn(alloc, rt, first, commands, sink, nucleus, pass)
         }
     }
 }

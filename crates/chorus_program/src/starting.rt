@@ -6,13 +6,14 @@ ghost use Rattle.chorus_net.specs.Sites.{net};
 ghost use Rattle.chorus_replay.specs.Ends.{EndsAsLoad, EndsAsReplay};
 ghost use Rattle.chorus_replay.specs.Ordered.{AreJustStarted};
 ghost use Rattle.chorus_words.specs.declared.words.TheConstants.{LOAD_LIMIT};
-ghost use Rattle.chorus_program.specs.Running.{EndsAsAudit, EndsAsLossy, EndsWithCause, one_place_each, places_each, replay_layout};
+ghost use Rattle.chorus_program.specs.Running.{EndsAsAudit, EndsAsLossy, EndsAsPicture, EndsWithCause, one_place_each, places_each, replay_layout};
 
 use crate::running::PROGRAM_SITES;
 use chorus_audit::audit;
 use chorus_io::{Sink, Source};
 use chorus_lossy::{WINDOW, lossy};
 use chorus_net::Sites;
+use chorus_picture::picture;
 use chorus_report::Finished;
 use chorus_run::{LOAD_SITES, load, replay};
 use chorus_show::Status;
@@ -22,6 +23,9 @@ use std::alloc::{AllocError, Global};
 
 // A load performs as many commands as its words may ask.
 const _: () = prove!(chorus_words::LOAD_LIMIT == chorus_run::LOAD_LIMIT);
+
+// And a crew handles what so many give.
+const _: () = prove!(chorus_words::LOAD_LIMIT == chorus_drawn_crew::DRAWS_LIMIT);
 
 /// Replays on sites that are started for it.
 pub(crate) fn start_replay<S: Source, K: Sink>(
@@ -70,6 +74,24 @@ pub(crate) fn start_audit<S: Source, K: Sink>(
 {
     let layout = Layout::new(sites, turns).unwrap();
     closed_nothing(audit(alloc, layout, source, sink))
+}
+
+/// Draws what the source gives, for so many sites with so many places each.
+pub(crate) fn start_picture<S: Source, K: Sink>(
+    alloc: Global,
+    sites: u16,
+    turns: u16,
+    source: &mut S,
+    sink: &mut K,
+) -> Finished
+    requires { IsLayout (places_each sites turns) }
+    ensures draws { EndsAsPicture (places_each sites turns) result
+        (S.left source.old) (S.left source.new) (K.held sink.old) (K.held sink.new) }
+    ensures causes { EndsWithCause result S.faults S.reliable source.old source.new
+        K.faults sink.old sink.new }
+{
+    let layout = Layout::new(sites, turns).unwrap();
+    closed_nothing(picture(alloc, layout, source, sink))
 }
 
 /// Carries what the source gives over two ends that are made for it.

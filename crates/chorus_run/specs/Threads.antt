@@ -34,14 +34,18 @@ HasOwnIn closed seat mine =
     (p : ℕ) (journal : List Entry) → slice_get (closed_journals closed) p ≡ Some journal →
     HasOwn (p + 1) journal seat mine
 
--- It is this nucleus that was closed, by one of its passes. The entries of the seat of that pass, and of each pass that
--- was retired into it, are in each journal just those that the pass made at that place. What the pass itself was asked,
--- the setup, stands before all that the others made.
-pub record IsOfNucleus (n : Nucleus) (closed : Closed) : Type 0 where
-  pub last : Pass
+-- It is this nucleus that was closed, by this pass. The entries of the seat of the pass, and of each pass that was
+-- retired into it, are in each journal just those that the pass made at that place.
+pub record IsClosedBy (n : Nucleus) (last : Pass) (closed : Closed) : Type 0 where
   pub closes : IsClosed n last closed
   pub own : HasOwnIn closed (known last).seat (known last).mine
   pub noted : All (λ (m : Note PlaceNote). HasOwnIn closed m.seat m.mine) (known last).notes
+
+-- It is this nucleus that was closed, by one of its passes. What that pass itself was asked, the setup, stands before
+-- all that the others made.
+pub record IsOfNucleus (n : Nucleus) (closed : Closed) : Type 0 where
+  pub last : Pass
+  pub by_last : IsClosedBy n last closed
   pub first : IsSetUpFirst (known last)
 
 -- where a clock was worn it is that of the pass that closed the nucleus

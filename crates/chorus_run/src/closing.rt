@@ -20,7 +20,7 @@ use std::alloc::{AllocError, Global};
 use std::sync::Wait;
 
 /// Closes the nucleus, whose other passes have all ended.
-pub(crate) fn close<R: Wait>(rt: &R, nucleus: Nucleus, pass: Pass) -> Result<Closed, AllocError>
+pub fn close<R: Wait>(rt: &R, nucleus: Nucleus, pass: Pass) -> Result<Closed, AllocError>
     requires pass { IsPassOf nucleus pass }
     requires keeper { (known pass).keeper ≡ true }
     requires ended { (known pass).made ≡ length (known pass).notes + 1 }
@@ -42,7 +42,7 @@ pub fn close_unused<R: Wait>(rt: &R, nucleus: Nucleus, pass: Pass)
 }
 
 /// What was closed, where all stopped for a clock that an entry of it has.
-pub(crate) fn stop(alloc: Global, closed: Closed, why: Stopped) -> Result<Played, AllocError>
+pub fn stop(alloc: Global, closed: Closed, why: Stopped) -> Result<Played, AllocError>
     ensures { IfOk result (λ played. StopsAt why closed played) }
 {
     match why {

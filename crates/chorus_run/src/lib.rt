@@ -17,5 +17,5 @@ mod running;
 pub use chorus_perform::{Gate, OpenGate, Stopped, perform};
 pub use chorus_replay::{LOAD_LIMIT, LOAD_SITES, load, replay};
 pub use chorus_report::Finished;
-pub use closing::close_unused;
+pub use closing::{close, close_unused, stop};
 pub use running::run;

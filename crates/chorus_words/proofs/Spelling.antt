@@ -7,7 +7,7 @@ use Rattle.std.specs.Option.{IfSome, IsNone, is_some, unwrap_or}
 use Rattle.std.proofs.lemmas.Bool.Decides.{nat_tests}
 use Rattle.chorus_ui.specs.Layout.{IsLayout, Shape, is_layout, new_layout}
 use Rattle.chorus_words.specs.declared.words.Words.{Words}
-use Rattle.chorus_words.specs.declared.words.Words.TheVariants.{Replay, Run, RunOn, Load, Audit, Lossy}
+use Rattle.chorus_words.specs.declared.words.Words.TheVariants.{Replay, Run, RunOn, Load, Audit, Picture, Lossy, Crew}
 use Rattle.chorus_words.specs.Words.{Ask, IsTurns, IsWithin, spelled}
 use Rattle.chorus_words.specs.Cutting.{AskByThree, is_value}
 
@@ -26,7 +26,10 @@ spelled_values (RunOn turns) w = rw (decimal_value turns (omega (arith, w.turns_
 spelled_values (Load first commands) w = rw (decimal_value first w.0, decimal_value commands (omega (arith, w.1))) refl
 spelled_values (Audit sites turns) w =
     rw (decimal_value sites (omega (arith, w.sites_to_max)), decimal_value turns (omega (arith, w.turns_to_four))) refl
+spelled_values (Picture sites turns) w =
+    rw (decimal_value sites (omega (arith, w.sites_to_max)), decimal_value turns (omega (arith, w.turns_to_four))) refl
 spelled_values (Lossy first) w = rw (decimal_value first w) refl
+spelled_values (Crew first commands) w = rw (decimal_value first w.0, decimal_value commands (omega (arith, w.1))) refl
 
 no_word : {X : Type 0} (x : X) → None ≡ Some x → ⊥
 no_word x e = true≢false (sym (ap is_some e))
@@ -56,7 +59,9 @@ few_words Run = omega arith
 few_words (RunOn turns) = omega arith
 few_words (Load first commands) = omega arith
 few_words (Audit sites turns) = omega arith
+few_words (Picture sites turns) = omega arith
 few_words (Lossy first) = omega arith
+few_words (Crew first commands) = omega arith
 
 -- at most three words, of which the first three ask this, ask it
 pub asks : (ws : List (List ℕ)) (what first second : Option (List ℕ)) (asked : Words) → length ws ≤ 3
@@ -75,13 +80,16 @@ asks_if (Some asked) ws what first second l e f g by = asks ws what first second
 same_number : (m n : ℕ) → m < 2 ^ 64 → n < 2 ^ 64 → Some (decimal m) ≡ Some (decimal n) → m ≡ n
 same_number m n h k e = decimal_injective m n h k (the_word (decimal m) (decimal n) e)
 
-other_word : Some (codes "load") ≡ Some (codes "audit") → ⊥
-other_word e = true≢false (ap (λ (w : List ℕ). length w == 4) (the_word (codes "load") (codes "audit") e))
+other_word : (word : List ℕ) → (length word == 4) ≡ true → Some word ≡ Some (codes "audit") → ⊥
+other_word word four e = true≢false (sym four ∙ ap (λ (w : List ℕ). length w == 4) (the_word word (codes "audit") e))
 
--- a row is known by how many words it has, and by how long the first of them is
+no_picture : Some (codes "audit") ≡ Some (codes "picture") → ⊥
+no_picture e = true≢false (ap (λ (w : List ℕ). length w == 5) (the_word (codes "audit") (codes "picture") e))
+
+-- a row is known by how many words it has, by how long the first of them is, and by how that begins
 abbrev size : List (List ℕ) → ℕ
 size [] = 0
-size (w ∷ ws) = length w * 4 + length ws
+size (w ∷ ws) = length w * 1024 + get_or w 0 0 * 4 + length ws
 
 one_spelling : (a b : Words) → IsWithin a → IsWithin b → spelled a ≡ spelled b → a ≡ b
 one_spelling Replay Replay w v e = refl
@@ -94,7 +102,13 @@ one_spelling (Load first commands) (Load f c) w v e = ap₂ Load
 one_spelling (Audit sites turns) (Audit s t) w v e = ap₂ Audit
     (same_number sites s (omega (arith, w.sites_to_max)) (omega (arith, v.sites_to_max)) (ap (λ l. slice_get l 1) e))
     (same_number turns t (omega (arith, w.turns_to_four)) (omega (arith, v.turns_to_four)) (ap (λ l. slice_get l 2) e))
+one_spelling (Picture sites turns) (Picture s t) w v e = ap₂ Picture
+    (same_number sites s (omega (arith, w.sites_to_max)) (omega (arith, v.sites_to_max)) (ap (λ l. slice_get l 1) e))
+    (same_number turns t (omega (arith, w.turns_to_four)) (omega (arith, v.turns_to_four)) (ap (λ l. slice_get l 2) e))
 one_spelling (Lossy first) (Lossy f) w v e = ap Lossy (same_number first f w v (ap (λ l. slice_get l 1) e))
+one_spelling (Crew first commands) (Crew f c) w v e = ap₂ Crew
+    (same_number first f w.0 v.0 (ap (λ l. slice_get l 1) e))
+    (same_number commands c (omega (arith, w.1)) (omega (arith, v.1)) (ap (λ l. slice_get l 2) e))
 one_spelling a b w v e = absurd (let same : size (spelled a) ≡ size (spelled b) = ap size e in omega (arith, same))
 
 pub ask_once : (ws : List (List ℕ)) (a b : Words) → Ask ws a → Ask ws b → a ≡ b
@@ -147,8 +161,10 @@ no_audit_of : (sites turns : List ℕ) → ((l : Shape) → IsLayout l → sites
 no_audit_of sites turns none Replay by = no_word sites (sym by.1)
 no_audit_of sites turns none Run by = no_word sites (sym by.1)
 no_audit_of sites turns none (RunOn t) by = no_word turns (sym by.2)
-no_audit_of sites turns none (Load first commands) by = other_word (sym by.0)
+no_audit_of sites turns none (Load first commands) by = other_word (codes "load") refl (sym by.0)
+no_audit_of sites turns none (Picture s t) by = no_picture by.0
 no_audit_of sites turns none (Lossy first) by = no_word turns (sym by.2)
+no_audit_of sites turns none (Crew first commands) by = other_word (codes "crew") refl (sym by.0)
 no_audit_of sites turns none (Audit s t) by = none (record { sites = s; turns = t }) by.3 (the_word sites (decimal s) by.1) (the_word turns (decimal t) by.2)
 
 pub no_audit : (sites turns : List ℕ) (what first second : Option (List ℕ)) → what ≡ Some (codes "audit") → first ≡ Some sites → second ≡ Some turns
@@ -156,6 +172,20 @@ pub no_audit : (sites turns : List ℕ) (what first second : Option (List ℕ)) 
     → (asked : Words) → AskByThree what first second asked → ⊥
 no_audit sites turns what first second e f g none asked by =
     no_audit_of sites turns none asked (sym e ∙ by.0, sym f ∙ by.1, sym g ∙ by.2, by.3)
+
+-- Of a picture too.
+
+no_picture_of : (sites turns : List ℕ) → ((l : Shape) → IsLayout l → sites ≡ decimal l.sites → turns ≡ decimal l.turns → ⊥)
+    → (asked : Words) → AskByThree (Some (codes "picture")) (Some sites) (Some turns) asked → ⊥
+no_picture_of sites turns none (Picture s t) by = none (record { sites = s; turns = t }) by.3 (the_word sites (decimal s) by.1) (the_word turns (decimal t) by.2)
+no_picture_of sites turns none asked by =
+    absurd (let word : codes "picture" ≡ unwrap_or (slice_get (spelled asked) 0) [] = the_word (codes "picture") (unwrap_or (slice_get (spelled asked) 0) []) by.0 in let long = ap (λ (w : List ℕ). length w) word in omega (arith, long))
+
+pub no_drawing : (sites turns : List ℕ) (what first second : Option (List ℕ)) → what ≡ Some (codes "picture") → first ≡ Some sites → second ≡ Some turns
+    → ((l : Shape) → IsLayout l → sites ≡ decimal l.sites → turns ≡ decimal l.turns → ⊥)
+    → (asked : Words) → AskByThree what first second asked → ⊥
+no_drawing sites turns what first second e f g none asked by =
+    no_picture_of sites turns none asked (sym e ∙ by.0, sym f ∙ by.1, sym g ∙ by.2, by.3)
 
 -- A word that is no number of places.
 

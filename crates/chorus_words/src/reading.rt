@@ -69,8 +69,19 @@ fn asked_by(what: Option<&str>, first: Option<&str>, second: Option<&str>) -> Op
                 turns: layout.turns(),
             })
         }
+        ("picture", Some(sites), Some(turns)) => {
+            let layout = layout_of(sites, turns)?;
+            Some(Words::Picture {
+                sites: layout.sites(),
+                turns: layout.turns(),
+            })
+        }
         ("lossy", Some(first), None) => Some(Words::Lossy {
             first: parse_decimal(first.as_bytes())?,
+        }),
+        ("crew", Some(first), Some(commands)) => Some(Words::Crew {
+            first: parse_decimal(first.as_bytes())?,
+            commands: commands_of(commands)?,
         }),
         _ => None,
     }

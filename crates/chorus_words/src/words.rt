@@ -1,6 +1,6 @@
 //! What the program's words ask.
 
-/// The most commands that the words of a load ask.
+/// The most commands that the words of a load, or of a crew, ask.
 pub const LOAD_LIMIT: u32 = 65_536;
 
 /// What the program's words ask.
@@ -16,6 +16,11 @@ pub enum Words {
     Load { first: u64, commands: u32 },
     /// `audit SITES TURNS`: a printed journal is audited, for so many sites with so many places each: a layout that exists.
     Audit { sites: u16, turns: u16 },
+    /// `picture SITES TURNS`: a printed journal is drawn, for a layout as of an audit.
+    Picture { sites: u16, turns: u16 },
     /// `lossy FIRST`: the input is carried over a line whose losses are drawn from the first state on.
     Lossy { first: u64 },
+    /// `crew FIRST COMMANDS`: of so many commands, at most [`LOAD_LIMIT`], that are drawn from the first state on, those that send to a
+    /// port are performed, and a crew handles what was sent.
+    Crew { first: u64, commands: u32 },
 }

@@ -4,6 +4,8 @@
 #[cfg(test)]
 mod audits;
 #[cfg(test)]
+mod crews;
+#[cfg(test)]
 mod endings;
 #[cfg(test)]
 mod faults;

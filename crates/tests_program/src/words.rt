@@ -91,6 +91,18 @@ fn the_list_and_nothing_else(rt: HostRuntime) {
     assert_reads(&rt, alloc, &["replay"], Some(Words::Replay));
     let lossy = Words::Lossy { first: u64::MAX };
     assert_reads(&rt, alloc, &["lossy", most], Some(lossy));
+    let crew = Words::Crew {
+        first: u64::MAX,
+        commands: 65_536,
+    };
+    assert_reads(&rt, alloc, &["crew", most, "65536"], Some(crew));
+    let picture = Words::Picture {
+        sites: 16,
+        turns: 4,
+    };
+    assert_reads(&rt, alloc, &["picture", "16", "4"], Some(picture));
+    assert_reads(&rt, alloc, &["picture", "17", "1"], None);
+    assert_reads(&rt, alloc, &["picture", "16", "3"], None);
     assert_no_numbers(&rt, alloc);
     assert_reads(&rt, alloc, &["load", "7", "65537"], None);
     assert_runs(&rt, alloc);
@@ -109,7 +121,7 @@ fn assert_ends(
 }
 
 fn assert_no_words(rt: &(impl Abort + Threads + Wait + Sync), alloc: Global) {
-    let refused: [&[&str]; 11] = [
+    let refused: [&[&str]; 12] = [
         &[],
         &["load", "7"],
         &["load", "07", "1"],
@@ -117,6 +129,7 @@ fn assert_no_words(rt: &(impl Abort + Threads + Wait + Sync), alloc: Global) {
         &["replay", "x"],
         &["lossy"],
         &["lossy", "7", "1"],
+        &["picture", "16"],
         &["--help"],
         &["run", "3"],
         &["run", "1", "1"],

@@ -1,0 +1,5 @@
+pub mod Tallies
+pub mod Sent
+pub mod Begins
+pub mod Pairs
+pub mod Endings

@@ -1,0 +1,41 @@
+use Rattle.std.proofs.Common.{◌≡◌, ◌+◌, ◌-◌, ◌∙◌, false, true, ap, refl, sym, arith}
+use Rattle.chorus_entry.specs.Command.{is_post, meets_conditions}
+use Rattle.chorus_nucleus.specs.Passes.{known}
+use Rattle.chorus_drawn_crew.specs.declared.names.TheConstants.{CREW_PORTS}
+use Rattle.chorus_drawn_crew.specs.Filling.{makes}
+use Rattle.chorus_drawn_crew.proofs.Sent.{leads-begin, leads-end, leads-make, same-self, same-then}
+use Rattle.chorus_drawn_crew.proofs.filling.make_ports.Goals as goal
+
+pub loop-index-init : goal.loop-index-init
+loop-index-init g c = record {
+  pass = c.requires.pass;
+  same = same-self (known c.args.pass.now);
+  leads = leads-begin (makes CREW_PORTS 1) (makes CREW_PORTS 1) c.args.pass.now refl;
+}
+
+pub perform-requires-clause-conditions : goal.perform-requires-clause-conditions
+perform-requires-clause-conditions g c = ap meets_conditions c.make_port.ensures
+
+pub perform-requires-clause-posts : goal.perform-requires-clause-posts
+perform-requires-clause-posts g c is = absurd (let bad : false ≡ true = sym (ap is_post c.make_port.ensures) ∙ is in cc)
+
+pub returns-in_err-perform-clause-same : goal.returns-in_err-perform-clause-same
+returns-in_err-perform-clause-same g c =
+    same-then (known c.args.pass.now) (known c.loop-index.pass) (known c.perform.new.pass) c.loop-index.invariant.same c.in_err-perform.ensures.err.same
+
+pub loop-index-preserved : goal.loop-index-preserved
+loop-index-preserved g c = record {
+  pass = c.perform.ensures.pass;
+  same = same-then (known c.args.pass.now) (known c.loop-index.pass) (known c.perform.new.pass) c.loop-index.invariant.same c.in_ok-perform.ensures.ok.same;
+  leads =
+      leads-make (CREW_PORTS - c.loop-index.index) (CREW_PORTS - (c.loop-index.index + 1)) (c.loop-index.index + 1) (makes CREW_PORTS 1) c.args.pass.now c.loop-index.pass c.perform.new.pass c.make_port.result
+      (omega (arith, c.loop-index-test.true)) c.make_port.ensures c.loop-index.invariant.leads c.in_ok-perform.ensures.ok;
+}
+
+pub returns-clause-same : goal.returns-clause-same
+returns-clause-same g c = c.loop-index.invariant.same
+
+pub returns-clause-ok : goal.returns-clause-ok
+returns-clause-ok g c =
+    leads-end (makes (CREW_PORTS - c.loop-index.index) (c.loop-index.index + 1)) (makes CREW_PORTS 1) c.args.pass.now c.loop-index.pass
+    (ap (λ n. makes n (c.loop-index.index + 1)) (let none : CREW_PORTS - c.loop-index.index ≡ 0 = omega (arith, c.loop-index-test.false) in none)) c.loop-index.invariant.leads

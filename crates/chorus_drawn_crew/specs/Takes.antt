@@ -1,0 +1,47 @@
+-- What the crew did on a nucleus, and what of it the journals have.
+-- n is the nucleus, p and last are its passes.
+use Rattle.std.specs.Prelude.{ℕ, ◌≡◌, ◌+◌, ◌<◌, List, length, slice_index_or}
+use Rattle.chorus_net.specs.declared.closed.Closed.{Closed}
+use Rattle.chorus_nucleus.specs.declared.nucleus.Nucleus.{Nucleus}
+use Rattle.chorus_nucleus.specs.declared.pass.Pass.{Pass}
+use Rattle.chorus_nucleus.specs.Passes.{known, layout_of}
+use Rattle.chorus_nucleus.specs.Calls.{gave}
+use Rattle.chorus_crew.specs.declared.handler.Handled.{Handled}
+use Rattle.chorus_crew.specs.Crews.{AreHandled}
+use Rattle.chorus_run.specs.Threads.{IsClosedBy}
+use Rattle.chorus_show.specs.declared.status.Status.{Status}
+use Rattle.chorus_show.specs.declared.status.Status.TheVariants.{Worn}
+use Rattle.chorus_drawn_crew.specs.declared.counting.Tally.{Tally}
+use Rattle.chorus_drawn_crew.specs.Names.{crew_pairs}
+use Rattle.chorus_drawn_crew.specs.Value.{message_value}
+use Rattle.chorus_drawn_crew.specs.Sends.{tally}
+use Rattle.chorus_drawn_crew.specs.Filling.{crew_commands}
+
+-- Seat 0 made the ports and sent. Into it were retired the passes of the crew, those of seats 1 to 8 for the ports in their order: each
+-- took what waited in its port, and the numbers are those of its takes.
+pub record HasCrewed (n : Nucleus) (first commands : ℕ) (handled : List Handled) (p : Pass) : Type 0 where
+  pub seat : (known p).seat ≡ 0
+  pub performed : gave (known p) ≡ crew_commands first commands
+  pub handled_is : AreHandled message_value (layout_of n) (known p) 1 crew_pairs (known p).notes handled
+
+pub record IsTallied (t : Tally) (h : Handled) : Type 0 where
+  pub count : h.count ≡ t.count
+  pub total : h.total ≡ t.total
+
+-- what was handled at each port is what was sent to it and found room
+abbrev pub AreTallied : ℕ → ℕ → List Handled → Type 0
+AreTallied first commands handled =
+    (i : ℕ) (d : Handled) → i < length handled → IsTallied (tally first commands (i + 1)) (slice_index_or handled i d)
+
+-- the nucleus was closed by the pass into which the crew's were retired, and the crew counted what was sent
+pub record HasTaken (n : Nucleus) (first commands : ℕ) (closed : Closed) : Type 0 where
+  pub last : Pass
+  pub closes : IsClosedBy n last closed
+  pub handled : List Handled
+  pub crewed : HasCrewed n first commands handled last
+  pub tallied : AreTallied first commands handled
+
+-- where a clock was worn it was closed so far
+abbrev pub TakesUnless : Nucleus → ℕ → ℕ → Status → Closed → Type 0
+TakesUnless n first commands (Worn clock) closed = (last : Pass) × IsClosedBy n last closed
+TakesUnless n first commands status closed = HasTaken n first commands closed

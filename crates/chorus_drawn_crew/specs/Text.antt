@@ -1,0 +1,22 @@
+-- The text of what was counted.
+use Rattle.std.specs.Prelude.{ℕ, zero, suc, ◌+◌, List, [], ◌∷◌, ◌++◌, codes, decimal}
+use Rattle.chorus_ui.specs.Text.{name_text}
+use Rattle.chorus_show.specs.Phrases.{phrase}
+use Rattle.chorus_drawn_crew.specs.declared.names.TheConstants.{CREW_PORTS}
+use Rattle.chorus_drawn_crew.specs.declared.counting.Tally.{Tally}
+use Rattle.chorus_drawn_crew.specs.Names.{crew_port}
+use Rattle.chorus_drawn_crew.specs.Sends.{tally}
+
+-- the line `port s.p.1 COUNT TOTAL`
+abbrev pub port_line : ℕ → Tally → List ℕ
+port_line site t =
+    phrase (codes "port") (name_text (crew_port site) ∷ decimal t.count ∷ decimal t.total ∷ []) ++ 10 ∷ []
+
+-- those of the first so many ports
+abbrev pub port_lines : ℕ → ℕ → ℕ → List ℕ
+port_lines first commands zero = []
+port_lines first commands (suc n) = port_lines first commands n ++ port_line (n + 1) (tally first commands (n + 1))
+
+-- all of them, and the line `end`
+unfoldable pub crew_text : ℕ → ℕ → List ℕ
+crew_text first commands = port_lines first commands CREW_PORTS ++ (codes "end" ++ 10 ∷ [])

@@ -1,0 +1,113 @@
+//! A crew on messages that are drawn, from the first send to the text.
+ghost use Rattle.std.specs.Prelude.{◌≡◌, ◌≤◌, ◌⊎◌, None, Some, length};
+ghost use Rattle.chorus_io.specs.Count.{Rose};
+ghost use Rattle.chorus_report.specs.Output.{HandsOut, Writes};
+ghost use Rattle.chorus_nucleus.specs.Passes.{layout_of, IsPassOf};
+ghost use Rattle.chorus_perform.specs.Scripts.{IsOpening};
+ghost use Rattle.chorus_drawn_crew.specs.declared.counting.TheConstants.{DRAWS_LIMIT};
+ghost use Rattle.chorus_drawn_crew.specs.declared.names.TheConstants.{CREW_PORTS};
+ghost use Rattle.chorus_nucleus.specs.declared.nucleus.Nucleus.{Nucleus};
+ghost use Rattle.chorus_nucleus.specs.declared.pass.Pass.{Pass};
+ghost use Rattle.chorus_run.specs.Threads.{IsClosedBy};
+ghost use Rattle.chorus_drawn_crew.specs.Takes.{HasCrewed};
+ghost use Rattle.chorus_drawn_crew.specs.Ends.{EndsAsCrew, EndsWorn};
+
+use crate::handling::fill_and_handle;
+use crate::printing::text_of;
+use chorus_crew::Handled;
+use chorus_io::{Sink, write_all};
+use chorus_net::Closed;
+use chorus_nucleus::{Nucleus, Pass};
+use chorus_perform::Stopped;
+use chorus_report::{Finished, gave_up};
+use chorus_run::{close, stop};
+use chorus_show::Status;
+use std::alloc::Global;
+use std::sync::Wait;
+use std::thread::Threads;
+
+/// Makes the eight ports, performs those of so many drawn commands that send to one of them, lets a crew handle all that waits, closes
+/// the nucleus, and writes for each port how many messages the crew handled and the sum of their values.
+///
+/// The nucleus was just started, and the pass is its opening one. Where a clock is worn before all is done, nothing is written. Want of
+/// memory is the one ending without a cause.
+pub fn handle_drawn<R: Threads + Wait + Sync, K: Sink>(
+    alloc: Global,
+    rt: &R,
+    first: u64,
+    commands: u32,
+    sink: &mut K,
+    nucleus: Nucleus,
+    mut pass: Pass,
+) -> Finished
+    requires pass { IsPassOf nucleus pass }
+    requires opening { IsOpening pass }
+    requires sites { CREW_PORTS ≤ (layout_of nucleus).sites }
+    requires commands { commands ≤ DRAWS_LIMIT }
+    ensures { EndsAsCrew nucleus first commands result K.held K.faults sink.old sink.new }
+{
+    let handled = fill_and_handle(alloc, rt, &nucleus, &mut pass, first, commands);
+    let Ok(closed) = close(rt, nucleus, pass) else {
+        return gave_up(Status::Memory);
+    };
+    match handled {
+        Ok(handled) => print(alloc, first, commands, &handled, closed, sink),
+        Err(why) => stopped(alloc, closed, why),
+    }
+}
+
+/// Writes what the crew counted.
+fn print<K: Sink>(
+    alloc: Global,
+    first: u64,
+    commands: u32,
+    handled: &[Handled],
+    closed: Closed,
+    sink: &mut K,
+) -> Finished
+    requires ports { length handled.now ≡ CREW_PORTS }
+    requires commands { commands ≤ DRAWS_LIMIT }
+    ensures { (n : Nucleus) (last : Pass) → IsClosedBy n last closed →
+        HasCrewed n first commands handled.now last →
+        EndsAsCrew n first commands result K.held K.faults sink.old sink.new }
+{
+    let Ok(text) = text_of(alloc, first, commands, handled) else {
+        return gave_up(Status::Memory);
+    };
+    write(&text, closed, sink)
+}
+
+/// Writes the text of what was closed.
+fn write<K: Sink>(text: &[u8], closed: Closed, sink: &mut K) -> Finished
+    ensures status { (result.status ≡ Status.Done) ⊎ (result.status ≡ Status.WriteFault) }
+    ensures write_fault { result.status ≡ Status.WriteFault →
+        Rose (K.faults sink.old) (K.faults sink.new) }
+    ensures closed { result.closed ≡ Some closed }
+    ensures hands_out { HandsOut result.status }
+    ensures prints { Writes result.status (K.held sink.old) (K.held sink.new) text.now }
+{
+    let status = match write_all(sink, text) {
+        Ok(()) => Status::Done,
+        Err(_) => Status::WriteFault,
+    };
+    Finished {
+        status,
+        closed: Some(closed),
+    }
+}
+
+/// Ends with the clock that was worn, where an entry of what was closed has it, else for want of memory.
+fn stopped(alloc: Global, closed: Closed, why: Stopped) -> Finished
+    ensures { (result ≡ record { status = Status.Memory; closed = None }) ⊎ EndsWorn why closed result }
+{
+    let Ok(played) = stop(alloc, closed, why) else {
+        return gave_up(Status::Memory);
+    };
+    match played.worn {
+        Some(clock) => Finished {
+            status: Status::Worn { clock },
+            closed: Some(played.closed),
+        },
+        None => unreachable!(),
+    }
+}
