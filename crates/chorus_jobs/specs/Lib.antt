@@ -1,0 +1,3 @@
+pub mod Promise
+pub mod Hands
+pub mod Parties

@@ -1,0 +1,96 @@
+//! A queue of jobs that moves between two sites, while three clients send jobs from a third and two workers take them.
+//!
+//! What it prints does not tell who was faster: how many jobs were accepted and handed out, that the positions of those handed out are
+//! all from 0 on, and that the journal is lawful.
+#![tactic(auto)]
+
+use chorus_checker::World;
+use chorus_jobs::{Comer, Finished, Hand, Role, run_queue};
+use chorus_merge::merge;
+use chorus_ui::{Kind, Layout, Ui};
+use std::alloc::{AllocError, Global};
+use std::process::ExitCode;
+use std::sync::Wait;
+use std::thread::Threads;
+
+/// How many jobs each client sends.
+const JOBS: u8 = 8;
+
+fn main(rt: HostRuntime) -> ExitCode {
+    let Some(finished) = run(rt.alloc(), &rt) else {
+        return ExitCode::FAILURE;
+    };
+    match report(&rt, &finished) {
+        Some(()) => ExitCode::SUCCESS,
+        None => ExitCode::FAILURE,
+    }
+}
+
+fn actor(site: u16, number: u64) -> Option<Ui> {
+    Ui::new(site, Kind::Actor, number)
+}
+
+fn run<R: Threads + Wait + Sync>(alloc: Global, rt: &R) -> Option<Finished> {
+    let comers = [
+        Comer {
+            actor: actor(1, 1)?,
+            role: Role::Worker { next: 2 },
+        },
+        Comer {
+            actor: actor(2, 1)?,
+            role: Role::Worker { next: 1 },
+        },
+        Comer {
+            actor: actor(3, 1)?,
+            role: Role::Client {
+                name: b'a',
+                jobs: JOBS,
+            },
+        },
+        Comer {
+            actor: actor(3, 2)?,
+            role: Role::Client {
+                name: b'b',
+                jobs: JOBS,
+            },
+        },
+        Comer {
+            actor: actor(1, 2)?,
+            role: Role::Client {
+                name: b'c',
+                jobs: JOBS,
+            },
+        },
+    ];
+    run_queue(alloc, rt, Layout::new(3, 1)?, 1, &comers).ok()
+}
+
+fn report(rt: &HostRuntime, finished: &Finished) -> Option<()> {
+    let alloc = rt.alloc();
+    let (accepted, handed_out) = counts(&finished.hands);
+    println!(rt; "{accepted} jobs were accepted").ok()?;
+    println!(rt; "{handed_out} jobs were handed out").ok()?;
+    let lawful = is_lawful(alloc, finished).ok()?;
+    println!(rt; "the journal is lawful: {lawful}").ok()?;
+    Some(())
+}
+
+fn counts(hands: &[Hand]) -> (u64, u64) {
+    let mut accepted = 0u64;
+    let mut handed_out = 0u64;
+    for hand in hands {
+        accepted = accepted.saturating_add(u64::from(hand.accepted));
+        handed_out = handed_out.saturating_add(hand.jobs.len() as u64);
+    }
+    (accepted, handed_out)
+}
+
+fn is_lawful(alloc: Global, finished: &Finished) -> Result<bool, AllocError> {
+    let mut world = World::opening(alloc, Layout::new(3, 1).unwrap())?;
+    for entry in merge(alloc, &finished.closed.journals)? {
+        if world.apply(entry).is_err() {
+            return Ok(false);
+        }
+    }
+    Ok(true)
+}
