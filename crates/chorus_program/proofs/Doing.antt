@@ -1,14 +1,18 @@
 -- What the words do, and each ending's cause.
-use Rattle.std.proofs.Common.{◌≡◌, ◌≢◌, ◌∙◌, ℕ, [], List, Option, None, Some, IfSome, IsSome, refl, sym, ap, subst, arith}
+use Rattle.std.proofs.Common.{◌≡◌, ◌≢◌, ◌∙◌, ℕ, [], List, Option, None, Some, IfSome, IsSome, refl, sym, ap, subst, arith, ◌≤◌}
 use Rattle.std.proofs.KnownBytes.{Consumes-nil}
+use Rattle.std.proofs.lemmas.Bool.{false≢true}
 use Rattle.chorus_ui.specs.declared.layout.Layout.{Layout}
+use Rattle.chorus_ui.specs.declared.limits.TheConstants.{CLOCK_LIMIT}
+use Rattle.chorus_net.specs.declared.closed.Closed.{Closed}
+use Rattle.chorus_explore.specs.Ends.{ExploresBy}
 use Rattle.chorus_show.specs.declared.status.Status.{Status}
-use Rattle.chorus_show.specs.declared.status.Status.TheVariants.{Memory, ReadFault}
+use Rattle.chorus_show.specs.declared.status.Status.TheVariants.{Memory, ReadFault, WriteFault, Worn}
 use Rattle.chorus_nucleus.specs.declared.nucleus.Nucleus.{Nucleus}
 use Rattle.chorus_nucleus.specs.Passes.{layout_of}
 use Rattle.chorus_report.specs.declared.finished.Finished.{Finished}
 use Rattle.chorus_report.specs.Ending.{EndsReading, EndsWriting}
-use Rattle.chorus_report.specs.Headline.{Runs}
+use Rattle.chorus_report.specs.Headline.{HasClock, Runs, merge_of}
 use Rattle.chorus_report.specs.Output.{EndsUnread, summary_of, text_of}
 use Rattle.chorus_report.specs.Reading.{ReadsNoFurther}
 use Rattle.chorus_report.proofs.Ends.{ends-memory, gave-up-writes, none-closed, reads-as}
@@ -25,10 +29,11 @@ use Rattle.chorus_picture.specs.Output as picture
 use Rattle.chorus_picture.specs.Output.{Draws}
 use Rattle.chorus_lossy.specs.Output as lossy
 use Rattle.chorus_lossy.specs.Output.{CarriesInput}
+use Rattle.chorus_words.specs.declared.words.TheConstants.{EXPLORE_MOST}
 use Rattle.chorus_words.specs.declared.words.Words.{Words}
 use Rattle.chorus_words.specs.declared.words.Words.TheVariants as words
 use Rattle.chorus_words.specs.Words.{Ask}
-use Rattle.chorus_program.specs.Running.{Does, EndsAsAudit, EndsAsLossy, EndsAsPicture, EndsUnreadAsLoad, EndsWithCause, Suits, places_each, replay_layout}
+use Rattle.chorus_program.specs.Running.{Does, EndsAsAudit, EndsAsLossy, EndsAsPicture, EndsUnreadAsLoad, EndsWithCause, Suits, places_each, replay_layout, EndsAsExplored}
 use Rattle.chorus_program.specs.Started.{IsLayoutFor}
 
 -- Causes.
@@ -55,6 +60,25 @@ module _ {S K : Type 0} (f : Finished) (left : S → Option (List ℕ)) (faults 
     closed = w.closed.0;
     unwritten = w.unwritten;
   }
+
+-- what tells of a race has its causes
+worn-explored : (l : Layout) (most : ℕ) (status : Status) (told old new : Option (List ℕ)) (clock : ℕ) → status ≡ Worn clock → ExploresBy l most status told old new → CLOCK_LIMIT ≤ clock
+worn-explored l most status told old new clock e h = (subst (λ (s : Status). ExploresBy l most s told old new) e h).worn
+
+pub causes-explored : {S K : Type 0} (most : ℕ) (f : Finished) (left : S → Option (List ℕ)) (faults : S → ℕ) (reliable : S → Type 0) (from rest : S) (held : K → Option (List ℕ)) (failures : K → ℕ) (old new : K)
+    → EndsAsExplored most f left faults reliable from rest held failures old new → EndsWithCause f faults reliable from rest failures old new
+causes-explored most f left faults reliable from rest held failures old new h = record {
+  read_fault = h.explores.reads.read_fault;
+  no_fault = h.explores.reads.no_fault;
+  steady = λ e. h.explores.reads.steady (λ f. absurd (let bad : Memory ≡ ReadFault = sym e ∙ f in cc));
+  write_fault = h.explores.write_fault;
+  worn = λ clock e. (worn-explored replay_layout most f.status (left from) (held old) (held new) clock e h.explores.explores, subst (λ o. IfSome o (λ closed. HasClock clock (merge_of closed))) (sym h.closed) tt);
+  closed = λ some. absurd (none-is-some f.closed h.closed some);
+  unwritten = h.explores.unwritten;
+}
+  where
+    none-is-some : (o : Option Closed) → o ≡ None → IsSome o → ⊥
+    none-is-some o e some = false≢true (subst IsSome e some)
 
 -- Where there was no memory, nothing was read or written.
 
@@ -123,6 +147,17 @@ module _ {S K : Type 0} (f : Finished) (is : f ≡ record { status = Memory; clo
     carries = subst (λ (x : Finished). CarriesInput first x.status (left from) (left from) (held old) (held old)) (sym is) ([], (Consumes-nil (left from), omega arith), refl);
   }
 
+  explores-none : (most : ℕ) → EndsAsExplored most f left faults reliable from from held failures old old
+  explores-none most = record {
+    closed = closes-none;
+    explores = record {
+      reads = reads-none replay_layout;
+      explores = subst (λ (x : Finished). ExploresBy replay_layout most x.status (left from) (held old) (held old)) (sym is) tt;
+      write_fault = λ e. absurd (let both : Memory ≡ WriteFault = sym (ap (λ (x : Finished). x.status) is) ∙ e in cc);
+      unwritten = λ a b. refl;
+    };
+  }
+
   pub does-none : (n : Nucleus) (asked : Words) → Does n asked f left faults reliable from from held failures old old
   does-none n words.Replay = replays-none
   does-none n words.Run = runs-none n
@@ -132,6 +167,8 @@ module _ {S K : Type 0} (f : Finished) (is : f ≡ record { status = Memory; clo
   does-none n (words.Picture sites turns) = draws-none (places_each sites turns)
   does-none n (words.Lossy first) = carries-none first
   does-none n (words.Crew first commands) = record { unread = refl; crews = crews-none f is held failures old n first commands }
+  does-none n words.Explore = explores-none EXPLORE_MOST
+  does-none n (words.ExploreMost most) = explores-none most
 
 -- a replay on sites of a layout is one on those of an equal one
 pub replays-at : {S K : Type 0} (l m : Layout) (f : Finished) (left : S → Option (List ℕ)) (faults : S → ℕ) (reliable : S → Type 0) (from rest : S) (held : K → Option (List ℕ)) (failures : K → ℕ) (old new : K) → l ≡ m → EndsAsReplay l f left faults reliable from rest held failures old new → EndsAsReplay m f left faults reliable from rest held failures old new
@@ -148,6 +185,8 @@ module _ {S K : Type 0} (n : Nucleus) (f : Finished) (left : S → Option (List 
   no-usage (words.Audit sites turns) d is = subst (λ s. ReadsBy s (left from) (left rest)) is d.reads
   no-usage (words.Picture sites turns) d is = subst (λ s. picture.ReadsBy (places_each sites turns) s (left from) (left rest)) is d.reads
   no-usage (words.Crew first commands) d is = subst EndsUnread is d.crews.status
+  no-usage words.Explore d is = d.explores.reads.usage is
+  no-usage (words.ExploreMost most) d is = d.explores.reads.usage is
   no-usage (words.Lossy first) d is = let h = d.carries in subst (λ s. lossy.ReadsBy s h.0 (left from) (left rest)) is h.1
 
   pub does-same : (asked other : Words) → asked ≡ other → Does n asked f left faults reliable from rest held failures old new → Does n other f left faults reliable from rest held failures old new
@@ -162,5 +201,7 @@ suits spelled n h (words.Load first commands) ask = tt
 suits spelled n h (words.Audit sites turns) ask = tt
 suits spelled n h (words.Picture sites turns) ask = tt
 suits spelled n h (words.Lossy first) ask = tt
+suits spelled n h words.Explore ask = tt
+suits spelled n h (words.ExploreMost most) ask = tt
 suits spelled n h (words.Crew first commands) ask =
     let same = ap (λ (l : Layout). l.sites) (h.asked (words.Crew first commands) ask) in omega (arith, same)

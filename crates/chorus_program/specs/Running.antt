@@ -8,6 +8,7 @@ use Rattle.chorus_ui.specs.declared.limits.TheConstants.{CLOCK_LIMIT}
 use Rattle.chorus_audit.specs.Output.{Prints, ReadsBy}
 use Rattle.chorus_picture.specs.Output as picture
 use Rattle.chorus_picture.specs.Output.{Draws}
+use Rattle.chorus_explore.specs.Ends.{EndsAsExplore}
 use Rattle.chorus_lossy.specs.Output.{CarriesInput}
 use Rattle.chorus_show.specs.declared.status.Status.{Status}
 use Rattle.chorus_show.specs.declared.status.Status.TheVariants.{Done, Usage, ReadFault, WriteFault, Memory, Worn}
@@ -20,6 +21,7 @@ use Rattle.chorus_replay.specs.Ends.{EndsAsLoad, EndsAsReplay}
 use Rattle.chorus_run.specs.Ends.{EndsAsRun}
 use Rattle.chorus_drawn_crew.specs.declared.names.TheConstants.{CREW_PORTS}
 use Rattle.chorus_drawn_crew.specs.Ends.{EndsAsCrew}
+use Rattle.chorus_words.specs.declared.words.TheConstants.{EXPLORE_MOST}
 use Rattle.chorus_words.specs.declared.words.Words.{Words}
 use Rattle.chorus_words.specs.declared.words.Words.TheVariants as words
 use Rattle.chorus_words.specs.Words.{Ask}
@@ -80,6 +82,12 @@ pub record EndsUnreadAsCrew {S K : Type 0} (n : Nucleus) (first commands : ℕ) 
   pub unread : rest ≡ from
   pub crews : EndsAsCrew n first commands finished held failures old new
 
+-- nothing was closed, and what may come of the scenario was written
+pub record EndsAsExplored {S K : Type 0} (most : ℕ) (finished : Finished) (left : S → Option (List ℕ)) (faults : S → ℕ)
+    (reliable : S → Type 0) (from rest : S) (held : K → Option (List ℕ)) (failures : K → ℕ) (old new : K) : Type 0 where
+  pub closed : finished.closed ≡ None
+  pub explores : EndsAsExplore replay_layout most finished.status left faults reliable from rest held failures old new
+
 -- what the words do
 abbrev pub Does : {S K : Type 0} → Nucleus → Words → Finished
     → (S → Option (List ℕ)) → (S → ℕ) → (S → Type 0) → S → S
@@ -100,6 +108,10 @@ Does n (words.Lossy first) finished left faults reliable from rest held failures
     EndsAsLossy first finished (left from) (left rest) (held old) (held new)
 Does n (words.Crew first commands) finished left faults reliable from rest held failures old new =
     EndsUnreadAsCrew n first commands finished from rest held failures old new
+Does n words.Explore finished left faults reliable from rest held failures old new =
+    EndsAsExplored EXPLORE_MOST finished left faults reliable from rest held failures old new
+Does n (words.ExploreMost most) finished left faults reliable from rest held failures old new =
+    EndsAsExplored most finished left faults reliable from rest held failures old new
 
 -- what was closed has an entry of this clock, which is at least 2^62
 abbrev pub IsWornAt : ℕ → Finished → Type 0

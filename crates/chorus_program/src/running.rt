@@ -8,7 +8,8 @@ ghost use Rattle.chorus_perform.specs.Scripts.{IsOpening};
 ghost use Rattle.chorus_program.specs.Running.{AskNothingOf, AskOf, Does, EndsWithCause, IsTurnedAway, Suits};
 
 use crate::starting::{
-    closed_nothing, start_audit, start_load, start_lossy, start_picture, start_replay,
+    closed_nothing, start_audit, start_explore, start_load, start_lossy, start_picture,
+    start_replay,
 };
 use chorus_drawn_crew::{CREW_PORTS, handle_drawn};
 use chorus_io::{Sink, Source};
@@ -16,7 +17,7 @@ use chorus_nucleus::{Nucleus, Pass};
 use chorus_report::Finished;
 use chorus_run::{Gate, close_unused, run};
 use chorus_show::Status;
-use chorus_words::{Words, read_words};
+use chorus_words::{EXPLORE_MOST, Words, read_words};
 use std::alloc::{AllocError, Global};
 use std::sync::Wait;
 use std::thread::Threads;
@@ -29,8 +30,9 @@ pub const PROGRAM_SITES: u16 = 16;
 /// and so does `run TURNS` where its sites have so many places; `audit SITES TURNS` audits the printed journal that the source gives,
 /// and `picture SITES TURNS` draws it;
 /// `lossy FIRST` carries what the source gives over a line that loses; `crew FIRST COMMANDS` sends what the draws give to ports of the
-/// nucleus, where it has at least 8 sites, and prints what a crew handled there. Any other words are Usage, and then nothing is read or
-/// written.
+/// nucleus, where it has at least 8 sites, and prints what a crew handled there; `explore` tells what may come of the scenario that the
+/// source gives, by any schedule, with at most [`EXPLORE_MOST`] events carried out, and `explore MOST` with at most so many. Any other
+/// words are Usage, and then nothing is read or written.
 ///
 /// The nucleus was just started, and the pass is its opening one. It is closed in any case. Want of memory is the one ending without a
 /// cause.
@@ -158,6 +160,14 @@ fn does<R: Threads + Wait + Sync, S: Source, K: Sink, G: Gate>(
         }
         Words::Crew { first, commands } => {
             handle_drawn(alloc, rt, first, commands, sink, nucleus, pass)
+        }
+        Words::Explore => {
+            close_unused(rt, nucleus, pass);
+            start_explore(alloc, EXPLORE_MOST, source, sink)
+        }
+        Words::ExploreMost { most } => {
+            close_unused(rt, nucleus, pass);
+            start_explore(alloc, most, source, sink)
         }
     }
 }

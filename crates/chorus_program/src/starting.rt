@@ -6,10 +6,11 @@ ghost use Rattle.chorus_net.specs.Sites.{net};
 ghost use Rattle.chorus_replay.specs.Ends.{EndsAsLoad, EndsAsReplay};
 ghost use Rattle.chorus_replay.specs.Ordered.{AreJustStarted};
 ghost use Rattle.chorus_words.specs.declared.words.TheConstants.{LOAD_LIMIT};
-ghost use Rattle.chorus_program.specs.Running.{EndsAsAudit, EndsAsLossy, EndsAsPicture, EndsWithCause, one_place_each, places_each, replay_layout};
+ghost use Rattle.chorus_program.specs.Running.{EndsAsAudit, EndsAsLossy, EndsAsPicture, EndsWithCause, one_place_each, places_each, replay_layout, EndsAsExplored};
 
 use crate::running::PROGRAM_SITES;
 use chorus_audit::audit;
+use chorus_explore::explore;
 use chorus_io::{Sink, Source};
 use chorus_lossy::{WINDOW, lossy};
 use chorus_net::Sites;
@@ -109,6 +110,22 @@ pub(crate) fn start_lossy<S: Source, K: Sink>(
     let mut sender = Sender::new(alloc, WINDOW).unwrap();
     let mut receiver = Receiver::new(alloc, WINDOW).unwrap();
     closed_nothing(lossy(alloc, first, source, sink, &mut sender, &mut receiver))
+}
+
+/// Tells what may come of the scenario that the source gives, with at most so many events carried out.
+pub(crate) fn start_explore<S: Source, K: Sink>(
+    alloc: Global,
+    most: u32,
+    source: &mut S,
+    sink: &mut K,
+) -> Finished
+    ensures explores { EndsAsExplored most result S.left S.faults S.reliable source.old source.new
+        K.held K.faults sink.old sink.new }
+    ensures causes { EndsWithCause result S.faults S.reliable source.old source.new
+        K.faults sink.old sink.new }
+{
+    let layout = Layout::new(PROGRAM_SITES, 1).unwrap();
+    closed_nothing(explore(alloc, layout, most, source, sink))
 }
 
 /// Starts so many sites, with one place each.

@@ -7,7 +7,7 @@ use Rattle.std.specs.Option.{IfSome, IsNone, is_some, unwrap_or}
 use Rattle.std.proofs.lemmas.Bool.Decides.{nat_tests}
 use Rattle.chorus_ui.specs.Layout.{IsLayout, Shape, is_layout, new_layout}
 use Rattle.chorus_words.specs.declared.words.Words.{Words}
-use Rattle.chorus_words.specs.declared.words.Words.TheVariants.{Replay, Run, RunOn, Load, Audit, Picture, Lossy, Crew}
+use Rattle.chorus_words.specs.declared.words.Words.TheVariants.{Replay, Run, RunOn, Load, Audit, Picture, Lossy, Crew, Explore, ExploreMost}
 use Rattle.chorus_words.specs.Words.{Ask, IsTurns, IsWithin, spelled}
 use Rattle.chorus_words.specs.Cutting.{AskByThree, is_value}
 
@@ -30,6 +30,8 @@ spelled_values (Picture sites turns) w =
     rw (decimal_value sites (omega (arith, w.sites_to_max)), decimal_value turns (omega (arith, w.turns_to_four))) refl
 spelled_values (Lossy first) w = rw (decimal_value first w) refl
 spelled_values (Crew first commands) w = rw (decimal_value first w.0, decimal_value commands (omega (arith, w.1))) refl
+spelled_values Explore w = refl
+spelled_values (ExploreMost most) w = rw (decimal_value most (omega (arith, w))) refl
 
 no_word : {X : Type 0} (x : X) → None ≡ Some x → ⊥
 no_word x e = true≢false (sym (ap is_some e))
@@ -62,6 +64,8 @@ few_words (Audit sites turns) = omega arith
 few_words (Picture sites turns) = omega arith
 few_words (Lossy first) = omega arith
 few_words (Crew first commands) = omega arith
+few_words Explore = omega arith
+few_words (ExploreMost most) = omega arith
 
 -- at most three words, of which the first three ask this, ask it
 pub asks : (ws : List (List ℕ)) (what first second : Option (List ℕ)) (asked : Words) → length ws ≤ 3
@@ -109,6 +113,8 @@ one_spelling (Lossy first) (Lossy f) w v e = ap Lossy (same_number first f w v (
 one_spelling (Crew first commands) (Crew f c) w v e = ap₂ Crew
     (same_number first f w.0 v.0 (ap (λ l. slice_get l 1) e))
     (same_number commands c (omega (arith, w.1)) (omega (arith, v.1)) (ap (λ l. slice_get l 2) e))
+one_spelling Explore Explore w v e = refl
+one_spelling (ExploreMost most) (ExploreMost m) w v e = ap ExploreMost (same_number most m (omega (arith, w)) (omega (arith, v)) (ap (λ l. slice_get l 1) e))
 one_spelling a b w v e = absurd (let same : size (spelled a) ≡ size (spelled b) = ap size e in omega (arith, same))
 
 pub ask_once : (ws : List (List ℕ)) (a b : Words) → Ask ws a → Ask ws b → a ≡ b
@@ -165,6 +171,8 @@ no_audit_of sites turns none (Load first commands) by = other_word (codes "load"
 no_audit_of sites turns none (Picture s t) by = no_picture by.0
 no_audit_of sites turns none (Lossy first) by = no_word turns (sym by.2)
 no_audit_of sites turns none (Crew first commands) by = other_word (codes "crew") refl (sym by.0)
+no_audit_of sites turns none Explore by = no_word sites (sym by.1)
+no_audit_of sites turns none (ExploreMost most) by = no_word turns (sym by.2)
 no_audit_of sites turns none (Audit s t) by = none (record { sites = s; turns = t }) by.3 (the_word sites (decimal s) by.1) (the_word turns (decimal t) by.2)
 
 pub no_audit : (sites turns : List ℕ) (what first second : Option (List ℕ)) → what ≡ Some (codes "audit") → first ≡ Some sites → second ≡ Some turns
@@ -178,6 +186,8 @@ no_audit sites turns what first second e f g none asked by =
 no_picture_of : (sites turns : List ℕ) → ((l : Shape) → IsLayout l → sites ≡ decimal l.sites → turns ≡ decimal l.turns → ⊥)
     → (asked : Words) → AskByThree (Some (codes "picture")) (Some sites) (Some turns) asked → ⊥
 no_picture_of sites turns none (Picture s t) by = none (record { sites = s; turns = t }) by.3 (the_word sites (decimal s) by.1) (the_word turns (decimal t) by.2)
+no_picture_of sites turns none Explore by = no_word sites (sym by.1)
+no_picture_of sites turns none (ExploreMost most) by = no_word turns (sym by.2)
 no_picture_of sites turns none asked by =
     absurd (let word : codes "picture" ≡ unwrap_or (slice_get (spelled asked) 0) [] = the_word (codes "picture") (unwrap_or (slice_get (spelled asked) 0) []) by.0 in let long = ap (λ (w : List ℕ). length w) word in omega (arith, long))
 
@@ -204,3 +214,16 @@ no_turns_read m word e small none n h is =
     let same : n ≡ m = decimal_injective n m (omega (arith, h.turns_to_four)) (omega (arith, small)) (sym is ∙ e) in
     let l : Shape = record { sites = 1; turns = n } in
     some_if (is_layout l) l (layout_fits l h) (subst (λ k. IsNone (new_layout 1 k)) (sym same) none)
+
+-- A word that is no number of 32 bits.
+
+no_explore_of : (word : List ℕ) → ((n : ℕ) → n < 2 ^ 32 → word ≡ decimal n → ⊥) → (asked : Words) → AskByThree (Some (codes "explore")) (Some word) None asked → ⊥
+no_explore_of word none (ExploreMost n) by = none n by.3 (the_word word (decimal n) by.1)
+no_explore_of word none Explore by = no_word word (sym by.1)
+no_explore_of word none (Picture sites turns) by = no_word (decimal turns) by.2
+no_explore_of word none asked by =
+    absurd (let first : codes "explore" ≡ unwrap_or (slice_get (spelled asked) 0) [] = the_word (codes "explore") (unwrap_or (slice_get (spelled asked) 0) []) by.0 in let long = ap (λ (w : List ℕ). length w) first in omega (arith, long))
+
+pub no_explore : (word : List ℕ) (what first second : Option (List ℕ)) → what ≡ Some (codes "explore") → first ≡ Some word → second ≡ None
+    → ((n : ℕ) → n < 2 ^ 32 → word ≡ decimal n → ⊥) → (asked : Words) → AskByThree what first second asked → ⊥
+no_explore word what first second e f g none asked by = no_explore_of word none asked (sym e ∙ by.0, sym f ∙ by.1, sym g ∙ by.2, by.3)

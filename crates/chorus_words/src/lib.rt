@@ -13,4 +13,4 @@ mod reading;
 mod words;
 
 pub use reading::read_words;
-pub use words::{LOAD_LIMIT, Words};
+pub use words::{EXPLORE_MOST, LOAD_LIMIT, Words};

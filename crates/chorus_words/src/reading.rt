@@ -83,6 +83,10 @@ fn asked_by(what: Option<&str>, first: Option<&str>, second: Option<&str>) -> Op
             first: parse_decimal(first.as_bytes())?,
             commands: commands_of(commands)?,
         }),
+        ("explore", None, None) => Some(Words::Explore),
+        ("explore", Some(most), None) => Some(Words::ExploreMost {
+            most: most_of(most)?,
+        }),
         _ => None,
     }
 }
@@ -124,6 +128,17 @@ fn commands_of(word: &str) -> Option<u32>
 {
     match parse_decimal(word.as_bytes()) {
         Some(number) if number <= u64::from(LOAD_LIMIT) => Some(number as u32),
+        _ => None,
+    }
+}
+
+/// The number of 32 bits whose decimal the word is. None exactly where there is none.
+fn most_of(word: &str) -> Option<u32>
+    ensures some { IfSome result (λ n. word.now ≡ decimal n) }
+    ensures none { IsNone result → (n : ℕ) → n < 2 ^ 32 → ¬ (word.now ≡ decimal n) }
+{
+    match parse_decimal(word.as_bytes()) {
+        Some(number) if number <= u64::from(u32::MAX) => Some(number as u32),
         _ => None,
     }
 }

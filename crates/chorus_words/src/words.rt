@@ -3,6 +3,9 @@
 /// The most commands that the words of a load, or of a crew, ask.
 pub const LOAD_LIMIT: u32 = 65_536;
 
+/// The most events that the word `explore` alone asks to be carried out.
+pub const EXPLORE_MOST: u32 = 1_000_000;
+
 /// What the program's words ask.
 #[derive(Clone, Copy, Debug, PartialEq, Eq)]
 pub enum Words {
@@ -23,4 +26,8 @@ pub enum Words {
     /// `crew FIRST COMMANDS`: of so many commands, at most [`LOAD_LIMIT`], that are drawn from the first state on, those that send to a
     /// port are performed, and a crew handles what was sent.
     Crew { first: u64, commands: u32 },
+    /// `explore`: what may come of a scenario is told, with at most [`EXPLORE_MOST`] events carried out.
+    Explore,
+    /// `explore MOST`: so it is with so many events at most.
+    ExploreMost { most: u32 },
 }

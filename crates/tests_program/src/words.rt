@@ -103,6 +103,10 @@ fn the_list_and_nothing_else(rt: HostRuntime) {
     assert_reads(&rt, alloc, &["picture", "16", "4"], Some(picture));
     assert_reads(&rt, alloc, &["picture", "17", "1"], None);
     assert_reads(&rt, alloc, &["picture", "16", "3"], None);
+    assert_reads(&rt, alloc, &["explore"], Some(Words::Explore));
+    let explore = Words::ExploreMost { most: u32::MAX };
+    assert_reads(&rt, alloc, &["explore", "4294967295"], Some(explore));
+    assert_reads(&rt, alloc, &["explore", "4294967296"], None);
     assert_no_numbers(&rt, alloc);
     assert_reads(&rt, alloc, &["load", "7", "65537"], None);
     assert_runs(&rt, alloc);
