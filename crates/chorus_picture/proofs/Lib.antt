@@ -1,6 +1,7 @@
 mod Columns
 mod Drawn
 mod Front
+mod Gaps
 mod Kept
 mod Pieces
 mod PlainNames

@@ -1,6 +1,7 @@
 //! Templates with numbers, and texts in which nothing is read as markup.
 
-ghost use Rattle.std.specs.Prelude.{◌≡◌, ◌++◌, OnOk};
+ghost use Rattle.std.specs.Prelude.{◌≡◌, ◌==◌, ◌++◌, OnOk};
+ghost use Rattle.std.specs.List.{position};
 ghost use Rattle.chorus_picture.specs.Filling.{filled, markup_byte, markup, shown};
 
 use crate::limits::SHOWN_LIMIT;
@@ -15,19 +16,22 @@ pub(crate) fn push_filled(
 ) -> Result<(), AllocError>
     ensures { OnOk result (out.new.items ≡ out.old.items ++ filled template.now numbers.now) }
 {
-    let [c, rest @ ..] = template else {
-        return Ok(());
+    let Some(gap) = gap_in(template) else {
+        return out.extend_from_slice(template);
     };
-    match numbers {
-        [number, more @ ..] if *c == b'@' => {
-            push_decimal(*number, out)?;
-            push_filled(rest, more, out)
-        }
-        _ => {
-            out.push(*c)?;
-            push_filled(rest, numbers, out)
-        }
-    }
+    let [number, more @ ..] = numbers else {
+        return out.extend_from_slice(template);
+    };
+    out.extend_from_slice(&template[..gap])?;
+    push_decimal(*number, out)?;
+    push_filled(&template[gap + 1..], more, out)
+}
+
+/// The place of the first `@`.
+fn gap_in(template: &[u8]) -> Option<usize>
+    ensures { result ≡ position (λ c. c == 64) template.now }
+{
+    template.iter().position(|c| *c == b'@')
 }
 
 /// Appends the text as it stands between tags.
