@@ -2,12 +2,15 @@
 -- n is the network.
 use Rattle.std.specs.Prelude.{ℕ, ◌≡◌, ◌+◌, List, [], ◌∷◌, ◌++◌, length, map, reverse, Option, None}
 use Rattle.std.specs.Global.{Vec}
+use Rattle.chorus_ui.specs.declared.layout.Layout.{Layout}
 use Rattle.chorus_entry.specs.declared.entry.Entry.{Entry}
 use Rattle.chorus_entry.specs.declared.packet.Packet.{Packet}
 use Rattle.place_outbox.specs.Waiting.{count}
 use Rattle.law_network.specs.declared.placed.Placed.{Placed}
 use Rattle.law_network.specs.Network.{NetState}
+use Rattle.law_network.specs.Holdings.{Holding, holdings_left}
 use Rattle.law_network.specs.Left.{journals, packets_left, placed_at, placed}
+use Rattle.chorus_merge.specs.Merge.{merged}
 use Rattle.chorus_merge.specs.Steps.{journals_of}
 use Rattle.chorus_place.specs.Calls.{Place}
 use Rattle.chorus_turn.specs.declared.close.Spent.{Spent}
@@ -18,6 +21,17 @@ use Rattle.chorus_net.specs.declared.closed.Origin.{Origin}
 -- the journals in it, as lists
 abbrev pub closed_journals : Closed → List (List Entry)
 closed_journals closed = journals_of closed.journals.items
+
+-- the merge of the journals by clock and place, in order, and as a past of the world
+abbrev pub merge_of : Closed → List Entry
+merge_of closed = merged (closed_journals closed)
+
+abbrev pub past_of : Closed → List Entry
+past_of closed = reverse (merge_of closed)
+
+-- the records that are held, and those on their way
+abbrev pub holdings_of : Layout → Closed → List Holding
+holdings_of l closed = holdings_left l closed.ports.items closed.rest.items
 
 -- it was made by closing sites
 abbrev pub IsOfSites : Closed → Type 0

@@ -28,9 +28,9 @@ use Rattle.law_history.proofs.Merging.{journals-merge-as-a-run, journals-keep-pr
 use Rattle.law_closing.specs.Places.{PlaceNote}
 use Rattle.law_closing.specs.Remarks.{turns_in}
 use Rattle.chorus_net.specs.declared.closed.Closed.{Closed}
-use Rattle.chorus_net.specs.Closing.{IsLeft}
+use Rattle.chorus_net.specs.Closing.{IsLeft, holdings_of, past_of}
 use Rattle.chorus_nucleus.specs.Closing.{ClosesAs}
-use Rattle.chorus_nucleus.specs.Runs.{past_of, holdings_of, PerformsFor, IsARun, AClosedNucleusIsARun, EachMessageStandsOnce}
+use Rattle.chorus_nucleus.specs.Runs.{PerformsFor, IsARun, AClosedNucleusIsARun, EachMessageStandsOnce}
 
 none-left : (os : List Outgoing) → map (λ (o : Outgoing). o.packet) os ≡ [] → os ≡ []
 none-left [] e = refl

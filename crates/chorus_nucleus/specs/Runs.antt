@@ -15,10 +15,9 @@ use Rattle.chorus_world.specs.AcceptedLaws.{ReceivesInOrder, KeepsEachMessage}
 use Rattle.chorus_world.specs.SenderLaws.{KeepsSenderOrder}
 use Rattle.chorus_world.specs.RequestLaws.{AcceptsRequestsOnce}
 use Rattle.chorus_world.specs.GroupLaws.{ReachesOneMember, AcceptsOnSite, KeepsChoiceOrder}
-use Rattle.chorus_merge.specs.Merge.{merged}
 use Rattle.chorus_turn.specs.declared.knowledge.Note.{Note}
 use Rattle.chorus_turn.specs.declared.knowledge.Knowledge.{Knowledge}
-use Rattle.law_network.specs.Holdings.{Holding, StandsFor, holdings_left}
+use Rattle.law_network.specs.Holdings.{StandsFor}
 use Rattle.law_network.specs.EachMessage.{HoldEachMessage}
 use Rattle.law_network.specs.Quiet.{IsQuiet}
 use Rattle.law_history.specs.Journals.{Comer}
@@ -26,17 +25,9 @@ use Rattle.law_history.specs.Runs.{actor_among, commands_given}
 use Rattle.law_closing.specs.Places.{PlaceNote}
 use Rattle.law_closing.specs.Remarks.{turns_in}
 use Rattle.chorus_net.specs.declared.closed.Closed.{Closed}
-use Rattle.chorus_net.specs.Closing.{closed_journals}
+use Rattle.chorus_net.specs.Closing.{holdings_of, past_of}
 use Rattle.chorus_nucleus.specs.Calls.{gave}
 use Rattle.chorus_nucleus.specs.Closing.{ClosesAs}
-
--- the merge of its journals by clock and place
-abbrev pub past_of : Closed → List Entry
-past_of c = reverse (merged (closed_journals c))
-
--- the records that are held, and those on their way
-abbrev pub holdings_of : Layout → Closed → List Holding
-holdings_of l c = holdings_left l c.ports.items c.rest.items
 
 -- it performs these commands for the seat, in their order, in the actor in which the seat came
 abbrev pub PerformsFor : Layout → List Comer → List Entry → ℕ → List Command → Type 0

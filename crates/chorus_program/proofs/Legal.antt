@@ -5,7 +5,8 @@ use Rattle.chorus_net.specs.declared.closed.Closed.{Closed}
 use Rattle.chorus_show.specs.declared.status.Status.{Status}
 use Rattle.chorus_show.specs.declared.status.Status.TheVariants.{Done, Usage, Scenario, ReadFault, WriteFault, Memory, Worn}
 use Rattle.chorus_show.specs.Bounds.{AreWithin}
-use Rattle.chorus_report.specs.Headline.{merge_of, past_of, callers_of, AreWithinUnless}
+use Rattle.chorus_report.specs.Headline.{callers_of, AreWithinUnless}
+use Rattle.chorus_net.specs.Closing.{merge_of, past_of}
 use Rattle.chorus_program.specs.Circle.{RunsAreLegal}
 
 within-both : (status : Status) (closed : Closed) → AreWithinUnless status closed → ((clock : ℕ) → status ≡ Worn clock → AreWithin (merge_of closed)) → AreWithin (merge_of closed)

@@ -5,7 +5,8 @@ use Rattle.chorus_show.specs.declared.status.Status.{Status}
 use Rattle.chorus_show.specs.declared.status.Status.TheVariants.{Worn}
 use Rattle.chorus_show.specs.Bounds.{AreWithin}
 use Rattle.chorus_net.specs.declared.closed.Closed.{Closed}
-use Rattle.chorus_report.specs.Headline.{Runs, merge_of}
+use Rattle.chorus_report.specs.Headline.{Runs}
+use Rattle.chorus_net.specs.Closing.{merge_of}
 use Rattle.chorus_report.specs.Output.{text_of}
 use Rattle.chorus_audit.specs.declared.judging.Audit.TheVariants.{Legal}
 use Rattle.chorus_audit.specs.Tests.{IsVerdict}

@@ -15,7 +15,8 @@ use Rattle.chorus_show.specs.declared.status.Status.TheVariants.{Done, Usage, Re
 use Rattle.chorus_nucleus.specs.declared.nucleus.Nucleus.{Nucleus}
 use Rattle.chorus_nucleus.specs.Passes.{layout_of}
 use Rattle.chorus_report.specs.declared.finished.Finished.{Finished}
-use Rattle.chorus_report.specs.Headline.{HasClock, merge_of}
+use Rattle.chorus_report.specs.Headline.{HasClock}
+use Rattle.chorus_net.specs.Closing.{merge_of}
 use Rattle.chorus_report.specs.Output.{HandsOut}
 use Rattle.chorus_replay.specs.Ends.{EndsAsLoad, EndsAsReplay}
 use Rattle.chorus_run.specs.Ends.{EndsAsRun}

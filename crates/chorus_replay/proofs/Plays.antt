@@ -12,7 +12,7 @@ use Rattle.chorus_world.specs.Commands.{performs}
 use Rattle.chorus_calls.specs.Callers.{Seated}
 use Rattle.chorus_net.specs.declared.closed.Closed.{Closed}
 use Rattle.law_network.specs.Calls.{starting}
-use Rattle.chorus_net.specs.Closing.{IsLeft}
+use Rattle.chorus_net.specs.Closing.{IsLeft, past_of}
 use Rattle.law_network.specs.Left.{merged_past}
 use Rattle.law_network.specs.Network.{NetState, Event, Enter, Act, Deliver, schedule, round, rounds}
 use Rattle.law_network.specs.Quiet.{IsQuiet}
@@ -31,7 +31,7 @@ use Rattle.chorus_scene.specs.Limits.{Keeps}
 use Rattle.chorus_replay.specs.Order.{in_setup, entering, in_schedule, left_from, tasks}
 use Rattle.chorus_net.specs.Worn.{IsInRounds}
 use Rattle.chorus_replay.specs.Worn.{ComesNext}
-use Rattle.chorus_report.specs.Headline.{past_of, PerformsAll, PerformsFirst, PerformsUnless, IsQuietUnless, Plays, AreWithinUnless, callers_of, commands_by}
+use Rattle.chorus_report.specs.Headline.{PerformsAll, PerformsFirst, PerformsUnless, IsQuietUnless, Plays, AreWithinUnless, callers_of, commands_by}
 use Rattle.chorus_replay.specs.Ordered.{IsOrdered, Replays}
 use Rattle.chorus_report.specs.Reading.{IsGiven}
 use Rattle.chorus_replay.proofs.Given.{commands-given}

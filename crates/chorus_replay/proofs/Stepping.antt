@@ -27,11 +27,10 @@ use Rattle.chorus_replay.specs.Order.{order}
 use Rattle.chorus_net.specs.Worn.{compared_by, IsUnworn, AreUnworn, IsInRounds, IsWornIn}
 use Rattle.chorus_replay.specs.Worn.{ComesNext}
 use Rattle.chorus_report.specs.Headline.{HasClock}
-use Rattle.chorus_net.specs.Closing.{IsClosed}
+use Rattle.chorus_net.specs.Closing.{IsClosed, merge_of, past_of}
 use Rattle.chorus_net.specs.Drains.{Drains}
 use Rattle.chorus_replay.specs.Performing.{AreLeft, AreStopped, ArePerformed, ArePlayed, HaveClocks}
 use Rattle.chorus_replay.specs.Ordered.{IsOrdered}
-use Rattle.chorus_report.specs.Headline.{merge_of, past_of}
 use Rattle.chorus_replay.proofs.May.{tasks-may, first-there}
 use Rattle.chorus_replay.proofs.Clocks.{BeginsSo, clocks-more, clocks-delivered, clocks-start, first-clock, worn-in-merge, has-reverse}
 use Rattle.chorus_replay.proofs.Plays.{deliveries, in-rounds}

@@ -17,7 +17,7 @@ use Rattle.chorus_world.specs.AcceptedLaws.{ReceivesInOrder}
 use Rattle.chorus_world.proofs.Moments.{always-run}
 use Rattle.chorus_world.proofs.Sorted.Holders.{run_is_legal}
 use Rattle.chorus_net.specs.declared.closed.Closed.{Closed}
-use Rattle.chorus_net.specs.Closing.{closed_journals, IsLeft}
+use Rattle.chorus_net.specs.Closing.{IsLeft, closed_journals, past_of}
 use Rattle.law_network.specs.declared.placed.Placed.{Placed}
 use Rattle.law_network.specs.Holdings.{StandsFor, holdings_left}
 use Rattle.law_network.specs.History.{history}
@@ -32,7 +32,7 @@ use Rattle.law_network.proofs.Places.Layouts.{schedule-keeps}
 use Rattle.law_network.proofs.Promises.Promised.{stands-at, runs-at, journals-at, closes-at, receives-at}
 use Rattle.chorus_show.specs.declared.status.Status.{Status}
 use Rattle.chorus_report.specs.Fates.{WorldHolds}
-use Rattle.chorus_report.specs.Headline.{past_of, PerformsUnless, IsQuietUnless, Plays}
+use Rattle.chorus_report.specs.Headline.{PerformsUnless, IsQuietUnless, Plays}
 use Rattle.chorus_report.proofs.Seating.{run-more}
 use Rattle.chorus_report.proofs.Holding.{holds-by-fate, world-holds}
 

@@ -12,7 +12,8 @@ use Rattle.chorus_show.specs.declared.status.Status.TheVariants.{Done, Usage, Sc
 use Rattle.chorus_report.specs.declared.finished.Finished.{Finished}
 use Rattle.chorus_report.specs.declared.played.Played.{Played}
 use Rattle.chorus_report.specs.Reading.{IsGiven, IsRead, ReadsNoFurther}
-use Rattle.chorus_report.specs.Headline.{HasClock, merge_of}
+use Rattle.chorus_report.specs.Headline.{HasClock}
+use Rattle.chorus_net.specs.Closing.{merge_of}
 use Rattle.chorus_report.specs.Output.{Writes, HandsOut}
 
 -- What was read of the source, by the status: never Usage; Scenario where the grammar refuses what was read, with that

@@ -6,16 +6,15 @@ use Rattle.chorus_ui.specs.declared.layout.Layout.{Layout}
 use Rattle.chorus_ui.specs.Layout.{places}
 use Rattle.chorus_entry.specs.declared.entry.Entry.{Entry}
 use Rattle.chorus_entry.specs.declared.command.Command.{Command}
-use Rattle.chorus_merge.specs.Merge.{merged}
 use Rattle.chorus_world.specs.Views.{at}
 use Rattle.chorus_world.specs.Runs.{is_run}
 use Rattle.chorus_world.specs.Commands.{performs}
 use Rattle.chorus_world.specs.Always.{Always}
 use Rattle.chorus_world.specs.AcceptedLaws.{ReceivesInOrder}
 use Rattle.chorus_net.specs.declared.closed.Closed.{Closed}
-use Rattle.chorus_net.specs.Closing.{closed_journals}
+use Rattle.chorus_net.specs.Closing.{closed_journals, holdings_of, merge_of, past_of}
 use Rattle.law_network.specs.Calls.{first_actor}
-use Rattle.law_network.specs.Holdings.{StandsFor, holdings_left}
+use Rattle.law_network.specs.Holdings.{StandsFor}
 use Rattle.law_network.specs.Quiet.{IsQuiet}
 use Rattle.chorus_show.specs.Bounds.{AreWithin}
 use Rattle.chorus_show.specs.declared.status.Status.{Status}
@@ -24,13 +23,6 @@ use Rattle.chorus_scene.specs.Scene.{Scene, Script}
 use Rattle.chorus_report.specs.Fates.{HoldsByFate, WorldHolds}
 use Rattle.chorus_report.specs.Setup.{setup_commands}
 use Rattle.chorus_report.specs.Reading.{IsGiven}
-
--- the merge of the journals, in order, and as a past of the world
-abbrev pub merge_of : Closed → List Entry
-merge_of closed = merged (closed_journals closed)
-
-abbrev pub past_of : Closed → List Entry
-past_of closed = reverse (merge_of closed)
 
 -- an entry of the list has this clock
 abbrev pub HasClock : ℕ → List Entry → Type 0
@@ -67,8 +59,8 @@ pub record Plays (l : Layout) (callers : ℕ → Option Ui) (commands : ℕ → 
       PerformsUnless status l k actor closed given
   pub receives : Always ReceivesInOrder (past_of closed)
   pub holds : Always WorldHolds (past_of closed)
-  pub left : HoldsByFate (past_of closed) (holdings_left l closed.ports.items closed.rest.items)
-  pub stands : StandsFor (past_of closed) (holdings_left l closed.ports.items closed.rest.items)
+  pub left : HoldsByFate (past_of closed) (holdings_of l closed)
+  pub stands : StandsFor (past_of closed) (holdings_of l closed)
   pub places_are : length (closed_journals closed) ≡ places l
   pub journals : (p : ℕ) (journal : List Entry) → slice_get (closed_journals closed) p ≡ Some journal →
       journal ≡ reverse (at (p + 1) (past_of closed))

@@ -4,7 +4,8 @@ ghost use Rattle.std.specs.Prelude.{◌≡◌, ◌⊎◌, ℕ, Some, None, Ok, I
 ghost use Rattle.chorus_io.specs.Count.{Rose};
 ghost use Rattle.chorus_show.specs.Bounds.{AreWithin};
 ghost use Rattle.chorus_show.specs.Report.{report};
-ghost use Rattle.chorus_report.specs.Headline.{AreWithinUnless, merge_of};
+ghost use Rattle.chorus_report.specs.Headline.{AreWithinUnless};
+ghost use Rattle.chorus_net.specs.Closing.{merge_of};
 ghost use Rattle.chorus_report.specs.Output.{EndsUnread, GivesUp, HandsOut, Writes, summary, text_as};
 ghost use Rattle.chorus_report.specs.Ending.{EndsWriting, HasWorn, IsFinished};
 

@@ -7,7 +7,7 @@ use Rattle.chorus_ui.specs.declared.limits.TheConstants.{CLOCK_LIMIT}
 use Rattle.chorus_entry.specs.declared.entry.Entry.{Entry}
 use Rattle.chorus_merge.specs.Steps.{lent}
 use Rattle.chorus_net.specs.declared.closed.Closed.{Closed}
-use Rattle.chorus_net.specs.Closing.{worn_in, worn_of}
+use Rattle.chorus_net.specs.Closing.{merge_of, worn_in, worn_of}
 use Rattle.chorus_scene.specs.Scene.{Scene}
 use Rattle.chorus_scene.specs.Limits.{Keeps}
 use Rattle.chorus_show.specs.declared.status.Status.{Status}
@@ -21,7 +21,7 @@ use Rattle.chorus_perform.specs.Rounds.{IsEven}
 use Rattle.chorus_perform.specs.Scripts.{HasPerformed}
 use Rattle.chorus_report.specs.declared.played.Played.{Played}
 use Rattle.chorus_report.specs.Reading.{IsGiven}
-use Rattle.chorus_report.specs.Headline.{AreWithinUnless, HasClock, Plays, Runs, callers_of, commands_by, merge_of}
+use Rattle.chorus_report.specs.Headline.{AreWithinUnless, HasClock, Plays, Runs, callers_of, commands_by}
 use Rattle.chorus_report.specs.Ending.{EndsFor, HasWorn, IsFinished}
 use Rattle.chorus_report.proofs.Ends.{finished-so}
 use Rattle.chorus_run.specs.Threads.{HasWornOf, IsOfNucleus, IsPlayedOn, StopsAt}

@@ -32,7 +32,7 @@ use Rattle.law_network.specs.Calls.{first_actor}
 use Rattle.law_network.specs.Network.{NetState, Event, schedule}
 use Rattle.law_network.specs.Quiet.{IsQuiet}
 use Rattle.chorus_net.specs.declared.closed.Closed.{Closed}
-use Rattle.chorus_net.specs.Closing.{IsLeft}
+use Rattle.chorus_net.specs.Closing.{IsLeft, past_of}
 use Rattle.chorus_show.specs.declared.status.Status.{Status}
 use Rattle.chorus_scene.specs.declared.limits.TheConstants.{COMMANDS_LIMIT}
 use Rattle.chorus_scene.specs.Scene.{Scene, Script}
@@ -42,7 +42,7 @@ use Rattle.law_closing.specs.Actors.{AreIn, AreActors}
 use Rattle.chorus_nucleus.specs.Closing.{ClosesAs, ClosesFor}
 use Rattle.chorus_perform.specs.Rounds.{IsEven, turns_seen}
 use Rattle.chorus_perform.specs.Scripts.{IsPerformedBy, IsOfScript, HasPerformed}
-use Rattle.chorus_report.specs.Headline.{past_of, PerformsAll, PerformsFirst, Plays, callers_of, commands_by}
+use Rattle.chorus_report.specs.Headline.{PerformsAll, PerformsFirst, Plays, callers_of, commands_by}
 use Rattle.chorus_report.proofs.Playing.{performs-none, past-is, plays-so}
 use Rattle.chorus_report.proofs.Seating.{run-more, run-ungiven}
 use Rattle.chorus_run.proofs.Totals.{none-by-link, total-upto}

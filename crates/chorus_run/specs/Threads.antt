@@ -4,7 +4,7 @@ use Rattle.std.specs.Prelude.{ℕ, ◌≡◌, ◌≤◌, ◌+◌, List, Option, 
 use Rattle.std.specs.List.{All}
 use Rattle.chorus_ui.specs.declared.limits.TheConstants.{CLOCK_LIMIT}
 use Rattle.chorus_net.specs.declared.closed.Closed.{Closed}
-use Rattle.chorus_net.specs.Closing.{closed_journals, worn_of}
+use Rattle.chorus_net.specs.Closing.{closed_journals, merge_of, worn_of}
 use Rattle.chorus_entry.specs.declared.entry.Entry.{Entry}
 use Rattle.chorus_world.specs.Views.{by}
 use Rattle.chorus_turn.specs.declared.knowledge.Placed.{Placed}
@@ -22,7 +22,7 @@ use Rattle.chorus_perform.specs.Scripts.{IsSetUpFirst}
 use Rattle.chorus_perform.specs.declared.stopped.Stopped.{Stopped}
 use Rattle.chorus_perform.specs.declared.stopped.Stopped.TheVariants as stops
 use Rattle.chorus_report.specs.declared.played.Played.{Played}
-use Rattle.chorus_report.specs.Headline.{HasClock, Plays, callers_of, commands_by, merge_of}
+use Rattle.chorus_report.specs.Headline.{HasClock, Plays, callers_of, commands_by}
 use Rattle.chorus_report.specs.Ending.{EndsFor}
 
 -- the entries of the seat in the journal of the place p are those that its pass made there

@@ -6,7 +6,8 @@ ghost use Rattle.chorus_merge.specs.Steps.{lent};
 ghost use Rattle.chorus_nucleus.specs.Closing.{IsClosed};
 ghost use Rattle.chorus_nucleus.specs.Passes.{known, IsPassOf};
 ghost use Rattle.chorus_perform.specs.Scripts.{IsOpening};
-ghost use Rattle.chorus_report.specs.Headline.{HasClock, merge_of};
+ghost use Rattle.chorus_report.specs.Headline.{HasClock};
+ghost use Rattle.chorus_net.specs.Closing.{merge_of};
 ghost use Rattle.chorus_run.specs.Threads.{StopsAt};
 
 use chorus_entry::Entry;

@@ -25,9 +25,8 @@ use Rattle.chorus_turn.specs.declared.knowledge.Knowledge.{Knowledge}
 use Rattle.chorus_turn.specs.declared.knowledge.Remarked.{Remarked}
 use Rattle.chorus_turn.specs.Knowing.{Shows}
 use Rattle.chorus_net.specs.declared.closed.Closed.{Closed}
-use Rattle.chorus_net.specs.Closing.{IsLeft}
+use Rattle.chorus_net.specs.Closing.{IsLeft, past_of}
 use Rattle.chorus_nucleus.specs.Closing.{ClosesAs}
-use Rattle.chorus_nucleus.specs.Runs.{past_of}
 use Rattle.chorus_take.specs.Taking.{HasOrigin}
 use Rattle.law_takes.specs.Posted.{MessagesTakenWerePosted}
 

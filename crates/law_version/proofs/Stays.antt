@@ -29,7 +29,7 @@ use Rattle.chorus_show.specs.Journal.{journal_text}
 use Rattle.chorus_show.specs.Summary.{summary_text}
 use Rattle.chorus_replay.specs.Order.{in_setup, set_up, in_schedule, left_from, tasks}
 use Rattle.chorus_report.specs.Reading.{bytes_read}
-use Rattle.chorus_report.specs.Headline.{merge_of}
+use Rattle.chorus_net.specs.Closing.{merge_of}
 use Rattle.chorus_replay.specs.Ordered.{IsOrdered}
 use Rattle.chorus_replay.specs.Laws.{worn_clock}
 use Rattle.chorus_replay.specs.Performing.{to_enter}

@@ -10,7 +10,7 @@ use Rattle.chorus_scene.specs.Scene.{Scene}
 use Rattle.chorus_scene.specs.Grammar.{read_scene}
 use Rattle.chorus_show.specs.declared.status.Status.{Status}
 use Rattle.chorus_replay.specs.Order.{tasks}
-use Rattle.chorus_report.specs.Headline.{merge_of}
+use Rattle.chorus_net.specs.Closing.{merge_of}
 use Rattle.chorus_replay.specs.Ordered.{IsOrdered, Replays}
 use Rattle.chorus_replay.specs.Laws.{worn_clock}
 use Rattle.chorus_show.specs.Report.{report}
