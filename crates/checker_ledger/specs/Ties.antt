@@ -50,7 +50,8 @@ IsLineOf past k xs =
 
 abbrev pub IsAskedOf : Layout → List Entry → Line → List MsgId → Type 0
 IsAskedOf l past k xs =
-    filter (unchosen_at (at (choosing_at l k) past)) xs ≡ filter (unchosen_at (at (choosing_at l k) past)) (asked_row past k)
+    filter (unchosen_at (at (choosing_at l k) past)) xs ≡ filter (unchosen_at (at (choosing_at l k) past))
+    (asked_row past k)
 
 -- the tables have, at each key, what the past says
 pub record Follows (l : Layout) (past : List Entry) (t : Tables) : Type 0 where
@@ -104,7 +105,8 @@ pub record HasFew (e : Entry) (t : Tables) : Type 0 where
   pub posts : (seat_in t.seats e.seat).posts < 2 ^ 63
   pub clients : (q : Ui) → clients_in t.clients q < 2 ^ 63
 
--- What the tables say of the entry's message: what was sent from its place under its id, and the tag of what it takes or accepts.
+-- What the tables say of the entry's message: what was sent from its place under its id, and the tag of what it takes
+-- or accepts.
 
 abbrev pub sent_at : Tables → ℕ → Option MsgId → Option Sent
 sent_at t p None = None

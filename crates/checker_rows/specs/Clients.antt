@@ -66,7 +66,8 @@ clients_row past q = clients past (on q past)
 -- after an entry, where the message that it accepts has this tag
 abbrev pub KeptAfter : Tag → Entry → (Ui → ℕ → Option ℕ) → (Ui → ℕ → Option ℕ) → Type 0
 KeptAfter tag e old new =
-    (q : Ui) (client : ℕ) → new q client ≡ cond (is_on (Some q) e) (kept_by client tag e.act (old q client)) (old q client)
+    (q : Ui) (client : ℕ) → new q client ≡ cond (is_on (Some q) e) (kept_by client tag e.act (old q client))
+    (old q client)
 
 -- and where this was kept before it
 abbrev pub ClientsAfter : (Ui → ℕ → Option ℕ) → Tag → Entry → (Ui → ℕ) → (Ui → ℕ) → Type 0

@@ -35,7 +35,11 @@ message_in t x = unwrap_or (get same_id t x) no_message
 -- what the past says of the message x; the post is the one under this very id
 abbrev pub message_row : List Entry → MsgId → MessageRow
 message_row past x =
-    record { progress = progress (about x past); verdict = verdict x past; post = in_brief (posted_in x (by x.seat past)) }
+    record {
+      progress = progress (about x past);
+      verdict = verdict x past;
+      post = in_brief (posted_in x (by x.seat past));
+    }
 
 abbrev pub posted_under : MsgId → Entry → Option Posting
 posted_under x e = cond (e.seat == x.seat) (in_brief (posted_by x e.place e.act)) None
@@ -58,7 +62,11 @@ mark_in t k = unwrap_or (get same_message_at t k) no_mark
 
 abbrev pub mark_row : List Entry → MessageAt → MarkRow
 mark_row past k =
-    record { settled = is_settled k.id (at k.place past); tried = is_tried k.id (at k.place past); chosen = is_chosen k.id (at k.place past) }
+    record {
+      settled = is_settled k.id (at k.place past);
+      tried = is_tried k.id (at k.place past);
+      chosen = is_chosen k.id (at k.place past);
+    }
 
 abbrev pub is_choosing : Act → Bool
 is_choosing (Choose y g qs) = true

@@ -35,7 +35,12 @@ place_row past p = fold_place (at p past)
 
 abbrev pub place_here : Entry → PlaceRow → PlaceRow
 place_here e r =
-    record { clock = e.clock; ports = ports_after e.act r.ports; groups = groups_after e.act r.groups; taken = taking e.seat e.act }
+    record {
+      clock = e.clock;
+      ports = ports_after e.act r.ports;
+      groups = groups_after e.act r.groups;
+      taken = taking e.seat e.act;
+    }
 
 abbrev pub place_after : ℕ → Entry → PlaceRow → PlaceRow
 place_after p e r = cond (e.place == p) (place_here e r) r

@@ -73,7 +73,8 @@ first_after _ i greatest first = first
 abbrev pub first_index : ℕ → List Entry → Option ℕ
 first_index s [] = None
 first_index s (e ∷ past) =
-    cond (e.seat == s) (first_after e.act (length past) (requests (by s past)) (first_index s past)) (first_index s past)
+    cond (e.seat == s) (first_after e.act (length past) (requests (by s past)) (first_index s past))
+    (first_index s past)
 
 abbrev pub call_of : ℕ → Option Entry → Option Call
 call_of n None = None

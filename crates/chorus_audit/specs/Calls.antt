@@ -48,4 +48,5 @@ held None = None
 held (Some act) = if has_room act then Some act else None
 
 abbrev pub entry_held : List (List ℕ) → Option Entry
-entry_held ts = option_map entry_of (four (parse_decimal (first ts)) (u16_in (second ts)) (u32_in (third ts)) (held (act_in (rest (rest (rest ts))))))
+entry_held ts = option_map entry_of (four (parse_decimal (first ts)) (u16_in (second ts)) (u32_in (third ts))
+    (held (act_in (rest (rest (rest ts))))))

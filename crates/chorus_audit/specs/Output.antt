@@ -15,7 +15,8 @@ use Rattle.chorus_audit.specs.Tests.{IsVerdict}
 -- the line of a verdict
 abbrev pub verdict_text : Audit → List ℕ
 verdict_text (Legal n) = phrase (codes "legal") (decimal n ∷ []) ++ 10 ∷ []
-verdict_text (Wrong line rule) = phrase (codes "wrong line") (decimal line ∷ codes "rule" ∷ decimal rule ∷ []) ++ 10 ∷ []
+verdict_text (Wrong line rule) =
+    phrase (codes "wrong line") (decimal line ∷ codes "rule" ∷ decimal rule ∷ []) ++ 10 ∷ []
 
 -- how an audit ends, and what it read: the byte above the limit exactly at Scenario
 abbrev pub ReadsBy : Status → Option (List ℕ) → Option (List ℕ) → Type 0
@@ -28,9 +29,11 @@ ReadsBy Memory old new = (bytes : List ℕ) × IsReadWithin AUDIT_LIMIT bytes ol
 ReadsBy Usage old new = ⊥
 ReadsBy (Worn clock) old new = ⊥
 
--- the sink took the line of the verdict on what the source had at Done, a prefix of it at WriteFault, and nothing with any other
--- status
+-- the sink took the line of the verdict on what the source had at Done, a prefix of it at WriteFault, and nothing with
+-- any other status
 abbrev pub Prints : Layout → Status → Option (List ℕ) → Option (List ℕ) → Option (List ℕ) → Type 0
-Prints l Done input old new = (audit : Audit) × IfSome input (λ text. IsVerdict l text audit) × Appends old new (verdict_text audit)
-Prints l WriteFault input old new = (audit : Audit) × IfSome input (λ text. IsVerdict l text audit) × AppendsPrefix old new (verdict_text audit)
+Prints l Done input old new =
+    (audit : Audit) × IfSome input (λ text. IsVerdict l text audit) × Appends old new (verdict_text audit)
+Prints l WriteFault input old new =
+    (audit : Audit) × IfSome input (λ text. IsVerdict l text audit) × AppendsPrefix old new (verdict_text audit)
 Prints l _ input old new = new ≡ old

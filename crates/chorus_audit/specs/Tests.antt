@@ -25,7 +25,8 @@ pub record FailsAtHead (text : List ℕ) (line rule : ℕ) : Type 0 where
   pub is_rule : rule ≡ NO_LINE
   pub no_head : (n : ℕ) (rest : List ℕ) → n < 2 ^ 32 → text ≢ head n ++ rest
 
--- the text begins with the line `journal N` and the lines of these entries, a legal list of at most N, and this is the rest
+-- the text begins with the line `journal N` and the lines of these entries, a legal list of at most N, and this is the
+-- rest
 pub record Begins (l : Layout) (text : List ℕ) (n : ℕ) (es : List Entry) (rest : List ℕ) : Type 0 where
   pub number : n < 2 ^ 32
   pub few : length es ≤ n

@@ -43,7 +43,8 @@ abbrev pub HasSameHandle : BoardReader → BoardReader → Type 0
 HasSameHandle old new = new.handle ≡ old.handle
 
 abbrev pub IsSameReader : BoardReader → BoardReader → Type 0
-IsSameReader old new = (book_read new ≡ book_read old) × (layout_read new ≡ layout_read old) × (place_read new ≡ place_read old)
+IsSameReader old new =
+    (book_read new ≡ book_read old) × (layout_read new ≡ layout_read old) × (place_read new ≡ place_read old)
 
 -- what readers read now
 abbrev pub shown : Board → Table
@@ -88,8 +89,8 @@ abbrev pub IsReaderOf : Board → BoardReader → Type 0
 IsReaderOf board reader = (book_read reader ≡ book_of board) × (layout_read reader ≡ layout_of board)
     × (place_read reader ≡ place_of board)
 
--- where each port was located after what was published, or by this location where that is farther, is where it is located after
--- these entries
+-- where each port was located after what was published, or by this location where that is farther, is where it is
+-- located after these entries
 abbrev pub LocatesAfter : Board → Ui → ℕ → ℕ → List Entry → Type 0
 LocatesAfter board ui place hop entries = (q : Ui) → IsPortIn (layout_of board) q →
     farther (located_after (layout_of board) (entries_published board) q) (told_of q ui place hop)
@@ -102,5 +103,6 @@ IsNewBoard layout place board = (layout_of board ≡ layout) × (place_of board 
 
 -- it is a reader of that board, which has this layout and is of this place, and it has seen nothing
 abbrev pub IsNewIn : Book → Layout → ℕ → BoardReader → Type 0
-IsNewIn book layout place reader = (book_read reader ≡ book) × (layout_read reader ≡ layout) × (place_read reader ≡ place)
+IsNewIn book layout place reader =
+    (book_read reader ≡ book) × (layout_read reader ≡ layout) × (place_read reader ≡ place)
     × (entries_seen reader ≡ [])

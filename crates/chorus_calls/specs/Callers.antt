@@ -5,7 +5,8 @@ use Rattle.chorus_ui.specs.declared.kind.Kind.TheVariants as kinds
 use Rattle.chorus_entry.specs.declared.hand.Hand.{Hand}
 use Rattle.chorus_calls.specs.Clients.{Calling, new_client}
 
--- the seat, its actor, its clock, how many messages it posted, its calls, and the request that it took and did not reply to
+-- the seat, its actor, its clock, how many messages it posted, its calls, and the request that it took and did not
+-- reply to
 pub record Seated : Type 0 where
   pub seat : ℕ
   pub actor : Ui

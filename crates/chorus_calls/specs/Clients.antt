@@ -48,7 +48,10 @@ begun c body = answered c.outstanding c.given body
 -- the call with the next number is outstanding, unless another one is
 abbrev pub with_call : Option Call → Calling → Ui → Ui → List ℕ → Calling
 with_call None c port back body =
-    record { outstanding = Some (record { number = c.given + 1; port = port; back = back; body = body }); given = c.given + 1 }
+    record {
+      outstanding = Some (record { number = c.given + 1; port = port; back = back; body = body });
+      given = c.given + 1;
+    }
 with_call (Some call) c port back body = c
 
 abbrev pub after_begin : Calling → Ui → Ui → List ℕ → Calling

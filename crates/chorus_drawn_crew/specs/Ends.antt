@@ -23,8 +23,8 @@ pub record EndsWorn (why : Stopped) (closed : Closed) (finished : Finished) : Ty
   pub high : CLOCK_LIMIT ≤ clock
   pub entry : HasClock clock (merge_of closed)
 
--- The text of the draws was written; what was closed is this nucleus, and its journals have the takes that were counted; and a clock that
--- was worn is that of the pass that closed it.
+-- The text of the draws was written; what was closed is this nucleus, and its journals have the takes that were
+-- counted; and a clock that was worn is that of the pass that closed it.
 pub record EndsAsCrew {K : Type 0} (n : Nucleus) (first commands : ℕ) (finished : Finished) (held : K → Option (List ℕ))
     (failures : K → ℕ) (old new : K) : Type 0 where
   pub status : EndsUnread finished.status

@@ -17,8 +17,8 @@ use Rattle.chorus_drawn_crew.specs.Value.{message_value}
 use Rattle.chorus_drawn_crew.specs.Sends.{tally}
 use Rattle.chorus_drawn_crew.specs.Filling.{crew_commands}
 
--- Seat 0 made the ports and sent. Into it were retired the passes of the crew, those of seats 1 to 8 for the ports in their order: each
--- took what waited in its port, and the numbers are those of its takes.
+-- Seat 0 made the ports and sent. Into it were retired the passes of the crew, those of seats 1 to 8 for the ports in
+-- their order: each took what waited in its port, and the numbers are those of its takes.
 pub record HasCrewed (n : Nucleus) (first commands : ℕ) (handled : List Handled) (p : Pass) : Type 0 where
   pub seat : (known p).seat ≡ 0
   pub performed : gave (known p) ≡ crew_commands first commands

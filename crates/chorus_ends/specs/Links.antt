@@ -4,8 +4,8 @@ use Rattle.std.specs.Prelude.{ℕ, ◌≡◌, ◌==◌, ◌-◌, ◌^◌, ◌<�
 use Rattle.chorus_entry.specs.declared.packet.Packet.{Packet}
 use Rattle.chorus_ends.specs.declared.ends.EndsName.{EndsName}
 
--- which ends they are; and of each place: whether the ends reach it, the packets that were sent to it and received from it so
--- far, in order, and how often a link to it was found full and one from it empty
+-- which ends they are; and of each place: whether the ends reach it, the packets that were sent to it and received from
+-- it so far, in order, and how often a link to it was found full and one from it empty
 pub record Links : Type 0 where
   pub name : EndsName
   pub reaches : ℕ → Bool

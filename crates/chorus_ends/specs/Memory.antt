@@ -5,8 +5,8 @@ use Rattle.std.specs.List.{filter}
 use Rattle.chorus_entry.specs.declared.packet.Packet.{Packet}
 use Rattle.chorus_ends.specs.Links.{Links, with_packet}
 
--- the packets that are left to be received, those that were received, those that were sent, by the number of the place that they
--- went to, and how often nothing was left to be received
+-- the packets that are left to be received, those that were received, those that were sent, by the number of the place
+-- that they went to, and how often nothing was left to be received
 pub record Kept : Type 0 where
   pub left : List Packet
   pub received : List Packet

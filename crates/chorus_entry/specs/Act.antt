@@ -1,5 +1,5 @@
--- What an act is: the role that it plays, and by its role which answer it gives, and which message, port, group and seat
--- it names. One table goes through all forty acts, so that a further act has to be placed by hand in it.
+-- What an act is: the role that it plays, and by its role which answer it gives, and which message, port, group and
+-- seat it names. One table goes through all forty acts, so that a further act has to be placed by hand in it.
 use Rattle.std.specs.Prelude.{ℕ, Bool, true, false, Option, Some, None, length}
 use Rattle.std.specs.Option.{option_map}
 use Rattle.chorus_ui.specs.declared.ui.Ui.{Ui}

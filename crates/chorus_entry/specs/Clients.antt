@@ -1,5 +1,5 @@
--- What a port remembers of the requests that it accepted, so that it accepts none twice: a table of clients, each with the
--- greatest number of its requests. The client of a request is the seat that posted it.
+-- What a port remembers of the requests that it accepted, so that it accepts none twice: a table of clients, each with
+-- the greatest number of its requests. The client of a request is the seat that posted it.
 use Rattle.std.specs.Prelude.{ℕ, nat_le, max, Bool, false, ◌&&◌, not, if◌then◌else◌, Option, Some, None, is_some, List, [], ◌∷◌, ◌++◌, length}
 use Rattle.chorus_ui.specs.declared.limits.TheConstants.{CLIENTS_LIMIT}
 use Rattle.chorus_entry.specs.declared.tag.Tag.{Tag}

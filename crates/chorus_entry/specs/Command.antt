@@ -19,8 +19,8 @@ demands_a_site (All g) = true
 demands_a_site (One g) = true
 demands_a_site (OneAt g s) = nat_le 1 s && nat_le s SITES_LIMIT
 
--- a command is given under these conditions: each name in it is of the kind that it stands for, its capacity is one, and
--- its destination demands no site but one from 1 to 16
+-- a command is given under these conditions: each name in it is of the kind that it stands for, its capacity is one,
+-- and its destination demands no site but one from 1 to 16
 abbrev pub meets_conditions : Command → Bool
 meets_conditions (Make a n) = is_actor a && is_capacity n
 meets_conditions (Send d b) = has_kinds_in_dest d && demands_a_site d

@@ -7,8 +7,8 @@ use Rattle.chorus_entry.specs.declared.entry.Entry.{Entry}
 abbrev pub comes_before : Entry → Entry → Bool
 comes_before e f = nat_lt e.clock f.clock || ((e.clock == f.clock) && nat_lt e.place f.place)
 
--- of a list with the oldest entry first, as a journal: each entry comes before all behind it, so that the list is sorted by
--- clock and place and no two entries have both the same
+-- of a list with the oldest entry first, as a journal: each entry comes before all behind it, so that the list is
+-- sorted by clock and place and no two entries have both the same
 abbrev pub IsInOrder : List Entry → Type 0
 IsInOrder [] = Unit {0}
 IsInOrder (e ∷ later) = All (λ (f : Entry). comes_before e f ≡ true) later × IsInOrder later

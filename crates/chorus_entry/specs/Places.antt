@@ -6,8 +6,8 @@ use Rattle.chorus_ui.specs.Layout.{has_site, first_place, place_at, home, group_
 use Rattle.chorus_entry.specs.declared.command.Command.{Command}
 use Rattle.chorus_entry.specs.declared.command.Command.TheVariants.{Make, Send, Call, Retry, Cancel, Reply, Take, Move, Delete, GroupMake, Join, Leave}
 
--- where it names one: the home place of the actor, the place of the port on the caller's site, the site's first place, or
--- the group's place
+-- where it names one: the home place of the actor, the place of the port on the caller's site, the site's first place,
+-- or the group's place
 abbrev pub place_named : Layout → Ui → Command → Option ℕ
 place_named l a (Make actor capacity) = home l actor
 place_named l a (Take port) = Some (place_at l a.site port)

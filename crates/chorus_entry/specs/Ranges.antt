@@ -41,7 +41,8 @@ has_range_of_tag (Request number back) = nat_le 1 number
 has_range_of_tag (Reply client number) = nat_le 1 number
 
 abbrev pub has_ranges_of_message : Message → Bool
-has_ranges_of_message m = has_range_of_id m.id && has_range_of_tag m.tag && has_kinds_in_tag m.tag && nat_le (length m.body) BODY_LIMIT
+has_ranges_of_message m =
+    has_range_of_id m.id && has_range_of_tag m.tag && has_kinds_in_tag m.tag && nat_le (length m.body) BODY_LIMIT
 
 -- the route of a message is the group that it went through
 abbrev pub is_route : Option Ui → Bool
@@ -89,7 +90,8 @@ abbrev pub has_range_of_client : ℕ × ℕ → Bool
 has_range_of_client entry = nat_le 1 entry.1
 
 abbrev pub has_ranges_of_clients : List (ℕ × ℕ) → Bool
-has_ranges_of_clients clients = nat_le (length clients) CLIENTS_LIMIT && are_distinct clients && list_all has_range_of_client clients
+has_ranges_of_clients clients =
+    nat_le (length clients) CLIENTS_LIMIT && are_distinct clients && list_all has_range_of_client clients
 
 abbrev pub has_ranges_of_record : ℕ → PortRecord → Bool
 has_ranges_of_record clock port =
@@ -112,7 +114,8 @@ has_ranges_of_cargo clock (Verdict id port route answer) =
     has_range_of_id id && is_port port && is_route route && is_told answer && has_ranges_of_answer clock answer
 has_ranges_of_cargo clock (Transfer port) = has_ranges_of_record clock port
 has_ranges_of_cargo clock (Ask message dest) = is_asked dest && has_ranges_of_message message
-has_ranges_of_cargo clock (Report id answer) = has_range_of_id id && is_reported answer && has_ranges_of_answer clock answer
+has_ranges_of_cargo clock (Report id answer) =
+    has_range_of_id id && is_reported answer && has_ranges_of_answer clock answer
 
 -- the packet is within the ranges
 abbrev pub has_ranges : Packet → Bool

@@ -37,7 +37,8 @@ abbrev pub IsHeldClient : ℕ × ℕ → Type 0
 IsHeldClient entry = IsCount entry.0 × IsCount entry.1
 
 abbrev pub IsHeldRecord : PortRecord → Type 0
-IsHeldRecord port = IsName port.ui × IsName port.actor × AllByRecursion IsHeldMessage port.pending × AllByRecursion IsHeldClient port.clients
+IsHeldRecord port = IsName port.ui × IsName port.actor × AllByRecursion IsHeldMessage port.pending ×
+    AllByRecursion IsHeldClient port.clients
 
 -- a post to a port is not asked for
 abbrev pub IsHeldDest : Dest → Type 0

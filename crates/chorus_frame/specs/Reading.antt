@@ -224,7 +224,18 @@ record_at clock bytes = do
   first ← up_to_clock_at clock hop.1
   pending ← pending_at capacity.0 first.1
   clients ← clients_at pending.1
-  Ok (record { ui = ui.0; actor = actor.0; capacity = capacity.0; hop = hop.0; first = first.0; pending = pending.0; clients = clients.0 }, clients.1)
+  Ok (
+    record {
+      ui = ui.0;
+      actor = actor.0;
+      capacity = capacity.0;
+      hop = hop.0;
+      first = first.0;
+      pending = pending.0;
+      clients = clients.0;
+    },
+    clients.1,
+  )
 
 -- the site that goes with the mode: a site with mode 3, and 0 with the others
 abbrev pub is_site_with : ℕ → ℕ → Bool

@@ -102,12 +102,15 @@ kind_of (Ask message dest) = 4
 kind_of (Report id answer) = 5
 
 abbrev pub cargo_fields : Cargo → List ℕ
-cargo_fields (Try message port route only hop) = route_field route ++ only_field only ++ number 8 hop ++ name_field port ++ message_fields message
-cargo_fields (Verdict id port route answer) = id_fields id ++ name_field port ++ route_field route ++ answer_fields answer
+cargo_fields (Try message port route only hop) =
+    route_field route ++ only_field only ++ number 8 hop ++ name_field port ++ message_fields message
+cargo_fields (Verdict id port route answer) =
+    id_fields id ++ name_field port ++ route_field route ++ answer_fields answer
 cargo_fields (Transfer port) = record_fields port
 cargo_fields (Ask message dest) = asked_fields dest ++ message_fields message
 cargo_fields (Report id answer) = id_fields id ++ answer_fields answer
 
 -- the frame of the packet
 abbrev pub frame : Packet → List ℕ
-frame packet = number 1 (kind_of packet.cargo) ++ number 8 packet.clock ++ number 2 packet.from ++ cargo_fields packet.cargo
+frame packet =
+    number 1 (kind_of packet.cargo) ++ number 8 packet.clock ++ number 2 packet.from ++ cargo_fields packet.cargo

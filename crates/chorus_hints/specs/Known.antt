@@ -1,4 +1,5 @@
--- What a place knows of where ports are: for each port that its layout can make, the pair of place and hop that is kept.
+-- What a place knows of where ports are: for each port that its layout can make, the pair of place and hop that is
+-- kept.
 use Rattle.std.specs.Prelude.{ℕ, nat_lt, ◌&&◌, if◌then◌else◌, Option, Some, None, List, replicate, slice_index_or, slice_set}
 use Rattle.chorus_ui.specs.declared.layout.Layout.{Layout}
 use Rattle.chorus_ui.specs.declared.ui.Ui.{Ui}
@@ -33,7 +34,8 @@ hop_of (Some pair) = pair.1
 
 -- a greater hop is kept, with its place, in place of the pair that was, and the pairs of the other ports stay
 abbrev pub learned : Ui → ℕ → ℕ → Pairs → Pairs
-learned port place hop pairs q = if nat_lt (hop_of (pairs port)) hop && same_ui port q then Some (place, hop) else pairs q
+learned port place hop pairs q =
+    if nat_lt (hop_of (pairs port)) hop && same_ui port q then Some (place, hop) else pairs q
 
 -- nothing is kept, and there is room for each port that the layout can make
 abbrev pub nothing_known : Layout → Known

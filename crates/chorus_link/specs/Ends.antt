@@ -90,13 +90,14 @@ module _ {P : Type 0} where
   abbrev pub GetsNothing : RecvEnd P → RecvEnd P → Type 0
   GetsNothing old new = (packets_got new ≡ packets_got old) × (known_put new ≡ known_put old)
 
-  -- at one moment the link held as many packets as it has room for: the last that were put, and none of them known to be
-  -- got
+  -- at one moment the link held as many packets as it has room for: the last that were put, and none of them known to
+  -- be got
   abbrev pub WasFull : ℕ → List P → List P → Type 0
   WasFull room put known =
       (held : List P) × (length held ≡ room) × (gone : List P) × (put ≡ gone ++ held) × StartsWith gone known
 
-  -- at one moment the link held nothing: what had been put is what was got, and it begins with all that was known to be put
+  -- at one moment the link held nothing: what had been put is what was got, and it begins with all that was known to be
+  -- put
   abbrev pub WasEmpty : List P → List P → Type 0
   WasEmpty got known = StartsWith got known
 

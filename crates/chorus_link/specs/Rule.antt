@@ -1,6 +1,7 @@
 -- The rule of a link. What was put is what was got, followed by what the queue holds.
 -- At most one pass may put, and it knows all that was put; at most one may get, and it knows all that was got.
--- Of the other side a pass knows a beginning, which may grow when it moves a packet: the proof of that step sees all that stands.
+-- Of the other side a pass knows a beginning, which may grow when it moves a packet: the proof of that step sees all
+-- that stands.
 use Rattle.std.specs.Prelude.{◌≡◌, ℕ, Bool, true, false, List, [], ◌∷◌, ◌++◌}
 use mathlib.Core.Option.{some}
 use lib.ListN.{get_elem?}
@@ -47,7 +48,8 @@ module _ {P : Type 0} where
     pub put : w.put ≡ v.put ++ x ∷ []
     pub got : StartsWith w.got v.got
 
-  -- at a moment when the queue held these items: they are the last that were put, and what was got begins with what the pass knew
+  -- at a moment when the queue held these items: they are the last that were put, and what was got begins with what the
+  -- pass knew
   pub record WasPut (v : Log P) (items : List P) : Type 0 where
     pub got : List P
     pub in_order : v.put ≡ got ++ items
@@ -61,7 +63,8 @@ module _ {P : Type 0} where
     pub within : StartsWith w.put w.got
     pub whole : v.puts ≡ true → w.put ≡ v.put
 
-  -- at a moment when the queue held these items: they follow what was got, and what was put begins with what the pass knew
+  -- at a moment when the queue held these items: they follow what was got, and what was put begins with what the pass
+  -- knew
   pub record WasGot (v : Log P) (items : List P) : Type 0 where
     pub put : List P
     pub in_order : put ≡ v.got ++ items

@@ -19,5 +19,6 @@ nil_of_nil {A} xs e = path_j' (λ (ys : List A) (e : ys ≡ []). nil_of ys (ap l
 nil_prop : {A : Type 0} (xs : List A) → IsProp (xs ≡ [])
 nil_prop xs a b = sym (nil_of_nil xs a) ∙ ap (nil_of xs) (ℕ_set _ _ (ap length a) (ap length b)) ∙ nil_of_nil xs b
 
-pub pass_of_prop : {T V Q A : Type 0} (queue : Slotted (Option T) (Doing T V) Q A) (pass : Pass T V) → IsProp (IsPassOf queue pass)
+pub pass_of_prop : {T V Q A : Type 0} (queue : Slotted (Option T) (Doing T V) Q A) (pass : Pass T V) →
+    IsProp (IsPassOf queue pass)
 pass_of_prop queue pass a b = λ i. (Coded-set table_id_coded _ _ a.0 b.0 i, nil_prop pass.me.1 a.1 b.1 i)

@@ -13,8 +13,9 @@ use Rattle.chorus_lossy.specs.Line.{Ends, new_ends, chunk_count}
 use Rattle.chorus_lossy.specs.Rounds.{Moment, after_rounds}
 use Rattle.chorus_lossy.specs.Carrying.{IsWithin}
 
--- After so many rounds all is delivered, whatever the draws: each fourth round loses nothing, and until all is delivered one chunk
--- more is delivered or acknowledged by it. So eight rounds for each chunk are enough, and four are to spare.
+-- After so many rounds all is delivered, whatever the draws: each fourth round loses nothing, and until all is
+-- delivered one chunk more is delivered or acknowledged by it. So eight rounds for each chunk are enough, and four are
+-- to spare.
 abbrev pub whole_run : ℕ → List ℕ → Moment
 whole_run first bytes = after_rounds first bytes (8 * chunk_count bytes + 4)
 
@@ -52,7 +53,8 @@ pub record HasCarried (first : ℕ) (bytes : List ℕ) (e : Ends) : Type 0 where
   pub put : next_number e.sender ≡ chunk_count bytes
   pub acknowledged : ack_of e.receiver ≡ chunk_count bytes
 
--- how the two ends stand then: without memory after a first part of the run, and where nothing was carried as they were made
+-- how the two ends stand then: without memory after a first part of the run, and where nothing was carried as they were
+-- made
 abbrev pub Leaves : ℕ → Status → List ℕ → Ends → Type 0
 Leaves first Done bytes e = HasCarried first bytes e
 Leaves first WriteFault bytes e = HasCarried first bytes e

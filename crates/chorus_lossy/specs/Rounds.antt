@@ -8,8 +8,8 @@ use Rattle.chorus_transport.specs.Sending.{Sending, next_number, emitted}
 use Rattle.chorus_transport.specs.Receiving.{next_chunk, ack_of}
 use Rattle.chorus_lossy.specs.Line.{Ends, Event, Put, Arrive, Deliver, Hear, new_ends, happens, chunk_at, chunk_count}
 
--- What is so at a moment of the run: the ends, what happened to them, the latest first, what the generator has come to, the
--- chunks that are held, the latest first, the bytes that were delivered, and what was counted.
+-- What is so at a moment of the run: the ends, what happened to them, the latest first, what the generator has come to,
+-- the chunks that are held, the latest first, the bytes that were delivered, and what was counted.
 pub record Moment : Type 0 where
   pub ends : Ends
   pub events : List Event
@@ -51,7 +51,8 @@ puts bytes (suc k) m = put_next bytes (puts bytes k m)
 unfoldable pub filled : List ℕ → Moment → Moment
 filled bytes m = puts bytes (room bytes m.ends.sender) m
 
--- 2. Each chunk that the sender keeps is emitted, with one draw: it is lost, or arrives twice, or is held, or arrives once.
+-- 2. Each chunk that the sender keeps is emitted, with one draw: it is lost, or arrives twice, or is held, or arrives
+-- once.
 
 abbrev pub sent : ℕ → ℕ → ℕ → Chunk → Moment → Moment
 sent n fate i chunk m =

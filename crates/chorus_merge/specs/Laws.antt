@@ -11,12 +11,13 @@ pub record Numbered : Type 0 where
   pub journal : ℕ
   pub entry : Entry
 
--- the entries are those of the journals, in an order that keeps the order of each: they can be numbered so that those of
--- number k are journal k
+-- the entries are those of the journals, in an order that keeps the order of each: they can be numbered so that those
+-- of number k are journal k
 pub record Interleaves (journals : List (List Entry)) (entries : List Entry) : Type 0 where
   pub numbered : List Numbered
   pub whole : map (λ (n : Numbered). n.entry) numbered ≡ entries
-  pub parts : (k : ℕ) → map (λ (n : Numbered). n.entry) (filter (λ (n : Numbered). n.journal == k) numbered) ≡ slice_index_or journals k []
+  pub parts : (k : ℕ) → map (λ (n : Numbered). n.entry) (filter (λ (n : Numbered). n.journal == k) numbered)
+      ≡ slice_index_or journals k []
 
 -- the merge keeps the order of each journal, loses nothing and adds nothing
 abbrev pub KeepsJournals : Type 0
@@ -46,12 +47,14 @@ GivesJournalsBack =
 
 -- where clocks rise along each journal and no two share a place, the merge is sorted by clock and place
 abbrev pub IsSortedMerge : Type 0
-IsSortedMerge = (journals : List (List Entry)) → ShareNoPlace journals → All ClocksRise journals → IsInOrder (merged journals)
+IsSortedMerge =
+    (journals : List (List Entry)) → ShareNoPlace journals → All ClocksRise journals → IsInOrder (merged journals)
 
 -- and it is the one sorted list in which the entries of each place stand as in its journal
 abbrev pub IsOnlyOne : Type 0
 IsOnlyOne =
-    (journals : List (List Entry)) (entries : List Entry) → ShareNoPlace journals → All ClocksRise journals → IsInOrder entries →
+    (journals : List (List Entry)) (entries : List Entry) → ShareNoPlace journals → All ClocksRise journals →
+    IsInOrder entries →
     ((place : ℕ) → filter (is_at place) entries ≡ filter (is_at place) (all_entries journals)) →
     entries ≡ merged journals
 

@@ -18,7 +18,8 @@ least_head ((e ∷ es) ∷ journals) = if leads e (least_head journals) then Som
 abbrev pub without_least_head : List (List Entry) → List (List Entry)
 without_least_head [] = []
 without_least_head ([] ∷ journals) = [] ∷ without_least_head journals
-without_least_head ((e ∷ es) ∷ journals) = if leads e (least_head journals) then es ∷ journals else (e ∷ es) ∷ without_least_head journals
+without_least_head ((e ∷ es) ∷ journals) =
+    if leads e (least_head journals) then es ∷ journals else (e ∷ es) ∷ without_least_head journals
 
 -- what is taken out in so many steps
 abbrev pub taken : ℕ → List (List Entry) → List Entry

@@ -14,12 +14,14 @@ abbrev pub lent : List (Bor Entry) → List Entry
 lent entries = map (λ (entry : Bor Entry). entry.now) entries
 
 module _ {X : Type 0} (before : X → X → Bool) where
-  -- the second list with x put in before the first element that is not before it, and what comes after x in what is left
+  -- the second list with x put in before the first element that is not before it, and what comes after x in what is
+  -- left
   unfoldable pub put_in : X → (List X → List X) → List X → List X
   put_in x after [] = x ∷ after []
   put_in x after (y ∷ ys) = if before y x then y ∷ put_in x after ys else x ∷ after (y ∷ ys)
 
-  -- both lists in one, each in its order: of two first elements that of the second list only where it is before the other
+  -- both lists in one, each in its order: of two first elements that of the second list only where it is before the
+  -- other
   unfoldable pub merge_by : List X → List X → List X
   merge_by [] ys = ys
   merge_by (x ∷ xs) ys = put_in x (merge_by xs) ys

@@ -53,8 +53,8 @@ worn_in (Origin.Turns spent worn) = worn
 abbrev pub worn_of : Closed → Option ℕ
 worn_of closed = worn_in closed.origin
 
--- what is left of the network, whoever closed it: the journals of the places, the packets that were put and not worked off, and the
--- ports that are held
+-- what is left of the network, whoever closed it: the journals of the places, the packets that were put and not worked
+-- off, and the ports that are held
 pub record IsLeft (n : NetState) (closed : Closed) : Type 0 where
   pub journals : closed_journals closed ≡ journals n
   pub rest : closed.rest.items ≡ packets_left n

@@ -36,7 +36,8 @@ puts_forward (e ∷ es) n p = puts_in e n p + puts_forward es (happened e n) p
 abbrev pub row_from : Layout → ℕ → List Event
 row_from l from = from_one 0 from (place_numbers l)
 
--- these deliveries worked off so many packets, none was worn, and the clock of seat 0 rose with each; so there are not too many to count
+-- these deliveries worked off so many packets, none was worn, and the clock of seat 0 rose with each; so there are not
+-- too many to count
 pub record Goes (es : List Event) (old new : NetState) (number : ℕ) : Type 0 where
   pub forward : new ≡ forward es old
   pub unworn : ComeUnworn es old
@@ -67,7 +68,8 @@ pub record RoundsUse (old new : SitesState) : Type 0 where
   pub is : net new ≡ after (draining old.layout count) (net old)
   pub room : UsesRoom (puts_of (draining old.layout count) (net old)) old.places new.places
 
--- whole rounds, so many that one more would serve nothing; no packet is left, so many were worked off, and no clock was worn
+-- whole rounds, so many that one more would serve nothing; no packet is left, so many were worked off, and no clock was
+-- worn
 pub record Drains (l : Layout) (old new : NetState) (number : ℕ) : Type 0 where
   pub count : ℕ
   pub drained : new ≡ after (draining l count) old

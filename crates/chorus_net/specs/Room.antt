@@ -1,6 +1,6 @@
 -- How many entries and packets need no memory at each place.
--- old and new are the places before and after a call, i is where a place stands, p is a place or its number, n is a network, e is an
--- event, es are events, the latest first.
+-- old and new are the places before and after a call, i is where a place stands, p is a place or its number, n is a
+-- network, e is an event, es are events, the latest first.
 use Rattle.std.specs.Prelude.{ℕ, zero, suc, ◌≡◌, ◌+◌, ◌≤◌, ◌==◌, if◌then◌else◌, List, [], ◌∷◌, ◌++◌, length, slice_set, Option, Some, None}
 use Rattle.chorus_entry.specs.declared.command.Command.{Command}
 use Rattle.chorus_entry.specs.Places.{place_for}
@@ -62,7 +62,8 @@ abbrev pub UsesRoom : (ℕ → ℕ) → List Place → List Place → Type 0
 UsesRoom puts old new =
     (number : ℕ) → room_at number old + entries_at number old ≤ room_at number new + entries_at number new + puts number
 
--- the first deliveries of so many rounds were done, and at each place the room is less by what it appended and put in them, at most
+-- the first deliveries of so many rounds were done, and at each place the room is less by what it appended and put in
+-- them, at most
 pub record UsesRoomInRounds (old new : SitesState) : Type 0 where
   pub count : ℕ
   pub later : List Event

@@ -6,7 +6,8 @@ use Rattle.chorus_ui.specs.declared.limits.TheConstants.{CLOCK_LIMIT}
 use Rattle.law_network.specs.Calls.{compared, compared_at}
 use Rattle.law_network.specs.Network.{NetState, Event, Enter, Act, Deliver, happened, after, rounds}
 
--- the greatest of the clocks that an event compares; a caller that comes compares none, and neither does a delivery of nothing
+-- the greatest of the clocks that an event compares; a caller that comes compares none, and neither does a delivery of
+-- nothing
 abbrev pub compared_by : Event → NetState → Option ℕ
 compared_by (Enter actor last) n = None
 compared_by (Act seat command) n = Some (compared seat command n)
@@ -32,7 +33,8 @@ pub record IsInRounds (l : Layout) (seat : ℕ) (next : Event) (done : List Even
   pub later : List Event
   pub are : rounds l seat count ≡ later ++ next ∷ done
 
--- a drain by seat 0 stopped where the next delivery compares this clock, from 2^62 on; those before it compared none such
+-- a drain by seat 0 stopped where the next delivery compares this clock, from 2^62 on; those before it compared none
+-- such
 pub record IsWornIn (clock : ℕ) (old new : NetState) : Type 0 where
   pub next : Event
   pub done : List Event

@@ -1,5 +1,5 @@
--- Columns: one for each place that has an entry, with a lane for each port that came to be held there. A column has its line at x, its
--- gutter to the left of it, its lanes to the right.
+-- Columns: one for each place that has an entry, with a lane for each port that came to be held there. A column has its
+-- line at x, its gutter to the left of it, its lanes to the right.
 -- p is a place, q a port, es are entries, the oldest first, c is a column, cs are the columns of a picture.
 use Rattle.std.specs.Prelude.{ℕ, zero, suc, ◌+◌, ◌*◌, ◌==◌, Bool, if◌then◌else◌, List, [], ◌∷◌, ◌++◌, length, Option, Some, None}
 use Rattle.std.specs.List.{list_any}
@@ -27,7 +27,8 @@ abbrev pub with_port : Option Ui → List Ui → List Ui
 with_port None qs = qs
 with_port (Some q) qs = if is_member q qs then qs else qs ++ q ∷ []
 
--- the ports of a column, each once, in the order in which they came: these, and those that the entries bring to the place
+-- the ports of a column, each once, in the order in which they came: these, and those that the entries bring to the
+-- place
 abbrev pub with_ports_at : ℕ → List Ui → List Entry → List Ui
 with_ports_at p qs [] = qs
 with_ports_at p qs (e ∷ es) = with_ports_at p (if e.place == p then with_port (port_brought e.act) qs else qs) es

@@ -24,7 +24,8 @@ line_bytes n (c ∷ cs) = if (n == 0) || (c == 10) then [] else c ∷ line_bytes
 -- all is lawful
 unfoldable pub lawful_front : ℕ → ℕ → List ℕ
 lawful_front n y =
-    filled (codes "<text x='8' y='@'>@ entries, all lawful</text><text class='sum' x='8' y='@'>") ((y + 22) ∷ n ∷ (y + 40) ∷ [])
+    filled (codes "<text x='8' y='@'>@ entries, all lawful</text><text class='sum' x='8' y='@'>")
+    ((y + 22) ∷ n ∷ (y + 40) ∷ [])
 
 abbrev pub lawful_text : List Entry → ℕ → ℕ → List ℕ
 lawful_text es n y = lawful_front n y ++ markup (summary_text es) ++ codes "</text>\n"

@@ -73,8 +73,8 @@ packet_name P.Transfer = codes "transfer"
 packet_name P.Ask = codes "ask"
 packet_name P.Report = codes "report"
 
--- What the marks tell: a square is a command, a cross is what the summary counts as refused, a triangle what it counts as stale, and a
--- disc has an arrow.
+-- What the marks tell: a square is a command, a cross is what the summary counts as refused, a triangle what it counts
+-- as stale, and a disc has an arrow.
 
 abbrev pub is_square : Mark → Bool
 is_square M.Own = true

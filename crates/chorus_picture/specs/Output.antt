@@ -34,14 +34,18 @@ ReadsBy l Done old new = (bytes : List ℕ) × IsReadWhole AUDIT_LIMIT bytes old
 ReadsBy l WriteFault old new = (bytes : List ℕ) × IsReadWhole AUDIT_LIMIT bytes old new
 ReadsBy l (Scenario line reason) old new =
     (Scenario line reason ≡ TOO_LONG)
-    × ((bytes : List ℕ) × (IsTooLong AUDIT_LIMIT bytes old new ⊎ (IsReadWhole AUDIT_LIMIT bytes old new × HasMany l bytes)))
+    × ((bytes : List ℕ) × (IsTooLong AUDIT_LIMIT bytes old new ⊎
+    (IsReadWhole AUDIT_LIMIT bytes old new × HasMany l bytes)))
 ReadsBy l ReadFault old new = (bytes : List ℕ) × IsReadWithin AUDIT_LIMIT bytes old new
 ReadsBy l Memory old new = (bytes : List ℕ) × IsReadWithin AUDIT_LIMIT bytes old new
 ReadsBy l Usage old new = ⊥
 ReadsBy l (Worn clock) old new = ⊥
 
--- the sink took the picture of what the source had at Done, a prefix of it at WriteFault, and nothing with any other status
+-- the sink took the picture of what the source had at Done, a prefix of it at WriteFault, and nothing with any other
+-- status
 abbrev pub Draws : Layout → Status → Option (List ℕ) → Option (List ℕ) → Option (List ℕ) → Type 0
-Draws l Done input old new = (picture : List ℕ) × IfSome input (λ text. IsDrawn l text picture) × Appends old new picture
-Draws l WriteFault input old new = (picture : List ℕ) × IfSome input (λ text. IsDrawn l text picture) × AppendsPrefix old new picture
+Draws l Done input old new =
+    (picture : List ℕ) × IfSome input (λ text. IsDrawn l text picture) × Appends old new picture
+Draws l WriteFault input old new =
+    (picture : List ℕ) × IfSome input (λ text. IsDrawn l text picture) × AppendsPrefix old new picture
 Draws l _ input old new = new ≡ old

@@ -15,7 +15,8 @@ use Rattle.chorus_picture.specs.Found.{found_text, foot}
 -- what stands behind the rows
 abbrev pub behind_rows : Layout → List ℕ → List Entry → Audit → List ColumnShape → ℕ → List ℕ
 behind_rows l text es audit cs n =
-    flat_map (bars_left (λ q. bar q (reverse es)) (end_y n)) cs ++ all_heads l cs n ++ found_text text es audit (end_y n) ++ foot (end_y n)
+    flat_map (bars_left (λ q. bar q (reverse es)) (end_y n)) cs ++ all_heads l cs n
+    ++ found_text text es audit (end_y n) ++ foot (end_y n)
 
 abbrev pub picture_on : Layout → List ℕ → List Entry → Audit → List ColumnShape → ℕ → List ℕ
 picture_on l text es audit cs n = front cs n ++ rows cs [] es ++ behind_rows l text es audit cs n

@@ -1,6 +1,6 @@
 -- Shapes: what stands in a picture for an entry, for a packet and for a port.
--- cs are the columns, c is a column, row is the number of an entry's row and y its middle, e an entry, q a port, b its bar, r is where
--- a packet comes from.
+-- cs are the columns, c is a column, row is the number of an entry's row and y its middle, e an entry, q a port, b its
+-- bar, r is where a packet comes from.
 use Rattle.std.specs.Prelude.{ℕ, ◌+◌, ◌-◌, ◌==◌, nat_lt, Bool, false, not, if◌then◌else◌, List, [], ◌∷◌, ◌++◌, length, codes, decimal, Option, Some, None}
 use Rattle.chorus_ui.specs.declared.ui.Ui.{Ui}
 use Rattle.chorus_ui.specs.Text.{name_text}
@@ -30,7 +30,8 @@ is_new_clock None clock = false
 is_new_clock (Some last) clock = not (last == clock)
 
 unfoldable pub tick : List ColumnShape → ℕ → Bool → List ℕ
-tick cs y b = if b then filled (codes "<path class='tick' d='M8 @H@'/>\n") ((y - 9) ∷ (right_edge cs + 652) ∷ []) else []
+tick cs y b =
+    if b then filled (codes "<path class='tick' d='M8 @H@'/>\n") ((y - 9) ∷ (right_edge cs + 652) ∷ []) else []
 
 -- The bar of a port, from the last entry on its line down to y, with how many messages wait.
 
@@ -61,8 +62,8 @@ abbrev pub bar_above : List ColumnShape → (Ui → Option Bar) → ℕ → Opti
 bar_above cs bars y None = []
 bar_above cs bars y (Some q) = bar_held cs q y (bars q)
 
--- An arrow, from the side of the mark of the entry that put the packet, over to the column of the one that works it off, and down
--- to that one's mark. It goes to the right where its place is a later one.
+-- An arrow, from the side of the mark of the entry that put the packet, over to the column of the one that works it
+-- off, and down to that one's mark. It goes to the right where its place is a later one.
 
 abbrev pub start_x : Bool → ℕ → ℕ
 start_x rightward x = if rightward then x + 6 else x - 6
@@ -123,7 +124,8 @@ entry_in m right x y e =
 abbrev pub entry_at : List ColumnShape → ℕ → Entry → Option Row → List ℕ
 entry_at cs row e cause = entry_in (mark_of cause e.act) (right_edge cs) (x_of (column_at e.place cs)) (row_y row) e
 
--- All that stands for an entry: behind so many others, of which the last one has this clock, with these bars, by what caused it.
+-- All that stands for an entry: behind so many others, of which the last one has this clock, with these bars, by what
+-- caused it.
 abbrev pub row_with : List ColumnShape → (Ui → Option Bar) → ℕ → Option ℕ → Entry → Option Row → List ℕ
 row_with cs bars row last e cause =
     tick cs (row_y row) (is_new_clock last e.clock) ++ bar_above cs bars (row_y row) (held_port_of e.act)

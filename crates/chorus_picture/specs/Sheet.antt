@@ -1,5 +1,5 @@
--- The sheet of a picture: its size and its style, the lines of its columns, their heads, and the bars that go to the end.
--- cs are the columns, c is a column, n is the number of entries, k that of a head, y where a head begins.
+-- The sheet of a picture: its size and its style, the lines of its columns, their heads, and the bars that go to the
+-- end. cs are the columns, c is a column, n is the number of entries, k that of a head, y where a head begins.
 use Rattle.std.specs.Prelude.{ℕ, zero, suc, ◌+◌, ◌*◌, ◌==◌, ◌&&◌, if◌then◌else◌, List, [], ◌∷◌, ◌++◌, codes, Option, Some, None}
 use Rattle.std.specs.List.{flat_map}
 use Rattle.chorus_ui.specs.declared.ui.Ui.{Ui}
@@ -30,7 +30,8 @@ line_of y c = line_at c.x y
 
 abbrev pub front : List ColumnShape → ℕ → List ℕ
 front cs n =
-    opening_tag (width cs) (end_y n + 234) ++ STYLE.now ++ paper (width cs) (end_y n + 234) ++ flat_map (line_of (end_y n)) cs
+    opening_tag (width cs) (end_y n + 234) ++ STYLE.now ++ paper (width cs) (end_y n + 234)
+    ++ flat_map (line_of (end_y n)) cs
 
 -- The ports that are held after the last entry, along each column.
 

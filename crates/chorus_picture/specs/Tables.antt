@@ -23,7 +23,8 @@ use Rattle.chorus_picture.specs.declared.tables.Tables.{Tables}
 abbrev pub bar_of : {S : Type 0} → HashMap PortKey Bar S → Ui → Option Bar
 bar_of t q = get same_port t (record { port = q })
 
--- the tables have how many entries there are, the clock of the last one, and what the past says of each message and of each port
+-- the tables have how many entries there are, the clock of the last one, and what the past says of each message and of
+-- each port
 pub record AreTables (t : Tables) (past : List Entry) : Type 0 where
   pub number : t.number ≡ length past
   pub clock : t.clock ≡ clock_before past

@@ -27,8 +27,8 @@ use Rattle.law_machine.specs.Replies.{reply}
 use Rattle.law_bounds.specs.Bounds.{IsWithin, AreWaitingWithin}
 use Rattle.place_state.specs.Tables.{Tables, state as state_of}
 
--- a place: its layout and number; its journal, the newest entry first; its tables; the packets that wait to go to other places,
--- by these; and how many entries and packets need no memory
+-- a place: its layout and number; its journal, the newest entry first; its tables; the packets that wait to go to other
+-- places, by these; and how many entries and packets need no memory
 pub record Place : Type 0 where
   pub layout : Layout
   pub number : ℕ
@@ -89,8 +89,8 @@ abbrev pub is_call : Command → Bool
 is_call (Call q back body) = true
 is_call _ = false
 
--- the place and the caller are as the turn left them, what it put waits behind what waited and is counted, and no more room is
--- taken than that of the entries and packets
+-- the place and the caller are as the turn left them, what it put waits behind what waited and is counted, and no more
+-- room is taken than that of the entries and packets
 pub record Ended (t : Turn) (old new : Place) (caller : Seated) : Type 0 where
   pub state : state new ≡ t.place
   pub caller_is : caller ≡ t.caller
@@ -122,7 +122,8 @@ pub record Stays (old new : Place) : Type 0 where
   pub puts : new.out.puts ≡ old.out.puts
   pub spare : old.spare ≤ new.spare
 
--- a command that takes no memory where there is room for two: receiving, moving, and a Delete of a port that is not held
+-- a command that takes no memory where there is room for two: receiving, moving, and a Delete of a port that is not
+-- held
 abbrev pub TakesNone : Command → PlaceState → Seated → Type 0
 TakesNone (Take q) s caller = Unit {0}
 TakesNone (Move q actor) s caller = Unit {0}

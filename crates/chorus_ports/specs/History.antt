@@ -1,5 +1,5 @@
--- What a port accepted and what was taken from it, over any events of its life: it is offered messages, actors take from it,
--- it gets other holders, and it migrates.
+-- What a port accepted and what was taken from it, over any events of its life: it is offered messages, actors take
+-- from it, it gets other holders, and it migrates.
 use Rattle.std.specs.Prelude.{◌≡◌, ℕ, ◌==◌, Bool, false, ◌&&◌, List, [], ◌∷◌, ◌++◌}
 use Rattle.chorus_ui.specs.declared.ui.Ui.{Ui}
 use Rattle.chorus_entry.specs.declared.message.Message.{Message}
@@ -42,8 +42,14 @@ abbrev pub migrated : ℕ → Ui → PortRecord → PortRecord
 migrated hop actor port = record port { hop = hop; actor = actor }
 
 abbrev pub happens : History → Event → History
-happens h (Offer m) = record h { port = after_offer m h.port; accepted = h.accepted ++ accepted_by (answer_to m h.port) m }
-happens h (Take actor) = record h { port = after_take actor h.port; taken = h.taken ++ taken_by (taken_from actor h.port) }
+happens h (Offer m) = record h {
+  port = after_offer m h.port;
+  accepted = h.accepted ++ accepted_by (answer_to m h.port) m;
+}
+happens h (Take actor) = record h {
+  port = after_take actor h.port;
+  taken = h.taken ++ taken_by (taken_from actor h.port);
+}
 happens h (Rehome actor) = record h { port = rehomed actor h.port }
 happens h (Migrate hop actor) = record h { port = migrated hop actor h.port }
 
@@ -53,7 +59,8 @@ run (e ∷ es) h = run es (happens h e)
 
 -- the history of a port from its making on
 abbrev pub history : Ui → Ui → ℕ → List Event → History
-history ui actor capacity events = run events (record { port = new_record ui actor capacity; accepted = []; taken = [] })
+history ui actor capacity events =
+    run events (record { port = new_record ui actor capacity; accepted = []; taken = [] })
 
 -- the first list is a front of the second
 abbrev pub IsFrontOf : List Message → List Message → Type 0

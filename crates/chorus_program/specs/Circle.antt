@@ -11,8 +11,8 @@ use Rattle.chorus_report.specs.Output.{text_of}
 use Rattle.chorus_audit.specs.declared.judging.Audit.TheVariants.{Legal}
 use Rattle.chorus_audit.specs.Tests.{IsVerdict}
 
--- where the entries are fewer than 2^32. Where a clock was worn nothing was printed, and the entries are taken to be within the
--- bounds of a line
+-- where the entries are fewer than 2^32. Where a clock was worn nothing was printed, and the entries are taken to be
+-- within the bounds of a line
 abbrev pub RunsAreLegal : Type 0
 RunsAreLegal =
     (l : Layout) (told : Option (List ℕ)) (status : Status) (closed : Closed) →

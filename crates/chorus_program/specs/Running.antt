@@ -1,6 +1,6 @@
 -- What the program's words do.
--- n is the nucleus that the program was handed. A source and a sink are seen as `EndsReading` and `EndsWriting` see them; from and rest are
--- the source, old and new the sink, before and after.
+-- n is the nucleus that the program was handed. A source and a sink are seen as `EndsReading` and `EndsWriting` see
+-- them; from and rest are the source, old and new the sink, before and after.
 use Rattle.std.specs.Prelude.{◌≡◌, ◌≢◌, ◌≤◌, ◌⊎◌, ℕ, List, Option, None, IfSome, IsSome}
 use Rattle.chorus_io.specs.Count.{Rose}
 use Rattle.chorus_ui.specs.declared.layout.Layout.{Layout}
@@ -39,7 +39,8 @@ one_place_each sites = places_each sites 1
 abbrev pub replay_layout : Layout
 replay_layout = one_place_each PROGRAM_SITES
 
--- `run TURNS` is asked of a nucleus whose sites have so many places, and a crew of one with a site for each of its ports
+-- `run TURNS` is asked of a nucleus whose sites have so many places, and a crew of one with a site for each of its
+-- ports
 abbrev pub Suits : Nucleus → Words → Type 0
 Suits n (words.RunOn turns) = turns ≡ (layout_of n).turns
 Suits n (words.Crew first commands) = CREW_PORTS ≤ (layout_of n).sites
@@ -75,11 +76,13 @@ pub record EndsAsLossy (first : ℕ) (finished : Finished) (left rest old new : 
   pub carries : CarriesInput first finished.status left rest old new
 
 -- what was read stays
-pub record EndsUnreadAsLoad {S K : Type 0} (first commands : ℕ) (finished : Finished) (from rest : S) (held : K → Option (List ℕ)) (failures : K → ℕ) (old new : K) : Type 0 where
+pub record EndsUnreadAsLoad {S K : Type 0} (first commands : ℕ) (finished : Finished) (from rest : S)
+    (held : K → Option (List ℕ)) (failures : K → ℕ) (old new : K) : Type 0 where
   pub unread : rest ≡ from
   pub loads : EndsAsLoad first commands finished held failures old new
 
-pub record EndsUnreadAsCrew {S K : Type 0} (n : Nucleus) (first commands : ℕ) (finished : Finished) (from rest : S) (held : K → Option (List ℕ)) (failures : K → ℕ) (old new : K) : Type 0 where
+pub record EndsUnreadAsCrew {S K : Type 0} (n : Nucleus) (first commands : ℕ) (finished : Finished) (from rest : S)
+    (held : K → Option (List ℕ)) (failures : K → ℕ) (old new : K) : Type 0 where
   pub unread : rest ≡ from
   pub crews : EndsAsCrew n first commands finished held failures old new
 
@@ -118,9 +121,11 @@ Does n (words.ExploreMost most) finished left faults reliable from rest held fai
 abbrev pub IsWornAt : ℕ → Finished → Type 0
 IsWornAt clock finished = (CLOCK_LIMIT ≤ clock) × IfSome finished.closed (λ closed. HasClock clock (merge_of closed))
 
--- Whatever the words are: a fault has its count, a clock that was worn its entry; without a fault of a source that has none its count
--- stays, and want of memory hides no fault; what was not to be written was not; and only what was written, or was to be, or stopped for a clock, has closed something.
-pub record EndsWithCause {S K : Type 0} (finished : Finished) (faults : S → ℕ) (reliable : S → Type 0) (from rest : S) (failures : K → ℕ) (old new : K) : Type 0 where
+-- Whatever the words are: a fault has its count, a clock that was worn its entry; without a fault of a source that has
+-- none its count stays, and want of memory hides no fault; what was not to be written was not; and only what was
+-- written, or was to be, or stopped for a clock, has closed something.
+pub record EndsWithCause {S K : Type 0} (finished : Finished) (faults : S → ℕ) (reliable : S → Type 0) (from rest : S)
+    (failures : K → ℕ) (old new : K) : Type 0 where
   pub read_fault : finished.status ≡ ReadFault → Rose (faults from) (faults rest)
   pub no_fault : reliable from → faults rest ≡ faults from
   pub steady : finished.status ≡ Memory → faults rest ≡ faults from

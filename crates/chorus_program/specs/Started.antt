@@ -1,6 +1,6 @@
 -- The program with a nucleus that is started for its words.
--- A source and a sink are seen as `EndsReading` and `EndsWriting` see them; from and rest are the source, old and new the sink, before and
--- after.
+-- A source and a sink are seen as `EndsReading` and `EndsWriting` see them; from and rest are the source, old and new
+-- the sink, before and after.
 use Rattle.std.specs.Prelude.{◌≡◌, ◌⊎◌, ℕ, List, Option}
 use Rattle.chorus_ui.specs.declared.layout.Layout.{Layout}
 use Rattle.chorus_show.specs.declared.status.Status.TheVariants.{Memory}
@@ -17,7 +17,8 @@ use Rattle.chorus_program.specs.Running.{Does, places_each}
 abbrev pub AskNothing : List (List ℕ) → Type 0
 AskNothing spelled = (asked : Words) → ¬ (Ask spelled asked)
 
--- the layout of the nucleus that is started: `run TURNS` asks so many places for each of its sites, and all else asks one
+-- the layout of the nucleus that is started: `run TURNS` asks so many places for each of its sites, and all else asks
+-- one
 abbrev pub layout_asked : Words → Layout
 layout_asked (words.RunOn turns) = places_each PROGRAM_SITES turns
 layout_asked asked = places_each PROGRAM_SITES 1
@@ -33,4 +34,5 @@ abbrev pub DoesOnOwn : {S K : Type 0} → Words → Finished
     → (K → Option (List ℕ)) → (K → ℕ) → K → K → Type 0
 DoesOnOwn asked finished left faults reliable from rest held failures old new =
     (finished.status ≡ Memory)
-    ⊎ ((n : Nucleus) × (layout_of n ≡ layout_asked asked) × Does n asked finished left faults reliable from rest held failures old new)
+    ⊎ ((n : Nucleus) × (layout_of n ≡ layout_asked asked) ×
+    Does n asked finished left faults reliable from rest held failures old new)

@@ -1,5 +1,6 @@
 -- The ends of all places, linked with each other.
--- a and b are places, all are the ends of each place, that of place a at a - 1; old and new are these before and after a call.
+-- a and b are places, all are the ends of each place, that of place a at a - 1; old and new are these before and after
+-- a call.
 use Rattle.std.specs.Prelude.{ℕ, ◌≡◌, ◌≢◌, ◌+◌, ◌-◌, ◌≤◌, ◌<◌, List, [], length, Option, Some, None, slice_index_or}
 use Rattle.chorus_entry.specs.declared.packet.Packet.{Packet}
 use Rattle.chorus_link.specs.declared.ends.SendEnd.{SendEnd}

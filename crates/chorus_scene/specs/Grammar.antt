@@ -36,7 +36,17 @@ pub record State : Type 0 where
   pub scene : Scene
 
 abbrev pub opening : Layout → State
-opening l = record { section = sections.Head; scene = record { layout = l; version = 0; sites = 0; setup = []; scripts = []; schedule = [] } }
+opening l = record {
+  section = sections.Head;
+  scene = record {
+    layout = l;
+    version = 0;
+    sites = 0;
+    setup = [];
+    scripts = [];
+    schedule = [];
+  };
+}
 
 -- the names that the setup lines so far have made
 abbrev pub made : Scene → List Ui
@@ -210,7 +220,9 @@ judge_word s (word, rest) =
 
 -- test 2
 abbrev pub judge_head : List ℕ → Result Line Reason
-judge_head bytes = if bytes_eq bytes (codes "chorus 1") then Ok (VersionLine 1) else if bytes_eq bytes (codes "chorus 2") then Ok (VersionLine 2) else Err reasons.Header
+judge_head bytes =
+    if bytes_eq bytes (codes "chorus 1") then Ok (VersionLine 1)
+    else if bytes_eq bytes (codes "chorus 2") then Ok (VersionLine 2) else Err reasons.Header
 
 abbrev pub is_head : Section → Bool
 is_head sections.Head = true
@@ -233,20 +245,33 @@ after s (SitesLine n) = record { section = sections.Setup; scene = record s.scen
 after s (PortLine u actor capacity) = with_setup s (setups.Port actor capacity)
 after s (GroupLine u) = with_setup s (setups.Group u.site)
 after s (MemberLine group port) = with_setup s (setups.Member group port)
-after s (ScriptLine actor) = record { section = sections.Scripts; scene = record s.scene { scripts = s.scene.scripts ++ record { actor = actor; commands = [] } ∷ [] } }
-after s (CommandLine command) = record { section = sections.Scripts; scene = record s.scene { scripts = slice_set s.scene.scripts (length s.scene.scripts - 1) (with_command command (last_script s.scene.scripts)) } }
+after s (ScriptLine actor) = record {
+  section = sections.Scripts;
+  scene = record s.scene { scripts = s.scene.scripts ++ record { actor = actor; commands = [] } ∷ [] };
+}
+after s (CommandLine command) = record {
+  section = sections.Scripts;
+  scene = record s.scene {
+    scripts = slice_set s.scene.scripts (length s.scene.scripts - 1)
+        (with_command command (last_script s.scene.scripts));
+  };
+}
 after s ScheduleLine = record { section = sections.Schedule; scene = s.scene }
-after s (StepLine step) = record { section = sections.Schedule; scene = record s.scene { schedule = s.scene.schedule ++ step ∷ [] } }
+after s (StepLine step) = record {
+  section = sections.Schedule;
+  scene = record s.scene { schedule = s.scene.schedule ++ step ∷ [] };
+}
 after s EndLine = record { section = sections.Ended; scene = s.scene }
 
 abbrev pub then_after : State → Result Line Reason → Result State Reason
 then_after s (Ok line) = Ok (after s line)
 then_after s (Err reason) = Err reason
 
--- what the lines have said when this one is read too, or the reason of the first test that it fails. Test 1 is for skipped
--- lines too, which say nothing
+-- what the lines have said when this one is read too, or the reason of the first test that it fails. Test 1 is for
+-- skipped lines too, which say nothing
 unfoldable pub next : State → List ℕ → Result State Reason
-next s bytes = unless (not (is_text bytes)) reasons.Text (if is_skipped bytes then Ok s else then_after s (judge_bytes s bytes))
+next s bytes =
+    unless (not (is_text bytes)) reasons.Text (if is_skipped bytes then Ok s else then_after s (judge_bytes s bytes))
 
 abbrev pub is_ended : Section → Bool
 is_ended sections.Ended = true
@@ -263,7 +288,8 @@ judge n s (line ∷ lines) = or_at n (next s line) (λ t. judge (n + 1) t lines)
 
 -- the scenario that a text says for a layout, or the line and the reason of its fault
 unfoldable pub read_scene : Layout → List ℕ → Result Scene (ℕ × ℕ)
-read_scene l text = if nat_lt TEXT_LIMIT (length text) then Err (0, reason_number reasons.Limit) else judge 1 (opening l) (lines text)
+read_scene l text =
+    if nat_lt TEXT_LIMIT (length text) then Err (0, reason_number reasons.Limit) else judge 1 (opening l) (lines text)
 
 -- what reading returned is what the definition says, unless memory ran out
 abbrev pub Refuses : ReadFault → Result Scene (ℕ × ℕ) → Type 0

@@ -21,18 +21,22 @@ abbrev pub TooLong : Type 0
 TooLong = (l : Layout) (text : List ℕ) → TEXT_LIMIT < length text → read_scene l text ≡ Err (0, 6)
 
 abbrev pub FirstFault : Type 0
-FirstFault = (l : Layout) (text : List ℕ) (front : List (List ℕ)) (line : List ℕ) (rest : List (List ℕ)) (s : State) (reason : Reason)
+FirstFault = (l : Layout) (text : List ℕ) (front : List (List ℕ)) (line : List ℕ) (rest : List (List ℕ)) (s : State)
+    (reason : Reason)
     → length text ≤ TEXT_LIMIT → lines text ≡ front ++ line ∷ rest → Pass (opening l) front s → next s line ≡ Err reason
     → read_scene l text ≡ Err (length front + 1, reason_number reason)
 
 abbrev pub NoEnd : Type 0
-NoEnd = (l : Layout) (text : List ℕ) (s : State) → length text ≤ TEXT_LIMIT → Pass (opening l) (lines text) s → is_ended s.section ≡ false
+NoEnd = (l : Layout) (text : List ℕ) (s : State) → length text ≤ TEXT_LIMIT → Pass (opening l) (lines text) s →
+    is_ended s.section ≡ false
     → read_scene l text ≡ Err (length (lines text) + 1, 9)
 
 abbrev pub Accepted : Type 0
-Accepted = (l : Layout) (text : List ℕ) (s : State) → length text ≤ TEXT_LIMIT → Pass (opening l) (lines text) s → is_ended s.section ≡ true
+Accepted = (l : Layout) (text : List ℕ) (s : State) → length text ≤ TEXT_LIMIT → Pass (opening l) (lines text) s →
+    is_ended s.section ≡ true
     → read_scene l text ≡ Ok s.scene
 
 -- a scenario that was read keeps the layout, and what is printed of it is no longer than the text and says the same
 abbrev pub PrintedAgain : Type 0
-PrintedAgain = (l : Layout) (text : List ℕ) (c : Scene) → read_scene l text ≡ Ok c → (c.layout ≡ l) × (length (printed c) ≤ length text) × IsReadAgain c
+PrintedAgain = (l : Layout) (text : List ℕ) (c : Scene) → read_scene l text ≡ Ok c →
+    (c.layout ≡ l) × (length (printed c) ≤ length text) × IsReadAgain c

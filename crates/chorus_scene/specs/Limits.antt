@@ -74,12 +74,14 @@ command_keeps l version n command =
 
 abbrev pub script_keeps : Layout → ℕ → ℕ → Script → Bool
 script_keeps l version n script =
-    is_actor_of l n script.actor && nat_le (length script.commands) COMMANDS_LIMIT && list_all (command_keeps l version n) script.commands
+    is_actor_of l n script.actor && nat_le (length script.commands) COMMANDS_LIMIT
+    && list_all (command_keeps l version n) script.commands
 
 -- a line of the setup, where these lines stand before it
 abbrev pub setup_line_keeps : Layout → ℕ → List SetupLine → SetupLine → Bool
 setup_line_keeps l n before (setups.Port actor capacity) =
-    is_capacity capacity && is_actor_of l n actor && nat_le (next_port l actor (made_after l [] before)).number PORTS_PER_SITE_LIMIT
+    is_capacity capacity && is_actor_of l n actor
+    && nat_le (next_port l actor (made_after l [] before)).number PORTS_PER_SITE_LIMIT
 setup_line_keeps l n before (setups.Group site) =
     is_site n site && nat_le (next_group l site (made_after l [] before)).number GROUPS_PER_SITE_LIMIT
 setup_line_keeps l n before (setups.Member group port) =
@@ -94,13 +96,15 @@ setup_keeps l n before (line ∷ lines) = setup_line_keeps l n before line && se
 -- a step, where these steps stand before it: its script has a command left, and its two places differ
 abbrev pub step_keeps : Layout → ℕ → List Script → List step.Step → step.Step → Bool
 step_keeps l n scripts before (steps.Step k) =
-    nat_le 1 k && nat_le k (length scripts) && nat_lt (count_by (is_step k) before) (length (script_at k scripts).commands)
+    nat_le 1 k && nat_le k (length scripts) && nat_lt (count_by (is_step k) before)
+    (length (script_at k scripts).commands)
 step_keeps l n scripts before (steps.Deliver from to) = is_place_of l n from && is_place_of l n to && not (from == to)
 step_keeps l n scripts before steps.Drain = true
 
 abbrev pub schedule_keeps : Layout → ℕ → List Script → List step.Step → List step.Step → Bool
 schedule_keeps l n scripts before [] = true
-schedule_keeps l n scripts before (step ∷ rest) = step_keeps l n scripts before step && schedule_keeps l n scripts (before ++ step ∷ []) rest
+schedule_keeps l n scripts before (step ∷ rest) =
+    step_keeps l n scripts before step && schedule_keeps l n scripts (before ++ step ∷ []) rest
 
 -- all limits of a scenario
 pub record Keeps (c : Scene) : Type 0 where

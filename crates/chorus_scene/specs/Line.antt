@@ -118,31 +118,41 @@ dest_of targets.All group = dests.All group
 dest_of targets.One group = dests.One group
 
 abbrev pub command_of : Verb → List (List ℕ) → Option Command
-command_of (verbs.Send target) fields = with_two (λ name body. commands.Send (dest_of target name) body) (name_in (target_kind target) (field 0 fields)) (body_in (field 1 fields))
-command_of verbs.At fields = with_three (λ group site body. commands.Send (dests.OneAt group site) body) (name_in kinds.Group (field 0 fields)) (number_in (field 1 fields)) (body_in (field 2 fields))
-command_of verbs.Call fields = with_three commands.Call (name_in kinds.Port (field 0 fields)) (name_in kinds.Port (field 1 fields)) (body_in (field 2 fields))
+command_of (verbs.Send target) fields = with_two (λ name body. commands.Send (dest_of target name) body)
+    (name_in (target_kind target) (field 0 fields)) (body_in (field 1 fields))
+command_of verbs.At fields = with_three (λ group site body. commands.Send (dests.OneAt group site) body)
+    (name_in kinds.Group (field 0 fields)) (number_in (field 1 fields)) (body_in (field 2 fields))
+command_of verbs.Call fields = with_three commands.Call (name_in kinds.Port (field 0 fields))
+    (name_in kinds.Port (field 1 fields)) (body_in (field 2 fields))
 command_of verbs.Retry fields = Some commands.Retry
 command_of verbs.Cancel fields = Some commands.Cancel
 command_of verbs.Reply fields = option_map commands.Reply (body_in (field 0 fields))
 command_of verbs.Take fields = option_map commands.Take (name_in kinds.Port (field 0 fields))
-command_of verbs.Move fields = with_two commands.Move (name_in kinds.Port (field 0 fields)) (name_in kinds.Actor (field 1 fields))
+command_of verbs.Move fields =
+    with_two commands.Move (name_in kinds.Port (field 0 fields)) (name_in kinds.Actor (field 1 fields))
 command_of verbs.Delete fields = option_map commands.Delete (name_in kinds.Port (field 0 fields))
-command_of verbs.NewPort fields = with_two commands.Make (name_in kinds.Actor (field 0 fields)) (number_in (field 1 fields))
+command_of verbs.NewPort fields =
+    with_two commands.Make (name_in kinds.Actor (field 0 fields)) (number_in (field 1 fields))
 command_of verbs.NewGroup fields = option_map commands.GroupMake (number_in (field 0 fields))
-command_of verbs.Join fields = with_two commands.Join (name_in kinds.Group (field 0 fields)) (name_in kinds.Port (field 1 fields))
-command_of verbs.Leave fields = with_two commands.Leave (name_in kinds.Group (field 0 fields)) (name_in kinds.Port (field 1 fields))
+command_of verbs.Join fields =
+    with_two commands.Join (name_in kinds.Group (field 0 fields)) (name_in kinds.Port (field 1 fields))
+command_of verbs.Leave fields =
+    with_two commands.Leave (name_in kinds.Group (field 0 fields)) (name_in kinds.Port (field 1 fields))
 
 -- test 6: none where a number, a name or a body is not spelled as one
 abbrev pub line_of : Word → List (List ℕ) → Option Line
 line_of words.Chorus fields = None
 line_of words.Sites fields = option_map SitesLine (number_in (field 0 fields))
-line_of words.Port fields = with_three PortLine (name_in kinds.Port (field 0 fields)) (name_in kinds.Actor (field 1 fields)) (number_in (field 2 fields))
+line_of words.Port fields = with_three PortLine (name_in kinds.Port (field 0 fields))
+    (name_in kinds.Actor (field 1 fields)) (number_in (field 2 fields))
 line_of words.Group fields = option_map GroupLine (name_in kinds.Group (field 0 fields))
-line_of words.Member fields = with_two MemberLine (name_in kinds.Group (field 0 fields)) (name_in kinds.Port (field 1 fields))
+line_of words.Member fields =
+    with_two MemberLine (name_in kinds.Group (field 0 fields)) (name_in kinds.Port (field 1 fields))
 line_of words.Script fields = option_map ScriptLine (name_in kinds.Actor (field 0 fields))
 line_of (words.Command verb) fields = option_map CommandLine (command_of verb fields)
 line_of words.Schedule fields = Some ScheduleLine
 line_of words.Step fields = option_map (λ n. StepLine (steps.Step n)) (number_in (field 0 fields))
-line_of words.Deliver fields = with_two (λ from to. StepLine (steps.Deliver from to)) (number_in (field 0 fields)) (number_in (field 1 fields))
+line_of words.Deliver fields =
+    with_two (λ from to. StepLine (steps.Deliver from to)) (number_in (field 0 fields)) (number_in (field 1 fields))
 line_of words.Drain fields = Some (StepLine steps.Drain)
 line_of words.End fields = Some EndLine

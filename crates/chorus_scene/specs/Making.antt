@@ -17,11 +17,16 @@ stride l _ = 1
 
 -- a name of this kind and site, given by the place that gives this number
 abbrev pub shares_place : Layout → Kind → ℕ → ℕ → Ui → Bool
-shares_place l kind site number u = same_kind u.kind kind && (u.site == site) && ((u.number - 1) % stride l kind == (number - 1) % stride l kind)
+shares_place l kind site number u =
+    same_kind u.kind kind && (u.site == site) && ((u.number - 1) % stride l kind == (number - 1) % stride l kind)
 
 -- the name of the least number that the place has not given, where these were made before
 abbrev pub next_name : Layout → Kind → ℕ → ℕ → List Ui → Ui
-next_name l kind site number made = record { site = site; kind = kind; number = 1 + (number - 1) % stride l kind + stride l kind * count_by (shares_place l kind site number) made }
+next_name l kind site number made = record {
+  site = site;
+  kind = kind;
+  number = 1 + (number - 1) % stride l kind + stride l kind * count_by (shares_place l kind site number) made;
+}
 
 -- a port is named by its actor's home place, and a group by its site's first place
 abbrev pub next_port : Layout → Ui → List Ui → Ui
@@ -56,4 +61,5 @@ abbrev pub members_of : Ui → List SetupLine → List Ui
 members_of group [] = []
 members_of group (setups.Port actor capacity ∷ lines) = members_of group lines
 members_of group (setups.Group site ∷ lines) = members_of group lines
-members_of group (setups.Member joined port ∷ lines) = if same_ui joined group then port ∷ members_of group lines else members_of group lines
+members_of group (setups.Member joined port ∷ lines) =
+    if same_ui joined group then port ∷ members_of group lines else members_of group lines

@@ -31,7 +31,8 @@ dest_text (dests.OneAt group site) body = codes "at" ++ behind (name_text group 
 
 abbrev pub command_text : Command → List ℕ
 command_text (commands.Send dest body) = dest_text dest (body_text body)
-command_text (commands.Call port back body) = codes "call" ++ behind (name_text port ∷ name_text back ∷ body_text body ∷ [])
+command_text (commands.Call port back body) =
+    codes "call" ++ behind (name_text port ∷ name_text back ∷ body_text body ∷ [])
 command_text commands.Retry = codes "retry"
 command_text commands.Cancel = codes "cancel"
 command_text (commands.Reply body) = codes "reply" ++ behind (body_text body ∷ [])
@@ -98,7 +99,8 @@ text_of EndLine = codes "end"
 
 -- the lines before the schedule
 abbrev pub before_schedule : Scene → List (List ℕ)
-before_schedule c = version_text c.version ∷ sites_text c.sites ∷ (setup_texts c.layout [] c.setup ++ flat_map script_texts c.scripts)
+before_schedule c =
+    version_text c.version ∷ sites_text c.sites ∷ (setup_texts c.layout [] c.setup ++ flat_map script_texts c.scripts)
 
 -- LF behind each line but the last
 unfoldable pub joined : List (List ℕ) → List ℕ

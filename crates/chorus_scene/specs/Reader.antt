@@ -38,7 +38,8 @@ is_actor kinds.Group = false
 
 -- a group that has a list of members: four groups a site
 abbrev pub is_listed : Ui → Bool
-is_listed g = same_kind g.kind kinds.Group && nat_le 1 g.site && nat_le g.site SITES_LIMIT && nat_le 1 g.number && nat_le g.number GROUPS_PER_SITE_LIMIT
+is_listed g = same_kind g.kind kinds.Group && nat_le 1 g.site && nat_le g.site SITES_LIMIT && nat_le 1 g.number
+    && nat_le g.number GROUPS_PER_SITE_LIMIT
 
 abbrev pub list_number : Ui → ℕ
 list_number g = (g.site - 1) * SITE_LISTS + (g.number - 1)
@@ -59,14 +60,22 @@ made_by l s = made_after l [] s.lines.items
 pub record IsSetup (l : Layout) (s : Setup) : Type 0 where
   pub names : s.names.items ≡ names_said l [] s.lines.items
   pub counts_len : length s.counts ≡ COUNTS
-  pub counts : (kind : Kind) (site number : ℕ) → is_actor kind ≡ false → 1 ≤ site → site ≤ SITES_LIMIT → slice_index s.counts (count_at l kind site number) ≡ count_by (shares_place l kind site number) (made_by l s)
+  pub counts : (kind : Kind) (site number : ℕ) → is_actor kind ≡ false → 1 ≤ site → site ≤ SITES_LIMIT →
+      slice_index s.counts (count_at l kind site number) ≡ count_by (shares_place l kind site number) (made_by l s)
   pub lists : length s.members.items ≡ LISTS
   pub members : (g : Ui) → is_listed g ≡ true → listed s g ≡ members_of g s.lines.items
   pub strangers : (g : Ui) → is_listed g ≡ false → members_of g s.lines.items ≡ []
   pub groups : (g : Ui) → same_kind g.kind kinds.Group ≡ true → is_member g (made_by l s) ≡ true → is_listed g ≡ true
 
 abbrev pub scene_of : Reader → Scene
-scene_of r = record { layout = r.layout; version = r.version; sites = r.sites; setup = r.setup.lines.items; scripts = r.scripts.items; schedule = r.schedule.items }
+scene_of r = record {
+  layout = r.layout;
+  version = r.version;
+  sites = r.sites;
+  setup = r.setup.lines.items;
+  scripts = r.scripts.items;
+  schedule = r.schedule.items;
+}
 
 abbrev pub state_of : Reader → State
 state_of r = record { section = r.section; scene = scene_of r }
@@ -111,7 +120,8 @@ pub record Stands (r : Reader) : Type 0 where
   pub tables : IsSetup r.layout r.setup
   pub sites : r.sites ≤ SITES_LIMIT
   pub used_len : length r.used.items ≡ length r.scripts.items
-  pub used : (k : ℕ) → k < length r.scripts.items → slice_index r.used.items k ≡ count_by (is_step (k + 1)) r.schedule.items
+  pub used : (k : ℕ) → k < length r.scripts.items → slice_index r.used.items k
+      ≡ count_by (is_step (k + 1)) r.schedule.items
   pub early : is_early r.section ≡ true → r.schedule.items ≡ []
   pub some_script : is_in_scripts r.section ≡ true → 0 < length r.scripts.items
   pub few_scripts : length r.scripts.items ≤ SCRIPTS_LIMIT

@@ -10,8 +10,8 @@ use Rattle.chorus_serve.specs.declared.held.Content.{Content}
 use Rattle.chorus_serve.specs.declared.held.Content.TheVariants as contents
 use Rattle.chorus_serve.specs.Flows.{IsOther}
 
--- the place, its ends, what is in hand, the place from which the last packet was taken, or 0, and how many packets were worked
--- off, up to 2^64 - 1
+-- the place, its ends, what is in hand, the place from which the last packet was taken, or 0, and how many packets were
+-- worked off, up to 2^64 - 1
 pub record DeskOf (E P : Type 0) : Type 0 where
   pub place : Place
   pub ends : E

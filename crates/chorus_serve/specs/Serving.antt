@@ -17,9 +17,9 @@ use Rattle.chorus_serve.specs.Flows.{IsOther, GoesOut, EmptiesOrFull, Takes, Was
 use Rattle.chorus_serve.specs.Desks.{DeskState}
 use Rattle.chorus_serve.specs.Working.{begins_with, GoOut, AreCounted}
 
--- what the call moved: each packet that was put, and no other, waits or was sent, in order; at most one packet was received, of
--- the next place that had one; and what was worked off, if anything, followed by what is then in hand, is what was in hand
--- followed by what was received
+-- what the call moved: each packet that was put, and no other, waits or was sent, in order; at most one packet was
+-- received, of the next place that had one; and what was worked off, if anything, followed by what is then in hand, is
+-- what was in hand followed by what was received
 pub record Moved (done : Option (ℕ × Packet)) (puts : List Outgoing) (old new : DeskState) : Type 0 where
   pub out : GoOut puts old new
   pub popped : Option (ℕ × Packet)

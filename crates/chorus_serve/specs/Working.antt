@@ -1,6 +1,6 @@
 -- What a command puts, and what becomes of a packet that is in hand.
--- c is the command, r its reply; k is the packet, from the place that it came from; os are the packets that were put; old and new are the desk, before and
--- after the caller.
+-- c is the command, r its reply; k is the packet, from the place that it came from; os are the packets that were put;
+-- old and new are the desk, before and after the caller.
 use Rattle.std.specs.Prelude.{ℕ, ◌≡◌, ◌+◌, ◌≤◌, ◌<◌, ◌⊎◌, true, false, List, length, map, Some, None}
 use Rattle.chorus_ui.specs.declared.limits.TheConstants.{CLOCK_LIMIT}
 use Rattle.chorus_ui.specs.Layout.{has_place}

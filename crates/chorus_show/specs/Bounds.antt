@@ -1,5 +1,5 @@
--- The entries that a line can be the line of: each number is within its type, each name is one, and a body and members are within
--- their limits.
+-- The entries that a line can be the line of: each number is within its type, each name is one, and a body and members
+-- are within their limits.
 use Rattle.std.specs.Prelude.{◌≡◌, ℕ, ◌<◌, ◌≤◌, ◌^◌, Bool, true, nat_le, List, [], ◌∷◌, length}
 use Rattle.chorus_ui.specs.declared.ui.Ui.{Ui}
 use Rattle.chorus_ui.specs.declared.limits.TheConstants.{BODY_LIMIT, MEMBERS_LIMIT}

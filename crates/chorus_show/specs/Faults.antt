@@ -7,7 +7,8 @@ use Rattle.chorus_show.specs.Phrases.{phrase}
 abbrev pub fault_line : Status → List ℕ
 fault_line Done = []
 fault_line Usage = codes "chorus: usage: chorus replay, run, or load FIRST COMMANDS\n"
-fault_line (Scenario line reason) = phrase (codes "chorus: scenario line") (decimal line ∷ codes "reason" ∷ decimal reason ∷ []) ++ 10 ∷ []
+fault_line (Scenario line reason) =
+    phrase (codes "chorus: scenario line") (decimal line ∷ codes "reason" ∷ decimal reason ∷ []) ++ 10 ∷ []
 fault_line ReadFault = codes "chorus: read fault\n"
 fault_line WriteFault = codes "chorus: write fault\n"
 fault_line Memory = codes "chorus: out of memory\n"

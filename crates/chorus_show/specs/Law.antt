@@ -11,4 +11,5 @@ LinesTellEntries = (d e : Entry) → IsEntry d → IsEntry e → entry_text d �
 
 -- and what the words of its line say, without the LF, is the entry
 abbrev pub LinesAreReadBack : Type 0
-LinesAreReadBack = (e : Entry) (text : List ℕ) → IsEntry e → entry_text e ≡ text ++ 10 ∷ [] → entry_in (parts 32 text) ≡ Some e
+LinesAreReadBack =
+    (e : Entry) (text : List ℕ) → IsEntry e → entry_text e ≡ text ++ 10 ∷ [] → entry_in (parts 32 text) ≡ Some e

@@ -91,7 +91,8 @@ same_spot s t = spot_number s == spot_number t
 -- the port that is put there and nowhere later
 abbrev pub port_left : Spot → Option (Ui × Spot) → List Entry → List Ui
 port_left spot None later = []
-port_left spot (Some put) later = if same_spot put.1 spot && not (is_some (last_spot put.0 later)) then put.0 ∷ [] else []
+port_left spot (Some put) later =
+    if same_spot put.1 spot && not (is_some (last_spot put.0 later)) then put.0 ∷ [] else []
 
 -- the ports that are there after the last entry, each once
 abbrev pub ports_at : Spot → List Entry → List Ui
@@ -131,4 +132,5 @@ other_lines entries =
     ++ count_line (codes "departs") (count is_depart entries)
 
 abbrev pub summary_text : List Entry → List ℕ
-summary_text entries = codes "summary\n" ++ message_lines entries ++ discarded_line entries ++ other_lines entries ++ codes "end\n"
+summary_text entries =
+    codes "summary\n" ++ message_lines entries ++ discarded_line entries ++ other_lines entries ++ codes "end\n"

@@ -41,11 +41,19 @@ news_of _ = None
 
 -- what an entry says together with what the later ones say
 abbrev pub with_later : Queue → Queue → Queue
-with_later q later = record { accepted = q.accepted + later.accepted; taken = q.taken + later.taken; spot = option_or later.spot q.spot }
+with_later q later = record {
+  accepted = q.accepted + later.accepted;
+  taken = q.taken + later.taken;
+  spot = option_or later.spot q.spot;
+}
 
 -- the queue of a port after these entries
 abbrev pub queue_of : Ui → List Entry → Queue
-queue_of port entries = record { accepted = count (accepts port) entries; taken = count (gives port) entries; spot = last_spot port entries }
+queue_of port entries = record {
+  accepted = count (accepts port) entries;
+  taken = count (gives port) entries;
+  spot = last_spot port entries;
+}
 
 pub record AreQueues (qs : Queues) (entries : List Entry) : Type 0 where
   pub ports : (port : Ui) → unwrap_or (get name_cmp qs.ports port) no_queue ≡ queue_of port entries

@@ -4,8 +4,8 @@ use Rattle.chorus_transport.specs.declared.chunk.Chunk.{Chunk}
 use Rattle.chorus_transport.specs.Sending.{Sending, new_sending, has_room, after_put, emitted, after_ack}
 use Rattle.chorus_transport.specs.Receiving.{Receiving, new_receiving, after_arrival, next_chunk, after_next, ack_of}
 
--- its two ends, and all that ever happened: the chunks put, the chunks emitted with their numbers, the chunks delivered and
--- the acknowledgements sent, each in order
+-- its two ends, and all that ever happened: the chunks put, the chunks emitted with their numbers, the chunks delivered
+-- and the acknowledgements sent, each in order
 pub record Line : Type 0 where
   pub sender : Sending
   pub receiver : Receiving
@@ -14,9 +14,9 @@ pub record Line : Type 0 where
   pub delivered : List Chunk
   pub acks : List ℕ
 
--- What may happen next: a chunk is put, the chunk of a number is emitted, one of those ever emitted arrives, the next one is
--- delivered, an acknowledgement is sent, one of those ever sent arrives. A loss is an arrival that never comes. Repeats and
--- other orders are any choice of arrivals.
+-- What may happen next: a chunk is put, the chunk of a number is emitted, one of those ever emitted arrives, the next
+-- one is delivered, an acknowledgement is sent, one of those ever sent arrives. A loss is an arrival that never comes.
+-- Repeats and other orders are any choice of arrivals.
 pub data Event : Type 0 where
   Put : (chunk : Chunk) → Event
   Emit : (number : ℕ) → Event
@@ -35,13 +35,17 @@ arrives line (Some (number, chunk)) = record line { receiver = after_arrival lin
 
 abbrev pub delivers : Line → Option Chunk → Line
 delivers line None = line
-delivers line (Some chunk) = record line { receiver = after_next line.receiver; delivered = line.delivered ++ chunk ∷ [] }
+delivers line (Some chunk) = record line {
+  receiver = after_next line.receiver;
+  delivered = line.delivered ++ chunk ∷ [];
+}
 
 abbrev pub hears : Line → Option ℕ → Line
 hears line None = line
 hears line (Some upto) = record line { sender = after_ack line.sender upto }
 
--- Each event does what the call of its name ensures. One that names nothing, or a put at a full window, changes nothing.
+-- Each event does what the call of its name ensures. One that names nothing, or a put at a full window, changes
+-- nothing.
 abbrev pub happens : Line → Event → Line
 happens line (Put chunk) =
     if has_room line.sender
@@ -61,7 +65,14 @@ run (event ∷ events) line = run events (happens line event)
 -- a line that was just made
 abbrev pub opening : ℕ → Line
 opening window =
-    record { sender = new_sending window; receiver = new_receiving window; put = []; emissions = []; delivered = []; acks = [] }
+    record {
+      sender = new_sending window;
+      receiver = new_receiving window;
+      put = [];
+      emissions = [];
+      delivered = [];
+      acks = [];
+    }
 
 -- a line of that window, after these events
 abbrev pub line_after : ℕ → List Event → Line

@@ -6,8 +6,8 @@ use Rattle.chorus_transport.specs.declared.chunk.Chunk.{Chunk}
 use Rattle.chorus_transport.specs.declared.receiver.Got.{Got}
 use Rattle.chorus_transport.specs.declared.receiver.Got.TheVariants.{Kept, Old, Far}
 
--- Chunks are delivered in the order of their numbers. ahead has a place for each number of the window, from the next one
--- to be delivered on, and in it the chunk, where it is kept.
+-- Chunks are delivered in the order of their numbers. ahead has a place for each number of the window, from the next
+-- one to be delivered on, and in it the chunk, where it is kept.
 pub record Receiving : Type 0 where
   pub delivered : ℕ
   pub ahead : List (Option Chunk)
@@ -32,7 +32,8 @@ is_known r number = nat_lt number r.delivered || is_some (slice_index_or r.ahead
 
 -- what is done with a chunk of that number
 abbrev pub answer_to : Receiving → ℕ → Got
-answer_to r number = if is_known r number then Old else if nat_le (r.delivered + length r.ahead) number then Far else Kept
+answer_to r number =
+    if is_known r number then Old else if nat_le (r.delivered + length r.ahead) number then Far else Kept
 
 -- after that answer
 abbrev pub kept : Receiving → ℕ → Chunk → Got → Receiving

@@ -45,7 +45,8 @@ emitted s number = if nat_lt number s.base then None else slice_get s.kept (numb
 
 -- what an acknowledgement of all chunks below upto does
 abbrev pub answer_to : Sending → ℕ → Acked
-answer_to s upto = if nat_le upto s.base then Old else if nat_le upto (next_number s) then Moved (upto - s.base) else Beyond
+answer_to s upto =
+    if nat_le upto s.base then Old else if nat_le upto (next_number s) then Moved (upto - s.base) else Beyond
 
 -- after that answer
 abbrev pub moved : Sending → Acked → Sending

@@ -23,9 +23,11 @@ AcceptsAt {S} {M} mark handed place accepted = (m : M) → IsMarkAt mark handed 
 abbrev pub AreOut : {R : Type 0} → Knowledge R → ℕ → ℕ → Type 0
 AreOut v made ended = (made ≡ v.made) × (ended ≡ length v.notes) × (ended + 1 < made)
 
-module _ {S M R : Type 0} (entries : S → List Entry) (fits : S → List (Remarked R) → Type 0) (mark : S → M) (handed : List S) where
+module _ {S M R : Type 0} (entries : S → List Entry) (fits : S → List (Remarked R) → Type 0) (mark : S → M)
+    (handed : List S) where
   -- the job ran on the state of the place, and a pass that knew v knows w
-  pub record Worked (did : S → S → Type 0) (notes : List (Remarked R) → Type 0) (place : ℕ) (v w : Knowledge R) : Type 0 where
+  pub record Worked (did : S → S → Type 0) (notes : List (Remarked R) → Type 0) (place : ℕ)
+      (v w : Knowledge R) : Type 0 where
     pub before : S
     pub after : S
     pub found : List (Remarked R)

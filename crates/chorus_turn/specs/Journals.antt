@@ -39,4 +39,5 @@ module _ {S R : Type 0} (entries : S → List Entry) (fits : S → List (Remarke
   -- each journal of the old state is, with news of which `notes` holds behind it, a journal of the new one
   abbrev pub GoesOn : (List (Remarked R) → Type 0) → S → S → Type 0
   GoesOn notes old new =
-      (log : List (Remarked R)) → IsJournal old log → (news : List (Remarked R)) × IsJournal new (log ++ news) × notes news
+      (log : List (Remarked R)) → IsJournal old log → (news : List (Remarked R)) × IsJournal new (log ++ news) ×
+      notes news

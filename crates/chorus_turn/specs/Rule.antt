@@ -31,7 +31,8 @@ module _ {R : Type 0} where
   abbrev pub keepers : View R → ℕ
   keepers v = one_if_live v.live v.knows.keeper
 
-  -- Of the live views, where n numbers are drawn: each of these is claimed once, and no other; at most one is the keeper.
+  -- Of the live views, where n numbers are drawn: each of these is claimed once, and no other; at most one is the
+  -- keeper.
   pub record IsNumbered (n : ℕ) (views : List (View R)) : Type 0 where
     pub few : n ≤ limit
     pub once : (q : ℕ) → total (λ (v : View R). times q (claims v)) views ≤ 1
@@ -41,7 +42,8 @@ module _ {R : Type 0} where
     pub one_keeper : total keepers views ≤ 1
 
   -- what holds of one live view, where `work` is what each number has made, and `log` the journal of each place
-  pub record Grasp (work : ℕ → List (Placed R)) (log : ℕ → List (Remarked R)) (words : List ℕ) (v : View R) : Type 0 where
+  pub record Grasp (work : ℕ → List (Placed R)) (log : ℕ → List (Remarked R)) (words : List ℕ)
+      (v : View R) : Type 0 where
     pub sees : (p : ℕ) → StartsWith (log p) (list_at p v.knows.seen)
     pub saw : (p : ℕ) → StartsWith (log p) (list_at p v.former)
     pub heard : (p : ℕ) → StartsWith (log p) (list_at p v.heard)
@@ -64,7 +66,15 @@ module _ {R : Type 0} where
 
   -- of a pass that was retired
   abbrev pub spent_view : View R
-  spent_view = record { live = false; knows = opening_knowledge; drawn = []; former = []; heard = []; holding = 0; took = [] }
+  spent_view = record {
+    live = false;
+    knows = opening_knowledge;
+    drawn = [];
+    former = [];
+    heard = [];
+    holding = 0;
+    took = [];
+  }
 
   -- the view holds the place, where it found this journal
   abbrev pub holding_view : ℕ → List (Remarked R) → View R → View R
@@ -136,7 +146,8 @@ module _ {S R : Type 0} (journal : S → List (Remarked R) → Type 0) (notes : 
   give_then st m r m' = GivesBack st.word m m'
 
 module _ {S R : Type 0} (journal : S → List (Remarked R) → Type 0) (marked : ℕ → S → Type 0) where
-  -- Word 0 counts the numbers drawn. The word of a place is 0 where its state is at home, and else the holder's number and 1.
+  -- Word 0 counts the numbers drawn. The word of a place is 0 where its state is at home, and else the holder's number
+  -- and 1.
   pub record Turned (s : State (Option S) (View R)) : Type 0 where
     pub work : ℕ → List (Placed R)
     pub log : ℕ → List (Remarked R)
@@ -145,7 +156,8 @@ module _ {S R : Type 0} (journal : S → List (Remarked R) → Type 0) (marked :
     pub each : (j : ℕ) (v : View R) → get_elem? s.views j ≡ some v → v.live ≡ true → Grasp work log s.words v
     pub made : (p q : ℕ) → by_seat q (log p) ≡ at_place p (work q)
     pub unmade : (q : ℕ) → slice_index s.words 0 ≤ q → work q ≡ []
-    pub home : (k : ℕ) → k < length s.homes → slice_index s.words (k + 1) ≡ 0 → (x : S) × (get_elem? s.homes k ≡ some (some (Some x))) × journal x (log (k + 1)) × marked (k + 1) x
+    pub home : (k : ℕ) → k < length s.homes → slice_index s.words (k + 1) ≡ 0 →
+        (x : S) × (get_elem? s.homes k ≡ some (some (Some x))) × journal x (log (k + 1)) × marked (k + 1) x
     pub out : (k : ℕ) → k < length s.homes → slice_index s.words (k + 1) ≢ 0 → IsHeld (k + 1) s.views
 
   -- the place was free, and the seat holds its state

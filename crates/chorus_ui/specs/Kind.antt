@@ -21,7 +21,8 @@ kind_with_number n = if n == 1 then Some Actor else if n == 2 then Some Port els
 
 -- the kind with this letter
 abbrev pub kind_with_letter : ℕ → Option Kind
-kind_with_letter c = if c == 97 then Some Actor else if c == 112 then Some Port else if c == 103 then Some Group else None
+kind_with_letter c =
+    if c == 97 then Some Actor else if c == 112 then Some Port else if c == 103 then Some Group else None
 
 -- the kind whose letter alone is this text
 abbrev pub kind_with_text : List ℕ → Option Kind

@@ -20,7 +20,8 @@ pub record IsLayout (l : Shape) : Type 0 where
 
 -- the same, as a test
 abbrev pub is_layout : Shape → Bool
-is_layout l = nat_le 1 l.sites && nat_le l.sites SITES_LIMIT && ((l.turns == 1) || (l.turns == 2) || (l.turns == PLACES_PER_SITE_LIMIT))
+is_layout l = nat_le 1 l.sites && nat_le l.sites SITES_LIMIT
+    && ((l.turns == 1) || (l.turns == 2) || (l.turns == PLACES_PER_SITE_LIMIT))
 
 -- the layout of these numbers
 abbrev pub new_layout : ℕ → ℕ → Option Shape

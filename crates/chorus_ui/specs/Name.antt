@@ -37,4 +37,5 @@ same_ui u v = (u.site == v.site) && same_kind u.kind v.kind && (u.number == v.nu
 
 -- by site, then by kind, then by number
 abbrev pub name_cmp : Name → Name → Ordering
-name_cmp = then_cmp (then_cmp (on (λ u. u.site) nat_cmp) (on (λ u. kind_number u.kind) nat_cmp)) (on (λ u. u.number) nat_cmp)
+name_cmp =
+    then_cmp (then_cmp (on (λ u. u.site) nat_cmp) (on (λ u. kind_number u.kind) nat_cmp)) (on (λ u. u.number) nat_cmp)

@@ -14,4 +14,5 @@ name_text u = decimal u.site ++ 46 ∷ kind_letter u.kind ∷ 46 ∷ decimal u.n
 
 -- the name with this text, where there is one
 unfoldable pub parse_name : List ℕ → Option Name
-parse_name text = let rest = after_first is_dot text in name_of_parts (parse_decimal (before_first is_dot text)) (kind_with_text (before_first is_dot rest)) (parse_decimal (after_first is_dot rest))
+parse_name text = let rest = after_first is_dot text in name_of_parts (parse_decimal (before_first is_dot text))
+    (kind_with_text (before_first is_dot rest)) (parse_decimal (after_first is_dot rest))

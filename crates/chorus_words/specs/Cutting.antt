@@ -20,7 +20,8 @@ the_command = with_rule (with_rule (with_rule
 -- the first word, the second and the third, where there are so many, ask this
 abbrev pub AskByThree : Option (List ℕ) → Option (List ℕ) → Option (List ℕ) → Words → Type 0
 AskByThree what first second asked =
-    (what ≡ slice_get (spelled asked) 0) × (first ≡ slice_get (spelled asked) 1) × (second ≡ slice_get (spelled asked) 2) × IsWithin asked
+    (what ≡ slice_get (spelled asked) 0) × (first ≡ slice_get (spelled asked) 1) ×
+    (second ≡ slice_get (spelled asked) 2) × IsWithin asked
 
 -- the words are at most three, and each is found under its name
 pub record IsCut (words : List (List ℕ)) (matches : ArgMatches) : Type 0 where

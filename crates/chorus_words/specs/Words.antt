@@ -1,4 +1,5 @@
--- The list of the program's words: each row has one spelling. A number stands as its decimal, with no sign and no leading zero.
+-- The list of the program's words: each row has one spelling. A number stands as its decimal, with no sign and no
+-- leading zero.
 use Rattle.std.specs.Prelude.{ℕ, ◌≡◌, ◌^◌, ◌<◌, ◌≤◌, List, [], ◌∷◌, codes, decimal}
 use Rattle.chorus_ui.specs.Layout.{IsLayout}
 use Rattle.chorus_words.specs.declared.words.TheConstants.{LOAD_LIMIT}

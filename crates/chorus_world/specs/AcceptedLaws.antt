@@ -60,7 +60,8 @@ pub record HasOneFate (past : List Entry) (q : Ui) (i : ℕ) (x : MsgId) (what :
 -- each accepted message has one fate, and stands at one position of one port
 abbrev pub KeepsEachMessage : List Entry → Type 0
 KeepsEachMessage past =
-    (q : Ui) (i : ℕ) (x : MsgId) → slice_get (accepted_by q past) i ≡ Some x → (what : MessageFate) × HasOneFate past q i x what
+    (q : Ui) (i : ℕ) (x : MsgId) → slice_get (accepted_by q past) i ≡ Some x →
+    (what : MessageFate) × HasOneFate past q i x what
 
 -- what a port accepted stays where it is, whatever comes after: only more is put behind it
 abbrev pub AcceptedGrows : Type 0
@@ -68,15 +69,18 @@ AcceptedGrows =
     (l : Layout) (newer past : List Entry) (q : Ui) → IsLayout l → is_legal l (newer ++ past) ≡ true →
     (more : List MsgId) × (accepted_by q (newer ++ past) ≡ accepted_by q past ++ more)
 
--- each port gives out what it accepted, in order, and nothing else: the ids of its Take entries are the first that it accepted
+-- each port gives out what it accepted, in order, and nothing else: the ids of its Take entries are the first that it
+-- accepted
 abbrev pub ReceivesInOrder : List Entry → Type 0
 ReceivesInOrder past = (q : Ui) → received (on q past) ≡ take (taken_by q past) (accepted_by q past)
 
--- no more was received than was accepted, no more messages wait in a port than it has room for, and that is room for 1 to 64
+-- no more was received than was accepted, no more messages wait in a port than it has room for, and that is room for 1
+-- to 64
 abbrev pub KeepsToCapacity : List Entry → Type 0
 KeepsToCapacity past =
     (q : Ui) (f : PortState) → fate (on q past) ≡ Some f →
-    (f.taken ≤ length f.accepted) × (length f.accepted ≤ f.taken + f.capacity) × (1 ≤ f.capacity) × (f.capacity ≤ PENDING_LIMIT)
+    (f.taken ≤ length f.accepted) × (length f.accepted ≤ f.taken + f.capacity) × (1 ≤ f.capacity) ×
+    (f.capacity ≤ PENDING_LIMIT)
 
 -- the ids of a port's Delete entry are all that it accepted and that was not received
 abbrev pub DiscardsTheRest : List Entry → Type 0
@@ -94,7 +98,8 @@ ReceivedByFate past =
 abbrev pub DiscardedByFate : List Entry → Type 0
 DiscardedByFate past =
     (q : Ui) (i : ℕ) (x : MsgId) (f : PortState) → fate (on q past) ≡ Some f → slice_get f.accepted i ≡ Some x →
-    (fate_at i f ≡ Discarded → (xs : List MsgId) × (discarded (on q past) ≡ Some xs) × (slice_get xs (i - f.taken) ≡ Some x))
+    (fate_at i f ≡ Discarded → (xs : List MsgId) × (discarded (on q past) ≡ Some xs) ×
+    (slice_get xs (i - f.taken) ≡ Some x))
     × ((xs : List MsgId) → discarded (on q past) ≡ Some xs → f.taken ≤ i → fate_at i f ≡ Discarded)
 
 -- after its Delete entry nothing becomes of a port any more

@@ -105,13 +105,15 @@ answer_at l past p k a (Command.Call q back body) = call_for k (by k past) q bac
 answer_at l past p k a Command.Retry = retry_for k (by k past) (call (by k past))
 answer_at l past p k a Command.Cancel = cancel_for (call (by k past))
 answer_at l past p k a (Command.Reply body) = reply_for k (by k past) body (hand past (by k past))
-answer_at l past p k a (Command.Take q) = where_held q (is_held_at_by p a (fate (on q past))) (take_from q (fate (on q past)))
+answer_at l past p k a (Command.Take q) =
+    where_held q (is_held_at_by p a (fate (on q past))) (take_from q (fate (on q past)))
 answer_at l past p k a (Command.Move q actor) =
     where_held q (is_held_at_by p a (fate (on q past))) (move_from l p q actor (hops (fate (on q past))))
 answer_at l past p k a (Command.GroupMake site) = group_for l (at p past) site
 answer_at l past p k a (Command.Join g q) = join_for (at p past) g q
 answer_at l past p k a (Command.Leave g q) = leave_for (at p past) g q
-answer_at l past p k a (Command.Delete q) = where_held q (is_held_at_by p a (fate (on q past))) (delete_from q (fate (on q past)))
+answer_at l past p k a (Command.Delete q) =
+    where_held q (is_held_at_by p a (fate (on q past))) (delete_from q (fate (on q past)))
 
 abbrev pub answer_for : Layout → List Entry → ℕ → Ui → Command → Act
 answer_for l past k a c = answer_at l past (place_for l a c) k a c

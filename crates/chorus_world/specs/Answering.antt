@@ -20,27 +20,43 @@ use Rattle.chorus_world.specs.Answer.{answer_for}
 -- each caller is in an actor of the layout and posted at its home place alone
 abbrev pub AreAtHome : Layout → (ℕ → Option Ui) → List Entry → Type 0
 AreAtHome l callers past = (seat : ℕ) (actor : Ui) → callers seat ≡ Some actor →
-    (has_actor l actor ≡ true) × (is_actor actor ≡ true) × (posts_stay (place_at l actor.site actor) (by seat past) ≡ true)
+    (has_actor l actor ≡ true) × (is_actor actor ≡ true) × (posts_stay (place_at l actor.site actor)
+    (by seat past) ≡ true)
 
 -- the act, as an entry of this seat in this actor with this clock, answers the command and gives a run again
-pub record Fits (l : Layout) (callers : ℕ → Option Ui) (past : List Entry) (number : ℕ) (actor : Ui) (command : Command) (time : ℕ) (this : Act) : Type 0 where
-  pub answers : answers l past actor command (record { clock = time; place = place_for l actor command; seat = number; act = this }) ≡ true
-  pub comes_next : may l past (record { clock = time; place = place_for l actor command; seat = number; act = this }) ≡ true
-  pub runs : may_run callers past (record { clock = time; place = place_for l actor command; seat = number; act = this }) ≡ true
+pub record Fits (l : Layout) (callers : ℕ → Option Ui) (past : List Entry) (number : ℕ) (actor : Ui) (command : Command)
+    (time : ℕ) (this : Act) : Type 0 where
+  pub answers : answers l past actor command (record {
+    clock = time;
+    place = place_for l actor command;
+    seat = number;
+    act = this;
+  }) ≡ true
+  pub comes_next : may l past (record { clock = time; place = place_for l actor command; seat = number; act = this })
+      ≡ true
+  pub runs : may_run callers past (record {
+    clock = time;
+    place = place_for l actor command;
+    seat = number;
+    act = this;
+  }) ≡ true
 
 -- the act fits, and no other does
-pub record IsOnly (l : Layout) (callers : ℕ → Option Ui) (past : List Entry) (number : ℕ) (actor : Ui) (command : Command) (time : ℕ) (this : Act) : Type 0 where
+pub record IsOnly (l : Layout) (callers : ℕ → Option Ui) (past : List Entry) (number : ℕ) (actor : Ui)
+    (command : Command) (time : ℕ) (this : Act) : Type 0 where
   pub fits : Fits l callers past number actor command time this
   pub only : (other : Act) → Fits l callers past number actor command time other → other ≡ this
 
 -- in any past and at any clock at most one act fits: the one that the views tell
 abbrev pub OneActAtMost : Type 0
 OneActAtMost =
-    (l : Layout) (callers : ℕ → Option Ui) (past : List Entry) (seat : ℕ) (actor : Ui) (command : Command) (clock : ℕ) (act : Act) →
-    callers seat ≡ Some actor → Fits l callers past seat actor command clock act → act ≡ answer_for l past seat actor command
+    (l : Layout) (callers : ℕ → Option Ui) (past : List Entry) (seat : ℕ) (actor : Ui) (command : Command) (clock : ℕ)
+    (act : Act) →
+    callers seat ≡ Some actor → Fits l callers past seat actor command clock act →
+    act ≡ answer_for l past seat actor command
 
--- and it does fit in a run, at each clock that is above the last ones of place and caller, unless the last entry at the place
--- is the Take of a reply
+-- and it does fit in a run, at each clock that is above the last ones of place and caller, unless the last entry at the
+-- place is the Take of a reply
 abbrev pub OneActAnswers : Type 0
 OneActAnswers =
     (l : Layout) (callers : ℕ → Option Ui) (past : List Entry) (seat : ℕ) (actor : Ui) (command : Command) (clock : ℕ) →

@@ -118,9 +118,11 @@ act_answers past p s a Command.Retry act = retry_answers (by s past) act
 act_answers past p s a Command.Cancel act = cancel_answers act
 act_answers past p s a (Command.Reply body) act = reply_answers body act
 act_answers past p s a (Command.Take port) act = take_answers port act
-act_answers past p s a (Command.Move port actor) act = move_answers (is_held_at_by p a (fate (on port past))) port actor act
+act_answers past p s a (Command.Move port actor) act =
+    move_answers (is_held_at_by p a (fate (on port past))) port actor act
 act_answers past p s a (Command.GroupMake site) act = group_answers site act
-act_answers past p s a (Command.Join group port) act = join_answers (is_member port (members group (at p past))) group port act
+act_answers past p s a (Command.Join group port) act =
+    join_answers (is_member port (members group (at p past))) group port act
 act_answers past p s a (Command.Leave group port) act = leave_answers group port act
 act_answers past p s a (Command.Delete port) act = delete_answers port act
 

@@ -32,7 +32,8 @@ port_met _ = None
 abbrev pub MeetsWhereHeld : List Entry → Entry → Type 0
 MeetsWhereHeld past e = (q : Ui) → port_met e.act ≡ Some q → is_held_at e.place (fate (on q past)) ≡ true
 
--- an Accept stands only where fewer messages wait than the port has room for, and puts the message behind those accepted
+-- an Accept stands only where fewer messages wait than the port has room for, and puts the message behind those
+-- accepted
 abbrev pub AcceptsWithRoom : List Entry → Entry → Type 0
 AcceptsWithRoom past e =
     (x : MsgId) (q : Ui) (n : ℕ) → e.act ≡ Accept x q n →
@@ -44,8 +45,8 @@ FullWithoutRoom past e =
     (x : MsgId) (q : Ui) (n : ℕ) → e.act ≡ Full x q n →
     (f : PortState) × (fate (on q past) ≡ Some f) × (waiting f ≡ f.capacity) × (n ≡ f.capacity)
 
--- The place of e was tried too late for the port q: x stands tried there with a hop, and the place does not hold the port, and
--- locates it at another place, `to`, by a later hop.
+-- The place of e was tried too late for the port q: x stands tried there with a hop, and the place does not hold the
+-- port, and locates it at another place, `to`, by a later hop.
 pub record IsPassed (l : Layout) (past : List Entry) (e : Entry) (x : MsgId) (q : Ui) (tried to hop : ℕ) : Type 0 where
   pub from : ℕ
   pub is : progress (about x past) ≡ Tried from q e.place tried
@@ -61,16 +62,16 @@ pub record IsOffSite (l : Layout) (past : List Entry) (e : Entry) (x : MsgId) (q
   pub known : located l q (at e.place past) ≡ record { to = to; hop = hop }
   pub off : site_of l to ≢ site
 
--- a Stale stands only where a place was tried too late, for a message that asks for no site, and names where the place locates
--- the port, which is on the port's path at that hop
+-- a Stale stands only where a place was tried too late, for a message that asks for no site, and names where the place
+-- locates the port, which is on the port's path at that hop
 abbrev pub StaleNamesLater : Layout → List Entry → Entry → Type 0
 StaleNamesLater l past e =
     (x : MsgId) (q : Ui) (tried to hop : ℕ) → e.act ≡ Stale x q tried to hop →
     IsPassed l past e x q tried to hop × (site_asked x past ≡ None)
     × (slice_get (path_of l q (fate (on q past))) hop ≡ Some to)
 
--- an Elsewhere stands only for a message that asks for a site, and names where its place locates the port, which is on the
--- port's path at that hop: off the site, where the message is the next to be tried, or as a Stale does
+-- an Elsewhere stands only for a message that asks for a site, and names where its place locates the port, which is on
+-- the port's path at that hop: off the site, where the message is the next to be tried, or as a Stale does
 abbrev pub ElsewhereNamesPath : Layout → List Entry → Entry → Type 0
 ElsewhereNamesPath l past e =
     (x : MsgId) (q : Ui) (to hop : ℕ) → e.act ≡ Elsewhere x q to hop →
@@ -82,8 +83,8 @@ abbrev pub naming_decision : Option ℕ → MsgId → Ui → ℕ → ℕ → ℕ
 naming_decision None x q tried to hop = Stale x q tried to hop
 naming_decision (Some site) x q tried to hop = Elsewhere x q to hop
 
--- and a place that was tried too late answers so: its decision on the message is Stale, or Elsewhere where the message asks for
--- a site, and names where the place locates the port
+-- and a place that was tried too late answers so: its decision on the message is Stale, or Elsewhere where the message
+-- asks for a site, and names where the place locates the port
 abbrev pub AnswersNewer : Layout → List Entry → Entry → Type 0
 AnswersNewer l past e =
     (x : MsgId) (q : Ui) (tried to hop : ℕ) → is_decision e.act ≡ true → message_of e.act ≡ Some x →

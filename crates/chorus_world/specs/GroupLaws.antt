@@ -35,7 +35,8 @@ copies_of x (e ∷ past) = copies_of x past ++ copies_by x e.act
 -- a functional post has at most one copy
 abbrev pub HasOneCopy : List Entry → Type 0
 HasOneCopy past =
-    (x : MsgId) (post : Posted) → post_of x past ≡ Some post → is_functional post.dest ≡ true → length (copies_of x past) ≤ 1
+    (x : MsgId) (post : Posted) → post_of x past ≡ Some post → is_functional post.dest ≡ true →
+    length (copies_of x past) ≤ 1
 
 -- it is accepted at most once: two accepted messages of one functional post are one message at one position of one port
 abbrev pub ReachesOneMember : List Entry → Type 0
@@ -47,7 +48,8 @@ ReachesOneMember past =
 -- and one that asks for a site is accepted only by a place on that site
 abbrev pub AcceptsOnSite : Layout → List Entry → Entry → Type 0
 AcceptsOnSite l past e =
-    (x : MsgId) (q : Ui) (position site : ℕ) → e.act ≡ Accept x q position → site_asked x past ≡ Some site → site_of l e.place ≡ site
+    (x : MsgId) (q : Ui) (position site : ℕ) → e.act ≡ Accept x q position → site_asked x past ≡ Some site →
+    site_of l e.place ≡ site
 
 -- the posts of the Choose entries of a group, in order
 abbrev pub choice_by : Ui → Act → List MsgId
@@ -61,7 +63,8 @@ choices_of g (e ∷ past) = choices_of g past ++ choice_by g e.act
 -- each post has at most one Choose, of one group
 abbrev pub IsChosenOnce : List Entry → Type 0
 IsChosenOnce past =
-    (g h : Ui) (i j : ℕ) (x : MsgId) → slice_get (choices_of g past) i ≡ Some x → slice_get (choices_of h past) j ≡ Some x →
+    (g h : Ui) (i j : ℕ) (x : MsgId) → slice_get (choices_of g past) i ≡ Some x →
+    slice_get (choices_of h past) j ≡ Some x →
     (g ≡ h) × (i ≡ j)
 
 -- x stands in the list before y

@@ -1,5 +1,5 @@
--- The order by clock and place: in which lists it goes with what each entry reads, and how a list is sorted by it. A list
--- is a past, the newest entry first.
+-- The order by clock and place: in which lists it goes with what each entry reads, and how a list is sorted by it. A
+-- list is a past, the newest entry first.
 use Rattle.std.specs.Prelude.{ℕ, if◌then◌else◌, List, [], ◌∷◌}
 use Rattle.chorus_ui.specs.declared.ui.Ui.{Ui}
 use Rattle.chorus_entry.specs.declared.entry.Entry.{Entry}
@@ -14,7 +14,8 @@ pub record IsCausal (past : List Entry) : Type 0 where
   pub messages : (x : MsgId) → IsRising (about x past)
   pub ports : (q : Ui) → IsRising (on q past)
 
--- the list with e put in as older than the newest entries, as far as it comes before them; without any, it is the newest
+-- the list with e put in as older than the newest entries, as far as it comes before them; without any, it is the
+-- newest
 abbrev pub insert : Entry → List Entry → List Entry
 insert e [] = e ∷ []
 insert e (f ∷ past) = if comes_before e f then f ∷ insert e past else e ∷ f ∷ past

@@ -124,7 +124,8 @@ is_tried x (e ∷ here) = tried_after x e.act (is_tried x here)
 abbrev pub is_first_as : MsgId → Ui → List Entry → Option Sent → Bool
 is_first_as x q here None = false
 is_first_as x q here (Some m) =
-    same_ui m.port q && are_same same_id (Some x) (first_for q m.route (unsettled here (sent here))) && not (is_tried x here)
+    same_ui m.port q && are_same same_id (Some x) (first_for q m.route (unsettled here (sent here)))
+    && not (is_tried x here)
 
 abbrev pub is_first : MsgId → Ui → List Entry → Bool
 is_first x q here = is_first_as x q here (find_sent x (sent here))
@@ -152,8 +153,8 @@ abbrev pub farther : Location → Option Location → Location
 farther l None = l
 farther l (Some m) = if nat_lt l.hop m.hop then m else l
 
--- where a port is as far as its name tells: at its creation place with hop 0, and at no place, which is 0, where the layout
--- has no such site
+-- where a port is as far as its name tells: at its creation place with hop 0, and at no place, which is 0, where the
+-- layout has no such site
 abbrev pub named_location : Layout → Ui → Location
 named_location l q = record { to = if has_site l q.site then creation_place l q else 0; hop = 0 }
 

@@ -11,11 +11,13 @@ use Rattle.chorus_world.specs.AcceptedLaws.{accepted_by}
 abbrev pub RequestsRise : List Entry → Type 0
 RequestsRise past =
     (q : Ui) (i j : ℕ) (x y : MsgId) (n m : ℕ) (b c : Ui) → i < j → slice_get (accepted_by q past) i ≡ Some x →
-    slice_get (accepted_by q past) j ≡ Some y → x.seat ≡ y.seat → tag_of x past ≡ Request n b → tag_of y past ≡ Request m c → n < m
+    slice_get (accepted_by q past) j ≡ Some y → x.seat ≡ y.seat → tag_of x past ≡ Request n b →
+    tag_of y past ≡ Request m c → n < m
 
 -- and each request of a client is accepted at most once, at one position of one port, however often it is posted
 abbrev pub AcceptsRequestsOnce : List Entry → Type 0
 AcceptsRequestsOnce past =
     (q r : Ui) (i j : ℕ) (x y : MsgId) (n : ℕ) (b c : Ui) → slice_get (accepted_by q past) i ≡ Some x →
-    slice_get (accepted_by r past) j ≡ Some y → x.seat ≡ y.seat → tag_of x past ≡ Request n b → tag_of y past ≡ Request n c →
+    slice_get (accepted_by r past) j ≡ Some y → x.seat ≡ y.seat → tag_of x past ≡ Request n b →
+    tag_of y past ≡ Request n c →
     (q ≡ r) × (i ≡ j)

@@ -18,5 +18,6 @@ route_of x past = route_from (post_of x past)
 -- a port accepts the messages of one caller that came by one route in the order in which they were posted
 abbrev pub KeepsSenderOrder : List Entry → Type 0
 KeepsSenderOrder past =
-    (q : Ui) (i j : ℕ) (x y : MsgId) → i < j → slice_get (accepted_by q past) i ≡ Some x → slice_get (accepted_by q past) j ≡ Some y →
+    (q : Ui) (i j : ℕ) (x y : MsgId) → i < j → slice_get (accepted_by q past) i ≡ Some x →
+    slice_get (accepted_by q past) j ≡ Some y →
     x.seat ≡ y.seat → route_of x past ≡ route_of y past → x.number < y.number

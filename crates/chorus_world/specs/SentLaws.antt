@@ -35,8 +35,8 @@ pub record IsPostedToGroup (x : MsgId) (g : Ui) (past : List Entry) : Type 0 whe
   pub group : group_in dest ≡ Some g
   pub id : message.id ≡ x
 
--- x is the copy that the choice for its post made for the port q: copy n is for the n-th member, counted from 1. The post was
--- posted before, to the group which the Choose names
+-- x is the copy that the choice for its post made for the port q: copy n is for the n-th member, counted from 1. The
+-- post was posted before, to the group which the Choose names
 pub record IsCopiedTo (x : MsgId) (q : Ui) (past : List Entry) : Type 0 where
   pub entry : Entry
   pub post : MsgId

@@ -54,4 +54,5 @@ SortsInOrder = (past : List Entry) → IsCausal past → IsRising (sort past)
 -- a NoGroup that answers a command looks at home
 abbrev pub AnswersLookAtHome : Type 0
 AnswersLookAtHome =
-    (l : Layout) (past : List Entry) (a : Ui) (c : Command) (e : Entry) → answers l past a c e ≡ true → LooksAtHome l e.place e.act
+    (l : Layout) (past : List Entry) (a : Ui) (c : Command) (e : Entry) → answers l past a c e ≡ true →
+    LooksAtHome l e.place e.act

@@ -1,11 +1,11 @@
 -- What of the past an entry can read: the entries of its place, of its seat, about its message, and on the line of its
--- port, which are those that stand only where the port is held or comes to be held. A past is the list of all entries so
--- far, the newest first.
+-- port, which are those that stand only where the port is held or comes to be held. A past is the list of all entries
+-- so far, the newest first.
 --
--- Letters, here and in the other files: e and f are entries, p is a place, s a seat, x and y are the ids of messages, m is a
--- message, d where it goes, q and r are ports, g and h groups, c is a caller's call or a command, l a layout, v what an entry
--- reads, w a world; n, i and j are numbers, and a is an act, an answer or an actor, as its type says. In Ports and where its
--- state is passed, f is the state of a port.
+-- Letters, here and in the other files: e and f are entries, p is a place, s a seat, x and y are the ids of messages, m
+-- is a message, d where it goes, q and r are ports, g and h groups, c is a caller's call or a command, l a layout, v
+-- what an entry reads, w a world; n, i and j are numbers, and a is an act, an answer or an actor, as its type says. In
+-- Ports and where its state is passed, f is the state of a port.
 use Rattle.std.specs.Prelude.{ℕ, Bool, false, ◌||◌, List, [], ◌∷◌, Option, Some, ◌==◌}
 use Rattle.std.specs.List.{filter}
 use Rattle.chorus_ui.specs.declared.ui.Ui.{Ui}
@@ -55,9 +55,9 @@ abbrev pub finds_group : Act → List Entry → Bool
 finds_group (NoGroup g) past = is_group g past
 finds_group _ past = false
 
--- What one entry reads. In the whole past it only looks up what the oldest fitting entry settles for ever: what was posted
--- under an id, and which posts to a group a place made before one that is there. A NoGroup besides reads that its group was
--- not made, which a later entry may change.
+-- What one entry reads. In the whole past it only looks up what the oldest fitting entry settles for ever: what was
+-- posted under an id, and which posts to a group a place made before one that is there. A NoGroup besides reads that
+-- its group was not made, which a later entry may change.
 pub record Views : Type 0 where
   pub here : List Entry
   pub mine : List Entry

@@ -1,5 +1,6 @@
 -- Arrows: of a list of entries, and of the packets that a schedule worked off.
--- e is an entry, past what stands before it, the newest first; es are events, the latest first; n is a network, b a place's number.
+-- e is an entry, past what stands before it, the newest first; es are events, the latest first; n is a network, b a
+-- place's number.
 use Rattle.std.specs.Prelude.{ℕ, ◌≡◌, List, [], ◌∷◌, ◌++◌, Option, Some, None, slice_get, IsPermutation}
 use Rattle.chorus_ui.specs.declared.layout.Layout.{Layout}
 use Rattle.chorus_entry.specs.declared.entry.Entry.{Entry}

@@ -46,8 +46,8 @@ pub record IsWithin (s : PlaceState) : Type 0 where
   pub waiting : (k : Key) → All (IsWaitWithin k) (s.waiting k).waits
   pub members : (g : Ui) → AreMembersWithin (members g s.journal)
 
--- what a caller keeps: the outstanding call has a number from 1 on, goes to a port as its reply does, and its body is within
--- the limit; and the request in hand has a number from 1 on and a reply that goes to a port
+-- what a caller keeps: the outstanding call has a number from 1 on, goes to a port as its reply does, and its body is
+-- within the limit; and the request in hand has a number from 1 on and a reply that goes to a port
 pub record IsCallerWithin (c : Seated) : Type 0 where
   pub call : IfSome c.client.outstanding IsRequest
   pub body : IfSome c.client.outstanding (λ call. length call.body ≤ BODY_LIMIT)

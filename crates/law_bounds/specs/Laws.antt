@@ -18,10 +18,12 @@ StartsWithin = (l : Layout) (p : ℕ) → IsLayout l → has_place l p ≡ true 
 -- a turn with a command
 abbrev pub ActsStayWithin : Type 0
 ActsStayWithin =
-    (c : Command) (t : Turn) → meets_conditions c ≡ true → has_body_in_limit c ≡ true → IsCallerWithin t.caller → IsTurnWithin t
+    (c : Command) (t : Turn) → meets_conditions c ≡ true → has_body_in_limit c ≡ true → IsCallerWithin t.caller →
+    IsTurnWithin t
     → IsTurnWithin (act c t)
 
 -- a turn with a lawful packet, whose clock the turn's is not below
 abbrev pub WorksStayWithin : Type 0
 WorksStayWithin =
-    (k : Packet) (t : Turn) → is_lawful k.from k t.place ≡ true → k.clock ≤ greatest_clock t → IsTurnWithin t → IsTurnWithin (work k t)
+    (k : Packet) (t : Turn) → is_lawful k.from k t.place ≡ true → k.clock ≤ greatest_clock t → IsTurnWithin t →
+    IsTurnWithin (work k t)

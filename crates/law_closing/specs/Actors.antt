@@ -19,8 +19,8 @@ use Rattle.law_closing.specs.Places.{PlaceNote, ArePlacesClosed, HaveHistories}
 abbrev pub AreIn : Ui → List (Placed PlaceNote) → Type 0
 AreIn actor made = All (λ (m : Placed PlaceNote). m.remarked.remark.before.actor ≡ actor) made
 
--- each entry of the pass, and of each pass in its notes, was made in the actor of its number; and the actors of all numbers that
--- were drawn are the layout's
+-- each entry of the pass, and of each pass in its notes, was made in the actor of its number; and the actors of all
+-- numbers that were drawn are the layout's
 pub record AreActors (l : Layout) (actors : ℕ → Ui) (v : Knowledge PlaceNote) : Type 0 where
   pub own : AreIn (actors v.seat) v.mine
   pub noted : All (λ (n : Note PlaceNote). AreIn (actors n.seat) n.mine) v.notes
@@ -28,12 +28,15 @@ pub record AreActors (l : Layout) (actors : ℕ → Ui) (v : Knowledge PlaceNote
   pub has : (q : ℕ) → q < v.made → has_actor l (actors q) ≡ true
 
 -- histories in which those who came are in these actors
-pub record HaveHistoriesIn (l : Layout) (actors : ℕ → Ui) (log : ℕ → List (Remarked PlaceNote)) (v : Knowledge PlaceNote) (end : ℕ → PlaceState) (out hand left : ℕ → ℕ → List Packet) : Type 0 where
+pub record HaveHistoriesIn (l : Layout) (actors : ℕ → Ui) (log : ℕ → List (Remarked PlaceNote))
+    (v : Knowledge PlaceNote) (end : ℕ → PlaceState) (out hand left : ℕ → ℕ → List Packet) : Type 0 where
   pub histories : HaveHistories l log v end out hand left
   pub who : (q : ℕ) → q < v.made → actor_among histories.comers q ≡ Some (actors q)
 
 abbrev pub ClosedPlacesHaveHistoriesIn : Type 0
 ClosedPlacesHaveHistoriesIn =
-    (l : Layout) (actors : ℕ → Ui) (log : ℕ → List (Remarked PlaceNote)) (v : Knowledge PlaceNote) (end : ℕ → PlaceState)
-    (pushed out popped hand left : ℕ → ℕ → List Packet) → IsLayout l → ArePlacesClosed l log v end pushed out popped hand left →
+    (l : Layout) (actors : ℕ → Ui) (log : ℕ → List (Remarked PlaceNote)) (v : Knowledge PlaceNote)
+    (end : ℕ → PlaceState)
+    (pushed out popped hand left : ℕ → ℕ → List Packet) → IsLayout l →
+    ArePlacesClosed l log v end pushed out popped hand left →
     AreActors l actors v → HaveHistoriesIn l actors log v end out hand left

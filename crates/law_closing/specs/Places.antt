@@ -30,13 +30,17 @@ is_new l q w =
     && is_actor w.actor && has_actor l w.actor
 
 -- the places of the layout were closed, with their links and passes
-abbrev pub ArePlacesClosed : Layout → (ℕ → List (Remarked PlaceNote)) → Knowledge PlaceNote → (ℕ → PlaceState) → (ℕ → ℕ → List Packet) → (ℕ → ℕ → List Packet) → (ℕ → ℕ → List Packet) → (ℕ → ℕ → List Packet) → (ℕ → ℕ → List Packet) → Type 0
+abbrev pub ArePlacesClosed : Layout → (ℕ → List (Remarked PlaceNote)) → Knowledge PlaceNote → (ℕ → PlaceState) →
+    (ℕ → ℕ → List Packet) → (ℕ → ℕ → List Packet) → (ℕ → ℕ → List Packet) → (ℕ → ℕ → List Packet) →
+    (ℕ → ℕ → List Packet) → Type 0
 ArePlacesClosed l log v end pushed out popped hand left =
     IsClosed (machine l) (is_new l) (started l) (places l) log v end pushed out popped hand left
 
--- Histories of as many callers as seats were drawn, which end with these places and with what is left for them, and have of each
--- place and of each pass just its turns.
-pub record HaveHistories (l : Layout) (log : ℕ → List (Remarked (Noted Seated Command Packet))) (v : Knowledge (Noted Seated Command Packet)) (end : ℕ → PlaceState) (out hand left : ℕ → ℕ → List Packet) : Type 0 where
+-- Histories of as many callers as seats were drawn, which end with these places and with what is left for them, and
+-- have of each place and of each pass just its turns.
+pub record HaveHistories (l : Layout) (log : ℕ → List (Remarked (Noted Seated Command Packet)))
+    (v : Knowledge (Noted Seated Command Packet)) (end : ℕ → PlaceState)
+    (out hand left : ℕ → ℕ → List Packet) : Type 0 where
   pub comers : List Comer
   pub of_places : ℕ → List PlaceTurn
   pub of_seats : ℕ → List PlaceTurn
@@ -44,7 +48,8 @@ pub record HaveHistories (l : Layout) (log : ℕ → List (Remarked (Noted Seate
   pub histories : AreHistories l comers of_places of_seats closing
   pub count : length comers ≡ v.made
   pub ends : (p : ℕ) → IsPlace (places l) p → closing.places p ≡ end p
-  pub rest : (a b : ℕ) → IsPlace (places l) a → IsPlace (places l) b → closing.links a b ≡ hand a b ++ (left a b ++ out a b)
+  pub rest : (a b : ℕ) → IsPlace (places l) a → IsPlace (places l) b →
+      closing.links a b ≡ hand a b ++ (left a b ++ out a b)
   pub made : (p : ℕ) → IsPlace (places l) p → of_places p ≡ turns_at p (log p)
   pub mine : of_seats v.seat ≡ turns_in v.mine
   pub noted : All (λ (n : Note (Noted Seated Command Packet)). of_seats n.seat ≡ turns_in n.mine) v.notes
@@ -52,5 +57,6 @@ pub record HaveHistories (l : Layout) (log : ℕ → List (Remarked (Noted Seate
 abbrev pub ClosedPlacesHaveHistories : Type 0
 ClosedPlacesHaveHistories =
     (l : Layout) (log : ℕ → List (Remarked PlaceNote)) (v : Knowledge PlaceNote) (end : ℕ → PlaceState)
-    (pushed out popped hand left : ℕ → ℕ → List Packet) → IsLayout l → ArePlacesClosed l log v end pushed out popped hand left →
+    (pushed out popped hand left : ℕ → ℕ → List Packet) → IsLayout l →
+    ArePlacesClosed l log v end pushed out popped hand left →
     HaveHistories l log v end out hand left

@@ -1,5 +1,6 @@
 -- The turns that entries with remarks tell: of a place, and of a pass.
--- p is the number of a place, log are entries with remarks, the oldest first, made are entries with the places where they were made.
+-- p is the number of a place, log are entries with remarks, the oldest first, made are entries with the places where
+-- they were made.
 use Rattle.std.specs.Prelude.{ℕ, ◌==◌, ◌+◌, Bool, List, [], ◌∷◌, map}
 use Rattle.std.specs.List.{filter}
 use Rattle.chorus_entry.specs.declared.entry.Entry.{Entry}
@@ -32,7 +33,8 @@ module _ {C M K : Type 0} where
 
   abbrev pub turns_in : List (Placed (Noted C M K)) → List (Turn C M K)
   turns_in made =
-      map (λ (m : Placed (Noted C M K)). turn_of m.place m.remarked) (filter (λ (m : Placed (Noted C M K)). begins m.remarked) made)
+      map (λ (m : Placed (Noted C M K)). turn_of m.place m.remarked)
+      (filter (λ (m : Placed (Noted C M K)). begins m.remarked) made)
 
   -- the entries of a turn with its remark, numbered from n on
   abbrev pub numbered : ℕ → Noted C M K → List Entry → List (Remarked (Noted C M K))

@@ -48,7 +48,8 @@ CallerAlike None (Some v) = ⊥
 CallerAlike (Some w) None = ⊥
 CallerAlike (Some w) (Some v) = SameButLast w v
 
--- the event that is a script's command, or a delivery by somebody who has none, may be by somebody else in the other network
+-- the event that is a script's command, or a delivery by somebody who has none, may be by somebody else in the other
+-- network
 abbrev pub AreSameMove : ℕ → Event → Event → NetState → NetState → Type 0
 AreSameMove count e f n m =
     ((k : ℕ) × ((c : Command) × ((e ≡ Act k c) × (f ≡ Act k c) × (1 ≤ k) × (k ≤ count))))
@@ -66,12 +67,14 @@ module _ (J : List Entry → List Entry → Type 0) where
     pub callers : R t.caller caller
     pub loads : map unclocked t.puts ≡ map unclocked puts
 
-  -- What turns do that are alike is alike, whatever the command, and whatever the packet, its clock, and who works it off.
+  -- What turns do that are alike is alike, whatever the command, and whatever the packet, its clock, and who works it
+  -- off.
   abbrev pub CommandsStayAlike : Type 0
   CommandsStayAlike = (c : Command) (t u : Turn) → AreAlike SameButLast t u → AreAlike SameButLast (act c t) (act c u)
 
   abbrev pub PacketsStayAlike : Type 0
-  PacketsStayAlike = (k : Packet) (clock : ℕ) (t u : Turn) → AreAlike Anyone t u → AreAlike Anyone (work k t) (work (record k { clock = clock }) u)
+  PacketsStayAlike = (k : Packet) (clock : ℕ) (t u : Turn) → AreAlike Anyone t u →
+      AreAlike Anyone (work k t) (work (record k { clock = clock }) u)
 
   -- Networks.
 

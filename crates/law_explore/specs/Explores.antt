@@ -23,7 +23,8 @@ module _ {O : Type 0} (r : Race) (comes : List Move → O) where
   Count o (ms ∷ rest) zero = (comes ms ≢ o) × Count o rest zero
   Count o (ms ∷ rest) (suc n) = ((comes ms ≡ o) × Count o rest n) ⊎ ((comes ms ≢ o) × Count o rest (suc n))
 
-  -- where a limit was met: what is said is true, each outcome once, with how many of the histories that were gone through
+  -- where a limit was met: what is said is true, each outcome once, with how many of the histories that were gone
+  -- through
   pub record ExploresSome (histories : List (List Move)) (printed : List (Found O)) : Type 0 where
     pub whole : All (IsNormalWhole r) histories
     pub shown : All IsShown printed
@@ -31,7 +32,8 @@ module _ {O : Type 0} (r : Race) (comes : List Move → O) where
     pub found : All (λ (ms : List Move). Contains (map (λ (f : Found O). f.outcome) printed) (comes ms)) histories
     pub counted : All (λ (f : Found O). Count f.outcome histories f.histories) printed
 
-  -- and else none is missing: the histories are all that are in normal form, and each whole history comes to what is said
+  -- and else none is missing: the histories are all that are in normal form, and each whole history comes to what is
+  -- said
   pub record Explores (histories : List (List Move)) (printed : List (Found O)) : Type 0 where
     pub some : ExploresSome histories printed
     pub normals : (ms : List Move) → IsNormalWhole r ms → Contains histories ms

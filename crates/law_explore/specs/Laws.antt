@@ -15,7 +15,8 @@ RacesNeedNormalsOnly = (r : Race) (who : ℕ → ℕ) → AreByLink r.net.packet
 
 -- Whoever delivers, and whatever the clocks: the same moves come to the same.
 
--- two races with the same scripts, on networks that are alike, and who delivers in the second is there and has no script
+-- two races with the same scripts, on networks that are alike, and who delivers in the second is there and has no
+-- script
 pub record RacesAlike (r q : Race) (one other : ℕ → ℕ) : Type 0 where
   pub scripts : q.scripts ≡ r.scripts
   pub nets : NetsAlike ActAlike (length r.scripts) r.net q.net
@@ -25,7 +26,8 @@ pub record RacesAlike (r q : Race) (one other : ℕ → ℕ) : Type 0 where
 abbrev pub MovesComeToTheSame : Type 0
 MovesComeToTheSame =
     (r q : Race) (one other : ℕ → ℕ) (ms : List Move) → RacesAlike r q one other → IsHistory (racing r one) ms →
-    IsHistory (racing q other) ms × (outcome_of (state_after (racing q other) ms) ≡ outcome_of (state_after (racing r one) ms))
+    IsHistory (racing q other) ms × (outcome_of (state_after (racing q other) ms)
+    ≡ outcome_of (state_after (racing r one) ms))
 
 -- A race as a replay goes.
 

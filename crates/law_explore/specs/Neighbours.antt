@@ -39,7 +39,8 @@ has_packet (Deliver k a b) us = is_some (first_on a b us)
 abbrev pub is_ready : Event → NetState → Bool
 is_ready e n = is_some (slice_get n.callers (seat_of e)) && has_packet e n.packets
 
--- both may come, and they are apart: neither waits for the other, though the one may put behind a packet that the other takes
+-- both may come, and they are apart: neither waits for the other, though the one may put behind a packet that the other
+-- takes
 pub record AreNeighbours (e f : Event) (n : NetState) : Type 0 where
   pub one : is_ready e n ≡ true
   pub other : is_ready f n ≡ true

@@ -1,5 +1,5 @@
--- What comes of a race: facts of the end of a history, without the numbers that only tell when: clocks, positions and hops.
--- k is the number of a script, i that of a command, both from 1; ps are places, x is an id, q a port.
+-- What comes of a race: facts of the end of a history, without the numbers that only tell when: clocks, positions and
+-- hops. k is the number of a script, i that of a command, both from 1; ps are places, x is an id, q a port.
 use Rattle.std.specs.Prelude.{ℕ, ◌+◌, List, [], ◌∷◌, ◌++◌, map, reverse, Option, Some, None}
 use Rattle.std.specs.List.{flat_map, filter_map}
 use Rattle.std.specs.Option.{option_map, option_or}
@@ -25,13 +25,14 @@ use Rattle.law_explore.specs.Races.{Race, Position, replaying}
 pub data Fact : Type 0 where
   -- the command of this number of a script is answered by this act
   Answered : (script number : ℕ) (act : acts.Act) → Fact
-  -- the message has this verdict; none where it is a post to a group for which members were chosen: its copies have theirs
+  -- the message has this verdict; none where it is a post to a group for which members were chosen: its copies have
+  -- theirs
   Judged : (message : MsgId) (verdict : Option Answer) → Fact
   -- the port is held by this actor, and these messages wait in it
   Held : (port actor : Ui) (waiting : List MsgId) → Fact
 
--- of each script and each command how it was answered; of each message that these posted, and of its copies, the verdict; and each
--- port that is held, in the order in which each place made them
+-- of each script and each command how it was answered; of each message that these posted, and of its copies, the
+-- verdict; and each port that is held, in the order in which each place made them
 abbrev pub Outcome : Type 0
 Outcome = List Fact
 

@@ -1,5 +1,6 @@
--- A race: callers with their scripts on a network. Their commands and the deliveries may come in any order that keeps each script's.
--- r is a race, s a position, m and o are moves, i is the number of a script, from 0 on, a and b are numbers of places, l is a layout.
+-- A race: callers with their scripts on a network. Their commands and the deliveries may come in any order that keeps
+-- each script's. r is a race, s a position, m and o are moves, i is the number of a script, from 0 on, a and b are
+-- numbers of places, l is a layout.
 use Rattle.std.specs.Prelude.{ℕ, suc, ◌==◌, ◌<◌, nat_lt, if◌then◌else◌, Bool, true, false, ◌&&◌, ◌||◌, not, List, [], ◌∷◌, ◌++◌, length, map, Option, Some, None, unwrap_or, slice_get, slice_set}
 use Rattle.std.specs.List.{filter}
 use Rattle.std.specs.Option.{option_map}
@@ -22,7 +23,8 @@ pub record Race : Type 0 where
   pub net : NetState
   pub scripts : List (List Command)
 
--- what is reached: the network; what is left of each script; and the acts by which its commands were answered, the latest first
+-- what is reached: the network; what is left of each script; and the acts by which its commands were answered, the
+-- latest first
 pub record Position : Type 0 where
   pub net : NetState
   pub left : List (List Command)
@@ -71,7 +73,11 @@ answers_after (Carry x z) a told = told
 
 abbrev pub position_after : Option Event → Move → Position → Position
 position_after None m s = s
-position_after (Some e) m s = record { net = happened e s.net; left = scripts_after m s.left; told = answers_after m (own_of e s.net) s.told }
+position_after (Some e) m s = record {
+  net = happened e s.net;
+  left = scripts_after m s.left;
+  told = answers_after m (own_of e s.net) s.told;
+}
 
 abbrev pub is_ready_by : Option Event → NetState → Bool
 is_ready_by None n = false
@@ -85,7 +91,8 @@ are_apart_by (Some e) (Some f) n = are_apart n.layout (actor_of n) e f
 abbrev pub are_neighbours : Layout → (ℕ → ℕ) → Move → Move → Position → Bool
 are_neighbours l who m o s =
     is_ready_by (event_of l who m s.left) s.net
-    && (is_ready_by (event_of l who o s.left) s.net && are_apart_by (event_of l who m s.left) (event_of l who o s.left) s.net)
+    && (is_ready_by (event_of l who o s.left) s.net && are_apart_by (event_of l who m s.left)
+    (event_of l who o s.left) s.net)
 
 -- scripts by their numbers, and behind them deliveries by their places
 abbrev pub is_less : Move → Move → Bool
@@ -108,8 +115,9 @@ racing r who =
       less = is_less;
     }
 
--- The race as a replay goes: seat 0 delivers. Two moves are neighbours where both may come, they are not of one script, and their
--- turns are at two places; two deliveries too, though seat 0 makes both, since its clock is all that they share.
+-- The race as a replay goes: seat 0 delivers. Two moves are neighbours where both may come, they are not of one script,
+-- and their turns are at two places; two deliveries too, though seat 0 makes both, since its clock is all that they
+-- share.
 
 abbrev pub seat_0 : ℕ → ℕ
 seat_0 b = 0
@@ -159,7 +167,8 @@ all_moves l left = map Go (numbers (length left) 0) ++ links_between (place_numb
 abbrev pub next_moves : Race → Position → List Move
 next_moves r s = filter (λ (m : Move). may_come r.net.layout m s) (all_moves r.net.layout s.left)
 
--- A history of moves that nothing may come behind; and in the normal form of which there is one for each order of what has nothing in common.
+-- A history of moves that nothing may come behind; and in the normal form of which there is one for each order of what
+-- has nothing in common.
 
 abbrev pub IsWhole : Race → List Move → Type 0
 IsWhole r ms = IsComplete (replaying r) (next_moves r) ms

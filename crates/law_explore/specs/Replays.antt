@@ -10,10 +10,11 @@ use Rattle.law_explore.specs.Races.{Race, event_of, seat_0, replaying}
 
 abbrev pub events_of : Race → List Move → List Event
 events_of r [] = []
-events_of r (m ∷ ms) = option_to_list (event_of r.net.layout seat_0 m (state_after (replaying r) ms).left) ++ events_of r ms
+events_of r (m ∷ ms) =
+    option_to_list (event_of r.net.layout seat_0 m (state_after (replaying r) ms).left) ++ events_of r ms
 
--- Where tasks led to the race, and then each move is done, and a drain: if the moves leave no packet, the drain finds nothing, and what
--- is left is the network that the moves come to.
+-- Where tasks led to the race, and then each move is done, and a drain: if the moves leave no packet, the drain finds
+-- nothing, and what is left is the network that the moves come to.
 abbrev pub MovesAreReplayed : Type 0
 MovesAreReplayed =
     (l : Layout) (ts : List Task) (base es : List Event) (r : Race) (ms : List Move) →

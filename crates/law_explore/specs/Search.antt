@@ -3,7 +3,8 @@
 use Rattle.std.specs.Prelude.{ℕ, zero, suc, ◌≡◌, ◌<◌, Bool, true, false, ◌&&◌, not, if◌then◌else◌, List, [], ◌∷◌, length, Contains}
 use Rattle.std.specs.List.{flat_map}
 
--- What goes on: where it starts, what each event makes of a state, which events may come, and which two have nothing in common.
+-- What goes on: where it starts, what each event makes of a state, which events may come, and which two have nothing in
+-- common.
 pub record System (S E : Type 0) : Type 1 where
   pub start : S
   pub step : E → S → S
@@ -39,8 +40,10 @@ pub record Commutes {S E : Type 0} (y : System S E) (Holds : S → Type 0) : Typ
   pub either : (a b : E) (s : S) → y.apart a b s ≡ true → y.apart b a s ≡ true
   pub swap : (a b : E) (s : S) → Holds s → y.apart a b s ≡ true → y.step a (y.step b s) ≡ y.step b (y.step a s)
   pub still : (a b : E) (s : S) → Holds s → y.apart a b s ≡ true → y.ready a (y.step b s) ≡ true
-  -- what needs neither of two events, where the other came, needed neither before: no event is made ready by each of two
-  pub back : (a b m : E) (s : S) → Holds s → y.apart a b s ≡ true → y.apart m b (y.step a s) ≡ true → y.apart m a (y.step b s) ≡ true →
+  -- what needs neither of two events, where the other came, needed neither before: no event is made ready by each of
+  -- two
+  pub back : (a b m : E) (s : S) → Holds s → y.apart a b s ≡ true → y.apart m b (y.step a s) ≡ true →
+      y.apart m a (y.step b s) ≡ true →
       (y.apart m b s ≡ true) × (y.apart m a s ≡ true)
   pub one_way : (a b : E) → y.less a b ≡ true → y.less b a ≡ false
   pub between : (a b m : E) → y.less a b ≡ true → y.less m b ≡ false → y.less a m ≡ true
@@ -60,7 +63,8 @@ module _ {S E : Type 0} (y : System S E) where
   -- The search: depth first, and only over normal forms. `next` lists the events that may come.
   module _ (next : S → List E) where
     abbrev pub ListsNext : Type 0
-    ListsNext = (s : S) (e : E) → (y.ready e s ≡ true → Contains (next s) e) × (Contains (next s) e → y.ready e s ≡ true)
+    ListsNext =
+        (s : S) (e : E) → (y.ready e s ≡ true → Contains (next s) e) × (Contains (next s) e → y.ready e s ≡ true)
 
     -- nothing may come behind it
     abbrev pub IsComplete : List E → Type 0
@@ -80,7 +84,8 @@ module _ {S E : Type 0} (y : System S E) where
 
     -- each complete history in normal form that is not too long is found, and no other
     abbrev pub FindsAll : Type 0
-    FindsAll = (depth : ℕ) (es : List E) → IsComplete es → IsNormal y es → length es < depth → Contains (ends_from depth []) es
+    FindsAll =
+        (depth : ℕ) (es : List E) → IsComplete es → IsNormal y es → length es < depth → Contains (ends_from depth []) es
 
     abbrev pub FindsNoOther : Type 0
     FindsNoOther = (depth : ℕ) (es : List E) → Contains (ends_from depth []) es → IsComplete es × IsNormal y es

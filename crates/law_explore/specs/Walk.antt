@@ -30,7 +30,14 @@ module _ {S E : Type 0} (y : System S E) (next : S → List E) where
   abbrev pub taken_from : Frame E → List E → List (Frame E) → List (List E) → Walk E
   taken_from f [] fs found = record { found = found; frames = fs }
   taken_from f (e ∷ es) fs found =
-      let w : Walk E = record { found = found; frames = record { depth = f.depth; history = f.history; rest = es } ∷ fs } in
+      let w : Walk E = record {
+        found = found;
+        frames = record {
+          depth = f.depth;
+          history = f.history;
+          rest = es;
+        } ∷ fs;
+      } in
       if fits y e f.history then come_to f.depth (e ∷ f.history) w else w
 
   abbrev pub step_with : List (List E) → List (Frame E) → Walk E

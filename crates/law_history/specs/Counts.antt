@@ -37,14 +37,17 @@ module _ {C M K : Type 0} where
 abbrev pub EqualCountsLeaveNothing : Type 0 → Type 0 → Type 0 → Type 0 → Type 0
 EqualCountsLeaveNothing P C M K =
     (m : Machine P C M K) (n : ℕ) (opening closing : Network P C K) (places seats : ℕ → List (Turn C M K)) →
-    Histories m opening places seats closing → ((a b : ℕ) → opening.links a b ≡ []) → ((p : ℕ) → All (IsBelow n) (places p)) →
+    Histories m opening places seats closing → ((a b : ℕ) → opening.links a b ≡ []) →
+    ((p : ℕ) → All (IsBelow n) (places p)) →
     total n (λ p. put_count (places p)) ≡ total n (λ p. got_count (places p)) →
     (a b : ℕ) → a < n → b < n → closing.links a b ≡ []
 
 -- all that stood at a place when a seat had taken a turn there comes before each later turn of the seat
 abbrev pub StandsBehindAllSeen : Type 0 → Type 0 → Type 0 → Type 0 → Type 0
 StandsBehindAllSeen P C M K =
-    (m : Machine P C M K) (opening closing : Network P C K) (places seats : ℕ → List (Turn C M K)) (turns : List (Turn C M K)) →
+    (m : Machine P C M K) (opening closing : Network P C K) (places seats : ℕ → List (Turn C M K))
+    (turns : List (Turn C M K)) →
     IsScheduled m opening places seats closing turns →
-    (p q : ℕ) (us vs ws xs ys : List (Turn C M K)) (d e : Turn C M K) → places p ≡ us ++ d ∷ vs → seats q ≡ ws ++ d ∷ (xs ++ e ∷ ys) →
+    (p q : ℕ) (us vs ws xs ys : List (Turn C M K)) (d e : Turn C M K) → places p ≡ us ++ d ∷ vs →
+    seats q ≡ ws ++ d ∷ (xs ++ e ∷ ys) →
     All (λ (u : Turn C M K). before u e ≡ true) (us ++ d ∷ [])

@@ -1,5 +1,6 @@
 -- The entries that a turn appends.
--- l is a layout, p the number of a place, s a place, w a caller, i what the turn takes. A journal has its newest entry first.
+-- l is a layout, p the number of a place, s a place, w a caller, i what the turn takes. A journal has its newest entry
+-- first.
 use Rattle.std.specs.Prelude.{ℕ, ◌≡◌, true, List, ◌∷◌, ◌++◌, []}
 use Rattle.std.specs.List.{All}
 use Rattle.chorus_ui.specs.declared.layout.Layout.{Layout}
@@ -16,8 +17,8 @@ pub record IsMadeBy (number seat : ℕ) (e : Entry) : Type 0 where
   pub place : e.place ≡ number
   pub seat_is : e.seat ≡ seat
 
--- the turn appends a first entry, with the clock that is noted of it, and perhaps newer ones: all of the place, which keeps layout
--- and number, and of the caller in whose turn it is, who keeps seat and actor
+-- the turn appends a first entry, with the clock that is noted of it, and perhaps newer ones: all of the place, which
+-- keeps layout and number, and of the caller in whose turn it is, who keeps seat and actor
 pub record Appends (i : Input Command Packet) (s : PlaceState) (w : Seated) : Type 0 where
   pub newer : List Entry
   pub entry : Entry
@@ -31,4 +32,5 @@ pub record Appends (i : Input Command Packet) (s : PlaceState) (w : Seated) : Ty
 
 abbrev pub TurnsAppendEntries : Type 0
 TurnsAppendEntries =
-    (l : Layout) (p : ℕ) (i : Input Command Packet) (s : PlaceState) (w : Seated) → may_take l p i s w ≡ true → Appends i s w
+    (l : Layout) (p : ℕ) (i : Input Command Packet) (s : PlaceState) (w : Seated) → may_take l p i s w ≡ true →
+    Appends i s w

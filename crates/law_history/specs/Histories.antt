@@ -32,17 +32,19 @@ Follows c [] d = c ≡ d
 Follows c (t ∷ ts) d = (t.before ≡ c) × Follows t.after ts d
 
 module _ {P C M K : Type 0} (m : Machine P C M K) where
-  -- Of each place and of each seat the turns in order. A place's turns by a seat are the seat's turns at the place. Of each
-  -- pair of places what was there or was put is what was got and then what is left.
-  pub record Histories (opening : Network P C K) (places seats : ℕ → List (Turn C M K)) (closing : Network P C K) : Type 0 where
+  -- Of each place and of each seat the turns in order. A place's turns by a seat are the seat's turns at the place. Of
+  -- each pair of places what was there or was put is what was got and then what is left.
+  pub record Histories (opening : Network P C K) (places seats : ℕ → List (Turn C M K))
+      (closing : Network P C K) : Type 0 where
     pub takes : (p : ℕ) → Takes m p (opening.places p) (places p) (closing.places p)
     pub follows : (q : ℕ) → Follows (opening.callers q) (seats q) (closing.callers q)
     pub shared : (p q : ℕ) → filter (is_by q) (places p) ≡ filter (is_at p) (seats q)
     pub in_order : (a b : ℕ) → opening.links a b ++ put_to b (places a) ≡ got_from a (places b) ++ closing.links a b
 
-  -- the turns in one order, which is that of each place and that of each seat, are a schedule that leads from the one network
-  -- to the other
-  pub record IsScheduled (opening : Network P C K) (places seats : ℕ → List (Turn C M K)) (closing : Network P C K) (turns : List (Turn C M K)) : Type 0 where
+  -- the turns in one order, which is that of each place and that of each seat, are a schedule that leads from the one
+  -- network to the other
+  pub record IsScheduled (opening : Network P C K) (places seats : ℕ → List (Turn C M K)) (closing : Network P C K)
+      (turns : List (Turn C M K)) : Type 0 where
     pub schedule : IsSchedule m (map event_of turns) opening
     pub places_end : (p : ℕ) → (run m (map event_of turns) opening).places p ≡ closing.places p
     pub links_end : (a b : ℕ) → (run m (map event_of turns) opening).links a b ≡ closing.links a b
@@ -55,6 +57,7 @@ module _ {P C M K : Type 0} (m : Machine P C M K) where
 -- gives just these
 abbrev pub HistoriesAreScheduled : Type 0 → Type 0 → Type 0 → Type 0 → Type 0
 HistoriesAreScheduled P C M K =
-    (m : Machine P C M K) (count : ℕ) (opening closing : Network P C K) (places seats : ℕ → List (Turn C M K)) → Rises m →
+    (m : Machine P C M K) (count : ℕ) (opening closing : Network P C K) (places seats : ℕ → List (Turn C M K)) →
+    Rises m →
     ((p : ℕ) → count ≤ p → places p ≡ []) → Histories m opening places seats closing →
     (turns : List (Turn C M K)) × IsScheduled m opening places seats closing turns

@@ -1,6 +1,6 @@
--- Journals are a schedule: the turns that places took and callers were given, in one order, are a schedule of the network machine.
--- l is a layout, p, a and b are numbers of places, q is a seat, t a turn, n a network, ts are turns, the first one first, and es
--- are events, the latest first.
+-- Journals are a schedule: the turns that places took and callers were given, in one order, are a schedule of the
+-- network machine. l is a layout, p, a and b are numbers of places, q is a seat, t a turn, n a network, ts are turns,
+-- the first one first, and es are events, the latest first.
 use Rattle.std.specs.Prelude.{ℕ, ◌≡◌, true, List, [], ◌++◌, map, reverse, Option, Some, None, slice_get}
 use Rattle.std.specs.List.{All, filter}
 use Rattle.std.specs.Option.{option_map}
@@ -48,10 +48,12 @@ at_start l comers =
 
 -- What places and callers did.
 
--- For a layout and those who came: of each place its turns in order, by the place machine from the started place, and of each
--- caller its turns in order, from the new caller of its seat. A turn with a command stands at the command's place. Of each two
--- places, what was put is what was worked off and then what is left on the link. All ends at `closing`.
-pub record AreHistories (l : Layout) (comers : List Comer) (places seats : ℕ → List (Turn Seated Command Packet)) (closing : Network PlaceState Seated Packet) : Type 0 where
+-- For a layout and those who came: of each place its turns in order, by the place machine from the started place, and
+-- of each caller its turns in order, from the new caller of its seat. A turn with a command stands at the command's
+-- place. Of each two places, what was put is what was worked off and then what is left on the link. All ends at
+-- `closing`.
+pub record AreHistories (l : Layout) (comers : List Comer) (places seats : ℕ → List (Turn Seated Command Packet))
+    (closing : Network PlaceState Seated Packet) : Type 0 where
   pub came : All (IsComer l) comers
   pub histories : Histories (machine l) (at_start l comers) places seats closing
   pub no_caller : (q : ℕ) → slice_get comers q ≡ None → seats q ≡ []
@@ -81,9 +83,10 @@ pub record EndsAs (comers : List Comer) (closing : Network PlaceState Seated Pac
   pub links : (a b : ℕ) → on_link a b n ≡ closing.links a b
   pub callers : (q : ℕ) → slice_get n.callers q ≡ option_map (λ (c : Comer). closing.callers q) (slice_get comers q)
 
--- The turns of all places in one order, by the clock of the first entry and by place: they are each place's and each caller's
--- turns in their order, each may happen when it comes, and they leave just these places, links and callers.
-pub record IsTheirSchedule (l : Layout) (comers : List Comer) (places seats : ℕ → List (Turn Seated Command Packet)) (closing : Network PlaceState Seated Packet) (ts : List (Turn Seated Command Packet)) : Type 0 where
+-- The turns of all places in one order, by the clock of the first entry and by place: they are each place's and each
+-- caller's turns in their order, each may happen when it comes, and they leave just these places, links and callers.
+pub record IsTheirSchedule (l : Layout) (comers : List Comer) (places seats : ℕ → List (Turn Seated Command Packet))
+    (closing : Network PlaceState Seated Packet) (ts : List (Turn Seated Command Packet)) : Type 0 where
   pub sorted : IsInOrder ts
   pub by_place : (p : ℕ) → filter (is_at p) ts ≡ places p
   pub by_seat : (q : ℕ) → filter (is_by q) ts ≡ seats q
@@ -92,6 +95,7 @@ pub record IsTheirSchedule (l : Layout) (comers : List Comer) (places seats : �
 
 abbrev pub JournalsAreASchedule : Type 0
 JournalsAreASchedule =
-    (l : Layout) (comers : List Comer) (places seats : ℕ → List PlaceTurn) (closing : Network PlaceState Seated Packet) → IsLayout l →
+    (l : Layout) (comers : List Comer) (places seats : ℕ → List PlaceTurn)
+    (closing : Network PlaceState Seated Packet) → IsLayout l →
     AreHistories l comers places seats closing →
     (ts : List PlaceTurn) × IsTheirSchedule l comers places seats closing ts

@@ -1,5 +1,5 @@
--- The network machine: places, a list of packets from each place to each other, and callers. One thing happens after the
--- other.
+-- The network machine: places, a list of packets from each place to each other, and callers. One thing happens after
+-- the other.
 use Rattle.std.specs.Prelude.{ℕ, ◌≡◌, ◌==◌, true, ◌&&◌, cond, List, [], ◌∷◌, ◌++◌}
 use Rattle.law_history.specs.Turns.{Input, Sent, Outcome, Machine, puts_to}
 

@@ -1,5 +1,6 @@
 -- The place machine as a machine of histories.
--- l is a layout, p and a are numbers of places, s is a place, w a caller, c a command, k a packet, t a turn as it began, u as it ended.
+-- l is a layout, p and a are numbers of places, s is a place, w a caller, c a command, k a packet, t a turn as it
+-- began, u as it ended.
 use Rattle.std.specs.Prelude.{ℕ, ◌==◌, Bool, true, false, ◌&&◌, not, map, Some}
 use Rattle.chorus_ui.specs.declared.layout.Layout.{Layout}
 use Rattle.chorus_ui.specs.Layout.{has_place}

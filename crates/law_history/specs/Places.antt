@@ -23,7 +23,8 @@ PutsForOthers l p t = All (λ (s : Sent Packet). is_other l p s.to ≡ true) t.p
 
 abbrev pub TurnsPutForOthers : Type 0
 TurnsPutForOthers =
-    (l : Layout) (comers : List Comer) (places seats : ℕ → List PlaceTurn) (closing : Network PlaceState Seated Packet) → IsLayout l →
+    (l : Layout) (comers : List Comer) (places seats : ℕ → List PlaceTurn)
+    (closing : Network PlaceState Seated Packet) → IsLayout l →
     AreHistories l comers places seats closing → (p : ℕ) → All (PutsForOthers l p) (places p)
 
 -- how many packets the turns of all places of the layout put, and how many they took
@@ -34,13 +35,15 @@ abbrev pub all_got : Layout → (ℕ → List PlaceTurn) → ℕ
 all_got l turns = total (layout.places l) (λ k. got_count (turns (k + 1)))
 
 -- no more are taken than were put, and where as many were, no link holds one
-pub record CountsTell (l : Layout) (places : ℕ → List (Turn Seated Command Packet)) (closing : Network PlaceState Seated Packet) : Type 0 where
+pub record CountsTell (l : Layout) (places : ℕ → List (Turn Seated Command Packet))
+    (closing : Network PlaceState Seated Packet) : Type 0 where
   pub most : all_got l places ≤ all_put l places
   pub even : all_put l places ≡ all_got l places → (a b : ℕ) → closing.links a b ≡ []
 
 abbrev pub CountsTellWhatIsLeft : Type 0
 CountsTellWhatIsLeft =
-    (l : Layout) (comers : List Comer) (places seats : ℕ → List PlaceTurn) (closing : Network PlaceState Seated Packet) → IsLayout l →
+    (l : Layout) (comers : List Comer) (places seats : ℕ → List PlaceTurn)
+    (closing : Network PlaceState Seated Packet) → IsLayout l →
     AreHistories l comers places seats closing → CountsTell l places closing
 
 -- the lists of the numbers from 1 to n, one after the other
@@ -55,7 +58,8 @@ from_one n f a = up_to n (λ b. cond (b == a) [] (f a b))
 abbrev pub by_link : {A : Type 0} → ℕ → (ℕ → ℕ → List A) → List A
 by_link n f = up_to n (from_one n f)
 
--- the places of the network are those at the end by their numbers, and its packets those of the links, one link after the other
+-- the places of the network are those at the end by their numbers, and its packets those of the links, one link after
+-- the other
 pub record AreListed (l : Layout) (closing : Network PlaceState Seated Packet) (n : NetState) : Type 0 where
   pub places : n.places ≡ map closing.places (place_numbers l)
   pub packets : packets_left n ≡ by_link (layout.places l) closing.links

@@ -1,6 +1,6 @@
 -- What follows for journals: merged by clock and place alone, they are a run that performs each caller's commands.
--- l is a layout, p, a and b are numbers of places, q is a seat, n what places, links and callers are. A past has its newest entry
--- first.
+-- l is a layout, p, a and b are numbers of places, q is a seat, n what places, links and callers are. A past has its
+-- newest entry first.
 use Rattle.std.specs.Prelude.{ℕ, ◌≡◌, true, List, [], ◌∷◌, map, reverse, Option, Some, slice_get}
 use Rattle.std.specs.Option.{option_map}
 use Rattle.chorus_ui.specs.declared.ui.Ui.{Ui}
@@ -43,9 +43,10 @@ merged_at l n = reverse (merged (journals_at l n))
 abbrev pub actor_among : List Comer → ℕ → Option Ui
 actor_among comers q = option_map (λ (c : Comer). c.actor) (slice_get comers q)
 
--- The merge is a run for those who came; its parts are the journals; it performs each caller's commands in their order; and where
--- no link holds a packet, nothing is left to be done.
-pub record MergesAsARun (l : Layout) (comers : List Comer) (seats : ℕ → List (Turn Seated Command Packet)) (closing : Network PlaceState Seated Packet) : Type 0 where
+-- The merge is a run for those who came; its parts are the journals; it performs each caller's commands in their order;
+-- and where no link holds a packet, nothing is left to be done.
+pub record MergesAsARun (l : Layout) (comers : List Comer) (seats : ℕ → List (Turn Seated Command Packet))
+    (closing : Network PlaceState Seated Packet) : Type 0 where
   pub run : is_run l (actor_among comers) (merged_at l closing) ≡ true
   pub journals : (p : ℕ) → at p (merged_at l closing) ≡ (closing.places p).journal
   pub performed : (q : ℕ) (actor : Ui) → actor_among comers q ≡ Some actor →
@@ -54,11 +55,13 @@ pub record MergesAsARun (l : Layout) (comers : List Comer) (seats : ℕ → List
 
 abbrev pub JournalsMergeAsARun : Type 0
 JournalsMergeAsARun =
-    (l : Layout) (comers : List Comer) (places seats : ℕ → List PlaceTurn) (closing : Network PlaceState Seated Packet) → IsLayout l →
+    (l : Layout) (comers : List Comer) (places seats : ℕ → List PlaceTurn)
+    (closing : Network PlaceState Seated Packet) → IsLayout l →
     AreHistories l comers places seats closing → MergesAsARun l comers seats closing
 
 -- and all else that each schedule keeps is kept by theirs, of which this is the merge
-pub record KeepsPromises (l : Layout) (comers : List Comer) (places seats : ℕ → List (Turn Seated Command Packet)) (closing : Network PlaceState Seated Packet) : Type 0 where
+pub record KeepsPromises (l : Layout) (comers : List Comer) (places seats : ℕ → List (Turn Seated Command Packet))
+    (closing : Network PlaceState Seated Packet) : Type 0 where
   pub turns : List PlaceTurn
   pub scheduled : IsTheirSchedule l comers places seats closing turns
   pub promises : Promises l (events comers turns) (schedule l (events comers turns))
@@ -66,5 +69,6 @@ pub record KeepsPromises (l : Layout) (comers : List Comer) (places seats : ℕ 
 
 abbrev pub JournalsKeepPromises : Type 0
 JournalsKeepPromises =
-    (l : Layout) (comers : List Comer) (places seats : ℕ → List PlaceTurn) (closing : Network PlaceState Seated Packet) → IsLayout l →
+    (l : Layout) (comers : List Comer) (places seats : ℕ → List PlaceTurn)
+    (closing : Network PlaceState Seated Packet) → IsLayout l →
     AreHistories l comers places seats closing → KeepsPromises l comers places seats closing

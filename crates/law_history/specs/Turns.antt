@@ -1,5 +1,5 @@
--- Places that packets join, and the turns that callers take on them. What a place, a caller, a command and a packet are is
--- left open.
+-- Places that packets join, and the turns that callers take on them. What a place, a caller, a command and a packet are
+-- is left open.
 use Rattle.std.specs.Prelude.{ℕ, ◌≡◌, ◌<◌, ◌≤◌, ◌==◌, nat_lt, Bool, true, ◌&&◌, ◌||◌, cond, List, [], ◌∷◌, flat_map}
 use Rattle.std.specs.List.{All}
 pub use Rattle.law_history.specs.declared.turns.Input.{Input}
@@ -35,16 +35,20 @@ pub record Turn (C M K : Type 0) : Type 0 where
   pub after : C
   pub puts : List (Sent K)
 
--- What a machine owes: a command is taken at its place alone, and the clock of a turn's first entry is above all clocks that
--- it goes out from, and at most those that it leaves.
+-- What a machine owes: a command is taken at its place alone, and the clock of a turn's first entry is above all clocks
+-- that it goes out from, and at most those that it leaves.
 pub record Rises {P C M K : Type 0} (m : Machine P C M K) : Type 0 where
   pub at_place : (p : ℕ) (c : M) (x : P) (w : C) → m.may p (Input.Command c) x w ≡ true → m.goes w c ≡ p
   pub above_place : (p : ℕ) (i : Input M K) (x : P) (w : C) → m.may p i x w ≡ true → m.clock x < (m.turn p i x w).first
   pub above_caller : (p : ℕ) (i : Input M K) (x : P) (w : C) → m.may p i x w ≡ true → m.last w < (m.turn p i x w).first
-  pub above_packet : (p a : ℕ) (k : K) (x : P) (w : C) → m.may p (Input.Packet a k) x w ≡ true → m.stamp k < (m.turn p (Input.Packet a k) x w).first
-  pub to_place : (p : ℕ) (i : Input M K) (x : P) (w : C) → m.may p i x w ≡ true → (m.turn p i x w).first ≤ m.clock (m.turn p i x w).place
-  pub to_caller : (p : ℕ) (i : Input M K) (x : P) (w : C) → m.may p i x w ≡ true → (m.turn p i x w).first ≤ m.last (m.turn p i x w).caller
-  pub to_packets : (p : ℕ) (i : Input M K) (x : P) (w : C) → m.may p i x w ≡ true → All (λ (s : Sent K). (m.turn p i x w).first ≤ m.stamp s.packet) (m.turn p i x w).puts
+  pub above_packet : (p a : ℕ) (k : K) (x : P) (w : C) → m.may p (Input.Packet a k) x w ≡ true →
+      m.stamp k < (m.turn p (Input.Packet a k) x w).first
+  pub to_place : (p : ℕ) (i : Input M K) (x : P) (w : C) → m.may p i x w ≡ true →
+      (m.turn p i x w).first ≤ m.clock (m.turn p i x w).place
+  pub to_caller : (p : ℕ) (i : Input M K) (x : P) (w : C) → m.may p i x w ≡ true →
+      (m.turn p i x w).first ≤ m.last (m.turn p i x w).caller
+  pub to_packets : (p : ℕ) (i : Input M K) (x : P) (w : C) → m.may p i x w ≡ true →
+      All (λ (s : Sent K). (m.turn p i x w).first ≤ m.stamp s.packet) (m.turn p i x w).puts
 
 -- of what is put, the packets for one place
 abbrev pub puts_to : {K : Type 0} → ℕ → List (Sent K) → List K

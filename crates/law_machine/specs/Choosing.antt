@@ -1,5 +1,6 @@
 -- Choosing the members of a group for a post, at the group's place.
--- m is the post, d its destination, g the group, q a port, s the place, t a turn; `home` is the place where m was posted.
+-- m is the post, d its destination, g the group, q a port, s the place, t a turn; `home` is the place where m was
+-- posted.
 use Rattle.std.specs.Prelude.{ℕ, ◌+◌, ◌==◌, ◌&&◌, Bool, List, [], ◌∷◌, length, find, Some}
 use Rattle.chorus_ui.specs.declared.ui.Ui.{Ui}
 use Rattle.chorus_ui.specs.Layout.{has_site, site_of}
@@ -21,8 +22,8 @@ use Rattle.law_machine.specs.Trying.{report, go}
 abbrev pub is_at_site : ℕ → PlaceState → Ui → Bool
 is_at_site site s q = has_site s.layout q.site && (site_of s.layout (newest s q).to == site)
 
--- the members that a post chooses: all, in the order in which they joined; the one whose turn it is; or the first in turn
--- that is at the site
+-- the members that a post chooses: all, in the order in which they joined; the one whose turn it is; or the first in
+-- turn that is at the site
 abbrev pub choice : Dest → PlaceState → List Ui
 choice (Dest.Port q) s = []
 choice (Dest.All g) s = members g s.journal
@@ -37,7 +38,8 @@ by_group g q = record { port = q; route = Some g }
 abbrev pub copy : Message → Dest → ℕ → ℕ → Wait
 copy m d home number = record { message = as_copy m number; only = site_in d; home = home }
 
--- a copy waits for each of the members, behind the other messages of its port and route; they are numbered from `number` on
+-- a copy waits for each of the members, behind the other messages of its port and route; they are numbered from
+-- `number` on
 abbrev pub with_copies : Message → Dest → Ui → ℕ → ℕ → List Ui → (Key → Queue) → Key → Queue
 with_copies m d g home number [] queues = queues
 with_copies m d g home number (q ∷ qs) queues =

@@ -23,14 +23,14 @@ answer_in (accepts.Already m) = A.Already
 answer_in (accepts.ClientsFull m) = A.ClientsFull
 answer_in (accepts.Full len m) = A.Full len
 
--- the port is known to be at another place by a later hop than the one tried: the message is stale, and settled where it
--- demands a site
+-- the port is known to be at another place by a later hop than the one tried: the message is stale, and settled where
+-- it demands a site
 abbrev pub answer_moved : Option ℕ → Location → Answer
 answer_moved None newer = A.Stale newer.to newer.hop
 answer_moved (Some site) newer = A.Elsewhere newer.to newer.hop
 
--- the answer at the place p to a message that was tried with the hop `tried`, where the port is not held here and was not
--- deleted here, and its newest location is `newer`
+-- the answer at the place p to a message that was tried with the hop `tried`, where the port is not held here and was
+-- not deleted here, and its newest location is `newer`
 abbrev pub answer_away : ℕ → Option ℕ → ℕ → Location → Answer
 answer_away p only tried newer =
     if nat_lt tried newer.hop then (if newer.to == p then A.Early newer.hop else answer_moved only newer)

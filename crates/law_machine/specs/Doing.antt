@@ -101,7 +101,8 @@ abbrev pub holding : MsgId → Tag → Seated → Seated
 holding x (Tag.Request number back) c = with_hand c (Some (record { client = x.seat; number = number; back = back }))
 holding x _ c = c
 
--- a reply that is taken ends the outstanding call where the taker is the client and the number is outstanding, else it is late
+-- a reply that is taken ends the outstanding call where the taker is the client and the number is outstanding, else it
+-- is late
 abbrev pub ends_call : ℕ → ℕ → Turn → Turn
 ends_call client number t =
     if (client == t.caller.seat) && is_outstanding number t.caller.client

@@ -1,5 +1,5 @@
--- A command's own act: the act of its first entry, which answers it. The refusals stand in the order in which they are tested.
--- s is the place, t the turn, q a port, g a group; `port` is the record of a port.
+-- A command's own act: the act of its first entry, which answers it. The refusals stand in the order in which they are
+-- tested. s is the place, t the turn, q a port, g a group; `port` is the record of a port.
 use Rattle.std.specs.Prelude.{ℕ, ◌+◌, ◌==◌, nat_le, not, if◌then◌else◌, List, map, length, Option, Some, None}
 use Rattle.chorus_ui.specs.declared.kind.Kind.TheVariants as kinds
 use Rattle.chorus_ui.specs.declared.ui.Ui.{Ui}
@@ -101,7 +101,8 @@ call_act q back body caller (Some call) = Act.Outstanding call.number
 -- a retry posts the outstanding call again
 abbrev pub retry_act : Seated → Option Call → Act
 retry_act caller None = Act.NoCall
-retry_act caller (Some call) = Act.Post (next_message (Tag.Request call.number call.back) call.body caller) (Dest.Port call.port)
+retry_act caller (Some call) =
+    Act.Post (next_message (Tag.Request call.number call.back) call.body caller) (Dest.Port call.port)
 
 abbrev pub cancel_act : Option Call → Act
 cancel_act None = Act.NoCall
@@ -110,7 +111,8 @@ cancel_act (Some call) = Act.Cancel call.number
 -- a reply goes to the reply port of the request in hand
 abbrev pub reply_act : List ℕ → Seated → Option Hand → Act
 reply_act body caller None = Act.NoRequest
-reply_act body caller (Some hand) = Act.Post (next_message (Tag.Reply hand.client hand.number) body caller) (Dest.Port hand.back)
+reply_act body caller (Some hand) =
+    Act.Post (next_message (Tag.Reply hand.client hand.number) body caller) (Dest.Port hand.back)
 
 -- the act that answers the command
 abbrev pub own : Command → Turn → Act

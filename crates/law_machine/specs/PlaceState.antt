@@ -16,9 +16,9 @@ use Rattle.chorus_calls.specs.Callers.{Seated, after_tick}
 use Rattle.place_unsettled.specs.declared.wait.Key.{Key}
 use Rattle.place_unsettled.specs.Queues.{Queue, empty_queue}
 
--- a place of a layout: its number; its journal, the newest entry first; the records of the ports held, in table order; the
--- locations learned, each as place and hop; the messages that wait, by port and route; and of which messages it may still
--- get a report. Its clock, its groups and what it made or deleted are read from its journal.
+-- a place of a layout: its number; its journal, the newest entry first; the records of the ports held, in table order;
+-- the locations learned, each as place and hop; the messages that wait, by port and route; and of which messages it may
+-- still get a report. Its clock, its groups and what it made or deleted are read from its journal.
 pub record PlaceState : Type 0 where
   pub layout : Layout
   pub number : ℕ
@@ -61,8 +61,8 @@ pub record Turn : Type 0 where
   pub caller : Seated
   pub puts : List Outgoing
 
--- what goes with an entry: the caller and the tables of the place as it leaves them, and what it puts, each cargo with the
--- place that it goes to
+-- what goes with an entry: the caller and the tables of the place as it leaves them, and what it puts, each cargo with
+-- the place that it goes to
 pub record Change : Type 0 where
   pub caller : Seated
   pub ports : List PortRecord

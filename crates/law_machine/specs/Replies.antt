@@ -1,5 +1,6 @@
 -- The reply that a caller gets: by the command's own act, and for a post by what became of it in the turn.
--- x is the id of the post, d its destination, g a group, q a port, s the place; t is the turn as it began, u as it ended.
+-- x is the id of the post, d its destination, g a group, q a port, s the place; t is the turn as it began, u as it
+-- ended.
 use Rattle.std.specs.Prelude.{ℕ, ◌==◌, ◌&&◌, if◌then◌else◌, List, [], ◌∷◌, length, Option, Some, None}
 use Rattle.chorus_ui.specs.declared.ui.Ui.{Ui}
 use Rattle.chorus_entry.specs.declared.entry.Entry.{Entry}
@@ -39,8 +40,8 @@ abbrev pub decided_reply : MsgId → Option Answer → Reply
 decided_reply x None = Reply.Posted x
 decided_reply x (Some answer) = verdict_reply x answer
 
--- A message to a port waits behind all others of its port and route. So where the last entry of the turn is a decision, it is
--- the verdict of that message; else the message has none.
+-- A message to a port waits behind all others of its port and route. So where the last entry of the turn is a decision,
+-- it is the verdict of that message; else the message has none.
 abbrev pub post_reply : MsgId → List Entry → Reply
 post_reply x [] = Reply.Posted x
 post_reply x (e ∷ here) = decided_reply x (answer_of e.act)

@@ -1,5 +1,6 @@
 -- Trying the messages that wait at a place: of each port and route one at a time.
--- k is a port and route, w its first message that waits, p a place's number, x an id, t a turn; `located` is where the port is.
+-- k is a port and route, w its first message that waits, p a place's number, x an id, t a turn; `located` is where the
+-- port is.
 use Rattle.std.specs.Prelude.{ℕ, ◌==◌, ◌&&◌, not, if◌then◌else◌, List, [], ◌∷◌, Option, Some, None}
 use Rattle.chorus_entry.specs.declared.id.MsgId.{MsgId}
 use Rattle.chorus_entry.specs.declared.act.Act.{Act}
@@ -37,8 +38,9 @@ tries_at k w located t =
       loads = (located.to, Cargo.Try w.message k.port k.route w.only located.hop) ∷ [];
     }) t
 
--- the verdict that it has here: NoPort where the layout has no such site, Elsewhere where it demands another site than the
--- one where the port is, and what this place decides where the port is here; none where it is to be tried at another place
+-- the verdict that it has here: NoPort where the layout has no such site, Elsewhere where it demands another site than
+-- the one where the port is, and what this place decides where the port is here; none where it is to be tried at
+-- another place
 abbrev pub verdict_here : Key → Wait → Location → PlaceState → Option Answer
 verdict_here k w located s =
     if is_beyond s.layout k.port then Some A.NoPort
@@ -54,7 +56,8 @@ tries k w located on None t = tries_at k w located t
 -- the messages of k go, one after the other, as far as they have verdicts here
 abbrev pub goes_on : Key → List Wait → Turn → Turn
 goes_on k [] t = t
-goes_on k (w ∷ ws) t = tries k w (newest t.place k.port) (goes_on k ws) (verdict_here k w (newest t.place k.port) t.place) t
+goes_on k (w ∷ ws) t =
+    tries k w (newest t.place k.port) (goes_on k ws) (verdict_here k w (newest t.place k.port) t.place) t
 
 -- unless the first one is under way
 abbrev pub goes_unless : Key → Option ℕ → List Wait → Turn → Turn

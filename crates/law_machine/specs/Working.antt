@@ -1,6 +1,6 @@
 -- What a packet brings: the entry that a place appends for it, what goes with that, and what follows.
--- m is a message, x its id, d its destination, q a port, k a port and route, p a place's number, t the turn; `from` is the
--- place that the packet came from.
+-- m is a message, x its id, d its destination, q a port, k a port and route, p a place's number, t the turn; `from` is
+-- the place that the packet came from.
 use Rattle.std.specs.Prelude.{ℕ, List, [], ◌∷◌, ◌++◌, Option, Some, None}
 use Rattle.chorus_ui.specs.declared.ui.Ui.{Ui}
 use Rattle.chorus_entry.specs.declared.id.MsgId.{MsgId}

@@ -1,6 +1,7 @@
--- Each message that a port accepted stands in holdings by its fate: once, in one of them, where it is queued or under way; and in
--- none, where it was received or discarded.
--- q is a port, i a position in it, x the id of a message, f what became of a port, j a number. A past has its newest entry first.
+-- Each message that a port accepted stands in holdings by its fate: once, in one of them, where it is queued or under
+-- way; and in none, where it was received or discarded.
+-- q is a port, i a position in it, x the id of a message, f what became of a port, j a number. A past has its newest
+-- entry first.
 use Rattle.std.specs.Prelude.{ℕ, ◌≡◌, ◌≤◌, ◌+◌, ◌-◌, Bool, false, ◌||◌, List, [], ◌∷◌, map, Some, slice_get}
 use Rattle.std.specs.List.{All, filter}
 use Rattle.chorus_ui.specs.declared.ui.Ui.{Ui}
@@ -33,12 +34,14 @@ abbrev pub fate_in : Holding → MessageFate
 fate_in (At place port) = Queued
 fate_in (OnTheWay from to port) = UnderWay
 
--- x waits in one of the holdings, of this port and for this fate, at its position behind those taken; in no other; and there once
+-- x waits in one of the holdings, of this port and for this fate, at its position behind those taken; in no other; and
+-- there once
 pub record WaitsOnce (holdings : List Holding) (q : Ui) (i : ℕ) (x : MsgId) (what : MessageFate) : Type 0 where
   pub holding : Holding
   pub is : fate_in holding ≡ what
   pub port : (record_in holding).ui ≡ q
-  pub position : ((record_in holding).first ≤ i) × (slice_get (waiting_in holding) (i - (record_in holding).first) ≡ Some x)
+  pub position : ((record_in holding).first ≤ i) × (slice_get (waiting_in holding)
+      (i - (record_in holding).first) ≡ Some x)
   pub alone : filter (is_waiting_in x) holdings ≡ holding ∷ []
   pub once : filter (same_id x) (waiting_in holding) ≡ x ∷ []
 
@@ -57,14 +60,16 @@ HoldsAccepted past holding =
 
 -- each accepted message stands in the holdings by its fate, and nothing else waits in them
 pub record HoldEachMessage (past : List Entry) (holdings : List Holding) : Type 0 where
-  pub each : (q : Ui) (i : ℕ) (x : MsgId) (f : PortState) → fate (on q past) ≡ Some f → slice_get f.accepted i ≡ Some x →
+  pub each : (q : Ui) (i : ℕ) (x : MsgId) (f : PortState) → fate (on q past) ≡ Some f →
+      slice_get f.accepted i ≡ Some x →
       StandsByFate holdings q i x (fate_at i f)
   pub only : All (HoldsAccepted past) holdings
 
 -- so it is of all holdings that stand for a past in which each message has one fate
 abbrev pub HoldingsHoldEach : Type 0
 HoldingsHoldEach =
-    (past : List Entry) (holdings : List Holding) → StandsFor past holdings → KeepsEachMessage past → HoldEachMessage past holdings
+    (past : List Entry) (holdings : List Holding) → StandsFor past holdings → KeepsEachMessage past →
+    HoldEachMessage past holdings
 
 -- of those of a network, and of those of a network that was closed
 abbrev pub NetworksHoldEach : Type 0

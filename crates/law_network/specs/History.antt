@@ -1,5 +1,6 @@
--- The entries and the packets of a schedule in the order in which they came: the entries are the past that its network stands for.
--- n is a network, l a layout, a and b are numbers of places, e is an event and es are events, the latest first.
+-- The entries and the packets of a schedule in the order in which they came: the entries are the past that its network
+-- stands for. n is a network, l a layout, a and b are numbers of places, e is an event and es are events, the latest
+-- first.
 use Rattle.std.specs.Prelude.{ℕ, ◌≡◌, ◌-◌, true, List, [], ◌∷◌, ◌++◌, length, take, Option, Some, None, slice_get}
 use Rattle.chorus_ui.specs.declared.layout.Layout.{Layout}
 use Rattle.chorus_ui.specs.Layout.{IsLayout}
@@ -72,7 +73,8 @@ all_put l (e ∷ es) = all_put l es ++ put_by e (schedule l es)
 -- what an event adds to a past that a network stands for: new entries, in front of it
 abbrev pub EventsStand : Type 0
 EventsStand =
-    (n : NetState) (past : List Entry) (e : Event) → IsLayout n.layout → may_happen e n ≡ true → Stands n past → IsReady n past →
+    (n : NetState) (past : List Entry) (e : Event) → IsLayout n.layout → may_happen e n ≡ true → Stands n past →
+    IsReady n past →
     (newer : List Entry) × (Stands (happened e n) (newer ++ past) × IsReady (happened e n) (newer ++ past))
 
 -- so each schedule's network stands for its history

@@ -1,7 +1,7 @@
--- Where ports are: each at a place that holds it, or on its way in a Transfer. Records stand for a past where each port that the
--- past holds or moves is in one of them, as the past tells it, and no other port is in any.
--- q is a port, f what became of it, n a network, s a place, o a packet with the place that it goes to, l a layout. A past has its
--- newest entry first.
+-- Where ports are: each at a place that holds it, or on its way in a Transfer. Records stand for a past where each port
+-- that the past holds or moves is in one of them, as the past tells it, and no other port is in any.
+-- q is a port, f what became of it, n a network, s a place, o a packet with the place that it goes to, l a layout. A
+-- past has its newest entry first.
 use Rattle.std.specs.Prelude.{ℕ, ◌≡◌, Bool, List, [], ◌∷◌, ◌++◌, map, Option, Some, None}
 use Rattle.std.specs.List.{filter, flat_map}
 use Rattle.chorus_ui.specs.declared.ui.Ui.{Ui}
@@ -34,8 +34,8 @@ record_in (OnTheWay from to port) = port
 abbrev pub holds : Ui → Holding → Bool
 holds q holding = same_ui (record_in holding).ui q
 
--- what the past tells of a port: it is at the last place of its path, or on its way there from the place before, with the record
--- that the past tells; nothing where it is not made or was deleted
+-- what the past tells of a port: it is at the last place of its path, or on its way there from the place before, with
+-- the record that the past tells; nothing where it is not made or was deleted
 abbrev pub told_in : List Entry → Ui → PortState → Spot → List Holding
 told_in past q f (spots.Held actor) = At (last_of 0 f.path) (record_for past (on q past) q actor f) ∷ []
 told_in past q f (spots.Moving actor) =
@@ -68,8 +68,8 @@ moved_by o = moved_in o.packet.from o.to o.packet.cargo
 abbrev pub holdings_in : NetState → List Holding
 holdings_in n = flat_map held_at n.places ++ flat_map moved_by n.packets
 
--- Those of a network that was closed. A packet does not name the place that it goes to: a Transfer goes to the place of the port
--- on the site of the actor that is to hold it.
+-- Those of a network that was closed. A packet does not name the place that it goes to: a Transfer goes to the place of
+-- the port on the site of the actor that is to hold it.
 abbrev pub moved_to : Layout → ℕ → Cargo → List Holding
 moved_to l from (Cargo.Transfer port) = OnTheWay from (place_at l port.actor.site port.ui) port ∷ []
 moved_to l from _ = []

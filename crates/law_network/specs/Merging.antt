@@ -1,5 +1,5 @@
--- The law between the merge of journals and the world: the merge is the past sorted by clock and place, the oldest entry first.
--- A past has its newest entry first, a journal its oldest.
+-- The law between the merge of journals and the world: the merge is the past sorted by clock and place, the oldest
+-- entry first. A past has its newest entry first, a journal its oldest.
 use Rattle.std.specs.Prelude.{ℕ, ◌≡◌, List, reverse}
 use Rattle.std.specs.List.{All, filter}
 use Rattle.chorus_entry.specs.declared.entry.Entry.{Entry}
@@ -19,4 +19,5 @@ pub record AreJournalsOf (past : List Entry) (journals : List (List Entry)) : Ty
 -- then their merge is the sorted past
 abbrev pub MergesAsSorted : Type 0
 MergesAsSorted =
-    (past : List Entry) (journals : List (List Entry)) → AreJournalsOf past journals → merged journals ≡ reverse (sort past)
+    (past : List Entry) (journals : List (List Entry)) → AreJournalsOf past journals →
+    merged journals ≡ reverse (sort past)

@@ -1,5 +1,6 @@
 -- The network machine: a caller comes, gives a command, or works off the first packet from one place to another.
--- n is a network, l a layout, p, a and b are numbers of places, s is a place, t a turn, es are events, the latest first.
+-- n is a network, l a layout, p, a and b are numbers of places, s is a place, t a turn, es are events, the latest
+-- first.
 use Rattle.std.specs.Prelude.{ℕ, zero, suc, ◌+◌, ◌==◌, Bool, ◌&&◌, if◌then◌else◌, is_some, List, [], ◌∷◌, ◌++◌, length, reverse, map, Option, Some, None, slice_get, slice_set}
 use Rattle.std.specs.Option.{option_map}
 use Rattle.chorus_ui.specs.declared.ui.Ui.{Ui}
@@ -133,7 +134,8 @@ abbrev pub rounds : Layout → ℕ → ℕ → List Event
 rounds l seat zero = []
 rounds l seat (suc count) = round l seat ++ rounds l seat count
 
--- how many of the events worked a packet off; each other event counts as one, so that events of which none counts change nothing
+-- how many of the events worked a packet off; each other event counts as one, so that events of which none counts
+-- change nothing
 abbrev pub one_if : Bool → ℕ
 one_if b = if b then 1 else 0
 

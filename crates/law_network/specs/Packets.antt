@@ -1,5 +1,5 @@
--- The packets that were put and not worked off. They stand by the place that put them, then by the place that they go to, and
--- those of one such pair in the order in which they were put.
+-- The packets that were put and not worked off. They stand by the place that put them, then by the place that they go
+-- to, and those of one such pair in the order in which they were put.
 -- a and b are numbers of places, o is a packet and os are packets with the places that they go to.
 use Rattle.std.specs.Prelude.{ℕ, ◌≡◌, ◌==◌, nat_lt, Bool, false, ◌&&◌, ◌||◌, if◌then◌else◌, List, [], ◌∷◌, Option, Some, None}
 use Rattle.chorus_entry.specs.declared.packet.Packet.{Packet}

@@ -1,6 +1,6 @@
 -- What holds of each schedule of the network machine.
--- l is a layout, es are events, the latest first, n is the network that they leave, p, a and b are numbers of places, x is an id,
--- q a port, m a post. What is said of a past is said of the merge of the journals.
+-- l is a layout, es are events, the latest first, n is the network that they leave, p, a and b are numbers of places, x
+-- is an id, q a port, m a post. What is said of a past is said of the merge of the journals.
 use Rattle.std.specs.Prelude.{ℕ, ◌≡◌, ◌≤◌, ◌+◌, ◌-◌, ◌*◌, Bool, true, false, List, [], length, Option, Some, None}
 use Rattle.std.specs.List.{filter}
 use Rattle.chorus_ui.specs.declared.ui.Ui.{Ui}
@@ -79,7 +79,8 @@ hops_of q past = hops_from (fate (on q past))
 abbrev pub CarriesFew : Layout → List Event → NetState → Type 0
 CarriesFew l es n = (x : MsgId) (m : Posted) (q : Ui) →
     x.copy ≡ 0 → post_of x (merged_past n) ≡ Some m → m.dest ≡ Dest.Port q →
-    length (filter (λ (o : Outgoing). carries_over x o.packet.cargo) (all_put l es)) ≤ 2 * (hops_of q (merged_past n) + 1)
+    length (filter (λ (o : Outgoing). carries_over x o.packet.cargo)
+    (all_put l es)) ≤ 2 * (hops_of q (merged_past n) + 1)
 
 -- all of it
 pub record Promises (l : Layout) (es : List Event) (n : NetState) : Type 0 where

@@ -21,12 +21,13 @@ abbrev pub is_moving_port : Option PortState → Bool
 is_moving_port None = false
 is_moving_port (Some f) = is_moving f.spot
 
--- no packet is left and no port is on its way; each place has each message settled that was sent from it; each post to a group
--- has its choice; nothing more is to be heard; and no journal ends with the Take of a reply
+-- no packet is left and no port is on its way; each place has each message settled that was sent from it; each post to
+-- a group has its choice; nothing more is to be heard; and no journal ends with the Take of a reply
 pub record IsQuiet (l : Layout) (past : List Entry) (rest : List Packet) : Type 0 where
   pub packets : rest ≡ []
   pub ports : (q : Ui) → is_moving_port (fate (on q past)) ≡ false
   pub messages : (p : ℕ) → unsettled (at p past) (sent (at p past)) ≡ []
   pub posts : (x : MsgId) (p : ℕ) (d : Dest) → progress (about x past) ≢ Asked p d
-  pub reports : (p : ℕ) (x : MsgId) (answer : Answer) → may_hear l (views past p 0 (Act.Heard x answer)) p x answer ≡ false
+  pub reports : (p : ℕ) (x : MsgId) (answer : Answer) → may_hear l (views past p 0 (Act.Heard x answer)) p x answer
+      ≡ false
   pub replies : (p : ℕ) → just_taken past (at p past) ≡ None

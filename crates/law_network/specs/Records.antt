@@ -1,6 +1,6 @@
--- What the past says of the record of a port, of the messages that wait at a place, of what it may still hear, and of a caller.
--- x is an id, q a port, p the number of a place, k a port and route, m a message as it was sent or posted, f what became of a
--- port, l a layout. A past has its newest entry first.
+-- What the past says of the record of a port, of the messages that wait at a place, of what it may still hear, and of a
+-- caller. x is an id, q a port, p the number of a place, k a port and route, m a message as it was sent or posted, f
+-- what became of a port, l a layout. A past has its newest entry first.
 use Rattle.chorus_world.specs.Clients.{clients_kept}
 use Rattle.chorus_world.specs.Posts.{as_posted, Posted, post_of, site_asked}
 use Rattle.chorus_world.specs.Places.{is_heard, sent, unsettled}
@@ -57,7 +57,8 @@ record_for past line q actor f =
 
 -- the record of the port at the place p, where it is held there
 abbrev pub record_held : List Entry → List Entry → Ui → ℕ → PortState → Spot → Option PortRecord
-record_held past line q p f (spots.Held actor) = if last_of 0 f.path == p then Some (record_for past line q actor f) else None
+record_held past line q p f (spots.Held actor) =
+    if last_of 0 f.path == p then Some (record_for past line q actor f) else None
 record_held past line q p f _ = None
 
 abbrev pub record_here : List Entry → List Entry → Ui → ℕ → Option PortState → Option PortRecord

@@ -19,7 +19,8 @@ may_give None command = false
 may_give (Some caller) command =
     meets_conditions command && has_body_in_limit command && has_number_left caller command
 
--- a caller comes in an actor of the layout; a packet is worked off by somebody who came, between two places of the layout
+-- a caller comes in an actor of the layout; a packet is worked off by somebody who came, between two places of the
+-- layout
 abbrev pub may_happen : Event → NetState → Bool
 may_happen (Enter actor last) n = is_actor actor && has_actor n.layout actor
 may_happen (Act seat command) n = may_give (slice_get n.callers seat) command

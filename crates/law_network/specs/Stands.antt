@@ -1,6 +1,7 @@
--- What a network stands for: a past, the list of the entries of all places in the order of the schedule, the newest first.
--- Each part of the network is a view of it.
--- n is a network, l a layout, p, a and b are numbers of places, s is a place, q a port, g a group, k a port and route, x an id.
+-- What a network stands for: a past, the list of the entries of all places in the order of the schedule, the newest
+-- first. Each part of the network is a view of it.
+-- n is a network, l a layout, p, a and b are numbers of places, s is a place, q a port, g a group, k a port and route,
+-- x an id.
 use Rattle.std.specs.Prelude.{ℕ, ◌≡◌, ◌≤◌, true, List, [], map, Option, Some, None, slice_get}
 use Rattle.std.specs.List.{filter}
 use Rattle.std.specs.Option.{option_map}
@@ -35,7 +36,8 @@ pub record AreOf (l : Layout) (places : List PlaceState) : Type 0 where
   pub numbers : map (λ (s : PlaceState). s.number) places ≡ place_numbers l
   pub layouts : map (λ (s : PlaceState). s.layout) places ≡ map (λ (p : ℕ). l) (place_numbers l)
 
--- the caller of a seat, of which `mine` are the entries: it has posted and called what they say, and at its home place alone
+-- the caller of a seat, of which `mine` are the entries: it has posted and called what they say, and at its home place
+-- alone
 pub record IsCaller (l : Layout) (past mine : List Entry) (number : ℕ) (caller : Seated) : Type 0 where
   pub seat : caller.seat ≡ number
   pub kind : is_actor caller.actor ≡ true
@@ -52,7 +54,8 @@ pub record Stands (n : NetState) (past : List Entry) : Type 0 where
   pub run : is_run n.layout (actor_of n) past ≡ true
   pub causal : IsCausal past
   pub looks : AllLookAtHome n.layout past
-  -- of each place its journal, its records, each once, its locations, its messages that wait, and what it may still hear of
+  -- of each place its journal, its records, each once, its locations, its messages that wait, and what it may still
+  -- hear of
   pub places : AreOf n.layout n.places
   pub journal : (p : ℕ) → (place p n).journal ≡ at p past
   pub ports : (p : ℕ) (q : Ui) → find q (place p n).ports ≡ record_at past q p
@@ -60,8 +63,8 @@ pub record Stands (n : NetState) (past : List Entry) : Type 0 where
   pub known : (p : ℕ) (q : Ui) → newest (place p n) q ≡ located n.layout q (at p past)
   pub waiting : (p : ℕ) (k : Key) → (place p n).waiting k ≡ queue_at past p k
   pub unheard : (p : ℕ) (x : MsgId) → (place p n).unheard x ≡ is_unheard n.layout past p x
-  -- the packets stand by their pairs of places; of each message and of each port one is under way or none; and of the posts to a
-  -- group of b from a are asked for, in order, those without a choice
+  -- the packets stand by their pairs of places; of each message and of each port one is under way or none; and of the
+  -- posts to a group of b from a are asked for, in order, those without a choice
   pub order : AreByLink n.packets
   pub messages : (x : MsgId) → filter (is_of x) n.packets ≡ under_way n.layout past x
   pub transfers : (q : Ui) → filter (is_with q) n.packets ≡ transfer past q

@@ -1,5 +1,6 @@
 -- Tasks: an event, or a drain. A drain is whole rounds of deliveries, so many that one more would serve nothing.
--- l is a layout, es are events and ts are tasks, both with the latest first, o is a packet with the place that it goes to.
+-- l is a layout, es are events and ts are tasks, both with the latest first, o is a packet with the place that it goes
+-- to.
 use Rattle.std.specs.Prelude.{ℕ, ◌≡◌, ◌⊎◌, true, List, [], ◌∷◌, ◌++◌, Some, is_some, slice_get}
 use Rattle.std.specs.List.{All}
 use Rattle.chorus_ui.specs.declared.ui.Ui.{Ui}
@@ -37,18 +38,22 @@ commands_in seat (Drain drainer ∷ ts) = commands_in seat ts
 
 -- whatever number of rounds, what the tasks leave is one network
 abbrev pub CarriedOutOnce : Type 0
-CarriedOutOnce = (l : Layout) (ts : List Task) (es fs : List Event) → CarryOut l ts es → CarryOut l ts fs → schedule l es ≡ schedule l fs
+CarriedOutOnce = (l : Layout) (ts : List Task) (es fs : List Event) → CarryOut l ts es → CarryOut l ts fs →
+    schedule l es ≡ schedule l fs
 
 -- each event may happen when the tasks before it are carried out, and who drains has come by then
 abbrev pub MayAll : Layout → List Task → Type 0
 MayAll l [] = Unit {0}
-MayAll l (Do event ∷ ts) = ((es : List Event) → CarryOut l ts es → may_happen event (schedule l es) ≡ true) × MayAll l ts
-MayAll l (Drain seat ∷ ts) = ((es : List Event) → CarryOut l ts es → is_some (slice_get (schedule l es).callers seat) ≡ true) × MayAll l ts
+MayAll l (Do event ∷ ts) =
+    ((es : List Event) → CarryOut l ts es → may_happen event (schedule l es) ≡ true) × MayAll l ts
+MayAll l (Drain seat ∷ ts) =
+    ((es : List Event) → CarryOut l ts es → is_some (slice_get (schedule l es).callers seat) ≡ true) × MayAll l ts
 
 -- then there are events that carry out the tasks, and that may be
 abbrev pub TasksCarriedOut : Type 0
 TasksCarriedOut =
-    (l : Layout) (ts : List Task) → IsLayout l → MayAll l ts → (es : List Event) × (CarryOut l ts es × (may_be l es ≡ true))
+    (l : Layout) (ts : List Task) → IsLayout l → MayAll l ts →
+    (es : List Event) × (CarryOut l ts es × (may_be l es ≡ true))
 
 -- some number of rounds leaves no packet
 abbrev pub DrainsEnd : Type 0
@@ -64,8 +69,10 @@ DrainsLeaveNothing =
 -- and after a last drain nothing is left to be done
 abbrev pub DrainsRest : Type 0
 DrainsRest =
-    (l : Layout) (seat : ℕ) (ts : List Task) (es : List Event) → IsLayout l → may_be l es ≡ true → CarryOut l (Drain seat ∷ ts) es →
-    is_some (slice_get (schedule l es).callers seat) ≡ true → IsQuiet l (merged_past (schedule l es)) (packets_left (schedule l es))
+    (l : Layout) (seat : ℕ) (ts : List Task) (es : List Event) → IsLayout l → may_be l es ≡ true →
+    CarryOut l (Drain seat ∷ ts) es →
+    is_some (slice_get (schedule l es).callers seat) ≡ true →
+    IsQuiet l (merged_past (schedule l es)) (packets_left (schedule l es))
 
 -- Where a call stops before its tasks are carried out, a front of them was.
 
@@ -78,9 +85,11 @@ abbrev pub CarryFront : Layout → List Task → List Event → Type 0
 CarryFront l [] es = es ≡ []
 CarryFront l (Do event ∷ ts) es = CarryOut l (Do event ∷ ts) es ⊎ CarryFront l ts es
 CarryFront l (Drain seat ∷ ts) es =
-    ((done : List Event) × ((older : List Event) × ((es ≡ done ++ older) × AreDeliveries seat done × CarryOut l ts older))) ⊎ CarryFront l ts es
+    ((done : List Event) × ((older : List Event) × ((es ≡ done ++ older) × AreDeliveries seat done ×
+    CarryOut l ts older))) ⊎ CarryFront l ts es
 
--- so the commands that the events gave are the first of those of the tasks, and the merge performs them; both with the latest first
+-- so the commands that the events gave are the first of those of the tasks, and the merge performs them; both with the
+-- latest first
 pub record PerformsFront (l : Layout) (ts : List Task) (es : List Event) (seat : ℕ) (actor : Ui) : Type 0 where
   pub later : List Command
   pub front : commands_in seat ts ≡ later ++ commands_of seat es
@@ -88,5 +97,6 @@ pub record PerformsFront (l : Layout) (ts : List Task) (es : List Event) (seat :
 
 abbrev pub FrontsPerformed : Type 0
 FrontsPerformed =
-    (l : Layout) (ts : List Task) (es : List Event) (seat : ℕ) (actor : Ui) → IsLayout l → may_be l es ≡ true → CarryFront l ts es →
+    (l : Layout) (ts : List Task) (es : List Event) (seat : ℕ) (actor : Ui) → IsLayout l → may_be l es ≡ true →
+    CarryFront l ts es →
     actor_of (schedule l es) seat ≡ Some actor → PerformsFront l ts es seat actor

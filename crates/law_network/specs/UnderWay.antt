@@ -1,6 +1,6 @@
 -- What the past says of the packets that are under way: of each message, of each port, and of the posts to each group.
--- x is an id, m a message or a post, d a destination, q a port, g a group, p, a and b are numbers of places, f is what became of
--- a port, l a layout, o a packet with the place that it goes to. A past has its newest entry first.
+-- x is an id, m a message or a post, d a destination, q a port, g a group, p, a and b are numbers of places, f is what
+-- became of a port, l a layout, o a packet with the place that it goes to. A past has its newest entry first.
 use Rattle.std.specs.Prelude.{ℕ, ◌==◌, Bool, false, if◌then◌else◌, List, [], ◌∷◌, Option, Some, None}
 use Rattle.std.specs.List.{filter, flat_map}
 use Rattle.chorus_ui.specs.declared.ui.Ui.{Ui}
@@ -108,7 +108,8 @@ before_last p q (r ∷ rs) = before_last q r rs
 
 abbrev pub transfer_in : List Entry → List Entry → Ui → PortState → Spot → List Outgoing
 transfer_in past line q f (spots.Moving actor) =
-    packet (before_last 0 0 f.path) (last_of 0 f.path) (last_clock line) (Cargo.Transfer (record_for past line q actor f)) ∷ []
+    packet (before_last 0 0 f.path) (last_of 0 f.path) (last_clock line)
+    (Cargo.Transfer (record_for past line q actor f)) ∷ []
 transfer_in past line q f _ = []
 
 abbrev pub transfer_of : List Entry → List Entry → Ui → Option PortState → List Outgoing

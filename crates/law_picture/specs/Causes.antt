@@ -21,7 +21,8 @@ abbrev pub latest : (Entry → Bool) → List Entry → Option Row
 latest test [] = None
 latest test (e ∷ past) = if test e then Some (row_of past e) else latest test past
 
--- An entry goes on where another one ended: an Arrive where the port departed, any other one where its message was left.
+-- An entry goes on where another one ended: an Arrive where the port departed, any other one where its message was
+-- left.
 
 abbrev pub port_arrived : Act → Option Ui
 port_arrived (Arrive q hop) = Some q

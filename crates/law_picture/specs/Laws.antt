@@ -1,5 +1,5 @@
--- Laws: what arrows and bars are, of each legal list. A past has its newest entry first; e is an entry, past what stands before it.
--- x is the id of a message, q a port, g a group, l a layout, r where an entry stands.
+-- Laws: what arrows and bars are, of each legal list. A past has its newest entry first; e is an entry, past what
+-- stands before it. x is the id of a message, q a port, g a group, l a layout, r where an entry stands.
 use Rattle.std.specs.Prelude.{ℕ, ◌≡◌, ◌≢◌, ◌-◌, ◌==◌, Bool, true, false, if◌then◌else◌, is_some, List, ◌∷◌, ◌++◌, Option, None, Some, slice_get}
 use Rattle.chorus_ui.specs.declared.ui.Ui.{Ui}
 use Rattle.chorus_ui.specs.declared.layout.Layout.{Layout}
@@ -42,7 +42,8 @@ port_held (Some f) = if is_held f.spot then Some (record { place = last_of 0 f.p
 -- each bar stands where the world holds the port, and nowhere else, with as many messages as wait there
 abbrev pub BarsAreOfTheWorld : Type 0
 BarsAreOfTheWorld =
-    (l : Layout) (past : List Entry) → IsLayout l → is_legal l past ≡ true → (q : Ui) → bar_held (bar q past) ≡ port_held (fate (on q past))
+    (l : Layout) (past : List Entry) → IsLayout l → is_legal l past ≡ true → (q : Ui) →
+    bar_held (bar q past) ≡ port_held (fate (on q past))
 
 -- Arrows.
 
@@ -67,8 +68,9 @@ abbrev pub group_of : Layout → Option Posted → Option ℕ
 group_of l None = None
 group_of l (Some m) = group_at l (group_in m.dest)
 
--- Where what comes next of a message comes from, by how far the message is: from where its members were asked for, where it was tried
--- or where it was decided; and the place of its post hears of it from the place of the group. What waits comes from nowhere.
+-- Where what comes next of a message comes from, by how far the message is: from where its members were asked for,
+-- where it was tried or where it was decided; and the place of its post hears of it from the place of the group. What
+-- waits comes from nowhere.
 abbrev pub sender : Layout → Option Posted → Progress → Option ℕ
 sender l post Idle = None
 sender l post (Asked from d) = Some from

@@ -22,7 +22,8 @@ use Rattle.law_replies.specs.AsPosted.{IsAsPosted}
 use Rattle.law_replies.specs.Outcomes.{OutcomeIsTrue}
 
 -- of histories: some first turns of the place p led it to s
-pub record LedTo (l : Layout) (comers : List Comer) (places seats : ℕ → List PlaceTurn) (closing : Network PlaceState Seated Packet) (p : ℕ) (s : PlaceState) : Type 0 where
+pub record LedTo (l : Layout) (comers : List Comer) (places seats : ℕ → List PlaceTurn)
+    (closing : Network PlaceState Seated Packet) (p : ℕ) (s : PlaceState) : Type 0 where
   pub shape : IsLayout l
   pub histories : AreHistories l comers places seats closing
   pub older : List PlaceTurn

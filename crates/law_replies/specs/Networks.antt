@@ -1,5 +1,6 @@
--- Replies in networks and in schedules: what a caller is told is what its turn appended, and what it receives was posted.
--- n is a network, es are events, the latest first, `older` those before the command and `later` those from there on.
+-- Replies in networks and in schedules: what a caller is told is what its turn appended, and what it receives was
+-- posted. n is a network, es are events, the latest first, `older` those before the command and `later` those from
+-- there on.
 use Rattle.std.specs.Prelude.{ℕ, ◌≡◌, ◌↔◌, true, List, ◌++◌, Option, Some, is_some, slice_get}
 use Rattle.chorus_ui.specs.declared.layout.Layout.{Layout}
 use Rattle.chorus_ui.specs.Layout.{IsLayout}
@@ -17,8 +18,8 @@ use Rattle.law_network.specs.Left.{merged_past}
 use Rattle.law_replies.specs.Replies.{Tells}
 use Rattle.law_replies.specs.AsPosted.{IsAsPosted}
 
--- the command of a seat to which somebody came gets the reply that the entries of its turn tell, and no other one; a message
--- that it receives is the one that was posted
+-- the command of a seat to which somebody came gets the reply that the entries of its turn tell, and no other one; a
+-- message that it receives is the one that was posted
 abbrev pub IsToldSo : NetState → List Entry → Type 0
 IsToldSo n past =
     (seat : ℕ) (command : Command) (r : Reply) → is_some (slice_get n.callers seat) ≡ true →

@@ -1,6 +1,6 @@
 -- What became of a message, as the place tells where it was posted; and that it is so.
--- x is the id of the message, a an answer; `here` are the entries that the place has, past are those of all places, the newest
--- first.
+-- x is the id of the message, a an answer; `here` are the entries that the place has, past are those of all places, the
+-- newest first.
 use Rattle.std.specs.Prelude.{ℕ, ◌≡◌, ◌≤◌, ◌⊎◌, ◌↔◌, true, List, length}
 use Rattle.chorus_ui.specs.declared.layout.Layout.{Layout}
 use Rattle.chorus_entry.specs.declared.entry.Entry.{Entry}
@@ -64,8 +64,9 @@ abbrev pub IsKnown : MsgId → List Entry → Type 0
 IsKnown x here =
     IsPostedHere x here × ((x.copy ≡ 0) ⊎ ((count : ℕ) × (IsTold (source x) (A.Chosen count) here × (x.copy ≤ count))))
 
--- The outcome is an answer exactly where the place was told it of a message that it knows; pending exactly where it was told none;
--- and unknown exactly where it does not know the message. What it was told did become of the message, and one thing only.
+-- The outcome is an answer exactly where the place was told it of a message that it knows; pending exactly where it was
+-- told none; and unknown exactly where it does not know the message. What it was told did become of the message, and
+-- one thing only.
 pub record OutcomeIsTrue (x : MsgId) (here past : List Entry) : Type 0 where
   pub answer : (a : Answer) → (outcome x here ≡ Outcome.Answer a) ↔ (IsKnown x here × IsTold x a here)
   pub pending : (outcome x here ≡ Outcome.Pending) ↔ (IsKnown x here × ((a : Answer) → IsTold x a here → ⊥))

@@ -1,6 +1,6 @@
 -- Replies of turns that a place took, whoever took turns elsewhere at the same time.
--- l is a layout, p the number of a place, s a place, w a caller, es are the entries of a turn, the oldest first; ts are the
--- turns that led from the started place to s.
+-- l is a layout, p the number of a place, s a place, w a caller, es are the entries of a turn, the oldest first; ts are
+-- the turns that led from the started place to s.
 use Rattle.std.specs.Prelude.{ℕ, ◌≡◌, ◌↔◌, true, List, ◌++◌, reverse, Some}
 use Rattle.chorus_ui.specs.declared.ui.Ui.{Ui}
 use Rattle.chorus_ui.specs.declared.layout.Layout.{Layout}
@@ -23,16 +23,16 @@ use Rattle.law_replies.specs.Taking.{acts_of, taken_acts, answers_take}
 abbrev pub AppendsAll : Command → PlaceState → Seated → List Entry → Type 0
 AppendsAll command s w es = (act command (begun s w)).place.journal ≡ reverse es ++ s.journal
 
--- at a place that was started and took turns, a command gets the reply that its entries tell, and no other one; a message that
--- it receives waited first in the port
+-- at a place that was started and took turns, a command gets the reply that its entries tell, and no other one; a
+-- message that it receives waited first in the port
 abbrev pub TurnsTell : Type 0
 TurnsTell =
     (l : Layout) (p : ℕ) (ts : List PlaceTurn) (s : PlaceState) (w : Seated) (command : Command) (es : List Entry)
     (r : Reply) → Takes (machine l) p (started l p) ts s → AppendsAll command s w es →
     (reply command (begun s w) ≡ r) ↔ Tells (λ q m. first_message (find q s.ports) ≡ Some m) es r
 
--- a take appends just the acts that its reply tells, in order: the Take with what ends the call behind it, or one Empty, or one
--- NotHere
+-- a take appends just the acts that its reply tells, in order: the Take with what ends the call behind it, or one
+-- Empty, or one NotHere
 abbrev pub TakesAppend : Type 0
 TakesAppend =
     (s : PlaceState) (w : Seated) (q : Ui) (es : List Entry) → AppendsAll (Command.Take q) s w es →

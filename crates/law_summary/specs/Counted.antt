@@ -37,8 +37,8 @@ waiting_in_world (Some f) = ports.waiting f
 abbrev pub once_at : Spot → Option PortState → ℕ
 once_at spot o = if is_spot spot (spot_in_world o) then 1 else 0
 
--- The ports of a spot are those that the world has there, each once; and the number printed for the spot is the sum of the
--- messages that wait in them.
+-- The ports of a spot are those that the world has there, each once; and the number printed for the spot is the sum of
+-- the messages that wait in them.
 pub record CountsTheWorld (past : List Entry) : Type 0 where
   pub ports :
       (spot : Spot) (q : Ui) →
@@ -48,7 +48,8 @@ pub record CountsTheWorld (past : List Entry) : Type 0 where
       (spot : Spot) →
       waiting_at spot (reverse past) ≡ sum_by (λ q. waiting_in_world (fate (on q past))) (ports_at spot (reverse past))
 
--- a message that is queued is in a port that is held, one under way in a port that moves, one discarded in a port that ended
+-- a message that is queued is in a port that is held, one under way in a port that moves, one discarded in a port that
+-- ended
 pub record IsFateOf (spot : Spot) (what : MessageFate) : Type 0 where
   pub queued : what ≡ Queued → spot ≡ Held
   pub under_way : what ≡ UnderWay → spot ≡ Moving

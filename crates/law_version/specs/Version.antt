@@ -1,5 +1,5 @@
--- Version one stays: a text of version 1 says the same on 8 and on 16 sites of one place each, and it is replayed the same.
--- c and d are scenarios, es and fs are events, s and t are statuses.
+-- Version one stays: a text of version 1 says the same on 8 and on 16 sites of one place each, and it is replayed the
+-- same. c and d are scenarios, es and fs are events, s and t are statuses.
 use Rattle.std.specs.Prelude.{ℕ, ◌≡◌, List, Some, Ok}
 use Rattle.chorus_ui.specs.declared.layout.Layout.{Layout}
 use Rattle.law_network.specs.Left.{merge}
@@ -44,9 +44,11 @@ pub record IsOfVersionOne (text : List ℕ) (c d : Scene) : Type 0 where
 abbrev pub MergesTheSame : Type 0
 MergesTheSame =
     (text : List ℕ) (c d : Scene) (es fs : List Event) → IsOfVersionOne text c d →
-    CarryOut eight (tasks c) es → CarryOut sixteen (tasks d) fs → merge (schedule eight es) ≡ merge (schedule sixteen fs)
+    CarryOut eight (tasks c) es → CarryOut sixteen (tasks d) fs →
+    merge (schedule eight es) ≡ merge (schedule sixteen fs)
 
--- what was closed on the one and on the other has one merge, and so one text; and where a clock was worn it is the same clock
+-- what was closed on the one and on the other has one merge, and so one text; and where a clock was worn it is the same
+-- clock
 pub record AreAlike (s t : Status) (one other : Closed) : Type 0 where
   pub worn : worn_clock s ≡ worn_clock t
   pub merge : merge_of one ≡ merge_of other

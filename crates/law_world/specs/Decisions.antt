@@ -180,10 +180,12 @@ pub record MayDecide (l : Layout) (past : List Entry) (p s time : ℕ) (x : MsgI
   pub about : message_of act ≡ Some x
   pub comes_next : may l past (record { clock = time; place = p; seat = s; act = act }) ≡ true
 
--- and on what is to be decided at a place one may, by any seat, at each clock above the last one there, unless the last entry there
--- is the Take of a reply
+-- and on what is to be decided at a place one may, by any seat, at each clock above the last one there, unless the last
+-- entry there is the Take of a reply
 abbrev pub SomeDecisionIsPossible : Type 0
 SomeDecisionIsPossible =
-    (l : Layout) (past : List Entry) (p s time : ℕ) (x : MsgId) (q : Ui) (hop : ℕ) → IsLayout l → is_legal l past ≡ true →
-    has_place l p ≡ true → IsToDecide l past p x q hop → just_taken past (at p past) ≡ None → last_clock (at p past) < time →
+    (l : Layout) (past : List Entry) (p s time : ℕ) (x : MsgId) (q : Ui) (hop : ℕ) → IsLayout l →
+    is_legal l past ≡ true →
+    has_place l p ≡ true → IsToDecide l past p x q hop → just_taken past (at p past) ≡ None →
+    last_clock (at p past) < time →
     MayDecide l past p s time x

@@ -1,6 +1,6 @@
 -- Groups in whole turns: what is ready for a choice, and what is carried out then.
--- m is a post, x its id, d its destination, g the group, q a port, c a member with its copy, p the tables of a place, t a turn; `home` is the place where the
--- post was made.
+-- m is a post, x its id, d its destination, g the group, q a port, c a member with its copy, p the tables of a place, t
+-- a turn; `home` is the place where the post was made.
 use Rattle.std.specs.Prelude.{ℕ, ◌≡◌, ◌+◌, ◌≤◌, ◌^◌, true, All, List, [], ◌∷◌, length}
 use Rattle.chorus_ui.specs.declared.ui.Ui.{Ui}
 use Rattle.chorus_entry.specs.declared.id.MsgId.{MsgId}
@@ -24,7 +24,8 @@ copies m d home number [] = []
 copies m d home number (q ∷ qs) = record { port = q; wait = copy m d home number } ∷ copies m d home (number + 1) qs
 
 -- all is ready for this choice: `entries` more than the messages need that wait
-pub record IsReady (g : Ui) (home : ℕ) (choice : Choice) (copies : List MemberCopy) (course : List Course) (entries : ℕ) (p : Tables) : Type 0 where
+pub record IsReady (g : Ui) (home : ℕ) (choice : Choice) (copies : List MemberCopy) (course : List Course) (entries : ℕ)
+    (p : Tables) : Type 0 where
   pub chosen : choice ≡ made_of (members_of copies)
   pub kinds : All IsPort (members_of copies)
   pub distinct : are_distinct (members_of copies) ≡ true

@@ -15,7 +15,8 @@ use Rattle.chorus_groups.specs.Faults.{join_fault_of, leave_fault_of}
 use Rattle.chorus_groups.specs.Choosing.{turned_by}
 use Rattle.place_journal.specs.Marks.{Marks, is_marked}
 
--- a journal as contracts see it: the newest entry first, the groups made there, and how many entries more need no memory
+-- a journal as contracts see it: the newest entry first, the groups made there, and how many entries more need no
+-- memory
 pub record JournalState : Type 0 where
   pub layout : Layout
   pub past : List Entry
@@ -43,8 +44,8 @@ abbrev pub deleted_by : Act → Option Ui
 deleted_by (Delete q xs) = Some q
 deleted_by _ = None
 
--- an act that may be appended: who joins or leaves may, a port that is made or deleted is one of the layout, and a group is
--- made by a call of its own
+-- an act that may be appended: who joins or leaves may, a port that is made or deleted is one of the layout, and a
+-- group is made by a call of its own
 abbrev pub MayFollow : Layout → Table → Act → Type 0
 MayFollow l t (Make q a n) = IsTrue (names_port l q)
 MayFollow l t (Delete q xs) = IsTrue (names_port l q)

@@ -2,8 +2,8 @@
 use Rattle.std.specs.Prelude.{ℕ, ◌≡◌, ◌+◌, ◌<◌, Bool, true, false, List, [], ◌∷◌, ◌++◌, length, drop, Option, Some, None, slice_index_or, slice_set, replicate}
 use Rattle.chorus_entry.specs.declared.packet.Packet.{Packet}
 
--- by the number of the place that they go to, in the order in which they were put; how many more need no memory; how many were
--- put so far; and for which places one may be put back
+-- by the number of the place that they go to, in the order in which they were put; how many more need no memory; how
+-- many were put so far; and for which places one may be put back
 pub record Waiting : Type 0 where
   pub lists : List (List Packet)
   pub spare : ℕ
@@ -41,8 +41,8 @@ abbrev pub count : List (List Packet) → ℕ
 count [] = 0
 count (l ∷ ls) = length l + count ls
 
--- a packet may be put back for the place: it is one of these places, the one that was put back before was taken, and fewer wait
--- than were put
+-- a packet may be put back for the place: it is one of these places, the one that was put back before was taken, and
+-- fewer wait than were put
 pub record MayPutBack (place : ℕ) (out : Waiting) : Type 0 where
   pub free : slice_index_or out.free place false ≡ true
   pub fewer : count out.lists < out.puts

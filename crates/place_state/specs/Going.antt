@@ -80,8 +80,10 @@ pub record Going (k : Key) (again : Option Wait) (start now : Turn) (entries pac
   pub room : left + 1 ≤ packets
   pub clock : greatest_clock now + length (now.place.waiting k).waits + 1 < 2 ^ 64
 
--- the message that is tried at another place once the answer is learned: of those behind the first `start`, and then of `last`
+-- the message that is tried at another place once the answer is learned: of those behind the first `start`, and then of
+-- `last`
 abbrev pub leaving_after : Key → Answer → ℕ → Option Wait → Tables → Option Wait
 leaving_after k answer start last p =
-    leaving_to p.layout p.number k.port (newest_of p.layout k.port (taught_of k.port (taught answer) (kept p.known) k.port)).0
+    leaving_to p.layout p.number k.port (newest_of p.layout k.port (taught_of k.port (taught answer)
+    (kept p.known) k.port)).0
     (drop start (waits_for k p) ++ option_to_list last)

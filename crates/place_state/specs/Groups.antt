@@ -1,6 +1,6 @@
 -- Steps of groups: members are chosen, and the messages for them go.
--- m is a post, x its id, d its destination, g the group, q a port, k a port and route, c a member with its copy, w a message that waits, s a place, p the
--- tables of one, t a turn; `home` is the place where the post was made.
+-- m is a post, x its id, d its destination, g the group, q a port, k a port and route, c a member with its copy, w a
+-- message that waits, s a place, p the tables of one, t a turn; `home` is the place where the post was made.
 use Rattle.std.specs.Prelude.{ℕ, ◌≡◌, ◌+◌, ◌<◌, ◌≤◌, ◌^◌, true, if◌then◌else◌, All, Option, Some, None, List, [], ◌∷◌, ◌++◌, length, map}
 use Rattle.chorus_ui.specs.declared.ui.Ui.{Ui}
 use Rattle.chorus_ui.specs.Layout.{has_site, site_of}
@@ -44,9 +44,10 @@ abbrev pub waiting_for : Ui → List Ui → (Key → Queue) → ℕ
 waiting_for g [] queues = 0
 waiting_for g (q ∷ qs) queues = length (queues (by_group g q)).waits + waiting_for g qs queues
 
--- the messages for some first members of `all` went since the turn was `start`: what is left to do is the same, and there is
--- room for it
-pub record AllGoing (g : Ui) (all : List Ui) (start now : Turn) (left : List Course) (entries packets : ℕ) : Type 0 where
+-- the messages for some first members of `all` went since the turn was `start`: what is left to do is the same, and
+-- there is room for it
+pub record AllGoing (g : Ui) (all : List Ui) (start now : Turn) (left : List Course)
+    (entries packets : ℕ) : Type 0 where
   pub same : all_go g (ports_of left) now ≡ all_go g all start
   pub kinds : All IsPort (ports_of left)
   pub distinct : are_distinct (ports_of left) ≡ true
@@ -73,9 +74,10 @@ HaveLines g rows qs = All (λ q. 0 < room rows (by_group g q)) qs
 abbrev pub IsCopy : ℕ → MemberCopy → Type 0
 IsCopy home c = (c.wait.home ≡ home) × IsSound c.wait.message
 
--- some copies were put since the queues were those of `start`: with those that are left they become the same, and there is
--- room for them
-pub record Putting (g : Ui) (all : List MemberCopy) (start now : List (Key × Row)) (left : List MemberCopy) : Type 0 where
+-- some copies were put since the queues were those of `start`: with those that are left they become the same, and there
+-- is room for them
+pub record Putting (g : Ui) (all : List MemberCopy) (start now : List (Key × Row))
+    (left : List MemberCopy) : Type 0 where
   pub same : (k : Key) → with_each g left (queue now) k ≡ with_each g all (queue start) k
   pub distinct : are_distinct (members_of left) ≡ true
   pub lines : HaveLines g now (members_of left)
@@ -93,10 +95,13 @@ chosen x g home cs t =
 
 -- the same of k, once w waits behind the others
 abbrev pub leaving_with : Key → Wait → PlaceState → Option Wait
-leaving_with k w s = when_free (s.waiting k).tried (leaving_to s.layout s.number k.port (newest s k.port).to ((s.waiting k).waits ++ w ∷ []))
+leaving_with k w s =
+    when_free (s.waiting k).tried (leaving_to s.layout s.number k.port (newest s k.port).to ((s.waiting k).waits
+    ++ w ∷ []))
 
 abbrev pub courses_of : Ui → PlaceState → List MemberCopy → List Course
-courses_of g s cs = map (λ (c : MemberCopy). record { port = c.port; again = leaving_with (by_group g c.port) c.wait s }) cs
+courses_of g s cs =
+    map (λ (c : MemberCopy). record { port = c.port; again = leaving_with (by_group g c.port) c.wait s }) cs
 
 -- What a choice is made of.
 

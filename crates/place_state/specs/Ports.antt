@@ -39,8 +39,9 @@ IsSoundTaken _ = Unit {0}
 abbrev pub ids_of : List Message → List MsgId
 ids_of ms = map (λ m. m.id) ms
 
--- a port may be held here from this turn on: one that the layout can make, that is not held, and that was made here where this
--- is its creation place; its record keeps the limits, and neither its next position nor its hop is above the clocks
+-- a port may be held here from this turn on: one that the layout can make, that is not held, and that was made here
+-- where this is its creation place; its record keeps the limits, and neither its next position nor its hop is above the
+-- clocks
 pub record MayArrive (r : PortRecord) (t : Turn) : Type 0 where
   pub kind : r.ui.kind ≡ kinds.Port
   pub can_make : can_make_port t.place.layout r.ui ≡ true

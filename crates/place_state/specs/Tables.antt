@@ -80,8 +80,8 @@ end_of r = r.first + length r.pending
 abbrev pub IsSound : Message → Type 0
 IsSound m = has_ranges_of_message m ≡ true
 
--- of each port that is held: the layout can make it, neither its next position nor its hop is above the place's clock, if
--- this is its creation place it was made here, and its messages are within their ranges
+-- of each port that is held: the layout can make it, neither its next position nor its hop is above the place's clock,
+-- if this is its creation place it was made here, and its messages are within their ranges
 pub record MayHold (l : Layout) (p : ℕ) (past : List Entry) (q : Ui) (r : PortRecord) : Type 0 where
   pub kind : q.kind ≡ kinds.Port
   pub can_make : can_make_port l q ≡ true
@@ -97,8 +97,8 @@ AreHeld l p past ports = (q : Ui) (r : PortRecord) → find q ports ≡ Some r �
 abbrev pub AreLocated : Layout → Known → Type 0
 AreLocated l known = (q : Ui) (to hop : ℕ) → kept known q ≡ Some (to, hop) → has_place l to ≡ true
 
--- of each message that waits: the place where it was posted is one of the layout, a direct one was posted here, and it is
--- within its ranges
+-- of each message that waits: the place where it was posted is one of the layout, a direct one was posted here, and it
+-- is within its ranges
 pub record MayWait (l : Layout) (p : ℕ) (k : Key) (w : Wait) : Type 0 where
   pub home : has_place l w.home ≡ true
   pub own : k.route ≡ None → w.home ≡ p
@@ -131,7 +131,8 @@ pub record IsBoxed (l : Layout) (puts : List Parcel) (out : Waiting) : Type 0 wh
   pub room : length puts ≤ out.spare
 
 -- what a place keeps, behind each entry
-pub record IsKept (l : Layout) (p : ℕ) (past : List Entry) (ports : List PortRecord) (known : Known) (rows : List (Key × Row)) (puts : List Parcel) : Type 0 where
+pub record IsKept (l : Layout) (p : ℕ) (past : List Entry) (ports : List PortRecord) (known : Known)
+    (rows : List (Key × Row)) (puts : List Parcel) : Type 0 where
   pub place : has_place l p ≡ true
   pub held : AreHeld l p past ports
   pub layout : known.layout ≡ l

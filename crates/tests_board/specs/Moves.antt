@@ -23,4 +23,5 @@ departures port (suc n) = departures port n ++ entry_of (n + 1) (Depart port ((n
 
 -- on the board of place 1 so many departures are published, and no more were begun
 abbrev pub HasDeparted : Board → Ui → ℕ → Type 0
-HasDeparted board port n = (entries_begun board ≡ departures port n) × (entries_published board ≡ departures port n) × (place_of board ≡ 1)
+HasDeparted board port n =
+    (entries_begun board ≡ departures port n) × (entries_published board ≡ departures port n) × (place_of board ≡ 1)
