@@ -12,13 +12,13 @@ use Rattle.law_closing.specs.Places.{PlaceNote}
 use Rattle.law_closing.specs.Remarks.{turns_in}
 use Rattle.law_history.specs.Runs.{commands_given}
 use Rattle.chorus_net.specs.declared.closed.Closed.{Closed}
-use Rattle.chorus_net.specs.Closing.{worn_in, worn_of}
+use Rattle.chorus_net.specs.Closing.{merge_of, worn_in, worn_of}
 use Rattle.chorus_show.specs.declared.status.Status.{Status}
 use Rattle.chorus_nucleus.specs.declared.nucleus.Nucleus.{Nucleus}
 use Rattle.chorus_nucleus.specs.declared.pass.Pass.{Pass}
 use Rattle.chorus_nucleus.specs.Passes.{layout_of, known, worn_by}
 use Rattle.chorus_report.specs.declared.finished.Finished.{Finished}
-use Rattle.chorus_report.specs.Headline.{HasClock, merge_of}
+use Rattle.chorus_report.specs.Headline.{HasClock}
 use Rattle.chorus_report.specs.Output.{EndsUnread, HandsOut, Writes}
 use Rattle.chorus_report.specs.Ending.{EndsWriting}
 use Rattle.chorus_report.proofs.Ends.{gave-up-writes, none-closed}

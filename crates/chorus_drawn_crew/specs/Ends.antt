@@ -8,7 +8,8 @@ use Rattle.chorus_perform.specs.declared.stopped.Stopped.{Stopped}
 use Rattle.chorus_perform.specs.declared.stopped.Stopped.TheVariants as stops
 use Rattle.chorus_nucleus.specs.declared.nucleus.Nucleus.{Nucleus}
 use Rattle.chorus_report.specs.declared.finished.Finished.{Finished}
-use Rattle.chorus_report.specs.Headline.{HasClock, merge_of}
+use Rattle.chorus_report.specs.Headline.{HasClock}
+use Rattle.chorus_net.specs.Closing.{merge_of}
 use Rattle.chorus_report.specs.Ending.{EndsWriting}
 use Rattle.chorus_report.specs.Output.{EndsUnread}
 use Rattle.chorus_run.specs.Threads.{HasWornOf}

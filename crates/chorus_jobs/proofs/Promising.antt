@@ -10,7 +10,7 @@ use Rattle.chorus_nucleus.specs.declared.nucleus.Nucleus.{Nucleus}
 use Rattle.chorus_nucleus.specs.declared.pass.Pass.{Pass}
 use Rattle.chorus_nucleus.specs.Passes.{layout_of, known}
 use Rattle.chorus_nucleus.specs.Closing.{IsClosed}
-use Rattle.chorus_nucleus.specs.Runs.{past_of}
+use Rattle.chorus_net.specs.Closing.{past_of}
 use Rattle.chorus_nucleus.proofs.Running.{a-closed-nucleus-is-a-run}
 use Rattle.chorus_jobs.specs.Promise.{IsOnce, KeepsPromise, AlwaysKeepsPromise}
 

@@ -31,12 +31,11 @@ use Rattle.chorus_turn.specs.declared.knowledge.Knowledge.{Knowledge}
 use Rattle.chorus_turn.specs.Journals.{by_seat, at_place, entries_of}
 use Rattle.chorus_turn.specs.Knowing.{seats_of, Shows}
 use Rattle.chorus_net.specs.declared.closed.Closed.{Closed}
-use Rattle.chorus_net.specs.Closing.{closed_journals, IsLeft}
+use Rattle.chorus_net.specs.Closing.{IsLeft, closed_journals, past_of}
 use Rattle.chorus_nucleus.specs.declared.nucleus.Nucleus.{Nucleus}
 use Rattle.chorus_nucleus.specs.declared.pass.Pass.{Pass}
 use Rattle.chorus_nucleus.specs.Passes.{layout_of, known, IsPassOf}
 use Rattle.chorus_nucleus.specs.Closing.{IsClosed}
-use Rattle.chorus_nucleus.specs.Runs.{past_of}
 use Rattle.chorus_nucleus.proofs.Running.{a-closed-nucleus-is-a-run}
 use Rattle.chorus_jobs.specs.declared.hand.Hand.{Hand}
 use Rattle.chorus_jobs.specs.declared.hand.Job.{Job}

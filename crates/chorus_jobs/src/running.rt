@@ -4,7 +4,7 @@ ghost use Rattle.std.specs.Prelude.{◌≡◌, true, IfOk};
 ghost use Rattle.chorus_ui.specs.NameKind.{is_port};
 ghost use Rattle.chorus_nucleus.specs.Passes.{known, IsPassOf};
 ghost use Rattle.chorus_nucleus.specs.Closing.{IsClosed};
-ghost use Rattle.chorus_nucleus.specs.Runs.{past_of};
+ghost use Rattle.chorus_net.specs.Closing.{past_of};
 ghost use Rattle.chorus_jobs.specs.Hands.{AreHandedOut, AreKept};
 ghost use Rattle.chorus_jobs.specs.Parties.{Goes, HasAllBack, IsKeeper};
 ghost use Rattle.chorus_jobs.specs.Promise.{AlwaysKeepsPromise};
