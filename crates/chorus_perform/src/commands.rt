@@ -6,11 +6,11 @@ ghost use Rattle.chorus_entry.specs.Command.{is_post, meets_conditions};
 ghost use Rattle.chorus_nucleus.specs.Passes.{caller_of, layout_of, IsPassOf};
 ghost use Rattle.chorus_perform.specs.Going.{AllMeet, Goes, GoesAsFar, MayPost};
 
+use crate::at_work::AtWork;
 use crate::gate::Gate;
 use crate::pace::Pace;
 use crate::pumping::{pump_behind, pump_on};
 use crate::share::Share;
-use crate::stirs::Stirs;
 use crate::stopped::Halted;
 use chorus_entry::Command;
 use chorus_nucleus::{CallFault, Nucleus, Pass};
@@ -28,7 +28,7 @@ pub(crate) fn perform_commands<R: Wait, G: Gate>(
     commands: &[Command],
     number: u32,
     share: &Share,
-    stirs: &Stirs,
+    at_work: &AtWork,
     gate: &G,
 ) -> Result<(), Halted>
     requires pass { IsPassOf nucleus.now pass.old }
@@ -43,10 +43,10 @@ pub(crate) fn perform_commands<R: Wait, G: Gate>(
     for step in 0..commands.len() {
         gate.pass(number, step as u32);
         perform_command(rt, nucleus, pass, &commands[step])?;
-        pump_behind(rt, nucleus, pass, share, stirs, &mut pace)?;
+        pump_behind(rt, nucleus, pass, share, &mut pace)?;
     }
     gate.pass(number, commands.len() as u32);
-    pump_on(rt, nucleus, pass, share, stirs)
+    pump_on(rt, nucleus, pass, share, at_work)
 }
 
 /// Performs a command, and tries it again where its place is busy.

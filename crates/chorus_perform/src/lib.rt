@@ -12,6 +12,7 @@
 
 #![tactic(auto)]
 
+mod at_work;
 mod commands;
 mod entering;
 mod gate;
@@ -23,7 +24,6 @@ mod runner;
 mod running;
 mod setup;
 mod share;
-mod stirs;
 mod stopped;
 
 pub use gate::{Gate, OpenGate};

@@ -4,11 +4,10 @@ ghost use Rattle.std.specs.Prelude.{◌≡◌, ◌<◌, ◌≤◌, [], true};
 ghost use Rattle.chorus_ui.specs.Layout.{has_place, places};
 ghost use Rattle.chorus_nucleus.specs.Passes.{layout_of, IsPassOf};
 ghost use Rattle.chorus_perform.specs.Going.{Goes};
-ghost use Rattle.chorus_perform.specs.declared.pumping.TheConstants.{IDLE_SWEEPS};
 
+use crate::at_work::AtWork;
 use crate::pace::Pace;
 use crate::share::Share;
-use crate::stirs::Stirs;
 use crate::stopped::Halted;
 use chorus_nucleus::{CallFault, Nucleus, Pass};
 use chorus_serve::Pump;
@@ -17,10 +16,6 @@ use std::thread;
 
 /// How often a thread pumps a place that is not idle before it goes on.
 const PUMPS_AT_A_PLACE: u32 = 64;
-
-/// After how many idle sweeps, during which no other thread did anything either, a thread whose commands are done is done. What is then
-/// left is left to seat 0.
-const IDLE_SWEEPS: u32 = 64;
 
 /// Pumps a place once. False where it was idle, and where another thread has it, which is not waited for.
 pub(crate) fn pump<R: Wait>(
@@ -48,7 +43,6 @@ pub(crate) fn pump_behind<R: Wait>(
     nucleus: &Nucleus,
     pass: &mut Pass,
     share: &Share,
-    stirs: &Stirs,
     pace: &mut Pace,
 ) -> Result<(), Halted>
     requires pass { IsPassOf nucleus.now pass.old }
@@ -57,7 +51,6 @@ pub(crate) fn pump_behind<R: Wait>(
     ensures goes { Goes [] pass.old pass.new }
 {
     if pace.is_due() {
-        stirs.add();
         let served = pump_at(rt, nucleus, pass, share.home())?;
         pace.note(served);
     }
@@ -84,14 +77,14 @@ pub(crate) fn pump_at<R: Wait>(
     Ok(true)
 }
 
-/// Pumps when all commands are done: the home place, and then the range of places, until all threads have come to rest, so that seat 0
-/// finds little.
+/// Pumps when all commands are done: the home place, and then the range of places, until no thread is at work, so that seat 0 finds
+/// little.
 pub(crate) fn pump_on<R: Wait>(
     rt: &R,
     nucleus: &Nucleus,
     pass: &mut Pass,
     share: &Share,
-    stirs: &Stirs,
+    at_work: &AtWork,
 ) -> Result<(), Halted>
     requires pass { IsPassOf nucleus.now pass.old }
     requires share { share.now.places ≡ places (layout_of nucleus.now) }
@@ -99,19 +92,20 @@ pub(crate) fn pump_on<R: Wait>(
     ensures goes { Goes [] pass.old pass.new }
 {
     pump_at(rt, nucleus, pass, share.home())?;
-    if share.before() < share.last() {
-        sweep_on(rt, nucleus, pass, share, stirs)?;
+    if share.before() == share.last() {
+        at_work.leave();
+        return Ok(());
     }
-    Ok(())
+    sweep_on(rt, nucleus, pass, share, at_work)
 }
 
-/// Sweeps over the range of places until all threads have come to rest, by what this one sees of them.
+/// Sweeps over the range of places until no thread is at work.
 fn sweep_on<R: Wait>(
     rt: &R,
     nucleus: &Nucleus,
     pass: &mut Pass,
     share: &Share,
-    stirs: &Stirs,
+    at_work: &AtWork,
 ) -> Result<(), Halted>
     requires pass { IsPassOf nucleus.now pass.old }
     requires share { share.now.places ≡ places (layout_of nucleus.now) }
@@ -119,29 +113,17 @@ fn sweep_on<R: Wait>(
     ensures goes { Goes [] pass.old pass.new }
 {
     let mut idle = 0;
-    let mut seen = stirs.count();
     for _ in rt.forever() {
-        if sweep(rt, nucleus, pass, share)? {
-            stirs.add();
-        } else {
-            thread::yield_now();
-        }
-        let count = stirs.count();
-        idle = rest(idle, count == seen);
-        seen = count;
-        if idle >= IDLE_SWEEPS {
+        let served = sweep(rt, nucleus, pass, share)?;
+        idle = at_work.note(idle, served);
+        if at_work.is_over(idle) {
             return Ok(());
+        }
+        if !served {
+            thread::yield_now();
         }
     }
     unreachable!()
-}
-
-/// Counts a sweep behind which all was still.
-fn rest(idle: u32, still: bool) -> u32
-    requires { idle < IDLE_SWEEPS }
-    ensures { result ≤ IDLE_SWEEPS }
-{
-    if still { idle + 1 } else { 0 }
 }
 
 /// Pumps each place of the range until it is idle. True where one worked off a packet.

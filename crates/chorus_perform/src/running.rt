@@ -4,11 +4,11 @@ ghost use Rattle.std.specs.Prelude.{◌≡◌};
 ghost use Rattle.chorus_scene.specs.Limits.{Keeps};
 ghost use Rattle.chorus_perform.specs.Runners.{AreReady, HaveRun, IsReadyAt, HasRunAt};
 
+use crate::at_work::AtWork;
 use crate::commands::perform_commands;
 use crate::gate::Gate;
 use crate::runner::Runner;
 use crate::share::Share;
-use crate::stirs::Stirs;
 use chorus_nucleus::Nucleus;
 use chorus_scene::Scenario;
 use std::sync::Wait;
@@ -28,7 +28,7 @@ pub(crate) fn perform_scripts<R: Threads + Wait + Sync, G: Gate>(
     ensures { HaveRun nucleus.now scenario.now runners.old runners.new }
 {
     let threads = runners.len();
-    let stirs = Stirs::new();
+    let at_work = AtWork::new(scenario.scripts().len() as u32);
     if threads > 0 {
         thread::for_each_mut(
             rt,
@@ -39,7 +39,7 @@ pub(crate) fn perform_scripts<R: Threads + Wait + Sync, G: Gate>(
                     × IsReadyAt nucleus.now scenario.now index runner.old }
                 ensures { HasRunAt nucleus.entry.now scenario.entry.now
                     index runner.old runner.new }
-            { perform_script(rt, nucleus, scenario, index, &stirs, gate, runner) },
+            { perform_script(rt, nucleus, scenario, index, &at_work, gate, runner) },
         );
     }
 }
@@ -50,7 +50,7 @@ fn perform_script<R: Wait, G: Gate>(
     nucleus: &Nucleus,
     scenario: &Scenario,
     index: usize,
-    stirs: &Stirs,
+    at_work: &AtWork,
     gate: &G,
     runner: &mut Runner,
 )
@@ -69,7 +69,7 @@ fn perform_script<R: Wait, G: Gate>(
         script.commands(),
         number,
         &share,
-        stirs,
+        at_work,
         gate,
     )
     .is_ok();

@@ -1,4 +1,4 @@
-use Rattle.std.proofs.Common.{◌+◌, ◌∙◌, take}
+use Rattle.std.proofs.Common.{◌+◌, take}
 use Rattle.chorus_perform.proofs.Steps.{on-err, on-ok, goes-on, goes-whole, first-of, step-more, whole-of}
 use Rattle.chorus_perform.proofs.commands.perform_commands.Goals as goal
 

@@ -1,8 +1,7 @@
-use Rattle.std.proofs.Common.{◌<◌, []}
+use Rattle.std.proofs.Common.{[]}
 use Rattle.chorus_nucleus.specs.Passes.{IsPassOf}
-use Rattle.chorus_perform.specs.declared.pumping.TheConstants.{IDLE_SWEEPS}
 use Rattle.chorus_perform.specs.Going.{Goes}
 use Rattle.chorus_perform.proofs.pumping.sweep_on.Given as goal
 
 abbrev pub invariant-loop : goal.invariant-loop
-invariant-loop g l = IsPassOf l.nucleus l.pass × Goes [] l.fn.pass l.pass × (l.idle < IDLE_SWEEPS)
+invariant-loop g l = IsPassOf l.nucleus l.pass × Goes [] l.fn.pass l.pass
