@@ -30,10 +30,10 @@ use place_tables::Tables;
 use std::alloc::{AllocError, Global};
 use std::marker::Model;
 
-/// A place of a layout.
+/// A place of a layout. It is one pointer, so that it costs little to hand on.
 #[derive(Debug, Drop)]
 pub struct Place {
-    tables: Tables,
+    tables: Box<Tables>,
 }
 
 impl Model for Place {
@@ -41,9 +41,9 @@ impl Model for Place {
 
     ghost Value = { calls.Place };
 
-    ghost view = { λ p. calls.place_of p.tables };
+    ghost view = { λ p. calls.place_of p.tables.value };
 
-    ghost invariant = { λ p. calls.IsAtRest p.tables };
+    ghost invariant = { λ p. calls.IsAtRest p.tables.value };
 }
 
 impl Place {
@@ -58,6 +58,7 @@ impl Place {
         ensures layout { IfOk result (λ place. IsLayout layout) }
     {
         let tables = Tables::start(alloc, layout, number)?;
+        let tables = Box::new(alloc, tables)?;
         Ok(Place { tables })
     }
 
@@ -168,8 +169,9 @@ impl Place {
             return Err(PlaceFault::Worn { clock });
         }
         are_within(caller, &command);
-        let reply = perform(&mut self.tables, command, caller)?;
-        self.tables.send_out();
+        let tables = &mut *self.tables;
+        let reply = perform(tables, command, caller)?;
+        tables.send_out();
         Ok(reply)
     }
 
@@ -199,7 +201,7 @@ impl Place {
             return Err((packet, PlaceFault::Worn { clock }));
         }
         caller.tick(heard);
-        match open(&mut self.tables, packet, caller) {
+        match open(&mut *self.tables, packet, caller) {
             Ok(()) => {
                 self.tables.send_out();
                 Ok(())
@@ -247,6 +249,6 @@ impl Place {
         ensures ranges { AreWaitingWithin result.1.lists }
         ensures ports { result.2.records ≡ self.ports }
     {
-        self.tables.finish()
+        Box::into_inner(self.tables).finish()
     }
 }

@@ -1,5 +1,5 @@
 -- Packets that were put back, in front of the others of their places.
-use Rattle.std.proofs.Common.{◌≡◌, ℕ, zero, suc, ◌+◌, ◌<◌, ◌≤◌, Bool, true, false, Option, Some, None, is_none, List, [], ◌∷◌, ◌++◌, length, map, drop, take, get_or, set, replicate, refl, sym, ◌∙◌, ap, arith, append_assoc, length-append, slice_get}
+use Rattle.std.proofs.Common.{◌≡◌, ℕ, zero, suc, ◌+◌, ◌<◌, ◌≤◌, true, false, Option, Some, None, is_none, List, [], ◌∷◌, ◌++◌, length, drop, get_or, set, replicate, refl, sym, ◌∙◌, ap, arith, append_assoc, length-append, slice_get}
 use Rattle.std.proofs.lemmas.Bool.{false≢true}
 use Rattle.chorus_entry.specs.declared.packet.Packet.{Packet}
 use Rattle.place_outbox.specs.Spans.{listed}
@@ -92,6 +92,16 @@ pub none-at : (os : List (Option Packet)) (p : ℕ) → get_or (set os p None) p
 none-at [] p = refl
 none-at (o ∷ os) zero = refl
 none-at (o ∷ os) (suc p) = none-at os p
+
+none-of : (o : Option Packet) → length (listed o) ≡ 0 → o ≡ None
+none-of None h = refl
+none-of (Some v) h = absurd (omega (arith, h))
+
+-- where none was put back, none stands in front
+pub no-front : (os : List (Option Packet)) (p : ℕ) → fronts os ≡ 0 → get_or os p None ≡ None
+no-front [] p h = refl
+no-front (o ∷ os) zero h = none-of o (omega (arith, h))
+no-front (o ∷ os) (suc p) h = no-front os p (omega (arith, h))
 
 -- one fewer waits after a packet was taken
 pub count-without : (ls : List (List Packet)) (p : ℕ) (v : Packet) → slice_get (list_to p ls) 0 ≡ Some v → count (without_first p ls) + 1 ≡ count ls

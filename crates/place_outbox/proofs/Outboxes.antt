@@ -1,12 +1,12 @@
 -- What each outbox keeps, after each call.
-use Rattle.std.proofs.Common.{◌≡◌, ℕ, ◌+◌, ◌-◌, ◌<◌, ◌≤◌, Option, Some, None, IfSome, IsSome, zero, suc, true, false, Bool, ltb, List, [], ◌∷◌, length, get_or, set, replicate, refl, sym, ◌∙◌, ap, subst, arith, slice_get, ltb-true, ltb-false}
+use Rattle.std.proofs.Common.{◌≡◌, ℕ, ◌+◌, ◌-◌, ◌<◌, ◌≤◌, Option, Some, None, IfSome, IsSome, zero, suc, true, false, Bool, ltb, List, [], length, get_or, set, replicate, refl, sym, ◌∙◌, ap, subst, arith, ltb-true, ltb-false}
 use Rattle.std.proofs.lemmas.List.{length-set, get_or_default, get_or_past, set-get_or}
 use Rattle.chorus_entry.specs.declared.packet.Packet.{Packet}
 use Rattle.place_outbox.specs.declared.pool.Span.{Span}
 use Rattle.place_outbox.specs.Spans.{lists_of, packets_from, no_span, size, IsWhole}
-use Rattle.place_outbox.specs.Waiting.{Waiting, Pooled, list_to, with_last, without_first, count, nothing_to}
-use Rattle.place_outbox.specs.Fronts.{with_fronts, fronts, are_free, is_filled, IsOutbox}
-use Rattle.place_outbox.proofs.Fronts.{length-fronts, count-fronts, fronts-last, front-list, front-taken, front-less, none-list, none-taken, free-at, none-at, count-without, count-less, count-last, no-fronts, fronts-none, count-none, front-more}
+use Rattle.place_outbox.specs.Waiting.{Pooled, list_to, with_last, without_first, count, nothing_to}
+use Rattle.place_outbox.specs.Fronts.{with_fronts, fronts, is_filled, IsOutbox}
+use Rattle.place_outbox.proofs.Fronts.{length-fronts, count-fronts, front-less, count-less, count-last, no-fronts, fronts-none, count-none, front-more}
 use Rattle.place_outbox.proofs.Lists.{list-at, packets-first, packets-none}
 
 pub here : (os : List (Option Packet)) (p : ℕ) (o v : Option Packet) → p < length os → o ≡ get_or os p o → o ≡ v → get_or os p None ≡ v

@@ -1,5 +1,5 @@
 -- What waits for each place after a call, and the first place for which a packet waits.
-use Rattle.std.proofs.Common.{◌≡◌, ℕ, zero, suc, ◌==◌, ◌++◌, eqb-true, eq-eqb, true≢false, get_or-set_same, get_or-set_other, ◌+◌, ◌<◌, Bool, true, false, cond, ltb, Option, Some, None, IsSome, List, [], ◌∷◌, length, drop, slice_get, refl, sym, ◌∙◌, ap, subst, arith, ltb-true, ltb-false}
+use Rattle.std.proofs.Common.{◌≡◌, ℕ, zero, suc, ◌==◌, ◌++◌, eqb-true, eq-eqb, true≢false, get_or-set_same, get_or-set_other, ◌+◌, ◌<◌, Bool, true, false, cond, List, [], ◌∷◌, length, drop, slice_get, refl, sym, ◌∙◌, ap, subst, arith}
 use Rattle.chorus_entry.specs.declared.packet.Packet.{Packet}
 use Rattle.place_outbox.specs.Waiting.{next, after_next, first_place, list_to, with_last, without_first}
 

@@ -115,7 +115,21 @@ impl Outbox {
         ensures puts { self.new.puts ≡ self.old.puts }
         ensures back { IfSome result (λ packet. MayPutBack place self.new) }
     {
+        if !self.has_packet_for(place) {
+            return None;
+        }
         self.take_at(usize::from(place))
+    }
+
+    /// Whether a packet waits for the place. It moves no packet, and where none was put back looks at none.
+    pub fn has_packet_for(&self, place: u16) -> bool
+        ensures { result ≡ is_filled (list_to place self.now.lists) }
+    {
+        let place = usize::from(place);
+        if place >= self.fronts.len() {
+            return false;
+        }
+        self.is_filled(place)
     }
 
     /// Puts a packet that was taken out in front of those that wait for the place. Takes no memory.
@@ -158,6 +172,9 @@ impl Outbox {
         requires { place < length self.now.lists }
         ensures { result ≡ is_filled (list_to place self.now.lists) }
     {
+        if self.back == 0 {
+            return self.pool.is_filled(place);
+        }
         self.fronts[place].is_some() || self.pool.is_filled(place)
     }
 

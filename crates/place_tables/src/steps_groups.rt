@@ -58,12 +58,8 @@ impl Tables {
         ensures out { self.new.out ≡ self.old.out }
         ensures kept { KeepsRoom self.old self.new }
     {
-        say(
-            &mut self.journal,
-            self.number,
-            caller,
-            Act::Join { group, port },
-        );
+        let act = Act::Join { group, port };
+        say(&mut self.journal, self.number, caller, act);
     }
 
     /// The port leaves the group.
@@ -76,15 +72,11 @@ impl Tables {
         ensures out { self.new.out ≡ self.old.out }
         ensures kept { KeepsRoom self.old self.new }
     {
-        say(
-            &mut self.journal,
-            self.number,
-            caller,
-            Act::Leave { group, port },
-        );
+        let act = Act::Leave { group, port };
+        say(&mut self.journal, self.number, caller, act);
     }
 
-    /// Posts a message to a group, for which members are chosen here at once.
+    /// Posts a message that waits for nothing: members are chosen here at once, or it is decided here at once.
     pub fn post_alone(&mut self, message: Message, dest: Dest, caller: &mut Caller)
         requires posts { caller.old.posts < u32.MAX }
         requires spare { 1 ≤ self.old.journal.spare }
@@ -95,12 +87,8 @@ impl Tables {
         ensures spare { self.new.journal.spare ≡ self.old.journal.spare - 1 }
         ensures kept { KeepsRoom self.old self.new }
     {
-        say(
-            &mut self.journal,
-            self.number,
-            caller,
-            Act::Post { message, dest },
-        );
+        let act = Act::Post { message, dest };
+        say(&mut self.journal, self.number, caller, act);
         caller.posted();
     }
 
@@ -158,12 +146,8 @@ impl Tables {
         ensures out { self.new.out ≡ self.old.out }
         ensures kept { KeepsRoom self.old self.new }
     {
-        say(
-            &mut self.journal,
-            self.number,
-            caller,
-            Act::NoMember { id, group },
-        );
+        let act = Act::NoMember { id, group };
+        say(&mut self.journal, self.number, caller, act);
         let clock = self.journal.clock();
         put_report(
             &mut self.puts,
@@ -202,12 +186,8 @@ impl Tables {
     {
         let count = members.uis().len() as u16;
         put_copies(&mut self.waits, group, copies);
-        say(
-            &mut self.journal,
-            self.number,
-            caller,
-            Act::Choose { id, group, members },
-        );
+        let act = Act::Choose { id, group, members };
+        say(&mut self.journal, self.number, caller, act);
         let clock = self.journal.clock();
         let answer = Answer::Chosen { count };
         put_report(&mut self.puts, clock, self.number, home, id, answer);

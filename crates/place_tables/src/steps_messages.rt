@@ -6,6 +6,7 @@ ghost use Rattle.chorus_ui.specs.Layout.{has_site, has_place};
 ghost use Rattle.law_machine.specs.PlaceState.{greatest_clock};
 ghost use Rattle.law_machine.specs.PlaceState.{note};
 ghost use Rattle.law_machine.specs.Trying.{tries_at};
+ghost use Rattle.law_machine.specs.Deciding.{decide};
 ghost use Rattle.law_machine.specs.Doing.{post};
 ghost use Rattle.chorus_ui.specs.declared.limits.TheConstants.{MEMBERS_LIMIT};
 ghost use Rattle.law_machine.specs.Working.{hears};
@@ -16,13 +17,15 @@ ghost use Rattle.place_unsettled.specs.Queues.{room};
 ghost use Rattle.place_state.specs.Plain.{is_plain};
 ghost use Rattle.place_state.specs.Steps.{MayTeach, posted, told_by, answered};
 ghost use Rattle.place_state.specs.Room.{KeepsRoom};
-ghost use Rattle.place_state.specs.Tables.{turn, IsSound};
+ghost use Rattle.place_state.specs.Tables.{state, turn, IsSound};
+ghost use Rattle.place_tables.specs.AtOnce.{IsFree, decided};
 ghost use Rattle.chorus_entry.specs.declared.packet.Cargo.TheVariants as Cargo;
 ghost use Rattle.place_state.specs.Going.{LeavesRecords, first_for, settles, reports_for};
 
 use crate::tables::Tables;
 use chorus_calls::Caller;
 use chorus_entry::{Act, Answer, Cargo, Dest, Message, MsgId};
+use chorus_ui::Ui;
 use place_state::{decide, decide_unless, decision, pass, put, put_report, say, teach, trying};
 use place_unsettled::{Key, Wait};
 
@@ -102,12 +105,8 @@ impl Tables {
         let (to, hop) = newest;
         let port = key.port;
         let id = again.message.id;
-        say(
-            &mut self.journal,
-            self.number,
-            caller,
-            Act::Try { id, port, to, hop },
-        );
+        let act = Act::Try { id, port, to, hop };
+        say(&mut self.journal, self.number, caller, act);
         self.waits.set_tried(key, Some(to));
         let clock = self.journal.clock();
         put(
@@ -152,13 +151,67 @@ impl Tables {
     {
         self.waits.push(key, wait);
         let dest = Dest::Port(key.port);
-        say(
-            &mut self.journal,
-            self.number,
-            caller,
-            Act::Post { message, dest },
-        );
+        let act = Act::Post { message, dest };
+        say(&mut self.journal, self.number, caller, act);
         caller.posted();
+    }
+
+    /// The hop of the port, where a direct message to it is decided here at once: none waits for the port, and it is located here.
+    /// Else None.
+    pub fn hop_at_once(&self, port: Ui) -> Option<u64>
+        requires { port.kind ≡ Kind.Port }
+        ensures { IfSome result (λ hop. IsFree port hop (state self.now)) }
+    {
+        let key = Key { port, route: None };
+        if self.waits.len(&key) > 0 {
+            return None;
+        }
+        if self.waits.tried(&key).is_some() {
+            return None;
+        }
+        if !self.layout.has_site(port.site()) {
+            return None;
+        }
+        let (to, hop) = self.hints.newest(port);
+        if to != self.number {
+            return None;
+        }
+        Some(hop)
+    }
+
+    /// Decides on a message that was posted here to a port by whose hop `tried` it was tried here.
+    pub fn decide_at_once(
+        &mut self,
+        message: Message,
+        port: Ui,
+        tried: u64,
+        caller: &mut Caller,
+    ) -> Answer
+        requires kind { port.kind ≡ Kind.Port }
+        requires site { has_site self.old.layout port.site ≡ true }
+        requires sound { IsSound message }
+        requires spare { 1 ≤ self.old.journal.spare }
+        requires clock { greatest_clock (turn self.old caller.old) + 1 < 2 ^ 64 }
+        ensures answer { result ≡ decide message port None tried (state self.old) }
+        ensures turn { turn self.new caller.new ≡
+            decided message port tried (turn self.old caller.old) }
+        ensures out { self.new.out ≡ self.old.out }
+        ensures kept { KeepsRoom self.old self.new }
+    {
+        let id = message.id;
+        let answer = decide(
+            self.number,
+            &mut self.ports,
+            &self.hints,
+            &self.journal,
+            message,
+            port,
+            None,
+            tried,
+        );
+        let act = decision(id, port, tried, answer);
+        say(&mut self.journal, self.number, caller, act);
+        answer
     }
 
     /// Tells the first message of a port and route, which is under way, what was decided.
@@ -178,12 +231,8 @@ impl Tables {
         ensures kept { KeepsRoom self.old self.new }
     {
         let home = self.waits.first(key).unwrap().home;
-        say(
-            &mut self.journal,
-            self.number,
-            caller,
-            Act::Told { id, answer },
-        );
+        let act = Act::Told { id, answer };
+        say(&mut self.journal, self.number, caller, act);
         teach(&mut self.hints, key.port, answer);
         pass(&mut self.waits, key, answer);
         let clock = self.journal.clock();
@@ -249,12 +298,8 @@ impl Tables {
         ensures out { self.new.out ≡ self.old.out }
         ensures kept { KeepsRoom self.old self.new }
     {
-        say(
-            &mut self.journal,
-            self.number,
-            caller,
-            Act::Heard { id, answer },
-        );
+        let act = Act::Heard { id, answer };
+        say(&mut self.journal, self.number, caller, act);
         self.unheard.hear(id);
     }
 }

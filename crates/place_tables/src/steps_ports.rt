@@ -150,12 +150,8 @@ impl Tables {
         ensures out { self.new.out ≡ self.old.out }
         ensures kept { KeepsRoom self.old self.new }
     {
-        say(
-            &mut self.journal,
-            self.number,
-            caller,
-            Act::Rehome { port, actor },
-        );
+        let act = Act::Rehome { port, actor };
+        say(&mut self.journal, self.number, caller, act);
         self.ports.rehome(port, actor);
     }
 
@@ -222,12 +218,8 @@ impl Tables {
     {
         let ui = port.ui;
         let hop = port.hop;
-        say(
-            &mut self.journal,
-            self.number,
-            caller,
-            Act::Arrive { port: ui, hop },
-        );
+        let act = Act::Arrive { port: ui, hop };
+        say(&mut self.journal, self.number, caller, act);
         self.hints.learn(ui, self.number, hop);
         self.ports.arrive(port);
     }

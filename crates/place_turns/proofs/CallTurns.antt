@@ -1,35 +1,22 @@
 -- What the machine does on a command with calls, by what its code found.
 -- t is the turn before, u the turn after, m a message, q a port, c the caller.
-use Rattle.std.proofs.Common.{◌≡◌, ℕ, ◌+◌, ◌≤◌, ◌==◌, ◌&&◌, Bool, true, false, cond, Option, Some, None, List, [], ◌∷◌, refl, sym, ◌∙◌, ap, subst, arith}
+use Rattle.std.proofs.Common.{◌≡◌, ℕ, Option, Some, None, List, refl, sym, ◌∙◌, ap}
 use Rattle.chorus_ui.specs.declared.ui.Ui.{Ui}
 use Rattle.chorus_entry.specs.declared.id.MsgId.{MsgId}
 use Rattle.chorus_entry.specs.declared.dest.Dest.{Dest}
-use Rattle.chorus_entry.specs.declared.tag.Tag.{Tag}
-use Rattle.chorus_entry.specs.declared.tag.Tag.TheVariants as tags
 use Rattle.chorus_entry.specs.declared.message.Message.{Message}
-use Rattle.chorus_entry.specs.declared.answer.Answer.{Answer}
 use Rattle.chorus_entry.specs.declared.command.Command.{Command}
 use Rattle.chorus_entry.specs.declared.act.Act.{Act}
-use Rattle.chorus_entry.specs.declared.packet.Packet.{Packet}
-use Rattle.chorus_entry.specs.declared.packet.Cargo.{Cargo}
-use Rattle.chorus_calls.specs.Clients.{Call, Calling, is_outstanding, with_call as client_with, after_begin, after_cancel}
-use Rattle.chorus_calls.specs.Callers.{Seated, with_client, after_post}
-use Rattle.chorus_ports.specs.Table.{find, replace}
-use Rattle.chorus_ports.specs.Taking.{after_take}
-use Rattle.place_unsettled.specs.declared.wait.Key.{Key}
-use Rattle.place_unsettled.specs.declared.wait.Wait.{Wait}
-use Rattle.place_unsettled.specs.Queues.{changed, with_last}
+use Rattle.chorus_calls.specs.Clients.{Call, after_begin}
+use Rattle.chorus_calls.specs.Callers.{Seated}
 use Rattle.law_machine.specs.declared.reply.Reply.{Reply}
-use Rattle.law_machine.specs.PlaceState.{Turn, newest, unchanged, say, note}
-use Rattle.law_machine.specs.PlaceMachine.{act, work}
+use Rattle.law_machine.specs.PlaceState.{Turn}
 use Rattle.law_machine.specs.Own.{own}
-use Rattle.law_machine.specs.Doing.{does, direct, post, poster, posts, posts_direct, posts_to_group, chooses_own, asks, choosing_place, after_tag, ends, holding, takes, first_message}
-use Rattle.law_machine.specs.Choosing.{choice, by_group, all_go, chooses, chooses_all, chooses_these}
-use Rattle.law_machine.specs.Trying.{verdict_here, tries, settles_here, goes_on, goes_unless, go}
-use Rattle.law_machine.specs.Working.{opens}
+use Rattle.law_machine.specs.Doing.{direct, after_tag}
+use Rattle.law_machine.specs.Trying.{go}
 use Rattle.law_machine.specs.Replies.{post_reply}
 use Rattle.place_state.specs.Commands.{Performed}
-use Rattle.place_state.specs.Steps.{posted, told_by}
+use Rattle.place_state.specs.Steps.{posted}
 use Rattle.place_state.specs.Tables.{Tables, turn}
 use Rattle.place_turns.specs.CallTurns.{with_call}
 use Rattle.place_turns.proofs.Posting.{post-performs}

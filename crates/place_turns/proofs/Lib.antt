@@ -2,3 +2,4 @@ pub mod Performing
 pub mod MovePort
 pub mod Posting
 pub mod CallTurns
+pub mod AtOnce

@@ -1,19 +1,10 @@
 -- Posting to a port.
-use Rattle.std.proofs.Common.{◌≡◌, ℕ, max, ◌+◌, ◌≤◌, ◌==◌, Bool, true, false, not, cond, Result, Ok, Err, OnErr, Option, None, List, [], ◌∷◌, ◌++◌, length, drop, length-append, refl, sym, ◌∙◌, ap, arith}
-use Rattle.std.proofs.lemmas.List.{append-nil}
+use Rattle.std.proofs.Common.{◌≡◌, ℕ, max, ◌+◌, Result, Ok, Err, OnErr, Option, [], ◌∷◌, ◌++◌, length, length-append, refl, sym, ◌∙◌, ap, arith}
 use Rattle.chorus_ui.specs.declared.ui.Ui.{Ui}
-use Rattle.chorus_ui.specs.declared.layout.Layout.{Layout}
-use Rattle.chorus_ui.specs.Layout.{has_site}
-use Rattle.chorus_entry.specs.declared.id.MsgId.{MsgId}
-use Rattle.chorus_entry.specs.declared.answer.Answer.{Answer}
-use Rattle.chorus_entry.specs.declared.answer.Answer.TheVariants as A
-use Rattle.chorus_world.specs.Places.{taught}
-use Rattle.chorus_world.specs.declared.place.Location.{Location}
 use Rattle.chorus_hints.specs.Known.{newest_of}
-use Rattle.place_unsettled.specs.declared.wait.Key.{Key}
 use Rattle.place_unsettled.specs.declared.wait.Wait.{Wait}
 use Rattle.place_unsettled.specs.Queues.{Queue, changed, with_last}
-use Rattle.law_machine.specs.PlaceState.{Turn, location, newest, greatest_clock, say, unchanged}
+use Rattle.law_machine.specs.PlaceState.{Turn, newest, greatest_clock, say, unchanged}
 use Rattle.law_machine.specs.Trying.{go}
 use Rattle.law_machine.specs.Doing.{direct, post, does, after_tag}
 use Rattle.law_machine.specs.Own.{own}
@@ -27,9 +18,8 @@ use Rattle.law_machine.specs.declared.reply.Reply.{Reply}
 use Rattle.law_machine.specs.Replies.{reply_to, post_reply}
 use Rattle.place_state.specs.Commands.{Performed}
 use Rattle.chorus_calls.specs.Callers.{after_post}
-use Rattle.law_machine.specs.Working.{hears_verdict, taught_of, told}
-use Rattle.place_state.specs.Going.{first_to, leaving_to, leaving}
-use Rattle.place_state.specs.Steps.{told_by, posted}
+use Rattle.place_state.specs.Going.{leaving_to, leaving}
+use Rattle.place_state.specs.Steps.{posted}
 use Rattle.place_state.proofs.Leaving.{leaving-at}
 use Rattle.place_state.proofs.Reports.{at-key}
 

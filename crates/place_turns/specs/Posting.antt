@@ -1,6 +1,7 @@
 -- A message is posted to a port: what is ready then.
 -- p is the tables of a place.
 use Rattle.std.specs.Prelude.{ℕ, ◌≡◌, ◌+◌, ◌<◌, ◌≤◌, ◌^◌, List, [], ◌∷◌, length, Option, Some, None}
+use Rattle.chorus_ui.specs.declared.ui.Ui.{Ui}
 use Rattle.chorus_ui.specs.declared.kind.Kind.TheVariants as kinds
 use Rattle.chorus_entry.specs.declared.answer.Answer.{Answer}
 use Rattle.chorus_entry.specs.declared.answer.Answer.TheVariants as A
@@ -9,19 +10,35 @@ use Rattle.chorus_entry.specs.declared.entry.Entry.{Entry}
 use Rattle.place_unsettled.specs.Queues.{room}
 use Rattle.law_machine.specs.Doing.{direct, post}
 use Rattle.place_turns.specs.declared.messages.Ready.{Ready}
-use Rattle.place_state.specs.Tables.{Tables, IsSound}
+use Rattle.place_turns.specs.declared.messages.Way.{Way}
+use Rattle.place_unsettled.specs.declared.wait.Wait.{Wait}
+use Rattle.place_state.specs.Tables.{Tables, state, IsSound}
+use Rattle.place_tables.specs.AtOnce.{IsFree}
 use Rattle.place_state.specs.Going.{waits_for, reports_for, leaving_after}
+
+-- the message is decided here at once, and there is room for its entries
+pub record IsAtOnce (q : Ui) (hop : ℕ) (p : Tables) : Type 0 where
+  pub free : IsFree q hop (state p)
+  pub spare : 2 ≤ p.journal.spare
+
+-- or it waits behind the others, and all that this takes is there
+pub record IsToWait (q : Ui) (wait : Wait) (again : Option Wait) (p : Tables) : Type 0 where
+  pub leaving : again ≡ leaving_after (direct q) A.NoPort 0 (Some wait) p
+  pub line : 0 < room p.waits (direct q)
+  pub few : length (waits_for (direct q) p) < 2 ^ 63
+  pub spare : length (waits_for (direct q) p) + 2 ≤ p.journal.spare
+  pub room : reports_for (direct q) p + 1 ≤ p.room
+
+abbrev pub HasWay : Way → Ui → Wait → Tables → Type 0
+HasWay (Way.AtOnce hop) q wait p = IsAtOnce q hop p
+HasWay (Way.Behind again) q wait p = IsToWait q wait again p
 
 -- all that the post of a message to a port takes is there
 pub record IsReady (ready : Ready) (p : Tables) : Type 0 where
   pub kind : ready.port.kind ≡ kinds.Port
   pub sound : IsSound ready.message
   pub wait : ready.wait ≡ post ready.message p.number
-  pub again : ready.again ≡ leaving_after (direct ready.port) A.NoPort 0 (Some ready.wait) p
-  pub line : 0 < room p.waits (direct ready.port)
-  pub few : length (waits_for (direct ready.port) p) < 2 ^ 63
-  pub spare : length (waits_for (direct ready.port) p) + 2 ≤ p.journal.spare
-  pub room : reports_for (direct ready.port) p + 1 ≤ p.room
+  pub way : HasWay ready.way ready.port ready.wait p
 
 -- the answer that the newest entry gives
 abbrev pub last_answer : List Entry → Option Answer

@@ -9,17 +9,18 @@ ghost use Rattle.chorus_entry.specs.declared.tag.Tag.TheVariants as Tag;
 ghost use Rattle.law_machine.specs.PlaceState.{greatest_clock};
 ghost use Rattle.law_machine.specs.Own.{next_message};
 ghost use Rattle.law_machine.specs.Trying.{go};
-ghost use Rattle.law_machine.specs.Doing.{direct};
+ghost use Rattle.law_machine.specs.Doing.{direct, post};
 ghost use Rattle.law_machine.specs.Replies.{verdict_reply, post_reply};
 ghost use Rattle.chorus_calls.specs.Callers.{Seated};
 ghost use Rattle.place_state.specs.Room.{KeepsRoom};
-ghost use Rattle.place_state.specs.Tables.{turn, IsSound};
+ghost use Rattle.place_state.specs.Tables.{state, turn, IsSound};
 ghost use Rattle.place_state.specs.Steps.{posted};
 ghost use Rattle.place_state.specs.Commands.{Performed, StaysOut};
-ghost use Rattle.place_turns.specs.Posting.{last_answer, IsReady};
+ghost use Rattle.place_tables.specs.AtOnce.{IsFree};
+ghost use Rattle.place_turns.specs.Posting.{last_answer, IsReady, IsAtOnce, IsToWait};
 
 use chorus_calls::Caller;
-use chorus_entry::{Answer, Body, Entry, Message, MsgId, Tag};
+use chorus_entry::{Answer, Body, Dest, Entry, Message, MsgId, Tag};
 use chorus_ui::Ui;
 use law_machine::Reply;
 use place_state::next_message;
@@ -27,14 +28,22 @@ use place_tables::Tables;
 use place_unsettled::{Key, Wait};
 use std::alloc::AllocError;
 
-/// What the post of a message to a port takes that can fail: copies of the message, to wait, and of the one that will be tried
-/// at another place.
+/// How a message that is posted to a port goes.
+#[derive(Debug, Drop)]
+pub(crate) enum Way {
+    /// It is decided here at once, by this hop of the port.
+    AtOnce { hop: u64 },
+    /// It waits behind the others; `again` is a copy of the one that will be tried at another place.
+    Behind { again: Option<Wait> },
+}
+
+/// What the post of a message to a port takes that can fail: a copy of the message, which waits or is decided, and its way.
 #[derive(Debug, Drop)]
 pub(crate) struct Ready {
     port: Ui,
     message: Message,
     wait: Wait,
-    again: Option<Wait>,
+    way: Way,
 }
 
 /// The reply by the verdict of a direct message.
@@ -107,6 +116,66 @@ pub(crate) fn ready_post(
     ensures out { StaysOut tables.old.out tables.new.out }
     ensures kept { KeepsRoom tables.old tables.new }
 {
+    match tables.hop_at_once(port) {
+        Some(hop) => ready_at_once(tables, port, tag, body, hop, caller),
+        None => ready_to_wait(tables, port, tag, body, caller),
+    }
+}
+
+/// The same where the message is decided here at once.
+fn ready_at_once(
+    tables: &mut Tables,
+    port: Ui,
+    tag: Tag,
+    body: Body,
+    hop: u64,
+    caller: &Caller,
+) -> Result<Ready, AllocError>
+    requires kind { port.kind ≡ Kind.Port }
+    requires posts { caller.now.posts < u32.MAX }
+    requires sound { IsSound (next_message tag body caller.now) }
+    requires free { IsFree port hop (state tables.old) }
+    ensures port { IfOk result (λ ready. ready.port ≡ port) }
+    ensures message { IfOk result (λ ready. ready.message ≡ next_message tag body caller.now) }
+    ensures ready { IfOk result (λ ready. IsReady ready tables.new) }
+    ensures turn { (c : Seated) → turn tables.new c ≡ turn tables.old c }
+    ensures out { StaysOut tables.old.out tables.new.out }
+    ensures kept { KeepsRoom tables.old tables.new }
+{
+    tables.make_room(2, 0)?;
+    let message = next_message(caller, tag, body);
+    let wait = Wait {
+        message: message.copied(0)?,
+        only: None,
+        home: tables.number(),
+    };
+    let way = Way::AtOnce { hop };
+    Ok(Ready {
+        port,
+        message,
+        wait,
+        way,
+    })
+}
+
+/// The same where it is to wait behind others, or to be tried at another place.
+fn ready_to_wait(
+    tables: &mut Tables,
+    port: Ui,
+    tag: Tag,
+    body: Body,
+    caller: &Caller,
+) -> Result<Ready, AllocError>
+    requires kind { port.kind ≡ Kind.Port }
+    requires posts { caller.now.posts < u32.MAX }
+    requires sound { IsSound (next_message tag body caller.now) }
+    ensures port { IfOk result (λ ready. ready.port ≡ port) }
+    ensures message { IfOk result (λ ready. ready.message ≡ next_message tag body caller.now) }
+    ensures ready { IfOk result (λ ready. IsReady ready tables.new) }
+    ensures turn { (c : Seated) → turn tables.new c ≡ turn tables.old c }
+    ensures out { StaysOut tables.old.out tables.new.out }
+    ensures kept { KeepsRoom tables.old tables.new }
+{
     let key = Key { port, route: None };
     let waits = tables.waiting_for(&key);
     let reports = tables.most_reports(&key);
@@ -119,11 +188,12 @@ pub(crate) fn ready_post(
     };
     let again = tables.copy_leaving(&key, 0, Some(&wait), Answer::NoPort)?;
     tables.make_line(&key)?;
+    let way = Way::Behind { again };
     Ok(Ready {
         port,
         message,
         wait,
-        again,
+        way,
     })
 }
 
@@ -142,13 +212,64 @@ pub(crate) fn post_prepared(tables: &mut Tables, ready: Ready, caller: &mut Call
         port,
         message,
         wait,
-        again,
+        way,
     } = ready;
-    let key = Key { port, route: None };
     let id = message.id;
+    match way {
+        Way::AtOnce { hop } => post_at_once(tables, port, message, wait, hop, caller),
+        Way::Behind { again } => post_behind(tables, port, message, wait, again, caller),
+    }
+    id
+}
+
+/// Posts a message, of which `wait` has a copy, that is decided here at once.
+fn post_at_once(
+    tables: &mut Tables,
+    port: Ui,
+    message: Message,
+    wait: Wait,
+    hop: u64,
+    caller: &mut Caller,
+)
+    requires kind { port.kind ≡ Kind.Port }
+    requires sound { IsSound message }
+    requires copy { wait ≡ post message tables.old.number }
+    requires ready { IsAtOnce port hop tables.old }
+    requires posts { caller.old.posts < u32.MAX }
+    requires clock { greatest_clock (turn tables.old caller.old) < CLOCK_LIMIT }
+    ensures turn { turn tables.new caller.new ≡
+        go (direct port) (posted message port (turn tables.old caller.old)) }
+    ensures out { tables.new.out ≡ tables.old.out }
+    ensures kept { KeepsRoom tables.old tables.new }
+{
+    let Wait { message: copy, .. } = wait;
+    tables.post_alone(message, Dest::Port(port), caller);
+    let _answer = tables.decide_at_once(copy, port, hop, caller);
+}
+
+/// Posts a message, of which `wait` is a copy, behind those that wait, and lets them go.
+fn post_behind(
+    tables: &mut Tables,
+    port: Ui,
+    message: Message,
+    wait: Wait,
+    again: Option<Wait>,
+    caller: &mut Caller,
+)
+    requires kind { port.kind ≡ Kind.Port }
+    requires sound { IsSound message }
+    requires copy { wait ≡ post message tables.old.number }
+    requires ready { IsToWait port wait again tables.old }
+    requires posts { caller.old.posts < u32.MAX }
+    requires clock { greatest_clock (turn tables.old caller.old) < CLOCK_LIMIT }
+    ensures turn { turn tables.new caller.new ≡
+        go (direct port) (posted message port (turn tables.old caller.old)) }
+    ensures out { tables.new.out ≡ tables.old.out }
+    ensures kept { KeepsRoom tables.old tables.new }
+{
+    let key = Key { port, route: None };
     tables.post(&key, message, wait, caller);
     tables.go(&key, again, caller);
-    id
 }
 
 /// The reply to a post to a port, at the end of its turn: what the last entry says of it.

@@ -1,6 +1,6 @@
 //! How many places there are, their callers, and what a command asks. What is not as it is to be ends the test.
 
-ghost use Rattle.std.specs.Prelude.{◌≡◌, ◌<◌, true, IsTrue};
+ghost use Rattle.std.specs.Prelude.{◌≡◌, ◌<◌, true};
 ghost use Rattle.chorus_place.specs.Calls.{state, MayCall};
 
 use chorus_calls::Caller;

@@ -1,7 +1,5 @@
 //! Messages, and ports in which they wait.
 
-ghost use Rattle.std.specs.Prelude.{IsTrue};
-
 use crate::judge::{Judge, must};
 use chorus_entry::{Body, Message, MsgId, PortRecord, Tag};
 use std::alloc::Global;

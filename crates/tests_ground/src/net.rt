@@ -1,6 +1,6 @@
 //! The places of a layout and their callers, and packets that are handed over one by one. What is not as it is to be ends the test.
 
-ghost use Rattle.std.specs.Prelude.{◌≡◌, true, IsTrue};
+ghost use Rattle.std.specs.Prelude.{◌≡◌, true};
 
 use crate::judge::{Judge, check, must};
 use crate::lines::push_told;

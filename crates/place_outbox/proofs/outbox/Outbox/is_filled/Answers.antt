@@ -1,9 +1,9 @@
-use Rattle.std.proofs.Common.{◌≡◌, ◌<◌, ap, sym, ◌∙◌, arith, length, get_or, Some, None, true, false, Option, is_some, List}
+use Rattle.std.proofs.Common.{◌≡◌, ◌<◌, ap, sym, ◌∙◌, arith, length, Some, None, true, false, Option, is_some}
 use Rattle.std.proofs.lemmas.Bool.{false≢true}
 use Rattle.chorus_entry.specs.declared.packet.Packet.{Packet}
 use Rattle.place_outbox.specs.Waiting.{list_to}
-use Rattle.place_outbox.specs.Fronts.{is_filled, with_fronts}
-use Rattle.place_outbox.proofs.Fronts.{filled-front, none-list}
+use Rattle.place_outbox.specs.Fronts.{is_filled, fronts}
+use Rattle.place_outbox.proofs.Fronts.{filled-front, none-list, no-front}
 use Rattle.place_outbox.proofs.Outboxes.{within, here}
 use Rattle.place_outbox.proofs.outbox.Outbox.is_filled.Goals as goal
 
@@ -29,6 +29,24 @@ is_filled-requires c =
     let p = c.self.invariant.places in
     omega (arith, w, r, p)
 
+pub is_filled-requires-else-is_some : goal.is_filled-requires-else-is_some
+is_filled-requires-else-is_some c =
+    let w = within _ _ _ c.args.place _ c.self.invariant (ap (λ v. v.lists) c.self.view_is) in
+    let r = c.requires in
+    let p = c.self.invariant.places in
+    omega (arith, w, r, p)
+
+pub returns-then-self-eq0 : goal.returns-then-self-eq0
+returns-then-self-eq0 c =
+    let os = c.self.inside.fronts.items in
+    let i = c.self.invariant in
+    let b = c.if-self-eq0.true in
+    let n = i.counted in
+    let f : fronts os ≡ 0 = omega (arith, b, n) in
+    c.is_filled.ensures
+    ∙ ap is_filled (sym (none-list os c.self.inside.pool.lists c.args.place i.places (no-front os c.args.place f)))
+    ∙ ap (λ v. is_filled (list_to c.args.place v.lists)) c.self.view_is
+
 pub returns-then-is_some : goal.returns-then-is_some
 returns-then-is_some c =
     let w = within _ _ _ c.args.place _ c.self.invariant (ap (λ v. v.lists) c.self.view_is) in
@@ -45,6 +63,6 @@ returns-else-is_some c =
     let r = c.requires in
     let l : c.args.place < length c.self.inside.fronts.items = omega (arith, w, r) in
     let n = is-none c.index.result.now (sym c.is_some.ensures ∙ c.if-is_some.false) in
-    c.is_filled.ensures
+    c.is_filled-else-is_some.ensures
     ∙ ap is_filled (sym (none-list c.self.inside.fronts.items c.self.inside.pool.lists c.args.place c.self.invariant.places (here c.self.inside.fronts.items c.args.place c.index.result.now None l c.index.ensures n)))
     ∙ ap (λ v. is_filled (list_to c.args.place v.lists)) c.self.view_is

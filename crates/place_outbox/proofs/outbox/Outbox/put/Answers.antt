@@ -1,4 +1,4 @@
-use Rattle.std.proofs.Common.{◌≡◌, ◌<◌, ap, ◌∙◌, arith, length}
+use Rattle.std.proofs.Common.{ap, ◌∙◌, arith}
 use Rattle.place_outbox.specs.Waiting.{with_last}
 use Rattle.place_outbox.specs.Fronts.{with_fronts}
 use Rattle.place_outbox.proofs.Fronts.{fronts-last}

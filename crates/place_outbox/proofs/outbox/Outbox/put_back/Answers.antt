@@ -1,7 +1,7 @@
-use Rattle.std.proofs.Common.{◌≡◌, ◌<◌, ap, subst, sym, ◌∙◌, arith, length, get_or, set, Some, None, true, false}
+use Rattle.std.proofs.Common.{◌≡◌, ap, ◌∙◌, arith, get_or, set, Some, true, false}
 use Rattle.place_outbox.specs.Waiting.{with_first, count}
-use Rattle.place_outbox.specs.Fronts.{with_fronts, fronts, are_free}
-use Rattle.place_outbox.proofs.Fronts.{free-front, front-put, count-fronts}
+use Rattle.place_outbox.specs.Fronts.{with_fronts, are_free}
+use Rattle.place_outbox.proofs.Fronts.{free-front, front-put}
 use Rattle.place_outbox.proofs.Outboxes.{back-outbox, waits}
 use Rattle.place_outbox.proofs.outbox.Outbox.put_back.Goals as goal
 

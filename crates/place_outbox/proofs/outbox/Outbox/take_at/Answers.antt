@@ -1,7 +1,7 @@
-use Rattle.std.proofs.Common.{◌≡◌, ◌+◌, ◌<◌, ◌≤◌, ap, subst, sym, ◌∙◌, refl, arith, length, get_or, set, Some, None, slice_get}
+use Rattle.std.proofs.Common.{◌≡◌, ◌+◌, ◌<◌, ◌≤◌, ap, sym, ◌∙◌, arith, length, get_or, set, Some, None, slice_get}
 use Rattle.std.proofs.lemmas.List.{length-set}
 use Rattle.place_outbox.specs.Waiting.{list_to, without_first, count}
-use Rattle.place_outbox.specs.Fronts.{with_fronts, fronts, are_free}
+use Rattle.place_outbox.specs.Fronts.{with_fronts, fronts}
 use Rattle.place_outbox.proofs.Lists.{nothing-first}
 use Rattle.place_outbox.proofs.Fronts.{front-list, front-taken, front-less, none-list, none-taken, free-at, none-at, count-without, count-fronts}
 use Rattle.place_outbox.proofs.Outboxes.{within, past, here, some-outbox, none-outbox, still-none, if-some}

@@ -1,5 +1,5 @@
 use Rattle.std.proofs.Common.{◌≡◌, ◌+◌, ap, ◌∙◌, arith, length, replicate, None}
-use Rattle.std.proofs.lemmas.List.{length-replicate, replicate_more}
+use Rattle.std.proofs.lemmas.List.{length-replicate}
 use Rattle.place_outbox.proofs.Outboxes.{new-outbox, new-lists}
 use Rattle.place_outbox.proofs.outbox.Outbox.with_places.Goals as goal
 

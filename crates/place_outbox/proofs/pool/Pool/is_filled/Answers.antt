@@ -1,4 +1,4 @@
-use Rattle.std.proofs.Common.{◌≡◌, ◌<◌, ap, subst, sym, ◌∙◌, arith, length}
+use Rattle.std.proofs.Common.{◌<◌, ap, subst, sym, ◌∙◌, arith, length}
 use Rattle.place_outbox.specs.Waiting.{list_to}
 use Rattle.place_outbox.specs.Fronts.{is_filled}
 use Rattle.place_outbox.specs.Spans.{packet_at, no_span, IsWhole}

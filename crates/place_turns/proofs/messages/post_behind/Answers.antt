@@ -3,30 +3,27 @@ use Rattle.law_machine.specs.Doing.{direct}
 use Rattle.law_machine.specs.Trying.{go}
 use Rattle.place_state.specs.Tables.{turn}
 use Rattle.place_turns.proofs.Posting.{posted-length, posted-clock, posted-leaving}
-use Rattle.place_turns.proofs.messages.post_prepared.Goals as goal
+use Rattle.place_turns.proofs.messages.post_behind.Goals as goal
 
 pub go-requires-clause-again : goal.go-requires-clause-again
 go-requires-clause-again c =
-    let r = c.args.ready in
-    λ _. posted-leaving r.port r.message (turn c.args.tables.now c.args.caller.now) _ r.again r.wait c.post.ensures.turn c.requires.ready.wait c.requires.ready.again
+    λ _. posted-leaving c.args.port c.args.message (turn c.args.tables.now c.args.caller.now) _ c.args.again c.args.wait c.post.ensures.turn c.requires.copy c.requires.ready.leaving
 
 pub go-requires-clause-spare : goal.go-requires-clause-spare
 go-requires-clause-spare c =
-    let r = c.args.ready in
-    let len = posted-length r.port r.message (turn c.args.tables.now c.args.caller.now) _ c.post.ensures.turn in
+    let len = posted-length c.args.port c.args.message (turn c.args.tables.now c.args.caller.now) _ c.post.ensures.turn in
     let room = c.requires.ready.spare in
     let left = c.post.ensures.spare in
     omega (arith, len, room, left)
 
 pub go-requires-clause-clock : goal.go-requires-clause-clock
 go-requires-clause-clock c =
-    let r = c.args.ready in
     let t = turn c.args.tables.now c.args.caller.now in
-    let len = posted-length r.port r.message t _ c.post.ensures.turn in
-    let clock = posted-clock r.port r.message t _ c.post.ensures.turn in
+    let len = posted-length c.args.port c.args.message t _ c.post.ensures.turn in
+    let clock = posted-clock c.args.port c.args.message t _ c.post.ensures.turn in
     let few = c.requires.ready.few in
     let worn = c.requires.clock in
     omega (arith, len, clock, few, worn)
 
 pub returns-clause-turn : goal.returns-clause-turn
-returns-clause-turn c = c.go.ensures.turn ∙ ap (go (direct c.args.ready.port)) c.post.ensures.turn
+returns-clause-turn c = c.go.ensures.turn ∙ ap (go (direct c.args.port)) c.post.ensures.turn

@@ -1,0 +1,45 @@
+use Rattle.std.proofs.Common.{ap, subst, sym, ◌∙◌, arith}
+use Rattle.chorus_ui.specs.Layout.{has_site}
+use Rattle.chorus_entry.specs.declared.dest.Dest.{Dest}
+use Rattle.place_unsettled.specs.Queues.{Row}
+use Rattle.place_unsettled.proofs.Keys.{same_row}
+use Rattle.law_machine.specs.Doing.{direct}
+use Rattle.place_state.specs.Groups.{posted_alone}
+use Rattle.place_state.specs.Tables.{Tables, turn, IsSound}
+use Rattle.place_tables.specs.AtOnce.{decided}
+use Rattle.place_turns.proofs.AtOnce.{at-once, posted-alone-clock}
+use Rattle.place_turns.proofs.messages.post_at_once.Goals as goal
+
+pub decide_at_once-answer-requires-clause-site : goal.decide_at_once-answer-requires-clause-site
+decide_at_once-answer-requires-clause-site c =
+    ap (λ (p : Tables). has_site p.layout c.args.port.site) c.post_alone.ensures.same ∙ c.requires.ready.free.site
+
+pub decide_at_once-answer-requires-clause-sound : goal.decide_at_once-answer-requires-clause-sound
+decide_at_once-answer-requires-clause-sound c = subst IsSound (sym (ap (λ w. w.message) c.requires.copy)) c.requires.sound
+
+pub decide_at_once-answer-requires-clause-spare : goal.decide_at_once-answer-requires-clause-spare
+decide_at_once-answer-requires-clause-spare c =
+    let left = c.post_alone.ensures.spare in
+    let room = c.requires.ready.spare in
+    omega (arith, left, room)
+
+pub decide_at_once-answer-requires-clause-clock : goal.decide_at_once-answer-requires-clause-clock
+decide_at_once-answer-requires-clause-clock c =
+    let clock = posted-alone-clock c.args.message (Dest.Port c.args.port) (turn c.args.tables.now c.args.caller.now) _ c.post_alone.ensures.turn in
+    let worn = c.requires.clock in
+    omega (arith, clock, worn)
+
+pub returns-clause-turn : goal.returns-clause-turn
+returns-clause-turn c =
+    let q = c.args.port in
+    let m = c.args.message in
+    let hop = c.args.hop in
+    let p = c.args.tables.now in
+    let t = turn p c.args.caller.now in
+    c.decide_at_once-answer.ensures.turn
+    ∙ ap (decided c.args.wait.message q hop) c.post_alone.ensures.turn
+    ∙ ap (λ x. decided x q hop (posted_alone m (Dest.Port q) t)) (ap (λ w. w.message) c.requires.copy)
+    ∙ at-once q m hop t c.requires.ready.free (λ l h. ap (λ (r : Row). r.queue) (same_row p.waits (direct q) l h))
+
+pub returns-clause-out : goal.returns-clause-out
+returns-clause-out c = c.decide_at_once-answer.ensures.out ∙ ap (λ (p : Tables). p.out) c.post_alone.ensures.same
