@@ -1,5 +1,7 @@
 pub mod Boxes
 pub mod Fresh
+pub mod Renewing
+pub mod Untouched
 pub mod Changes
 pub mod Puts
 pub mod Events

@@ -90,3 +90,17 @@ total_waiting (p ∷ ps) = count p.out.lists + total_waiting ps
 abbrev pub total_held : List Place → ℕ
 total_held [] = 0
 total_held (p ∷ ps) = length p.ports + total_held ps
+
+-- with what is left of one place more
+pub record IsWith (p : Place) (old new : Closed) : Type 0 where
+  pub journals : closed_journals new ≡ closed_journals old ++ reverse p.journal ∷ []
+  pub rest : new.rest.items ≡ old.rest.items ++ flat p.out.lists
+  pub ports : new.ports.items ≡ old.ports.items ++ placed_at p.number p.ports
+  pub origin : new.origin ≡ old.origin
+
+-- what is left of these places, made by closing sites
+pub record HasPartsOf (ps : List Place) (closed : Closed) : Type 0 where
+  pub journals : closed_journals closed ≡ journals_in ps
+  pub rest : closed.rest.items ≡ packets_of ps
+  pub ports : closed.ports.items ≡ ports_of ps
+  pub origin : IsOfSites closed

@@ -1,6 +1,6 @@
 -- The sites: their places and their callers, and the network that they are.
 -- l is a layout, p is a place, ps are places, k is the number of the first one, b of a place that packets go to.
-use Rattle.std.specs.Prelude.{ℕ, ◌≡◌, ◌+◌, ◌≤◌, true, List, [], ◌∷◌, ◌++◌, length, map}
+use Rattle.std.specs.Prelude.{ℕ, ◌≡◌, ◌+◌, ◌≤◌, true, List, [], ◌∷◌, ◌++◌, length, map, is_some}
 use Rattle.chorus_ui.specs.declared.layout.Layout.{Layout}
 use Rattle.chorus_ui.specs.declared.limits.TheConstants.{SEATS_LIMIT}
 use Rattle.chorus_ui.specs.Layout as layouts
@@ -8,6 +8,7 @@ use Rattle.chorus_ui.specs.Layout.{IsLayout}
 use Rattle.chorus_entry.specs.declared.packet.Packet.{Packet}
 use Rattle.chorus_calls.specs.Callers.{Seated}
 use Rattle.law_machine.specs.PlaceState.{Outgoing}
+use Rattle.law_network.specs.Packets.{first_on}
 use Rattle.law_network.specs.Network.{NetState, Event, schedule}
 use Rattle.law_network.specs.Schedules.{may_be}
 use Rattle.chorus_place.specs.Calls.{Place, state}
@@ -41,6 +42,11 @@ all_waiting ps = waiting_in (boxes ps)
 -- the network that the sites are
 abbrev pub net : SitesState → NetState
 net s = record { layout = s.layout; places = map state s.places; packets = all_waiting s.places; callers = s.callers }
+
+-- a packet waits to go from the place
+pub record IsSending (from : ℕ) (n : NetState) : Type 0 where
+  pub to : ℕ
+  pub waits : is_some (first_on from to n.packets) ≡ true
 
 -- What sites keep.
 

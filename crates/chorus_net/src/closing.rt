@@ -35,7 +35,7 @@ pub(crate) fn count_ports(places: &[Place]) -> Option<usize>
 }
 
 /// Puts the packets of an outbox last, in the room that is there.
-fn take_packets(rest: &mut Vec<Packet>, out: Outbox)
+pub(crate) fn take_packets(rest: &mut Vec<Packet>, out: Outbox)
     requires { vec_len rest.old + count out.lists ≤ vec_capacity rest.old }
     ensures items { rest.new.items ≡ rest.old.items ++ flat out.lists }
     ensures capacity { vec_capacity rest.new ≡ vec_capacity rest.old }
@@ -47,7 +47,7 @@ fn take_packets(rest: &mut Vec<Packet>, out: Outbox)
 }
 
 /// Puts the ports of a place last, in the room that is there.
-fn take_ports(placed: &mut Vec<Placed>, place: u16, ports: Ports)
+pub(crate) fn take_ports(placed: &mut Vec<Placed>, place: u16, ports: Ports)
     requires { vec_len placed.old + length ports.records ≤ vec_capacity placed.old }
     ensures items { placed.new.items ≡ placed.old.items ++ placed_at place ports.records }
     ensures capacity { vec_capacity placed.new ≡ vec_capacity placed.old }

@@ -2,6 +2,7 @@
 
 ghost use Rattle.std.specs.Prelude.{◌≡◌, ◌≢◌, ℕ, [], ◌∷◌, ◌<◌, ◌≤◌, ◌↔◌, true, false, length, reverse, is_some, slice_get, All, IfOk, IsOk, OnOk, OnErr, IfErr, IsErrOf, Some, None, Ok};
 ghost use Rattle.chorus_ui.specs.Layout.{IsLayout, has_actor, has_place};
+ghost use Rattle.chorus_ui.specs.Layout.{places as places_of};
 ghost use Rattle.chorus_ui.specs.declared.limits.TheConstants.{CLOCK_LIMIT, SEATS_LIMIT};
 ghost use Rattle.chorus_ui.specs.NameKind.{is_actor};
 ghost use Rattle.law_network.specs.Packets.{first_on};
@@ -12,13 +13,15 @@ ghost use Rattle.law_network.specs.Calls.{just_started, entering, delivering, po
 ghost use Rattle.chorus_net.specs.Closing.{IsClosed};
 ghost use Rattle.chorus_net.specs.Drains.{Ticks, Goes, GoesRound, Drains, Stops, StopsAmong, AnyCause, ComparesWorn, row_from, puts_forward};
 ghost use Rattle.chorus_net.specs.Room.{HaveRoom, HasRoomAt, KeepRoom, HasReserved, UsesRoom, UsesRoomInRounds, TakesNoneAt, puts_in, puts_of};
-ghost use Rattle.chorus_net.specs.Sites.{net, IsScheduled};
+ghost use Rattle.chorus_net.specs.Sites.{net, IsScheduled, IsSending};
+ghost use Rattle.chorus_net.specs.Starting.{HaveStarted};
 ghost use Rattle.chorus_net.specs.Worn.{IsWornIn};
 
 use crate::closed::Closed;
 use crate::closing::{count_packets, count_ports, take_apart};
 use crate::fault::EnterFault;
 use crate::giving::may_give;
+use crate::restarting::restart_places;
 use crate::starting::start_places;
 use chorus_calls::Caller;
 use chorus_entry::{Command, Entry};
@@ -55,8 +58,33 @@ impl Sites {
         ensures { IfOk result (λ sites. net sites ≡ just_started layout) }
     {
         let places = start_places(alloc, layout)?;
+        Sites::of(layout, places, Vec::new(alloc))
+    }
+
+    /// Takes the sites apart and starts them again: what is left of them, and sites of the same layout on which nothing happened yet.
+    /// Of the places only those on which something happened take memory. The only error is want of memory.
+    pub fn restart(self, alloc: Global) -> Result<(Closed, Sites), AllocError>
+        ensures closed { IfOk result (λ r. IsClosed (net self) r.0) }
+        ensures started { IfOk result (λ r. net r.1 ≡ just_started self.layout) }
+    {
+        let layout = self.layout;
+        let (closed, places) = restart_places(alloc, layout, self.places)?;
+        let mut callers = self.callers;
+        callers.clear();
+        let sites = Sites::of(layout, places, callers)?;
+        Ok((closed, sites))
+    }
+
+    /// The sites of these places, which have just started, when seat 0 has come.
+    fn of(layout: Layout, places: Vec<Place>, callers: Vec<Caller>) -> Result<Sites, AllocError>
+        requires shape { IsLayout layout }
+        requires started { HaveStarted layout 1 places.items }
+        requires all { length places.items ≡ places_of layout }
+        requires nobody { callers.items ≡ [] }
+        ensures { IfOk result (λ sites. net sites ≡ just_started layout) }
+    {
         let actor = Ui::new(1, Kind::Actor, 1).unwrap();
-        let mut callers = Vec::new(alloc);
+        let mut callers = callers;
         callers.push(Caller::new(0, actor, 0))?;
         Ok(Sites {
             layout,
@@ -188,6 +216,16 @@ impl Sites {
                 Err(fault)
             }
         }
+    }
+
+    /// Whether no packet waits to go from the place.
+    pub fn is_idle(&self, from: u16) -> bool
+        requires { has_place self.now.layout from ≡ true }
+        ensures idle { result ≡ true → (to : ℕ) → has_place self.now.layout to ≡ true →
+            first_on from to (net self.now).packets ≡ None }
+        ensures busy { result ≡ false → IsSending from (net self.now) }
+    {
+        self.places[usize::from(from) - 1].waiting() == 0
     }
 
     /// Whether a packet waits to go from the one place to the other. The first one is taken out and put back, so nothing changes.
@@ -344,15 +382,6 @@ impl Sites {
             to += 1;
         }
         Ok(served)
-    }
-
-    /// Whether no packet waits to go from the place.
-    fn is_idle(&self, from: u16) -> bool
-        requires { has_place self.now.layout from ≡ true }
-        ensures { result ≡ true → (to : ℕ) → has_place self.now.layout to ≡ true →
-            first_on from to (net self.now).packets ≡ None }
-    {
-        self.places[usize::from(from) - 1].waiting() == 0
     }
 
     /// Delivers once, where the places are two. Gives the number of packets that it worked off.

@@ -49,6 +49,11 @@ pub(crate) fn close(rt: &impl Abort, alloc: Global, sites: Sites) -> Closed {
     sites.close(alloc).ok().expect(rt, "memory")
 }
 
+/// What is left of the sites, and sites that are started again.
+pub(crate) fn restart(rt: &impl Abort, alloc: Global, sites: Sites) -> (Closed, Sites) {
+    sites.restart(alloc).ok().expect(rt, "memory")
+}
+
 fn journals_of(rt: &impl Abort, alloc: Global, states: Vec<Log>) -> Vec<Vec<Entry>> {
     let mut journals = Vec::new(alloc);
     for Log { entries } in states {

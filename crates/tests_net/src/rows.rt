@@ -5,7 +5,7 @@
 ghost use Rattle.std.specs.Prelude.{◌≡◌, ◌&&◌, true};
 ghost use Rattle.chorus_entry.specs.Command.{meets_conditions, has_body_in_limit};
 
-use crate::closed::{close, started};
+use crate::closed::{close, restart, started};
 use chorus_entry::{Body, Command, Dest};
 use chorus_merge::merge;
 use chorus_net::{Closed, Sites};
@@ -249,6 +249,48 @@ end
 fn two_turns_per_site(rt: HostRuntime) {
     assert_leaves(&rt, rt.alloc(), (2, 2), POSTS, POSTS_AT_ANOTHER_PLACE);
     assert_leaves(&rt, rt.alloc(), (2, 2), MOVES, MOVES_TO_ANOTHER_SITE);
+}
+
+/// Asserts that sites on which these calls were made leave what they leave, and then what the others leave, as new ones do.
+fn assert_starts_again(rt: &impl Abort, alloc: Global, first: (&str, &str), then: (&str, &str)) {
+    let mut sites = started(rt, alloc, 2, 2);
+    perform_all(rt, alloc, &mut sites, first.0);
+    let (closed, mut sites) = restart(rt, alloc, sites);
+    assert_eq!(rt; text_of(rt, alloc, &closed).as_str(), first.1);
+    perform_all(rt, alloc, &mut sites, then.0);
+    let closed = close(rt, alloc, sites);
+    assert_eq!(rt; text_of(rt, alloc, &closed).as_str(), then.1);
+}
+
+#[test]
+fn sites_start_again(rt: HostRuntime) {
+    let posts = (POSTS, POSTS_AT_ANOTHER_PLACE);
+    let moves = (MOVES, MOVES_TO_ANOTHER_SITE);
+    assert_starts_again(&rt, rt.alloc(), posts, moves);
+    assert_starts_again(&rt, rt.alloc(), moves, moves);
+}
+
+/// Asserts of the first two places whether a packet waits to go from them, and from the one to the other.
+fn assert_waits(rt: &impl Abort, sites: &mut Sites, idle: (bool, bool), waits: (bool, bool)) {
+    assert!(rt; sites.layout().places() >= 2);
+    assert!(rt; sites.is_idle(1) == idle.0);
+    assert!(rt; sites.is_idle(2) == idle.1);
+    assert!(rt; sites.waits(1, 2) == waits.0);
+    assert!(rt; sites.waits(2, 1) == waits.1);
+}
+
+#[test]
+fn packets_wait(rt: HostRuntime) {
+    let alloc = rt.alloc();
+    let mut sites = started(&rt, alloc, 2, 1);
+    perform_all(&rt, alloc, &mut sites, "make 0 2.a.1 4\nenter 1.a.1");
+    assert_waits(&rt, &mut sites, (true, true), (false, false));
+    perform_all(&rt, alloc, &mut sites, "send 1 2.p.1 x");
+    assert_waits(&rt, &mut sites, (false, true), (true, false));
+    perform_all(&rt, alloc, &mut sites, "deliver 1 2");
+    assert_waits(&rt, &mut sites, (true, false), (false, true));
+    perform_all(&rt, alloc, &mut sites, "drain");
+    assert_waits(&rt, &mut sites, (true, true), (false, false));
 }
 
 const DISCARD: &str = "\

@@ -11,7 +11,7 @@ use Rattle.chorus_net.proofs.Rounds.{row-stops, idle-place, row-on, uses-row}
 use Rattle.chorus_net.proofs.sites.Sites.deliver_from.Goals as goal
 
 pub returns-then-is_idle-clause-ok : goal.returns-then-is_idle-clause-ok
-returns-then-is_idle-clause-ok c = idle-place c.args.self.now.layout c.args.from (net c.args.self.now) (c.is_idle.ensures c.if-is_idle.true)
+returns-then-is_idle-clause-ok c = idle-place c.args.self.now.layout c.args.from (net c.args.self.now) (c.is_idle.ensures.idle c.if-is_idle.true)
 
 pub returns-in_err-served-clause-stopped : goal.returns-in_err-served-clause-stopped
 returns-in_err-served-clause-stopped c =
