@@ -1,6 +1,6 @@
 //! What a place sends and receives packets by.
 
-ghost use Rattle.std.specs.Prelude.{◌≡◌, ℕ, true, IfOk, IfErr, OnOk, OnErr, IfSome, IfNone};
+ghost use Rattle.std.specs.Prelude.{◌≡◌, ◌≢◌, ℕ, true, IfOk, IfErr, OnOk, OnErr, IfSome, IfNone};
 ghost use Rattle.chorus_entry.specs.declared.packet.Packet.{Packet};
 ghost use Rattle.chorus_entry.specs.Ranges.{has_ranges};
 ghost use Rattle.chorus_io.specs.Count.{Rose};
@@ -62,7 +62,8 @@ pub trait Ends: Drop {
 pub trait Moves<G>: Ends {
     /// Sends a packet to a place that is reached.
     ///
-    /// A refusal hands it back and sends nothing. `Full` comes only where the count of `fulls` of that place rose.
+    /// A refusal hands it back and sends nothing. `Full` comes only where the count of `fulls` of that place rose, `Memory` only where it
+    /// did not.
     fn push(&mut self, ground: &G, to: u16, packet: Packet) -> Result<(), (Packet, PushFault)>
         requires reaches { (Self.links self.old).reaches to ≡ true }
         requires ranges { has_ranges packet ≡ true }
@@ -71,7 +72,9 @@ pub trait Moves<G>: Ends {
         ensures back { IfErr result (λ refused. refused.0 ≡ packet) }
         ensures unmoved { OnErr result (MovesNothing (Self.links self.old) (Self.links self.new)) }
         ensures full { IfErr result (λ refused. refused.1 ≡ PushFault.Full →
-            Rose ((Self.links self.old).fulls to) ((Self.links self.new).fulls to)) };
+            Rose ((Self.links self.old).fulls to) ((Self.links self.new).fulls to)) }
+        ensures memory { IfErr result (λ refused. refused.1 ≢ PushFault.Full →
+            (Self.links self.new).fulls to ≡ (Self.links self.old).fulls to) };
 
     /// Receives the next packet from a place that is reached, as a parcel.
     ///
