@@ -49,8 +49,9 @@ pub(crate) fn perform_commands<R: Wait, G: Gate>(
     pump_on(rt, nucleus, pass, share, at_work)
 }
 
-/// Performs a command, and tries it again where its place is busy.
-pub(crate) fn perform_command<R: Wait>(
+/// Performs a command, and tries it again as long as its place is busy. `Halted` comes where the nucleus takes no command for want of
+/// memory or for a clock that was worn; the command is then not performed.
+pub fn perform_command<R: Wait>(
     rt: &R,
     nucleus: &Nucleus,
     pass: &mut Pass,

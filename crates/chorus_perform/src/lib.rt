@@ -8,7 +8,8 @@
 //! Begin with `performing`. `setup`, `entering`, `running` and `rounds` are its steps; `commands` performs the commands of a thread,
 //! `pumping` moves packets meanwhile and then, at the `pace` and the places, its `share`, that are those of the thread.
 //!
-//! [`settle`], the last step, may be called alone, by what performs commands in another way: it pumps all places until nothing is left.
+//! [`perform_command`], and [`settle`], the last step, may be called alone, by what performs commands in another way: the first performs
+//! one command, the other pumps all places until nothing is left.
 
 #![tactic(auto)]
 
@@ -26,6 +27,7 @@ mod setup;
 mod share;
 mod stopped;
 
+pub use commands::perform_command;
 pub use gate::{Gate, OpenGate};
 pub use performing::perform;
 pub use rounds::settle;

@@ -1,6 +1,7 @@
 //! What stands on both sides of the play: the scenario that a source gives, and what is written of what was played.
 //!
-//! [`read_scenario`] reads a source to its end, and [`finish`] ends a call by what it played. Between them a scenario is played,
+//! [`read_scenario`] reads a source to its end, and [`finish`] ends a call by what it played; its last step, [`print`], writes a text of
+//! any kind. Between them a scenario is played,
 //! on one thread or on many: that is of the crates above. They rest on this: the scenario is the one that the grammar gives for the
 //! bytes that were read, each ending but want of memory has its cause, and what is written is the text of the merge of the journals
 //! that are handed out. `specs/Headline.antt` has what they promise of what they closed: it is a run of the one-holder
@@ -22,4 +23,4 @@ pub use played::Played;
 pub use reading::read_scenario;
 pub use setup::setup_command;
 pub use text::Text;
-pub use writing::{finish, gave_up};
+pub use writing::{finish, gave_up, print};

@@ -95,8 +95,8 @@ fn summary_of(alloc: Global, closed: &Closed) -> Result<Vec<u8>, AllocError>
     Ok(summary)
 }
 
-/// Writes the text of what was closed.
-fn print<K: Sink>(sink: &mut K, text: &[u8], closed: Closed) -> Finished
+/// Writes the text of what was closed, and hands that out: `Done` where the sink took all of the text, else `WriteFault`.
+pub fn print<K: Sink>(sink: &mut K, text: &[u8], closed: Closed) -> Finished
     ensures status { (result.status ≡ Status.Done) ⊎ (result.status ≡ Status.WriteFault) }
     ensures write_fault { result.status ≡ Status.WriteFault →
         Rose (K.faults sink.old) (K.faults sink.new) }

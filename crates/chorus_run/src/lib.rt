@@ -12,6 +12,7 @@
 #![tactic(auto)]
 
 mod closing;
+mod finishing;
 mod running;
 
 pub use chorus_perform::{Gate, OpenGate, Stopped, perform};

@@ -7,10 +7,11 @@ ghost use Rattle.chorus_run.specs.Ends.{EndsAsRun};
 ghost use Rattle.chorus_run.specs.Threads.{IsPlayedOn};
 
 use crate::closing::{close, close_unused, stop};
+use crate::finishing::finish;
 use chorus_io::{Sink, Source};
 use chorus_nucleus::{Nucleus, Pass};
 use chorus_perform::{Gate, perform};
-use chorus_report::{Finished, Played, Text, finish, gave_up, read_scenario};
+use chorus_report::{Finished, Played, gave_up, read_scenario};
 use chorus_scene::Scenario;
 use std::alloc::{AllocError, Global};
 use std::sync::Wait;
@@ -43,7 +44,7 @@ pub fn run<R: Threads + Wait + Sync, S: Source, K: Sink, G: Gate>(
         }
     };
     let played = play(alloc, rt, nucleus, pass, &scenario, gate);
-    finish(alloc, sink, played, Text::Report)
+    finish(alloc, rt, sink, played)
 }
 
 /// Performs the scenario, and closes the nucleus.

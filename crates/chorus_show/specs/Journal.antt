@@ -9,5 +9,12 @@ use Rattle.chorus_show.specs.Lines.{entry_text}
 abbrev pub count_line : List ℕ → ℕ → List ℕ
 count_line word n = phrase word (decimal n ∷ []) ++ 10 ∷ []
 
+-- its first line, `journal N`, and the lines of the entries
+abbrev pub journal_head : ℕ → List ℕ
+journal_head n = count_line (codes "journal") n
+
+abbrev pub journal_lines : List Entry → List ℕ
+journal_lines entries = flat_map entry_text entries
+
 abbrev pub journal_text : List Entry → List ℕ
-journal_text entries = count_line (codes "journal") (length entries) ++ flat_map entry_text entries
+journal_text entries = journal_head (length entries) ++ journal_lines entries

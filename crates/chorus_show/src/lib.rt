@@ -19,7 +19,7 @@ mod queues;
 mod status;
 mod summary;
 
-pub use journal::{entry_line, journal_text, lent_journal_text};
+pub use journal::{entry_line, journal_head, journal_text, lent_journal_text, lent_lines};
 pub use law::{a_line_has_one_entry, a_line_is_read_back};
 pub use pieces::{push_act, push_answer, push_id};
 pub use queues::Spot;

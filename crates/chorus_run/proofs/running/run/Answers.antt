@@ -17,7 +17,7 @@ returns-in-Err g c = record {
 }
 
 pub finish-requires : goal.finish-requires
-finish-requires g c = has-worn c.args.nucleus c.in-Ok.scenario c.play-played.result c.play-played.ensures
+finish-requires g c = (c.type_bounds.sync-R, has-worn c.args.nucleus c.in-Ok.scenario c.play-played.result c.play-played.ensures)
 
 pub returns : goal.returns
 returns g c =
@@ -32,7 +32,7 @@ returns g c =
     record {
       reads = reads-at c.layout.result (layout_of n) status _ _ _ _ _ c.layout.ensures (c.in-Ok.ensures.reads status c.finish.ensures.status);
       writes = c.finish.ensures.writes;
-      runs = runs-so n scene played status c.play-played.ensures (layout_of n) told closed (c.in-Ok.ensures.ok.0 ∙ c.layout.ensures) given finished (c.finish.ensures.within refl);
+      runs = runs-so n scene played status c.play-played.ensures (layout_of n) told closed (c.in-Ok.ensures.ok.0 ∙ c.layout.ensures) given finished c.finish.ensures.within;
       origin = origin-so n scene played status c.play-played.ensures closed finished;
       worn = worn-so n scene played status c.play-played.ensures closed finished;
     }

@@ -1,33 +1,8 @@
-use Rattle.std.proofs.Common.{◌++◌, ◌∙◌, ap, append_assoc, codes, length, arith}
-use Rattle.std.specs.List.{flat_map}
-use Rattle.std.proofs.lemmas.Grind.{common_steps}
-use Rattle.std.proofs.lemmas.List.{take_all}
-use Rattle.std.proofs.lemmas.List.Elements.{AllWithin-more, AllWithin-upto, at_read}
-use Rattle.chorus_show.specs.Journal.{count_line}
-use Rattle.chorus_show.proofs.Lent.{lent_line, IsLentWithin, lent_text, lent_within}
+use Rattle.chorus_show.proofs.Lent.{head-lines, head-front}
 use Rattle.chorus_show.proofs.journal.push_lent_journal.Goals as goal
 
-pub loop-entry-preserved : goal.loop-entry-preserved
-loop-entry-preserved c =
-    let entries = c.args.entries.now in
-    let index = c.loop-entry.entry-index in
-    record {
-      text = grind (arith, common_steps);
-      within = AllWithin-more IsLentWithin entries 0 index c.loop-entry.invariant.within
-          (at_read entries IsLentWithin index c.entry-item.result c.loop-entry-test.true c.entry-item.is c.in_ok-push_line.ensures.within);
-    }
-
 pub returns-clause-ok : goal.returns-clause-ok
-returns-clause-ok c =
-    let entries = c.args.entries.now in
-    let before = c.args.out.now.items in
-    let head = count_line (codes "journal") (length entries) in
-    c.loop-entry.invariant.text
-    ∙ ap (λ es. before ++ head ++ flat_map (λ e. lent_line e) es) (take_all c.loop-entry.entry-index entries c.loop-entry-test.false)
-    ∙ append_assoc before head (flat_map (λ e. lent_line e) entries)
-    ∙ ap (λ text. before ++ text) (lent_text entries)
+returns-clause-ok c = head-lines _ _ _ _ c.push_lent_lines.result c.in_ok-push_head.ensures.ok c.push_lent_lines.ensures.ok
 
-pub returns-clause-within : goal.returns-clause-within
-returns-clause-within c =
-    let entries = c.args.entries.now in
-    lent_within entries (AllWithin-upto IsLentWithin entries 0 c.loop-entry.entry-index (length entries) c.loop-entry-test.false c.loop-entry.invariant.within)
+pub returns-clause-err : goal.returns-clause-err
+returns-clause-err c = head-front _ _ _ _ c.push_lent_lines.result c.in_ok-push_head.ensures.ok c.push_lent_lines.ensures.err
