@@ -1,7 +1,9 @@
 pub mod CallIndex
+pub mod ChosenLemmas
 pub mod GroupLemmas
 pub mod ListLemmas
 pub mod PortLemmas
 pub mod ReadLemmas
+pub mod SendLemmas
 pub mod StepLemmas
 pub mod TieLemmas

@@ -1,5 +1,5 @@
 -- What the readers read.
-use Rattle.std.proofs.Common.{ℕ, ◌≡◌, ◌==◌, Bool, true, false, cond, not, List, [], ◌∷◌, ◌++◌, find, Some, None, refl, sym, ◌∙◌, ap, inl, inr}
+use Rattle.std.proofs.Common.{ℕ, ◌≡◌, ◌==◌, Bool, true, false, cond, List, [], ◌∷◌, ◌++◌, Some, None, refl, sym, ◌∙◌, ap, inl, inr}
 use Rattle.std.specs.Prelude.{if◌then◌else◌}
 use Rattle.std.proofs.lemmas.Bool.{eq-eqb, false≢true}
 use Rattle.std.proofs.lemmas.List.{append-nil}
@@ -9,27 +9,15 @@ use Rattle.chorus_ui.specs.Layout.{IsLayout, has_site, first_place}
 use Rattle.chorus_entry.specs.Same.{is_number}
 use Rattle.chorus_world.proofs.Groups.GroupBounds.{group-place}
 use Rattle.chorus_entry.specs.declared.entry.Entry.{Entry}
-use Rattle.chorus_entry.specs.declared.id.MsgId.{MsgId}
 use Rattle.chorus_world.specs.Views.{at, is_group}
-use Rattle.chorus_world.specs.Groups.{first_unchosen, is_chosen, is_group_place, posts_to, post_to}
+use Rattle.chorus_world.specs.Groups.{is_group_place, posts_to, post_to}
 use Rattle.chorus_world.specs.Steps.{is_legal}
 use Rattle.chorus_world.proofs.Sorted.Observers.{group_looked_for, legal_laws}
-use Rattle.checker_ledger.specs.Asks.{unchosen_at, asked_row}
-use Rattle.checker_ledger.specs.Ties.{IsAskedOf, choosing_at}
-use Rattle.checker_rows.specs.declared.keys.Line.{Line}
-use Rattle.checker_rows.proofs.OpenLines.{first, find_first}
+use Rattle.checker_ledger.specs.Asks.{asked_row}
 
 -- a group is made at its place, or nowhere
 pub group_here : (l : Layout) (past : List Entry) (g : Ui) (p : ℕ) → IsLayout l → is_legal l past ≡ true → is_group_place l g p ≡ true → is_group g past ≡ is_group g (at p past)
 group_here l past g p shape legal h = group_looked_for l g p past (legal_laws l past shape legal).groups (inl h)
-
-unchosen_case : (here : List Entry) (x : MsgId) (xs : List MsgId) (b : Bool) → first_unchosen here xs ≡ find (unchosen_at here) xs → cond b (first_unchosen here xs) (Some x) ≡ cond (not b) (Some x) (find (unchosen_at here) xs)
-unchosen_case here x xs true h = h
-unchosen_case here x xs false h = refl
-
-unchosen_is : (here : List Entry) (xs : List MsgId) → first_unchosen here xs ≡ find (unchosen_at here) xs
-unchosen_is here [] = refl
-unchosen_is here (x ∷ xs) = unchosen_case here x xs (is_chosen x here) (unchosen_is here xs)
 
 asked_case : (g : Ui) (e : Entry) (there : List Entry) (b : Bool) → posts_to g there ++ cond b (post_to g e.act) [] ≡ posts_to g (cond b (e ∷ there) there)
 asked_case g e there true = refl
@@ -39,14 +27,6 @@ asked_case g e there false = append-nil (posts_to g there)
 pub asked_is : (past : List Entry) (p : ℕ) (g : Ui) → asked_row past (record { place = p; name = g; route = None }) ≡ posts_to g (at p past)
 asked_is [] p g = refl
 asked_is (e ∷ past) p g = ap (λ xs. xs ++ cond (e.place == p) (post_to g e.act) []) (asked_is past p g) ∙ asked_case g e (at p past) (e.place == p)
-
--- the table reads the first post that is not chosen for
-pub asked_first : (l : Layout) (past : List Entry) (k : Line) (xs : List MsgId) → IsAskedOf l past k xs → find (unchosen_at (at (choosing_at l k) past)) xs ≡ first_unchosen (at (choosing_at l k) past) (asked_row past k)
-asked_first l past k xs h =
-    let test = unchosen_at (at (choosing_at l k) past) in
-    find_first test xs
-    ∙ (ap first h
-    ∙ (sym (find_first test (asked_row past k)) ∙ sym (unchosen_is (at (choosing_at l k) past) (asked_row past k))))
 
 -- where the layout has no such site, there is no such group
 pub no_group : (l : Layout) (past : List Entry) (g : Ui) → IsLayout l → is_legal l past ≡ true → has_site l g.site ≡ false → is_group g past ≡ false

@@ -1,8 +1,7 @@
 -- The ties of the tables, after one entry more.
-use Rattle.std.proofs.Common.{ℕ, ◌≡◌, ◌==◌, ◌<◌, ◌≤◌, ◌^◌, Bool, true, false, cond, not, ◌||◌, List, [], ◌∷◌, ◌++◌, length, filter, Option, Some, None, refl, sym, ◌∙◌, ap, subst, arith}
+use Rattle.std.proofs.Common.{ℕ, ◌≡◌, ◌<◌, ◌^◌, Bool, true, false, cond, not, ◌||◌, List, [], ◌∷◌, ◌++◌, length, filter, Option, Some, None, refl, sym, ◌∙◌, ap, subst, arith}
 use Rattle.std.specs.Prelude.{unwrap_or}
-use Rattle.std.specs.Option.{option_or}
-use Rattle.std.specs.HashMap.{get, spare}
+use Rattle.std.specs.HashMap.{spare}
 use Rattle.std.proofs.lemmas.Bool.{false≢true}
 use Rattle.chorus_ui.specs.declared.layout.Layout.{Layout}
 use Rattle.chorus_ui.specs.declared.limits.TheConstants.{MEMBERS_LIMIT}
@@ -10,36 +9,33 @@ use Rattle.chorus_entry.specs.declared.entry.Entry.{Entry}
 use Rattle.chorus_entry.specs.declared.id.MsgId.{MsgId}
 use Rattle.chorus_entry.specs.declared.tag.Tag.{Tag}
 use Rattle.chorus_entry.specs.declared.act.Act.{Act}
-use Rattle.chorus_entry.specs.declared.act.Act.TheVariants.{Take, Accept}
-use Rattle.chorus_entry.specs.Act.{message_of}
-use Rattle.chorus_world.specs.declared.place.Sent.{Sent}
+use Rattle.chorus_entry.specs.declared.act.Act.TheVariants.{Take, Accept, Told}
 use Rattle.chorus_world.specs.Views.{at, by, on, is_on}
 use Rattle.chorus_world.specs.Groups.{groups_made, is_chosen, chooses}
-use Rattle.chorus_world.specs.Places.{find_sent, sent, sent_by, named_location, ports_made}
+use Rattle.chorus_world.specs.Places.{named_location, ports_made}
 use Rattle.chorus_world.specs.Ports.{fate, fate_after}
 use Rattle.chorus_world.specs.Posts.{Posted, tag_from, source, tag_of, posted_in}
 use Rattle.chorus_world.specs.Seats.{posts}
 use Rattle.chorus_world.specs.Steps.{is_legal}
 use Rattle.chorus_world.proofs.Messages.Posted.{AllPosted, posted_none, posted_more}
-use Rattle.chorus_world.proofs.Messages.SentLemmas.{find_sent_append}
 use Rattle.chorus_world.proofs.Steps.LegalLemmas.{legal_parts}
-use Rattle.checker_rows.specs.Keys.{same_message_at, same_line}
-use Rattle.checker_rows.specs.Messages.{in_brief, message_in, message_after, no_message, mark_in, mark_after, no_mark}
-use Rattle.checker_rows.specs.Lines.{sent_row, sent_after, line_in, line_row, open_at, is_open, OpensSame, OthersStay}
-use Rattle.checker_ledger.specs.Asks.{asked_row, asked_by, unchosen_at}
+use Rattle.checker_rows.specs.Keys.{same_line}
+use Rattle.checker_rows.specs.Messages.{in_brief, message_in, message_after, no_message, sent_from, sent_in}
+use Rattle.checker_rows.specs.Lines.{line_in, line_row, is_pending, is_open, OpensSame, OthersStay}
+use Rattle.checker_ledger.specs.Asks.{asked_row, asked_by, is_unchosen}
 use Rattle.checker_rows.specs.Locations.{location_in, location_after}
 use Rattle.checker_rows.specs.Places.{no_place, place_in, place_after, HasFewMade}
 use Rattle.checker_ledger.specs.Ports.{fate_in}
 use Rattle.checker_rows.specs.Seats.{HasTag, no_seat, seat_in, seat_after}
 use Rattle.checker_ledger.specs.Groups.{group_in, group_after}
 use Rattle.checker_rows.specs.Clients.{kept_in, kept_by, clients_in, clients_by}
-use Rattle.checker_ledger.specs.Ties.{choosing_at, IsAskedOf, Follows, HasFew, HasRoom, HasSameRows, ListsAfter, RowsAfter, sent_at, message_sent, tag_in, tag_by, act_tag}
-use Rattle.checker_rows.specs.declared.keys.MessageAt.{MessageAt}
+use Rattle.checker_ledger.specs.Ties.{IsAskedOf, Follows, HasFew, HasRoom, HasSameRows, ListsAfter, RowsAfter, sent_told, tag_in, tag_by, act_tag}
 use Rattle.checker_rows.specs.declared.keys.Line.{Line}
 use Rattle.checker_rows.specs.declared.lines.End.TheVariants.{Settled, Chosen}
 use Rattle.checker_ledger.specs.declared.tables.Tables.{Tables}
 use Rattle.checker_rows.proofs.KeyLemmas.{from_same_line}
-use Rattle.checker_rows.proofs.MessageLemmas.{message_grows, mark_grows}
+use Rattle.checker_rows.proofs.MessageLemmas.{message_grows}
+use Rattle.checker_ledger.proofs.SendLemmas.{sent_is}
 use Rattle.checker_rows.proofs.LocationLemmas.{FindsSent, location_grows}
 use Rattle.checker_rows.proofs.OpenLines.{narrower, longer, line_grows}
 use Rattle.checker_rows.proofs.PlaceLemmas.{place_grows, few_ports, few_groups}
@@ -53,32 +49,23 @@ all_posted l [] h = posted_none
 all_posted l (e ∷ past) h =
     let two = legal_parts l e past h in posted_more l past e (all_posted l past two.1) two.0
 
-sent_case : (x : MsgId) (e : Entry) (here : List Entry) (b : Bool) → find_sent x (sent (cond b (e ∷ here) here)) ≡ cond b (option_or (find_sent x (sent here)) (find_sent x (sent_by e.act))) (find_sent x (sent here))
-sent_case x e here true = find_sent_append x (sent here) (sent_by e.act)
-sent_case x e here false = refl
-
-sent_grows : (past : List Entry) (e : Entry) (k : MessageAt) → sent_row (e ∷ past) k ≡ sent_after k e (sent_row past k)
-sent_grows past e k = sent_case k.id e (at k.place past) (e.place == k.place)
-
 port_case : (e : Entry) (port : List Entry) (b : Bool) → fate (cond b (e ∷ port) port) ≡ cond b (fate_after e.place e.act (fate port)) (fate port)
 port_case e port true = refl
 port_case e port false = refl
 
 -- Posts to a group, in order.
 
-unchosen_before : (b : Bool) (e : Entry) (here : List Entry) (x : MsgId) → unchosen_at (cond b (e ∷ here) here) x ≡ true → unchosen_at here x ≡ true
-unchosen_before true e here x h = go (chooses x e.act) (is_chosen x here) h
+unchosen_before : (past : List Entry) (e : Entry) (x : MsgId) → is_unchosen (e ∷ past) x ≡ true → is_unchosen past x ≡ true
+unchosen_before past e x h = go (chooses x e.act) (is_chosen x past) h
   where
     go : (b c : Bool) → not (b || c) ≡ true → not c ≡ true
     go true c g = absurd (false≢true g)
     go false c g = g
-unchosen_before false e here x h = h
 
-asked_grows : (l : Layout) (past : List Entry) (e : Entry) (k : Line) (xs : List MsgId) → IsAskedOf l past k xs → IsAskedOf l (e ∷ past) k (xs ++ asked_by k e)
-asked_grows l past e k xs h =
-    let p = choosing_at l k in
-    let now = at p (e ∷ past) in
-    longer (unchosen_at now) xs (asked_row past k) (asked_by k e) (narrower (unchosen_at (at p past)) (unchosen_at now) xs (asked_row past k) (λ x. unchosen_before (e.place == p) e (at p past) x) h)
+asked_grows : (past : List Entry) (e : Entry) (k : Line) (xs : List MsgId) → IsAskedOf past k xs → IsAskedOf (e ∷ past) k (xs ++ asked_by k e)
+asked_grows past e k xs h =
+    let now = is_unchosen (e ∷ past) in
+    longer now xs (asked_row past k) (asked_by k e) (narrower (is_unchosen past) now xs (asked_row past k) (λ x. unchosen_before past e x) h)
 
 -- the tables that have the same rows follow the same past
 pub same_rows : (l : Layout) (past : List Entry) (s t : Tables) → HasSameRows s t → Follows l past s → Follows l past t
@@ -86,10 +73,8 @@ same_rows l past s t h f =
     record {
       ports = λ q. h.ports q ∙ f.ports q;
       messages = λ x. ap (λ o. unwrap_or o no_message) (h.messages x) ∙ f.messages x;
-      marks = λ k. ap (λ o. unwrap_or o no_mark) (h.marks k) ∙ f.marks k;
-      sends = λ k. h.sends k ∙ f.sends k;
-      lines = λ k. ap (filter (open_at (at k.place past))) (h.lines k) ∙ f.lines k;
-      asks = λ k. ap (filter (unchosen_at (at (choosing_at l k) past))) (h.asks k) ∙ f.asks k;
+      lines = λ k. ap (filter (is_pending past)) (h.lines k) ∙ f.lines k;
+      asks = λ k. ap (filter (is_unchosen past)) (h.asks k) ∙ f.asks k;
       locations = λ k. ap (λ o. unwrap_or o (named_location l k.name)) (h.locations k) ∙ f.locations k;
       places = λ p. ap (λ o. unwrap_or o no_place) (h.places p) ∙ f.places p;
       seats = λ x. ap (λ o. unwrap_or o no_seat) (h.seats x) ∙ f.seats x;
@@ -100,8 +85,9 @@ same_rows l past s t h f =
 
 -- what the tables say of the entry's message is so
 
-finds_sent : (l : Layout) (past : List Entry) (t : Tables) (e : Entry) (s : Option Sent) → Follows l past t → s ≡ message_sent t e → FindsSent e.act (at e.place past) s
-finds_sent l past t e s f h x m = h ∙ (ap (sent_at t e.place) m ∙ f.sends (record { place = e.place; id = x }))
+finds_sent : (l : Layout) (past : List Entry) (t : Tables) (p : ℕ) (a : Act) → is_legal l past ≡ true → Follows l past t → FindsSent a (at p past) (sent_told t p a)
+finds_sent l past t p (Told x a) legal f = ap (λ r. sent_from p x r.sent) (f.messages x) ∙ sent_is l past x p legal
+finds_sent l past t p _ legal f = tt
 
 brief_tag : (o : Option Posted) → tag_in (in_brief o) ≡ tag_from o
 brief_tag None = refl
@@ -124,15 +110,13 @@ grown l past e i r t u n legal f li g =
           ∙ (li.ports q
           ∙ (ap (λ o. cond (is_on (Some q) e) (fate_after e.place e.act o) o) (f.ports q) ∙ sym (port_case e (on q past) (is_on (Some q) e))));
       messages = λ x. g.messages x ∙ (ap (λ m. message_after x e (message_in m x)) li.messages ∙ (ap (message_after x e) (f.messages x) ∙ sym (message_grows past e x)));
-      marks = λ k. g.marks k ∙ (ap (λ m. mark_after k e (mark_in m k)) li.marks ∙ (ap (mark_after k e) (f.marks k) ∙ sym (mark_grows past e k)));
-      sends = λ k. g.sends k ∙ (ap (λ m. sent_after k e (get same_message_at m k)) li.sends ∙ (ap (sent_after k e) (f.sends k) ∙ sym (sent_grows past e k)));
-      lines = λ k. ap (filter (open_at (at k.place (e ∷ past)))) (ap (λ m. line_in m k) g.lines ∙ li.lines k) ∙ line_grows past e k (line_in r.lines k) (f.lines k);
-      asks = λ k. ap (filter (unchosen_at (at (choosing_at l k) (e ∷ past)))) (ap (λ m. line_in m k) g.asks ∙ li.asks k) ∙ asked_grows l past e k (line_in r.asks k) (f.asks k);
+      lines = λ k. ap (filter (is_pending (e ∷ past))) (ap (λ m. line_in m k) g.lines ∙ li.lines k) ∙ line_grows past e k (line_in r.lines k) (f.lines k);
+      asks = λ k. ap (filter (is_unchosen (e ∷ past))) (ap (λ m. line_in m k) g.asks ∙ li.asks k) ∙ asked_grows past e k (line_in r.asks k) (f.asks k);
       locations = λ k.
           g.locations k
-          ∙ (ap (λ o. location_after k e o (location_in l t.locations k)) (from_case (message_of e.act))
-          ∙ (ap (λ m. location_after k e (message_sent r e) (location_in l m k)) li.locations
-          ∙ (ap (location_after k e (message_sent r e)) (f.locations k) ∙ sym (location_grows l past e (message_sent r e) k (finds_sent l past r e (message_sent r e) f refl)))));
+          ∙ (ap (λ o. location_after k e o (location_in l t.locations k)) (told_case e.act)
+          ∙ (ap (λ m. location_after k e (sent_told r e.place e.act) (location_in l m k)) li.locations
+          ∙ (ap (location_after k e (sent_told r e.place e.act)) (f.locations k) ∙ sym (location_grows l past e (sent_told r e.place e.act) k (finds_sent l past r e.place e.act legal f)))));
       places = λ p. g.places p ∙ (ap (λ m. place_after p e (place_in m p)) li.places ∙ (ap (place_after p e) (f.places p) ∙ sym (place_grows past e p)));
       seats = λ x.
           g.seats x
@@ -159,9 +143,9 @@ grown l past e i r t u n legal f li g =
     tagged : HasTag past e.act (act_tag r e.act)
     tagged = has_tag l past r e.act f
 
-    from_case : (o : Option MsgId) → sent_at t e.place o ≡ sent_at r e.place o
-    from_case None = refl
-    from_case (Some x) = ap (λ m. get same_message_at m (record { place = e.place; id = x })) li.sends
+    told_case : (a : Act) → sent_told t e.place a ≡ sent_told r e.place a
+    told_case (Told x a) = ap (λ m. sent_in m e.place x) li.messages
+    told_case _ = refl
 
     act_tag_is : (a : Act) → act_tag t a ≡ act_tag r a
     act_tag_is (Take q m x) = ap (λ z. tag_in (message_in z (source x)).post) li.messages
@@ -170,19 +154,19 @@ grown l past e i r t u n legal f li g =
 
 -- A line is shorter, where what is open in it stays.
 
-pub settled_open : (l : Layout) (past : List Entry) (t : Tables) (p : ℕ) → Follows l past t → is_open t.marks p Settled ≡ open_at (at p past)
-settled_open l past t p f i x = not ((f.marks (record { place = p; id = x })) i).settled
+pub settled_open : (l : Layout) (past : List Entry) (t : Tables) → Follows l past t → is_open t.messages Settled ≡ is_pending past
+settled_open l past t f i x = not ((f.messages x) i).settled
 
-pub chosen_open : (l : Layout) (past : List Entry) (t : Tables) (p : ℕ) → Follows l past t → is_open t.marks p Chosen ≡ unchosen_at (at p past)
-chosen_open l past t p f i x = not ((f.marks (record { place = p; id = x })) i).chosen
+pub chosen_open : (l : Layout) (past : List Entry) (t : Tables) → Follows l past t → is_open t.messages Chosen ≡ is_unchosen past
+chosen_open l past t f i x = not ((f.messages x) i).chosen
 
--- the lists in which those of one key alone changed, and the same pass the test of the key there
-shorter : (test : Line → MsgId → Bool) (row : Line → List MsgId) (j : Line) (old new : Line → List MsgId) → ((k : Line) → filter (test k) (old k) ≡ filter (test k) (row k)) → OpensSame (test j) (old j) (new j) → OthersStay j old new → (k : Line) → filter (test k) (new k) ≡ filter (test k) (row k)
+-- the lists in which those of one key alone changed, and the same pass the test there
+shorter : (test : MsgId → Bool) (row : Line → List MsgId) (j : Line) (old new : Line → List MsgId) → ((k : Line) → filter test (old k) ≡ filter test (row k)) → OpensSame test (old j) (new j) → OthersStay j old new → (k : Line) → filter test (new k) ≡ filter test (row k)
 shorter test row j old new f own others k = go (same_line j k) refl
   where
-    go : (b : Bool) → same_line j k ≡ b → filter (test k) (new k) ≡ filter (test k) (row k)
-    go true e = subst (λ i. filter (test i) (new i) ≡ filter (test i) (row i)) (from_same_line j k e) (own ∙ f j)
-    go false e = ap (filter (test k)) (others k e) ∙ f k
+    go : (b : Bool) → same_line j k ≡ b → filter test (new k) ≡ filter test (row k)
+    go true e = subst (λ i. filter test (new i) ≡ filter test (row i)) (from_same_line j k e) (own ∙ f j)
+    go false e = ap (filter test) (others k e) ∙ f k
 
 -- the tables with other lines
 abbrev pub with_lines : Tables → Tables → Tables
@@ -191,14 +175,12 @@ with_lines s t = record s { lines = t.lines }
 abbrev pub with_asks : Tables → Tables → Tables
 with_asks s t = record s { asks = t.asks }
 
-pub lines_shorter : (l : Layout) (past : List Entry) (j : Line) (p : ℕ) (s t : Tables) → p ≡ j.place → Follows l past s → OpensSame (is_open s.marks p Settled) (line_in s.lines j) (line_in t.lines j) → OthersStay j (line_in s.lines) (line_in t.lines) → Follows l past (with_lines s t)
-lines_shorter l past j p s t at_place f own others =
+pub lines_shorter : (l : Layout) (past : List Entry) (j : Line) (s t : Tables) → Follows l past s → OpensSame (is_open s.messages Settled) (line_in s.lines j) (line_in t.lines j) → OthersStay j (line_in s.lines) (line_in t.lines) → Follows l past (with_lines s t)
+lines_shorter l past j s t f own others =
     record {
       ports = f.ports;
       messages = f.messages;
-      marks = f.marks;
-      sends = f.sends;
-      lines = shorter (λ k. open_at (at k.place past)) (line_row past) j (line_in s.lines) (line_in t.lines) f.lines here others;
+      lines = shorter (is_pending past) (line_row past) j (line_in s.lines) (line_in t.lines) f.lines here others;
       asks = f.asks;
       locations = f.locations;
       places = f.places;
@@ -208,18 +190,16 @@ lines_shorter l past j p s t at_place f own others =
       clients = f.clients;
     }
   where
-    here : OpensSame (open_at (at j.place past)) (line_in s.lines j) (line_in t.lines j)
-    here = subst (λ test. OpensSame test (line_in s.lines j) (line_in t.lines j)) (ap (λ z. is_open s.marks z Settled) at_place ∙ settled_open l past s j.place f) own
+    here : OpensSame (is_pending past) (line_in s.lines j) (line_in t.lines j)
+    here = subst (λ test. OpensSame test (line_in s.lines j) (line_in t.lines j)) (settled_open l past s f) own
 
-pub asks_shorter : (l : Layout) (past : List Entry) (j : Line) (p : ℕ) (s t : Tables) → p ≡ choosing_at l j → Follows l past s → OpensSame (is_open s.marks p Chosen) (line_in s.asks j) (line_in t.asks j) → OthersStay j (line_in s.asks) (line_in t.asks) → Follows l past (with_asks s t)
-asks_shorter l past j p s t at_place f own others =
+pub asks_shorter : (l : Layout) (past : List Entry) (j : Line) (s t : Tables) → Follows l past s → OpensSame (is_open s.messages Chosen) (line_in s.asks j) (line_in t.asks j) → OthersStay j (line_in s.asks) (line_in t.asks) → Follows l past (with_asks s t)
+asks_shorter l past j s t f own others =
     record {
       ports = f.ports;
       messages = f.messages;
-      marks = f.marks;
-      sends = f.sends;
       lines = f.lines;
-      asks = shorter (λ k. unchosen_at (at (choosing_at l k) past)) (asked_row past) j (line_in s.asks) (line_in t.asks) f.asks here others;
+      asks = shorter (is_unchosen past) (asked_row past) j (line_in s.asks) (line_in t.asks) f.asks here others;
       locations = f.locations;
       places = f.places;
       seats = f.seats;
@@ -228,8 +208,8 @@ asks_shorter l past j p s t at_place f own others =
       clients = f.clients;
     }
   where
-    here : OpensSame (unchosen_at (at (choosing_at l j) past)) (line_in s.asks j) (line_in t.asks j)
-    here = subst (λ test. OpensSame test (line_in s.asks j) (line_in t.asks j)) (ap (λ z. is_open s.marks z Chosen) at_place ∙ chosen_open l past s (choosing_at l j) f) own
+    here : OpensSame (is_unchosen past) (line_in s.asks j) (line_in t.asks j)
+    here = subst (λ test. OpensSame test (line_in s.asks j) (line_in t.asks j)) (chosen_open l past s f) own
 
 -- the counts are small where the past is short
 pub has_few : (l : Layout) (past : List Entry) (t : Tables) (e : Entry) → Follows l past t → length past < 2 ^ 63 → HasFew e t
@@ -256,9 +236,7 @@ few_stays e r t li h =
 pub room_stays : (e : Entry) (r t : Tables) → ListsAfter e r t → HasRoom r → 1 < spare r.groups → HasRoom t
 room_stays e r t li h two =
     record {
-      messages = subst (λ m. 0 < spare m) (sym li.messages) h.messages;
-      marks = subst (λ m. 0 < spare m) (sym li.marks) h.marks;
-      sends = subst (λ m. MEMBERS_LIMIT ≤ spare m) (sym li.sends) h.sends;
+      messages = subst (λ m. MEMBERS_LIMIT < spare m) (sym li.messages) h.messages;
       locations = subst (λ m. 0 < spare m) (sym li.locations) h.locations;
       places = subst (λ m. 0 < spare m) (sym li.places) h.places;
       seats = subst (λ m. 0 < spare m) (sym li.seats) h.seats;

@@ -6,9 +6,9 @@ use Rattle.chorus_entry.specs.declared.id.MsgId.{MsgId}
 use Rattle.chorus_world.specs.Groups.{is_chosen, post_to}
 use Rattle.checker_rows.specs.declared.keys.Line.{Line}
 
--- the post has no choice at the place with this past
-abbrev pub unchosen_at : List Entry → MsgId → Bool
-unchosen_at here x = not (is_chosen x here)
+-- the post has no choice in this past
+abbrev pub is_unchosen : List Entry → MsgId → Bool
+is_unchosen past x = not (is_chosen x past)
 
 -- the ids, where the key has no route: posts to a group have none
 abbrev pub direct : Option Ui → List MsgId → List MsgId

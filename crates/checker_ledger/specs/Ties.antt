@@ -1,66 +1,54 @@
 -- Ties: what each table says of the past.
-use Rattle.std.specs.Prelude.{ℕ, nat_eq, ◌≡◌, ◌≤◌, ◌<◌, ◌^◌, ◌+◌, ◌++◌, List, true, reverse, filter, unwrap_or, Option, None, Some}
+use Rattle.std.specs.Prelude.{ℕ, nat_eq, ◌≡◌, ◌≤◌, ◌<◌, ◌^◌, ◌+◌, ◌++◌, List, true, reverse, filter, Option, None, Some}
 use Rattle.std.specs.HashMap.{get, spare}
 use Rattle.chorus_ui.specs.declared.ui.Ui.{Ui}
 use Rattle.chorus_ui.specs.declared.layout.Layout.{Layout}
 use Rattle.chorus_ui.specs.declared.limits.TheConstants.{MEMBERS_LIMIT}
-use Rattle.chorus_ui.specs.Layout.{group_place}
 use Rattle.chorus_entry.specs.declared.entry.Entry.{Entry}
 use Rattle.chorus_entry.specs.declared.id.MsgId.{MsgId}
 use Rattle.chorus_entry.specs.declared.tag.Tag.{Tag}
 use Rattle.chorus_entry.specs.declared.tag.Tag.TheVariants.{Plain}
 use Rattle.chorus_entry.specs.declared.act.Act.{Act}
-use Rattle.chorus_entry.specs.declared.act.Act.TheVariants.{Post, Accept, Choose, Take, Join}
+use Rattle.chorus_entry.specs.declared.act.Act.TheVariants.{Post, Accept, Choose, Told, Take, Join}
 use Rattle.chorus_entry.specs.declared.dest.Dest.{Dest}
 use Rattle.chorus_entry.specs.declared.dest.Dest.TheVariants as D
 use Rattle.checker_ledger.specs.declared.tables.Growing.{Growing}
 use Rattle.checker_ledger.specs.declared.tables.Growing.TheVariants.{Ports, Groups, Asks, Lines}
-use Rattle.chorus_entry.specs.Act.{message_of}
 use Rattle.chorus_entry.specs.MsgId.{same_id}
 use Rattle.chorus_world.specs.declared.place.Sent.{Sent}
-use Rattle.chorus_world.specs.Views.{at, on}
+use Rattle.chorus_world.specs.Views.{on}
 use Rattle.chorus_world.specs.Places.{sent_by}
 use Rattle.chorus_world.specs.Ports.{fate}
 use Rattle.chorus_world.specs.Posts.{source}
 use Rattle.chorus_world.specs.Steps.{is_legal}
-use Rattle.checker_rows.specs.Keys.{same_message_at, same_name_at}
+use Rattle.checker_rows.specs.Keys.{same_name_at}
 use Rattle.checker_ledger.specs.Ports.{fate_in, PortsAfter}
-use Rattle.checker_rows.specs.Messages.{message_in, message_row, MessagesAfter, mark_in, mark_row, MarksAfter}
-use Rattle.checker_rows.specs.Lines.{sent_row, SendsAfter, line_in, line_row, open_at, ArePut}
-use Rattle.checker_ledger.specs.Asks.{asked_row, asked_by, unchosen_at}
+use Rattle.checker_rows.specs.Messages.{message_in, message_row, MessagesAfter, sent_in}
+use Rattle.checker_rows.specs.Lines.{line_in, line_row, is_pending, ArePut}
+use Rattle.checker_ledger.specs.Asks.{asked_row, asked_by, is_unchosen}
 use Rattle.checker_rows.specs.Locations.{location_in, location_row, LocationsAfter}
 use Rattle.checker_rows.specs.Places.{place_in, place_row, PlacesAfter, HasFewMade}
 use Rattle.checker_rows.specs.Seats.{seat_in, seat_row, SeatsAfter}
 use Rattle.checker_ledger.specs.Groups.{group_in, group_row, GroupsJoined, GroupsChanged}
 use Rattle.checker_rows.specs.Clients.{kept_in, kept_row, KeptAfter, clients_in, clients_row, ClientsAfter}
 use Rattle.checker_rows.specs.declared.posting.Posting.{Posting}
-use Rattle.checker_rows.specs.declared.keys.MessageAt.{MessageAt}
 use Rattle.checker_rows.specs.declared.keys.NameAt.{NameAt}
 use Rattle.checker_rows.specs.declared.keys.Line.{Line}
 use Rattle.checker_ledger.specs.declared.tables.Tables.{Tables}
 
--- the place where members are chosen for a post to the group of the key
-abbrev pub choosing_at : Layout → Line → ℕ
-choosing_at l k = unwrap_or (group_place l k.name) k.place
-
--- of the lists, the same messages are not settled at the place of the key, and the same posts are not chosen for
+-- of the lists, the same messages are not settled where they were sent from, and the same posts are not chosen for
 abbrev pub IsLineOf : List Entry → Line → List MsgId → Type 0
-IsLineOf past k xs =
-    filter (open_at (at k.place past)) xs ≡ filter (open_at (at k.place past)) (line_row past k)
+IsLineOf past k xs = filter (is_pending past) xs ≡ filter (is_pending past) (line_row past k)
 
-abbrev pub IsAskedOf : Layout → List Entry → Line → List MsgId → Type 0
-IsAskedOf l past k xs =
-    filter (unchosen_at (at (choosing_at l k) past)) xs ≡ filter (unchosen_at (at (choosing_at l k) past))
-    (asked_row past k)
+abbrev pub IsAskedOf : List Entry → Line → List MsgId → Type 0
+IsAskedOf past k xs = filter (is_unchosen past) xs ≡ filter (is_unchosen past) (asked_row past k)
 
 -- the tables have, at each key, what the past says
 pub record Follows (l : Layout) (past : List Entry) (t : Tables) : Type 0 where
   pub ports : (q : Ui) → fate_in t.ports q ≡ fate (on q past)
   pub messages : (x : MsgId) → message_in t.messages x ≡ message_row past x
-  pub marks : (k : MessageAt) → mark_in t.marks k ≡ mark_row past k
-  pub sends : (k : MessageAt) → get same_message_at t.sends k ≡ sent_row past k
   pub lines : (k : Line) → IsLineOf past k (line_in t.lines k)
-  pub asks : (k : Line) → IsAskedOf l past k (line_in t.asks k)
+  pub asks : (k : Line) → IsAskedOf past k (line_in t.asks k)
   pub locations : (k : NameAt) → location_in l t.locations k ≡ location_row l past k
   pub places : (p : ℕ) → place_in t.places p ≡ place_row past p
   pub seats : (s : ℕ) → seat_in t.seats s ≡ seat_row past s
@@ -76,8 +64,6 @@ IsLedger l entries t = (is_legal l (reverse entries) ≡ true) × Follows l (rev
 pub record HasSameRows (s t : Tables) : Type 0 where
   pub ports : (q : Ui) → fate_in t.ports q ≡ fate_in s.ports q
   pub messages : (x : MsgId) → get same_id t.messages x ≡ get same_id s.messages x
-  pub marks : (k : MessageAt) → get same_message_at t.marks k ≡ get same_message_at s.marks k
-  pub sends : (k : MessageAt) → get same_message_at t.sends k ≡ get same_message_at s.sends k
   pub lines : (k : Line) → line_in t.lines k ≡ line_in s.lines k
   pub asks : (k : Line) → line_in t.asks k ≡ line_in s.asks k
   pub locations : (k : NameAt) → get same_name_at t.locations k ≡ get same_name_at s.locations k
@@ -89,9 +75,7 @@ pub record HasSameRows (s t : Tables) : Type 0 where
 
 -- room for the rows of one entry
 pub record HasRoom (t : Tables) : Type 0 where
-  pub messages : 0 < spare t.messages
-  pub marks : 0 < spare t.marks
-  pub sends : MEMBERS_LIMIT ≤ spare t.sends
+  pub messages : MEMBERS_LIMIT < spare t.messages
   pub locations : 0 < spare t.locations
   pub places : 0 < spare t.places
   pub seats : 0 < spare t.seats
@@ -105,15 +89,12 @@ pub record HasFew (e : Entry) (t : Tables) : Type 0 where
   pub posts : (seat_in t.seats e.seat).posts < 2 ^ 63
   pub clients : (q : Ui) → clients_in t.clients q < 2 ^ 63
 
--- What the tables say of the entry's message: what was sent from its place under its id, and the tag of what it takes
--- or accepts.
+-- What the tables say of the entry's message: what was sent from its place, where the entry tells of it, and the tag of
+-- what it takes or accepts.
 
-abbrev pub sent_at : Tables → ℕ → Option MsgId → Option Sent
-sent_at t p None = None
-sent_at t p (Some x) = get same_message_at t.sends (record { place = p; id = x })
-
-abbrev pub message_sent : Tables → Entry → Option Sent
-message_sent t e = sent_at t e.place (message_of e.act)
+abbrev pub sent_told : Tables → ℕ → Act → Option Sent
+sent_told t p (Told x a) = sent_in t.messages p x
+sent_told t p _ = None
 
 abbrev pub tag_in : Option Posting → Tag
 tag_in None = Plain
@@ -146,8 +127,6 @@ pub record ListsAfter (e : Entry) (s t : Tables) : Type 0 where
   pub lines : ArePut e.place (sent_by e.act) (line_in s.lines) (line_in t.lines)
   pub asks : (k : Line) → line_in t.asks k ≡ line_in s.asks k ++ asked_by k e
   pub messages : t.messages ≡ s.messages
-  pub marks : t.marks ≡ s.marks
-  pub sends : t.sends ≡ s.sends
   pub locations : t.locations ≡ s.locations
   pub places : t.places ≡ s.places
   pub seats : t.seats ≡ s.seats
@@ -161,9 +140,7 @@ pub record RowsAfter (l : Layout) (i : ℕ) (e : Entry) (s t : Tables) : Type 0 
   pub lines : t.lines ≡ s.lines
   pub asks : t.asks ≡ s.asks
   pub messages : MessagesAfter e (message_in s.messages) (message_in t.messages)
-  pub marks : MarksAfter e (mark_in s.marks) (mark_in t.marks)
-  pub sends : SendsAfter e (get same_message_at s.sends) (get same_message_at t.sends)
-  pub locations : LocationsAfter e (message_sent s e) (location_in l s.locations) (location_in l t.locations)
+  pub locations : LocationsAfter e (sent_told s e.place e.act) (location_in l s.locations) (location_in l t.locations)
   pub places : PlacesAfter e (place_in s.places) (place_in t.places)
   pub seats : SeatsAfter (act_tag s e.act) i e (seat_in s.seats) (seat_in t.seats)
   pub groups : GroupsChanged e (group_in s.groups) (group_in t.groups)

@@ -76,7 +76,7 @@ impl Ledger {
         self.tables.grow_lists(alloc, &entry)?;
         let index = self.entries.len();
         self.tables.grow_rows(alloc, self.layout, &entry, index);
-        self.tables.shorten(self.layout, &entry);
+        self.tables.shorten(&entry);
         self.entries.push_reserved(entry);
         Ok(())
     }

@@ -10,20 +10,18 @@ ghost use Rattle.checker_rows.specs.declared.keys.Line.{Line};
 ghost use Rattle.checker_rows.specs.Lines.{line_in, AreSame};
 ghost use Rattle.checker_ledger.specs.Asks.{asked_by};
 ghost use Rattle.checker_ledger.specs.Ports.{fate_in, MakeFits, TakesFit};
-ghost use Rattle.checker_ledger.specs.Ties.{Follows, HasSameRows, HasRoom, HasFew, ListsAfter, RowsAfter, StillFollow, message_sent, tag_by, act_tag, grows};
+ghost use Rattle.checker_ledger.specs.Ties.{Follows, HasSameRows, HasRoom, HasFew, ListsAfter, RowsAfter, StillFollow, sent_told, tag_by, act_tag, grows};
 
 use crate::fate::PortFate;
 use crate::groups::{Group, follow_groups, join_group};
 use crate::ports::follow_ports;
 use checker_rows::clients::{follow_clients, follow_kept};
-use checker_rows::keys::{ClientOf, Line, MessageAt, NameAt, PortKey};
+use checker_rows::keys::{ClientOf, Line, NameAt, PortKey};
 use checker_rows::lines::{End, follow_lines, push, shorten_line};
 use checker_rows::locations::follow_locations;
-use checker_rows::marks::{MarkRow, follow_marks};
-use checker_rows::messages::{MessageRow, follow_messages, message_in};
+use checker_rows::messages::{MessageRow, follow_messages, post_in, sent_in};
 use checker_rows::places::{PlaceRow, follow_places};
 use checker_rows::seats::{SeatRow, follow_seats};
-use checker_rows::sends::{follow_sends, sent_in};
 use chorus_entry::{Act, Dest, Entry, MEMBERS_LIMIT, MsgId, Tag};
 use chorus_ui::{Layout, Ui};
 use chorus_world::{Location, Sent};
@@ -37,11 +35,7 @@ pub(crate) struct Tables {
     pub ports: HashMap<PortKey, PortFate>,
     /// Each message, wherever it is.
     pub messages: HashMap<MsgId, MessageRow>,
-    /// Each message at each place.
-    pub marks: HashMap<MessageAt, MarkRow>,
-    /// What was sent from each place.
-    pub sends: HashMap<MessageAt, Sent>,
-    /// The same in order, by port and route.
+    /// What was sent from each place in order, by port and route.
     pub lines: HashMap<Line, VecDeque<MsgId>>,
     /// The posts to each group in order, by the place where they were made.
     pub asks: HashMap<Line, VecDeque<MsgId>>,
@@ -154,8 +148,6 @@ impl Tables {
         Tables {
             ports: HashMap::new(alloc),
             messages: HashMap::new(alloc),
-            marks: HashMap::new(alloc),
-            sends: HashMap::new(alloc),
             lines: HashMap::new(alloc),
             asks: HashMap::new(alloc),
             locations: HashMap::new(alloc),
@@ -167,15 +159,14 @@ impl Tables {
         }
     }
 
-    /// Makes room for the rows of one entry: in the table of groups for two, as a port joins before the other rows are put.
+    /// Makes room for the rows of one entry: in the table of messages for a post and its copies, in that of groups for two, as a
+    /// port joins before the other rows are put.
     pub(crate) fn make_room(&mut self) -> Result<(), AllocError>
         ensures rows { HasSameRows self.old self.new }
         ensures room { OnOk result (HasRoom self.new) }
         ensures joining { OnOk result (1 < spare self.new.groups) }
     {
-        self.messages.reserve(1)?;
-        self.marks.reserve(1)?;
-        self.sends.reserve(MEMBERS_LIMIT)?;
+        self.messages.reserve(MEMBERS_LIMIT + 1)?;
         self.locations.reserve(1)?;
         self.places.reserve(1)?;
         self.seats.reserve(1)?;
@@ -185,19 +176,13 @@ impl Tables {
         Ok(())
     }
 
-    /// The entry's message as it was sent from its place.
-    fn sent(&self, entry: &Entry) -> Option<Sent>
-        ensures { result ≡ message_sent self.now entry.now }
+    /// The message that the entry tells of, as it was sent from its place.
+    fn sent_told(&self, entry: &Entry) -> Option<Sent>
+        ensures { result ≡ sent_told self.now entry.now.place entry.now.act }
     {
-        match entry.act.message() {
-            Some(id) => sent_in(
-                &self.sends,
-                MessageAt {
-                    place: entry.place,
-                    id,
-                },
-            ),
-            None => None,
+        match &entry.act {
+            Act::Told { id, .. } => sent_in(&self.messages, entry.place, *id),
+            _ => None,
         }
     }
 
@@ -205,7 +190,7 @@ impl Tables {
     pub(crate) fn tag_of(&self, id: MsgId) -> Tag
         ensures { result ≡ tag_by self.now id }
     {
-        match message_in(&self.messages, source(id)).post {
+        match post_in(&self.messages, source(id)) {
             Some(post) => post.tag,
             None => Tag::Plain,
         }
@@ -242,11 +227,9 @@ impl Tables {
         requires few { HasFew entry.now self.old }
         ensures { RowsAfter layout index entry.now self.old self.new }
     {
-        let sent = self.sent(entry);
+        let sent = self.sent_told(entry);
         let tag = self.act_tag(&entry.act);
         follow_messages(&mut self.messages, entry);
-        follow_marks(&mut self.marks, entry);
-        follow_sends(&mut self.sends, entry);
         follow_locations(&mut self.locations, layout, entry, sent);
         follow_places(&mut self.places, entry);
         follow_seats(&mut self.seats, entry, &tag, index);
@@ -255,40 +238,40 @@ impl Tables {
         follow_kept(&mut self.kept, entry, &tag);
     }
 
-    /// Takes out of the line of the entry's message the first ones that are settled.
-    fn shorten_sent(&mut self, entry: &Entry)
+    /// Takes out of the line of a message, where it was sent from the place, the first ones that are settled.
+    fn shorten_sent(&mut self, place: u16, id: MsgId)
         ensures { StillFollow self.old self.new }
     {
-        if let Some(sent) = self.sent(entry) {
-            let line = sent_line(entry.place, &sent);
-            let end = End::Settled;
-            shorten_line(&mut self.lines, &self.marks, &line, entry.place, end);
+        if let Some(sent) = sent_in(&self.messages, place, id) {
+            let line = sent_line(place, &sent);
+            shorten_line(&mut self.lines, &self.messages, &line, End::Settled);
         }
     }
 
     /// Takes out of the line of the group's posts, made at the place of this post, the first ones that have their choice.
-    fn shorten_asked(&mut self, layout: Layout, id: MsgId, group: Ui)
-        ensures { (past : List Entry) →
-            Follows layout past self.old → Follows layout past self.new }
+    fn shorten_asked(&mut self, id: MsgId, group: Ui)
+        ensures { StillFollow self.old self.new }
     {
-        if let Some(post) = message_in(&self.messages, id).post {
+        if let Some(post) = post_in(&self.messages, id) {
             let line = asked_line(post.place, group);
-            let place = choosing_place(layout, group, post.place);
-            let end = End::Chosen;
-            shorten_line(&mut self.asks, &self.marks, &line, place, end);
+            shorten_line(&mut self.asks, &self.messages, &line, End::Chosen);
         }
     }
 
     /// Takes out of the lines of the entry's message the first ones that have met their end.
-    pub(crate) fn shorten(&mut self, layout: Layout, entry: &Entry)
-        ensures { (past : List Entry) →
-            Follows layout past self.old → Follows layout past self.new }
+    pub(crate) fn shorten(&mut self, entry: &Entry)
+        ensures { StillFollow self.old self.new }
     {
-        self.shorten_sent(entry);
         match &entry.act {
-            Act::Choose { id, group, .. } => self.shorten_asked(layout, *id, *group),
-            Act::NoMember { id, group } => self.shorten_asked(layout, *id, *group),
-            _ => {}
+            Act::Choose { id, group, .. } | Act::NoMember { id, group } => {
+                self.shorten_asked(*id, *group)
+            }
+            Act::Post { .. } | Act::Try { .. } => {}
+            act => {
+                if let Some(id) = act.message() {
+                    self.shorten_sent(entry.place, id);
+                }
+            }
         }
     }
 }

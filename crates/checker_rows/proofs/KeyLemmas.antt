@@ -5,11 +5,7 @@ use Rattle.std.proofs.lemmas.Bool.{and_parts, eqb-true, false≢true}
 use Rattle.chorus_ui.specs.declared.ui.Ui.{Ui}
 use Rattle.chorus_ui.specs.Name.{same_ui}
 use Rattle.chorus_ui.proofs.Names.{from_same_ui, same_ui-self}
-use Rattle.chorus_entry.specs.declared.id.MsgId.{MsgId}
-use Rattle.chorus_entry.specs.MsgId.{same_id}
-use Rattle.chorus_entry.proofs.Same.{from_same_id}
-use Rattle.checker_rows.specs.Keys.{same_message_at, same_name_at, same_line}
-use Rattle.checker_rows.specs.declared.keys.MessageAt.{MessageAt}
+use Rattle.checker_rows.specs.Keys.{same_name_at, same_line}
 use Rattle.checker_rows.specs.declared.keys.NameAt.{NameAt}
 use Rattle.checker_rows.specs.declared.keys.Line.{Line}
 
@@ -22,19 +18,11 @@ ui_sym u v = go (same_ui u v) (same_ui v u) refl refl
     go false true h k = ap (same_ui u) (from_same_ui v u k) ∙ (same_ui-self u ∙ sym k)
     go false false h k = h ∙ sym k
 
-message_at : (p q : ℕ) (x y : MsgId) → p ≡ q → x ≡ y → (let k : MessageAt = record { place = p; id = x } in k) ≡ record { place = q; id = y }
-message_at p q x y a b = cc
-
 name_at : (p q : ℕ) (x y : Ui) → p ≡ q → x ≡ y → (let k : NameAt = record { place = p; name = x } in k) ≡ record { place = q; name = y }
 name_at p q x y a b = cc
 
 line : (p q : ℕ) (x y : Ui) (r s : Option Ui) → p ≡ q → x ≡ y → r ≡ s → (let k : Line = record { place = p; name = x; route = r } in k) ≡ record { place = q; name = y; route = s }
 line p q x y r s a b c = cc
-
-pub from_same_message_at : (k l : MessageAt) → same_message_at k l ≡ true → k ≡ l
-from_same_message_at k l h =
-    let two = and_parts (k.place == l.place) (same_id k.id l.id) h in
-    message_at _ _ _ _ (eqb-true k.place l.place two.0) (from_same_id k.id l.id two.1)
 
 pub from_same_name_at : (k l : NameAt) → same_name_at k l ≡ true → k ≡ l
 from_same_name_at k l h =

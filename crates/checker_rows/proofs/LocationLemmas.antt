@@ -6,10 +6,8 @@ use Rattle.chorus_ui.specs.declared.ui.Ui.{Ui}
 use Rattle.chorus_ui.specs.declared.layout.Layout.{Layout}
 use Rattle.chorus_ui.specs.Name.{same_ui}
 use Rattle.chorus_entry.specs.declared.entry.Entry.{Entry}
-use Rattle.chorus_entry.specs.declared.id.MsgId.{MsgId}
 use Rattle.chorus_entry.specs.declared.act.Act.{Act}
 use Rattle.chorus_entry.specs.declared.act.Act.TheVariants.{Told, Depart, Arrive}
-use Rattle.chorus_entry.specs.Act.{message_of}
 use Rattle.chorus_world.specs.declared.place.Sent.{Sent}
 use Rattle.chorus_world.specs.declared.place.Location.{Location}
 use Rattle.chorus_world.specs.Views.{at}
@@ -20,9 +18,10 @@ use Rattle.checker_rows.specs.declared.keys.NameAt.{NameAt}
 use Rattle.checker_rows.specs.declared.locations.Lesson.{Lesson}
 use Rattle.checker_rows.proofs.KeyLemmas.{from_same_name_at}
 
--- what s says of the message that an act is about
+-- of what an act tells, s is the message as it was sent
 abbrev pub FindsSent : Act → List Entry → Option Sent → Type 0
-FindsSent a here s = (x : MsgId) → message_of a ≡ Some x → s ≡ find_sent x (sent here)
+FindsSent (Told x a) here s = s ≡ find_sent x (sent here)
+FindsSent _ here s = Unit {0}
 
 told_case : (q : Ui) (s : Option Sent) (t : Option Location) → cond (is_sent_to q s) t None ≡ of_port q (told_lesson t s)
 told_case q None t = refl
@@ -36,7 +35,7 @@ told_case q (Some m) (Some at) = refl
 pub lesson_is : (q : Ui) (p : ℕ) (here : List Entry) (a : Act) (s : Option Sent) → FindsSent a here s → learned q p here a ≡ of_port q (lesson p s a)
 lesson_is q p here (Arrive r hop) s h = refl
 lesson_is q p here (Depart r to a hop) s h = refl
-lesson_is q p here (Told x a) s h = ap (λ o. cond (is_sent_to q o) (taught a) None) (sym (h x refl)) ∙ told_case q s (taught a)
+lesson_is q p here (Told x a) s h = ap (λ o. cond (is_sent_to q o) (taught a) None) (sym h) ∙ told_case q s (taught a)
 lesson_is q p here _ s h = refl
 
 pub location_grows : (l : Layout) (past : List Entry) (e : Entry) (s : Option Sent) (k : NameAt) → FindsSent e.act (at e.place past) s → location_row l (e ∷ past) k ≡ location_after k e s (location_row l past k)

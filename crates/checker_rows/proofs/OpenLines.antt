@@ -12,7 +12,8 @@ use Rattle.chorus_world.specs.declared.place.Sent.{Sent}
 use Rattle.chorus_world.specs.Views.{at}
 use Rattle.chorus_world.specs.Places.{copies, is_settled, settles, unsettled, first_for, sent, sent_by}
 use Rattle.chorus_entry.specs.Same.{same_route}
-use Rattle.checker_rows.specs.Lines.{goes_by, ids_by, line_row, sent_by_line, but_last, open_at}
+use Rattle.checker_rows.specs.Lines.{goes_by, ids_by, line_row, sent_by_line, but_last, is_pending}
+use Rattle.checker_rows.specs.Messages.{is_from, is_over, sending}
 use Rattle.checker_rows.specs.Keys.{same_line}
 use Rattle.chorus_world.proofs.Messages.SentLemmas.{copy, copies_push}
 use Rattle.checker_rows.specs.declared.keys.Line.{Line}
@@ -58,6 +59,10 @@ pub ids_append : (k : Line) (ms ns : List Sent) → ids_by k (ms ++ ns) ≡ ids_
 ids_append k [] ns = refl
 ids_append k (m ∷ ms) ns = ids_case k m ms ns (goes_by k m) (ids_append k ms ns)
 
+-- the message is open at the place with this past: not settled there
+abbrev pub open_at : List Entry → MsgId → Bool
+open_at here x = not (is_settled x here)
+
 first_line : (k : Line) (here : List Entry) (m : Sent) (ms : List Sent) (b c : Bool) → first_for k.name k.route (unsettled here ms) ≡ find (open_at here) (ids_by k ms)
     → goes_by k m ≡ c → open_at here m.id ≡ b
     → first_for k.name k.route (cond b (m ∷ unsettled here ms) (unsettled here ms)) ≡ find (open_at here) (cond c (m.id ∷ ids_by k ms) (ids_by k ms))
@@ -74,23 +79,18 @@ first_is k here (m ∷ ms) = first_line k here m ms (open_at here m.id) (goes_by
 
 -- The tie of a line to the past.
 abbrev pub IsLine : List Entry → Line → List MsgId → Type 0
-IsLine past k xs = filter (open_at (at k.place past)) xs ≡ filter (open_at (at k.place past)) (line_row past k)
+IsLine past k xs = filter (is_pending past) xs ≡ filter (is_pending past) (line_row past k)
 
--- the table reads the first
-pub line_first : (past : List Entry) (k : Line) (xs : List MsgId) → IsLine past k xs → find (open_at (at k.place past)) xs ≡ first_for k.name k.route (unsettled (at k.place past) (sent (at k.place past)))
-line_first past k xs h =
-    find_first (open_at (at k.place past)) xs
-    ∙ (ap first h
-    ∙ (sym (find_first (open_at (at k.place past)) (line_row past k))
-    ∙ sym (first_is k (at k.place past) (sent (at k.place past)))))
+-- lists that agree under a test have the same first one that passes it
+pub same_first : {A : Type 0} (t : A → Bool) (xs ys : List A) → filter t xs ≡ filter t ys → find t xs ≡ find t ys
+same_first t xs ys h = find_first t xs ∙ (ap first h ∙ sym (find_first t ys))
 
-open_before : (b : Bool) (e : Entry) (here : List Entry) (x : MsgId) → open_at (cond b (e ∷ here) here) x ≡ true → open_at here x ≡ true
-open_before true e here x h = by (settles x e.act) (is_settled x here) h
+pending_before : (past : List Entry) (e : Entry) (x : MsgId) → is_pending (e ∷ past) x ≡ true → is_pending past x ≡ true
+pending_before past e x h = by (is_from e.place (sending x past) && settles x e.act) (is_over x past) h
   where
     by : (b c : Bool) → not (b || c) ≡ true → not c ≡ true
     by true c g = absurd (false≢true g)
     by false c g = g
-open_before false e here x h = h
 
 row_case : (k : Line) (e : Entry) (here : List Entry) (b : Bool) → ids_by k (sent (cond b (e ∷ here) here)) ≡ ids_by k (sent here) ++ cond b (ids_by k (sent_by e.act)) []
 row_case k e here true = ids_append k (sent here) (sent_by e.act)
@@ -100,10 +100,10 @@ row_case k e here false = sym (append-nil (ids_by k (sent here)))
 pub line_grows : (past : List Entry) (e : Entry) (k : Line) (xs : List MsgId) → IsLine past k xs → IsLine (e ∷ past) k (xs ++ cond (e.place == k.place) (ids_by k (sent_by e.act)) [])
 line_grows past e k xs h =
     let here = at k.place past in
-    let now = at k.place (e ∷ past) in
+    let now = is_pending (e ∷ past) in
     let more = cond (e.place == k.place) (ids_by k (sent_by e.act)) [] in
-    longer (open_at now) xs (line_row past k) more (narrower (open_at here) (open_at now) xs (line_row past k) (λ x. open_before (e.place == k.place) e here x) h)
-    ∙ sym (ap (filter (open_at now)) (row_case k e here (e.place == k.place)))
+    longer now xs (line_row past k) more (narrower (is_pending past) now xs (line_row past k) (λ x. pending_before past e x) h)
+    ∙ sym (ap (filter now) (row_case k e here (e.place == k.place)))
 
 -- Putting one behind, and taking it back.
 

@@ -6,14 +6,14 @@ use Rattle.chorus_entry.specs.declared.id.MsgId.{MsgId}
 use Rattle.chorus_entry.specs.declared.hand.Hand.{Hand}
 use Rattle.chorus_entry.specs.declared.tag.Tag.{Tag}
 use Rattle.chorus_entry.specs.declared.act.Act.{Act}
-use Rattle.chorus_entry.specs.declared.act.Act.TheVariants.{Post, Take}
+use Rattle.chorus_entry.specs.declared.act.Act.TheVariants.{Post, Take, Done, Cancel}
 use Rattle.chorus_world.specs.Views.{by, is_by}
 use Rattle.chorus_world.specs.Posts.{posted_by, posted_in, source, tag_of, tag_from}
-use Rattle.chorus_world.specs.Seats.{posts_after, posts, stays_at, posts_stay, requests, call, hand, hand_after, hand_with}
+use Rattle.chorus_world.specs.Seats.{posts_after, posts, stays_at, posts_stay, requests_after, requests, call_after, call, hand, hand_after, hand_with}
 use Rattle.chorus_world.proofs.Messages.Posted.{AllPosted, filtered}
 use Rattle.chorus_world.proofs.Messages.SendingLemmas.{and_false, or_none}
 use Rattle.chorus_world.proofs.Sorted.Agreement.{extends_self, extends_before, hand_agrees}
-use Rattle.checker_rows.specs.Seats.{seat_row, seat_here, seat_after, stay, stays, stay_at, stay_after, hand_by, first_index, first_after}
+use Rattle.checker_rows.specs.Seats.{seat_row, seat_here, seat_after, stay, stays, stay_at, stay_after, hand_by, first_index, first_after, changes_seat}
 use Rattle.checker_rows.specs.Seats.{HasTag}
 use Rattle.checker_rows.specs.declared.seats.SeatRow.{SeatRow}
 use Rattle.checker_rows.specs.declared.seats.Stay.{Stay}
@@ -57,6 +57,31 @@ seat_own tag i e r = ap (λ b. cond b (seat_here tag i e r) r) (eq-eqb e.seat e.
 
 pub seat_apart : (s : ℕ) (tag : Tag) (i : ℕ) (e : Entry) → (e.seat == s) ≡ false → (r : SeatRow) → seat_after s tag i e r ≡ r
 seat_apart s tag i e h r = ap (λ b. cond b (seat_here tag i e r) r) h
+
+abbrev changed : Tag → ℕ → ℕ → Act → SeatRow → SeatRow
+changed tag i p a r =
+    record {
+      posts = posts_after a r.posts;
+      stay = stay_after p a r.stay;
+      requests = requests_after a r.requests;
+      call = call_after a r.call;
+      hand = hand_by tag a r.hand;
+      first = first_after a i r.requests r.first;
+    }
+
+unchanged : (tag : Tag) (i p : ℕ) (a : Act) (r : SeatRow) → changes_seat a ≡ false → changed tag i p a r ≡ r
+unchanged tag i p (Post m d) r h = absurd (false≢true (sym h))
+unchanged tag i p (Take q n x) r h = absurd (false≢true (sym h))
+unchanged tag i p (Done n) r h = absurd (false≢true (sym h))
+unchanged tag i p (Cancel n) r h = absurd (false≢true (sym h))
+unchanged tag i p _ r h = refl
+
+kept_either : (b : Bool) (new r : SeatRow) → new ≡ r → r ≡ cond b new r
+kept_either true new r h = sym h
+kept_either false new r h = refl
+
+pub seat_stays : (s : ℕ) (tag : Tag) (i : ℕ) (e : Entry) → changes_seat e.act ≡ false → (r : SeatRow) → r ≡ seat_after s tag i e r
+seat_stays s tag i e h r = kept_either (e.seat == s) (seat_here tag i e r) r (unchanged tag i e.place e.act r h)
 
 same_twice : (b : Bool) → (b && b) ≡ b
 same_twice true = refl

@@ -2,18 +2,13 @@
 use Rattle.std.specs.Prelude.{Bool, ◌&&◌, ◌==◌}
 use Rattle.std.specs.Option.{option_eq}
 use Rattle.chorus_ui.specs.Name.{same_ui}
-use Rattle.chorus_entry.specs.MsgId.{same_id}
 use Rattle.checker_rows.specs.declared.keys.PortKey.{PortKey}
-use Rattle.checker_rows.specs.declared.keys.MessageAt.{MessageAt}
 use Rattle.checker_rows.specs.declared.keys.NameAt.{NameAt}
 use Rattle.checker_rows.specs.declared.keys.Line.{Line}
 use Rattle.checker_rows.specs.declared.keys.ClientOf.{ClientOf}
 
 abbrev pub same_port : PortKey → PortKey → Bool
 same_port k l = same_ui k.port l.port
-
-abbrev pub same_message_at : MessageAt → MessageAt → Bool
-same_message_at k l = (k.place == l.place) && same_id k.id l.id
 
 abbrev pub same_name_at : NameAt → NameAt → Bool
 same_name_at k l = (k.place == l.place) && same_ui k.name l.name

@@ -9,7 +9,7 @@ use Rattle.chorus_entry.specs.declared.tag.Tag.TheVariants.{Request}
 use Rattle.chorus_entry.specs.declared.dest.Dest.{Dest}
 use Rattle.chorus_entry.specs.declared.dest.Dest.TheVariants as D
 use Rattle.chorus_entry.specs.declared.act.Act.{Act}
-use Rattle.chorus_entry.specs.declared.act.Act.TheVariants.{Post, Accept, Take}
+use Rattle.chorus_entry.specs.declared.act.Act.TheVariants.{Post, Accept, Take, Done, Cancel}
 use Rattle.chorus_world.specs.Views.{by}
 use Rattle.chorus_world.specs.Posts.{tag_of}
 use Rattle.chorus_world.specs.Seats.{posts_after, posts, requests_after, requests, call_after, call, Call, call_by, hand, hand_with, hand_without}
@@ -107,6 +107,14 @@ seat_here tag i e r =
 
 abbrev pub seat_after : ℕ → Tag → ℕ → Entry → SeatRow → SeatRow
 seat_after s tag i e r = cond (e.seat == s) (seat_here tag i e r) r
+
+-- the act changes the row
+abbrev pub changes_seat : Act → Bool
+changes_seat (Post m d) = true
+changes_seat (Take q n x) = true
+changes_seat (Done n) = true
+changes_seat (Cancel n) = true
+changes_seat _ = false
 
 -- the callers after it
 abbrev pub SeatsAfter : Tag → ℕ → Entry → (ℕ → SeatRow) → (ℕ → SeatRow) → Type 0

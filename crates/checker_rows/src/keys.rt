@@ -5,7 +5,6 @@ ghost use Rattle.std.proofs.Common.{rules};
 ghost use Rattle.std.specs.Cmp.Rules.{comparing, hashing};
 ghost use Rattle.std.specs.Hash as fed;
 
-use chorus_entry::MsgId;
 use chorus_ui::Ui;
 use std::hash::{Hash, Hasher};
 
@@ -14,15 +13,6 @@ use std::hash::{Hash, Hasher};
 pub struct PortKey {
     /// Its name.
     pub port: Ui,
-}
-
-/// A message at a place.
-#[derive(Clone, Copy, Debug, Eq, Hash)]
-pub struct MessageAt {
-    /// The place.
-    pub place: u16,
-    /// The message.
-    pub id: MsgId,
 }
 
 /// A port, or a group, at a place.
@@ -63,18 +53,6 @@ impl PartialEq for PortKey {
 
     fn eq(&self, other: &PortKey) -> bool {
         self.port == other.port
-    }
-}
-
-impl PartialEq for MessageAt {
-    ghost use Rattle.checker_rows.specs.Keys.{same_message_at};
-
-    ghost eq = { same_message_at };
-
-    ghost laws = { Prim.search (comparing, rules) };
-
-    fn eq(&self, other: &MessageAt) -> bool {
-        self.place == other.place && self.id == other.id
     }
 }
 

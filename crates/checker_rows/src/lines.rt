@@ -8,9 +8,9 @@ ghost use Rattle.chorus_ui.specs.declared.limits.TheConstants.{MEMBERS_LIMIT};
 ghost use Rattle.chorus_world.specs.Places.{copies, sent_by};
 ghost use Rattle.checker_rows.specs.Lines.{line_in, is_open, AreSame, IsLonger, IsShorter, ArePut, AreTakenBack, OpensSame, OthersStay};
 
-use crate::keys::{Line, MessageAt};
-use crate::marks::{MarkRow, mark_in};
-use crate::sends::copy_of;
+use crate::keys::Line;
+use crate::messages::MessageRow;
+use crate::sending::copy_of;
 use chorus_entry::{Act, Dest, Entry, MsgId};
 use chorus_ui::Ui;
 use std::alloc::{AllocError, Global};
@@ -19,20 +19,22 @@ use std::collections::{HashMap, VecDeque};
 /// What ends the stay of a message in a line.
 #[derive(Clone, Copy, Debug)]
 pub enum End {
-    /// It is settled at the place.
+    /// It is settled where it was sent from.
     Settled,
-    /// It has its choice of members at the place.
+    /// It has its choice of members.
     Chosen,
 }
 
-/// Whether the message is still open at the place.
-fn is_open(marks: &HashMap<MessageAt, MarkRow>, place: u16, end: End, id: MsgId) -> bool
-    ensures { result ≡ is_open marks.now place end id }
+/// Whether the message is still open.
+fn is_open(messages: &HashMap<MsgId, MessageRow>, end: End, id: MsgId) -> bool
+    ensures { result ≡ is_open messages.now end id }
 {
-    let row = mark_in(marks, MessageAt { place, id });
-    match end {
-        End::Settled => !row.settled,
-        End::Chosen => !row.chosen,
+    match messages.get(&id) {
+        Some(row) => match end {
+            End::Settled => !row.settled,
+            End::Chosen => !row.chosen,
+        },
+        None => true,
     }
 }
 
@@ -155,34 +157,32 @@ pub fn follow_lines(
     }
 }
 
-/// The first in the line that is open at the place.
+/// The first in the line that is open.
 pub fn first_open(
     lines: &HashMap<Line, VecDeque<MsgId>>,
-    marks: &HashMap<MessageAt, MarkRow>,
+    messages: &HashMap<MsgId, MessageRow>,
     key: &Line,
-    place: u16,
     end: End,
 ) -> Option<MsgId>
-    ensures { result ≡ find (is_open marks.now place end) (line_in lines.now key.now) }
+    ensures { result ≡ find (is_open messages.now end) (line_in lines.now key.now) }
 {
     match lines.get(key) {
-        Some(line) => first_of(line, marks, place, end),
+        Some(line) => first_of(line, messages, end),
         None => None,
     }
 }
 
-/// The first of these that is open at the place.
+/// The first of these that is open.
 fn first_of(
     line: &VecDeque<MsgId>,
-    marks: &HashMap<MessageAt, MarkRow>,
-    place: u16,
+    messages: &HashMap<MsgId, MessageRow>,
     end: End,
 ) -> Option<MsgId>
-    ensures { result ≡ find (is_open marks.now place end) line.now.items }
+    ensures { result ≡ find (is_open messages.now end) line.now.items }
 {
     for i in 0..line.len() {
         if let Some(id) = line.get(i) {
-            if is_open(marks, place, end, *id) {
+            if is_open(messages, end, *id) {
                 return Some(*id);
             }
         }
@@ -191,30 +191,29 @@ fn first_of(
 }
 
 /// Takes out the first ones that are not open.
-fn shorten(line: &mut VecDeque<MsgId>, marks: &HashMap<MessageAt, MarkRow>, place: u16, end: End)
-    ensures { OpensSame (is_open marks.now place end) line.old.items line.new.items }
+fn shorten(line: &mut VecDeque<MsgId>, messages: &HashMap<MsgId, MessageRow>, end: End)
+    ensures { OpensSame (is_open messages.now end) line.old.items line.new.items }
 {
     while let Some(id) = line.front() {
-        if is_open(marks, place, end, *id) {
+        if is_open(messages, end, *id) {
             return;
         }
         let _ = line.pop_front();
     }
 }
 
-/// Takes the first ones out of a line that are not open at the place.
+/// Takes the first ones out of a line that are not open.
 pub fn shorten_line(
     lines: &mut HashMap<Line, VecDeque<MsgId>>,
-    marks: &HashMap<MessageAt, MarkRow>,
+    messages: &HashMap<MsgId, MessageRow>,
     key: &Line,
-    place: u16,
     end: End,
 )
-    ensures at_key { OpensSame (is_open marks.now place end)
+    ensures at_key { OpensSame (is_open messages.now end)
         (line_in lines.old key.now) (line_in lines.new key.now) }
     ensures others { OthersStay key.now (line_in lines.old) (line_in lines.new) }
 {
     if let Some(line) = lines.get_mut(key) {
-        shorten(line, marks, place, end);
+        shorten(line, messages, end);
     }
 }

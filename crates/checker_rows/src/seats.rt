@@ -3,7 +3,7 @@
 ghost use Rattle.std.specs.Prelude.{ℕ, ◌≡◌, ◌<◌, ◌^◌, nat_eq, Some, cond};
 ghost use Rattle.std.specs.HashMap.{get, spare};
 ghost use Rattle.chorus_world.specs.Seats.{posts_after, number_in, requests_after, call_with, ended, call_after, hand_with, hand_without};
-ghost use Rattle.checker_rows.specs.Seats.{seat_in, stay_after, stays, hand_by, stands, first_with, first_after, seat_here, SeatsAfter};
+ghost use Rattle.checker_rows.specs.Seats.{seat_in, stay_after, stays, hand_by, stands, first_with, first_after, changes_seat, seat_here, SeatsAfter};
 
 use chorus_entry::{Act, Dest, Entry, Hand, Tag};
 use std::collections::HashMap;
@@ -234,6 +234,16 @@ fn seat_here(entry: &Entry, tag: &Tag, index: usize, row: SeatRow) -> SeatRow
     }
 }
 
+/// Whether the act changes what is known of its caller.
+fn changes_seat(act: &Act) -> bool
+    ensures { result ≡ changes_seat act.now }
+{
+    matches!(
+        act,
+        Act::Post { .. } | Act::Take { .. } | Act::Done { .. } | Act::Cancel { .. }
+    )
+}
+
 /// Puts the row of a caller.
 fn put_seat(seats: &mut HashMap<u32, SeatRow>, seat: u32, row: SeatRow)
     requires { 0 < spare seats.old }
@@ -253,6 +263,8 @@ pub fn follow_seats(seats: &mut HashMap<u32, SeatRow>, entry: &Entry, tag: &Tag,
     requires few { (seat_in seats.old entry.now.seat).posts < 2 ^ 63 }
     ensures { SeatsAfter tag.now index entry.now (seat_in seats.old) (seat_in seats.new) }
 {
-    let row = seat_in(seats, entry.seat);
-    put_seat(seats, entry.seat, seat_here(entry, tag, index, row));
+    if changes_seat(&entry.act) {
+        let row = seat_in(seats, entry.seat);
+        put_seat(seats, entry.seat, seat_here(entry, tag, index, row));
+    }
 }

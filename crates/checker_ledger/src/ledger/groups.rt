@@ -65,8 +65,8 @@ impl Ledger {
         requires { unwrap_or (group_place self.now.layout group) from ≡ place }
         ensures { result ≡ next_to self.now group from place }
     {
+        // The place is for the contract alone.
         let line = asked_line(from, group);
-        let end = End::Chosen;
-        first_open(&self.tables.asks, &self.tables.marks, &line, place, end)
+        first_open(&self.tables.asks, &self.tables.messages, &line, End::Chosen)
     }
 }

@@ -15,7 +15,7 @@ use crate::ledger::Ledger;
 use crate::ports::fate_in;
 use crate::tables::source;
 use checker_rows::clients::{clients_in, kept_in};
-use checker_rows::messages::message_in;
+use checker_rows::messages::{post_in, progress_in, verdict_in};
 use checker_rows::posting::Posting;
 use chorus_entry::{Answer, CLIENTS_LIMIT, MsgId, Tag};
 use chorus_ui::Ui;
@@ -35,21 +35,21 @@ impl Ledger {
         ensures value { result ≡ verdict id self.now.past }
         ensures legal { is_legal self.now.layout self.now.past ≡ true }
     {
-        message_in(&self.tables.messages, id).verdict
+        verdict_in(&self.tables.messages, id)
     }
 
     /// How far the message is on its way.
     pub fn progress(&self, id: MsgId) -> Progress
         ensures { result ≡ progress (about id self.now.past) }
     {
-        message_in(&self.tables.messages, id).progress
+        progress_in(&self.tables.messages, id)
     }
 
     /// The post that the message is, or is a copy of, without its body.
     pub fn post_of(&self, id: MsgId) -> Option<Posting>
         ensures { result ≡ in_brief (post_of id self.now.past) }
     {
-        message_in(&self.tables.messages, source(id)).post
+        post_in(&self.tables.messages, source(id))
     }
 
     /// The tag of the message, which its copies share; Plain where it is not posted.

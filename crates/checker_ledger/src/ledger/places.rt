@@ -1,17 +1,16 @@
 //! What a place knows.
 
-ghost use Rattle.std.specs.Prelude.{◌≡◌, ◌<◌, ◌^◌};
+ghost use Rattle.std.specs.Prelude.{◌≡◌, ◌<◌, ◌^◌, is_some, true};
 ghost use Rattle.chorus_world.specs.Groups.{groups_made};
 ghost use Rattle.chorus_world.specs.Places.{last_clock, ports_made, just_taken, sent, find_sent, unsettled, first_for, is_tried, is_first, located};
 ghost use Rattle.chorus_world.specs.Views.{at};
 
 use crate::ledger::Ledger;
-use checker_rows::keys::{Line, MessageAt, NameAt};
+use checker_rows::keys::{Line, NameAt};
 use checker_rows::lines::{End, first_open};
 use checker_rows::locations::location_in;
-use checker_rows::marks::mark_in;
+use checker_rows::messages::{is_tried_in, sent_in};
 use checker_rows::places::place_in;
-use checker_rows::sends::sent_in;
 use chorus_entry::{MsgId, Tag};
 use chorus_ui::Ui;
 use chorus_world::{Location, Sent, TakenReply};
@@ -70,14 +69,16 @@ impl Ledger {
     fn find_sent(&self, place: u16, id: MsgId) -> Option<Sent>
         ensures { result ≡ find_sent id (sent (at place self.now.past)) }
     {
-        sent_in(&self.tables.sends, MessageAt { place, id })
+        sent_in(&self.tables.messages, place, id)
     }
 
-    /// Whether a try of the message stands at the place that was not told yet.
+    /// Whether a try of the message stands at the place, which sent it, that was not told yet.
     fn is_tried(&self, place: u16, id: MsgId) -> bool
+        requires { is_some (find_sent id (sent (at place self.now.past))) ≡ true }
         ensures { result ≡ is_tried id (at place self.now.past) }
     {
-        mark_in(&self.tables.marks, MessageAt { place, id }).tried
+        // The place is for the contract alone.
+        is_tried_in(&self.tables.messages, id)
     }
 
     /// The first message that was sent from the place to the port by the route and is not settled there.
@@ -91,8 +92,12 @@ impl Ledger {
             name: port,
             route,
         };
-        let end = End::Settled;
-        first_open(&self.tables.lines, &self.tables.marks, &line, place, end)
+        first_open(
+            &self.tables.lines,
+            &self.tables.messages,
+            &line,
+            End::Settled,
+        )
     }
 
     /// Whether the message is the next to go from the place to the port: it was sent there, it is the first unsettled one

@@ -50,5 +50,5 @@ invariant_of-self-2 c =
     let f = same_rows l past c.self.inside.tables r c.in_ok-make_room.ensures.rows c.self.invariant.1 in
     let g : Follows l (e ∷ past) u = grown l past e c.len-index.result r t u index c.self.invariant.0 f c.in_ok-grow_lists.ensures.ok c.grow_rows.ensures in (
       legal_grows l es c.push_reserved.new.self.items e c.self.invariant.0 may_come items,
-      subst (λ p. Follows l p c.shorten.new.self) (sym (ap reverse items ∙ reverse-append es (e ∷ []))) (c.shorten.ensures (e ∷ past) g),
+      subst (λ p. Follows l p c.shorten.new.self) (sym (ap reverse items ∙ reverse-append es (e ∷ []))) (c.shorten.ensures l (e ∷ past) g),
     )
