@@ -181,6 +181,23 @@ module _ (c : Scene) where
       by false true e = refl
       by x false e = absurd (false≢true e)
 
+  -- where no packet waits to go from a place no delivery from there may come
+  pub idle-comes : (s : Stage) → IsReached c s → (a b : ℕ) → ((to : ℕ) → has_place c.layout to ≡ true → first_on a to (net s.sites).packets ≡ None)
+      → may_come (race_of c).net.layout (Carry a b) (position c (moves_of s)) ≡ false
+  idle-comes s h a b idle = by (are_linked (race_of c).net.layout a b) refl
+    where
+      p : Position
+      p = position c (moves_of s)
+
+      by : (x : Bool) → are_linked (race_of c).net.layout a b ≡ x → is_ready_by (cond x (Some (Deliver 0 a b)) None) (position c (moves_of s)).net ≡ false
+      by false e = refl
+      by true e =
+          let l = (race_of c).net.layout in
+          let two = and_parts (has_place l a) (has_place l b) (and_parts (has_place l a && has_place l b) (not (a == b)) e).0 in
+          let none = idle b (ap (λ (m : Layout). has_place m b) (sym (race-layout c)) ∙ two.1) in
+          ap (λ x. x && is_some (first_on a b p.net.packets)) (first-at c (moves_of s) h.history)
+          ∙ ap (λ (n : NetState). is_some (first_on a b n.packets)) (sym h.at.net) ∙ ap is_some none
+
   -- what is left of a script is behind its progress
   pub left-is : (s : Stage) → IsReached c s → (i : ℕ) (script : Script) (p : Progress) → slice_get c.scripts i ≡ Some script → slice_get s.scripts.items i ≡ Some p
       → next_of (slice_get (position c (moves_of s)).left i) ≡ slice_get script.commands p.next
@@ -235,6 +252,12 @@ module _ (c : Scene) where
 
     pub none-comes : (m : Move) → may_come (race_of c).net.layout m p ≡ false → coming c taken before p (m ∷ []) ≡ []
     none-comes m h = ap (λ b. map (candidate_behind taken before p) (cond b (m ∷ []) [])) h
+
+    -- from an idle place none come
+    pub idle-links : (a : ℕ) (bs : List ℕ) → ((b : ℕ) → may_come (race_of c).net.layout (Carry a b) p ≡ false) → coming c taken before p (links_to a bs) ≡ []
+    idle-links a [] none = refl
+    idle-links a (b ∷ bs) none =
+        coming-append (Carry a b ∷ []) (links_to a bs) ∙ ap₂ (λ xs ys. xs ++ ys) (none-comes (Carry a b) (none b)) (idle-links a bs none)
 
   links-to-append : (a : ℕ) (xs ys : List ℕ) → links_to a (xs ++ ys) ≡ links_to a xs ++ links_to a ys
   links-to-append a [] ys = refl

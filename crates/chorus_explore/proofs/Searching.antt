@@ -1,6 +1,6 @@
 -- What the search keeps, as a move is taken, a history is come to, and a level is gone from.
 -- c is a scenario, most is how many events may be carried out, s is the search before, t behind it; e is what it came to.
-use Rattle.std.proofs.Common.{ℕ, suc, ◌≡◌, ◌+◌, ◌^◌, ◌<◌, ◌≤◌, true, false, List, [], ◌∷◌, ◌++◌, length, drop, reverse, get_or, option_to_list, Option, Some, None, IfSome, IsSome, ◌↔◌, refl, sym, ◌∙◌, ap, subst, arith}
+use Rattle.std.proofs.Common.{ℕ, suc, ◌≡◌, ◌+◌, ◌^◌, ◌<◌, ◌≤◌, true, false, List, [], ◌∷◌, ◌++◌, length, drop, reverse, get_or, option_to_list, Option, Some, None, IfSome, IsSome, Result, Ok, ◌↔◌, refl, sym, ◌∙◌, ap, subst, arith}
 use Rattle.std.specs.List.{All}
 use Rattle.std.proofs.lemmas.Bool.{false≢true}
 use Rattle.std.proofs.lemmas.List.{length-reverse, length_push}
@@ -20,7 +20,7 @@ use Rattle.chorus_explore.specs.Candidates.{candidate_at, candidates_at}
 use Rattle.chorus_explore.specs.Findings.{AreFindings, Counts, HaveSums, MayCount}
 use Rattle.chorus_explore.specs.Levels.{awake, unseen, AreLevels, AreFoundOrPending, IsComing, Advances, IsDone}
 use Rattle.chorus_explore.specs.Searches.{HasFound, IsOver, IsSearch, IsTaking, HasCome, IsBehind, levels_of, path_of}
-use Rattle.chorus_explore.specs.Stages.{IsReached, comes, may_go, moves_of}
+use Rattle.chorus_explore.specs.Stages.{AreFresh, IsReached, comes, may_go, moves_of}
 use Rattle.chorus_explore.proofs.Counting.{count-most}
 use Rattle.chorus_explore.proofs.Going.{found-whole, coming-whole, all-found, listed, pop-drop, push-first}
 use Rattle.chorus_explore.proofs.Pending.{begins, takes, gone, ends, deeper}
@@ -77,8 +77,8 @@ module _ (c : Scene) (most : ℕ) where
   over-cut e h = is-cut h.found e h.has h.whole
 
   -- the deepest level is gone from
-  pub turns-back : (s t : Search) → IsSearch c most s → IsDone (levels_of s) → levels_of t ≡ drop 1 (levels_of s) → path_of t ≡ drop 1 (path_of s) → t.explored ≡ s.explored → t.stage ≡ None → IsSearch c most t
-  turns-back s t h done levels path explored stage = record {
+  pub turns-back : (s t : Search) → IsSearch c most s → IsDone (levels_of s) → levels_of t ≡ drop 1 (levels_of s) → path_of t ≡ drop 1 (path_of s) → t.explored ≡ s.explored → t.stage ≡ None → AreFresh c t.sites → IsSearch c most t
+  turns-back s t h done levels path explored stage sites = record {
     found = h.found;
     has = subst (HasFound c most h.found) (sym explored) h.has;
     levels = subst (λ ls. AreLevels (race_of c) ls (path_of t)) (sym levels) (subst (AreLevels (race_of c) (drop 1 (levels_of s))) (sym path) (levels-rest (race_of c) (levels_of s) (path_of s) h.levels));
@@ -86,6 +86,7 @@ module _ (c : Scene) (most : ℕ) where
         (subst (AreFoundOrPending (race_of c) h.found (drop 1 (levels_of s))) (sym path) (pending-rest (race_of c) h.found (levels_of s) (path_of s) h.whole done));
     history = subst (IsHistory (replaying (race_of c))) (sym path) (history-rest (race_of c) (path_of s) h.history);
     stage = subst (λ o. IfSome o (λ stage. IsReached c stage × (stage.moves.items ≡ t.moves.items))) (sym stage) tt;
+    sites = sites;
     few_moves = (
         let a = moves-length s in
         let b = moves-length t in
@@ -98,7 +99,7 @@ module _ (c : Scene) (most : ℕ) where
 
   -- A move is taken.
 
-  module _ (s t : Search) (taken : Candidate) (h : IsSearch c most s) (explored : t.explored ≡ s.explored) (moves : t.moves ≡ s.moves) (stage : t.stage ≡ s.stage)
+  module _ (s t : Search) (taken : Candidate) (h : IsSearch c most s) (explored : t.explored ≡ s.explored) (moves : t.moves ≡ s.moves) (stage : t.stage ≡ s.stage) (sites : t.sites ≡ s.sites)
       (events : s.explored.events < most) (few : length s.moves.items < MOVES_LIMIT) where
     path : path_of t ≡ path_of s
     path = ap (λ v. reverse v.items) moves
@@ -126,6 +127,7 @@ module _ (c : Scene) (most : ℕ) where
           may = ap (λ ps. may_go c taken.mv ps) path ∙ l.may;
           history = subst (IsHistory (replaying (race_of c))) (sym path) h.history;
           stage = subst (λ o. IfSome o (λ z. IsReached c z × (z.moves.items ≡ t.moves.items))) (sym stage) (subst (λ v. IfSome s.stage (λ z. IsReached c z × (z.moves.items ≡ v.items))) (sym moves) h.stage);
+          sites = subst (AreFresh c) (sym sites) h.sites;
           few_moves = (let l = ap (λ v. length v.items) moves in omega (arith, l, few));
           few_events = (let l = ap (λ (e : Explored). e.events) explored in omega (arith, l, events));
           uncut = ap (λ (e : Explored). e.is_cut) explored ∙ h.uncut;
@@ -145,8 +147,8 @@ module _ (c : Scene) (most : ℕ) where
 
   pub has-come : (taken : Candidate) (s t : Search) (stage : Stage) (candidates : List Candidate) → IsTaking c most taken s → IsReached c stage → stage.moves.items ≡ s.moves.items ++ taken.mv ∷ []
       → candidates ≡ candidates_at (race_of c) (moves_of stage) → t.moves.items ≡ s.moves.items ++ taken.mv ∷ [] → t.levels ≡ s.levels
-      → t.explored ≡ record s.explored { events = s.explored.events + 1 } → HasCome c most stage candidates t
-  has-come taken s t stage candidates h reached to are moves levels explored =
+      → t.explored ≡ record s.explored { events = s.explored.events + 1 } → AreFresh c t.sites → HasCome c most stage candidates t
+  has-come taken s t stage candidates h reached to are moves levels explored sites =
       let e = s.explored in
       let path : path_of t ≡ taken.mv ∷ path_of s = ap reverse moves ∙ push-first s.moves.items taken.mv in
       let same : levels_of t ≡ levels_of s = ap (λ v. reverse v.items) levels in
@@ -169,6 +171,7 @@ module _ (c : Scene) (most : ℕ) where
         coming = subst (λ xs. IsComing (race_of c) h.found xs (path_of t)) (sym same) (subst (IsComing (race_of c) h.found (levels_of s)) (sym path) h.coming);
         reached = reached;
         moves = to ∙ sym moves;
+        sites = sites;
         candidates_are = are ∙ ap (λ (xs : List Move). candidates_at (race_of c) (reverse xs)) (to ∙ sym moves);
         few_moves = (let n = ap length moves ∙ length_push s.moves.items taken.mv in let k = h.few_moves in omega (arith, n, k));
         uncut = ap (λ (z : Explored). z.is_cut) explored ∙ h.uncut;
@@ -179,8 +182,8 @@ module _ (c : Scene) (most : ℕ) where
   module _ (s t : Search) (stage : Stage) (candidates : List Candidate) (h : HasCome c most stage candidates s) where
     pub counts-leaf : (text : List ℕ) → candidates ≡ [] → text ≡ comes c (moves_of stage) → Counts text (reverse s.moves.items) s.explored.findings.items.items t.explored.findings.items.items
         → HaveSums t.explored.findings.items.items → t.explored.histories ≡ s.explored.histories + 1 → t.explored.events ≡ s.explored.events → t.explored.is_cut ≡ s.explored.is_cut
-        → t.levels ≡ s.levels → path_of t ≡ drop 1 (path_of s) → t.stage ≡ None → IsSearch c most t
-    counts-leaf text none is counts sums histories events cut levels path gone-stage =
+        → t.levels ≡ s.levels → path_of t ≡ drop 1 (path_of s) → t.stage ≡ None → AreFresh c t.sites → IsSearch c most t
+    counts-leaf text none is counts sums histories events cut levels path gone-stage sites =
         let r = race_of c in
         let same : levels_of t ≡ levels_of s = ap (λ v. reverse v.items) levels in
         let to : moves_of stage ≡ path_of s = ap reverse h.moves in
@@ -203,13 +206,14 @@ module _ (c : Scene) (most : ℕ) where
               (ends r h.found (levels_of s) (path_of s) h.coming (sym h.candidates_are ∙ none) (omega (arith, height, few, long))));
           history = subst (IsHistory (replaying (race_of c))) (sym path) (history-rest r (path_of s) (subst (IsHistory (replaying (race_of c))) to h.reached.history));
           stage = subst (λ o. IfSome o (λ z. IsReached c z × (z.moves.items ≡ t.moves.items))) (sym gone-stage) tt;
+          sites = sites;
           few_moves = (let a = moves-length t in let l = ap length path in let le = shorter (path_of s) in omega (arith, a, l, le, few, long));
           uncut = cut ∙ h.uncut;
         }
 
     pub goes-deeper : (level : Level) (first : Candidate) (rest : List Candidate) → candidates ≡ first ∷ rest → level.candidates.items ≡ candidates → level.seen ≡ 0 → levels_of t ≡ level ∷ levels_of s
-        → t.explored ≡ s.explored → t.moves ≡ s.moves → t.stage ≡ Some stage → IsSearch c most t
-    goes-deeper level first rest some are seen levels explored moves new-stage =
+        → t.explored ≡ s.explored → t.moves ≡ s.moves → t.stage ≡ Some stage → t.sites ≡ s.sites → IsSearch c most t
+    goes-deeper level first rest some are seen levels explored moves new-stage sites =
         let r = race_of c in
         let path : path_of t ≡ path_of s = ap (λ v. reverse v.items) moves in
         let to : moves_of stage ≡ path_of s = ap reverse h.moves in
@@ -226,6 +230,7 @@ module _ (c : Scene) (most : ℕ) where
               (deeper r h.found level (levels_of s) (path_of s) first rest h.coming (are ∙ h.candidates_are) (are ∙ some) seen (omega (arith, height, few, long))));
           history = subst (IsHistory (replaying (race_of c))) (to ∙ sym path) h.reached.history;
           stage = subst (λ o. IfSome o (λ z. IsReached c z × (z.moves.items ≡ t.moves.items))) (sym new-stage) (h.reached, h.moves ∙ ap (λ v. v.items) (sym moves));
+          sites = subst (AreFresh c) (sym sites) h.sites;
           few_moves = (let l = ap (λ v. length v.items) moves in omega (arith, l, few));
           uncut = ap (λ (e : Explored). e.is_cut) explored ∙ h.uncut;
         }
@@ -244,8 +249,8 @@ module _ (c : Scene) (most : ℕ) where
 
   -- Nothing was found yet.
   pub has-begun : (s : Search) (stage : Stage) (candidates : List Candidate) → s.explored.findings.items.items ≡ [] → s.explored.histories ≡ 0 → s.explored.events ≡ 0 → s.explored.is_cut ≡ false
-      → s.levels.items ≡ [] → s.moves.items ≡ [] → IsReached c stage → stage.moves.items ≡ [] → candidates ≡ candidates_at (race_of c) [] → HasCome c most stage candidates s
-  has-begun s stage candidates findings histories events cut levels moves reached none are =
+      → s.levels.items ≡ [] → s.moves.items ≡ [] → IsReached c stage → stage.moves.items ≡ [] → candidates ≡ candidates_at (race_of c) [] → AreFresh c s.sites → HasCome c most stage candidates s
+  has-begun s stage candidates findings histories events cut levels moves reached none are sites =
       let path : path_of s ≡ [] = ap reverse moves in
       let no_levels : levels_of s ≡ [] = ap reverse levels in
       record {
@@ -263,6 +268,7 @@ module _ (c : Scene) (most : ℕ) where
         coming = subst (λ ls. IsComing (race_of c) [] ls (path_of s)) (sym no_levels) (subst (IsComing (race_of c) [] []) (sym path) (begins (race_of c)));
         reached = reached;
         moves = none ∙ sym moves;
+        sites = sites;
         candidates_are = are ∙ ap (candidates_at (race_of c)) (sym path);
         few_moves = (let l = ap length moves in omega (arith, l));
         uncut = cut;
@@ -279,3 +285,6 @@ popped {X = X} xs ys o e v = pop-drop xs ys o e (λ none. by xs (λ lt. false≢
     by : (zs : List X) → (0 < length zs → ⊥) → zs ≡ []
     by [] h = refl
     by (z ∷ zs) h = absurd (h (omega arith))
+
+pub ok-same : {T E : Type 0} (x y : T) → ◌≡◌ {A = Result T E} (Ok x) (Ok y) → x ≡ y
+ok-same x y e = cc

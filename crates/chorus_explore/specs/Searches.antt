@@ -16,7 +16,7 @@ use Rattle.chorus_explore.specs.declared.stage.Stage.{Stage}
 use Rattle.chorus_explore.specs.Candidates.{candidate_at, candidates_at}
 use Rattle.chorus_explore.specs.Findings.{AreFindings, HaveSums}
 use Rattle.chorus_explore.specs.Levels.{AreLevels, AreFoundOrPending, IsComing}
-use Rattle.chorus_explore.specs.Stages.{IsReached, comes, may_go}
+use Rattle.chorus_explore.specs.Stages.{AreFresh, IsReached, comes, may_go}
 
 -- these histories were found, so many, by no more events than were allowed
 pub record HasFound (c : Scene) (most : ℕ) (found : List (List Move)) (e : Explored) : Type 0 where
@@ -44,6 +44,10 @@ path_of s = reverse s.moves.items
 abbrev pub HasStage : Scene → Search → Type 0
 HasStage c s = IfSome s.stage (λ stage. IsReached c stage × (stage.moves.items ≡ s.moves.items))
 
+-- its sites stay such on which nothing happened
+abbrev pub KeepsSites : Scene → Search → Search → Type 0
+KeepsSites c old new = HasStage c old → AreFresh c old.sites → AreFresh c new.sites
+
 -- what the search keeps
 pub record IsSearch (c : Scene) (most : ℕ) (s : Search) : Type 0 where
   pub found : List (List Move)
@@ -52,6 +56,7 @@ pub record IsSearch (c : Scene) (most : ℕ) (s : Search) : Type 0 where
   pub whole : AreFoundOrPending (race_of c) found (levels_of s) (path_of s)
   pub history : IsHistory (replaying (race_of c)) (path_of s)
   pub stage : HasStage c s
+  pub sites : AreFresh c s.sites
   pub few_moves : length s.moves.items ≤ MOVES_LIMIT
   pub uncut : s.explored.is_cut ≡ false
 
@@ -67,6 +72,7 @@ pub record IsTaking (c : Scene) (most : ℕ) (taken : Candidate) (s : Search) : 
   pub may : may_go c taken.mv (path_of s) ≡ true
   pub history : IsHistory (replaying (race_of c)) (path_of s)
   pub stage : HasStage c s
+  pub sites : AreFresh c s.sites
   pub few_moves : length s.moves.items < MOVES_LIMIT
   pub few_events : s.explored.events < most
   pub uncut : s.explored.is_cut ≡ false
@@ -81,6 +87,7 @@ pub record HasCome (c : Scene) (most : ℕ) (stage : Stage) (candidates : List C
   pub coming : IsComing (race_of c) found (levels_of s) (path_of s)
   pub reached : IsReached c stage
   pub moves : stage.moves.items ≡ s.moves.items
+  pub sites : AreFresh c s.sites
   pub candidates_are : candidates ≡ candidates_at (race_of c) (path_of s)
   pub few_moves : length s.moves.items ≤ MOVES_LIMIT
   pub uncut : s.explored.is_cut ≡ false

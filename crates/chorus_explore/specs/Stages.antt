@@ -1,13 +1,14 @@
 -- How far the sites and the scripts are behind moves.
 -- c is a scenario, ms are moves, the latest first, k is the number of a script, told are the acts that answered, the
 -- latest first.
-use Rattle.std.specs.Prelude.{ℕ, ◌≡◌, ◌≤◌, ◌+◌, ◌⊎◌, Bool, List, [], ◌∷◌, length, map, drop, reverse, Some, slice_get}
+use Rattle.std.specs.Prelude.{ℕ, ◌≡◌, ◌≤◌, ◌+◌, ◌⊎◌, Bool, List, [], ◌∷◌, length, map, drop, reverse, Option, Some, IfSome, slice_get}
 use Rattle.std.specs.List.{flat_map, filter, filter_map}
 use Rattle.chorus_ui.specs.declared.limits.TheConstants.{CLOCK_LIMIT}
 use Rattle.chorus_entry.specs.declared.act.Act as acts
 use Rattle.chorus_entry.specs.declared.command.Command.{Command}
 use Rattle.chorus_entry.specs.declared.entry.Entry.{Entry}
 use Rattle.chorus_entry.specs.Places.{place_for}
+use Rattle.law_network.specs.Calls.{just_started}
 use Rattle.law_network.specs.Network.{NetState, Event}
 use Rattle.law_explore.specs.declared.moves.Move.{Move}
 use Rattle.law_explore.specs.Search.{IsHistory, state_after}
@@ -15,7 +16,7 @@ use Rattle.law_explore.specs.Races.{Position, event_of, seat_0, next_of, place_o
 use Rattle.law_explore.specs.Outcome.{post_in, answers_from, outcome_after}
 use Rattle.law_schedule.specs.Shown.{race_of}
 use Rattle.chorus_scene.specs.Scene.{Scene, Script}
-use Rattle.chorus_net.specs.Sites.{net}
+use Rattle.chorus_net.specs.Sites.{SitesState, net}
 use Rattle.chorus_net.specs.Worn.{compared_by}
 use Rattle.chorus_replay.specs.Performing.{IsWornAt}
 use Rattle.chorus_explore.specs.declared.candidates.Candidate.{Candidate}
@@ -74,6 +75,10 @@ candidate_behind taken before s m =
 abbrev pub coming : Scene → Candidate → List Candidate → Position → List Move → List Candidate
 coming c taken before s ms =
     map (candidate_behind taken before s) (filter (λ (m : Move). may_come (race_of c).net.layout m s) ms)
+
+-- sites on which nothing happened, if there are some
+abbrev pub AreFresh : Scene → Option SitesState → Type 0
+AreFresh c sites = IfSome sites (λ s. net s ≡ just_started c.layout)
 
 -- a clock is worn in the setup, or behind a history, by a move that may come there
 pub record WearsBehind (c : Scene) (clock : ℕ) : Type 0 where

@@ -9,13 +9,14 @@ ghost use Rattle.law_schedule.specs.Shown.{race_of};
 ghost use Rattle.chorus_explore.specs.Candidates.{candidates_at};
 ghost use Rattle.chorus_explore.specs.Findings.{MayCount};
 ghost use Rattle.chorus_explore.specs.Levels.{Advances, HaveSeen, IsDone};
-ghost use Rattle.chorus_explore.specs.Searches.{HasCome, HasStage, IsBehind, IsOver, IsSearch, IsTaking, LeadsThere, levels_of, path_of};
-ghost use Rattle.chorus_explore.specs.Stages.{IsReached, MayWear, moves_of};
+ghost use Rattle.chorus_explore.specs.Searches.{HasCome, HasStage, IsBehind, IsOver, IsSearch, IsTaking, KeepsSites, LeadsThere, levels_of, path_of};
+ghost use Rattle.chorus_explore.specs.Stages.{AreFresh, IsReached, MayWear, moves_of};
 
 use crate::candidates::{Candidate, NO_CANDIDATE};
 use crate::findings::Findings;
 use crate::levels::{Level, MOVES_LIMIT};
 use crate::stage::Stage;
+use chorus_net::Sites;
 use chorus_place::PlaceFault;
 use chorus_scene::Scenario;
 use law_explore::Move;
@@ -41,6 +42,8 @@ struct Search {
     moves: Vec<Move>,
     /// The sites there. None behind a turn back.
     stage: Option<Stage>,
+    /// Sites on which nothing happened, for the next stage.
+    sites: Option<Sites>,
 }
 
 /// Goes over the schedules of the scenario, those in normal form, and carries out so many events at most.
@@ -77,8 +80,9 @@ impl Search {
             levels: Vec::new(alloc),
             moves: Vec::new(alloc),
             stage: None,
+            sites: None,
         };
-        let mut stage = Stage::begin(alloc, scenario)?;
+        let mut stage = Stage::begin(alloc, scenario, None)?;
         let candidates = stage.candidates(alloc, scenario, NO_CANDIDATE, &[])?;
         search.come_to(alloc, stage, candidates)?;
         Ok(search)
@@ -94,7 +98,7 @@ impl Search {
             MayWear scenario.now clock }
     {
         let Some(candidate) = self.advance() else {
-            return Ok(self.turn_back());
+            return Ok(self.turn_back(alloc)?);
         };
         if self.explored.events >= most || self.moves.len() >= MOVES_LIMIT {
             self.explored.is_cut = true;
@@ -111,7 +115,8 @@ impl Search {
         ensures height { length self.new.levels.items ≡ length self.old.levels.items }
         ensures below { drop 1 (levels_of self.new) ≡ drop 1 (levels_of self.old) }
         ensures kept { (self.new.explored ≡ self.old.explored)
-            × (self.new.moves ≡ self.old.moves) × (self.new.stage ≡ self.old.stage) }
+            × (self.new.moves ≡ self.old.moves) × (self.new.stage ≡ self.old.stage)
+            × (self.new.sites ≡ self.old.sites) }
     {
         let count = self.levels.len();
         if count == 0 {
@@ -121,18 +126,32 @@ impl Search {
     }
 
     /// The deepest level is gone from, and the move to it. False where there was none.
-    fn turn_back(&mut self) -> bool
-        ensures gone { result ≡ true → (levels_of self.new ≡ drop 1 (levels_of self.old))
+    fn turn_back(&mut self, alloc: Global) -> Result<bool, AllocError>
+        ensures gone { result ≡ Ok true → (levels_of self.new ≡ drop 1 (levels_of self.old))
             × (path_of self.new ≡ drop 1 (path_of self.old)) }
-        ensures none { result ≡ false → self.old.levels.items ≡ [] }
-        ensures some { result ≡ true → self.old.levels.items ≢ [] }
-        ensures stage { self.new.stage ≡ None }
+        ensures none { result ≡ Ok false → self.old.levels.items ≡ [] }
+        ensures some { result ≡ Ok true → self.old.levels.items ≢ [] }
+        ensures stage { OnOk result (self.new.stage ≡ None) }
+        ensures sites { OnOk result ((c : Scene) → KeepsSites c self.old self.new) }
         ensures kept { self.new.explored ≡ self.old.explored }
     {
-        self.stage = None;
+        self.leave_stage(alloc)?;
         let had_level = self.levels.pop().is_some();
         let _ = self.moves.pop();
-        had_level
+        Ok(had_level)
+    }
+
+    /// The stage is left, and its sites are started again.
+    fn leave_stage(&mut self, alloc: Global) -> Result<(), AllocError>
+        ensures stage { OnOk result (self.new.stage ≡ None) }
+        ensures sites { OnOk result ((c : Scene) → KeepsSites c self.old self.new) }
+        ensures kept { (self.new.explored ≡ self.old.explored)
+            × (self.new.levels ≡ self.old.levels) × (self.new.moves ≡ self.old.moves) }
+    {
+        if let Some(stage) = self.stage.take() {
+            self.sites = Some(stage.restarted(alloc)?);
+        }
+        Ok(())
     }
 
     /// Takes the move of the deepest level. False where a limit was met.
@@ -174,16 +193,18 @@ impl Search {
     ) -> Result<Option<Stage>, PlaceFault>
         requires stage { HasStage scenario.now self.old }
         requires history { IsHistory (replaying (race_of scenario.now)) (path_of self.old) }
+        requires sites { AreFresh scenario.now self.old.sites }
         ensures there { IfOk result (λ there. LeadsThere scenario.now self.old.moves.items there) }
         ensures worn { (clock : ℕ) → IsErrOf result (PlaceFault.Worn clock) →
             MayWear scenario.now clock }
         ensures kept { (self.new.explored ≡ self.old.explored)
             × (self.new.levels ≡ self.old.levels) × (self.new.moves ≡ self.old.moves) }
         ensures taken { self.new.stage ≡ None }
+        ensures sites { AreFresh scenario.now self.new.sites }
     {
         match self.stage.take() {
             Some(stage) => Ok(Some(stage)),
-            None => again(alloc, scenario, &self.moves),
+            None => again(alloc, scenario, &self.moves, self.sites.take()),
         }
     }
 
@@ -221,7 +242,8 @@ impl Search {
             HasCome c most stage candidates.items self.old → IsSearch c most self.new) }
     {
         if candidates.is_empty() {
-            let text = stage.outcome(alloc)?;
+            let (text, sites) = stage.outcome(alloc)?;
+            self.sites = Some(sites);
             self.explored.findings.add(alloc, text, &self.moves)?;
             self.explored.histories += 1;
             let _ = self.moves.pop();
@@ -238,13 +260,19 @@ impl Search {
 }
 
 /// The stage behind the moves, from the start on. None where a caller has posted all the messages that it may.
-fn again(alloc: Global, scenario: &Scenario, moves: &[Move]) -> Result<Option<Stage>, PlaceFault>
-    requires { IsHistory (replaying (race_of scenario.now)) (reverse moves.now) }
+fn again(
+    alloc: Global,
+    scenario: &Scenario,
+    moves: &[Move],
+    fresh: Option<Sites>,
+) -> Result<Option<Stage>, PlaceFault>
+    requires history { IsHistory (replaying (race_of scenario.now)) (reverse moves.now) }
+    requires fresh { AreFresh scenario.now fresh }
     ensures there { IfOk result (λ there. LeadsThere scenario.now moves.now there) }
     ensures worn { (clock : ℕ) → IsErrOf result (PlaceFault.Worn clock) →
         MayWear scenario.now clock }
 {
-    let mut stage = Stage::begin(alloc, scenario)?;
+    let mut stage = Stage::begin(alloc, scenario, fresh)?;
     for mv in moves {
         if !stage.go(scenario, *mv)? {
             return Ok(None);

@@ -19,7 +19,7 @@ ghost use Rattle.chorus_net.specs.Sites.{net};
 ghost use Rattle.chorus_net.specs.Worn.{compared_by};
 ghost use Rattle.chorus_ui.specs.declared.limits.TheConstants.{CLOCK_LIMIT};
 ghost use Rattle.chorus_explore.specs.Facts.{fact_line};
-ghost use Rattle.chorus_explore.specs.Stages.{AreAt, AreProgress, IsNext, IsOfScript, IsPlaceFor, IsReached, MayWear, candidate_behind, comes, coming, may_go, moves_of, position, posted_lines};
+ghost use Rattle.chorus_explore.specs.Stages.{AreAt, AreFresh, AreProgress, IsNext, IsOfScript, IsPlaceFor, IsReached, MayWear, candidate_behind, comes, coming, may_go, moves_of, position, posted_lines};
 
 use crate::candidates::{Candidate, sleeps};
 use crate::facts::push_answered;
@@ -29,8 +29,17 @@ use chorus_net::Sites;
 use chorus_place::PlaceFault;
 use chorus_replay::{enter, set_up};
 use chorus_scene::Scenario;
+use chorus_ui::Layout;
 use law_explore::Move;
 use std::alloc::{AllocError, Global};
+
+/// For so many bytes of an outcome, of the answers of a script, and for so many messages that it posts there is room at once; where
+/// there are more, room is taken.
+const OUTCOME_ROOM: usize = 1024;
+
+const ANSWERS_ROOM: usize = 256;
+
+const POSTS_ROOM: usize = 8;
 
 /// How far a script is.
 #[derive(Debug, Drop)]
@@ -72,14 +81,19 @@ pub(crate) struct Stage {
 }
 
 impl Stage {
-    /// The sites when all callers have entered.
-    pub(crate) fn begin(alloc: Global, scenario: &Scenario) -> Result<Stage, PlaceFault>
+    /// The sites when all callers have entered: those that are given, on which nothing happened, or else sites that are started.
+    pub(crate) fn begin(
+        alloc: Global,
+        scenario: &Scenario,
+        fresh: Option<Sites>,
+    ) -> Result<Stage, PlaceFault>
+        requires { AreFresh scenario.now fresh }
         ensures ok { IfOk result (λ stage. IsReached scenario.now stage
             × (stage.moves.items ≡ [])) }
         ensures worn { (clock : ℕ) → IsErrOf result (PlaceFault.Worn clock) →
             MayWear scenario.now clock }
     {
-        let sites = Sites::start(alloc, scenario.layout())?;
+        let sites = fresh_sites(alloc, scenario.layout(), fresh)?;
         let sites = entered(sites, scenario)?;
         let scripts = no_progress(alloc, scenario)?;
         let moves = Vec::new(alloc);
@@ -200,20 +214,27 @@ impl Stage {
         Ok(candidates)
     }
 
-    /// Closes the sites, and gives the lines of what the moves came to.
-    pub(crate) fn outcome(self, alloc: Global) -> Result<Vec<u8>, AllocError>
-        ensures { (c : Scene) → IsReached c self →
-            IfOk result (λ text. text.items ≡ comes c (moves_of self)) }
+    /// Gives the lines of what the moves came to, and the sites, started again.
+    pub(crate) fn outcome(self, alloc: Global) -> Result<(Vec<u8>, Sites), AllocError>
+        ensures text { (c : Scene) → IsReached c self →
+            IfOk result (λ r. r.0.items ≡ comes c (moves_of self)) }
+        ensures sites { (c : Scene) → IsReached c self →
+            IfOk result (λ r. AreFresh c (Some r.1)) }
     {
-        let closed = match self.sites.close(alloc) {
-            Ok(closed) => closed,
-            Err((_, error)) => return Err(error),
-        };
-        let mut text = Vec::new(alloc);
+        let (closed, sites) = self.sites.restart(alloc)?;
+        let mut text = Vec::with_capacity(alloc, OUTCOME_ROOM)?;
         push_answers(&self.scripts, &mut text)?;
         push_posts(&self.scripts, &closed.journals, &mut text)?;
         push_all_ports(&closed.journals, &closed.ports, &mut text)?;
-        Ok(text)
+        Ok((text, sites))
+    }
+
+    /// The sites, started again.
+    pub(crate) fn restarted(self, alloc: Global) -> Result<Sites, AllocError>
+        ensures { (c : Scene) → IsReached c self → IfOk result (λ s. AreFresh c (Some s)) }
+    {
+        let (_, sites) = self.sites.restart(alloc)?;
+        Ok(sites)
     }
 
     /// Adds the next command of each script that has one left.
@@ -314,6 +335,9 @@ impl Stage {
             ++ coming scenario.now taken before.now (position scenario.now (moves_of self.old))
             (links_to from (place_numbers scenario.now.layout))) }
     {
+        if self.sites.is_idle(from) {
+            return Ok(());
+        }
         for index in 0..scenario.layout().places() {
             self.add_link(scenario, from, index + 1, taken, before, candidates)?;
         }
@@ -408,6 +432,17 @@ fn push_posts(
     Ok(())
 }
 
+/// Sites on which nothing happened: those that are given, or else sites that are started.
+fn fresh_sites(alloc: Global, layout: Layout, fresh: Option<Sites>) -> Result<Sites, AllocError>
+    requires { IfSome fresh (λ s. net s ≡ just_started layout) }
+    ensures { IfOk result (λ s. net s ≡ just_started layout) }
+{
+    match fresh {
+        Some(sites) => Ok(sites),
+        None => Sites::start(alloc, layout),
+    }
+}
+
 /// The sites, which were just started, when the setup is done and all callers have entered.
 fn entered(mut sites: Sites, scenario: &Scenario) -> Result<Sites, PlaceFault>
     requires start { net sites ≡ just_started scenario.now.layout }
@@ -432,8 +467,8 @@ fn no_progress(alloc: Global, scenario: &Scenario) -> Result<Vec<Progress>, Allo
         scripts.reserve(1)?;
         scripts.push_reserved(Progress {
             next: 0,
-            answers: Vec::new(alloc),
-            posts: Vec::new(alloc),
+            answers: Vec::with_capacity(alloc, ANSWERS_ROOM)?,
+            posts: Vec::with_capacity(alloc, POSTS_ROOM)?,
         });
     }
     Ok(scripts)

@@ -4,7 +4,7 @@
 use crate::running::{assert_same, told};
 
 /// Scenarios, each with how its text begins, and with the line of its outcomes.
-const COUNTS: [(&str, &str, &str); 8] = [
+const COUNTS: [(&str, &str, &str); 11] = [
     // three scripts on one site: each order is another journal
     (
         "chorus 2\nsites 1\nport 1.p.1 1.a.1 2\nscript 1.a.1\nsend 1.p.2 =a\nnewport 1.a.2 1\ntake 1.p.1\ntake 1.p.1\nscript 1.a.2\ntake 1.p.2\nsend 1.p.1 =b\nscript 1.a.2\nsend 1.p.2 =c\ntake 1.p.2\ntake 1.p.1\nschedule\nend\n",
@@ -52,6 +52,24 @@ const COUNTS: [(&str, &str, &str); 8] = [
         "chorus 2\nsites 2\nport 1.p.1 1.a.1 4\nport 2.p.1 2.a.1 4\nscript 1.a.1\ncall 2.p.1 1.p.1 =q\nretry\ntake 1.p.1\ncancel\nscript 2.a.1\ntake 2.p.1\nreply =r\ntake 2.p.1\nreply =s\nschedule\nend\n",
         "histories 355\nevents 2741\nall\nfacts 21\n",
         "\noutcomes 5\n",
+    ),
+    // a post to all members, while one leaves
+    (
+        "chorus 2\nsites 2\nport 1.p.1 1.a.1 4\nport 2.p.1 2.a.1 4\ngroup 1.g.1\nmember 1.g.1 1.p.1\nmember 1.g.1 2.p.1\nscript 1.a.1\nall 1.g.1 =a\nleave 1.g.1 2.p.1\ntake 1.p.1\nscript 2.a.1\ntake 2.p.1\nall 1.g.1 =b\ntake 2.p.1\nschedule\nend\n",
+        "histories 162\nevents 1140\nall\nfacts 23\n",
+        "\noutcomes 9\n",
+    ),
+    // a port moves twice and is deleted, while three callers send
+    (
+        "chorus 2\nsites 3\nport 1.p.1 1.a.1 4\nscript 1.a.1\nmove 1.p.1 2.a.1\nsend 1.p.1 =a\nscript 2.a.1\nmove 1.p.1 3.a.1\nscript 3.a.1\nsend 1.p.1 =b\ndelete 1.p.1\nscript 3.a.1\nsend 1.p.1 =c\nschedule\nend\n",
+        "histories 5205\nevents 47560\nall\nfacts 59\n",
+        "\noutcomes 65\n",
+    ),
+    // groups on three sites: to all, to one in turn, and to one at a site
+    (
+        "chorus 1\nsites 3\nport 1.p.1 1.a.1 2\nport 2.p.1 2.a.1 2\nport 3.p.1 3.a.1 2\ngroup 1.g.1\nmember 1.g.1 1.p.1\nmember 1.g.1 2.p.1\nmember 1.g.1 3.p.1\nscript 2.a.1\nall 1.g.1 =news\none 1.g.1 =job1\none 1.g.1 =job2\nat 1.g.1 3 =here\nscript 3.a.1\ntake 3.p.1\ntake 3.p.1\nschedule\nend\n",
+        "histories 10998\nevents 296301\nall\nfacts 24\n",
+        "\noutcomes 4\n",
     ),
 ];
 

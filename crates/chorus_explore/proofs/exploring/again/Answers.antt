@@ -9,4 +9,4 @@ pub go-requires-clause-may : goal.go-requires-clause-may
 go-requires-clause-may c =
     let s = c.args.scenario.now in
     ap (λ ms. may_go c.args.scenario.now (get_or c.args.moves.now c.loop-mv.mv-index (Go 0)) ms) (ap reverse c.loop-mv.invariant.1)
-    ∙ may-next (race_of s) c.args.moves.now c.loop-mv.mv-index (Go 0) c.loop-mv-test.true c.requires
+    ∙ may-next (race_of s) c.args.moves.now c.loop-mv.mv-index (Go 0) c.loop-mv-test.true c.requires.history

@@ -41,8 +41,9 @@ returns-clause-more c = λ ok.
       levels = c.stage_there.new.self.levels;
       moves = c.push_reserved.new.self;
       stage = c.stage_there.new.self.stage;
+      sites = c.stage_there.new.self.sites;
     } in
     c.in_ok-come_to.ensures scene c.args.most
     (has-come scene c.args.most c.args.candidate s t c.candidates_behind.new.stage c.in_ok-candidates.candidates.items c.requires.taking c.candidates_behind.ensures.reached to
     (c.in_ok-candidates.ensures.items ∙ ap (λ v. candidates_at (race_of scene) (reverse v.items)) (sym c.candidates_behind.ensures.moves))
-    moves kept.1 (ap (λ (z : Explored). record z { events = z.events + 1 }) kept.0))
+    moves kept.1 (ap (λ (z : Explored). record z { events = z.events + 1 }) kept.0) c.stage_there.ensures.sites)
