@@ -1,6 +1,5 @@
 //! A crew handles all messages of four sites.
 
-ghost use Rattle.std.specs.Prelude.{◌≤◌};
 ghost use Rattle.chorus_nucleus.specs.Passes.{IsPassOf};
 
 use crate::spinning::Spins;

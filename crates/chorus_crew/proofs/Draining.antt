@@ -16,9 +16,9 @@ use Rattle.chorus_nucleus.specs.declared.pass.Pass.{Pass}
 use Rattle.chorus_nucleus.specs.Passes.{layout_of, known, worn_by, IsPassOf}
 use Rattle.chorus_nucleus.specs.Calls.{worn_after}
 use Rattle.chorus_take.specs.declared.message.TakenMessage.{TakenMessage}
-use Rattle.chorus_take.specs.Taking.{Appends, HasOrigin, SeesMore, KeepsPass, IsTake, reply_with}
-use Rattle.chorus_take.proofs.Turns.{worn-ok, worn-err}
-use Rattle.chorus_take.proofs.Trying.{appends-none, appends-then, appends-still, origin-later, keeps-none, keeps-then}
+use Rattle.chorus_take.specs.Taking.{Appends, HasOrigin, SeesMore, KeepsPass, TakesOn, IsTake, reply_with}
+use Rattle.chorus_take.proofs.Turns.{worn-ok, worn-err, takes-nothing}
+use Rattle.chorus_take.proofs.Trying.{appends-none, appends-then, appends-still, origin-later, keeps-none, keeps-then, takes-then}
 use Rattle.chorus_crew.specs.declared.job.Tally.{Tally}
 use Rattle.chorus_crew.specs.Handling.{took_acts, AreGiven, first_position, worth, Counts}
 use Rattle.chorus_crew.specs.Jobs.{IsWork}
@@ -44,6 +44,7 @@ first-more (s ∷ ts) t from count f n = ((λ none. absurd (omega arith)), λ _.
 -- what was done so far
 pub record Drained (value : Ui → ℕ → Message → ℕ) (n : Nucleus) (q : Ui) (from count total : ℕ) (old new : Pass) : Type 0 where
   pub keeps : KeepsPass n old new
+  pub goes : TakesOn n q old new
   pub took : List TakenMessage
   pub given : AreGiven (layout_of n) q took (known new)
   pub appends : Appends (took_acts q took) (known old) (known new)
@@ -53,6 +54,7 @@ pub record Drained (value : Ui → ℕ → Message → ℕ) (n : Nucleus) (q : U
 pub drained-none : (value : Ui → ℕ → Message → ℕ) (n : Nucleus) (q : Ui) (a : Pass) → IsPassOf n a → Drained value n q 0 0 0 a a
 drained-none value n q a is = record {
   keeps = keeps-none n a is;
+  goes = takes-nothing n q a a refl refl;
   took = [];
   given = All-nil (λ (t : TakenMessage). HasOrigin (layout_of n) q (reply_with t) (known a));
   appends = appends-none (known a) (known a) refl;
@@ -67,6 +69,7 @@ module _ (value : Ui → ℕ → Message → ℕ) (n : Nucleus) (q : Ui) (from c
       let f = first-more d.took t from count d.counts.first d.counts.number in
       record {
         keeps = keeps-then n a b c d.keeps h.keeps;
+        goes = takes-then n q a b c d.keeps.actor d.goes h.goes;
         took = d.took ++ t ∷ [];
         given = All-push (λ (z : TakenMessage). HasOrigin (layout_of n) q (reply_with z) (known c)) d.took t (given-later (layout_of n) q d.took (known b) (known c) h.keeps.sees d.given) h.answer.origin;
         appends = subst (λ zs. Appends zs (known a) (known c)) (sym (took-append q d.took (t ∷ []) ∙ ap (λ zs. took_acts q d.took ++ zs) (append-nil (taken_acts q (reply_with t)))))
@@ -82,6 +85,7 @@ module _ (value : Ui → ℕ → Message → ℕ) (n : Nucleus) (q : Ui) (from c
   pub drains : IsTake n q (Ok None) b c → IsWork value n q (Ok record { from = from; count = count; total = total }) a c
   drains h = record {
     keeps = keeps-then n a b c d.keeps h.keeps;
+    goes = takes-then n q a b c d.keeps.actor d.goes h.goes;
     work = record {
       took = d.took;
       given = given-later (layout_of n) q d.took (known b) (known c) h.keeps.sees d.given;
@@ -96,6 +100,7 @@ module _ (value : Ui → ℕ → Message → ℕ) (n : Nucleus) (q : Ui) (from c
   pub handles : (f : CallFault) → IsTake n q (Err f) b c → IsWork value n q (Err f) a c
   handles f h = record {
     keeps = keeps-then n a b c d.keeps h.keeps;
+    goes = takes-then n q a b c d.keeps.actor d.goes h.goes;
     work = record {
       took = d.took;
       given = given-later (layout_of n) q d.took (known b) (known c) h.keeps.sees d.given;

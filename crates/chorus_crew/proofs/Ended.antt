@@ -16,6 +16,7 @@ use Rattle.chorus_nucleus.specs.Passes.{known, worn_by, IsPassOf}
 use Rattle.chorus_nucleus.specs.Coming.{Retires}
 use Rattle.chorus_take.specs.Taking.{SeesMore}
 use Rattle.chorus_take.proofs.Trying.{sees-then}
+use Rattle.chorus_take.proofs.Turns.{sees-same}
 use Rattle.chorus_ui.specs.declared.ui.Ui.{Ui}
 use Rattle.chorus_crew.specs.declared.job.Done.{Done}
 use Rattle.chorus_crew.specs.declared.job.Job.{Job}
@@ -37,6 +38,7 @@ takes-in-none n a is = record {
   mine = refl;
   caller = refl;
   notes = sym (append-nil (known a).notes);
+  sees = sees-same (known a) (known a) refl;
   seen = All-nil (λ (p : Pass). SeesMore (known p) (known a));
 }
 
@@ -54,6 +56,7 @@ takes-in-more n a b c p ended t plain r = record {
   caller = r.caller ∙ t.caller;
   notes = ap (λ (z : Knowledge PlaceNote). z.notes) r.knows ∙ ap (λ zs. (known b).notes ++ (note_of (known p) ∷ zs)) plain.notes ∙ ap (λ zs. zs ++ note_of (known p) ∷ []) t.notes
       ∙ append_assoc (known a).notes (notes ended) (note_of (known p) ∷ []) ∙ ap (λ zs. (known a).notes ++ zs) (sym (map-append (λ (z : Pass). note_of (known z)) ended (p ∷ [])));
+  sees = sees-then (known a) (known b) (known c) t.sees (λ k. (r.sees k).0);
   seen = All-push (λ (z : Pass). SeesMore (known z) (known c)) ended p
       (All-weaker (λ (z : Pass). SeesMore (known z) (known b)) (λ (z : Pass). SeesMore (known z) (known c)) (λ z more. sees-then (known z) (known b) (known c) more (λ k. (r.sees k).0)) ended t.seen)
       (λ k. (r.sees k).1);

@@ -61,7 +61,7 @@ take-length (x ∷ xs) (suc k) h = ap suc (take-length xs k (omega (arith, h)))
 
 -- the job of the next pair was made
 pub entered-next : (n : Nucleus) (seat at next : ℕ) (pairs : List (Ui × Ui)) (p d : Ui × Ui) (jobs : List Job) (j : Job) → at < length pairs → p ≡ get_or pairs at d → next ≡ seat + at
-    → AreEntered n 0 seat (take at pairs) jobs → IsEntered n at next p.0 j → AreEntered n 0 seat (take (at + 1) pairs) (jobs ++ j ∷ [])
+    → AreEntered n 0 seat (take at pairs) jobs → IsEntered n at next p j → AreEntered n 0 seat (take (at + 1) pairs) (jobs ++ j ∷ [])
 entered-next n seat at next pairs p d jobs j small is number e here =
     let len = take-length pairs at (omega (arith, small)) in
     subst (λ zs. AreEntered n 0 seat zs (jobs ++ j ∷ [])) (sym (take-next pairs at d small ∙ ap (λ x. take at pairs ++ x ∷ []) (sym is)))

@@ -1,6 +1,6 @@
 -- What a crew hands on: the passes of the jobs, and what they gave.
 -- n is the nucleus, l its layout, a, b and c are the caller's pass before the call, with all passes drawn, and at the end.
-use Rattle.std.proofs.Common.{◌≡◌, ℕ, zero, suc, ◌+◌, Bool, true, Some, Result, Ok, Err, IfOk, List, [], ◌∷◌, ◌++◌, map, length, refl, sym, ap, ◌∙◌, subst, arith, append-nil, slice_get}
+use Rattle.std.proofs.Common.{◌≡◌, ◌≤◌, ℕ, zero, suc, ◌+◌, Bool, true, Some, Result, Ok, Err, IfOk, List, [], ◌∷◌, ◌++◌, map, length, refl, sym, ap, ◌∙◌, subst, arith, append-nil, slice_get}
 use Rattle.std.specs.List.{All}
 use Rattle.std.specs.Global.{Vec}
 use Rattle.std.proofs.lemmas.Bool.{and_parts}
@@ -9,24 +9,31 @@ use Rattle.chorus_ui.specs.declared.ui.Ui.{Ui}
 use Rattle.chorus_ui.specs.declared.layout.Layout.{Layout}
 use Rattle.chorus_ui.specs.NameKind.{is_port}
 use Rattle.chorus_entry.specs.declared.act.Act.{Act}
+use Rattle.chorus_entry.specs.declared.command.Command.{Command}
 use Rattle.chorus_entry.specs.declared.message.Message.{Message}
+use Rattle.chorus_entry.specs.Places.{place_for}
+use Rattle.law_history.specs.declared.turns.Input.{Input}
+use Rattle.law_history.specs.Journals.{PlaceTurn}
 use Rattle.chorus_turn.specs.declared.knowledge.Knowledge.{Knowledge}
 use Rattle.chorus_turn.specs.declared.knowledge.Note.{Note}
+use Rattle.chorus_turn.specs.declared.knowledge.Placed.{Placed}
 use Rattle.chorus_turn.specs.Lists.{somes}
 use Rattle.chorus_turn.specs.Knowing.{note_of}
 use Rattle.law_closing.specs.Places.{PlaceNote}
 use Rattle.chorus_nucleus.specs.declared.fault.CallFault.{CallFault}
 use Rattle.chorus_nucleus.specs.declared.nucleus.Nucleus.{Nucleus}
 use Rattle.chorus_nucleus.specs.declared.pass.Pass.{Pass}
-use Rattle.chorus_nucleus.specs.Passes.{layout_of, known, IsPassOf}
-use Rattle.chorus_take.specs.Taking.{acts_made, Appends, IsMiss, SeesMore}
+use Rattle.chorus_nucleus.specs.Passes.{layout_of, known, caller_of, IsPassOf}
+use Rattle.chorus_take.specs.Taking.{acts_made, Appends, IsByTakes, IsMiss, SeesMore}
+use Rattle.chorus_take.proofs.Trying.{sees-then}
+use Rattle.chorus_take.proofs.Turns.{sees-same}
 use Rattle.chorus_crew.specs.declared.fault.CrewFault.{CrewFault}
 use Rattle.chorus_crew.specs.declared.handler.Handled.{Handled}
 use Rattle.chorus_crew.specs.declared.job.Done.{Done}
 use Rattle.chorus_crew.specs.declared.job.Job.{Job}
 use Rattle.chorus_crew.specs.declared.job.Tally.{Tally}
 use Rattle.chorus_crew.specs.Handling.{took_acts, Drains}
-use Rattle.chorus_crew.specs.Jobs.{IsPlain, IsJobOf, IsDoneOf, AreDoneOf, IsNumbered, IsEntered, AreEntered, HasDrawn, Worked}
+use Rattle.chorus_crew.specs.Jobs.{IsPlain, IsJobOf, IsDoneOf, AreDoneOf, IsNumbered, IsEntered, AreEntered, BeginAt, HasDrawn, Worked}
 use Rattle.chorus_crew.specs.Retiring.{TakesIn, TookAlone, IsRetired, IsFullSlot, passes_of, handled_of, handled_with, is_done, is_ok}
 use Rattle.chorus_crew.specs.Crews.{IsHandled, AreHandled, HasHandled}
 use Rattle.chorus_crew.proofs.Draining.{given-later}
@@ -62,9 +69,9 @@ entered-count n index seat (p ∷ pairs) [] e = absurd e
 entered-count n index seat (p ∷ pairs) (j ∷ jobs) e = ap suc (entered-count n (index + 1) (seat + 1) pairs jobs e.1)
 
 pub entered-more : (n : Nucleus) (index seat at next : ℕ) (pairs : List (Ui × Ui)) (p : Ui × Ui) (jobs : List Job) (j : Job) → AreEntered n index seat pairs jobs → at ≡ index + length pairs → next ≡ seat + length pairs
-    → IsEntered n at next p.0 j → AreEntered n index seat (pairs ++ p ∷ []) (jobs ++ j ∷ [])
+    → IsEntered n at next p j → AreEntered n index seat (pairs ++ p ∷ []) (jobs ++ j ∷ [])
 entered-more n index seat at next [] p [] j e a b here =
-    (subst (λ z. IsEntered n z seat p.0 j) (let e1 : at ≡ index = omega (arith, a) in e1) (subst (λ z. IsEntered n at z p.0 j) (let e2 : next ≡ seat = omega (arith, b) in e2) here), tt)
+    (subst (λ z. IsEntered n z seat p j) (let e1 : at ≡ index = omega (arith, a) in e1) (subst (λ z. IsEntered n at z p j) (let e2 : next ≡ seat = omega (arith, b) in e2) here), tt)
 entered-more n index seat at next [] p (x ∷ jobs) j e a b here = absurd e
 entered-more n index seat at next (q ∷ pairs) p [] j e a b here = absurd e
 entered-more n index seat at next (q ∷ pairs) p (x ∷ jobs) j e a b here =
@@ -121,15 +128,15 @@ done-alone value n index seat (p ∷ pairs) (j ∷ jobs) (x ∷ dones) e d =
     let more = done-alone value n (index + 1) (seat + 1) pairs jobs dones e.1 d.1 in
     (All-cons (λ (m : Note PlaceNote). TookAlone m.mine) (note_of (known x.pass)) (notes_of (passes_of dones)) (worked-alone value (layout_of n) j.port x.result (known j.pass) (known x.pass) e.0.nothing d.0.work.work) more.0, ap suc more.1)
 
-fresh-alone : (n : Nucleus) (index seat : ℕ) (q : Ui) (j : Job) → IsEntered n index seat q j → TookAlone (known j.pass).mine
-fresh-alone n index seat q j e = record { port = q; took = []; rest = []; vain = All-nil (IsMiss q); acts = ap acts_made e.nothing }
+fresh-alone : (n : Nucleus) (index seat : ℕ) (p : Ui × Ui) (j : Job) → IsEntered n index seat p j → TookAlone (known j.pass).mine
+fresh-alone n index seat p j e = record { port = p.0; took = []; rest = []; vain = All-nil (IsMiss p.0); acts = ap acts_made e.nothing }
 
 pub fresh-all : (n : Nucleus) (index seat : ℕ) (pairs : List (Ui × Ui)) (jobs : List Job) → AreEntered n index seat pairs jobs → All (λ (j : Job). IsPlain n j.pass × TookAlone (known j.pass).mine) jobs
 fresh-all n index seat [] [] e = All-nil (λ (j : Job). IsPlain n j.pass × TookAlone (known j.pass).mine)
 fresh-all n index seat [] (j ∷ jobs) e = absurd e
 fresh-all n index seat (p ∷ pairs) [] e = absurd e
 fresh-all n index seat (p ∷ pairs) (j ∷ jobs) e =
-    All-cons (λ (j : Job). IsPlain n j.pass × TookAlone (known j.pass).mine) j jobs (e.0.plain, fresh-alone n index seat p.0 j e.0) (fresh-all n (index + 1) (seat + 1) pairs jobs e.1)
+    All-cons (λ (j : Job). IsPlain n j.pass × TookAlone (known j.pass).mine) j jobs (e.0.plain, fresh-alone n index seat p j e.0) (fresh-all n (index + 1) (seat + 1) pairs jobs e.1)
 
 pub notes-alone : (jobs : List Job) → All (λ (j : Job). TookAlone (known j.pass).mine) jobs → All (λ (m : Note PlaceNote). TookAlone m.mine) (notes_of (map (λ (j : Job). j.pass) jobs))
 notes-alone [] a = All-nil (λ (m : Note PlaceNote). TookAlone m.mine)
@@ -183,26 +190,42 @@ handled-one value l q port t v u w same none more d = record {
   counts = d.counts;
 }
 
-module _ (value : Ui → ℕ → Message → ℕ) (n : Nucleus) (w : Knowledge PlaceNote) where
+-- a pass that made nothing
+by-none : (l : Layout) (q actor : Ui) (clock : ℕ) (mine : List (Placed PlaceNote)) → mine ≡ [] → IsByTakes l q actor clock mine
+by-none l q actor clock mine none = subst (IsByTakes l q actor clock) (sym none) record {
+  places = All-nil (λ (m : Placed PlaceNote). m.place ≡ place_for l actor (Command.Take q));
+  within = All-nil (λ (m : Placed PlaceNote). m.remarked.remark.before.actor ≡ actor);
+  turns = All-nil (λ (t : PlaceTurn). t.input ≡ Input.Command (Command.Take q));
+  first = λ m rest e. absurd (cc);
+}
+
+done-takes : (value : Ui → ℕ → Message → ℕ) (n : Nucleus) (clock index seat : ℕ) (p : Ui × Ui) (j : Job) (d : Done) → IsEntered n index seat p j → clock ≤ (caller_of j.pass).last → IsDoneOf value n j d
+    → IsByTakes (layout_of n) p.0 p.1 clock (known d.pass).mine
+done-takes value n clock index seat p j d e le is =
+    let l = layout_of n in
+    let made = is.work.goes.takes clock le (by-none l j.port (caller_of j.pass).actor clock (known j.pass).mine e.nothing) in
+    subst (λ a. IsByTakes l p.0 a clock (known d.pass).mine) e.of_actor (subst (λ q. IsByTakes l q (caller_of j.pass).actor clock (known d.pass).mine) e.of_port made)
+
+module _ (value : Ui → ℕ → Message → ℕ) (n : Nucleus) (w : Knowledge PlaceNote) (clock : ℕ) where
   ended-well : (q port : Ui) (r : Result Tally CallFault) (v u : Knowledge PlaceNote) → is_ok r ≡ true → port ≡ q → v.mine ≡ [] → SeesMore u w → Worked value (layout_of n) q r v u
       → (h : Handled) × (handled_with port r ≡ h ∷ []) × IsHandled value (layout_of n) w q u.mine h
   ended-well q port (Ok t) v u ok same none more d = (record { port = port; from = t.from; count = t.count; total = t.total }, refl, handled-one value (layout_of n) q port t v u w same none more d)
   ended-well q port (Err f) v u ok same none more d = absurd (cc)
 
-  pub all-handled : (index seat : ℕ) (pairs : List (Ui × Ui)) (jobs : List Job) (dones : List Done) → AreEntered n index seat pairs jobs → AreDoneOf value n jobs dones → is_done dones ≡ true
-      → All (λ (p : Pass). SeesMore (known p) w) (passes_of dones) → AreHandled value (layout_of n) w seat pairs (notes_of (passes_of dones)) (handled_of dones)
-  all-handled index seat [] [] [] e d ok more = tt
-  all-handled index seat [] [] (x ∷ dones) e d ok more = absurd d
-  all-handled index seat [] (j ∷ jobs) dones e d ok more = absurd e
-  all-handled index seat (p ∷ pairs) [] dones e d ok more = absurd e
-  all-handled index seat (p ∷ pairs) (j ∷ jobs) [] e d ok more = absurd d
-  all-handled index seat (p ∷ pairs) (j ∷ jobs) (x ∷ dones) e d ok more =
+  pub all-handled : (index seat : ℕ) (pairs : List (Ui × Ui)) (jobs : List Job) (dones : List Done) → AreEntered n index seat pairs jobs → BeginAt clock jobs → AreDoneOf value n jobs dones → is_done dones ≡ true
+      → All (λ (p : Pass). SeesMore (known p) w) (passes_of dones) → AreHandled value (layout_of n) w clock seat pairs (notes_of (passes_of dones)) (handled_of dones)
+  all-handled index seat [] [] [] e b d ok more = tt
+  all-handled index seat [] [] (x ∷ dones) e b d ok more = absurd d
+  all-handled index seat [] (j ∷ jobs) dones e b d ok more = absurd e
+  all-handled index seat (p ∷ pairs) [] dones e b d ok more = absurd e
+  all-handled index seat (p ∷ pairs) (j ∷ jobs) [] e b d ok more = absurd d
+  all-handled index seat (p ∷ pairs) (j ∷ jobs) (x ∷ dones) e b d ok more =
       let both = and_parts (is_ok x.result) (is_done dones) ok in
       let sees = All-head (λ (z : Pass). SeesMore (known z) w) x.pass (passes_of dones) more in
       let one = ended-well j.port x.port x.result (known j.pass) (known x.pass) both.0 d.0.port e.0.nothing sees d.0.work.work in
-      let rest = all-handled (index + 1) (seat + 1) pairs jobs dones e.1 d.1 both.1 (All-tail (λ (z : Pass). SeesMore (known z) w) x.pass (passes_of dones) more) in
-      subst (AreHandled value (layout_of n) w seat (p ∷ pairs) (notes_of (passes_of (x ∷ dones)))) (sym (ap (λ zs. zs ++ handled_of dones) one.1))
-      (d.0.work.keeps.standing.0 ∙ e.0.seat_is, subst (λ q. IsHandled value (layout_of n) w q (known x.pass).mine one.0) e.0.of_port one.2, rest)
+      let rest = all-handled (index + 1) (seat + 1) pairs jobs dones e.1 (All-tail (λ (z : Job). clock ≤ (caller_of z.pass).last) j jobs b) d.1 both.1 (All-tail (λ (z : Pass). SeesMore (known z) w) x.pass (passes_of dones) more) in
+      subst (AreHandled value (layout_of n) w clock seat (p ∷ pairs) (notes_of (passes_of (x ∷ dones)))) (sym (ap (λ zs. zs ++ handled_of dones) one.1))
+      (d.0.work.keeps.standing.0 ∙ e.0.seat_is, done-takes value n clock index seat p j x e.0 (All-head (λ (z : Job). clock ≤ (caller_of z.pass).last) j jobs b) d.0, subst (λ q. IsHandled value (layout_of n) w q (known x.pass).mine one.0) e.0.of_port one.2, rest)
 
 -- All that was drawn ended in the caller's pass.
 
@@ -212,11 +235,12 @@ all-retired value n pairs jobs dones a b c keeper drawn e d t =
     let k = done-alone value n 0 (known a).made pairs jobs dones e d in retired n (length pairs) a b c (passes_of dones) keeper drawn t k.1 k.0
 
 pub has-handled : (value : Ui → ℕ → Message → ℕ) (n : Nucleus) (pairs : List (Ui × Ui)) (jobs : List Job) (dones : List Done) (a b c : Pass) (handled : List Handled) → HasDrawn n (length pairs) a b
-    → AreEntered n 0 (known a).made pairs jobs → AreDoneOf value n jobs dones → TakesIn n b c (passes_of dones) → is_done dones ≡ true → handled ≡ handled_of dones → HasHandled value n pairs handled a c
-has-handled value n pairs jobs dones a b c handled drawn e d t all is = record {
+    → AreEntered n 0 (known a).made pairs jobs → BeginAt (caller_of a).last jobs → AreDoneOf value n jobs dones → TakesIn n b c (passes_of dones) → is_done dones ≡ true → handled ≡ handled_of dones → HasHandled value n pairs handled a c
+has-handled value n pairs jobs dones a b c handled drawn e later d t all is = record {
   news = notes_of (passes_of dones);
   notes = t.notes ∙ ap (λ zs. zs ++ notes_of (passes_of dones)) (ap (λ (v : Knowledge PlaceNote). v.notes) drawn.knows);
-  each = subst (AreHandled value (layout_of n) (known c) (known a).made pairs (notes_of (passes_of dones))) (sym is) (all-handled value n (known c) 0 (known a).made pairs jobs dones e d all t.seen);
+  each = subst (AreHandled value (layout_of n) (known c) (caller_of a).last (known a).made pairs (notes_of (passes_of dones))) (sym is) (all-handled value n (known c) (caller_of a).last 0 (known a).made pairs jobs dones e later d all t.seen);
+  sees = sees-then (known a) (known b) (known c) (sees-same (known a) (known b) (ap (λ (v : Knowledge PlaceNote). v.seen) drawn.knows)) t.sees;
 }
 
 pub ok-handled : (value : Ui → ℕ → Message → ℕ) (n : Nucleus) (pairs : List (Ui × Ui)) (a c : Pass) (handled : Vec Handled) (all : Bool) (r : Result (Vec Handled) CrewFault) → IfOk r (λ v. (v ≡ handled) × (all ≡ true))

@@ -13,9 +13,9 @@ use Rattle.chorus_turn.specs.declared.knowledge.Placed.{Placed}
 use Rattle.law_closing.specs.Places.{PlaceNote}
 use Rattle.chorus_nucleus.specs.declared.nucleus.Nucleus.{Nucleus}
 use Rattle.chorus_nucleus.specs.declared.pass.Pass.{Pass}
-use Rattle.chorus_nucleus.specs.Passes.{layout_of, known, worn_by, IsPassOf}
+use Rattle.chorus_nucleus.specs.Passes.{layout_of, known, caller_of, worn_by, IsPassOf}
 use Rattle.chorus_take.specs.declared.message.TakenMessage.{TakenMessage}
-use Rattle.chorus_take.specs.Taking.{acts_made, IsMiss}
+use Rattle.chorus_take.specs.Taking.{acts_made, IsByTakes, IsMiss, SeesMore}
 use Rattle.chorus_crew.specs.declared.pairs.TheConstants.{PAIRS_LIMIT}
 use Rattle.chorus_crew.specs.declared.handler.Handled.{Handled}
 use Rattle.chorus_crew.specs.Handling.{took_acts, AreGiven, Counts}
@@ -45,17 +45,20 @@ pub record IsHandled (value : Ui → ℕ → Message → ℕ) (l : Layout) (v : 
   pub acts : acts_made made ≡ took_acts q took ++ last ∷ []
   pub counts : Counts value q took h.from h.count h.total
 
--- so of each pair, whose pass has the next number
-abbrev pub AreHandled : (Ui → ℕ → Message → ℕ) → Layout → Knowledge PlaceNote → ℕ → List (Ui × Ui)
+-- so of each pair, whose pass has the next number, and took in the pair's actor, above this clock
+abbrev pub AreHandled : (Ui → ℕ → Message → ℕ) → Layout → Knowledge PlaceNote → ℕ → ℕ → List (Ui × Ui)
     → List (Note PlaceNote) → List Handled → Type 0
-AreHandled value l v seat [] [] [] = Unit {0}
-AreHandled value l v seat (p ∷ pairs) (m ∷ notes) (h ∷ handled) =
-    (m.seat ≡ seat) × IsHandled value l v p.0 m.mine h × AreHandled value l v (seat + 1) pairs notes handled
-AreHandled value l v seat _ _ _ = ⊥
+AreHandled value l v clock seat [] [] [] = Unit {0}
+AreHandled value l v clock seat (p ∷ pairs) (m ∷ notes) (h ∷ handled) =
+    (m.seat ≡ seat) × IsByTakes l p.0 p.1 clock m.mine × IsHandled value l v p.0 m.mine h
+    × AreHandled value l v clock (seat + 1) pairs notes handled
+AreHandled value l v clock seat _ _ _ = ⊥
 
--- all pairs were handled, and the pass of each is now a note of the caller's
+-- All pairs were handled, and the pass of each is now a note of the caller's. They took above the clock that the caller
+-- had, so that each take came behind all that the caller had made; and the caller has seen more.
 pub record HasHandled (value : Ui → ℕ → Message → ℕ) (n : Nucleus) (pairs : List (Ui × Ui)) (handled : List Handled)
     (old new : Pass) : Type 0 where
   pub news : List (Note PlaceNote)
   pub notes : (known new).notes ≡ (known old).notes ++ news
-  pub each : AreHandled value (layout_of n) (known new) (known old).made pairs news handled
+  pub each : AreHandled value (layout_of n) (known new) (caller_of old).last (known old).made pairs news handled
+  pub sees : SeesMore (known old) (known new)

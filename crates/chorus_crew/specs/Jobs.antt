@@ -1,6 +1,6 @@
 -- Jobs, and jobs that are done.
 -- n is the nucleus, l a layout, q a port, value what a message at its position is worth.
-use Rattle.std.specs.Prelude.{ℕ, ◌≡◌, ◌+◌, true, false, None, Some, List, [], ◌∷◌, map, Result, Ok, Err, slice_get}
+use Rattle.std.specs.Prelude.{ℕ, ◌≡◌, ◌≤◌, ◌+◌, true, false, None, Some, List, [], ◌∷◌, map, Result, Ok, Err, slice_get}
 use Rattle.std.specs.List.{All, Contains}
 use Rattle.chorus_ui.specs.declared.ui.Ui.{Ui}
 use Rattle.chorus_ui.specs.declared.layout.Layout.{Layout}
@@ -14,7 +14,7 @@ use Rattle.chorus_nucleus.specs.declared.nucleus.Nucleus.{Nucleus}
 use Rattle.chorus_nucleus.specs.declared.pass.Pass.{Pass}
 use Rattle.chorus_nucleus.specs.Passes.{layout_of, known, caller_of, worn_by, IsPassOf}
 use Rattle.chorus_nucleus.specs.Calls.{worn_after}
-use Rattle.chorus_take.specs.Taking.{KeepsPass}
+use Rattle.chorus_take.specs.Taking.{KeepsPass, TakesOn}
 use Rattle.chorus_crew.specs.declared.job.Job.{Job}
 use Rattle.chorus_crew.specs.declared.job.Done.{Done}
 use Rattle.chorus_crew.specs.declared.job.Tally.{Tally}
@@ -29,6 +29,7 @@ Worked value l q (Err f) v u = Handles l q v u
 pub record IsWork (value : Ui → ℕ → Message → ℕ) (n : Nucleus) (q : Ui) (r : Result Tally CallFault)
     (old new : Pass) : Type 0 where
   pub keeps : KeepsPass n old new
+  pub goes : TakesOn n q old new
   pub work : Worked value (layout_of n) q r (known old) (known new)
   pub worn : worn_by new ≡ worn_after (worn_by old) r
 
@@ -68,9 +69,10 @@ pub record IsPlain (n : Nucleus) (pass : Pass) : Type 0 where
   pub notes : (known pass).notes ≡ []
 
 -- the job that was made for a pair, with a new pass of the next seat
-pub record IsEntered (n : Nucleus) (index seat : ℕ) (q : Ui) (job : Job) : Type 0 where
+pub record IsEntered (n : Nucleus) (index seat : ℕ) (p : Ui × Ui) (job : Job) : Type 0 where
   pub number : job.index ≡ index
-  pub of_port : job.port ≡ q
+  pub of_port : job.port ≡ p.0
+  pub of_actor : (caller_of job.pass).actor ≡ p.1
   pub plain : IsPlain n job.pass
   pub seat_is : (known job.pass).seat ≡ seat
   pub nothing : (known job.pass).mine ≡ []
@@ -79,9 +81,13 @@ pub record IsEntered (n : Nucleus) (index seat : ℕ) (q : Ui) (job : Job) : Typ
 -- those of these pairs, in their order
 abbrev pub AreEntered : Nucleus → ℕ → ℕ → List (Ui × Ui) → List Job → Type 0
 AreEntered n index seat [] [] = Unit {0}
-AreEntered n index seat (p ∷ pairs) (j ∷ jobs) = IsEntered n index seat p.0 j
+AreEntered n index seat (p ∷ pairs) (j ∷ jobs) = IsEntered n index seat p j
     × AreEntered n (index + 1) (seat + 1) pairs jobs
 AreEntered n index seat _ _ = ⊥
+
+-- the callers of these jobs begin at this clock, or a later one
+abbrev pub BeginAt : ℕ → List Job → Type 0
+BeginAt clock jobs = All (λ (j : Job). clock ≤ (caller_of j.pass).last) jobs
 
 abbrev pub AreTheActors : Layout → List (Ui × Ui) → Type 0
 AreTheActors l pairs = All (λ (p : Ui × Ui). (is_actor p.1 ≡ true) × (has_actor l p.1 ≡ true)) pairs

@@ -61,6 +61,7 @@ pub record TakesIn (n : Nucleus) (old new : Pass) (ended : List Pass) : Type 0 w
   pub mine : (known new).mine ≡ (known old).mine
   pub caller : caller_of new ≡ caller_of old
   pub notes : (known new).notes ≡ (known old).notes ++ map (λ (p : Pass). note_of (known p)) ended
+  pub sees : SeesMore (known old) (known new)
   pub seen : All (λ (p : Pass). SeesMore (known p) (known new)) ended
 
 -- the pass made nothing but takes of one port, and maybe one in vain at the end

@@ -4,10 +4,10 @@ ghost use Rattle.std.specs.List.{All};
 ghost use Rattle.chorus_ui.specs.Layout.{has_actor};
 ghost use Rattle.chorus_ui.specs.NameKind.{is_actor};
 ghost use Rattle.chorus_turn.specs.Knowing.{limit, after_draw};
-ghost use Rattle.chorus_nucleus.specs.Passes.{layout_of, known, IsPassOf};
+ghost use Rattle.chorus_nucleus.specs.Passes.{layout_of, known, caller_of, IsPassOf};
 ghost use Rattle.chorus_nucleus.specs.Coming.{IsKeptKeeper};
 ghost use Rattle.chorus_crew.specs.declared.job.Job.{Job};
-ghost use Rattle.chorus_crew.specs.Jobs.{IsEntered, AreEntered, AreTheActors, HasDrawn};
+ghost use Rattle.chorus_crew.specs.Jobs.{IsEntered, AreEntered, AreTheActors, BeginAt, HasDrawn};
 ghost use Rattle.chorus_crew.specs.Retiring.{IsRetired};
 
 use crate::job::Job;
@@ -30,8 +30,9 @@ fn enter_one(
     requires actor { (is_actor actor ≡ true) × (has_actor (layout_of nucleus.now) actor ≡ true) }
     requires seat { (known pass.old).made < limit }
     ensures kept { IsKeptKeeper nucleus.now pass.old pass.new }
-    ensures ok { IfOk result (λ j. IsEntered nucleus.now index (known pass.old).made port j
+    ensures ok { IfOk result (λ j. IsEntered nucleus.now index (known pass.old).made (port, actor) j
         × (known pass.new ≡ after_draw (known pass.old))) }
+    ensures last { IfOk result (λ j. (caller_of j.pass).last ≡ (caller_of pass.old).last) }
     ensures refused { OnErr result (known pass.new ≡ known pass.old) }
 {
     match nucleus.enter(pass, actor) {
@@ -59,7 +60,8 @@ pub(crate) fn enter_all(
     requires seats { (known pass.old).made + length ports.now ≤ limit }
     requires room { (jobs.old.items ≡ []) × (length ports.now ≤ vec_capacity jobs.old) }
     ensures ok { OnOk result (HasDrawn nucleus.now (length ports.now) pass.old pass.new
-        × AreEntered nucleus.now 0 (known pass.old).made ports.now jobs.new.items) }
+        × AreEntered nucleus.now 0 (known pass.old).made ports.now jobs.new.items
+        × BeginAt (caller_of pass.old).last jobs.new.items) }
     ensures retired { OnErr result (IsRetired nucleus.now pass.old pass.new) }
 {
     for (index, (port, actor)) in ports.iter().enumerate() {

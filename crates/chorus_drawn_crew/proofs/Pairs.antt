@@ -1,5 +1,5 @@
 -- The eight pairs may be given to a crew.
-use Rattle.std.proofs.Common.{ℕ, ◌≡◌, ◌≤◌, nat_le, true, refl, arith}
+use Rattle.std.proofs.Common.{◌≡◌, ◌≤◌, nat_le, true, refl, arith}
 use Rattle.std.proofs.lemmas.Bool.{le-leb}
 use Rattle.chorus_ui.specs.declared.layout.Layout.{Layout}
 use Rattle.chorus_crew.specs.Pairs.{are_pairs}

@@ -1,6 +1,6 @@
 -- Seat 0 goes on with one command more of those that are left.
 use Rattle.std.specs.Result.{OnOk}
-use Rattle.std.proofs.Common.{ℕ, zero, suc, Result, Ok, Err, ◌≡◌, ◌+◌, ◌-◌, ◌≤◌, List, [], ◌∷◌, ◌++◌, length, map, Option, Some, None, refl, sym, ◌∙◌, ap, ap₂, subst, arith}
+use Rattle.std.proofs.Common.{ℕ, zero, suc, Result, Ok, Err, ◌≡◌, ◌+◌, ◌≤◌, List, [], ◌∷◌, ◌++◌, Option, Some, None, refl, sym, ◌∙◌, ap, ap₂, subst, arith}
 use Rattle.std.proofs.lemmas.List.{map-append}
 use Rattle.chorus_draw.specs.Draws.{next_state, number_of}
 use Rattle.chorus_entry.specs.declared.command.Command.{Command}
@@ -8,12 +8,11 @@ use Rattle.chorus_turn.specs.declared.knowledge.Knowledge.{Knowledge}
 use Rattle.chorus_turn.specs.Knowing.{IsSamePass}
 use Rattle.law_closing.specs.Places.{PlaceNote}
 use Rattle.chorus_nucleus.specs.declared.pass.Pass.{Pass}
-use Rattle.chorus_nucleus.specs.Passes.{known, caller_of}
+use Rattle.chorus_nucleus.specs.Passes.{caller_of}
 use Rattle.chorus_perform.specs.Going.{Goes}
 use Rattle.chorus_perform.proofs.Steps.{goes-not, goes-then, goes-on}
 use Rattle.chorus_drawn_crew.specs.Sends.{Sending, sending, sendings, site_drawn}
 use Rattle.chorus_drawn_crew.specs.Filling.{commands_of, make_port, makes, send_command}
-use Rattle.chorus_drawn_crew.proofs.Tallies.{sendings-next}
 
 -- who goes on from b with the rest has gone from a with the whole
 abbrev pub LeadsOn : List Command → Pass → List Command → Pass → Type 0
@@ -40,6 +39,11 @@ leads-make count m site whole a b d x is same h g = λ c k.
 
 command-of : Sending → Command
 command-of s = send_command s.site s.number
+
+sendings-next : (count m i x : ℕ) → count ≡ m + 1 → sendings count i x ≡ sending (site_drawn (number_of (next_state x))) i ++ sendings m (i + 1) (next_state x)
+sendings-next zero m i x is = absurd (omega (arith, is))
+sendings-next (suc count) m i x is =
+    ap (λ n. sending (site_drawn (number_of (next_state x))) i ++ sendings n (i + 1) (next_state x)) (let same : count ≡ m = omega (arith, is) in same)
 
 sends-next : (count m i x y : ℕ) (o : Option ℕ) → count ≡ m + 1 → y ≡ next_state x → o ≡ site_drawn (number_of y) → commands_of (sendings count i x) ≡ commands_of (sending o i) ++ commands_of (sendings m (i + 1) y)
 sends-next count m i x y o is is-y is-o =

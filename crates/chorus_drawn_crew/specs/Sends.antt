@@ -1,6 +1,6 @@
 -- What is sent to the eight ports, and what of it they hold.
 -- x is what the generator has come to, r what it draws, i the number of a draw, from 1.
-use Rattle.std.specs.Prelude.{ℕ, zero, suc, ◌+◌, ◌/◌, ◌%◌, ◌==◌, Bool, false, min, nat_lt, if◌then◌else◌, List, [], ◌∷◌, ◌++◌, length, map, take, sum, Option, Some, None}
+use Rattle.std.specs.Prelude.{ℕ, zero, suc, ◌+◌, ◌/◌, ◌%◌, ◌==◌, min, nat_lt, if◌then◌else◌, List, [], ◌∷◌, ◌++◌, length, map, take, sum, Option, Some, None}
 use Rattle.std.specs.List.{filter}
 use Rattle.chorus_ui.specs.declared.limits.TheConstants.{PENDING_LIMIT}
 use Rattle.chorus_draw.specs.Draws.{next_state, number_of}
@@ -10,11 +10,6 @@ use Rattle.chorus_drawn_crew.specs.declared.counting.Tally.{Tally}
 -- half of the draws are sends, each to the port of one of the eight sites
 abbrev pub site_drawn : ℕ → Option ℕ
 site_drawn r = if nat_lt (r % 8) 4 then Some (r / 8 % CREW_PORTS + 1) else None
-
--- to the port of this site
-abbrev pub is_to : ℕ → Option ℕ → Bool
-is_to site None = false
-is_to site (Some s) = s == site
 
 -- the body of a send is the number of its draw, in decimals
 pub record Sending : Type 0 where
@@ -41,8 +36,3 @@ tally_of numbers = record { count = min PENDING_LIMIT (length numbers); total = 
 -- of the draws of the words, from the state `first` on
 unfoldable pub tally : ℕ → ℕ → ℕ → Tally
 tally first commands site = tally_of (numbers_to site (sendings commands 1 first))
-
--- with one message more, where there is room for it
-abbrev pub counted_more : Tally → ℕ → Tally
-counted_more t number =
-    if t.count == PENDING_LIMIT then t else record { count = t.count + 1; total = t.total + number }

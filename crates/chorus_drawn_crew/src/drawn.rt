@@ -1,5 +1,5 @@
 //! A crew on messages that are drawn, from the first send to the text.
-ghost use Rattle.std.specs.Prelude.{◌≡◌, ◌≤◌, ◌⊎◌, None, Some, length};
+ghost use Rattle.std.specs.Prelude.{◌≡◌, ◌≤◌, ◌⊎◌, ℕ, None, Some, length};
 ghost use Rattle.chorus_io.specs.Count.{Rose};
 ghost use Rattle.chorus_report.specs.Output.{HandsOut, Writes};
 ghost use Rattle.chorus_nucleus.specs.Passes.{layout_of, IsPassOf};
@@ -29,8 +29,9 @@ use std::thread::Threads;
 /// Makes the eight ports, performs those of so many drawn commands that send to one of them, lets a crew handle all that waits, closes
 /// the nucleus, and writes for each port how many messages the crew handled and the sum of their values.
 ///
-/// The nucleus was just started, and the pass is its opening one. Where a clock is worn before all is done, nothing is written. Want of
-/// memory is the one ending without a cause.
+/// The nucleus was just started, and the pass is its opening one. How many messages a crew finds at a port, and the sum of their values,
+/// are those of the draws: the port holds the first 64 of the messages that are sent to it. Where a clock is worn before all is done,
+/// nothing is written. Want of memory is the one ending without a cause.
 pub fn handle_drawn<R: Threads + Wait + Sync, K: Sink>(
     alloc: Global,
     rt: &R,
@@ -51,27 +52,20 @@ pub fn handle_drawn<R: Threads + Wait + Sync, K: Sink>(
         return gave_up(Status::Memory);
     };
     match handled {
-        Ok(handled) => print(alloc, first, commands, &handled, closed, sink),
+        Ok(handled) => print(alloc, &handled, closed, sink),
         Err(why) => stopped(alloc, closed, why),
     }
 }
 
 /// Writes what the crew counted.
-fn print<K: Sink>(
-    alloc: Global,
-    first: u64,
-    commands: u32,
-    handled: &[Handled],
-    closed: Closed,
-    sink: &mut K,
-) -> Finished
-    requires ports { length handled.now ≡ CREW_PORTS }
-    requires commands { commands ≤ DRAWS_LIMIT }
-    ensures { (n : Nucleus) (last : Pass) → IsClosedBy n last closed →
+fn print<K: Sink>(alloc: Global, handled: &[Handled], closed: Closed, sink: &mut K) -> Finished
+    requires { length handled.now ≡ CREW_PORTS }
+    ensures { (n : Nucleus) (last : Pass) (first commands : ℕ) → CREW_PORTS ≤ (layout_of n).sites →
+        commands ≤ DRAWS_LIMIT → IsClosedBy n last closed →
         HasCrewed n first commands handled.now last →
         EndsAsCrew n first commands result K.held K.faults sink.old sink.new }
 {
-    let Ok(text) = text_of(alloc, first, commands, handled) else {
+    let Ok(text) = text_of(alloc, handled) else {
         return gave_up(Status::Memory);
     };
     write(&text, closed, sink)
@@ -98,7 +92,8 @@ fn write<K: Sink>(text: &[u8], closed: Closed, sink: &mut K) -> Finished
 
 /// Ends with the clock that was worn, where an entry of what was closed has it, else for want of memory.
 fn stopped(alloc: Global, closed: Closed, why: Stopped) -> Finished
-    ensures { (result ≡ record { status = Status.Memory; closed = None }) ⊎ EndsWorn why closed result }
+    ensures { (result ≡ record { status = Status.Memory; closed = None }) ⊎
+        EndsWorn why closed result }
 {
     let Ok(played) = stop(alloc, closed, why) else {
         return gave_up(Status::Memory);

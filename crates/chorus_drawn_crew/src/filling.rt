@@ -1,8 +1,9 @@
 //! Ports are made, and messages sent to them, by one pass that nobody disturbs.
 ghost use Rattle.std.specs.Prelude.{◌≡◌, ◌≤◌, ◌<◌, IfOk, IfSome, OnOk};
 ghost use Rattle.chorus_turn.specs.Knowing.{IsSamePass};
-ghost use Rattle.chorus_nucleus.specs.Passes.{caller_of, known, IsPassOf};
+ghost use Rattle.chorus_nucleus.specs.Passes.{caller_of, known, layout_of, IsPassOf};
 ghost use Rattle.chorus_perform.specs.Going.{Goes};
+ghost use Rattle.chorus_perform.specs.Rounds.{IsEven};
 ghost use Rattle.chorus_drawn_crew.specs.declared.counting.TheConstants.{DRAWS_LIMIT};
 ghost use Rattle.chorus_drawn_crew.specs.declared.names.TheConstants.{CREW_PORTS};
 ghost use Rattle.chorus_drawn_crew.specs.Filling.{commands_of, crew_commands, makes, make_port, send_command, sends_of};
@@ -19,8 +20,30 @@ use chorus_ui::PENDING_LIMIT;
 use std::alloc::{AllocError, Global};
 use std::sync::Wait;
 
-/// Makes the ports, and performs those of the drawn commands that send to one of them, each with nothing left of the one before.
+/// Makes the ports, and performs those of the drawn commands that send to one of them, each with nothing left of the one before. At Ok
+/// nothing is left.
 pub(crate) fn fill<R: Wait>(
+    alloc: Global,
+    rt: &R,
+    nucleus: &Nucleus,
+    pass: &mut Pass,
+    first: u64,
+    commands: u32,
+) -> Result<(), Halted>
+    requires pass { IsPassOf nucleus.now pass.old }
+    requires posts { (caller_of pass.old).posts ≡ 0 }
+    requires commands { commands ≤ DRAWS_LIMIT }
+    ensures pass { IsPassOf nucleus.now pass.new }
+    ensures same { IsSamePass (known pass.old) (known pass.new) }
+    ensures ok { OnOk result (Goes (crew_commands first commands) pass.old pass.new) }
+    ensures even { OnOk result (IsEven (layout_of nucleus.now) (known pass.new)) }
+{
+    make_and_send(alloc, rt, nucleus, pass, first, commands)?;
+    settle(rt, nucleus, pass)
+}
+
+/// Makes the ports and sends.
+fn make_and_send<R: Wait>(
     alloc: Global,
     rt: &R,
     nucleus: &Nucleus,

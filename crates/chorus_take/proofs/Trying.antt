@@ -1,6 +1,6 @@
 -- Takes one after another, and a take after tries that found the place held.
 -- n is a nucleus, l a layout, q a port, v, m and u are what a pass knows at three moments.
-use Rattle.std.proofs.Common.{ℕ, ◌≡◌, List, [], ◌∷◌, ◌++◌, Option, Some, None, Result, Ok, Err, refl, sym, ◌∙◌, ap, subst, append_assoc, append-nil}
+use Rattle.std.proofs.Common.{ℕ, ◌≡◌, List, [], ◌∷◌, ◌++◌, Option, Some, None, Result, Ok, Err, refl, sym, ◌∙◌, ap, subst, append_assoc, append-nil, ◌≤◌, arith}
 use Rattle.chorus_ui.specs.declared.ui.Ui.{Ui}
 use Rattle.chorus_ui.specs.declared.layout.Layout.{Layout}
 use Rattle.chorus_entry.specs.declared.act.Act.{Act}
@@ -18,8 +18,8 @@ use Rattle.chorus_nucleus.specs.declared.pass.Pass.{Pass}
 use Rattle.chorus_nucleus.specs.Passes.{layout_of, known, caller_of, worn_by, IsPassOf}
 use Rattle.chorus_nucleus.specs.Calls.{FindsWorn, Because, worn_after}
 use Rattle.chorus_take.specs.declared.message.TakenMessage.{TakenMessage}
-use Rattle.chorus_take.specs.Taking.{acts_made, Appends, HasOrigin, Answers, SeesMore, KeepsPass, IsFault, IsTake}
-use Rattle.chorus_take.proofs.Turns.{sees-same}
+use Rattle.chorus_take.specs.Taking.{acts_made, Appends, HasOrigin, Answers, SeesMore, KeepsPass, IsByTakes, TakesOn, IsFault, IsTake}
+use Rattle.chorus_take.proofs.Turns.{sees-same, takes-nothing}
 
 -- Entries.
 
@@ -81,6 +81,15 @@ keeps-then n a b c f s = record {
   sight = s.sight ∙ f.sight;
 }
 
+pub takes-then : (n : Nucleus) (q : Ui) (a b c : Pass) → (caller_of b).actor ≡ (caller_of a).actor → TakesOn n q a b → TakesOn n q b c → TakesOn n q a c
+takes-then n q a b c actor f s = record {
+  last = (let x = f.last in let y = s.last in omega (arith, x, y));
+  takes = λ clock le i.
+      let more = f.last in
+      subst (λ z. IsByTakes (layout_of n) q z clock (known c).mine) actor
+      (s.takes clock (omega (arith, le, more)) (subst (λ z. IsByTakes (layout_of n) q z clock (known b).mine) (sym actor) (f.takes clock le i)));
+}
+
 -- A take after tries in vain.
 
 -- so far each try found the place held: nothing was made, and the caller is as it was
@@ -121,12 +130,14 @@ fault-from n q f a b c w h = record {
 pub take-after : (n : Nucleus) (q : Ui) (r : Result (Option TakenMessage) CallFault) (a b c : Pass) → Waited n a b → IsTake n q r b c → IsTake n q r a c
 take-after n q (Ok t) a b c w h = record {
   keeps = keeps-then n a b c w.keeps h.keeps;
+  goes = takes-then n q a b c w.keeps.actor (takes-nothing n q a b w.mine w.caller) h.goes;
   answer = answers-from (layout_of n) q t (known a) (known b) (known c) w.mine h.answer;
   fault = tt;
   worn = h.worn ∙ ap (λ o. worn_after {T = Option TakenMessage} o (Ok t)) w.worn;
 }
 take-after n q (Err f) a b c w h = record {
   keeps = keeps-then n a b c w.keeps h.keeps;
+  goes = takes-then n q a b c w.keeps.actor (takes-nothing n q a b w.mine w.caller) h.goes;
   answer = tt;
   fault = fault-from n q f a b c w h.fault;
   worn = h.worn ∙ ap (λ o. worn_after {T = Option TakenMessage} o (Err f)) w.worn;

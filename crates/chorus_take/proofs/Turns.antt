@@ -1,9 +1,11 @@
 -- What a call with a Take did, as a take.
 -- n is a nucleus, l a layout, p the number of a place, q a port, v and u are what a pass knows before and after, w and x its caller.
-use Rattle.std.proofs.Common.{ℕ, ◌≡◌, ◌+◌, true, List, [], ◌∷◌, ◌++◌, Option, Some, None, Result, Ok, Err, refl, sym, ◌∙◌, ap, subst, inl, inr}
+use Rattle.std.proofs.Common.{ℕ, ◌≡◌, ◌+◌, ◌<◌, ◌≤◌, arith, true, List, [], ◌∷◌, ◌++◌, Option, Some, None, Result, Ok, Err, refl, sym, ◌∙◌, ap, subst, inl, inr}
 use mathlib.Core.Logic.{dite}
 use native.Mathlib.Decide.{ℕ_discrete}
+use Rattle.std.specs.List.{All}
 use Rattle.std.proofs.lemmas.Bool.{and_parts}
+use Rattle.std.proofs.lemmas.List.Elements.{All-nil, All-cons, All-append}
 use Rattle.chorus_ui.specs.declared.ui.Ui.{Ui}
 use Rattle.chorus_ui.specs.declared.layout.Layout.{Layout}
 use Rattle.chorus_ui.specs.Layout.{has_place}
@@ -11,21 +13,27 @@ use Rattle.chorus_entry.specs.declared.entry.Entry.{Entry}
 use Rattle.chorus_entry.specs.declared.act.Act.{Act}
 use Rattle.chorus_entry.specs.declared.command.Command.{Command}
 use Rattle.chorus_entry.specs.declared.message.Message.{Message}
+use Rattle.chorus_entry.specs.Places.{place_for}
 use Rattle.chorus_calls.specs.declared.client.Settle.{Settle}
 use Rattle.chorus_calls.specs.Callers.{Seated}
 use Rattle.law_machine.specs.declared.reply.Reply.{Reply}
 use Rattle.law_replies.specs.Taking.{taken_acts, answers_take, acts_of}
 use Rattle.law_replies.proofs.Turns.{takes-append}
 use Rattle.law_history.specs.declared.turns.Input.{Input}
-use Rattle.law_history.specs.PlaceTurns.{may_come}
+use Rattle.law_history.specs.Journals.{PlaceTurn}
+use Rattle.law_history.specs.PlaceTurns.{may_come, machine}
 use Rattle.law_history.proofs.Lists.{reverse-first}
 use Rattle.chorus_turn.specs.declared.knowledge.Remarked.{Remarked}
+use Rattle.chorus_turn.specs.declared.knowledge.Placed.{Placed}
 use Rattle.chorus_turn.specs.declared.knowledge.Knowledge.{Knowledge}
 use Rattle.chorus_turn.specs.Lists.{StartsWith, list_at, list_put}
 use Rattle.chorus_turn.specs.Journals.{with_place}
 use Rattle.chorus_turn.specs.Knowing.{seen_at, after_turn}
 use Rattle.chorus_turn.proofs.Fronts.{put_here, put_elsewhere, starts_itself, starts_more, starts_same}
-use Rattle.law_closing.specs.Remarks.{numbered, remarked}
+use Rattle.law_closing.specs.Actors.{AreIn}
+use Rattle.law_closing.specs.Growth.{noted}
+use Rattle.law_closing.specs.Remarks.{numbered, remarked, turn_of, turns_in}
+use Rattle.law_closing.proofs.Growth.{turns_in-append, turns_in-placed, turns_at-remarked}
 use Rattle.law_closing.specs.Places.{PlaceNote}
 use Rattle.chorus_nucleus.specs.declared.fault.CallFault.{CallFault}
 use Rattle.chorus_nucleus.specs.declared.fault.CallFault.TheVariants as faults
@@ -34,7 +42,7 @@ use Rattle.chorus_nucleus.specs.declared.pass.Pass.{Pass}
 use Rattle.chorus_nucleus.specs.Passes.{layout_of, known, caller_of, worn_by}
 use Rattle.chorus_nucleus.specs.Calls.{FindsWorn, Because, Performs, IsCall, place_of, worn_after}
 use Rattle.chorus_take.specs.declared.message.TakenMessage.{TakenMessage}
-use Rattle.chorus_take.specs.Taking.{acts_made, Appends, HasOrigin, SeesMore, KeepsPass, IsTake}
+use Rattle.chorus_take.specs.Taking.{acts_made, Appends, HasOrigin, SeesMore, KeepsPass, IsByTakes, TakesOn, IsTake}
 
 made-acts : (p k : ℕ) (r : PlaceNote) (es : List Entry) → acts_made (with_place p (numbered k r es)) ≡ acts_of es
 made-acts p k r [] = refl
@@ -100,6 +108,69 @@ module _ (l : Layout) (p : ℕ) (q : Ui) (r : Reply) (v u : Knowledge PlaceNote)
         (starts_more h.turn.found h.turn.found (remarked _ all) (starts_itself h.turn.found));
   }
 
+-- A turn with a Take, as one of several.
+
+abbrev IsIn : Ui → Placed PlaceNote → Type 0
+IsIn actor m = m.remarked.remark.before.actor ≡ actor
+
+placed-at : (p k : ℕ) (r : PlaceNote) (es : List Entry) → All (λ (m : Placed PlaceNote). m.place ≡ p) (with_place p (numbered k r es))
+placed-at p k r [] = All-nil (λ (m : Placed PlaceNote). m.place ≡ p)
+placed-at p k r (e ∷ es) =
+    All-cons (λ (m : Placed PlaceNote). m.place ≡ p) (record { place = p; remarked = record { entry = e; remark = record r { nth = k } } }) (with_place p (numbered (k + 1) r es)) refl
+    (placed-at p (k + 1) r es)
+
+placed-in : (p k : ℕ) (r : PlaceNote) (es : List Entry) → AreIn r.before.actor (with_place p (numbered k r es))
+placed-in p k r [] = All-nil (IsIn r.before.actor)
+placed-in p k r (e ∷ es) =
+    All-cons (IsIn r.before.actor) (record { place = p; remarked = record { entry = e; remark = record r { nth = k } } }) (with_place p (numbered (k + 1) r es)) refl
+    (placed-in p (k + 1) r es)
+
+first-above : (clock : ℕ) (mine news : List (Placed PlaceNote)) (n : Placed PlaceNote) (more : List (Placed PlaceNote)) → news ≡ n ∷ more → clock < n.remarked.entry.clock
+    → ((m : Placed PlaceNote) (rest : List (Placed PlaceNote)) → mine ≡ m ∷ rest → clock < m.remarked.entry.clock)
+    → (m : Placed PlaceNote) (rest : List (Placed PlaceNote)) → mine ++ news ≡ m ∷ rest → clock < m.remarked.entry.clock
+first-above clock [] news n more is lt old m rest e =
+    let same : n ≡ m = (let both = sym is ∙ e in cc) in subst (λ (z : Placed PlaceNote). clock < z.remarked.entry.clock) same lt
+first-above clock (z ∷ mine) news n more is lt old m rest e =
+    let same : z ≡ m = cc in subst (λ (y : Placed PlaceNote). clock < y.remarked.entry.clock) same (old z mine refl)
+
+module _ (l : Layout) (p : ℕ) (q : Ui) (r : Reply) (v u : Knowledge PlaceNote) (w x : Seated) (h : Performs l p (Command.Take q) r v w u x) where
+  abbrev remark : PlaceNote
+  remark = noted (machine l) p (Input.Command (Command.Take q)) h.state w
+
+  abbrev news : List (Placed PlaceNote)
+  news = with_place p (remarked remark (h.turn.entry ∷ h.turn.later))
+
+  grown : u.mine ≡ v.mine ++ news
+  grown = ap (λ (z : Knowledge PlaceNote). z.mine) h.turn.knows
+
+  one-turn : turns_in u.mine ≡ turns_in v.mine ++ turn_of p (record { entry = h.turn.entry; remark = remark }) ∷ []
+  one-turn =
+      ap turns_in grown ∙ turns_in-append v.mine news
+      ∙ ap (λ ts. turns_in v.mine ++ ts) (turns_in-placed p (remarked remark (h.turn.entry ∷ h.turn.later)) ∙ turns_at-remarked p remark h.turn.entry h.turn.later)
+
+  pub by-takes : (clock : ℕ) → clock ≤ w.last → p ≡ place_for l w.actor (Command.Take q) → IsByTakes l q w.actor clock v.mine → IsByTakes l q w.actor clock u.mine
+  by-takes clock le place i =
+      let at : All (λ (m : Placed PlaceNote). m.place ≡ place_for l w.actor (Command.Take q)) news = subst (λ z. All (λ (m : Placed PlaceNote). m.place ≡ z) news) place (placed-at p 0 remark (h.turn.entry ∷ h.turn.later)) in
+      let above = h.turn.above in
+      let T = λ (t : PlaceTurn). t.input ≡ Input.Command (Command.Take q) in
+      record {
+        places = subst (All (λ (m : Placed PlaceNote). m.place ≡ place_for l w.actor (Command.Take q))) (sym grown) (All-append (λ (m : Placed PlaceNote). m.place ≡ place_for l w.actor (Command.Take q)) v.mine news i.places at);
+        within = subst (AreIn w.actor) (sym grown) (All-append (IsIn w.actor) v.mine news i.within (placed-in p 0 remark (h.turn.entry ∷ h.turn.later)));
+        turns = subst (All T) (sym one-turn) (All-append T (turns_in v.mine) (turn_of p (record { entry = h.turn.entry; remark = remark }) ∷ []) i.turns (All-cons T (turn_of p (record { entry = h.turn.entry; remark = remark })) [] refl (All-nil T)));
+        first = λ m rest e. first-above clock v.mine news
+            (record { place = p; remarked = record { entry = h.turn.entry; remark = record remark { nth = 0 } } }) (with_place p (numbered 1 remark h.turn.later)) refl (omega (arith, le, above)) i.first m rest (sym grown ∙ e);
+      }
+
+  pub clock-rises : w.last ≤ x.last
+  clock-rises = let above = h.turn.above in let upto = h.turn.upto in omega (arith, above, upto)
+
+-- nothing was made, and the caller is as it was
+pub takes-nothing : (n : Nucleus) (q : Ui) (a b : Pass) → (known b).mine ≡ (known a).mine → caller_of b ≡ caller_of a → TakesOn n q a b
+takes-nothing n q a b mine caller = record {
+  last = (let e = ap (λ (w : Seated). w.last) caller in omega (arith, e));
+  takes = λ clock le i. subst (IsByTakes (layout_of n) q (caller_of a).actor clock) (sym mine) i;
+}
+
 -- The worn clock of an answer that is handed on.
 
 pub worn-ok : {T : Type 0} (o : Option ℕ) (x : T) → worn_after o (Ok x) ≡ o
@@ -124,6 +195,12 @@ module _ (n : Nucleus) (q : Ui) (old new : Pass) where
   made : (r : Reply) → IsCall n (Command.Take q) old new (Ok r) → Appends (taken_acts q r) (known old) (known new)
   made r h = appends (layout_of n) (place_of n (Command.Take q) old) q r (known old) (known new) (caller_of old) (caller_of new) h.turn
 
+  goes : (r : Reply) → IsCall n (Command.Take q) old new (Ok r) → TakesOn n q old new
+  goes r h = record {
+    last = clock-rises (layout_of n) (place_of n (Command.Take q) old) q r (known old) (known new) (caller_of old) (caller_of new) h.turn;
+    takes = λ clock le i. by-takes (layout_of n) (place_of n (Command.Take q) old) q r (known old) (known new) (caller_of old) (caller_of new) h.turn clock le refl i;
+  }
+
   worn-as : (r : Reply) (a : Option TakenMessage) → IsCall n (Command.Take q) old new (Ok r) → worn_by new ≡ worn_after {T = Option TakenMessage} (worn_by old) (Ok a)
   worn-as r a h = h.worn ∙ worn-ok (worn_by old) r ∙ sym (worn-ok (worn_by old) a)
 
@@ -135,6 +212,7 @@ module _ (n : Nucleus) (q : Ui) (old new : Pass) where
   taken pos m settled h = let r = Reply.Taken pos m settled in
       record {
         keeps = kept (Ok r) h (sees-ok r h);
+        goes = goes r h;
         answer = record {
           appends = made r h;
           origin = origin (layout_of n) (place_of n (Command.Take q) old) q r (known old) (known new) (caller_of old) (caller_of new) h.turn;
@@ -146,6 +224,7 @@ module _ (n : Nucleus) (q : Ui) (old new : Pass) where
   pub empty : IsCall n (Command.Take q) old new (Ok Reply.Empty) → IsTake n q (Ok None) old new
   empty h = record {
     keeps = kept (Ok Reply.Empty) h (sees-ok Reply.Empty h);
+    goes = goes Reply.Empty h;
     answer = record { act = Act.Empty q; miss = inl refl; appends = made Reply.Empty h };
     fault = tt;
     worn = worn-as Reply.Empty None h;
@@ -154,6 +233,7 @@ module _ (n : Nucleus) (q : Ui) (old new : Pass) where
   pub not-here : IsCall n (Command.Take q) old new (Ok Reply.NotHere) → IsTake n q (Ok None) old new
   not-here h = record {
     keeps = kept (Ok Reply.NotHere) h (sees-ok Reply.NotHere h);
+    goes = goes Reply.NotHere h;
     answer = record { act = Act.NotHere q; miss = inr refl; appends = made Reply.NotHere h };
     fault = tt;
     worn = worn-as Reply.NotHere None h;
@@ -162,6 +242,7 @@ module _ (n : Nucleus) (q : Ui) (old new : Pass) where
   pub refused : (f : CallFault) → IsCall n (Command.Take q) old new (Err f) → IsTake n q (Err f) old new
   refused f h = record {
     keeps = kept (Err f) h (sees-fault (layout_of n) (place_of n (Command.Take q) old) f (known old) (caller_of old) (known new) (caller_of new) h.fault);
+    goes = takes-nothing n q old new h.refused.mine h.refused.caller;
     answer = tt;
     fault = record { tried = known old; before = refl; because = h.fault; mine = h.refused.mine; caller = h.refused.caller };
     worn = h.worn ∙ worn-err Reply (Option TakenMessage) (worn_by old) f;

@@ -1,25 +1,30 @@
 -- What a take of a port makes, and what it hands out.
 -- n is a nucleus, l a layout, q a port, v and u are what a pass knows before and after.
-use Rattle.std.specs.Prelude.{ℕ, ◌≡◌, ◌⊎◌, Bool, true, false, List, [], ◌∷◌, ◌++◌, map, Option, Some, None, Result, IfOk, IfErr}
+use Rattle.std.specs.Prelude.{ℕ, ◌≡◌, ◌<◌, ◌≤◌, ◌⊎◌, Bool, true, false, List, [], ◌∷◌, ◌++◌, map, Option, Some, None, Result, IfOk, IfErr}
+use Rattle.std.specs.List.{All}
 use Rattle.chorus_ui.specs.declared.ui.Ui.{Ui}
 use Rattle.chorus_ui.specs.declared.layout.Layout.{Layout}
 use Rattle.chorus_ui.specs.Layout.{has_place}
 use Rattle.chorus_entry.specs.declared.act.Act.{Act}
 use Rattle.chorus_entry.specs.declared.command.Command.{Command}
+use Rattle.chorus_entry.specs.Places.{place_for}
 use Rattle.chorus_calls.specs.Callers.{Seated}
 use Rattle.law_machine.specs.declared.reply.Reply.{Reply}
 use Rattle.law_machine.specs.PlaceState.{PlaceState, started}
 use Rattle.law_machine.specs.PlaceMachine.{begun}
 use Rattle.law_machine.specs.Replies.{reply}
 use Rattle.law_replies.specs.Taking.{taken_acts}
+use Rattle.law_history.specs.declared.turns.Input.{Input}
 use Rattle.law_history.specs.Histories.{Takes}
+use Rattle.law_history.specs.Journals.{PlaceTurn}
 use Rattle.law_history.specs.PlaceTurns.{machine}
 use Rattle.chorus_turn.specs.declared.knowledge.Remarked.{Remarked}
 use Rattle.chorus_turn.specs.declared.knowledge.Placed.{Placed}
 use Rattle.chorus_turn.specs.declared.knowledge.Knowledge.{Knowledge}
 use Rattle.chorus_turn.specs.Lists.{StartsWith}
 use Rattle.chorus_turn.specs.Knowing.{IsSamePass, seen_at}
-use Rattle.law_closing.specs.Remarks.{turns_at}
+use Rattle.law_closing.specs.Actors.{AreIn}
+use Rattle.law_closing.specs.Remarks.{turns_at, turns_in}
 use Rattle.law_closing.specs.Places.{PlaceNote}
 use Rattle.chorus_nucleus.specs.declared.fault.CallFault.{CallFault}
 use Rattle.chorus_nucleus.specs.declared.nucleus.Nucleus.{Nucleus}
@@ -84,6 +89,23 @@ pub record KeepsPass (n : Nucleus) (old new : Pass) : Type 0 where
   pub actor : (caller_of new).actor ≡ (caller_of old).actor
   pub sight : sight_of new ≡ sight_of old
 
+-- A pass made this by takes of the port alone: at the place where the actor takes from it, in the actor, each turn a take,
+-- and with all its entries above this clock, since the first of them is.
+pub record IsByTakes (l : Layout) (q actor : Ui) (clock : ℕ) (mine : List (Placed PlaceNote)) : Type 0 where
+  pub places : All (λ (m : Placed PlaceNote). m.place ≡ place_for l actor (Command.Take q)) mine
+  pub within : AreIn actor mine
+  pub turns : All (λ (t : PlaceTurn). t.input ≡ Input.Command (Command.Take q)) (turns_in mine)
+  pub first : (m : Placed PlaceNote) (rest : List (Placed PlaceNote)) → mine ≡ m ∷ rest
+      → clock < m.remarked.entry.clock
+
+-- Its caller's clock does not fall; and what it made by takes of the port alone, above a clock that the caller had, it
+-- goes on so.
+pub record TakesOn (n : Nucleus) (q : Ui) (old new : Pass) : Type 0 where
+  pub last : (caller_of old).last ≤ (caller_of new).last
+  pub takes : (clock : ℕ) → clock ≤ (caller_of old).last
+      → IsByTakes (layout_of n) q (caller_of old).actor clock (known old).mine
+      → IsByTakes (layout_of n) q (caller_of old).actor clock (known new).mine
+
 -- Nothing was made; and why not: the last try found the place held, no memory, or a worn clock. `tried` is what the
 -- pass knew then.
 pub record IsFault (n : Nucleus) (q : Ui) (f : CallFault) (old new : Pass) : Type 0 where
@@ -97,6 +119,7 @@ pub record IsFault (n : Nucleus) (q : Ui) (f : CallFault) (old new : Pass) : Typ
 -- what a take of the port did
 pub record IsTake (n : Nucleus) (q : Ui) (r : Result (Option TakenMessage) CallFault) (old new : Pass) : Type 0 where
   pub keeps : KeepsPass n old new
+  pub goes : TakesOn n q old new
   pub answer : IfOk r (λ a. Answers (layout_of n) q a (known old) (known new))
   pub fault : IfErr r (λ f. IsFault n q f old new)
   pub worn : worn_by new ≡ worn_after (worn_by old) r

@@ -1,1 +1,4 @@
 pub mod Posted
+pub mod Silent
+pub mod Crewed
+pub mod Positions

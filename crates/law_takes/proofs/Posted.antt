@@ -30,7 +30,7 @@ use Rattle.chorus_nucleus.specs.Closing.{ClosesAs}
 use Rattle.chorus_take.specs.Taking.{HasOrigin}
 use Rattle.law_takes.specs.Posted.{MessagesTakenWerePosted}
 
-turns-append : (p : ℕ) (xs ys : List (Remarked PlaceNote)) → turns_at p (xs ++ ys) ≡ turns_at p xs ++ turns_at p ys
+pub turns-append : (p : ℕ) (xs ys : List (Remarked PlaceNote)) → turns_at p (xs ++ ys) ≡ turns_at p xs ++ turns_at p ys
 turns-append p xs ys = ap (map (turn_of p)) (filter-append begins xs ys) ∙ map-append (turn_of p) (filter begins xs) (filter begins ys)
 
 at-place : (l : Layout) (p : ℕ) → has_place l p ≡ true → IsPlace (places l) p

@@ -59,4 +59,4 @@ returns-clause-ok g c =
     let k = c.retire_done-all.ensures in
     ok-handled (g.H.Handler.value c.args.handler.now) c.args.nucleus.now c.args.ports.now c.args.pass.now c.retire_done-all.new.pass c.retire_done-all.new.handled c.retire_done-all.result c.answer.result c.answer.ensures.ok
     (λ all. has-handled (g.H.Handler.value c.args.handler.now) c.args.nucleus.now c.args.ports.now c.enter_all.new.jobs.items d.0 c.args.pass.now c.enter_all.new.pass c.retire_done-all.new.pass c.retire_done-all.new.handled.items
-    c.in_default.ensures.ok.0 c.in_default.ensures.ok.1 d.2 (k.retired d.0 d.1) (sym (k.done d.0 d.1) ∙ all) (k.handled d.0 d.1))
+    c.in_default.ensures.ok.0 c.in_default.ensures.ok.1 c.in_default.ensures.ok.2 d.2 (k.retired d.0 d.1) (sym (k.done d.0 d.1) ∙ all) (k.handled d.0 d.1))

@@ -1,13 +1,15 @@
-use Rattle.std.proofs.Common.{◌≡◌, ◌+◌, ◌++◌, true, List, [], ◌∷◌, take, arith, ap, subst, sym}
-use Rattle.std.proofs.lemmas.List.Elements.{All-get_or}
+use Rattle.std.specs.List.{All}
+use Rattle.std.proofs.Common.{◌≡◌, ◌≤◌, ◌+◌, ◌++◌, true, List, [], ◌∷◌, take, arith, ap, subst, sym}
+use Rattle.std.proofs.lemmas.List.Elements.{All-get_or, All-nil, All-push}
 use Rattle.chorus_ui.specs.declared.ui.Ui.{Ui}
+use Rattle.chorus_calls.specs.Callers.{Seated}
 use Rattle.chorus_turn.specs.declared.knowledge.Knowledge.{Knowledge}
 use Rattle.law_closing.specs.Places.{PlaceNote}
 use Rattle.chorus_ui.specs.Layout.{has_actor}
 use Rattle.chorus_ui.specs.NameKind.{is_actor}
-use Rattle.chorus_nucleus.specs.Passes.{known, layout_of}
+use Rattle.chorus_nucleus.specs.Passes.{caller_of, known, layout_of}
 use Rattle.chorus_crew.specs.declared.job.Job.{Job}
-use Rattle.chorus_crew.specs.Jobs.{AreEntered}
+use Rattle.chorus_crew.specs.Jobs.{AreEntered, BeginAt}
 use Rattle.chorus_crew.proofs.Handing.{entered-count}
 use Rattle.chorus_crew.proofs.Entered.{drawn-none, drawn-more, drawn-same, entered-next, entered-plain, take-length, undone}
 use Rattle.chorus_crew.proofs.entering.enter_all.Goals as goal
@@ -16,6 +18,7 @@ pub loop-index-init : goal.loop-index-init
 loop-index-init c = record {
   drawn = drawn-none c.args.nucleus.now c.args.pass.now c.requires.pass;
   entered = subst (λ (l : List Job). AreEntered c.args.nucleus.now 0 (known c.args.pass.now).made [] l) (sym c.requires.room.0) tt;
+  later = subst (λ (l : List Job). BeginAt (caller_of c.args.pass.now).last l) (sym c.requires.room.0) (All-nil (λ (j : Job). (caller_of c.args.pass.now).last ≤ (caller_of j.pass).last));
   room = c.requires.room.1;
 }
 
@@ -56,5 +59,10 @@ loop-index-preserved c =
       entered = subst (λ (l : List Job). AreEntered n 0 (known c.args.pass.now).made (take (c.loop-index.index + 1) c.args.ports.now) l) (sym items)
           (entered-next n (known c.args.pass.now).made c.loop-index.index (known c.loop-index.pass).made c.args.ports.now c.index-ports-index.result c.index-ports-index.result c.loop-index.jobs.items c.in-Ok.job
           c.loop-index-test.true c.index-ports-index.is (ap (λ (v : Knowledge PlaceNote). v.made) i.drawn.knows) i.entered e.0);
+      later =
+          let B = λ (j : Job). (caller_of c.args.pass.now).last ≤ (caller_of j.pass).last in
+          let same = ap (λ (w : Seated). w.last) i.drawn.caller in
+          let last = c.in-Ok.ensures.last in
+          subst (All B) (sym items) (All-push B c.loop-index.jobs.items c.in-Ok.job i.later (omega (arith, same, last)));
       room = let r = i.room in let m = c.push_reserved.ensures.capacity in omega (arith, r, m);
     }

@@ -1,4 +1,4 @@
-use Rattle.std.proofs.Common.{◌≡◌, ◌+◌, ◌-◌, refl, arith}
+use Rattle.std.proofs.Common.{◌+◌, ◌-◌, arith}
 use Rattle.chorus_nucleus.specs.Passes.{known}
 use Rattle.chorus_drawn_crew.specs.Sends.{sendings}
 use Rattle.chorus_drawn_crew.specs.Filling.{commands_of, sends_of}
