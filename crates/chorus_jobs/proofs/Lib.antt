@@ -1,9 +1,1 @@
-pub mod Lists
-pub mod Received
-pub mod Positions
-pub mod Quiet
-pub mod Holding
-pub mod Steps
-pub mod Comings
 pub mod Promising
-pub mod Standing

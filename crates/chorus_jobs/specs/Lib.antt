@@ -1,3 +1,1 @@
 pub mod Promise
-pub mod Hands
-pub mod Parties

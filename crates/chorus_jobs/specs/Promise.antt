@@ -1,13 +1,19 @@
 -- The promise of a queue of jobs, said of the merge of all journals. A past has its newest entry first.
 -- q is the queue, a port; a job is named by the id of its message.
-use Rattle.std.specs.Prelude.{ℕ, ◌≡◌, List, Some, slice_get}
+use Rattle.std.specs.Prelude.{ℕ, ◌≡◌, List, Option, Some, slice_get}
+use Rattle.chorus_ui.specs.declared.kind.Kind.TheVariants as kinds
 use Rattle.chorus_ui.specs.declared.ui.Ui.{Ui}
+use Rattle.chorus_ui.specs.Name.{new_name}
 use Rattle.chorus_entry.specs.declared.entry.Entry.{Entry}
 use Rattle.chorus_entry.specs.declared.id.MsgId.{MsgId}
 use Rattle.chorus_world.specs.Views.{on}
 use Rattle.chorus_world.specs.Always.{Always}
 use Rattle.chorus_world.specs.AcceptedLaws.{accepted_by, received}
 use Rattle.chorus_turn.specs.Lists.{StartsWith}
+
+-- the queue of this site: its first port
+abbrev pub queue_at : ℕ → Option Ui
+queue_at site = new_name site kinds.Port 1
 
 -- the jobs that the queue accepted, in order
 abbrev pub accepted : Ui → List Entry → List MsgId

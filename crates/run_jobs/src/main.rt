@@ -5,8 +5,10 @@
 #![tactic(auto)]
 
 use chorus_checker::World;
-use chorus_jobs::{Comer, Finished, Hand, Role, run_queue};
+use chorus_entry::Act;
+use chorus_jobs::{Comer, Finished, Role, run_queue};
 use chorus_merge::merge;
+use chorus_sessions::Hand;
 use chorus_ui::{Kind, Layout, Ui};
 use std::alloc::{AllocError, Global};
 use std::process::ExitCode;
@@ -66,31 +68,45 @@ fn run<R: Threads + Wait + Sync>(alloc: Global, rt: &R) -> Option<Finished> {
 }
 
 fn report(rt: &HostRuntime, finished: &Finished) -> Option<()> {
-    let alloc = rt.alloc();
-    let (accepted, handed_out) = counts(&finished.hands);
+    let judged = judge(rt.alloc(), finished).ok()?;
+    let (accepted, lawful) = (judged.accepted, judged.is_lawful);
+    let handed_out = count(&finished.hands);
     println!(rt; "{accepted} jobs were accepted").ok()?;
     println!(rt; "{handed_out} jobs were handed out").ok()?;
-    let lawful = is_lawful(alloc, finished).ok()?;
     println!(rt; "the journal is lawful: {lawful}").ok()?;
     Some(())
 }
 
-fn counts(hands: &[Hand]) -> (u64, u64) {
-    let mut accepted = 0u64;
+/// How many jobs are in the hands.
+fn count(hands: &[Hand]) -> u64 {
     let mut handed_out = 0u64;
     for hand in hands {
-        accepted = accepted.saturating_add(u64::from(hand.accepted));
-        handed_out = handed_out.saturating_add(hand.jobs.len() as u64);
+        handed_out = handed_out.saturating_add(hand.taken.len() as u64);
     }
-    (accepted, handed_out)
+    handed_out
 }
 
-fn is_lawful(alloc: Global, finished: &Finished) -> Result<bool, AllocError> {
+/// What the merged journals say, up to the first entry that is not lawful.
+#[derive(Clone, Copy)]
+struct Judged {
+    accepted: u64,
+    is_lawful: bool,
+}
+
+fn judge(alloc: Global, finished: &Finished) -> Result<Judged, AllocError> {
+    let mut judged = Judged {
+        accepted: 0,
+        is_lawful: true,
+    };
     let mut world = World::opening(alloc, Layout::new(3, 1).unwrap())?;
     for entry in merge(alloc, &finished.closed.journals)? {
+        if let Act::Accept { .. } = entry.act {
+            judged.accepted = judged.accepted.saturating_add(1);
+        }
         if world.apply(entry).is_err() {
-            return Ok(false);
+            judged.is_lawful = false;
+            return Ok(judged);
         }
     }
-    Ok(true)
+    Ok(judged)
 }

@@ -1,5 +1,0 @@
-use Rattle.chorus_jobs.specs.Parties.{Goes}
-use Rattle.chorus_jobs.proofs.clients.send_job.Given as goal
-
-abbrev pub invariant-loop : goal.invariant-loop
-invariant-loop g l = Goes l.nucleus l.fn.pass l.pass

@@ -1,8 +1,0 @@
-use Rattle.chorus_jobs.proofs.Steps.{goes-then}
-use Rattle.chorus_jobs.proofs.pumping.settle.Goals as goal
-
-pub loop-preserved : goal.loop-preserved
-loop-preserved g c = goes-then c.args.nucleus.now c.args.pass.now c.loop.pass c.pump_all-sums.new.pass c.loop.invariant c.pump_all-sums.ensures
-
-pub returns-then-is_some : goal.returns-then-is_some
-returns-then-is_some g c = goes-then c.args.nucleus.now c.args.pass.now c.loop.pass c.pump_all-sums.new.pass c.loop.invariant c.pump_all-sums.ensures

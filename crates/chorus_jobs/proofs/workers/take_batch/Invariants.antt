@@ -1,5 +1,0 @@
-use Rattle.chorus_jobs.specs.Parties.{IsParty}
-use Rattle.chorus_jobs.proofs.workers.take_batch.Given as goal
-
-abbrev pub invariant-loop : goal.invariant-loop
-invariant-loop l = IsParty l.nucleus l.queue l.party

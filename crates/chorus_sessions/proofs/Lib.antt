@@ -1,0 +1,9 @@
+pub mod Lists
+pub mod Once
+pub mod Received
+pub mod Positions
+pub mod Quiet
+pub mod Holding
+pub mod Steps
+pub mod Comings
+pub mod Standing

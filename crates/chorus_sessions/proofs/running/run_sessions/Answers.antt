@@ -1,0 +1,10 @@
+use Rattle.chorus_sessions.proofs.Standing.{are-handed-out, run-of}
+use Rattle.chorus_sessions.proofs.running.run_sessions.Goals as goal
+
+pub returns-clause-run : goal.returns-clause-run
+returns-clause-run g c = run-of c.in_ok-nucleus.nucleus c.args.layout c.play-hands.new.pass c.in_ok-closed.closed c.in_ok-nucleus.ensures.layout c.in_ok-closed.ensures
+
+pub returns-clause-hands : goal.returns-clause-hands
+returns-clause-hands g c =
+    let e = c.play-hands.ensures in
+    are-handed-out c.in_ok-nucleus.nucleus c.play-hands.new.pass c.in_ok-closed.closed c.in_ok-closed.ensures e.pass e.back.quiet c.in_ok-hands.field-0.items c.in_ok-hands.ensures.kept

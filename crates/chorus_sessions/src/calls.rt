@@ -1,0 +1,128 @@
+//! What a session may do. Each call but a pump is one turn at one place, as the nucleus says, tries that place once, and waits for nobody.
+
+ghost use Rattle.std.specs.Prelude.{◌≡◌, ◌<◌, ◌≤◌, true, false, length};
+ghost use Rattle.chorus_ui.specs.declared.limits.TheConstants.{BODY_LIMIT};
+ghost use Rattle.chorus_ui.specs.NameKind.{is_actor, is_port};
+ghost use Rattle.chorus_entry.specs.Command.{is_post, meets_conditions};
+ghost use Rattle.chorus_entry.specs.declared.dest.Dest.TheVariants as Dest;
+ghost use Rattle.chorus_entry.specs.declared.command.Command.TheVariants as Command;
+ghost use Rattle.chorus_nucleus.specs.Passes.{caller_of, IsPassOf};
+ghost use Rattle.chorus_nucleus.specs.Calls.{IsCall, IsOutcome};
+ghost use Rattle.chorus_sessions.specs.Sessions.{pass_of, taken_by, takes, Asks, IsSession, TakesOne};
+
+use crate::hand::PortMessage;
+use crate::pumping::pump_all;
+use crate::session::Session;
+use chorus_entry::{Command, Dest, MsgId};
+use chorus_nucleus::{CallFault, Nucleus, Pass};
+use chorus_place::Reply;
+use chorus_ui::Ui;
+use law_machine::Outcome;
+use std::sync::Wait;
+
+impl Session {
+    /// Gives any command but a take, as [`Nucleus::act`] does.
+    #[tactic(auto, using(crate::proofs::Steps::sessions))]
+    pub fn act(&mut self, nucleus: &Nucleus, command: &Command) -> Result<Reply, CallFault>
+        requires session { IsSession nucleus.now self.old }
+        requires conditions { meets_conditions command.now ≡ true }
+        requires posts { is_post command.now ≡ true → (caller_of (pass_of self.old)).posts < u32.MAX }
+        requires no_take { takes command.now ≡ false }
+        ensures session { IsSession nucleus.now self.new }
+        ensures call { IsCall nucleus.now command.now (pass_of self.old) (pass_of self.new) result }
+        ensures kept { taken_by self.new ≡ taken_by self.old }
+    {
+        nucleus.act(&mut self.pass, command)
+    }
+
+    /// Posts a message with this body, at most 4,096 bytes, to the port. The session has posted fewer than 2^32 - 1 messages.
+    #[tactic(auto, using(crate::proofs::Steps::sessions))]
+    pub fn send(&mut self, nucleus: &Nucleus, port: Ui, body: &[u8]) -> Result<Reply, CallFault>
+        requires session { IsSession nucleus.now self.old }
+        requires port { is_port port ≡ true }
+        requires body { length body.now ≤ BODY_LIMIT }
+        requires posts { (caller_of (pass_of self.old)).posts < u32.MAX }
+        ensures session { IsSession nucleus.now self.new }
+        ensures call { IsCall nucleus.now (Command.Send (Dest.Port port) body.now) (pass_of self.old)
+            (pass_of self.new) result }
+        ensures kept { taken_by self.new ≡ taken_by self.old }
+    {
+        nucleus.send(&mut self.pass, Dest::Port(port), body)
+    }
+
+    /// What became of a message that the session posted, as [`Nucleus::outcome`] tells.
+    #[tactic(auto, using(crate::proofs::Steps::sessions))]
+    pub fn outcome(&mut self, nucleus: &Nucleus, id: MsgId) -> Result<Outcome, CallFault>
+        requires { IsSession nucleus.now self.old }
+        ensures session { IsSession nucleus.now self.new }
+        ensures call { IsOutcome nucleus.now id (pass_of self.old) (pass_of self.new) result }
+        ensures kept { taken_by self.new ≡ taken_by self.old }
+    {
+        nucleus.outcome(&mut self.pass, id)
+    }
+
+    /// Moves the port, with all that waits in it, to the actor, as [`Nucleus::move_port`] does.
+    #[tactic(auto, using(crate::proofs::Steps::sessions))]
+    pub fn move_port(&mut self, nucleus: &Nucleus, port: Ui, actor: Ui) -> Result<Reply, CallFault>
+        requires session { IsSession nucleus.now self.old }
+        requires port { is_port port ≡ true }
+        requires actor { is_actor actor ≡ true }
+        ensures session { IsSession nucleus.now self.new }
+        ensures call { IsCall nucleus.now (Command.Move port actor) (pass_of self.old) (pass_of self.new) result }
+        ensures kept { taken_by self.new ≡ taken_by self.old }
+    {
+        nucleus.move_port(&mut self.pass, port, actor)
+    }
+
+    /// Takes the first message that waits in the port, and keeps it, the last of [`Session::taken`]. False where no message waits there,
+    /// and where the session's actor does not hold the port. The faults are those of [`Nucleus::take`]; nothing was taken then.
+    #[tactic(auto, using(crate::proofs::Steps::sessions))]
+    pub fn take(&mut self, nucleus: &Nucleus, port: Ui) -> Result<bool, CallFault>
+        requires session { IsSession nucleus.now self.old }
+        requires port { is_port port ≡ true }
+        ensures session { IsSession nucleus.now self.new }
+        ensures taken { TakesOne port result (taken_by self.old) (taken_by self.new) }
+    {
+        if let Err(none) = self.hand.taken.reserve(1) {
+            return Err(CallFault::Memory(none));
+        }
+        match ask(nucleus, &mut self.pass, port) {
+            Ok(Some(got)) => {
+                self.hand.taken.push_reserved(got);
+                Ok(true)
+            }
+            Ok(None) => Ok(false),
+            Err(fault) => Err(fault),
+        }
+    }
+
+    /// Pumps each place once, so that packets go on. A place that another session has is left to that one.
+    #[tactic(auto, using(crate::proofs::Steps::sessions))]
+    pub fn pump<R: Wait>(&mut self, rt: &R, nucleus: &Nucleus)
+        requires { IsSession nucleus.now self.old }
+        ensures session { IsSession nucleus.now self.new }
+        ensures kept { taken_by self.new ≡ taken_by self.old }
+    {
+        pump_all(rt, nucleus, &mut self.pass);
+    }
+}
+
+/// Asks for the first message of the port.
+#[tactic(auto, using(crate::proofs::Steps::taking))]
+fn ask(nucleus: &Nucleus, pass: &mut Pass, port: Ui) -> Result<Option<PortMessage>, CallFault>
+    requires pass { IsPassOf nucleus.now pass.old }
+    requires port { is_port port ≡ true }
+    ensures { Asks nucleus.now port result pass.old pass.new }
+{
+    match nucleus.take(pass, port) {
+        Ok(Reply::Taken { pos, message, .. }) => Ok(Some(PortMessage {
+            port,
+            position: pos,
+            message,
+        })),
+        Ok(Reply::Empty) => Ok(None),
+        Ok(Reply::NotHere) => Ok(None),
+        Ok(_) => unreachable!(),
+        Err(fault) => Err(fault),
+    }
+}

@@ -1,0 +1,31 @@
+//! A session.
+
+ghost use Rattle.std.specs.Prelude.{◌≡◌};
+ghost use Rattle.chorus_nucleus.specs.Passes.{caller_of};
+ghost use Rattle.chorus_sessions.specs.Sessions.{pass_of, taken_by};
+
+use crate::hand::{Hand, PortMessage};
+use chorus_nucleus::Pass;
+
+/// A caller of a running nucleus, which keeps each message that it is handed out.
+#[derive(Drop)]
+pub struct Session {
+    pub(crate) pass: Pass,
+    pub(crate) hand: Hand,
+}
+
+impl Session {
+    /// The messages that it was handed out, in their order.
+    pub fn taken(&self) -> &[PortMessage]
+        ensures { result.now ≡ taken_by self.now }
+    {
+        &self.hand.taken
+    }
+
+    /// How many messages it posted.
+    pub fn posts(&self) -> u32
+        ensures { result ≡ (caller_of (pass_of self.now)).posts }
+    {
+        self.pass.posts()
+    }
+}
