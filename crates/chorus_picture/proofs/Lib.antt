@@ -8,4 +8,5 @@ mod MarkKinds
 mod ReadBack
 mod RowTexts
 mod StandApart
+mod Stretches
 mod Whole

@@ -1,8 +1,12 @@
 -- A text that is appended piece by piece.
-use Rattle.std.proofs.Common.{◌≡◌, ℕ, zero, suc, ◌+◌, ◌-◌, ◌*◌, ◌<◌, List, ◌++◌, ap, ◌∙◌, append_assoc, arith}
+use Rattle.std.proofs.Common.{◌≡◌, ℕ, zero, suc, ◌+◌, ◌-◌, ◌*◌, ◌<◌, List, ◌++◌, ap, sym, ◌∙◌, append_assoc, arith}
 use Rattle.chorus_ui.specs.declared.layout.Layout.{Layout}
 use Rattle.chorus_picture.specs.Columns.{ColumnShape}
 use Rattle.chorus_picture.specs.Sheet.{head_at, heads_from}
+
+-- the text is what is appended in two pieces
+pub joined : (o a m b text : List ℕ) → m ≡ o ++ a → text ≡ a ++ b → m ++ b ≡ o ++ text
+joined o a m b text one is = ap (λ t. t ++ b) one ∙ append_assoc o a b ∙ ap (λ t. o ++ t) (sym is)
 
 pub two : (o a b m n : List ℕ) → m ≡ o ++ a → n ≡ m ++ b → n ≡ o ++ (a ++ b)
 two o a b m n one more = more ∙ ap (λ t. t ++ b) one ∙ append_assoc o a b

@@ -1,7 +1,7 @@
 -- Filling: templates with numbers, and texts in which nothing is read as markup.
-use Rattle.std.specs.Prelude.{ℕ, ◌==◌, nat_le, if◌then◌else◌, List, [], ◌∷◌, ◌++◌, length, take, codes, decimal}
-use Rattle.std.specs.List.{flat_map}
-use Rattle.chorus_picture.specs.declared.limits.TheConstants.{SHOWN_LIMIT}
+use Rattle.std.specs.Prelude.{ℕ, ◌+◌, ◌==◌, nat_le, min, if◌then◌else◌, List, [], ◌∷◌, ◌++◌, length, take, codes, decimal, Option, Some, None}
+use Rattle.std.specs.List.{flat_map, position}
+use Rattle.chorus_picture.specs.declared.limits.TheConstants.{SHOWN_BODY_LIMIT, SHOWN_LIMIT}
 
 -- a template: for each `@` (64) the next number stands there, as its decimal
 abbrev pub filled : List ℕ → List ℕ → List ℕ
@@ -24,8 +24,16 @@ abbrev pub markup : List ℕ → List ℕ
 markup = flat_map markup_byte
 
 -- a long text is cut
-abbrev pub cut : List ℕ → List ℕ
-cut text = if nat_le (length text) SHOWN_LIMIT then text else take SHOWN_LIMIT text ++ codes "..."
+abbrev pub cut : ℕ → List ℕ → List ℕ
+cut most text = if nat_le (length text) most then text else take most text ++ codes "..."
 
 abbrev pub shown : List ℕ → List ℕ
-shown text = markup (cut text)
+shown text = markup (cut SHOWN_LIMIT text)
+
+-- an act is cut in its body too, which stands behind its first `=` (61)
+abbrev pub most_shown : Option ℕ → ℕ
+most_shown None = SHOWN_LIMIT
+most_shown (Some at) = min SHOWN_LIMIT (at + 1 + SHOWN_BODY_LIMIT)
+
+abbrev pub shown_act : List ℕ → List ℕ
+shown_act act = markup (cut (most_shown (position (λ c. c == 61) act)) act)

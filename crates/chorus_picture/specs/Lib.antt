@@ -1,4 +1,5 @@
 pub mod Filling
+pub mod Stretches
 pub mod Reading
 pub mod Columns
 pub mod Rows

@@ -14,7 +14,7 @@ use Rattle.law_picture.specs.declared.bar.Bar.{Bar}
 use Rattle.law_picture.specs.Causes.{caused_by, packet_of}
 use Rattle.law_picture.specs.Bars.{bar}
 use Rattle.chorus_picture.specs.declared.mark.Mark.{Mark}
-use Rattle.chorus_picture.specs.Filling.{filled, markup, shown}
+use Rattle.chorus_picture.specs.Filling.{filled, markup, shown_act}
 use Rattle.chorus_picture.specs.Columns.{ColumnShape, column_at, lane_of, right_of, right_edge, x_of}
 use Rattle.chorus_picture.specs.Rows.{row_y}
 use Rattle.chorus_picture.specs.Marks.{mark_of, mark_name, packet_name}
@@ -114,7 +114,7 @@ texts_front right y clock seat =
     (y ∷ clock ∷ (right + 12) ∷ y ∷ seat ∷ (right + 72) ∷ y ∷ [])
 
 unfoldable pub texts_at : ℕ → ℕ → Entry → List ℕ
-texts_at right y e = texts_front right y e.clock e.seat ++ shown (act_text e.act) ++ codes "</text></g>\n"
+texts_at right y e = texts_front right y e.clock e.seat ++ shown_act (act_text e.act) ++ codes "</text></g>\n"
 
 unfoldable pub entry_in : Mark → ℕ → ℕ → ℕ → Entry → List ℕ
 entry_in m right x y e =

@@ -81,7 +81,7 @@ fn drawn(
 {
     let columns = columns(alloc, layout, entries)?;
     let mut tables = Tables::new(alloc);
-    let mut out = Vec::new(alloc);
+    let mut out = Vec::with_capacity(alloc, 8_192 + 512 * entries.len())?;
     push_front(&columns, entries.len() as u32, &mut out)?;
     push_rows(&columns, entries, &mut tables, &mut out)?;
     push_behind_rows(layout, text, entries, audit, &columns, &tables, &mut out)?;
@@ -101,8 +101,9 @@ fn push_rows(
         (out.new.items ≡ out.old.items ++ rows columns.now [] entries.now) }
     ensures tables { OnOk result (AreTables tables.new (reverse entries.now)) }
 {
+    let mut room = Vec::new(*out.allocator());
     for entry in entries {
-        push_row(columns, tables, entry, out)?;
+        push_row(columns, tables, entry, &mut room, out)?;
         tables.add(entry)?;
     }
     Ok(())

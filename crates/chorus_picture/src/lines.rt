@@ -1,48 +1,37 @@
 //! The line of an entry, and its act alone.
 
-ghost use Rattle.std.specs.Prelude.{◌≡◌, IfOk};
+ghost use Rattle.std.specs.Prelude.{◌≡◌, ◌≤◌, ◌++◌, drop, length, IfOk, OnOk};
 ghost use Rattle.chorus_show.specs.Lines.{act_text};
 ghost use Rattle.chorus_picture.specs.Shapes.{line_text};
 ghost use Rattle.chorus_picture.specs.Lines.{line_front};
 
 use chorus_entry::Entry;
-use chorus_show::entry_line;
+use chorus_show::push_act;
 use chorus_ui::push_decimal;
-use std::alloc::{AllocError, Global};
+use std::alloc::AllocError;
 
-/// The line of the entry, without its LF.
-pub(crate) fn line_of(alloc: Global, entry: &Entry) -> Result<Vec<u8>, AllocError>
-    ensures { IfOk result (λ line. line.items ≡ line_text entry.now) }
+/// Writes the line of the entry, without its LF, over what `line` had, and gives where its act begins.
+pub(crate) fn write_line(entry: &Entry, line: &mut Vec<u8>) -> Result<usize, AllocError>
+    ensures line { OnOk result (line.new.items ≡ line_text entry.now) }
+    ensures within { IfOk result (λ at. at ≤ length line.new.items) }
+    ensures act { IfOk result (λ at. drop at line.new.items ≡ act_text entry.now.act) }
 {
-    let mut line = Vec::new(alloc);
-    entry_line(entry, &mut line)?;
-    let _ = line.pop();
-    Ok(line)
+    line.clear();
+    push_line_front(entry, line)?;
+    let at = line.len();
+    push_act(&entry.act, line)?;
+    Ok(at)
 }
 
-/// The act in the line of its entry: what stands behind clock, place and seat.
-pub(crate) fn act_in<'a>(
-    alloc: Global,
-    entry: &Entry,
-    line: &'a [u8],
-) -> Result<&'a [u8], AllocError>
-    requires { line.now ≡ line_text entry.now }
-    ensures { IfOk result (λ act. act.now ≡ act_text entry.now.act) }
+/// Appends the entry's clock, place and seat, each with a space behind it.
+fn push_line_front(entry: &Entry, out: &mut Vec<u8>) -> Result<(), AllocError>
+    ensures { OnOk result (out.new.items ≡ out.old.items ++ line_front entry.now) }
 {
-    let front = line_front(alloc, entry)?;
-    Ok(&line[front.len()..])
-}
-
-/// The entry's clock, place and seat, each with a space behind it.
-fn line_front(alloc: Global, entry: &Entry) -> Result<Vec<u8>, AllocError>
-    ensures { IfOk result (λ front. front.items ≡ line_front entry.now) }
-{
-    let mut front = Vec::new(alloc);
-    push_decimal(entry.clock, &mut front)?;
-    front.push(b' ')?;
-    push_decimal(u64::from(entry.place), &mut front)?;
-    front.push(b' ')?;
-    push_decimal(u64::from(entry.seat), &mut front)?;
-    front.push(b' ')?;
-    Ok(front)
+    push_decimal(entry.clock, out)?;
+    out.push(b' ')?;
+    push_decimal(u64::from(entry.place), out)?;
+    out.push(b' ')?;
+    push_decimal(u64::from(entry.seat), out)?;
+    out.push(b' ')?;
+    Ok(())
 }

@@ -8,8 +8,8 @@ ghost use Rattle.chorus_picture.specs.Rows.{row_y};
 ghost use Rattle.chorus_picture.specs.Shapes.{arrow, arrow_to, bar_above, bar_class, bar_down, bar_held, bar_in, ends, entry_at, is_new_clock, mark_at, points, spot, start_x, stop_x, texts_at, texts_front, tick, turn_x};
 
 use crate::column::{Column, column_at, right_edge, x_at};
-use crate::filling::{push_filled, push_markup, push_shown};
-use crate::lines::{act_in, line_of};
+use crate::filling::{push_filled, push_markup, push_shown_act};
+use crate::lines::write_line;
 use crate::mark::{mark_name, mark_of, packet_name};
 use crate::rows::row_y;
 use crate::tables::Tables;
@@ -18,11 +18,12 @@ use chorus_ui::Ui;
 use law_picture::{Bar, PacketKind, Row};
 use std::alloc::AllocError;
 
-/// Appends all that stands for the entry behind those of the tables.
+/// Appends all that stands for the entry behind those of the tables. Its line is written in the room, which is used again.
 pub(crate) fn push_row(
     columns: &[Column],
     tables: &Tables,
     entry: &Entry,
+    room: &mut Vec<u8>,
     out: &mut Vec<u8>,
 ) -> Result<(), AllocError>
     ensures { OnOk result
@@ -33,7 +34,7 @@ pub(crate) fn push_row(
     push_tick(columns, row, is_new_clock(tables.clock, entry.clock), out)?;
     push_bar_above(columns, tables, row, entry.act.held_port(), out)?;
     push_arrow(columns, row, entry, cause, out)?;
-    push_entry(columns, row, entry, cause, out)?;
+    push_entry(columns, row, entry, cause, room, out)?;
     Ok(())
 }
 
@@ -294,21 +295,21 @@ fn push_entry(
     row: u32,
     entry: &Entry,
     cause: Option<Row>,
+    room: &mut Vec<u8>,
     out: &mut Vec<u8>,
 ) -> Result<(), AllocError>
     ensures { OnOk result
         (out.new.items ≡ out.old.items ++ entry_at columns.now row entry.now cause) }
 {
-    let alloc = *out.allocator();
     let name = mark_name(mark_of(cause, &entry.act));
-    let line = line_of(alloc, entry)?;
+    let at = write_line(entry, room)?;
+    let (_, act) = room.as_slice().split_at(at);
     out.extend_from_slice(b"<g class='")?;
     out.extend_from_slice(name.as_bytes())?;
     out.extend_from_slice(b"'><title>")?;
-    push_markup(&line, out)?;
+    push_markup(room, out)?;
     out.extend_from_slice(b"</title>")?;
     push_mark(name, x_at(columns, entry.place), row_y(row), out)?;
-    let act = act_in(alloc, entry, &line)?;
     push_texts(right_edge(columns), row_y(row) + 4, entry, act, out)?;
     Ok(())
 }
@@ -345,7 +346,7 @@ fn push_texts(
     ensures { OnOk result (out.new.items ≡ out.old.items ++ texts_at right y entry.now) }
 {
     push_texts_front(right, y, entry.clock, u64::from(entry.seat), out)?;
-    push_shown(act, out)?;
+    push_shown_act(act, out)?;
     out.extend_from_slice(b"</text></g>\n")?;
     Ok(())
 }

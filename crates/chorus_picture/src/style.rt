@@ -63,4 +63,5 @@ pub(crate) const LEGEND: &str = "\
 <path class='transfer' d='M400 52H440'/><text x='452' y='56'>Transfer: a port moves with its messages</text>\n\
 <path class='ask' d='M400 70H440'/><text x='452' y='74'>Ask: a post goes to its group</text>\n\
 <path class='report' d='M400 88H440'/><text x='452' y='92'>Report: what became of it</text>\n\
+<path class='tick' d='M400 106H440'/><text x='452' y='110'>from this line on another clock</text>\n\
 ";

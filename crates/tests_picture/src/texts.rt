@@ -93,7 +93,7 @@ pub(crate) const STALE_DRAWN: &str = "\
 pub(crate) const UNLAWFUL: &str = "\
 journal 3\n\
 1 1 0 make 1.p.1 1.a.1 4\n\
-2 1 1 post 1:1:0 port 1.p.1 plain =<b>&x\n\
+2 1 1 post 1:1:0 port 1.p.1 plain =<b>&x, 'cut' behind \"24\" of its characters\n\
 2 1 0 take 1.p.1 0 <1:1:0>%\n\
 ";
 
@@ -103,7 +103,7 @@ pub(crate) const UNLAWFUL_DRAWN: &str = "\
 <path class='line' d='M128 40V85'/>\n\
 <g class='own'><title>1 1 0 make 1.p.1 1.a.1 4</title><use href='#own' x='128' y='49'/><text x='8' y='53'>1</text><text x='178' y='53'>0</text><text class='act' x='238' y='53'>make 1.p.1 1.a.1 4</text></g>\n\
 <path class='tick' d='M8 58H818'/>\n\
-<g class='own'><title>2 1 1 post 1:1:0 port 1.p.1 plain =&lt;b&gt;&amp;x</title><use href='#own' x='128' y='67'/><text x='8' y='71'>2</text><text x='178' y='71'>1</text><text class='act' x='238' y='71'>post 1:1:0 port 1.p.1 plain =&lt;b&gt;&amp;x</text></g>\n\
+<g class='own'><title>2 1 1 post 1:1:0 port 1.p.1 plain =&lt;b&gt;&amp;x, &#39;cut&#39; behind &quot;24&quot; of its characters</title><use href='#own' x='128' y='67'/><text x='8' y='71'>2</text><text x='178' y='71'>1</text><text class='act' x='238' y='71'>post 1:1:0 port 1.p.1 plain =&lt;b&gt;&amp;x, &#39;cut&#39; behind &quot;24&quot;...</text></g>\n\
 <g class='idle'><title>1.p.1, 0</title><rect x='150' y='49' width='12' height='36'/><text class='count' x='156' y='62'>0</text></g>\n\
 <rect class='band' y='0' width='826' height='40'/><text x='8' y='32'>clock</text><text x='178' y='32'>caller</text><text x='238' y='32'>entry</text>\n\
 <text class='head' x='134' y='16'>site 1</text><text class='head' x='134' y='32'>place 1</text>\n\
