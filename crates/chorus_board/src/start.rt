@@ -1,7 +1,7 @@
 //! How a board and its readers are made.
-ghost use Rattle.std.specs.Prelude.{◌≡◌, ◌<◌, ◌^◌, [], length, drop, All, IfOk, IfSome};
+ghost use Rattle.std.specs.Prelude.{◌≡◌, ◌<◌, ◌^◌, [], length, All, IfOk, IfSome};
 ghost use Rattle.left_right.specs.Sides.{view};
-ghost use Rattle.chorus_board.specs.Boards.{IsNewIn, IsNewBoard, IsReaderOf, IsSameBoard, book_of, layout_of, shown, entries_begun};
+ghost use Rattle.chorus_board.specs.Boards.{IsNewIn, IsNewBoard, IsReaderOf, IsSameBoard, book_of, shown, entries_begun};
 ghost use Rattle.chorus_board.specs.Law.{head_of};
 ghost use Rattle.chorus_hints.specs.Known.{nothing_known};
 ghost use Rattle.chorus_board.specs.Table.{Fine};

@@ -5,7 +5,7 @@
 
 #![tactic(auto)]
 
-ghost use Rattle.std.specs.Prelude.{◌≡◌, ◌≢◌, ℕ, List, IfOk, IfErr, IsErrOf, Err};
+ghost use Rattle.std.specs.Prelude.{◌≡◌, ◌≢◌, ℕ, List, IfOk, IfErr, Err};
 ghost use Rattle.chorus_io.specs.Bytes.{IsReadWhole, StopsBy};
 ghost use Rattle.chorus_io.specs.Count.{Rose};
 

@@ -54,7 +54,8 @@ fn start_each<R: Wait>(
     mut ends: Vec<RuledEnds>,
 ) -> Result<(Vec<Site<RuledEnds>>, Vec<Vec<BoardReader>>), AllocError>
     requires { AreLinked (places layout) ends.items }
-    ensures { IfOk result (λ v. AreFresh layout (reverse v.0.items) (reverse v.1.items) ends.items) }
+    ensures { IfOk result
+        (λ v. AreFresh layout (reverse v.0.items) (reverse v.1.items) ends.items) }
 {
     let mut spare = Vec::with_capacity(alloc, ends.len())?;
     let mut sites = Vec::with_capacity(alloc, ends.len())?;

@@ -87,7 +87,8 @@ fn take_content(packets: &mut Vec<Packet>, there: &mut Remains) -> Result<(), Al
 
 /// Takes what is in hand, where it came from the place.
 fn take_hand(packets: &mut Vec<Packet>, there: &mut Remains, place: u16) -> Result<(), AllocError>
-    ensures { OnOk result (TakesHand place packets.old.items packets.new.items there.old there.new) }
+    ensures { OnOk result
+        (TakesHand place packets.old.items packets.new.items there.old there.new) }
 {
     let Some(from) = there.from else {
         return Ok(());
@@ -100,7 +101,8 @@ fn take_hand(packets: &mut Vec<Packet>, there: &mut Remains, place: u16) -> Resu
 
 /// Takes what waits for the place.
 fn take_waiting(packets: &mut Vec<Packet>, out: &mut Outbox, place: u16) -> Result<(), AllocError>
-    ensures { OnOk result (TakesWaiting place packets.old.items packets.new.items out.old.lists out.new.lists) }
+    ensures { OnOk result
+        (TakesWaiting place packets.old.items packets.new.items out.old.lists out.new.lists) }
 {
     while let Some(packet) = out.take(place) {
         packets.push(packet)?;
@@ -118,7 +120,8 @@ fn take_pair<R: Wait>(
     to: u16,
 ) -> Result<(), AllocError>
     requires { IsLinked from here.old to there.old }
-    ensures { OnOk result (TakesPair from to packets.old.items packets.new.items here.old here.new there.old there.new) }
+    ensures { OnOk result (TakesPair from to packets.old.items packets.new.items
+        here.old here.new there.old there.new) }
 {
     take_hand(packets, there, from)?;
     let left = end_link(&mut here.ends, to, &mut there.ends, from);
@@ -137,7 +140,8 @@ fn take_slot<R: Wait>(
 ) -> Result<(), AllocError>
     requires { IsLinked from here.old to (the slot.old) }
     ensures there { OnOk result (is_some slot.new ≡ is_some slot.old) }
-    ensures pair { OnOk result (TakesPair from to packets.old.items packets.new.items here.old here.new (the slot.old) (the slot.new)) }
+    ensures pair { OnOk result (TakesPair from to packets.old.items packets.new.items
+        here.old here.new (the slot.old) (the slot.new)) }
 {
     match slot {
         Some(there) => take_pair(rt, packets, here, from, there, to),
@@ -156,7 +160,8 @@ fn take_one<R: Wait>(
 ) -> Result<(), AllocError>
     requires to { IsPlace (length slots.old.items) to }
     requires linked { to ≢ from → IsLinked from here.old to (remains_of to slots.old.items) }
-    ensures { OnOk result (TakesOne from to packets.old.items packets.new.items here.old here.new slots.old.items slots.new.items) }
+    ensures { OnOk result (TakesOne from to packets.old.items packets.new.items
+        here.old here.new slots.old.items slots.new.items) }
 {
     if to == from {
         return Ok(());
@@ -174,7 +179,8 @@ fn take_row<R: Wait>(
 ) -> Result<(), AllocError>
     requires few { length slots.old.items ≤ u16.MAX }
     requires linked { IsLinkedWith from here.old slots.old.items }
-    ensures { OnOk result (TakesRow from (length slots.old.items) packets.old.items packets.new.items here.old here.new slots.old.items slots.new.items) }
+    ensures { OnOk result (TakesRow from (length slots.old.items) packets.old.items packets.new.items
+        here.old here.new slots.old.items slots.new.items) }
 {
     let mut to: u16 = 0;
     while usize::from(to) < slots.len() {
@@ -195,7 +201,8 @@ fn take_from<R: Wait>(
     requires from { IsPlace (length slots.old.items) from }
     requires there { is_some (slot from slots.old.items) ≡ true }
     requires linked { IsLinkedWith from (remains_of from slots.old.items) slots.old.items }
-    ensures { OnOk result (TakesFrom from packets.old.items packets.new.items slots.old.items slots.new.items) }
+    ensures { OnOk result
+        (TakesFrom from packets.old.items packets.new.items slots.old.items slots.new.items) }
 {
     let Some(mut here) = slots[usize::from(from) - 1].take() else {
         unreachable!()

@@ -1,6 +1,5 @@
 //! What became of a message, asked in one turn.
 ghost use Rattle.std.specs.Prelude.{◌≡◌, []};
-ghost use Rattle.chorus_serve.specs.Desks.{seen};
 ghost use Rattle.law_machine.specs.Outcomes.{outcome};
 
 use crate::site::Site;
