@@ -8,11 +8,12 @@ use Rattle.chorus_net.specs.declared.closed.Closed.{Closed}
 use Rattle.chorus_explore.specs.Ends.{ExploresBy}
 use Rattle.chorus_show.specs.declared.status.Status.{Status}
 use Rattle.chorus_show.specs.declared.status.Status.TheVariants.{Memory, ReadFault, WriteFault, Worn}
+use Rattle.chorus_net.specs.Closing.{merge_of}
 use Rattle.chorus_nucleus.specs.declared.nucleus.Nucleus.{Nucleus}
 use Rattle.chorus_nucleus.specs.Passes.{layout_of}
 use Rattle.chorus_report.specs.declared.finished.Finished.{Finished}
 use Rattle.chorus_report.specs.Ending.{EndsReading, EndsWriting}
-use Rattle.chorus_report.specs.Headline.{HasClock, Runs, merge_of}
+use Rattle.chorus_report.specs.Headline.{HasClock, Runs}
 use Rattle.chorus_report.specs.Output.{EndsUnread, summary_of, text_of}
 use Rattle.chorus_report.specs.Reading.{ReadsNoFurther}
 use Rattle.chorus_report.proofs.Ends.{ends-memory, gave-up-writes, none-closed, reads-as}
