@@ -42,6 +42,13 @@ departed = now 4 (Act.Try first port 2 1) ∷ asks (now 2 (Act.Depart port 2 awa
 departed-is-early : (may two_sites departed (there 5 (Act.Early first port 1)) ≡ true) × (may two_sites departed (there 5 (Act.NoPort first port)) ≡ false) × (may two_sites departed (there 5 (Act.Accept first port 0)) ≡ false)
 departed-is-early = (refl, refl, refl)
 
+-- where the port has arrived, it accepts, and no message is early
+abbrev arrived : List Entry
+arrived = there 5 (Act.Arrive port 1) ∷ departed
+
+arrived-accepts : (may two_sites arrived (there 6 (Act.Accept first port 0)) ≡ true) × (may two_sites arrived (there 6 (Act.Early first port 1)) ≡ false)
+arrived-accepts = (refl, refl)
+
 -- a request is accepted, and posted again
 abbrev retried : List Entry
 retried =
@@ -52,6 +59,18 @@ retried =
 
 retried-is-already : (may two_sites retried (now 7 (Act.Already second port)) ≡ true) × (may two_sites retried (now 7 (Act.Full second port 1)) ≡ false) × (may two_sites retried (now 7 (Act.Accept second port 1)) ≡ false)
 retried-is-already = (refl, refl, refl)
+
+-- a later request of the client was not accepted
+abbrev called_again : List Entry
+called_again =
+    now 7 (posted second (Tag.Request 2 other) (Dest.Port port))
+    ∷ now 6 (Act.Cancel 1)
+    ∷ now 5 (Act.Accept first port 0)
+    ∷ now 4 (posted first (Tag.Request 1 other) (Dest.Port port))
+    ∷ made
+
+later-is-full : (may two_sites called_again (now 8 (Act.Full second port 1)) ≡ true) × (may two_sites called_again (now 8 (Act.Already second port)) ≡ false)
+later-is-full = (refl, refl)
 
 -- requests of n clients, seats 1 to n, are accepted
 abbrev accepts : ℕ → List Entry

@@ -42,6 +42,32 @@ one-is-chosen = (refl, refl)
 left-keeps-turns : may two_sites (now 11 (Act.Leave group port) ∷ one_by_one) (now 12 (Act.Choose second group (other ∷ []))) ≡ true
 left-keeps-turns = refl
 
+-- of three members the first is chosen, and leaves: the second is the next
+abbrev third : Ui
+third = record port { number = 3 }
+
+abbrev left : List Entry
+left =
+    now 8 (posted second Tag.Plain (Dest.One group))
+    ∷ now 7 (Act.Leave group port)
+    ∷ now 6 (Act.Choose first group (port ∷ []))
+    ∷ now 5 (posted first Tag.Plain (Dest.One group))
+    ∷ now 4 (Act.Join group third)
+    ∷ now 3 (Act.Join group other)
+    ∷ now 2 (Act.Join group port)
+    ∷ now 1 (Act.GroupMake group)
+    ∷ []
+
+second-is-next : (is_legal two_sites left ≡ true) × (may two_sites left (now 9 (Act.Choose second group (other ∷ []))) ≡ true) × (may two_sites left (now 9 (Act.Choose second group (third ∷ []))) ≡ false)
+second-is-next = (refl, refl, refl)
+
+-- where nobody has joined, nobody is chosen
+abbrev nobody : List Entry
+nobody = now 2 (posted first Tag.Plain (Dest.All group)) ∷ now 1 (Act.GroupMake group) ∷ []
+
+nobody-is-chosen : (may two_sites nobody (now 3 (Act.NoMember first group)) ≡ true) × (may two_sites nobody (now 3 (Act.Choose first group [])) ≡ false)
+nobody-is-chosen = (refl, refl)
+
 -- none is located on the second site
 none-there : (may two_sites (asks (Dest.OneAt group 2)) (now 9 (Act.NoMember first group)) ≡ true) × (may two_sites (asks (Dest.OneAt group 1)) (now 9 (Act.NoMember first group)) ≡ false) × (may two_sites (asks (Dest.OneAt group 1)) (now 9 (Act.Choose first group (port ∷ []))) ≡ true)
 none-there = (refl, refl, refl)

@@ -1,5 +1,5 @@
 -- Names: legal lists on sites of 1, 2 and 4 places, and lists of which the laws of names are not so.
-use Rattle.std.proofs.Common.{ℕ, ◌≡◌, ◌≤◌, ◌-◌, true, false, List, [], ◌∷◌, Option, Some, refl, arith}
+use Rattle.std.proofs.Common.{ℕ, zero, suc, ◌≡◌, ◌≤◌, ◌+◌, ◌-◌, ◌*◌, true, false, List, [], ◌∷◌, Option, Some, refl, arith}
 use Rattle.std.proofs.lemmas.Bool.{false≢true}
 use Rattle.chorus_ui.specs.declared.kind.Kind.TheVariants as kinds
 use Rattle.chorus_ui.specs.declared.layout.Layout.{Layout}
@@ -42,6 +42,14 @@ of-two = (refl, refl)
 
 of-four : (is_legal (of_places 4) (at_place 4 3 (Act.Make (port_of 8) (actor_of 8) 1) ∷ at_place 4 2 (Act.Make (port_of 4) (actor_of 4) 1) ∷ at_place 1 1 (Act.Make (port_of 1) (actor_of 5) 1) ∷ []) ≡ true) × (may (of_places 4) (at_place 1 1 (Act.Make (port_of 1) (actor_of 1) 1) ∷ []) (at_place 1 2 (Act.Make (port_of 5) (actor_of 1) 1)) ≡ true)
 of-four = (refl, refl)
+
+-- a place of two makes sixteen of a site's ports, and no more
+abbrev makes : ℕ → List Entry
+makes zero = []
+makes (suc n) = at_place 1 (n + 1) (Act.Make (port_of (n * 2 + 1)) (actor_of 1) 1) ∷ makes n
+
+makes-its-share : (is_legal (of_places 2) (makes 16) ≡ true) × (may (of_places 2) (makes 16) (at_place 1 17 (Act.MakeFull (actor_of 1))) ≡ true) × (may (of_places 2) (makes 16) (at_place 1 17 (Act.Make (port_of 33) (actor_of 1) 1)) ≡ false) × (may (of_places 2) (makes 15) (at_place 1 17 (Act.MakeFull (actor_of 1))) ≡ false)
+makes-its-share = (refl, refl, refl, refl)
 
 -- The port 2 of a site of two places is at the second one, and the first actor, whose home is the first, comes to hold it. A NotHere of
 -- this port at the actor's home may stand in a run, but it answers no command of the actor: these go to the second place.
