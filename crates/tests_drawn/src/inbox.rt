@@ -1,7 +1,7 @@
 //! What a place is to receive, and which packet it is to have in hand.
 
+use crate::callers::PLACES;
 use crate::counting::kind_of;
-use crate::net::PLACES;
 use chorus_entry::Packet;
 
 /// The packets that a place is still to receive, and the one that it is to have in hand.
@@ -48,8 +48,8 @@ impl Inbox {
         kind
     }
 
-    /// Takes the next packet into the hand of the place of this number, where nothing is in it: the first one from the place behind the
-    /// last one, on and around. Gives its kind, where it did.
+    /// Takes the next packet into the hand of the place of this number, where nothing is in it: the first one from the
+    /// place behind the last one, on and around. Gives its kind, where it did.
     pub(crate) fn take_next(&mut self, number: u16) -> Option<usize> {
         if self.hand.is_some() {
             return None;

@@ -1,22 +1,33 @@
-//! Tests of a place with packets and commands that are drawn, lawful and not, by public items alone. They stand apart, so that no crate
-//! below is proved twice.
+//! Tests of a place that receives packets by its links and is given commands, drawn ones, lawful and not, by public
+//! items alone. They stand apart, so that no crate below is proved twice.
 //!
-//! `generating` has the test of a place that is handed packets, `serving` that of a place that receives them by its links. `drawing`
-//! draws, `net` has the callers, `ground` what ends a test, `counting` what a turn leads to, and `inbox` what a place is
-//! to receive.
+//! `serving` has the test and the rules that it reads; `fates` what is to become of a packet in hand, `sent` what a
+//! place sends, `side` the place with its links and callers, `inbox` what it is to receive, `counting` what a turn
+//! leads to, `ground` what ends a test. Of the numbers in `draws`, `things`, names and messages, are made, and of these
+//! the `commands` and `packets`; `callers` give the commands.
 #![tactic(auto)]
 
 #[cfg(test)]
+mod callers;
+#[cfg(test)]
+mod commands;
+#[cfg(test)]
 mod counting;
 #[cfg(test)]
-mod drawing;
+mod draws;
 #[cfg(test)]
-mod generating;
+mod fates;
 #[cfg(test)]
 mod ground;
 #[cfg(test)]
 mod inbox;
 #[cfg(test)]
-mod net;
+mod packets;
+#[cfg(test)]
+mod sent;
 #[cfg(test)]
 mod serving;
+#[cfg(test)]
+mod side;
+#[cfg(test)]
+mod things;

@@ -1,6 +1,6 @@
 //! Names, decimals and the places of a layout. What is not as it is to be ends the test.
 
-use chorus_ui::{Kind, Layout, Ui, is_decimal, parse_decimal, push_decimal};
+use chorus_ui::{Kind, Layout, Ui};
 use std::alloc::Global;
 use std::process::Abort;
 
@@ -88,78 +88,6 @@ fn names_are_parsed_one_way(rt: HostRuntime) {
     assert_names(&rt, rt.alloc());
     assert_no_names(&rt);
     assert_no_bits(&rt);
-}
-
-/// The names that have these texts.
-fn names_of(rt: &impl Abort, alloc: Global, texts: &[&[u8]]) -> Vec<Ui> {
-    let mut names = Vec::new(alloc);
-    for text in texts.iter() {
-        names.push(named(rt, text)).expect(rt, "memory");
-    }
-    names
-}
-
-fn assert_ordered(rt: &impl Abort, alloc: Global) {
-    let texts: [&[u8]; 5] = [b"2.a.1", b"1.g.1", b"1.p.2", b"1.a.9", b"1.p.1"];
-    let ordered: [&[u8]; 5] = [b"1.a.9", b"1.p.1", b"1.p.2", b"1.g.1", b"2.a.1"];
-    let mut names = names_of(rt, alloc, &texts);
-    names.sort().expect(rt, "memory");
-    assert!(rt; names.as_slice() == names_of(rt, alloc, &ordered).as_slice());
-}
-
-#[test]
-fn names_are_ordered_by_site_kind_and_number(rt: HostRuntime) {
-    assert_ordered(&rt, rt.alloc());
-}
-
-fn assert_number_written(rt: &impl Abort, alloc: Global, number: u64, text: &[u8]) {
-    let mut out = Vec::from_slice(alloc, b"> ").expect(rt, "memory");
-    push_decimal(number, &mut out).expect(rt, "memory");
-    assert_written(rt, out.as_slice(), text);
-}
-
-fn assert_decimals(rt: &impl Abort, alloc: Global) {
-    let numbers: [(&[u8], u64); 5] = [
-        (b"0", 0),
-        (b"7", 7),
-        (b"10", 10),
-        (b"1099511627776", 1_099_511_627_776),
-        (b"18446744073709551615", u64::MAX),
-    ];
-    for (text, number) in numbers {
-        assert!(rt; parse_decimal(text) == Some(number));
-        assert_number_written(rt, alloc, number, text);
-    }
-}
-
-/// No number has the text, which is a decimal all the same or is not.
-fn assert_no_number(rt: &impl Abort, text: &[u8], decimal: bool) {
-    assert!(rt; is_decimal(text) == decimal);
-    assert!(rt; parse_decimal(text).is_none());
-}
-
-fn assert_no_numbers(rt: &impl Abort) {
-    let texts: [(&[u8], bool); 10] = [
-        (b"18446744073709551616", true),
-        (b"18446744073709551620", true),
-        (b"99999999999999999999999", true),
-        (b"", false),
-        (b"00", false),
-        (b"07", false),
-        (b"+1", false),
-        (b"-1", false),
-        (b"1 ", false),
-        (b"000000000000000000000000", false),
-    ];
-    for (text, decimal) in texts {
-        assert_no_number(rt, text, decimal);
-    }
-}
-
-#[test]
-fn decimals_have_one_spelling(rt: HostRuntime) {
-    assert_decimals(&rt, rt.alloc());
-    assert_no_numbers(&rt);
 }
 
 fn layout(rt: &impl Abort, sites: u16, turns: u16) -> Layout {

@@ -6,7 +6,7 @@ use chorus_entry::{Body, Command, Dest};
 use chorus_ui::{CLOCK_LIMIT, Kind, Ui};
 use std::alloc::Global;
 use std::process::Abort;
-use tests_ground::{Net, assert_ends};
+use tests_ground::{assert_ends, start};
 
 fn named(rt: &impl Abort, text: &str) -> Ui {
     Ui::parse(text.as_bytes()).expect(rt, "a name")
@@ -45,7 +45,7 @@ told
 fn at_most_once_table_fills(rt: HostRuntime) {
     let alloc = rt.alloc();
     let ground = Ground { rt: &rt };
-    let mut net = Net::start(&ground, alloc, 1, 1);
+    let mut net = start(&ground, alloc, 1, 1);
     let port = named(&rt, "1.p.1");
     let actor = named(&rt, "1.a.1");
     let capacity = 64;
@@ -77,7 +77,7 @@ fn deleted_full(rt: &impl Abort, alloc: Global) -> String {
 fn a_full_port_is_deleted(rt: HostRuntime) {
     let alloc = rt.alloc();
     let ground = Ground { rt: &rt };
-    let mut net = Net::start(&ground, alloc, 1, 1);
+    let mut net = start(&ground, alloc, 1, 1);
     let port = named(&rt, "1.p.1");
     let actor = named(&rt, "1.a.1");
     let capacity = 64;
@@ -105,7 +105,7 @@ told
 #[test]
 fn group_has_at_most_32_members(rt: HostRuntime) {
     let ground = Ground { rt: &rt };
-    let mut net = Net::start(&ground, rt.alloc(), 1, 1);
+    let mut net = start(&ground, rt.alloc(), 1, 1);
     let group = named(&rt, "1.g.1");
     net.act(&ground, 0, Command::GroupMake { site: 1 });
     for number in 1..=33 {
@@ -128,7 +128,7 @@ told
 #[test]
 fn worn_at_the_clock_limit(rt: HostRuntime) {
     let ground = Ground { rt: &rt };
-    let mut net = Net::start(&ground, rt.alloc(), 1, 1);
+    let mut net = start(&ground, rt.alloc(), 1, 1);
     let actor = named(&rt, "1.a.1");
     let port = named(&rt, "1.p.1");
     for last in [CLOCK_LIMIT, 4_611_686_018_427_387_903, 0] {

@@ -1,12 +1,13 @@
 //! What the program prints is audited, and drawn, by the program.
 
 use crate::running::{Run, assert_prints, assert_same, run_on};
-use crate::texts::{NOTHING, ON_ONE_SITE_PRINTED, RETRY_ACROSS_A_MOVE};
+use crate::texts::NOTHING;
 use chorus_show::Status;
 use std::alloc::Global;
 use std::process::Abort;
 use std::sync::Wait;
 use std::thread::Threads;
+use tests_rows::{FULL_THEN_TAKEN_THEN_EMPTY, RETRY_ACROSS_A_MOVE_IS_ACCEPTED_ONCE};
 
 /// What the program prints for the scenario.
 fn replayed(rt: &(impl Abort + Threads + Wait + Sync), alloc: Global, scenario: &str) -> String {
@@ -33,13 +34,14 @@ fn assert_nothing_is_audited(rt: &(impl Abort + Threads + Wait + Sync), alloc: G
 }
 
 fn assert_a_move_is_audited(rt: &(impl Abort + Threads + Wait + Sync), alloc: Global) {
-    let moved = replayed(rt, alloc, RETRY_ACROSS_A_MOVE);
+    let moved = replayed(rt, alloc, RETRY_ACROSS_A_MOVE_IS_ACCEPTED_ONCE.text);
     assert_audited(rt, alloc, moved.as_str(), "legal 27\n");
 }
 
 fn assert_eight_sites_are_audited(rt: &(impl Abort + Threads + Wait + Sync), alloc: Global) {
     let words = ["audit", "8", "1"];
-    assert_prints(rt, alloc, &words, ON_ONE_SITE_PRINTED, "legal 8\n");
+    let journal = FULL_THEN_TAKEN_THEN_EMPTY.printed;
+    assert_prints(rt, alloc, &words, journal, "legal 8\n");
 }
 
 /// A port is made on the last site, at its first place: the last but three of 64, and of no place where each site has one.
@@ -72,7 +74,7 @@ fn assert_four_places_a_site_are_audited(rt: &(impl Abort + Threads + Wait + Syn
 
 /// Draws what is printed for a port that moves. `tests_picture` has what stands in a picture.
 fn assert_a_move_is_drawn(rt: &(impl Abort + Threads + Wait + Sync), alloc: Global) {
-    let moved = replayed(rt, alloc, RETRY_ACROSS_A_MOVE);
+    let moved = replayed(rt, alloc, RETRY_ACROSS_A_MOVE_IS_ACCEPTED_ONCE.text);
     let run = run_on(rt, alloc, &["picture", "16", "1"], moved.as_str());
     let drawn = run.written.as_bytes();
     assert_same(rt, run.status, Status::Done, "picture");

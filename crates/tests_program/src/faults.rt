@@ -4,12 +4,12 @@
 
 use crate::running::{Run, assert_same, run_over, source_of};
 use crate::short::Short;
-use crate::texts::{RETRY_ACROSS_A_MOVE, RETRY_ACROSS_A_MOVE_PRINTED};
 use chorus_show::Status;
 use std::alloc::Global;
 use std::process::Abort;
 use std::sync::Wait;
 use std::thread::Threads;
+use tests_rows::RETRY_ACROSS_A_MOVE_IS_ACCEPTED_ONCE;
 
 /// What a load of 100 commands from 7 writes, worked out by another program.
 const LOADED: &str =
@@ -23,7 +23,12 @@ fn run(
     read: u64,
     write: u64,
 ) -> Run {
-    let whole = source_of(rt, alloc, RETRY_ACROSS_A_MOVE, &[read]);
+    let whole = source_of(
+        rt,
+        alloc,
+        RETRY_ACROSS_A_MOVE_IS_ACCEPTED_ONCE.text,
+        &[read],
+    );
     run_over(rt, alloc, words, &mut Short { whole }, 1, &[write])
 }
 
@@ -62,7 +67,7 @@ fn assert_each_write_fails(
 
 #[test]
 fn each_write_of_a_replay_fails(rt: HostRuntime) {
-    let whole = RETRY_ACROSS_A_MOVE_PRINTED;
+    let whole = RETRY_ACROSS_A_MOVE_IS_ACCEPTED_ONCE.printed;
     assert_each_write_fails(&rt, rt.alloc(), &["replay"], whole);
 }
 
@@ -86,8 +91,8 @@ fn assert_writes_all(
 /// Asserts that a replay reads each byte and then finds the end, and where a read fails, writes nothing.
 fn assert_each_read_fails(rt: &(impl Abort + Threads + Wait + Sync), alloc: Global) {
     let words = ["replay"];
-    let whole = RETRY_ACROSS_A_MOVE_PRINTED;
-    let reads = RETRY_ACROSS_A_MOVE.len() as u64;
+    let whole = RETRY_ACROSS_A_MOVE_IS_ACCEPTED_ONCE.printed;
+    let reads = RETRY_ACROSS_A_MOVE_IS_ACCEPTED_ONCE.text.len() as u64;
     for read in 0..=reads {
         let run = run(rt, alloc, &words, read.saturating_add(1), 0);
         assert_ended(rt, &run, Status::ReadFault, whole, 0);

@@ -1,15 +1,14 @@
 //! What the program prints for worked scenarios: replayed, and those of one script also run on threads.
 
 use crate::running::assert_prints;
-use crate::texts::{
-    ON_ONE_SITE, ON_ONE_SITE_PRINTED, ON_SIXTEEN_SITES, ON_SIXTEEN_SITES_PRINTED,
-    RETRY_ACROSS_A_MOVE, RETRY_ACROSS_A_MOVE_PRINTED,
-};
+use crate::texts::{ON_SIXTEEN_SITES, ON_SIXTEEN_SITES_PRINTED};
+use tests_rows::{FULL_THEN_TAKEN_THEN_EMPTY, RETRY_ACROSS_A_MOVE_IS_ACCEPTED_ONCE};
 
 #[test]
 fn worked_scenarios_are_printed(rt: HostRuntime) {
+    let row = RETRY_ACROSS_A_MOVE_IS_ACCEPTED_ONCE;
     for (scenario, printed) in [
-        (RETRY_ACROSS_A_MOVE, RETRY_ACROSS_A_MOVE_PRINTED),
+        (row.text, row.printed),
         (ON_SIXTEEN_SITES, ON_SIXTEEN_SITES_PRINTED),
     ] {
         assert_prints(&rt, rt.alloc(), &["replay"], scenario, printed);
@@ -25,7 +24,8 @@ fn one_script_runs_as_it_is_replayed(rt: HostRuntime) {
         &["run", "2"],
         &["run", "4"],
     ];
+    let row = FULL_THEN_TAKEN_THEN_EMPTY;
     for words in each {
-        assert_prints(&rt, rt.alloc(), words, ON_ONE_SITE, ON_ONE_SITE_PRINTED);
+        assert_prints(&rt, rt.alloc(), words, row.text, row.printed);
     }
 }

@@ -15,8 +15,9 @@ const POSTS_NOTHING: &str =
 const POSTS_ONE: &str =
     "summary\nposted 1\naccepted 1\ntaken 0\nqueued 1\nmoving 0\nrefused 0\nstale 0\ndeparts 0\nend\n";
 
-/// The load of 14 commands from 15768 on, worked out by hand from the draws: a is `(r / 512) mod 8 + 1`, b is `(r / 4096) mod 8 + 1`, and a
-/// delivery that finds no packet does nothing. A Try, and each packet that comes back, waits for a delivery or for the drain.
+/// The load of 14 commands from 15768 on, worked out by hand from the draws: a is `(r / 512) mod 8 + 1`, b is `(r /
+/// 4096) mod 8 + 1`, and a delivery that finds no packet does nothing. A Try, and each packet that comes back, waits
+/// for a delivery or for the drain.
 ///
 /// | i | r mod 8 | p | q | a | b | seat and command | what it does, and what is delivered |
 /// |---|---|---|---|---|---|---|---|
@@ -35,13 +36,14 @@ const POSTS_ONE: &str =
 /// | 13 | 7 | 6 | 8 | 4 | 8 | 5 moves `6.p.1` to `8.a.1` | not here: `6.a.1` holds it; nothing waits from 4 to 8 |
 /// | 14 | 5 | 3 | 2 | 5 | 1 | 6 takes of `3.p.1` | not here: `3.a.1` holds it; nothing waits from 5 to 1 |
 ///
-/// The drain goes from place 1 on. In its first round 3:1 comes from 3 to 1 before the port comes from 8 to 1: it is early, and refused.
-/// The others are accepted: 2:2, 4:2, 5:1, 6:1, and of the two posts to the group 4:1 by its first member `1.p.1` and 7:1 by `2.p.1`.
-/// Nine were posted; eight were accepted, of which one was taken.
+/// The drain goes from place 1 on. In its first round 3:1 comes from 3 to 1 before the port comes from 8 to 1: it is
+/// early, and refused. The others are accepted: 2:2, 4:2, 5:1, 6:1, and of the two posts to the group 4:1 by its first
+/// member `1.p.1` and 7:1 by `2.p.1`. Nine were posted; eight were accepted, of which one was taken.
 const POSTS_NINE: &str =
     "summary\nposted 9\naccepted 8\ntaken 1\nqueued 7\nmoving 0\nrefused 1\nstale 1\ndeparts 1\nend\n";
 
-/// The load of 2,000 commands from 7 on, by an independent simulator: all eight ports are full at the end, with 64 messages each.
+/// The load of 2,000 commands from 7 on, by an independent simulator: all eight ports are full at the end, with 64
+/// messages each.
 const FILLS_ALL_PORTS: &str =
     "summary\nposted 1276\naccepted 555\ntaken 43\nqueued 512\nmoving 0\nrefused 721\nstale 140\ndeparts 20\nend\n";
 
@@ -105,7 +107,8 @@ fn number(rt: &impl Abort, summary: &str, word: &str) -> u64 {
     panic!(rt; "no line {word}")
 }
 
-/// Asserts that what was accepted or refused was posted, that what was accepted waits or was taken, and that nothing moves.
+/// Asserts that what was accepted or refused was posted, that what was accepted waits or was taken, and that nothing
+/// moves.
 fn assert_adds_up(rt: &impl Abort, summary: &str) {
     let accepted = number(rt, summary, "accepted ");
     let settled = accepted.saturating_add(number(rt, summary, "refused "));

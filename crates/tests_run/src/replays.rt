@@ -1,107 +1,15 @@
-//! What scenarios of one site print, and how texts, sources and sinks end a run.
+//! What scenarios print that are no worked rows.
 
-use crate::running::{
-    assert_done, assert_ended, assert_prints, assert_refused, assert_same, replayed,
-    replayed_on_two_places_each,
-};
+use crate::running::{assert_prints, assert_same, replayed};
 use chorus_show::Status;
 use std::alloc::Global;
 use std::fmt::Write;
 use std::process::Abort;
 
-const NOTHING: &str = "chorus 1\nsites 1\nscript 1.a.1\nschedule\nend";
+pub(crate) const NOTHING: &str = "chorus 1\nsites 1\nscript 1.a.1\nschedule\nend";
 
-const PRINTS_NOTHING: &str =
+pub(crate) const PRINTS_NOTHING: &str =
     "journal 0\nsummary\nposted 0\naccepted 0\ntaken 0\nqueued 0\nmoving 0\nrefused 0\nstale 0\ndeparts 0\nend\n";
-
-const TWO_TURNS: &str =
-    "chorus 1\nsites 1\nport 1.p.2 1.a.2 4\nscript 1.a.1\nsend 1.p.2 =x\nschedule\nend\n";
-
-const PRINTS_TWO_TURNS: &str = "\
-journal 5
-1 2 0 make 1.p.2 1.a.2 4
-2 1 1 post 1:1:0 port 1.p.2 plain =x
-3 1 1 try 1:1:0 1.p.2 2 0
-4 2 0 accept 1:1:0 1.p.2 0
-5 1 0 told 1:1:0 accepted 0
-summary
-posted 1
-accepted 1
-taken 0
-queued 1
-moving 0
-refused 0
-stale 0
-departs 0
-end
-";
-
-const MOVE_TO_ANOTHER_SITE: &str =
-    "chorus 1\nsites 2\nport 1.p.2 1.a.2 4\nscript 1.a.2\nmove 1.p.2 2.a.1\nschedule\nend\n";
-
-const PRINTS_MOVE_TO_ANOTHER_SITE: &str = "\
-journal 3
-1 2 0 make 1.p.2 1.a.2 4
-2 2 1 depart 1.p.2 4 2.a.1 1
-3 4 0 arrive 1.p.2 1
-summary
-posted 0
-accepted 0
-taken 0
-queued 0
-moving 0
-refused 0
-stale 0
-departs 1
-end
-";
-
-const TAKEN_THEN_EMPTY: &str =
-    "chorus 1\nsites 1\nport 1.p.1 1.a.1 1\nscript 1.a.1\nsend 1.p.1 =a\nsend 1.p.1 =b\ntake 1.p.1\ntake 1.p.1\ntake 1.p.1\nschedule\nend\n";
-
-const PRINTS_TAKEN_THEN_EMPTY: &str = "\
-journal 8
-1 1 0 make 1.p.1 1.a.1 1
-2 1 1 post 1:1:0 port 1.p.1 plain =a
-3 1 1 accept 1:1:0 1.p.1 0
-4 1 1 post 1:2:0 port 1.p.1 plain =b
-5 1 1 full 1:2:0 1.p.1 1
-6 1 1 take 1.p.1 0 1:1:0
-7 1 1 empty 1.p.1
-8 1 1 empty 1.p.1
-summary
-posted 2
-accepted 1
-taken 1
-queued 0
-moving 0
-refused 1
-stale 0
-departs 0
-end
-";
-
-const NO_PORT: &str =
-    "chorus 1\nsites 1\nport 1.p.1 1.a.1 2\nscript 1.a.1\nsend 1.p.9 =x\nsend 1.p.1 =y\nschedule\nend";
-
-const PRINTS_NO_PORT: &str = "\
-journal 5
-1 1 0 make 1.p.1 1.a.1 2
-2 1 1 post 1:1:0 port 1.p.9 plain =x
-3 1 1 no-port 1:1:0 1.p.9
-4 1 1 post 1:2:0 port 1.p.1 plain =y
-5 1 1 accept 1:2:0 1.p.1 0
-summary
-posted 2
-accepted 1
-taken 0
-queued 1
-moving 0
-refused 1
-stale 0
-departs 0
-end
-";
 
 const PERCENT: &str =
     "chorus 1\nsites 1\nport 1.p.1 1.a.1 1\nscript 1.a.1\nsend 1.p.1 =100%\nschedule\nend";
@@ -123,7 +31,8 @@ departs 0
 end
 ";
 
-/// Three scripts of two actors, whose steps the schedule interleaves; the commands that it leaves come script by script.
+/// Three scripts of two actors, whose steps the schedule interleaves; the commands that it leaves come script by
+/// script.
 const INTERLEAVED: &str = "\
 chorus 2
 sites 1
@@ -220,16 +129,6 @@ fn empty_scenario(rt: HostRuntime) {
 }
 
 #[test]
-fn full_then_taken_then_empty(rt: HostRuntime) {
-    assert_prints(&rt, rt.alloc(), TAKEN_THEN_EMPTY, PRINTS_TAKEN_THEN_EMPTY);
-}
-
-#[test]
-fn no_port(rt: HostRuntime) {
-    assert_prints(&rt, rt.alloc(), NO_PORT, PRINTS_NO_PORT);
-}
-
-#[test]
 fn percent_is_escaped(rt: HostRuntime) {
     assert_prints(&rt, rt.alloc(), PERCENT, PRINTS_PERCENT);
 }
@@ -250,7 +149,7 @@ fn another_actor_holds_the_port(rt: HostRuntime) {
 }
 
 /// So many letters.
-fn letters(rt: &impl Abort, alloc: Global, count: usize) -> String {
+pub(crate) fn letters(rt: &impl Abort, alloc: Global, count: usize) -> String {
     let mut text = String::new(alloc);
     for _ in 0..count {
         text.push('b').expect(rt, "memory");
@@ -346,112 +245,4 @@ fn assert_sixteen_scripts(rt: &impl Abort, alloc: Global) {
 #[test]
 fn sixteen_scripts_are_replayed(rt: HostRuntime) {
     assert_sixteen_scripts(&rt, rt.alloc());
-}
-
-/// Asserts that a body of 241 bytes is refused.
-fn assert_long_body_is_refused(rt: &impl Abort, alloc: Global) {
-    let body = letters(rt, alloc, 241);
-    let text = format!(in alloc;
-        "chorus 1\nsites 1\nscript 1.a.1\nsend 1.p.1 ={body}\nschedule\nend"
-    ).expect(rt, "memory");
-    assert_refused(rt, alloc, text.as_str(), 4, 6);
-}
-
-#[test]
-fn limits_are_refused_with_line_and_reason(rt: HostRuntime) {
-    assert_long_body_is_refused(&rt, rt.alloc());
-    let none = "chorus 1\nsites 1\nport 1.p.1 1.a.1 0\nschedule\nend";
-    assert_refused(&rt, rt.alloc(), none, 3, 6);
-    let many = "chorus 1\nsites 1\nport 1.p.1 1.a.1 65\nschedule\nend";
-    assert_refused(&rt, rt.alloc(), many, 3, 6);
-}
-
-#[test]
-fn unfinished_and_unknown_texts(rt: HostRuntime) {
-    let unfinished = "chorus 1\nsites 1\nschedule\n";
-    assert_refused(&rt, rt.alloc(), unfinished, 4, 9);
-    let no_site = "chorus 1\nsites 2\nscript 3.a.1\nschedule\nend";
-    assert_refused(&rt, rt.alloc(), no_site, 3, 4);
-    let no_step = "chorus 1\nsites 1\nscript 1.a.1\nschedule\nstep 1\nend";
-    assert_refused(&rt, rt.alloc(), no_step, 5, 10);
-    assert_refused(&rt, rt.alloc(), "", 1, 9);
-}
-
-fn assert_prints_on_two_places_each(rt: &impl Abort, alloc: Global, text: &str, printed: &str) {
-    let run = replayed_on_two_places_each(rt, alloc, text);
-    assert_done(rt, &run, printed, text);
-}
-
-#[test]
-fn two_turns_per_site(rt: HostRuntime) {
-    assert_prints_on_two_places_each(&rt, rt.alloc(), TWO_TURNS, PRINTS_TWO_TURNS);
-    assert_prints_on_two_places_each(
-        &rt,
-        rt.alloc(),
-        MOVE_TO_ANOTHER_SITE,
-        PRINTS_MOVE_TO_ANOTHER_SITE,
-    );
-}
-
-/// Asserts that a text of so many empty lines is refused with this line and reason.
-fn assert_lines_are_refused(rt: &impl Abort, alloc: Global, count: usize, line: u32, reason: u8) {
-    let text = vec![in alloc; b'\n'; count].expect(rt, "memory");
-    let run = replayed(rt, alloc, &text, &[], 4096, &[]);
-    assert_same(rt, run.status, Status::Scenario { line, reason }, count);
-}
-
-#[test]
-fn long_texts_are_refused(rt: HostRuntime) {
-    assert_lines_are_refused(&rt, rt.alloc(), 4_194_304, 4_194_305, 9);
-    assert_lines_are_refused(&rt, rt.alloc(), 4_194_305, 0, 6);
-}
-
-fn assert_short_sink_fails(rt: &impl Abort, alloc: Global) {
-    let run = replayed(rt, alloc, TAKEN_THEN_EMPTY.as_bytes(), &[], 5, &[2]);
-    assert_ended(rt, &run, Status::WriteFault, "journ", "a short sink");
-    assert!(rt; run.closed);
-}
-
-#[test]
-fn short_sink_fails_midway(rt: HostRuntime) {
-    assert_short_sink_fails(&rt, rt.alloc());
-}
-
-/// Asserts how the run ends where this read fails, and what it wrote.
-fn assert_read_fails(rt: &impl Abort, alloc: Global, call: u64, status: Status, written: &str) {
-    let text = TAKEN_THEN_EMPTY.as_bytes();
-    let run = replayed(rt, alloc, text, &[call], 4096, &[]);
-    assert_ended(rt, &run, status, written, "a source that fails");
-}
-
-/// Asserts how the run ends where this write of one byte fails, and how many bytes it wrote.
-fn assert_write_fails(rt: &impl Abort, alloc: Global, call: u64, status: Status, count: u64) {
-    let run = replayed(rt, alloc, NOTHING.as_bytes(), &[], 1, &[call]);
-    assert_same(rt, run.status, status, call);
-    assert_same(rt, run.written.len() as u64, count, call);
-    assert!(rt;
-        PRINTS_NOTHING.starts_with(run.written.as_str()),
-        "at {call}"
-    );
-}
-
-fn assert_each_write_fails(rt: &impl Abort, alloc: Global) {
-    for count in 0..96_u64 {
-        assert_write_fails(rt, alloc, count + 1, Status::WriteFault, count);
-    }
-    assert_write_fails(rt, alloc, 97, Status::Done, 96);
-}
-
-#[test]
-fn faults_of_source_and_sink(rt: HostRuntime) {
-    assert_read_fails(&rt, rt.alloc(), 1, Status::ReadFault, "");
-    assert_read_fails(&rt, rt.alloc(), 2, Status::ReadFault, "");
-    assert_read_fails(
-        &rt,
-        rt.alloc(),
-        1_000_000,
-        Status::Done,
-        PRINTS_TAKEN_THEN_EMPTY,
-    );
-    assert_each_write_fails(&rt, rt.alloc());
 }

@@ -10,16 +10,6 @@ use chorus_show::entry_line;
 use std::alloc::Global;
 use std::process::Abort;
 
-const LINES: &str = "\
-1 2 0 make 2.p.1 2.a.1 4
-2 1 1 post 1:1:0 port 2.p.1 plain =hi
-2 2 2 post 2:1:0 port 2.p.1 plain =yo
-3 1 1 try 1:1:0 2.p.1 2 0
-3 2 2 accept 2:1:0 2.p.1 0
-4 2 0 accept 1:1:0 2.p.1 1
-5 1 0 told 1:1:0 accepted 1
-";
-
 /// What a place does for callers, on a ground of this type. The rows are written over this, so that they know of a place no more than
 /// they ask.
 trait Works<R: Abort>: Drop {
@@ -129,11 +119,19 @@ fn assert_leave<R: Abort, D: Works<R>>(rt: &R, alloc: Global, pair: Pair<D>, lin
     assert_lines(rt, alloc, &journals, lines);
 }
 
+/// The lines of the journals of the row `two_sites_send_to_one_port`.
+fn lines_of_row(rt: &impl Abort) -> &'static str {
+    let printed = tests_rows::TWO_SITES_SEND_TO_ONE_PORT.printed;
+    let (_, lines) = printed.split_once("\n").expect(rt, "a journal");
+    let (lines, _) = lines.split_once("summary\n").expect(rt, "a summary");
+    lines
+}
+
 fn assert_packets_are_carried<R: Abort, D: Works<R>>(rt: &R, alloc: Global, mut pair: Pair<D>) {
     let mut keeper = Caller::new(0, name(rt, "1.a.1"), 0);
     act_at_both(rt, alloc, &mut pair, &mut keeper);
     assert_both_serve(rt, &mut pair, &mut keeper);
-    assert_leave(rt, alloc, pair, LINES);
+    assert_leave(rt, alloc, pair, lines_of_row(rt));
 }
 
 #[test]

@@ -57,27 +57,3 @@ fn assert_by_clock(rt: &impl Abort, alloc: Global) {
 fn merge_by_clock_then_place(rt: HostRuntime) {
     assert_by_clock(&rt, rt.alloc());
 }
-
-fn assert_by_journal(rt: &impl Abort, alloc: Global) {
-    let rows: [&[(u64, u16, u32)]; 4] = [
-        &[(1, 1, 0), (3, 1, 0)],
-        &[(1, 1, 1), (1, 1, 2), (9, 1, 3)],
-        &[],
-        &[(2, 2, 4), (1, 1, 5)],
-    ];
-    let want = [
-        (1, 1, 0),
-        (1, 1, 1),
-        (1, 1, 2),
-        (2, 2, 4),
-        (1, 1, 5),
-        (3, 1, 0),
-        (9, 1, 3),
-    ];
-    assert_merged(rt, alloc, &rows, &want);
-}
-
-#[test]
-fn equal_heads_go_by_journal(rt: HostRuntime) {
-    assert_by_journal(&rt, rt.alloc());
-}

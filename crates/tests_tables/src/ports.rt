@@ -1,10 +1,8 @@
-//! A port that decides, is taken from and moves. What is not as it is to be ends the test.
-
-ghost use Rattle.chorus_ports.specs.Limits.{IsWithinLimits};
+//! A port whose clients are as many as it remembers. What is not as it is to be ends the test.
 
 use crate::ground::{named, numbered, port};
-use chorus_entry::{Message, PENDING_LIMIT, PortRecord, Tag};
-use chorus_ports::{Accept, Ports, Taken};
+use chorus_entry::{Message, PENDING_LIMIT, Tag};
+use chorus_ports::{Accept, Ports};
 use chorus_ui::{Kind, Ui};
 use std::alloc::Global;
 use std::process::Abort;
@@ -39,14 +37,6 @@ fn offer(ports: &mut Ports, port: Ui, message: Message) -> Option<Accept> {
         return None;
     }
     Some(ports.accept(port, message))
-}
-
-/// Puts the record into the table.
-fn arrive(rt: &impl Abort, ports: &mut Ports, port: PortRecord)
-    requires { IsWithinLimits port }
-{
-    assert!(rt; ports.get(port.ui).is_none() && ports.spare() > 0);
-    ports.arrive(port);
 }
 
 /// What comes of a request: its position, or the reason.
@@ -87,83 +77,4 @@ fn assert_fills(rt: &impl Abort, alloc: Global) {
 #[test]
 fn at_most_once_table_fills(rt: HostRuntime) {
     assert_fills(&rt, rt.alloc());
-}
-
-/// What the actor takes, by position and number.
-fn taken(ports: &mut Ports, port: Ui, actor: Ui) -> Result<(u64, u32), &'static str> {
-    match ports.take(port, actor) {
-        Taken::Message { pos, message } => Ok((pos, message.id.number)),
-        Taken::Empty => Err("empty"),
-        Taken::NotHere => Err("not here"),
-    }
-}
-
-/// Gives the port to the actor.
-fn rehome(rt: &impl Abort, ports: &mut Ports, port: Ui, actor: Ui) {
-    assert!(rt; ports.get(port).is_some());
-    ports.rehome(port, actor);
-}
-
-/// The actors take these, one after another, by position and number.
-fn assert_taken(
-    rt: &impl Abort,
-    ports: &mut Ports,
-    port: Ui,
-    rows: &[(Ui, Result<(u64, u32), &'static str>)],
-) {
-    for (actor, want) in rows.iter() {
-        assert!(rt; taken(ports, port, *actor) == *want);
-    }
-}
-
-fn assert_len(rt: &impl Abort, ports: &Ports, len: u16, spare: u16) {
-    assert!(rt; ports.len() == len && ports.spare() == spare);
-}
-
-/// Moves the port from one table into the other, and it is not left.
-fn carry(rt: &impl Abort, here: &mut Ports, there: &mut Ports, port: Ui) {
-    let record = here.depart(port).expect(rt, "a record");
-    arrive(rt, there, record);
-    assert!(rt; here.depart(port).is_none());
-    assert!(rt; here.get(port).is_none());
-}
-
-/// The port is the last one in the table.
-fn assert_last(rt: &impl Abort, ports: &mut Ports, port: Ui) {
-    let record = ports.pop().expect(rt, "a record");
-    assert!(rt; record.ui == port);
-    assert!(rt; ports.is_empty() && ports.pop().is_none());
-}
-
-/// Two ports of the actor, of which the first one has three messages.
-fn two_ports(rt: &impl Abort, alloc: Global, moving: Ui, staying: Ui, old: Ui) -> Ports {
-    let mut here = table(rt, alloc, 2);
-    make(rt, &mut here, moving, old, 4);
-    make(rt, &mut here, staying, old, 4);
-    assert_len(rt, &here, 2, 0);
-    for number in 1..=3 {
-        offer(&mut here, moving, numbered(rt, alloc, number, Tag::Plain));
-    }
-    here
-}
-
-fn assert_moves(rt: &impl Abort, alloc: Global) {
-    let (moving, staying) = (port(rt, 1), port(rt, 2));
-    let (old, new) = (actor(rt, 1), actor(rt, 2));
-    let mut here = two_ports(rt, alloc, moving, staying, old);
-    let mut there = table(rt, alloc, 1);
-    let first = [(new, Err("not here")), (old, Ok((0, 1)))];
-    assert_taken(rt, &mut here, moving, &first);
-    rehome(rt, &mut here, moving, new);
-    assert_taken(rt, &mut here, moving, &[(old, Err("not here"))]);
-    carry(rt, &mut here, &mut there, moving);
-    assert_len(rt, &here, 1, 1);
-    let rest = [(new, Ok((1, 2))), (new, Ok((2, 3))), (new, Err("empty"))];
-    assert_taken(rt, &mut there, moving, &rest);
-    assert_last(rt, &mut here, staying);
-}
-
-#[test]
-fn a_port_moves_with_what_waits(rt: HostRuntime) {
-    assert_moves(&rt, rt.alloc());
 }

@@ -75,35 +75,6 @@ fn a_refusal_is_of_its_moment(rt: HostRuntime) {
     assert_rounds(&rt, rt.alloc());
 }
 
-fn assert_four_fit<R: Abort + Wait>(rt: &R, send: &mut SendEnd<u8>)
-    ensures { send_link send.new ≡ send_link send.old }
-{
-    assert!(rt; put(rt, send, 1).is_none());
-    assert!(rt; put(rt, send, 2).is_none());
-    assert!(rt; put(rt, send, 3).is_none());
-    assert!(rt; put(rt, send, 4).is_none());
-}
-
-fn assert_three_are_left<R: Abort + Wait>(rt: &R, mut rest: Rest<u8>) {
-    for packet in [Some(2), Some(3), Some(4), None, None] {
-        assert!(rt; rest.next(rt) == packet);
-    }
-}
-
-fn assert_rest<R: Abort + Wait>(rt: &R, alloc: Global) {
-    let Ok((mut send, mut recv)) = link(alloc, 4) else {
-        panic!(rt; "memory")
-    };
-    assert_four_fit(rt, &mut send);
-    assert!(rt; get(rt, &mut recv) == Some(1));
-    assert_three_are_left(rt, settle(send, recv));
-}
-
-#[test]
-fn the_rest_is_what_was_put_and_not_got(rt: HostRuntime) {
-    assert_rest(&rt, rt.alloc());
-}
-
 const MANY: u32 = 100_000;
 
 // Puts the numbers below MANY, each as often as it takes.

@@ -5,15 +5,13 @@ ghost use Rattle.std.specs.List.{All};
 ghost use Rattle.std.specs.Coded.{Coded-set};
 ghost use Rattle.atomic_table.specs.Seated.{table_id_coded};
 ghost use Rattle.chorus_turn.specs.Journals.{GrowsBy};
-ghost use Rattle.chorus_turn.specs.Passes.{places, table_of, IsPassOf, IsPlaceOf};
+ghost use Rattle.chorus_turn.specs.Passes.{places, table_of, IsPassOf};
 
 use chorus_entry::{Act, Entry};
-use chorus_turn::{Busy, Job, Kept, NoSeat, Pass, PassesOut, Turns};
-use chorus_ui::SEATS_LIMIT;
+use chorus_turn::{Busy, Job, Kept, Pass, PassesOut, Turns};
 use std::alloc::Global;
 use std::cell::Cell;
 use std::process::Abort;
-use std::thread::{Threads, join};
 
 // A journal alone. The cell takes no part: it keeps the state from being shared, though it may be sent.
 #[derive(Drop)]
@@ -110,19 +108,6 @@ impl<'a> Job<Log> for Inside<'a> {
             .is_ok();
         state.add(7, seat)
     }
-}
-
-/// One place, and the keeper's pass.
-fn start_one(rt: &impl Abort, alloc: Global) -> (Turns<Log>, Pass<u64>)
-    ensures { IsPassOf result.0 result.1 }
-{
-    let Ok(states) = vec![in alloc; Log::new(alloc)] else {
-        panic!(rt; "no memory")
-    };
-    let Ok(started) = Turns::start(alloc, states) else {
-        panic!(rt; "no memory")
-    };
-    started
 }
 
 /// Two places, and the keeper's pass.
@@ -234,96 +219,4 @@ fn assert_refuses_and_stays_open(rt: &impl Abort, alloc: Global) {
 #[test]
 fn turns_refuse_the_second_caller(rt: HostRuntime) {
     assert_refuses_and_stays_open(&rt, rt.alloc());
-}
-
-fn add_at(turns: &Turns<Log>, mut pass: Pass<u64>, place: u16, clock: u64) -> (bool, Pass<u64>)
-    requires { IsPassOf turns.now pass × IsPlaceOf turns.now place }
-    ensures { IsPassOf turns.now result.1 }
-{
-    let added = turns.with(&mut pass, place, &mut Add { clock }).is_ok();
-    (added, pass)
-}
-
-/// Each pass adds an entry at a place of its own, in a thread of its own.
-fn add_in_two_threads<R: Abort + Threads>(
-    rt: &R,
-    shared: &Turns<Log>,
-    first: Pass<u64>,
-    second: Pass<u64>,
-) -> (Pass<u64>, Pass<u64>)
-    requires passes { IsPassOf shared.now first × IsPassOf shared.now second }
-    requires places { 2 ≤ places shared.now }
-    ensures { IsPassOf shared.now result.0 × IsPassOf shared.now result.1 }
-{
-    let ((one, first), (two, second)) = join(
-        rt,
-        move || -> (bool, Pass<u64>)
-            requires { IsPassOf shared.now first × (2 ≤ places shared.now) }
-            ensures { IsPassOf shared.entry.now result.1 }
-        { add_at(shared, first, 1, 1) },
-        move || -> (bool, Pass<u64>)
-            requires { IsPassOf shared.now second × (2 ≤ places shared.now) }
-            ensures { IsPassOf shared.entry.now result.1 }
-        { add_at(shared, second, 2, 2) },
-    );
-    assert!(rt; one && two);
-    (first, second)
-}
-
-fn assert_two_threads_add<R: Abort + Threads>(rt: &R, alloc: Global) {
-    let (turns, mut first) = start_two(rt, alloc);
-    let second = admit(rt, &turns, &mut first);
-    let (first, second) = add_in_two_threads(rt, &turns, first, second);
-    let states = finish(rt, turns, first, second);
-    assert_two_entries(rt, &states, 1, 2);
-}
-
-#[test]
-fn two_passes_in_two_threads(rt: HostRuntime) {
-    assert_two_threads_add(&rt, rt.alloc());
-}
-
-// The places and the pass that draws numbers. That the pass is theirs holds always, so no loop owes it.
-#[derive(Drop)]
-struct Keeper<'a> {
-    turns: &'a Turns<Log>,
-    pass: Pass<u64>,
-    ghost mine: { IsPassOf turns.now pass } by { Coded-set table_id_coded
-        pass.badge.table_id (table_of turns.now) },
-}
-
-impl<'a> Keeper<'a> {
-    // The next pass, where a number is left.
-    fn admit(&mut self, rt: &impl Abort) -> Result<Pass<u64>, NoSeat> {
-        assert!(rt; self.pass.keeper());
-        self.turns.admit(&mut self.pass)
-    }
-}
-
-fn assert_draws(rt: &impl Abort, keeper: &mut Keeper<'_>, number: u32) {
-    let pass = keeper.admit(rt).ok().expect(rt, "a number");
-    assert!(rt; pass.seat() == number && !pass.keeper() && pass.made() == 0);
-}
-
-fn assert_draws_no_more(rt: &impl Abort, keeper: &mut Keeper<'_>) {
-    let full = keeper.admit(rt).err();
-    assert!(rt; full == Some(NoSeat { made: SEATS_LIMIT }));
-    assert!(rt; keeper.pass.made() == SEATS_LIMIT);
-}
-
-fn assert_draws_each_once(rt: &impl Abort, alloc: Global) {
-    let (turns, pass) = start_one(rt, alloc);
-    let mut keeper = Keeper {
-        turns: &turns,
-        pass,
-    };
-    for number in 1..SEATS_LIMIT {
-        assert_draws(rt, &mut keeper, number);
-    }
-    assert_draws_no_more(rt, &mut keeper);
-}
-
-#[test]
-fn every_number_is_drawn_once(rt: HostRuntime) {
-    assert_draws_each_once(&rt, rt.alloc());
 }

@@ -1,0 +1,130 @@
+//! What is to become of the packet in hand when a place is served, and that it does.
+
+use crate::counting::{Before, assert_is, assert_seen, assert_worked_off, effect_of, look_before};
+use chorus_calls::Caller;
+use chorus_ends::{Ends, Moves};
+use chorus_entry::Packet;
+use chorus_place::{Place, PlaceFault};
+use chorus_serve::{Desk, Pump, serve};
+use chorus_ui::CLOCK_LIMIT;
+use tests_ground::{Judge, check, look, must};
+
+/// What is to become of the packet that is in hand.
+#[derive(Clone, Copy, PartialEq, Eq)]
+pub(crate) enum Fate {
+    /// There is none.
+    Idle,
+    Worn { clock: u64 },
+    Kept { from: u16 },
+    WorkedOff { from: u16 },
+}
+
+/// What is to become of a packet from the place, where this is the greatest clock.
+fn fate_of(clock: u64, from: u16, is_lawful: bool) -> Fate {
+    if clock >= CLOCK_LIMIT {
+        return Fate::Worn { clock };
+    }
+    if is_lawful {
+        return Fate::WorkedOff { from };
+    }
+    Fate::Kept { from }
+}
+
+/// What is to become of the packet in hand, when the place is served.
+fn fate_of_hand(place: &Place, caller: &Caller, hand: Option<&Packet>) -> Fate {
+    match hand {
+        Some(packet) => {
+            let clock = place.clock().max(caller.last()).max(packet.clock);
+            fate_of(clock, packet.from, place.lawful(packet.from, packet))
+        }
+        None => Fate::Idle,
+    }
+}
+
+/// The answer of a place that has put and worked off so many packets before.
+fn answer(fate: Fate, put: u64, worked: u64) -> Result<Pump, PlaceFault> {
+    match fate {
+        Fate::Idle => Ok(Pump::Idle { put, worked }),
+        Fate::Worn { clock } => Err(PlaceFault::Worn { clock }),
+        Fate::Kept { from } | Fate::WorkedOff { from } => Ok(Pump::Served { from }),
+    }
+}
+
+/// Asserts that the packet was worked off.
+fn assert_done<E: Ends>(
+    judge: &impl Judge,
+    desk: &Desk<E>,
+    caller: &Caller,
+    old: &Before,
+    packet: Option<&Packet>,
+) {
+    let effect = effect_of(must(judge, packet, "a packet"));
+    assert_worked_off(judge, desk.place(), caller, old, effect);
+    check(judge, !desk.is_holding(), "an empty hand", "");
+}
+
+/// Asserts that nothing changed, and whether a packet is in hand.
+fn assert_rests<E: Ends>(
+    judge: &impl Judge,
+    desk: &Desk<E>,
+    caller: &Caller,
+    old: &Before,
+    is_holding: bool,
+) {
+    assert_seen(judge, &look(desk.place(), caller), &old.seen);
+    let is_roomy = old.spare <= desk.place().spare();
+    check(judge, is_roomy, "no room that is taken", "");
+    let is_same = desk.is_holding() == is_holding;
+    check(judge, is_same, "a hand as it is to be", "");
+}
+
+/// Asserts what became of the packet in hand.
+fn assert_became<E: Ends>(
+    judge: &impl Judge,
+    desk: &Desk<E>,
+    caller: &Caller,
+    old: &Before,
+    packet: Option<&Packet>,
+    fate: Fate,
+) {
+    match fate {
+        Fate::WorkedOff { .. } => assert_done(judge, desk, caller, old, packet),
+        _ => assert_rests(judge, desk, caller, old, packet.is_some()),
+    }
+}
+
+/// Asserts what the desk tells of its place and its hand, and how many packets it worked off.
+fn assert_told<E: Ends>(judge: &impl Judge, desk: &Desk<E>, worked: u64) {
+    let (waiting, held) = (desk.place().waiting(), desk.place().held());
+    let in_hand = u64::from(desk.is_holding());
+    assert_is(judge, desk.waiting(), waiting.saturating_add(in_hand));
+    assert_is(judge, u64::from(desk.held()), u64::from(held));
+    assert_is(judge, desk.worked(), worked);
+}
+
+/// How many packets the place has worked off then, of so many before.
+fn worked_then(fate: Fate, worked: u64) -> u64 {
+    match fate {
+        Fate::WorkedOff { .. } => worked.saturating_add(1),
+        _ => worked,
+    }
+}
+
+/// Serves the links, in the name of the caller, where this packet is to be in hand. Gives what became of it.
+pub(crate) fn serve_once<E: Moves<()>>(
+    judge: &impl Judge,
+    desk: &mut Desk<E>,
+    caller: &mut Caller,
+    packet: Option<&Packet>,
+) -> Fate {
+    let mut old = look_before(desk.place(), caller);
+    old.seen.waiting = 0;
+    let worked = desk.worked();
+    let fate = fate_of_hand(desk.place(), caller, packet);
+    let told = serve(desk, &(), caller);
+    let is_told = told == answer(fate, old.seen.puts, worked);
+    check(judge, is_told, "the answer that is wanted", "");
+    assert_became(judge, desk, caller, &old, packet, fate);
+    assert_told(judge, desk, worked_then(fate, worked));
+    fate
+}

@@ -1,0 +1,85 @@
+//! What a place sends: each packet is caused by an entry, and goes where that says.
+
+use crate::callers::PLACES;
+use chorus_ends::MemEnds;
+use chorus_entry::{Act, Cargo, Entry, Packet};
+use chorus_place::Place;
+use tests_ground::{Judge, check};
+
+/// Whether the act sends a message or a port to the place.
+fn sends_to(act: &Act, place: u16) -> bool {
+    match act {
+        Act::Try { to, .. } => *to == place,
+        Act::Depart { to, .. } => *to == place,
+        _ => false,
+    }
+}
+
+/// Whether the entry caused the packet that was sent to the place. A try and a port go where their entries say.
+fn caused(entry: &Entry, packet: &Packet, to: u16) -> bool {
+    let is_sent_by_act = matches!(packet.cargo, Cargo::Try { .. } | Cargo::Transfer { .. });
+    let goes_there = sends_to(&entry.act, to);
+    entry.clock == packet.clock && goes_there == is_sent_by_act
+}
+
+/// Whether one of the entries caused the packet that was sent to the place.
+fn is_caused(journal: &[Entry], packet: &Packet, to: u16) -> bool {
+    for entry in journal {
+        if caused(entry, packet, to) {
+            return true;
+        }
+    }
+    false
+}
+
+/// How many of the packets are verdicts.
+fn verdicts(packets: &[Packet]) -> u32 {
+    let mut count = 0u32;
+    for packet in packets {
+        if matches!(packet.cargo, Cargo::Verdict { .. }) {
+            count = count.saturating_add(1);
+        }
+    }
+    count
+}
+
+/// Asserts of the packets that were sent to a place that they are of this place, that each was caused by an entry, in
+/// their order, and that so many of them are verdicts.
+fn assert_sent_to(
+    judge: &impl Judge,
+    place: &Place,
+    to: u16,
+    packets: &[Packet],
+    decided: Option<&u32>,
+) {
+    let mut clock = 0;
+    for packet in packets {
+        let is_own = packet.from == place.number();
+        check(judge, is_own, "a packet of this place", "");
+        check(judge, packet.clock > clock, "a later packet", "");
+        let has_cause = is_caused(place.journal(), packet, to);
+        check(judge, has_cause, "a packet of an entry", "");
+        clock = packet.clock;
+    }
+    let are_all = Some(verdicts(packets)) == decided.copied();
+    check(judge, are_all, "as many verdicts as decisions", "");
+}
+
+/// Asserts that so many packets were sent, none of them to the place itself.
+pub(crate) fn assert_sent(
+    judge: &impl Judge,
+    place: &Place,
+    ends: &MemEnds,
+    decided: &[u32],
+    put: u64,
+) {
+    let mut count = 0usize;
+    for to in 0..=PLACES {
+        let packets = ends.sent(to);
+        assert_sent_to(judge, place, to, packets, decided.get(usize::from(to)));
+        count = count.saturating_add(packets.len());
+    }
+    check(judge, count as u64 == put, "all that was put", "");
+    let is_alone = ends.sent(place.number()).is_empty();
+    check(judge, is_alone, "nothing to the place itself", "");
+}

@@ -1,0 +1,95 @@
+//! How texts, sources and sinks end a run.
+
+use crate::replays::{NOTHING, PRINTS_NOTHING, letters};
+use crate::running::{assert_ended, assert_refused, assert_same, replayed};
+use chorus_show::Status;
+use std::alloc::Global;
+use std::process::Abort;
+
+/// Asserts that a body of 241 bytes is refused.
+fn assert_long_body_is_refused(rt: &impl Abort, alloc: Global) {
+    let body = letters(rt, alloc, 241);
+    let text = format!(in alloc;
+        "chorus 1\nsites 1\nscript 1.a.1\nsend 1.p.1 ={body}\nschedule\nend"
+    ).expect(rt, "memory");
+    assert_refused(rt, alloc, text.as_str(), 4, 6);
+}
+
+#[test]
+fn limits_are_refused_with_line_and_reason(rt: HostRuntime) {
+    assert_long_body_is_refused(&rt, rt.alloc());
+    let none = "chorus 1\nsites 1\nport 1.p.1 1.a.1 0\nschedule\nend";
+    assert_refused(&rt, rt.alloc(), none, 3, 6);
+    let many = "chorus 1\nsites 1\nport 1.p.1 1.a.1 65\nschedule\nend";
+    assert_refused(&rt, rt.alloc(), many, 3, 6);
+}
+
+#[test]
+fn unfinished_and_unknown_texts(rt: HostRuntime) {
+    let unfinished = "chorus 1\nsites 1\nschedule\n";
+    assert_refused(&rt, rt.alloc(), unfinished, 4, 9);
+    let no_site = "chorus 1\nsites 2\nscript 3.a.1\nschedule\nend";
+    assert_refused(&rt, rt.alloc(), no_site, 3, 4);
+    let no_step = "chorus 1\nsites 1\nscript 1.a.1\nschedule\nstep 1\nend";
+    assert_refused(&rt, rt.alloc(), no_step, 5, 10);
+    assert_refused(&rt, rt.alloc(), "", 1, 9);
+}
+
+/// Asserts that a text of so many empty lines is refused with this line and reason.
+fn assert_lines_are_refused(rt: &impl Abort, alloc: Global, count: usize, line: u32, reason: u8) {
+    let text = vec![in alloc; b'\n'; count].expect(rt, "memory");
+    let run = replayed(rt, alloc, &text, &[], 4096, &[]);
+    assert_same(rt, run.status, Status::Scenario { line, reason }, count);
+}
+
+#[test]
+fn long_texts_are_refused(rt: HostRuntime) {
+    assert_lines_are_refused(&rt, rt.alloc(), 4_194_304, 4_194_305, 9);
+    assert_lines_are_refused(&rt, rt.alloc(), 4_194_305, 0, 6);
+}
+
+fn assert_short_sink_fails(rt: &impl Abort, alloc: Global) {
+    let text = tests_rows::FULL_THEN_TAKEN_THEN_EMPTY.text.as_bytes();
+    let run = replayed(rt, alloc, text, &[], 5, &[2]);
+    assert_ended(rt, &run, Status::WriteFault, "journ", "a short sink");
+    assert!(rt; run.closed);
+}
+
+#[test]
+fn short_sink_fails_midway(rt: HostRuntime) {
+    assert_short_sink_fails(&rt, rt.alloc());
+}
+
+/// Asserts how the run ends where this read fails, and what it wrote.
+fn assert_read_fails(rt: &impl Abort, alloc: Global, call: u64, status: Status, written: &str) {
+    let text = tests_rows::FULL_THEN_TAKEN_THEN_EMPTY.text.as_bytes();
+    let run = replayed(rt, alloc, text, &[call], 4096, &[]);
+    assert_ended(rt, &run, status, written, "a source that fails");
+}
+
+/// Asserts how the run ends where this write of one byte fails, and how many bytes it wrote.
+fn assert_write_fails(rt: &impl Abort, alloc: Global, call: u64, status: Status, count: u64) {
+    let run = replayed(rt, alloc, NOTHING.as_bytes(), &[], 1, &[call]);
+    assert_same(rt, run.status, status, call);
+    assert_same(rt, run.written.len() as u64, count, call);
+    assert!(rt;
+        PRINTS_NOTHING.starts_with(run.written.as_str()),
+        "at {call}"
+    );
+}
+
+fn assert_each_write_fails(rt: &impl Abort, alloc: Global) {
+    for count in 0..96_u64 {
+        assert_write_fails(rt, alloc, count + 1, Status::WriteFault, count);
+    }
+    assert_write_fails(rt, alloc, 97, Status::Done, 96);
+}
+
+#[test]
+fn faults_of_source_and_sink(rt: HostRuntime) {
+    assert_read_fails(&rt, rt.alloc(), 1, Status::ReadFault, "");
+    assert_read_fails(&rt, rt.alloc(), 2, Status::ReadFault, "");
+    let printed = tests_rows::FULL_THEN_TAKEN_THEN_EMPTY.printed;
+    assert_read_fails(&rt, rt.alloc(), 1_000_000, Status::Done, printed);
+    assert_each_write_fails(&rt, rt.alloc());
+}

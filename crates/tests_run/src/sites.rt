@@ -1,0 +1,311 @@
+//! Worked rows of `tests_rows` by calls of the sites.
+//!
+//! A call is a line of words: what is called, and with what. Names are as in texts, and a number in front of one is the
+//! seat that acts.
+
+ghost use Rattle.std.specs.Prelude.{◌≡◌, true};
+ghost use Rattle.chorus_entry.specs.Command.{meets_conditions, has_body_in_limit};
+
+use chorus_entry::{Body, Command, Dest};
+use chorus_merge::merge;
+use chorus_net::{Closed, Sites};
+use chorus_show::{journal_text, summary_text};
+use chorus_ui::{Kind, Layout, Ui};
+use std::alloc::Global;
+use std::process::Abort;
+use tests_rows::WorkedRow;
+
+/// So many sites, each with so many places, on which nothing happened.
+fn started(rt: &impl Abort, alloc: Global, sites: u16, turns: u16) -> Sites {
+    let layout = Layout::new(sites, turns).expect(rt, "a layout");
+    Sites::start(alloc, layout).expect(rt, "memory")
+}
+
+fn close(rt: &impl Abort, alloc: Global, sites: Sites) -> Closed {
+    sites.close(alloc).ok().expect(rt, "memory")
+}
+
+/// What is left of the sites, and sites that are started again.
+fn restart(rt: &impl Abort, alloc: Global, sites: Sites) -> (Closed, Sites) {
+    sites.restart(alloc).ok().expect(rt, "memory")
+}
+
+/// The first word, and what stands behind it.
+fn first(text: &str) -> (&str, &str) {
+    match text.split_once(' ') {
+        Some(parts) => parts,
+        None => (text, ""),
+    }
+}
+
+/// The number of a seat, and what stands behind it.
+fn first_seat<'a>(rt: &impl Abort, text: &'a str) -> (u32, &'a str) {
+    let (word, rest) = first(text);
+    let seat: u32 = word.parse().ok().expect(rt, "a seat");
+    (seat, rest)
+}
+
+fn place(rt: &impl Abort, text: &str) -> u16 {
+    text.parse().ok().expect(rt, "a place")
+}
+
+/// The name of this kind.
+fn name(rt: &impl Abort, text: &str, kind: Kind) -> Ui
+    ensures { result.kind ≡ kind }
+{
+    let name = Ui::parse(text.as_bytes()).expect(rt, "a name");
+    assert!(rt; name.kind() == kind);
+    name
+}
+
+fn actor(rt: &impl Abort, text: &str) -> Ui
+    ensures { result.kind ≡ Kind.Actor }
+{
+    name(rt, text, Kind::Actor)
+}
+
+fn port(rt: &impl Abort, text: &str) -> Ui
+    ensures { result.kind ≡ Kind.Port }
+{
+    name(rt, text, Kind::Port)
+}
+
+/// What the rows call. The words are read over this, so that no more is known there than a call asks.
+trait Calls {
+    /// Performs a command of the seat.
+    fn act(&mut self, rt: &impl Abort, seat: u32, command: Command)
+        requires conditions { meets_conditions command ≡ true }
+        requires body { has_body_in_limit command ≡ true };
+
+    fn enter(&mut self, rt: &impl Abort, actor: Ui)
+        requires { actor.kind ≡ Kind.Actor };
+
+    fn deliver(&mut self, rt: &impl Abort, from: u16, to: u16);
+
+    fn drain(&mut self, rt: &impl Abort);
+}
+
+impl Calls for Sites {
+    fn act(&mut self, rt: &impl Abort, seat: u32, command: Command) {
+        assert!(rt; seat < self.seats());
+        assert!(rt; self.posts(seat) < u32::MAX);
+        Sites::act(self, seat, command).expect(rt, "a reply");
+    }
+
+    fn enter(&mut self, rt: &impl Abort, actor: Ui) {
+        Sites::enter(self, actor).expect(rt, "a seat");
+    }
+
+    fn deliver(&mut self, rt: &impl Abort, from: u16, to: u16) {
+        let count = self.layout().places();
+        assert!(rt; from != 0);
+        assert!(rt; to != 0);
+        assert!(rt; from <= count);
+        assert!(rt; to <= count);
+        assert!(rt; from != to);
+        Sites::deliver(self, from, to).expect(rt, "a delivery");
+    }
+
+    fn drain(&mut self, rt: &impl Abort) {
+        Sites::drain(self).expect(rt, "quiet");
+    }
+}
+
+fn enter<S: Calls>(rt: &impl Abort, sites: &mut S, who: &str) {
+    let actor = actor(rt, who);
+    sites.enter(rt, actor);
+}
+
+/// A seat, an actor and a capacity.
+fn make<S: Calls>(rt: &impl Abort, sites: &mut S, words: &str) {
+    let (seat, words) = first_seat(rt, words);
+    let (holder, capacity) = first(words);
+    let actor = actor(rt, holder);
+    let capacity: u8 = capacity.parse().ok().expect(rt, "a capacity");
+    assert!(rt; capacity > 0);
+    assert!(rt; capacity <= 64);
+    sites.act(rt, seat, Command::Make { actor, capacity });
+}
+
+fn body_of(rt: &impl Abort, alloc: Global, text: &str) -> Body {
+    assert!(rt; text.len() <= 4096);
+    Body::new(alloc, text.as_bytes()).expect(rt, "memory")
+}
+
+/// A seat, a port and a text.
+fn send<S: Calls>(rt: &impl Abort, alloc: Global, sites: &mut S, words: &str) {
+    let (seat, words) = first_seat(rt, words);
+    let (to, text) = first(words);
+    let dest = Dest::Port(port(rt, to));
+    let body = body_of(rt, alloc, text);
+    let _within = body.bytes();
+    sites.act(rt, seat, Command::Send { dest, body });
+}
+
+/// A seat and a port.
+fn take<S: Calls>(rt: &impl Abort, sites: &mut S, words: &str) {
+    let (seat, from) = first_seat(rt, words);
+    let port = port(rt, from);
+    sites.act(rt, seat, Command::Take { port });
+}
+
+/// A seat, a port and an actor.
+fn move_port<S: Calls>(rt: &impl Abort, sites: &mut S, words: &str) {
+    let (seat, words) = first_seat(rt, words);
+    let (which, to) = first(words);
+    let port = port(rt, which);
+    let actor = actor(rt, to);
+    sites.act(rt, seat, Command::Move { port, actor });
+}
+
+/// A seat and a port.
+fn delete<S: Calls>(rt: &impl Abort, sites: &mut S, words: &str) {
+    let (seat, which) = first_seat(rt, words);
+    let port = port(rt, which);
+    sites.act(rt, seat, Command::Delete { port });
+}
+
+/// Two places.
+fn deliver<S: Calls>(rt: &impl Abort, sites: &mut S, words: &str) {
+    let (from, to) = first(words);
+    sites.deliver(rt, place(rt, from), place(rt, to));
+}
+
+fn perform<S: Calls>(rt: &impl Abort, alloc: Global, sites: &mut S, line: &str) {
+    let (call, words) = first(line);
+    match call {
+        "enter" => enter(rt, sites, words),
+        "make" => make(rt, sites, words),
+        "send" => send(rt, alloc, sites, words),
+        "take" => take(rt, sites, words),
+        "move" => move_port(rt, sites, words),
+        "delete" => delete(rt, sites, words),
+        "deliver" => deliver(rt, sites, words),
+        "drain" => sites.drain(rt),
+        _ => panic!(rt; "no such call: {line}"),
+    }
+}
+
+fn perform_all<S: Calls>(rt: &impl Abort, alloc: Global, sites: &mut S, calls: &str) {
+    for line in calls.lines() {
+        perform(rt, alloc, sites, line);
+    }
+}
+
+/// Journal and summary of what was left.
+fn text_of(rt: &impl Abort, alloc: Global, closed: &Closed) -> String {
+    let entries = merge(alloc, &closed.journals).expect(rt, "memory");
+    let mut text = Vec::new(alloc);
+    journal_text(&entries, &mut text).expect(rt, "memory");
+    summary_text(&entries, &mut text).expect(rt, "memory");
+    String::from_utf8(text).ok().expect(rt, "a text")
+}
+
+/// Asserts that the calls leave the journal and summary of the row, on as many sites and places.
+fn assert_leaves(rt: &impl Abort, alloc: Global, calls: &str, row: &WorkedRow<'_>) {
+    let mut sites = started(rt, alloc, row.sites, row.turns);
+    perform_all(rt, alloc, &mut sites, calls);
+    let closed = close(rt, alloc, sites);
+    let left = text_of(rt, alloc, &closed);
+    assert_eq!(rt; left.as_str(), row.printed);
+}
+
+const POSTS: &str = "\
+make 0 1.a.2 4
+enter 1.a.1
+send 1 1.p.2 x
+drain
+";
+
+const MOVES: &str = "\
+make 0 1.a.2 4
+enter 1.a.2
+move 1 1.p.2 2.a.1
+drain
+";
+
+#[test]
+fn two_turns_per_site(rt: HostRuntime) {
+    assert_leaves(&rt, rt.alloc(), POSTS, &tests_rows::TWO_TURNS_PER_SITE);
+    assert_leaves(&rt, rt.alloc(), MOVES, &tests_rows::TWO_TURNS_AND_A_MOVE);
+}
+
+/// Asserts that sites on which these calls were made leave what they leave, and then what the others leave, as new ones
+/// do.
+fn assert_starts_again(rt: &impl Abort, alloc: Global, first: (&str, &str), then: (&str, &str)) {
+    let mut sites = started(rt, alloc, 2, 2);
+    perform_all(rt, alloc, &mut sites, first.0);
+    let (closed, mut sites) = restart(rt, alloc, sites);
+    assert_eq!(rt; text_of(rt, alloc, &closed).as_str(), first.1);
+    perform_all(rt, alloc, &mut sites, then.0);
+    let closed = close(rt, alloc, sites);
+    assert_eq!(rt; text_of(rt, alloc, &closed).as_str(), then.1);
+}
+
+#[test]
+fn sites_start_again(rt: HostRuntime) {
+    let posts = (POSTS, tests_rows::TWO_TURNS_PER_SITE.printed);
+    let moves = (MOVES, tests_rows::TWO_TURNS_AND_A_MOVE.printed);
+    assert_starts_again(&rt, rt.alloc(), posts, moves);
+    assert_starts_again(&rt, rt.alloc(), moves, moves);
+}
+
+/// Asserts of the first two places whether a packet waits to go from them, and from the one to the other.
+fn assert_waits(rt: &impl Abort, sites: &mut Sites, idle: (bool, bool), waits: (bool, bool)) {
+    assert!(rt; sites.layout().places() >= 2);
+    assert!(rt; sites.is_idle(1) == idle.0);
+    assert!(rt; sites.is_idle(2) == idle.1);
+    assert!(rt; sites.waits(1, 2) == waits.0);
+    assert!(rt; sites.waits(2, 1) == waits.1);
+}
+
+#[test]
+fn packets_wait(rt: HostRuntime) {
+    let alloc = rt.alloc();
+    let mut sites = started(&rt, alloc, 2, 1);
+    perform_all(&rt, alloc, &mut sites, "make 0 2.a.1 4\nenter 1.a.1");
+    assert_waits(&rt, &mut sites, (true, true), (false, false));
+    perform_all(&rt, alloc, &mut sites, "send 1 2.p.1 x");
+    assert_waits(&rt, &mut sites, (false, true), (true, false));
+    perform_all(&rt, alloc, &mut sites, "deliver 1 2");
+    assert_waits(&rt, &mut sites, (true, false), (false, true));
+    perform_all(&rt, alloc, &mut sites, "drain");
+    assert_waits(&rt, &mut sites, (true, true), (false, false));
+}
+
+const DISCARD: &str = "\
+make 0 1.a.1 2
+enter 1.a.1
+send 1 1.p.1 a
+send 1 1.p.1 b
+take 1 1.p.1
+delete 1 1.p.1
+send 1 1.p.1 c
+take 1 1.p.1
+";
+
+#[test]
+fn delete_discards(rt: HostRuntime) {
+    assert_leaves(&rt, rt.alloc(), DISCARD, &tests_rows::DELETE_DISCARDS);
+}
+
+const DELETE_AFTER_A_MOVE: &str = "\
+make 0 1.a.1 4
+enter 3.a.1
+enter 1.a.1
+enter 2.a.1
+move 2 1.p.1 2.a.1
+deliver 1 2
+delete 3 1.p.1
+send 1 1.p.1 x
+deliver 3 1
+deliver 1 3
+deliver 3 2
+deliver 2 3
+";
+
+#[test]
+fn delete_after_a_move(rt: HostRuntime) {
+    let row = tests_rows::DELETE_AFTER_A_MOVE;
+    assert_leaves(&rt, rt.alloc(), DELETE_AFTER_A_MOVE, &row);
+}
