@@ -1,7 +1,7 @@
 //! The crew.
 ghost use Rattle.std.specs.Prelude.{◌≡◌, ◌+◌, ◌<◌, ◌≤◌, ◌↔◌, ℕ, true, Some, IfOk, IsErrOf, [], length, vec_capacity};
 ghost use Rattle.chorus_turn.specs.Knowing.{limit};
-ghost use Rattle.chorus_nucleus.specs.Passes.{layout_of, known, worn_by, IsPassOf};
+ghost use Rattle.chorus_nucleus.specs.Passes.{layout_of, known, worn_by};
 ghost use Rattle.chorus_crew.specs.declared.fault.CrewFault.TheVariants as CrewFault;
 ghost use Rattle.chorus_crew.specs.Crews.{IsCaller, ArePairs, HasHandled};
 ghost use Rattle.chorus_crew.specs.Pairs.{are_pairs};
@@ -77,8 +77,8 @@ fn crew_with<H: Handler, R: Threads + Wait + Sync>(
 /// At Ok there is one `Handled` for each pair, in their order: the takes of its port, in the order in which they were
 /// handled, and then one Empty or NotHere, stand in the pass's new note. At every answer each pass that the call drew
 /// is retired into the caller's. `NoSeat` comes exactly where fewer numbers are left than there are pairs; `Worn` tells
-/// the pass's first worn clock. Where no memory was found in the midst, what was taken till then is gone from the
-/// ports, and its totals are lost.
+/// the pass's first worn clock. At a fault in the midst what was taken till then is gone from the ports, and its totals
+/// are lost.
 pub fn crew<H: Handler, R: Threads + Wait + Sync>(
     rt: &R,
     alloc: Global,

@@ -1,5 +1,5 @@
 //! The jobs are done, by threads that steal them.
-ghost use Rattle.std.specs.Prelude.{◌≡◌, ◌≤◌, ◌<◌, List, length};
+ghost use Rattle.std.specs.Prelude.{◌≡◌, ◌≤◌, ◌<◌, List};
 ghost use Rattle.std.specs.List.{All};
 ghost use Rattle.chorus_turn.specs.Lists.{somes};
 ghost use Rattle.chorus_crew.specs.declared.job.Done.{Done};

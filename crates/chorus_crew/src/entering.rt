@@ -1,6 +1,5 @@
 //! A job is made for each pair of a port and an actor.
 ghost use Rattle.std.specs.Prelude.{◌≡◌, ◌+◌, ◌≤◌, ◌<◌, [], true, IfOk, OnOk, OnErr, length, vec_capacity};
-ghost use Rattle.std.specs.List.{All};
 ghost use Rattle.chorus_ui.specs.Layout.{has_actor};
 ghost use Rattle.chorus_ui.specs.NameKind.{is_actor};
 ghost use Rattle.chorus_turn.specs.Knowing.{limit, after_draw};

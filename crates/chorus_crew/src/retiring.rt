@@ -1,5 +1,5 @@
 //! Passes end in the caller's.
-ghost use Rattle.std.specs.Prelude.{◌≡◌, ◌≤◌, [], ◌∷◌, ◌++◌, List, Result, length, reverse, map, vec_capacity};
+ghost use Rattle.std.specs.Prelude.{◌≡◌, ◌≤◌, [], List, length, reverse, map, vec_capacity};
 ghost use Rattle.std.specs.List.{All};
 ghost use Rattle.chorus_turn.specs.Lists.{somes};
 ghost use Rattle.chorus_nucleus.specs.Passes.{worn_by, IsPassOf};

@@ -15,7 +15,8 @@ pub(crate) struct Tally {
     pub(crate) total: u64,
 }
 
-/// The site to whose port the command is sent that is drawn where the generator has come to this state. None where it is no such send.
+/// The site to whose port the command is sent that is drawn where the generator has come to this state. None where it
+/// is no such send.
 pub(crate) fn site_drawn(state: u64) -> Option<u16>
     ensures value { result ≡ site_drawn (number_of state) }
     ensures from_one { IfSome result (λ site. 1 ≤ site) }

@@ -1,7 +1,5 @@
 //! A crew on messages that are drawn, from the first send to the text.
-ghost use Rattle.std.specs.Prelude.{◌≡◌, ◌≤◌, ◌⊎◌, ℕ, None, Some, length};
-ghost use Rattle.chorus_io.specs.Count.{Rose};
-ghost use Rattle.chorus_report.specs.Output.{HandsOut, Writes};
+ghost use Rattle.std.specs.Prelude.{◌≡◌, ◌≤◌, ◌⊎◌, ℕ, None, length};
 ghost use Rattle.chorus_nucleus.specs.Passes.{layout_of, IsPassOf};
 ghost use Rattle.chorus_perform.specs.Scripts.{IsOpening};
 ghost use Rattle.chorus_drawn_crew.specs.declared.counting.TheConstants.{DRAWS_LIMIT};
@@ -15,23 +13,25 @@ ghost use Rattle.chorus_drawn_crew.specs.Ends.{EndsAsCrew, EndsWorn};
 use crate::handling::fill_and_handle;
 use crate::printing::text_of;
 use chorus_crew::Handled;
-use chorus_io::{Sink, write_all};
+use chorus_io::Sink;
 use chorus_net::Closed;
 use chorus_nucleus::{Nucleus, Pass};
 use chorus_perform::Stopped;
-use chorus_report::{Finished, gave_up};
+use chorus_report::{Finished, gave_up, print};
 use chorus_run::{close, stop};
 use chorus_show::Status;
 use std::alloc::Global;
 use std::sync::Wait;
 use std::thread::Threads;
 
-/// Makes the eight ports, performs those of so many drawn commands that send to one of them, lets a crew handle all that waits, closes
-/// the nucleus, and writes for each port how many messages the crew handled and the sum of their values.
+/// Makes the eight ports, performs those of so many drawn commands that send to one of them, lets a crew handle all
+/// that waits, closes the nucleus, and writes for each port how many messages the crew handled and the sum of their
+/// values.
 ///
-/// The nucleus was just started, and the pass is its opening one. How many messages a crew finds at a port, and the sum of their values,
-/// are those of the draws: the port holds the first 64 of the messages that are sent to it. Where a clock is worn before all is done,
-/// nothing is written. Want of memory is the one ending without a cause.
+/// The nucleus was just started, and the pass is its opening one. How many messages a crew finds at a port, and the sum
+/// of their values, are those of the draws: the port holds the first 64 of the messages that are sent to it. Where a
+/// clock is worn before all is done, nothing is written. Want of memory is the one ending without a cause; it is told
+/// too where no entry of what was closed has the clock that was worn.
 pub fn handle_drawn<R: Threads + Wait + Sync, K: Sink>(
     alloc: Global,
     rt: &R,
@@ -52,13 +52,18 @@ pub fn handle_drawn<R: Threads + Wait + Sync, K: Sink>(
         return gave_up(Status::Memory);
     };
     match handled {
-        Ok(handled) => print(alloc, &handled, closed, sink),
+        Ok(handled) => print_counts(alloc, &handled, closed, sink),
         Err(why) => stopped(alloc, closed, why),
     }
 }
 
 /// Writes what the crew counted.
-fn print<K: Sink>(alloc: Global, handled: &[Handled], closed: Closed, sink: &mut K) -> Finished
+fn print_counts<K: Sink>(
+    alloc: Global,
+    handled: &[Handled],
+    closed: Closed,
+    sink: &mut K,
+) -> Finished
     requires { length handled.now ≡ CREW_PORTS }
     ensures { (n : Nucleus) (last : Pass) (first commands : ℕ) → CREW_PORTS ≤ (layout_of n).sites →
         commands ≤ DRAWS_LIMIT → IsClosedBy n last closed →
@@ -68,26 +73,7 @@ fn print<K: Sink>(alloc: Global, handled: &[Handled], closed: Closed, sink: &mut
     let Ok(text) = text_of(alloc, handled) else {
         return gave_up(Status::Memory);
     };
-    write(&text, closed, sink)
-}
-
-/// Writes the text of what was closed.
-fn write<K: Sink>(text: &[u8], closed: Closed, sink: &mut K) -> Finished
-    ensures status { (result.status ≡ Status.Done) ⊎ (result.status ≡ Status.WriteFault) }
-    ensures write_fault { result.status ≡ Status.WriteFault →
-        Rose (K.faults sink.old) (K.faults sink.new) }
-    ensures closed { result.closed ≡ Some closed }
-    ensures hands_out { HandsOut result.status }
-    ensures prints { Writes result.status (K.held sink.old) (K.held sink.new) text.now }
-{
-    let status = match write_all(sink, text) {
-        Ok(()) => Status::Done,
-        Err(_) => Status::WriteFault,
-    };
-    Finished {
-        status,
-        closed: Some(closed),
-    }
+    print(sink, &text, closed)
 }
 
 /// Ends with the clock that was worn, where an entry of what was closed has it, else for want of memory.

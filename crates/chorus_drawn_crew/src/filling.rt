@@ -11,17 +11,16 @@ ghost use Rattle.chorus_drawn_crew.specs.Sends.{sending};
 
 use crate::counting::{DRAWS_LIMIT, site_drawn};
 use crate::names::{CREW_PORTS, crew_actor, crew_port};
-use crate::performing::perform;
 use chorus_draw::next_state;
 use chorus_entry::{Body, Command, Dest};
 use chorus_nucleus::{Nucleus, Pass};
-use chorus_perform::{Halted, settle};
+use chorus_perform::{Halted, perform_command, settle};
 use chorus_ui::PENDING_LIMIT;
 use std::alloc::{AllocError, Global};
 use std::sync::Wait;
 
-/// Makes the ports, and performs those of the drawn commands that send to one of them, each with nothing left of the one before. At Ok
-/// nothing is left.
+/// Makes the ports, and performs those of the drawn commands that send to one of them, each with nothing left of the
+/// one before. At Ok nothing is left.
 pub(crate) fn fill<R: Wait>(
     alloc: Global,
     rt: &R,
@@ -70,7 +69,7 @@ fn make_ports<R: Wait>(rt: &R, nucleus: &Nucleus, pass: &mut Pass) -> Result<(),
     ensures ok { OnOk result (Goes (makes CREW_PORTS 1) pass.old pass.new) }
 {
     for index in 0..CREW_PORTS {
-        perform(rt, nucleus, pass, &make_port(index + 1))?;
+        perform_command(rt, nucleus, pass, &make_port(index + 1))?;
     }
     Ok(())
 }
@@ -132,7 +131,7 @@ fn send_drawn<R: Wait>(
     let Ok(command) = send_command(alloc, site, number) else {
         return Err(Halted);
     };
-    perform(rt, nucleus, pass, &command)?;
+    perform_command(rt, nucleus, pass, &command)?;
     settle(rt, nucleus, pass)
 }
 

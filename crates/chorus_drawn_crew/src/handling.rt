@@ -20,10 +20,11 @@ use std::alloc::{AllocError, Global};
 use std::sync::Wait;
 use std::thread::Threads;
 
-/// The workers.
-pub const CREW_WORKERS: u16 = 4;
+/// How many workers the crew has.
+const CREW_WORKERS: u16 = 4;
 
-/// Fills the ports, and lets a crew handle all that waits in them. Whatever comes of it, all passes are retired into this one.
+/// Fills the ports, and lets a crew handle all that waits in them. Whatever comes of it, all passes are retired into
+/// this one.
 pub(crate) fn fill_and_handle<R: Threads + Wait + Sync>(
     alloc: Global,
     rt: &R,

@@ -14,8 +14,8 @@ fn read_decimal(body: &[u8]) -> u64
 }
 
 /// The handler whose value of a message is its body, read as a decimal.
-#[derive(Clone, Copy, Debug)]
-pub struct Decimals;
+#[derive(Clone, Copy)]
+pub(crate) struct Decimals;
 
 impl Handler for Decimals {
     ghost use Rattle.chorus_drawn_crew.specs.Value.{body_value};

@@ -9,8 +9,14 @@ mod crews;
 #[cfg(test)]
 mod ground;
 #[cfg(test)]
+mod handlers;
+#[cfg(test)]
 mod moving;
 #[cfg(test)]
 mod ringing;
 #[cfg(test)]
+mod sending_on;
+#[cfg(test)]
 mod serving;
+#[cfg(test)]
+mod wanting;

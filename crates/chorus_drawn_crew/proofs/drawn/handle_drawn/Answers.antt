@@ -9,8 +9,8 @@ use Rattle.chorus_drawn_crew.specs.Takes.{HasCrewed}
 use Rattle.chorus_drawn_crew.proofs.Endings.{as-many, ends-stopped}
 use Rattle.chorus_drawn_crew.proofs.drawn.handle_drawn.Goals as goal
 
-pub print-requires : goal.print-requires
-print-requires g c =
+pub print_counts-requires : goal.print_counts-requires
+print_counts-requires g c =
     let last = c.fill_and_handle-handled.new.pass in
     ap (λ (hs : List Handled). length hs) c.deref.ensures.value
     ∙ as-many message_value (layout_of c.args.nucleus) (known last) (caller_of last).last 1 crew_pairs (known last).notes c.in-Ok-handled.handled.items c.in-Ok-handled.ensures.ok.handled_is
@@ -18,7 +18,7 @@ print-requires g c =
 pub returns-in-Ok-handled : goal.returns-in-Ok-handled
 returns-in-Ok-handled g c =
     let last = c.fill_and_handle-handled.new.pass in
-    c.print.ensures c.args.nucleus last c.args.first c.args.commands c.requires.sites c.requires.commands (is-closed-by c.args.nucleus last c.in-Ok.closed c.in-Ok.ensures)
+    c.print_counts.ensures c.args.nucleus last c.args.first c.args.commands c.requires.sites c.requires.commands (is-closed-by c.args.nucleus last c.in-Ok.closed c.in-Ok.ensures)
     (subst (λ (hs : List Handled). HasCrewed c.args.nucleus c.args.first c.args.commands hs last) (sym c.deref.ensures.value) c.in-Ok-handled.ensures.ok)
 
 pub returns-in-Err : goal.returns-in-Err

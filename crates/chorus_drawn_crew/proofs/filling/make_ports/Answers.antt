@@ -13,23 +13,23 @@ loop-index-init g c = record {
   leads = leads-begin (makes CREW_PORTS 1) (makes CREW_PORTS 1) c.args.pass.now refl;
 }
 
-pub perform-requires-clause-conditions : goal.perform-requires-clause-conditions
-perform-requires-clause-conditions g c = ap meets_conditions c.make_port.ensures
+pub perform_command-requires-clause-conditions : goal.perform_command-requires-clause-conditions
+perform_command-requires-clause-conditions g c = ap meets_conditions c.make_port.ensures
 
-pub perform-requires-clause-posts : goal.perform-requires-clause-posts
-perform-requires-clause-posts g c is = absurd (let bad : false ≡ true = sym (ap is_post c.make_port.ensures) ∙ is in cc)
+pub perform_command-requires-clause-posts : goal.perform_command-requires-clause-posts
+perform_command-requires-clause-posts g c is = absurd (let bad : false ≡ true = sym (ap is_post c.make_port.ensures) ∙ is in cc)
 
-pub returns-in_err-perform-clause-same : goal.returns-in_err-perform-clause-same
-returns-in_err-perform-clause-same g c =
-    same-then (known c.args.pass.now) (known c.loop-index.pass) (known c.perform.new.pass) c.loop-index.invariant.same c.in_err-perform.ensures.err.same
+pub returns-in_err-perform_command-clause-same : goal.returns-in_err-perform_command-clause-same
+returns-in_err-perform_command-clause-same g c =
+    same-then (known c.args.pass.now) (known c.loop-index.pass) (known c.perform_command.new.pass) c.loop-index.invariant.same c.in_err-perform_command.ensures.err.same
 
 pub loop-index-preserved : goal.loop-index-preserved
 loop-index-preserved g c = record {
-  pass = c.perform.ensures.pass;
-  same = same-then (known c.args.pass.now) (known c.loop-index.pass) (known c.perform.new.pass) c.loop-index.invariant.same c.in_ok-perform.ensures.ok.same;
+  pass = c.perform_command.ensures.pass;
+  same = same-then (known c.args.pass.now) (known c.loop-index.pass) (known c.perform_command.new.pass) c.loop-index.invariant.same c.in_ok-perform_command.ensures.ok.same;
   leads =
-      leads-make (CREW_PORTS - c.loop-index.index) (CREW_PORTS - (c.loop-index.index + 1)) (c.loop-index.index + 1) (makes CREW_PORTS 1) c.args.pass.now c.loop-index.pass c.perform.new.pass c.make_port.result
-      (omega (arith, c.loop-index-test.true)) c.make_port.ensures c.loop-index.invariant.leads c.in_ok-perform.ensures.ok;
+      leads-make (CREW_PORTS - c.loop-index.index) (CREW_PORTS - (c.loop-index.index + 1)) (c.loop-index.index + 1) (makes CREW_PORTS 1) c.args.pass.now c.loop-index.pass c.perform_command.new.pass c.make_port.result
+      (omega (arith, c.loop-index-test.true)) c.make_port.ensures c.loop-index.invariant.leads c.in_ok-perform_command.ensures.ok;
 }
 
 pub returns-clause-same : goal.returns-clause-same

@@ -1,7 +1,0 @@
-use Rattle.std.proofs.Common.{[]}
-use Rattle.chorus_nucleus.specs.Passes.{IsPassOf}
-use Rattle.chorus_perform.specs.Going.{Goes}
-use Rattle.chorus_drawn_crew.proofs.performing.perform.Given as goal
-
-abbrev pub invariant-loop : goal.invariant-loop
-invariant-loop g l = IsPassOf l.nucleus l.pass × Goes [] l.fn.pass l.pass
