@@ -1,7 +1,8 @@
 """Compares the picture of a journal with the journal, by Python's XML parser and by packets that are followed here one by one.
 
 The program finds the cause of an entry as the last entry about the same message, or on the line of the same port, where that stands at
-another place. Here each packet is put into a list when an entry puts it, and taken out of it by the entry that works it off."""
+another place. Here each packet is put into a list when an entry puts it, and taken out of it by the entry that works it off. Ports are
+followed from where they are made, with the number of messages that wait in them."""
 
 import xml.etree.ElementTree as ElementTree
 
@@ -9,6 +10,8 @@ SVG = "{http://www.w3.org/2000/svg}"
 MARKS = ["own", "denied", "work", "follow", "stale", "lost"]
 KINDS = ["try", "verdict", "transfer", "ask", "report"]
 DECISIONS = ["accept", "full", "already", "clients-full", "stale", "early", "no-port", "elsewhere", "gone"]
+# of an act on the line of a port, which of its words is the port
+PORT_WORDS = {"make": 0, "accept": 1, "full": 1, "already": 1, "clients-full": 1, "take": 0, "empty": 0, "rehome": 0, "depart": 0, "arrive": 0, "delete": 0}
 
 
 def packets(lines):
@@ -62,6 +65,39 @@ def packets(lines):
     return found
 
 
+def held(lines):
+    """Of the lines of a journal's entries, each bar: its port, how many messages wait, the entry that it begins at and the one that ends it, if any."""
+    found, begun, waiting = [], {}, {}
+    for number, line in enumerate(lines):
+        clock, place, seat, act, *fields = line.split(" ")
+        if act not in PORT_WORDS:
+            continue
+        port = fields[PORT_WORDS[act]]
+        if port in begun:
+            found.append((port, waiting[port], begun.pop(port), number))
+        waiting[port] = waiting.get(port, 0) + (act == "accept") - (act == "take")
+        if act not in ("depart", "delete"):
+            begun[port] = number
+    return found + [(port, waiting[port], number, None) for port, number in begun.items()]
+
+
+def drawn_bars(root, heights, places, columns):
+    """The bars of a picture, as `held` has them; None where one stands beside another column than that of the entry that it begins at."""
+    found = []
+    end = int(next(path for path in root.iter(SVG + "path") if path.get("class") == "line").get("d").split("V")[1])
+    for group in root.iter(SVG + "g"):
+        title, rect = group.find(SVG + "title"), group.find(SVG + "rect")
+        if group.get("class") not in ("idle", "waits") or title is None:
+            continue
+        port, count = title.text.split(", ")
+        left, top, height = (int(rect.get(name)) for name in ("x", "y", "height"))
+        row = heights.index(top)
+        if max(x for x in columns.values() if x < left) != columns[places[row]] or (count == "0") != (group.get("class") == "idle"):
+            return None
+        found.append((port, int(count), row, heights.index(top + height) if top + height != end else None))
+    return found
+
+
 def complaint(journal, picture):
     """What is wrong with the picture of a lawful journal, or None."""
     count = int(journal.split("\n", 1)[0].split(" ")[1])
@@ -80,6 +116,9 @@ def complaint(journal, picture):
             return "a mark stands in the column of another place"
     if len(set(columns.values())) != len(columns):
         return "two places have one column"
+    heads = {(text.text, int(text.get("x")) - 6) for text in root.iter(SVG + "text") if text.get("class") == "head"}
+    if {head for head in heads if head[0].startswith("place ")} != {(f"place {place}", x) for place, x in columns.items()}:
+        return "a column has the head of another place"
     arrows = []
     for path in root.iter(SVG + "path"):
         if path.get("class") in KINDS and path.find(SVG + "title") is not None:
@@ -88,4 +127,7 @@ def complaint(journal, picture):
             arrows.append((path.get("class"), heights.index(points[1]), heights.index(points[4])))
     if sorted(arrows) != sorted(packets(lines)):
         return "its arrows are not the packets of the journal"
+    bars = drawn_bars(root, heights, [line.split(" ")[1] for line in lines], columns) if lines else []
+    if bars is None or sorted(bars, key=str) != sorted(held(lines), key=str):
+        return "its bars are not the ports of the journal"
     return None

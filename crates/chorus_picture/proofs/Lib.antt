@@ -1,12 +1,4 @@
-mod Columns
-mod Drawn
-mod Front
-mod Kept
-mod Pieces
-mod PlainNames
-mod MarkKinds
-mod ReadBack
-mod RowTexts
-mod StandApart
-mod Stretches
+mod Heads
+mod Left
+mod RuleActs
 mod Whole

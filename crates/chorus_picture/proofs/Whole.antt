@@ -5,7 +5,7 @@ use Rattle.chorus_entry.specs.declared.entry.Entry.{Entry}
 use Rattle.chorus_io.specs.Bytes.{IsReadWhole}
 use Rattle.chorus_audit.specs.declared.judging.Audit.{Audit}
 use Rattle.chorus_audit.specs.Tests.{IsRead}
-use Rattle.chorus_picture.specs.declared.limits.TheConstants.{ENTRIES_LIMIT}
+use Rattle.picture_rows.specs.declared.limits.TheConstants.{ENTRIES_LIMIT}
 use Rattle.chorus_picture.specs.Output.{IsDrawn}
 use Rattle.chorus_picture.specs.Picture.{picture_text}
 

@@ -8,7 +8,7 @@ use Rattle.chorus_show.specs.Summary.{summary_text}
 use Rattle.chorus_audit.specs.declared.judging.Audit.{Audit}
 use Rattle.chorus_audit.specs.declared.judging.Audit.TheVariants.{Legal, Wrong}
 use Rattle.chorus_picture.specs.declared.style.TheConstants.{LEGEND}
-use Rattle.chorus_picture.specs.Filling.{filled, markup, shown}
+use Rattle.picture_texts.specs.Filling.{filled, markup, shown}
 use Rattle.chorus_picture.specs.RuleWords.{rule_words}
 
 -- a text behind so many lines

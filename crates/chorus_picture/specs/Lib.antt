@@ -1,15 +1,5 @@
-pub mod Filling
-pub mod Stretches
-pub mod Reading
-pub mod Columns
-pub mod Rows
-pub mod Marks
 pub mod RuleWords
-pub mod Shapes
 pub mod Sheet
-pub mod Tables
-pub mod Lines
 pub mod Found
 pub mod Picture
 pub mod Output
-pub mod Apart

@@ -10,7 +10,7 @@ use Rattle.chorus_show.specs.declared.status.TheConstants.Status.{TOO_LONG}
 use Rattle.chorus_audit.specs.declared.judging.Audit.{Audit}
 use Rattle.chorus_audit.specs.declared.limits.TheConstants.{AUDIT_LIMIT}
 use Rattle.chorus_audit.specs.Tests.{IsRead}
-use Rattle.chorus_picture.specs.declared.limits.TheConstants.{ENTRIES_LIMIT}
+use Rattle.picture_rows.specs.declared.limits.TheConstants.{ENTRIES_LIMIT}
 use Rattle.chorus_picture.specs.Picture.{picture_text}
 
 -- what is read of the text, few enough entries to be drawn

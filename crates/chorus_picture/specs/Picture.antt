@@ -6,9 +6,9 @@ use Rattle.chorus_ui.specs.declared.layout.Layout.{Layout}
 use Rattle.chorus_entry.specs.declared.entry.Entry.{Entry}
 use Rattle.chorus_audit.specs.declared.judging.Audit.{Audit}
 use Rattle.law_picture.specs.Bars.{bar}
-use Rattle.chorus_picture.specs.Columns.{ColumnShape, columns}
-use Rattle.chorus_picture.specs.Rows.{end_y}
-use Rattle.chorus_picture.specs.Shapes.{rows}
+use Rattle.picture_rows.specs.Columns.{ColumnShape, columns}
+use Rattle.picture_rows.specs.Rows.{end_y}
+use Rattle.picture_rows.specs.Shapes.{rows}
 use Rattle.chorus_picture.specs.Sheet.{front, bars_left, all_heads}
 use Rattle.chorus_picture.specs.Found.{found_text, foot}
 

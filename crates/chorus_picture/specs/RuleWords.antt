@@ -1,5 +1,9 @@
 -- The rules of an audit in words.
-use Rattle.std.specs.Prelude.{ℕ, ◌==◌, if◌then◌else◌, List, codes}
+use Rattle.std.specs.Prelude.{ℕ, ◌≡◌, ◌==◌, if◌then◌else◌, List, codes}
+use Rattle.chorus_entry.specs.declared.act.Act.{Act}
+use Rattle.chorus_checker.specs.Rules.{act_number}
+use Rattle.chorus_show.specs.Lines.{act_text}
+use Rattle.chorus_show.specs.Reading.{first, parts}
 
 abbrev pub rule_words : ℕ → List ℕ
 rule_words rule =
@@ -45,3 +49,7 @@ rule_words rule =
     else if rule == 39 then codes "delete stands only where the port is held and these messages wait in it"
     else if rule == 40 then codes "gone stands only where the message is due and the port was deleted there"
     else codes "no line that may stand here"
+
+-- the words of a rule begin with the word of the act that it refuses
+abbrev pub EachRuleNamesItsAct : Type 0
+EachRuleNamesItsAct = (a : Act) → first (parts 32 (rule_words (act_number a))) ≡ first (parts 32 (act_text a))

@@ -7,10 +7,10 @@ use Rattle.chorus_ui.specs.declared.layout.Layout.{Layout}
 use Rattle.chorus_ui.specs.Layout.{site_of}
 use Rattle.chorus_ui.specs.Text.{name_text}
 use Rattle.law_picture.specs.declared.bar.Bar.{Bar}
-use Rattle.chorus_picture.specs.Filling.{filled}
-use Rattle.chorus_picture.specs.Columns.{ColumnShape, lane_of, right_edge, width}
-use Rattle.chorus_picture.specs.Rows.{heads, end_y}
-use Rattle.chorus_picture.specs.Shapes.{bar_in}
+use Rattle.picture_texts.specs.Filling.{filled}
+use Rattle.picture_rows.specs.Columns.{ColumnShape, lane_of, right_edge, width}
+use Rattle.picture_rows.specs.Rows.{heads, end_y}
+use Rattle.picture_rows.specs.Shapes.{bar_in}
 use Rattle.chorus_picture.specs.declared.style.TheConstants.{STYLE}
 
 -- the size

@@ -1,32 +1,27 @@
 //! A journal that a source gives, drawn into a sink.
 
-ghost use Rattle.std.specs.Prelude.{◌≡◌, ◌≢◌, ◌≤◌, ◌++◌, [], length, reverse, IfOk, OnOk};
+ghost use Rattle.std.specs.Prelude.{◌≡◌, ◌≢◌, ◌≤◌, ◌++◌, length, reverse, IfOk, OnOk};
 ghost use Rattle.chorus_io.specs.Count.{Rose};
 ghost use Rattle.chorus_audit.specs.declared.limits.TheConstants.{AUDIT_LIMIT};
-ghost use Rattle.chorus_picture.specs.declared.limits.TheConstants.{ENTRIES_LIMIT};
+ghost use Rattle.picture_rows.specs.declared.limits.TheConstants.{ENTRIES_LIMIT};
 ghost use Rattle.chorus_picture.specs.Output.{Draws, ReadsBy};
 ghost use Rattle.chorus_picture.specs.Picture.{behind_rows, picture_text};
-ghost use Rattle.chorus_picture.specs.Shapes.{rows};
-ghost use Rattle.chorus_picture.specs.Tables.{AreTables};
+ghost use Rattle.picture_rows.specs.Tables.{AreTables};
 
-use crate::column::{Column, columns};
 use crate::found::{push_foot, push_found};
-use crate::limits::ENTRIES_LIMIT;
-use crate::rows::end_y;
-use crate::shapes::push_row;
 use crate::sheet::{push_bars_left, push_front, push_heads};
-use crate::tables::Tables;
 use chorus_audit::{AUDIT_LIMIT, Audit, read_text};
 use chorus_entry::Entry;
 use chorus_input::read_input;
 use chorus_io::{ReadAll, Sink, Source, write_all};
 use chorus_show::Status;
 use chorus_ui::Layout;
+use picture_rows::{Column, ENTRIES_LIMIT, Tables, columns, end_y, push_rows};
 use std::alloc::{AllocError, Global};
 
-/// Reads the source to its end, and writes the picture of the journal that it gave: of all its entries, or of those in front of the first
-/// line that an audit for the layout finds wrong. The status is `Done` for both. A text of more than [`AUDIT_LIMIT`] bytes, or of which
-/// more than [`ENTRIES_LIMIT`] entries are to be drawn, is [`Status::TOO_LONG`].
+/// Reads the source to its end, and writes the picture of the journal that it gave: of all its entries, or of those in
+/// front of the first line that an audit for the layout finds wrong. The status is `Done` for both. A text of more than
+/// [`AUDIT_LIMIT`] bytes, or of which more than [`ENTRIES_LIMIT`] entries are to be drawn, is [`Status::TOO_LONG`].
 pub fn picture<S: Source, K: Sink>(
     alloc: Global,
     layout: Layout,
@@ -81,32 +76,12 @@ fn drawn(
 {
     let columns = columns(alloc, layout, entries)?;
     let mut tables = Tables::new(alloc);
+    // Room for the style and the legend, and for rows of short lines.
     let mut out = Vec::with_capacity(alloc, 8_192 + 512 * entries.len())?;
     push_front(&columns, entries.len() as u32, &mut out)?;
     push_rows(&columns, entries, &mut tables, &mut out)?;
     push_behind_rows(layout, text, entries, audit, &columns, &tables, &mut out)?;
     Ok(out)
-}
-
-/// Appends the row of each entry, and fills the tables.
-fn push_rows(
-    columns: &[Column],
-    entries: &[Entry],
-    tables: &mut Tables,
-    out: &mut Vec<u8>,
-) -> Result<(), AllocError>
-    requires few { length entries.now ≤ ENTRIES_LIMIT }
-    requires empty { AreTables tables.old [] }
-    ensures rows { OnOk result
-        (out.new.items ≡ out.old.items ++ rows columns.now [] entries.now) }
-    ensures tables { OnOk result (AreTables tables.new (reverse entries.now)) }
-{
-    let mut room = Vec::new(*out.allocator());
-    for entry in entries {
-        push_row(columns, tables, entry, &mut room, out)?;
-        tables.add(entry)?;
-    }
-    Ok(())
 }
 
 /// Appends what stands behind the rows.

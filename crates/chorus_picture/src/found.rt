@@ -5,12 +5,12 @@ ghost use Rattle.std.specs.List.{flat_map};
 ghost use Rattle.chorus_show.specs.Phrases.{byte_text, hex_digit};
 ghost use Rattle.chorus_picture.specs.Found.{behind_lines, foot, foot_front, found_text, lawful_front, lawful_text, line_bytes, rule_front, wrong_front, wrong_text};
 
-use crate::filling::{push_filled, push_markup, push_shown};
 use crate::rule_words::rule_words;
 use crate::style::LEGEND;
 use chorus_audit::Audit;
 use chorus_entry::Entry;
 use chorus_show::summary_text;
+use picture_texts::{push_filled, push_markup, push_shown};
 use std::alloc::AllocError;
 
 /// Appends what was found of the text, whose first entries these are, where the rows end at y.

@@ -1,30 +1,22 @@
 //! The picture of a printed journal: one SVG document, which any browser shows.
 //!
-//! The layers above rest on this: [`picture`] reads what an audit reads, and writes exactly the bytes of a definition of the entries
-//! (`specs/Picture.antt`): each entry a mark in the column of its place, each packet that was worked off an arrow from the entry that
-//! put it, each port a bar beside the place that holds it. A text that is not lawful is drawn up to its first wrong line. Nothing that a
-//! journal says is read as markup ([`texts_are_read_as_they_are`]).
+//! The layers above rest on this: [`picture`] reads what an audit reads, and writes exactly the bytes of a definition
+//! of the entries (`specs/Picture.antt`): its sheet, the rows of the entries (`picture_rows`), and what was found of
+//! the text. A text that is not lawful is drawn up to its first wrong line. Nothing that a journal says is read as
+//! markup (`picture_texts`).
 //!
-//! Begin with `drawing`. `column` has the columns, `shapes` what stands for an entry, `sheet` and `found` what stands round the rows;
-//! `tables` keeps what is asked of the entries before, so that a row costs about the same whatever went before.
+//! Begin with `drawing`. `sheet` and `found` have what stands round the rows, `style` how it looks, and `rule_words`
+//! the rules of an audit in words, each beginning with the act that it refuses ([`rules_name_their_acts`]).
 
 #![tactic(auto)]
 
-mod column;
 mod drawing;
-mod filling;
 mod found;
 mod laws;
-mod limits;
-mod lines;
-mod mark;
-mod rows;
 mod rule_words;
-mod shapes;
 mod sheet;
 mod style;
-mod tables;
 
 pub use drawing::picture;
-pub use laws::{marks_stand_apart, marks_tell_what_happened, texts_are_read_as_they_are};
-pub use limits::ENTRIES_LIMIT;
+pub use laws::rules_name_their_acts;
+pub use picture_rows::ENTRIES_LIMIT;

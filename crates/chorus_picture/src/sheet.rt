@@ -1,20 +1,18 @@
-//! The sheet of a picture: its size and its style, the lines of its columns, their heads, and the bars that go to the end.
+//! The sheet of a picture: its size and its style, the lines of its columns, their heads, and the bars that go to the
+//! end.
 
 ghost use Rattle.std.specs.Prelude.{◌≡◌, ◌<◌, ◌+◌, ◌^◌, ◌++◌, OnOk};
 ghost use Rattle.std.specs.List.{flat_map};
 ghost use Rattle.chorus_ui.specs.Layout.{site_of};
-ghost use Rattle.chorus_picture.specs.Columns.{lane_of};
-ghost use Rattle.chorus_picture.specs.Tables.{bar_of};
+ghost use Rattle.picture_rows.specs.Columns.{lane_of};
+ghost use Rattle.picture_rows.specs.Tables.{bar_of};
 ghost use Rattle.chorus_picture.specs.Sheet.{all_heads, band, bar_left, bars_left, column_head, front, head_at, heads_from, lane_front, lane_head, line_at, line_of, opening_tag, paper, place_head};
 
-use crate::column::{Column, right_edge};
-use crate::filling::push_filled;
-use crate::rows::{end_y, heads};
-use crate::shapes::push_bar;
 use crate::style::STYLE;
-use crate::tables::Tables;
 use chorus_ui::{Layout, Ui};
 use law_picture::Bar;
+use picture_rows::{Column, Tables, end_y, heads, push_bar, right_edge};
+use picture_texts::{push_filled, push_numbered};
 use std::alloc::AllocError;
 
 /// Appends all that stands before the rows, of which there are so many.
@@ -247,11 +245,14 @@ fn push_place_head(
     requires y { y < 2 ^ 50 }
     ensures { OnOk result (out.new.items ≡ out.old.items ++ place_head x y site place) }
 {
-    push_filled(
-        b"<text class='head' x='@' y='@'>site @</text><text class='head' x='@' y='@'>place @</text>\n",
-        &[x + 6, y + 16, site, x + 6, y + 32, place],
-        out,
-    )
+    push_numbered(b"<text class='head' x='", x + 6, out)?;
+    push_numbered(b"' y='", y + 16, out)?;
+    push_numbered(b"'>site ", site, out)?;
+    push_numbered(b"</text><text class='head' x='", x + 6, out)?;
+    push_numbered(b"' y='", y + 32, out)?;
+    push_numbered(b"'>place ", place, out)?;
+    out.extend_from_slice(b"</text>\n")?;
+    Ok(())
 }
 
 /// Appends the names of the column's ports.
@@ -280,9 +281,10 @@ fn push_lane_head(x: u64, y: u64, port: Ui, out: &mut Vec<u8>) -> Result<(), All
 fn push_lane_front(x: u64, y: u64, out: &mut Vec<u8>) -> Result<(), AllocError>
     ensures { OnOk result (out.new.items ≡ out.old.items ++ lane_front x y) }
 {
-    push_filled(
-        b"<text class='name' transform='rotate(-90 @ @)' x='@' y='@'>",
-        &[x, y, x, y],
-        out,
-    )
+    push_numbered(b"<text class='name' transform='rotate(-90 ", x, out)?;
+    push_numbered(b" ", y, out)?;
+    push_numbered(b")' x='", x, out)?;
+    push_numbered(b"' y='", y, out)?;
+    out.extend_from_slice(b"'>")?;
+    Ok(())
 }

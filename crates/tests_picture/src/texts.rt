@@ -1,6 +1,20 @@
 //! Journals, and what stands in their pictures between the shapes and the legend. The pictures are those of another program, which
 //! draws by the words of the format.
 
+/// The summary where nothing was sent and no port moved.
+pub(crate) const NO_MESSAGE: &str = "\
+summary\n\
+posted 0\n\
+accepted 0\n\
+taken 0\n\
+queued 0\n\
+moving 0\n\
+refused 0\n\
+stale 0\n\
+departs 0\n\
+end\n\
+";
+
 /// The report of no entry.
 pub(crate) const NOTHING: &str = "\
 journal 0\n\

@@ -1,7 +1,7 @@
 use Rattle.std.proofs.Common.{◌≤◌, length, subst, arith}
 use Rattle.std.specs.Io.KnownBytes.{Appends}
 use Rattle.chorus_io.specs.Bytes.{AppendsPrefix}
-use Rattle.chorus_picture.specs.declared.limits.TheConstants.{ENTRIES_LIMIT}
+use Rattle.picture_rows.specs.declared.limits.TheConstants.{ENTRIES_LIMIT}
 use Rattle.chorus_picture.proofs.Whole.{is-drawn, whole-input}
 use Rattle.chorus_picture.proofs.drawing.picture.Goals as goal
 

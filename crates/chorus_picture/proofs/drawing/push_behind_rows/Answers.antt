@@ -2,11 +2,11 @@ use Rattle.std.proofs.Common.{◌++◌, length, reverse, ap, ◌∙◌}
 use Rattle.std.specs.List.{flat_map}
 use Rattle.law_picture.specs.Bars.{bar}
 use Rattle.chorus_picture.specs.Found.{foot, found_text}
-use Rattle.chorus_picture.specs.Rows.{end_y}
+use Rattle.picture_rows.specs.Rows.{end_y}
 use Rattle.chorus_picture.specs.Sheet.{all_heads, bars_left}
-use Rattle.chorus_picture.specs.Tables.{bar_of}
-use Rattle.chorus_picture.proofs.Kept.{left_is}
-use Rattle.chorus_picture.proofs.Pieces.{four}
+use Rattle.picture_rows.specs.Tables.{bar_of}
+use Rattle.chorus_picture.proofs.Left.{left_is}
+use Rattle.picture_texts.proofs.Pieces.{four}
 use Rattle.chorus_picture.proofs.drawing.push_behind_rows.Goals as goal
 
 pub returns : goal.returns

@@ -1,6 +1,6 @@
 use Rattle.std.proofs.Common.{◌≡◌, ◌++◌, codes}
 use Rattle.chorus_picture.specs.declared.style.TheConstants.{LEGEND}
-use Rattle.chorus_picture.proofs.Pieces.{three}
+use Rattle.picture_texts.proofs.Pieces.{three}
 use Rattle.chorus_picture.proofs.found.push_foot.Goals as goal
 
 pub returns : goal.returns

@@ -1,6 +1,6 @@
 use Rattle.std.proofs.Common.{◌≡◌, ◌+◌, ◌-◌, ◌*◌, ◌++◌, OnOk, ap, sym, ◌∙◌, subst, append_assoc, arith}
 use Rattle.chorus_picture.specs.Sheet.{head_at, heads_from}
-use Rattle.chorus_picture.proofs.Pieces.{heads_more}
+use Rattle.chorus_picture.proofs.Heads.{heads_more}
 use Rattle.chorus_picture.proofs.sheet.+push_heads_from.Goals as goal
 
 pub returns : goal.returns

@@ -1,7 +1,7 @@
 use Rattle.std.proofs.Common.{◌≡◌, ◌++◌, take}
 use Rattle.std.specs.List.{flat_map}
 use Rattle.chorus_picture.specs.Sheet.{bars_left}
-use Rattle.chorus_picture.specs.Tables.{bar_of}
+use Rattle.picture_rows.specs.Tables.{bar_of}
 use Rattle.chorus_picture.proofs.sheet.push_bars_left.Given as goal
 
 abbrev pub invariant-loop-column : goal.invariant-loop-column

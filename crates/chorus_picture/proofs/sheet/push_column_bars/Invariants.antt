@@ -1,7 +1,7 @@
 use Rattle.std.proofs.Common.{◌≡◌, ◌++◌, take}
 use Rattle.std.specs.List.{flat_map}
 use Rattle.chorus_picture.specs.Sheet.{bar_left}
-use Rattle.chorus_picture.specs.Tables.{bar_of}
+use Rattle.picture_rows.specs.Tables.{bar_of}
 use Rattle.chorus_picture.proofs.sheet.push_column_bars.Given as goal
 
 abbrev pub invariant-loop-port : goal.invariant-loop-port

@@ -1,6 +1,6 @@
 use Rattle.std.proofs.Common.{◌≡◌, ◌++◌, ◌+◌, take}
 use Rattle.std.specs.List.{flat_map}
-use Rattle.chorus_picture.specs.Columns.{lane_of}
+use Rattle.picture_rows.specs.Columns.{lane_of}
 use Rattle.chorus_picture.specs.Sheet.{lane_head}
 use Rattle.chorus_picture.proofs.sheet.push_lane_heads.Given as goal
 

@@ -1,4 +1,0 @@
-use Rattle.chorus_picture.proofs.column.+push_columns.Given as goal
-
-abbrev pub decreases-push_columns : goal.decreases-push_columns
-decreases-push_columns l = l.places

@@ -1,6 +1,0 @@
-use Rattle.chorus_picture.proofs.Drawn.{Drawn}
-use Rattle.chorus_picture.proofs.drawing.push_rows.Given as goal
-
--- the rows so far
-abbrev pub invariant-loop-entry : goal.invariant-loop-entry
-invariant-loop-entry l = Drawn l.initial.out.items l.out.items l.columns l.entries l.entry-index l.tables

@@ -1,5 +1,0 @@
-use Rattle.std.proofs.Common.{length}
-use Rattle.chorus_picture.proofs.filling.+push_filled.Given as goal
-
-abbrev pub decreases-push_filled : goal.decreases-push_filled
-decreases-push_filled l = length l.template.now

@@ -1,0 +1,4 @@
+use Rattle.picture_rows.proofs.column.+push_columns.Given as goal
+
+abbrev pub decreases-push_columns : goal.decreases-push_columns
+decreases-push_columns l = l.places

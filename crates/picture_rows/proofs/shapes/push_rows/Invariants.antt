@@ -1,0 +1,6 @@
+use Rattle.picture_rows.proofs.Drawn.{Drawn}
+use Rattle.picture_rows.proofs.shapes.push_rows.Given as goal
+
+-- the rows so far
+abbrev pub invariant-loop-entry : goal.invariant-loop-entry
+invariant-loop-entry l = Drawn l.initial.out.items l.out.items l.columns l.entries l.entry-index l.tables

@@ -1,0 +1,7 @@
+pub mod Columns
+pub mod Rows
+pub mod Marks
+pub mod Shapes
+pub mod Tables
+pub mod Lines
+pub mod Apart

@@ -1,0 +1,29 @@
+//! Where rows stand from above.
+
+ghost use Rattle.std.specs.Prelude.{◌≡◌, ◌<◌, ◌^◌};
+ghost use Rattle.picture_rows.specs.Rows.{end_y, heads, row_y};
+
+/// The middle of a row; rows are numbered from 0.
+pub(crate) fn row_y(row: u32) -> u64
+    ensures value { result ≡ row_y row }
+    ensures bound { result < 2 ^ 40 }
+{
+    let row = u64::from(row);
+    49 + 18 * row + 40 * (row / 32)
+}
+
+/// How many heads so many rows have, at least one.
+pub fn heads(rows: u32) -> u32
+    ensures value { result ≡ heads rows }
+    ensures bound { result < 2 ^ 28 }
+{
+    rows.saturating_sub(1) / 32 + 1
+}
+
+/// Where so many rows end.
+pub fn end_y(rows: u32) -> u64
+    ensures value { result ≡ end_y rows }
+    ensures bound { result < 2 ^ 40 }
+{
+    9 + 18 * u64::from(rows) + 40 * u64::from(heads(rows))
+}

@@ -1,0 +1,4 @@
+pub mod Pieces
+mod PlainNames
+mod ReadBack
+mod Stretches

@@ -1,0 +1,7 @@
+//! How much of a text is shown.
+
+/// The most characters of a text that are shown.
+pub(crate) const SHOWN_LIMIT: usize = 72;
+
+/// The most characters of a body that are shown.
+pub(crate) const SHOWN_BODY_LIMIT: usize = 24;
