@@ -9,9 +9,9 @@ use Rattle.law_explore.specs.Races.{Race, IsRace, IsNormalWhole, whole_histories
 use Rattle.law_explore.specs.Outcome.{outcome_after}
 use Rattle.law_explore.proofs.Carriers.{normals-come}
 use Rattle.law_explore.proofs.Exploring.{races_are_explored}
-use Rattle.chorus_explore.specs.declared.findings.Finding.{Finding}
+use Rattle.explore_report.specs.declared.findings.Finding.{Finding}
 use Rattle.chorus_explore.specs.declared.levels.TheConstants.{MOVES_LIMIT}
-use Rattle.chorus_explore.specs.Findings.{found_of, texts_of, AreFindings}
+use Rattle.explore_report.specs.Findings.{found_of, texts_of, AreFindings}
 
 module _ (r : Race) (comes : List Move → List ℕ) where
   outcomes-are : (fs : List Finding) → map (λ (f : Found (List ℕ)). f.outcome) (map found_of fs) ≡ texts_of fs

@@ -151,11 +151,11 @@ if-some (Some x) P Q h f = f x h
 
 -- the deepest level gives its next candidate
 pub advances-if : (o : Option Candidate) (xs : List Level) (l l' : Level) → 0 < length xs → l ≡ get_or xs (length xs - 1) l → IfSome o (λ c. awake (unseen l) ≡ c ∷ awake (unseen l')) → l'.candidates ≡ l.candidates
-    → l'.seen ≤ length l'.candidates.items → IfSome o (λ c. Advances c (reverse xs) (reverse (set xs (length xs - 1) l')))
-advances-if o xs l l' lt at some same seen =
+    → l'.seen ≤ length l'.candidates.items → l'.idle ≡ l.idle → IfSome o (λ c. Advances c (reverse xs) (reverse (set xs (length xs - 1) l')))
+advances-if o xs l l' lt at some same seen idle =
     if-some o (λ c. awake (unseen l) ≡ c ∷ awake (unseen l')) (λ c. Advances c (reverse xs) (reverse (set xs (length xs - 1) l'))) some
     (λ c e. subst (λ as_. Advances c as_ (reverse (set xs (length xs - 1) l'))) (sym (first-is xs lt l at))
-    (subst (λ bs. Advances c (l ∷ drop 1 (reverse xs)) bs) (sym (set-last xs lt l')) (e, same, seen)))
+    (subst (λ bs. Advances c (l ∷ drop 1 (reverse xs)) bs) (sym (set-last xs lt l')) (e, same, seen, idle)))
 
 pub done-if : (xs : List Level) (l : Level) → 0 < length xs → l ≡ get_or xs (length xs - 1) l → awake (unseen l) ≡ [] → IsDone (reverse xs)
 done-if xs l lt at e = subst IsDone (sym (first-is xs lt l at)) e

@@ -26,7 +26,7 @@ use Rattle.chorus_net.proofs.Rounds.{numbers-more}
 use Rattle.chorus_explore.specs.declared.candidates.Candidate.{Candidate}
 use Rattle.chorus_explore.specs.declared.stage.Progress.{Progress}
 use Rattle.chorus_explore.specs.declared.stage.Stage.{Stage}
-use Rattle.chorus_explore.specs.Facts.{fact_line}
+use Rattle.explore_facts.specs.Facts.{fact_line}
 use Rattle.chorus_explore.specs.Stages.{AreAt, AreProgress, IsNext, IsOfScript, IsReached, candidate_behind, coming, may_go, moves_of, position}
 use Rattle.chorus_explore.proofs.Racing.{CallerAt, actor-at, caller-at, first-at, position-layout, race-layout}
 use Rattle.chorus_explore.proofs.Staging.{ProgressAt, next-is, next-there, one-more, progress-at, progress-length, progress-set}

@@ -11,17 +11,17 @@ use Rattle.law_explore.specs.Races.{Race, replaying, IsNormalWhole}
 use Rattle.law_schedule.specs.Shown.{race_of}
 use Rattle.chorus_scene.specs.Scene.{Scene}
 use Rattle.chorus_explore.specs.declared.candidates.Candidate.{Candidate}
-use Rattle.chorus_explore.specs.declared.exploring.Explored.{Explored}
+use Rattle.explore_report.specs.declared.explored.Explored.{Explored}
 use Rattle.chorus_explore.specs.declared.exploring.Search.{Search}
 use Rattle.chorus_explore.specs.declared.levels.Level.{Level}
 use Rattle.chorus_explore.specs.declared.levels.TheConstants.{MOVES_LIMIT}
 use Rattle.chorus_explore.specs.declared.stage.Stage.{Stage}
 use Rattle.chorus_explore.specs.Candidates.{candidate_at, candidates_at}
-use Rattle.chorus_explore.specs.Findings.{AreFindings, Counts, HaveSums, MayCount}
-use Rattle.chorus_explore.specs.Levels.{awake, unseen, AreLevels, AreFoundOrPending, IsComing, Advances, IsDone}
+use Rattle.explore_report.specs.Findings.{AreFindings, Counts, HaveSums, MayCount}
+use Rattle.chorus_explore.specs.Levels.{awake, unseen, AreLevels, AreFoundOrPending, AreIdle, IsComing, LeadsNowhere, Advances, IsDone}
 use Rattle.chorus_explore.specs.Searches.{HasFound, IsOver, IsSearch, IsTaking, HasCome, IsBehind, levels_of, path_of}
 use Rattle.chorus_explore.specs.Stages.{AreFresh, IsReached, comes, may_go, moves_of}
-use Rattle.chorus_explore.proofs.Counting.{count-most}
+use Rattle.explore_report.proofs.Counting.{count-most}
 use Rattle.chorus_explore.proofs.Going.{found-whole, coming-whole, all-found, listed, pop-drop, push-first}
 use Rattle.chorus_explore.proofs.Pending.{begins, takes, gone, ends, deeper}
 
@@ -32,6 +32,10 @@ history-rest r (m ∷ ms) h = h.1
 levels-rest : (r : Race) (ls : List Level) (ms : List Move) → AreLevels r ls ms → AreLevels r (drop 1 ls) (drop 1 ms)
 levels-rest r [] ms h = ap (λ (xs : List Move). drop 1 xs) h
 levels-rest r (level ∷ ls) ms h = h.3
+
+idle-rest : (r : Race) (ls : List Level) (ms : List Move) → AreIdle r ls ms → AreIdle r (drop 1 ls) (drop 1 ms)
+idle-rest r [] ms h = tt
+idle-rest r (level ∷ ls) ms h = h.1
 
 pending-rest : (r : Race) (found : List (List Move)) (ls : List Level) (ms : List Move) → AreFoundOrPending r found ls ms → IsDone ls → AreFoundOrPending r found (drop 1 ls) (drop 1 ms)
 pending-rest r found [] ms h done = h
@@ -82,6 +86,7 @@ module _ (c : Scene) (most : ℕ) where
     found = h.found;
     has = subst (HasFound c most h.found) (sym explored) h.has;
     levels = subst (λ ls. AreLevels (race_of c) ls (path_of t)) (sym levels) (subst (AreLevels (race_of c) (drop 1 (levels_of s))) (sym path) (levels-rest (race_of c) (levels_of s) (path_of s) h.levels));
+    idle = subst (λ ls. AreIdle (race_of c) ls (path_of t)) (sym levels) (subst (AreIdle (race_of c) (drop 1 (levels_of s))) (sym path) (idle-rest (race_of c) (levels_of s) (path_of s) h.idle));
     whole = subst (λ ls. AreFoundOrPending (race_of c) h.found ls (path_of t)) (sym levels)
         (subst (AreFoundOrPending (race_of c) h.found (drop 1 (levels_of s))) (sym path) (pending-rest (race_of c) h.found (levels_of s) (path_of s) h.whole done));
     history = subst (IsHistory (replaying (race_of c))) (sym path) (history-rest (race_of c) (path_of s) h.history);
@@ -114,6 +119,9 @@ module _ (c : Scene) (most : ℕ) where
         let l = listed r ms level taken (awake (unseen level')) are.0 adv.0 in
         let new : AreLevels (race_of c) (level' ∷ ls') (path_of s) =
         (ap (λ v. v.items) adv.1 ∙ are.0, adv.2, are.2 ∙ ap length (sym below), subst (λ xs. AreLevels (race_of c) xs (drop 1 (path_of s))) (sym below) are.3) in
+        let idle : AreIdle (race_of c) (level ∷ ls) (path_of s) = subst (λ xs. AreIdle (race_of c) xs (path_of s)) a h.idle in
+        let same-idle : AreIdle (race_of c) (level' ∷ ls') (path_of s) =
+        (subst (λ z. IfSome z (λ m. LeadsNowhere (race_of c) (path_of s) m)) (sym adv.3) idle.0, subst (λ xs. AreIdle (race_of c) xs (drop 1 (path_of s))) (sym below) idle.1) in
         let coming : IsComing (race_of c) h.found (level' ∷ ls') (taken.mv ∷ path_of s) =
         subst (λ xs. IsComing (race_of c) h.found (level' ∷ xs) (taken.mv ∷ path_of s)) (sym below)
         (takes r h.found level level' ls ms taken (subst (λ xs. AreFoundOrPending (race_of c) h.found xs (path_of s)) a h.whole) adv.0) in
@@ -121,6 +129,7 @@ module _ (c : Scene) (most : ℕ) where
           found = h.found;
           has = subst (HasFound c most h.found) (sym explored) h.has;
           levels = subst (λ xs. AreLevels (race_of c) xs (path_of t)) (sym b) (subst (AreLevels (race_of c) (level' ∷ ls')) (sym path) new);
+          idle = subst (λ xs. AreIdle (race_of c) xs (path_of t)) (sym b) (subst (AreIdle (race_of c) (level' ∷ ls')) (sym path) same-idle);
           some = (level', (ls', b));
           coming = subst (λ xs. IsComing (race_of c) h.found xs (taken.mv ∷ path_of t)) (sym b) (subst (λ ps. IsComing (race_of c) h.found (level' ∷ ls') (taken.mv ∷ ps)) (sym path) coming);
           is = l.is ∙ ap (λ ps. candidate_at (race_of c) ps taken.mv) (sym path);
@@ -167,6 +176,7 @@ module _ (c : Scene) (most : ℕ) where
         };
         few = (let k = h.has.few in omega (arith, k, up));
         levels = subst (λ xs. AreLevels (race_of c) xs (drop 1 (path_of t))) (sym same) (subst (AreLevels (race_of c) (levels_of s)) (sym (ap (drop 1) path)) h.levels);
+        idle = subst (λ xs. AreIdle (race_of c) xs (drop 1 (path_of t))) (sym same) (subst (AreIdle (race_of c) (levels_of s)) (sym (ap (drop 1) path)) h.idle);
         height = ap length path ∙ ap suc old.2 ∙ sym (ap length h.some.1.1) ∙ sym (ap length same);
         coming = subst (λ xs. IsComing (race_of c) h.found xs (path_of t)) (sym same) (subst (IsComing (race_of c) h.found (levels_of s)) (sym path) h.coming);
         reached = reached;
@@ -201,6 +211,7 @@ module _ (c : Scene) (most : ℕ) where
             events = (let k = h.has.events in omega (arith, events, k));
           };
           levels = subst (λ xs. AreLevels (race_of c) xs (path_of t)) (sym same) (subst (AreLevels (race_of c) (levels_of s)) (sym path) h.levels);
+          idle = subst (λ xs. AreIdle (race_of c) xs (path_of t)) (sym same) (subst (AreIdle (race_of c) (levels_of s)) (sym path) h.idle);
           whole = subst (λ xs. AreFoundOrPending (race_of c) (h.found ++ path_of s ∷ []) xs (path_of t)) (sym same)
               (subst (AreFoundOrPending (race_of c) (h.found ++ path_of s ∷ []) (levels_of s)) (sym path)
               (ends r h.found (levels_of s) (path_of s) h.coming (sym h.candidates_are ∙ none) (omega (arith, height, few, long))));
@@ -211,9 +222,9 @@ module _ (c : Scene) (most : ℕ) where
           uncut = cut ∙ h.uncut;
         }
 
-    pub goes-deeper : (level : Level) (first : Candidate) (rest : List Candidate) → candidates ≡ first ∷ rest → level.candidates.items ≡ candidates → level.seen ≡ 0 → levels_of t ≡ level ∷ levels_of s
+    pub goes-deeper : (level : Level) (first : Candidate) (rest : List Candidate) → candidates ≡ first ∷ rest → level.candidates.items ≡ candidates → level.seen ≡ 0 → level.idle ≡ None → levels_of t ≡ level ∷ levels_of s
         → t.explored ≡ s.explored → t.moves ≡ s.moves → t.stage ≡ Some stage → t.sites ≡ s.sites → IsSearch c most t
-    goes-deeper level first rest some are seen levels explored moves new-stage sites =
+    goes-deeper level first rest some are seen idle levels explored moves new-stage sites =
         let r = race_of c in
         let path : path_of t ≡ path_of s = ap (λ v. reverse v.items) moves in
         let to : moves_of stage ≡ path_of s = ap reverse h.moves in
@@ -225,6 +236,8 @@ module _ (c : Scene) (most : ℕ) where
           found = h.found;
           has = subst (HasFound c most h.found) (sym explored) h.has;
           levels = subst (λ xs. AreLevels (race_of c) xs (path_of t)) (sym levels) (subst (AreLevels (race_of c) (level ∷ levels_of s)) (sym path) new);
+          idle = subst (λ xs. AreIdle (race_of c) xs (path_of t)) (sym levels)
+              (subst (AreIdle (race_of c) (level ∷ levels_of s)) (sym path) (subst (λ z. IfSome z (λ m. LeadsNowhere (race_of c) (path_of s) m)) (sym idle) tt, h.idle));
           whole = subst (λ xs. AreFoundOrPending (race_of c) h.found xs (path_of t)) (sym levels)
               (subst (AreFoundOrPending (race_of c) h.found (level ∷ levels_of s)) (sym path)
               (deeper r h.found level (levels_of s) (path_of s) first rest h.coming (are ∙ h.candidates_are) (are ∙ some) seen (omega (arith, height, few, long))));
@@ -264,6 +277,7 @@ module _ (c : Scene) (most : ℕ) where
         };
         few = omega arith;
         levels = subst (λ ls. AreLevels (race_of c) ls (drop 1 (path_of s))) (sym no_levels) (ap (drop 1) path);
+        idle = subst (λ ls. AreIdle (race_of c) ls (drop 1 (path_of s))) (sym no_levels) tt;
         height = ap length path ∙ sym (ap length no_levels);
         coming = subst (λ ls. IsComing (race_of c) [] ls (path_of s)) (sym no_levels) (subst (IsComing (race_of c) [] []) (sym path) (begins (race_of c)));
         reached = reached;

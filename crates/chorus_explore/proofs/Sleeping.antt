@@ -13,7 +13,7 @@ use Rattle.chorus_explore.specs.Candidates.{same_move, candidate_at, candidates_
 
 -- Moves that are the same.
 
-same-is : (m o : Move) → same_move m o ≡ true → m ≡ o
+pub same-is : (m o : Move) → same_move m o ≡ true → m ≡ o
 same-is (Go i) (Go j) h = ap Go (eqb-true i j h)
 same-is (Go i) (Carry c d) h = absurd (false≢true h)
 same-is (Carry a b) (Go j) h = absurd (false≢true h)
@@ -21,7 +21,7 @@ same-is (Carry a b) (Carry c d) h =
     let two = and_parts (a == c) (b == d) h in
     ap₂ Carry (eqb-true a c two.0) (eqb-true b d two.1)
 
-is-same : (m : Move) → same_move m m ≡ true
+pub is-same : (m : Move) → same_move m m ≡ true
 is-same (Go i) = eq-eqb i i refl
 is-same (Carry a b) = both (a == a) (b == b) (eq-eqb a a refl) (eq-eqb b b refl)
   where

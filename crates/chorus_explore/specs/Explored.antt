@@ -5,9 +5,9 @@ use Rattle.law_explore.specs.declared.moves.Move.{Move}
 use Rattle.law_explore.specs.Explores.{Explores, ExploresSome}
 use Rattle.law_schedule.specs.Shown.{race_of}
 use Rattle.chorus_scene.specs.Scene.{Scene}
-use Rattle.chorus_explore.specs.declared.exploring.Explored.{Explored}
-use Rattle.chorus_explore.specs.Findings.{found_of}
-use Rattle.chorus_explore.specs.Reports.{report_text}
+use Rattle.explore_report.specs.declared.explored.Explored.{Explored}
+use Rattle.explore_report.specs.Findings.{found_of}
+use Rattle.explore_report.specs.Reports.{report_text}
 use Rattle.chorus_explore.specs.Stages.{comes}
 
 -- The text tells what came of so many histories, each outcome with one that shows it. What it says may come, may come.

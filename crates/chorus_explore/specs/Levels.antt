@@ -1,7 +1,7 @@
 -- The levels of a search, and what is pending at them.
 -- r is a race, ls are levels, the deepest first, ms are the moves to the deepest one, the latest first, c is a
 -- candidate.
-use Rattle.std.specs.Prelude.{ℕ, ◌≡◌, ◌≤◌, ◌<◌, ◌-◌, true, not, List, [], ◌∷◌, ◌++◌, length, drop}
+use Rattle.std.specs.Prelude.{ℕ, ◌≡◌, ◌≤◌, ◌<◌, ◌-◌, true, not, List, [], ◌∷◌, ◌++◌, length, drop, IfSome}
 use Rattle.std.specs.List.{filter, flat_map}
 use Rattle.law_explore.specs.declared.moves.Move.{Move}
 use Rattle.law_explore.specs.declared.moves.Move.TheVariants.{Go}
@@ -10,7 +10,7 @@ use Rattle.law_explore.specs.Races.{Race, replaying, next_moves, whole_histories
 use Rattle.chorus_explore.specs.declared.candidates.Candidate.{Candidate}
 use Rattle.chorus_explore.specs.declared.levels.Level.{Level}
 use Rattle.chorus_explore.specs.declared.levels.TheConstants.{MOVES_LIMIT}
-use Rattle.chorus_explore.specs.Candidates.{candidates_at}
+use Rattle.chorus_explore.specs.Candidates.{candidates_at, is_kept}
 
 -- those that are to be taken
 abbrev pub awake : List Candidate → List Candidate
@@ -55,6 +55,20 @@ IsComing r found ls h =
     found ++ (ends_from (replaying r) (next_moves r) (most - length ls) h ++ pending_at r most ls (drop 1 h))
     ≡ whole_histories r most
 
+-- no whole history in normal form goes on from the moves by this one
+abbrev pub LeadsNowhere : Race → List Move → Move → Type 0
+LeadsNowhere r ms m = (depth : ℕ) → ends_from (replaying r) (next_moves r) depth (m ∷ ms) ≡ []
+
+-- what is kept at the levels as such is such
+abbrev pub AreIdle : Race → List Level → List Move → Type 0
+AreIdle r [] ms = Unit {0}
+AreIdle r (level ∷ ls) ms = IfSome level.idle (λ m. LeadsNowhere r ms m) × AreIdle r ls (drop 1 ms)
+
+-- at the deepest level it is this move
+abbrev pub IsKeptIdle : Move → List Level → Type 0
+IsKeptIdle m [] = ⊥
+IsKeptIdle m (level ∷ ls) = is_kept level.idle m ≡ true
+
 -- no level has looked at more than there is
 abbrev pub HaveSeen : List Level → Type 0
 HaveSeen [] = Unit {0}
@@ -64,7 +78,7 @@ HaveSeen (level ∷ ls) = level.seen ≤ length level.candidates.items
 abbrev pub Advances : Candidate → List Level → List Level → Type 0
 Advances c (level ∷ ls) (level' ∷ ls') =
     (awake (unseen level) ≡ c ∷ awake (unseen level')) × (level'.candidates ≡ level.candidates)
-    × (level'.seen ≤ length level'.candidates.items)
+    × (level'.seen ≤ length level'.candidates.items) × (level'.idle ≡ level.idle)
 Advances c _ _ = ⊥
 
 -- or has none left

@@ -1,11 +1,6 @@
 pub mod Candidates
 pub mod Levels
-pub mod Findings
-pub mod Facts
 pub mod Stages
 pub mod Searches
-pub mod Outcomes
-pub mod Reports
-pub mod Singles
 pub mod Explored
 pub mod Ends

@@ -8,14 +8,14 @@ use Rattle.law_explore.specs.Races.{replaying, whole_histories, IsNormalWhole}
 use Rattle.law_schedule.specs.Shown.{race_of}
 use Rattle.chorus_scene.specs.Scene.{Scene}
 use Rattle.chorus_explore.specs.declared.candidates.Candidate.{Candidate}
-use Rattle.chorus_explore.specs.declared.exploring.Explored.{Explored}
+use Rattle.explore_report.specs.declared.explored.Explored.{Explored}
 use Rattle.chorus_explore.specs.declared.exploring.Search.{Search}
 use Rattle.chorus_explore.specs.declared.levels.TheConstants.{MOVES_LIMIT}
 use Rattle.chorus_explore.specs.declared.levels.Level.{Level}
 use Rattle.chorus_explore.specs.declared.stage.Stage.{Stage}
 use Rattle.chorus_explore.specs.Candidates.{candidate_at, candidates_at}
-use Rattle.chorus_explore.specs.Findings.{AreFindings, HaveSums}
-use Rattle.chorus_explore.specs.Levels.{AreLevels, AreFoundOrPending, IsComing}
+use Rattle.explore_report.specs.Findings.{AreFindings, HaveSums}
+use Rattle.chorus_explore.specs.Levels.{AreLevels, AreFoundOrPending, AreIdle, IsComing}
 use Rattle.chorus_explore.specs.Stages.{AreFresh, IsReached, comes, may_go}
 
 -- these histories were found, so many, by no more events than were allowed
@@ -53,6 +53,7 @@ pub record IsSearch (c : Scene) (most : ℕ) (s : Search) : Type 0 where
   pub found : List (List Move)
   pub has : HasFound c most found s.explored
   pub levels : AreLevels (race_of c) (levels_of s) (path_of s)
+  pub idle : AreIdle (race_of c) (levels_of s) (path_of s)
   pub whole : AreFoundOrPending (race_of c) found (levels_of s) (path_of s)
   pub history : IsHistory (replaying (race_of c)) (path_of s)
   pub stage : HasStage c s
@@ -66,6 +67,7 @@ pub record IsTaking (c : Scene) (most : ℕ) (taken : Candidate) (s : Search) : 
   pub found : List (List Move)
   pub has : HasFound c most found s.explored
   pub levels : AreLevels (race_of c) (levels_of s) (path_of s)
+  pub idle : AreIdle (race_of c) (levels_of s) (path_of s)
   pub some : (level : Level) × ((ls : List Level) × (levels_of s ≡ level ∷ ls))
   pub coming : IsComing (race_of c) found (levels_of s) (taken.mv ∷ path_of s)
   pub is : taken ≡ candidate_at (race_of c) (path_of s) taken.mv
@@ -83,6 +85,7 @@ pub record HasCome (c : Scene) (most : ℕ) (stage : Stage) (candidates : List C
   pub has : HasFound c most found s.explored
   pub few : length found ≤ s.explored.events
   pub levels : AreLevels (race_of c) (levels_of s) (drop 1 (path_of s))
+  pub idle : AreIdle (race_of c) (levels_of s) (drop 1 (path_of s))
   pub height : length (path_of s) ≡ length (levels_of s)
   pub coming : IsComing (race_of c) found (levels_of s) (path_of s)
   pub reached : IsReached c stage
@@ -91,6 +94,11 @@ pub record HasCome (c : Scene) (most : ℕ) (stage : Stage) (candidates : List C
   pub candidates_are : candidates ≡ candidates_at (race_of c) (path_of s)
   pub few_moves : length s.moves.items ≤ MOVES_LIMIT
   pub uncut : s.explored.is_cut ≡ false
+
+-- what was come to is come to still
+abbrev pub StaysCome : List Candidate → Search → Search → Type 0
+StaysCome candidates old new =
+    (c : Scene) (most : ℕ) (stage : Stage) → HasCome c most stage candidates old → HasCome c most stage candidates new
 
 -- a stage that is where the moves lead, if there is one
 abbrev pub LeadsThere : Scene → List Move → Option Stage → Type 0

@@ -23,8 +23,8 @@ use Rattle.chorus_explore.specs.declared.candidates.Candidate.{Candidate}
 use Rattle.chorus_explore.specs.declared.stage.Progress.{Progress}
 use Rattle.chorus_explore.specs.declared.stage.Stage.{Stage}
 use Rattle.chorus_explore.specs.Candidates.{sleeps_behind}
-use Rattle.chorus_explore.specs.Facts.{fact_line, outcome_lines}
-use Rattle.chorus_explore.specs.Outcomes.{message_lines}
+use Rattle.explore_facts.specs.Facts.{fact_line, outcome_lines}
+use Rattle.explore_facts.specs.Outcomes.{message_lines}
 
 -- where the moves lead
 abbrev pub position : Scene → List Move → Position

@@ -2,7 +2,7 @@
 
 ghost use Rattle.std.specs.Prelude.{◌≡◌};
 ghost use Rattle.law_explore.specs.Races.{is_less};
-ghost use Rattle.chorus_explore.specs.Candidates.{same_move, sleeps_behind};
+ghost use Rattle.chorus_explore.specs.Candidates.{all_sleep, brings_nothing, find_candidate, is_candidate, is_or_sleeps, leads_nowhere, same_move, sleeps_behind};
 
 use law_explore::Move;
 
@@ -24,7 +24,7 @@ pub(crate) const NO_CANDIDATE: Candidate = Candidate {
 };
 
 /// Whether they are one move.
-fn is_same(one: Move, other: Move) -> bool
+pub(crate) fn is_same(one: Move, other: Move) -> bool
     ensures { result ≡ same_move one other }
 {
     match (one, other) {
@@ -34,8 +34,8 @@ fn is_same(one: Move, other: Move) -> bool
     }
 }
 
-/// Whether the first of two different moves stands before the other: scripts by their numbers, and behind them deliveries by their
-/// places.
+/// Whether the first of two different moves stands before the other: scripts by their numbers, and behind them
+/// deliveries by their places.
 fn is_less(one: Move, other: Move) -> bool
     ensures { result ≡ is_less one other }
 {
@@ -49,8 +49,8 @@ fn is_less(one: Move, other: Move) -> bool
     }
 }
 
-/// Whether a move that may come behind `taken` is asleep there, where these were the candidates before it: it had nothing in common
-/// with `taken`, and is less than it, or was asleep already.
+/// Whether a move that may come behind `taken` is asleep there, where these were the candidates before it: it had
+/// nothing in common with `taken`, and is less than it, or was asleep already.
 pub(crate) fn sleeps(mv: Move, taken: Candidate, before: &[Candidate]) -> bool
     ensures { result ≡ sleeps_behind mv taken before.now }
 {
@@ -60,4 +60,89 @@ pub(crate) fn sleeps(mv: Move, taken: Candidate, before: &[Candidate]) -> bool
         }
     }
     false
+}
+
+/// The candidate that the move is. None where it is none of these.
+fn find(mv: Move, candidates: &[Candidate]) -> Option<Candidate>
+    ensures { result ≡ find_candidate mv candidates.now }
+{
+    for candidate in candidates {
+        if is_same(candidate.mv, mv) {
+            return Some(*candidate);
+        }
+    }
+    None
+}
+
+/// Whether the move is one of these.
+fn is_candidate(mv: Move, candidates: &[Candidate]) -> bool
+    ensures { result ≡ is_candidate mv candidates.now }
+{
+    for candidate in candidates {
+        if is_same(candidate.mv, mv) {
+            return true;
+        }
+    }
+    false
+}
+
+/// Whether each move that may come behind this one could come before it, and is another one.
+fn brings_nothing(mv: Move, before: &[Candidate], behind: &[Candidate]) -> bool
+    ensures { result ≡ brings_nothing mv before.now behind.now }
+{
+    for candidate in behind {
+        if is_same(candidate.mv, mv) {
+            return false;
+        }
+        if !is_candidate(candidate.mv, before) {
+            return false;
+        }
+    }
+    true
+}
+
+/// Whether the move is the candidate's, or is asleep behind it.
+fn is_or_sleeps(mv: Move, taken: Candidate, before: &[Candidate]) -> bool
+    ensures { result ≡ is_or_sleeps mv taken before.now }
+{
+    if is_same(mv, taken.mv) {
+        return true;
+    }
+    sleeps(mv, taken, before)
+}
+
+/// Whether all others are asleep behind the candidate.
+fn all_sleep(taken: Candidate, candidates: &[Candidate]) -> bool
+    ensures { result ≡ all_sleep taken candidates.now candidates.now }
+{
+    for candidate in candidates {
+        if !is_or_sleeps(candidate.mv, taken, candidates) {
+            return false;
+        }
+    }
+    true
+}
+
+/// Whether no whole history in normal form goes on by the move, by what is seen of it behind another move: `before` are
+/// the candidates before both, `between` those behind the other move, and `behind` those behind both. So nothing new
+/// comes of it, and all that could come before it is asleep behind it.
+pub(crate) fn leads_nowhere(
+    mv: Move,
+    other: Move,
+    before: &[Candidate],
+    between: &[Candidate],
+    behind: &[Candidate],
+) -> bool
+    ensures { result ≡ leads_nowhere mv other before.now between.now behind.now }
+{
+    if is_same(other, mv) {
+        return false;
+    }
+    let Some(taken) = find(mv, before) else {
+        return false;
+    };
+    if !brings_nothing(taken.mv, between, behind) {
+        return false;
+    }
+    all_sleep(taken, before)
 }

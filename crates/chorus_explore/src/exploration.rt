@@ -6,9 +6,9 @@ ghost use Rattle.chorus_explore.specs.Explored.{IsExploration};
 ghost use Rattle.chorus_explore.specs.Stages.{MayWear};
 
 use crate::exploring::go_over;
-use crate::report::report;
 use chorus_place::PlaceFault;
 use chorus_scene::Scenario;
+use explore_report::report;
 use std::alloc::Global;
 
 /// Why a scenario was not explored.
@@ -20,11 +20,12 @@ pub enum ExploreFault {
     Worn { clock: u64 },
 }
 
-/// Goes over the schedules of the scenario, those in normal form, and carries out so many events at most: gives the text of what may
-/// come.
+/// Goes over the schedules of the scenario, those in normal form, and carries out so many events at most: gives the
+/// text of what may come.
 ///
-/// At `all` nothing is missing; at `some`, where a limit was met, of the events, of the moves of a history or of the messages that a
-/// caller posts, what is told may come all the same. Worn comes only where a schedule wears that clock; want of memory is free.
+/// At `all` nothing is missing; at `some`, where a limit was met, of the events, of the moves of a history or of the
+/// messages that a caller posts, what is told may come all the same. Worn comes only where a schedule wears that clock;
+/// want of memory is free.
 pub fn explore_scenario(
     alloc: Global,
     scenario: &Scenario,

@@ -7,31 +7,20 @@ ghost use Rattle.law_explore.specs.Search.{IsHistory};
 ghost use Rattle.law_explore.specs.Races.{replaying};
 ghost use Rattle.law_schedule.specs.Shown.{race_of};
 ghost use Rattle.chorus_explore.specs.Candidates.{candidates_at};
-ghost use Rattle.chorus_explore.specs.Findings.{MayCount};
-ghost use Rattle.chorus_explore.specs.Levels.{Advances, HaveSeen, IsDone};
-ghost use Rattle.chorus_explore.specs.Searches.{HasCome, HasStage, IsBehind, IsOver, IsSearch, IsTaking, KeepsSites, LeadsThere, levels_of, path_of};
+ghost use Rattle.explore_report.specs.Findings.{MayCount};
+ghost use Rattle.chorus_explore.specs.Levels.{Advances, HaveSeen, IsDone, IsKeptIdle};
+ghost use Rattle.chorus_explore.specs.Searches.{HasCome, HasStage, IsBehind, IsOver, IsSearch, IsTaking, KeepsSites, LeadsThere, StaysCome, levels_of, path_of};
 ghost use Rattle.chorus_explore.specs.Stages.{AreFresh, IsReached, MayWear, moves_of};
 
-use crate::candidates::{Candidate, NO_CANDIDATE};
-use crate::findings::Findings;
+use crate::candidates::{Candidate, NO_CANDIDATE, leads_nowhere};
 use crate::levels::{Level, MOVES_LIMIT};
 use crate::stage::Stage;
 use chorus_net::Sites;
 use chorus_place::PlaceFault;
 use chorus_scene::Scenario;
+use explore_report::{Explored, Findings};
 use law_explore::Move;
 use std::alloc::{AllocError, Global};
-
-/// What a search came to.
-#[derive(Debug, Drop)]
-pub(crate) struct Explored {
-    pub(crate) findings: Findings,
-    /// How many histories were gone through to their ends, and how many events were carried out first.
-    pub(crate) histories: u64,
-    pub(crate) events: u64,
-    /// Whether a limit was met.
-    pub(crate) is_cut: bool,
-}
 
 /// The search so far.
 #[derive(Debug, Drop)]
@@ -82,7 +71,7 @@ impl Search {
             stage: None,
             sites: None,
         };
-        let mut stage = Stage::begin(alloc, scenario, None)?;
+        let mut stage = Stage::begin(alloc, scenario, None, 0)?;
         let candidates = stage.candidates(alloc, scenario, NO_CANDIDATE, &[])?;
         search.come_to(alloc, stage, candidates)?;
         Ok(search)
@@ -104,7 +93,21 @@ impl Search {
             self.explored.is_cut = true;
             return Ok(false);
         }
+        if self.is_idle(candidate.mv) {
+            self.explored.events += 1;
+            return Ok(true);
+        }
         self.take(alloc, scenario, candidate, most)
+    }
+
+    /// Whether it is known of the move that it leads nowhere from the deepest level.
+    fn is_idle(&self, mv: Move) -> bool
+        ensures { result ≡ true → IsKeptIdle mv (levels_of self.now) }
+    {
+        match self.levels.last() {
+            Some(level) => level.is_idle(mv),
+            None => false,
+        }
     }
 
     /// The next candidate of the deepest level. None where none is left there, or no level.
@@ -181,8 +184,37 @@ impl Search {
         self.explored.events += 1;
         self.moves.reserve(1)?;
         self.moves.push_reserved(candidate.mv);
+        self.learn(&candidates);
         self.come_to(alloc, stage, candidates)?;
         Ok(true)
+    }
+
+    /// Where the last move brings nothing behind the move before it, so that it leads nowhere without that one, this is
+    /// kept at the level of that one. These are the candidates behind both.
+    fn learn(&mut self, behind: &[Candidate])
+        ensures stays { StaysCome behind.now self.old self.new }
+        ensures explored { self.new.explored ≡ self.old.explored }
+    {
+        let count = self.moves.len();
+        let height = self.levels.len();
+        if count < 2 {
+            return;
+        }
+        if height < 2 {
+            return;
+        }
+        let mv = self.moves[count - 1];
+        let other = self.moves[count - 2];
+        let is_idle = leads_nowhere(
+            mv,
+            other,
+            &self.levels[height - 2].candidates,
+            &self.levels[height - 1].candidates,
+            behind,
+        );
+        if is_idle {
+            self.levels[height - 2].idle = Some(mv);
+        }
     }
 
     /// The stage where the moves lead. None where a caller has posted all the messages that it may.
@@ -252,6 +284,7 @@ impl Search {
             self.levels.push(Level {
                 candidates,
                 seen: 0,
+                idle: None,
             })?;
             self.stage = Some(stage);
         }
@@ -272,7 +305,7 @@ fn again(
     ensures worn { (clock : ℕ) → IsErrOf result (PlaceFault.Worn clock) →
         MayWear scenario.now clock }
 {
-    let mut stage = Stage::begin(alloc, scenario, fresh)?;
+    let mut stage = Stage::begin(alloc, scenario, fresh, moves.len() + 1)?;
     for mv in moves {
         if !stage.go(scenario, *mv)? {
             return Ok(None);

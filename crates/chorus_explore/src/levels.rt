@@ -1,9 +1,11 @@
 //! The levels of a search: the positions on the way to the one that was reached last.
 
 ghost use Rattle.std.specs.Prelude.{◌≡◌, ◌≤◌, ◌<◌, ◌+◌, [], ◌∷◌, length, drop, slice_index_or, IfSome, IsNone};
+ghost use Rattle.chorus_explore.specs.Candidates.{is_kept};
 ghost use Rattle.chorus_explore.specs.Levels.{awake, unseen, no_candidate};
 
-use crate::candidates::Candidate;
+use crate::candidates::{Candidate, is_same};
+use law_explore::Move;
 
 /// The most moves of a history that is gone through: so many steps a schedule may have.
 pub(crate) const MOVES_LIMIT: usize = 131_072;
@@ -15,6 +17,8 @@ pub(crate) struct Level {
     pub(crate) candidates: Vec<Candidate>,
     /// How many of them were looked at.
     pub(crate) seen: usize,
+    /// One of their moves by which no whole history in normal form goes on, where it is known of one.
+    pub(crate) idle: Option<Move>,
 }
 
 impl Level {
@@ -24,6 +28,7 @@ impl Level {
         ensures some { IfSome result (λ c. awake (unseen self.old) ≡ c ∷ awake (unseen self.new)) }
         ensures none { IsNone result → awake (unseen self.old) ≡ [] }
         ensures candidates { self.new.candidates ≡ self.old.candidates }
+        ensures idle { self.new.idle ≡ self.old.idle }
         ensures seen { self.new.seen ≤ length self.new.candidates.items }
     {
         match awake_from(&self.candidates, self.seen) {
@@ -35,6 +40,16 @@ impl Level {
                 self.seen = self.candidates.len();
                 None
             }
+        }
+    }
+
+    /// Whether it is known that the move leads nowhere.
+    pub(crate) fn is_idle(&self, mv: Move) -> bool
+        ensures { result ≡ is_kept self.now.idle mv }
+    {
+        match self.idle {
+            Some(idle) => is_same(idle, mv),
+            None => false,
         }
     }
 }

@@ -18,23 +18,22 @@ ghost use Rattle.chorus_explore.specs.declared.stage.Progress.{Progress};
 ghost use Rattle.chorus_net.specs.Sites.{net};
 ghost use Rattle.chorus_net.specs.Worn.{compared_by};
 ghost use Rattle.chorus_ui.specs.declared.limits.TheConstants.{CLOCK_LIMIT};
-ghost use Rattle.chorus_explore.specs.Facts.{fact_line};
+ghost use Rattle.explore_facts.specs.Facts.{fact_line};
 ghost use Rattle.chorus_explore.specs.Stages.{AreAt, AreFresh, AreProgress, IsNext, IsOfScript, IsPlaceFor, IsReached, MayWear, candidate_behind, comes, coming, may_go, moves_of, position, posted_lines};
 
 use crate::candidates::{Candidate, sleeps};
-use crate::facts::push_answered;
-use crate::outcomes::{push_all_ports, push_messages};
 use chorus_entry::{Act, Command, Entry, MsgId};
 use chorus_net::Sites;
 use chorus_place::PlaceFault;
 use chorus_replay::{enter, set_up};
 use chorus_scene::Scenario;
 use chorus_ui::Layout;
+use explore_facts::{push_all_ports, push_answered, push_messages};
 use law_explore::Move;
 use std::alloc::{AllocError, Global};
 
-/// For so many bytes of an outcome, of the answers of a script, and for so many messages that it posts there is room at once; where
-/// there are more, room is taken.
+/// For so many bytes of an outcome, of the answers of a script, and for so many messages that it posts there is room at
+/// once; where there are more, room is taken.
 const OUTCOME_ROOM: usize = 1024;
 
 const ANSWERS_ROOM: usize = 256;
@@ -81,11 +80,13 @@ pub(crate) struct Stage {
 }
 
 impl Stage {
-    /// The sites when all callers have entered: those that are given, on which nothing happened, or else sites that are started.
+    /// The sites when all callers have entered: those that are given, on which nothing happened, or else sites that are
+    /// started. There is room for so many moves.
     pub(crate) fn begin(
         alloc: Global,
         scenario: &Scenario,
         fresh: Option<Sites>,
+        room: usize,
     ) -> Result<Stage, PlaceFault>
         requires { AreFresh scenario.now fresh }
         ensures ok { IfOk result (λ stage. IsReached scenario.now stage
@@ -96,7 +97,7 @@ impl Stage {
         let sites = fresh_sites(alloc, scenario.layout(), fresh)?;
         let sites = entered(sites, scenario)?;
         let scripts = no_progress(alloc, scenario)?;
-        let moves = Vec::new(alloc);
+        let moves = Vec::with_capacity(alloc, room)?;
         Ok(Stage {
             sites,
             scripts,
@@ -104,8 +105,8 @@ impl Stage {
         })
     }
 
-    /// Performs a move that may come. False where its caller has posted all the messages that it may; then only the sites are as they
-    /// were.
+    /// Performs a move that may come. False where its caller has posted all the messages that it may; then only the
+    /// sites are as they were.
     pub(crate) fn go(&mut self, scenario: &Scenario, mv: Move) -> Result<bool, PlaceFault>
         requires reached { IsReached scenario.now self.old }
         requires may { may_go scenario.now mv (moves_of self.old) ≡ true }
@@ -138,7 +139,8 @@ impl Stage {
         Ok(true)
     }
 
-    /// Performs the next command of the script that stands there. False where its caller has posted all the messages that it may.
+    /// Performs the next command of the script that stands there. False where its caller has posted all the messages
+    /// that it may.
     fn perform(&mut self, scenario: &Scenario, index: u16) -> Result<bool, PlaceFault>
         requires reached { IsReached scenario.now self.old }
         requires may { may_go scenario.now (Move.Go index) (moves_of self.old) ≡ true }
@@ -192,8 +194,8 @@ impl Stage {
         Ok(())
     }
 
-    /// The moves that may come behind the one taken, where these were the candidates before it: scripts first, then deliveries by their
-    /// places.
+    /// The moves that may come behind the one taken, where these were the candidates before it: scripts first, then
+    /// deliveries by their places.
     pub(crate) fn candidates(
         &mut self,
         alloc: Global,

@@ -165,7 +165,7 @@ module _ (r : Race) (race : IsRace r) where
   same-state [] = refl
   same-state (m ∷ ms) = ap ((replaying r).step m) (same-state ms)
 
-  to-racing : (ms : List Move) → IsHistory (replaying r) ms → IsHistory (racing r seat_0) ms
+  pub to-racing : (ms : List Move) → IsHistory (replaying r) ms → IsHistory (racing r seat_0) ms
   to-racing [] h = tt
   to-racing (m ∷ ms) h = (sym (ap (may_come l m) (same-state ms)) ∙ h.0, to-racing ms h.1)
 
@@ -289,10 +289,10 @@ module _ (r : Race) (race : IsRace r) where
 
   -- Histories.
 
-  there-after : (ms : List Move) → IsHistory (racing r seat_0) ms → IsHistory (racing carried carrier) ms × Stays r carried seat_0 carrier to-carried (at_0 ms) (at_c ms)
+  pub there-after : (ms : List Move) → IsHistory (racing r seat_0) ms → IsHistory (racing carried carrier) ms × Stays r carried seat_0 carrier to-carried (at_0 ms) (at_c ms)
   there-after ms h = alike-after r carried seat_0 carrier to-carried ms h
 
-  back-after : (ms : List Move) → IsHistory (racing carried carrier) ms → IsHistory (racing r seat_0) ms × Stays carried r carrier seat_0 from-carried (at_c ms) (at_0 ms)
+  pub back-after : (ms : List Move) → IsHistory (racing carried carrier) ms → IsHistory (racing r seat_0) ms × Stays carried r carrier seat_0 from-carried (at_c ms) (at_0 ms)
   back-after ms h = alike-after carried r carrier seat_0 from-carried ms h
 
   same-fits : (a : Move) (ms : List Move) → IsHistory (racing r seat_0) ms → fits (replaying r) a ms ≡ fits (racing carried carrier) a ms

@@ -10,6 +10,7 @@ pub mod Alike
 pub mod Nets
 pub mod Replays
 pub mod Carriers
+pub mod Quiet
 pub mod Walking
 pub mod Showing
 pub mod Examples

@@ -164,13 +164,13 @@ abbrev seat_by : (ℕ → ℕ) → Move → ℕ
 seat_by who (Go i) = suc i
 seat_by who (Carry a b) = who b
 
-some-same : (x z : Event) → Some x ≡ Some z → x ≡ z
+pub some-same : (x z : Event) → Some x ≡ Some z → x ≡ z
 some-same x z h = cc
 
 flip : (a b : ℕ) → (a == b) ≡ false → (b == a) ≡ false
 flip a b ne = grind (arith, ne)
 
-turned : (e f : Event) (n : NetState) → are_apart n.layout (actor_of n) e f ≡ true → are_apart n.layout (actor_of n) f e ≡ true
+pub turned : (e f : Event) (n : NetState) → are_apart n.layout (actor_of n) e f ≡ true → are_apart n.layout (actor_of n) f e ≡ true
 turned e f n h = far (seat_of e) (seat_of f) (place_of n.layout (actor_of n) e) (place_of n.layout (actor_of n) f) h
   where
     far : (a b p q : ℕ) → not (a == b) && not (p == q) ≡ true → not (b == a) && not (q == p) ≡ true

@@ -6,4 +6,5 @@ pub mod Races
 pub mod Outcome
 pub mod Explores
 pub mod Replays
+pub mod Quiet
 pub mod Laws

@@ -1,12 +1,15 @@
-//! The laws of races: what may come of the commands of several scripts, and of the deliveries between places, in any order.
+//! The laws of races: what may come of the commands of several scripts, and of the deliveries between places, in any
+//! order.
 //!
-//! A layer that goes over the schedules of a race rests on this: two events that have nothing in common may change places; so each
-//! schedule has one in normal form that comes to the same, and those in normal form are all that need be gone through. The search over
-//! them, depth first, comes to each and to no other, and as a loop it keeps one list: what was found, and then what is pending. What a
-//! schedule comes to depends on no clock, and not on who delivers. The crate has no code but the laws, which make no call.
+//! A layer that goes over the schedules of a race rests on this: two events that have nothing in common may change
+//! places; so each schedule has one in normal form that comes to the same, and those in normal form are all that need
+//! be gone through. The search over them, depth first, comes to each and to no other, and as a loop it keeps one list:
+//! what was found, and then what is pending. What a schedule comes to depends on no clock, and not on who delivers. The
+//! crate has no code but the laws, which make no call.
 //!
-//! Begin with `specs/Races.antt`, the moves of a race, and `specs/Outcome.antt`, what they come to; `specs/Explores.antt` says when all
-//! that may come of a race is said. `specs/Neighbours.antt` and `specs/Search.antt` have the two notions that the laws stand on.
+//! Begin with `specs/Races.antt`, the moves of a race, and `specs/Outcome.antt`, what they come to;
+//! `specs/Explores.antt` says when all that may come of a race is said. `specs/Neighbours.antt` and `specs/Search.antt`
+//! have the two notions that the laws stand on.
 #![tactic(auto)]
 
 mod moves;
@@ -15,29 +18,32 @@ ghost use Rattle.law_explore.specs.Alike.{ActAlike, CommandsStayAlike, NetsStayA
 ghost use Rattle.law_explore.specs.Laws.{MovesComeToTheSame, NormalsComeToAll, RacesAreExplored, RacesAreWalked, RacesNeedNormalsOnly};
 ghost use Rattle.law_explore.specs.Replays.{MovesAreReplayed};
 ghost use Rattle.law_explore.specs.Neighbours.{NeighboursCommute, NeighboursStay};
+ghost use Rattle.law_explore.specs.Quiet.{NeighboursStayQuiet};
 
 pub use moves::Move;
 
-/// Of two events that may come, at two places and of two seats, each may come behind the other, and both orders leave one
-/// network, clocks and journals too.
+/// Of two events that may come, at two places and of two seats, each may come behind the other, and both orders leave
+/// one network, clocks and journals too.
 pub fn neighbours_commute()
     ensures commute { NeighboursCommute }
     ensures stay { NeighboursStay }
 {}
 
-/// Each history of a race has one in normal form, of the same length, that leaves the same network and the same of each script, whoever
-/// delivers.
+/// Each history of a race has one in normal form, of the same length, that leaves the same network and the same of each
+/// script, whoever delivers.
 pub fn races_need_normals_only()
     ensures { RacesNeedNormalsOnly }
 {}
 
-/// Where seat 0 delivers, as in a replay, each whole history has one in normal form, of the same length, that comes to the same outcome:
-/// two moves change places where their turns are at two places, though seat 0's clock then goes another way.
+/// Where seat 0 delivers, as in a replay, each whole history has one in normal form, of the same length, that comes to
+/// the same outcome: two moves change places where their turns are at two places, though seat 0's clock then goes
+/// another way.
 pub fn normals_come_to_all()
     ensures { NormalsComeToAll }
 {}
 
-/// A search over the histories in normal form comes to each whole one that is shorter than its depth, and to no other history.
+/// A search over the histories in normal form comes to each whole one that is shorter than its depth, and to no other
+/// history.
 pub fn races_are_explored()
     ensures { RacesAreExplored }
 {}
@@ -47,8 +53,14 @@ pub fn races_are_walked()
     ensures { RacesAreWalked }
 {}
 
-/// What a turn does depends on no clock, and of a journal only on what is read of it: how many ports and groups were made, which
-/// groups there are, with their members and rotations, and which ports were deleted.
+/// Of two neighbours, where the one brings nothing new behind the other, it brings nothing new before it, and the other
+/// may still come: so what was seen of a move behind its neighbour is known of it alone.
+pub fn neighbours_stay_quiet()
+    ensures { NeighboursStayQuiet }
+{}
+
+/// What a turn does depends on no clock, and of a journal only on what is read of it: how many ports and groups were
+/// made, which groups there are, with their members and rotations, and which ports were deleted.
 pub fn turns_stay_alike()
     ensures commands { CommandsStayAlike ReadAlike }
     ensures packets { PacketsStayAlike ReadAlike }
@@ -67,8 +79,8 @@ pub fn moves_come_to_the_same()
     ensures { MovesComeToTheSame }
 {}
 
-/// A schedule that does the moves, with a drain behind them, leaves the network that the moves come to, if they leave no packet: the drain
-/// finds nothing.
+/// A schedule that does the moves, with a drain behind them, leaves the network that the moves come to, if they leave
+/// no packet: the drain finds nothing.
 pub fn moves_are_replayed()
     ensures { MovesAreReplayed }
 {}

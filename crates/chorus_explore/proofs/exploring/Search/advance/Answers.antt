@@ -17,7 +17,7 @@ returns-clause-some c =
     let n : c.len-count.result - 1 ≡ length c.args.self.now.levels.items - 1 = (let m = c.len-count.ensures in omega (arith, m)) in
     subst (λ k. IfSome c.advance.result (λ o. Advances o (reverse c.args.self.now.levels.items) (reverse (set c.args.self.now.levels.items k c.advance.new.self)))) (sym n)
     (advances-if c.advance.result xs c.index_mut.result.now c.advance.new.self (let a = c.if-count-eq0.false in let m = c.len-count.ensures in omega (arith, a, m))
-    (c.index_mut.ensures.value ∙ ap (λ k. get_or c.args.self.now.levels.items k c.index_mut.result.now) n) c.advance.ensures.some c.advance.ensures.candidates c.advance.ensures.seen)
+    (c.index_mut.ensures.value ∙ ap (λ k. get_or c.args.self.now.levels.items k c.index_mut.result.now) n) c.advance.ensures.some c.advance.ensures.candidates c.advance.ensures.seen c.advance.ensures.idle)
 
 pub returns-clause-none : goal.returns-clause-none
 returns-clause-none c = λ none.

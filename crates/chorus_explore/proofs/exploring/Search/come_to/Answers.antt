@@ -2,7 +2,7 @@ use Rattle.std.proofs.Common.{◌≡◌, ◌+◌, [], length, reverse, Some, Non
 use Rattle.std.proofs.lemmas.Bool.{eqb-true, eqb-false}
 use Rattle.chorus_explore.specs.declared.exploring.Search.{Search}
 use Rattle.chorus_explore.specs.declared.levels.Level.{Level}
-use Rattle.chorus_explore.specs.Findings.{Counts}
+use Rattle.explore_report.specs.Findings.{Counts}
 use Rattle.chorus_explore.proofs.Going.{no-length, push-first, some-first}
 use Rattle.chorus_explore.proofs.Searching.{counts-leaf, goes-deeper, popped}
 use Rattle.chorus_explore.proofs.exploring.Search.come_to.Goals as goal
@@ -30,7 +30,7 @@ pub returns-in_ok-push : goal.returns-in_ok-push
 returns-in_ok-push c = λ scene most h.
     let s = c.args.self.now in
     let t : Search = record { explored = c.args.self.now.explored; levels = c.push.new.self; moves = c.args.self.now.moves; stage = Some c.args.stage; sites = c.args.self.now.sites } in
-    let level : Level = record { candidates = c.args.candidates; seen = 0 } in
+    let level : Level = record { candidates = c.args.candidates; seen = 0; idle = None } in
     let first = some-first c.args.candidates.items
     (λ e. eqb-false c.args.candidates.len 0 (sym c.is_empty.ensures ∙ c.if-is_empty.false) (let n = ap length e in let m = c.args.candidates.ok.0 in omega (arith, n, m))) in
-    goes-deeper scene most s t c.args.stage c.args.candidates.items h level first.0 first.1.0 first.1.1 refl refl (ap reverse c.in_ok-push.ensures.items ∙ push-first c.args.self.now.levels.items level) refl refl refl refl
+    goes-deeper scene most s t c.args.stage c.args.candidates.items h level first.0 first.1.0 first.1.1 refl refl refl (ap reverse c.in_ok-push.ensures.items ∙ push-first c.args.self.now.levels.items level) refl refl refl refl

@@ -1,6 +1,7 @@
 use Rattle.std.proofs.Common.{◌≡◌, true, false, [], Ok, length, reverse, sym, ◌∙◌, ap, subst, arith}
-use Rattle.chorus_explore.specs.declared.exploring.Explored.{Explored}
+use Rattle.explore_report.specs.declared.explored.Explored.{Explored}
 use Rattle.chorus_explore.specs.Searches.{IsOver}
+use Rattle.chorus_explore.proofs.Idling.{skips}
 use Rattle.chorus_explore.proofs.Searching.{search-cut, search-ends, is-taking, no-items, ok-same}
 use Rattle.chorus_explore.proofs.exploring.Search.step.Goals as goal
 
@@ -30,3 +31,18 @@ take-requires-clause-taking c =
     let few = c.if-len-ge-MOVES_LIMIT.false in
     is-taking c.args.scenario.now c.args.most s t c.in-Some.candidate c.requires.search kept.0 kept.1 kept.2 kept.3
     (omega (arith, events, below)) (omega (arith, moves, n, few)) c.in-Some.ensures.some c.advance.ensures.below
+
+pub returns-then-is_idle-clause-more : goal.returns-then-is_idle-clause-more
+returns-then-is_idle-clause-more c = λ ok.
+    let s = c.args.self.now in
+    let t = c.advance.new.self in
+    let kept = c.advance.ensures.kept in
+    let events = ap (λ (e : Explored). e.events) kept.0 in
+    let below = c.if-self-most.false in
+    let moves = ap (λ v. length v.items) kept.1 in
+    let n = c.len.ensures in
+    let few = c.if-len-ge-MOVES_LIMIT.false in
+    skips c.args.scenario.now c.args.most c.in-Some.candidate t
+    (is-taking c.args.scenario.now c.args.most s t c.in-Some.candidate c.requires.search kept.0 kept.1 kept.2 kept.3
+    (omega (arith, events, below)) (omega (arith, moves, n, few)) c.in-Some.ensures.some c.advance.ensures.below)
+    (c.is_idle.ensures c.if-is_idle.true)

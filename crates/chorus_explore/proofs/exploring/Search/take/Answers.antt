@@ -1,10 +1,10 @@
 use Rattle.std.proofs.Common.{◌≡◌, ◌+◌, ◌++◌, ◌∷◌, [], true, Ok, reverse, sym, ◌∙◌, ap, subst, arith}
 use Rattle.law_schedule.specs.Shown.{race_of}
-use Rattle.chorus_explore.specs.declared.exploring.Explored.{Explored}
+use Rattle.explore_report.specs.declared.explored.Explored.{Explored}
 use Rattle.chorus_explore.specs.declared.exploring.Search.{Search}
 use Rattle.chorus_explore.specs.Candidates.{candidates_at}
-use Rattle.chorus_explore.specs.Findings.{MayCount}
-use Rattle.chorus_explore.specs.Searches.{IsOver, LeadsThere}
+use Rattle.explore_report.specs.Findings.{MayCount}
+use Rattle.chorus_explore.specs.Searches.{HasCome, IsOver, LeadsThere}
 use Rattle.chorus_explore.proofs.Searching.{has-come, may-count, taking-cut}
 use Rattle.chorus_explore.proofs.exploring.Search.take.Goals as goal
 
@@ -21,8 +21,9 @@ returns-then-not-branch-clause-over c = λ ok.
 pub come_to-requires-clause-count : goal.come_to-requires-clause-count
 come_to-requires-clause-count c =
     let h = c.requires.taking in
-    subst (λ (e : Explored). MayCount e.findings.items.items) (sym c.stage_there.ensures.kept.0)
-    (may-count c.args.scenario.now c.args.most h.found c.args.self.now.explored h.has c.requires.most)
+    subst (λ (e : Explored). MayCount e.findings.items.items) (sym c.learn.ensures.explored)
+    (subst (λ (e : Explored). MayCount e.findings.items.items) (sym c.stage_there.ensures.kept.0)
+    (may-count c.args.scenario.now c.args.most h.found c.args.self.now.explored h.has c.requires.most))
 
 pub returns-clause-more : goal.returns-clause-more
 returns-clause-more c = λ ok.
@@ -44,6 +45,9 @@ returns-clause-more c = λ ok.
       sites = c.stage_there.new.self.sites;
     } in
     c.in_ok-come_to.ensures scene c.args.most
+    (subst (λ xs. HasCome c.args.scenario.now c.args.most c.candidates_behind.new.stage xs c.learn.new.self) c.deref.ensures.value
+    (c.learn.ensures.stays scene c.args.most c.candidates_behind.new.stage
+    (subst (λ xs. HasCome c.args.scenario.now c.args.most c.candidates_behind.new.stage xs t) (sym c.deref.ensures.value)
     (has-come scene c.args.most c.args.candidate s t c.candidates_behind.new.stage c.in_ok-candidates.candidates.items c.requires.taking c.candidates_behind.ensures.reached to
     (c.in_ok-candidates.ensures.items ∙ ap (λ v. candidates_at (race_of scene) (reverse v.items)) (sym c.candidates_behind.ensures.moves))
-    moves kept.1 (ap (λ (z : Explored). record z { events = z.events + 1 }) kept.0) c.stage_there.ensures.sites)
+    moves kept.1 (ap (λ (z : Explored). record z { events = z.events + 1 }) kept.0) c.stage_there.ensures.sites))))

@@ -1,5 +1,0 @@
-use Rattle.chorus_explore.proofs.Singles.{facts-tell}
-use Rattle.chorus_explore.proofs.laws.single_facts_tell_all_outcomes.Goals as goal
-
-pub returns : goal.returns
-returns c = λ fs. facts-tell fs

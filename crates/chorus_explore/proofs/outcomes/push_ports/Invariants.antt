@@ -1,7 +1,0 @@
-use Rattle.std.proofs.Common.{◌≡◌, ◌++◌, take}
-use Rattle.chorus_explore.specs.Outcomes.{made_lines}
-use Rattle.chorus_explore.proofs.outcomes.push_ports.Given as goal
-
--- those of the entries passed are told
-abbrev pub invariant-loop-entry : goal.invariant-loop-entry
-invariant-loop-entry l = l.text.items ≡ l.initial.text.items ++ made_lines l.ports (take l.entry-index l.journal)

@@ -1,7 +1,0 @@
-use Rattle.std.proofs.Common.{◌≡◌, ◌++◌, take, drop}
-use Rattle.chorus_explore.specs.Reports.{front_words}
-use Rattle.chorus_explore.proofs.report.front_words.Given as goal
-
--- the words passed stand whole
-abbrev pub invariant-loop-index : goal.invariant-loop-index
-invariant-loop-index l = front_words l.words l.line ≡ take l.index l.line ++ front_words l.left (drop l.index l.line)

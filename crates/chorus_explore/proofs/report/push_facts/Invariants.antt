@@ -1,8 +1,0 @@
-use Rattle.std.proofs.Common.{◌≡◌, ◌++◌, map, take}
-use Rattle.std.specs.List.{flat_map}
-use Rattle.chorus_explore.specs.Reports.{told_line, told_of}
-use Rattle.chorus_explore.proofs.report.push_facts.Given as goal
-
--- those passed are told
-abbrev pub invariant-loop-fact : goal.invariant-loop-fact
-invariant-loop-fact l = l.text.items ≡ l.initial.text.items ++ flat_map told_line (map told_of (take l.fact-index l.facts))

@@ -1,0 +1,52 @@
+-- What a history comes to, told from its end: the journals, each with the oldest entry first, and the records that are
+-- held. x is an id, js are journals, ps the ports that are held, q is the name of a port.
+use Rattle.std.specs.Prelude.{ℕ, List, [], ◌∷◌, ◌++◌, if◌then◌else◌, reverse, Option, Some, None}
+use Rattle.std.specs.List.{flat_map}
+use Rattle.std.specs.Option.{option_or}
+use Rattle.chorus_ui.specs.declared.ui.Ui.{Ui}
+use Rattle.chorus_ui.specs.Name.{same_ui}
+use Rattle.chorus_entry.specs.declared.answer.Answer.{Answer}
+use Rattle.chorus_entry.specs.declared.entry.Entry.{Entry}
+use Rattle.chorus_entry.specs.declared.id.MsgId.{MsgId}
+use Rattle.chorus_entry.specs.declared.record.PortRecord.{PortRecord}
+use Rattle.chorus_world.specs.Messages.{verdict}
+use Rattle.chorus_world.specs.GroupLaws.{copies_by}
+use Rattle.chorus_world.specs.declared.place.Sent.{Sent}
+use Rattle.law_network.specs.declared.placed.Placed.{Placed}
+use Rattle.law_explore.specs.Outcome.{Judged, made_in, port_fact}
+use Rattle.explore_facts.specs.Facts.{fact_line}
+
+-- Verdicts.
+
+abbrev pub verdict_among : MsgId → List (List Entry) → Option Answer
+verdict_among x [] = None
+verdict_among x (j ∷ js) = option_or (verdict x (reverse j)) (verdict_among x js)
+
+abbrev pub judged_line : List (List Entry) → MsgId → List ℕ
+judged_line js x = fact_line (Judged x (verdict_among x js))
+
+-- those of copies
+abbrev pub sent_lines : List (List Entry) → List Sent → List ℕ
+sent_lines js copies = flat_map (λ (m : Sent). judged_line js m.id) copies
+
+abbrev pub chosen_lines : MsgId → List (List Entry) → List Entry → List ℕ
+chosen_lines x js journal = flat_map (λ (e : Entry). sent_lines js (copies_by x e.act)) journal
+
+-- that of the message, and behind it those of its copies
+abbrev pub message_lines : List (List Entry) → MsgId → List ℕ
+message_lines js x = judged_line js x ++ flat_map (chosen_lines x js) js
+
+-- Ports.
+
+abbrev pub held_among : Ui → List Placed → Option PortRecord
+held_among q [] = None
+held_among q (p ∷ ps) = if same_ui p.port.ui q then Some p.port else held_among q ps
+
+abbrev pub held_line : Option PortRecord → List ℕ
+held_line None = []
+held_line (Some port) = fact_line (port_fact port)
+
+-- those that the journal makes, where they are held
+abbrev pub made_lines : List Placed → List Entry → List ℕ
+made_lines ps journal =
+    flat_map (λ (e : Entry). flat_map (λ (q : Ui). held_line (held_among q ps)) (made_in e.act)) journal

@@ -1,0 +1,127 @@
+-- The text of what may come of a race.
+-- fs are findings, f is one, n the number of an outcome, from 1, told are facts with the number of the first outcome
+-- that has each.
+use Rattle.std.specs.Prelude.{ℕ, ◌+◌, ◌-◌, ◌==◌, nat_le, if◌then◌else◌, Bool, true, false, ◌||◌, List, [], ◌∷◌, ◌++◌, length, codes, decimal}
+use Rattle.std.specs.List.{flat_map, insert}
+use Rattle.chorus_show.specs.Journal.{count_line}
+use Rattle.chorus_show.specs.Phrases.{phrase}
+use Rattle.law_explore.specs.declared.moves.Move.{Move}
+use Rattle.law_explore.specs.declared.moves.Move.TheVariants.{Go, Carry}
+use Rattle.explore_report.specs.declared.explored.Explored.{Explored}
+use Rattle.explore_report.specs.declared.findings.Finding.{Finding}
+use Rattle.explore_report.specs.declared.text.TheConstants.{OUTCOMES_TOLD}
+use Rattle.explore_report.specs.declared.text.Told as told
+
+-- The single facts.
+
+pub record Told : Type 0 where
+  pub outcome : ℕ
+  pub line : List ℕ
+
+-- the lines of a text, each with its LF; those bytes stand before the rest
+abbrev pub lines_from : List ℕ → List ℕ → List (List ℕ)
+lines_from before [] = []
+lines_from before (b ∷ bs) = if b == 10 then (before ++ b ∷ []) ∷ lines_from [] bs else lines_from (before ++ b ∷ []) bs
+
+abbrev pub lines_in : List ℕ → List (List ℕ)
+lines_in text = lines_from [] text
+
+abbrev pub same_bytes : List ℕ → List ℕ → Bool
+same_bytes [] [] = true
+same_bytes (a ∷ xs) (b ∷ ys) = if a == b then same_bytes xs ys else false
+same_bytes _ _ = false
+
+-- the words that name the subject of a line: its first words, so many
+abbrev pub front_words : ℕ → List ℕ → List ℕ
+front_words words [] = []
+front_words words (b ∷ bs) =
+    if b == 32 || b == 10 then (if nat_le words 1 then [] else b ∷ front_words (words - 1) bs)
+    else b ∷ front_words words bs
+
+-- of an answer the first three words, of a verdict or a port the first two
+abbrev pub subject_of : List ℕ → List ℕ
+subject_of [] = []
+subject_of (b ∷ bs) = front_words (if b == 97 then 3 else 2) (b ∷ bs)
+
+abbrev pub is_told : List ℕ → List Told → Bool
+is_told line [] = false
+is_told line (t ∷ told) = same_bytes t.line line || is_told line told
+
+-- behind the last fact of the subject, or behind all
+abbrev pub place_from : ℕ → ℕ → List ℕ → List Told → ℕ
+place_from n place subject [] = place
+place_from n place subject (t ∷ told) =
+    place_from (n + 1) (if same_bytes (subject_of t.line) subject then n + 1 else place) subject told
+
+abbrev pub place_in : List ℕ → List Told → ℕ
+place_in line told = place_from 0 (length told) (subject_of line) told
+
+abbrev pub tell_line : ℕ → List ℕ → List Told → List Told
+tell_line n line told =
+    if is_told line told then told else insert told (place_in line told) (record { outcome = n; line = line })
+
+abbrev pub tell_lines : ℕ → List (List ℕ) → List Told → List Told
+tell_lines n [] told = told
+tell_lines n (line ∷ lines) told = tell_lines n lines (tell_line n line told)
+
+abbrev pub tell_from : ℕ → List Finding → List Told → List Told
+tell_from n [] told = told
+tell_from n (f ∷ fs) told = tell_from (n + 1) fs (tell_lines n (lines_in f.text.items) told)
+
+abbrev pub facts_of : List Finding → List Told
+facts_of fs = tell_from 1 fs []
+
+-- The text.
+
+abbrev pub told_line : Told → List ℕ
+told_line t = decimal t.outcome ++ 32 ∷ t.line
+
+abbrev pub facts_text : List Told → List ℕ
+facts_text told = count_line (codes "facts") (length told) ++ flat_map told_line told
+
+-- each outcome whole, where they are few
+abbrev pub outcomes_from : ℕ → List Finding → List ℕ
+outcomes_from n [] = []
+outcomes_from n (f ∷ fs) =
+    count_line (codes "outcome") n ++ count_line (codes "histories") f.histories ++ f.text.items
+    ++ outcomes_from (n + 1) fs
+
+abbrev pub are_few : List Finding → Bool
+are_few fs = nat_le (length fs) OUTCOMES_TOLD
+
+abbrev pub outcomes_text : List Finding → List ℕ
+outcomes_text fs = count_line (codes "outcomes") (length fs) ++ (if are_few fs then outcomes_from 1 fs else [])
+
+abbrev pub step_line : Move → List ℕ
+step_line (Go script) = count_line (codes "step") (script + 1)
+step_line (Carry from to) = phrase (codes "deliver") (decimal from ∷ decimal to ∷ []) ++ 10 ∷ []
+
+-- the schedules of those that were told whole, or that a fact names
+abbrev pub is_named : ℕ → List Told → Bool
+is_named n [] = false
+is_named n (t ∷ told) = (t.outcome == n) || is_named n told
+
+abbrev pub is_shown : ℕ → Bool → List Told → Bool
+is_shown n few told = few || is_named n told
+
+abbrev pub schedule_text : ℕ → Bool → List Move → List ℕ
+schedule_text n shown moves = if shown then count_line (codes "schedule") n ++ flat_map step_line moves else []
+
+abbrev pub schedules_from : ℕ → Bool → List Told → List Finding → List ℕ
+schedules_from n few told [] = []
+schedules_from n few told (f ∷ fs) =
+    schedule_text n (is_shown n few told) f.moves.items ++ schedules_from (n + 1) few told fs
+
+abbrev pub limit_line : Bool → List ℕ
+limit_line is_cut = (if is_cut then codes "some" else codes "all") ++ 10 ∷ []
+
+abbrev pub report_text : Explored → List ℕ
+report_text e =
+    let fs = e.findings.items.items in
+    count_line (codes "histories") e.histories ++ count_line (codes "events") e.events ++ limit_line e.is_cut
+    ++ facts_text (facts_of fs) ++ outcomes_text fs ++ schedules_from 1 (are_few fs) (facts_of fs) fs
+    ++ codes "end" ++ 10 ∷ []
+
+-- a fact as the code has it
+abbrev pub told_of : told.Told → Told
+told_of t = record { outcome = t.outcome; line = t.line.now }

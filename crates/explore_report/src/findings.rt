@@ -1,0 +1,110 @@
+//! The outcomes that were found, each once.
+
+ghost use Rattle.std.specs.Prelude.{◌≡◌, ◌≢◌, ◌<◌, [], length, slice_index_or, true, false, IfSome, OnOk, IsNone, reverse};
+ghost use Rattle.std.specs.List.{All};
+ghost use Rattle.explore_report.specs.declared.findings.Finding.{Finding};
+ghost use Rattle.explore_report.specs.Findings.{Counts, MayCount, HaveSums, sum_from};
+
+use law_explore::Move;
+use std::alloc::{AllocError, Global};
+
+/// An outcome, how many of the histories that were gone through come to it, and the first of these.
+#[derive(Debug, Drop)]
+pub struct Finding {
+    /// The lines of its facts.
+    pub text: Vec<u8>,
+    /// Equal texts have equal sums.
+    sum: u64,
+    /// How many of the histories that were gone through come to it.
+    pub histories: u64,
+    /// The first history that came to it, its moves in order.
+    pub moves: Vec<Move>,
+}
+
+impl Finding {
+    /// Whether these are its lines, where this is their sum.
+    fn has(&self, text: &[u8], sum: u64) -> bool
+        requires own { self.now.sum ≡ sum_from 0 self.now.text.items }
+        requires sum { sum ≡ sum_from 0 text.now }
+        ensures yes { result ≡ true → self.now.text.items ≡ text.now }
+        ensures no { result ≡ false → self.now.text.items ≢ text.now }
+    {
+        if self.sum != sum {
+            return false;
+        }
+        self.text.as_slice() == text
+    }
+}
+
+/// The outcomes in the order in which they were found.
+#[derive(Debug, Drop)]
+pub struct Findings {
+    /// No two have the same lines.
+    pub items: Vec<Finding>,
+}
+
+impl Findings {
+    /// Nothing was found yet.
+    pub fn new(alloc: Global) -> Findings
+        ensures { result.items.items ≡ [] }
+    {
+        Findings {
+            items: Vec::new(alloc),
+        }
+    }
+
+    /// Counts a history, these moves in order, that comes to the outcome of these lines. The only error is want of
+    /// memory.
+    pub fn add(&mut self, alloc: Global, text: Vec<u8>, moves: &[Move]) -> Result<(), AllocError>
+        requires { MayCount self.old.items.items }
+        ensures counts { OnOk result
+            (Counts text.items (reverse moves.now) self.old.items.items self.new.items.items) }
+        ensures sums { OnOk result (HaveSums self.new.items.items) }
+    {
+        let sum = sum_of(&text);
+        match self.position(&text, sum) {
+            Some(index) => {
+                self.items[index].histories += 1;
+            }
+            None => {
+                let moves = Vec::from_slice(alloc, moves)?;
+                self.items.reserve(1)?;
+                self.items.push_reserved(Finding {
+                    text,
+                    sum,
+                    histories: 1,
+                    moves,
+                });
+            }
+        }
+        Ok(())
+    }
+
+    /// Where the outcome of these lines stands, of which this is the sum.
+    fn position(&self, text: &[u8], sum: u64) -> Option<usize>
+        requires sums { HaveSums self.now.items.items }
+        requires sum { sum ≡ sum_from 0 text.now }
+        ensures some { IfSome result (λ index. (index < length self.now.items.items)
+            × ((d : Finding) → (slice_index_or self.now.items.items index d).text.items ≡ text.now)) }
+        ensures none { IsNone result
+            → All (λ (f : Finding). f.text.items ≢ text.now) self.now.items.items }
+    {
+        for index in 0..self.items.len() {
+            if self.items[index].has(text, sum) {
+                return Some(index);
+            }
+        }
+        None
+    }
+}
+
+/// A sum of the bytes in which their places count.
+fn sum_of(text: &[u8]) -> u64
+    ensures { result ≡ sum_from 0 text.now }
+{
+    let mut sum: u64 = 0;
+    for byte in text {
+        sum = sum.wrapping_mul(31).wrapping_add(u64::from(*byte));
+    }
+    sum
+}
