@@ -1,15 +1,17 @@
 //! A scenario on running threads: one thread for each script, on one nucleus.
 //!
-//! [`perform`] performs the setup by seat 0, the scripts side by side, and works off what is left. The layer above rests on this:
-//! whatever the threads did and in which order, the pass of each script gave the script's commands, each once and in their order, seat 0
-//! those of the setup, and as many packets were worked off as were put; where it stopped, each gave the first of its commands. What
-//! replies they got is the nucleus's, and that nothing is lost is what closing it tells.
+//! [`perform`] performs the setup by seat 0, the scripts side by side, and works off what is left. The layer above
+//! rests on this: whatever the threads did and in which order, the pass of each script gave the script's commands, each
+//! once and in their order, seat 0 those of the setup, and as many packets were worked off as were put; where it
+//! stopped, each gave the first of its commands. What replies they got is the nucleus's, and that nothing is lost is
+//! what closing it tells.
 //!
-//! Begin with `performing`. `setup`, `entering`, `running` and `rounds` are its steps; `commands` performs the commands of a thread,
-//! `pumping` moves packets meanwhile and then, at the `pace` and the places, its `share`, that are those of the thread.
+//! Begin with `performing`. `setup`, `entering`, `running` and `rounds` are its steps; `commands` performs the commands
+//! of a thread, `pumping` moves packets meanwhile and then, at the `pace` and the places, its `share`, that are those
+//! of the thread; `lately` leaves places out at which nothing was found.
 //!
-//! [`perform_command`], and [`settle`], the last step, may be called alone, by what performs commands in another way: the first performs
-//! one command, the other pumps all places until nothing is left.
+//! [`perform_command`], and [`settle`], the last step, may be called alone, by what performs commands in another way:
+//! the first performs one command, the other pumps all places until nothing is left.
 
 #![tactic(auto)]
 
@@ -17,6 +19,7 @@ mod at_work;
 mod commands;
 mod entering;
 mod gate;
+mod lately;
 mod pace;
 mod performing;
 mod pumping;

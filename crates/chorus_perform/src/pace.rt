@@ -1,10 +1,13 @@
-//! How often a thread pumps while it performs commands.
+//! How often a thread pumps.
+
+/// How often a thread pumps a place that is not idle before it goes on.
+pub(crate) const PUMPS_AT_A_PLACE: u32 = 64;
 
 /// Behind how many commands a thread pumps at least once.
 const MOST: u32 = 16;
 
-/// Behind how many commands a thread pumps: behind each at first; half as often after each pump that finds nothing, and twice as often
-/// after one that works off something.
+/// Behind how many commands a thread pumps: behind each at first; half as often after each pump that finds nothing, and
+/// twice as often after one that works off something.
 #[derive(Clone, Copy, Debug)]
 pub(crate) struct Pace {
     apart: u32,

@@ -6,16 +6,14 @@ ghost use Rattle.chorus_nucleus.specs.Passes.{layout_of, IsPassOf};
 ghost use Rattle.chorus_perform.specs.Going.{Goes};
 
 use crate::at_work::AtWork;
-use crate::pace::Pace;
+use crate::lately::Lately;
+use crate::pace::{PUMPS_AT_A_PLACE, Pace};
 use crate::share::Share;
 use crate::stopped::Halted;
 use chorus_nucleus::{CallFault, Nucleus, Pass};
 use chorus_serve::Pump;
 use std::sync::Wait;
 use std::thread;
-
-/// How often a thread pumps a place that is not idle before it goes on.
-const PUMPS_AT_A_PLACE: u32 = 64;
 
 /// Pumps a place once. False where it was idle, and where another thread has it, which is not waited for.
 pub(crate) fn pump<R: Wait>(
@@ -51,34 +49,35 @@ pub(crate) fn pump_behind<R: Wait>(
     ensures goes { Goes [] pass.old pass.new }
 {
     if pace.is_due() {
-        let served = pump_at(rt, nucleus, pass, share.home())?;
+        let served = pump_at(rt, nucleus, pass, share.home(), PUMPS_AT_A_PLACE)?;
         pace.note(served);
     }
     Ok(())
 }
 
-/// Pumps a place until it is idle, or many times. True where it worked off a packet.
+/// Pumps a place until it is idle, or so many times. True where it worked off a packet.
 pub(crate) fn pump_at<R: Wait>(
     rt: &R,
     nucleus: &Nucleus,
     pass: &mut Pass,
     place: u16,
+    most: u32,
 ) -> Result<bool, Halted>
     requires pass { IsPassOf nucleus.now pass.old }
     requires place { has_place (layout_of nucleus.now) place ≡ true }
     ensures pass { IsPassOf nucleus.now pass.new }
     ensures goes { Goes [] pass.old pass.new }
 {
-    for count in 0..PUMPS_AT_A_PLACE {
+    for count in 0..most {
         if !pump(rt, nucleus, pass, place)? {
             return Ok(count > 0);
         }
     }
-    Ok(true)
+    Ok(most > 0)
 }
 
-/// Pumps when all commands are done: the home place, and then the range of places, until no thread is at work, so that seat 0 finds
-/// little.
+/// Pumps when all commands are done: the home place, and then the range of places, until no thread is at work, so that
+/// seat 0 finds little.
 pub(crate) fn pump_on<R: Wait>(
     rt: &R,
     nucleus: &Nucleus,
@@ -91,7 +90,7 @@ pub(crate) fn pump_on<R: Wait>(
     ensures pass { IsPassOf nucleus.now pass.new }
     ensures goes { Goes [] pass.old pass.new }
 {
-    pump_at(rt, nucleus, pass, share.home())?;
+    pump_at(rt, nucleus, pass, share.home(), PUMPS_AT_A_PLACE)?;
     if share.before() == share.last() {
         at_work.leave();
         return Ok(());
@@ -113,30 +112,38 @@ fn sweep_on<R: Wait>(
     ensures goes { Goes [] pass.old pass.new }
 {
     let mut idle = 0;
+    let mut lately = Lately::new();
     for _ in rt.forever() {
-        let served = sweep(rt, nucleus, pass, share)?;
-        idle = at_work.note(idle, served);
+        let goes_on = sweep(rt, nucleus, pass, share, &mut lately)?;
+        idle = at_work.note(idle, goes_on);
         if at_work.is_over(idle) {
             return Ok(());
         }
-        if !served {
+        if !goes_on {
             thread::yield_now();
         }
     }
     unreachable!()
 }
 
-/// Pumps each place of the range until it is idle. True where one worked off a packet.
-fn sweep<R: Wait>(rt: &R, nucleus: &Nucleus, pass: &mut Pass, share: &Share) -> Result<bool, Halted>
+/// Pumps the places of the range that are due, each until it is idle. False where it went over all of them and each was
+/// idle.
+fn sweep<R: Wait>(
+    rt: &R,
+    nucleus: &Nucleus,
+    pass: &mut Pass,
+    share: &Share,
+    lately: &mut Lately,
+) -> Result<bool, Halted>
     requires pass { IsPassOf nucleus.now pass.old }
     requires share { share.now.places ≡ places (layout_of nucleus.now) }
     ensures pass { IsPassOf nucleus.now pass.new }
     ensures goes { Goes [] pass.old pass.new }
 {
-    let mut served = false;
     for index in share.before()..share.last() {
-        let more = pump_at(rt, nucleus, pass, index + 1)?;
-        served = served || more;
+        let most = lately.pumps_at(index + 1);
+        let more = pump_at(rt, nucleus, pass, index + 1, most)?;
+        lately.note(index + 1, more);
     }
-    Ok(served)
+    Ok(lately.end_sweep())
 }

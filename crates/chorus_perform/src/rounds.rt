@@ -6,6 +6,7 @@ ghost use Rattle.chorus_nucleus.specs.Passes.{known, layout_of, IsPassOf};
 ghost use Rattle.chorus_perform.specs.Going.{Goes};
 ghost use Rattle.chorus_perform.specs.Rounds.{IsEven, IsRound};
 
+use crate::pace::PUMPS_AT_A_PLACE;
 use crate::pumping::pump_at;
 use crate::stopped::Halted;
 use chorus_nucleus::{CallFault, Nucleus, Pass};
@@ -40,7 +41,7 @@ fn work_off<R: Wait>(rt: &R, nucleus: &Nucleus, pass: &mut Pass) -> Result<(), H
     ensures goes { Goes [] pass.old pass.new }
 {
     for index in 0..nucleus.layout().places() {
-        pump_at(rt, nucleus, pass, index + 1)?;
+        pump_at(rt, nucleus, pass, index + 1, PUMPS_AT_A_PLACE)?;
     }
     Ok(())
 }

@@ -1,6 +1,6 @@
 //! The nucleus is closed.
 
-ghost use Rattle.std.specs.Prelude.{◌≡◌, ◌≤◌, ◌+◌, ℕ, Some, Ok, true, length, IfOk};
+ghost use Rattle.std.specs.Prelude.{◌≡◌, ◌≤◌, ◌+◌, Some, Ok, true, length, IfOk};
 ghost use Rattle.chorus_ui.specs.declared.limits.TheConstants.{CLOCK_LIMIT};
 ghost use Rattle.chorus_merge.specs.Steps.{lent};
 ghost use Rattle.chorus_nucleus.specs.Closing.{IsClosed};

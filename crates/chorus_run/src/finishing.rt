@@ -1,6 +1,6 @@
 //! The end of a run: what was closed is printed in parts, and written.
 
-ghost use Rattle.std.specs.Prelude.{◌≡◌, ◌⊎◌, ℕ, Some, Ok, IfOk, IfSome, OnOk};
+ghost use Rattle.std.specs.Prelude.{◌≡◌, ◌⊎◌, Some, IfOk, IfSome, OnOk};
 ghost use Rattle.chorus_io.specs.Count.{Rose};
 ghost use Rattle.chorus_net.specs.Closing.{merge_of};
 ghost use Rattle.chorus_report.specs.Ending.{EndsWriting, HasWorn, IsFinished};

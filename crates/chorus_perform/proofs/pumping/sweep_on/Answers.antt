@@ -1,14 +1,14 @@
 use Rattle.chorus_perform.proofs.Steps.{goes-none}
 use Rattle.chorus_perform.proofs.pumping.sweep_on.Goals as goal
 
-pub returns-in_err-served-clause-goes : goal.returns-in_err-served-clause-goes
-returns-in_err-served-clause-goes g c = goes-none c.args.pass.now c.loop.pass c.sweep.new.pass c.loop.invariant.1 c.sweep.ensures.goes
+pub returns-in_err-goes_on-clause-goes : goal.returns-in_err-goes_on-clause-goes
+returns-in_err-goes_on-clause-goes g c = goes-none c.args.pass.now c.loop.pass c.sweep.new.pass c.loop.invariant.1 c.sweep.ensures.goes
 
 pub returns-then-is_over-clause-goes : goal.returns-then-is_over-clause-goes
 returns-then-is_over-clause-goes g c = goes-none c.args.pass.now c.loop.pass c.sweep.new.pass c.loop.invariant.1 c.sweep.ensures.goes
 
-pub loop-preserved-then-not-served : goal.loop-preserved-then-not-served
-loop-preserved-then-not-served g c = (c.sweep.ensures.pass, goes-none c.args.pass.now c.loop.pass c.sweep.new.pass c.loop.invariant.1 c.sweep.ensures.goes)
+pub loop-preserved-then-not-goes_on : goal.loop-preserved-then-not-goes_on
+loop-preserved-then-not-goes_on g c = (c.sweep.ensures.pass, goes-none c.args.pass.now c.loop.pass c.sweep.new.pass c.loop.invariant.1 c.sweep.ensures.goes)
 
 pub loop-preserved : goal.loop-preserved
 loop-preserved g c = (c.sweep.ensures.pass, goes-none c.args.pass.now c.loop.pass c.sweep.new.pass c.loop.invariant.1 c.sweep.ensures.goes)

@@ -1,0 +1,69 @@
+//! Where a thread found something to do lately.
+
+use crate::pace::PUMPS_AT_A_PLACE;
+
+/// Every so many sweeps a thread goes over all places of its range.
+const WHOLE: u32 = 8;
+
+/// At which places of its range a thread found something in its last two sweeps. A pump that finds nothing asks each
+/// link to its place, and at most places of a layout nothing ever happens: so a sweep leaves out where nothing was
+/// found, but for each eighth sweep, and for one behind a sweep that found nothing anywhere. A place is a bit, the last
+/// one of 64 the bit 0.
+#[derive(Clone, Copy, Debug)]
+pub(crate) struct Lately {
+    /// In this sweep.
+    found: u64,
+    /// In the sweep before.
+    before: u64,
+    /// Which places this sweep goes over.
+    due: u64,
+    /// How many sweeps there were, up to 2^32 - 1.
+    sweeps: u32,
+}
+
+impl Lately {
+    /// Before the first sweep, which goes over all places.
+    pub(crate) fn new() -> Lately {
+        Lately {
+            found: 0,
+            before: 0,
+            due: u64::MAX,
+            sweeps: 0,
+        }
+    }
+
+    /// How often this sweep pumps the place at most: not at all where it is left out.
+    pub(crate) fn pumps_at(&self, place: u16) -> u32 {
+        if self.due & bit(place) != 0 {
+            PUMPS_AT_A_PLACE
+        } else {
+            0
+        }
+    }
+
+    /// Tells whether the place worked off a packet.
+    pub(crate) fn note(&mut self, place: u16, served: bool) {
+        if served {
+            self.found |= bit(place);
+        }
+    }
+
+    /// Ends a sweep. Whether the thread is to go on at once: something was found, or places were left out.
+    pub(crate) fn end_sweep(&mut self) -> bool {
+        let goes_on = self.found != 0 || self.due != u64::MAX;
+        self.sweeps = self.sweeps.saturating_add(1);
+        self.due = if self.found == 0 || self.sweeps % WHOLE == 0 {
+            u64::MAX
+        } else {
+            self.found | self.before
+        };
+        self.before = self.found;
+        self.found = 0;
+        goes_on
+    }
+}
+
+/// The bit of a place, from 1 to 64.
+fn bit(place: u16) -> u64 {
+    1u64.wrapping_shl(u32::from(place))
+}
