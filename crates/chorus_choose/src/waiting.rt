@@ -1,5 +1,5 @@
 //! A receive that waits.
-ghost use Rattle.std.specs.Prelude.{◌≡◌, ◌+◌, ℕ, min, false, [], IfOk, IfErr};
+ghost use Rattle.std.specs.Prelude.{◌≡◌, ◌+◌, ℕ, false, [], IfErr};
 ghost use Rattle.chorus_nucleus.specs.Passes.{IsPassOf};
 ghost use Rattle.chorus_take.specs.Taking.{is_busy};
 ghost use Rattle.chorus_choose.specs.Looking.{ports_of};

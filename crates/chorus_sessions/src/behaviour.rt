@@ -7,8 +7,8 @@ use chorus_nucleus::Nucleus;
 use chorus_ui::Ui;
 use std::sync::Wait;
 
-/// What a session does. It has the nucleus and its session, and no other way to them: so what `run_sessions` promises holds whatever it
-/// does.
+/// What a session does. It has the nucleus and its session, and no other way to them: so what `run_sessions` promises
+/// holds whatever it does.
 pub trait Behaviour: Sync {
     /// The actor of the layout in which it comes.
     fn actor(&self) -> Ui;

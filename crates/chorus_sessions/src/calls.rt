@@ -1,4 +1,5 @@
-//! What a session may do. Each call but a pump is one turn at one place, as the nucleus says, tries that place once, and waits for nobody.
+//! What a session may do. Each call but a pump is one turn at one place, as the nucleus says, tries that place once,
+//! and waits for nobody.
 
 ghost use Rattle.std.specs.Prelude.{◌≡◌, ◌<◌, ◌≤◌, true, false, length};
 ghost use Rattle.chorus_ui.specs.declared.limits.TheConstants.{BODY_LIMIT};
@@ -26,7 +27,8 @@ impl Session {
     pub fn act(&mut self, nucleus: &Nucleus, command: &Command) -> Result<Reply, CallFault>
         requires session { IsSession nucleus.now self.old }
         requires conditions { meets_conditions command.now ≡ true }
-        requires posts { is_post command.now ≡ true → (caller_of (pass_of self.old)).posts < u32.MAX }
+        requires posts { is_post command.now ≡ true →
+            (caller_of (pass_of self.old)).posts < u32.MAX }
         requires no_take { takes command.now ≡ false }
         ensures session { IsSession nucleus.now self.new }
         ensures call { IsCall nucleus.now command.now (pass_of self.old) (pass_of self.new) result }
@@ -35,7 +37,8 @@ impl Session {
         nucleus.act(&mut self.pass, command)
     }
 
-    /// Posts a message with this body, at most 4,096 bytes, to the port. The session has posted fewer than 2^32 - 1 messages.
+    /// Posts a message with this body, at most 4,096 bytes, to the port. The session has posted fewer than 2^32 - 1
+    /// messages.
     #[tactic(auto, using(crate::proofs::Steps::sessions))]
     pub fn send(&mut self, nucleus: &Nucleus, port: Ui, body: &[u8]) -> Result<Reply, CallFault>
         requires session { IsSession nucleus.now self.old }
@@ -43,8 +46,8 @@ impl Session {
         requires body { length body.now ≤ BODY_LIMIT }
         requires posts { (caller_of (pass_of self.old)).posts < u32.MAX }
         ensures session { IsSession nucleus.now self.new }
-        ensures call { IsCall nucleus.now (Command.Send (Dest.Port port) body.now) (pass_of self.old)
-            (pass_of self.new) result }
+        ensures call { IsCall nucleus.now (Command.Send (Dest.Port port) body.now)
+            (pass_of self.old) (pass_of self.new) result }
         ensures kept { taken_by self.new ≡ taken_by self.old }
     {
         nucleus.send(&mut self.pass, Dest::Port(port), body)
@@ -68,14 +71,16 @@ impl Session {
         requires port { is_port port ≡ true }
         requires actor { is_actor actor ≡ true }
         ensures session { IsSession nucleus.now self.new }
-        ensures call { IsCall nucleus.now (Command.Move port actor) (pass_of self.old) (pass_of self.new) result }
+        ensures call { IsCall nucleus.now (Command.Move port actor)
+            (pass_of self.old) (pass_of self.new) result }
         ensures kept { taken_by self.new ≡ taken_by self.old }
     {
         nucleus.move_port(&mut self.pass, port, actor)
     }
 
-    /// Takes the first message that waits in the port, and keeps it, the last of [`Session::taken`]. False where no message waits there,
-    /// and where the session's actor does not hold the port. The faults are those of [`Nucleus::take`]; nothing was taken then.
+    /// Takes the first message that waits in the port, and keeps it, the last of [`Session::taken`]. False where no
+    /// message waits there, and where the session's actor does not hold the port. The faults are those of
+    /// [`Nucleus::take`]; nothing was taken then.
     #[tactic(auto, using(crate::proofs::Steps::sessions))]
     pub fn take(&mut self, nucleus: &Nucleus, port: Ui) -> Result<bool, CallFault>
         requires session { IsSession nucleus.now self.old }

@@ -9,7 +9,8 @@ pub enum SessionsFault {
     /// There is no memory.
     #[error("out of memory")]
     Memory(#[from] AllocError),
-    /// A port was not made: its actor is none of the layout, its capacity is not from 1 to 64, or its place has made all its ports.
+    /// A port was not made: its actor is none of the layout, its capacity is not from 1 to 64, or its place has made
+    /// all its ports.
     #[error("a port was not made")]
     NoPort,
     /// A session did not come: its actor is none of the layout, or 1,048,575 came.

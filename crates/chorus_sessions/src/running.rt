@@ -1,6 +1,6 @@
 //! Sessions are run.
 
-ghost use Rattle.std.specs.Prelude.{◌≡◌, ◌≤◌, true, length, IfOk};
+ghost use Rattle.std.specs.Prelude.{IfOk};
 ghost use Rattle.chorus_nucleus.specs.Passes.{known, IsPassOf};
 ghost use Rattle.chorus_nucleus.specs.Closing.{IsClosed};
 ghost use Rattle.chorus_net.specs.Closing.{past_of};
@@ -170,9 +170,9 @@ fn close<R: Wait>(rt: &R, nucleus: Nucleus, pass: Pass) -> Result<Closed, AllocE
     }
 }
 
-/// Runs sessions on a nucleus of this layout, one for each behaviour, in their order. The ports are made first. Then the sessions come,
-/// each in its actor, and run, each in a thread of its own where one can be made. When all have run, packets are moved until none is
-/// left, and they finish, one after the other. Then the nucleus is closed.
+/// Runs sessions on a nucleus of this layout, one for each behaviour, in their order. The ports are made first. Then
+/// the sessions come, each in its actor, and run, each in a thread of its own where one can be made. When all have run,
+/// packets are moved until none is left, and they finish, one after the other. Then the nucleus is closed.
 ///
 /// `NoPort` comes where a port was not made, `NoSession` where a session did not come; no behaviour has run then.
 pub fn run_sessions<R: Threads + Wait + Sync, B: Behaviour>(

@@ -21,7 +21,8 @@ use std::thread;
 enum Told {
     /// The port accepted it.
     Accepted,
-    /// It was not accepted, and never will be: it overtook the port, or another pass had the place. It may be sent again.
+    /// It was not accepted, and never will be: it overtook the port, or another pass had the place. It may be sent
+    /// again.
     Again,
     /// It was not accepted: there is no room, no such port, or no memory.
     Refused,
@@ -112,9 +113,10 @@ fn send_until_told<R: Wait>(
 }
 
 impl Session {
-    /// Sends a message with this body, at most 4,096 bytes, to the port, and waits for its verdict; meanwhile it moves packets. A message
-    /// that overtook the port is sent again, as another message, and so is one that found its place busy. True where the port accepted
-    /// it; false where it was refused, or there is no memory, or the session has posted 2^32 - 1 messages.
+    /// Sends a message with this body, at most 4,096 bytes, to the port, and waits for its verdict; meanwhile it moves
+    /// packets. A message that overtook the port is sent again, as another message, and so is one that found its place
+    /// busy. True where the port accepted it; false where it was refused, or there is no memory, or the session has
+    /// posted 2^32 - 1 messages.
     #[tactic(auto, using(crate::proofs::Steps::sessions))]
     pub fn deliver<R: Wait>(&mut self, rt: &R, nucleus: &Nucleus, port: Ui, body: &[u8]) -> bool
         requires session { IsSession nucleus.now self.old }

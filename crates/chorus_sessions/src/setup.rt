@@ -1,6 +1,5 @@
 //! The ports that are made before sessions come.
 
-ghost use Rattle.std.specs.Prelude.{◌≡◌};
 ghost use Rattle.chorus_nucleus.specs.Passes.{IsPassOf};
 ghost use Rattle.chorus_sessions.specs.Sessions.{Goes};
 
@@ -8,7 +7,8 @@ use chorus_nucleus::{Nucleus, Pass};
 use chorus_place::Reply;
 use chorus_ui::Ui;
 
-/// A port that is made before sessions come. The ports of a place are numbered from 1, in the order in which they are made.
+/// A port that is made before sessions come. The ports of a place are numbered from 1, in the order in which they are
+/// made.
 #[derive(Clone, Copy, Debug)]
 pub struct NewPort {
     /// The actor that holds it first.
