@@ -1,7 +1,7 @@
 //! A queue of jobs that moves between two sites, while three clients send jobs from a third and two workers take them.
 //!
-//! What it prints does not tell who was faster: how many jobs were accepted and handed out, that the positions of those handed out are
-//! all from 0 on, and that the journal is lawful.
+//! What it prints does not tell who was faster: how many jobs were accepted, how many were handed out, and whether the
+//! journal is lawful.
 #![tactic(auto)]
 
 use chorus_checker::World;
