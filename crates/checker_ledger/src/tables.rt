@@ -1,6 +1,6 @@
 //! The tables beside the entries, and what an entry makes of them.
 
-ghost use Rattle.std.specs.Prelude.{◌≡◌, ◌<◌, ◌++◌, List, [], None, OnOk, OnErr, unwrap_or};
+ghost use Rattle.std.specs.Prelude.{◌≡◌, ◌<◌, ◌++◌, [], None, OnOk, OnErr, unwrap_or};
 ghost use Rattle.std.specs.HashMap.{spare};
 ghost use Rattle.chorus_ui.specs.declared.layout.Layout.{Layout};
 ghost use Rattle.chorus_ui.specs.Layout.{group_place};

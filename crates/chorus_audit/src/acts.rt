@@ -1,6 +1,6 @@
 //! Acts, as their lines say them.
 
-ghost use Rattle.std.specs.Prelude.{◌≡◌, IfOk};
+ghost use Rattle.std.specs.Prelude.{IfOk};
 ghost use Rattle.chorus_show.specs.Bounds.{IsAct};
 ghost use Rattle.chorus_show.specs.Reading.{act_in, act_of, decision_of, news_of, port_of, group_of, call_of, post_in, choose_in, delete_in};
 ghost use Rattle.chorus_audit.specs.Calls.{Reads, held};

@@ -1,5 +1,5 @@
 //! How a board and its readers are made.
-ghost use Rattle.std.specs.Prelude.{◌≡◌, ◌<◌, ◌^◌, [], length, All, IfOk, IfSome};
+ghost use Rattle.std.specs.Prelude.{◌≡◌, ◌<◌, [], length, All, IfOk, IfSome};
 ghost use Rattle.left_right.specs.Sides.{view};
 ghost use Rattle.chorus_board.specs.Boards.{IsNewIn, IsNewBoard, IsReaderOf, IsSameBoard, book_of, shown, entries_begun};
 ghost use Rattle.chorus_board.specs.Law.{head_of};

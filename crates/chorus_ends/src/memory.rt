@@ -1,6 +1,6 @@
 //! Ends in memory.
 
-ghost use Rattle.std.specs.Prelude.{◌≡◌, ◌≢◌, ℕ, ◌<◌, ◌++◌, [], ◌∷◌, map, true, vec_len, Ok, IfOk, IfErr, OnOk, OnErr, IfSome, IfNone};
+ghost use Rattle.std.specs.Prelude.{◌≡◌, ◌≢◌, ℕ, ◌<◌, [], map, true, vec_len, Ok, IfOk, IfErr, OnOk, OnErr, IfSome, IfNone};
 ghost use Rattle.chorus_entry.specs.Ranges.{has_ranges};
 ghost use Rattle.chorus_ends.specs.Links.{Sends, MovesNothing};
 ghost use Rattle.chorus_io.specs.Count.{raised};

@@ -1,6 +1,6 @@
 //! The sites on one thread.
 
-ghost use Rattle.std.specs.Prelude.{◌≡◌, ◌≢◌, ℕ, [], ◌∷◌, ◌<◌, ◌≤◌, ◌↔◌, true, false, length, reverse, is_some, slice_get, All, IfOk, IsOk, OnOk, OnErr, IfErr, IsErrOf, Some, None, Ok};
+ghost use Rattle.std.specs.Prelude.{◌≡◌, ◌≢◌, ℕ, [], ◌∷◌, ◌<◌, ◌≤◌, ◌↔◌, true, false, length, reverse, is_some, slice_get, IfOk, IsOk, OnOk, OnErr, IfErr, IsErrOf, Some, None, Ok};
 ghost use Rattle.chorus_ui.specs.Layout.{IsLayout, has_actor, has_place};
 ghost use Rattle.chorus_ui.specs.Layout.{places as places_of};
 ghost use Rattle.chorus_ui.specs.declared.limits.TheConstants.{CLOCK_LIMIT, SEATS_LIMIT};

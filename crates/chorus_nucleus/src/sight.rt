@@ -1,5 +1,5 @@
 //! What passes read boards with.
-ghost use Rattle.std.specs.Prelude.{◌≡◌, ◌≤◌};
+ghost use Rattle.std.specs.Prelude.{◌≤◌};
 ghost use Rattle.chorus_nucleus.specs.Passes.{AreRoomy};
 ghost use Rattle.chorus_nucleus.specs.Readers.{TakesReader, GivesReader};
 

@@ -1,6 +1,6 @@
 //! Deciding on a message at a port that is held.
 
-ghost use Rattle.std.specs.Prelude.{◌≡◌, ◌+◌, ◌-◌, ◌^◌, ◌<◌, false, length};
+ghost use Rattle.std.specs.Prelude.{◌≡◌, ◌+◌, ◌-◌, ◌<◌, false};
 ghost use Rattle.chorus_ports.specs.Limits.{IsWithinLimits, HasPositionLeft};
 ghost use Rattle.chorus_ports.specs.Deciding.{answer_to, after_offer};
 ghost use Rattle.chorus_entry.specs.Clients.{is_repeated, is_one_too_many, remembered};

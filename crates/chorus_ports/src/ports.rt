@@ -1,6 +1,6 @@
 //! The table of the ports that a place holds.
 
-ghost use Rattle.std.specs.Prelude.{◌≡◌, ◌==◌, ◌+◌, ◌-◌, ◌^◌, ◌<◌, ◌≤◌, true, drop, length, slice_get, IsSome, IsNone, IfSome, IfOk, OnOk, OnErr};
+ghost use Rattle.std.specs.Prelude.{◌≡◌, ◌==◌, ◌+◌, ◌-◌, ◌<◌, ◌≤◌, true, drop, length, slice_get, IsSome, IsNone, IfSome, IfOk, OnOk, OnErr};
 ghost use Rattle.std.specs.Option.{option_copied};
 ghost use Rattle.chorus_entry.specs.PortRecord.{new_record};
 ghost use Rattle.chorus_ui.specs.declared.limits.TheConstants.{PENDING_LIMIT};

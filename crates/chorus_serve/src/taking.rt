@@ -1,7 +1,6 @@
 //! A packet is taken into the hand.
 
 ghost use Rattle.std.specs.Prelude.{◌≡◌, ◌≢◌, ℕ, ◌≤◌, ◌<◌, true, Some, None, IfOk, IfErr, IfSome, IfNone};
-ghost use Rattle.chorus_ui.specs.Layout.{has_place};
 ghost use Rattle.chorus_serve.specs.Desks.{in_hand};
 ghost use Rattle.chorus_serve.specs.Flows.{IsOther, Takes, WasEmpty, ComesNext};
 

@@ -1,6 +1,6 @@
 //! The packet in hand is worked off.
 
-ghost use Rattle.std.specs.Prelude.{◌≡◌, ℕ, ◌≤◌, ◌+◌, Some, None, IsErrOf, IfOk, OnErr};
+ghost use Rattle.std.specs.Prelude.{◌≡◌, ℕ, Some, None, IsErrOf, IfOk, OnErr};
 ghost use Rattle.chorus_serve.specs.Desks.{seen};
 ghost use Rattle.chorus_serve.specs.Working.{HandlesPacket, Holds, IsWornAt};
 ghost use Rattle.chorus_place.specs.declared.fault.PlaceFault.TheVariants as PlaceFault;

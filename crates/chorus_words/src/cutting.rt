@@ -1,6 +1,6 @@
 //! The words, cut by `clap`.
 
-ghost use Rattle.std.specs.Prelude.{◌≡◌, ◌<◌, ◌≤◌, ℕ, length, map, IfOk, IfSome, IsNone, true};
+ghost use Rattle.std.specs.Prelude.{◌≡◌, ◌<◌, ℕ, length, map, IfOk, IfSome, IsNone, true};
 ghost use Rattle.std.specs.List.{list_all};
 ghost use Rattle.clap.specs.Words.{app_of};
 ghost use Rattle.chorus_words.specs.Cutting.{is_value, the_command, IsCut};

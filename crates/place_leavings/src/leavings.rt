@@ -179,8 +179,8 @@ fn take_row<R: Wait>(
 ) -> Result<(), AllocError>
     requires few { length slots.old.items ≤ u16.MAX }
     requires linked { IsLinkedWith from here.old slots.old.items }
-    ensures { OnOk result (TakesRow from (length slots.old.items) packets.old.items packets.new.items
-        here.old here.new slots.old.items slots.new.items) }
+    ensures { OnOk result (TakesRow from (length slots.old.items) packets.old.items
+        packets.new.items here.old here.new slots.old.items slots.new.items) }
 {
     let mut to: u16 = 0;
     while usize::from(to) < slots.len() {

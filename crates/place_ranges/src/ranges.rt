@@ -1,6 +1,6 @@
 //! The ranges of what a packet holds.
 
-ghost use Rattle.std.specs.Prelude.{◌≡◌, ◌≤◌, ◌&&◌, true};
+ghost use Rattle.std.specs.Prelude.{◌≡◌, ◌&&◌, true};
 ghost use Rattle.std.specs.List.{list_all};
 ghost use Rattle.chorus_entry.specs.Ranges.{is_from, is_place_number, is_site_number, has_range_of_id, has_range_of_tag, has_ranges_of_message, is_route, is_demanded_site, has_ranges_of_answer, is_told, has_range_of_client, has_ranges_of_clients, has_ranges_of_record, is_asked, has_ranges_of_cargo, has_ranges};
 

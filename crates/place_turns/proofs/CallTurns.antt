@@ -2,7 +2,6 @@
 -- t is the turn before, u the turn after, m a message, q a port, c the caller.
 use Rattle.std.proofs.Common.{◌≡◌, ℕ, Option, Some, None, List, refl, sym, ◌∙◌, ap}
 use Rattle.chorus_ui.specs.declared.ui.Ui.{Ui}
-use Rattle.chorus_entry.specs.declared.id.MsgId.{MsgId}
 use Rattle.chorus_entry.specs.declared.dest.Dest.{Dest}
 use Rattle.chorus_entry.specs.declared.message.Message.{Message}
 use Rattle.chorus_entry.specs.declared.command.Command.{Command}
@@ -22,14 +21,14 @@ use Rattle.place_turns.specs.CallTurns.{with_call}
 use Rattle.place_turns.proofs.Posting.{post-performs}
 
 -- p are the tables before room was made, r behind it, and d the caller as it posts the message n, which is m, to the port q
-pub post-done : (command : Command) (m n : Message) (q to : Ui) (p r : Tables) (c d : Seated) (u : Turn) (told : Reply) (id : MsgId)
+pub post-done : (command : Command) (m n : Message) (q to : Ui) (p r : Tables) (c d : Seated) (u : Turn) (told : Reply)
     → own command (turn p c) ≡ Act.Post m (Dest.Port q) → to ≡ q → n ≡ m → ((x : Seated) → turn r x ≡ turn p x) → d ≡ after_tag m.tag q m.body c
-    → u ≡ go (direct to) (posted n to (turn r d)) → id ≡ n.id → told ≡ post_reply id u.place.journal → Performed command (turn p c) u told
-post-done command m n q to p r c d u told id o at is room caller e name a =
+    → u ≡ go (direct to) (posted n to (turn r d)) → told ≡ post_reply n.id u.place.journal → Performed command (turn p c) u told
+post-done command m n q to p r c d u told o at is room caller e a =
     post-performs command m q (turn p c) u told o
     (e ∙ ap (λ x. go (direct x) (posted n x (turn r d))) at ∙ ap (λ x. go (direct q) (posted x q (turn r d))) is
     ∙ ap (λ x. go (direct q) (posted m q x)) (room d ∙ ap (turn p) caller))
-    (a ∙ ap (λ x. post_reply x u.place.journal) (name ∙ ap (λ (x : Message). x.id) is))
+    (a ∙ ap (λ (x : Message). post_reply x.id u.place.journal) is)
 
 -- the call that is outstanding already stays as it is
 pub same-call : (q back : Ui) (body : List ℕ) (c : Seated) (call : Call) → c.client.outstanding ≡ Some call → c ≡ with_call q back body c

@@ -3,3 +3,4 @@ pub mod MovePort
 pub mod Posting
 pub mod CallTurns
 pub mod AtOnce
+pub mod Told

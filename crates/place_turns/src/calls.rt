@@ -11,7 +11,7 @@ ghost use Rattle.place_state.specs.Tables.{turn};
 ghost use Rattle.place_state.specs.Commands.{Performed, StaysOut};
 ghost use Rattle.place_turns.specs.CallTurns.{outstanding_number, with_call, without_call};
 
-use crate::messages::{post_prepared, post_reply, ready_post};
+use crate::messages::{post_prepared, ready_post};
 use chorus_calls::Caller;
 use chorus_entry::{Act, Body, Hand, Tag};
 use chorus_ui::Ui;
@@ -108,8 +108,7 @@ fn begin_call(
     let carried = copied(&body)?;
     let ready = ready_post(tables, port, Tag::Request { number, back }, carried, caller)?;
     begin(caller, port, back, body);
-    let id = post_prepared(tables, ready, caller);
-    Ok(post_reply(tables, id))
+    Ok(post_prepared(tables, ready, caller))
 }
 
 /// Posts the caller's outstanding call again, with the same number and body. `NoCall` where none is outstanding. Want of
@@ -134,8 +133,7 @@ pub fn retry(tables: &mut Tables, caller: &mut Caller) -> Result<Reply, AllocErr
     let port = call.port;
     let body = copied(call.body)?;
     let ready = ready_post(tables, port, tag, body, caller)?;
-    let id = post_prepared(tables, ready, caller);
-    Ok(post_reply(tables, id))
+    Ok(post_prepared(tables, ready, caller))
 }
 
 /// Ends the caller's outstanding call. `NoCall` where none is outstanding. Want of memory changes nothing.
@@ -200,8 +198,7 @@ fn answer_request(
     };
     let ready = ready_post(tables, hand.back, tag, body, caller)?;
     caller.set_hand(None);
-    let id = post_prepared(tables, ready, caller);
-    Ok(post_reply(tables, id))
+    Ok(post_prepared(tables, ready, caller))
 }
 
 /// Appends an entry that changes nothing else, in room that it takes. Want of memory changes nothing.

@@ -1,6 +1,6 @@
 //! Whole turns that post a message to a port: the room that they need is taken before their first change.
 
-ghost use Rattle.std.specs.Prelude.{◌≡◌, ◌<◌, ◌≤◌, reverse, OnOk, OnErr, IfOk};
+ghost use Rattle.std.specs.Prelude.{◌≡◌, ◌<◌, reverse, OnOk, OnErr, IfOk};
 ghost use Rattle.chorus_ui.specs.declared.kind.Kind.TheVariants as Kind;
 ghost use Rattle.chorus_ui.specs.declared.limits.TheConstants.{CLOCK_LIMIT};
 ghost use Rattle.chorus_entry.specs.declared.command.Command.TheVariants as Command;
@@ -60,41 +60,6 @@ fn verdict_reply(msg: MsgId, answer: Answer) -> Reply
         Answer::Gone => Reply::Gone(msg),
         _ => Reply::Posted(msg),
     }
-}
-
-/// The answer that the last entry gives, where it is a decision or a choice.
-fn last_answer(entries: &[Entry]) -> Option<Answer>
-    ensures { result ≡ last_answer (reverse entries.now) }
-{
-    let len = entries.len();
-    if len == 0 {
-        return None;
-    }
-    entries[len - 1].act.answer()
-}
-
-/// Posts the caller's next message, with this tag, to a port, and lets it go. Gives its id.
-fn post_to(
-    tables: &mut Tables,
-    port: Ui,
-    tag: Tag,
-    body: Body,
-    caller: &mut Caller,
-) -> Result<MsgId, AllocError>
-    requires kind { port.kind ≡ Kind.Port }
-    requires posts { caller.old.posts < u32.MAX }
-    requires sound { IsSound (next_message tag body caller.old) }
-    requires clock { greatest_clock (turn tables.old caller.old) < CLOCK_LIMIT }
-    ensures ok { OnOk result (turn tables.new caller.new ≡
-        go (direct port)
-        (posted (next_message tag body caller.old) port (turn tables.old caller.old))) }
-    ensures id { IfOk result (λ id. id ≡ (next_message tag body caller.old).id) }
-    ensures refused { OnErr result (turn tables.new caller.new ≡ turn tables.old caller.old) }
-    ensures out { StaysOut tables.old.out tables.new.out }
-    ensures kept { KeepsRoom tables.old tables.new }
-{
-    let ready = ready_post(tables, port, tag, body, caller)?;
-    Ok(post_prepared(tables, ready, caller))
 }
 
 /// Takes what the post of the caller's next message, with this tag, to a port needs. Changes nothing else, whatever the
@@ -197,14 +162,14 @@ fn ready_to_wait(
     })
 }
 
-/// Posts a message for which all is there, and lets it go. Takes no memory. Gives its id.
-pub(crate) fn post_prepared(tables: &mut Tables, ready: Ready, caller: &mut Caller) -> MsgId
+/// Posts a message for which all is there, and lets it go. Takes no memory. Gives the reply.
+pub(crate) fn post_prepared(tables: &mut Tables, ready: Ready, caller: &mut Caller) -> Reply
     requires ready { IsReady ready tables.old }
     requires posts { caller.old.posts < u32.MAX }
     requires clock { greatest_clock (turn tables.old caller.old) < CLOCK_LIMIT }
     ensures turn { turn tables.new caller.new ≡
         go (direct ready.port) (posted ready.message ready.port (turn tables.old caller.old)) }
-    ensures id { result ≡ ready.message.id }
+    ensures reply { result ≡ post_reply ready.message.id tables.new.journal.past }
     ensures out { tables.new.out ≡ tables.old.out }
     ensures kept { KeepsRoom tables.old tables.new }
 {
@@ -214,15 +179,13 @@ pub(crate) fn post_prepared(tables: &mut Tables, ready: Ready, caller: &mut Call
         wait,
         way,
     } = ready;
-    let id = message.id;
     match way {
         Way::AtOnce { hop } => post_at_once(tables, port, message, wait, hop, caller),
         Way::Behind { again } => post_behind(tables, port, message, wait, again, caller),
     }
-    id
 }
 
-/// Posts a message, of which `wait` has a copy, that is decided here at once.
+/// Posts a message, of which `wait` has a copy, that is decided here at once. The answer says what the caller is told.
 fn post_at_once(
     tables: &mut Tables,
     port: Ui,
@@ -230,7 +193,7 @@ fn post_at_once(
     wait: Wait,
     hop: u64,
     caller: &mut Caller,
-)
+) -> Reply
     requires kind { port.kind ≡ Kind.Port }
     requires sound { IsSound message }
     requires copy { wait ≡ post message tables.old.number }
@@ -239,12 +202,15 @@ fn post_at_once(
     requires clock { greatest_clock (turn tables.old caller.old) < CLOCK_LIMIT }
     ensures turn { turn tables.new caller.new ≡
         go (direct port) (posted message port (turn tables.old caller.old)) }
+    ensures reply { result ≡ post_reply message.id tables.new.journal.past }
     ensures out { tables.new.out ≡ tables.old.out }
     ensures kept { KeepsRoom tables.old tables.new }
 {
     let Wait { message: copy, .. } = wait;
+    let id = message.id;
     tables.post_alone(message, Dest::Port(port), caller);
-    let _answer = tables.decide_at_once(copy, port, hop, caller);
+    let answer = tables.decide_at_once(copy, port, hop, caller);
+    verdict_reply(id, answer)
 }
 
 /// Posts a message, of which `wait` is a copy, behind those that wait, and lets them go.
@@ -255,7 +221,7 @@ fn post_behind(
     wait: Wait,
     again: Option<Wait>,
     caller: &mut Caller,
-)
+) -> Reply
     requires kind { port.kind ≡ Kind.Port }
     requires sound { IsSound message }
     requires copy { wait ≡ post message tables.old.number }
@@ -264,16 +230,30 @@ fn post_behind(
     requires clock { greatest_clock (turn tables.old caller.old) < CLOCK_LIMIT }
     ensures turn { turn tables.new caller.new ≡
         go (direct port) (posted message port (turn tables.old caller.old)) }
+    ensures reply { result ≡ post_reply message.id tables.new.journal.past }
     ensures out { tables.new.out ≡ tables.old.out }
     ensures kept { KeepsRoom tables.old tables.new }
 {
     let key = Key { port, route: None };
+    let id = message.id;
     tables.post(&key, message, wait, caller);
     tables.go(&key, again, caller);
+    last_reply(tables, id)
 }
 
-/// The reply to a post to a port, at the end of its turn: what the last entry says of it.
-pub(crate) fn post_reply(tables: &Tables, id: MsgId) -> Reply
+/// The answer that the last entry gives, where it is a decision or a choice.
+fn last_answer(entries: &[Entry]) -> Option<Answer>
+    ensures { result ≡ last_answer (reverse entries.now) }
+{
+    let len = entries.len();
+    if len == 0 {
+        return None;
+    }
+    entries[len - 1].act.answer()
+}
+
+/// The reply to a post that went behind others, at the end of its turn: what the last entry says of it.
+fn last_reply(tables: &Tables, id: MsgId) -> Reply
     ensures { result ≡ post_reply id tables.now.journal.past }
 {
     match last_answer(tables.entries()) {
@@ -299,6 +279,6 @@ pub fn send_to_port(
     ensures out { StaysOut tables.old.out tables.new.out }
     ensures kept { KeepsRoom tables.old tables.new }
 {
-    let id = post_to(tables, port, Tag::Plain, body, caller)?;
-    Ok(post_reply(tables, id))
+    let ready = ready_post(tables, port, Tag::Plain, body, caller)?;
+    Ok(post_prepared(tables, ready, caller))
 }

@@ -1,6 +1,6 @@
 //! The messages that wait, by port and route.
 
-ghost use Rattle.std.specs.Prelude.{◌≡◌, ◌^◌, ◌<◌, ◌≤◌, false, length, slice_get, OnOk, OnErr};
+ghost use Rattle.std.specs.Prelude.{◌≡◌, ◌^◌, ◌<◌, ◌≤◌, false, length, slice_get, OnOk};
 ghost use Rattle.std.specs.Option.{option_copied};
 ghost use Rattle.place_unsettled.specs.declared.wait.Key.{Key};
 ghost use Rattle.place_unsettled.specs.Queues.{queue, room, empty_queue, same_key, changed, with_last, passed, at, less_one};

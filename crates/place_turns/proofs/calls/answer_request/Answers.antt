@@ -12,8 +12,8 @@ use Rattle.place_turns.proofs.calls.answer_request.Goals as goal
 pub returns-in_err-ready-clause-refused : goal.returns-in_err-ready-clause-refused
 returns-in_err-ready-clause-refused c = on_err _ _ (c.ready_post.ensures.turn c.args.caller.now)
 
-pub post_prepared-id-requires-clause-clock : goal.post_prepared-id-requires-clause-clock
-post_prepared-id-requires-clause-clock c =
+pub post_prepared-requires-clause-clock : goal.post_prepared-requires-clause-clock
+post_prepared-requires-clause-clock c =
     subst (λ n. n < CLOCK_LIMIT) (sym (ap greatest_clock (c.ready_post.ensures.turn c.set_hand.new.self ∙ ap (turn c.args.tables.now) c.set_hand.ensures))) c.requires.clock
 
 pub returns-clause-performed : goal.returns-clause-performed
@@ -21,8 +21,8 @@ returns-clause-performed c =
     let hand = c.args.hand.now in
     let caller = c.args.caller.now in
     let ready = c.in_ok-ready.ready in
-    let after = c.post_prepared-id in
+    let after = c.post_prepared in
     post-done (Command.Reply c.args.body) (next_message (Tag.Reply hand.client hand.number) c.args.body caller) ready.message hand.back ready.port c.args.tables.now
-    c.ready_post.new.tables caller c.set_hand.new.self (turn after.new.tables after.new.caller) c.post_reply.result after.result
+    c.ready_post.new.tables caller c.set_hand.new.self (turn after.new.tables after.new.caller) after.result
     (ap (reply_act c.args.body caller) c.requires.hand) c.in_ok-ready.ensures.port c.in_ok-ready.ensures.message c.ready_post.ensures.turn c.set_hand.ensures after.ensures.turn
-    after.ensures.id c.post_reply.ensures
+    after.ensures.reply

@@ -1,13 +1,16 @@
-use Rattle.std.proofs.Common.{ap, subst, sym, ◌∙◌, arith}
+use Rattle.std.proofs.Common.{None, ap, subst, sym, ◌∙◌, arith}
 use Rattle.chorus_ui.specs.Layout.{has_site}
 use Rattle.chorus_entry.specs.declared.dest.Dest.{Dest}
 use Rattle.place_unsettled.specs.Queues.{Row}
 use Rattle.place_unsettled.proofs.Keys.{same_row}
 use Rattle.law_machine.specs.Doing.{direct}
+use Rattle.law_machine.specs.Deciding.{decide}
+use Rattle.law_machine.specs.Replies.{verdict_reply}
 use Rattle.place_state.specs.Groups.{posted_alone}
 use Rattle.place_state.specs.Tables.{Tables, turn, IsSound}
 use Rattle.place_tables.specs.AtOnce.{decided}
 use Rattle.place_turns.proofs.AtOnce.{at-once, posted-alone-clock}
+use Rattle.place_turns.proofs.Told.{reply-told}
 use Rattle.place_turns.proofs.messages.post_at_once.Goals as goal
 
 pub decide_at_once-answer-requires-clause-site : goal.decide_at_once-answer-requires-clause-site
@@ -40,6 +43,17 @@ returns-clause-turn c =
     ∙ ap (decided c.args.wait.message q hop) c.post_alone.ensures.turn
     ∙ ap (λ x. decided x q hop (posted_alone m (Dest.Port q) t)) (ap (λ w. w.message) c.requires.copy)
     ∙ at-once q m hop t c.requires.ready.free (λ l h. ap (λ (r : Row). r.queue) (same_row p.waits (direct q) l h))
+
+pub returns-clause-reply : goal.returns-clause-reply
+returns-clause-reply c =
+    let q = c.args.port in
+    let m = c.args.message in
+    let hop = c.args.hop in
+    let t = turn c.post_alone.new.self c.post_alone.new.caller in
+    let same = ap (λ w. w.message) c.requires.copy in
+    let after = c.decide_at_once-answer in
+    reply-told m q hop t (turn after.new.self after.new.caller) c.verdict_reply.result (after.ensures.turn ∙ ap (λ x. decided x q hop t) same)
+    (c.verdict_reply.ensures ∙ ap (verdict_reply m.id) (after.ensures.answer ∙ ap (λ x. decide x q None hop t.place) same))
 
 pub returns-clause-out : goal.returns-clause-out
 returns-clause-out c = c.decide_at_once-answer.ensures.out ∙ ap (λ (p : Tables). p.out) c.post_alone.ensures.same
