@@ -19,8 +19,6 @@ mod lifecycle;
 mod name;
 mod rest;
 mod rule;
-#[cfg(test)]
-mod tests;
 
 pub use ends::{RecvEnd, SendEnd};
 pub use lifecycle::{link, settle};
