@@ -2,14 +2,14 @@
 
 ghost use Rattle.std.specs.Prelude.{◌≡◌, ◌<◌, ◌^◌, ◌-◌, ◌++◌, OnOk};
 ghost use Rattle.std.specs.List.{flat_map};
-ghost use Rattle.chorus_show.specs.Phrases.{byte_text, hex_digit};
+ghost use Rattle.chorus_show.specs.Phrases.{byte_text};
 ghost use Rattle.chorus_picture.specs.Found.{behind_lines, foot, foot_front, found_text, lawful_front, lawful_text, line_bytes, rule_front, wrong_front, wrong_text};
 
 use crate::rule_words::rule_words;
 use crate::style::LEGEND;
 use chorus_audit::Audit;
 use chorus_entry::Entry;
-use chorus_show::summary_text;
+use chorus_show::{push_byte, summary_text};
 use picture_texts::{push_filled, push_markup, push_shown};
 use std::alloc::AllocError;
 
@@ -125,28 +125,6 @@ fn push_line_bytes(most: u32, text: &[u8], out: &mut Vec<u8>) -> Result<(), Allo
             push_line_bytes(most - 1, more, out)
         }
         _ => Ok(()),
-    }
-}
-
-/// Appends the byte as one of a body.
-fn push_byte(byte: u8, out: &mut Vec<u8>) -> Result<(), AllocError>
-    ensures { OnOk result (out.new.items ≡ out.old.items ++ byte_text byte) }
-{
-    if (32..=126).contains(&byte) && byte != b'%' {
-        out.push(byte)?;
-        return Ok(());
-    }
-    out.extend_from_slice(&[b'%', hex_digit(byte / 16), hex_digit(byte % 16)])
-}
-
-fn hex_digit(digit: u8) -> u8
-    requires { digit < 16 }
-    ensures { result ≡ hex_digit digit }
-{
-    if digit < 10 {
-        b'0' + digit
-    } else {
-        b'a' + (digit - 10)
     }
 }
 

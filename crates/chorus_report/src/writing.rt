@@ -15,7 +15,7 @@ use crate::text::Text;
 use chorus_io::{Sink, write_all};
 use chorus_merge::merge_lent;
 use chorus_net::Closed;
-use chorus_show::{Status, lent_journal_text, lent_summary_text};
+use chorus_show::{Status, journal_text, lent_summary_text};
 use std::alloc::{AllocError, Global};
 
 /// Ends a call by what it played: writes the text of what was closed, where it played all; ends with the clock that was worn, where
@@ -80,7 +80,7 @@ fn report_of(alloc: Global, closed: &Closed) -> Result<Vec<u8>, AllocError>
 {
     let entries = merge_lent(alloc, &closed.journals)?;
     let mut text = Vec::new(alloc);
-    lent_journal_text(&entries, &mut text)?;
+    journal_text(&entries, &mut text)?;
     lent_summary_text(&entries, &mut text)?;
     Ok(text)
 }

@@ -12,7 +12,7 @@ ghost use Rattle.chorus_report_parts.specs.Parts.{ArePrinted, PrintsPart, whole}
 
 use chorus_entry::Entry;
 use chorus_merge::merge_lent;
-use chorus_show::{journal_head, lent_lines, lent_summary_text};
+use chorus_show::{journal_head, journal_lines, lent_summary_text};
 use std::alloc::{AllocError, Global};
 use std::thread;
 use std::thread::Threads;
@@ -120,7 +120,7 @@ fn print_part(alloc: Global, entries: &[&Entry]) -> Result<Vec<u8>, AllocError>
     ensures { PrintsPart entries.now result }
 {
     let mut text = Vec::with_capacity(alloc, entries.len().saturating_mul(LINE))?;
-    lent_lines(entries, &mut text)?;
+    journal_lines(entries, &mut text)?;
     Ok(text)
 }
 

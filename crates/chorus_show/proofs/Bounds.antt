@@ -1,8 +1,8 @@
 -- What holds of each element of a list holds of the list, and so of an act with a list.
 use Rattle.std.proofs.Common.{◌≡◌, ℕ, ◌≤◌, List, [], ◌∷◌, length, refl, sym, subst}
-use Rattle.std.specs.List.{All, AllWithin}
+use Rattle.std.specs.List.{All}
 use Rattle.std.proofs.lemmas.Bool.{le-leb}
-use Rattle.std.proofs.lemmas.List.Elements.{All-from_all_within, All-head, All-tail, All-same}
+use Rattle.std.proofs.lemmas.List.Elements.{All-head, All-tail, All-same}
 use Rattle.chorus_ui.specs.declared.ui.Ui.{Ui}
 use Rattle.chorus_ui.specs.declared.limits.TheConstants.{MEMBERS_LIMIT}
 use Rattle.chorus_ui.specs.Name.{IsName}
@@ -27,9 +27,6 @@ are_bytes (c ∷ cs) h = (All-head Is8 c cs h, are_bytes cs (All-tail Is8 c cs h
 pub all_within : (es : List Entry) → All IsWithin es → AreWithin es
 all_within [] h = tt
 all_within (e ∷ es) h = (All-head IsWithin e es h, all_within es (All-tail IsWithin e es h))
-
-pub are_within : (es : List Entry) → AllWithin IsWithin es 0 (length es) → AreWithin es
-are_within es h = all_within es (All-from_all_within IsWithin es h)
 
 pub choose_within : (act : Act) (x : MsgId) (g : Ui) (members uis : List Ui) → act ≡ Choose x g members → IsId x × IsName g → uis ≡ members → length members ≤ MEMBERS_LIMIT → All IsName uis → IsActWithin act
 choose_within act x g members uis is names same few all =

@@ -127,7 +127,9 @@ fn push_escaped(bytes: &[u8], out: &mut Vec<u8>) -> Result<(), AllocError>
     Ok(())
 }
 
-fn push_byte(byte: u8, out: &mut Vec<u8>) -> Result<(), AllocError>
+/// Appends the byte as the text of a body has it: as it is where it is a printable one and no `%`, else as `%` and two hexadecimal
+/// digits. After an error a part of it may stand there.
+pub fn push_byte(byte: u8, out: &mut Vec<u8>) -> Result<(), AllocError>
     ensures { OnOk result (out.new.items ≡ out.old.items ++ byte_text byte) }
 {
     if (32..=126).contains(&byte) && byte != b'%' {

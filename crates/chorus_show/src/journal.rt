@@ -23,32 +23,18 @@ pub fn entry_line(entry: &Entry, out: &mut Vec<u8>) -> Result<(), AllocError>
     push_line(entry, &mut line, out)
 }
 
-/// Appends the journal text: the line `journal N`, N being the number of entries, and their lines, each of them that of an entry
-/// within the bounds of a line. An error leaves `out` as it was.
-pub fn journal_text(entries: &[Entry], out: &mut Vec<u8>) -> Result<(), AllocError>
-    ensures ok { OnOk result (out.new.items ≡ out.old.items ++ journal_text entries.now) }
-    ensures within { OnOk result (AreWithin entries.now) }
+/// Appends the journal text of the entries that are lent: the line `journal N`, N being the number of entries, and their lines, each of
+/// them that of an entry within the bounds of a line. An error leaves `out` as it was.
+pub fn journal_text(entries: &[&Entry], out: &mut Vec<u8>) -> Result<(), AllocError>
+    ensures ok { OnOk result (out.new.items ≡ out.old.items
+        ++ journal_text (map (λ (entry : Bor Entry). entry.now) entries.now)) }
+    ensures within { OnOk result (AreWithin (map (λ (entry : Bor Entry). entry.now) entries.now)) }
     ensures err { OnErr result (out.new.items ≡ out.old.items) }
 {
     let before = out.len();
     let written = push_journal(entries, out);
     if written.is_err() {
         out.truncate(before);
-    }
-    written
-}
-
-/// Appends the journal text of the entries that are lent, as [`journal_text`] does.
-pub fn lent_journal_text(entries: &[&Entry], out: &mut Vec<u8>) -> Result<(), AllocError>
-    ensures ok { OnOk result (out.new.items ≡ out.old.items
-        ++ journal_text (map (λ (entry : Bor Entry). entry.now) entries.now)) }
-    ensures within { OnOk result (AreWithin (map (λ (entry : Bor Entry). entry.now) entries.now)) }
-    ensures err { OnErr result (out.new.items ≡ out.old.items) }
-{
-    let start = out.len();
-    let written = push_lent_journal(entries, out);
-    if written.is_err() {
-        out.truncate(start);
     }
     written
 }
@@ -64,7 +50,7 @@ pub fn journal_head(count: u64, out: &mut Vec<u8>) -> Result<(), AllocError>
 
 /// Appends the lines of the entries that are lent, a part of a journal text, each of them that of an entry within the bounds of a line.
 /// An error leaves `out` as it was.
-pub fn lent_lines(entries: &[&Entry], out: &mut Vec<u8>) -> Result<(), AllocError>
+pub fn journal_lines(entries: &[&Entry], out: &mut Vec<u8>) -> Result<(), AllocError>
     ensures ok { OnOk result (out.new.items ≡ out.old.items
         ++ journal_lines (map (λ (entry : Bor Entry). entry.now) entries.now)) }
     ensures within { OnOk result (AreWithin (map (λ (entry : Bor Entry). entry.now) entries.now)) }
@@ -72,29 +58,15 @@ pub fn lent_lines(entries: &[&Entry], out: &mut Vec<u8>) -> Result<(), AllocErro
 {
     let start = out.len();
     let mut line = Vec::new(*out.allocator());
-    let written = push_lent_lines(entries, &mut line, out);
+    let written = push_lines(entries, &mut line, out);
     if written.is_err() {
         out.truncate(start);
     }
     written
 }
 
-/// Appends the journal text, or a front of it for want of memory.
-fn push_journal(entries: &[Entry], out: &mut Vec<u8>) -> Result<(), AllocError>
-    ensures ok { OnOk result (out.new.items ≡ out.old.items ++ journal_text entries.now) }
-    ensures within { OnOk result (AreWithin entries.now) }
-    ensures err { OnErr result (take (length out.old.items) out.new.items ≡ out.old.items) }
-{
-    let mut line = Vec::new(*out.allocator());
-    push_head(entries.len() as u64, &mut line, out)?;
-    for entry in entries {
-        push_line(entry, &mut line, out)?;
-    }
-    Ok(())
-}
-
 /// Appends the journal text of the entries that are lent, or a front of it for want of memory.
-fn push_lent_journal(entries: &[&Entry], out: &mut Vec<u8>) -> Result<(), AllocError>
+fn push_journal(entries: &[&Entry], out: &mut Vec<u8>) -> Result<(), AllocError>
     ensures ok { OnOk result (out.new.items ≡ out.old.items
         ++ journal_text (map (λ (entry : Bor Entry). entry.now) entries.now)) }
     ensures within { OnOk result (AreWithin (map (λ (entry : Bor Entry). entry.now) entries.now)) }
@@ -102,15 +74,11 @@ fn push_lent_journal(entries: &[&Entry], out: &mut Vec<u8>) -> Result<(), AllocE
 {
     let mut line = Vec::new(*out.allocator());
     push_head(entries.len() as u64, &mut line, out)?;
-    push_lent_lines(entries, &mut line, out)
+    push_lines(entries, &mut line, out)
 }
 
 /// Appends the lines of the entries that are lent, or a front of them for want of memory. The buffer `line` is used again.
-fn push_lent_lines(
-    entries: &[&Entry],
-    line: &mut Vec<u8>,
-    out: &mut Vec<u8>,
-) -> Result<(), AllocError>
+fn push_lines(entries: &[&Entry], line: &mut Vec<u8>, out: &mut Vec<u8>) -> Result<(), AllocError>
     ensures ok { OnOk result (out.new.items ≡ out.old.items
         ++ journal_lines (map (λ (entry : Bor Entry). entry.now) entries.now)) }
     ensures within { OnOk result (AreWithin (map (λ (entry : Bor Entry). entry.now) entries.now)) }

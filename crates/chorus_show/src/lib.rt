@@ -19,7 +19,8 @@ mod queues;
 mod status;
 mod summary;
 
-pub use journal::{entry_line, journal_head, journal_text, lent_journal_text, lent_lines};
+pub use fields::push_byte;
+pub use journal::{entry_line, journal_head, journal_lines, journal_text};
 pub use law::{a_line_has_one_entry, a_line_is_read_back};
 pub use pieces::{push_act, push_answer, push_id};
 pub use queues::Spot;

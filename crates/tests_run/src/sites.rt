@@ -7,9 +7,9 @@ ghost use Rattle.std.specs.Prelude.{◌≡◌, true};
 ghost use Rattle.chorus_entry.specs.Command.{meets_conditions, has_body_in_limit};
 
 use chorus_entry::{Body, Command, Dest};
-use chorus_merge::merge;
+use chorus_merge::merge_lent;
 use chorus_net::{Closed, Sites};
-use chorus_show::{journal_text, summary_text};
+use chorus_show::{journal_text, lent_summary_text};
 use chorus_ui::{Kind, Layout, Ui};
 use std::alloc::Global;
 use std::process::Abort;
@@ -194,10 +194,10 @@ fn perform_all<S: Calls>(rt: &impl Abort, alloc: Global, sites: &mut S, calls: &
 
 /// Journal and summary of what was left.
 fn text_of(rt: &impl Abort, alloc: Global, closed: &Closed) -> String {
-    let entries = merge(alloc, &closed.journals).expect(rt, "memory");
+    let entries = merge_lent(alloc, &closed.journals).expect(rt, "memory");
     let mut text = Vec::new(alloc);
     journal_text(&entries, &mut text).expect(rt, "memory");
-    summary_text(&entries, &mut text).expect(rt, "memory");
+    lent_summary_text(&entries, &mut text).expect(rt, "memory");
     String::from_utf8(text).ok().expect(rt, "a text")
 }
 

@@ -2,26 +2,19 @@
 
 use crate::lines::{Things, assert_text, body_of, entry, ids_of, name, named_things, text_of};
 use chorus_entry::{Act, Dest, Entry, Message, MsgId, Tag};
-use chorus_show::{Status, fault_text, journal_text, lent_journal_text, summary_text};
+use chorus_show::{Status, fault_text, journal_text, summary_text};
 use chorus_ui::{Kind, Ui};
 use std::alloc::Global;
 use std::process::Abort;
 
-/// The text with the journal behind it.
+/// The text with the journal of the entries behind it.
 fn with_journal(rt: &impl Abort, alloc: Global, text: &str, entries: &[Entry]) -> String {
-    let mut out = Vec::from_slice(alloc, text.as_bytes()).expect(rt, "memory");
-    journal_text(entries, &mut out).expect(rt, "memory");
-    text_of(rt, out)
-}
-
-/// The text with the journal of the entries behind it, which are lent.
-fn with_lent_journal(rt: &impl Abort, alloc: Global, text: &str, entries: &[Entry]) -> String {
     let mut lent = Vec::new(alloc);
     for entry in entries {
         lent.push(entry).expect(rt, "memory");
     }
     let mut out = Vec::from_slice(alloc, text.as_bytes()).expect(rt, "memory");
-    lent_journal_text(&lent, &mut out).expect(rt, "memory");
+    journal_text(&lent, &mut out).expect(rt, "memory");
     text_of(rt, out)
 }
 
@@ -55,8 +48,6 @@ fn assert_two_lines(rt: &impl Abort, alloc: Global) {
     add(rt, &mut entries, Act::Late { number: 2 });
     let journal = with_journal(rt, alloc, "> ", &entries);
     let text = "> journal 2\n5 2 30 no-call\n5 2 30 late 2\n";
-    assert_text(rt, journal.as_str(), text);
-    let journal = with_lent_journal(rt, alloc, "> ", &entries);
     assert_text(rt, journal.as_str(), text);
 }
 

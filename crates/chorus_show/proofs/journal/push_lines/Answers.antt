@@ -4,7 +4,7 @@ use Rattle.std.proofs.lemmas.Grind.{common_steps}
 use Rattle.std.proofs.lemmas.List.{take_all}
 use Rattle.std.proofs.lemmas.List.Elements.{AllWithin-more, AllWithin-upto, at_read}
 use Rattle.chorus_show.proofs.Lent.{lent_line, IsLentWithin, lent_lines_are, lent_within}
-use Rattle.chorus_show.proofs.journal.push_lent_lines.Goals as goal
+use Rattle.chorus_show.proofs.journal.push_lines.Goals as goal
 
 pub loop-entry-preserved : goal.loop-entry-preserved
 loop-entry-preserved c =

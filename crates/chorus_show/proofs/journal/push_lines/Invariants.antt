@@ -1,7 +1,7 @@
 use Rattle.std.proofs.Common.{◌≡◌, ◌++◌, take}
 use Rattle.std.specs.List.{flat_map, AllWithin}
 use Rattle.chorus_show.proofs.Lent.{lent_line, IsLentWithin}
-use Rattle.chorus_show.proofs.journal.push_lent_lines.Given as goal
+use Rattle.chorus_show.proofs.journal.push_lines.Given as goal
 
 abbrev pub invariant-loop-entry : goal.invariant-loop-entry
 invariant-loop-entry l = record {
