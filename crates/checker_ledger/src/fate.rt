@@ -15,7 +15,7 @@ use std::marker::Model;
 /// received, where it has been, and where it is. Ports, and that they migrate with what waits in them, are from the
 /// Chorus article of 1988; hops and positions are this project's own.
 #[derive(Debug, Drop)]
-pub struct PortFate {
+pub struct PortState {
     capacity: u8,
     accepted: Vec<MsgId>,
     taken: u64,
@@ -23,7 +23,7 @@ pub struct PortFate {
     spot: Spot,
 }
 
-impl Model for PortFate {
+impl Model for PortState {
     ghost use Rattle.chorus_world.specs.Ports.{PortState};
     ghost use Rattle.checker_ledger.specs.Ports.{port_state, PortFits};
 
@@ -34,20 +34,20 @@ impl Model for PortFate {
     ghost invariant = { λ f. PortFits f.capacity f.accepted.items f.taken };
 }
 
-impl PortFate {
+impl PortState {
     /// A port that was just made at the place.
     pub(crate) fn new(
         alloc: Global,
         place: u16,
         actor: Ui,
         capacity: u8,
-    ) -> Result<PortFate, AllocError>
+    ) -> Result<PortState, AllocError>
         requires { (1 ≤ capacity) × (capacity ≤ PENDING_LIMIT) }
         ensures { IfOk result (λ f. f ≡ new_port place actor capacity) }
     {
         let mut path = Vec::new(alloc);
         path.push(place)?;
-        Ok(PortFate {
+        Ok(PortState {
             capacity,
             accepted: Vec::new(alloc),
             taken: 0,

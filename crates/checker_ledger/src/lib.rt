@@ -15,6 +15,6 @@ mod ledger;
 mod ports;
 mod tables;
 
-pub use fate::PortFate;
+pub use fate::PortState;
 pub use ledger::Ledger;
 pub use tables::choosing_place;

@@ -4,7 +4,7 @@ ghost use Rattle.std.specs.Prelude.{◌≡◌, OnOk, OnErr};
 ghost use Rattle.std.specs.Option.{option_copied};
 ghost use Rattle.checker_ledger.specs.Ports.{fate_in, MakeFits, TakesFit, ChangeFits, IsSet, IsChanged, PortsAfter, PortsStay};
 
-use crate::fate::PortFate;
+use crate::fate::PortState;
 use checker_rows::keys::PortKey;
 use chorus_entry::{Act, Entry};
 use chorus_ui::Ui;
@@ -12,14 +12,14 @@ use std::alloc::{AllocError, Global};
 use std::collections::HashMap;
 
 /// The port's fate.
-pub(crate) fn fate_in(ports: &HashMap<PortKey, PortFate>, port: Ui) -> Option<&PortFate>
+pub(crate) fn fate_in(ports: &HashMap<PortKey, PortState>, port: Ui) -> Option<&PortState>
     ensures { option_copied result ≡ fate_in ports.now port }
 {
     ports.get(&PortKey { port })
 }
 
 /// Puts the port into the table, in place of the row that it has. An error leaves the table as it was.
-fn set(ports: &mut HashMap<PortKey, PortFate>, port: Ui, fate: PortFate) -> Result<(), AllocError>
+fn set(ports: &mut HashMap<PortKey, PortState>, port: Ui, fate: PortState) -> Result<(), AllocError>
     ensures ok { OnOk result (IsSet port fate (fate_in ports.old) (fate_in ports.new)) }
     ensures err { OnErr result (PortsStay (fate_in ports.old) (fate_in ports.new)) }
 {
@@ -32,7 +32,7 @@ fn set(ports: &mut HashMap<PortKey, PortFate>, port: Ui, fate: PortFate) -> Resu
 }
 
 /// The act, which does not make the port, changes the port's row, where it has one. An error leaves the table as it was.
-fn change(ports: &mut HashMap<PortKey, PortFate>, port: Ui, act: &Act) -> Result<(), AllocError>
+fn change(ports: &mut HashMap<PortKey, PortState>, port: Ui, act: &Act) -> Result<(), AllocError>
     requires { ChangeFits act.now (fate_in ports.old port) }
     ensures ok { OnOk result (IsChanged port act.now (fate_in ports.old) (fate_in ports.new)) }
     ensures err { OnErr result (PortsStay (fate_in ports.old) (fate_in ports.new)) }
@@ -45,7 +45,7 @@ fn change(ports: &mut HashMap<PortKey, PortFate>, port: Ui, act: &Act) -> Result
 
 /// The ports after the entry. An error leaves them as they were.
 pub(crate) fn follow_ports(
-    ports: &mut HashMap<PortKey, PortFate>,
+    ports: &mut HashMap<PortKey, PortState>,
     alloc: Global,
     entry: &Entry,
 ) -> Result<(), AllocError>
@@ -62,7 +62,7 @@ pub(crate) fn follow_ports(
                 capacity,
                 ..
             } => {
-                let fate = PortFate::new(alloc, entry.place, *actor, *capacity)?;
+                let fate = PortState::new(alloc, entry.place, *actor, *capacity)?;
                 set(ports, port, fate)
             }
             act => change(ports, port, act),

@@ -12,7 +12,7 @@ ghost use Rattle.checker_ledger.specs.Asks.{asked_by};
 ghost use Rattle.checker_ledger.specs.Ports.{fate_in, MakeFits, TakesFit};
 ghost use Rattle.checker_ledger.specs.Ties.{Follows, HasSameRows, HasRoom, HasFew, ListsAfter, RowsAfter, StillFollow, sent_told, tag_by, act_tag, grows};
 
-use crate::fate::PortFate;
+use crate::fate::PortState;
 use crate::groups::{Group, follow_groups, join_group};
 use crate::ports::follow_ports;
 use checker_rows::clients::{follow_clients, follow_kept};
@@ -32,7 +32,7 @@ use std::collections::{HashMap, VecDeque};
 #[derive(Debug, Drop)]
 pub(crate) struct Tables {
     /// What became of each port.
-    pub ports: HashMap<PortKey, PortFate>,
+    pub ports: HashMap<PortKey, PortState>,
     /// Each message, wherever it is.
     pub messages: HashMap<MsgId, MessageRow>,
     /// What was sent from each place in order, by port and route.

@@ -16,6 +16,6 @@ mod port;
 mod rule;
 mod world;
 
-pub use checker_ledger::PortFate;
+pub use checker_ledger::PortState;
 pub use fault::WorldFault;
 pub use world::World;

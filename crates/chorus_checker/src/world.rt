@@ -17,7 +17,7 @@ mod sending;
 
 use crate::fault::WorldFault;
 use crate::rule::act_number;
-use checker_ledger::{Ledger, PortFate};
+use checker_ledger::{Ledger, PortState};
 use chorus_entry::{Act, Answer, Entry, MsgId};
 use chorus_ui::{Layout, Ui};
 use std::alloc::{AllocError, Global};
@@ -48,7 +48,7 @@ impl World {
     }
 
     /// What became of the port. None exactly where it is not made. Takes no memory.
-    pub fn port(&self, ui: Ui) -> Option<&PortFate>
+    pub fn port(&self, ui: Ui) -> Option<&PortState>
         ensures value { option_copied result ≡ fate (on ui self.now.past) }
         ensures legal { is_legal self.now.layout self.now.past ≡ true }
     {

@@ -10,7 +10,7 @@ mod sending;
 mod words;
 
 use acts::entry_in;
-use chorus_checker::{PortFate, World, WorldFault};
+use chorus_checker::{PortState, World, WorldFault};
 use chorus_entry::Entry;
 use chorus_ui::{Layout, Ui};
 use std::alloc::Global;
@@ -23,7 +23,7 @@ fn named(rt: &impl Abort, text: &str) -> Ui {
 }
 
 /// What became of the port with this name, which is made.
-fn fate_of<'a>(rt: &impl Abort, world: &'a World, name: &str) -> &'a PortFate {
+fn fate_of<'a>(rt: &impl Abort, world: &'a World, name: &str) -> &'a PortState {
     world.port(named(rt, name)).expect(rt, "the port is made")
 }
 

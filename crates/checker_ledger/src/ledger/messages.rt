@@ -10,7 +10,7 @@ ghost use Rattle.chorus_world.specs.Steps.{is_legal};
 ghost use Rattle.chorus_world.specs.Views.{about, on};
 ghost use Rattle.checker_rows.specs.Messages.{in_brief};
 
-use crate::fate::PortFate;
+use crate::fate::PortState;
 use crate::ledger::Ledger;
 use crate::ports::fate_in;
 use crate::tables::source;
@@ -23,7 +23,7 @@ use chorus_world::Progress;
 
 impl Ledger {
     /// What became of the port. None exactly where it is not made.
-    pub fn port(&self, ui: Ui) -> Option<&PortFate>
+    pub fn port(&self, ui: Ui) -> Option<&PortState>
         ensures value { option_copied result ≡ fate (on ui self.now.past) }
         ensures legal { is_legal self.now.layout self.now.past ≡ true }
     {

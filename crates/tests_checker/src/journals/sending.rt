@@ -1,7 +1,7 @@
 //! Sending, receiving and migration.
 
 use super::{assert_follows, fate_of, follow, named, replay};
-use chorus_checker::{PortFate, World};
+use chorus_checker::{PortState, World};
 use chorus_entry::{Answer, MsgId};
 use chorus_world::Spot;
 use std::alloc::Global;
@@ -31,7 +31,7 @@ fn assert_accepted_first(rt: &impl Abort, world: &World, id: MsgId) {
 }
 
 /// Asserts that the port moved from place 1 to the actor at place 2, and accepted this message alone.
-fn assert_moved(rt: &impl Abort, fate: &PortFate, id: MsgId) {
+fn assert_moved(rt: &impl Abort, fate: &PortState, id: MsgId) {
     assert!(rt; fate.path() == [1, 2].as_slice());
     assert!(rt; fate.spot() == Spot::Held(named(rt, "2.a.1")));
     assert!(rt; fate.capacity() == 4);
