@@ -1,5 +1,5 @@
 -- What the words do, and each ending's cause.
-use Rattle.std.proofs.Common.{◌≡◌, ◌≢◌, ◌∙◌, ℕ, [], List, Option, None, Some, IfSome, IsSome, refl, sym, ap, subst, arith, ◌≤◌}
+use Rattle.std.proofs.Common.{◌≡◌, ◌≢◌, ◌∙◌, inl, inr, ℕ, [], List, Option, None, Some, IfSome, IsSome, refl, sym, ap, subst, arith, ◌≤◌}
 use Rattle.std.proofs.KnownBytes.{Consumes-nil}
 use Rattle.std.proofs.lemmas.Bool.{false≢true}
 use Rattle.chorus_ui.specs.declared.layout.Layout.{Layout}
@@ -33,9 +33,9 @@ use Rattle.chorus_lossy.specs.Output.{CarriesInput}
 use Rattle.chorus_words.specs.declared.words.TheConstants.{EXPLORE_MOST}
 use Rattle.chorus_words.specs.declared.words.Words.{Words}
 use Rattle.chorus_words.specs.declared.words.Words.TheVariants as words
-use Rattle.chorus_words.specs.Words.{Ask}
-use Rattle.chorus_program.specs.Running.{Does, EndsAsAudit, EndsAsLossy, EndsAsPicture, EndsUnreadAsLoad, EndsWithCause, Suits, places_each, replay_layout, EndsAsExplored}
-use Rattle.chorus_program.specs.Started.{IsLayoutFor}
+use Rattle.chorus_program.specs.declared.running.TheConstants.{PROGRAM_SITES}
+use Rattle.chorus_program.specs.Running.{layout_asked, places_each, replay_layout, Does, DoesOnOneThread, EndsAsAudit, EndsAsExplored, EndsAsLossy, EndsAsPicture, EndsUnreadAsLoad, EndsWithCause, Suits}
+use Rattle.chorus_program.specs.Started.{DoesOnOwn, DoesOnStarted}
 
 -- Causes.
 
@@ -159,17 +159,36 @@ module _ {S K : Type 0} (f : Finished) (is : f ≡ record { status = Memory; clo
     };
   }
 
+  one-thread-none : (asked : Words) → layout_asked asked ≡ None → DoesOnOneThread asked f left faults reliable from from held failures old old
+  one-thread-none words.Replay no = replays-none
+  one-thread-none words.Run no = cc
+  one-thread-none (words.RunOn turns) no = cc
+  one-thread-none (words.Load first commands) no = record { unread = refl; loads = loads-none f is held failures old first commands }
+  one-thread-none (words.Audit sites turns) no = audits-none (places_each sites turns)
+  one-thread-none (words.Picture sites turns) no = draws-none (places_each sites turns)
+  one-thread-none (words.Lossy first) no = carries-none first
+  one-thread-none (words.Crew first commands) no = cc
+  one-thread-none words.Explore no = explores-none EXPLORE_MOST
+  one-thread-none (words.ExploreMost most) no = explores-none most
+
   pub does-none : (n : Nucleus) (asked : Words) → Does n asked f left faults reliable from from held failures old old
-  does-none n words.Replay = replays-none
   does-none n words.Run = runs-none n
   does-none n (words.RunOn turns) = runs-none n
-  does-none n (words.Load first commands) = record { unread = refl; loads = loads-none f is held failures old first commands }
-  does-none n (words.Audit sites turns) = audits-none (places_each sites turns)
-  does-none n (words.Picture sites turns) = draws-none (places_each sites turns)
-  does-none n (words.Lossy first) = carries-none first
   does-none n (words.Crew first commands) = record { unread = refl; crews = crews-none f is held failures old n first commands }
-  does-none n words.Explore = explores-none EXPLORE_MOST
-  does-none n (words.ExploreMost most) = explores-none most
+  does-none n words.Replay = one-thread-none words.Replay refl
+  does-none n (words.Load first commands) = one-thread-none (words.Load first commands) refl
+  does-none n (words.Audit sites turns) = one-thread-none (words.Audit sites turns) refl
+  does-none n (words.Picture sites turns) = one-thread-none (words.Picture sites turns) refl
+  does-none n (words.Lossy first) = one-thread-none (words.Lossy first) refl
+  does-none n words.Explore = one-thread-none words.Explore refl
+  does-none n (words.ExploreMost most) = one-thread-none (words.ExploreMost most) refl
+
+  started-none : (asked : Words) (o : Option Layout) → layout_asked asked ≡ o → DoesOnStarted o asked f left faults reliable from from held failures old old
+  started-none asked None o-is = one-thread-none asked o-is
+  started-none asked (Some l) o-is = inl (record { status = ap (λ (x : Finished). x.status) is; unread = refl; unwritten = refl })
+
+  pub own-none : (asked : Words) → DoesOnOwn asked f left faults reliable from from held failures old old
+  own-none asked = started-none asked (layout_asked asked) refl
 
 -- a replay on sites of a layout is one on those of an equal one
 pub replays-at : {S K : Type 0} (l m : Layout) (f : Finished) (left : S → Option (List ℕ)) (faults : S → ℕ) (reliable : S → Type 0) (from rest : S) (held : K → Option (List ℕ)) (failures : K → ℕ) (old new : K) → l ≡ m → EndsAsReplay l f left faults reliable from rest held failures old new → EndsAsReplay m f left faults reliable from rest held failures old new
@@ -177,32 +196,73 @@ replays-at l m f left faults reliable from rest held failures old new same h = s
 
 -- What is done has its cause, and is no Usage.
 
-module _ {S K : Type 0} (n : Nucleus) (f : Finished) (left : S → Option (List ℕ)) (faults : S → ℕ) (reliable : S → Type 0) (from rest : S) (held : K → Option (List ℕ)) (failures : K → ℕ) (old new : K) where
-  pub no-usage : (asked : Words) → Does n asked f left faults reliable from rest held failures old new → f.status ≡ Status.Usage → ⊥
-  no-usage words.Replay d is = d.reads.usage is
-  no-usage words.Run d is = d.reads.usage is
-  no-usage (words.RunOn turns) d is = d.reads.usage is
-  no-usage (words.Load first commands) d is = subst EndsUnread is d.loads.status
-  no-usage (words.Audit sites turns) d is = subst (λ s. ReadsBy s (left from) (left rest)) is d.reads
-  no-usage (words.Picture sites turns) d is = subst (λ s. picture.ReadsBy (places_each sites turns) s (left from) (left rest)) is d.reads
-  no-usage (words.Crew first commands) d is = subst EndsUnread is d.crews.status
-  no-usage words.Explore d is = d.explores.reads.usage is
-  no-usage (words.ExploreMost most) d is = d.explores.reads.usage is
-  no-usage (words.Lossy first) d is = let h = d.carries in subst (λ s. lossy.ReadsBy s h.0 (left from) (left rest)) is h.1
+module _ {S K : Type 0} (f : Finished) (left : S → Option (List ℕ)) (faults : S → ℕ) (reliable : S → Type 0) (from rest : S) (held : K → Option (List ℕ)) (failures : K → ℕ) (old new : K) where
+  no-usage-on-one : (asked : Words) → DoesOnOneThread asked f left faults reliable from rest held failures old new → f.status ≡ Status.Usage → ⊥
+  no-usage-on-one words.Replay d is = d.reads.usage is
+  no-usage-on-one words.Run d is = d
+  no-usage-on-one (words.RunOn turns) d is = d
+  no-usage-on-one (words.Load first commands) d is = subst EndsUnread is d.loads.status
+  no-usage-on-one (words.Audit sites turns) d is = subst (λ s. ReadsBy s (left from) (left rest)) is d.reads
+  no-usage-on-one (words.Picture sites turns) d is = subst (λ s. picture.ReadsBy (places_each sites turns) s (left from) (left rest)) is d.reads
+  no-usage-on-one (words.Crew first commands) d is = d
+  no-usage-on-one words.Explore d is = d.explores.reads.usage is
+  no-usage-on-one (words.ExploreMost most) d is = d.explores.reads.usage is
+  no-usage-on-one (words.Lossy first) d is = let h = d.carries in subst (λ s. lossy.ReadsBy s h.0 (left from) (left rest)) is h.1
 
-  pub does-same : (asked other : Words) → asked ≡ other → Does n asked f left faults reliable from rest held failures old new → Does n other f left faults reliable from rest held failures old new
-  does-same asked other same d = subst (λ (w : Words). Does n w f left faults reliable from rest held failures old new) same d
+  -- what one thread does is done with any nucleus
+  pub with-any : (n : Nucleus) (asked : Words) → DoesOnOneThread asked f left faults reliable from rest held failures old new → Does n asked f left faults reliable from rest held failures old new
+  with-any n words.Replay d = d
+  with-any n words.Run d = absurd d
+  with-any n (words.RunOn turns) d = absurd d
+  with-any n (words.Load first commands) d = d
+  with-any n (words.Audit sites turns) d = d
+  with-any n (words.Picture sites turns) d = d
+  with-any n (words.Lossy first) d = d
+  with-any n (words.Crew first commands) d = absurd d
+  with-any n words.Explore d = d
+  with-any n (words.ExploreMost most) d = d
+
+  pub no-usage : (n : Nucleus) (asked : Words) → Does n asked f left faults reliable from rest held failures old new → f.status ≡ Status.Usage → ⊥
+  no-usage n words.Run d is = d.reads.usage is
+  no-usage n (words.RunOn turns) d is = d.reads.usage is
+  no-usage n (words.Crew first commands) d is = subst EndsUnread is d.crews.status
+  no-usage n words.Replay d is = no-usage-on-one words.Replay d is
+  no-usage n (words.Load first commands) d is = no-usage-on-one (words.Load first commands) d is
+  no-usage n (words.Audit sites turns) d is = no-usage-on-one (words.Audit sites turns) d is
+  no-usage n (words.Picture sites turns) d is = no-usage-on-one (words.Picture sites turns) d is
+  no-usage n (words.Lossy first) d is = no-usage-on-one (words.Lossy first) d is
+  no-usage n words.Explore d is = no-usage-on-one words.Explore d is
+  no-usage n (words.ExploreMost most) d is = no-usage-on-one (words.ExploreMost most) d is
+
+  no-usage-on : (asked : Words) (o : Option Layout) → DoesOnStarted o asked f left faults reliable from rest held failures old new → f.status ≡ Status.Usage → ⊥
+  no-usage-on asked None d is = no-usage-on-one asked d is
+  no-usage-on asked (Some l) (inl no) is = let both : Memory ≡ Status.Usage = sym no.status ∙ is in cc
+  no-usage-on asked (Some l) (inr (n, same, d)) is = no-usage n asked d is
+
+  pub own-no-usage : (asked : Words) → DoesOnOwn asked f left faults reliable from rest held failures old new → f.status ≡ Status.Usage → ⊥
+  own-no-usage asked d is = no-usage-on asked (layout_asked asked) d is
+
+  pub does-same : (n : Nucleus) (asked other : Words) → asked ≡ other → Does n asked f left faults reliable from rest held failures old new → Does n other f left faults reliable from rest held failures old new
+  does-same n asked other same d = subst (λ (w : Words). Does n w f left faults reliable from rest held failures old new) same d
+
+  pub own-same : (asked other : Words) → asked ≡ other → DoesOnOwn asked f left faults reliable from rest held failures old new → DoesOnOwn other f left faults reliable from rest held failures old new
+  own-same asked other same d = subst (λ (w : Words). DoesOnOwn w f left faults reliable from rest held failures old new) same d
+
+  -- what is done on what was started for it
+  pub on-started : (asked : Words) (o : Option Layout) → o ≡ layout_asked asked → DoesOnStarted o asked f left faults reliable from rest held failures old new → DoesOnOwn asked f left faults reliable from rest held failures old new
+  on-started asked o same d = subst (λ (x : Option Layout). DoesOnStarted x asked f left faults reliable from rest held failures old new) same d
 
 -- What is asked suits a nucleus that was started for it.
-pub suits : (spelled : List (List ℕ)) (n : Nucleus) → IsLayoutFor spelled (layout_of n) → (asked : Words) → Ask spelled asked → Suits n asked
-suits spelled n h words.Replay ask = tt
-suits spelled n h words.Run ask = tt
-suits spelled n h (words.RunOn turns) ask = sym (ap (λ (l : Layout). l.turns) (h.asked (words.RunOn turns) ask))
-suits spelled n h (words.Load first commands) ask = tt
-suits spelled n h (words.Audit sites turns) ask = tt
-suits spelled n h (words.Picture sites turns) ask = tt
-suits spelled n h (words.Lossy first) ask = tt
-suits spelled n h words.Explore ask = tt
-suits spelled n h (words.ExploreMost most) ask = tt
-suits spelled n h (words.Crew first commands) ask =
-    let same = ap (λ (l : Layout). l.sites) (h.asked (words.Crew first commands) ask) in omega (arith, same)
+pub suits : (n : Nucleus) (asked : Words) → Some (layout_of n) ≡ layout_asked asked → Suits n asked
+suits n words.Replay same = tt
+suits n words.Run same = tt
+suits n (words.RunOn turns) same = let is : layout_of n ≡ places_each PROGRAM_SITES turns = cc in sym (ap (λ (l : Layout). l.turns) is)
+suits n (words.Load first commands) same = tt
+suits n (words.Audit sites turns) same = tt
+suits n (words.Picture sites turns) same = tt
+suits n (words.Lossy first) same = tt
+suits n words.Explore same = tt
+suits n (words.ExploreMost most) same = tt
+suits n (words.Crew first commands) same =
+    let is : layout_of n ≡ places_each PROGRAM_SITES 1 = cc in
+    let sites = ap (λ (l : Layout). l.sites) is in omega (arith, sites)

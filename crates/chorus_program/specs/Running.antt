@@ -1,7 +1,7 @@
 -- What the program's words do.
 -- n is the nucleus that the program was handed. A source and a sink are seen as `EndsReading` and `EndsWriting` see
 -- them; from and rest are the source, old and new the sink, before and after.
-use Rattle.std.specs.Prelude.{◌≡◌, ◌≢◌, ◌≤◌, ◌⊎◌, ℕ, List, Option, None, IfSome, IsSome}
+use Rattle.std.specs.Prelude.{◌≡◌, ◌≢◌, ◌≤◌, ◌⊎◌, ℕ, List, Option, None, Some, IfSome, IsSome}
 use Rattle.chorus_io.specs.Count.{Rose}
 use Rattle.chorus_ui.specs.declared.layout.Layout.{Layout}
 use Rattle.chorus_ui.specs.declared.limits.TheConstants.{CLOCK_LIMIT}
@@ -92,30 +92,46 @@ pub record EndsAsExplored {S K : Type 0} (most : ℕ) (finished : Finished) (lef
   pub closed : finished.closed ≡ None
   pub explores : EndsAsExplore replay_layout most finished.status left faults reliable from rest held failures old new
 
+-- the layout of the nucleus that is started for what is asked: of so many places for each site as `run TURNS` asks, and
+-- of one for `run` and a crew. All else uses no nucleus, and one thread does it
+abbrev pub layout_asked : Words → Option Layout
+layout_asked words.Run = Some (places_each PROGRAM_SITES 1)
+layout_asked (words.RunOn turns) = Some (places_each PROGRAM_SITES turns)
+layout_asked (words.Crew first commands) = Some (places_each PROGRAM_SITES 1)
+layout_asked asked = None
+
+-- what the words do that use no nucleus; no other words are done so
+abbrev pub DoesOnOneThread : {S K : Type 0} → Words → Finished
+    → (S → Option (List ℕ)) → (S → ℕ) → (S → Type 0) → S → S
+    → (K → Option (List ℕ)) → (K → ℕ) → K → K → Type 0
+DoesOnOneThread words.Replay finished left faults reliable from rest held failures old new =
+    EndsAsReplay replay_layout finished left faults reliable from rest held failures old new
+DoesOnOneThread (words.Load first commands) finished left faults reliable from rest held failures old new =
+    EndsUnreadAsLoad first commands finished from rest held failures old new
+DoesOnOneThread (words.Audit sites turns) finished left faults reliable from rest held failures old new =
+    EndsAsAudit (places_each sites turns) finished (left from) (left rest) (held old) (held new)
+DoesOnOneThread (words.Picture sites turns) finished left faults reliable from rest held failures old new =
+    EndsAsPicture (places_each sites turns) finished (left from) (left rest) (held old) (held new)
+DoesOnOneThread (words.Lossy first) finished left faults reliable from rest held failures old new =
+    EndsAsLossy first finished (left from) (left rest) (held old) (held new)
+DoesOnOneThread words.Explore finished left faults reliable from rest held failures old new =
+    EndsAsExplored EXPLORE_MOST finished left faults reliable from rest held failures old new
+DoesOnOneThread (words.ExploreMost most) finished left faults reliable from rest held failures old new =
+    EndsAsExplored most finished left faults reliable from rest held failures old new
+DoesOnOneThread asked finished left faults reliable from rest held failures old new = ⊥
+
 -- what the words do
 abbrev pub Does : {S K : Type 0} → Nucleus → Words → Finished
     → (S → Option (List ℕ)) → (S → ℕ) → (S → Type 0) → S → S
     → (K → Option (List ℕ)) → (K → ℕ) → K → K → Type 0
-Does n words.Replay finished left faults reliable from rest held failures old new =
-    EndsAsReplay replay_layout finished left faults reliable from rest held failures old new
 Does n words.Run finished left faults reliable from rest held failures old new =
     EndsAsRun n finished left faults reliable from rest held failures old new
 Does n (words.RunOn turns) finished left faults reliable from rest held failures old new =
     EndsAsRun n finished left faults reliable from rest held failures old new
-Does n (words.Load first commands) finished left faults reliable from rest held failures old new =
-    EndsUnreadAsLoad first commands finished from rest held failures old new
-Does n (words.Audit sites turns) finished left faults reliable from rest held failures old new =
-    EndsAsAudit (places_each sites turns) finished (left from) (left rest) (held old) (held new)
-Does n (words.Picture sites turns) finished left faults reliable from rest held failures old new =
-    EndsAsPicture (places_each sites turns) finished (left from) (left rest) (held old) (held new)
-Does n (words.Lossy first) finished left faults reliable from rest held failures old new =
-    EndsAsLossy first finished (left from) (left rest) (held old) (held new)
 Does n (words.Crew first commands) finished left faults reliable from rest held failures old new =
     EndsUnreadAsCrew n first commands finished from rest held failures old new
-Does n words.Explore finished left faults reliable from rest held failures old new =
-    EndsAsExplored EXPLORE_MOST finished left faults reliable from rest held failures old new
-Does n (words.ExploreMost most) finished left faults reliable from rest held failures old new =
-    EndsAsExplored most finished left faults reliable from rest held failures old new
+Does n asked finished left faults reliable from rest held failures old new =
+    DoesOnOneThread asked finished left faults reliable from rest held failures old new
 
 -- what was closed has an entry of this clock, which is at least 2^62
 abbrev pub IsWornAt : ℕ → Finished → Type 0

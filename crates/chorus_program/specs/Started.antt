@@ -1,38 +1,40 @@
--- The program with a nucleus that is started for its words.
+-- The program with a nucleus that is started for the words that use one.
 -- A source and a sink are seen as `EndsReading` and `EndsWriting` see them; from and rest are the source, old and new
 -- the sink, before and after.
-use Rattle.std.specs.Prelude.{◌≡◌, ◌⊎◌, ℕ, List, Option}
+use Rattle.std.specs.Prelude.{◌≡◌, ◌⊎◌, ℕ, List, Option, None, Some}
 use Rattle.chorus_ui.specs.declared.layout.Layout.{Layout}
 use Rattle.chorus_show.specs.declared.status.Status.TheVariants.{Memory}
 use Rattle.chorus_nucleus.specs.declared.nucleus.Nucleus.{Nucleus}
 use Rattle.chorus_nucleus.specs.Passes.{layout_of}
 use Rattle.chorus_report.specs.declared.finished.Finished.{Finished}
 use Rattle.chorus_words.specs.declared.words.Words.{Words}
-use Rattle.chorus_words.specs.declared.words.Words.TheVariants as words
 use Rattle.chorus_words.specs.Words.{Ask}
-use Rattle.chorus_program.specs.declared.running.TheConstants.{PROGRAM_SITES}
-use Rattle.chorus_program.specs.Running.{Does, places_each}
+use Rattle.chorus_program.specs.Running.{layout_asked, Does, DoesOnOneThread}
 
 -- these words are not in the list
 abbrev pub AskNothing : List (List ℕ) → Type 0
 AskNothing spelled = (asked : Words) → ¬ (Ask spelled asked)
 
--- the layout of the nucleus that is started: `run TURNS` asks so many places for each of its sites, and all else asks
--- one
-abbrev pub layout_asked : Words → Layout
-layout_asked (words.RunOn turns) = places_each PROGRAM_SITES turns
-layout_asked asked = places_each PROGRAM_SITES 1
+-- there was no memory for the nucleus: nothing was read or written
+pub record IsUnstarted {S K : Type 0} (finished : Finished) (from rest : S) (old new : K) : Type 0 where
+  pub status : finished.status ≡ Memory
+  pub unread : rest ≡ from
+  pub unwritten : new ≡ old
 
--- it is that of these words, and of one place each where the words ask nothing
-pub record IsLayoutFor (spelled : List (List ℕ)) (l : Layout) : Type 0 where
-  pub asked : (asked : Words) → Ask spelled asked → l ≡ layout_asked asked
-  pub otherwise : AskNothing spelled → l ≡ places_each PROGRAM_SITES 1
+-- what is asked is done on a nucleus of this layout, if there was memory for it, and without one where there is none
+abbrev pub DoesOnStarted : {S K : Type 0} → Option Layout → Words → Finished
+    → (S → Option (List ℕ)) → (S → ℕ) → (S → Type 0) → S → S
+    → (K → Option (List ℕ)) → (K → ℕ) → K → K → Type 0
+DoesOnStarted None asked finished left faults reliable from rest held failures old new =
+    DoesOnOneThread asked finished left faults reliable from rest held failures old new
+DoesOnStarted (Some l) asked finished left faults reliable from rest held failures old new =
+    IsUnstarted finished from rest old new
+    ⊎ ((n : Nucleus) × (layout_of n ≡ l) ×
+    Does n asked finished left faults reliable from rest held failures old new)
 
--- what the words do, on a nucleus of that layout, unless there was no memory
+-- what the words do, on what is started for them
 abbrev pub DoesOnOwn : {S K : Type 0} → Words → Finished
     → (S → Option (List ℕ)) → (S → ℕ) → (S → Type 0) → S → S
     → (K → Option (List ℕ)) → (K → ℕ) → K → K → Type 0
 DoesOnOwn asked finished left faults reliable from rest held failures old new =
-    (finished.status ≡ Memory)
-    ⊎ ((n : Nucleus) × (layout_of n ≡ layout_asked asked) ×
-    Does n asked finished left faults reliable from rest held failures old new)
+    DoesOnStarted (layout_asked asked) asked finished left faults reliable from rest held failures old new

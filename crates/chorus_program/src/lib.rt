@@ -1,7 +1,7 @@
 //! The program.
 //!
 //! [`program`] does what the words say, between a source and a sink, with a nucleus that was started for it; [`start_program`] starts
-//! one for the words. [`ended`] makes the exit status of how it ended, and the line that says what went wrong. [`process`] hands
+//! one where the words use one. [`ended`] makes the exit status of how it ended, and the line that says what went wrong. [`process`] hands
 //! them the words and the streams of the process: it is all that `main` calls.
 //!
 //! Begin with [`program`].
@@ -19,4 +19,4 @@ pub use circle::what_is_printed_is_legal;
 pub use ending::{ended, without_words};
 pub use running::{PROGRAM_SITES, program};
 pub use standard::process;
-pub use started::{layout_for, start_program};
+pub use started::start_program;

@@ -7,17 +7,14 @@ ghost use Rattle.chorus_nucleus.specs.Passes.{IsPassOf};
 ghost use Rattle.chorus_perform.specs.Scripts.{IsOpening};
 ghost use Rattle.chorus_program.specs.Running.{AskNothingOf, AskOf, Does, EndsWithCause, IsTurnedAway, Suits};
 
-use crate::starting::{
-    closed_nothing, start_audit, start_explore, start_load, start_lossy, start_picture,
-    start_replay,
-};
+use crate::starting::{closed_nothing, does_on_one_thread};
 use chorus_drawn_crew::{CREW_PORTS, handle_drawn};
 use chorus_io::{Sink, Source};
 use chorus_nucleus::{Nucleus, Pass};
 use chorus_report::Finished;
 use chorus_run::{Gate, close_unused, run};
 use chorus_show::Status;
-use chorus_words::{EXPLORE_MOST, Words, read_words};
+use chorus_words::{Words, read_words};
 use std::alloc::{AllocError, Global};
 use std::sync::Wait;
 use std::thread::Threads;
@@ -31,8 +28,8 @@ pub const PROGRAM_SITES: u16 = 16;
 /// and `picture SITES TURNS` draws it;
 /// `lossy FIRST` carries what the source gives over a line that loses; `crew FIRST COMMANDS` sends what the draws give to ports of the
 /// nucleus, where it has at least 8 sites, and prints what a crew handled there; `explore` tells what may come of the scenario that the
-/// source gives, by any schedule, with at most [`EXPLORE_MOST`] events carried out, and `explore MOST` with at most so many. Any other
-/// words are Usage, and then nothing is read or written.
+/// source gives, by any schedule, with at most [`EXPLORE_MOST`](chorus_words::EXPLORE_MOST) events carried out, and `explore MOST` with at
+/// most so many. Any other words are Usage, and then nothing is read or written.
 ///
 /// The nucleus was just started, and the pass is its opening one. It is closed in any case. Want of memory is the one ending without a
 /// cause.
@@ -116,8 +113,8 @@ fn turn_away<R: Wait>(rt: &R, nucleus: Nucleus, pass: Pass, status: Status) -> F
     closed_nothing(status)
 }
 
-/// Does what is asked.
-fn does<R: Threads + Wait + Sync, S: Source, K: Sink, G: Gate>(
+/// Does what is asked. Where that uses no nucleus, this one is closed first.
+pub(crate) fn does<R: Threads + Wait + Sync, S: Source, K: Sink, G: Gate>(
     alloc: Global,
     rt: &R,
     asked: Words,
@@ -138,36 +135,12 @@ fn does<R: Threads + Wait + Sync, S: Source, K: Sink, G: Gate>(
 {
     match asked {
         Words::Run | Words::RunOn { .. } => run(alloc, rt, source, sink, nucleus, pass, gate),
-        Words::Replay => {
-            close_unused(rt, nucleus, pass);
-            start_replay(alloc, source, sink)
-        }
-        Words::Load { first, commands } => {
-            close_unused(rt, nucleus, pass);
-            start_load(alloc, first, commands, sink)
-        }
-        Words::Audit { sites, turns } => {
-            close_unused(rt, nucleus, pass);
-            start_audit(alloc, sites, turns, source, sink)
-        }
-        Words::Picture { sites, turns } => {
-            close_unused(rt, nucleus, pass);
-            start_picture(alloc, sites, turns, source, sink)
-        }
-        Words::Lossy { first } => {
-            close_unused(rt, nucleus, pass);
-            start_lossy(alloc, first, source, sink)
-        }
         Words::Crew { first, commands } => {
             handle_drawn(alloc, rt, first, commands, sink, nucleus, pass)
         }
-        Words::Explore => {
+        _ => {
             close_unused(rt, nucleus, pass);
-            start_explore(alloc, EXPLORE_MOST, source, sink)
-        }
-        Words::ExploreMost { most } => {
-            close_unused(rt, nucleus, pass);
-            start_explore(alloc, most, source, sink)
+            does_on_one_thread(alloc, asked, source, sink)
         }
     }
 }

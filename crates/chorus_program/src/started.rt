@@ -1,29 +1,28 @@
-//! The program with a nucleus that is started for its words.
+//! The program with a nucleus that is started for the words that use one.
 
-ghost use Rattle.std.specs.Prelude.{◌≡◌, map, IfOk};
+ghost use Rattle.std.specs.Prelude.{◌≡◌, map};
 ghost use Rattle.chorus_words.specs.declared.words.Words.{Words};
 ghost use Rattle.chorus_words.specs.Words.{Ask, IsTurns, IsWithin};
-ghost use Rattle.chorus_nucleus.specs.Passes.{layout_of, IsPassOf};
-ghost use Rattle.chorus_perform.specs.Scripts.{IsOpening};
 ghost use Rattle.chorus_program.specs.declared.running.TheConstants.{PROGRAM_SITES};
-ghost use Rattle.chorus_program.specs.Running.{places_each, EndsWithCause, IsTurnedAway};
-ghost use Rattle.chorus_program.specs.Started.{layout_asked, AskNothing, DoesOnOwn, IsLayoutFor};
+ghost use Rattle.chorus_program.specs.Running.{layout_asked, places_each, EndsWithCause, IsTurnedAway};
+ghost use Rattle.chorus_program.specs.Started.{AskNothing, DoesOnOwn};
 
-use crate::running::{PROGRAM_SITES, program};
-use crate::starting::closed_nothing;
+use crate::running::{PROGRAM_SITES, does};
+use crate::starting::{closed_nothing, does_on_one_thread};
 use chorus_io::{Sink, Source};
-use chorus_nucleus::{Nucleus, Pass};
+use chorus_nucleus::Nucleus;
 use chorus_report::Finished;
 use chorus_run::OpenGate;
 use chorus_show::Status;
 use chorus_ui::Layout;
 use chorus_words::{Words, read_words};
-use std::alloc::{AllocError, Global};
+use std::alloc::Global;
 use std::sync::Wait;
 use std::thread::Threads;
 
-/// Does what the words say, by [`program`], with a nucleus that is started for them: of [`PROGRAM_SITES`] sites, with as many places
-/// each as `run TURNS` asks, and one place each for all other words. Where there is no memory for it, nothing was read or written.
+/// Does what the words say, as [`program`](crate::program) does, without a nucleus that is handed in: `run`, `run TURNS` and `crew` are
+/// done on one that is started for them, of [`PROGRAM_SITES`] sites with as many places each as `run TURNS` asks, and one place each for
+/// the others; all other words use none, and none is started. Where there is no memory for it, nothing was read or written.
 pub fn start_program<'a, R: Threads + Wait + Sync, S: Source, K: Sink>(
     alloc: Global,
     rt: &R,
@@ -41,46 +40,45 @@ pub fn start_program<'a, R: Threads + Wait + Sync, S: Source, K: Sink>(
     ensures causes { EndsWithCause result S.faults S.reliable source.old source.new
         K.faults sink.old sink.new }
 {
-    match start_nucleus(alloc, rt, words) {
-        Ok((nucleus, pass)) => program(alloc, rt, words, source, sink, nucleus, pass, &OpenGate),
+    match read_words(alloc, words) {
+        Ok(Some(asked)) => does_on_own(alloc, rt, asked, source, sink),
+        Ok(None) => closed_nothing(Status::Usage),
         Err(_) => closed_nothing(Status::Memory),
     }
 }
 
-/// Starts the nucleus for these words.
-fn start_nucleus<'a, R: Wait>(
+/// Does what is asked, on a nucleus that is started for it where it uses one.
+fn does_on_own<R: Threads + Wait + Sync, S: Source, K: Sink>(
     alloc: Global,
     rt: &R,
-    words: &'a [&'a str],
-) -> Result<(Nucleus, Pass), AllocError>
-    ensures layout { IfOk result (λ started.
-        IsLayoutFor (map (λ word. word.now) words.now) (layout_of started.0)) }
-    ensures pass { IfOk result (λ started. IsPassOf started.0 started.1) }
-    ensures opening { IfOk result (λ started. IsOpening started.1) }
+    asked: Words,
+    source: &mut S,
+    sink: &mut K,
+) -> Finished
+    requires { IsWithin asked }
+    ensures does { DoesOnOwn asked result S.left S.faults S.reliable source.old source.new
+        K.held K.faults sink.old sink.new }
+    ensures causes { EndsWithCause result S.faults S.reliable source.old source.new
+        K.faults sink.old sink.new }
 {
-    let layout = layout_for(alloc, words)?;
-    let (nucleus, pass) = Nucleus::start(alloc, rt, layout)?;
-    Ok((nucleus, pass))
-}
-
-/// The layout of the nucleus for these words. The only error is want of memory.
-pub fn layout_for<'a>(alloc: Global, words: &'a [&'a str]) -> Result<Layout, AllocError>
-    ensures { IfOk result (IsLayoutFor (map (λ word. word.now) words.now)) }
-{
-    match read_words(alloc, words)? {
-        Some(asked) => Ok(layout_asked(asked)),
-        None => Ok(with_places(1)),
+    let Some(layout) = layout_asked(asked) else {
+        return does_on_one_thread(alloc, asked, source, sink);
+    };
+    match Nucleus::start(alloc, rt, layout) {
+        Ok((nucleus, pass)) => does(alloc, rt, asked, source, sink, nucleus, pass, &OpenGate),
+        Err(_) => closed_nothing(Status::Memory),
     }
 }
 
-/// The layout of the nucleus for what is asked.
-fn layout_asked(asked: Words) -> Layout
+/// The layout of the nucleus for what is asked. None where that uses none.
+fn layout_asked(asked: Words) -> Option<Layout>
     requires { IsWithin asked }
     ensures { result ≡ layout_asked asked }
 {
     match asked {
-        Words::RunOn { turns } => with_places(turns),
-        _ => with_places(1),
+        Words::RunOn { turns } => Some(with_places(turns)),
+        Words::Run | Words::Crew { .. } => Some(with_places(1)),
+        _ => None,
     }
 }
 

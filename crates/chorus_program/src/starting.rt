@@ -6,7 +6,8 @@ ghost use Rattle.chorus_net.specs.Sites.{net};
 ghost use Rattle.chorus_replay.specs.Ends.{EndsAsLoad, EndsAsReplay};
 ghost use Rattle.chorus_replay.specs.Ordered.{AreJustStarted};
 ghost use Rattle.chorus_words.specs.declared.words.TheConstants.{LOAD_LIMIT};
-ghost use Rattle.chorus_program.specs.Running.{EndsAsAudit, EndsAsLossy, EndsAsPicture, EndsWithCause, one_place_each, places_each, replay_layout, EndsAsExplored};
+ghost use Rattle.chorus_words.specs.Words.{IsWithin};
+ghost use Rattle.chorus_program.specs.Running.{layout_asked, one_place_each, places_each, replay_layout, DoesOnOneThread, EndsAsAudit, EndsAsExplored, EndsAsLossy, EndsAsPicture, EndsWithCause};
 
 use crate::running::PROGRAM_SITES;
 use chorus_audit::audit;
@@ -20,6 +21,7 @@ use chorus_run::{LOAD_SITES, load, replay};
 use chorus_show::Status;
 use chorus_transport::{Receiver, Sender};
 use chorus_ui::Layout;
+use chorus_words::{EXPLORE_MOST, Words};
 use std::alloc::{AllocError, Global};
 
 // A load performs as many commands as its words may ask.
@@ -28,8 +30,34 @@ const _: () = prove!(chorus_words::LOAD_LIMIT == chorus_run::LOAD_LIMIT);
 // And a crew handles what so many give.
 const _: () = prove!(chorus_words::LOAD_LIMIT == chorus_drawn_crew::DRAWS_LIMIT);
 
+/// Does what is asked, where one thread does it and so no nucleus is used.
+pub(crate) fn does_on_one_thread<S: Source, K: Sink>(
+    alloc: Global,
+    asked: Words,
+    source: &mut S,
+    sink: &mut K,
+) -> Finished
+    requires one_thread { layout_asked asked ≡ None }
+    requires within { IsWithin asked }
+    ensures does { DoesOnOneThread asked result S.left S.faults S.reliable source.old source.new
+        K.held K.faults sink.old sink.new }
+    ensures causes { EndsWithCause result S.faults S.reliable source.old source.new
+        K.faults sink.old sink.new }
+{
+    match asked {
+        Words::Replay => start_replay(alloc, source, sink),
+        Words::Load { first, commands } => start_load(alloc, first, commands, sink),
+        Words::Audit { sites, turns } => start_audit(alloc, sites, turns, source, sink),
+        Words::Picture { sites, turns } => start_picture(alloc, sites, turns, source, sink),
+        Words::Lossy { first } => start_lossy(alloc, first, source, sink),
+        Words::Explore => start_explore(alloc, EXPLORE_MOST, source, sink),
+        Words::ExploreMost { most } => start_explore(alloc, most, source, sink),
+        Words::Run | Words::RunOn { .. } | Words::Crew { .. } => unreachable!(),
+    }
+}
+
 /// Replays on sites that are started for it.
-pub(crate) fn start_replay<S: Source, K: Sink>(
+fn start_replay<S: Source, K: Sink>(
     alloc: Global,
     source: &mut S,
     sink: &mut K,
@@ -44,7 +72,7 @@ pub(crate) fn start_replay<S: Source, K: Sink>(
 }
 
 /// Performs a load on sites that are started for it.
-pub(crate) fn start_load<K: Sink>(
+fn start_load<K: Sink>(
     alloc: Global,
     first: u64,
     commands: u32,
@@ -60,7 +88,7 @@ pub(crate) fn start_load<K: Sink>(
 }
 
 /// Audits what the source gives, for so many sites with so many places each.
-pub(crate) fn start_audit<S: Source, K: Sink>(
+fn start_audit<S: Source, K: Sink>(
     alloc: Global,
     sites: u16,
     turns: u16,
@@ -78,7 +106,7 @@ pub(crate) fn start_audit<S: Source, K: Sink>(
 }
 
 /// Draws what the source gives, for so many sites with so many places each.
-pub(crate) fn start_picture<S: Source, K: Sink>(
+fn start_picture<S: Source, K: Sink>(
     alloc: Global,
     sites: u16,
     turns: u16,
@@ -96,7 +124,7 @@ pub(crate) fn start_picture<S: Source, K: Sink>(
 }
 
 /// Carries what the source gives over two ends that are made for it.
-pub(crate) fn start_lossy<S: Source, K: Sink>(
+fn start_lossy<S: Source, K: Sink>(
     alloc: Global,
     first: u64,
     source: &mut S,
@@ -113,7 +141,7 @@ pub(crate) fn start_lossy<S: Source, K: Sink>(
 }
 
 /// Tells what may come of the scenario that the source gives, with at most so many events carried out.
-pub(crate) fn start_explore<S: Source, K: Sink>(
+fn start_explore<S: Source, K: Sink>(
     alloc: Global,
     most: u32,
     source: &mut S,

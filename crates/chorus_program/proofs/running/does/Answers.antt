@@ -6,14 +6,6 @@ pub returns-in-Run-clause-causes : goal.returns-in-Run-clause-causes
 returns-in-Run-clause-causes g c =
     causes-of c.run.result _ _ _ _ _ _ _ _ _ _ _ c.run.ensures.reads c.run.ensures.writes
 
-pub returns-in-Replay-clause-causes : goal.returns-in-Replay-clause-causes
-returns-in-Replay-clause-causes g c =
-    causes-of c.start_replay.result _ _ _ _ _ _ _ _ _ _ _ c.start_replay.ensures.reads c.start_replay.ensures.writes
-
 pub returns-in-Crew-clause-causes : goal.returns-in-Crew-clause-causes
 returns-in-Crew-clause-causes g c =
     causes-of-load c.handle_drawn.result g.S.Source.left _ _ _ _ _ _ _ _ _ c.handle_drawn.ensures.status refl c.handle_drawn.ensures.writes
-
-pub returns-in-Load-clause-causes : goal.returns-in-Load-clause-causes
-returns-in-Load-clause-causes g c =
-    causes-of-load c.start_load.result g.S.Source.left _ _ _ _ _ _ _ _ _ c.start_load.ensures.status refl c.start_load.ensures.writes

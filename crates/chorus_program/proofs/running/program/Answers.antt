@@ -4,12 +4,12 @@ use Rattle.chorus_program.proofs.Doing.{does-none, does-same, no-usage}
 use Rattle.chorus_program.proofs.running.program.Goals as goal
 
 pub returns-in-Ok-Some-clause-usage : goal.returns-in-Ok-Some-clause-usage
-returns-in-Ok-Some-clause-usage g c is = absurd (no-usage c.args.nucleus c.does.result _ _ _ _ _ _ _ _ _ c.in-Ok-Some.asked c.does.ensures.does is)
+returns-in-Ok-Some-clause-usage g c is = absurd (no-usage c.does.result _ _ _ _ _ _ _ _ _ c.args.nucleus c.in-Ok-Some.asked c.does.ensures.does is)
 
 pub returns-in-Ok-Some-clause-does : goal.returns-in-Ok-Some-clause-does
 returns-in-Ok-Some-clause-does g c other asks =
     let same : c.in-Ok-Some.asked ≡ other = cc (c.in-Ok-Some.ensures.listed other asks, c.in-Ok-Some.field-0-is) in
-    does-same c.args.nucleus c.does.result _ _ _ _ _ _ _ _ _ c.in-Ok-Some.asked other same c.does.ensures.does
+    does-same c.does.result _ _ _ _ _ _ _ _ _ c.args.nucleus c.in-Ok-Some.asked other same c.does.ensures.does
 
 pub returns-in-Ok-None-clause-does : goal.returns-in-Ok-None-clause-does
 returns-in-Ok-None-clause-does g c asked asks = absurd (cc (c.in-Ok-None.ensures.listed asked asks, c.in-Ok-None.field-0-is))

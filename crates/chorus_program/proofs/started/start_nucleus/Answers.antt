@@ -1,5 +1,0 @@
-use Rattle.chorus_perform.proofs.Opening.{opening}
-use Rattle.chorus_program.proofs.started.start_nucleus.Goals as goal
-
-pub returns-clause-opening : goal.returns-clause-opening
-returns-clause-opening g c = opening _ _ _ c.in_ok-nucleus.ensures
