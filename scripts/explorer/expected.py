@@ -1,8 +1,8 @@
-"""Draws races, and writes what the program run_explore must print for them, by the explorer that has no reduction.
+"""Draws races, and writes what the program run_memory must print for them, by the explorer that has no reduction.
 
-expected.py COUNT STDIN STDOUT: the races that are drawn from seed 0 on, those that take too long left out, each ended by `%`.
-Of each race it writes the number of its single facts and of its outcomes, and a sum of each over their lines that does not depend on
-their order; of more than 64 outcomes there is no sum.
+expected.py COUNT STDIN STDOUT: adds to the two files the races that are drawn from seed 0 on, those that take too long left out, each as
+a case of the program, which `%` ends. Of each race it writes the number of its single facts and of its outcomes, and a sum of each over
+their lines that does not depend on their order; of more than 64 outcomes there is no sum.
 """
 import sys
 
@@ -27,7 +27,7 @@ def line_of(text):
 
 def main(count, races, expected):
     seed = found = 0
-    with open(races, 'w') as texts, open(expected, 'w') as lines:
+    with open(races, 'a') as texts, open(expected, 'a') as lines:
         while found < count:
             text = draw.draw(seed)
             seed += 1
@@ -36,7 +36,7 @@ def main(count, races, expected):
             except RuntimeError:
                 continue
             found += 1
-            texts.write(text + '%\n')
+            texts.write('digest explore\n' + text + '%\n')
             lines.write(line + '\n')
 
 if __name__ == '__main__':

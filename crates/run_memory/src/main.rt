@@ -1,51 +1,87 @@
-//! The program over a source and a sink in memory, so that the growth of the sink can be refused.
+//! The program over memory, case by case.
 //!
-//! It does what its words say between a source that holds standard input and a sink that takes one byte at a write. When the call has
-//! ended it puts out what the sink holds, and ends with the call's exit status and one line on standard error: how the call ended, and
-//! how many bytes the sink holds. Where there was no memory before the call, or what the sink holds could not be put out, the exit
-//! status is another one, so that neither is taken for an end of the call. Behind the call nothing takes memory.
-//! `bench/fail_allocations --in-memory` refuses its allocations in turn, and compares.
+//! Standard input has cases, each ended by `%`: a line of words, and behind it what they read. Each is done by [`start_program`] between a
+//! source that holds that and a sink that takes one byte at a write. When the call has ended there come the line of [`ended`], the exit
+//! status, how many bytes the sink holds, and these bytes; where the line begins with `digest` and all was done, only the digest of them. So
+//! one stored run has the words that run threads, words that are none, and two hundred drawn races, beside an explorer that was written anew
+//! from the rules and has no reduction (`scripts/explorer`).
+//!
+//! Where there was no memory before a call, or what it left could not be printed, the exit status is another one, so that neither is taken
+//! for an end of the call. Behind a call nothing takes memory before the next case. `bench/fail_allocations --in-memory` gives one case,
+//! refuses its allocations in turn, and compares.
 
 #![tactic(auto)]
 
+mod digest;
+
+use crate::digest::{digest_of, say_number};
 use chorus_io::{
-    Failed, MemSink, MemSource, Sink, Source, StdErrors, StdSink, StdSource, read_all, write_all,
+    Failed, MemSink, MemSource, Sink, Source, StdSink, StdSource, read_all, write_all,
 };
-use chorus_program::start_program;
+use chorus_program::{ended, start_program};
 use chorus_show::Status;
 use std::alloc::Global;
 use std::process::ExitCode;
 use std::sync::Wait;
 use std::thread::Threads;
-use std::{env, io};
 
-/// The exit status where the call did not begin.
+/// The exit status where a call did not begin.
 const NOT_BEGUN: u8 = 64;
 
-/// The exit status where it could not be said how the call ended.
+/// The exit status where it could not be said how a call ended.
 const NOT_SAID: u8 = 65;
 
-fn main(rt: HostRuntime) -> ExitCode {
-    ExitCode::from(run(&rt, &rt).unwrap_or(NOT_BEGUN))
+/// How the call of a case ended, what it wrote, and whether only a digest of that is printed.
+#[derive(Drop)]
+struct Called {
+    status: Status,
+    sink: MemSink,
+    is_digest: bool,
 }
 
-/// Does what the words after the program's name say, over memory. Gives the exit status. The runtime is given twice, since only `main`
-/// has its leave to start threads and to wait.
-fn run<R: Threads + Wait + Sync>(host: &HostRuntime, rt: &R) -> io::Result<u8> {
+fn main(rt: HostRuntime) -> ExitCode {
+    ExitCode::from(run(&rt, &rt))
+}
+
+/// Does the cases of standard input. Gives the exit status. The runtime is given twice, since only `main` has its leave to start threads
+/// and to wait.
+fn run<R: Threads + Wait + Sync>(host: &HostRuntime, rt: &R) -> u8 {
     let alloc = host.alloc();
-    let words: Vec<String> = env::args(host)?.skip(1).collect(alloc)?;
-    let words: Vec<&str> = words.iter().map(|word| word.as_str()).collect(alloc)?;
     let Ok(input) = read_all(alloc, &mut StdSource::new(host.stdin()), usize::MAX) else {
-        return Ok(NOT_BEGUN);
+        return NOT_BEGUN;
     };
+    let mut output = StdSink::new(host.stdout());
+    for case in input.split(|byte| *byte == b'%') {
+        let case = case.strip_prefix(b"\n").unwrap_or(case);
+        if !case.is_empty() {
+            let Some(called) = call_of(rt, alloc, case) else {
+                return NOT_BEGUN;
+            };
+            if say(&called, &mut output).is_err() {
+                return NOT_SAID;
+            }
+        }
+    }
+    0
+}
+
+/// The call of a case. None where it did not begin.
+fn call_of<R: Threads + Wait + Sync>(rt: &R, alloc: Global, case: &[u8]) -> Option<Called> {
+    let end = case.iter().position(|byte| *byte == b'\n')?;
+    let line = String::from_utf8(Vec::from_slice(alloc, &case[..end]).ok()?).ok()?;
+    let (is_digest, line) = match line.as_str().strip_prefix("digest ") {
+        Some(words) => (true, words),
+        None => (false, line.as_str()),
+    };
+    let words: Vec<&str> = line.split(" ").collect(alloc).ok()?;
+    let input = Vec::from_slice(alloc, &case[end + 1..]).ok()?;
     let mut source = MemSource::new(input, Vec::new(alloc));
     let mut sink = MemSink::new(alloc, 1, Vec::new(alloc));
     let status = call(rt, alloc, &words, &mut source, &mut sink);
-    let mut output = StdSink::new(host.stdout());
-    let mut errors = StdErrors::new(host.stderr());
-    Ok(match say(status, sink.bytes(), &mut output, &mut errors) {
-        Ok(()) => status.number(),
-        Err(_) => NOT_SAID,
+    Some(Called {
+        status,
+        sink,
+        is_digest,
     })
 }
 
@@ -60,29 +96,15 @@ fn call<R: Threads + Wait + Sync, S: Source, K: Sink>(
     start_program(alloc, rt, words, source, sink).status
 }
 
-/// Puts out the bytes that a sink holds, and the line that says how the call ended.
-fn say<K: Sink, E: Sink>(
-    status: Status,
-    held: &[u8],
-    output: &mut K,
-    errors: &mut E,
-) -> Result<(), Failed> {
-    write_all(output, held)?;
-    write_all(errors, words_of(status).as_bytes())?;
-    write_all(errors, b" with ")?;
-    let mut buffer = itoa::Buffer::new();
-    write_all(errors, buffer.format(held.len()).as_bytes())?;
-    write_all(errors, b" bytes\n")
-}
-
-fn words_of(status: Status) -> &'static str {
-    match status {
-        Status::Done => "done",
-        Status::Usage => "usage",
-        Status::Scenario { .. } => "scenario refused",
-        Status::ReadFault => "read fault",
-        Status::WriteFault => "write fault",
-        Status::Memory => "out of memory",
-        Status::Worn { .. } => "worn",
+/// Prints how a call ended, and what its sink holds or the digest of that.
+fn say<K: Sink>(called: &Called, output: &mut K) -> Result<(), Failed> {
+    let held = called.sink.bytes();
+    if called.is_digest && called.status == Status::Done {
+        return digest_of(held).say(output);
     }
+    let number = ended(called.status, output);
+    say_number(b"status ", u64::from(number), output)?;
+    say_number(b" with ", held.len() as u64, output)?;
+    write_all(output, b" bytes\n")?;
+    write_all(output, held)
 }

@@ -1,50 +1,19 @@
-//! Drawn races, beside an explorer that was written anew from the rules and has no reduction.
-//!
-//! `stdin` has two hundred races, each ended by `%`. Of each the program prints how many single facts there are and how many outcomes, each
-//! with a sum over their lines that does not depend on their order; where there are more than 64 outcomes there is no sum of theirs.
-//! `stdout` is what the other explorer says of them (`scripts/explorer`).
-#![tactic(auto)]
+//! What is compared of an exploration: how many single facts there are and how many outcomes, each with a sum over their lines that does
+//! not depend on their order. Where there are more than 64 outcomes the exploration tells none, and there is no sum of theirs.
 
-use chorus_explore::explore;
-use chorus_io::{MemSink, MemSource, Sink, StdSource, read_all};
-use chorus_show::Status;
-use chorus_ui::Layout;
-use std::alloc::{AllocError, Global};
-use std::io;
-
-const INPUT_LIMIT: usize = 1_048_576;
-
-const MOST: u32 = 1_000_000;
-
-fn main(rt: HostRuntime) -> io::Result<()> {
-    let alloc = rt.alloc();
-    let mut source = StdSource::new(rt.stdin());
-    let Ok(input) = read_all(alloc, &mut source, INPUT_LIMIT) else {
-        return println!(rt; "unread");
-    };
-    for race in input.split(|byte| *byte == b'%') {
-        if race.len() > 1 {
-            match digest_of(alloc, race)? {
-                Some(digest) => println!(rt;
-                    "{} {} {} {}",
-                    digest.facts, digest.facts_sum, digest.outcomes, digest.outcomes_sum
-                )?,
-                None => println!(rt; "not explored")?,
-            }
-        }
-    }
-    Ok(())
-}
+use chorus_io::{Failed, Sink, write_all};
 
 /// What is compared of an exploration.
 #[derive(Clone, Copy)]
-struct Digest {
+pub(crate) struct Digest {
     facts: u64,
     facts_sum: u64,
     outcomes: u64,
     outcomes_sum: u64,
     /// That of the outcome which is gone through.
     outcome_sum: u64,
+    /// Whether all that may come is told.
+    is_whole: bool,
     part: Part,
 }
 
@@ -57,34 +26,36 @@ enum Part {
     Schedules,
 }
 
-/// The digest of the race's exploration. None where it was not told whole.
-fn digest_of(alloc: Global, race: &[u8]) -> Result<Option<Digest>, AllocError> {
-    let Some(layout) = Layout::new(16, 1) else {
-        return Ok(None);
-    };
-    let mut source = MemSource::new(Vec::from_slice(alloc, race)?, Vec::new(alloc));
-    let mut sink = MemSink::new(alloc, INPUT_LIMIT, Vec::new(alloc));
-    let status = explore(alloc, layout, MOST, &mut source, &mut sink);
-    if status != Status::Done {
-        return Ok(None);
-    }
+/// The digest of the text of an exploration.
+pub(crate) fn digest_of(text: &[u8]) -> Digest {
     let mut digest = Digest {
         facts: 0,
         facts_sum: 0,
         outcomes: 0,
         outcomes_sum: 0,
         outcome_sum: 0,
+        is_whole: false,
         part: Part::Head,
     };
-    let mut is_all = false;
-    for line in sink.bytes().split(|byte| *byte == b'\n') {
-        is_all = is_all || line == b"all".as_slice();
+    for line in text.split(|byte| *byte == b'\n') {
         digest = digest.with_line(line);
     }
-    Ok(if is_all { Some(digest) } else { None })
+    digest
 }
 
 impl Digest {
+    /// Prints it. Where the text does not tell of all that may come, only that.
+    pub(crate) fn say<K: Sink>(&self, output: &mut K) -> Result<(), Failed> {
+        if !self.is_whole {
+            return write_all(output, b"not explored\n");
+        }
+        say_number(b"", self.facts, output)?;
+        say_number(b" ", self.facts_sum, output)?;
+        say_number(b" ", self.outcomes, output)?;
+        say_number(b" ", self.outcomes_sum, output)?;
+        write_all(output, b"\n")
+    }
+
     /// With one line more.
     fn with_line(self, line: &[u8]) -> Digest {
         if line.starts_with(b"facts ") {
@@ -132,6 +103,10 @@ impl Digest {
                 outcome_sum: sum_on(self.outcome_sum, line),
                 ..self
             },
+            Part::Head if line == b"all".as_slice() => Digest {
+                is_whole: true,
+                ..self
+            },
             _ => self,
         }
     }
@@ -163,4 +138,11 @@ fn sum_on(before: u64, line: &[u8]) -> u64 {
         sum = sum.wrapping_mul(31).wrapping_add(u64::from(*byte));
     }
     sum.wrapping_mul(31).wrapping_add(u64::from(b'\n'))
+}
+
+/// Prints the text and the number.
+pub(crate) fn say_number<K: Sink>(text: &[u8], number: u64, output: &mut K) -> Result<(), Failed> {
+    write_all(output, text)?;
+    let mut buffer = itoa::Buffer::new();
+    write_all(output, buffer.format(number).as_bytes())
 }
