@@ -1,12 +1,6 @@
 //! What a crew handles of the messages that are drawn. What is printed was worked out by another program, from the words alone.
 
-use crate::running::{Run, assert_prints, assert_same, run_on, run_over, source_of};
-use crate::short::Short;
-use chorus_show::Status;
-use std::alloc::Global;
-use std::process::Abort;
-use std::sync::Wait;
-use std::thread::Threads;
+use crate::running::assert_prints;
 
 const NOTHING: &str = "\
 port 1.p.1 0 0
@@ -21,7 +15,7 @@ end
 ";
 
 /// Of 100 draws from 42: no port is full.
-const FEW: &str = "\
+pub(crate) const FEW: &str = "\
 port 1.p.1 5 267
 port 2.p.1 8 368
 port 3.p.1 7 368
@@ -79,55 +73,4 @@ fn a_full_crew(rt: HostRuntime) {
 #[test]
 fn a_full_crew_again(rt: HostRuntime) {
     assert_prints(&rt, rt.alloc(), &["crew", "1", "65536"], "", FULL);
-}
-
-/// How the words end where the write of this number fails, over a source whose first read fails; 0 is none.
-fn run(rt: &(impl Abort + Threads + Wait + Sync), alloc: Global, write: u64) -> Run {
-    let whole = source_of(rt, alloc, "nothing", &[1]);
-    run_over(
-        rt,
-        alloc,
-        &["crew", "42", "100"],
-        &mut Short { whole },
-        1,
-        &[write],
-    )
-}
-
-/// Asserts that the source is not read, and that where a write fails, all before it is written.
-fn assert_each_write_fails(rt: &(impl Abort + Threads + Wait + Sync), alloc: Global) {
-    let count = FEW.len() as u64;
-    for written in 0..count {
-        let run = run(rt, alloc, written + 1);
-        assert_same(rt, run.status, Status::WriteFault, written);
-        assert_same(rt, run.written.len() as u64, written, "bytes");
-        assert!(rt;
-            FEW.as_bytes().starts_with(run.written.as_bytes()),
-            "another text"
-        );
-    }
-    let run = run(rt, alloc, 0);
-    assert_same(rt, run.status, Status::Done, count);
-    assert_same(rt, run.written.as_str(), FEW, "all");
-}
-
-#[test]
-fn each_write_of_a_crew_fails(rt: HostRuntime) {
-    assert_each_write_fails(&rt, rt.alloc());
-}
-
-#[test]
-fn words_that_are_no_crew(rt: HostRuntime) {
-    let refused: [&[&str]; 5] = [
-        &["crew"],
-        &["crew", "7"],
-        &["crew", "7", "65537"],
-        &["crew", "07", "1"],
-        &["crew", "7", "1", "1"],
-    ];
-    for words in refused {
-        let run = run_on(&rt, rt.alloc(), words, "");
-        assert_same(&rt, run.status, Status::Usage, words);
-        assert_same(&rt, run.written.as_str(), "", words);
-    }
 }

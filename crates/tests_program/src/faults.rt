@@ -2,6 +2,7 @@
 //!
 //! Where a write failed, the front of the whole output was written that comes before; where a read failed, nothing.
 
+use crate::crews::FEW;
 use crate::running::{Run, assert_same, run_over, source_of};
 use crate::short::Short;
 use chorus_show::Status;
@@ -76,6 +77,11 @@ fn each_write_of_a_load_fails(rt: HostRuntime) {
     assert_each_write_fails(&rt, rt.alloc(), &["load", "7", "100"], LOADED);
 }
 
+#[test]
+fn each_write_of_a_crew_fails(rt: HostRuntime) {
+    assert_each_write_fails(&rt, rt.alloc(), &["crew", "42", "100"], FEW);
+}
+
 /// Asserts that the words write the whole where the read of this number fails.
 fn assert_writes_all(
     rt: &(impl Abort + Threads + Wait + Sync),
@@ -106,6 +112,7 @@ fn each_read_of_a_replay_fails(rt: HostRuntime) {
 }
 
 #[test]
-fn a_load_reads_nothing(rt: HostRuntime) {
+fn a_load_and_a_crew_read_nothing(rt: HostRuntime) {
     assert_writes_all(&rt, rt.alloc(), &["load", "7", "100"], 1, LOADED);
+    assert_writes_all(&rt, rt.alloc(), &["crew", "42", "100"], 1, FEW);
 }

@@ -6,8 +6,6 @@ mod audits;
 #[cfg(test)]
 mod crews;
 #[cfg(test)]
-mod endings;
-#[cfg(test)]
 mod faults;
 #[cfg(test)]
 mod replays;

@@ -40,7 +40,7 @@ pub(crate) fn source_of(
 }
 
 /// An empty sink that takes so many bytes at a write. `failing` lists the writes that fail.
-pub(crate) fn sink_of(
+fn sink_of(
     rt: &(impl Abort + Threads + Wait + Sync),
     alloc: Global,
     most: usize,
@@ -52,7 +52,7 @@ pub(crate) fn sink_of(
 }
 
 /// What the sink holds.
-pub(crate) fn text_in(
+fn text_in(
     rt: &(impl Abort + Threads + Wait + Sync),
     alloc: Global,
     sink: &MemSink,

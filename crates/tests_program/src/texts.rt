@@ -1,8 +1,5 @@
 //! Scenarios that are no worked rows, and what the program prints for them, worked out by hand.
 
-/// No command.
-pub(crate) const NOTHING: &str = "chorus 1\nsites 1\nscript 1.a.1\nschedule\nend\n";
-
 /// A port of site 16 is sent to from site 1, and moves to site 1.
 pub(crate) const ON_SIXTEEN_SITES: &str = "\
 chorus 2

@@ -125,7 +125,7 @@ fn assert_ends(
 }
 
 fn assert_no_words(rt: &(impl Abort + Threads + Wait + Sync), alloc: Global) {
-    let refused: [&[&str]; 12] = [
+    let refused: [&[&str]; 14] = [
         &[],
         &["load", "7"],
         &["load", "07", "1"],
@@ -133,6 +133,8 @@ fn assert_no_words(rt: &(impl Abort + Threads + Wait + Sync), alloc: Global) {
         &["replay", "x"],
         &["lossy"],
         &["lossy", "7", "1"],
+        &["crew", "7", "65537"],
+        &["crew", "7", "1", "1"],
         &["picture", "16"],
         &["--help"],
         &["run", "3"],
