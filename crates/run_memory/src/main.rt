@@ -2,9 +2,9 @@
 //!
 //! Standard input has cases, each ended by `%`: a line of words, and behind it what they read. Each is done by [`start_program`] between a
 //! source that holds that and a sink that takes one byte at a write. When the call has ended there come the line of [`ended`], the exit
-//! status, how many bytes the sink holds, and these bytes; where the line begins with `digest` and all was done, only the digest of them. So
-//! one stored run has the words that run threads, words that are none, and two hundred drawn races, beside an explorer that was written anew
-//! from the rules and has no reduction (`scripts/explorer`).
+//! status, how many bytes the sink holds, and these bytes; where the line begins with `digest` and all was done, only the digest of
+//! them. So one stored run has words that run threads, words that are none, and two hundred drawn races, beside an explorer that was
+//! written anew from the rules and has no reduction (`scripts/explorer`).
 //!
 //! Where there was no memory before a call, or what it left could not be printed, the exit status is another one, so that neither is taken
 //! for an end of the call. Behind a call nothing takes memory before the next case. `bench/fail_allocations --in-memory` gives one case,
