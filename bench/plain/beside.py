@@ -15,9 +15,9 @@ program's rate over the other's. The load of the machine is printed at the begin
 With --figures they print lines `NAME: FIGURE UNIT`, of which a unit `../s` is a rate, where the most is best; else the least is. Each line
 of the first program is printed beside the other's line of that name. What they print need not be the same else.
 
-For example, with bench_checker and chorus built, and checker and load compiled as their heads say:
+For example, with bench_parts and chorus built, and checker and load compiled as their heads say:
 
-    bench/plain/beside.py --rates -- crates/bench_checker/out/bench_checker time -- ./checker time
+    bench/plain/beside.py --rates -- crates/bench_parts/out/bench_parts checker -- ./checker time
     ./checker report > report
     bench/plain/beside.py --input report -- crates/chorus/out/chorus audit 8 1 -- ./checker audit 8 1
     bench/plain/beside.py -- crates/chorus/out/chorus load 7 65536 -- ./load 7 65536

@@ -1,10 +1,10 @@
-//! A plain Rust program with 32 queues that a receiver looks at in order, for a measure of `crates/bench_choose`
+//! A plain Rust program with 32 queues that a receiver looks at in order, for a measure of `crates/bench_nucleus`
 //! (docs/inside/BENCHMARKS.md, "chorus_choose"). A receive takes the one lock round all queues and looks at each; a
 //! condition variable is there to wait for a message where there is none. A take has the lock of its queue alone.
 //!
 //!     rustc --edition 2024 -O -C target-cpu=x86-64 -o choose choose.rs
 //!     ./choose          a message is sent from one thread to another, and waited for
-//!     ./choose time     nanoseconds of a look at 32 empty queues and of a message there and back, as `bench_choose time` prints them
+//!     ./choose time     nanoseconds of a look at 32 empty queues, as `bench_nucleus choose` prints them
 
 use std::collections::VecDeque;
 use std::hint::black_box;
@@ -16,7 +16,7 @@ const QUEUES: usize = 32;
 
 const MANY: u32 = 2_000;
 
-const TRIES: u32 = 7;
+const TRIES: u32 = 5;
 
 type Queue = VecDeque<[u8; 16]>;
 
@@ -66,27 +66,6 @@ fn mean(mut look: impl FnMut()) -> f64 {
     began.elapsed().as_secs_f64() / f64::from(MANY) * 1_000_000_000.0
 }
 
-/// Nanoseconds of a message there and one back, between two threads that wait for each other.
-fn hand_over(count: u32) -> f64 {
-    let (first, second) = (Chooser::start(1), Chooser::start(1));
-    let began = Instant::now();
-    thread::scope(|scope| {
-        scope.spawn(|| {
-            for _ in 0..count {
-                first.send(0, [7; 16]);
-                second.wait_receive();
-            }
-        });
-        scope.spawn(|| {
-            for _ in 0..count {
-                first.wait_receive();
-                second.send(0, [7; 16]);
-            }
-        });
-    });
-    began.elapsed().as_secs_f64() / f64::from(count) * 1_000_000_000.0
-}
-
 fn main() {
     let chooser = Chooser::start(QUEUES);
     if std::env::args().nth(1).as_deref() != Some("time") {
@@ -109,8 +88,6 @@ fn main() {
             }
         }));
     }
-    let back = (0..TRIES).map(|_| hand_over(MANY)).fold(f64::INFINITY, f64::min);
     println!("a receive on any of 32 empty ports: {receive:.0} ns");
     println!("a take at each of 32 empty ports: {takes:.0} ns");
-    println!("there and back between two threads: {back:.0} ns");
 }

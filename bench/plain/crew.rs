@@ -1,10 +1,10 @@
-//! A plain Rust program in which workers handle the messages of 64 queues, for a measure of `crates/bench_crew`
+//! A plain Rust program in which workers handle the messages of 64 queues, for a measure of `crates/bench_nucleus`
 //! (docs/inside/BENCHMARKS.md, "chorus_crew"). The jobs, one for each queue, stand in a deque behind a lock; a worker takes one
 //! and handles its queue's messages one after another, each taken under the queue's lock. The handler spins on the clock.
 //!
 //!     rustc --edition 2024 -O -C target-cpu=x86-64 -o crew crew.rs
 //!     ./crew          crews of each size handle a few messages
-//!     ./crew time     messages handled a second, as `bench_crew time` prints them
+//!     ./crew time     messages handled a second, as `bench_nucleus crew` prints them
 
 use std::collections::VecDeque;
 use std::sync::Mutex;
@@ -12,7 +12,7 @@ use std::sync::atomic::{AtomicU64, Ordering};
 use std::thread;
 use std::time::{Duration, Instant};
 
-const TRIES: u32 = 3;
+const TRIES: u32 = 5;
 
 type Queue = Mutex<VecDeque<[u8; 16]>>;
 

@@ -1,73 +1,151 @@
-//! What calls of a nucleus cost.
+//! What calls of a nucleus cost, a receive on any of 32 ports, and a crew.
 //!
-//! With no words it does a little of each work at two sites and prints how many entries came of it, which never varies. With the word
-//! `time` it prints nanoseconds: of a round of each work, the best mean of some tries, beside the same at sites on one thread; of a
-//! call that finds its place held; and of a call of one thread and of four, each at a site of its own.
+//! With no words it does a little of each and prints how many entries came of it, which never varies. With a word it prints figures, each
+//! the best of some tries, in which what is compared takes turns: with `nucleus` nanoseconds of a send and a take and of an idle pump,
+//! beside a send and a take on four threads and at sites on one thread; with `choose` nanoseconds of a look at 32 empty ports; and with
+//! `crew` messages that crews of 1, 2 and 4 workers handle a second.
 #![tactic(auto)]
 
-mod busy;
-mod held;
-mod paired;
+mod choosing;
+mod crews;
+mod ground;
 mod rounds;
+mod sites;
+mod spinning;
 mod threads;
-mod two;
 mod work;
 
-use std::alloc::{AllocError, Global};
+use std::alloc::Global;
 use std::sync::Wait;
 use std::thread::Threads;
-use std::time::Clock;
+use std::time::{Clock, Duration};
 use std::{env, io};
-use threads::Callers;
-use two::{bests, entries_of};
 use work::Work;
 
-// Rounds of each work.
 const FEW: u32 = 20;
 
+const ROUNDS: u32 = 100_000;
+
+const LOOKS: u32 = 2_000;
+
+// Messages in each of the ports of a crew.
+const MESSAGES: u32 = 64;
+
+const PORTS: u32 = 64;
+
+const TRIES: u32 = 5;
+
 fn main(rt: HostRuntime) -> io::Result<()> {
-    let timed = env::args(&rt)?
-        .nth(1)
-        .is_some_and(|word| word.as_str() == "time");
-    if timed {
-        print_works(&rt, rt.alloc())?;
-        print_busy(&rt, rt.alloc())?;
-        return print_threads(&rt, rt.alloc());
+    match env::args(&rt)?.nth(1) {
+        Some(word) => print_figures(&rt, rt.alloc(), word.as_str()),
+        None => print_few(&rt, rt.alloc()),
     }
-    for work in Work::all() {
-        let entries = entries_of(&rt, rt.alloc(), work, FEW).ok_or(AllocError)?;
+}
+
+fn print_figures<R: Threads + Sync + Wait + Clock + Print>(
+    rt: &R,
+    alloc: Global,
+    word: &str,
+) -> io::Result<()> {
+    match word {
+        "nucleus" => print_calls(rt, alloc),
+        "choose" => print_looks(rt, alloc),
+        "crew" => print_crews(rt, alloc),
+        _ => println!(rt; "the words are nucleus, choose and crew"),
+    }
+}
+
+fn print_few<R: Threads + Sync + Wait + Clock + Print>(rt: &R, alloc: Global) -> io::Result<()> {
+    let crew = Work::Crew {
+        workers: 2,
+        microseconds: 1,
+    };
+    for work in [
+        Work::Takes,
+        Work::Pumps,
+        Work::Threads,
+        Work::Receives,
+        Work::Looks,
+        crew,
+    ] {
+        let (entries, _) = work.run(rt, alloc, FEW)?;
         println!(rt; "{work}: {entries} entries")?;
-    }
-    for callers in [Callers::One, Callers::Four] {
-        let (entries, _) = callers.run(&rt, rt.alloc(), FEW)?;
-        println!(rt; "{callers}: {entries} entries")?;
     }
     Ok(())
 }
 
-fn print_works<R: Wait + Clock + Print>(rt: &R, alloc: Global) -> io::Result<()> {
-    for best in bests(rt, alloc)? {
-        let (work, nucleus, sites) = (best.work, best.nucleus, best.sites);
-        if sites.is_finite() {
-            let ratio = nucleus / sites;
-            println!(rt; "{work}: {nucleus:.0} ns, at sites {sites:.0} ns, ratio {ratio:.2}")?;
-        } else {
-            println!(rt; "{work}: {nucleus:.0} ns")?;
+/// Nanoseconds of one of so many.
+fn each(time: Duration, count: u32) -> f64 {
+    time.as_secs_f64() / f64::from(count) * 1_000_000_000.0
+}
+
+/// Nanoseconds of the work, done so often.
+fn mean<R: Threads + Sync + Wait + Clock>(
+    rt: &R,
+    alloc: Global,
+    work: Work,
+    count: u32,
+) -> io::Result<f64> {
+    let (_, time) = work.run(rt, alloc, count)?;
+    Ok(each(time, count))
+}
+
+fn print_calls<R: Threads + Sync + Wait + Clock + Print>(rt: &R, alloc: Global) -> io::Result<()> {
+    let mut takes = f64::INFINITY;
+    let mut sites = f64::INFINITY;
+    let mut four = f64::INFINITY;
+    let mut pump = f64::INFINITY;
+    for _ in 0..TRIES {
+        takes = takes.min(mean(rt, alloc, Work::Takes, ROUNDS)?);
+        sites = sites.min(each(sites::time(rt, alloc, ROUNDS)?, ROUNDS));
+        four = four.min(mean(rt, alloc, Work::Threads, ROUNDS)? / 4.0);
+        pump = pump.min(mean(rt, alloc, Work::Pumps, ROUNDS)?);
+    }
+    let (dearer, more) = (takes / sites, takes / four);
+    println!(rt;
+        "{}: {takes:.0} ns, at sites {sites:.0} ns, ratio {dearer:.2}",
+        Work::Takes
+    )?;
+    println!(rt; "{}: {four:.0} ns, ratio {more:.2}", Work::Threads)?;
+    println!(rt; "{}: {pump:.0} ns", Work::Pumps)
+}
+
+fn print_looks<R: Threads + Sync + Wait + Clock + Print>(rt: &R, alloc: Global) -> io::Result<()> {
+    let mut receive = f64::INFINITY;
+    let mut takes = f64::INFINITY;
+    for _ in 0..TRIES {
+        receive = receive.min(mean(rt, alloc, Work::Receives, LOOKS)?);
+        takes = takes.min(mean(rt, alloc, Work::Looks, LOOKS)?);
+    }
+    println!(rt; "{}: {receive:.0} ns", Work::Receives)?;
+    println!(rt; "{}: {takes:.0} ns", Work::Looks)
+}
+
+fn print_crews<R: Threads + Sync + Wait + Clock + Print>(rt: &R, alloc: Global) -> io::Result<()> {
+    for microseconds in [1, 10, 100] {
+        for workers in [1, 2, 4] {
+            print_crew(
+                rt,
+                alloc,
+                Work::Crew {
+                    workers,
+                    microseconds,
+                },
+            )?;
         }
     }
     Ok(())
 }
 
-fn print_busy<R: Threads + Sync + Wait + Clock + Print>(rt: &R, alloc: Global) -> io::Result<()> {
-    let (count, nanoseconds) = busy::time(rt, alloc)?;
-    println!(rt; "busy: {nanoseconds:.0} ns, the mean of {count}")
-}
-
-fn print_threads<R: Threads + Sync + Wait + Clock + Print>(
+fn print_crew<R: Threads + Sync + Wait + Clock + Print>(
     rt: &R,
     alloc: Global,
+    crew: Work,
 ) -> io::Result<()> {
-    let (one, four) = threads::bests(rt, alloc)?;
-    let ratio = one / four;
-    println!(rt; "one thread: {one:.0} ns a round, four threads: {four:.0} ns, ratio {ratio:.2}")
+    let mut best: f64 = 0.0;
+    for _ in 0..TRIES {
+        let (_, time) = crew.run(rt, alloc, MESSAGES)?;
+        best = best.max(f64::from(PORTS * MESSAGES) / time.as_secs_f64());
+    }
+    println!(rt; "{crew}: {best:.0} messages/s")
 }

@@ -1,52 +1,39 @@
-//! Rounds of work, and how long one takes.
+//! Rounds of one caller.
 
-use crate::work::Work;
-use std::alloc::AllocError;
-use std::io;
+ghost use Rattle.chorus_nucleus.specs.Passes.{IsPassOf};
+
+use crate::ground::{send, take};
+use chorus_nucleus::{Nucleus, Pass};
+use chorus_ui::Ui;
 use std::sync::Wait;
-use std::time::{Clock, Instant};
 
-/// How many rounds are timed together.
-const ROUNDS: u32 = 5_000;
-
-/// Callers of two sites. The rounds are written over this, so that they know of them no more than they ask.
-pub(crate) trait Callers {
-    // They may go on.
-    ghost ready: { Self → Type 0 };
-
-    /// Does the work once. None where it is refused, or where they cannot do it.
-    fn round<R: Wait>(&mut self, rt: &R, work: Work) -> Option<()>
-        requires { ready self.old }
-        ensures { ready self.new };
-}
-
-/// Does the work so often.
-pub(crate) fn rounds<R: Wait, C: Callers>(
-    rt: &R,
-    callers: &mut C,
-    work: Work,
-    count: u32,
-) -> Option<()>
-    requires { C.ready callers.old }
-    ensures { C.ready callers.new }
+/// Sends to the port and takes there, so often.
+pub(crate) fn send_and_take(nucleus: &Nucleus, pass: &mut Pass, port: Ui, count: u32) -> Option<()>
+    requires { IsPassOf nucleus.now pass.old }
+    ensures { IsPassOf nucleus.now pass.new }
 {
     for _ in 0..count {
-        callers.round(rt, work)?;
+        send(nucleus, pass, port)?;
+        take(nucleus, pass, port)?;
     }
     Some(())
 }
 
-/// Nanoseconds of a round, the mean of some.
-pub(crate) fn mean<R: Wait + Clock, C: Callers>(
+/// Serves place 1, so often.
+pub(crate) fn pump_often<R: Wait>(
     rt: &R,
-    callers: &mut C,
-    work: Work,
-) -> io::Result<f64>
-    requires { C.ready callers.old }
-    ensures { C.ready callers.new }
+    nucleus: &Nucleus,
+    pass: &mut Pass,
+    count: u32,
+) -> Option<()>
+    requires { IsPassOf nucleus.now pass.old }
+    ensures { IsPassOf nucleus.now pass.new }
 {
-    let start = Instant::now(rt)?;
-    rounds(rt, callers, work, ROUNDS).ok_or(AllocError)?;
-    let seconds = start.elapsed(rt)?.as_secs_f64();
-    Ok(seconds / f64::from(ROUNDS) * 1_000_000_000.0)
+    if !nucleus.layout().has_place(1) {
+        return None;
+    }
+    for _ in 0..count {
+        nucleus.pump(rt, pass, 1).ok()?;
+    }
+    Some(())
 }
