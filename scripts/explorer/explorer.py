@@ -73,6 +73,7 @@ class Net:
         self.links = {}
         self.callers = [Caller(0, (1, 'a', 1))]
         self.verdicts = {}
+        self.stale = frozenset()    # the messages that came to a place which their port had left
         self.copies = {}
     def copy(self):
         n = Net.__new__(Net)
@@ -81,11 +82,12 @@ class Net:
         n.links = {k: list(v) for k, v in self.links.items() if v}
         n.callers = [c.copy() for c in self.callers]
         n.verdicts = dict(self.verdicts)
+        n.stale = self.stale
         n.copies = dict(self.copies)
         return n
     def key(self):
         return (tuple(self.places[p].key() for p in sorted(self.places)), tuple(sorted((k, tuple(v)) for k, v in self.links.items() if v)),
-                tuple(c.key() for c in self.callers), tuple(sorted(self.verdicts.items())), tuple(sorted(self.copies.items())))
+                tuple(c.key() for c in self.callers), tuple(sorted(self.verdicts.items())), self.stale, tuple(sorted(self.copies.items())))
 
     # messages: (id, tag, body, only, route, home)
     def put(self, a, b, cargo):
@@ -347,7 +349,9 @@ class Net:
         if w == 'try':
             _, m, q, route, hop = cargo
             answer = self.decide(b, m, q, hop)
-            if answer[0] != 'stale':
+            if answer[0] == 'stale':
+                self.stale |= {m[0]}
+            else:
                 self.verdicts[m[0]] = plain(answer)
             self.put(b, a, ('verdict', m[0], q, route, answer))
         elif w == 'verdict':
@@ -403,6 +407,8 @@ def facts(n, told):
                 for x in (a[1],) + n.copies.get(a[1], ()):
                     v = n.verdicts.get(x)
                     lines.append(f"verdict {show_id(x)} " + (' '.join(map(str, v)) if v else 'chosen'))
+                    if x in n.stale:
+                        lines.append(f"stale {show_id(x)}")
     for p in sorted(n.places):
         for q in n.places[p].made:
             for r in sorted(n.places):

@@ -61,7 +61,7 @@ class Search:
 
 
 def subject(fact):
-    return fact.split(' ')[:3 if fact.startswith('answer') else 2]
+    return fact.split(' ')[1:3 if fact.startswith('answer') else 2]
 
 
 def single_facts(outcomes):

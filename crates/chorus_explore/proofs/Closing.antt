@@ -12,7 +12,7 @@ use Rattle.chorus_net.specs.Closing.{IsLeft}
 use Rattle.law_machine.specs.PlaceState.{PlaceState}
 use Rattle.law_network.specs.declared.placed.Placed.{Placed}
 use Rattle.law_network.specs.Left.{journals, placed, placed_in}
-use Rattle.law_explore.specs.Outcome.{answer_facts, verdict_facts, port_facts, outcome_with, posts_in}
+use Rattle.law_explore.specs.Outcome.{answer_facts, message_facts, port_facts, outcome_with, posts_in}
 use Rattle.chorus_scene.specs.Scene.{Scene}
 use Rattle.chorus_net.specs.Sites.{net}
 use Rattle.chorus_explore.specs.declared.stage.Progress.{Progress}
@@ -21,14 +21,14 @@ use Rattle.explore_facts.specs.Facts.{fact_line, outcome_lines}
 use Rattle.explore_facts.specs.Outcomes.{message_lines, made_lines}
 use Rattle.chorus_explore.specs.Stages.{IsReached, comes, moves_of, position, posted_lines}
 use Rattle.chorus_explore.proofs.Staging.{answers-are, posts-are}
-use Rattle.explore_facts.proofs.Telling.{flat-flat, journals_at, port-lines, verdict-lines}
+use Rattle.explore_facts.proofs.Telling.{flat-flat, journals_at, port-lines, told-lines}
 
 lines-are : (told : List (List acts.Act)) (ps : List PlaceState) → outcome_lines (outcome_with told ps)
     ≡ flat_map fact_line (answer_facts 1 told) ++ flat_map (message_lines (journals_at ps)) (posts_in told) ++ flat_map (made_lines (placed_in ps)) (journals_at ps)
 lines-are told ps =
-    flat_map-append fact_line (answer_facts 1 told ++ verdict_facts told ps) (port_facts ps)
+    flat_map-append fact_line (answer_facts 1 told ++ message_facts told ps) (port_facts ps)
     ∙ ap₂ (λ xs ys. xs ++ ys)
-    (flat_map-append fact_line (answer_facts 1 told) (verdict_facts told ps) ∙ ap (λ ys. flat_map fact_line (answer_facts 1 told) ++ ys) (verdict-lines ps (posts_in told)))
+    (flat_map-append fact_line (answer_facts 1 told) (message_facts told ps) ∙ ap (λ ys. flat_map fact_line (answer_facts 1 told) ++ ys) (told-lines ps (posts_in told)))
     (port-lines ps)
 
 pub outcome-told : (c : Scene) (s : Stage) (js : List (List Entry)) (ps : List Placed) → IsReached c s → js ≡ journals (net s.sites) → ps ≡ placed (net s.sites)

@@ -1,6 +1,6 @@
 -- What is told of an end are the lines of its outcome.
 -- ps are places, x is an id, q the name of a port, js are journals with the oldest entry first, xs, ys are lists.
-use Rattle.std.proofs.Common.{ℕ, ◌≡◌, Bool, true, false, cond, List, [], ◌∷◌, ◌++◌, map, reverse, Option, Some, None, refl, sym, ◌∙◌, ap, ap₂, codes}
+use Rattle.std.proofs.Common.{ℕ, ◌≡◌, Bool, true, false, ◌||◌, cond, List, [], ◌∷◌, ◌++◌, map, reverse, Option, Some, None, refl, sym, ◌∙◌, ap, ap₂, codes}
 use Rattle.std.specs.List.{cons_option, flat_map, filter_map}
 use Rattle.std.specs.Option.{option_map, option_or}
 use Rattle.std.proofs.lemmas.List.{append-nil, reverse-append, reverse-reverse}
@@ -20,9 +20,9 @@ use Rattle.chorus_world.specs.declared.place.Sent.{Sent}
 use Rattle.law_machine.specs.PlaceState.{PlaceState}
 use Rattle.law_network.specs.declared.placed.Placed.{Placed}
 use Rattle.law_network.specs.Left.{placed_at, placed_in}
-use Rattle.law_explore.specs.Outcome.{Fact, Judged, plain_answer, verdict_in, copies_in, verdict_fact, made_in, made_by, made_at, held_in, port_fact}
+use Rattle.law_explore.specs.Outcome.{Fact, Judged, plain_answer, verdict_in, copies_in, verdict_fact, is_stale_at, is_stale_in, stale_facts, facts_about, made_in, made_by, made_at, held_in, port_fact}
 use Rattle.explore_facts.specs.Facts.{plain_answer_text, verdict_text, fact_line}
-use Rattle.explore_facts.specs.Outcomes.{verdict_among, judged_line, sent_lines, chosen_lines, message_lines, held_among, held_line, made_lines}
+use Rattle.explore_facts.specs.Outcomes.{verdict_among, is_stale_among, stale_line, lines_about, sent_lines, chosen_lines, message_lines, held_among, held_line, made_lines}
 
 -- Lists in lists.
 
@@ -45,7 +45,7 @@ flat-last f xs x = flat_map-append f xs (x ∷ []) ∙ ap (λ ys. flat_map f xs 
 abbrev pub journals_at : List PlaceState → List (List Entry)
 journals_at ps = map (λ (s : PlaceState). reverse s.journal) ps
 
--- Verdicts.
+-- Messages.
 
 verdicts-are : (x : MsgId) (ps : List PlaceState) → verdict_in x ps ≡ verdict_among x (journals_at ps)
 verdicts-are x [] = refl
@@ -61,32 +61,44 @@ same-verdict : (o : Option Answer) → verdict_text (option_map plain_answer o) 
 same-verdict None = refl
 same-verdict (Some a) = same-plain a
 
-judged : (ps : List PlaceState) (x : MsgId) → fact_line (verdict_fact ps x) ≡ judged_line (journals_at ps) x
+judged : (ps : List PlaceState) (x : MsgId) → fact_line (verdict_fact ps x) ≡ fact_line (Judged x (verdict_among x (journals_at ps)))
 judged ps x =
     ap (λ t. phrase (codes "verdict") (id_text x ∷ t ∷ []) ++ 10 ∷ []) (same-verdict (verdict_in x ps))
     ∙ ap (λ o. fact_line (Judged x o)) (verdicts-are x ps)
 
+stales-are : (x : MsgId) (ps : List PlaceState) → is_stale_in x ps ≡ is_stale_among x (journals_at ps)
+stales-are x [] = refl
+stales-are x (s ∷ ps) = ap₂ (λ (j : List Entry) b. is_stale_at x j || b) (sym (reverse-reverse s.journal)) (stales-are x ps)
+
+stale-lines : (x : MsgId) (b : Bool) → flat_map fact_line (stale_facts x b) ≡ stale_line x b
+stale-lines x false = refl
+stale-lines x true = append-nil (stale_line x true)
+
+about : (ps : List PlaceState) (x : MsgId) → flat_map fact_line (facts_about ps x) ≡ lines_about (journals_at ps) x
+about ps x =
+    ap₂ (λ a b. a ++ b) (judged ps x) (stale-lines x (is_stale_in x ps) ∙ ap (stale_line x) (stales-are x ps))
+
 -- the copies that a journal makes
-copies-lines : (js : List (List Entry)) (x : MsgId) (journal : List Entry) → flat_map (λ (m : Sent). judged_line js m.id) (copies_of x journal) ≡ chosen_lines x js (reverse journal)
+copies-lines : (js : List (List Entry)) (x : MsgId) (journal : List Entry) → flat_map (λ (m : Sent). lines_about js m.id) (copies_of x journal) ≡ chosen_lines x js (reverse journal)
 copies-lines js x [] = refl
 copies-lines js x (e ∷ past) =
-    flat_map-append (λ (m : Sent). judged_line js m.id) (copies_of x past) (copies_by x e.act)
+    flat_map-append (λ (m : Sent). lines_about js m.id) (copies_of x past) (copies_by x e.act)
     ∙ ap (λ ys. ys ++ sent_lines js (copies_by x e.act)) (copies-lines js x past)
     ∙ sym (ap (chosen_lines x js) (reverse-append (e ∷ []) past) ∙ flat-last (λ (f : Entry). sent_lines js (copies_by x f.act)) (reverse past) e)
 
-all-copies : (js : List (List Entry)) (x : MsgId) (ps : List PlaceState) → flat_map (judged_line js) (copies_in x ps) ≡ flat_map (chosen_lines x js) (journals_at ps)
+all-copies : (js : List (List Entry)) (x : MsgId) (ps : List PlaceState) → flat_map (lines_about js) (copies_in x ps) ≡ flat_map (chosen_lines x js) (journals_at ps)
 all-copies js x [] = refl
 all-copies js x (s ∷ ps) =
-    flat_map-append (judged_line js) (map (λ (m : Sent). m.id) (copies_of x s.journal)) (copies_in x ps)
-    ∙ ap₂ (λ a b. a ++ b) (flat-map (judged_line js) (λ (m : Sent). m.id) (copies_of x s.journal) ∙ copies-lines js x s.journal) (all-copies js x ps)
+    flat_map-append (lines_about js) (map (λ (m : Sent). m.id) (copies_of x s.journal)) (copies_in x ps)
+    ∙ ap₂ (λ a b. a ++ b) (flat-map (lines_about js) (λ (m : Sent). m.id) (copies_of x s.journal) ∙ copies-lines js x s.journal) (all-copies js x ps)
 
-pub verdict-lines : (ps : List PlaceState) (ids : List MsgId) → flat_map fact_line (map (verdict_fact ps) (flat_map (λ (x : MsgId). x ∷ copies_in x ps) ids)) ≡ flat_map (message_lines (journals_at ps)) ids
-verdict-lines ps ids =
+pub told-lines : (ps : List PlaceState) (ids : List MsgId) → flat_map fact_line (flat_map (facts_about ps) (flat_map (λ (x : MsgId). x ∷ copies_in x ps) ids)) ≡ flat_map (message_lines (journals_at ps)) ids
+told-lines ps ids =
     let js = journals_at ps in
-    flat-map fact_line (verdict_fact ps) (flat_map (λ (x : MsgId). x ∷ copies_in x ps) ids)
-    ∙ flat-same (λ (x : MsgId). fact_line (verdict_fact ps x)) (judged_line js) (judged ps) (flat_map (λ (x : MsgId). x ∷ copies_in x ps) ids)
-    ∙ flat-flat (judged_line js) (λ (x : MsgId). x ∷ copies_in x ps) ids
-    ∙ flat-same (λ (x : MsgId). judged_line js x ++ flat_map (judged_line js) (copies_in x ps)) (message_lines js) (λ x. ap (λ zs. judged_line js x ++ zs) (all-copies js x ps)) ids
+    flat-flat fact_line (facts_about ps) (flat_map (λ (x : MsgId). x ∷ copies_in x ps) ids)
+    ∙ flat-same (λ (x : MsgId). flat_map fact_line (facts_about ps x)) (lines_about js) (about ps) (flat_map (λ (x : MsgId). x ∷ copies_in x ps) ids)
+    ∙ flat-flat (lines_about js) (λ (x : MsgId). x ∷ copies_in x ps) ids
+    ∙ flat-same (λ (x : MsgId). lines_about js x ++ flat_map (lines_about js) (copies_in x ps)) (message_lines js) (λ x. ap (λ zs. lines_about js x ++ zs) (all-copies js x ps)) ids
 
 -- Ports.
 

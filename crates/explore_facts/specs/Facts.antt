@@ -11,7 +11,7 @@ use Rattle.chorus_entry.specs.declared.id.MsgId.{MsgId}
 use Rattle.chorus_entry.specs.declared.message.Message.{Message}
 use Rattle.chorus_show.specs.Lines.{act_text, answer_text}
 use Rattle.chorus_show.specs.Phrases.{phrase, id_text}
-use Rattle.law_explore.specs.Outcome.{Fact, Answered, Judged, Held, Outcome}
+use Rattle.law_explore.specs.Outcome.{Fact, Answered, Judged, Stale, Held, Outcome}
 
 -- an act without the numbers that only tell when
 abbrev pub plain_act_text : Act → List ℕ
@@ -34,6 +34,7 @@ verdict_text (Some answer) = plain_answer_text answer
 abbrev pub fact_line : Fact → List ℕ
 fact_line (Answered k i act) = phrase (codes "answer") (decimal k ∷ decimal i ∷ plain_act_text act ∷ []) ++ 10 ∷ []
 fact_line (Judged x verdict) = phrase (codes "verdict") (id_text x ∷ verdict_text verdict ∷ []) ++ 10 ∷ []
+fact_line (Stale x) = phrase (codes "stale") (id_text x ∷ []) ++ 10 ∷ []
 fact_line (Held q actor waiting) =
     phrase (codes "port") (name_text q ∷ name_text actor ∷ map id_text waiting) ++ 10 ∷ []
 

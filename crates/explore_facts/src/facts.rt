@@ -1,10 +1,10 @@
 //! The lines of facts.
 
-ghost use Rattle.std.specs.Prelude.{◌≡◌, ◌∷◌, [], ◌++◌, ℕ, OnOk, map, codes, decimal};
+ghost use Rattle.std.specs.Prelude.{◌≡◌, ◌∷◌, ◌++◌, OnOk, map, codes, decimal};
 ghost use Rattle.chorus_ui.specs.Text.{name_text};
 ghost use Rattle.chorus_show.specs.Phrases.{spaced, id_text};
-ghost use Rattle.law_explore.specs.Outcome.{Answered, Judged, Held, port_fact};
-ghost use Rattle.explore_facts.specs.Facts.{waiting_in, plain_act_text, plain_answer_text, fact_line, verdict_text};
+ghost use Rattle.law_explore.specs.Outcome.{Answered, Judged, Stale, port_fact};
+ghost use Rattle.explore_facts.specs.Facts.{waiting_in, plain_act_text, plain_answer_text, fact_line};
 
 use chorus_entry::{Act, Answer, MsgId, PortRecord};
 use chorus_show::{push_act, push_answer, push_id};
@@ -105,6 +105,16 @@ pub(crate) fn push_judged(
         None => out.extend_from_slice(b"chosen")?,
         Some(answer) => push_plain_answer(&answer, out)?,
     }
+    out.push(b'\n')?;
+    Ok(())
+}
+
+/// Appends the line that the message was told `stale`.
+pub(crate) fn push_stale(id: &MsgId, out: &mut Vec<u8>) -> Result<(), AllocError>
+    ensures { OnOk result (out.new.items ≡ out.old.items ++ fact_line (Stale id.now)) }
+{
+    out.extend_from_slice(b"stale")?;
+    push_message(id, out)?;
     out.push(b'\n')?;
     Ok(())
 }

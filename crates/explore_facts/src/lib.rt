@@ -1,5 +1,5 @@
-//! The lines of what a schedule came to: how each command was answered, which verdict each message and copy got, and
-//! what each port holds.
+//! The lines of what a schedule came to: how each command was answered, which verdict each message and copy got, which
+//! of them were told `stale`, and what each port holds.
 //!
 //! The layer above rests on this: told from the journals of all places and from the ports that are held, the lines are
 //! those of the facts of `law_explore`, without the numbers that only tell when.

@@ -8,17 +8,18 @@ ghost use Rattle.chorus_merge.specs.Steps.{journals_of};
 ghost use Rattle.chorus_world.specs.GroupLaws.{copies_by};
 ghost use Rattle.chorus_world.specs.Messages.{verdict, verdict_by};
 ghost use Rattle.chorus_world.specs.Places.{copies};
-ghost use Rattle.law_explore.specs.Outcome.{made_in};
-ghost use Rattle.explore_facts.specs.Outcomes.{chosen_lines, held_among, held_line, judged_line, made_lines, message_lines, sent_lines, verdict_among};
+ghost use Rattle.law_explore.specs.Outcome.{is_stale_at, is_stale_by, made_in};
+ghost use Rattle.explore_facts.specs.Outcomes.{chosen_lines, held_among, held_line, is_stale_among, lines_about, made_lines, message_lines, sent_lines, verdict_among};
 
-use crate::facts::{push_held, push_judged};
+use crate::facts::{push_held, push_judged, push_stale};
 use chorus_entry::{Act, Answer, Entry, MsgId};
 use chorus_ui::Ui;
 use law_network::Placed;
 use std::alloc::AllocError;
 
 /// Appends the lines of the messages, and behind each those of its copies: of each the verdict that these journals of
-/// all places tell. The only error is want of memory; the lines may then be cut off.
+/// all places tell, and that it was told `stale`, where they tell that. The only error is want of memory; the lines may
+/// then be cut off.
 pub fn push_messages(
     ids: &[MsgId],
     journals: &[Vec<Entry>],
@@ -38,19 +39,23 @@ fn push_message(id: MsgId, journals: &[Vec<Entry>], text: &mut Vec<u8>) -> Resul
     ensures { OnOk result (text.new.items
         ≡ text.old.items ++ message_lines (journals_of journals.now) id) }
 {
-    push_verdict(id, journals, text)?;
+    push_about(id, journals, text)?;
     for journal in journals {
         push_copies(id, journal, journals, text)?;
     }
     Ok(())
 }
 
-/// Appends the line of the message's verdict.
-fn push_verdict(id: MsgId, journals: &[Vec<Entry>], text: &mut Vec<u8>) -> Result<(), AllocError>
+/// Appends the lines of this message alone.
+fn push_about(id: MsgId, journals: &[Vec<Entry>], text: &mut Vec<u8>) -> Result<(), AllocError>
     ensures { OnOk result (text.new.items
-        ≡ text.old.items ++ judged_line (journals_of journals.now) id) }
+        ≡ text.old.items ++ lines_about (journals_of journals.now) id) }
 {
-    push_judged(&id, verdict_among(id, journals), text)
+    push_judged(&id, verdict_among(id, journals), text)?;
+    if is_stale_among(id, journals) {
+        push_stale(&id, text)?;
+    }
+    Ok(())
 }
 
 /// Appends the lines of the copies that the journal makes of the message.
@@ -113,7 +118,7 @@ fn push_each(
             number: id.number,
             copy: index as u16 + 1,
         };
-        push_verdict(copy, journals, text)?;
+        push_about(copy, journals, text)?;
     }
     Ok(())
 }
@@ -148,6 +153,39 @@ fn verdict_by(id: MsgId, act: &Act) -> Option<Answer>
         act.answer()
     } else {
         None
+    }
+}
+
+/// Whether the message was told `stale`.
+fn is_stale_among(id: MsgId, journals: &[Vec<Entry>]) -> bool
+    ensures { result ≡ is_stale_among id (journals_of journals.now) }
+{
+    for journal in journals {
+        if is_stale_at(id, journal) {
+            return true;
+        }
+    }
+    false
+}
+
+/// Whether the journal tells that the message was told `stale`.
+fn is_stale_at(id: MsgId, journal: &[Entry]) -> bool
+    ensures { result ≡ is_stale_at id (reverse journal.now) }
+{
+    let mut found = false;
+    for entry in journal {
+        found = found || is_stale_by(id, &entry.act);
+    }
+    found
+}
+
+/// Whether the act tells the message that it is stale.
+fn is_stale_by(id: MsgId, act: &Act) -> bool
+    ensures { result ≡ is_stale_by id act.now }
+{
+    match act {
+        Act::Stale { id: stale, .. } => *stale == id,
+        _ => false,
     }
 }
 

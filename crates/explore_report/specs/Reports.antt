@@ -31,17 +31,22 @@ same_bytes [] [] = true
 same_bytes (a ∷ xs) (b ∷ ys) = if a == b then same_bytes xs ys else false
 same_bytes _ _ = false
 
--- the words that name the subject of a line: its first words, so many
+-- what stands behind the first word and its space
+abbrev pub behind_word : List ℕ → List ℕ
+behind_word [] = []
+behind_word (b ∷ bs) = if b == 32 then bs else behind_word bs
+
+-- the first words, so many
 abbrev pub front_words : ℕ → List ℕ → List ℕ
 front_words words [] = []
 front_words words (b ∷ bs) =
     if b == 32 || b == 10 then (if nat_le words 1 then [] else b ∷ front_words (words - 1) bs)
     else b ∷ front_words words bs
 
--- of an answer the first three words, of a verdict or a port the first two
+-- what a line is about: of an answer the two words behind its first, of a message or a port the one
 abbrev pub subject_of : List ℕ → List ℕ
 subject_of [] = []
-subject_of (b ∷ bs) = front_words (if b == 97 then 3 else 2) (b ∷ bs)
+subject_of (b ∷ bs) = front_words (if b == 97 then 2 else 1) (behind_word (b ∷ bs))
 
 abbrev pub is_told : List ℕ → List Told → Bool
 is_told line [] = false

@@ -3,7 +3,7 @@
 ghost use Rattle.std.specs.Prelude.{◌≡◌, ◌≢◌, ◌≤◌, ◌++◌, true, false, length, map, IfOk, OnOk};
 ghost use Rattle.std.specs.List.{flat_map};
 ghost use Rattle.chorus_show.specs.Journal.{count_line};
-ghost use Rattle.explore_report.specs.Reports.{are_few, facts_of, facts_text, front_words, is_named, is_shown, is_told, limit_line, lines_in, outcomes_from, place_in, outcomes_text, report_text, same_bytes, schedule_text, schedules_from, step_line, subject_of, tell_line, tell_lines, told_of};
+ghost use Rattle.explore_report.specs.Reports.{are_few, behind_word, facts_of, facts_text, front_words, is_named, is_shown, is_told, limit_line, lines_in, outcomes_from, place_in, outcomes_text, report_text, same_bytes, schedule_text, schedules_from, step_line, subject_of, tell_line, tell_lines, told_of};
 
 use crate::explored::Explored;
 use crate::findings::Finding;
@@ -120,11 +120,24 @@ fn place_in(facts: &[Told<'_>], line: &[u8]) -> usize
     place
 }
 
-/// The words that name the subject: three of an answer, two of anything else.
+/// The words that the line is about: two of an answer, one of anything else, each behind the line's first word.
 fn subject_of(line: &[u8]) -> &[u8]
     ensures { result.now ≡ subject_of line.now }
 {
-    front_words(if line.first() == Some(&b'a') { 3 } else { 2 }, line)
+    let words = if line.first() == Some(&b'a') { 2 } else { 1 };
+    front_words(words, behind_word(line))
+}
+
+/// What stands behind the first word and its space.
+fn behind_word(line: &[u8]) -> &[u8]
+    ensures { result.now ≡ behind_word line.now }
+{
+    for index in 0..line.len() {
+        if line[index] == b' ' {
+            return &line[index + 1..];
+        }
+    }
+    &line[line.len()..]
 }
 
 /// The first words of the line, so many.

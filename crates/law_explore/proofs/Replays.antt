@@ -1,5 +1,5 @@
 -- The same moves come to the same, whoever delivers.
-use Rattle.std.proofs.Common.{ℕ, zero, suc, ◌≡◌, ◌≤◌, ◌==◌, Bool, true, false, cond, List, [], ◌∷◌, ◌++◌, length, map, Option, Some, None, is_some, slice_get, slice_set, inl, inr, refl, sym, ◌∙◌, ap, subst, arith}
+use Rattle.std.proofs.Common.{ℕ, zero, suc, ◌≡◌, ◌≤◌, ◌==◌, Bool, true, false, ◌||◌, cond, List, [], ◌∷◌, ◌++◌, length, map, Option, Some, None, is_some, slice_get, slice_set, inl, inr, refl, sym, ◌∙◌, ap, subst, arith}
 use Rattle.std.specs.List.{flat_map, filter_map}
 use Rattle.std.specs.Option.{option_map, option_or}
 use Rattle.std.proofs.lemmas.Bool.{false≢true, and_parts, and_from, cases_Bool, eqb-false}
@@ -24,7 +24,7 @@ use Rattle.law_explore.specs.Search.{state_after, IsHistory}
 use Rattle.law_explore.specs.declared.moves.Move.{Move}
 use Rattle.law_explore.specs.declared.moves.Move.TheVariants.{Go, Carry}
 use Rattle.law_explore.specs.Races.{Race, Position, next_of, are_linked, event_of, scripts_after, own_by, own_of, answers_after, position_after, is_ready_by, racing}
-use Rattle.law_explore.specs.Outcome.{answer_facts, plain_answer, Judged, port_fact, posts_in, verdict_in, copies_in, made_in, made_by, made_at, held_in, outcome_with}
+use Rattle.law_explore.specs.Outcome.{answer_facts, plain_answer, Judged, port_fact, posts_in, verdict_in, copies_in, is_stale_by, is_stale_at, is_stale_in, stale_facts, made_in, made_by, made_at, held_in, outcome_with}
 use Rattle.law_explore.specs.Laws.{RacesAlike, MovesComeToTheSame}
 use Rattle.law_explore.proofs.Alike.{keep_acts, owns-alike}
 use Rattle.law_explore.proofs.Nets.{nets-stay-alike, begins, some-too}
@@ -49,6 +49,15 @@ acts-copies x (e ∷ j) (f ∷ k) h =
     let same : e.act ≡ f.act = cc in
     let rest : ActAlike j k = cc in
     λ i. acts-copies x j k rest i ++ copies_by x (same i)
+
+acts-stale : (x : MsgId) (j k : List Entry) → ActAlike j k → is_stale_at x j ≡ is_stale_at x k
+acts-stale x [] [] h = refl
+acts-stale x [] (f ∷ k) h = absurd (cc)
+acts-stale x (e ∷ j) [] h = absurd (cc)
+acts-stale x (e ∷ j) (f ∷ k) h =
+    let same : e.act ≡ f.act = cc in
+    let rest : ActAlike j k = cc in
+    λ i. acts-stale x j k rest i || is_stale_by x (same i)
 
 acts-made : (j k : List Entry) → ActAlike j k → made_by j ≡ made_by k
 acts-made [] [] h = refl
@@ -75,6 +84,14 @@ places-copies x (s ∷ ss) (r ∷ rs) h =
     (λ i. map (λ (m : Sent). m.id) (acts-copies x s.journal (h.0).journal (h.0).journals i) ++ places-copies x ss rs h.1 i)
     ∙ ap (λ (z : PlaceState). map (λ (m : Sent). m.id) (copies_of x z.journal) ++ copies_in x rs) (sym (h.0).is)
 
+places-stale : (x : MsgId) (ss rs : List PlaceState) → PlacesAlike ActAlike ss rs → is_stale_in x ss ≡ is_stale_in x rs
+places-stale x [] [] h = refl
+places-stale x [] (r ∷ rs) h = absurd h
+places-stale x (s ∷ ss) [] h = absurd h
+places-stale x (s ∷ ss) (r ∷ rs) h =
+    (λ i. acts-stale x s.journal (h.0).journal (h.0).journals i || places-stale x ss rs h.1 i)
+    ∙ ap (λ (z : PlaceState). is_stale_at x z.journal || is_stale_in x rs) (sym (h.0).is)
+
 places-made : (ss rs : List PlaceState) → PlacesAlike ActAlike ss rs → made_at ss ≡ made_at rs
 places-made [] [] h = refl
 places-made [] (r ∷ rs) h = absurd h
@@ -94,7 +111,7 @@ places-held q (s ∷ ss) (r ∷ rs) h =
 pub outcomes : (told : List (List acts.Act)) (ss rs : List PlaceState) → PlacesAlike ActAlike ss rs → outcome_with told ss ≡ outcome_with told rs
 outcomes told ss rs h =
     λ i. answer_facts 1 told
-    ++ map (λ (x : MsgId). Judged x (option_map plain_answer (places-verdict x ss rs h i)))
+    ++ flat_map (λ (x : MsgId). Judged x (option_map plain_answer (places-verdict x ss rs h i)) ∷ stale_facts x (places-stale x ss rs h i))
     (flat_map (λ (x : MsgId). x ∷ places-copies x ss rs h i) (posts_in told))
     ++ filter_map (λ (q : Ui). option_map port_fact (places-held q ss rs h i)) (places-made ss rs h i)
 

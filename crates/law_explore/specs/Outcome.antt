@@ -1,6 +1,6 @@
 -- What comes of a race: facts of the end of a history, without the numbers that only tell when: clocks, positions and
 -- hops. k is the number of a script, i that of a command, both from 1; ps are places, x is an id, q a port.
-use Rattle.std.specs.Prelude.{ℕ, ◌+◌, List, [], ◌∷◌, ◌++◌, map, reverse, Option, Some, None}
+use Rattle.std.specs.Prelude.{ℕ, ◌+◌, Bool, false, ◌||◌, if◌then◌else◌, List, [], ◌∷◌, ◌++◌, map, reverse, Option, Some, None}
 use Rattle.std.specs.List.{flat_map, filter_map}
 use Rattle.std.specs.Option.{option_map, option_or}
 use Rattle.chorus_ui.specs.declared.ui.Ui.{Ui}
@@ -12,6 +12,7 @@ use Rattle.chorus_entry.specs.declared.entry.Entry.{Entry}
 use Rattle.chorus_entry.specs.declared.id.MsgId.{MsgId}
 use Rattle.chorus_entry.specs.declared.message.Message.{Message}
 use Rattle.chorus_entry.specs.declared.record.PortRecord.{PortRecord}
+use Rattle.chorus_entry.specs.MsgId.{same_id}
 use Rattle.chorus_world.specs.Messages.{verdict}
 use Rattle.chorus_world.specs.GroupLaws.{copies_of}
 use Rattle.chorus_world.specs.declared.place.Sent.{Sent}
@@ -28,11 +29,13 @@ pub data Fact : Type 0 where
   -- the message has this verdict; none where it is a post to a group for which members were chosen: its copies have
   -- theirs
   Judged : (message : MsgId) (verdict : Option Answer) → Fact
+  -- the message was told `stale` on its way: it came to a place that its port had left, and was tried again
+  Stale : (message : MsgId) → Fact
   -- the port is held by this actor, and these messages wait in it
   Held : (port actor : Ui) (waiting : List MsgId) → Fact
 
 -- of each script and each command how it was answered; of each message that these posted, and of its copies, the
--- verdict; and each port that is held, in the order in which each place made them
+-- verdict, and that it was told `stale` where it was; and each port that is held, in the order in which each place made them
 abbrev pub Outcome : Type 0
 Outcome = List Fact
 
@@ -79,8 +82,27 @@ copies_in x (s ∷ ss) = map (λ (m : Sent). m.id) (copies_of x s.journal) ++ co
 abbrev pub verdict_fact : List PlaceState → MsgId → Fact
 verdict_fact ps x = Judged x (option_map plain_answer (verdict_in x ps))
 
-abbrev pub verdict_facts : List (List acts.Act) → List PlaceState → List Fact
-verdict_facts told ps = map (verdict_fact ps) (flat_map (λ (x : MsgId). x ∷ copies_in x ps) (posts_in told))
+-- whether it was told `stale`, by any place
+abbrev pub is_stale_by : MsgId → acts.Act → Bool
+is_stale_by x (variants.Stale y q tried to hop) = same_id y x
+is_stale_by x act = false
+
+abbrev pub is_stale_at : MsgId → List Entry → Bool
+is_stale_at x [] = false
+is_stale_at x (e ∷ past) = is_stale_at x past || is_stale_by x e.act
+
+abbrev pub is_stale_in : MsgId → List PlaceState → Bool
+is_stale_in x [] = false
+is_stale_in x (s ∷ ss) = is_stale_at x s.journal || is_stale_in x ss
+
+abbrev pub stale_facts : MsgId → Bool → List Fact
+stale_facts x is_stale = if is_stale then Stale x ∷ [] else []
+
+abbrev pub facts_about : List PlaceState → MsgId → List Fact
+facts_about ps x = verdict_fact ps x ∷ stale_facts x (is_stale_in x ps)
+
+abbrev pub message_facts : List (List acts.Act) → List PlaceState → List Fact
+message_facts told ps = flat_map (facts_about ps) (flat_map (λ (x : MsgId). x ∷ copies_in x ps) (posts_in told))
 
 -- Ports: those that a place made, and those that are held anywhere.
 
@@ -108,7 +130,7 @@ port_facts ps = filter_map (λ (q : Ui). option_map port_fact (held_in q ps)) (m
 
 -- It looks at tables and acts alone, at no clock and no merge.
 abbrev pub outcome_with : List (List acts.Act) → List PlaceState → Outcome
-outcome_with told ps = answer_facts 1 told ++ verdict_facts told ps ++ port_facts ps
+outcome_with told ps = answer_facts 1 told ++ message_facts told ps ++ port_facts ps
 
 abbrev pub outcome_of : Position → Outcome
 outcome_of s = outcome_with s.told s.net.places

@@ -20,20 +20,20 @@ const COUNTS: [(&str, &str, &str); 11] = [
     // a port moves and is deleted
     (
         "chorus 2\nsites 3\nport 1.p.1 1.a.1 4\nscript 3.a.1\nsend 1.p.1 =x\nscript 1.a.1\nmove 1.p.1 2.a.1\nscript 2.a.1\ndelete 1.p.1\nschedule\nend\n",
-        "histories 8\nevents 59\nall\nfacts 10\n",
-        "\noutcomes 5\n",
+        "histories 8\nevents 59\nall\nfacts 11\n",
+        "\noutcomes 7\n",
     ),
     // a message overtakes the port
     (
         "chorus 1\nsites 3\nport 1.p.1 1.a.1 4\nscript 3.a.1\nsend 1.p.1 =x\nsend 1.p.1 =x\nscript 1.a.1\nmove 1.p.1 2.a.1\nschedule\nend\n",
-        "histories 15\nevents 110\nall\nfacts 11\n",
-        "\noutcomes 4\n",
+        "histories 15\nevents 110\nall\nfacts 13\n",
+        "\noutcomes 6\n",
     ),
     // a call that is sent again, while its port moves
     (
         "chorus 1\nsites 3\nport 1.p.1 1.a.1 4\nport 2.p.1 2.a.1 4\nscript 2.a.1\ncall 1.p.1 2.p.1 =q\nretry\ncancel\ncall 1.p.1 2.p.1 =r\ntake 2.p.1\nscript 1.a.1\nmove 1.p.1 3.a.1\nscript 3.a.1\ntake 1.p.1\nreply =ans\nschedule\nend\n",
-        "histories 5931\nevents 40233\nall\nfacts 30\n",
-        "\noutcomes 23\n",
+        "histories 5931\nevents 40233\nall\nfacts 33\n",
+        "\noutcomes 32\n",
     ),
     // two senders and a full port
     (
@@ -44,8 +44,8 @@ const COUNTS: [(&str, &str, &str); 11] = [
     // sends race a move, and the next holder receives
     (
         "chorus 2\nsites 3\nport 1.p.1 1.a.1 4\nscript 3.a.1\nsend 1.p.1 =a\nsend 1.p.1 =a\nscript 1.a.1\nsend 1.p.1 =a\nmove 1.p.1 2.a.1\nscript 2.a.1\ntake 1.p.1\ntake 1.p.1\nschedule\nend\n",
-        "histories 156\nevents 1172\nall\nfacts 29\n",
-        "\noutcomes 23\n",
+        "histories 156\nevents 1172\nall\nfacts 31\n",
+        "\noutcomes 32\n",
     ),
     // a call is sent again and cancelled, while it is replied to
     (
@@ -62,8 +62,8 @@ const COUNTS: [(&str, &str, &str); 11] = [
     // a port moves twice and is deleted, while three callers send
     (
         "chorus 2\nsites 3\nport 1.p.1 1.a.1 4\nscript 1.a.1\nmove 1.p.1 2.a.1\nsend 1.p.1 =a\nscript 2.a.1\nmove 1.p.1 3.a.1\nscript 3.a.1\nsend 1.p.1 =b\ndelete 1.p.1\nscript 3.a.1\nsend 1.p.1 =c\nschedule\nend\n",
-        "histories 5205\nevents 47560\nall\nfacts 59\n",
-        "\noutcomes 65\n",
+        "histories 5205\nevents 47560\nall\nfacts 62\n",
+        "\noutcomes 221\n",
     ),
     // groups on three sites: to all, to one in turn, and to one at a site
     (

@@ -1,4 +1,5 @@
-//! Each schedule that is printed is replayed: as many messages are accepted, received and left waiting as its outcome tells.
+//! Each schedule that is printed is replayed: as many messages are accepted, received, left waiting, refused and told `stale` as its outcome
+//! tells.
 
 use crate::running::{replayed, told};
 use chorus_show::Status;
@@ -41,11 +42,14 @@ fn assert_replays(rt: &impl Abort, alloc: Global, race: &str, outcomes: &str, sc
     );
 }
 
-/// The lines of a summary that say how many messages are accepted, received and left waiting in the outcome of this number.
+/// The lines of a summary that say how many messages are accepted, received, left waiting, refused and told `stale` in the outcome of this
+/// number; a port moves once at most, so each is told that once at most, and no port is under way at the end.
 fn summary_of(rt: &impl Abort, alloc: Global, outcomes: &str, number: &str) -> String {
     let mut accepted: u64 = 0;
     let mut taken: u64 = 0;
     let mut queued: u64 = 0;
+    let mut refused: u64 = 0;
+    let mut stale: u64 = 0;
     let mut is_there = false;
     for line in outcomes.lines() {
         if let Some(found) = line.strip_prefix("outcome ") {
@@ -56,11 +60,18 @@ fn summary_of(rt: &impl Abort, alloc: Global, outcomes: &str, number: &str) -> S
                 line.starts_with("answer ") && line.contains(" take "),
             ));
             queued = queued.wrapping_add(waiting_in(line));
+            refused = refused.wrapping_add(u64::from(is_refusal(line)));
+            stale = stale.wrapping_add(u64::from(line.starts_with("stale ")));
         }
     }
-    format!(in alloc; "\naccepted {accepted}\ntaken {taken}\nqueued {queued}\n").expect(
-        rt, "memory",
-    )
+    format!(in alloc;
+        "\naccepted {accepted}\ntaken {taken}\nqueued {queued}\nmoving 0\nrefused {refused}\nstale {stale}\n"
+    ).expect(rt, "memory")
+}
+
+/// Whether the line is a verdict that refuses its message.
+fn is_refusal(line: &str) -> bool {
+    line.starts_with("verdict ") && !line.ends_with(" accepted") && !line.ends_with(" chosen")
 }
 
 /// How many messages wait in the port of the line, if it has one: their ids stand behind the port and its actor.

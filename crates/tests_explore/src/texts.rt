@@ -53,37 +53,62 @@ const MOVE_TOLD: &str = "\
 histories 11
 events 51
 all
-facts 8
+facts 9
 1 answer 1 1 post 1:1:0 port 1.p.1 plain =one
 1 answer 2 1 depart 1.p.1 2 2.a.1
 1 answer 3 1 not-here 1.p.1
 2 answer 3 1 empty 1.p.1
 3 answer 3 1 take 1.p.1 1:1:0
 1 verdict 1:1:0 accepted
+1 stale 1:1:0
 1 port 1.p.1 2.a.1 1:1:0
 3 port 1.p.1 2.a.1
-outcomes 3
+outcomes 6
 outcome 1
-histories 6
+histories 2
+answer 1 1 post 1:1:0 port 1.p.1 plain =one
+answer 2 1 depart 1.p.1 2 2.a.1
+answer 3 1 not-here 1.p.1
+verdict 1:1:0 accepted
+stale 1:1:0
+port 1.p.1 2.a.1 1:1:0
+outcome 2
+histories 1
+answer 1 1 post 1:1:0 port 1.p.1 plain =one
+answer 2 1 depart 1.p.1 2 2.a.1
+answer 3 1 empty 1.p.1
+verdict 1:1:0 accepted
+stale 1:1:0
+port 1.p.1 2.a.1 1:1:0
+outcome 3
+histories 1
+answer 1 1 post 1:1:0 port 1.p.1 plain =one
+answer 2 1 depart 1.p.1 2 2.a.1
+answer 3 1 take 1.p.1 1:1:0
+verdict 1:1:0 accepted
+stale 1:1:0
+port 1.p.1 2.a.1
+outcome 4
+histories 4
 answer 1 1 post 1:1:0 port 1.p.1 plain =one
 answer 2 1 depart 1.p.1 2 2.a.1
 answer 3 1 not-here 1.p.1
 verdict 1:1:0 accepted
 port 1.p.1 2.a.1 1:1:0
-outcome 2
+outcome 5
 histories 2
-answer 1 1 post 1:1:0 port 1.p.1 plain =one
-answer 2 1 depart 1.p.1 2 2.a.1
-answer 3 1 empty 1.p.1
-verdict 1:1:0 accepted
-port 1.p.1 2.a.1 1:1:0
-outcome 3
-histories 3
 answer 1 1 post 1:1:0 port 1.p.1 plain =one
 answer 2 1 depart 1.p.1 2 2.a.1
 answer 3 1 take 1.p.1 1:1:0
 verdict 1:1:0 accepted
 port 1.p.1 2.a.1
+outcome 6
+histories 1
+answer 1 1 post 1:1:0 port 1.p.1 plain =one
+answer 2 1 depart 1.p.1 2 2.a.1
+answer 3 1 empty 1.p.1
+verdict 1:1:0 accepted
+port 1.p.1 2.a.1 1:1:0
 schedule 1
 step 1
 step 2
@@ -105,6 +130,25 @@ deliver 1 2
 deliver 2 1
 deliver 1 2
 step 3
+schedule 4
+step 1
+step 3
+deliver 2 1
+step 2
+deliver 1 2
+deliver 1 2
+schedule 5
+step 1
+deliver 2 1
+step 2
+deliver 1 2
+deliver 1 2
+step 3
+schedule 6
+step 2
+deliver 1 2
+step 3
+step 1
 end
 ";
 
