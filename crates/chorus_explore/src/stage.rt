@@ -2,7 +2,7 @@
 
 ghost use Rattle.std.specs.List.{flat_map};
 ghost use Rattle.std.specs.Prelude.{◌≡◌, ℕ, ◌<◌, ◌≤◌, ◌+◌, ◌^◌, [], ◌∷◌, ◌++◌, true, length, map, option_to_list, slice_get, Ok, Some, None, IfOk, OnOk, IfSome, IsNone, IsErrOf};
-ghost use Rattle.chorus_ui.specs.Layout.{IsLayout, has_place};
+ghost use Rattle.chorus_ui.specs.Layout.{has_place};
 ghost use Rattle.chorus_place.specs.declared.fault.PlaceFault.TheVariants as PlaceFault;
 ghost use Rattle.chorus_scene.specs.Limits.{Keeps};
 ghost use Rattle.law_explore.specs.declared.moves.Move.TheVariants as Move;

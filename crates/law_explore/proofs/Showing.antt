@@ -1,5 +1,5 @@
 -- A replay of moves, and of a drain behind them, leaves what the moves come to.
-use Rattle.std.proofs.Common.{◌≡◌, List, [], ◌∷◌, ◌++◌, map, option_to_list, Option, Some, None, refl, sym, ◌∙◌, ap, subst}
+use Rattle.std.proofs.Common.{◌≡◌, List, [], ◌∷◌, ◌++◌, map, option_to_list, Option, Some, None, refl, sym, ◌∙◌, ap}
 use Rattle.chorus_ui.specs.declared.layout.Layout.{Layout}
 use Rattle.law_network.specs.Network.{Event, happened, after, schedule}
 use Rattle.law_network.specs.Tasks.{Task, Do, Drain, CarryOut}

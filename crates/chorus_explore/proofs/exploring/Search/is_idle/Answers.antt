@@ -1,4 +1,4 @@
-use Rattle.std.proofs.Common.{◌≡◌, ◌-◌, true, Some, slice_get, length, sym, ◌∙◌, ap, subst}
+use Rattle.std.proofs.Common.{◌≡◌, ◌-◌, Some, slice_get, length, sym, ◌∙◌, ap, subst}
 use Rattle.std.specs.Option.{option_copied}
 use Rattle.chorus_explore.proofs.Idling.{kept-last}
 use Rattle.chorus_explore.proofs.exploring.Search.is_idle.Goals as goal
