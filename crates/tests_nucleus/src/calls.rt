@@ -1,16 +1,16 @@
-//! The calls of a nucleus, on one thread. Where `again` is true, a call that found no memory is made once more.
+//! The calls of a nucleus, on one thread.
 
 ghost use Rattle.std.specs.Prelude.{◌≡◌};
 ghost use Rattle.chorus_nucleus.specs.Passes.{IsPassOf};
 
-use crate::ground::{actor, close, enter, group, port, retire, start};
-use chorus_entry::{Answer, Dest, MsgId};
+use crate::ground::{actor_of, close, enter, port_of, start};
+use crate::rows::{Call, Told, first_group, play};
+use chorus_board::Located;
+use chorus_entry::{Answer, MsgId};
 use chorus_net::EnterFault;
-use chorus_nucleus::{CallFault, CloseFault, Nucleus, Pass};
-use chorus_place::Reply;
-use chorus_serve::Pump;
-use chorus_ui::{BODY_LIMIT, Layout};
-use law_machine::Outcome;
+use chorus_nucleus::{CloseFault, Nucleus, Pass};
+use chorus_ui::Layout;
+use law_machine::{Outcome, Reply};
 use std::alloc::Global;
 use std::process::Abort;
 use std::sync::Wait;
@@ -24,251 +24,106 @@ fn id(seat: u32, number: u32) -> MsgId {
     }
 }
 
-/// Whether a call found no memory.
-fn is_memory<T>(told: &Result<T, CallFault>) -> bool {
-    matches!(told, Err(CallFault::Memory(_)))
+/// The message is posted.
+fn posted(seat: u32, number: u32) -> Told {
+    Told::Replied(Reply::Posted(id(seat, number)))
 }
 
-/// What a call tells; where it found no memory and is made again, what it tells then.
-macro_rules! told {
-    ($again:expr, $call:expr) => {{
-        let told = $call;
-        if $again & is_memory(&told) {
-            $call
-        } else {
-            told
-        }
-    }};
+/// The first port of the site is made.
+fn made(rt: &impl Abort, site: u16) -> Told {
+    Told::Replied(Reply::Made(port_of(rt, site, 1)))
 }
 
-/// Asserts what serving the place tells: the place of which a packet was worked off, or None where the place is idle.
-fn assert_serves<R: Wait + Abort>(
+/// The port is there.
+fn located(place: u16, hop: u64, upto: u64) -> Told {
+    Told::Located(Located { place, hop, upto })
+}
+
+/// Seat 1 makes a port and a group, and puts the port into it.
+fn makes(rt: &impl Abort) -> [(Call, Told); 5] {
+    [
+        (Call::MakePort { site: 1 }, made(rt, 1)),
+        (Call::MakeGroup, Told::Replied(Reply::Made(first_group(rt)))),
+        (Call::Join, Told::Replied(Reply::Joined)),
+        (Call::Join, Told::Replied(Reply::There)),
+        (Call::Reply, Told::Replied(Reply::NoRequest)),
+    ]
+}
+
+/// Seat 2 makes a port and sends to that of seat 1, and both places are served until the verdict is there.
+fn sends(rt: &impl Abort) -> [(Call, Told); 9] {
+    let accepted = Outcome::Answer(Answer::Accepted { pos: 0 });
+    [
+        (Call::MakePort { site: 2 }, made(rt, 2)),
+        (Call::Send, posted(2, 1)),
+        (Call::Outcome(id(2, 1)), Told::Outcome(Outcome::Pending)),
+        (Call::Outcome(id(1, 1)), Told::Outcome(Outcome::Unknown)),
+        (Call::Pump { place: 2 }, Told::Idle),
+        (Call::Pump { place: 1 }, Told::Served(2)),
+        (Call::Pump { place: 1 }, Told::Idle),
+        (Call::Pump { place: 2 }, Told::Served(1)),
+        (Call::Outcome(id(2, 1)), Told::Outcome(accepted)),
+    ]
+}
+
+/// Seat 2 calls, tries again and gives up.
+fn asks() -> [(Call, Told); 7] {
+    let outstanding = Reply::Outstanding { number: 1 };
+    let cancelled = Reply::Cancelled { number: 1 };
+    [
+        (Call::Ask, posted(2, 2)),
+        (Call::Ask, Told::Replied(outstanding)),
+        (Call::Retry, posted(2, 3)),
+        (Call::Cancel, Told::Replied(cancelled)),
+        (Call::Retry, Told::Replied(Reply::NoCall)),
+        (Call::Pump { place: 2 }, Told::Idle),
+        (Call::Pump { place: 1 }, Told::Served(2)),
+    ]
+}
+
+/// Seat 1 receives both messages, answers the second, moves its port away and takes it out of the group.
+fn receives() -> [(Call, Told); 6] {
+    let away = Call::Move { site: 1, number: 2 };
+    [
+        (Call::Take, Told::Taken(0)),
+        (Call::Take, Told::Taken(1)),
+        (Call::Reply, posted(1, 1)),
+        (away, Told::Replied(Reply::Rehomed)),
+        (away, Told::Replied(Reply::NotHere)),
+        (Call::Leave, Told::Replied(Reply::Left)),
+    ]
+}
+
+/// What both seats call.
+fn play_both<R: Wait + Abort>(
     rt: &R,
     nucleus: &Nucleus,
-    pass: &mut Pass,
-    place: u16,
-    from: Option<u16>,
+    one: &mut Pass,
+    two: &mut Pass,
     again: bool,
 )
-    requires { IsPassOf nucleus.now pass.old }
-    ensures { IsPassOf nucleus.now pass.new }
+    requires one { IsPassOf nucleus.now one.old }
+    requires two { IsPassOf nucleus.now two.old }
+    ensures one { IsPassOf nucleus.now one.new }
+    ensures two { IsPassOf nucleus.now two.new }
 {
-    assert!(rt; nucleus.layout().has_place(place));
-    match told!(again, nucleus.pump(rt, pass, place)) {
-        Ok(Pump::Served { from: there }) => assert!(rt; from == Some(there)),
-        Ok(Pump::Idle { .. }) => assert!(rt; from.is_none()),
-        Err(_) => panic!(rt; "no pump"),
-    }
-}
-
-/// Asserts that the message has this outcome.
-fn assert_outcome(
-    rt: &impl Abort,
-    nucleus: &Nucleus,
-    pass: &mut Pass,
-    message: MsgId,
-    outcome: Outcome,
-)
-    requires { IsPassOf nucleus.now pass.old }
-    ensures { IsPassOf nucleus.now pass.new }
-{
-    assert!(rt; nucleus.outcome(pass, message) == Ok(outcome));
+    play(rt, nucleus, one, &makes(rt), again);
+    play(rt, nucleus, two, &sends(rt), again);
+    play(rt, nucleus, two, &asks(), again);
+    play(rt, nucleus, one, &receives(), again);
 }
 
 /// Asserts that the layout has no such actor.
-fn assert_no_actor(rt: &impl Abort, nucleus: &Nucleus, keeper: &mut Pass, name: &str)
+fn assert_no_actor(rt: &impl Abort, nucleus: &Nucleus, keeper: &mut Pass)
     requires { IsPassOf nucleus.now keeper.old }
     ensures { IsPassOf nucleus.now keeper.new }
 {
     assert!(rt; keeper.keeper());
-    let refused = nucleus.enter(keeper, actor(rt, name)).err();
+    let refused = nucleus.enter(keeper, actor_of(rt, 9, 1)).err();
     assert!(rt; refused == Some(EnterFault::NoActor));
 }
 
-/// Makes the port of this name, of the actor of this name, with room for two messages.
-fn make_port(
-    rt: &impl Abort,
-    nucleus: &Nucleus,
-    pass: &mut Pass,
-    holder: &str,
-    name: &str,
-    again: bool,
-)
-    requires { IsPassOf nucleus.now pass.old }
-    ensures { IsPassOf nucleus.now pass.new }
-{
-    let holder = actor(rt, holder);
-    let made = told!(again, nucleus.make_port(pass, holder, 2));
-    assert!(rt; made == Ok(Reply::Made(port(rt, name))));
-}
-
-/// Asserts the reply to an answer with this body.
-fn assert_replies(
-    rt: &impl Abort,
-    nucleus: &Nucleus,
-    pass: &mut Pass,
-    body: &[u8],
-    reply: Reply,
-    again: bool,
-)
-    requires { IsPassOf nucleus.now pass.old }
-    ensures { IsPassOf nucleus.now pass.new }
-{
-    assert!(rt; body.len() <= BODY_LIMIT);
-    let told = told!(
-        again,
-        {
-            assert!(rt; pass.posts() < u32::MAX);
-            nucleus.reply(pass, body)
-        }
-    );
-    assert!(rt; told == Ok(reply));
-}
-
-/// Asserts the reply to a join of the port and the group that seat 1 makes.
-fn assert_joins(rt: &impl Abort, nucleus: &Nucleus, pass: &mut Pass, reply: Reply, again: bool)
-    requires { IsPassOf nucleus.now pass.old }
-    ensures { IsPassOf nucleus.now pass.new }
-{
-    let own = port(rt, "1.p.1");
-    let all = group(rt, "1.g.1");
-    let told = told!(again, nucleus.join(pass, all, own));
-    assert!(rt; told == Ok(reply));
-}
-
-/// Seat 1 makes a port and a group, and puts the port into it.
-fn make(rt: &impl Abort, nucleus: &Nucleus, pass: &mut Pass, again: bool)
-    requires { IsPassOf nucleus.now pass.old }
-    ensures { IsPassOf nucleus.now pass.new }
-{
-    make_port(rt, nucleus, pass, "1.a.1", "1.p.1", again);
-    let made = told!(again, nucleus.make_group(pass, 1));
-    assert!(rt; made == Ok(Reply::Made(group(rt, "1.g.1"))));
-    assert_joins(rt, nucleus, pass, Reply::Joined, again);
-    assert_joins(rt, nucleus, pass, Reply::There, again);
-    assert_replies(rt, nucleus, pass, b"", Reply::NoRequest, again);
-}
-
-/// Seat 2 makes a port and sends to that of seat 1, and both places are served until the verdict is there.
-fn send<R: Wait + Abort>(rt: &R, nucleus: &Nucleus, pass: &mut Pass, again: bool)
-    requires { IsPassOf nucleus.now pass.old }
-    ensures { IsPassOf nucleus.now pass.new }
-{
-    make_port(rt, nucleus, pass, "2.a.1", "2.p.1", again);
-    let there = port(rt, "1.p.1");
-    let sent = told!(
-        again,
-        {
-            assert!(rt; pass.posts() < u32::MAX);
-            nucleus.send(pass, Dest::Port(there), b"a")
-        }
-    );
-    assert!(rt; sent == Ok(Reply::Posted(id(2, 1))));
-    assert_outcome(rt, nucleus, pass, id(2, 1), Outcome::Pending);
-    assert_outcome(rt, nucleus, pass, id(1, 1), Outcome::Unknown);
-    assert_serves(rt, nucleus, pass, 2, None, again);
-    assert_serves(rt, nucleus, pass, 1, Some(2), again);
-    assert_serves(rt, nucleus, pass, 1, None, again);
-    assert_serves(rt, nucleus, pass, 2, Some(1), again);
-    let accepted = Outcome::Answer(Answer::Accepted { pos: 0 });
-    assert_outcome(rt, nucleus, pass, id(2, 1), accepted);
-}
-
-/// Asserts the reply to a call of the port of seat 1.
-fn assert_calls(rt: &impl Abort, nucleus: &Nucleus, pass: &mut Pass, reply: Reply, again: bool)
-    requires { IsPassOf nucleus.now pass.old }
-    ensures { IsPassOf nucleus.now pass.new }
-{
-    let there = port(rt, "1.p.1");
-    let back = port(rt, "2.p.1");
-    let told = told!(
-        again,
-        {
-            assert!(rt; pass.posts() < u32::MAX);
-            nucleus.call(pass, there, back, b"q")
-        }
-    );
-    assert!(rt; told == Ok(reply));
-}
-
-/// Asserts the reply to a retry.
-fn assert_retries(rt: &impl Abort, nucleus: &Nucleus, pass: &mut Pass, reply: Reply, again: bool)
-    requires { IsPassOf nucleus.now pass.old }
-    ensures { IsPassOf nucleus.now pass.new }
-{
-    let told = told!(
-        again,
-        {
-            assert!(rt; pass.posts() < u32::MAX);
-            nucleus.retry(pass)
-        }
-    );
-    assert!(rt; told == Ok(reply));
-}
-
-/// Seat 2 calls, tries again and gives up.
-fn call<R: Wait + Abort>(rt: &R, nucleus: &Nucleus, pass: &mut Pass, again: bool)
-    requires { IsPassOf nucleus.now pass.old }
-    ensures { IsPassOf nucleus.now pass.new }
-{
-    assert_calls(rt, nucleus, pass, Reply::Posted(id(2, 2)), again);
-    assert_calls(rt, nucleus, pass, Reply::Outstanding { number: 1 }, again);
-    assert_retries(rt, nucleus, pass, Reply::Posted(id(2, 3)), again);
-    let cancelled = told!(again, nucleus.cancel(pass));
-    assert!(rt; cancelled == Ok(Reply::Cancelled { number: 1 }));
-    assert_retries(rt, nucleus, pass, Reply::NoCall, again);
-    assert_serves(rt, nucleus, pass, 2, None, again);
-    assert_serves(rt, nucleus, pass, 1, Some(2), again);
-}
-
-/// Seat 1 takes a message at this position.
-fn assert_taken(rt: &impl Abort, nucleus: &Nucleus, pass: &mut Pass, position: u64, again: bool)
-    requires { IsPassOf nucleus.now pass.old }
-    ensures { IsPassOf nucleus.now pass.new }
-{
-    let own = port(rt, "1.p.1");
-    match told!(again, nucleus.take(pass, own)) {
-        Ok(Reply::Taken { pos, .. }) => assert!(rt; pos == position),
-        _ => panic!(rt; "nothing taken"),
-    }
-}
-
-/// Asserts the reply to a move of the port of seat 1 to another actor of its site.
-fn assert_moves(rt: &impl Abort, nucleus: &Nucleus, pass: &mut Pass, reply: Reply, again: bool)
-    requires { IsPassOf nucleus.now pass.old }
-    ensures { IsPassOf nucleus.now pass.new }
-{
-    let own = port(rt, "1.p.1");
-    let other = actor(rt, "1.a.2");
-    let told = told!(again, nucleus.move_port(pass, own, other));
-    assert!(rt; told == Ok(reply));
-}
-
-/// Asserts the reply to a departure of the port of seat 1 from its group.
-fn assert_leaves(rt: &impl Abort, nucleus: &Nucleus, pass: &mut Pass, reply: Reply, again: bool)
-    requires { IsPassOf nucleus.now pass.old }
-    ensures { IsPassOf nucleus.now pass.new }
-{
-    let own = port(rt, "1.p.1");
-    let all = group(rt, "1.g.1");
-    let told = told!(again, nucleus.leave(pass, all, own));
-    assert!(rt; told == Ok(reply));
-}
-
-/// Seat 1 receives both messages, answers the second, moves its port away and takes it out of the group.
-fn receive(rt: &impl Abort, nucleus: &Nucleus, pass: &mut Pass, again: bool)
-    requires { IsPassOf nucleus.now pass.old }
-    ensures { IsPassOf nucleus.now pass.new }
-{
-    assert_taken(rt, nucleus, pass, 0, again);
-    assert_taken(rt, nucleus, pass, 1, again);
-    assert_replies(rt, nucleus, pass, b"r", Reply::Posted(id(1, 1)), again);
-    assert_moves(rt, nucleus, pass, Reply::Rehomed, again);
-    assert_moves(rt, nucleus, pass, Reply::NotHere, again);
-    assert_leaves(rt, nucleus, pass, Reply::Left, again);
-}
-
-/// A nucleus of two sites of one place each, and its opening pass.
+/// A nucleus of two sites of one place each, and its opening pass. Where `again` is true it is started once more for want of memory.
 fn start_two_sites<R: Wait + Abort>(rt: &R, alloc: Global, again: bool) -> (Nucleus, Pass)
     ensures { IsPassOf result.0 result.1 }
 {
@@ -296,16 +151,13 @@ fn assert_two_are_left<R: Wait + Abort>(rt: &R, nucleus: Nucleus, pass: Pass, ag
 /// The calls of two seats, from the start of a nucleus to its end.
 fn assert_all_calls<R: Wait + Abort>(rt: &R, alloc: Global, again: bool) {
     let (nucleus, mut pass) = start_two_sites(rt, alloc, again);
-    let mut one = enter(rt, &nucleus, &mut pass, "1.a.1");
-    let mut two = enter(rt, &nucleus, &mut pass, "2.a.1");
+    let mut one = enter(rt, &nucleus, &mut pass, 1, 1);
+    let mut two = enter(rt, &nucleus, &mut pass, 2, 1);
     assert!(rt; one.seat() == 1 && two.seat() == 2 && pass.made() == 3);
-    assert_no_actor(rt, &nucleus, &mut pass, "9.a.1");
-    make(rt, &nucleus, &mut one, again);
-    send(rt, &nucleus, &mut two, again);
-    call(rt, &nucleus, &mut two, again);
-    receive(rt, &nucleus, &mut one, again);
-    retire(&nucleus, one, &mut pass);
-    retire(&nucleus, two, &mut pass);
+    assert_no_actor(rt, &nucleus, &mut pass);
+    play_both(rt, &nucleus, &mut one, &mut two, again);
+    nucleus.retire(one, &mut pass);
+    nucleus.retire(two, &mut pass);
     assert!(rt; pass.ended() == 2 && pass.worn().is_none());
     assert_two_are_left(rt, nucleus, pass, again);
 }
@@ -319,18 +171,6 @@ fn nucleus_calls_on_one_thread(rt: HostRuntime) {
 #[test]
 fn calls_that_found_no_memory_are_made_again(rt: HostRuntime) {
     assert_all_calls(&rt, rt.alloc(), true);
-}
-
-/// Sends to the port and takes there.
-fn send_and_take(rt: &impl Abort, nucleus: &Nucleus, pass: &mut Pass)
-    requires { IsPassOf nucleus.now pass.old }
-    ensures { IsPassOf nucleus.now pass.new }
-{
-    assert!(rt; pass.posts() < u32::MAX);
-    let sent = nucleus.send(pass, Dest::Port(port(rt, "1.p.1")), b"a");
-    let msg = id(0, 1);
-    assert!(rt; sent == Ok(Reply::Accepted { msg, pos: 0 }));
-    assert_taken(rt, nucleus, pass, 0, false);
 }
 
 /// Asserts that the nucleus is not closed, since the one pass that was entered is out; nucleus and pass come back.
@@ -351,34 +191,108 @@ fn refused<R: Wait + Abort>(rt: &R, nucleus: Nucleus, pass: Pass) -> (Nucleus, P
 #[test]
 fn close_asks_for_all_passes(rt: HostRuntime) {
     let (nucleus, mut pass) = start(&rt, rt.alloc(), 1, 1);
-    make_port(&rt, &nucleus, &mut pass, "1.a.1", "1.p.1", false);
-    let second = enter(&rt, &nucleus, &mut pass, "1.a.1");
+    let second = enter(&rt, &nucleus, &mut pass, 1, 1);
     let (nucleus, mut pass) = refused(&rt, nucleus, pass);
-    send_and_take(&rt, &nucleus, &mut pass);
-    retire(&nucleus, second, &mut pass);
+    let accepted = Reply::Accepted {
+        msg: id(0, 1),
+        pos: 0,
+    };
+    let rows = [
+        (Call::MakePort { site: 1 }, made(&rt, 1)),
+        (Call::Send, Told::Replied(accepted)),
+        (Call::Take, Told::Taken(0)),
+    ];
+    play(&rt, &nucleus, &mut pass, &rows, false);
+    nucleus.retire(second, &mut pass);
     close(&rt, nucleus, pass);
-}
-
-/// Seat 1 sends to the port of the keeper.
-fn send_to_keeper(rt: &impl Abort, nucleus: &Nucleus, pass: &mut Pass)
-    requires { IsPassOf nucleus.now pass.old }
-    ensures { IsPassOf nucleus.now pass.new }
-{
-    assert!(rt; pass.posts() < u32::MAX);
-    let sent = nucleus.send(pass, Dest::Port(port(rt, "1.p.1")), b"a");
-    assert!(rt; sent == Ok(Reply::Posted(id(1, 1))));
 }
 
 #[test]
 fn a_packet_goes_on_behind_its_sender(rt: HostRuntime) {
     let (nucleus, mut pass) = start(&rt, rt.alloc(), 2, 1);
-    make_port(&rt, &nucleus, &mut pass, "1.a.1", "1.p.1", false);
-    let mut sender = enter(&rt, &nucleus, &mut pass, "2.a.1");
-    send_to_keeper(&rt, &nucleus, &mut sender);
-    retire(&nucleus, sender, &mut pass);
-    assert_serves(&rt, &nucleus, &mut pass, 2, None, false);
-    assert_serves(&rt, &nucleus, &mut pass, 1, Some(2), false);
-    assert_taken(&rt, &nucleus, &mut pass, 0, false);
+    let mut sender = enter(&rt, &nucleus, &mut pass, 2, 1);
+    let makes = [(Call::MakePort { site: 1 }, made(&rt, 1))];
+    play(&rt, &nucleus, &mut pass, &makes, false);
+    play(
+        &rt,
+        &nucleus,
+        &mut sender,
+        &[(Call::Send, posted(1, 1))],
+        false,
+    );
+    nucleus.retire(sender, &mut pass);
+    let rows = [
+        (Call::Pump { place: 2 }, Told::Idle),
+        (Call::Pump { place: 1 }, Told::Served(2)),
+        (Call::Take, Told::Taken(0)),
+    ];
+    play(&rt, &nucleus, &mut pass, &rows, false);
+    let closed = close(&rt, nucleus, pass);
+    assert!(rt; closed.rest.len() == 1);
+}
+
+/// Enters a pass at site 1 and asks it, which finds a reader or not, and ends it in another pass than the keeper, so that its reader
+/// is dropped.
+fn assert_reads<R: Wait + Abort>(
+    rt: &R,
+    nucleus: &Nucleus,
+    keeper: &mut Pass,
+    into: &mut Pass,
+    told: Told,
+)
+    requires keeper { IsPassOf nucleus.now keeper.old }
+    requires into { IsPassOf nucleus.now into.old }
+    ensures keeper { IsPassOf nucleus.now keeper.new }
+    ensures into { IsPassOf nucleus.now into.new }
+{
+    let mut pass = enter(rt, nucleus, keeper, 1, 1);
+    play(rt, nucleus, &mut pass, &[(Call::Locate, told)], false);
+    nucleus.retire(pass, into);
+}
+
+/// Asserts that of 63 passes that come at site 1 the first 62 locate the port and the last does not.
+fn assert_readers_end<R: Wait + Abort>(
+    rt: &R,
+    nucleus: &Nucleus,
+    keeper: &mut Pass,
+    into: &mut Pass,
+)
+    requires keeper { IsPassOf nucleus.now keeper.old }
+    requires into { IsPassOf nucleus.now into.old }
+    ensures keeper { IsPassOf nucleus.now keeper.new }
+    ensures into { IsPassOf nucleus.now into.new }
+{
+    for _ in 0..62 {
+        assert_reads(rt, nucleus, keeper, into, located(2, 1, 2));
+    }
+    assert!(rt; keeper.readers(1) == 0);
+    assert_reads(rt, nucleus, keeper, into, Told::ReadersFull);
+}
+
+/// What the keeper calls: it makes a port, which then departs to the other site.
+fn departs(rt: &impl Abort) -> [(Call, Told); 6] {
+    let departed = Reply::Departed { hop: 1 };
+    [
+        (Call::MakePort { site: 1 }, made(rt, 1)),
+        (Call::Locate, located(1, 0, 0)),
+        (Call::Move { site: 2, number: 1 }, Told::Replied(departed)),
+        (Call::Pump { place: 1 }, Told::Idle),
+        (Call::Publish { place: 1 }, Told::Published),
+        (Call::Locate, located(2, 1, 2)),
+    ]
+}
+
+#[test]
+fn locate_reads_the_board(rt: HostRuntime) {
+    let (nucleus, mut pass) = start(&rt, rt.alloc(), 2, 1);
+    assert!(rt; pass.readers(1) == 63 && pass.readers(2) == 64);
+    let mut second = enter(&rt, &nucleus, &mut pass, 1, 1);
+    play(&rt, &nucleus, &mut pass, &departs(&rt), false);
+    let there = [(Call::Locate, located(2, 1, 2))];
+    play(&rt, &nucleus, &mut second, &there, false);
+    assert_readers_end(&rt, &nucleus, &mut pass, &mut second);
+    nucleus.retire(second, &mut pass);
+    assert!(rt; pass.readers(1) == 1 && pass.readers(2) == 64);
     let closed = close(&rt, nucleus, pass);
     assert!(rt; closed.rest.len() == 1);
 }

@@ -1,48 +1,40 @@
 //! What the tests do with a nucleus. What is not as it is to be ends the test.
 
 ghost use Rattle.std.specs.Prelude.{◌≡◌, true};
-ghost use Rattle.chorus_ui.specs.NameKind.{is_actor, is_port, is_group};
+ghost use Rattle.chorus_ui.specs.NameKind.{is_actor, is_port};
 ghost use Rattle.chorus_nucleus.specs.Passes.{IsPassOf};
 
 use chorus_checker::World;
-use chorus_entry::Entry;
+use chorus_entry::{Body, Command, Dest};
 use chorus_merge::merge;
 use chorus_net::Closed;
-use chorus_nucleus::{Nucleus, Pass};
-use chorus_serve::Pump;
-use chorus_ui::{Layout, Ui};
+use chorus_nucleus::{CallFault, Nucleus, Pass};
+use chorus_ui::{Kind, Layout, Ui};
+use law_machine::Reply;
 use std::alloc::Global;
 use std::process::Abort;
 use std::sync::Wait;
+use std::thread;
 
-/// The actor of this name.
-pub(crate) fn actor(rt: &impl Abort, text: &str) -> Ui
+/// The actor with this number of the site.
+pub(crate) fn actor_of(rt: &impl Abort, site: u16, number: u64) -> Ui
     ensures { is_actor result ≡ true }
 {
-    let name = Ui::parse(text.as_bytes()).expect(rt, "a name");
+    let name = Ui::new(site, Kind::Actor, number).expect(rt, "a name");
     assert!(rt; name.is_actor());
     name
 }
 
-/// The port of this name.
-pub(crate) fn port(rt: &impl Abort, text: &str) -> Ui
+/// The port with this number of the site.
+pub(crate) fn port_of(rt: &impl Abort, site: u16, number: u64) -> Ui
     ensures { is_port result ≡ true }
 {
-    let name = Ui::parse(text.as_bytes()).expect(rt, "a name");
+    let name = Ui::new(site, Kind::Port, number).expect(rt, "a name");
     assert!(rt; name.is_port());
     name
 }
 
-/// The group of this name.
-pub(crate) fn group(rt: &impl Abort, text: &str) -> Ui
-    ensures { is_group result ≡ true }
-{
-    let name = Ui::parse(text.as_bytes()).expect(rt, "a name");
-    assert!(rt; name.is_group());
-    name
-}
-
-/// A nucleus of this layout, and its opening pass.
+/// A nucleus of so many sites with so many places each, and its opening pass.
 pub(crate) fn start<R: Wait + Abort>(
     rt: &R,
     alloc: Global,
@@ -58,36 +50,89 @@ pub(crate) fn start<R: Wait + Abort>(
     started
 }
 
-/// A pass of a caller in this actor.
-pub(crate) fn enter(rt: &impl Abort, nucleus: &Nucleus, keeper: &mut Pass, name: &str) -> Pass
+/// A pass of a caller in this actor of the site.
+pub(crate) fn enter(
+    rt: &impl Abort,
+    nucleus: &Nucleus,
+    keeper: &mut Pass,
+    site: u16,
+    number: u64,
+) -> Pass
     requires { IsPassOf nucleus.now keeper.old }
     ensures { IsPassOf nucleus.now keeper.new × IsPassOf nucleus.now result }
 {
     assert!(rt; keeper.keeper());
-    let Ok(pass) = nucleus.enter(keeper, actor(rt, name)) else {
+    let Ok(pass) = nucleus.enter(keeper, actor_of(rt, site, number)) else {
         panic!(rt; "no number is left")
     };
     pass
 }
 
-/// Ends the second pass.
-pub(crate) fn retire(nucleus: &Nucleus, pass: Pass, into: &mut Pass)
-    requires { IsPassOf nucleus.now pass × IsPassOf nucleus.now into.old }
-    ensures { IsPassOf nucleus.now into.new }
-{
-    nucleus.retire(pass, into);
-}
-
-/// Serves the place, which no other pass has.
-pub(crate) fn pump<R: Wait + Abort>(rt: &R, nucleus: &Nucleus, pass: &mut Pass, place: u16) -> Pump
+/// Gives the command until no other pass is in the way.
+pub(crate) fn insist<R: Wait + Abort>(
+    rt: &R,
+    nucleus: &Nucleus,
+    pass: &mut Pass,
+    command: &Command,
+) -> Reply
     requires { IsPassOf nucleus.now pass.old }
     ensures { IsPassOf nucleus.now pass.new }
 {
-    assert!(rt; nucleus.layout().has_place(place));
-    let Ok(pump) = nucleus.pump(rt, pass, place) else {
-        panic!(rt; "no pump")
-    };
-    pump
+    for _ in rt.forever() {
+        assert!(rt; command.meets_conditions() && pass.posts() < u32::MAX);
+        match nucleus.act(pass, command) {
+            Ok(reply) => return reply,
+            Err(CallFault::Busy { .. }) => thread::yield_now(),
+            Err(_) => panic!(rt; "refused"),
+        }
+    }
+    unreachable!()
+}
+
+/// Makes the next port of the actor, with room for so many messages.
+pub(crate) fn make<R: Wait + Abort>(
+    rt: &R,
+    nucleus: &Nucleus,
+    pass: &mut Pass,
+    actor: Ui,
+    capacity: u8,
+) -> Ui
+    requires { IsPassOf nucleus.now pass.old }
+    ensures { IsPassOf nucleus.now pass.new }
+{
+    match insist(rt, nucleus, pass, &Command::Make { actor, capacity }) {
+        Reply::Made(name) => name,
+        _ => panic!(rt; "not made"),
+    }
+}
+
+/// The command that sends these bytes to the port.
+pub(crate) fn sending(rt: &impl Abort, alloc: Global, port: Ui, bytes: &[u8]) -> Command {
+    let dest = Dest::Port(port);
+    let body = Body::new(alloc, bytes).expect(rt, "memory");
+    Command::Send { dest, body }
+}
+
+/// Sends to a port of the caller's own place, and again while it is full.
+pub(crate) fn send<R: Wait + Abort>(
+    rt: &R,
+    alloc: Global,
+    nucleus: &Nucleus,
+    pass: &mut Pass,
+    port: Ui,
+    bytes: &[u8],
+)
+    requires { IsPassOf nucleus.now pass.old }
+    ensures { IsPassOf nucleus.now pass.new }
+{
+    let command = sending(rt, alloc, port, bytes);
+    for _ in rt.forever() {
+        match insist(rt, nucleus, pass, &command) {
+            Reply::Accepted { .. } => return,
+            Reply::Full { .. } => thread::yield_now(),
+            _ => panic!(rt; "not accepted"),
+        }
+    }
 }
 
 /// Ends the nucleus.
@@ -102,13 +147,8 @@ pub(crate) fn close<R: Wait + Abort>(rt: &R, nucleus: Nucleus, pass: Pass) -> Cl
 }
 
 /// Asserts that the merge of the journals is legal from the first entry on.
-pub(crate) fn assert_legal(
-    rt: &impl Abort,
-    alloc: Global,
-    layout: Layout,
-    journals: &[Vec<Entry>],
-) {
-    let all = merge(alloc, journals).expect(rt, "memory");
+pub(crate) fn assert_lawful(rt: &impl Abort, alloc: Global, layout: Layout, closed: &Closed) {
+    let all = merge(alloc, closed.journals.as_slice()).expect(rt, "memory");
     let mut world = World::opening(alloc, layout).expect(rt, "memory");
     for entry in all {
         assert!(rt; world.apply(entry).is_ok());

@@ -1,11 +1,20 @@
-//! The tests of the nucleus (`chorus_nucleus`): its calls on one thread, the boards, and callers on threads of their own.
+//! The tests of the nucleus (`chorus_nucleus`), of receiving on any enabled port (`chorus_choose`) and of the crew (`chorus_crew`): calls
+//! and receives on one thread, callers on threads of their own, and crews.
 #![tactic(auto)]
 
 #[cfg(test)]
-mod boards;
-#[cfg(test)]
 mod calls;
+#[cfg(test)]
+mod choosing;
+#[cfg(test)]
+mod crews;
 #[cfg(test)]
 mod ground;
 #[cfg(test)]
-mod threads;
+mod handlers;
+#[cfg(test)]
+mod moving;
+#[cfg(test)]
+mod rows;
+#[cfg(test)]
+mod serving;

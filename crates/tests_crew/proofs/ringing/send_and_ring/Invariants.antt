@@ -1,5 +1,0 @@
-use Rattle.chorus_nucleus.specs.Passes.{IsPassOf}
-use Rattle.tests_crew.proofs.ringing.send_and_ring.Given as goal
-
-abbrev pub invariant-loop : goal.invariant-loop
-invariant-loop g l = IsPassOf l.nucleus l.pass

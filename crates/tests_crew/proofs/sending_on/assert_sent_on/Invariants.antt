@@ -1,5 +1,0 @@
-use Rattle.chorus_nucleus.specs.Passes.{IsPassOf}
-use Rattle.tests_crew.proofs.sending_on.assert_sent_on.Given as goal
-
-abbrev pub invariant-loop-turn : goal.invariant-loop-turn
-invariant-loop-turn g l = IsPassOf l.nucleus l.pass

@@ -1,0 +1,177 @@
+//! A chooser on one thread.
+
+ghost use Rattle.chorus_nucleus.specs.Passes.{IsPassOf};
+
+use crate::ground::{actor_of, close, insist, make, port_of, send, start};
+use chorus_choose::{Chooser, EnableFault, NotEnabled, Received};
+use chorus_entry::{Act, Command};
+use chorus_net::Closed;
+use chorus_nucleus::{Nucleus, Pass};
+use std::alloc::Global;
+use std::process::Abort;
+use std::sync::Wait;
+
+/// What a receive gives.
+#[derive(Clone, Copy, PartialEq)]
+enum Given {
+    /// This message of the port with this number of site 1, at position 0, and no reply.
+    Message { number: u64, body: u8 },
+    /// Nothing, of so many ports that were looked at.
+    Nothing { looked: u16 },
+    /// Anything else.
+    Other,
+}
+
+/// What the receive gave.
+fn given(received: &Received) -> Given {
+    match received {
+        Received::Taken {
+            port,
+            pos: 0,
+            message,
+            settled: None,
+        } => match message.body.bytes() {
+            [body] => Given::Message {
+                number: port.number(),
+                body: *body,
+            },
+            _ => Given::Other,
+        },
+        Received::Empty { looked } => Given::Nothing { looked: *looked },
+        _ => Given::Other,
+    }
+}
+
+/// Receives, and asserts what is given.
+fn assert_gives(
+    rt: &impl Abort,
+    nucleus: &Nucleus,
+    pass: &mut Pass,
+    chooser: &Chooser,
+    wanted: Given,
+)
+    requires { IsPassOf nucleus.now pass.old }
+    ensures { IsPassOf nucleus.now pass.new }
+{
+    match chooser.receive(nucleus, pass) {
+        Ok(received) => assert!(rt; given(&received) == wanted),
+        Err(_) => panic!(rt; "refused"),
+    }
+}
+
+/// Receives once for each, and asserts what is given.
+fn assert_all_given(
+    rt: &impl Abort,
+    nucleus: &Nucleus,
+    pass: &mut Pass,
+    chooser: &Chooser,
+    wanted: &[Given],
+)
+    requires { IsPassOf nucleus.now pass.old }
+    ensures { IsPassOf nucleus.now pass.new }
+{
+    for one in wanted {
+        assert_gives(rt, nucleus, pass, chooser, *one);
+    }
+}
+
+/// A nucleus of one site, on which the opening pass made two ports, and sent `a` to the first and `b` to the second.
+fn start_two_ports<R: Wait + Abort>(rt: &R, alloc: Global) -> (Nucleus, Pass)
+    ensures { IsPassOf result.0 result.1 }
+{
+    let (nucleus, mut pass) = start(rt, alloc, 1, 1);
+    for (number, body) in [(1, b"a"), (2, b"b")] {
+        make(rt, &nucleus, &mut pass, actor_of(rt, 1, 1), 2);
+        send(rt, alloc, &nucleus, &mut pass, port_of(rt, 1, number), body);
+    }
+    (nucleus, pass)
+}
+
+/// A chooser in which these ports of site 1 are enabled with these priorities.
+fn chooser_of(rt: &impl Abort, alloc: Global, enabled: &[(u64, u8)]) -> Chooser {
+    let mut chooser = Chooser::start(alloc).expect(rt, "memory");
+    for (number, priority) in enabled {
+        let told = chooser.enable(port_of(rt, 1, *number), *priority);
+        assert!(rt; told == Ok(()));
+    }
+    chooser
+}
+
+/// Asserts that the first place's journal has so many entries, of which the one with this index has this act.
+fn assert_journal(rt: &impl Abort, closed: &Closed, length: usize, index: usize, act: &Act) {
+    let Some(journal) = closed.journals.first() else {
+        panic!(rt; "no journal")
+    };
+    assert!(rt; journal.len() == length);
+    match journal.get(index) {
+        Some(entry) => assert!(rt; entry.act == *act),
+        None => panic!(rt; "no entry"),
+    }
+}
+
+#[test]
+fn receive_by_priority(rt: HostRuntime) {
+    let (nucleus, mut pass) = start_two_ports(&rt, rt.alloc());
+    let chooser = chooser_of(&rt, rt.alloc(), &[(1, 1), (2, 5)]);
+    let wanted = [
+        Given::Message {
+            number: 2,
+            body: b'b',
+        },
+        Given::Message {
+            number: 1,
+            body: b'a',
+        },
+        Given::Nothing { looked: 2 },
+    ];
+    assert_all_given(&rt, &nucleus, &mut pass, &chooser, &wanted);
+    let closed = close(&rt, nucleus, pass);
+    let act = Act::Empty {
+        port: port_of(&rt, 1, 2),
+    };
+    assert_journal(&rt, &closed, 11, 7, &act);
+}
+
+#[test]
+fn enabling_is_refused(rt: HostRuntime) {
+    let mut chooser = Chooser::start(rt.alloc()).expect(&rt, "memory");
+    for number in 1..=32u64 {
+        assert!(&rt; chooser.enable(port_of(&rt, 1, number), 1) == Ok(()));
+    }
+    assert!(&rt; chooser.enable(port_of(&rt, 1, 1), 3) == Err(EnableFault::There));
+    assert!(&rt; chooser.enable(port_of(&rt, 1, 33), 3) == Err(EnableFault::EnabledFull));
+    assert!(&rt; chooser.disable(port_of(&rt, 1, 33)) == Err(NotEnabled));
+    assert!(&rt; chooser.disable(port_of(&rt, 1, 1)) == Ok(()));
+    assert!(&rt; chooser.enable(port_of(&rt, 1, 33), 3) == Ok(()));
+}
+
+/// The pass moves both ports to another actor of their site.
+fn move_both<R: Wait + Abort>(rt: &R, nucleus: &Nucleus, pass: &mut Pass)
+    requires { IsPassOf nucleus.now pass.old }
+    ensures { IsPassOf nucleus.now pass.new }
+{
+    let actor = actor_of(rt, 1, 2);
+    for number in 1..=2 {
+        let port = port_of(rt, 1, number);
+        insist(rt, nucleus, pass, &Command::Move { port, actor });
+    }
+}
+
+#[test]
+fn equal_priorities_and_ports_of_others(rt: HostRuntime) {
+    let (nucleus, mut pass) = start_two_ports(&rt, rt.alloc());
+    let chooser = chooser_of(&rt, rt.alloc(), &[(2, 2), (1, 2)]);
+    let first = Given::Message {
+        number: 2,
+        body: b'b',
+    };
+    assert_gives(&rt, &nucleus, &mut pass, &chooser, first);
+    move_both(&rt, &nucleus, &mut pass);
+    let nothing = Given::Nothing { looked: 2 };
+    assert_gives(&rt, &nucleus, &mut pass, &chooser, nothing);
+    let closed = close(&rt, nucleus, pass);
+    for (index, number) in [(9, 2), (10, 1)] {
+        let port = port_of(&rt, 1, number);
+        assert_journal(&rt, &closed, 11, index, &Act::NotHere { port });
+    }
+}

@@ -1,0 +1,235 @@
+//! Crews, whose handlers count their calls.
+
+ghost use Rattle.std.specs.Prelude.{◌≤◌};
+ghost use Rattle.chorus_nucleus.specs.Passes.{IsPassOf};
+
+use crate::ground::{actor_of, assert_lawful, close, enter, make, port_of, send, start};
+use crate::handlers::{Counts, Meets};
+use chorus_crew::{CrewFault, Handled, Handler, are_pairs, crew};
+use chorus_entry::{Act, Entry};
+use chorus_net::Closed;
+use chorus_nucleus::{Nucleus, Pass};
+use chorus_ui::{Layout, Ui};
+use std::alloc::Global;
+use std::process::Abort;
+use std::sync::Wait;
+use std::thread::Threads;
+
+/// What crews are to do: with so many workers they handle so many messages in each of so many ports of each of so many sites, and the
+/// next crew as many that are sent behind the first.
+#[derive(Clone, Copy)]
+struct Task {
+    sites: u16,
+    ports: u64,
+    messages: u64,
+    workers: u16,
+    crews: u64,
+}
+
+/// Sends so many messages to each of the ports of the caller's site. The ports are made where there are none.
+fn fill<R: Wait + Abort>(
+    rt: &R,
+    alloc: Global,
+    nucleus: &Nucleus,
+    pass: &mut Pass,
+    site: u16,
+    task: &Task,
+    anew: bool,
+)
+    requires { IsPassOf nucleus.now pass.old }
+    ensures { IsPassOf nucleus.now pass.new }
+{
+    for number in 1..=task.ports {
+        if anew {
+            make(rt, nucleus, pass, actor_of(rt, site, 1), 64);
+        }
+        for _ in 0..task.messages {
+            send(rt, alloc, nucleus, pass, port_of(rt, site, number), b"m");
+        }
+    }
+}
+
+/// Does so at each site, by a caller that comes and goes.
+fn fill_all<R: Wait + Abort>(
+    rt: &R,
+    alloc: Global,
+    nucleus: &Nucleus,
+    keeper: &mut Pass,
+    task: &Task,
+    anew: bool,
+)
+    requires { IsPassOf nucleus.now keeper.old }
+    ensures { IsPassOf nucleus.now keeper.new }
+{
+    for site in 1..=task.sites {
+        let mut pass = enter(rt, nucleus, keeper, site, 1);
+        fill(rt, alloc, nucleus, &mut pass, site, task, anew);
+        nucleus.retire(pass, keeper);
+    }
+}
+
+/// Each of the ports, with the first actor of its site.
+fn pairs_of(rt: &impl Abort, alloc: Global, task: &Task) -> Vec<(Ui, Ui)> {
+    let mut pairs = Vec::new(alloc);
+    for site in 1..=task.sites {
+        for number in 1..=task.ports {
+            let pair = (port_of(rt, site, number), actor_of(rt, site, 1));
+            pairs.push(pair).expect(rt, "memory");
+        }
+    }
+    pairs
+}
+
+/// What a crew answers, which is to handle all that waits in these ports.
+fn answer<H: Handler, R: Threads + Wait + Abort + Sync>(
+    rt: &R,
+    alloc: Global,
+    nucleus: &Nucleus,
+    pass: &mut Pass,
+    ports: &[(Ui, Ui)],
+    workers: u16,
+    handler: &H,
+) -> Result<Vec<Handled>, CrewFault>
+    requires { IsPassOf nucleus.now pass.old }
+    ensures { IsPassOf nucleus.now pass.new }
+{
+    assert!(rt; pass.keeper() && pass.worn().is_none());
+    assert!(rt; are_pairs(nucleus.layout(), ports));
+    assert!(rt; workers >= 1 && workers <= 16);
+    crew(rt, alloc, nucleus, pass, ports, workers, handler)
+}
+
+/// Whether the crew handled all messages of each port, each once, from the position on where the last crew stopped.
+fn is_done(answer: &Result<Vec<Handled>, CrewFault>, task: &Task, turn: u64) -> bool {
+    let Ok(all) = answer else {
+        return false;
+    };
+    let messages = task.messages;
+    all.iter().all(|one| {
+        one.from == turn.wrapping_mul(messages) && one.count == messages && one.total == messages
+    })
+}
+
+/// Has the crews do the task, one after another. Gives how many did.
+fn crews<H: Handler, R: Threads + Wait + Abort + Sync>(
+    rt: &R,
+    alloc: Global,
+    nucleus: &Nucleus,
+    pass: &mut Pass,
+    task: &Task,
+    handler: &H,
+) -> u64
+    requires { IsPassOf nucleus.now pass.old }
+    ensures { IsPassOf nucleus.now pass.new }
+{
+    let ports = pairs_of(rt, alloc, task);
+    let mut done: u64 = 0;
+    for turn in 0..task.crews {
+        fill_all(rt, alloc, nucleus, pass, task, turn == 0);
+        let answer = answer(rt, alloc, nucleus, pass, &ports, task.workers, handler);
+        if is_done(&answer, task, turn) {
+            done = done.saturating_add(1);
+        }
+    }
+    done
+}
+
+/// How many takes a journal has.
+fn takes_in(journal: &[Entry]) -> u64 {
+    let mut takes: u64 = 0;
+    for entry in journal {
+        if matches!(&entry.act, Act::Take { .. }) {
+            takes = takes.saturating_add(1);
+        }
+    }
+    takes
+}
+
+/// How many takes the journals have.
+fn takes_of(closed: &Closed) -> u64 {
+    let mut takes: u64 = 0;
+    for journal in &closed.journals {
+        takes = takes.saturating_add(takes_in(journal));
+    }
+    takes
+}
+
+/// Has the crews do the task on a nucleus of its own, and asserts that each pass that was drawn is retired. Gives how many of the crews
+/// did it, and what was closed.
+fn played<H: Handler, R: Threads + Wait + Abort + Sync>(
+    rt: &R,
+    alloc: Global,
+    task: &Task,
+    handler: &H,
+) -> (u64, Closed) {
+    let (nucleus, mut pass) = start(rt, alloc, task.sites, 1);
+    let done = crews(rt, alloc, &nucleus, &mut pass, task, handler);
+    let out = pass.made().saturating_sub(pass.ended());
+    assert!(rt; out == 1, "a pass was not retired");
+    (done, close(rt, nucleus, pass))
+}
+
+/// Asserts that all crews do it, by so many takes, and that the merge of the journals is legal.
+fn assert_all_done<H: Handler, R: Threads + Wait + Abort + Sync>(
+    rt: &R,
+    alloc: Global,
+    task: &Task,
+    handler: &H,
+    takes: u64,
+) {
+    let (done, closed) = played(rt, alloc, task, handler);
+    assert!(rt; done == task.crews && takes_of(&closed) == takes);
+    let layout = Layout::new(task.sites, 1).expect(rt, "a layout");
+    assert_lawful(rt, alloc, layout, &closed);
+}
+
+/// Two workers are at work at once: two messages in two ports, and a handler that holds each until the other was begun.
+#[test]
+fn row_crew(rt: HostRuntime) {
+    let task = Task {
+        sites: 1,
+        ports: 2,
+        messages: 1,
+        workers: 2,
+        crews: 1,
+    };
+    let handler = Meets::start();
+    assert_all_done(&rt, rt.alloc(), &task, &handler, 2);
+    assert!(rt; !handler.missed());
+}
+
+/// Crews of 16 handle each of 64 messages in each of 64 ports once, and what is sent behind that, and two workers are at work at once.
+#[test]
+fn a_crew_handles_each_message_once(rt: HostRuntime) {
+    let task = Task {
+        sites: 2,
+        ports: 32,
+        messages: 64,
+        workers: 16,
+        crews: 2,
+    };
+    let handler = Counts::start();
+    assert_all_done(&rt, rt.alloc(), &task, &handler, 2 * 64 * 64);
+    assert!(rt; handler.counted() == (2 * 64 * 64, true));
+}
+
+/// As many messages were handled as were taken, whatever the crew answers. A journal takes memory at its entry 513, which is one of these
+/// takes: 4 makes, 192 posts and as many accepts stand before them.
+#[test]
+fn what_a_crew_took_was_handled(rt: HostRuntime) {
+    let task = Task {
+        sites: 1,
+        ports: 4,
+        messages: 48,
+        workers: 4,
+        crews: 1,
+    };
+    let handler = Counts::start();
+    let (done, closed) = played(&rt, rt.alloc(), &task, &handler);
+    let (calls, _) = handler.counted();
+    assert!(rt; done == 0 || calls == 4 * 48, "a message was not handled");
+    assert!(rt;
+        takes_of(&closed) == calls,
+        "what was taken was not handled"
+    );
+}

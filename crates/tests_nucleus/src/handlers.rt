@@ -1,0 +1,99 @@
+//! Handlers that put down what they are called for. The value of each message is 1.
+
+use chorus_crew::Handler;
+use chorus_entry::Message;
+use chorus_ui::Ui;
+use std::sync::atomic::{AtomicBool, AtomicU64, Ordering};
+use std::thread;
+
+/// How many turns a handler waits for another at most.
+const WAIT_LIMIT: u64 = 1_000_000_000;
+
+/// Counts its calls, and sees whether two were made at once. A call takes from about a microsecond to about a
+/// millisecond, by the position.
+#[derive(Drop)]
+pub(crate) struct Counts {
+    calls: AtomicU64,
+    running: AtomicU64,
+    met: AtomicBool,
+}
+
+impl Counts {
+    /// No call was made yet.
+    pub(crate) fn start() -> Counts {
+        Counts {
+            calls: AtomicU64::new(0),
+            running: AtomicU64::new(0),
+            met: AtomicBool::new(false),
+        }
+    }
+
+    /// How many calls were made, and whether two were at once.
+    pub(crate) fn counted(&self) -> (u64, bool) {
+        (
+            self.calls.load(Ordering::SeqCst),
+            self.met.load(Ordering::SeqCst),
+        )
+    }
+}
+
+impl Handler for Counts {
+    ghost value = { λ _ _ _ _. 1 };
+
+    fn handle(&self, _port: Ui, pos: u64, _message: &Message) -> u64 {
+        if self.running.fetch_add(1, Ordering::SeqCst) > 0 {
+            self.met.store(true, Ordering::SeqCst);
+        }
+        for _ in 0..1_000u64 << (pos % 11) {
+            self.running.load(Ordering::Relaxed);
+        }
+        self.running.fetch_sub(1, Ordering::SeqCst);
+        self.calls.fetch_add(1, Ordering::SeqCst);
+        1
+    }
+}
+
+/// Holds the message of each of two ports until that of the other was begun.
+#[derive(Drop)]
+pub(crate) struct Meets {
+    first: AtomicBool,
+    second: AtomicBool,
+    missed: AtomicBool,
+}
+
+impl Meets {
+    /// No call was made yet.
+    pub(crate) fn start() -> Meets {
+        Meets {
+            first: AtomicBool::new(false),
+            second: AtomicBool::new(false),
+            missed: AtomicBool::new(false),
+        }
+    }
+
+    /// Whether a call waited for the other in vain.
+    pub(crate) fn missed(&self) -> bool {
+        self.missed.load(Ordering::SeqCst)
+    }
+}
+
+impl Handler for Meets {
+    ghost value = { λ _ _ _ _. 1 };
+
+    fn handle(&self, port: Ui, _pos: u64, _message: &Message) -> u64 {
+        let (own, other) = if port.number() == 2 {
+            (&self.second, &self.first)
+        } else {
+            (&self.first, &self.second)
+        };
+        own.store(true, Ordering::SeqCst);
+        for _ in 0..WAIT_LIMIT {
+            if other.load(Ordering::SeqCst) {
+                return 1;
+            }
+            thread::yield_now();
+        }
+        self.missed.store(true, Ordering::SeqCst);
+        1
+    }
+}
