@@ -1,5 +1,6 @@
 //! Frames that were worked out by hand, and what is wrong with damaged ones.
 
+use crate::ground::{named, port};
 use chorus_entry::{Answer, Cargo, Dest, MsgId, Packet, PortRecord, Tag};
 use chorus_frame::{DecodeFault, Frame, decode, encode};
 use chorus_ui::{Kind, Ui};
@@ -277,12 +278,8 @@ fn the_first_field_at_fault_is_named(rt: HostRuntime) {
     assert_each_damaged(&rt, alloc, TRAILING, DecodeFault::Trailing);
 }
 
-fn port(rt: &impl Abort, number: u64) -> Ui {
-    Ui::new(1, Kind::Port, number).expect(rt, "a port")
-}
-
 fn group(rt: &impl Abort) -> Ui {
-    Ui::new(2, Kind::Group, 1).expect(rt, "a group")
+    named(rt, 2, Kind::Group, 1)
 }
 
 /// Asserts that a message is tried by this route at site 16 alone, with hop 3.

@@ -1,21 +1,23 @@
 //! A port whose clients are as many as it remembers. What is not as it is to be ends the test.
 
-use crate::ground::{named, numbered, port};
-use chorus_entry::{Message, PENDING_LIMIT, Tag};
+use crate::ground::{named, port};
+use chorus_entry::{Body, Message, MsgId, PENDING_LIMIT, Tag};
 use chorus_ports::{Accept, Ports};
 use chorus_ui::{Kind, Ui};
 use std::alloc::Global;
 use std::process::Abort;
 
-fn actor(rt: &impl Abort, number: u64) -> Ui {
-    named(rt, 1, Kind::Actor, number)
-}
-
 /// The message with which the client asks under this number of its own.
 fn request(rt: &impl Abort, alloc: Global, back: Ui, client: u32, number: u32) -> Message {
-    let mut message = numbered(rt, alloc, number, Tag::Request { number, back });
-    message.id.seat = client;
-    message
+    Message {
+        id: MsgId {
+            seat: client,
+            number,
+            copy: 0,
+        },
+        tag: Tag::Request { number, back },
+        body: Body::new(alloc, b"hello").expect(rt, "memory"),
+    }
 }
 
 /// A table with this room.
@@ -60,7 +62,7 @@ fn asked(
 fn assert_fills(rt: &impl Abort, alloc: Global) {
     let ui = port(rt, 1);
     let mut ports = table(rt, alloc, 1);
-    make(rt, &mut ports, ui, actor(rt, 1), 64);
+    make(rt, &mut ports, ui, named(rt, 1, Kind::Actor, 1), 64);
     for client in 1..=64 {
         let pos = u64::from(client) - 1;
         assert!(rt; asked(rt, alloc, &mut ports, ui, client, 1) == Ok(pos));
