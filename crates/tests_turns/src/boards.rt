@@ -5,7 +5,7 @@ ghost use Rattle.std.specs.Prelude.{◌≡◌, ◌+◌, ◌<◌, ◌^◌, [], Is
 ghost use Rattle.chorus_ui.specs.declared.kind.Kind.TheVariants.{Port};
 ghost use Rattle.chorus_ui.specs.Layout.{has_site, has_place, can_make_port};
 ghost use Rattle.chorus_board.specs.Boards.{entries_published, book_of, layout_of, layout_read, IsSameBoard, IsSameReader, IsNewBoard, IsNewIn};
-ghost use Rattle.tests_board.specs.Moves.{departure, HasDeparted};
+ghost use Rattle.tests_turns.specs.Moves.{departure, HasDeparted};
 
 use chorus_board::{Board, BoardReader, Located};
 use chorus_ui::{Kind, Layout, Ui};

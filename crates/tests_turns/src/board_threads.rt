@@ -5,7 +5,7 @@ ghost use Rattle.chorus_ui.specs.declared.kind.Kind.TheVariants.{Port};
 ghost use Rattle.chorus_ui.specs.Layout.{has_site, can_make_port};
 ghost use Rattle.chorus_board.specs.Boards.{layout_of, layout_read, IsNewBoard};
 
-use crate::publishes::{layout_of_sites, next_reader, port_in, publish_next, start};
+use crate::boards::{layout_of_sites, next_reader, port_in, publish_next, start};
 use chorus_board::{Board, BoardReader, Located};
 use chorus_ui::Ui;
 use std::alloc::Global;

@@ -2,9 +2,9 @@ use Rattle.std.proofs.Common.{◌+◌, ◌%◌, ◌∷◌, [], ◌++◌, ap, sym
 use Rattle.chorus_world.specs.Places.{farther}
 use Rattle.chorus_board.specs.Boards.{layout_of}
 use Rattle.chorus_board.specs.Located.{located_after, told_of, IsOfPlace}
-use Rattle.tests_board.specs.Moves.{departures}
-use Rattle.tests_board.proofs.Departures.{next_entry, next_departures, length_departures, departures_of_place, departures_located}
-use Rattle.tests_board.proofs.publishes.publish_next.Goals as goal
+use Rattle.tests_turns.specs.Moves.{departures}
+use Rattle.tests_turns.proofs.Departures.{next_entry, next_departures, length_departures, departures_of_place, departures_located}
+use Rattle.tests_turns.proofs.boards.publish_next.Goals as goal
 
 pub publish-requires-clause-longer : goal.publish-requires-clause-longer
 publish-requires-clause-longer g c =

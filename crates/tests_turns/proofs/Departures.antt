@@ -1,4 +1,4 @@
--- What the publishes of the tests owe.
+-- What the publishes of the tests owe to the contract of `publish`.
 use Rattle.std.proofs.Common.{◌≡◌, ℕ, zero, suc, ◌+◌, ◌%◌, [], ◌∷◌, ◌++◌, length, rules, refl, ap, sym, ◌∙◌, arith, length-append}
 use Rattle.std.proofs.lemmas.List.Elements.{All-append}
 use Rattle.std.specs.List.{All}
@@ -11,7 +11,7 @@ use Rattle.chorus_board.specs.declared.board.Board.{Board}
 use Rattle.chorus_board.specs.Boards.{IsNewBoard}
 use Rattle.chorus_board.specs.Located.{located_after, told_of, IsOfPlace}
 use Rattle.chorus_board.proofs.Whereabouts.{located_more, of_place}
-use Rattle.tests_board.specs.Moves.{entry_of, departure, departures, HasDeparted}
+use Rattle.tests_turns.specs.Moves.{entry_of, departure, departures, HasDeparted}
 
 pub departure_located : (l : Layout) (port : Ui) (place hop : ℕ) (q : Ui) → farther (located_after l [] q) (told_of q port place hop) ≡ located_after l (departure port place hop) q
 unfolding located_after

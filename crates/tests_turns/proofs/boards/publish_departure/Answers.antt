@@ -2,9 +2,9 @@ use Rattle.std.proofs.Common.{◌++◌, ap, sym, ◌∙◌, subst}
 use Rattle.chorus_world.specs.Places.{farther}
 use Rattle.chorus_board.specs.Boards.{layout_of}
 use Rattle.chorus_board.specs.Located.{located_after, told_of, IsOfPlace}
-use Rattle.tests_board.specs.Moves.{departure}
-use Rattle.tests_board.proofs.Departures.{departure_located, departure_of_place}
-use Rattle.tests_board.proofs.publishes.publish_departure.Goals as goal
+use Rattle.tests_turns.specs.Moves.{departure}
+use Rattle.tests_turns.proofs.Departures.{departure_located, departure_of_place}
+use Rattle.tests_turns.proofs.boards.publish_departure.Goals as goal
 
 pub publish-requires-clause-longer : goal.publish-requires-clause-longer
 publish-requires-clause-longer g c = let all = departure c.args.port c.args.place c.args.hop in (all, ap (λ log. log ++ all) c.requires.new.3)

@@ -1,5 +1,0 @@
-use Rattle.tests_board.specs.Moves.{departures}
-use Rattle.tests_board.proofs.publishes.publish_next.Given as goal
-
-abbrev pub ghosts-publish : goal.ghosts-publish
-ghosts-publish g a = record { entries = departures a.ui a.hop }
