@@ -1,4 +1,4 @@
-//! Faults in mid-stream, limits, and sinks that take a part at a time.
+//! Faults in mid-stream: what was read or written by then, and what goes on behind one.
 
 use chorus_io::*;
 use std::alloc::Global;
@@ -26,27 +26,15 @@ pub(crate) fn copied<T: Copy>(rt: &impl Abort, alloc: Global, items: &[T]) -> Ve
     Vec::from_slice(alloc, items).expect(rt, "memory")
 }
 
-/// Reads up to so many bytes, which fails for this cause.
-fn assert_fails<S: Source>(
-    rt: &impl Abort,
-    alloc: Global,
-    source: &mut S,
-    most: usize,
-    cause: ReadAll,
-) {
-    assert_eq!(rt; read_all(alloc, source, most).err(), Some(cause));
+/// A reading of ten bytes fails in the source.
+fn assert_faults<S: Source>(rt: &impl Abort, alloc: Global, source: &mut S) {
+    assert_eq!(rt; read_all(alloc, source, 10).err(), Some(ReadAll::Fault));
 }
 
-/// Reads all that is left, up to so many bytes.
-fn assert_left<S: Source>(
-    rt: &impl Abort,
-    alloc: Global,
-    source: &mut S,
-    most: usize,
-    left: &[u8],
-) {
-    let read = read_all(alloc, source, most).ok().expect(rt, "the rest");
-    assert_same(rt, &read, left, most);
+/// A reading of ten bytes gives these, all that is left.
+fn assert_left<S: Source>(rt: &impl Abort, alloc: Global, source: &mut S, left: &[u8]) {
+    let read = read_all(alloc, source, 10).ok().expect(rt, "the rest");
+    assert_same(rt, &read, left, 10);
 }
 
 pub(crate) fn assert_same(rt: &impl Abort, bytes: &[u8], expected: &[u8], most: usize) {
@@ -64,47 +52,10 @@ fn source_fails_at_call_1_and_2(rt: HostRuntime) {
 
 /// The first reading of ten bytes fails, and the next one gives what is left.
 fn assert_one_fault<S: Source>(rt: &impl Abort, alloc: Global, source: &mut S, left: &[u8]) {
-    assert_fails(rt, alloc, source, 10, ReadAll::Fault);
+    assert_faults(rt, alloc, source);
     assert!(rt; source.faults() == 1);
-    assert_left(rt, alloc, source, 10, left);
+    assert_left(rt, alloc, source, left);
     assert!(rt; source.faults() == 1);
-}
-
-#[test]
-fn input_is_read_to_the_limit(rt: HostRuntime) {
-    // How many bytes there are, and the limit. One read gives a part of 100,000 bytes.
-    for (len, limit) in [(0, 0), (3, 3), (100_000, 100_000), (3, usize::MAX)] {
-        let input = bytes_of(&rt, rt.alloc(), len);
-        let mut source = source_of(&rt, rt.alloc(), &input, &[]);
-        assert_left(&rt, rt.alloc(), &mut source, limit, &input);
-        assert_left(&rt, rt.alloc(), &mut source, limit, b"");
-    }
-}
-
-#[test]
-fn longer_input_is_read_up_to_one_byte_more(rt: HostRuntime) {
-    // How many bytes there are, the limit, and how many are left.
-    for (len, limit, left) in [(1, 0, 0), (6, 3, 2), (100_002, 100_000, 1)] {
-        let input = bytes_of(&rt, rt.alloc(), len);
-        let mut source = source_of(&rt, rt.alloc(), &input, &[]);
-        assert_fails(&rt, rt.alloc(), &mut source, limit, ReadAll::TooLong);
-        let left = bytes_of(&rt, rt.alloc(), left);
-        assert_left(&rt, rt.alloc(), &mut source, len, &left);
-    }
-}
-
-fn bytes_of(rt: &impl Abort, alloc: Global, len: usize) -> Vec<u8> {
-    vec![in alloc; b'x'; len].expect(rt, "memory")
-}
-
-#[test]
-fn sink_takes_1_5_and_64_bytes(rt: HostRuntime) {
-    let text = [b'a'; 100];
-    for most in [1, 5, 64] {
-        let mut sink = sink_of(&rt, rt.alloc(), most, &[]);
-        assert_write(&rt, &mut sink, &text, Ok(()), 0);
-        assert_same(&rt, sink.bytes(), &text, most);
-    }
 }
 
 #[test]

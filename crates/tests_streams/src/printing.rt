@@ -3,8 +3,9 @@
 //!
 //! The contract of `lossy` is long, so it is called in one function, which is generic in its source and sink.
 
+use crate::bytes::{copied, sink_of, source_of};
 use crate::carrying::bytes_of;
-use chorus_io::{MemSink, MemSource, Sink, Source};
+use chorus_io::{Sink, Source};
 use chorus_lossy::{INPUT_LIMIT, WINDOW, lossy};
 use chorus_show::Status;
 use chorus_transport::{Receiver, Sender};
@@ -36,17 +37,6 @@ fn lossy_on<S: Source, K: Sink>(
     lossy(alloc, 7, source, sink, &mut sender, &mut receiver)
 }
 
-fn source_of(rt: &impl Abort, alloc: Global, bytes: &[u8], failing: &[u64]) -> MemSource {
-    let bytes = Vec::from_slice(alloc, bytes).expect(rt, "memory");
-    MemSource::new(bytes, Vec::from_slice(alloc, failing).expect(rt, "memory"))
-}
-
-fn sink_of(rt: &impl Abort, alloc: Global, most: usize, failing: &[u64]) -> MemSink {
-    assert!(rt; most > 0);
-    let failing = Vec::from_slice(alloc, failing).expect(rt, "memory");
-    MemSink::new(alloc, most, failing)
-}
-
 /// Runs `lossy` from 7 on, with reads and writes that fail as listed and writes of at most `most` bytes.
 fn run_on(
     rt: &impl Abort,
@@ -61,7 +51,7 @@ fn run_on(
     let status = lossy_on(rt, alloc, &mut source, &mut sink);
     Run {
         status,
-        written: Vec::from_slice(alloc, sink.bytes()).expect(rt, "memory"),
+        written: copied(rt, alloc, sink.bytes()),
     }
 }
 
