@@ -1,5 +1,5 @@
 use Rattle.chorus_io.proofs.Callers.{IfSome-whole, AppendsPrefix-first, AppendsPrefix-rest}
-use Rattle.tests_streams.proofs.above.copy.Goals as goal
+use Rattle.tests_io.proofs.above.copy.Goals as goal
 
 pub returns-in_err-write_all-clause-prefix : goal.returns-in_err-write_all-clause-prefix
 returns-in_err-write_all-clause-prefix g c =

@@ -1,7 +1,7 @@
 //! What a layer above proves from the contracts here: generic in a source and a sink, and at a source that never fails.
 ghost use Rattle.std.specs.Prelude.{◌≡◌, ◌≢◌, ◌++◌, [], OnOk, IfSome, IsErrOf, Err};
 ghost use Rattle.std.specs.Io.KnownBytes.{Appends};
-ghost use Rattle.tests_streams.specs.declared.above.Stop.TheVariants.{WriteFault};
+ghost use Rattle.tests_io.specs.declared.above.Stop.TheVariants.{WriteFault};
 ghost use Rattle.chorus_io.specs.Count.{Rose};
 ghost use Rattle.chorus_io.specs.Bytes.{AppendsPrefix};
 
