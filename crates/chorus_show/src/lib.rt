@@ -19,6 +19,7 @@ mod queues;
 mod status;
 mod summary;
 
+pub use entries::push_entry;
 pub use fields::push_byte;
 pub use journal::{entry_line, journal_head, journal_lines, journal_text};
 pub use law::{a_line_has_one_entry, a_line_is_read_back};
