@@ -11,18 +11,24 @@ use crate::words::Words;
 use chorus_entry::{Act, Ids, MEMBERS_LIMIT, Members, Message};
 use std::alloc::Global;
 
-/// The act that the words say, the first of them being the word of its kind.
-pub(crate) fn act(alloc: Global, words: &mut Words<'_>) -> Result<Act, Unread>
+/// The act that the words say, the first of them being the word of its kind. A body is read in the room, which is used
+/// again.
+pub(crate) fn act(alloc: Global, room: &mut Vec<u8>, words: &mut Words<'_>) -> Result<Act, Unread>
     ensures reads { Reads result (held (act_in words.old)) }
     ensures allowed { IfOk result IsAct }
 {
     let kind = words.next();
-    made(alloc, kind, words)
+    made(alloc, room, kind, words)
 }
 
 /// What a command makes, or a later kind.
 #[tactic(auto, unfolding(chorus_show::specs::Reading::act_of))]
-fn made(alloc: Global, kind: &[u8], words: &mut Words<'_>) -> Result<Act, Unread>
+fn made(
+    alloc: Global,
+    room: &mut Vec<u8>,
+    kind: &[u8],
+    words: &mut Words<'_>,
+) -> Result<Act, Unread>
     ensures reads { Reads result (held (act_of kind.now words.old)) }
     ensures allowed { IfOk result IsAct }
 {
@@ -44,7 +50,7 @@ fn made(alloc: Global, kind: &[u8], words: &mut Words<'_>) -> Result<Act, Unread
     } else if kind == b"no-site".as_slice() {
         Ok(Act::NoSite { site: words.one()? })
     } else if kind == b"post".as_slice() {
-        post(alloc, words)
+        post(alloc, room, words)
     } else {
         decision(alloc, kind, words)
     }
@@ -228,14 +234,14 @@ fn call_act(kind: &[u8], words: &mut Words<'_>) -> Result<Act, Unread>
     }
 }
 
-fn post(alloc: Global, words: &mut Words<'_>) -> Result<Act, Unread>
+fn post(alloc: Global, room: &mut Vec<u8>, words: &mut Words<'_>) -> Result<Act, Unread>
     ensures reads { Reads result (held (post_in words.old)) }
     ensures allowed { IfOk result IsAct }
 {
     let id = words.one()?;
     let dest = dest(words)?;
     let tag = tag(words)?;
-    let body = body(alloc, words.text())?;
+    let body = body(alloc, room, words.text())?;
     let message = Message { id, tag, body };
     Ok(Act::Post { message, dest })
 }

@@ -10,7 +10,7 @@ ghost use Rattle.chorus_audit.specs.Tests.{head, lines_shared, IsRead, IsWrong, 
 ghost use Rattle.chorus_audit.specs.Stops.{IsStop, TakesEntry};
 
 use crate::cut::cut;
-use crate::entries::parse_entry;
+use crate::entries::parse_in;
 use crate::field::Field;
 use crate::limits::{AUDIT_LIMIT, NO_LINE};
 use chorus_checker::{World, WorldFault};
@@ -57,12 +57,27 @@ pub fn read_text(alloc: Global, layout: Layout, text: &[u8]) -> Result<Reading, 
     ensures { IfOk result (λ reading.
         IsRead layout text.now reading.audit (reverse reading.world.past)) }
 {
+    let mut room = Vec::new(alloc);
+    read_in(alloc, &mut room, layout, text)
+}
+
+/// The same, with lines read in the room, which is used again.
+fn read_in(
+    alloc: Global,
+    room: &mut Vec<u8>,
+    layout: Layout,
+    text: &[u8],
+) -> Result<Reading, AllocError>
+    requires { length text.now ≤ AUDIT_LIMIT }
+    ensures { IfOk result (λ reading.
+        IsRead layout text.now reading.audit (reverse reading.world.past)) }
+{
     let mut world = World::opening(alloc, layout)?;
     let Some((count, mut rest)) = told(text) else {
         return Ok(stopped(world, 1, NO_LINE));
     };
     for taken in 0..count {
-        match take_entry(alloc, &mut world, rest) {
+        match take_entry(alloc, room, &mut world, rest) {
             Ok(behind) => rest = behind,
             Err(WorldFault::NotLegal { rule }) => return Ok(stopped(world, taken + 2, rule)),
             Err(WorldFault::Memory(error)) => return Err(error),
@@ -112,8 +127,13 @@ fn told(text: &[u8]) -> Option<(u32, &[u8])>
 }
 
 /// Takes the entry of the next line into the world, and gives the text behind that line. A line of no entry is refused by the
-/// rule [`NO_LINE`], and a refusal changes nothing.
-fn take_entry<'a>(alloc: Global, world: &mut World, text: &'a [u8]) -> Result<&'a [u8], WorldFault>
+/// rule [`NO_LINE`], and a refusal changes nothing in the world. The line is read in the room, which is used again.
+fn take_entry<'a>(
+    alloc: Global,
+    room: &mut Vec<u8>,
+    world: &mut World,
+    text: &'a [u8],
+) -> Result<&'a [u8], WorldFault>
     ensures read { MatchResult result
         (λ rest. TakesEntry world.old world.new text.now rest.now)
         (IsStop world.old text.now) }
@@ -123,7 +143,7 @@ fn take_entry<'a>(alloc: Global, world: &mut World, text: &'a [u8]) -> Result<&'
     let Some(rest) = rest else {
         return Err(WorldFault::NotLegal { rule: NO_LINE });
     };
-    match parse_entry(alloc, line) {
+    match parse_in(alloc, room, line) {
         Ok(Some(entry)) => {
             world.apply(entry)?;
             Ok(rest)

@@ -91,28 +91,28 @@ pub(crate) fn answer(words: &mut Words<'_>) -> Result<Answer, Unread>
     }
 }
 
-/// The bytes of a body.
+/// The bytes of a body, which are read in the room.
 #[tactic(auto, using(crate::proofs::Bodies::short_some, crate::proofs::Bodies::short_none))]
-pub(crate) fn body(alloc: Global, text: &[u8]) -> Result<Body, Unread>
+pub(crate) fn body(alloc: Global, room: &mut Vec<u8>, text: &[u8]) -> Result<Body, Unread>
     ensures reads { Reads result (short (body_in text.now)) }
     ensures allowed { IfOk result AreBytes }
 {
     match text {
         [b'=', escaped @ ..] => {
-            let bytes = unescaped(alloc, escaped)?;
-            Ok(Body::new(alloc, &bytes)?)
+            unescape(escaped, room)?;
+            Ok(Body::new(alloc, room)?)
         }
         _ => Err(Unread::NoEntry),
     }
 }
 
-/// The bytes of an escaped text, where they are few enough for a body.
-fn unescaped(alloc: Global, text: &[u8]) -> Result<Vec<u8>, Unread>
+/// Writes the bytes of an escaped text over what `bytes` had, where they are few enough for a body.
+fn unescape(text: &[u8], bytes: &mut Vec<u8>) -> Result<(), Unread>
     ensures { MatchResult result
-        (λ bytes. IsUnescaped bytes.items text.now)
+        (λ _. IsUnescaped bytes.new.items text.now)
         (λ fault. IsLong fault (unescape None text.now)) }
 {
-    let mut bytes = Vec::new(alloc);
+    bytes.clear();
     let mut left = text;
     while let Some((byte, rest)) = next_byte(left) {
         if bytes.len() == BODY_LIMIT {
@@ -121,7 +121,7 @@ fn unescaped(alloc: Global, text: &[u8]) -> Result<Vec<u8>, Unread>
         bytes.push(byte)?;
         left = rest;
     }
-    Ok(bytes)
+    Ok(())
 }
 
 /// The first byte of an escaped text, and the text behind it. None where the text ends, also within an escape.

@@ -4,7 +4,7 @@ use Rattle.chorus_audit.specs.declared.judging.Audit.TheVariants.{Wrong}
 use Rattle.chorus_audit.specs.declared.judging.Reading.{Reading}
 use Rattle.chorus_audit.specs.Tests.{IsRead}
 use Rattle.chorus_audit.proofs.Steps.{Found, found_next, legal_end, stop_end, summary_end}
-use Rattle.chorus_audit.proofs.judging.read_text.Goals as goal
+use Rattle.chorus_audit.proofs.judging.read_in.Goals as goal
 
 pub loop-taken-preserved : goal.loop-taken-preserved
 loop-taken-preserved c =

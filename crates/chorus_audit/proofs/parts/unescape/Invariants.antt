@@ -1,6 +1,6 @@
 use Rattle.std.proofs.Common.{length}
 use Rattle.chorus_audit.proofs.Bodies.{Sofar}
-use Rattle.chorus_audit.proofs.parts.unescaped.Given as goal
+use Rattle.chorus_audit.proofs.parts.unescape.Given as goal
 
 abbrev pub invariant-loop-byte : goal.invariant-loop-byte
 invariant-loop-byte l = Sofar l.text l.bytes.items l.left

@@ -1,6 +1,6 @@
 use Rattle.std.proofs.Common.{sym, subst, arith}
 use Rattle.chorus_audit.proofs.Bodies.{Sofar, one_byte}
-use Rattle.chorus_audit.proofs.parts.unescaped.Goals as goal
+use Rattle.chorus_audit.proofs.parts.unescape.Goals as goal
 
 pub loop-byte-preserved : goal.loop-byte-preserved
 loop-byte-preserved c =
