@@ -1,4 +1,5 @@
 pub mod Pieces
 mod PlainNames
+pub mod PlainTexts
 mod ReadBack
 mod Stretches

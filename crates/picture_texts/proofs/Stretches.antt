@@ -107,7 +107,7 @@ module _ (template ns front rest : List ℕ) (k : ℕ) (at : k ≡ gap template)
 
 -- a text between tags
 
-plain_byte : (c : ℕ) → is_special c ≡ false → markup_byte c ≡ c ∷ []
+pub plain_byte : (c : ℕ) → is_special c ≡ false → markup_byte c ≡ c ∷ []
 plain_byte c h =
     let six = or_parts (c == 60 || c == 62 || c == 38 || c == 39 || c == 34) (c == 10) h in
     let five = or_parts (c == 60 || c == 62 || c == 38 || c == 39) (c == 34) six.0 in

@@ -1,11 +1,11 @@
 //! Templates with numbers, and texts in which nothing is read as markup.
 
-ghost use Rattle.std.specs.Prelude.{◌≡◌, ◌==◌, ◌≤◌, ◌++◌, length, decimal, OnOk};
-ghost use Rattle.std.specs.List.{position, position_or_len};
+ghost use Rattle.std.specs.Prelude.{◌≡◌, ◌==◌, ◌≤◌, ◌++◌, false, length, decimal, OnOk};
+ghost use Rattle.std.specs.List.{list_any, position, position_or_len};
 ghost use Rattle.picture_texts.specs.Filling.{cut, filled, markup_byte, markup, most_shown, shown, shown_act};
 ghost use Rattle.picture_texts.specs.Stretches.{is_special};
 
-use crate::limits::{SHOWN_BODY_LIMIT, SHOWN_LIMIT};
+use crate::limits::{SHORT_ACT_LIMIT, SHOWN_BODY_LIMIT, SHOWN_LIMIT};
 use chorus_ui::push_decimal;
 use std::alloc::AllocError;
 
@@ -81,6 +81,13 @@ fn special_in(text: &[u8]) -> Option<usize>
     text.iter().position(|c| is_special(*c))
 }
 
+/// Whether a byte of the text is not written as itself.
+pub fn has_special(text: &[u8]) -> bool
+    ensures { result ≡ list_any is_special text.now }
+{
+    text.iter().any(|c| is_special(*c))
+}
+
 /// Whether a byte is not written as itself.
 fn is_special(byte: u8) -> bool
     ensures { result ≡ is_special byte }
@@ -117,7 +124,22 @@ pub fn push_shown(text: &[u8], out: &mut Vec<u8>) -> Result<(), AllocError>
 pub fn push_shown_act(act: &[u8], out: &mut Vec<u8>) -> Result<(), AllocError>
     ensures { OnOk result (out.new.items ≡ out.old.items ++ shown_act act.now) }
 {
+    if act.len() <= SHORT_ACT_LIMIT {
+        return push_markup(act, out);
+    }
     push_cut(most_shown(equals_sign_in(act)), act, out)
+}
+
+/// Appends the act as [`push_shown_act`] does, where each of its bytes is written as itself: not searched once more.
+pub fn push_plain_act(act: &[u8], out: &mut Vec<u8>) -> Result<(), AllocError>
+    requires { list_any is_special act.now ≡ false }
+    ensures { OnOk result (out.new.items ≡ out.old.items ++ shown_act act.now) }
+{
+    if act.len() <= SHORT_ACT_LIMIT {
+        out.extend_from_slice(act)?;
+        return Ok(());
+    }
+    push_shown_act(act, out)
 }
 
 /// The place of the first `=`.
