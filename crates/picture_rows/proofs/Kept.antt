@@ -1,5 +1,5 @@
 -- What the tables have of a past, and of one entry more.
-use Rattle.std.proofs.Common.{◌≡◌, ℕ, suc, ◌<◌, ◌≤◌, Bool, true, false, cond, List, [], ◌∷◌, length, Option, None, Some, refl, sym, ap, ◌∙◌, arith}
+use Rattle.std.proofs.Common.{◌≡◌, ℕ, suc, ◌<◌, ◌≤◌, Bool, true, false, cond, List, [], ◌∷◌, ◌++◌, length, Option, None, Some, refl, sym, ap, ◌∙◌, arith}
 use Rattle.chorus_ui.specs.declared.ui.Ui.{Ui}
 use Rattle.chorus_entry.specs.declared.entry.Entry.{Entry}
 use Rattle.chorus_entry.specs.declared.id.MsgId.{MsgId}
@@ -10,12 +10,18 @@ use Rattle.law_picture.specs.Causes.{caused_by, from_elsewhere, goes_on_by, late
 use Rattle.law_picture.specs.Bars.{bar, row_in, waits_after, waits_in}
 use Rattle.law_picture.proofs.Arrows.{latest_none}
 use Rattle.law_picture.proofs.Standing.{latest_on}
-use Rattle.chorus_entry.specs.Act.{message_of}
-use Rattle.picture_rows.specs.Columns.{ColumnShape}
-use Rattle.picture_rows.specs.Shapes.{row_text, row_with}
+use Rattle.chorus_entry.specs.Act.{held_port_of, message_of}
+use Rattle.chorus_entry.specs.MsgId.{same_id}
+use Rattle.std.specs.HashMap.{get}
+use Rattle.law_picture.specs.declared.bar.Bar.{Bar}
+use Rattle.picture_rows.specs.Columns.{ColumnShape, right_edge}
+use Rattle.picture_rows.specs.Edge.{tick_at, tick_of}
+use Rattle.picture_rows.specs.Rows.{row_y}
+use Rattle.picture_rows.specs.Shapes.{arrow, bar_above, entry_at, is_new_clock, row_text, row_with, tick}
 use Rattle.picture_rows.specs.declared.limits.TheConstants.{ENTRIES_LIMIT}
+use Rattle.picture_rows.specs.declared.tables.Before.{Before}
 use Rattle.picture_rows.specs.declared.tables.Tables.{Tables}
-use Rattle.picture_rows.specs.Tables.{AreTables, Grows, HaveFew, bar_next, bar_of, cause_in, last_by, message_row, row_by, row_next}
+use Rattle.picture_rows.specs.Tables.{AreTables, Grows, HaveFew, IsBefore, about_row, bar_before, bar_ended, bar_next, bar_of, cause_in, last_row, row_behind, row_by, row_next}
 
 -- no more messages wait than there are entries
 fewer : (a : Act) (n m : ℕ) → n ≤ m → waits_after a n ≤ suc m
@@ -54,11 +60,12 @@ grows s t past e h g = record {
 
 -- What they say of an entry is what the past says.
 
-message_is : (t : Tables) (past : List Entry) (o : Option MsgId) → AreTables t past → message_row t o ≡ latest (is_about o) past
+message_is : (t : Tables) (past : List Entry) (o : Option MsgId) → AreTables t past → about_row (get same_id t.messages) o ≡ latest (is_about o) past
 message_is t past None h = sym (latest_none past)
 message_is t past (Some x) h = h.messages x
 
-last_is : (t : Tables) (past : List Entry) (p : Option Ui) (o : Option MsgId) → AreTables t past → last_by t p o ≡ latest (goes_on_by p o) past
+last_is : (t : Tables) (past : List Entry) (p : Option Ui) (o : Option MsgId) → AreTables t past
+    → last_row (bar_of t.bars) p (about_row (get same_id t.messages) o) ≡ latest (goes_on_by p o) past
 last_is t past (Some q) o h = ap row_in (h.bars q) ∙ sym (latest_on q past)
 last_is t past None o h = message_is t past o h
 
@@ -70,3 +77,25 @@ bars_are t past h = λ i q. h.bars q i
 
 pub row_is : (cs : List ColumnShape) (t : Tables) (past : List Entry) (e : Entry) → AreTables t past → row_by cs t e ≡ row_text cs past e
 row_is cs t past e h = λ i. row_with cs (bars_are t past h i) (h.number i) (h.clock i) e (cause_is t past e h i)
+
+-- A row by what they said before it is one by what they say.
+
+ended_is : (cs : List ColumnShape) (bars : Ui → Option Bar) (y : ℕ) (p : Option Ui) → bar_ended cs y p (bar_before bars p) ≡ bar_above cs bars y p
+ended_is cs bars y None = refl
+ended_is cs bars y (Some q) = refl
+
+thin_is : (cs : List ColumnShape) (y : ℕ) (b : Bool) → tick_of (right_edge cs) y b ≡ tick cs y b
+unfolding tick tick_at
+thin_is cs y true = refl
+thin_is cs y false = refl
+
+abbrev given : Option Row → Option ℕ → ℕ → Option Bar → Before
+given cause clock number b = record { number = number; clock = clock; cause = cause; bar = b }
+
+pub behind_is : (right : ℕ) (cs : List ColumnShape) (t : Tables) (e : Entry) (b : Before) → right ≡ right_edge cs → IsBefore t e b
+    → row_behind right cs b e ≡ row_by cs t e
+behind_is right cs t e b edge h =
+    (λ i. row_behind (edge i) cs (given (h.cause i) (h.clock i) (h.number i) (h.bar i)) e)
+    ∙ (λ i. thin_is cs (row_y t.number) (is_new_clock t.clock e.clock) i
+    ++ ended_is cs (bar_of t.bars) (row_y t.number) (held_port_of e.act) i ++ arrow cs t.number e (cause_in t e)
+    ++ entry_at cs t.number e (cause_in t e))

@@ -1,11 +1,11 @@
 -- Tables: what is kept of the entries that are drawn.
 -- x is the id of a message, q a port.
-use Rattle.std.specs.Prelude.{ℕ, ◌≡◌, ◌<◌, ◌+◌, cond, List, length, Option, None, Some}
+use Rattle.std.specs.Prelude.{ℕ, ◌≡◌, ◌<◌, ◌+◌, cond, List, [], ◌++◌, length, Option, None, Some}
 use Rattle.std.specs.HashMap.{HashMap, get}
 use Rattle.chorus_ui.specs.declared.ui.Ui.{Ui}
 use Rattle.chorus_entry.specs.declared.entry.Entry.{Entry}
 use Rattle.chorus_entry.specs.declared.id.MsgId.{MsgId}
-use Rattle.chorus_entry.specs.Act.{message_of}
+use Rattle.chorus_entry.specs.Act.{held_port_of, message_of}
 use Rattle.chorus_entry.specs.MsgId.{same_id}
 use Rattle.chorus_entry.specs.declared.act.Act.{Act}
 use Rattle.chorus_world.specs.Views.{is_about, is_on}
@@ -16,8 +16,12 @@ use Rattle.law_picture.specs.declared.bar.Bar.{Bar}
 use Rattle.law_picture.specs.Causes.{from_elsewhere, latest, port_arrived}
 use Rattle.law_picture.specs.Bars.{bar, keeps, row_in, waits_after, waits_in}
 use Rattle.picture_rows.specs.declared.limits.TheConstants.{ENTRIES_LIMIT}
-use Rattle.picture_rows.specs.Columns.{ColumnShape}
-use Rattle.picture_rows.specs.Shapes.{clock_before, row_with}
+use Rattle.picture_rows.specs.Columns.{ColumnShape, column_at, x_of}
+use Rattle.picture_rows.specs.Edge.{tick_of}
+use Rattle.picture_rows.specs.Marks.{mark_of}
+use Rattle.picture_rows.specs.Rows.{row_y}
+use Rattle.picture_rows.specs.Shapes.{arrow, bar_held, clock_before, entry_in, is_new_clock, row_with}
+use Rattle.picture_rows.specs.declared.tables.Before.{Before}
 use Rattle.picture_rows.specs.declared.tables.Tables.{Tables}
 
 abbrev pub bar_of : {S : Type 0} → HashMap PortKey Bar S → Ui → Option Bar
@@ -33,16 +37,29 @@ pub record AreTables (t : Tables) (past : List Entry) : Type 0 where
 
 -- What the tables say of what caused an entry.
 
-abbrev pub message_row : Tables → Option MsgId → Option Row
-message_row t None = None
-message_row t (Some x) = get same_id t.messages x
+abbrev pub about_row : (MsgId → Option Row) → Option MsgId → Option Row
+about_row rows None = None
+about_row rows (Some x) = rows x
 
-abbrev pub last_by : Tables → Option Ui → Option MsgId → Option Row
-last_by t (Some q) x = row_in (bar_of t.bars q)
-last_by t None x = message_row t x
+abbrev pub last_row : (Ui → Option Bar) → Option Ui → Option Row → Option Row
+last_row bars (Some q) about = row_in (bars q)
+last_row bars None about = about
 
 abbrev pub cause_in : Tables → Entry → Option Row
-cause_in t e = from_elsewhere e (last_by t (port_arrived e.act) (message_of e.act))
+cause_in t e =
+    from_elsewhere e
+    (last_row (bar_of t.bars) (port_arrived e.act) (about_row (get same_id t.messages) (message_of e.act)))
+
+-- and of the port on whose line it stands
+abbrev pub bar_before : (Ui → Option Bar) → Option Ui → Option Bar
+bar_before bars None = None
+bar_before bars (Some q) = bars q
+
+pub record IsBefore (t : Tables) (e : Entry) (b : Before) : Type 0 where
+  pub number : b.number ≡ t.number
+  pub clock : b.clock ≡ t.clock
+  pub cause : b.cause ≡ cause_in t e
+  pub bar : b.bar ≡ bar_before (bar_of t.bars) (held_port_of e.act)
 
 -- What an entry, which stands at r, makes of them.
 
@@ -71,3 +88,18 @@ HaveFew bars = (q : Ui) → waits_in (bars q) < ENTRIES_LIMIT
 -- what stands for an entry by the tables
 abbrev pub row_by : List ColumnShape → Tables → Entry → List ℕ
 row_by cs t e = row_with cs (bar_of t.bars) t.number t.clock e (cause_in t e)
+
+-- and by what they said before it, left of the right edge
+
+abbrev pub bar_ended : List ColumnShape → ℕ → Option Ui → Option Bar → List ℕ
+bar_ended cs y None b = []
+bar_ended cs y (Some q) b = bar_held cs q y b
+
+abbrev pub entry_by : ℕ → List ColumnShape → ℕ → Entry → Option Row → List ℕ
+entry_by right cs row e cause = entry_in (mark_of cause e.act) right (x_of (column_at e.place cs)) (row_y row) e
+
+abbrev pub row_behind : ℕ → List ColumnShape → Before → Entry → List ℕ
+row_behind right cs b e =
+    tick_of right (row_y b.number) (is_new_clock b.clock e.clock)
+    ++ bar_ended cs (row_y b.number) (held_port_of e.act) b.bar ++ arrow cs b.number e b.cause
+    ++ entry_by right cs b.number e b.cause

@@ -5,13 +5,15 @@
 //! alone (`specs/Shapes.antt`), and its tables then say which ports are held. [`columns`] says where the columns of
 //! places stand. Marks stand apart ([`marks_stand_apart`]) and tell what happened ([`marks_tell_what_happened`]).
 //!
-//! Begin with `shapes`, which has what stands for an entry, a packet and a port. `column` has the columns and `rows`
-//! how far down a row stands; `mark` and `lines` have the shape of an entry and its line; `tables` keeps what is asked
-//! of the entries before, so that a row costs about the same whatever went before.
+//! Begin with `shapes`, which has what stands for an entry, a packet and a port. `column` has the columns, `edge` what
+//! each row has of their right edge, and `rows` how far down a row stands; `mark` and `lines` have the shape of an entry
+//! and its line; `tables` keeps what is asked of the entries before, so that a row costs about the same whatever went
+//! before.
 
 #![tactic(auto)]
 
 mod column;
+mod edge;
 mod laws;
 mod limits;
 mod lines;

@@ -1,23 +1,29 @@
 //! What stands in a picture for an entry, for a packet and for a port.
 
-ghost use Rattle.std.specs.Prelude.{◌≡◌, ◌≤◌, ◌<◌, ◌^◌, ◌++◌, [], length, reverse, OnOk, Some};
+ghost use Rattle.std.specs.Prelude.{◌≡◌, ◌≤◌, ◌<◌, ◌^◌, ◌++◌, [], false, length, reverse, OnOk, Some};
+ghost use Rattle.std.specs.List.{list_any};
 ghost use Rattle.chorus_show.specs.Lines.{act_text};
 ghost use Rattle.law_picture.specs.Causes.{packet_of};
 ghost use Rattle.picture_rows.specs.declared.limits.TheConstants.{ENTRIES_LIMIT};
-ghost use Rattle.picture_rows.specs.Tables.{AreTables, bar_of, row_by};
+ghost use Rattle.picture_rows.specs.Edge.{IsEdge, tick_at, tick_of};
+ghost use Rattle.picture_rows.specs.Tables.{AreTables, bar_ended, entry_by, row_behind};
 ghost use Rattle.picture_rows.specs.Rows.{row_y};
-ghost use Rattle.picture_rows.specs.Shapes.{arrow, arrow_to, bar_above, bar_class, bar_down, bar_held, bar_in, ends, entry_at, is_new_clock, mark_at, points, rows, spot, start_x, stop_x, texts_at, texts_front, tick, turn_x};
+ghost use Rattle.picture_rows.specs.Shapes.{arrow, arrow_to, bar_class, bar_down, bar_held, bar_in, ends, is_new_clock, mark_at, points, rows, spot, start_x, stop_x, texts_at, texts_front, turn_x};
+ghost use Rattle.picture_texts.specs.Filling.{markup, shown_act};
+ghost use Rattle.picture_texts.specs.Stretches.{is_special};
 
-use crate::column::{Column, column_at, right_edge, x_at};
+use crate::column::{Column, column_at, x_at};
+use crate::edge::Edge;
 use crate::limits::ENTRIES_LIMIT;
 use crate::lines::write_line;
 use crate::mark::{mark_name, mark_of, packet_name};
 use crate::rows::row_y;
-use crate::tables::Tables;
+use crate::tables::{Before, Tables};
 use chorus_entry::{Act, Entry};
 use chorus_ui::Ui;
+use itoa::Buffer;
 use law_picture::{Bar, PacketKind, Row};
-use picture_texts::{push_markup, push_numbered, push_shown_act};
+use picture_texts::{has_special, push_markup, push_numbered, push_plain_act, push_shown_act};
 use std::alloc::AllocError;
 
 /// Appends the row of each entry, and fills the tables, which are to be empty. After an error a part of the rows may
@@ -34,32 +40,39 @@ pub fn push_rows(
         (out.new.items ≡ out.old.items ++ rows columns.now [] entries.now) }
     ensures tables { OnOk result (AreTables tables.new (reverse entries.now)) }
 {
+    let edge = Edge::of(*out.allocator(), columns)?;
     let mut room = Vec::new(*out.allocator());
     for entry in entries {
-        push_row(columns, tables, entry, &mut room, out)?;
-        tables.add(entry)?;
+        let before = tables.add(entry)?;
+        push_row(columns, &edge, &before, entry, &mut room, out)?;
     }
     Ok(())
 }
 
-/// Appends all that stands for the entry behind those of the tables. Its line is written in the room, which is used
-/// again.
+/// Appends all that stands for the entry, by what the tables said before it. Its line is written in the room, which is
+/// used again.
 fn push_row(
     columns: &[Column],
-    tables: &Tables,
+    edge: &Edge,
+    before: &Before,
     entry: &Entry,
     room: &mut Vec<u8>,
     out: &mut Vec<u8>,
 ) -> Result<(), AllocError>
-    ensures { OnOk result
-        (out.new.items ≡ out.old.items ++ row_by columns.now tables.now entry.now) }
+    requires { IsEdge edge.now }
+    ensures { OnOk result (out.new.items ≡ out.old.items
+        ++ row_behind edge.now.right columns.now before.now entry.now) }
 {
-    let row = tables.number;
-    let cause = tables.cause(entry);
-    push_tick(columns, row, is_new_clock(tables.clock, entry.clock), out)?;
-    push_bar_above(columns, tables, row, entry.act.held_port(), out)?;
-    push_arrow(columns, row, entry, cause, out)?;
-    push_entry(columns, row, entry, cause, room, out)?;
+    let row = before.number;
+    push_tick_of(
+        edge,
+        row_y(row),
+        is_new_clock(before.clock, entry.clock),
+        out,
+    )?;
+    push_bar_ended(columns, row_y(row), entry.act.held_port(), before.bar, out)?;
+    push_arrow(columns, row, entry, before.cause, out)?;
+    push_entry(columns, edge, row, entry, before.cause, room, out)?;
     Ok(())
 }
 
@@ -74,38 +87,41 @@ fn is_new_clock(before: Option<u64>, clock: u64) -> bool
 }
 
 /// Appends the thin line above a row, where it has a new clock.
-#[tactic(auto, unfolding(crate::specs::Shapes::tick))]
-fn push_tick(
-    columns: &[Column],
-    row: u32,
-    is_new: bool,
-    out: &mut Vec<u8>,
-) -> Result<(), AllocError>
-    ensures { OnOk result
-        (out.new.items ≡ out.old.items ++ tick columns.now (row_y row) is_new) }
+fn push_tick_of(edge: &Edge, y: u64, is_new: bool, out: &mut Vec<u8>) -> Result<(), AllocError>
+    requires edge { IsEdge edge.now }
+    requires y { 9 ≤ y }
+    ensures { OnOk result (out.new.items ≡ out.old.items ++ tick_of edge.now.right y is_new) }
 {
     if is_new {
-        let end = right_edge(columns) + 652;
-        push_numbered(b"<path class='tick' d='M8 ", row_y(row) - 9, out)?;
-        push_numbered(b"H", end, out)?;
-        out.extend_from_slice(b"'/>\n")?;
+        return push_tick(edge, y, out);
     }
     Ok(())
 }
 
+#[tactic(auto, unfolding(crate::specs::Edge::tick_at))]
+fn push_tick(edge: &Edge, y: u64, out: &mut Vec<u8>) -> Result<(), AllocError>
+    requires edge { IsEdge edge.now }
+    requires y { 9 ≤ y }
+    ensures { OnOk result (out.new.items ≡ out.old.items ++ tick_at edge.now.right y) }
+{
+    push_numbered(b"<path class='tick' d='M8 ", y - 9, out)?;
+    out.extend_from_slice(&edge.tick_end)?;
+    Ok(())
+}
+
 /// Appends the bar that an entry on the line of this port ends.
-fn push_bar_above(
+fn push_bar_ended(
     columns: &[Column],
-    tables: &Tables,
-    row: u32,
+    y: u64,
     port: Option<Ui>,
+    bar: Option<Bar>,
     out: &mut Vec<u8>,
 ) -> Result<(), AllocError>
-    ensures { OnOk result (out.new.items ≡ out.old.items
-        ++ bar_above columns.now (bar_of tables.now.bars) (row_y row) port) }
+    ensures { OnOk result
+        (out.new.items ≡ out.old.items ++ bar_ended columns.now y port bar) }
 {
     if let Some(port) = port {
-        push_held(columns, port, row_y(row), tables.bar(port), out)?;
+        push_held(columns, port, y, bar, out)?;
     }
     Ok(())
 }
@@ -320,29 +336,44 @@ fn packet_of(act: &Act) -> PacketKind
     }
 }
 
-/// Appends the entry with its mark.
+/// Appends the entry with its mark. Its line is searched once for bytes that are not written as themselves.
 #[tactic(auto, unfolding(crate::specs::Shapes::entry_in))]
 fn push_entry(
     columns: &[Column],
+    edge: &Edge,
     row: u32,
     entry: &Entry,
     cause: Option<Row>,
     room: &mut Vec<u8>,
     out: &mut Vec<u8>,
 ) -> Result<(), AllocError>
-    ensures { OnOk result
-        (out.new.items ≡ out.old.items ++ entry_at columns.now row entry.now cause) }
+    requires { IsEdge edge.now }
+    ensures { OnOk result (out.new.items ≡ out.old.items
+        ++ entry_by edge.now.right columns.now row entry.now cause) }
 {
     let name = mark_name(mark_of(cause, &entry.act));
     let at = write_line(entry, room)?;
     let (_, act) = room.as_slice().split_at(at);
+    let special = has_special(room);
     out.extend_from_slice(b"<g class='")?;
     out.extend_from_slice(name.as_bytes())?;
     out.extend_from_slice(b"'><title>")?;
-    push_markup(room, out)?;
+    push_title(room, special, out)?;
     out.extend_from_slice(b"</title>")?;
     push_mark(name, x_at(columns, entry.place), row_y(row), out)?;
-    push_texts(right_edge(columns), row_y(row) + 4, entry, act, out)?;
+    push_texts(edge, row_y(row) + 4, entry, act, special, out)?;
+    Ok(())
+}
+
+/// Appends the line as it stands between tags.
+fn push_title(line: &[u8], special: bool, out: &mut Vec<u8>) -> Result<(), AllocError>
+    requires { special ≡ false → list_any is_special line.now ≡ false }
+    ensures { OnOk result (out.new.items ≡ out.old.items ++ markup line.now) }
+{
+    if special {
+        return push_markup(line, out);
+    }
+    out.extend_from_slice(line)?;
     Ok(())
 }
 
@@ -370,40 +401,67 @@ fn push_spot(x: u64, y: u64, out: &mut Vec<u8>) -> Result<(), AllocError>
 /// Appends the entry's clock, its caller and its act.
 #[tactic(auto, unfolding(crate::specs::Shapes::texts_at))]
 fn push_texts(
-    right: u64,
+    edge: &Edge,
     y: u64,
     entry: &Entry,
     act: &[u8],
+    special: bool,
     out: &mut Vec<u8>,
 ) -> Result<(), AllocError>
-    requires right { right < 2 ^ 40 }
+    requires edge { IsEdge edge.now }
     requires act { act.now ≡ act_text entry.now.act }
-    ensures { OnOk result (out.new.items ≡ out.old.items ++ texts_at right y entry.now) }
+    requires plain { special ≡ false → list_any is_special act.now ≡ false }
+    ensures { OnOk result
+        (out.new.items ≡ out.old.items ++ texts_at edge.now.right y entry.now) }
 {
-    push_texts_front(right, y, entry.clock, u64::from(entry.seat), out)?;
-    push_shown_act(act, out)?;
+    push_texts_front(edge, y, entry.clock, u64::from(entry.seat), out)?;
+    push_act_text(act, special, out)?;
     out.extend_from_slice(b"</text></g>\n")?;
     Ok(())
 }
 
+/// Appends the clock and the caller. The height stands there three times and is written once.
 #[tactic(auto, unfolding(crate::specs::Shapes::texts_front))]
 fn push_texts_front(
-    right: u64,
+    edge: &Edge,
     y: u64,
     clock: u64,
     seat: u64,
     out: &mut Vec<u8>,
 ) -> Result<(), AllocError>
-    requires { right < 2 ^ 40 }
-    ensures { OnOk result (out.new.items ≡ out.old.items ++ texts_front right y clock seat) }
+    requires { IsEdge edge.now }
+    ensures { OnOk result
+        (out.new.items ≡ out.old.items ++ texts_front edge.now.right y clock seat) }
 {
-    push_numbered(b"<text x='8' y='", y, out)?;
+    let mut buffer = Buffer::new();
+    let y = buffer.format(y).as_bytes();
+    push_both(b"<text x='8' y='", y, out)?;
     push_numbered(b"'>", clock, out)?;
-    push_numbered(b"</text><text x='", right + 12, out)?;
-    push_numbered(b"' y='", y, out)?;
+    push_both(&edge.seat_front, y, out)?;
     push_numbered(b"'>", seat, out)?;
-    push_numbered(b"</text><text class='act' x='", right + 72, out)?;
-    push_numbered(b"' y='", y, out)?;
+    push_both(&edge.act_front, y, out)?;
     out.extend_from_slice(b"'>")?;
     Ok(())
+}
+
+/// Appends both texts.
+#[inline(always)]
+fn push_both(text: &[u8], more: &[u8], out: &mut Vec<u8>) -> Result<(), AllocError>
+    ensures { OnOk result (out.new.items ≡ out.old.items ++ (text.now ++ more.now)) }
+{
+    out.extend_from_slice(text)?;
+    out.extend_from_slice(more)?;
+    Ok(())
+}
+
+/// Appends the act as it stands between tags, cut where it is long.
+fn push_act_text(act: &[u8], special: bool, out: &mut Vec<u8>) -> Result<(), AllocError>
+    requires { special ≡ false → list_any is_special act.now ≡ false }
+    ensures { OnOk result (out.new.items ≡ out.old.items ++ shown_act act.now) }
+{
+    if special {
+        push_shown_act(act, out)
+    } else {
+        push_plain_act(act, out)
+    }
 }

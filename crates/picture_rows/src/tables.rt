@@ -1,12 +1,13 @@
 //! What is kept of the entries that are drawn: where the last one about each message stands, and the bar of each port.
 
-ghost use Rattle.std.specs.Prelude.{◌≡◌, ◌<◌, [], OnOk};
+ghost use Rattle.std.specs.Prelude.{◌≡◌, ◌<◌, [], IfOk, OnOk};
 ghost use Rattle.std.specs.HashMap.{get};
+ghost use Rattle.chorus_entry.specs.Act.{held_port_of, message_of};
 ghost use Rattle.chorus_entry.specs.MsgId.{same_id};
 ghost use Rattle.law_picture.specs.Causes.{from_elsewhere, port_arrived};
 ghost use Rattle.law_picture.specs.Bars.{keeps, row_in, waits_after, waits_in};
 ghost use Rattle.picture_rows.specs.declared.limits.TheConstants.{ENTRIES_LIMIT};
-ghost use Rattle.picture_rows.specs.Tables.{AreTables, BarsAfter, Grows, HaveFew, RowsAfter, bar_of, cause_in, last_by, message_row};
+ghost use Rattle.picture_rows.specs.Tables.{AreTables, BarsAfter, Grows, HaveFew, IsBefore, RowsAfter, about_row, bar_before, bar_of, last_row};
 
 use checker_rows::keys::PortKey;
 use chorus_entry::{Act, Entry, MsgId};
@@ -26,6 +27,19 @@ pub struct Tables {
     pub messages: HashMap<MsgId, Row>,
     /// The bar of each port on whose line an entry stands.
     pub bars: HashMap<PortKey, Bar>,
+}
+
+/// What the tables said of an entry before it was added.
+#[derive(Clone, Copy)]
+pub(crate) struct Before {
+    /// How many entries there were.
+    pub(crate) number: u32,
+    /// The clock of the last one.
+    pub(crate) clock: Option<u64>,
+    /// Where the entry stands that put the packet which this one works off.
+    pub(crate) cause: Option<Row>,
+    /// The bar of the port on whose line it stands.
+    pub(crate) bar: Option<Bar>,
 }
 
 impl Tables {
@@ -48,85 +62,81 @@ impl Tables {
         bar_of(&self.bars, port)
     }
 
-    /// Where the entry stands that put the packet which this one works off.
-    pub(crate) fn cause(&self, entry: &Entry) -> Option<Row>
-        ensures { result ≡ cause_in self.now entry.now }
-    {
-        from_elsewhere(
-            entry,
-            self.last(port_arrived(&entry.act), entry.act.message()),
-        )
-    }
-
-    /// Where the last entry stands on the line of the port that arrives, or else about the message.
-    fn last(&self, port: Option<Ui>, message: Option<MsgId>) -> Option<Row>
-        ensures { result ≡ last_by self.now port message }
+    /// Where the last entry stands on the line of the port that arrives, or else about the message, which is known.
+    fn last(&self, port: Option<Ui>, about: Option<Row>) -> Option<Row>
+        ensures { result ≡ last_row (bar_of self.now.bars) port about }
     {
         match port {
             Some(port) => row_in(self.bar(port)),
-            None => self.message_row(message),
+            None => about,
         }
     }
 
-    /// Where the last entry about the message stands.
-    fn message_row(&self, message: Option<MsgId>) -> Option<Row>
-        ensures { result ≡ message_row self.now message }
-    {
-        match message {
-            Some(id) => self.messages.get(&id).copied(),
-            None => None,
-        }
-    }
-
-    /// The tables with one entry more. After an error they are of no use.
-    pub(crate) fn add(&mut self, entry: &Entry) -> Result<(), AllocError>
+    /// Adds the entry, and gives what the tables said of it before. After an error they are of no use.
+    pub(crate) fn add(&mut self, entry: &Entry) -> Result<Before, AllocError>
         requires few { self.old.number < ENTRIES_LIMIT }
         requires waits { HaveFew (bar_of self.old.bars) }
-        ensures { OnOk result (Grows entry.now self.old self.new) }
+        ensures grows { OnOk result (Grows entry.now self.old self.new) }
+        ensures before { IfOk result (IsBefore self.old entry.now) }
     {
         let row = Row {
             number: self.number,
             place: entry.place,
             clock: entry.clock,
         };
-        follow_messages(&mut self.messages, row, entry)?;
-        follow_bars(&mut self.bars, row, entry)?;
+        let about = follow_messages(&mut self.messages, row, entry)?;
+        let last = self.last(port_arrived(&entry.act), about);
+        let before = Before {
+            number: self.number,
+            clock: self.clock,
+            cause: from_elsewhere(entry, last),
+            bar: follow_bars(&mut self.bars, row, entry)?,
+        };
         self.number += 1;
         self.clock = Some(entry.clock);
-        Ok(())
+        Ok(before)
     }
 }
 
-/// The messages after the entry, which stands at the row.
+/// The messages after the entry, which stands at the row. Gives where the last one about its message stood.
 fn follow_messages(
     messages: &mut HashMap<MsgId, Row>,
     row: Row,
     entry: &Entry,
-) -> Result<(), AllocError>
-    ensures { OnOk result
+) -> Result<Option<Row>, AllocError>
+    ensures after { OnOk result
         (RowsAfter entry.now row (get same_id messages.old) (get same_id messages.new)) }
+    ensures before { IfOk result
+        (λ about. about ≡ about_row (get same_id messages.old) (message_of entry.now.act)) }
 {
-    if let Some(id) = entry.act.message() {
-        messages.insert(id, row)?;
+    match entry.act.message() {
+        Some(id) => Ok(messages.insert(id, row)?),
+        None => Ok(None),
     }
-    Ok(())
 }
 
-/// The bars after the entry, which stands at the row.
-fn follow_bars(bars: &mut HashMap<PortKey, Bar>, row: Row, entry: &Entry) -> Result<(), AllocError>
+/// The bars after the entry, which stands at the row. Gives what the bar of the port on whose line it stands was.
+fn follow_bars(
+    bars: &mut HashMap<PortKey, Bar>,
+    row: Row,
+    entry: &Entry,
+) -> Result<Option<Bar>, AllocError>
     requires { HaveFew (bar_of bars.old) }
-    ensures { OnOk result (BarsAfter entry.now row (bar_of bars.old) (bar_of bars.new)) }
+    ensures after { OnOk result (BarsAfter entry.now row (bar_of bars.old) (bar_of bars.new)) }
+    ensures before { IfOk result
+        (λ before. before ≡ bar_before (bar_of bars.old) (held_port_of entry.now.act)) }
 {
-    if let Some(port) = entry.act.held_port() {
-        let waits = waits_in(bar_of(bars, port));
-        let bar = Bar {
-            row,
-            waits: waits_after(&entry.act, waits),
-            held: keeps(&entry.act),
-        };
-        bars.insert(PortKey { port }, bar)?;
-    }
-    Ok(())
+    let Some(port) = entry.act.held_port() else {
+        return Ok(None);
+    };
+    let before = bar_of(bars, port);
+    let bar = Bar {
+        row,
+        waits: waits_after(&entry.act, waits_in(before)),
+        held: keeps(&entry.act),
+    };
+    bars.insert(PortKey { port }, bar)?;
+    Ok(before)
 }
 
 /// The bar of the port.

@@ -1,3 +1,5 @@
+use Rattle.std.proofs.Common.{◌++◌, ap, ◌∙◌}
+use Rattle.picture_rows.proofs.Kept.{behind_is}
 use Rattle.picture_rows.proofs.Drawn.{drawn_all, drawn_next, drawn_none, drawn_room}
 use Rattle.picture_rows.proofs.shapes.push_rows.Goals as goal
 
@@ -13,7 +15,8 @@ add-requires-clause-waits c = (drawn_room _ _ _ _ _ _ c.loop-entry.invariant c.l
 pub loop-entry-preserved : goal.loop-entry-preserved
 loop-entry-preserved c =
     drawn_next _ _ _ _ _ _ c.loop-entry.invariant c.entry-item.result c.loop-entry-test.true c.entry-item.is _ _
-    c.in_ok-push_row.ensures c.in_ok-add.ensures
+    (c.in_ok-push_row.ensures ∙ ap (λ t. c.loop-entry.out.items ++ t) (behind_is _ _ _ _ _ c.in_ok-of.ensures.right c.in_ok-add.ensures.before))
+    c.in_ok-add.ensures.grows
 
 pub returns-clause-rows : goal.returns-clause-rows
 returns-clause-rows c = (drawn_all _ _ _ _ _ _ c.loop-entry.invariant c.loop-entry-test.false).0

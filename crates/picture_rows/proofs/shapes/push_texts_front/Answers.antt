@@ -1,25 +1,12 @@
-use Rattle.std.proofs.Common.{◌≡◌, ℕ, ◌+◌, ◌++◌, List, codes, decimal}
-use Rattle.picture_rows.specs.Shapes.{texts_front}
-use Rattle.picture_texts.proofs.Pieces.{two}
+use Rattle.std.proofs.Common.{◌≡◌, decimal, ◌∙◌}
+use Rattle.picture_rows.specs.Edge.{act_front, seat_front}
+use Rattle.picture_rows.proofs.RoundTexts.{texts_in_pieces}
 use Rattle.picture_rows.proofs.shapes.push_texts_front.Goals as goal
 
 pub returns : goal.returns
-unfolding texts_front
 returns c =
-    let o = c.args.out.now.items in
-    let w = c.extend_from_slice.new.self.items in
-    let r7 : List ℕ = codes "'>" in
-    let r6 : List ℕ = (codes "' y='" ++ decimal c.args.y) ++ r7 in
-    let r5 : List ℕ = (codes "</text><text class='act' x='" ++ decimal (c.args.right + 72)) ++ r6 in
-    let r4 : List ℕ = (codes "'>" ++ decimal c.args.seat) ++ r5 in
-    let r3 : List ℕ = (codes "' y='" ++ decimal c.args.y) ++ r4 in
-    let r2 : List ℕ = (codes "</text><text x='" ++ decimal (c.args.right + 12)) ++ r3 in
-    let r1 : List ℕ = (codes "'>" ++ decimal c.args.clock) ++ r2 in
-    let h6 : w ≡ c.push_numbered-6.new.out.items ++ ((codes "' y='" ++ decimal c.args.y) ++ r7) = two c.push_numbered-6.new.out.items (codes "' y='" ++ decimal c.args.y) r7 c.push_numbered-7.new.out.items w c.in_ok-push_numbered-7.ensures c.in_ok-extend_from_slice.ensures.items in
-    let h5 : w ≡ c.push_numbered-5.new.out.items ++ ((codes "</text><text class='act' x='" ++ decimal (c.args.right + 72)) ++ r6) = two c.push_numbered-5.new.out.items (codes "</text><text class='act' x='" ++ decimal (c.args.right + 72)) r6 c.push_numbered-6.new.out.items w c.in_ok-push_numbered-6.ensures h6 in
-    let h4 : w ≡ c.push_numbered-4.new.out.items ++ ((codes "'>" ++ decimal c.args.seat) ++ r5) = two c.push_numbered-4.new.out.items (codes "'>" ++ decimal c.args.seat) r5 c.push_numbered-5.new.out.items w c.in_ok-push_numbered-5.ensures h5 in
-    let h3 : w ≡ c.push_numbered-3.new.out.items ++ ((codes "' y='" ++ decimal c.args.y) ++ r4) = two c.push_numbered-3.new.out.items (codes "' y='" ++ decimal c.args.y) r4 c.push_numbered-4.new.out.items w c.in_ok-push_numbered-4.ensures h4 in
-    let h2 : w ≡ c.push_numbered-2.new.out.items ++ ((codes "</text><text x='" ++ decimal (c.args.right + 12)) ++ r3) = two c.push_numbered-2.new.out.items (codes "</text><text x='" ++ decimal (c.args.right + 12)) r3 c.push_numbered-3.new.out.items w c.in_ok-push_numbered-3.ensures h3 in
-    let h1 : w ≡ c.push_numbered.new.out.items ++ ((codes "'>" ++ decimal c.args.clock) ++ r2) = two c.push_numbered.new.out.items (codes "'>" ++ decimal c.args.clock) r2 c.push_numbered-2.new.out.items w c.in_ok-push_numbered-2.ensures h2 in
-    let h0 : w ≡ o ++ ((codes "<text x='8' y='" ++ decimal c.args.y) ++ r1) = two o (codes "<text x='8' y='" ++ decimal c.args.y) r1 c.push_numbered.new.out.items w c.in_ok-push_numbered.ensures h1 in
-    h0
+    let tall : c.as_bytes.result.now ≡ decimal c.args.y = cc (c.as_bytes.ensures.value, c.format.ensures.text) in
+    texts_in_pieces c.args.edge.now.right c.args.y c.args.clock c.args.seat _ _ _ _ _ _ _ _ _ _ tall
+    (c.deref.ensures.value ∙ c.requires.seat) (c.deref-2.ensures.value ∙ c.requires.act)
+    c.in_ok-push_both.ensures c.in_ok-push_numbered.ensures c.in_ok-push_both-2.ensures c.in_ok-push_numbered-2.ensures
+    c.in_ok-push_both-3.ensures c.in_ok-extend_from_slice.ensures.items
