@@ -1,6 +1,6 @@
-//! How many threads of a scenario are at work.
+//! Whether the threads of a scenario are at work.
 
-use std::sync::atomic::{AtomicU32, Ordering};
+use std::sync::atomic::{AtomicBool, AtomicU32, AtomicU64, Ordering};
 
 /// After how many idle sweeps a thread is at work no more, until it finds something again.
 const IDLE_SWEEPS: u32 = 4;
@@ -9,11 +9,35 @@ const IDLE_SWEEPS: u32 = 4;
 /// it, and waits then for this one.
 const PATIENCE: u32 = 4096;
 
-/// How many threads of a scenario are at work: they perform commands, or found something to do a moment ago. It decides only how long
-/// a thread goes on to pump, so nothing is promised of it.
+/// What the threads of a scenario tell one another: how many of them are at work, since they perform commands or found something to
+/// do a moment ago, and how many packets are under way. It decides only how long a thread goes on to pump, so nothing is promised
+/// of it.
 #[derive(Drop)]
 pub(crate) struct AtWork {
     count: AtomicU32,
+    /// How many packets the places put more than they worked off, as far as the threads have told, modulo 2^64.
+    under_way: AtomicU64,
+    /// Whether a thread stopped before its end.
+    halted: AtomicBool,
+}
+
+/// What a thread has told the others.
+#[derive(Clone, Copy)]
+pub(crate) struct Told {
+    /// How many sweeps behind one another found nothing.
+    idle: u32,
+    /// How many packets the places of its range put more than they worked off, modulo 2^64.
+    under_way: u64,
+}
+
+impl Told {
+    /// Nothing yet.
+    pub(crate) fn new() -> Told {
+        Told {
+            idle: 0,
+            under_way: 0,
+        }
+    }
 }
 
 impl AtWork {
@@ -21,31 +45,53 @@ impl AtWork {
     pub(crate) fn new(threads: u32) -> AtWork {
         AtWork {
             count: AtomicU32::new(threads),
+            under_way: AtomicU64::new(0),
+            halted: AtomicBool::new(false),
         }
     }
 
-    /// A thread ends.
+    /// A thread is at work no more.
     pub(crate) fn leave(&self) {
         self.count.fetch_sub(1, Ordering::SeqCst);
     }
 
-    /// Tells what came of a sweep behind so many idle ones: whether it worked off a packet. Gives how many idle ones there are then.
-    pub(crate) fn note(&self, idle: u32, served: bool) -> u32 {
-        if served {
-            if idle >= IDLE_SWEEPS {
-                self.count.fetch_add(1, Ordering::SeqCst);
-            }
-            return 0;
+    /// A thread has ended. Where it is not done with its script, the others need not wait for what it would do.
+    pub(crate) fn end(&self, is_done: bool) {
+        if !is_done {
+            self.halted.store(true, Ordering::SeqCst);
         }
-        let idle = idle.saturating_add(1);
-        if idle == IDLE_SWEEPS {
-            self.leave();
-        }
-        idle
     }
 
-    /// Whether a thread ends behind so many idle sweeps: no thread is at work, or it has had patience enough.
-    pub(crate) fn is_over(&self, idle: u32) -> bool {
-        idle >= PATIENCE || (idle >= IDLE_SWEEPS && self.count.load(Ordering::SeqCst) == 0)
+    /// Tells what came of a sweep: whether it worked off a packet, and what its places have under way, where it saw that of each.
+    pub(crate) fn note(&self, told: &mut Told, served: bool, under_way: Option<u64>) {
+        if let Some(now) = under_way {
+            self.under_way
+                .fetch_add(now.wrapping_sub(told.under_way), Ordering::SeqCst);
+            told.under_way = now;
+        }
+        if served {
+            if told.idle >= IDLE_SWEEPS {
+                self.count.fetch_add(1, Ordering::SeqCst);
+            }
+            told.idle = 0;
+            return;
+        }
+        told.idle = told.idle.saturating_add(1);
+        if told.idle == IDLE_SWEEPS {
+            self.leave();
+        }
+    }
+
+    /// Whether a thread ends that told this: no thread is at work and no packet under way, or one stopped, or it has had patience
+    /// enough.
+    pub(crate) fn is_over(&self, told: &Told) -> bool {
+        told.idle >= PATIENCE || (told.idle >= IDLE_SWEEPS && self.is_quiet())
+    }
+
+    /// Whether no thread is at work and no packet under way, or one stopped.
+    fn is_quiet(&self) -> bool {
+        self.halted.load(Ordering::SeqCst)
+            || (self.count.load(Ordering::SeqCst) == 0
+                && self.under_way.load(Ordering::SeqCst) == 0)
     }
 }

@@ -5,7 +5,7 @@ ghost use Rattle.chorus_ui.specs.Layout.{has_place, places};
 ghost use Rattle.chorus_nucleus.specs.Passes.{layout_of, IsPassOf};
 ghost use Rattle.chorus_perform.specs.Going.{Goes};
 
-use crate::at_work::AtWork;
+use crate::at_work::{AtWork, Told};
 use crate::lately::Lately;
 use crate::pace::{PUMPS_AT_A_PLACE, Pace};
 use crate::share::Share;
@@ -15,22 +15,38 @@ use chorus_serve::Pump;
 use std::sync::Wait;
 use std::thread;
 
-/// Pumps a place once. False where it was idle, and where another thread has it, which is not waited for.
-pub(crate) fn pump<R: Wait>(
-    rt: &R,
-    nucleus: &Nucleus,
-    pass: &mut Pass,
-    place: u16,
-) -> Result<bool, Halted>
+/// What came of a pump.
+enum Pumped {
+    /// It worked off a packet.
+    Served,
+    /// Nothing was there. The place put so many packets more than it worked off, modulo 2^64.
+    Idle { under_way: u64 },
+    /// Another thread has the place.
+    Busy,
+}
+
+/// What came of pumps at a place.
+#[derive(Clone, Copy)]
+pub(crate) struct Visit {
+    /// Whether one worked off a packet.
+    pub(crate) served: bool,
+    /// How many packets the place put more than it worked off, modulo 2^64, where it was idle at last.
+    pub(crate) under_way: Option<u64>,
+}
+
+/// Pumps a place once. Where another thread has it, that is not waited for.
+fn pump<R: Wait>(rt: &R, nucleus: &Nucleus, pass: &mut Pass, place: u16) -> Result<Pumped, Halted>
     requires pass { IsPassOf nucleus.now pass.old }
     requires place { has_place (layout_of nucleus.now) place ≡ true }
     ensures pass { IsPassOf nucleus.now pass.new }
     ensures goes { Goes [] pass.old pass.new }
 {
     match nucleus.pump(rt, pass, place) {
-        Ok(Pump::Served { .. }) => Ok(true),
-        Ok(Pump::Idle { .. }) => Ok(false),
-        Err(CallFault::Busy { .. }) => Ok(false),
+        Ok(Pump::Served { .. }) => Ok(Pumped::Served),
+        Ok(Pump::Idle { put, worked }) => Ok(Pumped::Idle {
+            under_way: put.wrapping_sub(worked),
+        }),
+        Err(CallFault::Busy { .. }) => Ok(Pumped::Busy),
         Err(_) => Err(Halted),
     }
 }
@@ -49,35 +65,51 @@ pub(crate) fn pump_behind<R: Wait>(
     ensures goes { Goes [] pass.old pass.new }
 {
     if pace.is_due() {
-        let served = pump_at(rt, nucleus, pass, share.home(), PUMPS_AT_A_PLACE)?;
-        pace.note(served);
+        let visit = pump_at(rt, nucleus, pass, share.home(), PUMPS_AT_A_PLACE)?;
+        pace.note(visit.served);
     }
     Ok(())
 }
 
-/// Pumps a place until it is idle, or so many times. True where it worked off a packet.
+/// Pumps a place until it is idle, or so many times.
 pub(crate) fn pump_at<R: Wait>(
     rt: &R,
     nucleus: &Nucleus,
     pass: &mut Pass,
     place: u16,
     most: u32,
-) -> Result<bool, Halted>
+) -> Result<Visit, Halted>
     requires pass { IsPassOf nucleus.now pass.old }
     requires place { has_place (layout_of nucleus.now) place ≡ true }
     ensures pass { IsPassOf nucleus.now pass.new }
     ensures goes { Goes [] pass.old pass.new }
 {
     for count in 0..most {
-        if !pump(rt, nucleus, pass, place)? {
-            return Ok(count > 0);
+        let served = count > 0;
+        match pump(rt, nucleus, pass, place)? {
+            Pumped::Served => {}
+            Pumped::Idle { under_way } => {
+                return Ok(Visit {
+                    served,
+                    under_way: Some(under_way),
+                });
+            }
+            Pumped::Busy => {
+                return Ok(Visit {
+                    served,
+                    under_way: None,
+                });
+            }
         }
     }
-    Ok(most > 0)
+    Ok(Visit {
+        served: most > 0,
+        under_way: None,
+    })
 }
 
-/// Pumps when all commands are done: the home place, and then the range of places, until no thread is at work, so that
-/// seat 0 finds little.
+/// Pumps when all commands are done: the home place, and then the range of places, until no thread is at work and no packet
+/// under way, so that seat 0 finds little.
 pub(crate) fn pump_on<R: Wait>(
     rt: &R,
     nucleus: &Nucleus,
@@ -98,7 +130,7 @@ pub(crate) fn pump_on<R: Wait>(
     sweep_on(rt, nucleus, pass, share, at_work)
 }
 
-/// Sweeps over the range of places until no thread is at work.
+/// Sweeps over the range of places until no thread is at work and no packet under way.
 fn sweep_on<R: Wait>(
     rt: &R,
     nucleus: &Nucleus,
@@ -111,12 +143,13 @@ fn sweep_on<R: Wait>(
     ensures pass { IsPassOf nucleus.now pass.new }
     ensures goes { Goes [] pass.old pass.new }
 {
-    let mut idle = 0;
+    let mut told = Told::new();
     let mut lately = Lately::new();
     for _ in rt.forever() {
-        let goes_on = sweep(rt, nucleus, pass, share, &mut lately)?;
-        idle = at_work.note(idle, goes_on);
-        if at_work.is_over(idle) {
+        let under_way = sweep(rt, nucleus, pass, share, &mut lately)?;
+        let goes_on = lately.end_sweep();
+        at_work.note(&mut told, goes_on, under_way);
+        if at_work.is_over(&told) {
             return Ok(());
         }
         if !goes_on {
@@ -126,24 +159,31 @@ fn sweep_on<R: Wait>(
     unreachable!()
 }
 
-/// Pumps the places of the range that are due, each until it is idle. False where it went over all of them and each was
-/// idle.
+/// Pumps the places of the range that are due, each until it is idle. Gives how many packets the places of the range put more than
+/// they worked off, modulo 2^64, where each of them was due and idle at last.
 fn sweep<R: Wait>(
     rt: &R,
     nucleus: &Nucleus,
     pass: &mut Pass,
     share: &Share,
     lately: &mut Lately,
-) -> Result<bool, Halted>
+) -> Result<Option<u64>, Halted>
     requires pass { IsPassOf nucleus.now pass.old }
     requires share { share.now.places ≡ places (layout_of nucleus.now) }
     ensures pass { IsPassOf nucleus.now pass.new }
     ensures goes { Goes [] pass.old pass.new }
 {
+    let mut under_way = Some(0);
     for index in share.before()..share.last() {
         let most = lately.pumps_at(index + 1);
-        let more = pump_at(rt, nucleus, pass, index + 1, most)?;
-        lately.note(index + 1, more);
+        let visit = pump_at(rt, nucleus, pass, index + 1, most)?;
+        lately.note(index + 1, visit.served);
+        under_way = sum(under_way, visit.under_way);
     }
-    Ok(lately.end_sweep())
+    Ok(under_way)
+}
+
+/// The sum of both, modulo 2^64, where both are known.
+fn sum(so_far: Option<u64>, more: Option<u64>) -> Option<u64> {
+    Some(so_far?.wrapping_add(more?))
 }

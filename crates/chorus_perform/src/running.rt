@@ -79,4 +79,5 @@ fn perform_script<R: Wait, G: Gate>(
         gate,
     )
     .is_ok();
+    at_work.end(runner.done);
 }

@@ -1,8 +1,8 @@
 use Rattle.chorus_perform.proofs.Steps.{goes-none}
 use Rattle.chorus_perform.proofs.pumping.sweep.Goals as goal
 
-pub returns-in_err-more-clause-goes : goal.returns-in_err-more-clause-goes
-returns-in_err-more-clause-goes g c = goes-none c.args.pass.now c.loop-index.pass c.pump_at.new.pass c.loop-index.invariant.1 c.pump_at.ensures.goes
+pub returns-in_err-visit-clause-goes : goal.returns-in_err-visit-clause-goes
+returns-in_err-visit-clause-goes g c = goes-none c.args.pass.now c.loop-index.pass c.pump_at.new.pass c.loop-index.invariant.1 c.pump_at.ensures.goes
 
 pub loop-index-preserved : goal.loop-index-preserved
 loop-index-preserved g c = (c.pump_at.ensures.pass, goes-none c.args.pass.now c.loop-index.pass c.pump_at.new.pass c.loop-index.invariant.1 c.pump_at.ensures.goes)

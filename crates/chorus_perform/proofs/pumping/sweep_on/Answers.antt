@@ -1,8 +1,8 @@
 use Rattle.chorus_perform.proofs.Steps.{goes-none}
 use Rattle.chorus_perform.proofs.pumping.sweep_on.Goals as goal
 
-pub returns-in_err-goes_on-clause-goes : goal.returns-in_err-goes_on-clause-goes
-returns-in_err-goes_on-clause-goes g c = goes-none c.args.pass.now c.loop.pass c.sweep.new.pass c.loop.invariant.1 c.sweep.ensures.goes
+pub returns-in_err-under_way-clause-goes : goal.returns-in_err-under_way-clause-goes
+returns-in_err-under_way-clause-goes g c = goes-none c.args.pass.now c.loop.pass c.sweep.new.pass c.loop.invariant.1 c.sweep.ensures.goes
 
 pub returns-then-is_over-clause-goes : goal.returns-then-is_over-clause-goes
 returns-then-is_over-clause-goes g c = goes-none c.args.pass.now c.loop.pass c.sweep.new.pass c.loop.invariant.1 c.sweep.ensures.goes
