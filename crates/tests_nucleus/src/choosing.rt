@@ -23,7 +23,7 @@ enum Given {
 }
 
 /// What the receive gave.
-fn given(received: &Received) -> Given {
+fn outcome_of(received: &Received) -> Given {
     match received {
         Received::Taken {
             port,
@@ -54,7 +54,7 @@ fn assert_gives(
     ensures { IsPassOf nucleus.now pass.new }
 {
     match chooser.receive(nucleus, pass) {
-        Ok(received) => assert!(rt; given(&received) == wanted),
+        Ok(received) => assert!(rt; outcome_of(&received) == wanted),
         Err(_) => panic!(rt; "refused"),
     }
 }
