@@ -15,8 +15,8 @@ add-requires-clause-waits c = (drawn_room _ _ _ _ _ _ c.loop-entry.invariant c.l
 pub loop-entry-preserved : goal.loop-entry-preserved
 loop-entry-preserved c =
     drawn_next _ _ _ _ _ _ c.loop-entry.invariant c.entry-item.result c.loop-entry-test.true c.entry-item.is _ _
-    (c.in_ok-push_row.ensures ∙ ap (λ t. c.loop-entry.out.items ++ t) (behind_is _ _ _ _ _ c.in_ok-of.ensures.right c.in_ok-add.ensures.before))
-    c.in_ok-add.ensures.grows
+    (c.in_ok-push_row.ensures ∙ ap (λ t. c.loop-entry.out.items ++ t) (behind_is c.in_ok-edge.edge.right c.args.columns.now _ _ _ c.in_ok-edge.ensures.right c.in_ok-before.ensures.before))
+    c.in_ok-before.ensures.grows
 
 pub returns-clause-rows : goal.returns-clause-rows
 returns-clause-rows c = (drawn_all _ _ _ _ _ _ c.loop-entry.invariant c.loop-entry-test.false).0
