@@ -57,11 +57,7 @@ pub(crate) fn does_on_one_thread<S: Source, K: Sink>(
 }
 
 /// Replays on sites that are started for it.
-fn start_replay<S: Source, K: Sink>(
-    alloc: Global,
-    source: &mut S,
-    sink: &mut K,
-) -> Finished
+fn start_replay<S: Source, K: Sink>(alloc: Global, source: &mut S, sink: &mut K) -> Finished
     ensures { EndsAsReplay replay_layout result S.left S.faults S.reliable
         source.old source.new K.held K.faults sink.old sink.new }
 {
@@ -72,12 +68,7 @@ fn start_replay<S: Source, K: Sink>(
 }
 
 /// Performs a load on sites that are started for it.
-fn start_load<K: Sink>(
-    alloc: Global,
-    first: u64,
-    commands: u32,
-    sink: &mut K,
-) -> Finished
+fn start_load<K: Sink>(alloc: Global, first: u64, commands: u32, sink: &mut K) -> Finished
     requires { commands ≤ LOAD_LIMIT }
     ensures { EndsAsLoad first commands result K.held K.faults sink.old sink.new }
 {

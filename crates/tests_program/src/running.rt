@@ -52,11 +52,7 @@ fn sink_of(
 }
 
 /// What the sink holds.
-fn text_in(
-    rt: &(impl Abort + Threads + Wait + Sync),
-    alloc: Global,
-    sink: &MemSink,
-) -> String {
+fn text_in(rt: &(impl Abort + Threads + Wait + Sync), alloc: Global, sink: &MemSink) -> String {
     let bytes = Vec::from_slice(alloc, sink.bytes()).expect(rt, "memory");
     String::from_utf8(bytes).ok().expect(rt, "a text")
 }
