@@ -10,7 +10,7 @@ use std::thread;
 const WAIT_LIMIT: u64 = 1_000_000_000;
 
 /// Counts its calls, and sees whether two were made at once. A call takes from about a microsecond to about a
-/// millisecond, by the position.
+/// tenth of a millisecond, by the position.
 #[derive(Drop)]
 pub(crate) struct Counts {
     calls: AtomicU64,
@@ -44,7 +44,7 @@ impl Handler for Counts {
         if self.running.fetch_add(1, Ordering::SeqCst) > 0 {
             self.met.store(true, Ordering::SeqCst);
         }
-        for _ in 0..1_000u64 << (pos % 11) {
+        for _ in 0..1_000u64 << (pos % 8) {
             self.running.load(Ordering::Relaxed);
         }
         self.running.fetch_sub(1, Ordering::SeqCst);
