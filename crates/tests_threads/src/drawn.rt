@@ -1,5 +1,5 @@
-//! Scenarios that are drawn: whatever the threads do, the run ends, and what is printed is lawful. That it has the commands of each script
-//! once, in their order, is proved of `run`.
+//! Scenarios that are drawn: whatever the threads do, what is printed is lawful, and has the commands of each script once, in their
+//! order.
 
 use crate::running::{assert_done, assert_lawful, counted, performed};
 use chorus_draw::{next_state, number_of};
@@ -10,11 +10,19 @@ use std::sync::Wait;
 use std::thread::Threads;
 
 /// A scenario with so many sites, each with a port and a script in the actor of the same number, and so many commands of each script.
-#[derive(Clone, Copy)]
+#[derive(Clone, Copy, Debug)]
 struct Drawn {
     first: u64,
     sites: u64,
     commands: u64,
+}
+
+/// What a command does.
+#[derive(Clone, Copy, Debug)]
+enum Doing {
+    Sends,
+    Takes,
+    Moves,
 }
 
 /// The number that is drawn for a step of a script.
@@ -24,6 +32,15 @@ fn draw(drawn: &Drawn, script: u64, step: u64) -> u64 {
         .wrapping_add(script.wrapping_mul(4096))
         .wrapping_add(step);
     number_of(next_state(next_state(state)))
+}
+
+/// What the step of the script does.
+fn does(drawn: &Drawn, script: u64, step: u64) -> Doing {
+    match draw(drawn, script, step) % 8 {
+        0 | 1 => Doing::Takes,
+        2 => Doing::Moves,
+        _ => Doing::Sends,
+    }
 }
 
 /// A site of those that there are.
@@ -42,10 +59,10 @@ fn push_command(
     let number = draw(drawn, script, step);
     let port = site_by(drawn, number / 8);
     let to = site_by(drawn, number / 128);
-    let line = match number % 8 {
-        0 | 1 => format!(in alloc; "take {port}.p.1\n")?,
-        2 => format!(in alloc; "move {port}.p.1 {to}.a.1\n")?,
-        _ => format!(in alloc; "send {port}.p.1 ={step}\n")?,
+    let line = match does(drawn, script, step) {
+        Doing::Sends => format!(in alloc; "send {port}.p.1 ={step}\n")?,
+        Doing::Takes => format!(in alloc; "take {port}.p.1\n")?,
+        Doing::Moves => format!(in alloc; "move {port}.p.1 {to}.a.1\n")?,
     };
     text.push_str(line.as_str())
 }
@@ -82,6 +99,62 @@ fn text_of(alloc: Global, drawn: &Drawn) -> Result<String, AllocError> {
     Ok(text)
 }
 
+/// The act of the line, where it is that of an entry by the seat.
+fn act_by<'a>(line: &'a str, seat: &str) -> Option<&'a str> {
+    let (_clock, rest) = line.split_once(' ')?;
+    let (_place, rest) = rest.split_once(' ')?;
+    let (by, act) = rest.split_once(' ')?;
+    if by == seat { Some(act) } else { None }
+}
+
+/// Whether an act answers a command of these scenarios.
+fn is_answer(act: &str) -> bool {
+    is_answer_to_take(act) || is_answer_to_move(act) || act.starts_with("post ")
+}
+
+fn is_answer_to_take(act: &str) -> bool {
+    act.starts_with("take ") || act.starts_with("empty ") || act.starts_with("not-here ")
+}
+
+fn is_answer_to_move(act: &str) -> bool {
+    act.starts_with("rehome ") || act.starts_with("depart ") || act.starts_with("not-here ")
+}
+
+/// Asserts that the act answers the step of the script.
+fn assert_answers(
+    rt: &impl Abort,
+    alloc: Global,
+    drawn: &Drawn,
+    script: u64,
+    step: u64,
+    act: &str,
+) {
+    let is_right = match does(drawn, script, step) {
+        Doing::Sends => {
+            let body = format!(in alloc; " ={step}").expect(rt, "memory");
+            act.starts_with("post ") && act.ends_with(body.as_str())
+        }
+        Doing::Takes => is_answer_to_take(act),
+        Doing::Moves => is_answer_to_move(act),
+    };
+    assert!(rt; is_right, "script {script}, step {step}: {act}");
+}
+
+/// Asserts that the entries of the script's seat answer its commands, each once and in their order.
+fn assert_performed(rt: &impl Abort, alloc: Global, drawn: &Drawn, script: u64, printed: &str) {
+    let seat = format!(in alloc; "{script}").expect(rt, "memory");
+    let mut step: u64 = 0;
+    for line in printed.lines() {
+        if let Some(act) = act_by(line, seat.as_str())
+            && is_answer(act)
+        {
+            assert_answers(rt, alloc, drawn, script, step, act);
+            step = step.saturating_add(1);
+        }
+    }
+    assert_eq!(rt; step, drawn.commands);
+}
+
 /// Asserts that the scenario is performed with so many places a site, that what is printed is lawful, and that nothing is on its way.
 fn assert_runs<R: Abort + Threads + Wait + Sync>(rt: &R, alloc: Global, turns: u16, drawn: &Drawn) {
     let text = text_of(alloc, drawn).expect(rt, "memory");
@@ -90,6 +163,9 @@ fn assert_runs<R: Abort + Threads + Wait + Sync>(rt: &R, alloc: Global, turns: u
     let printed = run.written.as_str();
     assert_lawful(rt, alloc, turns, printed);
     assert_eq!(rt; counted(rt, printed, "moving "), 0);
+    for script in 1..=drawn.sites {
+        assert_performed(rt, alloc, drawn, script, printed);
+    }
 }
 
 /// Asserts so of scenarios with so many sites and commands, with each number of places.
