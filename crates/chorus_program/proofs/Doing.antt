@@ -160,16 +160,16 @@ module _ {S K : Type 0} (f : Finished) (is : f ≡ record { status = Memory; clo
   }
 
   one-thread-none : (asked : Words) → layout_asked asked ≡ None → DoesOnOneThread asked f left faults reliable from from held failures old old
-  one-thread-none words.Replay no = replays-none
-  one-thread-none words.Run no = cc
-  one-thread-none (words.RunOn turns) no = cc
-  one-thread-none (words.Load first commands) no = record { unread = refl; loads = loads-none f is held failures old first commands }
-  one-thread-none (words.Audit sites turns) no = audits-none (places_each sites turns)
-  one-thread-none (words.Picture sites turns) no = draws-none (places_each sites turns)
-  one-thread-none (words.Lossy first) no = carries-none first
-  one-thread-none (words.Crew first commands) no = cc
-  one-thread-none words.Explore no = explores-none EXPLORE_MOST
-  one-thread-none (words.ExploreMost most) no = explores-none most
+  one-thread-none words.Replay same = replays-none
+  one-thread-none words.Run same = cc
+  one-thread-none (words.RunOn turns) same = cc
+  one-thread-none (words.Load first commands) same = record { unread = refl; loads = loads-none f is held failures old first commands }
+  one-thread-none (words.Audit sites turns) same = audits-none (places_each sites turns)
+  one-thread-none (words.Picture sites turns) same = draws-none (places_each sites turns)
+  one-thread-none (words.Lossy first) same = carries-none first
+  one-thread-none (words.Crew first commands) same = cc
+  one-thread-none words.Explore same = explores-none EXPLORE_MOST
+  one-thread-none (words.ExploreMost most) same = explores-none most
 
   pub does-none : (n : Nucleus) (asked : Words) → Does n asked f left faults reliable from from held failures old old
   does-none n words.Run = runs-none n
@@ -236,7 +236,7 @@ module _ {S K : Type 0} (f : Finished) (left : S → Option (List ℕ)) (faults 
 
   no-usage-on : (asked : Words) (o : Option Layout) → DoesOnStarted o asked f left faults reliable from rest held failures old new → f.status ≡ Status.Usage → ⊥
   no-usage-on asked None d is = no-usage-on-one asked d is
-  no-usage-on asked (Some l) (inl no) is = let both : Memory ≡ Status.Usage = sym no.status ∙ is in cc
+  no-usage-on asked (Some l) (inl unstarted) is = let both : Memory ≡ Status.Usage = sym unstarted.status ∙ is in cc
   no-usage-on asked (Some l) (inr (n, same, d)) is = no-usage n asked d is
 
   pub own-no-usage : (asked : Words) → DoesOnOwn asked f left faults reliable from rest held failures old new → f.status ≡ Status.Usage → ⊥

@@ -5,7 +5,7 @@ ghost use Rattle.chorus_ui.specs.NameKind.{is_actor, is_port};
 ghost use Rattle.chorus_nucleus.specs.Passes.{IsPassOf};
 
 use chorus_checker::World;
-use chorus_entry::{Body, Command, Dest};
+use chorus_entry::{BODY_LIMIT, Body, Command, Dest};
 use chorus_merge::merge;
 use chorus_net::Closed;
 use chorus_nucleus::{CallFault, Nucleus, Pass};
@@ -109,6 +109,7 @@ pub(crate) fn make<R: Wait + Abort>(
 /// The command that sends these bytes to the port.
 pub(crate) fn sending(rt: &impl Abort, alloc: Global, port: Ui, bytes: &[u8]) -> Command {
     let dest = Dest::Port(port);
+    assert!(rt; bytes.len() <= BODY_LIMIT);
     let body = Body::new(alloc, bytes).expect(rt, "memory");
     Command::Send { dest, body }
 }
