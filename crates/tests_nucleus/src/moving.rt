@@ -60,7 +60,7 @@ fn port_at(rt: &impl Abort, turns: u64, index: u64) -> Ui
 {
     let site = site_at(index);
     let turns = turns.max(1) % 5;
-    let place = u64::from(site - 1) % turns.max(1);
+    let place = u64::from(site.saturating_sub(1)) % turns.max(1);
     port_of(rt, site, 1 + place + index % PORTS_OF_SITE * turns)
 }
 
