@@ -69,11 +69,9 @@ fn run<R: Threads + Wait + Sync>(host: &HostRuntime, rt: &R) -> u8 {
 fn call_of<R: Threads + Wait + Sync>(rt: &R, alloc: Global, case: &[u8]) -> Option<Called> {
     let end = case.iter().position(|byte| *byte == b'\n')?;
     let line = String::from_utf8(Vec::from_slice(alloc, &case[..end]).ok()?).ok()?;
-    let (is_digest, line) = match line.as_str().strip_prefix("digest ") {
-        Some(words) => (true, words),
-        None => (false, line.as_str()),
-    };
-    let words: Vec<&str> = line.split(" ").collect(alloc).ok()?;
+    let is_digest = line.as_str().starts_with("digest ");
+    let front = if is_digest { 1 } else { 0 };
+    let words: Vec<&str> = line.as_str().split(" ").skip(front).collect(alloc).ok()?;
     let input = Vec::from_slice(alloc, &case[end + 1..]).ok()?;
     let mut source = MemSource::new(input, Vec::new(alloc));
     let mut sink = MemSink::new(alloc, 1, Vec::new(alloc));
