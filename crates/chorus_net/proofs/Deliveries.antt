@@ -12,7 +12,8 @@ use Rattle.chorus_entry.specs.declared.packet.Packet.{Packet}
 use Rattle.chorus_entry.specs.Ranges.{has_ranges}
 use Rattle.chorus_calls.specs.Callers.{Seated}
 use Rattle.place_outbox.specs.Waiting.{list_to, with_first, without_first}
-use Rattle.law_machine.specs.PlaceState.{PlaceState, Outgoing, greatest_clock}
+use Rattle.law_machine.specs.declared.outgoing.Outgoing.{Outgoing}
+use Rattle.law_machine.specs.PlaceState.{PlaceState, greatest_clock}
 use Rattle.law_machine.specs.PlaceMachine.{begun_by, work}
 use Rattle.law_machine.specs.Lawful.{is_lawful, is_lawful_cargo}
 use Rattle.law_machine.proofs.Machine.Stays.{work-stays}

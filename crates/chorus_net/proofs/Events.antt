@@ -12,7 +12,8 @@ use Rattle.chorus_ui.specs.NameKind.{is_actor}
 use Rattle.chorus_entry.specs.Places.{place_for}
 use Rattle.chorus_calls.specs.Callers.{Seated}
 use Rattle.law_machine.specs.declared.reply.Reply.{Reply}
-use Rattle.law_machine.specs.PlaceState.{PlaceState, Outgoing, Turn}
+use Rattle.law_machine.specs.declared.outgoing.Outgoing.{Outgoing}
+use Rattle.law_machine.specs.PlaceState.{PlaceState, Turn}
 use Rattle.law_machine.specs.PlaceMachine.{begun, act}
 use Rattle.law_machine.specs.Replies.{reply}
 use Rattle.law_machine.proofs.Machine.Stays.{act-stays}
@@ -25,7 +26,8 @@ use Rattle.law_network.specs.ByPlace.{IsBetweenPlaces}
 use Rattle.law_network.proofs.Holdings.Passing.{packets-lie-between}
 use Rattle.law_network.proofs.Places.Layouts.{schedule-keeps}
 use Rattle.law_network.proofs.Promises.Promised.{stands-at}
-use Rattle.chorus_place.specs.Calls.{Place, state, Ended, MayCall, Stays, with_all}
+use Rattle.chorus_place.specs.Calls.{Place, state, Ended, MayCall, Stays}
+use Rattle.chorus_place.specs.Sending.{with_all}
 use Rattle.chorus_net.specs.Sites.{SitesState, waiting_in, boxes, net, AllFrom, IsPlaceOf, ArePlaces, IsScheduled, IsSites}
 use Rattle.chorus_net.proofs.Boxes.{IsPut, put-all-is, with-all-keeps}
 use Rattle.chorus_net.proofs.Changes.{place-of, are-set, finds, replaces, still, are-boxes, box-of, boxes-set-is, length-boxes, all-put-parts, both}

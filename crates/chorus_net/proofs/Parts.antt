@@ -5,7 +5,8 @@ use Rattle.chorus_entry.specs.declared.packet.Packet.{Packet}
 use Rattle.chorus_entry.specs.declared.record.PortRecord.{PortRecord}
 use Rattle.place_outbox.specs.Waiting.{count, next, after_next}
 use Rattle.law_network.specs.Left.{placed_at, placed_in}
-use Rattle.law_machine.specs.PlaceState.{PlaceState, Outgoing}
+use Rattle.law_machine.specs.declared.outgoing.Outgoing.{Outgoing}
+use Rattle.law_machine.specs.PlaceState.{PlaceState}
 use Rattle.chorus_place.specs.Calls.{Place, state}
 use Rattle.chorus_net.specs.Sites.{to_place, waiting_from, waiting_in, boxes}
 use Rattle.chorus_net.specs.Closing.{flat, journals_in, packets_of, ports_of}

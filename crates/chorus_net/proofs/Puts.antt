@@ -17,7 +17,8 @@ use Rattle.chorus_entry.specs.Act.{is_command_entry}
 use Rattle.chorus_world.specs.Places.{taught}
 use Rattle.place_unsettled.specs.Queues.{changed}
 use Rattle.chorus_entry.specs.Dest.{group_in}
-use Rattle.law_machine.specs.PlaceState.{Outgoing, Turn, Change, packed, say, unchanged}
+use Rattle.law_machine.specs.declared.outgoing.Outgoing.{Outgoing}
+use Rattle.law_machine.specs.PlaceState.{Turn, Change, packed, say, unchanged}
 use Rattle.law_machine.specs.PlaceMachine.{act, work}
 use Rattle.law_machine.specs.Choosing.{choice, chooses_all, chooses_these}
 use Rattle.law_machine.specs.Working.{opens, taught_of, told, report_of}

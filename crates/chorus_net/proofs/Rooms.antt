@@ -4,7 +4,8 @@ use Rattle.std.specs.List.{All}
 use Rattle.std.proofs.lemmas.List.{reverse-append}
 use Rattle.std.proofs.lemmas.List.Elements.{All-head, All-tail}
 use Rattle.chorus_calls.specs.Callers.{Seated}
-use Rattle.law_machine.specs.PlaceState.{PlaceState, Outgoing, Turn}
+use Rattle.law_machine.specs.declared.outgoing.Outgoing.{Outgoing}
+use Rattle.law_machine.specs.PlaceState.{PlaceState, Turn}
 use Rattle.law_network.specs.Network.{NetState, Event, happened, after, one_if}
 use Rattle.law_network.proofs.Draining.Drains.{after-append}
 use Rattle.chorus_place.specs.Calls.{Place, Ended, state}

@@ -5,7 +5,7 @@ use Rattle.std.specs.Prelude.{ℕ, zero, suc, ◌≡◌, ◌+◌, ◌≤◌, ◌
 use Rattle.chorus_entry.specs.declared.command.Command.{Command}
 use Rattle.chorus_entry.specs.Places.{place_for}
 use Rattle.chorus_calls.specs.Callers.{Seated}
-use Rattle.law_machine.specs.PlaceState.{Outgoing}
+use Rattle.law_machine.specs.declared.outgoing.Outgoing.{Outgoing}
 use Rattle.law_network.specs.Network.{NetState, Event, place, after, one_if}
 use Rattle.law_network.specs.History.{put_by}
 use Rattle.law_network.specs.Calls.{draining}

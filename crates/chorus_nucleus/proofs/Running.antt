@@ -15,7 +15,7 @@ use Rattle.chorus_world.specs.GroupLaws.{ReachesOneMember, AcceptsOnSite, KeepsC
 use Rattle.chorus_merge.specs.Merge.{merged}
 use Rattle.chorus_turn.specs.declared.knowledge.Note.{Note}
 use Rattle.chorus_turn.specs.declared.knowledge.Knowledge.{Knowledge}
-use Rattle.law_machine.specs.PlaceState.{Outgoing}
+use Rattle.law_machine.specs.declared.outgoing.Outgoing.{Outgoing}
 use Rattle.law_network.specs.Network.{NetState, schedule}
 use Rattle.law_network.specs.Left.{merged_past, placed, packets_left}
 use Rattle.law_network.specs.Holdings.{Holding, StandsFor, holdings_left}

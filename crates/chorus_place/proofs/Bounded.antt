@@ -9,7 +9,8 @@ use Rattle.chorus_entry.specs.Ranges.{has_ranges}
 use Rattle.chorus_entry.specs.Command.{meets_conditions, has_body_in_limit}
 use Rattle.chorus_calls.specs.Callers.{Seated, after_tick}
 use Rattle.place_outbox.specs.Waiting.{nothing_to, list_to, with_last, with_first, without_first}
-use Rattle.law_machine.specs.PlaceState.{Turn, Outgoing, started}
+use Rattle.law_machine.specs.declared.outgoing.Outgoing.{Outgoing}
+use Rattle.law_machine.specs.PlaceState.{Turn, started}
 use Rattle.law_machine.specs.PlaceMachine.{begun, begun_by, act, work}
 use Rattle.law_machine.specs.Lawful.{is_lawful}
 use Rattle.law_bounds.specs.Bounds.{IsWithin, IsCallerWithin, HasRanges, IsTurnWithin, AreWaitingWithin}
@@ -18,8 +19,9 @@ use Rattle.law_bounds.proofs.Commands.{act-within}
 use Rattle.law_bounds.proofs.Packets.{work-within}
 use Rattle.place_state.specs.Tables.{Tables, state, turn}
 use Rattle.place_state.specs.Commands.{StaysOut}
-use Rattle.chorus_place.specs.Calls.{IsAtRest, with_all}
-use Rattle.chorus_place.proofs.Ended.{Sent, begins, still-none, sends}
+use Rattle.place_state.specs.Sending.{with_all}
+use Rattle.chorus_place.specs.Calls.{IsAtRest}
+use Rattle.chorus_place.proofs.Ended.{Sent, begins, still-none}
 
 -- What waits.
 
@@ -97,7 +99,7 @@ ends-at-rest t old mid new after h done out sent none w =
       none = none;
       within = subst IsWithin (sym (sent.state ∙ ap (λ u. u.place) done)) w.place;
       waits =
-          subst AreWaitingWithin (sym (sent.lists ∙ sends mid.puts mid.out.lists ∙ ap (λ (os : List Outgoing). with_all os mid.out.lists) (ap (λ u. u.puts) done) ∙ ap (λ ls. with_all t.puts ls) out.lists))
+          subst AreWaitingWithin (sym (sent.lists ∙ ap (λ u. with_all u.puts mid.out.lists) done ∙ ap (with_all t.puts) out.lists))
           (all-within t.puts old.out.lists w.puts h.waits);
     }
 

@@ -1,41 +1,30 @@
 -- A call of a place, by what its tables did.
-use Rattle.std.proofs.Common.{◌≡◌, ◌+◌, ◌≤◌, min, List, [], ◌∷◌, length, map, refl, sym, ◌∙◌, ap, arith}
-use Rattle.std.proofs.lemmas.List.{length-map}
+use Rattle.std.proofs.Common.{◌≡◌, ◌+◌, ◌≤◌, min, List, [], length, ◌∙◌, ap, arith}
 use Rattle.chorus_entry.specs.declared.command.Command.{Command}
-use Rattle.chorus_entry.specs.declared.packet.Packet.{Packet}
 use Rattle.chorus_calls.specs.Callers.{Seated}
-use Rattle.place_outbox.specs.Waiting.{with_last}
 use Rattle.law_machine.specs.declared.reply.Reply.{Reply}
-use Rattle.law_machine.specs.PlaceState.{Turn, Outgoing}
+use Rattle.law_machine.specs.declared.outgoing.Outgoing.{Outgoing}
+use Rattle.law_machine.specs.PlaceState.{Turn}
 use Rattle.law_machine.specs.PlaceMachine.{begun, act}
 use Rattle.law_machine.specs.Replies.{reply}
-use Rattle.place_state.specs.declared.parcel.Parcel.{Parcel}
-use Rattle.place_state.specs.Tables.{Tables, state, turn, outgoing}
+use Rattle.place_state.specs.Tables.{Tables, state, turn}
 use Rattle.place_state.specs.Commands.{Performed, StaysOut}
 use Rattle.place_state.specs.Room.{KeepsRoom}
-use Rattle.place_state.specs.Sending as sending
+use Rattle.place_state.specs.Sending.{with_all}
 use Rattle.chorus_place.specs.Calls as calls
 
 -- between turns nothing is put
 pub begins : (p : Tables) (c : Seated) → p.puts ≡ [] → turn p c ≡ begun (state p) c
-begins p c none = ap (λ (ps : List Parcel). record { place = state p; caller = c; puts = map outgoing ps }) none
-
-none-put : (ps : List Parcel) → map outgoing ps ≡ [] → ps ≡ []
-none-put [] h = refl
-none-put (p ∷ ps) h = absurd (cc)
+begins p c none = ap (λ (os : List Outgoing). record { place = state p; caller = c; puts = os }) none
 
 -- and nothing where the turn was refused
 pub still-none : (old new : Tables) (before after : Seated) → old.puts ≡ [] → turn new after ≡ turn old before → new.puts ≡ []
-still-none old new before after none same = none-put new.puts (ap (λ t. t.puts) same ∙ ap (λ (ps : List Parcel). map outgoing ps) none)
-
-pub sends : (ps : List Parcel) (lists : List (List Packet)) → sending.with_all ps lists ≡ calls.with_all (map outgoing ps) lists
-sends [] lists = refl
-sends (p ∷ ps) lists = sends ps (with_last p.to p.packet lists)
+still-none old new before after none same = ap (λ t. t.puts) same ∙ none
 
 -- what the end of a turn does
 pub record Sent (mid new : Tables) : Type 0 where
   pub state : state new ≡ state mid
-  pub lists : new.out.lists ≡ sending.with_all mid.puts mid.out.lists
+  pub lists : new.out.lists ≡ with_all mid.puts mid.out.lists
   pub count : new.out.puts ≡ mid.out.puts + length mid.puts
   pub spare : new.journal.spare ≡ mid.journal.spare
   pub room : mid.room ≤ new.room
@@ -46,8 +35,7 @@ ended t old mid new after none done out keeps sent =
     record {
       state = sent.state ∙ ap (λ u. u.place) done;
       caller_is = ap (λ u. u.caller) done;
-      waits = sent.lists ∙ sends mid.puts mid.out.lists ∙ ap (λ (os : List Outgoing). calls.with_all os mid.out.lists) (ap (λ u. u.puts) done)
-          ∙ ap (λ ls. calls.with_all t.puts ls) out.lists;
+      waits = sent.lists ∙ ap (λ u. with_all u.puts mid.out.lists) done ∙ ap (with_all t.puts) out.lists;
       puts = count;
       spare = room;
     }
@@ -56,7 +44,7 @@ ended t old mid new after none done out keeps sent =
     count =
         let more = sent.count in
         let same = out.puts in
-        let puts = sym (length-map mid.puts outgoing) ∙ ap (λ u. length u.puts) done in
+        let puts = ap (λ u. length u.puts) done in
         omega (arith, more, same, puts)
 
     room : min old.journal.spare old.room + length old.journal.past ≤ min new.journal.spare new.room + length new.journal.past + length t.puts
@@ -64,11 +52,11 @@ ended t old mid new after none done out keeps sent =
         let entries = keeps.entries in
         let packets = keeps.packets in
         let grows = keeps.grows in
-        let nothing = ap (λ (ps : List Parcel). length ps) none in
+        let nothing = ap (λ (os : List Outgoing). length os) none in
         let past = ap (λ s. length s.journal) sent.state in
         let spare = sent.spare in
         let more = sent.room in
-        let puts = sym (length-map mid.puts outgoing) ∙ ap (λ u. length u.puts) done in
+        let puts = ap (λ u. length u.puts) done in
         omega (arith, entries, packets, grows, nothing, past, spare, more, puts)
 
 pub called : (old mid new : Tables) (before after : Seated) (c : Command) (r : Reply) → old.puts ≡ [] → Performed c (turn old before) (turn mid after) r → StaysOut old.out mid.out
@@ -90,6 +78,6 @@ stays old new before after none same out keeps =
         let entries = keeps.entries in
         let packets = keeps.packets in
         let past = ap (λ t. length t.place.journal) same in
-        let nothing = ap (λ (ps : List Parcel). length ps) none in
-        let still = ap (λ (ps : List Parcel). length ps) (still-none old new before after none same) in
+        let nothing = ap (λ (os : List Outgoing). length os) none in
+        let still = ap (λ (os : List Outgoing). length os) (still-none old new before after none same) in
         omega (arith, entries, packets, past, nothing, still)

@@ -1,6 +1,6 @@
 -- A place as its callers see it, and what its calls do.
 -- p is the place, s its state, c a command, t the turn.
-use Rattle.std.specs.Prelude.{ℕ, ◌≡◌, ◌+◌, ◌≤◌, min, Bool, true, false, List, [], ◌∷◌, length, IsNone}
+use Rattle.std.specs.Prelude.{ℕ, ◌≡◌, ◌+◌, ◌≤◌, min, Bool, true, false, List, [], length, IsNone}
 use Rattle.chorus_ui.specs.declared.layout.Layout.{Layout}
 use Rattle.chorus_ui.specs.declared.limits.TheConstants.{CLOCK_LIMIT}
 use Rattle.chorus_entry.specs.declared.entry.Entry.{Entry}
@@ -18,14 +18,15 @@ use Rattle.place_unsettled.specs.declared.unheard.Copies.{Copies}
 use Rattle.place_unsettled.specs.Queues.{Row, queue}
 use Rattle.place_unsettled.specs.Unheard.{is_unheard}
 use Rattle.chorus_calls.specs.Callers.{Seated}
-use Rattle.place_outbox.specs.Waiting.{Waiting, with_last}
+use Rattle.place_outbox.specs.Waiting.{Waiting}
 use Rattle.law_machine.specs.declared.reply.Reply.{Reply}
-use Rattle.law_machine.specs.PlaceState.{PlaceState, Outgoing, Turn, greatest_clock}
+use Rattle.law_machine.specs.PlaceState.{PlaceState, Turn, greatest_clock}
 use Rattle.law_machine.specs.PlaceMachine.{begun, begun_by, act, work}
 use Rattle.law_machine.specs.Own.{held_by}
 use Rattle.law_machine.specs.Replies.{reply}
 use Rattle.law_bounds.specs.Bounds.{IsWithin, AreWaitingWithin}
 use Rattle.place_state.specs.Tables.{Tables, state as state_of}
+use Rattle.place_state.specs.Sending.{with_all}
 
 -- a place: its layout and number; its journal, the newest entry first; its tables; the packets that wait to go to other
 -- places, by these; and how many entries and packets need no memory
@@ -73,11 +74,6 @@ state p =
       waiting = queue p.waits;
       unheard = is_unheard p.unheard;
     }
-
--- the packets that wait, with these behind them
-abbrev pub with_all : List Outgoing → List (List Packet) → List (List Packet)
-with_all [] lists = lists
-with_all (o ∷ os) lists = with_all os (with_last o.to o.packet lists)
 
 -- the conditions of a command: it meets its own, and is to be carried out here
 pub record MayCall (s : PlaceState) (caller : Seated) (c : Command) : Type 0 where

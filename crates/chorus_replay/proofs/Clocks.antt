@@ -17,7 +17,8 @@ use Rattle.chorus_entry.specs.Places.{place_for}
 use Rattle.chorus_world.specs.Views.{at}
 use Rattle.chorus_world.specs.Places.{last_clock}
 use Rattle.chorus_calls.specs.Callers.{Seated, new_caller}
-use Rattle.law_machine.specs.PlaceState.{Outgoing, Turn, Change, packed, next_entry, next_clock, say}
+use Rattle.law_machine.specs.declared.outgoing.Outgoing.{Outgoing}
+use Rattle.law_machine.specs.PlaceState.{Turn, Change, packed, next_entry, next_clock, say}
 use Rattle.law_machine.specs.PlaceMachine.{begun_by, act, work}
 use Rattle.law_machine.proofs.Machine.Chains.{act-keeps, work-keeps}
 use Rattle.law_machine.proofs.Machine.Follows.{IsSame}

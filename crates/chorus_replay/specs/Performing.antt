@@ -5,7 +5,7 @@ use Rattle.std.specs.List.{All}
 use Rattle.chorus_entry.specs.declared.entry.Entry.{Entry}
 use Rattle.chorus_ui.specs.declared.layout.Layout.{Layout}
 use Rattle.chorus_calls.specs.Callers.{Seated}
-use Rattle.law_machine.specs.PlaceState.{Outgoing}
+use Rattle.law_machine.specs.declared.outgoing.Outgoing.{Outgoing}
 use Rattle.chorus_net.specs.declared.closed.Closed.{Closed}
 use Rattle.law_network.specs.History.{history}
 use Rattle.law_network.specs.Network.{NetState, Event, opening, schedule}

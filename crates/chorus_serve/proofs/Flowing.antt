@@ -7,8 +7,10 @@ use Rattle.std.proofs.lemmas.List.{append-nil, length-set, get_or-set_same, get_
 use Rattle.chorus_ui.specs.declared.layout.Layout.{Layout}
 use Rattle.chorus_entry.specs.declared.packet.Packet.{Packet}
 use Rattle.place_outbox.specs.Waiting.{list_to, with_last, with_first, without_first, count}
-use Rattle.law_machine.specs.PlaceState.{PlaceState, Outgoing}
-use Rattle.chorus_place.specs.Calls.{Place, state, with_all}
+use Rattle.law_machine.specs.declared.outgoing.Outgoing.{Outgoing}
+use Rattle.law_machine.specs.PlaceState.{PlaceState}
+use Rattle.chorus_place.specs.Calls.{Place, state}
+use Rattle.chorus_place.specs.Sending.{with_all}
 use Rattle.chorus_io.specs.Count.{Rose}
 use Rattle.chorus_ends.specs.Links.{Links, Counts, Sends, Receives, MovesNothing}
 use Rattle.law_history.specs.Turns.{puts_to, from_place}

@@ -13,12 +13,14 @@ use Rattle.chorus_entry.specs.Ranges.{has_ranges}
 use Rattle.place_outbox.specs.Waiting.{list_to, nothing_to}
 use Rattle.chorus_entry.specs.declared.packet.Packet.{Packet}
 use Rattle.chorus_calls.specs.Callers.{Seated}
-use Rattle.law_machine.specs.PlaceState.{PlaceState, Outgoing, greatest_clock, started}
+use Rattle.law_machine.specs.declared.outgoing.Outgoing.{Outgoing}
+use Rattle.law_machine.specs.PlaceState.{PlaceState, greatest_clock, started}
 use Rattle.law_machine.specs.PlaceMachine.{begun, begun_by, act, work}
 use Rattle.law_machine.specs.Lawful.{is_lawful, is_lawful_cargo}
 use Rattle.law_machine.proofs.Machine.Stays.{act-stays, work-stays}
 use Rattle.law_machine.specs.declared.reply.Reply.{Reply}
-use Rattle.chorus_place.specs.Calls.{Place, state, with_all, Called, WorkedOff, IsWornBack, Stays}
+use Rattle.chorus_place.specs.Calls.{Place, state, Called, WorkedOff, IsWornBack, Stays}
+use Rattle.chorus_place.specs.Sending.{with_all}
 use Rattle.chorus_place.specs.declared.fault.PlaceFault.{PlaceFault}
 use Rattle.chorus_serve.specs.declared.pump.Pump.{Pump}
 use Rattle.chorus_serve.specs.declared.pump.Pump.TheVariants as pumps

@@ -21,7 +21,7 @@ use Rattle.chorus_world.specs.Steps.{is_asked_from, is_asking_place, is_legal}
 use Rattle.chorus_world.proofs.Ports.LineLemmas.{none_some}
 use Rattle.chorus_world.proofs.Ports.PortMoves.{coming_fate}
 use Rattle.chorus_world.proofs.Messages.PostLemmas.{post_kept}
-use Rattle.law_machine.specs.PlaceState.{Outgoing}
+use Rattle.law_machine.specs.declared.outgoing.Outgoing.{Outgoing}
 use Rattle.law_network.specs.UnderWay.{before_last, far_place, other_place, asked_as, reported_as, reported_to, under_way, under_way_as, transfer, transfer_in, transfer_of}
 use Rattle.law_picture.specs.declared.row.Row.{Row}
 use Rattle.law_picture.specs.declared.bar.Bar.{Bar}

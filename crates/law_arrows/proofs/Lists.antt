@@ -5,7 +5,7 @@ use Rattle.std.proofs.lemmas.List.Elements.{All-head, All-tail}
 use Rattle.chorus_entry.specs.declared.entry.Entry.{Entry}
 use Rattle.chorus_world.specs.Places.{last_clock}
 use Rattle.chorus_world.proofs.Ports.LineLemmas.{none_some}
-use Rattle.law_machine.specs.PlaceState.{Outgoing}
+use Rattle.law_machine.specs.declared.outgoing.Outgoing.{Outgoing}
 use Rattle.law_network.specs.Packets.{is_link_before, put, put_all}
 use Rattle.law_picture.specs.declared.row.Row.{Row}
 use Rattle.law_picture.specs.Causes.{latest, row_of}

@@ -22,7 +22,7 @@ use Rattle.chorus_world.specs.Posts.{post_of}
 use Rattle.chorus_world.specs.Steps.{act_may, is_legal}
 use Rattle.chorus_world.proofs.Steps.LegalLemmas.{legal_parts}
 use Rattle.chorus_world.proofs.Ports.LineLemmas.{none_some}
-use Rattle.law_machine.specs.PlaceState.{Outgoing}
+use Rattle.law_machine.specs.declared.outgoing.Outgoing.{Outgoing}
 use Rattle.law_picture.specs.declared.row.Row.{Row}
 use Rattle.law_picture.specs.Causes.{caused_by, goes_on, latest}
 use Rattle.law_picture.specs.Laws.{away, came_from, place_of, sender, sender_of}

@@ -26,7 +26,8 @@ use Rattle.chorus_world.specs.Views.{about, on}
 use Rattle.chorus_world.specs.Messages.{progress}
 use Rattle.chorus_world.specs.Places.{last_clock}
 use Rattle.chorus_calls.specs.Callers.{Seated}
-use Rattle.law_machine.specs.PlaceState.{Turn, Outgoing, next_entry}
+use Rattle.law_machine.specs.declared.outgoing.Outgoing.{Outgoing}
+use Rattle.law_machine.specs.PlaceState.{Turn, next_entry}
 use Rattle.law_machine.specs.PlaceMachine.{act, begun_by, work}
 use Rattle.law_network.specs.Packets.{first_on, put_all, rest_on}
 use Rattle.law_network.specs.Network.{NetState, Event, Enter, Act, Deliver, commanded, delivered, ended, happened, place, schedule, turn_for, works_off}

@@ -20,7 +20,8 @@ use Rattle.chorus_entry.specs.MsgId.{same_id}
 use Rattle.chorus_entry.specs.Same.{are_same}
 use Rattle.chorus_world.specs.Views.{is_about, is_on}
 use Rattle.chorus_world.proofs.Messages.SendingLemmas.{same_id_sym}
-use Rattle.law_machine.specs.PlaceState.{Turn, Change, Outgoing, next_entry, say, unchanged}
+use Rattle.law_machine.specs.declared.outgoing.Outgoing.{Outgoing}
+use Rattle.law_machine.specs.PlaceState.{Turn, Change, next_entry, say, unchanged}
 use Rattle.law_machine.specs.Own.{own}
 use Rattle.law_machine.specs.PlaceMachine.{act}
 use Rattle.law_machine.specs.Deciding.{decide, decision}

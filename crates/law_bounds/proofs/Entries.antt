@@ -13,7 +13,8 @@ use Rattle.chorus_world.specs.Places.{last_clock}
 use Rattle.chorus_world.specs.Groups.{members, members_after}
 use Rattle.place_unsettled.specs.declared.wait.Key.{Key}
 use Rattle.place_unsettled.specs.Queues.{Queue, changed, same_key}
-use Rattle.law_machine.specs.PlaceState.{Outgoing, Turn, Change, unchanged, greatest_clock, next_clock, packed, say, note}
+use Rattle.law_machine.specs.declared.outgoing.Outgoing.{Outgoing}
+use Rattle.law_machine.specs.PlaceState.{Turn, Change, unchanged, greatest_clock, next_clock, packed, say, note}
 use Rattle.law_machine.proofs.Machine.Keys.{same_key-is}
 use Rattle.chorus_hints.specs.Known.{Pairs, learned, hop_of}
 use Rattle.law_bounds.specs.Bounds.{IsPortWithin, IsPairWithin, IsWaitWithin, AreMembersWithin, HasRanges, IsTurnWithin}

@@ -14,7 +14,8 @@ use Rattle.chorus_calls.specs.Clients.{IsRequest}
 use Rattle.chorus_calls.specs.Callers.{Seated, IsNumbered, HasBack}
 use Rattle.place_unsettled.specs.declared.wait.Key.{Key}
 use Rattle.place_unsettled.specs.declared.wait.Wait.{Wait}
-use Rattle.law_machine.specs.PlaceState.{PlaceState, Outgoing, Turn}
+use Rattle.law_machine.specs.declared.outgoing.Outgoing.{Outgoing}
+use Rattle.law_machine.specs.PlaceState.{PlaceState, Turn}
 
 -- the record may go in a packet with this clock, and the position of the port's next message is not above it
 pub record IsPortWithin (clock : ℕ) (r : PortRecord) : Type 0 where

@@ -38,7 +38,8 @@ use Rattle.place_unsettled.specs.declared.wait.Key.{Key}
 use Rattle.place_unsettled.specs.declared.wait.Wait.{Wait}
 use Rattle.place_unsettled.specs.Queues.{Queue, changed, with_last, passed, at}
 use Rattle.place_unsettled.specs.Unheard.{asked, heard}
-use Rattle.law_machine.specs.PlaceState.{PlaceState, Turn, Change, Outgoing, newest, next_clock, next_entry, packed, unchanged, say, note}
+use Rattle.law_machine.specs.declared.outgoing.Outgoing.{Outgoing}
+use Rattle.law_machine.specs.PlaceState.{PlaceState, Turn, Change, newest, next_clock, next_entry, packed, unchanged, say, note}
 use Rattle.law_machine.specs.Deciding.{answer_away, answer_of, decide, decision, records_after}
 use Rattle.law_machine.specs.Trying.{report, settles_here, verdict_here, tries, goes_on, goes_unless, go}
 use Rattle.law_machine.specs.Choosing.{is_at_site, choice, by_group, with_copies, all_go, chooses_all, chooses_these, chooses}

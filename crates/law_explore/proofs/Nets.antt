@@ -8,7 +8,8 @@ use Rattle.chorus_entry.specs.declared.entry.Entry.{Entry}
 use Rattle.chorus_entry.specs.declared.packet.Packet.{Packet}
 use Rattle.chorus_entry.specs.Places.{place_for}
 use Rattle.chorus_calls.specs.Callers.{Seated, after_tick}
-use Rattle.law_machine.specs.PlaceState.{PlaceState, Turn, Outgoing}
+use Rattle.law_machine.specs.declared.outgoing.Outgoing.{Outgoing}
+use Rattle.law_machine.specs.PlaceState.{PlaceState, Turn}
 use Rattle.law_machine.specs.PlaceMachine.{begun, begun_by, act, work}
 use Rattle.law_network.specs.Packets.{is_link, is_link_before, put, put_all, first_on, rest_on}
 use Rattle.law_network.specs.Network.{NetState, place_in, place, with_place, ended, turn_for, commanded, works_off, delivered, Event, Act, Deliver, happened}

@@ -9,7 +9,8 @@ use Rattle.chorus_world.specs.Groups.{groups_made, members, rotation}
 use Rattle.chorus_world.specs.Places.{ports_made, is_deleted}
 use Rattle.chorus_world.specs.Views.{is_group}
 use Rattle.chorus_calls.specs.Callers.{Seated}
-use Rattle.law_machine.specs.PlaceState.{PlaceState, Turn, Outgoing}
+use Rattle.law_machine.specs.declared.outgoing.Outgoing.{Outgoing}
+use Rattle.law_machine.specs.PlaceState.{PlaceState, Turn}
 use Rattle.law_machine.specs.PlaceMachine.{act, work}
 use Rattle.law_network.specs.Network.{NetState, Event, Act, Deliver, happened}
 

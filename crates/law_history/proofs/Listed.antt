@@ -9,7 +9,8 @@ use Rattle.chorus_ui.specs.declared.layout.Layout.{Layout}
 use Rattle.chorus_ui.specs.Layout as layout
 use Rattle.chorus_ui.specs.Layout.{has_place}
 use Rattle.chorus_entry.specs.declared.packet.Packet.{Packet}
-use Rattle.law_machine.specs.PlaceState.{PlaceState, Outgoing}
+use Rattle.law_machine.specs.declared.outgoing.Outgoing.{Outgoing}
+use Rattle.law_machine.specs.PlaceState.{PlaceState}
 use Rattle.law_network.specs.Packets.{is_link, is_link_before, AreNotBefore, AreByLink}
 use Rattle.law_network.specs.Network.{NetState, numbers, place_in, schedule}
 use Rattle.law_network.specs.ByPlace.{IsBetweenPlaces, StandsByPlace}

@@ -13,7 +13,8 @@ use Rattle.chorus_world.specs.Commands.{performs}
 use Rattle.chorus_world.specs.Views.{at}
 use Rattle.chorus_merge.specs.Merge.{merged}
 use Rattle.chorus_calls.specs.Callers.{Seated}
-use Rattle.law_machine.specs.PlaceState.{PlaceState, Outgoing}
+use Rattle.law_machine.specs.declared.outgoing.Outgoing.{Outgoing}
+use Rattle.law_machine.specs.PlaceState.{PlaceState}
 use Rattle.law_network.specs.Packets.{is_link}
 use Rattle.law_network.specs.Network.{NetState, Event, place_in, schedule}
 use Rattle.law_network.specs.Left.{journals, merged_past}

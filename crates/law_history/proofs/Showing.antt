@@ -9,7 +9,8 @@ use Rattle.chorus_ui.specs.declared.layout.Layout.{Layout}
 use Rattle.chorus_ui.specs.Layout.{has_place}
 use Rattle.chorus_entry.specs.declared.packet.Packet.{Packet}
 use Rattle.chorus_calls.specs.Callers.{Seated}
-use Rattle.law_machine.specs.PlaceState.{PlaceState, Outgoing, Turn}
+use Rattle.law_machine.specs.declared.outgoing.Outgoing.{Outgoing}
+use Rattle.law_machine.specs.PlaceState.{PlaceState, Turn}
 use Rattle.law_network.specs.Packets.{is_link, AreByLink, put, put_all, first_on, rest_on}
 use Rattle.law_network.specs.Network as law
 use Rattle.law_network.specs.Network.{NetState, place}

@@ -11,7 +11,8 @@ use Rattle.chorus_entry.specs.declared.command.Command.{Command}
 use Rattle.chorus_entry.specs.declared.packet.Packet.{Packet}
 use Rattle.chorus_ui.specs.NameKind.{is_actor}
 use Rattle.chorus_calls.specs.Callers.{Seated, new_caller}
-use Rattle.law_machine.specs.PlaceState.{PlaceState, Outgoing, started}
+use Rattle.law_machine.specs.declared.outgoing.Outgoing.{Outgoing}
+use Rattle.law_machine.specs.PlaceState.{PlaceState, started}
 use Rattle.law_network.specs.Packets.{is_link}
 use Rattle.law_network.specs.Network.{NetState, Event, Enter, Act, Deliver, place, schedule}
 use Rattle.law_network.specs.Calls.{first_actor}

@@ -12,7 +12,8 @@ use Rattle.chorus_entry.specs.Places.{place_for}
 use Rattle.chorus_world.specs.Places.{last_clock}
 use Rattle.chorus_calls.specs.Callers.{Seated}
 use Rattle.law_machine.specs.PlaceState as place
-use Rattle.law_machine.specs.PlaceState.{PlaceState, Outgoing, next_clock}
+use Rattle.law_machine.specs.declared.outgoing.Outgoing.{Outgoing}
+use Rattle.law_machine.specs.PlaceState.{PlaceState, next_clock}
 use Rattle.law_machine.specs.PlaceMachine.{begun, begun_by, act, work}
 use Rattle.law_network.specs.Schedules.{may_give}
 use Rattle.law_history.specs.Turns.{Input, Sent, Outcome, Machine}

@@ -6,7 +6,6 @@ use Rattle.chorus_ui.specs.declared.layout.Layout.{Layout}
 use Rattle.chorus_entry.specs.declared.entry.Entry.{Entry}
 use Rattle.chorus_entry.specs.declared.id.MsgId.{MsgId}
 use Rattle.chorus_entry.specs.declared.act.Act.{Act}
-use Rattle.chorus_entry.specs.declared.packet.Packet.{Packet}
 use Rattle.chorus_entry.specs.declared.packet.Cargo.{Cargo}
 use Rattle.chorus_entry.specs.declared.record.PortRecord.{PortRecord}
 use Rattle.chorus_world.specs.declared.place.Location.{Location}
@@ -15,6 +14,7 @@ use Rattle.chorus_hints.specs.Known.{Pairs}
 use Rattle.chorus_calls.specs.Callers.{Seated, after_tick}
 use Rattle.place_unsettled.specs.declared.wait.Key.{Key}
 use Rattle.place_unsettled.specs.Queues.{Queue, empty_queue}
+use Rattle.law_machine.specs.declared.outgoing.Outgoing.{Outgoing}
 
 -- a place of a layout: its number; its journal, the newest entry first; the records of the ports held, in table order;
 -- the locations learned, each as place and hop; the messages that wait, by port and route; and of which messages it may
@@ -49,11 +49,6 @@ location l q (Some pair) = record { to = pair.0; hop = pair.1 }
 -- the newest location of a port that the place knows
 abbrev pub newest : PlaceState → Ui → Location
 newest s q = location s.layout q (s.known q)
-
--- a packet and the place that it goes to
-pub record Outgoing : Type 0 where
-  pub to : ℕ
-  pub packet : Packet
 
 -- a place, the caller in whose turn it is, and the packets that the turn has put so far
 pub record Turn : Type 0 where
@@ -94,9 +89,12 @@ next_clock t = greatest_clock t + 1
 abbrev pub next_entry : Act → Turn → Entry
 next_entry act t = record { clock = next_clock t; place = t.place.number; seat = t.caller.seat; act = act }
 
--- a packet carries the clock of the entry that causes it
+-- a cargo with the place that it goes to, as a packet that carries the clock of the entry that causes it
+abbrev pub packed_at : ℕ → ℕ → ℕ × Cargo → Outgoing
+packed_at clock from load = record { to = load.0; packet = record { clock = clock; from = from; cargo = load.1 } }
+
 abbrev pub packed : Turn → ℕ × Cargo → Outgoing
-packed t load = record { to = load.0; packet = record { clock = next_clock t; from = t.place.number; cargo = load.1 } }
+packed t load = packed_at (next_clock t) t.place.number load
 
 -- the turn with one entry more and the change that goes with it; the entry's clock becomes the place's and the caller's
 abbrev pub say : Act → Change → Turn → Turn

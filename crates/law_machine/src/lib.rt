@@ -10,7 +10,9 @@
 #![tactic(auto)]
 
 mod outcome;
+mod outgoing;
 mod reply;
 
 pub use outcome::Outcome;
+pub use outgoing::Outgoing;
 pub use reply::Reply;

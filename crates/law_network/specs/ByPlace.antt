@@ -4,7 +4,8 @@ use Rattle.std.specs.Prelude.{◌≡◌, ◌==◌, true, false, map}
 use Rattle.std.specs.List.{All}
 use Rattle.chorus_ui.specs.declared.layout.Layout.{Layout}
 use Rattle.chorus_ui.specs.Layout.{has_place}
-use Rattle.law_machine.specs.PlaceState.{PlaceState, Outgoing}
+use Rattle.law_machine.specs.declared.outgoing.Outgoing.{Outgoing}
+use Rattle.law_machine.specs.PlaceState.{PlaceState}
 use Rattle.law_network.specs.Packets.{AreByLink}
 use Rattle.law_network.specs.Network.{NetState, place_numbers}
 use Rattle.law_network.specs.Schedules.{OfSchedules}

@@ -16,7 +16,8 @@ use Rattle.chorus_world.specs.declared.port.Spot.{Spot}
 use Rattle.chorus_world.specs.declared.port.Spot.TheVariants as spots
 use Rattle.chorus_world.specs.Views.{on}
 use Rattle.chorus_world.specs.Ports.{PortState, fate, last_of}
-use Rattle.law_machine.specs.PlaceState.{PlaceState, Outgoing}
+use Rattle.law_machine.specs.declared.outgoing.Outgoing.{Outgoing}
+use Rattle.law_machine.specs.PlaceState.{PlaceState}
 use Rattle.law_network.specs.declared.placed.Placed.{Placed}
 use Rattle.law_network.specs.Network.{NetState}
 use Rattle.law_network.specs.Records.{record_for}

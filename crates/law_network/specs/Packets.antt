@@ -3,7 +3,7 @@
 -- a and b are numbers of places, o is a packet and os are packets with the places that they go to.
 use Rattle.std.specs.Prelude.{ℕ, ◌≡◌, ◌==◌, nat_lt, Bool, false, ◌&&◌, ◌||◌, if◌then◌else◌, List, [], ◌∷◌, Option, Some, None}
 use Rattle.chorus_entry.specs.declared.packet.Packet.{Packet}
-use Rattle.law_machine.specs.PlaceState.{Outgoing}
+use Rattle.law_machine.specs.declared.outgoing.Outgoing.{Outgoing}
 
 -- the packet goes from a to b
 abbrev pub is_link : ℕ → ℕ → Outgoing → Bool

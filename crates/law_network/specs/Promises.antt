@@ -21,7 +21,7 @@ use Rattle.chorus_world.specs.AcceptedLaws.{ReceivesInOrder, KeepsEachMessage}
 use Rattle.chorus_world.specs.SenderLaws.{KeepsSenderOrder}
 use Rattle.chorus_world.specs.RequestLaws.{AcceptsRequestsOnce}
 use Rattle.chorus_world.specs.GroupLaws.{ReachesOneMember, AcceptsOnSite, KeepsChoiceOrder}
-use Rattle.law_machine.specs.PlaceState.{Outgoing}
+use Rattle.law_machine.specs.declared.outgoing.Outgoing.{Outgoing}
 use Rattle.law_machine.specs.Lawful.{is_lawful}
 use Rattle.law_network.specs.Packets.{first_on}
 use Rattle.law_network.specs.Network.{NetState, Event, place}

@@ -25,7 +25,7 @@ use Rattle.chorus_world.specs.Messages.{progress}
 use Rattle.chorus_world.specs.Ports.{PortState, fate, last_of}
 use Rattle.chorus_world.specs.Posts.{Posted, post_of, site_asked}
 use Rattle.chorus_world.specs.Places.{last_clock, sent, find_sent}
-use Rattle.law_machine.specs.PlaceState.{Outgoing}
+use Rattle.law_machine.specs.declared.outgoing.Outgoing.{Outgoing}
 use Rattle.law_network.specs.Packets.{is_link}
 use Rattle.law_network.specs.Records.{message, record_for}
 

@@ -7,7 +7,7 @@ use Rattle.chorus_ui.specs.Layout.{has_place}
 use Rattle.chorus_entry.specs.declared.command.Command.{Command}
 use Rattle.chorus_entry.specs.declared.packet.Packet.{Packet}
 use Rattle.place_outbox.specs.Waiting.{list_to}
-use Rattle.law_machine.specs.PlaceState.{Outgoing}
+use Rattle.law_machine.specs.declared.outgoing.Outgoing.{Outgoing}
 use Rattle.chorus_ends.specs.Links.{Links}
 use Rattle.chorus_serve.specs.Flows.{GoesOut}
 use Rattle.law_history.specs.declared.turns.Input.{Input}

@@ -31,12 +31,12 @@ use Rattle.chorus_hints.specs.Known.{Known}
 use Rattle.place_unsettled.specs.declared.wait.Key.{Key}
 use Rattle.place_unsettled.specs.declared.wait.Wait.{Wait}
 use Rattle.place_unsettled.specs.Queues.{Row, Queue, queue, room, same_key, changed, passed, at, with_last, less_one}
+use Rattle.law_machine.specs.declared.outgoing.Outgoing.{Outgoing}
 use Rattle.law_machine.specs.PlaceState.{PlaceState, Turn, location, newest, greatest_clock}
 use Rattle.chorus_entry.specs.declared.id.MsgId.{MsgId}
 use Rattle.place_state.proofs.Reports.{report-length}
 use Rattle.law_machine.specs.Trying.{report, settles_here, verdict_here, tries, goes_on, goes_unless, go}
 use Rattle.law_machine.specs.Choosing.{by_group, all_go}
-use Rattle.place_state.specs.declared.parcel.Parcel.{Parcel}
 use Rattle.place_state.specs.Tables.{AreMembers, AreWaiting, AreSent, MayWait, IsPort, IsKept}
 use Rattle.place_state.specs.declared.copies.Course.{Course}
 use Rattle.place_state.specs.Going.{leaving_to, reports}
@@ -49,7 +49,7 @@ use Rattle.place_state.proofs.Ports.{numbered-same}
 -- Making, joining and leaving.
 
 -- an entry that makes no port, and leaves the members of each group ports
-pub kept-grouped : (l : Layout) (p : ℕ) (past more : List Entry) (ports : List PortRecord) (known : Known) (rows : List (Key × Row)) (puts : List Parcel) (act : Act)
+pub kept-grouped : (l : Layout) (p : ℕ) (past more : List Entry) (ports : List PortRecord) (known : Known) (rows : List (Key × Row)) (puts : List Outgoing) (act : Act)
     → IsKept l p past ports known rows puts → Said past more act → ((n : ℕ) → ports_after act n ≡ n) → ((u : Ui) → makes u act ≡ false)
     → AreMembers more → IsKept l p more ports known rows puts
 kept-grouped l p past more ports known rows puts act k s none not_made grouped =
@@ -356,7 +356,7 @@ waiting-each l p home g cs rows more w place copied e k =
     subst (λ (x : Queue). All (MayWait l p k) x.waits) (sym (e k)) (each-waits l p home g cs (queue rows) place copied w k)
 
 -- an entry of a group that makes no port, with other messages that wait and other packets
-pub kept-chosen : (l : Layout) (p : ℕ) (past more : List Entry) (ports : List PortRecord) (known : Known) (rows now : List (Key × Row)) (puts put : List Parcel) (act : Act)
+pub kept-chosen : (l : Layout) (p : ℕ) (past more : List Entry) (ports : List PortRecord) (known : Known) (rows now : List (Key × Row)) (puts put : List Outgoing) (act : Act)
     → IsKept l p past ports known rows puts → Said past more act → ((n : ℕ) → ports_after act n ≡ n) → ((u : Ui) → makes u act ≡ false)
     → ((g : Ui) (qs : List Ui) → world.members_after g act qs ≡ qs) → AreWaiting l p now → AreSent l put → IsKept l p more ports known now put
 kept-chosen l p past more ports known rows now puts put act k s none not_made same waiting sent =

@@ -1,5 +1,5 @@
 -- What a place keeps stays kept with each entry.
-use Rattle.std.proofs.Common.{◌≡◌, ℕ, max, ◌+◌, ◌-◌, ◌<◌, ◌≤◌, Bool, true, false, ◌||◌, ◌&&◌, nat_lt, unwrap_or, ◌*◌, ◌%◌, cond, Option, Some, None, List, [], ◌∷◌, ◌++◌, length, length-append, slice_get, IfSome, not, ◌==◌, refl, sym, ◌∙◌, ap, subst, arith, All}
+use Rattle.std.proofs.Common.{◌≡◌, ℕ, max, ◌+◌, ◌-◌, ◌<◌, ◌≤◌, Bool, true, false, ◌||◌, ◌&&◌, nat_lt, unwrap_or, ◌*◌, ◌%◌, cond, Option, Some, None, List, [], ◌∷◌, ◌++◌, length, length-append, map, slice_get, IfSome, not, ◌==◌, refl, sym, ◌∙◌, ap, subst, arith, All}
 use Rattle.std.specs.Option.{option_map, option_cmp}
 use Rattle.std.specs.declared.cmp.Ordering.{Ordering}
 use Rattle.std.specs.declared.cmp.Ordering.TheVariants as orders
@@ -28,9 +28,10 @@ use Rattle.place_unsettled.specs.declared.wait.Key.{Key}
 use Rattle.place_unsettled.specs.declared.wait.Wait.{Wait}
 use Rattle.place_unsettled.specs.Queues.{Queue, Row, empty_queue, queue, same_key, changed, passed, at, with_last}
 use Rattle.place_journal.specs.Counting.{JournalState}
-use Rattle.place_state.specs.declared.parcel.Parcel.{Parcel}
+use Rattle.law_machine.specs.declared.outgoing.Outgoing.{Outgoing}
+use Rattle.law_machine.specs.PlaceState.{packed_at}
 use Rattle.place_state.specs.Plain.{is_plain}
-use Rattle.place_state.specs.Turns.{after_entry, next_entry, parcel, parcels}
+use Rattle.place_state.specs.Turns.{after_entry, next_entry}
 use Rattle.place_outbox.specs.Waiting.{Waiting}
 use Rattle.chorus_entry.specs.declared.packet.Packet.{Packet}
 use Rattle.chorus_entry.specs.declared.answer.Answer.{Answer}
@@ -105,7 +106,7 @@ grouped-plain past more a k s plain g =
     (k g)
 
 -- an entry that changes no count
-pub kept-plain : (l : Layout) (p : ℕ) (past more : List Entry) (a : Act) (ports : List PortRecord) (known : Known) (rows : List (Key × Row)) (puts : List Parcel)
+pub kept-plain : (l : Layout) (p : ℕ) (past more : List Entry) (a : Act) (ports : List PortRecord) (known : Known) (rows : List (Key × Row)) (puts : List Outgoing)
     → IsKept l p past ports known rows puts → Said past more a → is_plain a ≡ true → IsKept l p more ports known rows puts
 kept-plain l p past more a ports known rows puts k s plain =
     record {
@@ -120,7 +121,7 @@ kept-plain l p past more a ports known rows puts k s plain =
     }
 
 -- a packet more
-pub kept-put : (l : Layout) (p : ℕ) (past : List Entry) (ports : List PortRecord) (known : Known) (rows : List (Key × Row)) (puts more : List Parcel) (x : Parcel)
+pub kept-put : (l : Layout) (p : ℕ) (past : List Entry) (ports : List PortRecord) (known : Known) (rows : List (Key × Row)) (puts more : List Outgoing) (x : Outgoing)
     → IsKept l p past ports known rows puts → more ≡ puts ++ x ∷ [] → has_place l x.to ≡ true → IsKept l p past ports known rows more
 kept-put l p past ports known rows puts more x k e to =
     record {
@@ -252,7 +253,7 @@ pub waiting-last : (l : Layout) (p : ℕ) (rows more : List (Key × Row)) (k : K
 waiting-last l p rows more k x w e may = waiting-changed l p rows more k (with_last x) w e (All-push (MayWait l p k) (queue rows k).waits x (w k) may)
 
 -- nothing happened yet
-pub kept-start : (l : Layout) (p : ℕ) (past : List Entry) (ports : List PortRecord) (known : Known) (rows : List (Key × Row)) (puts : List Parcel)
+pub kept-start : (l : Layout) (p : ℕ) (past : List Entry) (ports : List PortRecord) (known : Known) (rows : List (Key × Row)) (puts : List Outgoing)
     → has_place l p ≡ true → past ≡ [] → ports ≡ [] → known.layout ≡ l → ((q : Ui) → kept known q ≡ None) → ((k : Key) → queue rows k ≡ empty_queue) → puts ≡ []
     → IsKept l p past ports known rows puts
 kept-start l p past ports known rows puts place nothing no_port layout no_location no_message no_packet =
@@ -299,24 +300,24 @@ all-first P [] w h k = absurd (cc)
 all-first P (x ∷ xs) w h k = let e : x ≡ w = cc in subst P e (All-head P x xs k)
 
 -- packets more
-pub sent-more : (l : Layout) (puts more xs : List Parcel) → AreSent l puts → more ≡ puts ++ xs → AreSent l xs → AreSent l more
+pub sent-more : (l : Layout) (puts more xs : List Outgoing) → AreSent l puts → more ≡ puts ++ xs → AreSent l xs → AreSent l more
 sent-more l puts more xs k e f = All-same (GoesTo l) more (puts ++ xs) e (All-append (GoesTo l) puts xs k f)
 
-pub sent-report : (l : Layout) (p home clock : ℕ) (x : MsgId) (answer : Answer) → has_place l home ≡ true → AreSent l (parcels clock p (report p home x answer))
+pub sent-report : (l : Layout) (p home clock : ℕ) (x : MsgId) (answer : Answer) → has_place l home ≡ true → AreSent l (map (packed_at clock p) (report p home x answer))
 sent-report l p home clock x answer h = by (is_final answer && not (home == p))
   where
-    by : (b : Bool) → AreSent l (parcels clock p (cond b ((home, Cargo.Report x answer) ∷ []) []))
-    by true = All-cons (GoesTo l) (parcel home clock p (Cargo.Report x answer)) [] h (All-nil (GoesTo l))
+    by : (b : Bool) → AreSent l (map (packed_at clock p) (cond b ((home, Cargo.Report x answer) ∷ []) []))
+    by true = All-cons (GoesTo l) (packed_at clock p (home, Cargo.Report x answer)) [] h (All-nil (GoesTo l))
     by false = All-nil (GoesTo l)
 
-pub boxed-more : (l : Layout) (puts more xs : List Parcel) (out : Waiting) (n : ℕ) → IsBoxed l puts out → more ≡ puts ++ xs → length xs ≤ n → n ≤ out.spare - length puts
+pub boxed-more : (l : Layout) (puts more xs : List Outgoing) (out : Waiting) (n : ℕ) → IsBoxed l puts out → more ≡ puts ++ xs → length xs ≤ n → n ≤ out.spare - length puts
     → IsBoxed l more out
 boxed-more l puts more xs out n k e f g =
-    let len = ap (λ (ys : List Parcel). length ys) e ∙ length-append puts xs in
+    let len = ap (λ (ys : List Outgoing). length ys) e ∙ length-append puts xs in
     let room = k.room in
     record { lists = k.lists; room = omega (arith, len, f, g, room) }
 
-pub kept-waits : (l : Layout) (p : ℕ) (past : List Entry) (ports : List PortRecord) (known : Known) (rows more : List (Key × Row)) (puts : List Parcel)
+pub kept-waits : (l : Layout) (p : ℕ) (past : List Entry) (ports : List PortRecord) (known : Known) (rows more : List (Key × Row)) (puts : List Outgoing)
     → IsKept l p past ports known rows puts → AreWaiting l p more → IsKept l p past ports known more puts
 kept-waits l p past ports known rows more puts k w =
     record {
@@ -330,7 +331,7 @@ kept-waits l p past ports known rows more puts k w =
       sent = k.sent;
     }
 
-pub sent-one : (l : Layout) (puts more : List Parcel) (x : Parcel) → AreSent l puts → more ≡ puts ++ x ∷ [] → has_place l x.to ≡ true → AreSent l more
+pub sent-one : (l : Layout) (puts more : List Outgoing) (x : Outgoing) → AreSent l puts → more ≡ puts ++ x ∷ [] → has_place l x.to ≡ true → AreSent l more
 sent-one l puts more x k e to = All-same (GoesTo l) more (puts ++ x ∷ []) e (All-push (GoesTo l) puts x k to)
 
 -- What taking does to one record.
@@ -366,7 +367,7 @@ take-raises a =
 pub rehomed-raises : (a : Ui) → Raises (rehomed a)
 rehomed-raises a = record { name = λ r. refl; end = λ r. omega arith; hop = λ r. omega arith; pending = λ r k. k }
 
-pub kept-ports : (l : Layout) (p : ℕ) (past more : List Entry) (a : Act) (ports now : List PortRecord) (known : Known) (rows : List (Key × Row)) (puts : List Parcel)
+pub kept-ports : (l : Layout) (p : ℕ) (past more : List Entry) (a : Act) (ports now : List PortRecord) (known : Known) (rows : List (Key × Row)) (puts : List Outgoing)
     → IsKept l p past ports known rows puts → Said past more a → is_plain a ≡ true → AreHeld l p more now → IsKept l p more now known rows puts
 kept-ports l p past more a ports now known rows puts k s plain held =
     record {
@@ -380,20 +381,20 @@ kept-ports l p past more a ports now known rows puts k s plain held =
       sent = k.sent;
     }
 
-pub kept-replaced : (l : Layout) (p : ℕ) (past more : List Entry) (a : Act) (ports now : List PortRecord) (known : Known) (rows : List (Key × Row)) (puts : List Parcel)
+pub kept-replaced : (l : Layout) (p : ℕ) (past more : List Entry) (a : Act) (ports now : List PortRecord) (known : Known) (rows : List (Key × Row)) (puts : List Outgoing)
     (q : Ui) (f : PortRecord → PortRecord)
     → IsKept l p past ports known rows puts → Said past more a → is_plain a ≡ true → now ≡ replace q f ports → Raises f → IsKept l p more now known rows puts
 kept-replaced l p past more a ports now known rows puts q f k s plain e raises =
     kept-ports l p past more a ports now known rows puts k s plain (subst (AreHeld l p more) (sym e) (held-replace l p past more a ports q f k.held s raises))
 
 -- the room alone changed
-pub kept-past : (l : Layout) (p : ℕ) (past more : List Entry) (ports : List PortRecord) (known : Known) (rows : List (Key × Row)) (puts now : List Parcel)
+pub kept-past : (l : Layout) (p : ℕ) (past more : List Entry) (ports : List PortRecord) (known : Known) (rows : List (Key × Row)) (puts now : List Outgoing)
     → IsKept l p past ports known rows puts → more ≡ past → now ≡ puts → IsKept l p more ports known rows now
 kept-past l p past more ports known rows puts now k e f =
     subst (λ x. IsKept l p x ports known rows now) (sym e) (subst (λ y. IsKept l p past ports known rows y) (sym f) k)
 
-pub boxed-out : (l : Layout) (puts now : List Parcel) (out more : Waiting) → IsBoxed l puts out → now ≡ puts → more.lists ≡ out.lists → out.spare ≤ more.spare → IsBoxed l now more
+pub boxed-out : (l : Layout) (puts now : List Outgoing) (out more : Waiting) → IsBoxed l puts out → now ≡ puts → more.lists ≡ out.lists → out.spare ≤ more.spare → IsBoxed l now more
 boxed-out l puts now out more k e f g =
-    let n = ap (λ (xs : List Parcel). length xs) e in
+    let n = ap (λ (xs : List Outgoing). length xs) e in
     let room = k.room in
     record { lists = ap (λ (ls : List (List Packet)). length ls) f ∙ k.lists; room = omega (arith, n, g, room) }

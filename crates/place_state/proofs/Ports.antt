@@ -2,7 +2,7 @@
 use Rattle.std.proofs.Common.{◌≡◌, ℕ, ◌+◌, ◌-◌, ◌*◌, ◌/◌, ◌%◌, ◌<◌, ◌≤◌, Bool, true, false, ◌||◌, ◌&&◌, cond, nat_le, Option, Some, None, IsNone, IsSome, List, [], ◌∷◌, ◌++◌, length, refl, sym, ◌∙◌, ap, subst, add-mul, one-mul, mul_comm, arith, All}
 use Rattle.std.proofs.Common.{append-nil, mul-zero, zero, suc}
 use Rattle.std.proofs.lemmas.Bool.{false≢true, and_parts}
-use Rattle.law_machine.specs.PlaceState.{Outgoing}
+use Rattle.law_machine.specs.declared.outgoing.Outgoing.{Outgoing}
 use Rattle.std.proofs.lemmas.Nat.{mod-mul-add, mod_below, div-add-mod', mul-add-lt}
 use Rattle.std.proofs.lemmas.List.Elements.{All-same, All-nil, All-head}
 use Rattle.chorus_ui.specs.declared.ui.Ui.{Ui}
@@ -32,12 +32,11 @@ use Rattle.chorus_ports.specs.declared.taking.Taken.TheVariants as T
 use Rattle.chorus_ports.specs.Taking.{taken, first_at}
 use Rattle.place_unsettled.specs.declared.wait.Key.{Key}
 use Rattle.place_unsettled.specs.Queues.{Row}
-use Rattle.place_state.specs.declared.parcel.Parcel.{Parcel}
 use Rattle.place_state.specs.Tables.{IsSound, MayHold, AreHeld, AreNumbered, IsPort, AreMembers, IsKept}
 use Rattle.place_state.proofs.Kept.{Said, Raises, held-replace, held-last, held-without, located-learned}
 
 -- other records, or other locations
-pub kept-ports : (l : Layout) (p : ℕ) (past : List Entry) (ports now : List PortRecord) (known : Known) (rows : List (Key × Row)) (puts : List Parcel)
+pub kept-ports : (l : Layout) (p : ℕ) (past : List Entry) (ports now : List PortRecord) (known : Known) (rows : List (Key × Row)) (puts : List Outgoing)
     → IsKept l p past ports known rows puts → AreHeld l p past now → IsKept l p past now known rows puts
 kept-ports l p past ports now known rows puts k held =
     record {
@@ -51,7 +50,7 @@ kept-ports l p past ports now known rows puts k held =
       sent = k.sent;
     }
 
-pub kept-learned : (l : Layout) (p : ℕ) (past : List Entry) (ports : List PortRecord) (known more : Known) (rows : List (Key × Row)) (puts : List Parcel) (q : Ui) (to hop : ℕ)
+pub kept-learned : (l : Layout) (p : ℕ) (past : List Entry) (ports : List PortRecord) (known more : Known) (rows : List (Key × Row)) (puts : List Outgoing) (q : Ui) (to hop : ℕ)
     → IsKept l p past ports known rows puts → more.layout ≡ known.layout → ((u : Ui) → kept more u ≡ learned q to hop (kept known) u) → has_place l to ≡ true
     → IsKept l p past ports more rows puts
 kept-learned l p past ports known more rows puts q to hop k layout e place =
@@ -174,7 +173,7 @@ can-make-next l p past a q turns actor site name few =
     let there : has_site l q.site ≡ true = ap (has_site l) site ∙ (and_parts (has_site l a.site) (nat_le 1 a.number) (and_parts (has_site l a.site && nat_le 1 a.number) (nat_le a.number 8) actor).0).0 in
     λ i. there i && low i && high i
 
-pub kept-made : (l : Layout) (p : ℕ) (past more : List Entry) (ports now : List PortRecord) (known : Known) (rows : List (Key × Row)) (puts : List Parcel) (q a : Ui) (n : ℕ)
+pub kept-made : (l : Layout) (p : ℕ) (past more : List Entry) (ports now : List PortRecord) (known : Known) (rows : List (Key × Row)) (puts : List Outgoing) (q a : Ui) (n : ℕ)
     → IsKept l p past ports known rows puts → Said past more (acts.Make q a n) → 1 ≤ l.turns → has_actor l a ≡ true → creation_place l a ≡ p
     → is_full_of_ports l past ≡ false → q ≡ record { site = a.site; kind = kinds.Port; number = next_number l p past } → now ≡ ports ++ new_record q a n ∷ []
     → IsKept l p more now known rows puts
@@ -201,7 +200,7 @@ kept-made l p past more ports now known rows puts q a n k s turns actor home few
     }
 
 -- A port is deleted.
-pub kept-deleted : (l : Layout) (p : ℕ) (past more : List Entry) (ports now : List PortRecord) (known : Known) (rows : List (Key × Row)) (puts : List Parcel) (q : Ui) (act : Act)
+pub kept-deleted : (l : Layout) (p : ℕ) (past more : List Entry) (ports now : List PortRecord) (known : Known) (rows : List (Key × Row)) (puts : List Outgoing) (q : Ui) (act : Act)
     → IsKept l p past ports known rows puts → Said past more act → ((n : ℕ) → ports_after act n ≡ n) → ((u : Ui) → makes u act ≡ false)
     → ((g : Ui) (qs : List Ui) → members_after g act qs ≡ qs) → are_distinct ports ≡ true → now ≡ without q ports → IsKept l p more now known rows puts
 kept-deleted l p past more ports now known rows puts q act k s none not_made same distinct e =

@@ -14,7 +14,6 @@ use Rattle.place_unsettled.proofs.Keys.{same_key-refl}
 use Rattle.law_machine.specs.Trying.{report}
 use Rattle.place_state.specs.Going.{reports}
 use Rattle.place_state.specs.Tables.{MayWait}
-use Rattle.place_state.specs.Turns.{parcels}
 
 pub report-length : (p home : ℕ) (x : MsgId) (a : Answer) → length (report p home x a) ≤ cond (home == p) 0 1
 report-length p home x a = by (is_final a) (home == p)
@@ -50,10 +49,6 @@ room-left cap more len spare n h r s now a b e f = omega (arith, a, b, e, f)
 
 pub if-first : (o : Option Wait) (w : Wait) (P : Wait → Type 0) → o ≡ Some w → P w → IfSome o P
 if-first o w P e h = subst (λ x. IfSome x P) (sym e) h
-
-pub length-parcels : (clock p : ℕ) (loads : List (ℕ × Cargo)) → length (parcels clock p loads) ≡ length loads
-length-parcels clock p [] = refl
-length-parcels clock p (load ∷ loads) = let e = length-parcels clock p loads in grind (arith, e)
 
 reports-append : (p : ℕ) (ws : List Wait) (w : Wait) → reports p (ws ++ w ∷ []) ≡ reports p ws + cond (w.home == p) 0 1
 reports-append p [] w = omega arith

@@ -1,6 +1,6 @@
 -- What a place keeps, and what its tables stand for.
 -- l is a layout, p the number of a place, q a port, r its record, g a group, k a port and route.
-use Rattle.std.specs.Prelude.{ℕ, ◌≡◌, ◌+◌, ◌≤◌, ◌<◌, true, false, List, [], length, map, Some, None, All}
+use Rattle.std.specs.Prelude.{ℕ, ◌≡◌, ◌+◌, ◌≤◌, ◌<◌, true, false, List, [], length, Some, None, All}
 use Rattle.chorus_ui.specs.declared.ui.Ui.{Ui}
 use Rattle.chorus_ui.specs.declared.kind.Kind.TheVariants as kinds
 use Rattle.chorus_ui.specs.declared.layout.Layout.{Layout}
@@ -23,8 +23,8 @@ use Rattle.place_unsettled.specs.Queues.{Row, queue, empty_queue}
 use Rattle.place_unsettled.specs.Unheard.{is_unheard}
 use Rattle.place_outbox.specs.Waiting.{Waiting}
 use Rattle.place_journal.specs.Counting.{JournalState}
-use Rattle.law_machine.specs.PlaceState.{PlaceState, Outgoing, Turn}
-use Rattle.place_state.specs.declared.parcel.Parcel.{Parcel}
+use Rattle.law_machine.specs.declared.outgoing.Outgoing.{Outgoing}
+use Rattle.law_machine.specs.PlaceState.{PlaceState, Turn}
 
 -- the tables of a place, the packets that the turn has put so far, and for how many more there is room
 pub record Tables : Type 0 where
@@ -35,7 +35,7 @@ pub record Tables : Type 0 where
   pub known : Known
   pub waits : List (Key × Row)
   pub unheard : List (Post × Copies)
-  pub puts : List Parcel
+  pub puts : List Outgoing
   pub out : Waiting
   pub room : ℕ
 
@@ -65,12 +65,9 @@ seen p journal known =
       unheard = λ x. false;
     }
 
-abbrev pub outgoing : Parcel → Outgoing
-outgoing parcel = record { to = parcel.to; packet = parcel.packet }
-
 -- the turn so far, of the caller in whose turn it is
 abbrev pub turn : Tables → Seated → Turn
-turn p caller = record { place = state p; caller = caller; puts = map outgoing p.puts }
+turn p caller = record { place = state p; caller = caller; puts = p.puts }
 
 -- the position of the port's next message
 abbrev pub end_of : PortRecord → ℕ
@@ -119,20 +116,20 @@ abbrev pub AreMembers : List Entry → Type 0
 AreMembers past = (g : Ui) → All IsPort (members g past)
 
 -- each packet goes to a place of the layout
-abbrev pub GoesTo : Layout → Parcel → Type 0
-GoesTo l parcel = has_place l parcel.to ≡ true
+abbrev pub GoesTo : Layout → Outgoing → Type 0
+GoesTo l o = has_place l o.to ≡ true
 
-abbrev pub AreSent : Layout → List Parcel → Type 0
+abbrev pub AreSent : Layout → List Outgoing → Type 0
 AreSent l puts = All (GoesTo l) puts
 
 -- there is a list for each place, and room for each packet that was put
-pub record IsBoxed (l : Layout) (puts : List Parcel) (out : Waiting) : Type 0 where
+pub record IsBoxed (l : Layout) (puts : List Outgoing) (out : Waiting) : Type 0 where
   pub lists : length out.lists ≡ places l + 1
   pub room : length puts ≤ out.spare
 
 -- what a place keeps, behind each entry
 pub record IsKept (l : Layout) (p : ℕ) (past : List Entry) (ports : List PortRecord) (known : Known)
-    (rows : List (Key × Row)) (puts : List Parcel) : Type 0 where
+    (rows : List (Key × Row)) (puts : List Outgoing) : Type 0 where
   pub place : has_place l p ≡ true
   pub held : AreHeld l p past ports
   pub layout : known.layout ≡ l
@@ -143,5 +140,5 @@ pub record IsKept (l : Layout) (p : ℕ) (past : List Entry) (ports : List PortR
   pub sent : AreSent l puts
 
 -- each packet came with an entry of its own, so no more were put than the place's clock shows
-abbrev pub AreCounted : List Entry → List Parcel → Waiting → Type 0
+abbrev pub AreCounted : List Entry → List Outgoing → Waiting → Type 0
 AreCounted past puts out = out.puts + length puts ≤ last_clock past

@@ -1,12 +1,10 @@
 -- The parts of a step.
-use Rattle.std.specs.Prelude.{ℕ, ◌+◌, ◌-◌, max, List, ◌∷◌, map}
+use Rattle.std.specs.Prelude.{ℕ, ◌+◌, ◌-◌, max, ◌∷◌}
 use Rattle.chorus_entry.specs.declared.act.Act.{Act}
 use Rattle.chorus_entry.specs.declared.entry.Entry.{Entry}
-use Rattle.chorus_entry.specs.declared.packet.Cargo.{Cargo}
 use Rattle.chorus_world.specs.Places.{last_clock}
 use Rattle.chorus_calls.specs.Callers.{Seated}
 use Rattle.place_journal.specs.Counting.{JournalState, groups_with}
-use Rattle.place_state.specs.declared.parcel.Parcel.{Parcel}
 
 -- the clock of the caller's next entry
 abbrev pub next_clock : JournalState → Seated → ℕ
@@ -24,11 +22,3 @@ after_entry p act caller journal =
       groups = groups_with act journal.groups;
       spare = journal.spare - 1;
     }
-
--- a packet for the place `to`
-abbrev pub parcel : ℕ → ℕ → ℕ → Cargo → Parcel
-parcel to clock from cargo = record { to = to; packet = record { clock = clock; from = from; cargo = cargo } }
-
--- the packets of a turn that come with its last entry, which has this clock
-abbrev pub parcels : ℕ → ℕ → List (ℕ × Cargo) → List Parcel
-parcels clock from loads = map (λ (load : ℕ × Cargo). parcel load.0 clock from load.1) loads

@@ -4,12 +4,12 @@ ghost use Rattle.std.specs.Prelude.{◌≡◌, ◌+◌, ◌^◌, ◌<◌, ◌≤
 ghost use Rattle.std.specs.VecDeque.{deque_capacity};
 ghost use Rattle.place_state.specs.Sending.{IsFor, with_all};
 
-use crate::parcel::Parcel;
+use law_machine::Outgoing;
 use place_outbox::Outbox;
 use std::collections::VecDeque;
 
 /// Moves the packets into the outbox, in order, in the room that is there. Takes no memory.
-pub fn move_all(puts: &mut VecDeque<Parcel>, out: &mut Outbox)
+pub fn move_all(puts: &mut VecDeque<Outgoing>, out: &mut Outbox)
     requires places { All (IsFor out.old) puts.old.items }
     requires room { length puts.old.items ≤ out.old.spare }
     requires count { out.old.puts + length puts.old.items < 2 ^ 64 }
@@ -19,8 +19,8 @@ pub fn move_all(puts: &mut VecDeque<Parcel>, out: &mut Outbox)
     ensures count { out.new.puts ≡ out.old.puts + length puts.old.items }
     ensures capacity { deque_capacity puts.new ≡ deque_capacity puts.old }
 {
-    while let Some(parcel) = puts.pop_front() {
-        let Parcel { to, packet } = parcel;
+    while let Some(outgoing) = puts.pop_front() {
+        let Outgoing { to, packet } = outgoing;
         out.put(to, packet);
     }
 }

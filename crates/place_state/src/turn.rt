@@ -1,16 +1,17 @@
 //! The parts of a step: an entry, and a packet that it causes.
 
-ghost use Rattle.std.specs.Prelude.{◌≡◌, ◌+◌, ◌-◌, ◌^◌, ◌<◌, ◌≤◌, ◌++◌, ◌∷◌, [], max, length};
+ghost use Rattle.std.specs.Prelude.{◌≡◌, ◌+◌, ◌-◌, ◌^◌, ◌<◌, ◌≤◌, ◌++◌, ◌∷◌, [], map, max, length};
 ghost use Rattle.std.specs.VecDeque.{deque_capacity};
 ghost use Rattle.chorus_world.specs.Places.{last_clock};
 ghost use Rattle.chorus_calls.specs.Callers.{after_tick};
 ghost use Rattle.place_journal.specs.Counting.{MayFollow};
-ghost use Rattle.place_state.specs.Turns.{next_clock, next_entry, after_entry, parcel, parcels};
+ghost use Rattle.place_state.specs.Turns.{next_clock, next_entry, after_entry};
+ghost use Rattle.law_machine.specs.PlaceState.{packed_at};
 ghost use Rattle.law_machine.specs.Trying.{report};
 
-use crate::parcel::Parcel;
 use chorus_calls::Caller;
 use chorus_entry::{Act, Answer, Cargo, Entry, MsgId, Packet};
+use law_machine::Outgoing;
 use place_journal::Journal;
 use std::collections::VecDeque;
 
@@ -43,19 +44,19 @@ pub fn say(journal: &mut Journal, place: u16, caller: &mut Caller, act: Act)
 }
 
 /// Puts a packet, which carries this clock, in the room that is there.
-pub fn put(puts: &mut VecDeque<Parcel>, to: u16, clock: u64, from: u16, cargo: Cargo)
+pub fn put(puts: &mut VecDeque<Outgoing>, to: u16, clock: u64, from: u16, cargo: Cargo)
     requires { 1 ≤ deque_capacity puts.old - length puts.old.items }
-    ensures items { puts.new.items ≡ puts.old.items ++ parcel to clock from cargo ∷ [] }
+    ensures items { puts.new.items ≡ puts.old.items ++ packed_at clock from (to, cargo) ∷ [] }
     ensures len { length puts.new.items ≡ length puts.old.items + 1 }
     ensures room { deque_capacity puts.new ≡ deque_capacity puts.old }
 {
     let packet = Packet { clock, from, cargo };
-    puts.push_back_reserved(Parcel { to, packet });
+    puts.push_back_reserved(Outgoing { to, packet });
 }
 
 /// Puts a report of what became of a message that was posted at the place `home`, where that is another place.
 pub fn put_report(
-    puts: &mut VecDeque<Parcel>,
+    puts: &mut VecDeque<Outgoing>,
     clock: u64,
     place: u16,
     home: u16,
@@ -65,7 +66,7 @@ pub fn put_report(
     requires { length (report place home id answer) ≤
         deque_capacity puts.old - length puts.old.items }
     ensures items { puts.new.items ≡
-        puts.old.items ++ parcels clock place (report place home id answer) }
+        puts.old.items ++ map (packed_at clock place) (report place home id answer) }
     ensures len { length puts.new.items ≡
         length puts.old.items + length (report place home id answer) }
     ensures room { deque_capacity puts.new ≡ deque_capacity puts.old }

@@ -22,5 +22,5 @@ mod steps_ports;
 mod tables;
 
 pub use naming::{has_made_all, next_group, next_port};
-pub use place_state::{Course, MemberCopy, Parcel};
+pub use place_state::{Course, MemberCopy};
 pub use tables::Tables;

@@ -9,9 +9,9 @@ ghost use Rattle.place_state.specs.Tables.{state};
 use chorus_hints::Hints;
 use chorus_ports::Ports;
 use chorus_ui::{Layout, PORTS_PER_SITE_LIMIT};
+use law_machine::Outgoing;
 use place_journal::Journal;
 use place_outbox::Outbox;
-use place_state::Parcel;
 use place_unsettled::{Unheard, Waits};
 use std::alloc::{AllocError, Global};
 use std::collections::VecDeque;
@@ -27,7 +27,7 @@ pub struct Tables {
     pub(crate) hints: Hints,
     pub(crate) waits: Waits,
     pub(crate) unheard: Unheard,
-    pub(crate) puts: VecDeque<Parcel>,
+    pub(crate) puts: VecDeque<Outgoing>,
     pub(crate) out: Outbox,
 }
 

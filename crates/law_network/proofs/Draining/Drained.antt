@@ -4,7 +4,7 @@ use Rattle.chorus_ui.specs.declared.layout.Layout.{Layout}
 use Rattle.law_network.specs.Network.{NetState, after, opening, schedule, round, rounds, drains_on, drained}
 use Rattle.law_network.specs.Tasks.{DrainsEnd, DrainsRest}
 use Rattle.law_network.proofs.Places.Layouts.{schedule-keeps}
-use Rattle.law_machine.specs.PlaceState.{Outgoing}
+use Rattle.law_machine.specs.declared.outgoing.Outgoing.{Outgoing}
 use Rattle.law_network.proofs.Draining.Drains.{after-append, layout-stays, rounds-last}
 use Rattle.law_network.proofs.Draining.Ending.{some-caller, caller-actor, drain-ends, rounds-may}
 use Rattle.law_network.proofs.Draining.Emptied.{drains-leave-nothing}

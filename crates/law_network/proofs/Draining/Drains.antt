@@ -9,7 +9,7 @@ use Rattle.chorus_ui.specs.declared.layout.Layout.{Layout}
 use Rattle.chorus_entry.specs.declared.packet.Packet.{Packet}
 use Rattle.chorus_entry.specs.declared.command.Command.{Command}
 use Rattle.chorus_calls.specs.Callers.{Seated}
-use Rattle.law_machine.specs.PlaceState.{Outgoing}
+use Rattle.law_machine.specs.declared.outgoing.Outgoing.{Outgoing}
 use Rattle.law_network.specs.Packets.{first_on}
 use Rattle.law_network.specs.Network.{NetState, Event, Enter, Act, Deliver, commanded, works_off, delivered, happened, after, opening, schedule, from_one, from_each, place_numbers, round, rounds, one_if, serves, served, drains_on, drained}
 use Rattle.law_network.specs.Schedules.{command_in, commands_of}

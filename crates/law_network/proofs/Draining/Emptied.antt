@@ -8,7 +8,7 @@ use Rattle.chorus_ui.specs.declared.layout.Layout.{Layout}
 use Rattle.chorus_ui.specs.Layout as layout
 use Rattle.chorus_ui.specs.Layout.{IsLayout, has_place}
 use Rattle.chorus_merge.proofs.Places.{All-append_parts}
-use Rattle.law_machine.specs.PlaceState.{Outgoing}
+use Rattle.law_machine.specs.declared.outgoing.Outgoing.{Outgoing}
 use Rattle.law_network.specs.Packets.{is_link, first_on}
 use Rattle.law_network.specs.Network.{NetState, Event, Deliver, numbers, place_numbers, after, schedule, from_one, from_each, round, one_if, serves, served}
 use Rattle.law_network.specs.Tasks.{DrainsLeaveNothing}

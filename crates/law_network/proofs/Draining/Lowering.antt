@@ -5,7 +5,8 @@ use Rattle.chorus_ui.specs.declared.layout.Layout.{Layout}
 use Rattle.chorus_entry.specs.declared.packet.Packet.{Packet}
 use Rattle.chorus_calls.specs.Callers.{Seated}
 use Rattle.place_unsettled.specs.declared.wait.Key.{Key}
-use Rattle.law_machine.specs.PlaceState.{PlaceState, Outgoing}
+use Rattle.law_machine.specs.declared.outgoing.Outgoing.{Outgoing}
+use Rattle.law_machine.specs.PlaceState.{PlaceState}
 use Rattle.law_machine.specs.PlaceMachine.{begun_by, work}
 use Rattle.law_machine.proofs.Machine.Stays.{work-stays}
 use Rattle.law_network.specs.Packets.{is_link, is_link_before, put, put_all, first_on, rest_on}

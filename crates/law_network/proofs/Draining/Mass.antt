@@ -10,7 +10,8 @@ use Rattle.chorus_entry.specs.declared.packet.Cargo.{Cargo}
 use Rattle.place_unsettled.specs.declared.wait.Key.{Key}
 use Rattle.place_unsettled.specs.declared.wait.Wait.{Wait}
 use Rattle.place_unsettled.specs.Queues.{Queue, same_key}
-use Rattle.law_machine.specs.PlaceState.{PlaceState, Outgoing, Turn}
+use Rattle.law_machine.specs.declared.outgoing.Outgoing.{Outgoing}
+use Rattle.law_machine.specs.PlaceState.{PlaceState, Turn}
 use Rattle.law_machine.specs.Choosing.{by_group}
 use Rattle.law_machine.specs.Doing.{direct}
 use Rattle.law_network.specs.Network.{NetState}

@@ -14,7 +14,8 @@ use Rattle.chorus_world.specs.declared.place.Location.{Location}
 use Rattle.place_unsettled.specs.declared.wait.Key.{Key}
 use Rattle.place_unsettled.specs.declared.wait.Wait.{Wait}
 use Rattle.place_unsettled.specs.Queues.{Queue, same_key, changed, passed, at}
-use Rattle.law_machine.specs.PlaceState.{Turn, Change, Outgoing, newest, unchanged, packed, say}
+use Rattle.law_machine.specs.declared.outgoing.Outgoing.{Outgoing}
+use Rattle.law_machine.specs.PlaceState.{Turn, Change, newest, unchanged, packed, say}
 use Rattle.law_machine.specs.Deciding.{decision, records_after}
 use Rattle.law_machine.specs.Trying.{report, settles_here, tries_at, verdict_here, tries, goes_on, goes_unless, go}
 use Rattle.law_machine.proofs.Machine.Keys.{same_key-is}

@@ -12,7 +12,8 @@ use Rattle.chorus_entry.specs.declared.packet.Packet.{Packet}
 use Rattle.chorus_entry.specs.declared.packet.Cargo.{Cargo}
 use Rattle.chorus_entry.specs.declared.packet.Cargo.TheVariants as cargos
 use Rattle.chorus_entry.specs.Dest.{group_in}
-use Rattle.law_machine.specs.PlaceState.{Turn, Outgoing}
+use Rattle.law_machine.specs.declared.outgoing.Outgoing.{Outgoing}
+use Rattle.law_machine.specs.PlaceState.{Turn}
 use Rattle.law_machine.specs.Choosing.{chooses}
 use Rattle.law_machine.specs.Working.{opens}
 use Rattle.law_machine.specs.PlaceMachine.{act, work}

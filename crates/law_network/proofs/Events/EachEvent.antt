@@ -15,7 +15,8 @@ use Rattle.chorus_world.specs.Places.{just_taken}
 use Rattle.chorus_world.specs.Groups.{posts_to, is_choosing_place, unchosen}
 use Rattle.chorus_calls.specs.Callers.{Seated, after_tick}
 use Rattle.place_unsettled.specs.declared.wait.Key.{Key}
-use Rattle.law_machine.specs.PlaceState.{Turn, Outgoing, PlaceState}
+use Rattle.law_machine.specs.declared.outgoing.Outgoing.{Outgoing}
+use Rattle.law_machine.specs.PlaceState.{Turn, PlaceState}
 use Rattle.law_machine.specs.PlaceMachine.{begun, begun_by, act, work}
 use Rattle.law_machine.proofs.Machine.Stays.{act-stays, work-stays}
 use Rattle.law_machine.proofs.Machine.Ready.{ReadyHere, acts-ready, works-ready}

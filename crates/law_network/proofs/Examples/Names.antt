@@ -9,7 +9,7 @@ use Rattle.chorus_entry.specs.declared.message.Message.{Message}
 use Rattle.chorus_entry.specs.declared.record.PortRecord.{PortRecord}
 use Rattle.chorus_entry.specs.declared.act.Act.{Act}
 use Rattle.chorus_entry.specs.declared.packet.Cargo.{Cargo}
-use Rattle.law_machine.specs.PlaceState.{Outgoing}
+use Rattle.law_machine.specs.declared.outgoing.Outgoing.{Outgoing}
 use Rattle.law_network.specs.declared.placed.Placed.{Placed}
 use Rattle.law_machine.specs.declared.reply.Reply.{Reply}
 use Rattle.law_network.specs.Network.{NetState, Event, Enter, Act as Acts, Deliver, opening, happened, schedule, replied}

@@ -19,7 +19,8 @@ use Rattle.chorus_calls.specs.Callers.{Seated}
 use Rattle.place_unsettled.specs.declared.wait.Key.{Key}
 use Rattle.place_unsettled.specs.declared.wait.Wait.{Wait}
 use Rattle.place_unsettled.specs.Queues.{Queue}
-use Rattle.law_machine.specs.PlaceState.{PlaceState, Outgoing, newest}
+use Rattle.law_machine.specs.declared.outgoing.Outgoing.{Outgoing}
+use Rattle.law_machine.specs.PlaceState.{PlaceState, newest}
 use Rattle.law_machine.specs.Lawful.{is_lawful}
 use Rattle.law_network.specs.Network.{NetState, place}
 use Rattle.law_network.specs.Records.{record_at, queue_at, is_unheard, outstanding}

@@ -31,7 +31,8 @@ use Rattle.chorus_ports.proofs.Tables.{differs_back}
 use Rattle.chorus_world.proofs.Steps.LegalLemmas.{skips}
 use Rattle.chorus_world.proofs.Messages.SendingLemmas.{at_same}
 use Rattle.chorus_world.proofs.Messages.StageLemmas.{Stage}
-use Rattle.law_machine.specs.PlaceState.{Turn, Outgoing}
+use Rattle.law_machine.specs.declared.outgoing.Outgoing.{Outgoing}
+use Rattle.law_machine.specs.PlaceState.{Turn}
 use Rattle.law_machine.specs.Choosing.{chooses}
 use Rattle.law_network.specs.Packets.{is_link, put_all, first_on, rest_on}
 use Rattle.law_network.specs.Network.{NetState}

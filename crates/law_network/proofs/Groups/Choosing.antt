@@ -42,7 +42,8 @@ use Rattle.chorus_world.proofs.Sorted.Local.{local_views}
 use Rattle.place_unsettled.specs.declared.wait.Key.{Key}
 use Rattle.place_unsettled.specs.declared.wait.Wait.{Wait}
 use Rattle.place_unsettled.specs.Queues.{Queue, changed, with_last, same_key}
-use Rattle.law_machine.specs.PlaceState.{Turn, Outgoing, Change, next_clock, next_entry, packed, unchanged, say}
+use Rattle.law_machine.specs.declared.outgoing.Outgoing.{Outgoing}
+use Rattle.law_machine.specs.PlaceState.{Turn, Change, next_clock, next_entry, packed, unchanged, say}
 use Rattle.law_machine.specs.Trying.{report, go}
 use Rattle.law_machine.specs.Choosing as machine
 use Rattle.law_machine.specs.Choosing.{by_group, copy, with_copies, all_go, finds_no_member, chooses_all, chooses_these, chooses}

@@ -19,7 +19,8 @@ use Rattle.law_machine.specs.Own.{next_group}
 use Rattle.chorus_world.specs.Steps.{is_group_at}
 use Rattle.chorus_world.proofs.Sorted.Local.{local_views}
 use Rattle.law_network.specs.Packets.{put_all}
-use Rattle.law_machine.specs.PlaceState.{Turn, Outgoing}
+use Rattle.law_machine.specs.declared.outgoing.Outgoing.{Outgoing}
+use Rattle.law_machine.specs.PlaceState.{Turn}
 use Rattle.law_machine.specs.Doing.{does}
 use Rattle.law_machine.specs.PlaceMachine.{act}
 use Rattle.law_network.specs.Network.{NetState}

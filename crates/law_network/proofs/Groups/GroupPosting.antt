@@ -46,7 +46,8 @@ use Rattle.chorus_world.proofs.Steps.LegalLemmas.{skips, keeps}
 use Rattle.chorus_world.proofs.Messages.SendingLemmas.{at_same, same_id_sym, sent_as}
 use Rattle.chorus_entry.specs.Command.{demands_a_site}
 use Rattle.place_unsettled.specs.Unheard as unheards
-use Rattle.law_machine.specs.PlaceState.{Turn, Outgoing, next_clock, next_entry, packed, unchanged, say}
+use Rattle.law_machine.specs.declared.outgoing.Outgoing.{Outgoing}
+use Rattle.law_machine.specs.PlaceState.{Turn, next_clock, next_entry, packed, unchanged, say}
 use Rattle.law_machine.specs.Doing.{poster, choosing_place, chooses_own, asks, posts_to_group}
 use Rattle.law_machine.specs.PlaceMachine.{act}
 use Rattle.law_machine.specs.Own.{next_message}

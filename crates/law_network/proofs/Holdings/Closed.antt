@@ -17,7 +17,8 @@ use Rattle.chorus_world.specs.Views.{on}
 use Rattle.chorus_world.specs.Ports.{PortState, fate}
 use Rattle.chorus_world.specs.Steps.{is_legal}
 use Rattle.chorus_world.proofs.Sorted.Holders.{run_is_legal}
-use Rattle.law_machine.specs.PlaceState.{PlaceState, Outgoing}
+use Rattle.law_machine.specs.declared.outgoing.Outgoing.{Outgoing}
+use Rattle.law_machine.specs.PlaceState.{PlaceState}
 use Rattle.law_network.specs.Network.{NetState}
 use Rattle.law_network.specs.Left.{placed_at, placed_in, placed, packets_left, merged_past}
 use Rattle.law_network.specs.Records.{record_for}

@@ -8,7 +8,7 @@ use Rattle.chorus_ui.specs.declared.layout.Layout.{Layout}
 use Rattle.chorus_entry.specs.declared.packet.Packet.{Packet}
 use Rattle.chorus_world.specs.Ports.{last_of}
 use Rattle.chorus_world.proofs.Ports.Paths.{IsOnItsWay}
-use Rattle.law_machine.specs.PlaceState.{Outgoing}
+use Rattle.law_machine.specs.declared.outgoing.Outgoing.{Outgoing}
 use Rattle.law_network.specs.Packets.{is_link, first_on}
 use Rattle.law_network.specs.UnderWay.{before_last}
 

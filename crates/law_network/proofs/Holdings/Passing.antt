@@ -24,7 +24,7 @@ use Rattle.chorus_world.specs.Posts.{Posted, post_of, source}
 use Rattle.chorus_world.specs.Places.{last_clock}
 use Rattle.chorus_world.specs.Steps.{may, is_legal}
 use Rattle.chorus_world.proofs.Sorted.Holders.{run_is_legal}
-use Rattle.law_machine.specs.PlaceState.{Outgoing}
+use Rattle.law_machine.specs.declared.outgoing.Outgoing.{Outgoing}
 use Rattle.law_network.specs.Network.{NetState, schedule}
 use Rattle.law_network.specs.UnderWay.{carries, moves, is_of, is_with, other_place, far_place, asked_as, reported_to, reported_as, under_way_as, transfer_in, transfer_of, transfer}
 use Rattle.law_network.specs.Stands.{Stands, actor_of}

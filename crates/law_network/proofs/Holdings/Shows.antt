@@ -23,7 +23,8 @@ use Rattle.chorus_world.specs.Order.{sort}
 use Rattle.chorus_world.specs.SortingLaws.{SortsViews}
 use Rattle.chorus_entry.specs.Clients.{remembered}
 use Rattle.chorus_ports.specs.Table.{find, are_distinct}
-use Rattle.law_machine.specs.PlaceState.{PlaceState, Outgoing}
+use Rattle.law_machine.specs.declared.outgoing.Outgoing.{Outgoing}
+use Rattle.law_machine.specs.PlaceState.{PlaceState}
 use Rattle.law_network.proofs.Standing.Turning.{number-is}
 use Rattle.law_network.specs.Network.{NetState, numbers, place}
 use Rattle.law_network.specs.Records.{message, record_for, record_held, record_here, record_at}

@@ -11,7 +11,8 @@ use Rattle.chorus_entry.specs.Act.{message_of, held_port_of}
 use Rattle.chorus_entry.specs.MsgId.{same_id}
 use Rattle.chorus_world.specs.Views.{about}
 use Rattle.chorus_world.specs.Messages.{progress, progress_after}
-use Rattle.law_machine.specs.PlaceState.{Turn, Outgoing, next_clock, next_entry}
+use Rattle.law_machine.specs.declared.outgoing.Outgoing.{Outgoing}
+use Rattle.law_machine.specs.PlaceState.{Turn, next_clock, next_entry}
 use Rattle.law_network.specs.Packets.{AreByLink, put, put_all, first_on, rest_on}
 use Rattle.law_network.specs.Network.{NetState}
 use Rattle.law_network.specs.UnderWay.{carries, moves, asked_for, is_of, is_with, under_way_as, transfer}

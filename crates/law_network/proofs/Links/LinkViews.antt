@@ -3,7 +3,7 @@ use Rattle.std.proofs.Common.{ℕ, ◌≡◌, Bool, true, false, cond, List, [],
 use Rattle.std.specs.List.{filter}
 use Rattle.std.proofs.lemmas.Bool.{false≢true}
 use Rattle.chorus_entry.specs.declared.packet.Packet.{Packet}
-use Rattle.law_machine.specs.PlaceState.{Outgoing}
+use Rattle.law_machine.specs.declared.outgoing.Outgoing.{Outgoing}
 use Rattle.law_network.specs.Packets.{is_link, is_link_before, AreNotBefore, AreByLink, put, first_on, rest_on}
 
 without : (v : Outgoing → Bool) (o : Outgoing) (us : List Outgoing) → v o ≡ false → filter v (o ∷ us) ≡ filter v us

@@ -7,7 +7,7 @@ use Rattle.chorus_ui.specs.declared.ui.Ui.{Ui}
 use Rattle.chorus_entry.specs.declared.id.MsgId.{MsgId}
 use Rattle.chorus_entry.specs.declared.packet.Packet.{Packet}
 use Rattle.chorus_entry.specs.declared.packet.Cargo.{Cargo}
-use Rattle.law_machine.specs.PlaceState.{Outgoing}
+use Rattle.law_machine.specs.declared.outgoing.Outgoing.{Outgoing}
 use Rattle.law_network.specs.Packets.{is_link, is_link_before, put, first_on, rest_on}
 use Rattle.law_network.specs.UnderWay.{carries, moves, asked_in, asked_by, asked_for, is_of, is_with}
 use Rattle.law_network.proofs.Links.LinkViews.{view-one, view-other, empty-here}

@@ -19,7 +19,8 @@ use Rattle.chorus_world.proofs.Messages.SendingLemmas.{sent_as, some_is}
 use Rattle.chorus_world.proofs.Messages.StageLemmas.{HasOrigin}
 use Rattle.chorus_world.proofs.Messages.MessageInvariant.{legal_messages}
 use Rattle.chorus_world.proofs.Seats.SenderLaws.{copy_home}
-use Rattle.law_machine.specs.PlaceState.{Turn, Outgoing, next_clock, packed}
+use Rattle.law_machine.specs.declared.outgoing.Outgoing.{Outgoing}
+use Rattle.law_machine.specs.PlaceState.{Turn, next_clock, packed}
 use Rattle.law_machine.specs.Trying.{report}
 use Rattle.law_network.specs.Packets.{put_all}
 use Rattle.law_network.specs.UnderWay.{other_place, far_place, reported_to, is_of}

@@ -17,7 +17,7 @@ use Rattle.chorus_world.specs.Views.{about}
 use Rattle.chorus_world.specs.Messages.{progress}
 use Rattle.chorus_world.specs.Places.{last_clock}
 use Rattle.chorus_world.specs.Posts.{Posted, post_of, site_asked}
-use Rattle.law_machine.specs.PlaceState.{Outgoing}
+use Rattle.law_machine.specs.declared.outgoing.Outgoing.{Outgoing}
 use Rattle.law_network.specs.Packets.{first_on, rest_on}
 use Rattle.law_network.specs.Records.{message}
 use Rattle.law_network.specs.UnderWay.{packet, carries, route, far_place, asked_as, reported_as, reported_to, under_way_as, under_way, is_of}

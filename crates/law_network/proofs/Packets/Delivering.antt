@@ -36,7 +36,8 @@ use Rattle.chorus_world.proofs.Messages.SendingLemmas.{sent_as, some_is}
 use Rattle.place_unsettled.specs.Queues as queued
 use Rattle.place_unsettled.specs.Queues.{same_key, Queue, changed, passed}
 use Rattle.place_unsettled.specs.declared.wait.Key.{Key}
-use Rattle.law_machine.specs.PlaceState.{Turn, Outgoing, next_clock, next_entry, packed, unchanged, say}
+use Rattle.law_machine.specs.declared.outgoing.Outgoing.{Outgoing}
+use Rattle.law_machine.specs.PlaceState.{Turn, next_clock, next_entry, packed, unchanged, say}
 use Rattle.law_machine.specs.Deciding.{decide, decision, records_after}
 use Rattle.law_machine.specs.Trying.{report}
 use Rattle.law_machine.specs.Working.{answers_try, hears_verdict, report_of, taught_of}

@@ -4,7 +4,8 @@ use Rattle.chorus_entry.specs.declared.entry.Entry.{Entry}
 use Rattle.chorus_entry.specs.declared.id.MsgId.{MsgId}
 use Rattle.chorus_entry.specs.declared.act.Act.{Act}
 use Rattle.chorus_entry.specs.declared.packet.Packet.{Packet}
-use Rattle.law_machine.specs.PlaceState.{Turn, Outgoing, Change, next_entry, packed, say}
+use Rattle.law_machine.specs.declared.outgoing.Outgoing.{Outgoing}
+use Rattle.law_machine.specs.PlaceState.{Turn, Change, next_entry, packed, say}
 use Rattle.law_network.specs.Packets.{put_all, rest_on}
 use Rattle.law_network.specs.Network.{NetState}
 use Rattle.law_network.proofs.Standing.InTurn.{InTurn, ArePackets}

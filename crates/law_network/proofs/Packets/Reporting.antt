@@ -24,7 +24,8 @@ use Rattle.chorus_world.specs.Steps.{is_asked_from, is_asking_place}
 use Rattle.chorus_world.proofs.Ports.LineLemmas.{id_is}
 use Rattle.chorus_world.proofs.Messages.SendingLemmas.{sent_as, some_is}
 use Rattle.place_unsettled.specs.Unheard.{heard}
-use Rattle.law_machine.specs.PlaceState.{Turn, Outgoing, next_entry, unchanged}
+use Rattle.law_machine.specs.declared.outgoing.Outgoing.{Outgoing}
+use Rattle.law_machine.specs.PlaceState.{Turn, next_entry, unchanged}
 use Rattle.law_machine.specs.Working.{hears}
 use Rattle.law_network.specs.Packets.{put_all, rest_on}
 use Rattle.law_network.specs.Network.{NetState}

@@ -17,7 +17,8 @@ use Rattle.chorus_world.specs.Places.{last_clock}
 use Rattle.chorus_world.proofs.Messages.Posted.{AcceptedPosted, accepted_posted, filtered}
 use Rattle.chorus_ports.specs.Table.{find}
 use Rattle.chorus_ports.proofs.Tables.{find-last, are_distinct-last}
-use Rattle.law_machine.specs.PlaceState.{Turn, Outgoing, next_entry, unchanged}
+use Rattle.law_machine.specs.declared.outgoing.Outgoing.{Outgoing}
+use Rattle.law_machine.specs.PlaceState.{Turn, next_entry, unchanged}
 use Rattle.law_machine.specs.Working.{receives_port}
 use Rattle.law_network.specs.Packets.{put_all, rest_on}
 use Rattle.law_network.specs.Network.{NetState}

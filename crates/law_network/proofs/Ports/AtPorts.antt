@@ -25,7 +25,8 @@ use Rattle.chorus_ports.specs.Table.{find, replace, without}
 use Rattle.chorus_ports.specs.Taking.{taken, first_at, after_take, rehomed}
 use Rattle.chorus_ports.specs.declared.taking.Taken.TheVariants as takens
 use Rattle.chorus_ports.proofs.Tables.{differs_back}
-use Rattle.law_machine.specs.PlaceState.{Turn, Outgoing, next_entry, unchanged, say, note}
+use Rattle.law_machine.specs.declared.outgoing.Outgoing.{Outgoing}
+use Rattle.law_machine.specs.PlaceState.{Turn, next_entry, unchanged, say, note}
 use Rattle.law_machine.specs.Own.{take_act, move_act, delete_act, held_by}
 use Rattle.law_machine.specs.Doing.{does, takes, ends, ends_call, holding, first_in, first_message, with_ports, departs}
 use Rattle.law_machine.specs.PlaceMachine.{act}

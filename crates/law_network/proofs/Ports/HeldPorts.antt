@@ -24,7 +24,8 @@ use Rattle.chorus_world.proofs.Messages.Posted.{AllPosted}
 use Rattle.chorus_world.proofs.Ports.PortLaws.{legal_line}
 use Rattle.chorus_ports.specs.Table.{find, are_distinct, replace}
 use Rattle.chorus_ports.proofs.Tables.{KeepsName, find-replace, are_distinct-replace, find-name, differs_back}
-use Rattle.law_machine.specs.PlaceState.{Turn, Outgoing}
+use Rattle.law_machine.specs.declared.outgoing.Outgoing.{Outgoing}
+use Rattle.law_machine.specs.PlaceState.{Turn}
 use Rattle.law_network.specs.Packets.{put_all}
 use Rattle.law_network.specs.Network.{NetState}
 use Rattle.law_network.specs.Records.{record_at, record_for}

@@ -22,7 +22,8 @@ use Rattle.chorus_world.proofs.Ports.PortLaws.{unmade_is_empty}
 use Rattle.chorus_world.proofs.Ports.PortMoves.{make_new}
 use Rattle.chorus_ports.specs.Table.{find}
 use Rattle.chorus_ports.proofs.Tables.{find-last, are_distinct-last}
-use Rattle.law_machine.specs.PlaceState.{Turn, Outgoing, next_entry, unchanged}
+use Rattle.law_machine.specs.declared.outgoing.Outgoing.{Outgoing}
+use Rattle.law_machine.specs.PlaceState.{Turn, next_entry, unchanged}
 use Rattle.law_machine.specs.Own.{next_port}
 use Rattle.law_machine.specs.Doing.{does, with_ports}
 use Rattle.law_machine.specs.PlaceMachine.{act}

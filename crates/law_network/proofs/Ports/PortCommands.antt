@@ -33,7 +33,8 @@ use Rattle.chorus_ports.specs.Table.{find, replace, without}
 use Rattle.chorus_ports.specs.Taking.{rehomed}
 use Rattle.chorus_ports.specs.History.{migrated}
 use Rattle.chorus_ports.proofs.Tables.{find-without, are_distinct-without}
-use Rattle.law_machine.specs.PlaceState.{Turn, Outgoing, next_clock, next_entry, packed, unchanged, note}
+use Rattle.law_machine.specs.declared.outgoing.Outgoing.{Outgoing}
+use Rattle.law_machine.specs.PlaceState.{Turn, next_clock, next_entry, packed, unchanged, note}
 use Rattle.law_machine.specs.Doing.{with_ports, departs, transfer_to}
 use Rattle.law_network.specs.Packets.{put, put_all}
 use Rattle.law_network.specs.Network.{NetState}

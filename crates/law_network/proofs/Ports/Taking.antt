@@ -30,7 +30,8 @@ use Rattle.chorus_ports.specs.Table.{find, replace}
 use Rattle.chorus_ports.specs.Taking.{after_take, passed}
 use Rattle.chorus_calls.specs.Clients.{Call, Calling, is_outstanding, has_number, after_cancel}
 use Rattle.chorus_calls.specs.Callers.{Seated, with_client}
-use Rattle.law_machine.specs.PlaceState.{Turn, Outgoing, next_entry, unchanged, say, note}
+use Rattle.law_machine.specs.declared.outgoing.Outgoing.{Outgoing}
+use Rattle.law_machine.specs.PlaceState.{Turn, next_entry, unchanged, say, note}
 use Rattle.law_machine.specs.Doing.{ends_call, holding}
 use Rattle.law_network.specs.Network.{NetState}
 use Rattle.law_network.specs.Records.{message, record_for, outstanding_as, as_called}

@@ -24,7 +24,8 @@ use Rattle.chorus_world.specs.Steps.{is_legal, may_tag}
 use Rattle.chorus_world.proofs.Sorted.Local.{local_views}
 use Rattle.chorus_calls.specs.Clients.{Call, Calling, after_begin, with_call, after_cancel}
 use Rattle.chorus_calls.specs.Callers.{with_client}
-use Rattle.law_machine.specs.PlaceState.{Turn, Outgoing, next_entry}
+use Rattle.law_machine.specs.declared.outgoing.Outgoing.{Outgoing}
+use Rattle.law_machine.specs.PlaceState.{Turn, next_entry}
 use Rattle.law_machine.specs.Own.{next_message, call_act, retry_act, reply_act, cancel_act}
 use Rattle.law_machine.specs.Doing.{does}
 use Rattle.law_machine.specs.PlaceMachine.{act}

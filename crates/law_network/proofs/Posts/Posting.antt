@@ -31,7 +31,8 @@ use Rattle.chorus_world.proofs.Messages.PostLemmas.{own_source}
 use Rattle.place_unsettled.specs.declared.wait.Key.{Key}
 use Rattle.place_unsettled.specs.declared.wait.Wait.{Wait}
 use Rattle.place_unsettled.specs.Queues.{changed, with_last}
-use Rattle.law_machine.specs.PlaceState.{Turn, Outgoing, Change, next_entry, unchanged, say}
+use Rattle.law_machine.specs.declared.outgoing.Outgoing.{Outgoing}
+use Rattle.law_machine.specs.PlaceState.{Turn, Change, next_entry, unchanged, say}
 use Rattle.law_machine.specs.Doing.{poster, direct, post, posts_direct}
 use Rattle.law_network.specs.Packets.{put_all}
 use Rattle.law_network.specs.Network.{NetState}

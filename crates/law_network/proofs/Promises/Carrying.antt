@@ -10,7 +10,8 @@ use Rattle.chorus_entry.specs.declared.packet.Packet.{Packet}
 use Rattle.chorus_entry.specs.declared.packet.Cargo.{Cargo}
 use Rattle.chorus_entry.specs.declared.packet.Cargo.TheVariants as cargos
 use Rattle.chorus_calls.specs.Callers.{Seated}
-use Rattle.law_machine.specs.PlaceState.{Outgoing, Turn, next_entry}
+use Rattle.law_machine.specs.declared.outgoing.Outgoing.{Outgoing}
+use Rattle.law_machine.specs.PlaceState.{Turn, next_entry}
 use Rattle.law_machine.specs.Own.{own}
 use Rattle.law_machine.specs.PlaceMachine.{begun_by, act, work}
 use Rattle.law_network.specs.Packets.{is_link, is_link_before, put, put_all, first_on, rest_on}

@@ -20,7 +20,7 @@ use Rattle.chorus_world.proofs.Messages.DirectTries.{direct-tries}
 use Rattle.law_network.specs.Network.{schedule, one_if}
 use Rattle.law_network.specs.Schedules.{OfSchedules}
 use Rattle.law_network.specs.Left.{merged_past}
-use Rattle.law_machine.specs.PlaceState.{Outgoing}
+use Rattle.law_machine.specs.declared.outgoing.Outgoing.{Outgoing}
 use Rattle.law_network.specs.History.{history, all_put}
 use Rattle.law_network.specs.Promises.{carries_over, hops_from, hops_of, CarriesFew}
 use Rattle.law_network.proofs.Merge.Journals.{views, merge-is}

@@ -65,7 +65,7 @@ use Rattle.chorus_world.proofs.Ports.MadePorts.{IsWellMade, MadeWell, ActorFits,
 use Rattle.chorus_world.proofs.Messages.Ranged.{NamesPlaces, Teaches, ProgressFits, AllFit, all-fit, place-number}
 use Rattle.chorus_world.proofs.Messages.Hearings.{stays-reported}
 use Rattle.chorus_ports.specs.Table.{find}
-use Rattle.law_machine.specs.PlaceState.{Outgoing}
+use Rattle.law_machine.specs.declared.outgoing.Outgoing.{Outgoing}
 use Rattle.law_machine.specs.Lawful.{is_under_way, is_known_answer, may_teach, may_receive, is_asked_here, is_lawful_cargo, is_lawful}
 use Rattle.law_network.specs.Packets.{first_on}
 use Rattle.law_network.specs.Network.{NetState, place}

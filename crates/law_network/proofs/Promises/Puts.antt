@@ -33,7 +33,8 @@ use Rattle.place_unsettled.specs.declared.wait.Key.{Key}
 use Rattle.place_unsettled.specs.Unheard.{asked, heard}
 use Rattle.place_unsettled.specs.declared.wait.Wait.{Wait}
 use Rattle.place_unsettled.specs.Queues.{changed, passed, with_last, at}
-use Rattle.law_machine.specs.PlaceState.{Turn, Change, Outgoing, newest, unchanged, packed, say, note}
+use Rattle.law_machine.specs.declared.outgoing.Outgoing.{Outgoing}
+use Rattle.law_machine.specs.PlaceState.{Turn, Change, newest, unchanged, packed, say, note}
 use Rattle.law_machine.specs.Deciding.{decide, decision, records_after}
 use Rattle.law_machine.specs.Trying.{report, settles_here, tries_at, verdict_here, tries, goes_on, goes_unless, go}
 use Rattle.law_machine.specs.Choosing.{by_group, choice, with_copies, all_go, chooses_all, chooses_these, chooses}

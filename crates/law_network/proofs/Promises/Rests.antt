@@ -42,7 +42,7 @@ use Rattle.chorus_world.proofs.Messages.MessageInvariant.{legal_messages}
 use Rattle.chorus_world.proofs.Sorted.Holders.{run_is_legal}
 use Rattle.place_unsettled.specs.declared.wait.Key.{Key}
 use Rattle.place_unsettled.specs.Queues.{Queue}
-use Rattle.law_machine.specs.PlaceState.{Outgoing}
+use Rattle.law_machine.specs.declared.outgoing.Outgoing.{Outgoing}
 use Rattle.law_network.specs.Network.{NetState, place}
 use Rattle.law_network.specs.Left.{packets_left, merged_past}
 use Rattle.law_network.specs.Records.{message, as_wait, is_for, sent_for, tried_at, queue_of}

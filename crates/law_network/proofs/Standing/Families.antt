@@ -25,7 +25,7 @@ use Rattle.chorus_world.proofs.Messages.SendingLemmas.{same_id_sym}
 use Rattle.chorus_world.proofs.Messages.StageLemmas.{MessageFacts}
 use Rattle.chorus_ports.specs.Table.{find, are_distinct}
 use Rattle.chorus_ports.proofs.Tables.{differs_back}
-use Rattle.law_machine.specs.PlaceState.{Outgoing}
+use Rattle.law_machine.specs.declared.outgoing.Outgoing.{Outgoing}
 use Rattle.law_network.specs.Records.{record_by, record_at, record_here, record_held, record_for}
 use Rattle.law_network.specs.UnderWay.{is_of, is_with, under_way, under_way_as, transfer, transfer_by, transfer_of, transfer_in}
 use Rattle.law_network.proofs.Standing.Says.{PortsSay}

@@ -7,7 +7,8 @@ use Rattle.chorus_entry.specs.Command.{meets_conditions}
 use Rattle.chorus_entry.specs.Places.{place_for}
 use Rattle.chorus_world.specs.Views.{at}
 use Rattle.chorus_world.specs.Places.{just_taken}
-use Rattle.law_machine.specs.PlaceState.{Turn, Outgoing}
+use Rattle.law_machine.specs.declared.outgoing.Outgoing.{Outgoing}
+use Rattle.law_machine.specs.PlaceState.{Turn}
 use Rattle.law_network.specs.Packets.{first_on}
 use Rattle.law_network.specs.Network.{NetState}
 use Rattle.law_network.proofs.Standing.Steps.{Stood}

@@ -26,7 +26,7 @@ use Rattle.chorus_world.proofs.Messages.Growing.{goes-on, post-grows}
 use Rattle.chorus_world.proofs.Messages.SendingLemmas.{sent_as, sent_stays}
 use Rattle.chorus_world.proofs.Messages.StageLemmas.{Stage, MessageFacts}
 use Rattle.place_unsettled.specs.declared.wait.Wait.{Wait}
-use Rattle.law_machine.specs.PlaceState.{Outgoing}
+use Rattle.law_machine.specs.declared.outgoing.Outgoing.{Outgoing}
 use Rattle.law_network.specs.Records.{message, home_from, record_for, record_held, record_here, record_by, as_wait}
 use Rattle.law_network.specs.UnderWay.{packet, route, route_in, far_place, reported_as, under_way_as, under_way, before_last, transfer_in, transfer_of, transfer_by}
 

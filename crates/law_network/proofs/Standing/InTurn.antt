@@ -16,7 +16,8 @@ use Rattle.chorus_world.specs.SortingLaws.{AllLookAtHome}
 use Rattle.chorus_ports.specs.Table.{find, are_distinct}
 use Rattle.chorus_calls.specs.Callers.{Seated}
 use Rattle.place_unsettled.specs.declared.wait.Key.{Key}
-use Rattle.law_machine.specs.PlaceState.{PlaceState, Turn, Outgoing, newest}
+use Rattle.law_machine.specs.declared.outgoing.Outgoing.{Outgoing}
+use Rattle.law_machine.specs.PlaceState.{PlaceState, Turn, newest}
 use Rattle.law_network.specs.Packets.{AreByLink}
 use Rattle.law_network.specs.Network.{NetState, place}
 use Rattle.law_network.specs.Records.{record_at, queue_at, is_unheard}

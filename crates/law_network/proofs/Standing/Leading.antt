@@ -12,7 +12,8 @@ use Rattle.chorus_world.specs.SortingLaws.{LooksAtHome}
 use Rattle.chorus_world.proofs.Sorted.Local.{local_views, act_may_here}
 use Rattle.chorus_world.proofs.Messages.SendingLemmas.{at_same}
 use Rattle.chorus_calls.specs.Callers.{Seated}
-use Rattle.law_machine.specs.PlaceState.{Turn, Outgoing, next_entry, note}
+use Rattle.law_machine.specs.declared.outgoing.Outgoing.{Outgoing}
+use Rattle.law_machine.specs.PlaceState.{Turn, next_entry, note}
 use Rattle.law_machine.specs.Doing.{with_caller}
 use Rattle.law_network.specs.Network.{NetState}
 use Rattle.law_network.proofs.Standing.Says.{MaySay, CallerSays}

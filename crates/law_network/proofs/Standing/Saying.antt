@@ -23,7 +23,8 @@ use Rattle.chorus_world.proofs.Sorted.Agreement.{extends_self, taken_agrees}
 use Rattle.chorus_world.proofs.Sorted.Observers.{Laws, legal_laws, may_same}
 use Rattle.chorus_world.proofs.Messages.SendingLemmas.{at_same}
 use Rattle.chorus_calls.specs.Callers.{Seated}
-use Rattle.law_machine.specs.PlaceState.{Turn, Change, Outgoing, next_clock, next_entry, say}
+use Rattle.law_machine.specs.declared.outgoing.Outgoing.{Outgoing}
+use Rattle.law_machine.specs.PlaceState.{Turn, Change, next_clock, next_entry, say}
 use Rattle.law_network.specs.Network.{NetState, place}
 use Rattle.law_network.specs.Stands.{actor_of}
 use Rattle.law_network.proofs.Standing.InTurn.{InTurn}

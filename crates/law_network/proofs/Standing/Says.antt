@@ -20,7 +20,8 @@ use Rattle.chorus_calls.specs.Callers.{Seated}
 use Rattle.chorus_entry.specs.declared.id.MsgId.{MsgId}
 use Rattle.place_unsettled.specs.declared.wait.Key.{Key}
 use Rattle.place_unsettled.specs.Queues.{Queue}
-use Rattle.law_machine.specs.PlaceState.{Turn, Change, Outgoing, next_entry}
+use Rattle.law_machine.specs.declared.outgoing.Outgoing.{Outgoing}
+use Rattle.law_machine.specs.PlaceState.{Turn, Change, next_entry}
 use Rattle.law_network.specs.Records.{record_at, queue_at, outstanding}
 use Rattle.law_network.proofs.Tables.Learning.{IsKnown}
 use Rattle.law_network.proofs.Tables.Hearing.{IsUnheard}

@@ -19,7 +19,8 @@ use Rattle.chorus_world.proofs.Sorted.Observers.{Laws}
 use Rattle.chorus_world.proofs.Messages.StageLemmas.{MessageFacts}
 use Rattle.chorus_world.proofs.Messages.SendingLemmas.{sent_as}
 use Rattle.chorus_calls.specs.Callers.{Seated}
-use Rattle.law_machine.specs.PlaceState.{Turn, Change, Outgoing, next_entry, packed, unchanged, say, note}
+use Rattle.law_machine.specs.declared.outgoing.Outgoing.{Outgoing}
+use Rattle.law_machine.specs.PlaceState.{Turn, Change, next_entry, packed, unchanged, say, note}
 use Rattle.law_machine.specs.Doing.{with_caller}
 use Rattle.law_network.specs.Packets.{put_all}
 use Rattle.law_network.specs.Network.{NetState}

@@ -16,7 +16,8 @@ use Rattle.chorus_entry.specs.Order.{is_at}
 use Rattle.chorus_world.specs.Places.{last_clock}
 use Rattle.chorus_world.specs.Groups.{posts_to, post_to, chooses, is_chosen, unchosen}
 use Rattle.chorus_world.specs.Seats.{call, call_by, first_call}
-use Rattle.law_machine.specs.PlaceState.{Turn, Outgoing, next_entry}
+use Rattle.law_machine.specs.declared.outgoing.Outgoing.{Outgoing}
+use Rattle.law_machine.specs.PlaceState.{Turn, next_entry}
 use Rattle.law_network.specs.Records.{as_called, outstanding_as}
 use Rattle.law_network.specs.UnderWay.{far_place, asked_for}
 use Rattle.law_network.specs.Stands.{IsCaller}

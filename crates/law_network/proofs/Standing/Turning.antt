@@ -12,7 +12,8 @@ use Rattle.chorus_world.specs.Places.{just_taken}
 use Rattle.chorus_world.specs.Runs.{is_run}
 use Rattle.chorus_world.specs.SortingLaws.{AllLookAtHome}
 use Rattle.chorus_calls.specs.Callers.{Seated, after_tick}
-use Rattle.law_machine.specs.PlaceState.{PlaceState, Outgoing, Turn}
+use Rattle.law_machine.specs.declared.outgoing.Outgoing.{Outgoing}
+use Rattle.law_machine.specs.PlaceState.{PlaceState, Turn}
 use Rattle.law_machine.specs.PlaceMachine.{begun}
 use Rattle.law_network.specs.Packets.{put_all}
 use Rattle.law_network.proofs.Standing.CallerList.{get-replaced, get-other}

@@ -32,7 +32,8 @@ use Rattle.chorus_ports.specs.declared.deciding.Accept.TheVariants as accepts
 use Rattle.chorus_entry.specs.Clients.{is_repeated, is_one_too_many, remembered}
 use Rattle.chorus_ports.specs.Deciding as ports
 use Rattle.chorus_ports.specs.Table.{find}
-use Rattle.law_machine.specs.PlaceState.{Turn, Outgoing, next_entry, newest}
+use Rattle.law_machine.specs.declared.outgoing.Outgoing.{Outgoing}
+use Rattle.law_machine.specs.PlaceState.{Turn, next_entry, newest}
 use Rattle.law_machine.specs.Deciding.{answer_in, answer_moved, answer_away, answer_of, decide, decision, records_after}
 use Rattle.law_network.specs.Network.{NetState}
 use Rattle.law_network.specs.Records.{message, record_by, record_here, record_held, record_for}

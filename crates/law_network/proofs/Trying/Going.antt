@@ -14,7 +14,8 @@ use Rattle.chorus_world.specs.Steps.{is_beyond, is_to_go}
 use Rattle.chorus_world.proofs.Sorted.Local.{local_views}
 use Rattle.place_unsettled.specs.declared.wait.Key.{Key}
 use Rattle.place_unsettled.specs.declared.wait.Wait.{Wait}
-use Rattle.law_machine.specs.PlaceState.{PlaceState, Turn, Outgoing, newest}
+use Rattle.law_machine.specs.declared.outgoing.Outgoing.{Outgoing}
+use Rattle.law_machine.specs.PlaceState.{PlaceState, Turn, newest}
 use Rattle.law_machine.specs.Deciding.{decide, decision}
 use Rattle.law_machine.specs.Trying.{settles_here, verdict_here, tries, goes_on, goes_unless, go}
 use Rattle.law_machine.proofs.Machine.Queues.{wait_for, settled-passes}

@@ -31,7 +31,8 @@ use Rattle.place_unsettled.specs.declared.wait.Key.{Key}
 use Rattle.place_unsettled.specs.declared.wait.Wait.{Wait}
 use Rattle.place_unsettled.specs.Queues.{changed, passed}
 use Rattle.place_unsettled.specs.Queues as queued
-use Rattle.law_machine.specs.PlaceState.{Turn, Outgoing, next_clock, next_entry, packed, unchanged}
+use Rattle.law_machine.specs.declared.outgoing.Outgoing.{Outgoing}
+use Rattle.law_machine.specs.PlaceState.{Turn, next_clock, next_entry, packed, unchanged}
 use Rattle.law_machine.specs.Deciding.{decision, records_after}
 use Rattle.law_machine.specs.Trying.{report, settles_here, tries_at}
 use Rattle.law_network.specs.Packets.{put, put_all}

@@ -21,7 +21,8 @@ use Rattle.place_unsettled.specs.declared.wait.Key.{Key}
 use Rattle.place_unsettled.specs.declared.wait.Wait.{Wait}
 use Rattle.place_unsettled.specs.Queues.{Queue, changed, passed}
 use Rattle.place_unsettled.specs.Queues as queued
-use Rattle.law_machine.specs.PlaceState.{Turn, Outgoing, next_entry}
+use Rattle.law_machine.specs.declared.outgoing.Outgoing.{Outgoing}
+use Rattle.law_machine.specs.PlaceState.{Turn, next_entry}
 use Rattle.law_network.specs.Packets.{put_all}
 use Rattle.law_network.specs.Network.{NetState}
 use Rattle.law_network.specs.Records.{message, home, as_wait, sent_for, queue_at, tried_at, first_tried}

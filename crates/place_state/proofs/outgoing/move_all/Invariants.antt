@@ -3,8 +3,8 @@ use Rattle.std.specs.VecDeque.{deque_capacity}
 use Rattle.place_state.specs.Sending.{IsFor, with_all}
 use Rattle.place_state.proofs.outgoing.move_all.Given as goal
 
-abbrev pub invariant-loop-parcel : goal.invariant-loop-parcel
-invariant-loop-parcel l =
+abbrev pub invariant-loop-outgoing : goal.invariant-loop-outgoing
+invariant-loop-outgoing l =
     (with_all l.puts.items l.out.lists ≡ with_all l.initial.puts.items l.initial.out.lists)
     × All (IsFor l.out) l.puts.items
     × (length l.puts.items ≤ l.out.spare)
@@ -12,5 +12,5 @@ invariant-loop-parcel l =
     × (l.initial.out.spare + length l.puts.items ≤ l.out.spare + length l.initial.puts.items)
     × (deque_capacity l.puts ≡ deque_capacity l.initial.puts)
 
-abbrev pub decreases-loop-parcel : goal.decreases-loop-parcel
-decreases-loop-parcel l = length l.puts.items
+abbrev pub decreases-loop-outgoing : goal.decreases-loop-outgoing
+decreases-loop-outgoing l = length l.puts.items

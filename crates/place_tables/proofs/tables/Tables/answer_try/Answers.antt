@@ -3,11 +3,10 @@ use Rattle.chorus_entry.specs.declared.packet.Cargo.TheVariants as Cargo
 use Rattle.chorus_ui.specs.Layout.{has_place}
 use Rattle.chorus_hints.specs.Known.{kept}
 use Rattle.chorus_ports.specs.Table.{find}
-use Rattle.law_machine.specs.PlaceState.{location, greatest_clock}
+use Rattle.law_machine.specs.PlaceState.{packed_at, location, greatest_clock}
 use Rattle.law_machine.specs.Deciding.{decision, records_after}
 use Rattle.place_tables.specs.contracts.tables.Tables.{the_view}
 use Rattle.place_state.specs.Tables.{turn, state, seen}
-use Rattle.place_state.specs.Turns.{parcel}
 use Rattle.place_state.proofs.Plain.{may_follow}
 use Rattle.place_state.proofs.States.{same_turn, put-loads, said-as, said-at}
 use Rattle.place_state.proofs.Kept.{said-by, positions-fit, held-answered, numbered-plain, grouped-plain, boxed-more, sent-one}
@@ -32,7 +31,7 @@ invariant_of-self c =
     let k = c.args.key.now in
     let kept = c.self.invariant.2 in
     let said = said-by i.number c.decision.result c.args.caller.now i.journal c.say.new.journal c.say.ensures.journal in
-    let x = parcel c.args.from c.clock-clock.result i.number (Cargo.Verdict c.args.message.id k.port k.route c.decide-answer.result) in
+    let x = packed_at c.clock-clock.result i.number (c.args.from, Cargo.Verdict c.args.message.id k.port k.route c.decide-answer.result) in
     let seen = ap (λ p. p.room) c.self.view_is in
     let room = c.requires.room in (
       ap (λ j. j.layout) c.say.ensures.journal ∙ c.self.invariant.0,

@@ -3,9 +3,10 @@ use Rattle.chorus_ui.specs.Layout.{has_place}
 use Rattle.chorus_entry.specs.declared.packet.Cargo.TheVariants as Cargo
 use Rattle.chorus_entry.specs.declared.act.Act.TheVariants as Act
 use Rattle.chorus_calls.specs.Callers.{after_post, after_tick}
+use Rattle.law_machine.specs.PlaceState.{packed_at}
 use Rattle.place_tables.specs.contracts.tables.Tables.{the_view}
 use Rattle.place_state.specs.Tables.{turn}
-use Rattle.place_state.specs.Turns.{parcel, next_clock}
+use Rattle.place_state.specs.Turns.{next_clock}
 use Rattle.place_state.proofs.States.{same_turn, put-loads, said-at}
 use Rattle.place_state.proofs.Kept.{said-by, kept-plain, kept-put, boxed-more}
 use Rattle.place_state.proofs.Choosing.{no-port}
@@ -17,7 +18,7 @@ invariant_of-self-2 c =
     let i = c.self.inside in
     let act = Act.Post c.args.message c.args.dest.now in
     let said = said-by i.number act c.args.caller.now i.journal c.say.new.journal c.say.ensures.journal in
-    let x = parcel c.args.to c.clock-clock.result i.number (Cargo.Ask c.args.again c.args.dest.now) in
+    let x = packed_at c.clock-clock.result i.number (c.args.to, Cargo.Ask c.args.again c.args.dest.now) in
     let seen = ap (λ p. p.room) c.self.view_is in
     let room = c.requires.room in (
       ap (λ j. j.layout) c.say.ensures.journal ∙ c.self.invariant.0,

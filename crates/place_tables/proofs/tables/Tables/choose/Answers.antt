@@ -1,18 +1,17 @@
 use Rattle.chorus_ui.specs.declared.ui.Ui.{Ui}
-use Rattle.std.proofs.Common.{List, ap, refl, ◌∙◌, length, arith}
+use Rattle.std.proofs.Common.{List, ap, refl, ◌∙◌, length, map, arith}
 use Rattle.chorus_ui.specs.Layout.{has_place}
 use Rattle.chorus_entry.specs.declared.act.Act.TheVariants as Act
 use Rattle.chorus_entry.specs.declared.answer.Answer.TheVariants as A
+use Rattle.law_machine.specs.PlaceState.{packed_at}
 use Rattle.law_machine.specs.Trying.{report}
 use Rattle.place_tables.specs.contracts.tables.Tables.{the_view}
 use Rattle.place_state.specs.Tables.{turn}
-use Rattle.place_state.specs.Turns.{parcels}
 use Rattle.place_state.specs.Groups.{members_of}
 use Rattle.place_state.proofs.States.{same_turn, put-loads, said-as, said-at}
 use Rattle.place_state.proofs.Kept.{said-by, sent-more, sent-report, boxed-more}
-use Rattle.place_state.proofs.Reports.{length-parcels}
 use Rattle.place_state.proofs.Groups.{report-one, kept-chosen, waiting-each}
-use Rattle.place_state.proofs.Counted.{counted-more, report-one as parcel-one}
+use Rattle.place_state.proofs.Counted.{counted-more, report-one as packet-one}
 use Rattle.place_tables.proofs.tables.Tables.choose.Goals as goal
 
 pub put_report-requires : goal.put_report-requires
@@ -29,19 +28,17 @@ invariant_of-self c =
     let answer = A.Chosen (length c.uis.result.now) in
     let kept = c.self.invariant.2 in
     let said = said-by i.number act c.args.caller.now i.journal c.say.new.journal c.say.ensures.journal in
-    let loads = parcels c.clock-clock.result i.number (report i.number c.args.home c.args.id answer) in
-    let n = report-one i.number c.args.home c.args.id answer in
-    let count = length-parcels c.clock-clock.result i.number (report i.number c.args.home c.args.id answer) in
+    let loads = map (packed_at c.clock-clock.result i.number) (report i.number c.args.home c.args.id answer) in
+    let n = packet-one c.clock-clock.result i.number c.args.home c.args.id answer in
     let space = ap (λ p. p.room) c.self.view_is in
     let room = c.requires.room in
     let home = ap (λ p. has_place p.layout c.args.home) c.self.view_is ∙ c.requires.home in (
       ap (λ j. j.layout) c.say.ensures.journal ∙ c.self.invariant.0,
-      boxed-more i.layout i.puts.items c.put_report.new.puts.items loads i.out (length loads) c.self.invariant.1 c.put_report.ensures.items (omega arith) (omega (arith, n, count, space, room)),
+      boxed-more i.layout i.puts.items c.put_report.new.puts.items loads i.out (length loads) c.self.invariant.1 c.put_report.ensures.items (omega arith) (omega (arith, n, space, room)),
       kept-chosen i.layout i.number i.journal.past c.say.new.journal.past i.ports.records i.hints i.waits c.put_copies.new.waits i.puts.items c.put_report.new.puts.items act kept said (λ n. refl) (λ u. refl) (λ g qs. refl)
           (waiting-each i.layout i.number c.args.home c.args.group c.args.copies.items i.waits c.put_copies.new.waits kept.waiting home c.requires.copied c.put_copies.ensures)
           (sent-more i.layout i.puts.items c.put_report.new.puts.items loads kept.sent c.put_report.ensures.items (sent-report i.layout i.number c.args.home c.clock-clock.result c.args.id answer home)),
-      counted-more i.puts.items c.put_report.new.puts.items loads i.out said c.self.invariant.3 c.put_report.ensures.items
-          (parcel-one c.clock-clock.result i.number c.args.home c.args.id answer),
+      counted-more i.puts.items c.put_report.new.puts.items loads i.out said c.self.invariant.3 c.put_report.ensures.items n,
     )
 
 pub returns-clause-turn : goal.returns-clause-turn

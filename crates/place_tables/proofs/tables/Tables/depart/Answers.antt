@@ -5,11 +5,10 @@ use Rattle.chorus_entry.specs.declared.act.Act.TheVariants as Act
 use Rattle.chorus_entry.specs.declared.packet.Cargo.TheVariants as Cargo
 use Rattle.chorus_world.specs.Places.{last_clock}
 use Rattle.chorus_ports.specs.History.{migrated}
-use Rattle.law_machine.specs.PlaceState.{greatest_clock}
+use Rattle.law_machine.specs.PlaceState.{packed_at, greatest_clock}
 use Rattle.law_machine.specs.Doing.{transfer_to}
 use Rattle.place_tables.specs.contracts.tables.Tables.{the_view}
 use Rattle.place_state.specs.Tables.{turn}
-use Rattle.place_state.specs.Turns.{parcel}
 use Rattle.place_state.proofs.States.{same_turn, put-loads, said-at}
 use Rattle.place_state.proofs.Kept.{said-by, kept-plain, kept-put, boxed-more}
 use Rattle.place_state.proofs.Ports.{kept-ports, kept-learned, held-left}
@@ -44,7 +43,7 @@ invariant_of-self c =
     let act = Act.Depart c.args.port c.args.to c.args.actor hop in
     let kept = c.self.invariant.2 in
     let said = said-by i.number act c.args.caller.now i.journal c.say.new.journal c.say.ensures.journal in
-    let x = parcel c.args.to c.clock-clock.result i.number (Cargo.Transfer (migrated hop c.args.actor r)) in
+    let x = packed_at c.clock-clock.result i.number (c.args.to, Cargo.Transfer (migrated hop c.args.actor r)) in
     let seen = ap (λ p. p.room) c.self.view_is in
     let room = c.requires.room in
     let place = ap (λ p. has_place p.layout c.args.to) c.self.view_is ∙ c.requires.place in (

@@ -1,18 +1,18 @@
-use Rattle.std.proofs.Common.{ap, refl, sym, ◌∙◌, length, unwrap_or, arith}
+use Rattle.std.proofs.Common.{ap, refl, sym, ◌∙◌, length, map, unwrap_or, arith}
+use Rattle.std.proofs.lemmas.List.{length-map}
 use Rattle.chorus_ports.specs.Table.{find}
-use Rattle.law_machine.specs.PlaceState.{location, greatest_clock}
+use Rattle.law_machine.specs.PlaceState.{packed_at, location, greatest_clock}
 use Rattle.law_machine.specs.Deciding.{decision, records_after}
 use Rattle.law_machine.specs.Trying.{report}
 use Rattle.chorus_hints.specs.Known.{kept}
 use Rattle.place_tables.specs.contracts.tables.Tables.{the_view}
 use Rattle.place_state.specs.Tables.{turn, state, seen, MayWait}
-use Rattle.place_state.specs.Turns.{parcels}
 use Rattle.place_state.specs.Going.{reports_for}
 use Rattle.place_state.proofs.States.{same_turn, put-loads, said-as, said-at}
 use Rattle.place_state.proofs.Kept.{said-by, positions-fit, held-answered, numbered-plain, grouped-plain, waiting-passed, all-first, sent-more, sent-report, boxed-more}
 use Rattle.place_state.proofs.Plain.{may_follow}
 use Rattle.place_state.proofs.Deciding.{same-answer}
-use Rattle.place_state.proofs.Reports.{report-length, reports-passed, room-left, if-first, length-parcels}
+use Rattle.place_state.proofs.Reports.{report-length, reports-passed, room-left, if-first}
 use Rattle.place_state.proofs.Counted.{counted-more, report-one}
 use Rattle.place_tables.proofs.tables.Tables.settle_first.Goals as goal
 
@@ -45,13 +45,13 @@ invariant_of-self c =
     let first = sym c.pop.ensures.value ∙ c.unwrap-message.ensures in
     let may = all-first (MayWait i.layout i.number c.args.key.now) _ w first (kept.waiting c.args.key.now) in
     let home = may.home in
-    let loads = parcels c.clock-clock.result i.number (report i.number w.home w.message.id c.decide_unless-answer.result) in
+    let loads = map (packed_at c.clock-clock.result i.number) (report i.number w.home w.message.id c.decide_unless-answer.result) in
     let n = report-length i.number w.home w.message.id c.decide_unless-answer.result in
     let all = reports-passed i.number c.args.key.now i.waits c.pop.new.self w first c.pop.ensures.queues in
     let seen = ap (λ p. reports_for c.args.key.now p) c.self.view_is in
     let space = ap (λ p. p.room) c.self.view_is in
     let room = c.requires.room in
-    let count = length-parcels c.clock-clock.result i.number (report i.number w.home w.message.id c.decide_unless-answer.result) in (
+    let count = length-map (report i.number w.home w.message.id c.decide_unless-answer.result) (packed_at c.clock-clock.result i.number) in (
       ap (λ j. j.layout) c.say.ensures.journal ∙ c.self.invariant.0,
       boxed-more i.layout i.puts.items c.put_report.new.puts.items loads i.out (length loads) c.self.invariant.1 c.put_report.ensures.items (omega arith) (omega (arith, n, all, seen, space, room, count)),
       record {

@@ -1,15 +1,15 @@
-use Rattle.std.proofs.Common.{ap, refl, sym, ◌∙◌, length, option_copied, subst, arith}
+use Rattle.std.proofs.Common.{ap, refl, sym, ◌∙◌, length, map, option_copied, subst, arith}
+use Rattle.std.proofs.lemmas.List.{length-map}
 use Rattle.chorus_entry.specs.declared.act.Act.TheVariants as Act
 use Rattle.chorus_world.specs.Places.{taught}
+use Rattle.law_machine.specs.PlaceState.{packed_at}
 use Rattle.law_machine.specs.Trying.{report}
 use Rattle.place_tables.specs.contracts.tables.Tables.{the_view}
 use Rattle.place_state.specs.Tables.{turn, MayWait}
-use Rattle.place_state.specs.Turns.{parcels}
 use Rattle.place_state.specs.Going.{reports_for}
 use Rattle.place_state.specs.Steps.{MayTeach}
 use Rattle.place_state.proofs.States.{same_turn, put-loads, said-at}
 use Rattle.place_state.proofs.Kept.{said-by, held-later, numbered-plain, grouped-plain, all-first, sent-more, sent-report, boxed-more}
-use Rattle.place_state.proofs.Reports.{length-parcels}
 use Rattle.place_state.proofs.Telling.{report-first, waiting-told, located-taught, reports-told, room-kept}
 use Rattle.place_state.proofs.Counted.{counted-more, report-one}
 use Rattle.place_tables.proofs.tables.Tables.tell.Goals as goal
@@ -26,12 +26,12 @@ invariant_of-self c =
     let said = said-by i.number act c.args.caller.now i.journal c.say.new.journal c.say.ensures.journal in
     let first = sym c.first.ensures ∙ ap option_copied c.unwrap.ensures in
     let home = (all-first (MayWait i.layout i.number k) _ w first (kept.waiting k)).home in
-    let loads = parcels c.clock-clock.result i.number (report i.number w.home x a) in
+    let loads = map (packed_at c.clock-clock.result i.number) (report i.number w.home x a) in
     let all = reports-told i.number k i.waits c.pass.new.waits w x a first c.pass.ensures in
     let seen = ap (λ p. reports_for k p) c.self.view_is in
     let space = ap (λ p. p.room) c.self.view_is in
     let room = c.requires.room in
-    let count = length-parcels c.clock-clock.result i.number (report i.number w.home x a) in
+    let count = length-map (report i.number w.home x a) (packed_at c.clock-clock.result i.number) in
     let teaches = subst (λ l. MayTeach l k.port (taught a)) (sym (ap (λ p. p.layout) c.self.view_is)) c.requires.teaches in (
       ap (λ j. j.layout) c.say.ensures.journal ∙ c.self.invariant.0,
       boxed-more i.layout i.puts.items c.put_report.new.puts.items loads i.out (length loads) c.self.invariant.1 c.put_report.ensures.items (omega arith) (omega (arith, all, seen, space, room, count)),

@@ -1,8 +1,8 @@
 use Rattle.std.proofs.Common.{ap, refl, ◌∙◌, [], ◌∷◌, Some, arith}
 use Rattle.chorus_entry.specs.declared.act.Act.TheVariants as Act
+use Rattle.law_machine.specs.PlaceState.{packed_at}
 use Rattle.place_tables.specs.contracts.tables.Tables.{the_view}
 use Rattle.place_state.specs.Tables.{turn}
-use Rattle.place_state.specs.Turns.{parcel}
 use Rattle.chorus_ui.specs.Layout.{has_place}
 use Rattle.place_state.proofs.States.{same_turn, put-loads, said-at}
 use Rattle.place_state.proofs.Kept.{said-by, kept-plain, kept-waits, kept-put, waiting-at, boxed-more}
@@ -14,7 +14,7 @@ invariant_of-self c =
     let i = c.self.inside in
     let act = Act.Try c.args.again.message.id c.args.key.now.port c.args.newest.0 c.args.newest.1 in
     let said = said-by i.number act c.args.caller.now i.journal c.say.new.journal c.say.ensures.journal in
-    let x = parcel c.args.newest.0 c.clock-clock.result i.number c.trying.result in
+    let x = packed_at c.clock-clock.result i.number (c.args.newest.0, c.trying.result) in
     let seen = ap (λ p. p.room) c.self.view_is in
     let room = c.requires.room in (
       ap (λ j. j.layout) c.say.ensures.journal ∙ c.self.invariant.0,

@@ -2,9 +2,9 @@
 
 use chorus_entry::Packet;
 
-/// A packet that the turn has put, and the place that it goes to.
+/// A packet, and the place that it goes to.
 #[derive(Debug, Drop)]
-pub struct Parcel {
+pub struct Outgoing {
     /// The place, from 1.
     pub to: u16,
     /// What it gets.
