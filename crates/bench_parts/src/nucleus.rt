@@ -1,26 +1,12 @@
 //! What calls of a nucleus cost, a receive on any of 32 ports, and a crew.
-//!
-//! With no words it does a little of each and prints how many entries came of it, which never varies. With a word it prints figures, each
-//! the best of some tries, in which what is compared takes turns: with `nucleus` nanoseconds of a send and a take and of an idle pump,
-//! beside a send and a take on four threads and at sites on one thread; with `choose` nanoseconds of a look at 32 empty ports; and with
-//! `crew` messages that crews of 1, 2 and 4 workers handle a second.
-#![tactic(auto)]
 
-mod choosing;
-mod crews;
-mod ground;
-mod rounds;
-mod sites;
-mod spinning;
-mod threads;
-mod work;
-
+use crate::calls::Work;
+use crate::sites;
 use std::alloc::Global;
+use std::io;
 use std::sync::Wait;
 use std::thread::Threads;
 use std::time::{Clock, Duration};
-use std::{env, io};
-use work::Work;
 
 const FEW: u32 = 20;
 
@@ -35,27 +21,11 @@ const PORTS: u32 = 64;
 
 const TRIES: u32 = 5;
 
-fn main(rt: HostRuntime) -> io::Result<()> {
-    match env::args(&rt)?.nth(1) {
-        Some(word) => print_figures(&rt, rt.alloc(), word.as_str()),
-        None => print_few(&rt, rt.alloc()),
-    }
-}
-
-fn print_figures<R: Threads + Sync + Wait + Clock + Print>(
+/// Prints how many entries come of a little of each work.
+pub(crate) fn print_few<R: Threads + Sync + Wait + Clock + Print>(
     rt: &R,
     alloc: Global,
-    word: &str,
 ) -> io::Result<()> {
-    match word {
-        "nucleus" => print_calls(rt, alloc),
-        "choose" => print_looks(rt, alloc),
-        "crew" => print_crews(rt, alloc),
-        _ => println!(rt; "the words are nucleus, choose and crew"),
-    }
-}
-
-fn print_few<R: Threads + Sync + Wait + Clock + Print>(rt: &R, alloc: Global) -> io::Result<()> {
     let crew = Work::Crew {
         workers: 2,
         microseconds: 1,
@@ -90,7 +60,11 @@ fn mean<R: Threads + Sync + Wait + Clock>(
     Ok(each(time, count))
 }
 
-fn print_calls<R: Threads + Sync + Wait + Clock + Print>(rt: &R, alloc: Global) -> io::Result<()> {
+/// Prints nanoseconds of a send and a take, of the same at sites and on four threads, and of an idle pump.
+pub(crate) fn print_calls<R: Threads + Sync + Wait + Clock + Print>(
+    rt: &R,
+    alloc: Global,
+) -> io::Result<()> {
     let mut takes = f64::INFINITY;
     let mut sites = f64::INFINITY;
     let mut four = f64::INFINITY;
@@ -110,7 +84,11 @@ fn print_calls<R: Threads + Sync + Wait + Clock + Print>(rt: &R, alloc: Global) 
     println!(rt; "{}: {pump:.0} ns", Work::Pumps)
 }
 
-fn print_looks<R: Threads + Sync + Wait + Clock + Print>(rt: &R, alloc: Global) -> io::Result<()> {
+/// Prints nanoseconds of a receive on any of 32 empty ports and of a take at each.
+pub(crate) fn print_looks<R: Threads + Sync + Wait + Clock + Print>(
+    rt: &R,
+    alloc: Global,
+) -> io::Result<()> {
     let mut receive = f64::INFINITY;
     let mut takes = f64::INFINITY;
     for _ in 0..TRIES {
@@ -121,7 +99,11 @@ fn print_looks<R: Threads + Sync + Wait + Clock + Print>(rt: &R, alloc: Global) 
     println!(rt; "{}: {takes:.0} ns", Work::Looks)
 }
 
-fn print_crews<R: Threads + Sync + Wait + Clock + Print>(rt: &R, alloc: Global) -> io::Result<()> {
+/// Prints messages that crews of three sizes handle a second, with handlers that take three times.
+pub(crate) fn print_crews<R: Threads + Sync + Wait + Clock + Print>(
+    rt: &R,
+    alloc: Global,
+) -> io::Result<()> {
     for microseconds in [1, 10, 100] {
         for workers in [1, 2, 4] {
             print_crew(
