@@ -1,10 +1,12 @@
 //! How an exploration ends: at its limit, by a text that is refused, and by faults of its source and sink.
 
-use crate::running::{assert_ended, assert_same, explored};
+use crate::races::MOVES;
+use crate::running::{assert_prints, assert_same, run_on, run_over, source_of};
 use chorus_show::Status;
-
-const MOVES: &str =
-    "chorus 1\nsites 2\nport 1.p.1 1.a.1 2\nscript 1.a.1\nsend 1.p.1 =a\nmove 1.p.1 2.a.1\nsend 1.p.1 =b\nscript 2.a.1\ntake 1.p.1\ntake 1.p.1\nschedule\nend\n";
+use std::alloc::Global;
+use std::process::Abort;
+use std::sync::Wait;
+use std::thread::Threads;
 
 const MOVES_WITH_TEN_EVENTS: &str = "\
 histories 1
@@ -52,36 +54,51 @@ const NOTHING_MAY_COME: &str =
 #[test]
 fn a_limit_is_met_in_the_midst(rt: HostRuntime) {
     let alloc = rt.alloc();
-    for (most, written) in [(10, MOVES_WITH_TEN_EVENTS), (0, MOVES_WITH_NONE)] {
-        let run = explored(&rt, alloc, MOVES.as_bytes(), most, &[], &[]);
-        assert_ended(&rt, &run, Status::Done, written, "a limit");
+    for (most, written) in [("10", MOVES_WITH_TEN_EVENTS), ("0", MOVES_WITH_NONE)] {
+        assert_prints(&rt, alloc, &["explore", most], MOVES, written);
     }
 }
 
 #[test]
 fn a_limit_that_suffices_is_not_met(rt: HostRuntime) {
     let alloc = rt.alloc();
-    for (most, limit) in [(43, "\nall\n"), (42, "\nsome\n")] {
-        let run = explored(&rt, alloc, MOVES.as_bytes(), most, &[], &[]);
+    for (most, limit) in [("43", "\nall\n"), ("42", "\nsome\n")] {
+        let run = run_on(&rt, alloc, &["explore", most], MOVES);
         assert_same(&rt, run.written.as_str().contains(limit), true, most);
     }
 }
 
 #[test]
 fn nothing_to_do_has_one_schedule(rt: HostRuntime) {
-    let run = explored(&rt, rt.alloc(), NOTHING.as_bytes(), 10, &[], &[]);
-    assert_ended(&rt, &run, Status::Done, NOTHING_MAY_COME, NOTHING);
+    assert_prints(
+        &rt,
+        rt.alloc(),
+        &["explore", "10"],
+        NOTHING,
+        NOTHING_MAY_COME,
+    );
+}
+
+/// Asserts how the exploration of the text ends where these reads and writes fail, and that it writes nothing.
+fn assert_writes_nothing(
+    rt: &(impl Abort + Threads + Wait + Sync),
+    alloc: Global,
+    text: &str,
+    reads: &[u64],
+    writes: &[u64],
+    status: Status,
+) {
+    let mut source = source_of(rt, alloc, text, reads);
+    let run = run_over(rt, alloc, &["explore"], &mut source, 64, writes);
+    assert_same(rt, run.status, status, text);
+    assert!(rt; run.written.is_empty(), "{text}");
 }
 
 #[test]
 fn refused_texts_and_faults(rt: HostRuntime) {
     let alloc = rt.alloc();
-    let refused = explored(&rt, alloc, b"chorus 3\n", 10, &[], &[]);
-    let status = Status::Scenario { line: 1, reason: 1 };
-    assert_same(&rt, refused.status, status, "version");
-    assert_same(&rt, refused.written.as_str(), "", "version");
-    let unread = explored(&rt, alloc, MOVES.as_bytes(), 10, &[1], &[]);
-    assert_ended(&rt, &unread, Status::ReadFault, "", "a read");
-    let unwritten = explored(&rt, alloc, MOVES.as_bytes(), 10, &[], &[1]);
-    assert_ended(&rt, &unwritten, Status::WriteFault, "", "a write");
+    let refused = Status::Scenario { line: 1, reason: 1 };
+    assert_writes_nothing(&rt, alloc, "chorus 3\n", &[], &[], refused);
+    assert_writes_nothing(&rt, alloc, MOVES, &[1], &[], Status::ReadFault);
+    assert_writes_nothing(&rt, alloc, MOVES, &[], &[1], Status::WriteFault);
 }

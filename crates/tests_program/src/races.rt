@@ -1,4 +1,4 @@
-//! What is told of three races, whole.
+//! What the word `explore` tells of three races, whole.
 
 use crate::running::{assert_same, told};
 
@@ -152,7 +152,7 @@ step 1
 end
 ";
 
-const MOVES: &str =
+pub(crate) const MOVES: &str =
     "chorus 1\nsites 2\nport 1.p.1 1.a.1 2\nscript 1.a.1\nsend 1.p.1 =a\nmove 1.p.1 2.a.1\nsend 1.p.1 =b\nscript 2.a.1\ntake 1.p.1\ntake 1.p.1\nschedule\nend\n";
 
 const MOVES_TOLD: &str = "\

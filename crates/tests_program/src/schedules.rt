@@ -1,10 +1,11 @@
-//! Each schedule that is printed is replayed: as many messages are accepted, received, left waiting, refused and told `stale` as its outcome
+//! Each schedule that an exploration prints is replayed: as many messages are accepted, received, left waiting, refused and told `stale` as its outcome
 //! tells.
 
-use crate::running::{replayed, told};
-use chorus_show::Status;
+use crate::running::{assert_done, run_on, told};
 use std::alloc::Global;
 use std::process::Abort;
+use std::sync::Wait;
+use std::thread::Threads;
 
 /// Scenarios, each without what ends it: `schedule` and `end`.
 const RACES: [&str; 4] = [
@@ -29,12 +30,18 @@ fn each_schedule_replays_to_its_outcome(rt: HostRuntime) {
 }
 
 /// Asserts that the race with this schedule, behind whose number its steps stand, replays to the outcome of that number.
-fn assert_replays(rt: &impl Abort, alloc: Global, race: &str, outcomes: &str, schedule: &str) {
+fn assert_replays(
+    rt: &(impl Abort + Threads + Wait + Sync),
+    alloc: Global,
+    race: &str,
+    outcomes: &str,
+    schedule: &str,
+) {
     let (number, steps) = schedule.split_once("\n").expect(rt, "a number");
     let steps = steps.strip_suffix("\nend\n").unwrap_or(steps);
     let scenario = format!(in alloc; "{race}schedule\n{steps}\nend\n").expect(rt, "memory");
-    let run = replayed(rt, alloc, scenario.as_str().as_bytes());
-    assert!(rt; run.status == Status::Done, "{scenario}");
+    let run = run_on(rt, alloc, &["replay"], scenario.as_str());
+    assert_done(rt, &run, scenario.as_str());
     let summary = summary_of(rt, alloc, outcomes, number);
     assert!(rt;
         run.written.as_str().contains(summary.as_str()),
@@ -44,7 +51,12 @@ fn assert_replays(rt: &impl Abort, alloc: Global, race: &str, outcomes: &str, sc
 
 /// The lines of a summary that say how many messages are accepted, received, left waiting, refused and told `stale` in the outcome of this
 /// number; a port moves once at most, so each is told that once at most, and no port is under way at the end.
-fn summary_of(rt: &impl Abort, alloc: Global, outcomes: &str, number: &str) -> String {
+fn summary_of(
+    rt: &(impl Abort + Threads + Wait + Sync),
+    alloc: Global,
+    outcomes: &str,
+    number: &str,
+) -> String {
     let mut accepted: u64 = 0;
     let mut taken: u64 = 0;
     let mut queued: u64 = 0;
