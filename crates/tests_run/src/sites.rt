@@ -224,12 +224,6 @@ move 1 1.p.2 2.a.1
 drain
 ";
 
-#[test]
-fn two_turns_per_site(rt: HostRuntime) {
-    assert_leaves(&rt, rt.alloc(), POSTS, &tests_rows::TWO_TURNS_PER_SITE);
-    assert_leaves(&rt, rt.alloc(), MOVES, &tests_rows::TWO_TURNS_AND_A_MOVE);
-}
-
 /// Asserts that sites on which these calls were made leave what they leave, and then what the others leave, as new ones
 /// do.
 fn assert_starts_again(rt: &impl Abort, alloc: Global, first: (&str, &str), then: (&str, &str)) {
