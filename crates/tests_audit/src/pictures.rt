@@ -2,7 +2,7 @@
 //!
 //! The contract of `picture` is long, so it is called in one function, which is generic in its source and sink.
 
-use crate::texts::{
+use crate::drawings::{
     NO_MESSAGE, NOTHING, NOTHING_DRAWN, STALE, STALE_DRAWN, UNLAWFUL, UNLAWFUL_DRAWN,
 };
 use chorus_io::{MemSink, MemSource, Sink, Source};
