@@ -166,7 +166,7 @@ module _ (value : Ui → ℕ → Message → ℕ) (worth : List ℕ → ℕ) (n 
   closes : ClosesAs l v comers closed
   closes = (is-closed.for_actors (actors actor) are-actors).2
 
-  crewed : taking.HasCrewed l v h.before clock room later
+  crewed : taking.HasTakers l v h.before clock room later
   crewed = record {
     seat = h.seat;
     gave_is = h.performed ∙ ap (λ c. reverse (script room c later)) (sym took-all.1);

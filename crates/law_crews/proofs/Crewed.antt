@@ -54,7 +54,7 @@ use Rattle.chorus_net.specs.Closing.{IsLeft, closed_journals, past_of}
 use Rattle.chorus_nucleus.specs.Closing.{ClosesAs}
 use Rattle.law_filled.specs.Filled.{AllAreSettled}
 use Rattle.law_emptied.specs.Crewed.{AllFirst, AllTake, AreWithin, IsCrewed, IsOfTake, Sending, place_on, port_on, script}
-use Rattle.law_crews.specs.Crewed.{AreTakers, AreTheirs, CameSo, ClosedMergesAsCrewed, HasCrewed, MergesAsCrewed, entries_made}
+use Rattle.law_crews.specs.Crewed.{AreTakers, AreTheirs, CameSo, ClosedMergesAsCrewed, HasTakers, MergesAsCrewed, entries_made}
 use Rattle.law_crews.proofs.Silent.{all-from, all-two, beyond, no-links}
 
 -- Entries by clock.
@@ -208,7 +208,7 @@ first-made : (mine : List (Placed PlaceNote)) (clock : ℕ) → ((m : Placed Pla
 first-made [] clock h es rising is = subst (All (λ (f : Entry). clock < f.clock)) (sym is) (All-nil (λ (f : Entry). clock < f.clock))
 first-made (m ∷ mine) clock h es rising is = later-than clock es m.remarked.entry (entries_made mine) rising is (h m mine refl)
 
-module _ (l : Layout) (v b : Knowledge PlaceNote) (comers : List Comer) (c : Closed) (clock n : ℕ) (later : List Sending) (who : Ui) (shape : IsLayout l) (k : ClosesAs l v comers c) (h : HasCrewed l v b clock n later) (came : CameSo comers who (length v.notes))
+module _ (l : Layout) (v b : Knowledge PlaceNote) (comers : List Comer) (c : Closed) (clock n : ℕ) (later : List Sending) (who : Ui) (shape : IsLayout l) (k : ClosesAs l v comers c) (h : HasTakers l v b clock n later) (came : CameSo comers who (length v.notes))
     (made : v.made ≡ length v.notes + 1) (sites : length v.notes ≤ l.sites) (within : AreWithin (length v.notes) later) where
   abbrev kept : KeepsPromises l comers k.of_places k.of_seats k.closing
   kept = journals-keep-promises l comers k.of_places k.of_seats k.closing shape k.histories

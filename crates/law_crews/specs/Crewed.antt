@@ -48,7 +48,7 @@ pub record IsSettledAt (l : Layout) (b v : Knowledge PlaceNote) : Type 0 where
   pub more : SeesMore b v
 
 -- Seat 0 gave the script, with nothing left at its end, and up to this clock; then as many as it has notes took.
-pub record HasCrewed (l : Layout) (v b : Knowledge PlaceNote) (clock n : ℕ) (later : List Sending) : Type 0 where
+pub record HasTakers (l : Layout) (v b : Knowledge PlaceNote) (clock n : ℕ) (later : List Sending) : Type 0 where
   pub seat : v.seat ≡ 0
   pub gave_is : gave v ≡ reverse (script n (length v.notes) later)
   pub some : turns_in v.mine ≢ []
@@ -84,6 +84,6 @@ pub record MergesAsCrewed (l : Layout) (v : Knowledge PlaceNote) (comers : List 
 abbrev pub ClosedMergesAsCrewed : Type 0
 ClosedMergesAsCrewed =
     (l : Layout) (v b : Knowledge PlaceNote) (comers : List Comer) (c : Closed) (clock n : ℕ) (later : List Sending)
-    (first : Ui) → IsLayout l → ClosesAs l v comers c → HasCrewed l v b clock n later →
+    (first : Ui) → IsLayout l → ClosesAs l v comers c → HasTakers l v b clock n later →
     CameSo comers first (length v.notes) → v.made ≡ length v.notes + 1 → length v.notes ≤ l.sites →
     AreWithin (length v.notes) later → MergesAsCrewed l v comers c n later

@@ -1,5 +1,5 @@
-//! Each schedule that an exploration prints is replayed: as many messages are accepted, received, left waiting, refused and told `stale` as its outcome
-//! tells.
+//! Each schedule that an exploration prints is replayed: as many messages are accepted, received, left waiting, refused and told `stale`
+//! as its outcome tells.
 
 use crate::running::{assert_done, run_on, told};
 use std::alloc::Global;
