@@ -130,17 +130,37 @@ fn receive_by_priority(rt: HostRuntime) {
     assert_journal(&rt, &closed, 11, 7, &act);
 }
 
+/// Enables the port with this number of site 1, and asserts what is told.
+fn assert_enables(
+    rt: &impl Abort,
+    chooser: &mut Chooser,
+    number: u64,
+    wanted: Result<(), EnableFault>,
+) {
+    assert!(rt; chooser.enable(port_of(rt, 1, number), 3) == wanted);
+}
+
+/// Disables it, and asserts what is told.
+fn assert_disables(
+    rt: &impl Abort,
+    chooser: &mut Chooser,
+    number: u64,
+    wanted: Result<(), NotEnabled>,
+) {
+    assert!(rt; chooser.disable(port_of(rt, 1, number)) == wanted);
+}
+
 #[test]
 fn enabling_is_refused(rt: HostRuntime) {
     let mut chooser = Chooser::start(rt.alloc()).expect(&rt, "memory");
     for number in 1..=32u64 {
-        assert!(&rt; chooser.enable(port_of(&rt, 1, number), 1) == Ok(()));
+        assert_enables(&rt, &mut chooser, number, Ok(()));
     }
-    assert!(&rt; chooser.enable(port_of(&rt, 1, 1), 3) == Err(EnableFault::There));
-    assert!(&rt; chooser.enable(port_of(&rt, 1, 33), 3) == Err(EnableFault::EnabledFull));
-    assert!(&rt; chooser.disable(port_of(&rt, 1, 33)) == Err(NotEnabled));
-    assert!(&rt; chooser.disable(port_of(&rt, 1, 1)) == Ok(()));
-    assert!(&rt; chooser.enable(port_of(&rt, 1, 33), 3) == Ok(()));
+    assert_enables(&rt, &mut chooser, 1, Err(EnableFault::There));
+    assert_enables(&rt, &mut chooser, 33, Err(EnableFault::EnabledFull));
+    assert_disables(&rt, &mut chooser, 33, Err(NotEnabled));
+    assert_disables(&rt, &mut chooser, 1, Ok(()));
+    assert_enables(&rt, &mut chooser, 33, Ok(()));
 }
 
 /// The pass moves both ports to another actor of their site.
