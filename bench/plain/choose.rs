@@ -1,10 +1,10 @@
-//! A plain Rust program with 32 queues that a receiver looks at in order, for a measure of `crates/bench_nucleus`
+//! A plain Rust program with 32 queues that a receiver looks at in order, for a measure of `crates/bench_parts`
 //! (docs/inside/BENCHMARKS.md, "chorus_choose"). A receive takes the one lock round all queues and looks at each; a
 //! condition variable is there to wait for a message where there is none. A take has the lock of its queue alone.
 //!
 //!     rustc --edition 2024 -O -C target-cpu=x86-64 -o choose choose.rs
 //!     ./choose          a message is sent from one thread to another, and waited for
-//!     ./choose time     nanoseconds of a look at 32 empty queues, as `bench_nucleus choose` prints them
+//!     ./choose time     nanoseconds of a look at 32 empty queues, as `bench_parts choose` prints them
 
 use std::collections::VecDeque;
 use std::hint::black_box;

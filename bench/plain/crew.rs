@@ -1,10 +1,10 @@
-//! A plain Rust program in which workers handle the messages of 64 queues, for a measure of `crates/bench_nucleus`
+//! A plain Rust program in which workers handle the messages of 64 queues, for a measure of `crates/bench_parts`
 //! (docs/inside/BENCHMARKS.md, "chorus_crew"). The jobs, one for each queue, stand in a deque behind a lock; a worker takes one
 //! and handles its queue's messages one after another, each taken under the queue's lock. The handler spins on the clock.
 //!
 //!     rustc --edition 2024 -O -C target-cpu=x86-64 -o crew crew.rs
 //!     ./crew          crews of each size handle a few messages
-//!     ./crew time     messages handled a second, as `bench_nucleus crew` prints them
+//!     ./crew time     messages handled a second, as `bench_parts crew` prints them
 
 use std::collections::VecDeque;
 use std::sync::Mutex;

@@ -1,19 +1,32 @@
-//! What the checker, a place and a scenario cost, on one thread.
+//! What the checker, places, texts, an audit, a picture, calls of a nucleus, a receive on any of 32 ports and a crew cost.
 //!
 //! With no words it does a little of each and prints what came of it, which never varies. With a word it prints figures, each the best of
 //! some tries, in which what is compared takes turns: with `checker` entries a second of judging legal journals of three lengths, beside
-//! going over each once; with `place` nanoseconds of a round at two places, with messages that wait and behind a long journal; and with
-//! `scene` megabytes a second of reading and printing a scenario text, and commands a second of its replay.
+//! going over each once; with `place` nanoseconds of a round at two sites on one thread, with messages that wait and behind a long
+//! journal; with `scene` megabytes a second of reading and printing a scenario text, and commands a second of its replay; with `audit`
+//! megabytes a second of auditing what that prints, and of drawing a shorter journal; with `nucleus` nanoseconds of a send and a take and
+//! of an idle pump, beside a send and a take on four threads and at sites on one thread; with `choose` nanoseconds of a look at 32 empty
+//! ports; and with `crew` messages that crews of 1, 2 and 4 workers handle a second.
 #![tactic(auto)]
 
+mod audits;
+mod calls;
 mod checking;
+mod choosing;
+mod crews;
+mod ground;
 mod journal;
-mod pair;
+mod nucleus;
+mod rounds;
 mod scenarios;
+mod sites;
+mod spinning;
+mod threads;
 mod work;
 
-use pair::Side;
 use std::alloc::Global;
+use std::sync::Wait;
+use std::thread::Threads;
 use std::time::Clock;
 use std::{env, io};
 
@@ -24,17 +37,27 @@ fn main(rt: HostRuntime) -> io::Result<()> {
     }
 }
 
-fn print_figures<R: Clock + Print>(rt: &R, alloc: Global, word: &str) -> io::Result<()> {
+fn print_figures<R: Threads + Sync + Wait + Clock + Print>(
+    rt: &R,
+    alloc: Global,
+    word: &str,
+) -> io::Result<()> {
     match word {
         "checker" => checking::print_all(rt, alloc),
-        "place" => work::print_times::<R, Side>(rt, alloc),
+        "place" => work::print_times(rt, alloc),
         "scene" => scenarios::print_rates(rt, alloc),
-        _ => println!(rt; "the words are checker, place and scene"),
+        "audit" => audits::print_rates(rt, alloc),
+        "nucleus" => nucleus::print_calls(rt, alloc),
+        "choose" => nucleus::print_looks(rt, alloc),
+        "crew" => nucleus::print_crews(rt, alloc),
+        _ => println!(rt; "the words are checker, place, scene, audit, nucleus, choose and crew"),
     }
 }
 
-fn print_few<R: Print>(rt: &R, alloc: Global) -> io::Result<()> {
+fn print_few<R: Threads + Sync + Wait + Clock + Print>(rt: &R, alloc: Global) -> io::Result<()> {
     checking::print_taken(rt, alloc)?;
-    work::print_few::<R, Side>(rt, alloc)?;
-    scenarios::print_few(rt, alloc)
+    work::print_few(rt, alloc)?;
+    scenarios::print_few(rt, alloc)?;
+    audits::print_found(rt, alloc)?;
+    nucleus::print_few(rt, alloc)
 }

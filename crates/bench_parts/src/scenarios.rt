@@ -20,7 +20,7 @@ const ACTORS: u64 = 8;
 // Commands of each script.
 const FEW: u64 = 10;
 
-const MANY: u64 = 4_096;
+pub(crate) const MANY: u64 = 4_096;
 
 const ROUNDS: u32 = 5;
 
@@ -76,7 +76,7 @@ fn print_rate<R: Clock>(
 }
 
 /// Megabytes of the text per second.
-fn megabytes_since<R: Clock>(rt: &R, start: Instant, text: &[u8]) -> io::Result<f64> {
+pub(crate) fn megabytes_since<R: Clock>(rt: &R, start: Instant, text: &[u8]) -> io::Result<f64> {
     let bytes = u32::try_from(text.len()).unwrap_or(u32::MAX);
     Ok(f64::from(bytes) / start.elapsed(rt)?.as_secs_f64() / 1_000_000.0)
 }
@@ -85,6 +85,11 @@ fn printed(alloc: Global, scenario: &Scenario) -> Result<Vec<u8>, AllocError> {
     let mut text = Vec::new(alloc);
     print(scenario, &mut text)?;
     Ok(text)
+}
+
+/// Whether the text is read as a scenario.
+pub(crate) fn is_read(alloc: Global, text: &[u8]) -> bool {
+    Layout::new(16, 1).is_some_and(|layout| read(alloc, text, layout).is_ok())
 }
 
 /// How many entries the journal has: none where nothing was closed.
@@ -113,8 +118,18 @@ fn entries_of(alloc: Global, text: &[u8], layout: Layout) -> Result<usize, Alloc
     entries_on(alloc, &mut source, &mut sink, layout)
 }
 
+/// What the replay of the text prints.
+pub(crate) fn printed_by(alloc: Global, text: &[u8]) -> Result<Vec<u8>, AllocError> {
+    let mut source = MemSource::new(Vec::from_slice(alloc, text)?, Vec::new(alloc));
+    let mut sink = MemSink::new(alloc, usize::MAX, Vec::new(alloc));
+    if let Some(layout) = Layout::new(16, 1) {
+        entries_on(alloc, &mut source, &mut sink, layout)?;
+    }
+    Vec::from_slice(alloc, sink.bytes())
+}
+
 /// The text, with so many commands of each script.
-fn text(alloc: Global, commands: u64) -> Result<Vec<u8>, AllocError> {
+pub(crate) fn text(alloc: Global, commands: u64) -> Result<Vec<u8>, AllocError> {
     let mut text = Vec::from_slice(alloc, b"chorus 2\nsites 1\n")?;
     for script in 0..SCRIPTS {
         push_name(&mut text, b"port 1.p.", script + 1, b" 1.a.")?;

@@ -1,7 +1,7 @@
-//! What is measured of places.
+//! What is measured of places: two sites, at which one caller sends.
 
-use crate::pair::{Pair, Works, deliver, port_of, send};
-use chorus_entry::Command;
+use crate::sites::{entries_at, send, send_and_take, send_and_tell, start};
+use chorus_net::Sites;
 use std::alloc::{AllocError, Global};
 use std::fmt::{self, Display, Formatter, Write};
 use std::io;
@@ -17,7 +17,7 @@ const FEW: u32 = 20;
 
 const TRIES: u32 = 5;
 
-/// What is done again and again at two places.
+/// What is done again and again at two sites.
 #[derive(Clone, Copy)]
 pub(crate) enum Work {
     /// A message is sent at its port's place, and taken.
@@ -36,75 +36,54 @@ impl Display for Work {
     }
 }
 
-/// Sends to the port of the site.
-fn send_to_port<S: Works>(alloc: Global, side: &mut S, site: u16) -> Option<()> {
-    let port = port_of(site)?;
-    send(alloc, side, port)
-}
-
-fn send_and_take<S: Works>(alloc: Global, side: &mut S) -> Option<()> {
-    send_to_port(alloc, side, 1)?;
-    let port = port_of(1)?;
-    side.act(Command::Take { port })
-}
-
-fn send_and_tell<S: Works>(alloc: Global, pair: &mut Pair<S>) -> Option<()> {
-    send_to_port(alloc, &mut pair.one, 2)?;
-    deliver(&mut pair.one, &mut pair.two)?;
-    deliver(&mut pair.two, &mut pair.one)
-}
-
 impl Work {
     /// Does it so often.
-    fn rounds<S: Works>(self, alloc: Global, pair: &mut Pair<S>, count: u32) -> Option<()> {
-        for _ in 0..count {
-            match self {
-                Work::Takes => send_and_take(alloc, &mut pair.one)?,
-                Work::Verdicts => send_and_tell(alloc, pair)?,
-            }
+    fn rounds(self, alloc: Global, sites: &mut Sites, count: u32) -> Option<()> {
+        match self {
+            Work::Takes => send_and_take(alloc, sites, count),
+            Work::Verdicts => send_and_tell(alloc, sites, count),
         }
-        Some(())
     }
 }
 
-/// Two places, where so many messages wait for the port of place 2; the first is under way.
-fn start<S: Works>(alloc: Global, waiting: u32) -> Option<Pair<S>> {
-    let mut pair: Pair<S> = Pair::start(alloc)?;
+/// Two sites, where so many messages wait for the port of site 2; the first is under way.
+fn waiting_at(alloc: Global, waiting: u32) -> Option<Sites> {
+    let mut sites = start(alloc, 2)?;
     for _ in 0..waiting {
-        send_to_port(alloc, &mut pair.one, 2)?;
+        send(alloc, &mut sites, 2)?;
     }
-    Some(pair)
+    Some(sites)
 }
 
 /// How many entries a little of the work leads to.
-fn entries_of<S: Works>(alloc: Global, work: Work) -> Option<usize> {
-    let mut pair: Pair<S> = start(alloc, FEW)?;
-    work.rounds(alloc, &mut pair, FEW)?;
-    Some(pair.entries())
+fn entries_of(alloc: Global, work: Work) -> Option<usize> {
+    let mut sites = waiting_at(alloc, FEW)?;
+    work.rounds(alloc, &mut sites, FEW)?;
+    Some(entries_at(&sites, 1)?.saturating_add(entries_at(&sites, 2)?))
 }
 
-/// Two places, and the nanoseconds of a round there: the least mean so far.
+/// Two sites, and the nanoseconds of a round there: the least mean so far.
 #[derive(Drop)]
-struct Timed<S: Works> {
+struct Timed {
     work: Work,
-    pair: Pair<S>,
+    sites: Sites,
     best: f64,
 }
 
-impl<S: Works> Timed<S> {
-    /// Places where so many messages wait, and then so many rounds were done.
-    fn start(alloc: Global, work: Work, waiting: u32, rounds: u32) -> io::Result<Timed<S>> {
-        let mut pair: Pair<S> = start(alloc, waiting).ok_or(AllocError)?;
-        work.rounds(alloc, &mut pair, rounds).ok_or(AllocError)?;
+impl Timed {
+    /// Sites where so many messages wait, and then so many rounds were done.
+    fn start(alloc: Global, work: Work, waiting: u32, rounds: u32) -> io::Result<Timed> {
+        let mut sites = waiting_at(alloc, waiting).ok_or(AllocError)?;
+        work.rounds(alloc, &mut sites, rounds).ok_or(AllocError)?;
         let best = f64::INFINITY;
-        Ok(Timed { work, pair, best })
+        Ok(Timed { work, sites, best })
     }
 
     /// Times some rounds more.
     fn time<R: Clock>(&mut self, rt: &R, alloc: Global) -> io::Result<()> {
         let began = Instant::now(rt)?;
         self.work
-            .rounds(alloc, &mut self.pair, ROUNDS)
+            .rounds(alloc, &mut self.sites, ROUNDS)
             .ok_or(AllocError)?;
         let seconds = began.elapsed(rt)?.as_secs_f64();
         self.best = self.best.min(seconds / f64::from(ROUNDS) * 1_000_000_000.0);
@@ -113,26 +92,26 @@ impl<S: Works> Timed<S> {
 }
 
 /// Prints how many entries come of a little of each work.
-pub(crate) fn print_few<R: Print, S: Works>(rt: &R, alloc: Global) -> io::Result<()> {
+pub(crate) fn print_few<R: Print>(rt: &R, alloc: Global) -> io::Result<()> {
     for work in [Work::Takes, Work::Verdicts] {
-        let entries = entries_of::<S>(alloc, work).ok_or(AllocError)?;
+        let entries = entries_of(alloc, work).ok_or(AllocError)?;
         println!(rt; "{work}: {entries} entries")?;
     }
     Ok(())
 }
 
 /// Prints nanoseconds of a round of each work.
-pub(crate) fn print_times<R: Clock + Print, S: Works>(rt: &R, alloc: Global) -> io::Result<()> {
+pub(crate) fn print_times<R: Clock + Print>(rt: &R, alloc: Global) -> io::Result<()> {
     for work in [Work::Takes, Work::Verdicts] {
-        print_time::<R, S>(rt, alloc, work)?;
+        print_time(rt, alloc, work)?;
     }
     Ok(())
 }
 
-fn print_time<R: Clock + Print, S: Works>(rt: &R, alloc: Global, work: Work) -> io::Result<()> {
-    let mut one: Timed<S> = Timed::start(alloc, work, 1, 0)?;
-    let mut many: Timed<S> = Timed::start(alloc, work, 100_000, 0)?;
-    let mut behind: Timed<S> = Timed::start(alloc, work, 1, MANY_ROUNDS)?;
+fn print_time<R: Clock + Print>(rt: &R, alloc: Global, work: Work) -> io::Result<()> {
+    let mut one = Timed::start(alloc, work, 1, 0)?;
+    let mut many = Timed::start(alloc, work, 100_000, 0)?;
+    let mut behind = Timed::start(alloc, work, 1, MANY_ROUNDS)?;
     for _ in 0..TRIES {
         one.time(rt, alloc)?;
         many.time(rt, alloc)?;

@@ -12,7 +12,7 @@ use Rattle.chorus_nucleus.specs.Passes.{caller_of, known, layout_of, IsPassOf}
 use Rattle.chorus_nucleus.specs.Calls.{gave}
 use Rattle.chorus_crew.specs.declared.handler.Handled.{Handled}
 use Rattle.chorus_crew.specs.Crews.{AreHandled}
-use Rattle.law_takes.specs.Crewed.{IsSettledAt}
+use Rattle.law_crews.specs.Crewed.{IsSettledAt}
 use Rattle.chorus_run.specs.Threads.{IsClosedBy}
 use Rattle.chorus_show.specs.declared.status.Status.{Status}
 use Rattle.chorus_show.specs.declared.status.Status.TheVariants.{Worn}

@@ -10,7 +10,7 @@ use Rattle.law_network.specs.Packets.{first_on}
 use Rattle.law_explore.specs.declared.moves.Move.{Move}
 use Rattle.law_explore.specs.declared.moves.Move.TheVariants.{Go, Carry}
 use Rattle.law_explore.specs.Races.{may_come, next_of, place_of_move}
-use Rattle.law_schedule.specs.Shown.{race_of}
+use Rattle.law_replay.specs.Shown.{race_of}
 use Rattle.chorus_scene.specs.Scene.{Scene}
 use Rattle.chorus_net.specs.Sites.{net}
 use Rattle.chorus_explore.specs.declared.candidates.Candidate.{Candidate}

@@ -8,7 +8,7 @@ use Rattle.law_network.specs.Network.{NetState, Event, schedule}
 use Rattle.law_network.specs.Tasks.{Do, Drain, CarryOut}
 use Rattle.law_explore.specs.declared.moves.Move.{Move}
 use Rattle.law_explore.specs.Races.{event_of, seat_0}
-use Rattle.law_schedule.specs.Shown.{race_of}
+use Rattle.law_replay.specs.Shown.{race_of}
 use Rattle.chorus_scene.specs.Scene.{Scene}
 use Rattle.chorus_net.specs.Sites.{net}
 use Rattle.chorus_place.specs.declared.fault.PlaceFault.{PlaceFault}

@@ -14,7 +14,7 @@ use Rattle.law_explore.proofs.Exploring.{lists-next}
 use Rattle.law_explore.proofs.Neighbours.{off}
 use Rattle.law_explore.proofs.Quiet.{neighbours-stay-quiet}
 use Rattle.law_explore.proofs.Searching.{none, here, there, which}
-use Rattle.law_schedule.specs.Shown.{race_of}
+use Rattle.law_replay.specs.Shown.{race_of}
 use Rattle.chorus_scene.specs.Scene.{Scene}
 use Rattle.chorus_explore.specs.declared.candidates.Candidate.{Candidate}
 use Rattle.chorus_explore.specs.declared.exploring.Search.{Search}

@@ -19,7 +19,7 @@ use Rattle.law_explore.specs.Neighbours.{command_place}
 use Rattle.law_explore.specs.Outcome.{Answered, post_in}
 use Rattle.law_explore.specs.Races.{Position, next_of, behind_next, are_linked, event_of, own_by, own_of, with_answer, position_after, is_ready_by, seat_0, may_come, place_of_move, place_with, replaying, links_to, links_between, next_moves}
 use Rattle.law_explore.specs.Search.{IsHistory}
-use Rattle.law_schedule.specs.Shown.{race_of}
+use Rattle.law_replay.specs.Shown.{race_of}
 use Rattle.chorus_scene.specs.Scene.{Scene, Script}
 use Rattle.chorus_net.specs.Sites.{net}
 use Rattle.chorus_net.proofs.Rounds.{numbers-more}

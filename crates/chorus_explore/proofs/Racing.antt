@@ -31,7 +31,7 @@ use Rattle.law_explore.specs.declared.moves.Move.{Move}
 use Rattle.law_explore.specs.Search.{IsHistory}
 use Rattle.law_explore.specs.Races.{Position, event_of, position_after, is_ready_by, seat_0, may_come, replaying, IsRace}
 use Rattle.law_explore.proofs.Races.{same-actors, same-layout}
-use Rattle.law_schedule.specs.Shown.{race_of}
+use Rattle.law_replay.specs.Shown.{race_of}
 use Rattle.chorus_scene.specs.Scene.{Scene, Script}
 use Rattle.chorus_report.specs.Setup.{setup_commands}
 use Rattle.chorus_net.specs.Sites.{IsScheduled}

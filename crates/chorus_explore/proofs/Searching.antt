@@ -8,7 +8,7 @@ use Rattle.std.proofs.lemmas.List.Elements.{All-nil}
 use Rattle.law_explore.specs.declared.moves.Move.{Move}
 use Rattle.law_explore.specs.Search.{IsHistory}
 use Rattle.law_explore.specs.Races.{Race, replaying, IsNormalWhole}
-use Rattle.law_schedule.specs.Shown.{race_of}
+use Rattle.law_replay.specs.Shown.{race_of}
 use Rattle.chorus_scene.specs.Scene.{Scene}
 use Rattle.chorus_explore.specs.declared.candidates.Candidate.{Candidate}
 use Rattle.explore_report.specs.declared.explored.Explored.{Explored}

@@ -14,7 +14,7 @@ use Rattle.law_explore.specs.declared.moves.Move.{Move}
 use Rattle.law_explore.specs.Search.{IsHistory, state_after}
 use Rattle.law_explore.specs.Races.{Position, event_of, seat_0, next_of, place_of_move, may_come, replaying}
 use Rattle.law_explore.specs.Outcome.{post_in, answers_from, outcome_after}
-use Rattle.law_schedule.specs.Shown.{race_of}
+use Rattle.law_replay.specs.Shown.{race_of}
 use Rattle.chorus_scene.specs.Scene.{Scene, Script}
 use Rattle.chorus_net.specs.Sites.{SitesState, net}
 use Rattle.chorus_net.specs.Worn.{compared_by}

@@ -5,7 +5,7 @@ ghost use Rattle.chorus_place.specs.declared.fault.PlaceFault.TheVariants as Pla
 ghost use Rattle.chorus_scene.specs.Scene.{Scene};
 ghost use Rattle.law_explore.specs.Search.{IsHistory};
 ghost use Rattle.law_explore.specs.Races.{replaying};
-ghost use Rattle.law_schedule.specs.Shown.{race_of};
+ghost use Rattle.law_replay.specs.Shown.{race_of};
 ghost use Rattle.chorus_explore.specs.Candidates.{candidates_at};
 ghost use Rattle.explore_report.specs.Findings.{MayCount};
 ghost use Rattle.chorus_explore.specs.Levels.{Advances, HaveSeen, IsDone, IsKeptIdle};

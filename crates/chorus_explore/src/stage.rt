@@ -11,7 +11,7 @@ ghost use Rattle.law_explore.specs.Races.{links_between, links_to, next_moves, n
 ghost use Rattle.law_network.specs.Calls.{just_started};
 ghost use Rattle.law_network.specs.Network.{Act as Acting, happened, numbers, place as place_of, place_numbers};
 ghost use Rattle.law_network.specs.Schedules.{may_happen};
-ghost use Rattle.law_schedule.specs.Shown.{race_of};
+ghost use Rattle.law_replay.specs.Shown.{race_of};
 ghost use Rattle.chorus_merge.specs.Steps.{journals_of};
 ghost use Rattle.chorus_scene.specs.Scene.{Scene};
 ghost use Rattle.chorus_explore.specs.declared.stage.Progress.{Progress};

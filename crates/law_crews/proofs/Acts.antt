@@ -33,7 +33,7 @@ use Rattle.chorus_crew.specs.Handling.{took_acts}
 use Rattle.chorus_crew.specs.Crews.{IsHandled}
 use Rattle.law_filled.specs.Filled.{ids, messages_to, posted_to}
 use Rattle.law_emptied.specs.Crewed.{IsOfTake}
-use Rattle.law_takes.specs.Crewed.{entries_made}
+use Rattle.law_crews.specs.Crewed.{entries_made}
 
 -- The acts of a pass that took.
 

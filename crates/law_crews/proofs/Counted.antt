@@ -43,9 +43,9 @@ use Rattle.chorus_crew.specs.Crews.{AreHandled, IsHandled}
 use Rattle.law_filled.specs.Filled.{ids, messages_to}
 use Rattle.law_emptied.specs.Crewed.{AreWithin, EndsInVain, Sending, TookWhatWasSentFirst, actor_on, bodies_to, makes_down, place_on, port_on, script, send_of}
 use Rattle.law_emptied.proofs.Taking.{takers-get-what-was-sent-first}
-use Rattle.law_takes.specs.Crewed as taking
-use Rattle.law_takes.proofs.Crewed.{closed-merges-as-crewed}
-use Rattle.law_takes.proofs.Posted.{messages-taken-were-posted}
+use Rattle.law_crews.specs.Crewed as taking
+use Rattle.law_crews.proofs.Crewed.{closed-merges-as-crewed}
+use Rattle.law_crews.proofs.Posted.{messages-taken-were-posted}
 use Rattle.law_crews.specs.Crews.{AreCounted, CrewsCountWhatWasSent, HasCrewed, IsActorOf, IsByBody, IsCounted, pairs_from}
 use Rattle.law_crews.proofs.Acts.{EndsWith, all-posted, ends-with, entry-acts, handled-acts, handled-ids, messages, same-messages}
 
@@ -166,7 +166,7 @@ module _ (value : Ui → ℕ → Message → ℕ) (worth : List ℕ → ℕ) (n 
   closes : ClosesAs l v comers closed
   closes = (is-closed.for_actors (actors actor) are-actors).2
 
-  crewed : taking.HasCrewed l v h.before clock room later
+  crewed : taking.HasTakers l v h.before clock room later
   crewed = record {
     seat = h.seat;
     gave_is = h.performed ∙ ap (λ c. reverse (script room c later)) (sym took-all.1);

@@ -20,7 +20,7 @@ use Rattle.chorus_nucleus.specs.Closing.{IsClosed}
 use Rattle.chorus_crew.specs.declared.handler.Handled.{Handled}
 use Rattle.chorus_crew.specs.Crews.{AreHandled}
 use Rattle.law_emptied.specs.Crewed.{AreWithin, Sending, actor_on, bodies_to, port_on, script}
-use Rattle.law_takes.specs.Crewed.{IsSettledAt}
+use Rattle.law_crews.specs.Crewed.{IsSettledAt}
 
 -- the ports of so many sites, from this one on, each with the actor who takes from it
 abbrev pub pairs_from : ℕ → ℕ → List (Ui × Ui)

@@ -1,1 +1,4 @@
+pub mod Posted
+pub mod Crewed
+pub mod Positions
 pub mod Crews

@@ -1,9 +1,12 @@
-//! The law of what a crew counts at ports that were filled before it.
+//! The laws of what takes hand out through a running nucleus, and of what a crew counts.
 //!
-//! It joins the clauses of a crew with the laws of ports: at each port the crew handled the first messages that were sent
-//! to it, as many as find room, each once. The law speaks of the definitions alone and makes no call.
+//! What a take handed out was posted. Where one pass made ports and sent to them, and others took, the merge of the closed journals is
+//! what the first pass made and then what the others took. And at ports that were filled before it a crew handled the first messages
+//! that were sent to each, as many as find room, each once: that joins the clauses of a crew with the laws of ports. The laws speak of
+//! the definitions alone and make no call.
 //!
-//! Begin with `specs/Crews.antt`.
+//! Begin with `specs/Posted.antt`, `specs/Crewed.antt` and `specs/Crews.antt`.
 #![tactic(auto)]
 
 pub mod crews;
+pub mod takes;

@@ -1,3 +1,5 @@
+pub mod OwnIsAnswer
+pub mod Answered
 pub mod Saying
 pub mod Posts
 pub mod Posting

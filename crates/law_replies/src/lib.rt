@@ -1,4 +1,5 @@
-//! Laws of what callers are told: a reply is what happened, what is received was posted, and an outcome is true.
+//! Laws of what callers are told: a command is answered by the one act that answers it, a reply is what happened, what is received was
+//! posted, and an outcome is true.
 //!
 //! The machine's `reply` and `outcome` are definitions, to which the code is held exactly. The laws here say what they mean, in
 //! the entries that stand in the journals: in each network, for the merge of each schedule, and at any moment of places that run
@@ -8,5 +9,6 @@
 //! histories worked out, and what fails the laws.
 #![tactic(auto)]
 
+pub mod answers;
 pub mod outcomes;
 pub mod replies;

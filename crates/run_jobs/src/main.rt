@@ -1,15 +1,24 @@
 //! A queue of jobs that moves between two sites, while three clients send jobs from a third and two workers take them.
 //!
+//! The queue is a port, and a job is a message to it. Its promise (`specs/Promise.antt`): the jobs that were handed out are the first
+//! that the queue accepted, in the order in which it accepted them, each at most once, whoever held the queue and wherever it was; and
+//! each of them is in the hand of the worker that took it, and in no other. `running` runs it. `comers` says what clients and workers
+//! do; nothing in it is proved but that their calls may be made, since the promise is the library's, whatever they do.
+//!
 //! What it prints does not tell who was faster: how many jobs were accepted, how many were handed out, and whether the
 //! journal is lawful.
 #![tactic(auto)]
 
+mod comers;
+mod running;
+
 use chorus_checker::World;
 use chorus_entry::Act;
-use chorus_jobs::{Comer, Finished, Role, run_queue};
 use chorus_merge::merge;
 use chorus_sessions::Hand;
 use chorus_ui::{Kind, Layout, Ui};
+use comers::{Comer, Role};
+use running::{Finished, run_queue};
 use std::alloc::{AllocError, Global};
 use std::process::ExitCode;
 use std::sync::Wait;

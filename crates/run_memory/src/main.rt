@@ -3,8 +3,11 @@
 //! Standard input has cases, each ended by `%`: a line of words, and behind it what they read. Each is done by [`start_program`] between a
 //! source that holds that and a sink that takes one byte at a write. When the call has ended there come the line of [`ended`], the exit
 //! status, how many bytes the sink holds, and these bytes; where the line begins with `digest` and all was done, only the digest of
-//! them. So one stored run has words that run threads, words that are none, and two hundred drawn races, beside an explorer that was
-//! written anew from the rules and has no reduction (`scripts/explorer`).
+//! them. So one stored run has words that run threads, words that are none, a text that is refused, and two hundred drawn races, beside an
+//! explorer that was written anew from the rules and has no reduction (`scripts/explorer`).
+//!
+//! Behind the cases it is the program itself, where it was given words: these find standard input at its end. So the stored run, with
+//! `replay`, shows that of a process too which ends with a status that is not 0.
 //!
 //! Where there was no memory before a call, or what it left could not be printed, the exit status is another one, so that neither is taken
 //! for an end of the call. Behind a call nothing takes memory before the next case. `bench/fail_allocations --in-memory` gives one case,
@@ -18,9 +21,10 @@ use crate::digest::{digest_of, say_number};
 use chorus_io::{
     Failed, MemSink, MemSource, Sink, Source, StdSink, StdSource, read_all, write_all,
 };
-use chorus_program::{ended, start_program};
+use chorus_program::{ended, process, start_program};
 use chorus_show::Status;
 use std::alloc::Global;
+use std::env;
 use std::process::ExitCode;
 use std::sync::Wait;
 use std::thread::Threads;
@@ -40,7 +44,19 @@ struct Called {
 }
 
 fn main(rt: HostRuntime) -> ExitCode {
-    ExitCode::from(run(&rt, &rt))
+    let number = run(&rt, &rt);
+    if number == 0 && has_words(&rt) {
+        return process(&rt, &rt);
+    }
+    ExitCode::from(number)
+}
+
+/// Whether the process was given words.
+fn has_words(host: &HostRuntime) -> bool {
+    match env::args(host) {
+        Ok(mut words) => words.nth(1).is_some(),
+        Err(_) => false,
+    }
 }
 
 /// Does the cases of standard input. Gives the exit status. The runtime is given twice, since only `main` has its leave to start threads

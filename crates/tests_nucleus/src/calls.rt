@@ -3,7 +3,7 @@
 ghost use Rattle.std.specs.Prelude.{◌≡◌};
 ghost use Rattle.chorus_nucleus.specs.Passes.{IsPassOf};
 
-use crate::ground::{actor_of, close, enter, port_of, start};
+use crate::ground::{actor_of, close, enter, port_of, retire, start};
 use crate::rows::{Call, Told, first_group, play};
 use chorus_board::Located;
 use chorus_entry::{Answer, MsgId};
@@ -156,8 +156,8 @@ fn assert_all_calls<R: Wait + Abort>(rt: &R, alloc: Global, again: bool) {
     assert!(rt; one.seat() == 1 && two.seat() == 2 && pass.made() == 3);
     assert_no_actor(rt, &nucleus, &mut pass);
     play_both(rt, &nucleus, &mut one, &mut two, again);
-    nucleus.retire(one, &mut pass);
-    nucleus.retire(two, &mut pass);
+    retire(&nucleus, one, &mut pass);
+    retire(&nucleus, two, &mut pass);
     assert!(rt; pass.ended() == 2 && pass.worn().is_none());
     assert_two_are_left(rt, nucleus, pass, again);
 }
@@ -203,7 +203,7 @@ fn close_asks_for_all_passes(rt: HostRuntime) {
         (Call::Take, Told::Taken(0)),
     ];
     play(&rt, &nucleus, &mut pass, &rows, false);
-    nucleus.retire(second, &mut pass);
+    retire(&nucleus, second, &mut pass);
     close(&rt, nucleus, pass);
 }
 
@@ -220,7 +220,7 @@ fn a_packet_goes_on_behind_its_sender(rt: HostRuntime) {
         &[(Call::Send, posted(1, 1))],
         false,
     );
-    nucleus.retire(sender, &mut pass);
+    retire(&nucleus, sender, &mut pass);
     let rows = [
         (Call::Pump { place: 2 }, Told::Idle),
         (Call::Pump { place: 1 }, Told::Served(2)),
@@ -247,7 +247,7 @@ fn assert_reads<R: Wait + Abort>(
 {
     let mut pass = enter(rt, nucleus, keeper, 1, 1);
     play(rt, nucleus, &mut pass, &[(Call::Locate, told)], false);
-    nucleus.retire(pass, into);
+    retire(nucleus, pass, into);
 }
 
 /// Asserts that of 63 passes that come at site 1 the first 62 locate the port and the last does not.
@@ -291,7 +291,7 @@ fn locate_reads_the_board(rt: HostRuntime) {
     let there = [(Call::Locate, located(2, 1, 2))];
     play(&rt, &nucleus, &mut second, &there, false);
     assert_readers_end(&rt, &nucleus, &mut pass, &mut second);
-    nucleus.retire(second, &mut pass);
+    retire(&nucleus, second, &mut pass);
     assert!(rt; pass.readers(1) == 1 && pass.readers(2) == 64);
     let closed = close(&rt, nucleus, pass);
     assert!(rt; closed.rest.len() == 1);

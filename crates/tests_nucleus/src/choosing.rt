@@ -2,7 +2,7 @@
 
 ghost use Rattle.chorus_nucleus.specs.Passes.{IsPassOf};
 
-use crate::ground::{actor_of, close, insist, make, port_of, send, start};
+use crate::ground::{actor_of, close, insist, port_of, send, start_two_ports};
 use chorus_choose::{Chooser, EnableFault, NotEnabled, Received};
 use chorus_entry::{Act, Command};
 use chorus_net::Closed;
@@ -76,19 +76,17 @@ fn assert_all_given(
 }
 
 /// A nucleus of one site, on which the opening pass made two ports, and sent `a` to the first and `b` to the second.
-fn start_two_ports<R: Wait + Abort>(rt: &R, alloc: Global) -> (Nucleus, Pass)
+fn start_with_messages<R: Wait + Abort>(rt: &R, alloc: Global) -> (Nucleus, Pass)
     ensures { IsPassOf result.0 result.1 }
 {
-    let (nucleus, mut pass) = start(rt, alloc, 1, 1);
-    for (number, body) in [(1, b"a"), (2, b"b")] {
-        make(rt, &nucleus, &mut pass, actor_of(rt, 1, 1), 2);
-        send(rt, alloc, &nucleus, &mut pass, port_of(rt, 1, number), body);
-    }
+    let (nucleus, mut pass) = start_two_ports(rt, alloc);
+    send(rt, alloc, &nucleus, &mut pass, port_of(rt, 1, 1), b"a");
+    send(rt, alloc, &nucleus, &mut pass, port_of(rt, 1, 2), b"b");
     (nucleus, pass)
 }
 
 /// A chooser in which these ports of site 1 are enabled with these priorities.
-fn chooser_of(rt: &impl Abort, alloc: Global, enabled: &[(u64, u8)]) -> Chooser {
+pub(crate) fn chooser_of(rt: &impl Abort, alloc: Global, enabled: &[(u64, u8)]) -> Chooser {
     let mut chooser = Chooser::start(alloc).expect(rt, "memory");
     for (number, priority) in enabled {
         let told = chooser.enable(port_of(rt, 1, *number), *priority);
@@ -111,7 +109,7 @@ fn assert_journal(rt: &impl Abort, closed: &Closed, length: usize, index: usize,
 
 #[test]
 fn receive_by_priority(rt: HostRuntime) {
-    let (nucleus, mut pass) = start_two_ports(&rt, rt.alloc());
+    let (nucleus, mut pass) = start_with_messages(&rt, rt.alloc());
     let chooser = chooser_of(&rt, rt.alloc(), &[(1, 1), (2, 5)]);
     let wanted = [
         Given::Message {
@@ -132,17 +130,37 @@ fn receive_by_priority(rt: HostRuntime) {
     assert_journal(&rt, &closed, 11, 7, &act);
 }
 
+/// Enables the port with this number of site 1, and asserts what is told.
+fn assert_enables(
+    rt: &impl Abort,
+    chooser: &mut Chooser,
+    number: u64,
+    wanted: Result<(), EnableFault>,
+) {
+    assert!(rt; chooser.enable(port_of(rt, 1, number), 3) == wanted);
+}
+
+/// Disables it, and asserts what is told.
+fn assert_disables(
+    rt: &impl Abort,
+    chooser: &mut Chooser,
+    number: u64,
+    wanted: Result<(), NotEnabled>,
+) {
+    assert!(rt; chooser.disable(port_of(rt, 1, number)) == wanted);
+}
+
 #[test]
 fn enabling_is_refused(rt: HostRuntime) {
     let mut chooser = Chooser::start(rt.alloc()).expect(&rt, "memory");
     for number in 1..=32u64 {
-        assert!(&rt; chooser.enable(port_of(&rt, 1, number), 1) == Ok(()));
+        assert_enables(&rt, &mut chooser, number, Ok(()));
     }
-    assert!(&rt; chooser.enable(port_of(&rt, 1, 1), 3) == Err(EnableFault::There));
-    assert!(&rt; chooser.enable(port_of(&rt, 1, 33), 3) == Err(EnableFault::EnabledFull));
-    assert!(&rt; chooser.disable(port_of(&rt, 1, 33)) == Err(NotEnabled));
-    assert!(&rt; chooser.disable(port_of(&rt, 1, 1)) == Ok(()));
-    assert!(&rt; chooser.enable(port_of(&rt, 1, 33), 3) == Ok(()));
+    assert_enables(&rt, &mut chooser, 1, Err(EnableFault::There));
+    assert_enables(&rt, &mut chooser, 33, Err(EnableFault::EnabledFull));
+    assert_disables(&rt, &mut chooser, 33, Err(NotEnabled));
+    assert_disables(&rt, &mut chooser, 1, Ok(()));
+    assert_enables(&rt, &mut chooser, 33, Ok(()));
 }
 
 /// The pass moves both ports to another actor of their site.
@@ -159,7 +177,7 @@ fn move_both<R: Wait + Abort>(rt: &R, nucleus: &Nucleus, pass: &mut Pass)
 
 #[test]
 fn equal_priorities_and_ports_of_others(rt: HostRuntime) {
-    let (nucleus, mut pass) = start_two_ports(&rt, rt.alloc());
+    let (nucleus, mut pass) = start_with_messages(&rt, rt.alloc());
     let chooser = chooser_of(&rt, rt.alloc(), &[(2, 2), (1, 2)]);
     let first = Given::Message {
         number: 2,

@@ -3,7 +3,7 @@
 ghost use Rattle.std.specs.Prelude.{◌≤◌};
 ghost use Rattle.chorus_nucleus.specs.Passes.{IsPassOf};
 
-use crate::ground::{actor_of, assert_lawful, close, enter, make, port_of, send, start};
+use crate::ground::{actor_of, assert_lawful, close, enter, make, port_of, retire, send, start};
 use crate::handlers::{Counts, Meets};
 use chorus_crew::{CrewFault, Handled, Handler, are_pairs, crew};
 use chorus_entry::{Act, Entry};
@@ -64,7 +64,7 @@ fn fill_all<R: Wait + Abort>(
     for site in 1..=task.sites {
         let mut pass = enter(rt, nucleus, keeper, site, 1);
         fill(rt, alloc, nucleus, &mut pass, site, task, anew);
-        nucleus.retire(pass, keeper);
+        retire(nucleus, pass, keeper);
     }
 }
 

@@ -68,6 +68,15 @@ pub(crate) fn enter(
     pass
 }
 
+/// Ends the pass in another one.
+pub(crate) fn retire(nucleus: &Nucleus, pass: Pass, into: &mut Pass)
+    requires pass { IsPassOf nucleus.now pass }
+    requires into { IsPassOf nucleus.now into.old }
+    ensures { IsPassOf nucleus.now into.new }
+{
+    nucleus.retire(pass, into);
+}
+
 /// Gives the command until no other pass is in the way.
 pub(crate) fn insist<R: Wait + Abort>(
     rt: &R,
@@ -104,6 +113,17 @@ pub(crate) fn make<R: Wait + Abort>(
         Reply::Made(name) => name,
         _ => panic!(rt; "not made"),
     }
+}
+
+/// A nucleus of one site, on which the opening pass made two ports.
+pub(crate) fn start_two_ports<R: Wait + Abort>(rt: &R, alloc: Global) -> (Nucleus, Pass)
+    ensures { IsPassOf result.0 result.1 }
+{
+    let (nucleus, mut pass) = start(rt, alloc, 1, 1);
+    let actor = actor_of(rt, 1, 1);
+    make(rt, &nucleus, &mut pass, actor, 64);
+    make(rt, &nucleus, &mut pass, actor, 64);
+    (nucleus, pass)
 }
 
 /// The command that sends these bytes to the port.

@@ -5,7 +5,9 @@ ghost use Rattle.std.specs.Thread.{IsSync};
 ghost use Rattle.chorus_ui.specs.NameKind.{is_actor, is_port};
 ghost use Rattle.chorus_nucleus.specs.Passes.{IsPassOf};
 
-use crate::ground::{actor_of, assert_lawful, close, enter, insist, make, port_of, sending, start};
+use crate::ground::{
+    actor_of, assert_lawful, close, enter, insist, make, port_of, retire, sending, start,
+};
 use chorus_choose::{Chooser, Received};
 use chorus_entry::{Answer, Command, MsgId};
 use chorus_nucleus::{CallFault, Nucleus, Pass};
@@ -89,22 +91,48 @@ fn move_to<R: Wait + Abort>(rt: &R, nucleus: &Nucleus, pass: &mut Pass, port: Ui
     let _reply = insist(rt, nucleus, pass, &Command::Move { port, actor });
 }
 
+/// Whether the message was accepted. None where that is not known by now.
+fn verdict(rt: &impl Abort, nucleus: &Nucleus, pass: &mut Pass, id: MsgId) -> Option<bool>
+    requires { IsPassOf nucleus.now pass.old }
+    ensures { IsPassOf nucleus.now pass.new }
+{
+    match nucleus.outcome(pass, id) {
+        Ok(Outcome::Answer(Answer::Accepted { .. })) => Some(true),
+        Ok(Outcome::Answer(Answer::Stale { .. })) => None,
+        Ok(Outcome::Answer(_)) => Some(false),
+        Ok(Outcome::Pending) => None,
+        Ok(Outcome::Unknown) => panic!(rt; "unknown"),
+        Err(_) => None,
+    }
+}
+
 /// Whether the message was accepted, once that is known.
 fn is_accepted<R: Wait + Abort>(rt: &R, nucleus: &Nucleus, pass: &mut Pass, id: MsgId) -> bool
     requires { IsPassOf nucleus.now pass.old }
     ensures { IsPassOf nucleus.now pass.new }
 {
     for _ in rt.forever() {
-        match nucleus.outcome(pass, id) {
-            Ok(Outcome::Answer(Answer::Accepted { .. })) => return true,
-            Ok(Outcome::Answer(Answer::Stale { .. })) => pump_all(rt, nucleus, pass),
-            Ok(Outcome::Answer(_)) => return false,
-            Ok(Outcome::Pending) => pump_all(rt, nucleus, pass),
-            Ok(Outcome::Unknown) => panic!(rt; "unknown"),
-            Err(_) => thread::yield_now(),
+        match verdict(rt, nucleus, pass, id) {
+            Some(is_accepted) => return is_accepted,
+            None => pump_all(rt, nucleus, pass),
         }
     }
     unreachable!()
+}
+
+/// Gives the command, which sends a message, once. Whether that is accepted.
+fn is_sent<R: Wait + Abort>(rt: &R, nucleus: &Nucleus, pass: &mut Pass, command: &Command) -> bool
+    requires { IsPassOf nucleus.now pass.old }
+    ensures { IsPassOf nucleus.now pass.new }
+{
+    match insist(rt, nucleus, pass, command) {
+        Reply::Accepted { .. } => true,
+        Reply::Posted(id) => is_accepted(rt, nucleus, pass, id),
+        _ => {
+            pump_all(rt, nucleus, pass);
+            false
+        }
+    }
 }
 
 /// Sends the number to the port until it is accepted.
@@ -122,14 +150,8 @@ fn send_number<R: Wait + Abort>(
     let bytes = [(number / 256 % 256) as u8, (number % 256) as u8];
     let command = sending(rt, alloc, port, bytes.as_slice());
     for _ in rt.forever() {
-        match insist(rt, nucleus, pass, &command) {
-            Reply::Accepted { .. } => return,
-            Reply::Posted(id) => {
-                if is_accepted(rt, nucleus, pass, id) {
-                    return;
-                }
-            }
-            _ => pump_all(rt, nucleus, pass),
+        if is_sent(rt, nucleus, pass, &command) {
+            return;
         }
     }
 }
@@ -171,6 +193,30 @@ fn number_in(rt: &impl Abort, body: &[u8]) -> u64 {
     u64::from(body[0]) * 256 + u64::from(body[1])
 }
 
+/// What a receive came to.
+#[derive(Clone, Copy)]
+enum Came {
+    /// A message that says this number.
+    Number(u64),
+    /// No port has one.
+    Nothing,
+    /// Another pass is in the way.
+    Busy,
+}
+
+/// Receives on all ports, once.
+fn came(rt: &impl Abort, nucleus: &Nucleus, pass: &mut Pass, chooser: &Chooser) -> Came
+    requires { IsPassOf nucleus.now pass.old }
+    ensures { IsPassOf nucleus.now pass.new }
+{
+    match chooser.receive(nucleus, pass) {
+        Ok(Received::Taken { message, .. }) => Came::Number(number_in(rt, message.body.bytes())),
+        Ok(Received::Empty { .. }) => Came::Nothing,
+        Err(CallFault::Busy { .. }) => Came::Busy,
+        Err(_) => panic!(rt; "stopped"),
+    }
+}
+
 /// Receives all messages. Where no port has one it sends a port away, to one of the other sites in turn.
 fn receive_all<R: Wait + Abort>(
     rt: &R,
@@ -188,20 +234,18 @@ fn receive_all<R: Wait + Abort>(
             meeting.over.store(true, Ordering::SeqCst);
             return pass;
         }
-        match meeting.chooser.receive(nucleus, &mut pass) {
-            Ok(Received::Taken { message, .. }) => {
+        match came(rt, nucleus, &mut pass, &meeting.chooser) {
+            Came::Number(number) => {
                 count = count.saturating_add(1);
-                let number = number_in(rt, message.body.bytes());
                 meeting.sum.fetch_add(number, Ordering::SeqCst);
             }
-            Ok(Received::Empty { .. }) => {
+            Came::Nothing => {
                 let port = port_at(rt, meeting.turns, away % PORTS);
                 move_to(rt, nucleus, &mut pass, port, (2 + away % 3) as u16);
                 pump_all(rt, nucleus, &mut pass);
                 away = away.wrapping_add(1);
             }
-            Err(CallFault::Busy { .. }) => thread::yield_now(),
-            Err(_) => panic!(rt; "stopped"),
+            Came::Busy => thread::yield_now(),
         }
     }
     unreachable!()
@@ -336,8 +380,8 @@ fn retire_two(nucleus: &Nucleus, two: (Pass, Pass), keeper: &mut Pass)
     ensures { IsPassOf nucleus.now keeper.new }
 {
     let (first, second) = two;
-    nucleus.retire(first, keeper);
-    nucleus.retire(second, keeper);
+    retire(nucleus, first, keeper);
+    retire(nucleus, second, keeper);
 }
 
 /// The callers of all four sites meet.

@@ -102,6 +102,42 @@ fn replied(told: Result<Reply, CallFault>) -> Told {
     }
 }
 
+/// Makes a port or a group, or changes who is in the group.
+fn make_or_join(
+    rt: &impl Abort,
+    nucleus: &Nucleus,
+    pass: &mut Pass,
+    call: Call,
+) -> Result<Reply, CallFault>
+    requires { IsPassOf nucleus.now pass.old }
+    ensures { IsPassOf nucleus.now pass.new }
+{
+    let own = port_of(rt, 1, 1);
+    match call {
+        Call::MakePort { site } => nucleus.make_port(pass, actor_of(rt, site, 1), 2),
+        Call::MakeGroup => nucleus.make_group(pass, 1),
+        Call::Join => nucleus.join(pass, first_group(rt), own),
+        Call::Leave => nucleus.leave(pass, first_group(rt), own),
+        _ => panic!(rt; "no command"),
+    }
+}
+
+/// Posts a message.
+fn post(rt: &impl Abort, nucleus: &Nucleus, pass: &mut Pass, call: Call) -> Result<Reply, CallFault>
+    requires { IsPassOf nucleus.now pass.old }
+    ensures { IsPassOf nucleus.now pass.new }
+{
+    let own = port_of(rt, 1, 1);
+    assert!(rt; pass.posts() < u32::MAX);
+    match call {
+        Call::Send => nucleus.send(pass, Dest::Port(own), b"a"),
+        Call::Ask => nucleus.call(pass, own, port_of(rt, 2, 1), b"q"),
+        Call::Retry => nucleus.retry(pass),
+        Call::Reply => nucleus.reply(pass, b"r"),
+        _ => panic!(rt; "no command"),
+    }
+}
+
 /// Gives a command.
 fn command(
     rt: &impl Abort,
@@ -113,20 +149,23 @@ fn command(
     ensures { IsPassOf nucleus.now pass.new }
 {
     let own = port_of(rt, 1, 1);
-    assert!(rt; pass.posts() < u32::MAX);
     match call {
-        Call::MakePort { site } => nucleus.make_port(pass, actor_of(rt, site, 1), 2),
-        Call::MakeGroup => nucleus.make_group(pass, 1),
-        Call::Join => nucleus.join(pass, first_group(rt), own),
-        Call::Leave => nucleus.leave(pass, first_group(rt), own),
-        Call::Send => nucleus.send(pass, Dest::Port(own), b"a"),
-        Call::Ask => nucleus.call(pass, own, port_of(rt, 2, 1), b"q"),
-        Call::Retry => nucleus.retry(pass),
+        Call::Send | Call::Ask | Call::Retry | Call::Reply => post(rt, nucleus, pass, call),
         Call::Cancel => nucleus.cancel(pass),
-        Call::Reply => nucleus.reply(pass, b"r"),
         Call::Take => nucleus.take(pass, own),
         Call::Move { site, number } => nucleus.move_port(pass, own, actor_of(rt, site, number)),
-        _ => panic!(rt; "no command"),
+        _ => make_or_join(rt, nucleus, pass, call),
+    }
+}
+
+/// Asks what became of the message.
+fn outcome(nucleus: &Nucleus, pass: &mut Pass, id: MsgId) -> Told
+    requires { IsPassOf nucleus.now pass.old }
+    ensures { IsPassOf nucleus.now pass.new }
+{
+    match nucleus.outcome(pass, id) {
+        Ok(outcome) => Told::Outcome(outcome),
+        Err(why) => fault(why),
     }
 }
 
@@ -174,10 +213,7 @@ fn tell<R: Wait + Abort>(rt: &R, nucleus: &Nucleus, pass: &mut Pass, call: Call)
     ensures { IsPassOf nucleus.now pass.new }
 {
     match call {
-        Call::Outcome(id) => match nucleus.outcome(pass, id) {
-            Ok(outcome) => Told::Outcome(outcome),
-            Err(why) => fault(why),
-        },
+        Call::Outcome(id) => outcome(nucleus, pass, id),
         Call::Pump { place } => pump(rt, nucleus, pass, place),
         Call::Publish { place } => publish(rt, nucleus, pass, place),
         Call::Locate => locate(rt, nucleus, pass),

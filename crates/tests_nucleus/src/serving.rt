@@ -3,7 +3,8 @@
 ghost use Rattle.std.specs.Prelude.{◌≡◌, true};
 ghost use Rattle.chorus_nucleus.specs.Passes.{IsPassOf};
 
-use crate::ground::{actor_of, close, enter, make, port_of, send, start};
+use crate::choosing::chooser_of;
+use crate::ground::{close, enter, port_of, retire, send, start_two_ports};
 use chorus_choose::{Chooser, Ringer, Waiter, bell};
 use chorus_nucleus::{CallFault, Nucleus, Pass};
 use chorus_ui::Ui;
@@ -41,25 +42,9 @@ fn serve<R: Wait>(
     unreachable!()
 }
 
-/// A nucleus of one site, on which the opening pass made two ports.
-fn start_two_ports<R: Wait + Abort>(rt: &R, alloc: Global) -> (Nucleus, Pass)
-    ensures { IsPassOf result.0 result.1 }
-{
-    let (nucleus, mut pass) = start(rt, alloc, 1, 1);
-    for _ in 0..2 {
-        make(rt, &nucleus, &mut pass, actor_of(rt, 1, 1), 64);
-    }
-    (nucleus, pass)
-}
-
 /// A chooser in which the first port of site 1 is plain, and the second urgent.
 fn chooser_of_two(rt: &impl Abort, alloc: Global) -> Chooser {
-    let mut chooser = Chooser::start(alloc).expect(rt, "memory");
-    for (number, priority) in [(1, 1), (2, 9)] {
-        let told = chooser.enable(port_of(rt, 1, number), priority);
-        assert!(rt; told == Ok(()));
-    }
-    chooser
+    chooser_of(rt, alloc, &[(1, 1), (2, 9)])
 }
 
 /// What waits in the urgent port is served before the `stop` of the other.
@@ -159,8 +144,8 @@ fn assert_all_served<R: Threads + Wait + Abort + Sync>(rt: &R, alloc: Global, co
         (ringer, waiter),
         count,
     );
-    nucleus.retire(sender, &mut keeper);
-    nucleus.retire(server, &mut keeper);
+    retire(&nucleus, sender, &mut keeper);
+    retire(&nucleus, server, &mut keeper);
     let _closed = close(rt, nucleus, keeper);
 }
 

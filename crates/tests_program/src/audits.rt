@@ -32,7 +32,7 @@ fn audit_of_real_outputs(rt: HostRuntime) {
     }
 }
 
-/// `tests_picture` has what stands in a picture.
+/// `tests_audit` has what stands in a picture.
 #[test]
 fn a_real_output_is_drawn(rt: HostRuntime) {
     let moved = RETRY_ACROSS_A_MOVE_IS_ACCEPTED_ONCE.printed;

@@ -40,7 +40,7 @@ pub(crate) fn source_of(
 }
 
 /// An empty sink that takes so many bytes at a write. `failing` lists the writes that fail.
-fn sink_of(
+pub(crate) fn sink_of(
     rt: &(impl Abort + Threads + Wait + Sync),
     alloc: Global,
     most: usize,
@@ -93,6 +93,18 @@ pub(crate) fn run_on(
 ) -> Run {
     let mut source = source_of(rt, alloc, input, &[]);
     run_over(rt, alloc, words, &mut source, 64, &[])
+}
+
+/// Asserts that the run did all.
+pub(crate) fn assert_done(rt: &(impl Abort + Threads + Wait + Sync), run: &Run, of: &str) {
+    assert_same(rt, run.status, Status::Done, of);
+}
+
+/// What the word `explore` tells of the scenario.
+pub(crate) fn told(rt: &(impl Abort + Threads + Wait + Sync), alloc: Global, text: &str) -> String {
+    let run = run_on(rt, alloc, &["explore"], text);
+    assert_done(rt, &run, text);
+    run.written
 }
 
 /// Asserts that for these words and this input the program does all, and writes this.

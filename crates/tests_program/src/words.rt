@@ -81,32 +81,53 @@ fn assert_runs(rt: &(impl Abort + Threads + Wait + Sync), alloc: Global) {
     }
 }
 
-#[test]
-fn the_list_and_nothing_else(rt: HostRuntime) {
-    let alloc = rt.alloc();
-    let most = "18446744073709551615";
-    assert_first(&rt, alloc, "0", 0);
-    assert_first(&rt, alloc, "7", 7);
-    assert_first(&rt, alloc, most, u64::MAX);
-    assert_reads(&rt, alloc, &["replay"], Some(Words::Replay));
+/// The greatest number of a first draw.
+const MOST: &str = "18446744073709551615";
+
+/// Asserts how one word is read, and a word with a number.
+fn assert_short_words(rt: &(impl Abort + Threads + Wait + Sync), alloc: Global) {
+    for (word, asked) in [("replay", Words::Replay), ("explore", Words::Explore)] {
+        assert_reads(rt, alloc, &[word], Some(asked));
+    }
     let lossy = Words::Lossy { first: u64::MAX };
-    assert_reads(&rt, alloc, &["lossy", most], Some(lossy));
+    let explore = Words::ExploreMost { most: u32::MAX };
+    for (word, number, asked) in [
+        ("lossy", MOST, Some(lossy)),
+        ("explore", "4294967295", Some(explore)),
+        ("explore", "4294967296", None),
+    ] {
+        assert_reads(rt, alloc, &[word, number], asked);
+    }
+}
+
+/// Asserts how `crew` and `picture` are read.
+fn assert_long_words(rt: &(impl Abort + Threads + Wait + Sync), alloc: Global) {
     let crew = Words::Crew {
         first: u64::MAX,
         commands: 65_536,
     };
-    assert_reads(&rt, alloc, &["crew", most, "65536"], Some(crew));
     let picture = Words::Picture {
         sites: 16,
         turns: 4,
     };
-    assert_reads(&rt, alloc, &["picture", "16", "4"], Some(picture));
-    assert_reads(&rt, alloc, &["picture", "17", "1"], None);
-    assert_reads(&rt, alloc, &["picture", "16", "3"], None);
-    assert_reads(&rt, alloc, &["explore"], Some(Words::Explore));
-    let explore = Words::ExploreMost { most: u32::MAX };
-    assert_reads(&rt, alloc, &["explore", "4294967295"], Some(explore));
-    assert_reads(&rt, alloc, &["explore", "4294967296"], None);
+    for (word, first, second, asked) in [
+        ("crew", MOST, "65536", Some(crew)),
+        ("picture", "16", "4", Some(picture)),
+        ("picture", "17", "1", None),
+        ("picture", "16", "3", None),
+    ] {
+        assert_reads(rt, alloc, &[word, first, second], asked);
+    }
+}
+
+#[test]
+fn the_list_and_nothing_else(rt: HostRuntime) {
+    let alloc = rt.alloc();
+    for (text, first) in [("0", 0), ("7", 7), (MOST, u64::MAX)] {
+        assert_first(&rt, alloc, text, first);
+    }
+    assert_short_words(&rt, alloc);
+    assert_long_words(&rt, alloc);
     assert_no_numbers(&rt, alloc);
     assert_reads(&rt, alloc, &["load", "7", "65537"], None);
     assert_runs(&rt, alloc);
@@ -165,8 +186,10 @@ fn words_of_the_program(rt: HostRuntime) {
     let alloc = rt.alloc();
     assert_no_words(&rt, alloc);
     assert_refused(&rt, alloc);
-    assert_prints(&rt, alloc, &["lossy", "7"], "", "\nwire 0 0\n");
-    assert_prints(&rt, alloc, &["lossy", "7"], "hello", "hello\nwire 1 0\n");
-    assert_prints(&rt, alloc, &["load", "7", "0"], "", LOADS_NOTHING);
-    assert_prints(&rt, alloc, &["load", "7", "1"], "", LOADS_ONE_COMMAND);
+    for (input, printed) in [("", "\nwire 0 0\n"), ("hello", "hello\nwire 1 0\n")] {
+        assert_prints(&rt, alloc, &["lossy", "7"], input, printed);
+    }
+    for (commands, printed) in [("0", LOADS_NOTHING), ("1", LOADS_ONE_COMMAND)] {
+        assert_prints(&rt, alloc, &["load", "7", commands], "", printed);
+    }
 }

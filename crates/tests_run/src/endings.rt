@@ -18,21 +18,28 @@ fn assert_long_body_is_refused(rt: &impl Abort, alloc: Global) {
 #[test]
 fn limits_are_refused_with_line_and_reason(rt: HostRuntime) {
     assert_long_body_is_refused(&rt, rt.alloc());
-    let none = "chorus 1\nsites 1\nport 1.p.1 1.a.1 0\nschedule\nend";
-    assert_refused(&rt, rt.alloc(), none, 3, 6);
-    let many = "chorus 1\nsites 1\nport 1.p.1 1.a.1 65\nschedule\nend";
-    assert_refused(&rt, rt.alloc(), many, 3, 6);
+    for text in [
+        "chorus 1\nsites 1\nport 1.p.1 1.a.1 0\nschedule\nend",
+        "chorus 1\nsites 1\nport 1.p.1 1.a.1 65\nschedule\nend",
+    ] {
+        assert_refused(&rt, rt.alloc(), text, 3, 6);
+    }
 }
 
 #[test]
 fn unfinished_and_unknown_texts(rt: HostRuntime) {
-    let unfinished = "chorus 1\nsites 1\nschedule\n";
-    assert_refused(&rt, rt.alloc(), unfinished, 4, 9);
-    let no_site = "chorus 1\nsites 2\nscript 3.a.1\nschedule\nend";
-    assert_refused(&rt, rt.alloc(), no_site, 3, 4);
-    let no_step = "chorus 1\nsites 1\nscript 1.a.1\nschedule\nstep 1\nend";
-    assert_refused(&rt, rt.alloc(), no_step, 5, 10);
-    assert_refused(&rt, rt.alloc(), "", 1, 9);
+    for (text, line, reason) in [
+        ("chorus 1\nsites 1\nschedule\n", 4, 9),
+        ("chorus 1\nsites 2\nscript 3.a.1\nschedule\nend", 3, 4),
+        (
+            "chorus 1\nsites 1\nscript 1.a.1\nschedule\nstep 1\nend",
+            5,
+            10,
+        ),
+        ("", 1, 9),
+    ] {
+        assert_refused(&rt, rt.alloc(), text, line, reason);
+    }
 }
 
 /// Asserts that a text of so many empty lines is refused with this line and reason.

@@ -224,12 +224,6 @@ move 1 1.p.2 2.a.1
 drain
 ";
 
-#[test]
-fn two_turns_per_site(rt: HostRuntime) {
-    assert_leaves(&rt, rt.alloc(), POSTS, &tests_rows::TWO_TURNS_PER_SITE);
-    assert_leaves(&rt, rt.alloc(), MOVES, &tests_rows::TWO_TURNS_AND_A_MOVE);
-}
-
 /// Asserts that sites on which these calls were made leave what they leave, and then what the others leave, as new ones
 /// do.
 fn assert_starts_again(rt: &impl Abort, alloc: Global, first: (&str, &str), then: (&str, &str)) {
@@ -259,18 +253,22 @@ fn assert_waits(rt: &impl Abort, sites: &mut Sites, idle: (bool, bool), waits: (
     assert!(rt; sites.waits(2, 1) == waits.1);
 }
 
+/// Calls, and what waits behind them.
+const WAITING: [(&str, (bool, bool), (bool, bool)); 4] = [
+    ("make 0 2.a.1 4\nenter 1.a.1", (true, true), (false, false)),
+    ("send 1 2.p.1 x", (false, true), (true, false)),
+    ("deliver 1 2", (true, false), (false, true)),
+    ("drain", (true, true), (false, false)),
+];
+
 #[test]
 fn packets_wait(rt: HostRuntime) {
     let alloc = rt.alloc();
     let mut sites = started(&rt, alloc, 2, 1);
-    perform_all(&rt, alloc, &mut sites, "make 0 2.a.1 4\nenter 1.a.1");
-    assert_waits(&rt, &mut sites, (true, true), (false, false));
-    perform_all(&rt, alloc, &mut sites, "send 1 2.p.1 x");
-    assert_waits(&rt, &mut sites, (false, true), (true, false));
-    perform_all(&rt, alloc, &mut sites, "deliver 1 2");
-    assert_waits(&rt, &mut sites, (true, false), (false, true));
-    perform_all(&rt, alloc, &mut sites, "drain");
-    assert_waits(&rt, &mut sites, (true, true), (false, false));
+    for (calls, idle, waits) in WAITING {
+        perform_all(&rt, alloc, &mut sites, calls);
+        assert_waits(&rt, &mut sites, idle, waits);
+    }
 }
 
 const DISCARD: &str = "\

@@ -1,5 +1,5 @@
 use Rattle.std.proofs.Common.{ap, arith}
-use Rattle.law_schedule.specs.Shown.{race_of}
+use Rattle.law_replay.specs.Shown.{race_of}
 use Rattle.explore_facts.specs.Facts.{outcome_lines}
 use Rattle.chorus_explore.specs.Stages.{comes}
 use Rattle.chorus_explore.proofs.Explaining.{explains-some, explains-all}

@@ -1,6 +1,6 @@
 use Rattle.std.proofs.Common.{◌∙◌, ap, reverse, get_or}
 use Rattle.law_explore.specs.declared.moves.Move.TheVariants.{Go}
-use Rattle.law_schedule.specs.Shown.{race_of}
+use Rattle.law_replay.specs.Shown.{race_of}
 use Rattle.chorus_explore.specs.Stages.{may_go}
 use Rattle.chorus_explore.proofs.Going.{may-next}
 use Rattle.chorus_explore.proofs.exploring.again.Goals as goal

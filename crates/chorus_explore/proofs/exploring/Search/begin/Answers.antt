@@ -1,6 +1,6 @@
 use Rattle.std.proofs.Common.{◌≡◌, false, None, [], map, reverse, refl, ◌∙◌, ap}
 use Rattle.law_explore.specs.Races.{next_moves}
-use Rattle.law_schedule.specs.Shown.{race_of}
+use Rattle.law_replay.specs.Shown.{race_of}
 use Rattle.chorus_explore.specs.declared.exploring.Search.{Search}
 use Rattle.chorus_explore.specs.Levels.{no_candidate}
 use Rattle.chorus_explore.specs.Stages.{candidate_behind, moves_of, position}

@@ -1,7 +1,7 @@
 use Rattle.std.proofs.Common.{◌≡◌, ◌-◌, ◌∷◌, Some, slice_get, length, map, drop, reverse, sym, ◌∙◌, ap, subst}
 use Rattle.std.specs.Option.{option_copied}
 use Rattle.law_explore.specs.Races.{next_moves}
-use Rattle.law_schedule.specs.Shown.{race_of}
+use Rattle.law_replay.specs.Shown.{race_of}
 use Rattle.chorus_explore.specs.Candidates.{candidates_at}
 use Rattle.chorus_explore.specs.Searches.{IsBehind}
 use Rattle.chorus_explore.specs.Stages.{candidate_behind, moves_of, position}

@@ -1,5 +1,5 @@
 use Rattle.std.proofs.Common.{◌≡◌, ◌+◌, ◌++◌, ◌∷◌, [], true, Ok, reverse, sym, ◌∙◌, ap, subst, arith}
-use Rattle.law_schedule.specs.Shown.{race_of}
+use Rattle.law_replay.specs.Shown.{race_of}
 use Rattle.explore_report.specs.declared.explored.Explored.{Explored}
 use Rattle.chorus_explore.specs.declared.exploring.Search.{Search}
 use Rattle.chorus_explore.specs.Candidates.{candidates_at}

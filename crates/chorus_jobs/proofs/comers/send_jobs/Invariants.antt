@@ -1,5 +1,0 @@
-use Rattle.chorus_sessions.specs.Sessions.{IsSession}
-use Rattle.chorus_jobs.proofs.comers.send_jobs.Given as goal
-
-abbrev pub invariant-loop-number : goal.invariant-loop-number
-invariant-loop-number g l = IsSession l.nucleus l.session

@@ -1,3 +1,0 @@
-pub mod OwnIsAnswer
-pub mod Answered
-mod Examples

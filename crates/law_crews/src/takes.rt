@@ -1,0 +1,27 @@
+//! What takes hand out. The laws speak of the definitions alone and make no call.
+
+ghost use Rattle.law_crews.specs.Crewed.{ClosedMergesAsCrewed};
+ghost use Rattle.law_crews.specs.Positions.{LegalTakesCountUp};
+ghost use Rattle.law_crews.specs.Posted.{MessagesTakenWerePosted};
+
+/// A message that a take handed out has the id, the tag and the body that were posted, as the journals of the closed
+/// nucleus, merged, tell; a copy has those of the post of which it is a copy. So what is added up over the messages
+/// taken is a sum over posted bodies.
+pub fn a_message_taken_was_posted()
+    ensures { MessagesTakenWerePosted }
+{}
+
+/// Where the closing pass, that of seat 0, made a port on each of the first sites and sent messages to them, with nothing
+/// left at its end, and each pass in its notes took at one of these ports alone, above the clock that seat 0 had, the
+/// merge of the journals is what seat 0 made and then what the others took, and each message is settled in it.
+pub fn what_was_sent_comes_before_what_was_taken()
+    ensures { ClosedMergesAsCrewed }
+{}
+
+/// The takes of a port, whoever made them, stand in acceptance order, in the merge of closed journals as in every legal
+/// list: their positions are 0, 1, 2 and so on, and their messages the first that the port accepted, each of which stands
+/// once there (`accepted_message_has_one_fate` of `chorus_world`). So the takes of one seat have positions that follow one
+/// another wherever no other seat takes between them.
+pub fn takes_count_up()
+    ensures { LegalTakesCountUp }
+{}

@@ -1,0 +1,13 @@
+pub mod Places
+pub mod Pasts
+pub mod Packets
+pub mod Nets
+pub mod Schedules
+pub mod Merges
+pub mod Carrying
+pub mod Reading
+pub mod Tasks
+pub mod Wearing
+pub mod Stays
+pub mod Steps
+pub mod Shown

@@ -1,4 +1,0 @@
-pub mod Posted
-pub mod Silent
-pub mod Crewed
-pub mod Positions

@@ -1,3 +1,0 @@
-pub mod Posted
-pub mod Crewed
-pub mod Positions

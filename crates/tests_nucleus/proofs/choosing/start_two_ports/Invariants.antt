@@ -1,5 +1,0 @@
-use Rattle.chorus_nucleus.specs.Passes.{IsPassOf}
-use Rattle.tests_nucleus.proofs.choosing.start_two_ports.Given as goal
-
-abbrev pub invariant-loop-number : goal.invariant-loop-number
-invariant-loop-number g l = IsPassOf l.nucleus l.pass

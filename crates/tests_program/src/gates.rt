@@ -1,0 +1,123 @@
+//! Two scripts that wait for each other: their threads run at the same time.
+//!
+//! The contract of `run` is long, so it is called in one function, which is generic in its source and sink.
+
+ghost use Rattle.chorus_nucleus.specs.Passes.{IsPassOf};
+ghost use Rattle.chorus_perform.specs.Scripts.{IsOpening};
+
+use crate::running::{assert_same, sink_of, source_of};
+use chorus_io::{Sink, Source};
+use chorus_nucleus::{Nucleus, Pass};
+use chorus_run::{Gate, run};
+use chorus_show::Status;
+use chorus_ui::Layout;
+use std::alloc::Global;
+use std::process::Abort;
+use std::sync::Wait;
+use std::sync::atomic::{AtomicBool, AtomicU32, Ordering};
+use std::thread::{self, Threads};
+
+/// How often a script looks whether the other has come, at most.
+const LOOKS: u32 = 1_000_000_000;
+
+/// Holds the first script until the second was about to perform its second command, and that one until the first was.
+#[derive(Drop)]
+struct Meeting {
+    first_came: AtomicBool,
+    second_came: AtomicBool,
+    missed: AtomicU32,
+}
+
+impl Meeting {
+    fn hold(&self, until: &AtomicBool) {
+        for _ in 0..LOOKS {
+            if until.load(Ordering::SeqCst) {
+                return;
+            }
+            thread::yield_now();
+        }
+        self.missed.fetch_add(1, Ordering::SeqCst);
+    }
+}
+
+impl Gate for Meeting {
+    fn pass(&self, script: u32, step: u32) {
+        match (script, step) {
+            (1, 0) => self.hold(&self.second_came),
+            (2, 1) => {
+                self.second_came.store(true, Ordering::SeqCst);
+                self.hold(&self.first_came);
+            }
+            (1, 1) => self.first_came.store(true, Ordering::SeqCst),
+            _ => {}
+        }
+    }
+}
+
+const TWO_SENDERS: &str = "\
+chorus 1
+sites 2
+port 1.p.1 1.a.1 4
+port 2.p.1 2.a.1 4
+script 1.a.1
+send 2.p.1 =a
+send 2.p.1 =b
+script 2.a.1
+send 1.p.1 =c
+send 1.p.1 =d
+schedule
+end
+";
+
+/// A nucleus of 16 sites with one place each, and its opening pass.
+fn started<R: Abort + Threads + Wait + Sync>(rt: &R, alloc: Global) -> (Nucleus, Pass)
+    ensures pass { IsPassOf result.0 result.1 }
+    ensures opening { IsOpening result.1 }
+{
+    let layout = Layout::new(16, 1).expect(rt, "a layout");
+    let Ok((nucleus, pass)) = Nucleus::start(alloc, rt, layout) else {
+        panic!(rt; "memory")
+    };
+    (nucleus, pass)
+}
+
+/// Performs what the source gives on such a nucleus. Gives how that ended, and whether it handed out what it closed.
+fn run_on<R: Abort + Threads + Wait + Sync, S: Source, K: Sink, G: Gate>(
+    rt: &R,
+    alloc: Global,
+    source: &mut S,
+    sink: &mut K,
+    gate: &G,
+) -> (Status, bool) {
+    let (nucleus, pass) = started(rt, alloc);
+    let finished = run(alloc, rt, source, sink, nucleus, pass, gate);
+    (finished.status, finished.closed.is_some())
+}
+
+fn assert_performed<R: Abort + Threads + Wait + Sync, G: Gate>(
+    rt: &R,
+    alloc: Global,
+    text: &str,
+    gate: &G,
+) {
+    let mut source = source_of(rt, alloc, text, &[]);
+    let mut sink = sink_of(rt, alloc, 4096, &[]);
+    let (status, closed) = run_on(rt, alloc, &mut source, &mut sink, gate);
+    assert_same(rt, status, Status::Done, text);
+    assert!(rt; closed);
+}
+
+fn assert_meets<R: Abort + Threads + Wait + Sync>(rt: &R, alloc: Global) {
+    let gate = Meeting {
+        first_came: AtomicBool::new(false),
+        second_came: AtomicBool::new(false),
+        missed: AtomicU32::new(0),
+    };
+    assert_performed(rt, alloc, TWO_SENDERS, &gate);
+    assert_eq!(rt; gate.missed.load(Ordering::SeqCst), 0);
+}
+
+#[test]
+fn row_gate(rt: HostRuntime) {
+    assert_meets(&rt, rt.alloc());
+}

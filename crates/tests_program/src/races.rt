@@ -1,0 +1,273 @@
+//! What the word `explore` tells of three races, whole.
+
+use crate::running::{assert_same, told};
+
+const FULL_PORT: &str =
+    "chorus 2\nsites 2\nport 1.p.1 1.a.1 1\nscript 1.a.1\nsend 1.p.1 =near\nscript 2.a.1\nsend 1.p.1 =far\nschedule\nend\n";
+
+const FULL_PORT_TOLD: &str = "\
+histories 2
+events 9
+all
+facts 8
+1 answer 1 1 post 1:1:0 port 1.p.1 plain =near
+1 answer 2 1 post 2:1:0 port 1.p.1 plain =far
+1 verdict 1:1:0 accepted
+2 verdict 1:1:0 full 1
+1 verdict 2:1:0 full 1
+2 verdict 2:1:0 accepted
+1 port 1.p.1 1.a.1 1:1:0
+2 port 1.p.1 1.a.1 2:1:0
+outcomes 2
+outcome 1
+histories 1
+answer 1 1 post 1:1:0 port 1.p.1 plain =near
+answer 2 1 post 2:1:0 port 1.p.1 plain =far
+verdict 1:1:0 accepted
+verdict 2:1:0 full 1
+port 1.p.1 1.a.1 1:1:0
+outcome 2
+histories 1
+answer 1 1 post 1:1:0 port 1.p.1 plain =near
+answer 2 1 post 2:1:0 port 1.p.1 plain =far
+verdict 1:1:0 full 1
+verdict 2:1:0 accepted
+port 1.p.1 1.a.1 2:1:0
+schedule 1
+step 1
+step 2
+deliver 2 1
+deliver 1 2
+schedule 2
+step 2
+deliver 2 1
+step 1
+deliver 1 2
+end
+";
+
+const MOVE: &str =
+    "chorus 2\nsites 2\nport 1.p.1 1.a.1 1\nscript 2.a.1\nsend 1.p.1 =one\nscript 1.a.1\nmove 1.p.1 2.a.1\nscript 2.a.1\ntake 1.p.1\nschedule\nend\n";
+
+const MOVE_TOLD: &str = "\
+histories 11
+events 51
+all
+facts 9
+1 answer 1 1 post 1:1:0 port 1.p.1 plain =one
+1 answer 2 1 depart 1.p.1 2 2.a.1
+1 answer 3 1 not-here 1.p.1
+2 answer 3 1 empty 1.p.1
+3 answer 3 1 take 1.p.1 1:1:0
+1 verdict 1:1:0 accepted
+1 stale 1:1:0
+1 port 1.p.1 2.a.1 1:1:0
+3 port 1.p.1 2.a.1
+outcomes 6
+outcome 1
+histories 2
+answer 1 1 post 1:1:0 port 1.p.1 plain =one
+answer 2 1 depart 1.p.1 2 2.a.1
+answer 3 1 not-here 1.p.1
+verdict 1:1:0 accepted
+stale 1:1:0
+port 1.p.1 2.a.1 1:1:0
+outcome 2
+histories 1
+answer 1 1 post 1:1:0 port 1.p.1 plain =one
+answer 2 1 depart 1.p.1 2 2.a.1
+answer 3 1 empty 1.p.1
+verdict 1:1:0 accepted
+stale 1:1:0
+port 1.p.1 2.a.1 1:1:0
+outcome 3
+histories 1
+answer 1 1 post 1:1:0 port 1.p.1 plain =one
+answer 2 1 depart 1.p.1 2 2.a.1
+answer 3 1 take 1.p.1 1:1:0
+verdict 1:1:0 accepted
+stale 1:1:0
+port 1.p.1 2.a.1
+outcome 4
+histories 4
+answer 1 1 post 1:1:0 port 1.p.1 plain =one
+answer 2 1 depart 1.p.1 2 2.a.1
+answer 3 1 not-here 1.p.1
+verdict 1:1:0 accepted
+port 1.p.1 2.a.1 1:1:0
+outcome 5
+histories 2
+answer 1 1 post 1:1:0 port 1.p.1 plain =one
+answer 2 1 depart 1.p.1 2 2.a.1
+answer 3 1 take 1.p.1 1:1:0
+verdict 1:1:0 accepted
+port 1.p.1 2.a.1
+outcome 6
+histories 1
+answer 1 1 post 1:1:0 port 1.p.1 plain =one
+answer 2 1 depart 1.p.1 2 2.a.1
+answer 3 1 empty 1.p.1
+verdict 1:1:0 accepted
+port 1.p.1 2.a.1 1:1:0
+schedule 1
+step 1
+step 2
+step 3
+deliver 1 2
+deliver 2 1
+deliver 1 2
+schedule 2
+step 1
+step 2
+deliver 1 2
+step 3
+deliver 2 1
+deliver 1 2
+schedule 3
+step 1
+step 2
+deliver 1 2
+deliver 2 1
+deliver 1 2
+step 3
+schedule 4
+step 1
+step 3
+deliver 2 1
+step 2
+deliver 1 2
+deliver 1 2
+schedule 5
+step 1
+deliver 2 1
+step 2
+deliver 1 2
+deliver 1 2
+step 3
+schedule 6
+step 2
+deliver 1 2
+step 3
+step 1
+end
+";
+
+pub(crate) const MOVES: &str =
+    "chorus 1\nsites 2\nport 1.p.1 1.a.1 2\nscript 1.a.1\nsend 1.p.1 =a\nmove 1.p.1 2.a.1\nsend 1.p.1 =b\nscript 2.a.1\ntake 1.p.1\ntake 1.p.1\nschedule\nend\n";
+
+const MOVES_TOLD: &str = "\
+histories 6
+events 43
+all
+facts 14
+1 answer 1 1 post 1:1:0 port 1.p.1 plain =a
+1 answer 1 2 depart 1.p.1 2 2.a.1
+1 answer 1 3 post 1:2:0 port 1.p.1 plain =b
+1 answer 2 1 not-here 1.p.1
+3 answer 2 1 take 1.p.1 1:1:0
+1 answer 2 2 not-here 1.p.1
+2 answer 2 2 take 1.p.1 1:1:0
+3 answer 2 2 empty 1.p.1
+4 answer 2 2 take 1.p.1 1:2:0
+1 verdict 1:1:0 accepted
+1 verdict 1:2:0 accepted
+1 port 1.p.1 2.a.1 1:1:0 1:2:0
+2 port 1.p.1 2.a.1 1:2:0
+4 port 1.p.1 2.a.1
+outcomes 4
+outcome 1
+histories 1
+answer 1 1 post 1:1:0 port 1.p.1 plain =a
+answer 1 2 depart 1.p.1 2 2.a.1
+answer 1 3 post 1:2:0 port 1.p.1 plain =b
+answer 2 1 not-here 1.p.1
+answer 2 2 not-here 1.p.1
+verdict 1:1:0 accepted
+verdict 1:2:0 accepted
+port 1.p.1 2.a.1 1:1:0 1:2:0
+outcome 2
+histories 2
+answer 1 1 post 1:1:0 port 1.p.1 plain =a
+answer 1 2 depart 1.p.1 2 2.a.1
+answer 1 3 post 1:2:0 port 1.p.1 plain =b
+answer 2 1 not-here 1.p.1
+answer 2 2 take 1.p.1 1:1:0
+verdict 1:1:0 accepted
+verdict 1:2:0 accepted
+port 1.p.1 2.a.1 1:2:0
+outcome 3
+histories 1
+answer 1 1 post 1:1:0 port 1.p.1 plain =a
+answer 1 2 depart 1.p.1 2 2.a.1
+answer 1 3 post 1:2:0 port 1.p.1 plain =b
+answer 2 1 take 1.p.1 1:1:0
+answer 2 2 empty 1.p.1
+verdict 1:1:0 accepted
+verdict 1:2:0 accepted
+port 1.p.1 2.a.1 1:2:0
+outcome 4
+histories 2
+answer 1 1 post 1:1:0 port 1.p.1 plain =a
+answer 1 2 depart 1.p.1 2 2.a.1
+answer 1 3 post 1:2:0 port 1.p.1 plain =b
+answer 2 1 take 1.p.1 1:1:0
+answer 2 2 take 1.p.1 1:2:0
+verdict 1:1:0 accepted
+verdict 1:2:0 accepted
+port 1.p.1 2.a.1
+schedule 1
+step 1
+step 1
+step 1
+step 2
+step 2
+deliver 1 2
+deliver 1 2
+deliver 2 1
+schedule 2
+step 1
+step 1
+step 1
+step 2
+deliver 1 2
+step 2
+deliver 1 2
+deliver 2 1
+schedule 3
+step 1
+step 1
+step 1
+deliver 1 2
+step 2
+step 2
+deliver 1 2
+deliver 2 1
+schedule 4
+step 1
+step 1
+step 1
+deliver 1 2
+step 2
+deliver 1 2
+step 2
+deliver 2 1
+end
+";
+
+#[test]
+fn a_full_port(rt: HostRuntime) {
+    let text = told(&rt, rt.alloc(), FULL_PORT);
+    assert_same(&rt, text.as_str(), FULL_PORT_TOLD, FULL_PORT);
+}
+
+#[test]
+fn a_port_moves(rt: HostRuntime) {
+    let text = told(&rt, rt.alloc(), MOVE);
+    assert_same(&rt, text.as_str(), MOVE_TOLD, MOVE);
+}
+
+#[test]
+fn two_sends_and_a_move(rt: HostRuntime) {
+    let text = told(&rt, rt.alloc(), MOVES);
+    assert_same(&rt, text.as_str(), MOVES_TOLD, MOVES);
+}

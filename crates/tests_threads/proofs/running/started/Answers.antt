@@ -1,5 +1,0 @@
-use Rattle.chorus_perform.proofs.Opening.{opening}
-use Rattle.tests_threads.proofs.running.started.Goals as goal
-
-pub returns-clause-opening : goal.returns-clause-opening
-returns-clause-opening g c = opening _ _ _ c.in-Ok.ensures
