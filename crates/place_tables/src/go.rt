@@ -1,14 +1,13 @@
 //! The messages of a port and route go, one after the other.
 
-ghost use Rattle.std.specs.Prelude.{◌≡◌, ◌+◌, ◌-◌, ◌^◌, ◌<◌, ◌≤◌, true, false, None, length};
-ghost use Rattle.chorus_ui.specs.declared.kind.Kind.TheVariants as Kind;
+ghost use Rattle.std.specs.Prelude.{◌≡◌, ◌+◌, ◌-◌, ◌≤◌, true, false, None, length};
 ghost use Rattle.chorus_world.specs.Posts.{is_on_site};
 ghost use Rattle.place_unsettled.specs.Queues.{queue};
-ghost use Rattle.law_machine.specs.PlaceState.{greatest_clock};
 ghost use Rattle.law_machine.specs.Trying.{goes_on, go};
 ghost use Rattle.place_state.specs.Room.{KeepsRoom};
 ghost use Rattle.place_state.specs.Tables.{state, turn};
 ghost use Rattle.place_state.specs.Going.{GoesOn, Stops, leaving, reports_for, waits_for};
+ghost use Rattle.place_tables.specs.Allowed.{MaySettleEach, MayGo};
 
 use crate::tables::Tables;
 use chorus_calls::Caller;
@@ -20,10 +19,7 @@ impl Tables {
     /// Settles the first message of a port and route by one entry, where it is not to be tried at another place. Answers
     /// whether it did.
     fn settle_one(&mut self, key: &Key, caller: &mut Caller) -> bool
-        requires kind { key.now.port.kind ≡ Kind.Port }
-        requires spare { length (waits_for key.now self.old) ≤ self.old.journal.spare }
-        requires room { reports_for key.now self.old ≤ self.old.room }
-        requires clock { greatest_clock (turn self.old caller.old) + 1 < 2 ^ 64 }
+        requires may { MaySettleEach key.now self.old caller.old }
         ensures on { result ≡ true →
             GoesOn key.now (turn self.old caller.old) (turn self.new caller.new) }
         ensures stops { result ≡ false → Stops key.now (turn self.old caller.old) }
@@ -56,12 +52,8 @@ impl Tables {
 
     /// Lets one message after the other go, until one is tried at another place: `again` is a copy of that one.
     pub(crate) fn go_on(&mut self, key: &Key, again: Option<Wait>, caller: &mut Caller)
-        requires kind { key.now.port.kind ≡ Kind.Port }
+        requires may { MayGo key.now self.old caller.old }
         requires again { again ≡ leaving key.now (state self.old) }
-        requires spare { length (waits_for key.now self.old) ≤ self.old.journal.spare }
-        requires room { reports_for key.now self.old + 1 ≤ self.old.room }
-        requires clock { greatest_clock (turn self.old caller.old)
-            + length (waits_for key.now self.old) + 1 < 2 ^ 64 }
         ensures turn { turn self.new caller.new ≡
             goes_on key.now (waits_for key.now self.old) (turn self.old caller.old) }
         ensures spare { self.old.journal.spare ≤
@@ -79,13 +71,9 @@ impl Tables {
 
     /// Lets the messages of a port and route go, where none is under way.
     pub fn go(&mut self, key: &Key, again: Option<Wait>, caller: &mut Caller)
-        requires kind { key.now.port.kind ≡ Kind.Port }
+        requires may { MayGo key.now self.old caller.old }
         requires again { (queue self.old.waits key.now).tried ≡ None →
             again ≡ leaving key.now (state self.old) }
-        requires spare { length (waits_for key.now self.old) ≤ self.old.journal.spare }
-        requires room { reports_for key.now self.old + 1 ≤ self.old.room }
-        requires clock { greatest_clock (turn self.old caller.old)
-            + length (waits_for key.now self.old) + 1 < 2 ^ 64 }
         ensures turn { turn self.new caller.new ≡ go key.now (turn self.old caller.old) }
         ensures spare { self.old.journal.spare ≤
             self.new.journal.spare + length (waits_for key.now self.old) }

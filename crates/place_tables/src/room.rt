@@ -65,12 +65,8 @@ impl Tables {
     /// Takes room for the record of one port more. All else stays, whatever the answer.
     pub fn make_port_room(&mut self) -> Result<(), AllocError>
         ensures turn { (c : Seated) → turn self.new c ≡ turn self.old c }
-        ensures layout { self.new.layout ≡ self.old.layout }
-        ensures number { self.new.number ≡ self.old.number }
-        ensures journal { self.new.journal ≡ self.old.journal }
+        ensures same { self.new ≡ record self.old { ports = self.new.ports } }
         ensures records { self.new.ports.records ≡ self.old.ports.records }
-        ensures room { self.new.room ≡ self.old.room }
-        ensures out { self.new.out ≡ self.old.out }
         ensures slot { OnOk result (0 < self.new.ports.spare) }
         ensures kept { KeepsRoom self.old self.new }
     {

@@ -1,21 +1,19 @@
 //! The steps of groups: each appends one entry.
 
-ghost use Rattle.std.specs.Prelude.{◌≡◌, ◌+◌, ◌-◌, ◌^◌, ◌<◌, ◌≤◌, true, All, None, OnOk, OnErr};
+ghost use Rattle.std.specs.Prelude.{◌≡◌, ◌+◌, ◌-◌, ◌<◌, ◌≤◌, true, None, OnOk, OnErr};
 ghost use Rattle.chorus_ui.specs.Layout.{has_place};
 ghost use Rattle.chorus_ui.specs.declared.kind.Kind.TheVariants as Kind;
 ghost use Rattle.chorus_ui.specs.declared.limits.TheConstants.{GROUPS_PER_SITE_LIMIT};
 ghost use Rattle.chorus_entry.specs.declared.act.Act.TheVariants as Act;
 ghost use Rattle.chorus_world.specs.Groups.{groups_made};
 ghost use Rattle.chorus_groups.specs.Faults.{join_fault_of, leave_fault_of};
-ghost use Rattle.law_machine.specs.PlaceState.{greatest_clock};
-ghost use Rattle.chorus_entry.specs.Dest.{port_in};
 ghost use Rattle.law_machine.specs.Doing.{does, asks};
 ghost use Rattle.law_machine.specs.Choosing.{all_go};
-ghost use Rattle.chorus_entry.specs.Members.{are_distinct};
 ghost use Rattle.place_unsettled.specs.declared.wait.Key.{Key};
-ghost use Rattle.place_state.specs.Groups.{AllGoing, HaveLines, IsCopy, ports_of, members_of, no_member, chosen, posted_alone};
+ghost use Rattle.place_state.specs.Groups.{AllGoing, ports_of, no_member, chosen, posted_alone};
 ghost use Rattle.place_state.specs.Room.{KeepsRoom};
 ghost use Rattle.place_state.specs.Tables.{turn};
+ghost use Rattle.place_tables.specs.Allowed.{MayAppend, AppendsOne, MayAskFor, MayChoose};
 
 use crate::tables::Tables;
 use chorus_calls::Caller;
@@ -31,8 +29,7 @@ impl Tables {
     pub fn make_next_group(&mut self, group: Ui, caller: &mut Caller) -> Result<(), AllocError>
         requires number { group.number ≡ groups_made self.old.journal.past + 1 }
         requires few { groups_made self.old.journal.past < GROUPS_PER_SITE_LIMIT }
-        requires spare { 1 ≤ self.old.journal.spare }
-        requires clock { greatest_clock (turn self.old caller.old) + 1 < 2 ^ 64 }
+        requires entry { MayAppend self.old caller.old }
         ensures turn { OnOk result (turn self.new caller.new ≡
             does (Act.GroupMake group) (turn self.old caller.old)) }
         ensures refused { OnErr result (turn self.new caller.new ≡ turn self.old caller.old) }
@@ -51,8 +48,7 @@ impl Tables {
     pub fn join_group(&mut self, group: Ui, port: Ui, caller: &mut Caller)
         requires kind { port.kind ≡ Kind.Port }
         requires joins { join_fault_of self.old.journal.groups group port ≡ None }
-        requires spare { 1 ≤ self.old.journal.spare }
-        requires clock { greatest_clock (turn self.old caller.old) + 1 < 2 ^ 64 }
+        requires entry { MayAppend self.old caller.old }
         ensures turn { turn self.new caller.new ≡
             does (Act.Join group port) (turn self.old caller.old) }
         ensures out { self.new.out ≡ self.old.out }
@@ -65,8 +61,7 @@ impl Tables {
     /// The port leaves the group.
     pub fn leave_group(&mut self, group: Ui, port: Ui, caller: &mut Caller)
         requires leaves { leave_fault_of self.old.journal.groups group port ≡ None }
-        requires spare { 1 ≤ self.old.journal.spare }
-        requires clock { greatest_clock (turn self.old caller.old) + 1 < 2 ^ 64 }
+        requires entry { MayAppend self.old caller.old }
         ensures turn { turn self.new caller.new ≡
             does (Act.Leave group port) (turn self.old caller.old) }
         ensures out { self.new.out ≡ self.old.out }
@@ -79,8 +74,7 @@ impl Tables {
     /// Posts a message that waits for nothing: members are chosen here at once, or it is decided here at once.
     pub fn post_alone(&mut self, message: Message, dest: Dest, caller: &mut Caller)
         requires posts { caller.old.posts < u32.MAX }
-        requires spare { 1 ≤ self.old.journal.spare }
-        requires clock { greatest_clock (turn self.old caller.old) + 1 < 2 ^ 64 }
+        requires entry { MayAppend self.old caller.old }
         ensures turn { turn self.new caller.new ≡
             posted_alone message dest (turn self.old caller.old) }
         ensures same { self.new ≡ record self.old { journal = self.new.journal } }
@@ -102,13 +96,9 @@ impl Tables {
         to: u16,
         caller: &mut Caller,
     ) -> Result<(), AllocError>
-        requires copy { again ≡ message }
-        requires group { port_in dest.now ≡ None }
-        requires to { has_place self.old.layout to ≡ true }
-        requires posts { caller.old.posts < u32.MAX }
-        requires spare { 1 ≤ self.old.journal.spare }
+        requires may { MayAskFor message again dest.now to self.old caller.old }
+        requires entry { MayAppend self.old caller.old }
         requires room { 1 ≤ self.old.room }
-        requires clock { greatest_clock (turn self.old caller.old) + 1 < 2 ^ 64 }
         ensures turn { OnOk result (turn self.new caller.new ≡
             asks message dest.now to (turn self.old caller.old)) }
         ensures refused { OnErr result (turn self.new caller.new ≡ turn self.old caller.old) }
@@ -138,9 +128,8 @@ impl Tables {
     /// Finds no member for the post `id`, which was made at the place `home`.
     pub fn find_no_member(&mut self, id: MsgId, group: Ui, home: u16, caller: &mut Caller)
         requires home { has_place self.old.layout home ≡ true }
-        requires spare { 1 ≤ self.old.journal.spare }
+        requires entry { MayAppend self.old caller.old }
         requires room { 1 ≤ self.old.room }
-        requires clock { greatest_clock (turn self.old caller.old) + 1 < 2 ^ 64 }
         ensures turn { turn self.new caller.new ≡
             no_member id group home (turn self.old caller.old) }
         ensures out { self.new.out ≡ self.old.out }
@@ -169,20 +158,13 @@ impl Tables {
         copies: VecDeque<MemberCopy>,
         caller: &mut Caller,
     )
-        requires members { members ≡ members_of copies.items }
-        requires distinct { are_distinct (members_of copies.items) ≡ true }
-        requires lines { HaveLines group self.old.waits (members_of copies.items) }
-        requires copied { All (IsCopy home) copies.items }
-        requires home { has_place self.old.layout home ≡ true }
-        requires spare { 1 ≤ self.old.journal.spare }
+        requires may { MayChoose group home members copies.items self.old }
+        requires entry { MayAppend self.old caller.old }
         requires room { 1 ≤ self.old.room }
-        requires clock { greatest_clock (turn self.old caller.old) + 1 < 2 ^ 64 }
         ensures turn { turn self.new caller.new ≡
             chosen id group home copies.items (turn self.old caller.old) }
-        ensures spare { self.new.journal.spare ≡ self.old.journal.spare - 1 }
+        ensures one { AppendsOne self.old self.new }
         ensures room { self.old.room ≤ self.new.room + 1 }
-        ensures out { self.new.out ≡ self.old.out }
-        ensures kept { KeepsRoom self.old self.new }
     {
         let count = members.uis().len() as u16;
         put_copies(&mut self.waits, group, copies);

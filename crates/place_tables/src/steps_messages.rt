@@ -1,26 +1,21 @@
 //! The steps of messages: each appends one entry.
 
-ghost use Rattle.std.specs.Prelude.{◌≡◌, ◌+◌, ◌-◌, ◌^◌, ◌<◌, ◌≤◌, true, None, Some, IsNone, IsSome, IfSome};
+ghost use Rattle.std.specs.Prelude.{◌≡◌, ◌+◌, ◌-◌, ◌≤◌, true, None, Some, IfSome};
 ghost use Rattle.chorus_ui.specs.declared.kind.Kind.TheVariants as Kind;
 ghost use Rattle.chorus_ui.specs.Layout.{has_site, has_place};
-ghost use Rattle.law_machine.specs.PlaceState.{greatest_clock};
 ghost use Rattle.law_machine.specs.PlaceState.{note};
 ghost use Rattle.law_machine.specs.Trying.{tries_at};
 ghost use Rattle.law_machine.specs.Deciding.{decide};
-ghost use Rattle.law_machine.specs.Doing.{post};
 ghost use Rattle.chorus_ui.specs.declared.limits.TheConstants.{MEMBERS_LIMIT};
 ghost use Rattle.law_machine.specs.Working.{hears};
-ghost use Rattle.chorus_world.specs.Places.{taught};
-ghost use Rattle.chorus_hints.specs.Known.{kept};
-ghost use Rattle.place_unsettled.specs.declared.wait.Key.{Key};
-ghost use Rattle.place_unsettled.specs.Queues.{room};
 ghost use Rattle.place_state.specs.Plain.{is_plain};
-ghost use Rattle.place_state.specs.Steps.{MayTeach, posted, told_by, answered};
+ghost use Rattle.place_state.specs.Steps.{posted, told_by, answered};
 ghost use Rattle.place_state.specs.Room.{KeepsRoom};
 ghost use Rattle.place_state.specs.Tables.{state, turn, IsSound};
 ghost use Rattle.place_tables.specs.AtOnce.{IsFree, decided};
 ghost use Rattle.chorus_entry.specs.declared.packet.Cargo.TheVariants as Cargo;
-ghost use Rattle.place_state.specs.Going.{LeavesRecords, first_for, settles, reports_for};
+ghost use Rattle.place_state.specs.Going.{first_for, settles, reports_for};
+ghost use Rattle.place_tables.specs.Allowed.{MayAppend, AppendsOne, MayPost, MayTry, MayTell, MaySettle};
 
 use crate::tables::Tables;
 use chorus_calls::Caller;
@@ -39,20 +34,14 @@ impl Tables {
         tried: u64,
         caller: &mut Caller,
     )
-        requires kind { key.now.port.kind ≡ Kind.Port }
-        requires site { IsNone given → has_site self.old.layout key.now.port.site ≡ true }
-        requires leaves { IfSome given LeavesRecords }
-        requires first { IsSome (first_for key.now self.old) }
-        requires spare { 1 ≤ self.old.journal.spare }
+        requires may { MaySettle key.now given self.old }
+        requires entry { MayAppend self.old caller.old }
         requires room { reports_for key.now self.old ≤ self.old.room }
-        requires clock { greatest_clock (turn self.old caller.old) + 1 < 2 ^ 64 }
         ensures turn { IfSome (first_for key.now self.old) (λ w. turn self.new caller.new ≡
             settles key.now w given tried (turn self.old caller.old)) }
-        ensures spare { self.new.journal.spare ≡ self.old.journal.spare - 1 }
+        ensures one { AppendsOne self.old self.new }
         ensures room { self.old.room + reports_for key.now self.new ≤
             self.new.room + reports_for key.now self.old }
-        ensures out { self.new.out ≡ self.old.out }
-        ensures kept { KeepsRoom self.old self.new }
     {
         let port = key.port;
         let Wait {
@@ -92,15 +81,12 @@ impl Tables {
     )
         requires first { first_for key.now self.old ≡ Some again }
         requires place { has_place self.old.layout newest.0 ≡ true }
-        requires spare { 1 ≤ self.old.journal.spare }
+        requires entry { MayAppend self.old caller.old }
         requires room { 1 ≤ self.old.room }
-        requires clock { greatest_clock (turn self.old caller.old) + 1 < 2 ^ 64 }
         ensures turn { turn self.new caller.new ≡ tries_at key.now again
             (record { to = newest.0; hop = newest.1 }) (turn self.old caller.old) }
-        ensures spare { self.new.journal.spare ≡ self.old.journal.spare - 1 }
+        ensures one { AppendsOne self.old self.new }
         ensures room { self.new.room ≡ self.old.room - 1 }
-        ensures out { self.new.out ≡ self.old.out }
-        ensures kept { KeepsRoom self.old self.new }
     {
         let (to, hop) = newest;
         let port = key.port;
@@ -121,33 +107,23 @@ impl Tables {
     /// Appends an entry that changes nothing else.
     pub fn note(&mut self, act: Act, caller: &mut Caller)
         requires plain { is_plain act ≡ true }
-        requires spare { 1 ≤ self.old.journal.spare }
-        requires clock { greatest_clock (turn self.old caller.old) + 1 < 2 ^ 64 }
+        requires entry { MayAppend self.old caller.old }
         ensures turn { turn self.new caller.new ≡ note act (turn self.old caller.old) }
-        ensures spare { self.new.journal.spare ≡ self.old.journal.spare - 1 }
+        ensures one { AppendsOne self.old self.new }
         ensures room { self.new.room ≡ self.old.room }
-        ensures out { self.new.out ≡ self.old.out }
-        ensures kept { KeepsRoom self.old self.new }
     {
         say(&mut self.journal, self.number, caller, act);
     }
 
     /// Posts the message, of which `wait` is a copy, behind the other direct ones to a port, in the room that is there.
     pub fn post(&mut self, key: &Key, message: Message, wait: Wait, caller: &mut Caller)
-        requires copy { wait ≡ post message self.old.number }
-        requires direct { key.now.route ≡ None }
-        requires sound { IsSound message }
-        requires line { 0 < room self.old.waits key.now }
-        requires posts { caller.old.posts < u32.MAX }
-        requires spare { 1 ≤ self.old.journal.spare }
-        requires clock { greatest_clock (turn self.old caller.old) + 1 < 2 ^ 64 }
+        requires may { MayPost key.now message wait self.old caller.old }
+        requires entry { MayAppend self.old caller.old }
         ensures turn { turn self.new caller.new ≡
             posted message key.now.port (turn self.old caller.old) }
         ensures reports { reports_for key.now self.new ≡ reports_for key.now self.old }
-        ensures spare { self.new.journal.spare ≡ self.old.journal.spare - 1 }
+        ensures one { AppendsOne self.old self.new }
         ensures room { self.new.room ≡ self.old.room }
-        ensures out { self.new.out ≡ self.old.out }
-        ensures kept { KeepsRoom self.old self.new }
     {
         self.waits.push(key, wait);
         let dest = Dest::Port(key.port);
@@ -190,8 +166,7 @@ impl Tables {
         requires kind { port.kind ≡ Kind.Port }
         requires site { has_site self.old.layout port.site ≡ true }
         requires sound { IsSound message }
-        requires spare { 1 ≤ self.old.journal.spare }
-        requires clock { greatest_clock (turn self.old caller.old) + 1 < 2 ^ 64 }
+        requires entry { MayAppend self.old caller.old }
         ensures answer { result ≡ decide message port None tried (state self.old) }
         ensures turn { turn self.new caller.new ≡
             decided message port tried (turn self.old caller.old) }
@@ -216,19 +191,14 @@ impl Tables {
 
     /// Tells the first message of a port and route, which is under way, what was decided.
     pub fn tell(&mut self, key: &Key, id: MsgId, answer: Answer, caller: &mut Caller)
-        requires kind { key.now.port.kind ≡ Kind.Port }
-        requires teaches { MayTeach self.old.layout key.now.port (taught answer) }
-        requires first { IsSome (first_for key.now self.old) }
-        requires spare { 1 ≤ self.old.journal.spare }
+        requires may { MayTell key.now answer (turn self.old caller.old) }
+        requires entry { MayAppend self.old caller.old }
         requires room { reports_for key.now self.old ≤ self.old.room }
-        requires clock { greatest_clock (turn self.old caller.old) + 1 < 2 ^ 64 }
         ensures turn { turn self.new caller.new ≡
             told_by id key.now answer (turn self.old caller.old) }
-        ensures spare { self.new.journal.spare ≡ self.old.journal.spare - 1 }
+        ensures one { AppendsOne self.old self.new }
         ensures room { self.old.room + reports_for key.now self.new ≤
             self.new.room + reports_for key.now self.old }
-        ensures out { self.new.out ≡ self.old.out }
-        ensures kept { KeepsRoom self.old self.new }
     {
         let home = self.waits.first(key).unwrap().home;
         let act = Act::Told { id, answer };
@@ -249,13 +219,9 @@ impl Tables {
         tried: u64,
         caller: &mut Caller,
     )
-        requires kind { key.now.port.kind ≡ Kind.Port }
-        requires site { has_site self.old.layout key.now.port.site ≡ true }
-        requires from { has_place self.old.layout from ≡ true }
-        requires sound { IsSound message }
-        requires spare { 1 ≤ self.old.journal.spare }
+        requires may { MayTry from message key.now.port (turn self.old caller.old) }
+        requires entry { MayAppend self.old caller.old }
         requires room { 1 ≤ self.old.room }
-        requires clock { greatest_clock (turn self.old caller.old) + 1 < 2 ^ 64 }
         ensures turn { turn self.new caller.new ≡
             answered from message key.now only tried (turn self.old caller.old) }
         ensures out { self.new.out ≡ self.old.out }
@@ -292,8 +258,7 @@ impl Tables {
     /// Hears what became of a message elsewhere, by one entry.
     pub fn hear(&mut self, id: MsgId, answer: Answer, caller: &mut Caller)
         requires copy { id.copy ≤ MEMBERS_LIMIT }
-        requires spare { 1 ≤ self.old.journal.spare }
-        requires clock { greatest_clock (turn self.old caller.old) + 1 < 2 ^ 64 }
+        requires entry { MayAppend self.old caller.old }
         ensures turn { turn self.new caller.new ≡ hears id answer (turn self.old caller.old) }
         ensures out { self.new.out ≡ self.old.out }
         ensures kept { KeepsRoom self.old self.new }

@@ -1,22 +1,20 @@
 //! The steps of ports: each appends one entry.
 
-ghost use Rattle.std.specs.Prelude.{◌≡◌, ◌+◌, ◌-◌, ◌^◌, ◌<◌, ◌≤◌, true, false, Some, IsSome, IfSome, OnOk, OnErr};
-ghost use Rattle.chorus_ui.specs.declared.limits.TheConstants.{PENDING_LIMIT};
-ghost use Rattle.chorus_ui.specs.Layout.{has_actor, has_place, creation_place};
+ghost use Rattle.std.specs.Prelude.{◌≡◌, ◌+◌, ◌<◌, ◌≤◌, true, Some, IsSome, IfSome, OnOk, OnErr};
+ghost use Rattle.chorus_ui.specs.Layout.{has_place};
 ghost use Rattle.chorus_entry.specs.declared.act.Act.TheVariants as Act;
 ghost use Rattle.chorus_entry.specs.declared.tag.Tag.TheVariants as Tag;
-ghost use Rattle.chorus_world.specs.Steps.{is_full_of_ports};
 ghost use Rattle.chorus_ports.specs.Table.{find};
 ghost use Rattle.chorus_ports.specs.Taking.{taken};
-ghost use Rattle.law_machine.specs.PlaceState.{greatest_clock};
-ghost use Rattle.law_machine.specs.Own.{next_port, take_act};
+ghost use Rattle.law_machine.specs.Own.{take_act};
 ghost use Rattle.law_machine.specs.Doing.{does, ends, ends_call, holding};
 ghost use Rattle.law_machine.specs.Replies.{settling};
 ghost use Rattle.law_machine.specs.Working.{receives_port};
 ghost use Rattle.place_state.specs.Plain.{is_plain};
 ghost use Rattle.place_state.specs.Ports.{HasNumber, IsSoundTaken, MayArrive, takes_from};
 ghost use Rattle.place_state.specs.Room.{KeepsRoom};
-ghost use Rattle.place_state.specs.Tables.{state, turn};
+ghost use Rattle.place_state.specs.Tables.{turn};
+ghost use Rattle.place_tables.specs.Allowed.{MayAppend, AppendsOne, MayMake};
 
 use crate::tables::Tables;
 use chorus_calls::{Caller, Settle};
@@ -52,15 +50,8 @@ impl Tables {
         capacity: u8,
         caller: &mut Caller,
     ) -> Result<(), AllocError>
-        requires next { port ≡ next_port (state self.old) actor }
-        requires actor { has_actor self.old.layout actor ≡ true }
-        requires home { creation_place self.old.layout actor ≡ self.old.number }
-        requires few { is_full_of_ports self.old.layout self.old.journal.past ≡ false }
-        requires least { 1 ≤ capacity }
-        requires most { capacity ≤ PENDING_LIMIT }
-        requires slot { 0 < self.old.ports.spare }
-        requires spare { 1 ≤ self.old.journal.spare }
-        requires clock { greatest_clock (turn self.old caller.old) + 1 < 2 ^ 64 }
+        requires may { MayMake port actor capacity self.old }
+        requires entry { MayAppend self.old caller.old }
         ensures turn { OnOk result (turn self.new caller.new ≡
             does (Act.Make port actor capacity) (turn self.old caller.old)) }
         ensures refused { OnErr result (turn self.new caller.new ≡ turn self.old caller.old) }
@@ -79,16 +70,13 @@ impl Tables {
 
     /// Takes what the caller's actor gets from a port: the first message where it holds the port here and one waits.
     pub fn take_message(&mut self, port: Ui, caller: &mut Caller) -> Taken
-        requires spare { 1 ≤ self.old.journal.spare }
-        requires clock { greatest_clock (turn self.old caller.old) + 1 < 2 ^ 64 }
+        requires entry { MayAppend self.old caller.old }
         ensures taken { result ≡ taken caller.old.actor (find port self.old.ports.records) }
         ensures turn { turn self.new caller.new ≡
             takes_from port result (turn self.old caller.old) }
         ensures sound { IsSoundTaken result }
-        ensures spare { self.new.journal.spare ≡ self.old.journal.spare - 1 }
+        ensures one { AppendsOne self.old self.new }
         ensures room { self.new.room ≡ self.old.room }
-        ensures out { self.new.out ≡ self.old.out }
-        ensures kept { KeepsRoom self.old self.new }
     {
         let taken = self.ports.take(port, caller.actor());
         let act = take_act(port, &taken);
@@ -100,8 +88,7 @@ impl Tables {
     /// or is late.
     pub fn heed(&mut self, id: MsgId, tag: Tag, caller: &mut Caller) -> Option<Settle>
         requires numbered { HasNumber tag }
-        requires spare { 1 ≤ self.old.journal.spare }
-        requires clock { greatest_clock (turn self.old caller.old) + 1 < 2 ^ 64 }
+        requires entry { MayAppend self.old caller.old }
         ensures turn { turn self.new caller.new ≡
             ends tag (turn self.old (holding id tag caller.old)) }
         ensures settled { result ≡ settling tag caller.old }
@@ -124,8 +111,7 @@ impl Tables {
 
     /// Appends what the reply to a client's request does: it ends the caller's outstanding call, or is late.
     fn end_call(&mut self, client: u32, number: u32, caller: &mut Caller) -> Settle
-        requires spare { 1 ≤ self.old.journal.spare }
-        requires clock { greatest_clock (turn self.old caller.old) + 1 < 2 ^ 64 }
+        requires entry { MayAppend self.old caller.old }
         ensures turn { turn self.new caller.new ≡
             ends_call client number (turn self.old caller.old) }
         ensures settled { Some result ≡ settling (Tag.Reply client number) caller.old }
@@ -143,8 +129,7 @@ impl Tables {
     /// Gives a port that is held here to another actor of this site.
     pub fn rehome(&mut self, port: Ui, actor: Ui, caller: &mut Caller)
         requires held { IsSome (find port self.old.ports.records) }
-        requires spare { 1 ≤ self.old.journal.spare }
-        requires clock { greatest_clock (turn self.old caller.old) + 1 < 2 ^ 64 }
+        requires entry { MayAppend self.old caller.old }
         ensures turn { turn self.new caller.new ≡
             does (Act.Rehome port actor) (turn self.old caller.old) }
         ensures out { self.new.out ≡ self.old.out }
@@ -159,9 +144,8 @@ impl Tables {
     pub fn depart(&mut self, port: Ui, to: u16, actor: Ui, caller: &mut Caller) -> u64
         requires place { has_place self.old.layout to ≡ true }
         requires held { IsSome (find port self.old.ports.records) }
-        requires spare { 1 ≤ self.old.journal.spare }
+        requires entry { MayAppend self.old caller.old }
         requires room { 1 ≤ self.old.room }
-        requires clock { greatest_clock (turn self.old caller.old) + 1 < 2 ^ 64 }
         ensures hop { IfSome (find port self.old.ports.records) (λ r. result ≡ r.hop + 1) }
         ensures turn { turn self.new caller.new ≡
             does (Act.Depart port to actor result) (turn self.old caller.old) }
@@ -194,8 +178,7 @@ impl Tables {
     /// Deletes a port that is held here, and what waits in it.
     pub fn delete_port(&mut self, port: Ui, discarded: Ids, caller: &mut Caller)
         requires held { IsSome (find port self.old.ports.records) }
-        requires spare { 1 ≤ self.old.journal.spare }
-        requires clock { greatest_clock (turn self.old caller.old) + 1 < 2 ^ 64 }
+        requires entry { MayAppend self.old caller.old }
         ensures turn { turn self.new caller.new ≡
             does (Act.Delete port discarded) (turn self.old caller.old) }
         ensures out { self.new.out ≡ self.old.out }
@@ -210,8 +193,7 @@ impl Tables {
     pub fn arrive(&mut self, port: PortRecord, caller: &mut Caller)
         requires may { MayArrive port (turn self.old caller.old) }
         requires slot { 0 < self.old.ports.spare }
-        requires spare { 1 ≤ self.old.journal.spare }
-        requires clock { greatest_clock (turn self.old caller.old) + 1 < 2 ^ 64 }
+        requires entry { MayAppend self.old caller.old }
         ensures turn { turn self.new caller.new ≡ receives_port port (turn self.old caller.old) }
         ensures out { self.new.out ≡ self.old.out }
         ensures kept { KeepsRoom self.old self.new }

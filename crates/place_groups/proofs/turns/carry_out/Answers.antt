@@ -7,7 +7,7 @@ go_all-requires c =
     record {
       ready = carries c.args.id c.args.group c.args.home c.args.chosen.choice c.args.chosen.copies.items c.args.chosen.courses.items c.args.tables.now c.args.caller.now
           (turn c.choose.new.self c.choose.new.caller) c.choose.new.self.journal.spare c.choose.new.self.room c.requires.ready c.requires.clock c.choose.ensures.turn
-          c.choose.ensures.spare c.choose.ensures.room;
+          c.choose.ensures.one.spare c.choose.ensures.room;
     }
 
 pub returns-in-Members-clause-turn : goal.returns-in-Members-clause-turn

@@ -12,11 +12,12 @@ use Rattle.place_groups.proofs.turns.post_here.Goals as goal
 pub returns-in_err-chosen-clause-refused : goal.returns-in_err-chosen-clause-refused
 returns-in_err-chosen-clause-refused c = on-err _ _ (c.prepare.ensures.turn c.args.caller.now)
 
-pub post_alone-requires-clause-clock : goal.post_alone-requires-clause-clock
-post_alone-requires-clause-clock c =
+pub post_alone-requires-clause-entry : goal.post_alone-requires-clause-entry
+post_alone-requires-clause-entry c =
     let same = ap greatest_clock (c.prepare.ensures.turn c.args.caller.now) in
+    let room = c.in_ok-chosen.ensures.ready.spare in
     let clock = c.requires.clock in
-    omega (arith, same, clock)
+    record { spare = omega (arith, room); clock = omega (arith, same, clock) }
 
 pub carry_out-requires-clause-home : goal.carry_out-requires-clause-home
 carry_out-requires-clause-home c =

@@ -18,37 +18,29 @@ go-requires-clause-again c =
     ∙ ap (λ n. leaving_to p.layout p.number k.port (newest_of p.layout k.port (taught_of k.port (taught c.args.answer) (kept p.known) k.port)).0 (drop n (waits_for k p) ++ []))
     c.settled_by.ensures.value)
 
-pub go-requires-clause-spare : goal.go-requires-clause-spare
-go-requires-clause-spare c =
-    let k = c.args.key.now in
-    let len = tell-length k c.args.id c.args.answer (turn c.make_room.new.self c.args.caller.now) _ c.tell.ensures.turn in
-    let same = ap (λ w. length (queue w k).waits) c.make_room.ensures.same.waits in
-    let counted = c.waiting_for-waits.ensures.len in
-    let room = c.in_ok-make_room.ensures.spare in
-    let left = c.tell.ensures.spare in
-    omega (arith, len, same, counted, room, left)
-
-pub go-requires-clause-room : goal.go-requires-clause-room
-go-requires-clause-room c =
-    let k = c.args.key.now in
-    let one = ap (λ w. reports c.make_room.new.self.number (queue w k).waits) c.make_room.ensures.same.waits in
-    let two = ap (λ n. reports n (queue c.args.tables.now.waits k).waits) c.make_room.ensures.same.number in
-    let enough = c.most_reports-reports.ensures.enough in
-    let room = c.in_ok-make_room.ensures.room in
-    let left = c.tell.ensures.room in
-    omega (arith, one, two, enough, room, left)
-
-pub go-requires-clause-clock : goal.go-requires-clause-clock
-go-requires-clause-clock c =
+pub go-requires-clause-may : goal.go-requires-clause-may
+go-requires-clause-may c =
     let k = c.args.key.now in
     let len = tell-length k c.args.id c.args.answer (turn c.make_room.new.self c.args.caller.now) _ c.tell.ensures.turn in
     let clock = tell-clock k c.args.id c.args.answer (turn c.make_room.new.self c.args.caller.now) _ c.tell.ensures.turn in
     let same = ap (λ w. length (queue w k).waits) c.make_room.ensures.same.waits in
+    let one = ap (λ w. reports c.make_room.new.self.number (queue w k).waits) c.make_room.ensures.same.waits in
+    let two = ap (λ n. reports n (queue c.args.tables.now.waits k).waits) c.make_room.ensures.same.number in
     let before = ap greatest_clock (c.make_room.ensures.turn c.args.caller.now) in
     let counted = c.waiting_for-waits.ensures.len in
     let small = c.waiting_for-waits.ensures.small in
+    let enough = c.most_reports-reports.ensures.enough in
+    let entries = c.in_ok-make_room.ensures.spare in
+    let packets = c.in_ok-make_room.ensures.room in
+    let entry = c.tell.ensures.one.spare in
+    let packet = c.tell.ensures.room in
     let worn = c.requires.clock in
-    omega (arith, len, clock, same, before, counted, small, worn)
+    record {
+      kind = c.requires.kind;
+      spare = omega (arith, len, same, counted, entries, entry);
+      room = omega (arith, one, two, enough, packets, packet);
+      clock = omega (arith, len, clock, same, before, counted, small, worn);
+    }
 
 pub returns-clause-ok : goal.returns-clause-ok
 returns-clause-ok c =

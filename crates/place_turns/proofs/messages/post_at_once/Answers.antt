@@ -20,17 +20,13 @@ decide_at_once-answer-requires-clause-site c =
 pub decide_at_once-answer-requires-clause-sound : goal.decide_at_once-answer-requires-clause-sound
 decide_at_once-answer-requires-clause-sound c = subst IsSound (sym (ap (λ w. w.message) c.requires.copy)) c.requires.sound
 
-pub decide_at_once-answer-requires-clause-spare : goal.decide_at_once-answer-requires-clause-spare
-decide_at_once-answer-requires-clause-spare c =
+pub decide_at_once-answer-requires-clause-entry : goal.decide_at_once-answer-requires-clause-entry
+decide_at_once-answer-requires-clause-entry c =
     let left = c.post_alone.ensures.spare in
     let room = c.requires.ready.spare in
-    omega (arith, left, room)
-
-pub decide_at_once-answer-requires-clause-clock : goal.decide_at_once-answer-requires-clause-clock
-decide_at_once-answer-requires-clause-clock c =
     let clock = posted-alone-clock c.args.message (Dest.Port c.args.port) (turn c.args.tables.now c.args.caller.now) _ c.post_alone.ensures.turn in
     let worn = c.requires.clock in
-    omega (arith, clock, worn)
+    record { spare = omega (arith, left, room); clock = omega (arith, clock, worn) }
 
 pub returns-clause-turn : goal.returns-clause-turn
 returns-clause-turn c =

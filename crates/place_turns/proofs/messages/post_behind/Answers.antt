@@ -9,21 +9,24 @@ pub go-requires-clause-again : goal.go-requires-clause-again
 go-requires-clause-again c =
     λ _. posted-leaving c.args.port c.args.message (turn c.args.tables.now c.args.caller.now) _ c.args.again c.args.wait c.post.ensures.turn c.requires.copy c.requires.ready.leaving
 
-pub go-requires-clause-spare : goal.go-requires-clause-spare
-go-requires-clause-spare c =
-    let len = posted-length c.args.port c.args.message (turn c.args.tables.now c.args.caller.now) _ c.post.ensures.turn in
-    let room = c.requires.ready.spare in
-    let left = c.post.ensures.spare in
-    omega (arith, len, room, left)
-
-pub go-requires-clause-clock : goal.go-requires-clause-clock
-go-requires-clause-clock c =
+pub go-requires-clause-may : goal.go-requires-clause-may
+go-requires-clause-may c =
     let t = turn c.args.tables.now c.args.caller.now in
     let len = posted-length c.args.port c.args.message t _ c.post.ensures.turn in
     let clock = posted-clock c.args.port c.args.message t _ c.post.ensures.turn in
+    let reports = c.post.ensures.reports in
+    let left = c.post.ensures.one.spare in
+    let same = c.post.ensures.room in
     let few = c.requires.ready.few in
+    let entries = c.requires.ready.spare in
+    let packets = c.requires.ready.room in
     let worn = c.requires.clock in
-    omega (arith, len, clock, few, worn)
+    record {
+      kind = c.requires.kind;
+      spare = omega (arith, len, entries, left);
+      room = omega (arith, reports, same, packets);
+      clock = omega (arith, len, clock, few, worn);
+    }
 
 pub returns-clause-turn : goal.returns-clause-turn
 returns-clause-turn c = c.go.ensures.turn ∙ ap (go (direct c.args.port)) c.post.ensures.turn

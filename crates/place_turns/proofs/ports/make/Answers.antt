@@ -1,11 +1,11 @@
 use Rattle.std.proofs.Common.{ap, refl, sym, ◌∙◌, ◌≡◌, true, is_some, arith}
-use Rattle.chorus_ui.specs.Layout.{home, creation_place}
+use Rattle.chorus_ui.specs.Layout.{has_actor, home, creation_place}
 use Rattle.chorus_entry.specs.declared.command.Command.TheVariants as Command
 use Rattle.chorus_entry.specs.declared.act.Act.TheVariants as Act
 use Rattle.chorus_world.specs.Steps.{is_full_of_ports}
 use Rattle.law_machine.specs.declared.reply.Reply.{Reply}
 use Rattle.law_machine.specs.Own.{next_port}
-use Rattle.place_state.specs.Tables.{turn}
+use Rattle.place_state.specs.Tables.{Tables, turn}
 use Rattle.place_turns.proofs.Posting.{on_err}
 use Rattle.place_turns.proofs.Performing.{performs, making, home-here, has-home}
 use Rattle.place_turns.proofs.ports.make.Goals as goal
@@ -14,17 +14,25 @@ pub returns-in_err-make_port_room-clause-refused : goal.returns-in_err-make_port
 returns-in_err-make_port_room-clause-refused c =
     on_err _ _ (c.make_port_room.ensures.turn c.args.caller.now ∙ c.make_room.ensures.turn c.args.caller.now)
 
-pub make_port-requires-clause-home : goal.make_port-requires-clause-home
-make_port-requires-clause-home c =
+pub make_port-requires-clause-may : goal.make_port-requires-clause-may
+make_port-requires-clause-may c =
     let same = c.make_room.ensures.same in
+    let layout = ap (λ (p : Tables). p.layout) c.make_port_room.ensures.same ∙ same.layout in
     let a = c.args.actor in
     let tells = c.is_none.ensures in
     let holds = c.if-is_none.false in
     let some : is_some c.home.result ≡ true = grind (arith, tells, holds) in
     let there = sym (ap (λ l. is_some (home l a)) (c.layout.ensures ∙ same.layout)) ∙ sym (ap is_some c.home.ensures.value) ∙ some in
-    ap (λ l. creation_place l a) (c.make_port_room.ensures.layout ∙ same.layout)
-    ∙ home-here c.args.tables.now.layout a c.args.caller.now.actor c.args.capacity c.args.tables.now.number c.requires.here there
-    ∙ sym (ap (λ t. t.place.number) (c.make_port_room.ensures.turn c.args.caller.now) ∙ same.number)
+    record {
+      next = c.next_port-port.ensures;
+      actor = ap (λ l. has_actor l a) layout ∙ has-home c.args.tables.now.layout a there;
+      home = ap (λ l. creation_place l a) layout ∙ home-here c.args.tables.now.layout a c.args.caller.now.actor c.args.capacity c.args.tables.now.number c.requires.here there
+          ∙ sym (ap (λ t. t.place.number) (c.make_port_room.ensures.turn c.args.caller.now) ∙ same.number);
+      few = ap (λ (p : Tables). is_full_of_ports p.layout p.journal.past) c.make_port_room.ensures.same ∙ sym c.has_made_all.ensures ∙ c.if-has_made_all.false;
+      least = c.requires.least;
+      most = c.requires.most;
+      slot = c.in_ok-make_port_room.ensures.slot;
+    }
 
 pub returns-in_err-make_port-clause-refused : goal.returns-in_err-make_port-clause-refused
 returns-in_err-make_port-clause-refused c =

@@ -19,7 +19,7 @@ decide-answer-requires-clause-positions c =
     let i = c.self.inside in
     let last = c.args.caller.now.last in
     let seen = ap (λ p. greatest_clock (turn p c.args.caller.now)) c.self.view_is in
-    let clock = c.requires.clock in
+    let clock = c.requires.entry.clock in
     positions-fit i.layout i.number i.journal.past i.ports.records c.args.key.now.port last c.self.invariant.2.held (omega (arith, seen, clock))
 
 pub say-requires-clause-follows : goal.say-requires-clause-follows
@@ -39,13 +39,13 @@ invariant_of-self c =
       record {
         place = kept.place;
         held = held-answered i.layout i.number i.journal.past c.say.new.journal.past c.decision.result i.ports.records c.decide-answer.new.ports.records c.decide-answer.result c.args.message k.port kept.held said
-            (ap (λ t. t.records) c.decide-answer.ensures.ports) c.requires.sound;
+            (ap (λ t. t.records) c.decide-answer.ensures.ports) c.requires.may.sound;
         layout = kept.layout;
         located = kept.located;
         waiting = kept.waiting;
         numbered = numbered-plain i.layout i.number i.journal.past c.say.new.journal.past c.decision.result kept.numbered said c.decision.ensures.plain;
         grouped = grouped-plain i.journal.past c.say.new.journal.past c.decision.result kept.grouped said c.decision.ensures.plain;
-        sent = sent-one i.layout i.puts.items c.put.new.puts.items x kept.sent c.put.ensures.items (ap (λ p. has_place p.layout c.args.from) c.self.view_is ∙ c.requires.from);
+        sent = sent-one i.layout i.puts.items c.put.new.puts.items x kept.sent c.put.ensures.items (ap (λ p. has_place p.layout c.args.from) c.self.view_is ∙ c.requires.may.place);
       },
       counted-more i.puts.items c.put.new.puts.items (x ∷ []) i.out said c.self.invariant.3 c.put.ensures.items (omega arith),
     )

@@ -25,7 +25,7 @@ invariant_of-self-2 c =
       boxed-more i.layout i.puts.items c.put.new.puts.items (x ∷ []) i.out 1 c.self.invariant.1 c.put.ensures.items (omega arith) (omega (arith, seen, room)),
       kept-put i.layout i.number c.say.new.journal.past i.ports.records i.hints i.waits i.puts.items c.put.new.puts.items x
           (kept-plain i.layout i.number i.journal.past c.say.new.journal.past act i.ports.records i.hints i.waits i.puts.items c.self.invariant.2 said refl)
-          c.put.ensures.items (ap (λ p. has_place p.layout c.args.to) c.self.view_is ∙ c.requires.to),
+          c.put.ensures.items (ap (λ p. has_place p.layout c.args.to) c.self.view_is ∙ c.requires.may.place),
       counted-more i.puts.items c.put.new.puts.items (x ∷ []) i.out said c.self.invariant.3 c.put.ensures.items (omega arith),
     )
 
@@ -37,7 +37,7 @@ returns-clause-turn c =
     rw (← c.self.view_is)
     (same_turn _ _ refl refl (ap (λ j. j.past) c.say.ensures.journal) refl (λ q. refl) (λ k. refl) c.in_ok-ask.ensures.ok
     (c.posted.ensures.after ∙ ap after_post c.say.ensures.caller
-    ∙ ap (λ x. after_tick (after_post x) (next_clock i.journal c.args.caller.now)) (sym (no-port d c.args.message c.args.caller.now c.requires.group)))
+    ∙ ap (λ x. after_tick (after_post x) (next_clock i.journal c.args.caller.now)) (sym (no-port d c.args.message c.args.caller.now c.requires.may.group)))
     (put-loads i.puts.items c.put.new.puts.items (turn (the_view i) c.args.caller.now) c.clock-clock.result ((c.args.to, Cargo.Ask c.args.again d) ∷ []) _ c.put.ensures.items
     (said-at i.number act c.args.caller.now i.journal c.say.new.journal _ c.say.ensures.journal c.clock-clock.ensures)
-    (ap (λ m. (c.args.to, Cargo.Ask m d) ∷ []) c.requires.copy)))
+    (ap (λ m. (c.args.to, Cargo.Ask m d) ∷ []) c.requires.may.copy)))

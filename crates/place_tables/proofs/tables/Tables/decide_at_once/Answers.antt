@@ -18,7 +18,7 @@ decide-answer-requires-clause-positions c =
     let i = c.self.inside in
     let last = c.args.caller.now.last in
     let seen = ap (λ p. greatest_clock (turn p c.args.caller.now)) c.self.view_is in
-    let clock = c.requires.clock in
+    let clock = c.requires.entry.clock in
     positions-fit i.layout i.number i.journal.past i.ports.records c.args.port last c.self.invariant.2.held (omega (arith, seen, clock))
 
 pub say-requires-clause-follows : goal.say-requires-clause-follows

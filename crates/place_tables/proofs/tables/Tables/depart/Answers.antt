@@ -23,7 +23,7 @@ overflow_add-record c =
     let hop = may.hop in
     let seen = ap (λ p. greatest_clock (turn p c.args.caller.now)) c.self.view_is in
     let m = le-max_left (last_clock i.journal.past) c.args.caller.now.last in
-    let clock = c.requires.clock in
+    let clock = c.requires.entry.clock in
     omega (arith, hop, seen, m, clock)
 
 pub learn-requires-clause-port : goal.learn-requires-clause-port

@@ -8,23 +8,22 @@ use Rattle.place_state.proofs.Groups.{reports-within, all-next, course-free}
 use Rattle.place_state.proofs.Rooms.{kept-then}
 use Rattle.place_tables.proofs.tables.Tables.go_all.Goals as goal
 
-pub go-requires-clause-kind : goal.go-requires-clause-kind
-go-requires-clause-kind c =
-    let start = turn c.args.self.now c.args.caller.now in
-    let now = turn c.loop-course.self c.loop-course.caller in
-    let h = subst (λ xs. AllGoing c.args.group (ports_of c.args.courses.items) start now xs c.loop-course.self.journal.spare c.loop-course.self.room) c.in-Some.ensures.items
-    c.loop-course.invariant.0 in
-    All-head IsPort c.in-Some.course.port (ports_of c.pop_front.new.self.items) h.kinds
-
-pub go-requires-clause-room : goal.go-requires-clause-room
-go-requires-clause-room c =
+pub go-requires-clause-may : goal.go-requires-clause-may
+go-requires-clause-may c =
     let start = turn c.args.self.now c.args.caller.now in
     let p = c.loop-course.self in
     let h = subst (λ xs. AllGoing c.args.group (ports_of c.args.courses.items) start (turn p c.loop-course.caller) xs p.journal.spare p.room) c.in-Some.ensures.items
     c.loop-course.invariant.0 in
     let few = reports-within p.number (queue p.waits (by_group c.args.group c.in-Some.course.port)).waits in
-    let room = h.room in
-    omega (arith, few, room)
+    let entries = h.spare in
+    let packets = h.room in
+    let clock = h.clock in
+    record {
+      kind = All-head IsPort c.in-Some.course.port (ports_of c.pop_front.new.self.items) h.kinds;
+      spare = omega (arith, entries);
+      room = omega (arith, few, packets);
+      clock = omega (arith, clock);
+    }
 
 pub loop-course-preserved : goal.loop-course-preserved
 loop-course-preserved c =

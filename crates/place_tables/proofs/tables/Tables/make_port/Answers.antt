@@ -14,9 +14,9 @@ make-requires-clause-not_held c =
     let i = c.self.inside in
     let kept = c.self.invariant.2 in
     let turns = some-turns i.layout i.number c.self.invariant.2.place in
-    let next = c.requires.next ∙ sym (ap (λ p. next_port (state p) c.args.actor) c.self.view_is) in
+    let next = c.requires.may.next ∙ sym (ap (λ p. next_port (state p) c.args.actor) c.self.view_is) in
     let name = ap (λ u. u.number) next in
-    let home = ap (λ p. creation_place p.layout c.args.actor) c.self.view_is ∙ c.requires.home ∙ sym (ap (λ p. p.number) c.self.view_is) in
+    let home = ap (λ p. creation_place p.layout c.args.actor) c.self.view_is ∙ c.requires.may.home ∙ sym (ap (λ p. p.number) c.self.view_is) in
     absent-next i.layout i.number i.journal.past i.ports.records c.args.port kept.held kept.numbered
     (creation-next i.layout i.number i.journal.past c.args.actor c.args.port turns home (ap (λ u. u.site) next) name) name
 
@@ -25,10 +25,10 @@ invariant_of-self-2 c =
     let i = c.self.inside in
     let act = Act.Make c.args.port c.args.actor c.args.capacity in
     let turns = some-turns i.layout i.number c.self.invariant.2.place in
-    let next = c.requires.next ∙ sym (ap (λ p. next_port (state p) c.args.actor) c.self.view_is) in
-    let home = ap (λ p. creation_place p.layout c.args.actor) c.self.view_is ∙ c.requires.home ∙ sym (ap (λ p. p.number) c.self.view_is) in
-    let actor = ap (λ p. has_actor p.layout c.args.actor) c.self.view_is ∙ c.requires.actor in
-    let few = ap (λ p. is_full_of_ports p.layout p.journal.past) c.self.view_is ∙ c.requires.few in
+    let next = c.requires.may.next ∙ sym (ap (λ p. next_port (state p) c.args.actor) c.self.view_is) in
+    let home = ap (λ p. creation_place p.layout c.args.actor) c.self.view_is ∙ c.requires.may.home ∙ sym (ap (λ p. p.number) c.self.view_is) in
+    let actor = ap (λ p. has_actor p.layout c.args.actor) c.self.view_is ∙ c.requires.may.actor in
+    let few = ap (λ p. is_full_of_ports p.layout p.journal.past) c.self.view_is ∙ c.requires.may.few in
     let said = said-by i.number act c.args.caller.now i.journal c.say.new.journal c.say.ensures.journal in (
       ap (λ j. j.layout) c.say.ensures.journal ∙ c.self.invariant.0,
       c.self.invariant.1,
@@ -41,8 +41,8 @@ pub say-requires-clause-follows : goal.say-requires-clause-follows
 say-requires-clause-follows c =
     let i = c.self.inside in
     let turns = some-turns i.layout i.number c.self.invariant.2.place in
-    let next = c.requires.next ∙ sym (ap (λ p. next_port (state p) c.args.actor) c.self.view_is) in
-    let actor = ap (λ p. has_actor p.layout c.args.actor) c.self.view_is ∙ c.requires.actor in
-    let few = ap (λ p. is_full_of_ports p.layout p.journal.past) c.self.view_is ∙ c.requires.few in
+    let next = c.requires.may.next ∙ sym (ap (λ p. next_port (state p) c.args.actor) c.self.view_is) in
+    let actor = ap (λ p. has_actor p.layout c.args.actor) c.self.view_is ∙ c.requires.may.actor in
+    let few = ap (λ p. is_full_of_ports p.layout p.journal.past) c.self.view_is ∙ c.requires.may.few in
     let can = can-make-next i.layout i.number i.journal.past c.args.actor c.args.port turns actor (ap (λ u. u.site) next) (ap (λ u. u.number) next) few in
     listed i.journal.layout c.args.port (ap (λ u. u.kind) next) (ap (λ l. can_make_port l c.args.port) c.self.invariant.0 ∙ can)

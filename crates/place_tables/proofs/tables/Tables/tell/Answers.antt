@@ -32,7 +32,7 @@ invariant_of-self c =
     let space = ap (λ p. p.room) c.self.view_is in
     let room = c.requires.room in
     let count = length-map (report i.number w.home x a) (packed_at c.clock-clock.result i.number) in
-    let teaches = subst (λ l. MayTeach l k.port (taught a)) (sym (ap (λ p. p.layout) c.self.view_is)) c.requires.teaches in (
+    let teaches = subst (λ l. MayTeach l k.port (taught a)) (sym (ap (λ p. p.layout) c.self.view_is)) c.requires.may.teaches in (
       ap (λ j. j.layout) c.say.ensures.journal ∙ c.self.invariant.0,
       boxed-more i.layout i.puts.items c.put_report.new.puts.items loads i.out (length loads) c.self.invariant.1 c.put_report.ensures.items (omega arith) (omega (arith, all, seen, space, room, count)),
       record {
