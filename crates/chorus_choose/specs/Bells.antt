@@ -3,8 +3,8 @@ use Rattle.std.specs.Prelude.{ℕ}
 use Rattle.std.specs.Arc.{arc_value}
 use Rattle.atomic_table.specs.Seated.{TableId}
 use Rattle.crossbeam_utils.specs.Token.{parker_view}
-use Rattle.chorus_choose.specs.declared.ends.Ringer.{Ringer}
-use Rattle.chorus_choose.specs.declared.ends.Waiter.{Waiter}
+use Rattle.chorus_choose.specs.declared.bell_ends.Ringer.{Ringer}
+use Rattle.chorus_choose.specs.declared.bell_ends.Waiter.{Waiter}
 
 -- which bell it is of
 abbrev pub ringer_bell : Ringer → TableId

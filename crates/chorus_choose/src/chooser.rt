@@ -52,7 +52,7 @@ fn place_of(enabled: &[Enabled], priority: u8) -> usize
     enabled.len()
 }
 
-/// Where the port stands, or the length.
+/// Where the port stands among the enabled ones; where it is not enabled, how many these are.
 fn index_of(enabled: &[Enabled], port: Ui) -> usize
     ensures value { result ≡ index_of port enabled.now }
     ensures within { result ≤ length enabled.now }
@@ -66,7 +66,7 @@ fn index_of(enabled: &[Enabled], port: Ui) -> usize
 }
 
 impl Chooser {
-    /// No port is enabled, and there is room for 32. The only error is want of memory.
+    /// A chooser with no port enabled, and with room for 32. The only error is want of memory.
     pub fn start(alloc: Global) -> Result<Chooser, AllocError>
         ensures { IfOk result (λ c. c ≡ []) }
     {

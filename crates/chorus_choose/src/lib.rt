@@ -9,9 +9,9 @@
 //! `specs/Bells.antt`.
 #![tactic(auto)]
 
-mod bells;
+mod bell;
+mod bell_ends;
 mod chooser;
-mod ends;
 mod fault;
 mod laws;
 mod received;
@@ -19,9 +19,9 @@ mod receiving;
 mod rule;
 mod waiting;
 
-pub use bells::bell;
+pub use bell::bell;
+pub use bell_ends::{Ringer, Waiter};
 pub use chooser::{Chooser, ENABLED_LIMIT, Enabled};
-pub use ends::{Ringer, Waiter};
 pub use fault::{EnableFault, NotEnabled};
 pub use laws::looking_order;
 pub use received::{Received, Waited};

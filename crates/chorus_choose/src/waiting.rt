@@ -7,8 +7,8 @@ ghost use Rattle.chorus_choose.specs.Rounds.{IsReceive};
 ghost use Rattle.chorus_choose.specs.Waits.{WaitsAndReceives};
 ghost use Rattle.chorus_choose.specs.Bells.{waits_of, waiter_bell};
 
+use crate::bell_ends::Waiter;
 use crate::chooser::Chooser;
-use crate::ends::Waiter;
 use crate::received::{Received, Waited};
 use chorus_nucleus::{CallFault, Nucleus, Pass};
 use chorus_take::take_when_free;

@@ -14,7 +14,7 @@ use Rattle.chorus_nucleus.specs.declared.nucleus.Nucleus.{Nucleus}
 use Rattle.chorus_crew.specs.declared.job.Job.{Job}
 use Rattle.chorus_crew.specs.declared.job.Done.{Done}
 use Rattle.chorus_crew.specs.declared.rule.Share.{Share}
-use Rattle.chorus_crew.specs.declared.steal.Hand.{Hand}
+use Rattle.chorus_crew.specs.declared.worker.Hand.{Hand}
 use Rattle.chorus_crew.specs.Jobs.{IsJobOf, IsDoneOf, AreDoneOf, IsNumbered, indices}
 use Rattle.chorus_crew.specs.Rule.{share}
 use Rattle.chorus_crew.specs.Deals.{IsDealt, AreReady}

@@ -8,10 +8,10 @@ ghost use Rattle.chorus_crew.specs.Pairs.{are_pairs};
 ghost use Rattle.chorus_crew.specs.Retiring.{IsRetired};
 ghost use Rattle.chorus_crew.specs.Tools.{AreTools};
 
-use crate::dealing::do_jobs;
-use crate::entering::enter_all;
+use crate::doing::do_jobs;
 use crate::fault::CrewFault;
 use crate::handler::{Handled, Handler};
+use crate::making_jobs::enter_all;
 use crate::retiring::retire_done;
 use crate::tools::{Tools, tools_for};
 use chorus_nucleus::{Nucleus, Pass};

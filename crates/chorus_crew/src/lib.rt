@@ -6,24 +6,24 @@
 //! takes, and no pass is lost.
 //!
 //! Begin with `specs/Handling.antt` (what a job's pass leaves), then `specs/Rule.antt` (what the deque keeps),
-//! `dealing` (the threads) and `crews`.
+//! `doing` (the threads) and `crews`.
 #![tactic(auto)]
 
 mod crews;
-mod deal;
-mod dealing;
-mod entering;
+mod deque_start;
+mod doing;
+mod draining;
 mod fault;
 mod gather;
 mod handler;
 mod job;
+mod making_jobs;
 mod pairs;
-mod perform;
-mod place;
 mod retiring;
 mod rule;
-mod steal;
+mod slots;
 mod tools;
+mod worker;
 
 pub use crews::crew;
 pub use fault::CrewFault;

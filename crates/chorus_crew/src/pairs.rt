@@ -38,7 +38,7 @@ fn are_distinct(pairs: &[(Ui, Ui)]) -> bool
     }
 }
 
-/// Whether each has the name of a port and that of an actor of the layout.
+/// Whether each pair has the name of a port and that of an actor of the layout.
 fn are_named(layout: Layout, pairs: &[(Ui, Ui)]) -> bool
     ensures { result ≡ list_all (is_pair layout) pairs.now }
 {

@@ -8,7 +8,7 @@ ghost use Rattle.chorus_crew.specs.Tools.{AreTools};
 use crate::job::{Done, Job};
 use crate::pairs::PAIRS_LIMIT;
 use crate::rule::{Owner, Thief};
-use crate::steal::Hand;
+use crate::worker::Hand;
 use std::alloc::{AllocError, Global};
 
 /// What the jobs are shared by, done with and collected in.

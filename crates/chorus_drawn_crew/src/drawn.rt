@@ -11,7 +11,7 @@ ghost use Rattle.chorus_drawn_crew.specs.Takes.{HasCrewed};
 ghost use Rattle.chorus_drawn_crew.specs.Ends.{EndsAsCrew, EndsWorn};
 
 use crate::handling::fill_and_handle;
-use crate::printing::text_of;
+use crate::text::text_of;
 use chorus_crew::Handled;
 use chorus_io::Sink;
 use chorus_net::Closed;

@@ -13,7 +13,7 @@ mod drawn;
 mod filling;
 mod handling;
 mod names;
-mod printing;
+mod text;
 mod value;
 
 pub use counting::DRAWS_LIMIT;

@@ -14,7 +14,7 @@ use Rattle.law_replay.specs.Shown.{race_of}
 use Rattle.chorus_scene.specs.Scene.{Scene}
 use Rattle.chorus_net.specs.Sites.{net}
 use Rattle.chorus_explore.specs.declared.candidates.Candidate.{Candidate}
-use Rattle.chorus_explore.specs.declared.stage.Stage.{Stage}
+use Rattle.chorus_explore.specs.declared.race_sites.Stage.{Stage}
 use Rattle.chorus_explore.specs.Candidates.{sleeps_behind}
 use Rattle.chorus_explore.specs.Stages.{IsNext, IsPlaceFor, IsReached, candidate_behind, coming, moves_of, position}
 use Rattle.chorus_explore.proofs.Moving.{carry-comes, goes-by, next-may, one-comes, script-place}

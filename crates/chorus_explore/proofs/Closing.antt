@@ -15,8 +15,8 @@ use Rattle.law_network.specs.Left.{journals, placed, placed_in}
 use Rattle.law_explore.specs.Outcome.{answer_facts, message_facts, port_facts, outcome_with, posts_in}
 use Rattle.chorus_scene.specs.Scene.{Scene}
 use Rattle.chorus_net.specs.Sites.{net}
-use Rattle.chorus_explore.specs.declared.stage.Progress.{Progress}
-use Rattle.chorus_explore.specs.declared.stage.Stage.{Stage}
+use Rattle.chorus_explore.specs.declared.race_sites.Progress.{Progress}
+use Rattle.chorus_explore.specs.declared.race_sites.Stage.{Stage}
 use Rattle.explore_facts.specs.Facts.{fact_line, outcome_lines}
 use Rattle.explore_facts.specs.Outcomes.{message_lines, made_lines}
 use Rattle.chorus_explore.specs.Stages.{IsReached, comes, moves_of, position, posted_lines}

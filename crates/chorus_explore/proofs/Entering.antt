@@ -15,7 +15,7 @@ use Rattle.chorus_place.specs.declared.fault.PlaceFault.{PlaceFault}
 use Rattle.chorus_net.specs.Worn.{compared_by}
 use Rattle.chorus_replay.specs.Order.{in_schedule, left_from, order}
 use Rattle.chorus_replay.specs.Performing.{IsBefore, IsWornAt, to_follow}
-use Rattle.chorus_explore.specs.declared.stage.Stage.{Stage}
+use Rattle.chorus_explore.specs.declared.race_sites.Stage.{Stage}
 use Rattle.chorus_explore.specs.Stages.{IsReached, MayWear, may_go, moves_of, position}
 use Rattle.chorus_explore.proofs.Racing.{base, map-reverse}
 

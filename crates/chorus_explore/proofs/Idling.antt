@@ -19,7 +19,7 @@ use Rattle.chorus_scene.specs.Scene.{Scene}
 use Rattle.chorus_explore.specs.declared.candidates.Candidate.{Candidate}
 use Rattle.chorus_explore.specs.declared.exploring.Search.{Search}
 use Rattle.chorus_explore.specs.declared.levels.Level.{Level}
-use Rattle.chorus_explore.specs.declared.stage.Stage.{Stage}
+use Rattle.chorus_explore.specs.declared.race_sites.Stage.{Stage}
 use Rattle.chorus_explore.specs.Candidates.{same_move, candidate_at, candidates_at, sleeps_behind, find_candidate, is_candidate, brings_nothing, is_or_sleeps, all_sleep, leads_nowhere_by, leads_nowhere, is_kept}
 use Rattle.chorus_explore.specs.Levels.{pending_at, AreLevels, AreIdle, IsComing, IsKeptIdle, LeadsNowhere}
 use Rattle.chorus_explore.specs.Searches.{HasCome, IsSearch, IsTaking, levels_of, path_of}

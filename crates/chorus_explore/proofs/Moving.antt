@@ -24,8 +24,8 @@ use Rattle.chorus_scene.specs.Scene.{Scene, Script}
 use Rattle.chorus_net.specs.Sites.{net}
 use Rattle.chorus_net.proofs.Rounds.{numbers-more}
 use Rattle.chorus_explore.specs.declared.candidates.Candidate.{Candidate}
-use Rattle.chorus_explore.specs.declared.stage.Progress.{Progress}
-use Rattle.chorus_explore.specs.declared.stage.Stage.{Stage}
+use Rattle.chorus_explore.specs.declared.race_sites.Progress.{Progress}
+use Rattle.chorus_explore.specs.declared.race_sites.Stage.{Stage}
 use Rattle.explore_facts.specs.Facts.{fact_line}
 use Rattle.chorus_explore.specs.Stages.{AreAt, AreProgress, IsNext, IsOfScript, IsReached, candidate_behind, coming, may_go, moves_of, position}
 use Rattle.chorus_explore.proofs.Racing.{CallerAt, actor-at, caller-at, first-at, position-layout, race-layout}

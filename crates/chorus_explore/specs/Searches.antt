@@ -12,7 +12,7 @@ use Rattle.explore_report.specs.declared.explored.Explored.{Explored}
 use Rattle.chorus_explore.specs.declared.exploring.Search.{Search}
 use Rattle.chorus_explore.specs.declared.levels.TheConstants.{MOVES_LIMIT}
 use Rattle.chorus_explore.specs.declared.levels.Level.{Level}
-use Rattle.chorus_explore.specs.declared.stage.Stage.{Stage}
+use Rattle.chorus_explore.specs.declared.race_sites.Stage.{Stage}
 use Rattle.chorus_explore.specs.Candidates.{candidate_at, candidates_at}
 use Rattle.explore_report.specs.Findings.{AreFindings, HaveSums}
 use Rattle.chorus_explore.specs.Levels.{AreLevels, AreFoundOrPending, AreIdle, IsComing}

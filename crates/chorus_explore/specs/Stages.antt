@@ -20,8 +20,8 @@ use Rattle.chorus_net.specs.Sites.{SitesState, net}
 use Rattle.chorus_net.specs.Worn.{compared_by}
 use Rattle.chorus_replay.specs.Performing.{IsWornAt}
 use Rattle.chorus_explore.specs.declared.candidates.Candidate.{Candidate}
-use Rattle.chorus_explore.specs.declared.stage.Progress.{Progress}
-use Rattle.chorus_explore.specs.declared.stage.Stage.{Stage}
+use Rattle.chorus_explore.specs.declared.race_sites.Progress.{Progress}
+use Rattle.chorus_explore.specs.declared.race_sites.Stage.{Stage}
 use Rattle.chorus_explore.specs.Candidates.{sleeps_behind}
 use Rattle.explore_facts.specs.Facts.{fact_line, outcome_lines}
 use Rattle.explore_facts.specs.Outcomes.{message_lines}

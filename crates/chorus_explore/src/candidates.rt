@@ -23,7 +23,7 @@ pub(crate) const NO_CANDIDATE: Candidate = Candidate {
     is_asleep: true,
 };
 
-/// Whether they are one move.
+/// Whether the two moves are one.
 pub(crate) fn is_same(one: Move, other: Move) -> bool
     ensures { result ≡ same_move one other }
 {
@@ -62,7 +62,7 @@ pub(crate) fn sleeps(mv: Move, taken: Candidate, before: &[Candidate]) -> bool
     false
 }
 
-/// The candidate that the move is. None where it is none of these.
+/// The candidate that the move is. None where it is no candidate.
 fn find(mv: Move, candidates: &[Candidate]) -> Option<Candidate>
     ensures { result ≡ find_candidate mv candidates.now }
 {
@@ -74,7 +74,7 @@ fn find(mv: Move, candidates: &[Candidate]) -> Option<Candidate>
     None
 }
 
-/// Whether the move is one of these.
+/// Whether the move is one of the candidates.
 fn is_candidate(mv: Move, candidates: &[Candidate]) -> bool
     ensures { result ≡ is_candidate mv candidates.now }
 {
@@ -111,7 +111,7 @@ fn is_or_sleeps(mv: Move, taken: Candidate, before: &[Candidate]) -> bool
     sleeps(mv, taken, before)
 }
 
-/// Whether all others are asleep behind the candidate.
+/// Whether all other candidates are asleep behind the candidate.
 fn all_sleep(taken: Candidate, candidates: &[Candidate]) -> bool
     ensures { result ≡ all_sleep taken candidates.now candidates.now }
 {

@@ -38,7 +38,7 @@ pub fn explore<S: Source, K: Sink>(
     }
 }
 
-/// Writes the text.
+/// Writes the text of what may come.
 fn write<K: Sink>(sink: &mut K, text: &[u8]) -> Status
     ensures status { (result ≡ Status.Done) ⊎ (result ≡ Status.WriteFault) }
     ensures written { Writes result (K.held sink.old) (K.held sink.new) text.now }

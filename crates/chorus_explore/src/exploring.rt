@@ -14,7 +14,7 @@ ghost use Rattle.chorus_explore.specs.Stages.{AreFresh, IsReached, MayWear, move
 
 use crate::candidates::{Candidate, NO_CANDIDATE, leads_nowhere};
 use crate::levels::{Level, MOVES_LIMIT};
-use crate::stage::Stage;
+use crate::race_sites::Stage;
 use chorus_net::Sites;
 use chorus_place::PlaceFault;
 use chorus_scene::Scenario;

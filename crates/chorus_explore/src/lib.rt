@@ -5,7 +5,7 @@
 //! end, each with a schedule that shows it. [`explore_scenario`] gives that text. A layer above rests on
 //! `specs/Ends.antt` and `specs/Explored.antt`, which say what is promised.
 //!
-//! Begin with `exploration` and with `exploring`, the search: it keeps what `specs/Searches.antt` says. `stage`
+//! Begin with `exploration` and with `exploring`, the search: it keeps what `specs/Searches.antt` says. `race_sites`
 //! performs the moves. What they came to `explore_facts` tells, and `explore_report` counts it and writes it down.
 #![tactic(auto)]
 
@@ -14,7 +14,7 @@ mod ending;
 mod exploration;
 mod exploring;
 mod levels;
-mod stage;
+mod race_sites;
 
 pub use ending::explore;
 pub use exploration::{ExploreFault, explore_scenario};

@@ -93,7 +93,7 @@ impl Sites {
         })
     }
 
-    /// The layout.
+    /// The layout of the sites.
     pub fn layout(&self) -> Layout
         ensures value { result ≡ self.now.layout }
         ensures shape { IsLayout self.now.layout }

@@ -18,8 +18,8 @@ use Rattle.law_machine.specs.Replies.{reply}
 use Rattle.chorus_place.specs.Calls.{Place, state}
 use Rattle.chorus_place.specs.declared.fault.PlaceFault.{PlaceFault}
 use Rattle.chorus_place.specs.declared.fault.PlaceFault.TheVariants as faults
-use Rattle.chorus_serve.specs.declared.pump.Pump.{Pump}
-use Rattle.chorus_serve.specs.declared.pump.Pump.TheVariants as pumps
+use Rattle.chorus_serve.specs.declared.served.Pump.{Pump}
+use Rattle.chorus_serve.specs.declared.served.Pump.TheVariants as pumps
 use Rattle.chorus_serve.specs.Desks.{DeskState, seen}
 use Rattle.chorus_serve.specs.Serving.{AreEmptied}
 use Rattle.chorus_ruled_ends.specs.Ruled.{Ruled, links}

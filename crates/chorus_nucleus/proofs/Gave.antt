@@ -17,8 +17,8 @@ use Rattle.law_closing.specs.Remarks.{turns_in, remarked}
 use Rattle.law_closing.specs.Growth.{noted}
 use Rattle.law_closing.specs.Places.{PlaceNote}
 use Rattle.law_closing.proofs.Growth.{turns_in-append, turns_in-placed, turns_at-remarked}
-use Rattle.chorus_serve.specs.declared.pump.Pump.{Pump}
-use Rattle.chorus_serve.specs.declared.pump.Pump.TheVariants as pumps
+use Rattle.chorus_serve.specs.declared.served.Pump.{Pump}
+use Rattle.chorus_serve.specs.declared.served.Pump.TheVariants as pumps
 use Rattle.place_site.specs.Turning.{TakesTurn, Looks}
 use Rattle.chorus_nucleus.specs.Calls.{gave, Serves}
 

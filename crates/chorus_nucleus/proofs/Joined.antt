@@ -16,7 +16,7 @@ use Rattle.chorus_place.specs.Calls.{Place, is_call}
 use Rattle.chorus_place.specs.CallTurns.{GaveWithinPosts}
 use Rattle.chorus_place.specs.declared.fault.PlaceFault.{PlaceFault}
 use Rattle.chorus_ruled_ends.specs.Ruled.{Ruled}
-use Rattle.chorus_serve.specs.declared.pump.Pump.{Pump}
+use Rattle.chorus_serve.specs.declared.served.Pump.{Pump}
 use Rattle.chorus_turn.specs.declared.turns.Busy.{Busy}
 use Rattle.chorus_turn.specs.declared.pass.Pass as turner
 use Rattle.chorus_turn.specs.declared.knowledge.Knowledge.{Knowledge}
@@ -30,7 +30,7 @@ use Rattle.place_site.specs.Jobs.{MayAct, Acted, ServedAt}
 use Rattle.place_site.specs.Turning.{NotesAct, NotesServe}
 use Rattle.chorus_nucleus.specs.declared.nucleus.Nucleus.{Nucleus}
 use Rattle.chorus_nucleus.specs.declared.pass.Pass.{Pass}
-use Rattle.chorus_nucleus.specs.declared.sight.Sight.{Sight}
+use Rattle.chorus_nucleus.specs.declared.board_readers.Sight.{Sight}
 use Rattle.chorus_nucleus.specs.declared.fault.CallFault.{CallFault}
 use Rattle.chorus_nucleus.specs.Passes.{AreSites, Reads, IsSight, IsCallerOf, IsPassOf, mark_of}
 use Rattle.chorus_nucleus.specs.Calls.{answered, worn_after, IsCall, IsPump}

@@ -20,8 +20,8 @@ use Rattle.law_machine.specs.Replies.{reply}
 use Rattle.law_machine.specs.Outcomes.{outcome}
 use Rattle.chorus_place.specs.declared.fault.PlaceFault.{PlaceFault}
 use Rattle.chorus_place.specs.declared.fault.PlaceFault.TheVariants as faults
-use Rattle.chorus_serve.specs.declared.pump.Pump.{Pump}
-use Rattle.chorus_serve.specs.declared.pump.Pump.TheVariants as pumps
+use Rattle.chorus_serve.specs.declared.served.Pump.{Pump}
+use Rattle.chorus_serve.specs.declared.served.Pump.TheVariants as pumps
 use Rattle.chorus_serve.specs.Desks.{DeskState}
 use Rattle.chorus_serve.specs.Serving.{KeepsInHand, IsIdle, IsWornBy, AreEmptied}
 use Rattle.chorus_turn.specs.declared.turns.Busy.{Busy}

@@ -20,7 +20,7 @@ pub(crate) fn answer<T: Drop>(done: Result<Result<T, PlaceFault>, Busy>) -> Resu
     }
 }
 
-/// The same of a publish.
+/// The answer of a publish, from that of its turn.
 pub(crate) fn answer_publish(done: Result<Result<(), AllocError>, Busy>) -> Result<(), CallFault>
     ensures { result ≡ answered_publish done }
 {

@@ -11,6 +11,7 @@
 
 mod acting;
 mod answers;
+mod board_readers;
 mod close;
 mod coming;
 mod commands;
@@ -20,7 +21,6 @@ mod locate;
 mod nucleus;
 mod pass;
 mod pump;
-mod sight;
 mod starting;
 
 pub use close::CloseFault;

@@ -3,7 +3,7 @@ ghost use Rattle.std.specs.Prelude.{◌≡◌, ◌≤◌, length};
 ghost use Rattle.law_network.specs.Calls.{first_actor};
 ghost use Rattle.chorus_nucleus.specs.Passes.{known, caller_of, worn_by, readers_at};
 
-use crate::sight::Sight;
+use crate::board_readers::Sight;
 use chorus_calls::Caller;
 use chorus_turn::Pass as Turner;
 use chorus_ui::{Kind, Ui};
@@ -37,35 +37,35 @@ pub(crate) fn take_caller(pass: &mut Pass) -> Caller
 }
 
 impl Pass {
-    /// Its number, which is its caller's seat.
+    /// The number of the pass, which is its caller's seat.
     pub fn seat(&self) -> u32
         ensures { result ≡ (known self.now).seat }
     {
         self.turner.seat()
     }
 
-    /// How many passes were retired into it, also through others.
+    /// How many passes were retired into this one, also through others.
     pub fn ended(&self) -> u32
         ensures { result ≡ length (known self.now).notes }
     {
         self.turner.ended()
     }
 
-    /// Whether it is the keeper, the one pass that draws numbers.
+    /// Whether the pass is the keeper, the one that draws numbers.
     pub fn keeper(&self) -> bool
         ensures { result ≡ (known self.now).keeper }
     {
         self.turner.keeper()
     }
 
-    /// For the keeper the count of numbers drawn, at most 1,048,576; 0 for any other pass.
+    /// How many numbers the keeper has drawn, at most 1,048,576; 0 for any other pass.
     pub fn made(&self) -> u32
         ensures { result ≡ (known self.now).made }
     {
         self.turner.made()
     }
 
-    /// How many messages its caller posted.
+    /// How many messages the caller of the pass posted.
     pub fn posts(&self) -> u32
         ensures { result ≡ (caller_of self.now).posts }
     {
@@ -80,7 +80,8 @@ impl Pass {
         self.worn
     }
 
-    /// How many readers of the board of this place, numbered from 1, it has for others; 0 where it is not the keeper.
+    /// How many readers of the board of this place, numbered from 1, the pass has for others; 0 where it is not the
+    /// keeper.
     pub fn readers(&self, place: u16) -> usize
         requires { 1 ≤ place }
         ensures { result ≡ readers_at place self.now }

@@ -11,8 +11,8 @@ use Rattle.chorus_entry.specs.declared.packet.Packet.{Packet}
 use Rattle.chorus_calls.specs.Callers.{Seated}
 use Rattle.law_machine.specs.declared.reply.Reply.{Reply}
 use Rattle.law_machine.specs.PlaceState.{PlaceState}
-use Rattle.chorus_serve.specs.declared.pump.Pump.{Pump}
-use Rattle.chorus_serve.specs.declared.pump.Pump.TheVariants as pumps
+use Rattle.chorus_serve.specs.declared.served.Pump.{Pump}
+use Rattle.chorus_serve.specs.declared.served.Pump.TheVariants as pumps
 use Rattle.chorus_turn.specs.declared.knowledge.Placed.{Placed}
 use Rattle.chorus_turn.specs.declared.knowledge.Knowledge.{Knowledge}
 use Rattle.chorus_turn.specs.Journals.{with_place}

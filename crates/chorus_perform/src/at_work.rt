@@ -31,7 +31,7 @@ pub(crate) struct Told {
 }
 
 impl Told {
-    /// Nothing yet.
+    /// What a thread has told at first: nothing.
     pub(crate) fn new() -> Told {
         Told {
             idle: 0,
@@ -41,7 +41,7 @@ impl Told {
 }
 
 impl AtWork {
-    /// So many threads, all at work.
+    /// What threads share at first: so many of them, all at work.
     pub(crate) fn new(threads: u32) -> AtWork {
         AtWork {
             count: AtomicU32::new(threads),
@@ -62,7 +62,8 @@ impl AtWork {
         }
     }
 
-    /// Tells what came of a sweep: whether it worked off a packet, and what its places have under way, where it saw that of each.
+    /// Tells the other threads what came of a sweep: whether it worked off a packet, and what the thread's places have
+    /// under way, where it saw that of each.
     pub(crate) fn note(&self, told: &mut Told, served: bool, under_way: Option<u64>) {
         if let Some(now) = under_way {
             self.under_way

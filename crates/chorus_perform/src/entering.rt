@@ -73,7 +73,7 @@ pub(crate) fn retire(
     all
 }
 
-/// Retires one. True where it performed all of its script.
+/// Retires the pass of one script. True where it performed all of that script.
 fn retire_one(nucleus: &Nucleus, runner: Runner, pass: &mut Pass) -> bool
     requires pass { IsPassOf nucleus.now pass.old }
     requires own { IsPassOf nucleus.now runner.pass }

@@ -22,7 +22,7 @@ pub(crate) struct Lately {
 }
 
 impl Lately {
-    /// Before the first sweep, which goes over all places.
+    /// What was found before the first sweep, which goes over all places: nothing.
     pub(crate) fn new() -> Lately {
         Lately {
             found: 0,

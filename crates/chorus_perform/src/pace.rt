@@ -15,7 +15,7 @@ pub(crate) struct Pace {
 }
 
 impl Pace {
-    /// Behind each command.
+    /// The pace at first: a pump behind each command.
     pub(crate) fn new() -> Pace {
         Pace { apart: 1, since: 0 }
     }

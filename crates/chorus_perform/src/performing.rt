@@ -50,7 +50,7 @@ pub fn perform<R: Threads + Wait + Sync, G: Gate>(
     }
 }
 
-/// The same, without the reason.
+/// Performs the setup and the scripts, and works off what is left. An error does not say why all stopped.
 fn perform_all<R: Threads + Wait + Sync, G: Gate>(
     alloc: Global,
     rt: &R,

@@ -45,6 +45,7 @@ fn push_lawful(entries: &[Entry], number: u32, y: u64, out: &mut Vec<u8>) -> Res
     Ok(())
 }
 
+/// Appends what stands before the summary: that so many entries are all lawful, where the rows end at y.
 #[tactic(auto, unfolding(crate::specs::Found::lawful_front))]
 fn push_lawful_front(number: u64, y: u64, out: &mut Vec<u8>) -> Result<(), AllocError>
     requires { y < 2 ^ 50 }
@@ -73,6 +74,7 @@ fn push_wrong(text: &[u8], line: u32, rule: u8, y: u64, out: &mut Vec<u8>) -> Re
     Ok(())
 }
 
+/// Appends what stands before the bytes of the wrong line: its number, where the rows end at y.
 #[tactic(auto, unfolding(crate::specs::Found::wrong_front))]
 fn push_wrong_front(line: u64, y: u64, out: &mut Vec<u8>) -> Result<(), AllocError>
     requires { y < 2 ^ 50 }
@@ -85,6 +87,7 @@ fn push_wrong_front(line: u64, y: u64, out: &mut Vec<u8>) -> Result<(), AllocErr
     )
 }
 
+/// Appends what stands before the words of a rule that is broken: its number, where the rows end at y.
 #[tactic(auto, unfolding(crate::specs::Found::rule_front))]
 fn push_rule_front(rule: u64, y: u64, out: &mut Vec<u8>) -> Result<(), AllocError>
     requires { y < 2 ^ 50 }
@@ -139,6 +142,7 @@ pub(crate) fn push_foot(y: u64, out: &mut Vec<u8>) -> Result<(), AllocError>
     Ok(())
 }
 
+/// Appends the tag that begins the legend, where the rows end at y.
 #[tactic(auto, unfolding(crate::specs::Found::foot_front))]
 fn push_foot_front(y: u64, out: &mut Vec<u8>) -> Result<(), AllocError>
     requires { y < 2 ^ 50 }

@@ -32,6 +32,7 @@ pub(crate) fn push_front(
     Ok(())
 }
 
+/// Appends the tag that begins the document, of this width and height.
 #[tactic(auto, unfolding(crate::specs::Sheet::opening_tag))]
 fn push_opening(width: u64, height: u64, out: &mut Vec<u8>) -> Result<(), AllocError>
     ensures { OnOk result (out.new.items ≡ out.old.items ++ opening_tag width height) }
@@ -43,6 +44,7 @@ fn push_opening(width: u64, height: u64, out: &mut Vec<u8>) -> Result<(), AllocE
     )
 }
 
+/// Appends the paper that all stands on, of this width and height.
 #[tactic(auto, unfolding(crate::specs::Sheet::paper))]
 fn push_paper(width: u64, height: u64, out: &mut Vec<u8>) -> Result<(), AllocError>
     ensures { OnOk result (out.new.items ≡ out.old.items ++ paper width height) }
@@ -64,6 +66,7 @@ fn push_lines(columns: &[Column], y: u64, out: &mut Vec<u8>) -> Result<(), Alloc
     Ok(())
 }
 
+/// Appends the line of a column, which is at x and goes down to y.
 #[tactic(auto, unfolding(crate::specs::Sheet::line_at))]
 fn push_line(x: u64, y: u64, out: &mut Vec<u8>) -> Result<(), AllocError>
     ensures { OnOk result (out.new.items ≡ out.old.items ++ line_at x y) }
@@ -87,7 +90,7 @@ pub(crate) fn push_bars_left(
     Ok(())
 }
 
-/// Appends those of one column.
+/// Appends the bars of the ports that are held in one column after the last entry, down to y.
 fn push_column_bars(
     column: &Column,
     tables: &Tables,
@@ -187,6 +190,7 @@ fn push_column_heads(
     Ok(())
 }
 
+/// Appends the band of the head that begins at y, with the words clock, caller and entry over their texts.
 #[tactic(auto, unfolding(crate::specs::Sheet::band))]
 fn push_band(right: u64, y: u64, out: &mut Vec<u8>) -> Result<(), AllocError>
     requires right { right < 2 ^ 40 }
@@ -233,6 +237,7 @@ fn site_of(layout: Layout, place: u16) -> u64
     u64::from(place.saturating_sub(1) / layout.turns()) + 1
 }
 
+/// Appends the numbers of site and place beside the line of a column at x, in the head that begins at y.
 #[tactic(auto, unfolding(crate::specs::Sheet::place_head))]
 fn push_place_head(
     x: u64,
@@ -267,6 +272,7 @@ fn push_lane_heads(column: &Column, y: u64, out: &mut Vec<u8>) -> Result<(), All
     Ok(())
 }
 
+/// Appends the name of a port over its lane, turned upright at x and y.
 #[tactic(auto, unfolding(crate::specs::Sheet::lane_head))]
 fn push_lane_head(x: u64, y: u64, port: Ui, out: &mut Vec<u8>) -> Result<(), AllocError>
     ensures { OnOk result (out.new.items ≡ out.old.items ++ lane_head x y port) }
@@ -277,6 +283,7 @@ fn push_lane_head(x: u64, y: u64, port: Ui, out: &mut Vec<u8>) -> Result<(), All
     Ok(())
 }
 
+/// Appends the tag before the name of a port, which turns the name upright at x and y.
 #[tactic(auto, unfolding(crate::specs::Sheet::lane_front))]
 fn push_lane_front(x: u64, y: u64, out: &mut Vec<u8>) -> Result<(), AllocError>
     ensures { OnOk result (out.new.items ≡ out.old.items ++ lane_front x y) }

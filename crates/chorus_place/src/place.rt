@@ -62,14 +62,14 @@ impl Place {
         Ok(Place { tables })
     }
 
-    /// Its layout.
+    /// The layout of the place.
     pub fn layout(&self) -> Layout
         ensures { result ≡ self.now.layout }
     {
         self.tables.layout()
     }
 
-    /// Its number, one of a place of the layout.
+    /// The number of the place, one of the layout.
     pub fn number(&self) -> u16
         ensures value { result ≡ self.now.number }
         ensures in_layout { has_place self.now.layout self.now.number ≡ true }
@@ -77,21 +77,21 @@ impl Place {
         self.tables.number()
     }
 
-    /// Its journal: all its entries, in order.
+    /// The journal of the place: all its entries, in order.
     pub fn journal(&self) -> &[Entry]
         ensures { reverse result.now ≡ self.now.journal }
     {
         self.tables.entries()
     }
 
-    /// The clock of its last entry, or 0.
+    /// The clock of the place's last entry, or 0.
     pub fn clock(&self) -> u64
         ensures { result ≡ last_clock self.now.journal }
     {
         self.tables.clock()
     }
 
-    /// How many ports it holds.
+    /// How many ports the place holds.
     pub fn held(&self) -> u16
         ensures { result ≡ length self.now.ports }
     {
@@ -105,7 +105,8 @@ impl Place {
         self.tables.waiting()
     }
 
-    /// How many packets its turns have put so far. Between two readings it grows by the packets that the turns in between put.
+    /// How many packets the place's turns have put so far. Between two readings the count grows by the packets that the
+    /// turns in between put.
     pub fn puts(&self) -> u64
         ensures { result ≡ self.now.out.puts }
     {

@@ -8,15 +8,15 @@
 
 #![tactic(auto)]
 
-mod circle;
 mod ending;
+mod printed_is_legal;
 mod running;
 mod standard;
 mod started;
 mod starting;
 
-pub use circle::what_is_printed_is_legal;
 pub use ending::{ended, without_words};
+pub use printed_is_legal::what_is_printed_is_legal;
 pub use running::{PROGRAM_SITES, program};
 pub use standard::process;
 pub use started::start_program;

@@ -17,8 +17,8 @@ use Rattle.law_network.specs.Calls.{first_actor, starting, last_of, entering}
 use Rattle.law_network.specs.Tasks.{Task, Do, Drain, commands_in}
 use Rattle.chorus_net.specs.declared.closed.Closed.{Closed}
 use Rattle.chorus_show.specs.declared.status.Status.{Status}
-use Rattle.chorus_replay.specs.declared.drawing.Draw.{Draw}
-use Rattle.chorus_replay.specs.declared.drawing.TheConstants.{LOAD_SITES, SETUP_COMMANDS}
+use Rattle.chorus_replay.specs.declared.draws.Draw.{Draw}
+use Rattle.chorus_replay.specs.declared.draws.TheConstants.{LOAD_SITES, SETUP_COMMANDS}
 use Rattle.chorus_replay.specs.declared.loading.TheConstants.{LOAD_LIMIT}
 use Rattle.chorus_merge.specs.Merge.{merged}
 use Rattle.chorus_show.specs.Summary.{summary_text}

@@ -13,8 +13,8 @@ use Rattle.law_network.specs.Calls.{first_actor, starting, last_of}
 use Rattle.law_network.specs.Tasks.{Task, Do, Drain}
 use Rattle.chorus_net.specs.declared.closed.Closed.{Closed}
 use Rattle.chorus_show.specs.declared.status.Status.{Status}
-use Rattle.chorus_replay.specs.declared.drawing.Draw.{Draw}
-use Rattle.chorus_replay.specs.declared.drawing.TheConstants.{LOAD_SITES}
+use Rattle.chorus_replay.specs.declared.draws.Draw.{Draw}
+use Rattle.chorus_replay.specs.declared.draws.TheConstants.{LOAD_SITES}
 use Rattle.chorus_replay.specs.Order.{after_setup}
 use Rattle.chorus_report.specs.Headline.{Plays}
 use Rattle.chorus_replay.specs.Ordered.{IsOrdered}

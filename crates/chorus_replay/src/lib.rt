@@ -7,19 +7,20 @@
 //! records and packets that are handed out stand for its ports; and each other ending but want of memory has its cause. [`set_up`] and
 //! [`enter`], its first two parts, are there for those who go on by moves of their own.
 //!
-//! Begin with `replaying`. `performing` and `following` perform a scenario, `loading` and `drawing` a load; `closing` closes the sites.
+//! Begin with `replaying`. `performing` and `following` perform a scenario, `loading` and `draws` a load; `closing`
+//! closes the sites.
 
 #![tactic(auto)]
 
 mod closing;
-mod drawing;
+mod draws;
 mod following;
 mod laws;
 mod loading;
 mod performing;
 mod replaying;
 
-pub use drawing::LOAD_SITES;
+pub use draws::LOAD_SITES;
 pub use laws::{a_load_has_one_outcome, a_replay_has_one_outcome};
 pub use loading::{LOAD_LIMIT, load};
 pub use performing::{enter, set_up};

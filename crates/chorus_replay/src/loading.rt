@@ -12,7 +12,7 @@ ghost use Rattle.chorus_replay.specs.Order.{after_setup};
 ghost use Rattle.chorus_replay.specs.Load.{load_layout, load_order, load_setup, to_enter, to_draw};
 
 use crate::closing::close;
-use crate::drawing::{Draw, LOAD_SITES, SETUP_COMMANDS, draw_for, load_actor, setup_command};
+use crate::draws::{Draw, LOAD_SITES, SETUP_COMMANDS, draw_for, load_actor, setup_command};
 use chorus_draw::next_state;
 use chorus_io::Sink;
 use chorus_net::{EnterFault, Sites};

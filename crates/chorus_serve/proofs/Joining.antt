@@ -22,15 +22,15 @@ use Rattle.law_machine.specs.declared.reply.Reply.{Reply}
 use Rattle.chorus_place.specs.Calls.{Place, state, Called, WorkedOff, IsWornBack, Stays}
 use Rattle.chorus_place.specs.Sending.{with_all}
 use Rattle.chorus_place.specs.declared.fault.PlaceFault.{PlaceFault}
-use Rattle.chorus_serve.specs.declared.pump.Pump.{Pump}
-use Rattle.chorus_serve.specs.declared.pump.Pump.TheVariants as pumps
+use Rattle.chorus_serve.specs.declared.served.Pump.{Pump}
+use Rattle.chorus_serve.specs.declared.served.Pump.TheVariants as pumps
 use Rattle.chorus_io.specs.Count.{raised}
 use Rattle.chorus_ends.specs.Links.{Links, Counts}
 use Rattle.law_history.specs.Turns.{puts_to, from_place}
 use Rattle.law_history.specs.PlaceTurns.{as_sent}
 use Rattle.chorus_serve.specs.Flows.{IsOther, Pushes, GoesOut, KeepsAtFull, EmptiesOrFull, WasEmpty, ComesNext, last_from}
 use Rattle.chorus_serve.specs.Desks.{DeskState, IsDesk, in_hand}
-use Rattle.chorus_serve.specs.declared.held.Held.{Held}
+use Rattle.chorus_serve.specs.declared.hand.Held.{Held}
 use Rattle.chorus_serve.specs.Working.{begins_with, AreCounted, Performs, Holds, IsWorkedOff, IsHeldBack, HandlesPacket, IsWornAt}
 use Rattle.chorus_serve.specs.Serving.{Moved, Rests, WorksOff, KeepsInHand, IsIdle, Answers, IsWornBy, SendsOut, TakesUp, FindsNone, LaysDown}
 use Rattle.chorus_serve.proofs.Flowing.{counts-self, counts-on, rose-on, rose-behind, comes-behind, goes-nothing, goes-on, all-length, all-wait}

@@ -5,9 +5,9 @@ use Rattle.chorus_ui.specs.Layout.{places}
 use Rattle.chorus_entry.specs.declared.packet.Packet.{Packet}
 use Rattle.chorus_place.specs.Calls.{Place}
 use Rattle.chorus_ends.specs.Links.{Links}
-use Rattle.chorus_serve.specs.declared.held.Held.{Held}
-use Rattle.chorus_serve.specs.declared.held.Content.{Content}
-use Rattle.chorus_serve.specs.declared.held.Content.TheVariants as contents
+use Rattle.chorus_serve.specs.declared.hand.Held.{Held}
+use Rattle.chorus_serve.specs.declared.hand.Content.{Content}
+use Rattle.chorus_serve.specs.declared.hand.Content.TheVariants as contents
 use Rattle.chorus_serve.specs.Flows.{IsOther}
 
 -- the place, its ends, what is in hand, the place from which the last packet was taken, or 0, and how many packets were

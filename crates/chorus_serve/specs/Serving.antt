@@ -11,8 +11,8 @@ use Rattle.law_machine.specs.Lawful.{is_lawful}
 use Rattle.chorus_place.specs.Calls.{state}
 use Rattle.chorus_io.specs.Count.{raised}
 use Rattle.chorus_ends.specs.Links.{Counts}
-use Rattle.chorus_serve.specs.declared.pump.Pump.{Pump}
-use Rattle.chorus_serve.specs.declared.pump.Pump.TheVariants as pumps
+use Rattle.chorus_serve.specs.declared.served.Pump.{Pump}
+use Rattle.chorus_serve.specs.declared.served.Pump.TheVariants as pumps
 use Rattle.law_history.specs.Turns.{from_place}
 use Rattle.chorus_serve.specs.Flows.{IsOther, GoesOut, EmptiesOrFull, Takes, WasEmpty, ComesNext, last_from}
 use Rattle.chorus_serve.specs.Desks.{DeskState}

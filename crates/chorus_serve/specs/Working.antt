@@ -14,8 +14,8 @@ use Rattle.law_machine.specs.declared.reply.Reply.{Reply}
 use Rattle.law_machine.specs.Lawful.{is_lawful}
 use Rattle.chorus_place.specs.Calls.{state, Called}
 use Rattle.chorus_io.specs.Count.{raised}
-use Rattle.chorus_serve.specs.declared.pump.Pump.{Pump}
-use Rattle.chorus_serve.specs.declared.pump.Pump.TheVariants as pumps
+use Rattle.chorus_serve.specs.declared.served.Pump.{Pump}
+use Rattle.chorus_serve.specs.declared.served.Pump.TheVariants as pumps
 use Rattle.chorus_serve.specs.Desks.{DeskState}
 use Rattle.law_history.specs.Turns.{puts_to}
 use Rattle.law_history.specs.PlaceTurns.{as_sent}

@@ -14,7 +14,7 @@ ghost use Rattle.chorus_serve.specs.Desks.{SameHands, seen, from_in, opened_in, 
 ghost use Rattle.chorus_serve.specs.Flows.{IsOther};
 ghost use Rattle.chorus_serve.specs.Working.{Performs};
 
-use crate::held::{Content, Held};
+use crate::hand::{Content, Held};
 use chorus_calls::Caller;
 use chorus_ends::Ends;
 use chorus_entry::{Command, Entry, Packet};
@@ -73,7 +73,7 @@ pub struct Parts<E: Ends> {
     pub ends: E,
 }
 
-/// The packet, where it is opened, or else the parcel.
+/// The packet of a content that is opened, or else its parcel.
 fn split<P>(content: Content<P>) -> (Option<Packet>, Option<P>)
     ensures packet { result.0 ≡ packet_of content }
     ensures parcel { result.1 ≡ parcel_of content }
@@ -84,7 +84,7 @@ fn split<P>(content: Content<P>) -> (Option<Packet>, Option<P>)
     }
 }
 
-/// The same of what is in hand, if anything.
+/// The packet in hand, where it is opened, or else its parcel; neither where nothing is in hand.
 fn split_hand<P>(hand: Option<Held<P>>) -> (Option<Packet>, Option<P>)
     ensures packet { result.0 ≡ opened_in hand }
     ensures parcel { result.1 ≡ sealed_in hand }
@@ -129,14 +129,14 @@ impl<E: Ends> Desk<E> {
         })
     }
 
-    /// The place.
+    /// The place of the desk.
     pub fn place(&self) -> &Place
         ensures { result.now ≡ self.now.place }
     {
         &self.place
     }
 
-    /// The ends.
+    /// The ends of the place's links.
     pub fn ends(&self) -> &E
         ensures { result.now ≡ self.now.ends }
     {

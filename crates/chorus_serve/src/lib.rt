@@ -10,14 +10,14 @@
 #![tactic(auto)]
 
 mod desk;
-mod held;
-mod pump;
+mod hand;
 mod pushing;
+mod served;
 mod serving;
 mod taking;
 mod working;
 
 pub use desk::{Desk, Parts};
-pub use held::{Content, Held};
-pub use pump::Pump;
+pub use hand::{Content, Held};
+pub use served::Pump;
 pub use serving::serve;

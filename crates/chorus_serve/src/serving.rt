@@ -7,8 +7,8 @@ ghost use Rattle.chorus_serve.specs.Flows.{IsOther, EmptiesOrFull};
 ghost use Rattle.chorus_serve.specs.Serving.{Answers, Rests, IsWornBy, SendsOut, TakesUp, FindsNone, LaysDown};
 
 use crate::desk::Desk;
-use crate::pump::Pump;
 use crate::pushing::push_all;
+use crate::served::Pump;
 use crate::taking::{open, take_next};
 use crate::working::handle_packet;
 use chorus_calls::Caller;

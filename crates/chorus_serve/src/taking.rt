@@ -4,7 +4,7 @@ ghost use Rattle.std.specs.Prelude.{◌≡◌, ◌≢◌, ℕ, ◌≤◌, ◌<�
 ghost use Rattle.chorus_serve.specs.Desks.{in_hand};
 ghost use Rattle.chorus_serve.specs.Flows.{IsOther, Takes, WasEmpty, ComesNext};
 
-use crate::held::{Content, Held};
+use crate::hand::{Content, Held};
 use chorus_ends::{Ends, Moves};
 use chorus_entry::Packet;
 use chorus_ui::Layout;

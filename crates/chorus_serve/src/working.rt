@@ -4,11 +4,11 @@ ghost use Rattle.std.specs.Prelude.{◌≡◌, ℕ, Some, None, IsErrOf, IfOk, O
 ghost use Rattle.chorus_serve.specs.Desks.{seen};
 ghost use Rattle.chorus_serve.specs.Working.{HandlesPacket, Holds, IsWornAt};
 ghost use Rattle.chorus_place.specs.declared.fault.PlaceFault.TheVariants as PlaceFault;
-ghost use Rattle.chorus_serve.specs.declared.held.Content.TheVariants as Content;
+ghost use Rattle.chorus_serve.specs.declared.hand.Content.TheVariants as Content;
 
 use crate::desk::Desk;
-use crate::held::{Content, Held};
-use crate::pump::Pump;
+use crate::hand::{Content, Held};
+use crate::served::Pump;
 use chorus_calls::Caller;
 use chorus_ends::Ends;
 use chorus_entry::Packet;

@@ -21,8 +21,8 @@ use Rattle.law_replies.specs.Taking.{taken_acts, answers_take, acts_of}
 use Rattle.law_replies.proofs.Turns.{takes-append}
 use Rattle.law_history.proofs.Lists.{reverse-first}
 use Rattle.law_closing.specs.Places.{PlaceNote}
-use Rattle.chorus_serve.specs.declared.pump.Pump.{Pump}
-use Rattle.chorus_serve.specs.declared.pump.Pump.TheVariants as pumps
+use Rattle.chorus_serve.specs.declared.served.Pump.{Pump}
+use Rattle.chorus_serve.specs.declared.served.Pump.TheVariants as pumps
 use Rattle.chorus_turn.specs.declared.knowledge.Placed.{Placed}
 use Rattle.chorus_turn.specs.declared.knowledge.Knowledge.{Knowledge}
 use Rattle.chorus_turn.specs.Knowing.{IsSamePass}

@@ -10,15 +10,17 @@ use std::sync::Wait;
 /// What a session does. It has the nucleus and its session, and no other way to them: so what `run_sessions` promises
 /// holds whatever it does.
 pub trait Behaviour: Sync {
-    /// The actor of the layout in which it comes.
+    /// The actor of the layout in which the session comes.
     fn actor(&self) -> Ui;
 
-    /// Its work, which runs beside that of the others. Somebody has to move packets meanwhile: [`Session::pump`].
+    /// The session's work, which runs beside that of the other sessions. Somebody has to move packets meanwhile:
+    /// [`Session::pump`].
     fn run<R: Wait>(&self, rt: &R, nucleus: &Nucleus, session: &mut Session)
         requires { IsSession nucleus.now session.old }
         ensures { IsSession nucleus.now session.new };
 
-    /// What it does when all have run, and no packet is under way. Then they come one after the other, in their order.
+    /// What the session does when all have run, and no packet is under way. Then the sessions come one after the other,
+    /// in their order.
     fn finish(&self, nucleus: &Nucleus, session: &mut Session)
         requires { IsSession nucleus.now session.old }
         ensures { IsSession nucleus.now session.new };

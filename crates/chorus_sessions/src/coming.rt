@@ -70,7 +70,7 @@ pub(crate) fn enter_all<B: Behaviour>(
     true
 }
 
-/// Retires their passes, and keeps what they have in hand, that of the last session first.
+/// Retires the passes of the sessions, and keeps what each has in hand, that of the last session first.
 pub(crate) fn retire_all(
     nucleus: &Nucleus,
     pass: &mut Pass,

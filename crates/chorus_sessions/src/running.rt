@@ -30,7 +30,7 @@ pub struct Finished {
     pub closed: Closed,
 }
 
-/// All of them run side by side, each in a thread of its own where one can be made.
+/// All sessions run side by side, each in a thread of its own where one can be made.
 fn run_all<R: Threads + Wait + Sync, B: Behaviour>(
     rt: &R,
     nucleus: &Nucleus,
@@ -54,7 +54,7 @@ fn run_all<R: Threads + Wait + Sync, B: Behaviour>(
     }
 }
 
-/// One of them runs.
+/// One session runs.
 fn run_one<R: Wait, B: Behaviour>(
     rt: &R,
     nucleus: &Nucleus,
@@ -70,7 +70,7 @@ fn run_one<R: Wait, B: Behaviour>(
     }
 }
 
-/// One after the other finishes.
+/// One session after the other finishes.
 fn finish_all<R: Threads + Sync, B: Behaviour>(
     rt: &R,
     nucleus: &Nucleus,
@@ -91,7 +91,7 @@ fn finish_all<R: Threads + Sync, B: Behaviour>(
     );
 }
 
-/// One of them finishes.
+/// One session finishes.
 fn finish_one<B: Behaviour>(
     nucleus: &Nucleus,
     behaviours: &[B],
@@ -106,7 +106,7 @@ fn finish_one<B: Behaviour>(
     }
 }
 
-/// They run, packets are moved until none is left, and they finish; all this where all came.
+/// The sessions run, packets are moved until none is left, and the sessions finish; all this where all came.
 fn run_to_the_end<R: Threads + Wait + Sync, B: Behaviour>(
     rt: &R,
     nucleus: &Nucleus,

@@ -15,14 +15,14 @@ pub struct Session {
 }
 
 impl Session {
-    /// The messages that it was handed out, in their order.
+    /// The messages that the session was handed out, in their order.
     pub fn taken(&self) -> &[PortMessage]
         ensures { result.now ≡ taken_by self.now }
     {
         &self.hand.taken
     }
 
-    /// How many messages it posted.
+    /// How many messages the session posted.
     pub fn posts(&self) -> u32
         ensures { result ≡ (caller_of (pass_of self.now)).posts }
     {

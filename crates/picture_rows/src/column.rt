@@ -46,14 +46,14 @@ impl Column {
         })
     }
 
-    /// Its place.
+    /// The place of the column.
     pub fn place(&self) -> u16
         ensures { result ≡ self.now.place }
     {
         self.place
     }
 
-    /// Where its line is, from the left.
+    /// Where the column's line is, from the left.
     pub fn x(&self) -> u64
         ensures value { result ≡ self.now.x }
         ensures bound { result < 2 ^ 32 }
@@ -61,7 +61,7 @@ impl Column {
         u64::from(self.x)
     }
 
-    /// The ports that came to be held there, in order.
+    /// The ports that came to be held at the column's place, in order.
     pub fn ports(&self) -> &[Ui]
         ensures value { result.now ≡ self.now.ports }
         ensures few { length result.now ≤ ENTRIES_LIMIT }
@@ -69,7 +69,7 @@ impl Column {
         self.ports.as_slice()
     }
 
-    /// Where it ends.
+    /// Where the column ends, from the left.
     pub(crate) fn right(&self) -> u64
         ensures value { result ≡ right_of self.now }
         ensures bound { result < 2 ^ 33 }
@@ -125,6 +125,7 @@ fn push_columns(
     Ok(())
 }
 
+/// Whether one of the entries is at the place.
 fn has_entry(place: u16, entries: &[Entry]) -> bool
     ensures { result ≡ has_entry place entries.now }
 {
@@ -177,6 +178,7 @@ pub fn right_edge(columns: &[Column]) -> u64
     right_after(64, columns)
 }
 
+/// The right edge of the columns, or `left` where there is no column.
 fn right_after(left: u64, columns: &[Column]) -> u64
     requires { left < 2 ^ 33 }
     ensures value { result ≡ right_after left columns.now }

@@ -22,7 +22,7 @@ pub(crate) struct Edge {
 }
 
 impl Edge {
-    /// That of these columns.
+    /// The right edge of these columns, with the texts that name it.
     pub(crate) fn of(alloc: Global, columns: &[Column]) -> Result<Edge, AllocError>
         ensures right { IfOk result (λ edge. edge.right ≡ right_edge columns.now) }
         ensures texts { IfOk result IsEdge }

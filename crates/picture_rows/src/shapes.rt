@@ -98,6 +98,7 @@ fn push_tick_of(edge: &Edge, y: u64, is_new: bool, out: &mut Vec<u8>) -> Result<
     Ok(())
 }
 
+/// Appends the thin line above the row whose middle is at y.
 #[tactic(auto, unfolding(crate::specs::Edge::tick_at))]
 fn push_tick(edge: &Edge, y: u64, out: &mut Vec<u8>) -> Result<(), AllocError>
     requires edge { IsEdge edge.now }
@@ -171,6 +172,7 @@ pub fn push_bar(
     Ok(())
 }
 
+/// The class of a bar, by which it is drawn: `idle`, or `waits` where messages wait.
 #[tactic(auto, unfolding(crate::specs::Shapes::bar_class))]
 fn bar_class(waits: u32) -> &'static str
     ensures { result.now ≡ bar_class waits }
@@ -178,6 +180,7 @@ fn bar_class(waits: u32) -> &'static str
     if waits == 0 { "idle" } else { "waits" }
 }
 
+/// Appends a bar in this lane, from `top` on and so high, with the count of the messages that wait.
 #[tactic(auto, unfolding(crate::specs::Shapes::bar_down))]
 fn push_down(
     waits: u64,
@@ -237,6 +240,7 @@ struct Way {
     to: u32,
 }
 
+/// Appends the arrow of a packet, from the line of a place at x to the line of this column.
 #[tactic(auto, unfolding(crate::specs::Shapes::arrow_along))]
 fn push_way(way: &Way, x: u64, column: &Column, out: &mut Vec<u8>) -> Result<(), AllocError>
     requires { x < 2 ^ 40 }
@@ -262,6 +266,7 @@ fn push_way(way: &Way, x: u64, column: &Column, out: &mut Vec<u8>) -> Result<(),
     Ok(())
 }
 
+/// Appends the points of an arrow: from its start along a row to its turn, and from there to its stop.
 #[tactic(auto, unfolding(crate::specs::Shapes::points))]
 fn push_points(
     start: u64,
@@ -282,6 +287,7 @@ fn push_points(
     Ok(())
 }
 
+/// Appends from which line of the journal to which one an arrow leads, and ends the arrow.
 #[tactic(auto, unfolding(crate::specs::Shapes::ends))]
 fn push_ends(from: u64, to: u64, out: &mut Vec<u8>) -> Result<(), AllocError>
     ensures { OnOk result (out.new.items ≡ out.old.items ++ ends from to) }
@@ -292,6 +298,7 @@ fn push_ends(from: u64, to: u64, out: &mut Vec<u8>) -> Result<(), AllocError>
     Ok(())
 }
 
+/// Where an arrow starts, beside the line of a place at x.
 fn start_x(rightward: bool, x: u64) -> u64
     requires { x < 2 ^ 40 }
     ensures { result ≡ start_x rightward x }
@@ -303,6 +310,7 @@ fn start_x(rightward: bool, x: u64) -> u64
     }
 }
 
+/// Where an arrow turns, before it comes to the line of the column that it leads to.
 fn turn_x(rightward: bool, column: &Column) -> u64
     ensures { result ≡ turn_x rightward column.now }
 {
@@ -313,6 +321,7 @@ fn turn_x(rightward: bool, column: &Column) -> u64
     }
 }
 
+/// Where an arrow stops, beside the line of the column that it leads to.
 fn stop_x(rightward: bool, column: &Column) -> u64
     ensures { result ≡ stop_x rightward column.now }
 {
@@ -388,6 +397,7 @@ fn push_mark(name: &str, x: u64, y: u64, out: &mut Vec<u8>) -> Result<(), AllocE
     Ok(())
 }
 
+/// Appends where a mark stands, at x and y, and ends the mark.
 #[tactic(auto, unfolding(crate::specs::Shapes::spot))]
 fn push_spot(x: u64, y: u64, out: &mut Vec<u8>) -> Result<(), AllocError>
     ensures { OnOk result (out.new.items ≡ out.old.items ++ spot x y) }
@@ -444,7 +454,7 @@ fn push_texts_front(
     Ok(())
 }
 
-/// Appends both texts.
+/// Appends the two texts, one behind the other.
 #[inline(always)]
 fn push_both(text: &[u8], more: &[u8], out: &mut Vec<u8>) -> Result<(), AllocError>
     ensures { OnOk result (out.new.items ≡ out.old.items ++ (text.now ++ more.now)) }

@@ -11,9 +11,9 @@ use Rattle.chorus_merge.specs.Steps.{journals_of}
 use Rattle.law_network.specs.Left.{placed_at}
 use Rattle.chorus_ruled_ends.specs.Ruled.{Ruled, end_to, end_from, sent_by, received_by}
 use Rattle.chorus_ruled_ends.specs.Linked.{AreOfOneLink}
-use Rattle.chorus_serve.specs.declared.held.Held.{Held}
-use Rattle.chorus_serve.specs.declared.held.Content.{Content}
-use Rattle.chorus_serve.specs.declared.held.Content.TheVariants as contents
+use Rattle.chorus_serve.specs.declared.hand.Held.{Held}
+use Rattle.chorus_serve.specs.declared.hand.Content.{Content}
+use Rattle.chorus_serve.specs.declared.hand.Content.TheVariants as contents
 use Rattle.chorus_serve.specs.Desks.{DeskOf, in_hand, packet_in, packet_of, parcel_of, from_in, opened_in, sealed_in}
 use Rattle.law_history.specs.Turns.{from_place}
 use Rattle.law_closing.specs.Closing.{IsPlace}

@@ -169,7 +169,7 @@ fn is_made_if_own(tables: &Tables, port: Ui) -> bool
     tables.layout().place_at(port.site(), port) != tables.number() || tables.is_made(port)
 }
 
-/// Whether this is the place of the group.
+/// Whether there is a group, and this is its place.
 fn is_asked_here(tables: &Tables, group: Option<Ui>) -> bool
     ensures { result ≡ is_asked_here group (state tables.now) }
 {

@@ -8,8 +8,8 @@
 #![tactic(auto)]
 
 mod lesson;
+mod one_publish;
 mod publish;
-mod step;
 
 pub use lesson::Lesson;
 pub use publish::publish_missing;

@@ -8,7 +8,7 @@ ghost use Rattle.chorus_board.specs.Boards.{entries_published, book_of};
 ghost use Rattle.place_publish.specs.Publishing.{IsBoardAt, IsUpTo};
 
 use crate::lesson::{Lesson, lesson_of};
-use crate::step::{publish_first, wait_unless};
+use crate::one_publish::{publish_first, wait_unless};
 use chorus_board::Board;
 use chorus_entry::Entry;
 use chorus_ui::{Kind, Layout, Ui};

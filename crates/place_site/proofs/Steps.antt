@@ -20,13 +20,13 @@ use Rattle.law_machine.specs.PlaceMachine.{begun, act}
 use Rattle.law_machine.specs.Lawful.{is_lawful, is_lawful_cargo}
 use Rattle.chorus_place.specs.Calls.{Place, state, Stays}
 use Rattle.chorus_ends.specs.Links.{Links}
-use Rattle.chorus_serve.specs.declared.held.Held.{Held}
+use Rattle.chorus_serve.specs.declared.hand.Held.{Held}
 use Rattle.chorus_serve.specs.Desks.{DeskState, in_hand}
 use Rattle.chorus_serve.specs.Working.{Performs}
 use Rattle.chorus_serve.specs.Serving.{Rests, WorksOff, Answers}
 use Rattle.law_machine.specs.declared.reply.Reply.{Reply}
-use Rattle.chorus_serve.specs.declared.pump.Pump.{Pump}
-use Rattle.chorus_serve.specs.declared.pump.Pump.TheVariants as pumps
+use Rattle.chorus_serve.specs.declared.served.Pump.{Pump}
+use Rattle.chorus_serve.specs.declared.served.Pump.TheVariants as pumps
 use Rattle.chorus_place.specs.declared.fault.PlaceFault.{PlaceFault}
 use Rattle.chorus_place.specs.declared.fault.PlaceFault.TheVariants as faults
 use Rattle.chorus_ui.specs.declared.limits.TheConstants.{CLOCK_LIMIT}

@@ -16,8 +16,8 @@ use Rattle.law_machine.specs.Replies.{reply}
 use Rattle.chorus_place.specs.Calls.{Place, state, is_call}
 use Rattle.chorus_place.specs.declared.fault.PlaceFault.{PlaceFault}
 use Rattle.chorus_place.specs.declared.fault.PlaceFault.TheVariants as faults
-use Rattle.chorus_serve.specs.declared.pump.Pump.{Pump}
-use Rattle.chorus_serve.specs.declared.pump.Pump.TheVariants as pumps
+use Rattle.chorus_serve.specs.declared.served.Pump.{Pump}
+use Rattle.chorus_serve.specs.declared.served.Pump.TheVariants as pumps
 use Rattle.chorus_serve.specs.Desks.{DeskState}
 use Rattle.chorus_serve.specs.Serving.{WorksOff, KeepsInHand, IsIdle, Rests, IsWornBy, AreEmptied}
 use Rattle.place_site.specs.declared.site.SiteMark.{SiteMark}

@@ -25,35 +25,35 @@ pub enum Draft<'a> {
 }
 
 impl<'a> Draft<'a> {
-    /// This command.
+    /// A draft of this whole command.
     pub fn whole(command: &'a Command) -> Draft<'a>
         ensures { meant result ≡ command.now }
     {
         Draft::Whole(command)
     }
 
-    /// A send with this body.
+    /// A draft of a send with this body.
     pub fn send(dest: &'a Dest, body: &'a [u8]) -> Draft<'a>
         ensures { meant result ≡ Command.Send dest.now body.now }
     {
         Draft::Send { dest, body }
     }
 
-    /// A call with this body.
+    /// A draft of a call with this body.
     pub fn call(port: Ui, back: Ui, body: &'a [u8]) -> Draft<'a>
         ensures { meant result ≡ Command.Call port back body.now }
     {
         Draft::Call { port, back, body }
     }
 
-    /// A reply with this body.
+    /// A draft of a reply with this body.
     pub fn reply(body: &'a [u8]) -> Draft<'a>
         ensures { meant result ≡ Command.Reply body.now }
     {
         Draft::Reply { body }
     }
 
-    /// The same.
+    /// A draft of the same command, of which nothing is copied.
     pub fn same(&self) -> Draft<'a>
         ensures { result ≡ self.now }
     {
@@ -69,7 +69,7 @@ impl<'a> Draft<'a> {
         }
     }
 
-    /// The place at which it is carried out, for a caller in this actor.
+    /// The place at which the draft's command is carried out, for a caller in this actor.
     pub fn place(&self, layout: Layout, actor: Ui) -> u16
         requires site { has_site layout actor.site ≡ true }
         requires conditions { meets_conditions (meant self.now) ≡ true }
@@ -85,7 +85,7 @@ impl<'a> Draft<'a> {
         }
     }
 
-    /// The command, in memory of its own.
+    /// The draft's command, in memory of its own.
     pub fn command(&self, alloc: Global) -> Result<Command, AllocError>
         requires { has_body_in_limit (meant self.now) ≡ true }
         ensures { IfOk result (λ command. command ≡ meant self.now) }

@@ -8,16 +8,16 @@
 //! Begin with `site` and `specs/Sites.antt`, then `specs/Turning.antt` (what a turn notes) and the jobs.
 #![tactic(auto)]
 
-mod acts;
-mod asks;
+mod command_turn;
 mod draft;
-mod publishes;
-mod serves;
+mod outcome_turn;
+mod publish_turn;
+mod serve_turn;
 mod site;
 
-pub use acts::Acts;
-pub use asks::Asks;
+pub use command_turn::Acts;
 pub use draft::Draft;
-pub use publishes::Publishes;
-pub use serves::Serves;
+pub use outcome_turn::Asks;
+pub use publish_turn::Publishes;
+pub use serve_turn::Serves;
 pub use site::{Remark, Site, SiteMark};

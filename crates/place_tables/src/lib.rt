@@ -4,18 +4,18 @@
 //! that was taken before, and keeps what the tables keep. What a turn has to look for in several tables before it changes anything
 //! is here too: who is chosen, which messages will be tried at other places, and the names that the place gives.
 //!
-//! Begin with `tables`; `specs/Tables.antt` of `place_state` has what they stand for and what they keep. `steps_*` and `go` have
-//! the steps, over the parts of `place_state`; `room` takes room, `reading`, `members`, `leaving` and `naming` read, and `sending` ends a
-//! turn.
+//! Begin with `tables`; `specs/Tables.antt` of `place_state` has what they stand for and what they keep. `steps_*` and
+//! `go` have the steps, over the parts of `place_state`; `room` takes room, `queries`, `members`, `leaving` and
+//! `naming` read, and `outbox` ends a turn.
 #![tactic(auto)]
 
 mod go;
 mod leaving;
 mod members;
 mod naming;
-mod reading;
+mod outbox;
+mod queries;
 mod room;
-mod sending;
 mod steps_groups;
 mod steps_messages;
 mod steps_ports;

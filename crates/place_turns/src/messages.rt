@@ -87,7 +87,7 @@ pub(crate) fn ready_post(
     }
 }
 
-/// The same where the message is decided here at once.
+/// Takes what the post of the caller's next message to a port needs, where it is decided here at once.
 fn ready_at_once(
     tables: &mut Tables,
     port: Ui,
@@ -123,7 +123,8 @@ fn ready_at_once(
     })
 }
 
-/// The same where it is to wait behind others, or to be tried at another place.
+/// Takes what the post of the caller's next message to a port needs, where it is to wait behind others, or to be tried
+/// at another place.
 fn ready_to_wait(
     tables: &mut Tables,
     port: Ui,

@@ -1,7 +1,7 @@
 //! Commands, and the clocks of the callers who give them.
 
+use crate::drawn_values::LONGEST;
 use crate::draws::Draws;
-use crate::things::LONGEST;
 use chorus_entry::{Command, Dest};
 use chorus_ui::{CLOCK_LIMIT, SITES_LIMIT};
 use tests_ground::Judge;

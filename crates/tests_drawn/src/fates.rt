@@ -1,6 +1,8 @@
 //! What is to become of the packet in hand when a place is served, and that it does.
 
-use crate::counting::{Before, assert_is, assert_seen, assert_worked_off, effect_of, look_before};
+use crate::turn_effects::{
+    Before, assert_is, assert_seen, assert_worked_off, effect_of, look_before,
+};
 use chorus_calls::Caller;
 use chorus_ends::{Ends, Moves};
 use chorus_entry::Packet;

@@ -1,7 +1,7 @@
 //! Packets for a place: lawful ones, nearly lawful ones and arbitrary ones.
 
+use crate::drawn_values::LONGEST;
 use crate::draws::Draws;
-use crate::things::LONGEST;
 use chorus_entry::{
     Act, CLIENTS_LIMIT, Cargo, ClientTable, Message, PENDING_LIMIT, Packet, Pending, PortRecord,
 };

@@ -15,6 +15,6 @@ mod handlers;
 #[cfg(test)]
 mod moving;
 #[cfg(test)]
-mod rows;
+mod pass_calls;
 #[cfg(test)]
 mod serving;

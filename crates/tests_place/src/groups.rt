@@ -1,6 +1,6 @@
 //! Posts to groups, in the three ways, over one site and two.
 
-use crate::ground::Ground;
+use crate::judge::Ground;
 use tests_ground::assert_rows;
 
 const GROUPS: &str = "\

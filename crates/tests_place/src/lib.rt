@@ -6,9 +6,9 @@
 #![tactic(auto)]
 
 #[cfg(test)]
-mod ground;
-#[cfg(test)]
 mod groups;
+#[cfg(test)]
+mod judge;
 #[cfg(test)]
 mod limits;
 #[cfg(test)]
@@ -22,4 +22,4 @@ mod packets;
 #[cfg(test)]
 mod words;
 #[cfg(test)]
-mod worked;
+mod worked_rows;

@@ -1,6 +1,6 @@
 //! Limits that take many callers, many ports or late clocks.
 
-use crate::ground::Ground;
+use crate::judge::Ground;
 use chorus_calls::Caller;
 use chorus_entry::{Body, Command, Dest};
 use chorus_ui::{CLOCK_LIMIT, Kind, Ui};

@@ -1,6 +1,6 @@
 //! Messages to ports, and remote calls.
 
-use crate::ground::Ground;
+use crate::judge::Ground;
 use tests_ground::assert_rows;
 
 const MESSAGES: &str = "\

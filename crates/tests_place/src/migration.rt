@@ -1,6 +1,6 @@
 //! Ports that migrate, and messages that come before and behind them.
 
-use crate::ground::Ground;
+use crate::judge::Ground;
 use tests_ground::assert_rows;
 
 const MOVES: &str = "\

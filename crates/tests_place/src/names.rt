@@ -1,6 +1,6 @@
 //! Names and limits, and members of groups.
 
-use crate::ground::Ground;
+use crate::judge::Ground;
 use tests_ground::assert_rows;
 
 const NAMES: &str = "\

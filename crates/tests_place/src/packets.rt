@@ -6,7 +6,7 @@
 //! no tag stands; of a port there are its name, its holder, its capacity, hop and first position, the number of client 7 or `-`, and
 //! the ids that wait in it.
 
-use crate::ground::Ground;
+use crate::judge::Ground;
 use crate::words::Words;
 use chorus_entry::{Answer, Cargo, Dest, Message, Packet, PortRecord, Tag};
 use chorus_place::Place;

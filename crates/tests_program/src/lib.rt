@@ -21,6 +21,8 @@ mod journals;
 #[cfg(test)]
 mod movers;
 #[cfg(test)]
+mod one_byte_source;
+#[cfg(test)]
 mod races;
 #[cfg(test)]
 mod replays;
@@ -28,8 +30,6 @@ mod replays;
 mod running;
 #[cfg(test)]
 mod schedules;
-#[cfg(test)]
-mod short;
 #[cfg(test)]
 mod texts;
 #[cfg(test)]

@@ -15,4 +15,4 @@ mod sites;
 #[cfg(test)]
 mod version_two;
 #[cfg(test)]
-mod worked;
+mod worked_rows;

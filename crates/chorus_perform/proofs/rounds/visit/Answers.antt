@@ -1,5 +1,5 @@
 use Rattle.std.proofs.Common.{◌+◌, subst}
-use Rattle.chorus_serve.specs.declared.pump.Pump.TheVariants as pumps
+use Rattle.chorus_serve.specs.declared.served.Pump.TheVariants as pumps
 use Rattle.chorus_nucleus.specs.Calls.{Serves}
 use Rattle.chorus_nucleus.specs.Passes.{caller_of, known, layout_of}
 use Rattle.chorus_perform.proofs.Idling.{count-exact, count-up-to, round-more}

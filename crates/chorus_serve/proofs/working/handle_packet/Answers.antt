@@ -1,7 +1,7 @@
 use Rattle.std.proofs.Common.{rules, ◌∙◌, ap, subst}
 use Rattle.chorus_serve.specs.Desks.{DeskOf, in_hand, seen}
 use Rattle.chorus_serve.specs.Working.{HandlesPacket, IsWornAt}
-use Rattle.chorus_serve.specs.declared.pump.Pump.TheVariants as pumps
+use Rattle.chorus_serve.specs.declared.served.Pump.TheVariants as pumps
 use Rattle.chorus_serve.proofs.Joining.{desk-worked, compares, handled-worked, with_back, work-worn}
 use Rattle.chorus_serve.proofs.working.handle_packet.Goals as goal
 

@@ -1,0 +1,85 @@
+//! What a worker does with a job.
+ghost use Rattle.std.specs.Prelude.{◌≡◌, ◌≢◌, ◌+◌, true, false, IfErr};
+ghost use Rattle.chorus_ui.specs.NameKind.{is_port};
+ghost use Rattle.chorus_nucleus.specs.Passes.{IsPassOf};
+ghost use Rattle.chorus_take.specs.Taking.{is_busy};
+ghost use Rattle.chorus_crew.specs.Jobs.{IsWork, IsJobOf, IsDoneOf};
+
+use crate::handler::Handler;
+use crate::job::{Done, Job, Tally};
+use chorus_nucleus::{CallFault, Nucleus, Pass};
+use chorus_take::take_when_free;
+use chorus_ui::Ui;
+use std::sync::Wait;
+
+/// One more than the count. No run counts to 2^64 - 1: there it waits for ever.
+fn one_more<R: Wait>(rt: &R, count: u64) -> u64
+    ensures { result ≡ count + 1 }
+{
+    match count.checked_add(1) {
+        Some(more) => more,
+        None => {
+            for _ in rt.forever() {}
+            unreachable!()
+        }
+    }
+}
+
+/// The position of the first message, where one more is taken behind so many.
+fn first_of(count: u64, from: u64, pos: u64) -> u64
+    ensures zero { count ≡ 0 → result ≡ pos }
+    ensures later { count ≢ 0 → result ≡ from }
+{
+    if count == 0 { pos } else { from }
+}
+
+/// Takes and handles the messages of the port, until there is none for the caller.
+#[tactic(auto, using(crate::proofs::Draining::draining))]
+fn drain<H: Handler, R: Wait>(
+    rt: &R,
+    nucleus: &Nucleus,
+    handler: &H,
+    pass: &mut Pass,
+    port: Ui,
+) -> Result<Tally, CallFault>
+    requires pass { IsPassOf nucleus.now pass.old }
+    requires port { is_port port ≡ true }
+    ensures work { IsWork (H.value handler.now) nucleus.now port result pass.old pass.new }
+    ensures free { IfErr result (λ f. is_busy f ≡ false) }
+{
+    let mut from: u64 = 0;
+    let mut count: u64 = 0;
+    let mut total: u64 = 0;
+    for _ in rt.forever() {
+        match take_when_free(rt, nucleus, pass, port) {
+            Ok(None) => return Ok(Tally { from, count, total }),
+            Ok(Some(taken)) => {
+                let value = handler.handle(port, taken.position, &taken.message);
+                from = first_of(count, from, taken.position);
+                count = one_more(rt, count);
+                total = total.wrapping_add(value);
+            }
+            Err(fault) => return Err(fault),
+        }
+    }
+    unreachable!()
+}
+
+/// Does a job: drains its port by its pass.
+pub(crate) fn perform<H: Handler, R: Wait>(rt: &R, nucleus: &Nucleus, handler: &H, job: Job) -> Done
+    requires { IsJobOf nucleus.now job }
+    ensures { IsDoneOf (H.value handler.now) nucleus.now job result }
+{
+    let Job {
+        index,
+        port,
+        mut pass,
+    } = job;
+    let result = drain(rt, nucleus, handler, &mut pass, port);
+    Done {
+        index,
+        port,
+        pass,
+        result,
+    }
+}

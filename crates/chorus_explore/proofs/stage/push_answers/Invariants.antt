@@ -1,8 +1,0 @@
-use Rattle.std.proofs.Common.{◌≡◌, ◌++◌, take}
-use Rattle.std.specs.List.{flat_map}
-use Rattle.chorus_explore.specs.declared.stage.Progress.{Progress}
-use Rattle.chorus_explore.proofs.stage.push_answers.Given as goal
-
--- those passed are told
-abbrev pub invariant-loop-progress : goal.invariant-loop-progress
-invariant-loop-progress l = l.text.items ≡ l.initial.text.items ++ flat_map (λ (p : Progress). p.answers.items) (take l.progress-index l.scripts)

@@ -1,0 +1,477 @@
+//! The sites of a scenario behind its setup, on which the moves of a race are performed.
+
+ghost use Rattle.std.specs.List.{flat_map};
+ghost use Rattle.std.specs.Prelude.{◌≡◌, ℕ, ◌<◌, ◌≤◌, ◌+◌, ◌^◌, [], ◌∷◌, ◌++◌, true, length, map, option_to_list, slice_get, Ok, Some, None, IfOk, OnOk, IfSome, IsNone, IsErrOf};
+ghost use Rattle.chorus_ui.specs.Layout.{has_place};
+ghost use Rattle.chorus_place.specs.declared.fault.PlaceFault.TheVariants as PlaceFault;
+ghost use Rattle.chorus_scene.specs.Limits.{Keeps};
+ghost use Rattle.law_explore.specs.declared.moves.Move.TheVariants as Move;
+ghost use Rattle.law_explore.specs.Outcome.{Answered, post_in};
+ghost use Rattle.law_explore.specs.Races.{links_between, links_to, next_moves, next_of};
+ghost use Rattle.law_network.specs.Calls.{just_started};
+ghost use Rattle.law_network.specs.Network.{Act as Acting, happened, numbers, place as place_of, place_numbers};
+ghost use Rattle.law_network.specs.Schedules.{may_happen};
+ghost use Rattle.law_replay.specs.Shown.{race_of};
+ghost use Rattle.chorus_merge.specs.Steps.{journals_of};
+ghost use Rattle.chorus_scene.specs.Scene.{Scene};
+ghost use Rattle.chorus_explore.specs.declared.race_sites.Progress.{Progress};
+ghost use Rattle.chorus_net.specs.Sites.{net};
+ghost use Rattle.chorus_net.specs.Worn.{compared_by};
+ghost use Rattle.chorus_ui.specs.declared.limits.TheConstants.{CLOCK_LIMIT};
+ghost use Rattle.explore_facts.specs.Facts.{fact_line};
+ghost use Rattle.chorus_explore.specs.Stages.{AreAt, AreFresh, AreProgress, IsNext, IsOfScript, IsPlaceFor, IsReached, MayWear, candidate_behind, comes, coming, may_go, moves_of, position, posted_lines};
+
+use crate::candidates::{Candidate, sleeps};
+use chorus_entry::{Act, Command, Entry, MsgId};
+use chorus_net::Sites;
+use chorus_place::PlaceFault;
+use chorus_replay::{enter, set_up};
+use chorus_scene::Scenario;
+use chorus_ui::Layout;
+use explore_facts::{push_all_ports, push_answered, push_messages};
+use law_explore::Move;
+use std::alloc::{AllocError, Global};
+
+/// For so many bytes of an outcome, of the answers of a script, and for so many messages that it posts there is room at
+/// once; where there are more, room is taken.
+const OUTCOME_ROOM: usize = 1024;
+
+const ANSWERS_ROOM: usize = 256;
+
+const POSTS_ROOM: usize = 8;
+
+/// How far a script is.
+#[derive(Debug, Drop)]
+pub(crate) struct Progress {
+    /// The number of its next command, counted from 0.
+    next: usize,
+    /// The lines of what its commands were answered.
+    pub(crate) answers: Vec<u8>,
+    /// The messages that it posted.
+    pub(crate) posts: Vec<MsgId>,
+}
+
+impl Progress {
+    /// One command more was performed, of the script of this number, and answered by the act.
+    fn answered(&mut self, script: u64, act: &Act) -> Result<(), AllocError>
+        requires { self.old.next < 2 ^ 32 }
+        ensures next { OnOk result (self.new.next ≡ self.old.next + 1) }
+        ensures answers { OnOk result (self.new.answers.items ≡ self.old.answers.items
+            ++ fact_line (Answered script (self.old.next + 1) act.now)) }
+        ensures posts { OnOk result (self.new.posts.items
+            ≡ self.old.posts.items ++ option_to_list (post_in act.now)) }
+    {
+        self.next += 1;
+        push_answered(script, self.next as u64, act, &mut self.answers)?;
+        if let Act::Post { message, .. } = act {
+            self.posts.reserve(1)?;
+            self.posts.push_reserved(message.id);
+        }
+        Ok(())
+    }
+}
+
+/// The sites, how far the scripts are, and the moves that led there.
+#[derive(Debug, Drop)]
+pub(crate) struct Stage {
+    sites: Sites,
+    scripts: Vec<Progress>,
+    pub(crate) moves: Vec<Move>,
+}
+
+impl Stage {
+    /// The sites when all callers have entered: those that are given, on which nothing happened, or else sites that are
+    /// started. There is room for so many moves.
+    pub(crate) fn begin(
+        alloc: Global,
+        scenario: &Scenario,
+        fresh: Option<Sites>,
+        room: usize,
+    ) -> Result<Stage, PlaceFault>
+        requires { AreFresh scenario.now fresh }
+        ensures ok { IfOk result (λ stage. IsReached scenario.now stage
+            × (stage.moves.items ≡ [])) }
+        ensures worn { (clock : ℕ) → IsErrOf result (PlaceFault.Worn clock) →
+            MayWear scenario.now clock }
+    {
+        let sites = fresh_sites(alloc, scenario.layout(), fresh)?;
+        let sites = entered(sites, scenario)?;
+        let scripts = no_progress(alloc, scenario)?;
+        let moves = Vec::with_capacity(alloc, room)?;
+        Ok(Stage {
+            sites,
+            scripts,
+            moves,
+        })
+    }
+
+    /// Performs a move that may come. False where its caller has posted all the messages that it may; then only the
+    /// sites are as they were.
+    pub(crate) fn go(&mut self, scenario: &Scenario, mv: Move) -> Result<bool, PlaceFault>
+        requires reached { IsReached scenario.now self.old }
+        requires may { may_go scenario.now mv (moves_of self.old) ≡ true }
+        ensures reached { result ≡ Ok true → IsReached scenario.now self.new }
+        ensures moves { result ≡ Ok true →
+            self.new.moves.items ≡ self.old.moves.items ++ mv ∷ [] }
+        ensures worn { (clock : ℕ) → IsErrOf result (PlaceFault.Worn clock) →
+            MayWear scenario.now clock }
+    {
+        self.moves.reserve(1)?;
+        let has_gone = match mv {
+            Move::Go { script } => self.perform(scenario, script)?,
+            Move::Carry { from, to } => self.carry(scenario, from, to)?,
+        };
+        self.moves.push_reserved(mv);
+        Ok(has_gone)
+    }
+
+    /// Delivers the first packet that waits from the one place to the other, where one does.
+    fn carry(&mut self, scenario: &Scenario, from: u16, to: u16) -> Result<bool, PlaceFault>
+        requires reached { IsReached scenario.now self.old }
+        requires may { may_go scenario.now (Move.Carry from to) (moves_of self.old) ≡ true }
+        ensures at { OnOk result
+            (AreAt scenario.now (Move.Carry from to ∷ moves_of self.old) self.new) }
+        ensures moves { self.new.moves ≡ self.old.moves }
+        ensures worn { (clock : ℕ) → IsErrOf result (PlaceFault.Worn clock) →
+            MayWear scenario.now clock }
+    {
+        self.sites.deliver(from, to)?;
+        Ok(true)
+    }
+
+    /// Performs the next command of the script that stands there. False where its caller has posted all the messages
+    /// that it may.
+    fn perform(&mut self, scenario: &Scenario, index: u16) -> Result<bool, PlaceFault>
+        requires reached { IsReached scenario.now self.old }
+        requires may { may_go scenario.now (Move.Go index) (moves_of self.old) ≡ true }
+        ensures at { result ≡ Ok true →
+            AreAt scenario.now (Move.Go index ∷ moves_of self.old) self.new }
+        ensures moves { self.new.moves ≡ self.old.moves }
+        ensures worn { (clock : ℕ) → IsErrOf result (PlaceFault.Worn clock) →
+            MayWear scenario.now clock }
+    {
+        let command = self.next(scenario, index);
+        if !self.sites.may_act(u32::from(index) + 1, command) {
+            return Ok(false);
+        }
+        self.perform_next(scenario, index, command)?;
+        Ok(true)
+    }
+
+    /// The next command of the script that stands there.
+    fn next<'a>(&self, scenario: &'a Scenario, index: u16) -> &'a Command
+        requires reached { IsReached scenario.now self.now }
+        requires may { may_go scenario.now (Move.Go index) (moves_of self.now) ≡ true }
+        ensures { IsNext scenario.now (moves_of self.now) index result.now }
+    {
+        match self.left_of(scenario, index) {
+            Some(command) => command,
+            None => unreachable!(),
+        }
+    }
+
+    /// Performs this command, the next one of the script.
+    fn perform_next(
+        &mut self,
+        scenario: &Scenario,
+        index: u16,
+        command: &Command,
+    ) -> Result<(), PlaceFault>
+        requires reached { IsReached scenario.now self.old }
+        requires next { IsNext scenario.now (moves_of self.old) index command.now }
+        requires may { may_happen (Acting (index + 1) command.now) (net self.old.sites) ≡ true }
+        ensures at { OnOk result (AreAt scenario.now (Move.Go index ∷ moves_of self.old) self.new) }
+        ensures moves { self.new.moves ≡ self.old.moves }
+        ensures worn { (clock : ℕ) → IsErrOf result (PlaceFault.Worn clock) →
+            MayWear scenario.now clock }
+    {
+        let _sites = self.sites.layout();
+        let _scene = scenario.layout();
+        let place = where_performed(scenario, index, command);
+        let at = act_at(&mut self.sites, u32::from(index) + 1, command, place)?;
+        let act = &self.sites.journal(place)[at].act;
+        self.scripts[usize::from(index)].answered(u64::from(index) + 1, act)?;
+        Ok(())
+    }
+
+    /// The moves that may come behind the one taken, where these were the candidates before it: scripts first, then
+    /// deliveries by their places.
+    pub(crate) fn candidates(
+        &mut self,
+        alloc: Global,
+        scenario: &Scenario,
+        taken: Candidate,
+        before: &[Candidate],
+    ) -> Result<Vec<Candidate>, AllocError>
+        requires { IsReached scenario.now self.old }
+        ensures reached { IsReached scenario.now self.new }
+        ensures moves { self.new.moves ≡ self.old.moves }
+        ensures items { IfOk result (λ v. v.items ≡ map (candidate_behind taken before.now
+            (position scenario.now (moves_of self.old)))
+            (next_moves (race_of scenario.now) (position scenario.now (moves_of self.old)))) }
+    {
+        let mut candidates = Vec::new(alloc);
+        self.add_scripts(scenario, taken, before, &mut candidates)?;
+        self.add_deliveries(scenario, taken, before, &mut candidates)?;
+        Ok(candidates)
+    }
+
+    /// Gives the lines of what the moves came to, and the sites, started again.
+    pub(crate) fn outcome(self, alloc: Global) -> Result<(Vec<u8>, Sites), AllocError>
+        ensures text { (c : Scene) → IsReached c self →
+            IfOk result (λ r. r.0.items ≡ comes c (moves_of self)) }
+        ensures sites { (c : Scene) → IsReached c self →
+            IfOk result (λ r. AreFresh c (Some r.1)) }
+    {
+        let (closed, sites) = self.sites.restart(alloc)?;
+        let mut text = Vec::with_capacity(alloc, OUTCOME_ROOM)?;
+        push_answers(&self.scripts, &mut text)?;
+        push_posts(&self.scripts, &closed.journals, &mut text)?;
+        push_all_ports(&closed.journals, &closed.ports, &mut text)?;
+        Ok((text, sites))
+    }
+
+    /// The sites of the stage, started again.
+    pub(crate) fn restarted(self, alloc: Global) -> Result<Sites, AllocError>
+        ensures { (c : Scene) → IsReached c self → IfOk result (λ s. AreFresh c (Some s)) }
+    {
+        let (_, sites) = self.sites.restart(alloc)?;
+        Ok(sites)
+    }
+
+    /// Adds the next command of each script that has one left.
+    fn add_scripts(
+        &self,
+        scenario: &Scenario,
+        taken: Candidate,
+        before: &[Candidate],
+        candidates: &mut Vec<Candidate>,
+    ) -> Result<(), AllocError>
+        requires { IsReached scenario.now self.now }
+        ensures { OnOk result (candidates.new.items ≡ candidates.old.items
+            ++ coming scenario.now taken before.now (position scenario.now (moves_of self.now))
+            (map Move.Go (numbers (length scenario.now.scripts) 0))) }
+    {
+        for index in 0..scenario.scripts().len() {
+            self.add_script(scenario, index, taken, before, candidates)?;
+        }
+        Ok(())
+    }
+
+    /// The next command of the script, where one is left.
+    fn left_of<'a>(&self, scenario: &'a Scenario, index: u16) -> Option<&'a Command>
+        requires reached { IsReached scenario.now self.now }
+        requires index { index < length scenario.now.scripts }
+        ensures some { IfSome result (λ d. IsNext scenario.now (moves_of self.now) index d.now) }
+        ensures none { IsNone result →
+            next_of (slice_get (position scenario.now (moves_of self.now)).left index) ≡ None }
+    {
+        let script = &scenario.scripts()[usize::from(index)];
+        script.commands().get(self.scripts[usize::from(index)].next)
+    }
+
+    /// Adds the next command of the script, where one is left.
+    fn add_script(
+        &self,
+        scenario: &Scenario,
+        index: usize,
+        taken: Candidate,
+        before: &[Candidate],
+        candidates: &mut Vec<Candidate>,
+    ) -> Result<(), AllocError>
+        requires reached { IsReached scenario.now self.now }
+        requires index { index < length scenario.now.scripts }
+        ensures { OnOk result (candidates.new.items ≡ candidates.old.items
+            ++ coming scenario.now taken before.now
+            (position scenario.now (moves_of self.now)) (Move.Go index ∷ [])) }
+    {
+        let _layout = scenario.layout();
+        let script = index as u16;
+        let Some(command) = self.left_of(scenario, script) else {
+            return Ok(());
+        };
+        let mv = Move::Go { script };
+        candidates.push(Candidate {
+            mv,
+            place: where_performed(scenario, script, command),
+            is_asleep: sleeps(mv, taken, before),
+        })?;
+        Ok(())
+    }
+
+    /// Adds the deliveries from each place.
+    fn add_deliveries(
+        &mut self,
+        scenario: &Scenario,
+        taken: Candidate,
+        before: &[Candidate],
+        candidates: &mut Vec<Candidate>,
+    ) -> Result<(), AllocError>
+        requires { IsReached scenario.now self.old }
+        ensures reached { IsReached scenario.now self.new }
+        ensures moves { self.new.moves ≡ self.old.moves }
+        ensures items { OnOk result (candidates.new.items ≡ candidates.old.items
+            ++ coming scenario.now taken before.now (position scenario.now (moves_of self.old))
+            (links_between (place_numbers scenario.now.layout) (place_numbers scenario.now.layout))) }
+    {
+        for index in 0..scenario.layout().places() {
+            self.add_links(scenario, index + 1, taken, before, candidates)?;
+        }
+        Ok(())
+    }
+
+    /// Adds the deliveries from the place.
+    fn add_links(
+        &mut self,
+        scenario: &Scenario,
+        from: u16,
+        taken: Candidate,
+        before: &[Candidate],
+        candidates: &mut Vec<Candidate>,
+    ) -> Result<(), AllocError>
+        requires reached { IsReached scenario.now self.old }
+        requires from { has_place scenario.now.layout from ≡ true }
+        ensures reached { IsReached scenario.now self.new }
+        ensures moves { self.new.moves ≡ self.old.moves }
+        ensures items { OnOk result (candidates.new.items ≡ candidates.old.items
+            ++ coming scenario.now taken before.now (position scenario.now (moves_of self.old))
+            (links_to from (place_numbers scenario.now.layout))) }
+    {
+        if self.sites.is_idle(from) {
+            return Ok(());
+        }
+        for index in 0..scenario.layout().places() {
+            self.add_link(scenario, from, index + 1, taken, before, candidates)?;
+        }
+        Ok(())
+    }
+
+    /// Adds the delivery from the one place to the other, where a packet waits.
+    fn add_link(
+        &mut self,
+        scenario: &Scenario,
+        from: u16,
+        to: u16,
+        taken: Candidate,
+        before: &[Candidate],
+        candidates: &mut Vec<Candidate>,
+    ) -> Result<(), AllocError>
+        requires reached { IsReached scenario.now self.old }
+        requires from { has_place scenario.now.layout from ≡ true }
+        requires to { has_place scenario.now.layout to ≡ true }
+        ensures reached { IsReached scenario.now self.new }
+        ensures moves { self.new.moves ≡ self.old.moves }
+        ensures items { OnOk result (candidates.new.items ≡ candidates.old.items
+            ++ coming scenario.now taken before.now (position scenario.now (moves_of self.old))
+            (Move.Carry from to ∷ [])) }
+    {
+        if from == to {
+            return Ok(());
+        }
+        if !self.sites.waits(from, to) {
+            return Ok(());
+        }
+        let mv = Move::Carry { from, to };
+        candidates.push(Candidate {
+            mv,
+            place: to,
+            is_asleep: sleeps(mv, taken, before),
+        })?;
+        Ok(())
+    }
+}
+
+/// The place where a command of the script is performed.
+fn where_performed(scenario: &Scenario, index: u16, command: &Command) -> u16
+    requires { IsOfScript scenario.now index command.now }
+    ensures value { IsPlaceFor scenario.now index command.now result }
+    ensures in_layout { has_place scenario.now.layout result ≡ true }
+{
+    command.place_for(
+        scenario.layout(),
+        scenario.scripts()[usize::from(index)].actor(),
+    )
+}
+
+/// Performs the command of the seat, and gives where its own entry stands in the journal of its place.
+fn act_at(sites: &mut Sites, seat: u32, command: &Command, place: u16) -> Result<usize, PlaceFault>
+    requires may { may_happen (Acting seat command.now) (net sites.old) ≡ true }
+    requires place { has_place sites.old.layout place ≡ true }
+    ensures ok { OnOk result (net sites.new ≡ happened (Acting seat command.now) (net sites.old)) }
+    ensures index { IfOk result (λ at. at ≡ length (place_of place (net sites.old)).journal) }
+    ensures layout { sites.new.layout ≡ sites.old.layout }
+    ensures worn { (clock : ℕ) → IsErrOf result (PlaceFault.Worn clock) →
+        (CLOCK_LIMIT ≤ clock) × (compared_by (Acting seat command.now) (net sites.old) ≡ Some clock) }
+{
+    let at = sites.journal(place).len();
+    sites.act(seat, command.copied()?)?;
+    Ok(at)
+}
+
+/// Appends the lines of what the commands of the scripts were answered.
+fn push_answers(scripts: &[Progress], text: &mut Vec<u8>) -> Result<(), AllocError>
+    ensures { OnOk result (text.new.items
+        ≡ text.old.items ++ flat_map (λ (p : Progress). p.answers.items) scripts.now) }
+{
+    for progress in scripts {
+        text.extend_from_slice(&progress.answers)?;
+    }
+    Ok(())
+}
+
+/// Appends the lines of the messages that the scripts posted.
+fn push_posts(
+    scripts: &[Progress],
+    journals: &[Vec<Entry>],
+    text: &mut Vec<u8>,
+) -> Result<(), AllocError>
+    ensures { OnOk result (text.new.items ≡ text.old.items
+        ++ flat_map (posted_lines (journals_of journals.now)) scripts.now) }
+{
+    for progress in scripts {
+        push_messages(&progress.posts, journals, text)?;
+    }
+    Ok(())
+}
+
+/// Sites on which nothing happened: those that are given, or else sites that are started.
+fn fresh_sites(alloc: Global, layout: Layout, fresh: Option<Sites>) -> Result<Sites, AllocError>
+    requires { IfSome fresh (λ s. net s ≡ just_started layout) }
+    ensures { IfOk result (λ s. net s ≡ just_started layout) }
+{
+    match fresh {
+        Some(sites) => Ok(sites),
+        None => Sites::start(alloc, layout),
+    }
+}
+
+/// The sites, which were just started, when the setup is done and all callers have entered.
+fn entered(mut sites: Sites, scenario: &Scenario) -> Result<Sites, PlaceFault>
+    requires start { net sites ≡ just_started scenario.now.layout }
+    requires keeps { Keeps scenario.now }
+    ensures ok { IfOk result (λ s. net s ≡ (race_of scenario.now).net) }
+    ensures worn { (clock : ℕ) → IsErrOf result (PlaceFault.Worn clock) →
+        MayWear scenario.now clock }
+{
+    let _layout = sites.layout();
+    set_up(&mut sites, scenario)?;
+    enter(&mut sites, scenario)?;
+    Ok(sites)
+}
+
+/// How far each script is at first: nothing of it was performed.
+fn no_progress(alloc: Global, scenario: &Scenario) -> Result<Vec<Progress>, AllocError>
+    ensures { IfOk result (λ v. AreProgress 1 scenario.now.scripts
+        (position scenario.now []).left (position scenario.now []).told v.items) }
+{
+    let mut scripts = Vec::new(alloc);
+    for _script in scenario.scripts() {
+        scripts.reserve(1)?;
+        scripts.push_reserved(Progress {
+            next: 0,
+            answers: Vec::with_capacity(alloc, ANSWERS_ROOM)?,
+            posts: Vec::with_capacity(alloc, POSTS_ROOM)?,
+        });
+    }
+    Ok(scripts)
+}

@@ -1,0 +1,72 @@
+//! One publish.
+ghost use Rattle.std.specs.Prelude.{◌≡◌, ◌<◌, true, length, take, IsTrue, OnOk, OnErr};
+ghost use mathlib.Core.List.{IsPrefix};
+ghost use Rattle.chorus_ui.specs.declared.kind.Kind.TheVariants.{Port};
+ghost use Rattle.chorus_ui.specs.Layout.{can_make_port};
+ghost use Rattle.chorus_board.specs.Located.{IsOfPlace};
+ghost use Rattle.chorus_board.specs.Boards.{entries_published, entries_begun, layout_of, place_of, LocatesAfter, IsSameBoard, shown};
+
+use crate::lesson::Lesson;
+use chorus_board::{Board, Stands};
+use chorus_entry::Entry;
+use std::alloc::AllocError;
+use std::marker::Brand;
+use std::sync::Wait;
+
+/// Waits for ever where the condition is false, which no entry of the place machine brings about.
+pub(crate) fn wait_unless<R: Wait>(rt: &R, holds: bool)
+    ensures { holds ≡ true }
+{
+    if holds {
+        return;
+    }
+    for _ in rt.forever() {}
+    unreachable!()
+}
+
+/// Publishes the lesson for these entries.
+fn publish_as<X: Stands, R: Wait>(
+    rt: &R,
+    board: &mut Board,
+    lesson: Lesson,
+    journal: &[Entry],
+    upto: usize,
+) -> Result<(), AllocError>
+    requires stands { X.entries ≡ take upto journal.now }
+    requires port { lesson.ui.kind ≡ Port }
+    requires in_layout { IsTrue (can_make_port (layout_of board.old) lesson.ui) }
+    requires longer { IsPrefix (entries_begun board.old) X.entries }
+    requires count { upto ≡ length X.entries }
+    requires of_place { IsOfPlace (place_of board.old) X.entries }
+    requires located { LocatesAfter board.old lesson.ui lesson.place lesson.hop X.entries }
+    ensures board { IsSameBoard board.old board.new }
+    ensures begun { entries_begun board.new ≡ X.entries }
+    ensures published { OnOk result (entries_published board.new ≡ X.entries) }
+    ensures unshown { OnErr result (shown board.new ≡ shown board.old) }
+{
+    let _ = journal;
+    board.publish::<X, R>(rt, lesson.ui, lesson.place, lesson.hop, upto as u64)
+}
+
+/// Publishes the lesson for the first `upto` entries of the journal.
+pub(crate) fn publish_first<R: Wait>(
+    rt: &R,
+    board: &mut Board,
+    lesson: Lesson,
+    journal: &[Entry],
+    upto: usize,
+) -> Result<(), AllocError>
+    requires port { lesson.ui.kind ≡ Port }
+    requires in_layout { IsTrue (can_make_port (layout_of board.old) lesson.ui) }
+    requires longer { IsPrefix (entries_begun board.old) (take upto journal.now) }
+    requires count { upto ≡ length (take upto journal.now) }
+    requires of_place { IsOfPlace (place_of board.old) (take upto journal.now) }
+    requires located { LocatesAfter board.old lesson.ui lesson.place lesson.hop
+        (take upto journal.now) }
+    ensures board { IsSameBoard board.old board.new }
+    ensures begun { entries_begun board.new ≡ take upto journal.now }
+    ensures published { OnOk result (entries_published board.new ≡ take upto journal.now) }
+    ensures unshown { OnErr result (shown board.new ≡ shown board.old) }
+{
+    publish_as::<Brand, R>(rt, board, lesson, journal, upto)
+}
