@@ -1,13 +1,17 @@
 -- A message is posted to a port: what is ready then.
--- p is the tables of a place.
-use Rattle.std.specs.Prelude.{ℕ, ◌≡◌, ◌+◌, ◌<◌, ◌≤◌, ◌^◌, List, [], ◌∷◌, length, Option, Some, None}
+-- p is the tables of a place, q a port, m a message, w its copy, c the caller.
+use Rattle.std.specs.Prelude.{ℕ, ◌≡◌, ◌+◌, ◌-◌, ◌<◌, ◌≤◌, ◌^◌, List, [], ◌∷◌, length, Option, Some, None}
 use Rattle.chorus_ui.specs.declared.ui.Ui.{Ui}
 use Rattle.chorus_ui.specs.declared.kind.Kind.TheVariants as kinds
+use Rattle.chorus_entry.specs.declared.message.Message.{Message}
+use Rattle.chorus_entry.specs.declared.tag.Tag.{Tag}
 use Rattle.chorus_entry.specs.declared.answer.Answer.{Answer}
 use Rattle.chorus_entry.specs.declared.answer.Answer.TheVariants as A
 use Rattle.chorus_entry.specs.Act.{answer_of}
 use Rattle.chorus_entry.specs.declared.entry.Entry.{Entry}
 use Rattle.place_unsettled.specs.Queues.{room}
+use Rattle.chorus_calls.specs.Callers.{Seated}
+use Rattle.law_machine.specs.Own.{next_message}
 use Rattle.law_machine.specs.Doing.{direct, post}
 use Rattle.place_turns.specs.declared.messages.Ready.{Ready}
 use Rattle.place_turns.specs.declared.messages.Way.{Way}
@@ -15,6 +19,18 @@ use Rattle.place_unsettled.specs.declared.wait.Wait.{Wait}
 use Rattle.place_state.specs.Tables.{Tables, state, IsSound}
 use Rattle.place_tables.specs.AtOnce.{IsFree}
 use Rattle.place_state.specs.Going.{waits_for, reports_for, leaving_after}
+
+-- the caller's next message, with this tag and body, may be posted to the port
+pub record MayPostTo (q : Ui) (tag : Tag) (body : List ℕ) (c : Seated) : Type 0 where
+  pub kind : q.kind ≡ kinds.Port
+  pub posts : c.posts < 2 ^ 32 - 1
+  pub sound : IsSound (next_message tag body c)
+
+-- the message may go to the port, and w is its copy that waits or is decided
+pub record IsToPort (q : Ui) (m : Message) (w : Wait) (p : Tables) : Type 0 where
+  pub kind : q.kind ≡ kinds.Port
+  pub sound : IsSound m
+  pub copy : w ≡ post m p.number
 
 -- the message is decided here at once, and there is room for its entries
 pub record IsAtOnce (q : Ui) (hop : ℕ) (p : Tables) : Type 0 where

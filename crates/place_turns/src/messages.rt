@@ -9,7 +9,7 @@ ghost use Rattle.chorus_entry.specs.declared.tag.Tag.TheVariants as Tag;
 ghost use Rattle.law_machine.specs.PlaceState.{greatest_clock};
 ghost use Rattle.law_machine.specs.Own.{next_message};
 ghost use Rattle.law_machine.specs.Trying.{go};
-ghost use Rattle.law_machine.specs.Doing.{direct, post};
+ghost use Rattle.law_machine.specs.Doing.{direct};
 ghost use Rattle.law_machine.specs.Replies.{verdict_reply, post_reply};
 ghost use Rattle.chorus_calls.specs.Callers.{Seated};
 ghost use Rattle.place_state.specs.Room.{KeepsRoom};
@@ -17,7 +17,7 @@ ghost use Rattle.place_state.specs.Tables.{state, turn, IsSound};
 ghost use Rattle.place_state.specs.Steps.{posted};
 ghost use Rattle.place_state.specs.Commands.{Performed, StaysOut};
 ghost use Rattle.place_tables.specs.AtOnce.{IsFree};
-ghost use Rattle.place_turns.specs.Posting.{last_answer, IsReady, IsAtOnce, IsToWait};
+ghost use Rattle.place_turns.specs.Posting.{last_answer, MayPostTo, IsToPort, IsReady, IsAtOnce, IsToWait};
 
 use chorus_calls::Caller;
 use chorus_entry::{Answer, Body, Dest, Entry, Message, MsgId, Tag};
@@ -71,9 +71,7 @@ pub(crate) fn ready_post(
     body: Body,
     caller: &Caller,
 ) -> Result<Ready, AllocError>
-    requires kind { port.kind ≡ Kind.Port }
-    requires posts { caller.now.posts < u32.MAX }
-    requires sound { IsSound (next_message tag body caller.now) }
+    requires may { MayPostTo port tag body caller.now }
     ensures port { IfOk result (λ ready. ready.port ≡ port) }
     ensures message { IfOk result (λ ready. ready.message ≡ next_message tag body caller.now) }
     ensures ready { IfOk result (λ ready. IsReady ready tables.new) }
@@ -96,9 +94,7 @@ fn ready_at_once(
     hop: u64,
     caller: &Caller,
 ) -> Result<Ready, AllocError>
-    requires kind { port.kind ≡ Kind.Port }
-    requires posts { caller.now.posts < u32.MAX }
-    requires sound { IsSound (next_message tag body caller.now) }
+    requires may { MayPostTo port tag body caller.now }
     requires free { IsFree port hop (state tables.old) }
     ensures port { IfOk result (λ ready. ready.port ≡ port) }
     ensures message { IfOk result (λ ready. ready.message ≡ next_message tag body caller.now) }
@@ -132,9 +128,7 @@ fn ready_to_wait(
     body: Body,
     caller: &Caller,
 ) -> Result<Ready, AllocError>
-    requires kind { port.kind ≡ Kind.Port }
-    requires posts { caller.now.posts < u32.MAX }
-    requires sound { IsSound (next_message tag body caller.now) }
+    requires may { MayPostTo port tag body caller.now }
     ensures port { IfOk result (λ ready. ready.port ≡ port) }
     ensures message { IfOk result (λ ready. ready.message ≡ next_message tag body caller.now) }
     ensures ready { IfOk result (λ ready. IsReady ready tables.new) }
@@ -195,9 +189,7 @@ fn post_at_once(
     hop: u64,
     caller: &mut Caller,
 ) -> Reply
-    requires kind { port.kind ≡ Kind.Port }
-    requires sound { IsSound message }
-    requires copy { wait ≡ post message tables.old.number }
+    requires message { IsToPort port message wait tables.old }
     requires ready { IsAtOnce port hop tables.old }
     requires posts { caller.old.posts < u32.MAX }
     requires clock { greatest_clock (turn tables.old caller.old) < CLOCK_LIMIT }
@@ -223,9 +215,7 @@ fn post_behind(
     again: Option<Wait>,
     caller: &mut Caller,
 ) -> Reply
-    requires kind { port.kind ≡ Kind.Port }
-    requires sound { IsSound message }
-    requires copy { wait ≡ post message tables.old.number }
+    requires message { IsToPort port message wait tables.old }
     requires ready { IsToWait port wait again tables.old }
     requires posts { caller.old.posts < u32.MAX }
     requires clock { greatest_clock (turn tables.old caller.old) < CLOCK_LIMIT }

@@ -18,7 +18,7 @@ decide_at_once-answer-requires-clause-site c =
     ap (λ (p : Tables). has_site p.layout c.args.port.site) c.post_alone.ensures.same ∙ c.requires.ready.free.site
 
 pub decide_at_once-answer-requires-clause-sound : goal.decide_at_once-answer-requires-clause-sound
-decide_at_once-answer-requires-clause-sound c = subst IsSound (sym (ap (λ w. w.message) c.requires.copy)) c.requires.sound
+decide_at_once-answer-requires-clause-sound c = subst IsSound (sym (ap (λ w. w.message) c.requires.message.copy)) c.requires.message.sound
 
 pub decide_at_once-answer-requires-clause-entry : goal.decide_at_once-answer-requires-clause-entry
 decide_at_once-answer-requires-clause-entry c =
@@ -37,7 +37,7 @@ returns-clause-turn c =
     let t = turn p c.args.caller.now in
     c.decide_at_once-answer.ensures.turn
     ∙ ap (decided c.args.wait.message q hop) c.post_alone.ensures.turn
-    ∙ ap (λ x. decided x q hop (posted_alone m (Dest.Port q) t)) (ap (λ w. w.message) c.requires.copy)
+    ∙ ap (λ x. decided x q hop (posted_alone m (Dest.Port q) t)) (ap (λ w. w.message) c.requires.message.copy)
     ∙ at-once q m hop t c.requires.ready.free (λ l h. ap (λ (r : Row). r.queue) (same_row p.waits (direct q) l h))
 
 pub returns-clause-reply : goal.returns-clause-reply
@@ -46,7 +46,7 @@ returns-clause-reply c =
     let m = c.args.message in
     let hop = c.args.hop in
     let t = turn c.post_alone.new.self c.post_alone.new.caller in
-    let same = ap (λ w. w.message) c.requires.copy in
+    let same = ap (λ w. w.message) c.requires.message.copy in
     let after = c.decide_at_once-answer in
     reply-told m q hop t (turn after.new.self after.new.caller) c.verdict_reply.result (after.ensures.turn ∙ ap (λ x. decided x q hop t) same)
     (c.verdict_reply.ensures ∙ ap (verdict_reply m.id) (after.ensures.answer ∙ ap (λ x. decide x q None hop t.place) same))

@@ -7,7 +7,7 @@ use Rattle.place_turns.proofs.messages.post_behind.Goals as goal
 
 pub go-requires-clause-again : goal.go-requires-clause-again
 go-requires-clause-again c =
-    λ _. posted-leaving c.args.port c.args.message (turn c.args.tables.now c.args.caller.now) _ c.args.again c.args.wait c.post.ensures.turn c.requires.copy c.requires.ready.leaving
+    λ _. posted-leaving c.args.port c.args.message (turn c.args.tables.now c.args.caller.now) _ c.args.again c.args.wait c.post.ensures.turn c.requires.message.copy c.requires.ready.leaving
 
 pub go-requires-clause-may : goal.go-requires-clause-may
 go-requires-clause-may c =
@@ -22,7 +22,7 @@ go-requires-clause-may c =
     let packets = c.requires.ready.room in
     let worn = c.requires.clock in
     record {
-      kind = c.requires.kind;
+      kind = c.requires.message.kind;
       spare = omega (arith, len, entries, left);
       room = omega (arith, reports, same, packets);
       clock = omega (arith, len, clock, few, worn);
