@@ -1,12 +1,11 @@
-use Rattle.std.proofs.Common.{◌+◌, ◌≤◌, ◌^◌, length, ap, sym, subst, ◌∙◌, arith}
+use Rattle.std.proofs.Common.{ap, ◌∙◌, arith}
 use Rattle.chorus_ui.specs.Layout.{has_place}
 use Rattle.chorus_groups.specs.Made.{made_of}
 use Rattle.law_machine.specs.PlaceState.{Turn, greatest_clock}
 use Rattle.law_machine.specs.Choosing.{choice}
 use Rattle.place_state.specs.Tables.{Tables, state, turn}
-use Rattle.place_unsettled.specs.Queues.{queue}
-use Rattle.place_state.specs.Groups.{HaveLines, members_of, waiting_for, courses_of}
-use Rattle.place_groups.proofs.GroupTurns.{on-err, posted-here, posted-clock, members-copies}
+use Rattle.place_state.specs.Groups.{members_of}
+use Rattle.place_groups.proofs.GroupTurns.{on-err, posted-here, posted-clock, members-copies, ready-posted}
 use Rattle.place_groups.proofs.turns.post_here.Goals as goal
 
 pub returns-in_err-chosen-clause-refused : goal.returns-in_err-chosen-clause-refused
@@ -46,22 +45,6 @@ returns-clause-reply c =
 
 pub carry_out-requires-clause-ready : goal.carry_out-requires-clause-ready
 carry_out-requires-clause-ready c =
-    let g = c.args.group in
-    let copies = c.in_ok-chosen.chosen.copies.items in
-    let ms = members_of copies in
-    let r = c.in_ok-chosen.ensures.ready in
-    let same = c.post_alone.ensures.same in
-    let waits = ap (λ (p : Tables). waiting_for g ms (queue p.waits)) same in
-    let enough = r.spare in
-    let left = c.post_alone.ensures.spare in
-    record {
-      chosen = r.chosen;
-      kinds = r.kinds;
-      distinct = r.distinct;
-      copied = r.copied;
-      courses = r.courses ∙ ap (λ (p : Tables). courses_of g (state p) copies) (sym same);
-      lines = subst (λ (p : Tables). HaveLines g p.waits ms) (sym same) r.lines;
-      few = subst (λ (p : Tables). waiting_for g ms (queue p.waits) + length copies ≤ 2 ^ 62) (sym same) r.few;
-      spare = omega (arith, waits, enough, left);
-      room = subst (λ (p : Tables). 1 + waiting_for g ms (queue p.waits) + length copies + length copies ≤ p.room) (sym same) r.room;
-    }
+    let made = c.in_ok-chosen.chosen in
+    ready-posted c.args.group c.number-home.result made.choice made.copies.items made.courses.items c.prepare.new.tables c.post_alone.new.self c.in_ok-chosen.ensures.ready
+    c.post_alone.ensures.same c.post_alone.ensures.spare
