@@ -8,6 +8,7 @@ pub mod Searching
 pub mod Exploring
 pub mod Alike
 pub mod Nets
+pub mod Telling
 pub mod Replays
 pub mod Carriers
 pub mod Quiet

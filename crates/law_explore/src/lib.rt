@@ -18,6 +18,7 @@ ghost use Rattle.law_explore.specs.Alike.{ActAlike, CommandsStayAlike, NetsStayA
 ghost use Rattle.law_explore.specs.Laws.{MovesComeToTheSame, NormalsComeToAll, RacesAreExplored, RacesAreWalked, RacesNeedNormalsOnly};
 ghost use Rattle.law_explore.specs.Replays.{MovesAreReplayed};
 ghost use Rattle.law_explore.specs.Neighbours.{NeighboursCommute, NeighboursStay};
+ghost use Rattle.law_explore.specs.Positions.{TellAlike};
 ghost use Rattle.law_explore.specs.Quiet.{NeighboursStayQuiet};
 
 pub use moves::Move;
@@ -72,6 +73,7 @@ pub fn turns_stay_alike()
 pub fn networks_stay_alike()
     ensures reads { NetsStayAlike ReadAlike }
     ensures acts { NetsStayAlike ActAlike }
+    ensures tells { NetsStayAlike TellAlike }
 {}
 
 /// What moves come to does not depend on who delivers, nor on any clock.
