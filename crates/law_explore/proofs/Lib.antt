@@ -9,6 +9,7 @@ pub mod Exploring
 pub mod Alike
 pub mod Nets
 pub mod Telling
+pub mod Told
 pub mod Replays
 pub mod Carriers
 pub mod Quiet
