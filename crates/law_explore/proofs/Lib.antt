@@ -12,6 +12,7 @@ pub mod Telling
 pub mod Told
 pub mod Replays
 pub mod Carriers
+pub mod Positions
 pub mod Quiet
 pub mod Walking
 pub mod Showing

@@ -15,7 +15,7 @@
 mod moves;
 
 ghost use Rattle.law_explore.specs.Alike.{ActAlike, CommandsStayAlike, NetsStayAlike, PacketsStayAlike, ReadAlike};
-ghost use Rattle.law_explore.specs.Laws.{MovesComeToTheSame, NormalsComeToAll, RacesAreExplored, RacesAreWalked, RacesNeedNormalsOnly};
+ghost use Rattle.law_explore.specs.Laws.{AlikeIsAnEquivalence, AlikePositionsComeToTheSame, MovesComeToTheSame, NormalsComeToAll, RacesAreExplored, RacesAreWalked, RacesNeedNormalsOnly};
 ghost use Rattle.law_explore.specs.Replays.{MovesAreReplayed};
 ghost use Rattle.law_explore.specs.Neighbours.{NeighboursCommute, NeighboursStay};
 ghost use Rattle.law_explore.specs.Positions.{TellAlike};
@@ -79,6 +79,14 @@ pub fn networks_stay_alike()
 /// What moves come to does not depend on who delivers, nor on any clock.
 pub fn moves_come_to_the_same()
     ensures { MovesComeToTheSame }
+{}
+
+/// Of two histories of one race that come to positions that are alike: each list of moves that may come behind the one
+/// may come behind the other, and comes to the same outcome. So of all histories that come alike one is enough to go on
+/// from.
+pub fn alike_positions_come_to_the_same()
+    ensures same { AlikePositionsComeToTheSame }
+    ensures equivalence { AlikeIsAnEquivalence }
 {}
 
 /// A schedule that does the moves, with a drain behind them, leaves the network that the moves come to, if they leave
