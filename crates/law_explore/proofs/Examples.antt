@@ -1,5 +1,5 @@
 -- A race that meets what the laws ask, one that does not, and what comes of it; what is alike and what is not: computed.
-use Rattle.std.proofs.Common.{ℕ, zero, suc, ◌≡◌, ◌<◌, ◌≤◌, true, false, List, [], ◌∷◌, slice_get, refl, sym, ap, arith}
+use Rattle.std.proofs.Common.{ℕ, zero, suc, ◌≡◌, ◌<◌, ◌≤◌, ◌==◌, Bool, true, false, List, [], ◌∷◌, length, slice_get, refl, sym, ap, arith}
 use Rattle.std.proofs.lemmas.Bool.{false≢true}
 use Rattle.chorus_ui.specs.declared.kind.Kind.TheVariants as kinds
 use Rattle.chorus_ui.specs.declared.ui.Ui.{Ui}
@@ -12,12 +12,14 @@ use Rattle.chorus_entry.specs.declared.id.MsgId.{MsgId}
 use Rattle.law_network.specs.Calls.{first_actor, just_started}
 use Rattle.law_machine.specs.PlaceState.{PlaceState}
 use Rattle.law_network.specs.Network.{Enter, happened}
+use Rattle.law_explore.specs.declared.moves.Move.{Move}
 use Rattle.law_explore.specs.declared.moves.Move.TheVariants.{Go}
 use Rattle.law_explore.specs.Alike.{CallerAlike}
 use Rattle.law_explore.specs.Search.{state_after}
 use Rattle.law_explore.specs.Races.{Race, start_of, next_moves, replaying, IsRace, IsWhole}
 use Rattle.law_explore.specs.Outcome.{Answered, is_stale_at, outcome_after}
 use Rattle.law_explore.specs.Positions.{TellAlike, ComeAlike}
+use Rattle.law_explore.specs.Levels.{Class, histories_of, level}
 
 abbrev one_site : Layout
 one_site = record { sites = 1; turns = 1 }
@@ -63,8 +65,8 @@ is-not = refl
 pub unlike : TellAlike (told ∷ []) [] → ⊥
 unlike h = false≢true (sym (h.stale (copy 1)))
 
--- Two callers at one place, with one command each. That each receives from a port that is not there comes alike in either
--- order, though the journals differ; that each makes a port does not, since the first makes the first.
+-- Two callers at one place, with one command each. Where each receives from a port that is not there, either order comes
+-- alike, though the journals differ.
 
 abbrev both : Command → Race
 both command = record { net = happened (Enter first_actor 0) alone.net; scripts = (command ∷ []) ∷ (command ∷ []) ∷ [] }
@@ -109,6 +111,22 @@ either-order =
     caller (suc zero) low high = record { last = 2; is = refl }
     caller (suc (suc zero)) low high = record { last = 1; is = refl }
     caller (suc (suc (suc k))) low high = absurd (omega (arith, high))
+
+-- So one of the two orders stands for both.
+
+abbrev two_moves : List Move → List Move → Bool
+two_moves h k = length h == 2
+
+pub all-orders : histories_of taking 2 ≡ (Go 1 ∷ Go 0 ∷ []) ∷ (Go 0 ∷ Go 1 ∷ []) ∷ []
+all-orders = refl
+
+abbrev one_order : Class
+one_order = record { shows = Go 1 ∷ Go 0 ∷ []; stands_for = 2 }
+
+pub one-class : level taking two_moves 2 ≡ one_order ∷ []
+one-class = refl
+
+-- Where each makes a port the orders do not come alike: who was first has port 1.
 
 abbrev making : Race
 making = both (Command.Make first_actor 1)

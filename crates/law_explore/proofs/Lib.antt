@@ -13,6 +13,9 @@ pub mod Told
 pub mod Replays
 pub mod Carriers
 pub mod Positions
+pub mod Histories
+pub mod Once
+pub mod Levels
 pub mod Quiet
 pub mod Walking
 pub mod Showing

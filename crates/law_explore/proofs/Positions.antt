@@ -1,21 +1,20 @@
 -- Positions that are alike: being so is an equivalence, and what comes behind the one comes behind the other.
 -- r is a race, s, t and u are positions, m is a move, ms, os and more are moves.
-use Rattle.std.proofs.Common.{ℕ, ◌≡◌, ◌<◌, ◌≤◌, Bool, true, List, [], ◌∷◌, ◌++◌, length, map, Option, Some, None, is_some, slice_get, refl, sym, ◌∙◌, ap, subst, arith}
+use Rattle.std.proofs.Common.{ℕ, ◌≡◌, ◌<◌, ◌≤◌, true, List, [], ◌∷◌, ◌++◌, length, Option, Some, None, is_some, slice_get, refl, sym, ◌∙◌, ap, subst, arith}
 use Rattle.std.specs.List.{filter}
-use Rattle.std.specs.Option.{option_map}
 use Rattle.std.proofs.lemmas.Bool.{false≢true}
 use Rattle.chorus_ui.specs.declared.layout.Layout.{Layout}
 use Rattle.chorus_entry.specs.declared.command.Command.{Command}
 use Rattle.chorus_entry.specs.declared.entry.Entry.{Entry}
 use Rattle.chorus_calls.specs.Callers.{Seated}
 use Rattle.law_machine.specs.PlaceState.{PlaceState}
-use Rattle.law_network.specs.Network.{NetState, Event}
-use Rattle.law_explore.specs.Alike.{ReadAlike, SameButLast, CallerAlike, PlaceAlike, PlacesAlike, NetsAlike}
+use Rattle.law_network.specs.Network.{Event}
+use Rattle.law_explore.specs.Alike.{ReadAlike, CallerAlike, PlaceAlike, PlacesAlike}
 use Rattle.law_explore.specs.Search.{state_after, IsHistory}
 use Rattle.law_explore.specs.declared.moves.Move.{Move}
 use Rattle.law_explore.specs.Races.{Race, Position, event_of, position_after, is_ready_by, seat_0, may_come, replaying, all_moves, next_moves, IsRace}
 use Rattle.law_explore.specs.Positions.{TellAlike, PositionsAlike, ComeAlike}
-use Rattle.law_explore.specs.Laws.{AlikePositionsComeToTheSame, IsEquivalence, AlikeIsAnEquivalence}
+use Rattle.law_explore.specs.Laws.{AlikePositionsComeToTheSame, AlikeIsAnEquivalence}
 use Rattle.law_explore.proofs.Carriers.{some-inside, same-filter, same-Bool}
 use Rattle.law_explore.proofs.Telling.{keep_tells, outcomes}
 use Rattle.law_explore.proofs.Told.{SamePlain, grow-plain, outcome-same}
@@ -129,7 +128,7 @@ caller-joined (Some w) (Some v) None h f = absurd f
 caller-joined (Some w) (Some v) (Some u) h f =
     record { last = f.last; is = f.is ∙ ap (λ (x : Seated). let y : Seated = record x { last = f.last } in y) h.is }
 
-itself : (count : ℕ) (s : Position) → PositionsAlike count s s
+pub itself : (count : ℕ) (s : Position) → PositionsAlike count s s
 itself count s =
     record {
       nets =
@@ -214,7 +213,7 @@ module _ (r : Race) (race : IsRace r) where
       record { nets = alike.nets; left = alike.left; told = alike.told; all = as-many ms; there = λ b. there os h }
 
   -- one move more
-  one-more : (ms os : List Move) (m : Move) → IsHistory (replaying r) os → ComeAlike r ms os → may_come l m (at ms) ≡ true → (may_come l m (at os) ≡ true) × ComeAlike r (m ∷ ms) (m ∷ os)
+  pub one-more : (ms os : List Move) (m : Move) → IsHistory (replaying r) os → ComeAlike r ms os → may_come l m (at ms) ≡ true → (may_come l m (at os) ≡ true) × ComeAlike r (m ∷ ms) (m ∷ os)
   one-more ms os m h alike may =
       let next = follows TellAlike keep_tells SamePlain grow-plain l (length r.scripts) seat_0 seat_0 not-scripted (at ms) (at os) (stay ms os h alike) m may in
       (next.0, record { nets = next.1.nets; left = next.1.left; told = next.1.told })

@@ -1,13 +1,10 @@
 -- Journals of which the same is told: one entry more of each, the same act, keeps them so, and what comes of them is the same.
-use Rattle.std.proofs.Common.{ℕ, zero, suc, ◌≡◌, ◌+◌, ◌||◌, List, [], ◌∷◌, ◌++◌, map, reverse, Option, Some, None, slice_get, slice_set, refl, sym, ◌∙◌, ap, subst}
+use Rattle.std.proofs.Common.{ℕ, ◌≡◌, ◌||◌, List, [], ◌∷◌, ◌++◌, map, Option, Some, None, refl, sym, ◌∙◌, ap, subst}
 use Rattle.std.specs.List.{flat_map, filter_map}
 use Rattle.std.specs.Option.{option_map, option_or}
 use Rattle.std.proofs.lemmas.List.{map-append}
-use Rattle.std.proofs.lemmas.Option.{slice_get-map}
 use Rattle.chorus_ui.specs.declared.ui.Ui.{Ui}
 use Rattle.chorus_entry.specs.declared.act.Act.{Act}
-use Rattle.chorus_entry.specs.declared.act.Act.TheVariants as acts
-use Rattle.chorus_entry.specs.declared.answer.Answer.{Answer}
 use Rattle.chorus_entry.specs.declared.entry.Entry.{Entry}
 use Rattle.chorus_entry.specs.declared.id.MsgId.{MsgId}
 use Rattle.chorus_world.specs.declared.place.Sent.{Sent}
@@ -16,11 +13,8 @@ use Rattle.chorus_world.specs.Messages.{verdict, verdict_by}
 use Rattle.chorus_ports.specs.Table as table
 use Rattle.law_machine.specs.PlaceState.{PlaceState}
 use Rattle.law_explore.specs.Alike.{ActAlike, PlacesAlike}
-use Rattle.law_explore.specs.declared.moves.Move.{Move}
-use Rattle.law_explore.specs.declared.moves.Move.TheVariants.{Go, Carry}
-use Rattle.law_explore.specs.Races.{with_answer, answers_after}
-use Rattle.law_explore.specs.Outcome.{plain_act, answers_from, answer_facts, plain_answer, Answered, Judged, port_fact, post_in, posts_in, verdict_in, copies_in, message_facts, is_stale_by, is_stale_at, is_stale_in, stale_facts, made_in, made_by, made_at, held_in, port_facts, outcome_with}
-use Rattle.law_explore.specs.Positions.{TellAlike, plain_told}
+use Rattle.law_explore.specs.Outcome.{answer_facts, plain_answer, Judged, port_fact, posts_in, verdict_in, copies_in, is_stale_by, is_stale_at, is_stale_in, stale_facts, made_in, made_by, made_at, held_in, outcome_with}
+use Rattle.law_explore.specs.Positions.{TellAlike}
 use Rattle.law_explore.proofs.Alike.{Keeping, read-more, acts-read}
 
 map-or : {A B : Type 0} (f : A → B) (o p : Option A) → option_map f (option_or o p) ≡ option_or (option_map f o) (option_map f p)

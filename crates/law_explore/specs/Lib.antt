@@ -9,3 +9,4 @@ pub mod Explores
 pub mod Replays
 pub mod Quiet
 pub mod Laws
+pub mod Levels
