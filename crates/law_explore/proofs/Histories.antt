@@ -5,7 +5,8 @@ use Rattle.std.specs.List.{Contains, filter}
 use Rattle.law_explore.specs.declared.moves.Move.{Move}
 use Rattle.law_explore.specs.Search.{IsHistory, state_after}
 use Rattle.law_explore.specs.Races.{Race, Position, may_come, replaying, all_moves}
-use Rattle.law_explore.specs.Levels.{next_behind, histories_of}
+use Rattle.law_explore.specs.Positions.{next_behind}
+use Rattle.law_explore.specs.Levels.{histories_of}
 use Rattle.law_explore.proofs.Searching.{none, here, there, which, in-flat, of-flat}
 use Rattle.law_explore.proofs.Exploring.{lists-next}
 

@@ -7,8 +7,8 @@ use Rattle.std.proofs.lemmas.List.Sums.{sum_by-cons, sum_by-append}
 use Rattle.law_explore.specs.declared.moves.Move.{Move}
 use Rattle.law_explore.specs.Search.{IsHistory, state_after}
 use Rattle.law_explore.specs.Races.{Race, Position, may_come, replaying, IsRace}
-use Rattle.law_explore.specs.Positions.{ComeAlike}
-use Rattle.law_explore.specs.Levels.{next_behind, histories_of, Class, TellsAlike, with_class, with_classes, gone_on, level, IsOneOfAlike, HasClass, LevelsStandForAll}
+use Rattle.law_explore.specs.Positions.{ComeAlike, next_behind}
+use Rattle.law_explore.specs.Levels.{histories_of, Class, TellsAlike, with_class, with_classes, gone_on, level, IsOneOfAlike, HasClass, LevelsStandForAll}
 use Rattle.law_explore.proofs.Searching.{none, here, there, which}
 use Rattle.law_explore.proofs.Exploring.{lists-next}
 use Rattle.law_explore.proofs.Histories.{AllMay, all-may}

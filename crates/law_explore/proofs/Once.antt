@@ -12,7 +12,8 @@ use Rattle.law_explore.specs.declared.moves.Move.{Move}
 use Rattle.law_explore.specs.declared.moves.Move.TheVariants.{Go, Carry}
 use Rattle.law_explore.specs.Search.{state_after}
 use Rattle.law_explore.specs.Races.{Race, may_come, replaying, links_to, links_between, all_moves}
-use Rattle.law_explore.specs.Levels.{next_behind, histories_of, HistoriesAreListed}
+use Rattle.law_explore.specs.Positions.{next_behind}
+use Rattle.law_explore.specs.Levels.{histories_of, HistoriesAreListed}
 use Rattle.law_explore.proofs.Searching.{none, here, there, which, of-flat}
 use Rattle.law_explore.proofs.Histories.{are-listed, no-other}
 

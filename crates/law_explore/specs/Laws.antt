@@ -8,7 +8,7 @@ use Rattle.law_explore.specs.Walk.{WalkKeeps}
 use Rattle.law_explore.specs.declared.moves.Move.{Move}
 use Rattle.law_explore.specs.Races.{Race, racing, replaying, next_moves, IsRace, IsWhole, IsNormalWhole, whole_histories}
 use Rattle.law_explore.specs.Outcome.{outcome_of, outcome_after}
-use Rattle.law_explore.specs.Positions.{PositionsAlike, ComeAlike}
+use Rattle.law_explore.specs.Positions.{PositionsAlike, ComeAlike, next_behind}
 
 -- where each delivers whom one likes, each history has one in normal form that leaves the same, on the nose
 abbrev pub RacesNeedNormalsOnly : Type 0
@@ -61,7 +61,7 @@ pub record GoOnAlike (r : Race) (ms os more : List Move) : Type 0 where
   pub may : IsHistory (replaying r) (more ++ os)
   pub alike : ComeAlike r (more ++ ms) (more ++ os)
   pub comes : outcome_after r (more ++ os) ≡ outcome_after r (more ++ ms)
-  pub next : next_moves r (state_after (replaying r) (more ++ os)) ≡ next_moves r (state_after (replaying r) (more ++ ms))
+  pub next : next_behind r (more ++ os) ≡ next_behind r (more ++ ms)
 
 abbrev pub AlikePositionsComeToTheSame : Type 0
 AlikePositionsComeToTheSame =

@@ -1,17 +1,13 @@
--- Histories of a race level by level, all of one level as long, where those that come alike are put together: one history
--- stands for them, and how many they are.
+-- Histories of a race level by level, all of one level as long, where those that come alike are put together: one
+-- history stands for them, and how many they are.
 -- r is a race, n a number of moves, c and d are classes, hs and h are histories, m is a move.
 use Rattle.std.specs.Prelude.{ℕ, zero, suc, ◌≡◌, ◌≢◌, ◌+◌, ◌*◌, Bool, true, if◌then◌else◌, List, [], ◌∷◌, length, map, sum_by, Contains}
 use Rattle.std.specs.List.{All, AllPairs, flat_map}
 use Rattle.law_explore.specs.declared.moves.Move.{Move}
-use Rattle.law_explore.specs.Search.{IsHistory, state_after}
-use Rattle.law_explore.specs.Races.{Race, replaying, next_moves, IsRace}
+use Rattle.law_explore.specs.Search.{IsHistory}
+use Rattle.law_explore.specs.Races.{Race, replaying, IsRace}
 use Rattle.law_explore.specs.Outcome.{outcome_after}
-use Rattle.law_explore.specs.Positions.{ComeAlike}
-
--- the moves that may come behind a history
-abbrev pub next_behind : Race → List Move → List Move
-next_behind r h = next_moves r (state_after (replaying r) h)
+use Rattle.law_explore.specs.Positions.{ComeAlike, next_behind}
 
 -- all histories of so many moves
 abbrev pub histories_of : Race → ℕ → List (List Move)
@@ -65,9 +61,9 @@ pub record HasClass (r : Race) (cs : List Class) (h : List Move) : Type 0 where
   pub comes : outcome_after r class.shows ≡ outcome_after r h
   pub next : next_behind r class.shows ≡ next_behind r h
 
--- The classes show histories as long as that, and each such history has its class. And whatever is one for all that come
--- alike, its sum over the classes, each as often as it stands for one, is its sum over all histories: so are the
--- histories counted, all of them, those that are whole, or those that come to an outcome.
+-- The classes show histories as long as that, and each such history has its class. And whatever is one for all that
+-- come alike, its sum over the classes, each as often as it stands for one, is its sum over all histories: so are they
+-- counted, all of them, those that are whole, or those that come to an outcome.
 pub record StandForAll (r : Race) (cs : List Class) (n : ℕ) : Type 0 where
   pub histories : All (λ (c : Class). IsHistory (replaying r) c.shows × (length c.shows ≡ n)) cs
   pub every : (h : List Move) → IsHistory (replaying r) h → length h ≡ n → HasClass r cs h

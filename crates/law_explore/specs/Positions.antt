@@ -11,7 +11,7 @@ use Rattle.chorus_world.specs.declared.place.Sent.{Sent}
 use Rattle.law_explore.specs.Alike.{ReadAlike, NetsAlike}
 use Rattle.law_explore.specs.Search.{state_after}
 use Rattle.law_explore.specs.declared.moves.Move.{Move}
-use Rattle.law_explore.specs.Races.{Race, Position, replaying}
+use Rattle.law_explore.specs.Races.{Race, Position, replaying, next_moves}
 use Rattle.law_explore.specs.Outcome.{plain_act, plain_answer, is_stale_at, made_by}
 
 -- all that a turn reads of a journal is the same, and all that an outcome tells of it: verdicts, copies, what was told
@@ -37,3 +37,7 @@ pub record PositionsAlike (count : ℕ) (s t : Position) : Type 0 where
 -- two histories of a race that come to positions that are alike
 abbrev pub ComeAlike : Race → List Move → List Move → Type 0
 ComeAlike r ms os = PositionsAlike (length r.scripts) (state_after (replaying r) ms) (state_after (replaying r) os)
+
+-- the moves that may come behind a history
+abbrev pub next_behind : Race → List Move → List Move
+next_behind r ms = next_moves r (state_after (replaying r) ms)
