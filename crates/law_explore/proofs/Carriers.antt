@@ -23,7 +23,9 @@ use Rattle.law_explore.specs.Races.{Race, Position, next_of, are_linked, event_o
 use Rattle.law_explore.specs.Outcome.{outcome_of}
 use Rattle.law_explore.specs.Laws.{RacesAlike, NormalsComeToAll}
 use Rattle.law_explore.proofs.Races.{races_need_normals_only}
-use Rattle.law_explore.proofs.Replays.{alike-after, Stays, follows, outcomes}
+use Rattle.law_explore.proofs.Alike.{keep_acts}
+use Rattle.law_explore.proofs.Telling.{acts-tell, outcomes}
+use Rattle.law_explore.proofs.Replays.{alike-after, Stays, follows, SameTold, grow-same}
 
 -- Lists.
 
@@ -37,16 +39,16 @@ get-right [] ys k j e = ap (slice_get ys) (omega (arith, e))
 get-right (x ∷ xs) ys zero j e = absurd (omega (arith, e))
 get-right (x ∷ xs) ys (suc k) j e = get-right xs ys k j (omega (arith, e))
 
-some-inside : {A : Type 0} (xs : List A) (k : ℕ) → k < length xs → is_some (slice_get xs k) ≡ true
+pub some-inside : {A : Type 0} (xs : List A) (k : ℕ) → k < length xs → is_some (slice_get xs k) ≡ true
 some-inside [] k lt = absurd (omega (arith, lt))
 some-inside (x ∷ xs) zero lt = refl
 some-inside (x ∷ xs) (suc k) lt = some-inside xs k (omega (arith, lt))
 
-same-filter : {A : Type 0} (p q : A → Bool) (xs : List A) → ((x : A) → p x ≡ q x) → filter p xs ≡ filter q xs
+pub same-filter : {A : Type 0} (p q : A → Bool) (xs : List A) → ((x : A) → p x ≡ q x) → filter p xs ≡ filter q xs
 same-filter p q [] h = refl
 same-filter p q (x ∷ xs) h = λ i. cond (h x i) (x ∷ same-filter p q xs h i) (same-filter p q xs h i)
 
-same-Bool : (a b : Bool) → (a ≡ true → b ≡ true) → (b ≡ true → a ≡ true) → a ≡ b
+pub same-Bool : (a b : Bool) → (a ≡ true → b ≡ true) → (b ≡ true → a ≡ true) → a ≡ b
 same-Bool true b there back = sym (there refl)
 same-Bool false true there back = back refl
 same-Bool false false there back = refl
@@ -178,8 +180,8 @@ module _ (r : Race) (race : IsRace r) where
     pub same-ready : (m : Move) → may_come l m s ≡ is_ready_by (event_of l carrier m t.left) t.net
     same-ready m =
         same-Bool (may_come l m s) (is_ready_by (event_of l carrier m t.left) t.net)
-        (λ h. (follows l (length r.scripts) seat_0 carrier to-carried.behind s t there m h).0)
-        (λ h. (follows l (length r.scripts) carrier seat_0 from-carried.behind t s back m h).0)
+        (λ h. (follows ActAlike keep_acts SameTold grow-same l (length r.scripts) seat_0 carrier to-carried.behind s t there m h).0)
+        (λ h. (follows ActAlike keep_acts SameTold grow-same l (length r.scripts) carrier seat_0 from-carried.behind t s back m h).0)
 
     same-actor : (k : ℕ) → 1 ≤ k → k ≤ length r.scripts → actor_of s.net k ≡ actor_of t.net k
     same-actor k low high = by (slice_get s.net.callers k) (slice_get t.net.callers k) (there.nets.callers k low high)
@@ -310,7 +312,7 @@ module _ (r : Race) (race : IsRace r) where
   same-outcome : (ms : List Move) → IsHistory (racing r seat_0) ms → outcome_of (at_0 ms) ≡ outcome_of (at_c ms)
   same-outcome ms h =
       let stay = (there-after ms h).1 in
-      outcomes (at_0 ms).told (at_0 ms).net.places (at_c ms).net.places stay.nets.places
+      outcomes ActAlike acts-tell (at_0 ms).told (at_0 ms).net.places (at_c ms).net.places stay.nets.places
       ∙ sym (ap (λ told. outcome_of (record { net = (at_c ms).net; left = (at_c ms).left; told = told })) stay.told)
 
   pub record HasNormalOf (ms : List Move) : Type 0 where

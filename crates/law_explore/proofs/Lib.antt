@@ -8,8 +8,14 @@ pub mod Searching
 pub mod Exploring
 pub mod Alike
 pub mod Nets
+pub mod Telling
+pub mod Told
 pub mod Replays
 pub mod Carriers
+pub mod Positions
+pub mod Histories
+pub mod Once
+pub mod Levels
 pub mod Quiet
 pub mod Walking
 pub mod Showing

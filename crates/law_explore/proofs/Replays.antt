@@ -1,119 +1,27 @@
 -- The same moves come to the same, whoever delivers.
-use Rattle.std.proofs.Common.{ℕ, zero, suc, ◌≡◌, ◌≤◌, ◌==◌, Bool, true, false, ◌||◌, cond, List, [], ◌∷◌, ◌++◌, length, map, Option, Some, None, is_some, slice_get, slice_set, inl, inr, refl, sym, ◌∙◌, ap, subst, arith}
-use Rattle.std.specs.List.{flat_map, filter_map}
-use Rattle.std.specs.Option.{option_map, option_or}
+use Rattle.std.proofs.Common.{ℕ, zero, suc, ◌≡◌, ◌≤◌, ◌==◌, Bool, true, false, cond, List, [], ◌∷◌, length, map, Option, Some, None, is_some, slice_get, slice_set, inl, inr, refl, sym, ◌∙◌, ap, subst, arith}
+use Rattle.std.specs.Option.{option_map}
 use Rattle.std.proofs.lemmas.Bool.{false≢true, and_parts, and_from, cases_Bool, eqb-false}
-use Rattle.chorus_ui.specs.declared.ui.Ui.{Ui}
 use Rattle.chorus_ui.specs.declared.layout.Layout.{Layout}
 use Rattle.chorus_entry.specs.declared.act.Act as acts
 use Rattle.chorus_entry.specs.declared.command.Command.{Command}
 use Rattle.chorus_entry.specs.declared.entry.Entry.{Entry}
-use Rattle.chorus_entry.specs.declared.id.MsgId.{MsgId}
-use Rattle.chorus_world.specs.declared.place.Sent.{Sent}
-use Rattle.chorus_world.specs.GroupLaws.{copies_of, copies_by}
-use Rattle.chorus_world.specs.Messages.{verdict, verdict_by}
-use Rattle.chorus_ports.specs.Table as table
 use Rattle.chorus_calls.specs.Callers.{Seated}
-use Rattle.law_machine.specs.PlaceState.{PlaceState}
 use Rattle.law_network.specs.Packets.{first_on}
 use Rattle.law_network.specs.Network.{NetState, Event, Act, Deliver, happened}
 use Rattle.law_network.proofs.Standing.CallerList.{get-other, get-replaced}
-use Rattle.law_explore.specs.Alike.{ActAlike, PlacesAlike, CallerAlike, NetsAlike, AreSameMove}
+use Rattle.law_explore.specs.Alike.{ActAlike, CallerAlike, NetsAlike, AreSameMove}
 use Rattle.law_explore.specs.Neighbours.{seat_of, is_ready}
 use Rattle.law_explore.specs.Search.{state_after, IsHistory}
 use Rattle.law_explore.specs.declared.moves.Move.{Move}
 use Rattle.law_explore.specs.declared.moves.Move.TheVariants.{Go, Carry}
 use Rattle.law_explore.specs.Races.{Race, Position, next_of, are_linked, event_of, scripts_after, own_by, own_of, answers_after, position_after, is_ready_by, racing}
-use Rattle.law_explore.specs.Outcome.{answer_facts, plain_answer, Judged, port_fact, posts_in, verdict_in, copies_in, is_stale_by, is_stale_at, is_stale_in, stale_facts, made_in, made_by, made_at, held_in, outcome_with}
+use Rattle.law_explore.specs.Outcome.{outcome_with}
 use Rattle.law_explore.specs.Laws.{RacesAlike, MovesComeToTheSame}
-use Rattle.law_explore.proofs.Alike.{keep_acts, owns-alike}
+use Rattle.law_explore.proofs.Alike.{Keeping, keep_acts, owns-alike}
 use Rattle.law_explore.proofs.Nets.{nets-stay-alike, begins, some-too}
 use Rattle.law_explore.proofs.Races.{caller, turn, is}
-
--- What is asked of journals is a function of their acts.
-
-acts-verdict : (x : MsgId) (j k : List Entry) → ActAlike j k → verdict x j ≡ verdict x k
-acts-verdict x [] [] h = refl
-acts-verdict x [] (f ∷ k) h = absurd (cc)
-acts-verdict x (e ∷ j) [] h = absurd (cc)
-acts-verdict x (e ∷ j) (f ∷ k) h =
-    let same : e.act ≡ f.act = cc in
-    let rest : ActAlike j k = cc in
-    λ i. option_or (acts-verdict x j k rest i) (verdict_by x (same i))
-
-acts-copies : (x : MsgId) (j k : List Entry) → ActAlike j k → copies_of x j ≡ copies_of x k
-acts-copies x [] [] h = refl
-acts-copies x [] (f ∷ k) h = absurd (cc)
-acts-copies x (e ∷ j) [] h = absurd (cc)
-acts-copies x (e ∷ j) (f ∷ k) h =
-    let same : e.act ≡ f.act = cc in
-    let rest : ActAlike j k = cc in
-    λ i. acts-copies x j k rest i ++ copies_by x (same i)
-
-acts-stale : (x : MsgId) (j k : List Entry) → ActAlike j k → is_stale_at x j ≡ is_stale_at x k
-acts-stale x [] [] h = refl
-acts-stale x [] (f ∷ k) h = absurd (cc)
-acts-stale x (e ∷ j) [] h = absurd (cc)
-acts-stale x (e ∷ j) (f ∷ k) h =
-    let same : e.act ≡ f.act = cc in
-    let rest : ActAlike j k = cc in
-    λ i. acts-stale x j k rest i || is_stale_by x (same i)
-
-acts-made : (j k : List Entry) → ActAlike j k → made_by j ≡ made_by k
-acts-made [] [] h = refl
-acts-made [] (f ∷ k) h = absurd (cc)
-acts-made (e ∷ j) [] h = absurd (cc)
-acts-made (e ∷ j) (f ∷ k) h =
-    let same : e.act ≡ f.act = cc in
-    let rest : ActAlike j k = cc in
-    λ i. acts-made j k rest i ++ made_in (same i)
-
-places-verdict : (x : MsgId) (ss rs : List PlaceState) → PlacesAlike ActAlike ss rs → verdict_in x ss ≡ verdict_in x rs
-places-verdict x [] [] h = refl
-places-verdict x [] (r ∷ rs) h = absurd h
-places-verdict x (s ∷ ss) [] h = absurd h
-places-verdict x (s ∷ ss) (r ∷ rs) h =
-    (λ i. option_or (acts-verdict x s.journal (h.0).journal (h.0).journals i) (places-verdict x ss rs h.1 i))
-    ∙ ap (λ (z : PlaceState). option_or (verdict x z.journal) (verdict_in x rs)) (sym (h.0).is)
-
-places-copies : (x : MsgId) (ss rs : List PlaceState) → PlacesAlike ActAlike ss rs → copies_in x ss ≡ copies_in x rs
-places-copies x [] [] h = refl
-places-copies x [] (r ∷ rs) h = absurd h
-places-copies x (s ∷ ss) [] h = absurd h
-places-copies x (s ∷ ss) (r ∷ rs) h =
-    (λ i. map (λ (m : Sent). m.id) (acts-copies x s.journal (h.0).journal (h.0).journals i) ++ places-copies x ss rs h.1 i)
-    ∙ ap (λ (z : PlaceState). map (λ (m : Sent). m.id) (copies_of x z.journal) ++ copies_in x rs) (sym (h.0).is)
-
-places-stale : (x : MsgId) (ss rs : List PlaceState) → PlacesAlike ActAlike ss rs → is_stale_in x ss ≡ is_stale_in x rs
-places-stale x [] [] h = refl
-places-stale x [] (r ∷ rs) h = absurd h
-places-stale x (s ∷ ss) [] h = absurd h
-places-stale x (s ∷ ss) (r ∷ rs) h =
-    (λ i. acts-stale x s.journal (h.0).journal (h.0).journals i || places-stale x ss rs h.1 i)
-    ∙ ap (λ (z : PlaceState). is_stale_at x z.journal || is_stale_in x rs) (sym (h.0).is)
-
-places-made : (ss rs : List PlaceState) → PlacesAlike ActAlike ss rs → made_at ss ≡ made_at rs
-places-made [] [] h = refl
-places-made [] (r ∷ rs) h = absurd h
-places-made (s ∷ ss) [] h = absurd h
-places-made (s ∷ ss) (r ∷ rs) h =
-    (λ i. acts-made s.journal (h.0).journal (h.0).journals i ++ places-made ss rs h.1 i)
-    ∙ ap (λ (z : PlaceState). made_by z.journal ++ made_at rs) (sym (h.0).is)
-
-places-held : (q : Ui) (ss rs : List PlaceState) → PlacesAlike ActAlike ss rs → held_in q ss ≡ held_in q rs
-places-held q [] [] h = refl
-places-held q [] (r ∷ rs) h = absurd h
-places-held q (s ∷ ss) [] h = absurd h
-places-held q (s ∷ ss) (r ∷ rs) h =
-    ap (option_or (table.find q s.ports)) (places-held q ss rs h.1)
-    ∙ ap (λ (z : PlaceState). option_or (table.find q z.ports) (held_in q rs)) (sym (h.0).is)
-
-pub outcomes : (told : List (List acts.Act)) (ss rs : List PlaceState) → PlacesAlike ActAlike ss rs → outcome_with told ss ≡ outcome_with told rs
-outcomes told ss rs h =
-    λ i. answer_facts 1 told
-    ++ flat_map (λ (x : MsgId). Judged x (option_map plain_answer (places-verdict x ss rs h i)) ∷ stale_facts x (places-stale x ss rs h i))
-    (flat_map (λ (x : MsgId). x ∷ places-copies x ss rs h i) (posts_in told))
-    ++ filter_map (λ (q : Ui). option_map port_fact (places-held q ss rs h i)) (places-made ss rs h i)
+use Rattle.law_explore.proofs.Telling.{acts-tell, outcomes}
 
 -- Who was there stays there.
 
@@ -146,28 +54,34 @@ short [] i c h = absurd (cc)
 short (cs ∷ left) zero c h = omega arith
 short (cs ∷ left) (suc i) c h = let le = short left i c h in omega (arith, le)
 
-module _ (l : Layout) (count : ℕ) (one other : ℕ → ℕ) (behind : (b k : ℕ) → 1 ≤ k → k ≤ count → (one b ≡ k → ⊥) × (other b ≡ k → ⊥)) where
-  pub record Stay (s t : Position) : Type 0 where
-    pub nets : NetsAlike ActAlike count s.net t.net
+-- Positions that stay alike, by a relation of journals and one of the acts that answered.
+module _ (J : List Entry → List Entry → Type 0) (T : List (List acts.Act) → List (List acts.Act) → Type 0) where
+  pub record Stay (count : ℕ) (other : ℕ → ℕ) (s t : Position) : Type 0 where
+    pub nets : NetsAlike J count s.net t.net
     pub left : t.left ≡ s.left
-    pub told : t.told ≡ s.told
+    pub told : T s.told t.told
     pub all : length s.left ≡ count
     pub there : (b : ℕ) → is_some (slice_get t.net.callers (other b)) ≡ true
 
+abbrev pub Grows : (List (List acts.Act) → List (List acts.Act) → Type 0) → Type 0
+Grows T = (m : Move) (a : Option acts.Act) (x z : List (List acts.Act)) → T x z → T (answers_after m a x) (answers_after m a z)
+
+module _ (J : List Entry → List Entry → Type 0) (keep : Keeping J) (T : List (List acts.Act) → List (List acts.Act) → Type 0) (grow : Grows T)
+    (l : Layout) (count : ℕ) (one other : ℕ → ℕ) (behind : (b k : ℕ) → 1 ≤ k → k ≤ count → (one b ≡ k → ⊥) × (other b ≡ k → ⊥)) where
   -- may come in the second too, and they stay alike
   abbrev Follows : Move → Position → Position → Type 0
-  Follows m s t = (is_ready_by (event_of l other m t.left) t.net ≡ true) × Stay (position_after (event_of l one m s.left) m s) (position_after (event_of l other m t.left) m t)
+  Follows m s t = (is_ready_by (event_of l other m t.left) t.net ≡ true) × Stay J T count other (position_after (event_of l one m s.left) m s) (position_after (event_of l other m t.left) m t)
 
-  module _ (s t : Position) (h : Stay s t) where
+  module _ (s t : Position) (h : Stay J T count other s t) where
     goes : (m : Move) (e f : Event) → event_of l one m s.left ≡ Some e → event_of l other m t.left ≡ Some f → is_ready f t.net ≡ true → AreSameMove count e f s.net t.net → own_of f t.net ≡ own_of e s.net → Follows m s t
     goes m e f is_e is_f ready same own = (
       ap (λ x. is_ready_by x t.net) is_f ∙ ready,
-      subst (λ x. Stay (position_after x m s) (position_after (event_of l other m t.left) m t)) (sym is_e)
-          (subst (λ x. Stay (position_after (Some e) m s) (position_after x m t)) (sym is_f)
+      subst (λ x. Stay J T count other (position_after x m s) (position_after (event_of l other m t.left) m t)) (sym is_e)
+          (subst (λ x. Stay J T count other (position_after (Some e) m s) (position_after x m t)) (sym is_f)
           (record {
-            nets = nets-stay-alike ActAlike keep_acts count s.net t.net e f h.nets same;
+            nets = nets-stay-alike J keep count s.net t.net e f h.nets same;
             left = ap (scripts_after m) h.left;
-            told = (λ i. answers_after m (own i) (h.told i));
+            told = subst (λ a. T (answers_after m (own_of e s.net) s.told) (answers_after m a t.told)) (sym own) (grow m (own_of e s.net) s.told t.told h.told);
             all = long m s.left ∙ h.all;
             there = λ b. stays-there f t.net (other b) ready (h.there b);
           })),
@@ -199,7 +113,7 @@ module _ (l : Layout) (count : ℕ) (one other : ℕ → ℕ) (behind : (b k : �
             owned c low high None (Some v) a = absurd a
             owned c low high (Some w) None a = absurd a
             owned c low high (Some w) (Some v) a =
-                ap (λ (x : acts.Act). Some x) (owns-alike ActAlike keep_acts c _ _ (begins ActAlike keep_acts count s.net t.net h.nets (suc i) c low high w v a))
+                ap (λ (x : acts.Act). Some x) (owns-alike J keep c _ _ (begins J keep count s.net t.net h.nets (suc i) c low high w v a))
     follows (Carry a b) ready = by (are_linked l a b) refl ready
       where
         by : (x : Bool) → are_linked l a b ≡ x → is_ready_by (cond x (Some (Deliver (one b) a b)) None) s.net ≡ true → Follows (Carry a b) s t
@@ -212,10 +126,16 @@ module _ (l : Layout) (count : ℕ) (one other : ℕ → ℕ) (behind : (b k : �
             (inr (one b, (other b, (a, (b, (refl, refl, parts.0, h.there b, behind b))))))
             refl
 
+abbrev pub SameTold : List (List acts.Act) → List (List acts.Act) → Type 0
+SameTold told other = other ≡ told
+
+pub grow-same : Grows SameTold
+grow-same m a told other h = ap (answers_after m a) h
+
 -- Histories of races that are alike, move by move.
 module _ (r q : Race) (one other : ℕ → ℕ) (alike : RacesAlike r q one other) where
   abbrev pub Stays : Position → Position → Type 0
-  Stays s t = Stay r.net.layout (length r.scripts) one other alike.behind s t
+  Stays s t = Stay ActAlike SameTold (length r.scripts) other s t
 
   pub alike-after : (ms : List Move) → IsHistory (racing r one) ms → IsHistory (racing q other) ms × Stays (state_after (racing r one) ms) (state_after (racing q other) ms)
   alike-after [] h = (
@@ -232,7 +152,7 @@ module _ (r q : Race) (one other : ℕ → ℕ) (alike : RacesAlike r q one othe
       let before = alike-after ms h.1 in
       let s = state_after (racing r one) ms in
       let t = state_after (racing q other) ms in
-      let next = follows r.net.layout (length r.scripts) one other alike.behind s t before.1 m h.0 in
+      let next = follows ActAlike keep_acts SameTold grow-same r.net.layout (length r.scripts) one other alike.behind s t before.1 m h.0 in
       let same = sym alike.nets.layout in (
         (ap (λ (k : Layout). is_ready_by (event_of k other m t.left) t.net) (sym same) ∙ next.0, before.0),
         subst (λ (k : Layout). Stays (position_after (event_of r.net.layout one m s.left) m s) (position_after (event_of k other m t.left) m t)) same next.1,
@@ -243,5 +163,5 @@ moves_come_to_the_same r q one other ms alike history =
     let all = alike-after r q one other alike ms history in (
       all.0,
       ap (λ (told : List (List acts.Act)). outcome_with told (state_after (racing q other) ms).net.places) all.1.told
-          ∙ sym (outcomes (state_after (racing r one) ms).told (state_after (racing r one) ms).net.places (state_after (racing q other) ms).net.places all.1.nets.places),
+          ∙ sym (outcomes ActAlike acts-tell (state_after (racing r one) ms).told (state_after (racing r one) ms).net.places (state_after (racing q other) ms).net.places all.1.nets.places),
     )

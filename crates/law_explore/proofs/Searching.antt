@@ -20,7 +20,7 @@ module _ {X : Type 0} where
   which x z xs (suc k, lt, e) = inr (k, omega (arith, lt), e)
 
 module _ {X A : Type 0} (f : X → List A) where
-  in-flat : (xs : List X) (x : X) (a : A) → Contains xs x → Contains (f x) a → Contains (flat_map f xs) a
+  pub in-flat : (xs : List X) (x : X) (a : A) → Contains xs x → Contains (f x) a → Contains (flat_map f xs) a
   in-flat [] x a h k = absurd (none x h)
   in-flat (z ∷ xs) x a h k = subst (λ ys. Contains ys a) (sym (flat_map-cons f z xs)) (by (which x z xs h) (λ j. in-flat xs x a j k))
     where
@@ -28,7 +28,7 @@ module _ {X A : Type 0} (f : X → List A) where
       by (inl e) ih = Contains-append_left (f z) (flat_map f xs) a (subst (λ y. Contains (f y) a) (sym e) k)
       by (inr j) ih = Contains-append_right (f z) (flat_map f xs) a (ih j)
 
-  of-flat : (xs : List X) (a : A) → Contains (flat_map f xs) a → (x : X) × (Contains xs x × Contains (f x) a)
+  pub of-flat : (xs : List X) (a : A) → Contains (flat_map f xs) a → (x : X) × (Contains xs x × Contains (f x) a)
   of-flat [] a h = absurd (none a h)
   of-flat (z ∷ xs) a h = by (Contains-append_cases (f z) (flat_map f xs) a (subst (λ ys. Contains ys a) (flat_map-cons f z xs) h)) (of-flat xs a)
     where

@@ -4,7 +4,9 @@ pub mod Search
 pub mod Walk
 pub mod Races
 pub mod Outcome
+pub mod Positions
 pub mod Explores
 pub mod Replays
 pub mod Quiet
 pub mod Laws
+pub mod Levels

@@ -7,6 +7,9 @@
 //! what was found, and then what is pending. What a schedule comes to depends on no clock, and not on who delivers. The
 //! crate has no code but the laws, which make no call.
 //!
+//! Behind positions that are alike (`specs/Positions.antt`) the same comes, so histories that come to such may be put
+//! together, level by level (`specs/Levels.antt`). The search does not do so.
+//!
 //! Begin with `specs/Races.antt`, the moves of a race, and `specs/Outcome.antt`, what they come to;
 //! `specs/Explores.antt` says when all that may come of a race is said. `specs/Neighbours.antt` and `specs/Search.antt`
 //! have the two notions that the laws stand on.
@@ -15,9 +18,11 @@
 mod moves;
 
 ghost use Rattle.law_explore.specs.Alike.{ActAlike, CommandsStayAlike, NetsStayAlike, PacketsStayAlike, ReadAlike};
-ghost use Rattle.law_explore.specs.Laws.{MovesComeToTheSame, NormalsComeToAll, RacesAreExplored, RacesAreWalked, RacesNeedNormalsOnly};
+ghost use Rattle.law_explore.specs.Laws.{AlikeIsAnEquivalence, AlikePositionsComeToTheSame, MovesComeToTheSame, NormalsComeToAll, RacesAreExplored, RacesAreWalked, RacesNeedNormalsOnly};
+ghost use Rattle.law_explore.specs.Levels.{HistoriesAreListed, LevelsStandForAll};
 ghost use Rattle.law_explore.specs.Replays.{MovesAreReplayed};
 ghost use Rattle.law_explore.specs.Neighbours.{NeighboursCommute, NeighboursStay};
+ghost use Rattle.law_explore.specs.Positions.{TellAlike};
 ghost use Rattle.law_explore.specs.Quiet.{NeighboursStayQuiet};
 
 pub use moves::Move;
@@ -72,11 +77,28 @@ pub fn turns_stay_alike()
 pub fn networks_stay_alike()
     ensures reads { NetsStayAlike ReadAlike }
     ensures acts { NetsStayAlike ActAlike }
+    ensures tells { NetsStayAlike TellAlike }
 {}
 
 /// What moves come to does not depend on who delivers, nor on any clock.
 pub fn moves_come_to_the_same()
     ensures { MovesComeToTheSame }
+{}
+
+/// Of two histories of one race that come to positions that are alike: each list of moves that may come behind the one
+/// may come behind the other, and comes to the same outcome. So of all histories that come alike one is enough to go on
+/// from.
+pub fn alike_positions_come_to_the_same()
+    ensures same { AlikePositionsComeToTheSame }
+    ensures equivalence { AlikeIsAnEquivalence }
+{}
+
+/// Of a race gone through level by level, where histories may be put together that come alike: each history has a class
+/// that comes to the same, and the classes stand for as many histories as they say. All histories of a level are listed,
+/// each once.
+pub fn levels_stand_for_all()
+    ensures levels { LevelsStandForAll }
+    ensures listed { HistoriesAreListed }
 {}
 
 /// A schedule that does the moves, with a drain behind them, leaves the network that the moves come to, if they leave
