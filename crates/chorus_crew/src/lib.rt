@@ -12,12 +12,12 @@
 mod crews;
 mod deque_start;
 mod doing;
-mod draining;
 mod fault;
 mod gather;
 mod handler;
 mod job;
 mod making_jobs;
+mod one_job;
 mod pairs;
 mod retiring;
 mod rule;

@@ -5,9 +5,9 @@ ghost use Rattle.chorus_crew.specs.declared.worker.Hand.{Hand};
 ghost use Rattle.crossbeam_deque.specs.Handles.{stealer_deque, view};
 ghost use Rattle.chorus_crew.specs.Hands.{Begins, Ends};
 
-use crate::draining::perform;
 use crate::handler::Handler;
 use crate::job::Done;
+use crate::one_job::perform;
 use crate::rule::{Hold, Takes, Thief};
 use chorus_nucleus::Nucleus;
 use crossbeam_deque::Steal;

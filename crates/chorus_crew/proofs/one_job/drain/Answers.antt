@@ -1,6 +1,6 @@
 use Rattle.std.proofs.Common.{◌+◌, ◌%◌, ◌^◌, ap}
 use Rattle.chorus_crew.proofs.Draining.{drained-none, drained-more, drains, handles}
-use Rattle.chorus_crew.proofs.draining.drain.Goals as goal
+use Rattle.chorus_crew.proofs.one_job.drain.Goals as goal
 
 pub loop-init : goal.loop-init
 loop-init g c = drained-none (g.H.Handler.value c.args.handler.now) c.args.nucleus.now c.args.port c.args.pass.now c.requires.pass
