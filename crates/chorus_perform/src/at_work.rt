@@ -15,6 +15,8 @@ const PATIENCE: u32 = 4096;
 #[derive(Drop)]
 pub(crate) struct AtWork {
     count: AtomicU32,
+    /// How many threads have commands left.
+    left: AtomicU32,
     /// How many packets the places put more than they worked off, as far as the threads have told, modulo 2^64.
     under_way: AtomicU64,
     /// Whether a thread stopped before its end.
@@ -45,9 +47,15 @@ impl AtWork {
     pub(crate) fn new(threads: u32) -> AtWork {
         AtWork {
             count: AtomicU32::new(threads),
+            left: AtomicU32::new(threads),
             under_way: AtomicU64::new(0),
             halted: AtomicBool::new(false),
         }
+    }
+
+    /// A thread has performed its commands. Tells how many others have commands left.
+    pub(crate) fn finish(&self) -> u32 {
+        self.left.fetch_sub(1, Ordering::SeqCst).wrapping_sub(1)
     }
 
     /// A thread is at work no more.

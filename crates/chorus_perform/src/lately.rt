@@ -48,6 +48,11 @@ impl Lately {
         }
     }
 
+    /// Whether this sweep found something so far.
+    pub(crate) fn found(&self) -> bool {
+        self.found != 0
+    }
+
     /// Ends a sweep. Whether the thread is to go on at once: something was found, or places were left out.
     pub(crate) fn end_sweep(&mut self) -> bool {
         let goes_on = self.found != 0 || self.due != u64::MAX;

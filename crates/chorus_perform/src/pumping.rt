@@ -8,12 +8,15 @@ ghost use Rattle.chorus_perform.specs.Going.{Goes};
 use crate::at_work::{AtWork, Told};
 use crate::lately::Lately;
 use crate::pace::{PUMPS_AT_A_PLACE, Pace};
-use crate::share::Share;
+use crate::share::{Share, Stretch};
 use crate::stopped::Halted;
 use chorus_nucleus::{CallFault, Nucleus, Pass};
 use chorus_serve::Pump;
 use std::sync::Wait;
 use std::thread;
+
+/// Behind every so many idle sweeps a thread helps the others.
+const HELP: u32 = 4;
 
 /// What came of a pump.
 enum Pumped {
@@ -108,8 +111,8 @@ pub(crate) fn pump_at<R: Wait>(
     })
 }
 
-/// Pumps when all commands are done: the home place, and then the range of places, until no thread is at work and no packet
-/// under way, so that seat 0 finds little.
+/// Pumps when all commands are done: the home place, and then the range of places where this thread is one of the last, until no
+/// thread is at work and no packet under way, so that seat 0 finds little.
 pub(crate) fn pump_on<R: Wait>(
     rt: &R,
     nucleus: &Nucleus,
@@ -123,40 +126,71 @@ pub(crate) fn pump_on<R: Wait>(
     ensures goes { Goes [] pass.old pass.new }
 {
     pump_at(rt, nucleus, pass, share.home(), PUMPS_AT_A_PLACE)?;
-    if share.before() == share.last() {
+    let range = share.range(at_work.finish());
+    if range.before == range.last {
         at_work.leave();
         return Ok(());
     }
-    sweep_on(rt, nucleus, pass, share, at_work)
+    sweep_on(rt, nucleus, pass, share, range, at_work)
 }
 
-/// Sweeps over the range of places until no thread is at work and no packet under way.
+/// Sweeps over the range of places until no thread is at work and no packet under way. Where it finds nothing it looks round.
 fn sweep_on<R: Wait>(
     rt: &R,
     nucleus: &Nucleus,
     pass: &mut Pass,
     share: &Share,
+    range: Stretch,
     at_work: &AtWork,
 ) -> Result<(), Halted>
     requires pass { IsPassOf nucleus.now pass.old }
     requires share { share.now.places ≡ places (layout_of nucleus.now) }
+    requires range { range.last ≤ places (layout_of nucleus.now) }
     ensures pass { IsPassOf nucleus.now pass.new }
     ensures goes { Goes [] pass.old pass.new }
 {
     let mut told = Told::new();
     let mut lately = Lately::new();
+    let mut idle: u32 = 0;
     for _ in rt.forever() {
-        let under_way = sweep(rt, nucleus, pass, share, &mut lately)?;
+        let under_way = sweep(rt, nucleus, pass, range, &mut lately)?;
         let goes_on = lately.end_sweep();
         at_work.note(&mut told, goes_on, under_way);
         if at_work.is_over(&told) {
             return Ok(());
         }
         if !goes_on {
-            thread::yield_now();
+            idle = idle.wrapping_add(1);
+            look_round(rt, nucleus, pass, share, idle)?;
         }
     }
     unreachable!()
+}
+
+/// Behind the idle sweep of this number: helps the others now and then, by a sweep over all places, and lets other threads run where
+/// that finds nothing.
+fn look_round<R: Wait>(
+    rt: &R,
+    nucleus: &Nucleus,
+    pass: &mut Pass,
+    share: &Share,
+    idle: u32,
+) -> Result<(), Halted>
+    requires pass { IsPassOf nucleus.now pass.old }
+    requires share { share.now.places ≡ places (layout_of nucleus.now) }
+    ensures pass { IsPassOf nucleus.now pass.new }
+    ensures goes { Goes [] pass.old pass.new }
+{
+    if idle % HELP != 1 {
+        thread::yield_now();
+        return Ok(());
+    }
+    let mut lately = Lately::new();
+    sweep(rt, nucleus, pass, share.all(), &mut lately)?;
+    if !lately.found() {
+        thread::yield_now();
+    }
+    Ok(())
 }
 
 /// Pumps the places of the range that are due, each until it is idle. Gives how many packets the places of the range put more than
@@ -165,16 +199,16 @@ fn sweep<R: Wait>(
     rt: &R,
     nucleus: &Nucleus,
     pass: &mut Pass,
-    share: &Share,
+    range: Stretch,
     lately: &mut Lately,
 ) -> Result<Option<u64>, Halted>
     requires pass { IsPassOf nucleus.now pass.old }
-    requires share { share.now.places ≡ places (layout_of nucleus.now) }
+    requires range { range.last ≤ places (layout_of nucleus.now) }
     ensures pass { IsPassOf nucleus.now pass.new }
     ensures goes { Goes [] pass.old pass.new }
 {
     let mut under_way = Some(0);
-    for index in share.before()..share.last() {
+    for index in range.before..range.last {
         let most = lately.pumps_at(index + 1);
         let visit = pump_at(rt, nucleus, pass, index + 1, most)?;
         lately.note(index + 1, visit.served);

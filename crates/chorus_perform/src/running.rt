@@ -61,13 +61,7 @@ fn perform_script<R: Wait, G: Gate>(
     let script = &scenario.scripts()[index];
     let number = index as u32 + 1;
     let threads = scenario.scripts().len() as u32;
-    let share = Share::new(
-        nucleus.layout(),
-        scenario.sites(),
-        script.actor(),
-        number,
-        threads,
-    );
+    let share = Share::new(nucleus.layout(), scenario.sites(), script.actor(), threads);
     runner.done = perform_commands(
         rt,
         nucleus,

@@ -7,8 +7,15 @@ returns-in_err-under_way-clause-goes g c = goes-none c.args.pass.now c.loop.pass
 pub returns-then-is_over-clause-goes : goal.returns-then-is_over-clause-goes
 returns-then-is_over-clause-goes g c = goes-none c.args.pass.now c.loop.pass c.sweep.new.pass c.loop.invariant.1 c.sweep.ensures.goes
 
+pub returns-in_err-look_round-clause-goes : goal.returns-in_err-look_round-clause-goes
+returns-in_err-look_round-clause-goes g c =
+    goes-none c.args.pass.now c.sweep.new.pass c.look_round.new.pass (goes-none c.args.pass.now c.loop.pass c.sweep.new.pass c.loop.invariant.1 c.sweep.ensures.goes) c.look_round.ensures.goes
+
 pub loop-preserved-then-not-goes_on : goal.loop-preserved-then-not-goes_on
-loop-preserved-then-not-goes_on g c = (c.sweep.ensures.pass, goes-none c.args.pass.now c.loop.pass c.sweep.new.pass c.loop.invariant.1 c.sweep.ensures.goes)
+loop-preserved-then-not-goes_on g c = (
+  c.look_round.ensures.pass,
+  goes-none c.args.pass.now c.sweep.new.pass c.look_round.new.pass (goes-none c.args.pass.now c.loop.pass c.sweep.new.pass c.loop.invariant.1 c.sweep.ensures.goes) c.look_round.ensures.goes,
+)
 
 pub loop-preserved : goal.loop-preserved
 loop-preserved g c = (c.sweep.ensures.pass, goes-none c.args.pass.now c.loop.pass c.sweep.new.pass c.loop.invariant.1 c.sweep.ensures.goes)
