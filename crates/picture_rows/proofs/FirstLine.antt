@@ -57,18 +57,20 @@ tail_is back more m h = ap (λ b. take (length b - 1) (drop 1 b)) h ∙ take_all
 none_special : (more : List ℕ) (line : List ℕ) → lacks 10 line ≡ true → begins_with 10 (drop (position_or_len is_special (line ++ 10 ∷ more)) (line ++ 10 ∷ more)) ≡ true
     → list_all (λ x. not (is_special x)) line ≡ true
 none_special more [] h first = refl
-none_special more (c ∷ cs) h first = by (is_special c) refl
+none_special more (c ∷ cs) h first = by (is_special c) refl (none_special more cs two.1)
   where
     two : (not (c == 10) ≡ true) × (lacks 10 cs ≡ true)
     two = and_parts (not (c == 10)) (lacks 10 cs) h
 
-    by : (b : Bool) → is_special c ≡ b → (not (is_special c) && list_all (λ x. not (is_special x)) cs) ≡ true
-    by true is =
+    by : (b : Bool) → is_special c ≡ b
+        → (begins_with 10 (drop (position_or_len is_special (cs ++ 10 ∷ more)) (cs ++ 10 ∷ more)) ≡ true → list_all (λ x. not (is_special x)) cs ≡ true)
+        → (not (is_special c) && list_all (λ x. not (is_special x)) cs) ≡ true
+    by true is later =
         let same : (c == 10) ≡ true = sym (ap (λ k. begins_with 10 (drop k (c ∷ (cs ++ 10 ∷ more)))) (first_here is_special c (cs ++ 10 ∷ more) is)) ∙ first in
         absurd (false≢true (sym (fails (c == 10) two.0) ∙ same))
-    by false is =
+    by false is later =
         both_true _ _ (passes (is_special c) is)
-        (none_special more cs two.1 (sym (ap (λ k. begins_with 10 (drop k (c ∷ (cs ++ 10 ∷ more)))) (first_later is_special c (cs ++ 10 ∷ more) is)) ∙ first))
+        (later (sym (ap (λ k. begins_with 10 (drop k (c ∷ (cs ++ 10 ∷ more)))) (first_later is_special c (cs ++ 10 ∷ more) is)) ∙ first))
 
 none_any : (line : List ℕ) → list_all (λ x. not (is_special x)) line ≡ true → list_any is_special line ≡ false
 none_any [] h = refl
@@ -93,7 +95,7 @@ digit_apart : (c : ℕ) → is_ascii_digit c ≡ true → not (c == 32) ≡ true
 digit_apart c digit = by (c == 32) refl
   where
     by : (b : Bool) → (c == 32) ≡ b → not b ≡ true
-    by true e = absurd (cc (ap is_ascii_digit (eqb-true c 32 e), digit))
+    by true e = absurd (false≢true (sym (ap is_ascii_digit (eqb-true c 32 e)) ∙ digit))
     by false e = refl
 
 digits_apart : (ds : List ℕ) → all_digits ds ≡ true → lacks 32 ds ≡ true

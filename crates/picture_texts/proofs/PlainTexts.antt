@@ -37,7 +37,7 @@ plain_join (c ∷ cs) text h k =
 -- where it is cut, what is left of it is as it was
 pub plain_long_is : (most : ℕ) (text : List ℕ) → most < length text → list_any is_special text ≡ false → markup (cut most text) ≡ take most text ++ codes "..."
 plain_long_is most text long h =
-    ap (λ b. markup (cond b text (take most text ++ codes "..."))) (lt-leb most (length text) long)
+    ap (λ b. markup (cond b text (take most text ++ codes "..."))) (lt-leb (length text) most long)
     ∙ plain_is (take most text ++ codes "...") (plain_join (take most text) (codes "...") (plain_front_of most text h) refl)
 
 short_for : (o : Option ℕ) (n : ℕ) → n ≤ SHORT_ACT_LIMIT → n ≤ most_shown o
