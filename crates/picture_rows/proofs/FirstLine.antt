@@ -87,7 +87,7 @@ cut_plain k text front back line more at before behind lacking is first =
     let back_is : back ≡ drop (position_or_len is_special (line ++ 10 ∷ more)) (line ++ 10 ∷ more) = behind ∙ (λ i. drop (place i) (is i)) in
     let none = none_special more line lacking (sym (ap (begins_with 10) back_is) ∙ first) in
     let cut = cut_first is_special 10 refl more line none in
-    (before ∙ (λ i. take (place i) (is i)) ∙ cut.front, (back_is ∙ cut.rest, none_any line none))
+    (before ∙ (λ i. take (place i) (is i)) ∙ cut.front, back_is ∙ cut.rest, none_any line none)
 
 -- What is in a line.
 

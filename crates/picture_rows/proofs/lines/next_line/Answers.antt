@@ -17,7 +17,7 @@ returns c =
     let last : List ℕ = act_text e.act ++ [] in
     let two : List ℕ = decimal e.seat ++ 32 ∷ last in
     let three : List ℕ = decimal e.place ++ 32 ∷ two in
-    let line = c.cut_line.ensures (line_text e) more (entry_line e n) (is ∙ append_assoc (line_text e) (10 ∷ []) more) in
+    let line = c.cut_line-special.ensures (line_text e) more (entry_line e n) (is ∙ append_assoc (line_text e) (10 ∷ []) more) in
     let clock = c.cut.ensures (decimal e.clock) three (decimal_apart e.clock n.clock) line.0 in
     let place = c.cut-2.ensures (decimal e.place) two (decimal_apart e.place place_small) clock.1 in
     let seat = c.cut-3.ensures (decimal e.seat) last (decimal_apart e.seat seat_small) place.1 in (
@@ -26,10 +26,10 @@ returns c =
         clock = clock.0;
         seat = seat.0;
         act = seat.1 ∙ append-nil (act_text e.act);
-        plain = λ h. ap (list_any is_special) line.0 ∙ line.1.1 h;
+        plain = λ h. ap (list_any is_special) line.0 ∙ line.2 h;
         plain_act =
             λ h. ap (list_any is_special) seat.1
-            ∙ plain_end (decimal e.seat) (32 ∷ last) (plain_end (decimal e.place) (32 ∷ two) (plain_end (decimal e.clock) (32 ∷ three) (line.1.1 h)));
+            ∙ plain_end (decimal e.seat) (32 ∷ last) (plain_end (decimal e.place) (32 ∷ two) (plain_end (decimal e.clock) (32 ∷ three) (line.2 h)));
       },
-      line.1.0,
+      line.1,
     )
