@@ -3,7 +3,6 @@ use Rattle.std.proofs.Common.{◌≡◌, ℕ, ◌==◌, ◌<◌, ◌^◌, Bool, 
 use Rattle.std.proofs.lemmas.Bool.{and_parts}
 use Rattle.chorus_ui.specs.declared.layout.Layout.{Layout}
 use Rattle.chorus_entry.specs.declared.entry.Entry.{Entry}
-use Rattle.chorus_show.specs.Bounds.{AreWithin}
 use Rattle.chorus_show.specs.Journal.{journal_head, journal_lines}
 use Rattle.chorus_show.specs.Phrases.{phrase}
 use Rattle.chorus_show.specs.Reading.{lacks}
