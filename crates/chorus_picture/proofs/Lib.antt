@@ -1,4 +1,5 @@
 mod Heads
 mod Left
+mod Lines
 mod RuleActs
 mod Whole

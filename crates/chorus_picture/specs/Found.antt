@@ -1,5 +1,5 @@
 -- What stands below the rows: what was found of a text, and the legend.
--- es are the entries that were read, n is their number, y where their rows end.
+-- es are the entries that were read, summary is their summary text, n is their number, y where their rows end.
 use Rattle.std.specs.Prelude.{ℕ, ◌+◌, ◌-◌, ◌==◌, ◌||◌, if◌then◌else◌, List, [], ◌∷◌, ◌++◌, codes}
 use Rattle.std.specs.List.{flat_map}
 use Rattle.chorus_entry.specs.declared.entry.Entry.{Entry}
@@ -27,8 +27,8 @@ lawful_front n y =
     filled (codes "<text x='8' y='@'>@ entries, all lawful</text><text class='sum' x='8' y='@'>")
     ((y + 22) ∷ n ∷ (y + 40) ∷ [])
 
-abbrev pub lawful_text : List Entry → ℕ → ℕ → List ℕ
-lawful_text es n y = lawful_front n y ++ markup (summary_text es) ++ codes "</text>\n"
+abbrev pub lawful_text : List ℕ → ℕ → ℕ → List ℕ
+lawful_text summary n y = lawful_front n y ++ markup summary ++ codes "</text>\n"
 
 -- or this line is wrong; one that is cut has more than 72 characters
 unfoldable pub wrong_front : ℕ → ℕ → List ℕ
@@ -42,9 +42,12 @@ wrong_text text line rule y =
     wrong_front line y ++ shown (flat_map byte_text (line_bytes 73 (behind_lines (line - 1) text)))
     ++ rule_front rule y ++ markup (rule_words rule) ++ codes "</text>\n"
 
+abbrev pub found_by : List ℕ → List ℕ → Audit → ℕ → List ℕ
+found_by text summary (Legal n) y = lawful_text summary n y
+found_by text summary (Wrong line rule) y = wrong_text text line rule y
+
 abbrev pub found_text : List ℕ → List Entry → Audit → ℕ → List ℕ
-found_text text es (Legal n) y = lawful_text es n y
-found_text text es (Wrong line rule) y = wrong_text text line rule y
+found_text text es audit y = found_by text (summary_text es) audit y
 
 unfoldable pub foot_front : ℕ → List ℕ
 foot_front y = filled (codes "<g transform='translate(0 @)'>\n") ((y + 56) ∷ [])

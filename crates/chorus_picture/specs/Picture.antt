@@ -1,16 +1,20 @@
 -- The picture of a journal: the bytes of the whole document.
 -- l is a layout, es are the entries, the oldest first, cs their columns, n their number.
-use Rattle.std.specs.Prelude.{ℕ, List, [], ◌++◌, length, reverse}
+use Rattle.std.specs.Prelude.{ℕ, ◌≡◌, List, [], ◌++◌, length, reverse}
 use Rattle.std.specs.List.{flat_map}
 use Rattle.chorus_ui.specs.declared.layout.Layout.{Layout}
 use Rattle.chorus_entry.specs.declared.entry.Entry.{Entry}
+use Rattle.chorus_show.specs.Bounds.{AreWithin}
+use Rattle.chorus_show.specs.Journal.{journal_lines}
+use Rattle.chorus_show.specs.Summary.{summary_text}
 use Rattle.chorus_audit.specs.declared.judging.Audit.{Audit}
+use Rattle.chorus_audit.specs.declared.judging.Audit.TheVariants.{Legal}
 use Rattle.law_picture.specs.Bars.{bar}
 use Rattle.picture_rows.specs.Columns.{ColumnShape, columns}
 use Rattle.picture_rows.specs.Rows.{end_y}
 use Rattle.picture_rows.specs.Shapes.{rows}
 use Rattle.chorus_picture.specs.Sheet.{front, bars_left, all_heads}
-use Rattle.chorus_picture.specs.Found.{found_text, foot}
+use Rattle.chorus_picture.specs.Found.{behind_lines, found_text, foot}
 
 -- what stands behind the rows
 abbrev pub behind_rows : Layout → List ℕ → List Entry → Audit → List ColumnShape → ℕ → List ℕ
@@ -24,3 +28,11 @@ picture_on l text es audit cs n = front cs n ++ rows cs [] es ++ behind_rows l t
 -- what is drawn of a text, by the entries that it begins with and what an audit finds of it
 abbrev pub picture_text : Layout → List ℕ → List Entry → Audit → List ℕ
 picture_text l text es audit = picture_on l text es audit (columns l es) (length es)
+
+-- What is known of a text of which an audit read these entries: behind its first line it has their lines, and where all
+-- is lawful their summary behind these.
+pub record HasLines (text : List ℕ) (es : List Entry) (audit : Audit) : Type 0 where
+  pub within : AreWithin es
+  pub more : List ℕ
+  pub lines : behind_lines 1 text ≡ journal_lines es ++ more
+  pub summary : (n : ℕ) → audit ≡ Legal n → more ≡ summary_text es

@@ -1,14 +1,16 @@
 //! A journal that a source gives, drawn into a sink.
 
-ghost use Rattle.std.specs.Prelude.{◌≡◌, ◌≢◌, ◌≤◌, ◌++◌, length, reverse, IfOk, OnOk};
+ghost use Rattle.std.specs.Prelude.{◌≡◌, ◌≢◌, ◌≤◌, ◌++◌, ℕ, length, reverse, IfOk, OnOk};
 ghost use Rattle.chorus_io.specs.Count.{Rose};
 ghost use Rattle.chorus_audit.specs.declared.limits.TheConstants.{AUDIT_LIMIT};
 ghost use Rattle.picture_rows.specs.declared.limits.TheConstants.{ENTRIES_LIMIT};
 ghost use Rattle.chorus_picture.specs.Output.{Draws, ReadsBy};
-ghost use Rattle.chorus_picture.specs.Picture.{behind_rows, picture_text};
+ghost use Rattle.chorus_audit.specs.declared.judging.Audit.TheVariants.{Legal};
+ghost use Rattle.chorus_show.specs.Summary.{summary_text};
+ghost use Rattle.chorus_picture.specs.Picture.{HasLines, behind_rows, picture_text};
 ghost use Rattle.picture_rows.specs.Tables.{AreTables};
 
-use crate::found::{push_foot, push_found};
+use crate::found::{behind_lines, push_foot, push_found};
 use crate::sheet::{push_bars_left, push_front, push_heads};
 use chorus_audit::{AUDIT_LIMIT, Audit, read_text};
 use chorus_entry::Entry;
@@ -71,7 +73,8 @@ fn drawn(
     entries: &[Entry],
     audit: Audit,
 ) -> Result<Vec<u8>, AllocError>
-    requires { length entries.now ≤ ENTRIES_LIMIT }
+    requires few { length entries.now ≤ ENTRIES_LIMIT }
+    requires lines { HasLines text.now entries.now audit }
     ensures { IfOk result (λ out. out.items ≡ picture_text layout text.now entries.now audit) }
 {
     let columns = columns(alloc, layout, entries)?;
@@ -79,15 +82,20 @@ fn drawn(
     // Room for the style and the legend, and for rows of short lines.
     let mut out = Vec::with_capacity(alloc, 8_192 + 512 * entries.len())?;
     push_front(&columns, entries.len() as u32, &mut out)?;
-    push_rows(&columns, entries, &mut tables, &mut out)?;
-    push_behind_rows(layout, text, entries, audit, &columns, &tables, &mut out)?;
+    let lines = behind_lines(1, text);
+    let passed = push_rows(&columns, entries, lines, &mut tables, &mut out)?;
+    let (_, summary) = lines.split_at(passed);
+    push_behind_rows(
+        layout, text, summary, entries, audit, &columns, &tables, &mut out,
+    )?;
     Ok(out)
 }
 
-/// Appends what stands behind the rows.
+/// Appends what stands behind the rows. Where all is lawful the summary is that of the entries.
 fn push_behind_rows(
     layout: Layout,
     text: &[u8],
+    summary: &[u8],
     entries: &[Entry],
     audit: Audit,
     columns: &[Column],
@@ -96,6 +104,7 @@ fn push_behind_rows(
 ) -> Result<(), AllocError>
     requires few { length entries.now ≤ ENTRIES_LIMIT }
     requires tables { AreTables tables.now (reverse entries.now) }
+    requires summary { (n : ℕ) → audit ≡ Legal n → summary.now ≡ summary_text entries.now }
     ensures { OnOk result (out.new.items ≡ out.old.items
         ++ behind_rows layout text.now entries.now audit columns.now (length entries.now)) }
 {
@@ -103,7 +112,7 @@ fn push_behind_rows(
     let end = end_y(count);
     push_bars_left(columns, tables, end, out)?;
     push_heads(layout, columns, count, out)?;
-    push_found(text, entries, audit, end, out)?;
+    push_found(text, summary, audit, end, out)?;
     push_foot(end, out)?;
     Ok(())
 }

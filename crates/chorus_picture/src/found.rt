@@ -3,44 +3,41 @@
 ghost use Rattle.std.specs.Prelude.{◌≡◌, ◌<◌, ◌^◌, ◌-◌, ◌++◌, OnOk};
 ghost use Rattle.std.specs.List.{flat_map};
 ghost use Rattle.chorus_show.specs.Phrases.{byte_text};
-ghost use Rattle.chorus_picture.specs.Found.{behind_lines, foot, foot_front, found_text, lawful_front, lawful_text, line_bytes, rule_front, wrong_front, wrong_text};
+ghost use Rattle.chorus_picture.specs.Found.{behind_lines, foot, foot_front, found_by, lawful_front, lawful_text, line_bytes, rule_front, wrong_front, wrong_text};
 
 use crate::rule_words::rule_words;
 use crate::style::LEGEND;
 use chorus_audit::Audit;
-use chorus_entry::Entry;
-use chorus_show::{push_byte, summary_text};
+use chorus_show::push_byte;
 use picture_texts::{push_filled, push_markup, push_shown};
 use std::alloc::AllocError;
 
-/// Appends what was found of the text, whose first entries these are, where the rows end at y.
+/// Appends what was found of the text, or the summary where all is lawful, where the rows end at y.
 pub(crate) fn push_found(
     text: &[u8],
-    entries: &[Entry],
+    summary: &[u8],
     audit: Audit,
     y: u64,
     out: &mut Vec<u8>,
 ) -> Result<(), AllocError>
     requires { y < 2 ^ 50 }
     ensures { OnOk result
-        (out.new.items ≡ out.old.items ++ found_text text.now entries.now audit y) }
+        (out.new.items ≡ out.old.items ++ found_by text.now summary.now audit y) }
 {
     match audit {
-        Audit::Legal { entries: number } => push_lawful(entries, number, y, out),
+        Audit::Legal { entries } => push_lawful(summary, entries, y, out),
         Audit::Wrong { line, rule } => push_wrong(text, line, rule, y, out),
     }
 }
 
 /// Appends that all so many entries are lawful, and their summary.
-fn push_lawful(entries: &[Entry], number: u32, y: u64, out: &mut Vec<u8>) -> Result<(), AllocError>
+fn push_lawful(summary: &[u8], entries: u32, y: u64, out: &mut Vec<u8>) -> Result<(), AllocError>
     requires { y < 2 ^ 50 }
     ensures { OnOk result
-        (out.new.items ≡ out.old.items ++ lawful_text entries.now number y) }
+        (out.new.items ≡ out.old.items ++ lawful_text summary.now entries y) }
 {
-    let mut summary = Vec::new(*out.allocator());
-    summary_text(entries, &mut summary)?;
-    push_lawful_front(u64::from(number), y, out)?;
-    push_markup(&summary, out)?;
+    push_lawful_front(u64::from(entries), y, out)?;
+    push_markup(summary, out)?;
     out.extend_from_slice(b"</text>\n")?;
     Ok(())
 }
@@ -101,7 +98,7 @@ fn push_rule_front(rule: u64, y: u64, out: &mut Vec<u8>) -> Result<(), AllocErro
 }
 
 /// The text behind so many lines.
-fn behind_lines(lines: u32, text: &[u8]) -> &[u8]
+pub(crate) fn behind_lines(lines: u32, text: &[u8]) -> &[u8]
     ensures { result.now ≡ behind_lines lines text.now }
 {
     let mut left = lines;

@@ -2,6 +2,7 @@ pub mod Columns
 pub mod Rows
 pub mod Marks
 pub mod Shapes
+pub mod Pieces
 pub mod Edge
 pub mod Tables
 pub mod Lines

@@ -6,8 +6,8 @@
 //! places stand. Marks stand apart ([`marks_stand_apart`]) and tell what happened ([`marks_tell_what_happened`]).
 //!
 //! Begin with `shapes`, which has what stands for an entry, a packet and a port. `column` has the columns, `edge` what
-//! each row has of their right edge, and `rows` how far down a row stands; `mark` and `lines` have the shape of an entry
-//! and its line; `tables` keeps what is asked of the entries before, so that a row costs about the same whatever went
+//! each row has of their right edge, and `rows` how far down a row stands; `mark` has the shape of an entry
+//! and `lines` its line, as the journal has it; `tables` keeps what is asked of the entries before, so that a row costs about the same whatever went
 //! before.
 
 #![tactic(auto)]

@@ -1,7 +1,8 @@
 //! The shape of an entry.
 
 ghost use Rattle.std.specs.Prelude.{◌≡◌};
-ghost use Rattle.picture_rows.specs.Marks.{mark_of, mark_name, packet_name, worked};
+ghost use Rattle.picture_rows.specs.Marks.{mark_of, worked};
+ghost use Rattle.picture_rows.specs.Pieces.{mark_open, mark_use, packet_open, packet_title};
 
 use chorus_entry::Act;
 use law_picture::{PacketKind, Row};
@@ -81,29 +82,56 @@ fn worked(cause: Option<Row>) -> Mark
     }
 }
 
-/// The name of the shape.
-pub(crate) fn mark_name(mark: Mark) -> &'static str
-    ensures { result.now ≡ mark_name mark }
+/// What stands before the title of an entry with this shape.
+pub(crate) fn mark_open(mark: Mark) -> &'static str
+    ensures { result.now ≡ mark_open mark }
 {
     match mark {
-        Mark::Own => "own",
-        Mark::Denied => "denied",
-        Mark::Work => "work",
-        Mark::Follow => "follow",
-        Mark::Stale => "stale",
-        Mark::Lost => "lost",
+        Mark::Own => "<g class='own'><title>",
+        Mark::Denied => "<g class='denied'><title>",
+        Mark::Work => "<g class='work'><title>",
+        Mark::Follow => "<g class='follow'><title>",
+        Mark::Stale => "<g class='stale'><title>",
+        Mark::Lost => "<g class='lost'><title>",
     }
 }
 
-/// The name of the kind of packet.
-pub(crate) fn packet_name(kind: PacketKind) -> &'static str
-    ensures { result.now ≡ packet_name kind }
+/// What stands between that title and the place of the shape.
+pub(crate) fn mark_use(mark: Mark) -> &'static str
+    ensures { result.now ≡ mark_use mark }
+{
+    match mark {
+        Mark::Own => "</title><use href='#own' x='",
+        Mark::Denied => "</title><use href='#denied' x='",
+        Mark::Work => "</title><use href='#work' x='",
+        Mark::Follow => "</title><use href='#follow' x='",
+        Mark::Stale => "</title><use href='#stale' x='",
+        Mark::Lost => "</title><use href='#lost' x='",
+    }
+}
+
+/// What stands before the way of an arrow for a packet of this kind.
+pub(crate) fn packet_open(kind: PacketKind) -> &'static str
+    ensures { result.now ≡ packet_open kind }
 {
     match kind {
-        PacketKind::Try => "try",
-        PacketKind::Verdict => "verdict",
-        PacketKind::Transfer => "transfer",
-        PacketKind::Ask => "ask",
-        PacketKind::Report => "report",
+        PacketKind::Try => "<path class='try' d='M",
+        PacketKind::Verdict => "<path class='verdict' d='M",
+        PacketKind::Transfer => "<path class='transfer' d='M",
+        PacketKind::Ask => "<path class='ask' d='M",
+        PacketKind::Report => "<path class='report' d='M",
+    }
+}
+
+/// What stands between that way and the lines that it joins.
+pub(crate) fn packet_title(kind: PacketKind) -> &'static str
+    ensures { result.now ≡ packet_title kind }
+{
+    match kind {
+        PacketKind::Try => "'><title>try, line ",
+        PacketKind::Verdict => "'><title>verdict, line ",
+        PacketKind::Transfer => "'><title>transfer, line ",
+        PacketKind::Ask => "'><title>ask, line ",
+        PacketKind::Report => "'><title>report, line ",
     }
 }

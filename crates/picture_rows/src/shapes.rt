@@ -1,65 +1,75 @@
 //! What stands in a picture for an entry, for a packet and for a port.
 
-ghost use Rattle.std.specs.Prelude.{◌≡◌, ◌≤◌, ◌<◌, ◌^◌, ◌++◌, [], false, length, reverse, OnOk, Some};
+ghost use Rattle.std.specs.Prelude.{◌≡◌, ◌≤◌, ◌<◌, ◌^◌, ◌++◌, [], false, List, ℕ, codes, length, reverse, IfOk, OnOk, Some};
 ghost use Rattle.std.specs.List.{list_any};
-ghost use Rattle.chorus_show.specs.Lines.{act_text};
+ghost use Rattle.chorus_show.specs.Bounds.{AreWithin};
+ghost use Rattle.chorus_show.specs.Journal.{journal_lines};
 ghost use Rattle.law_picture.specs.Causes.{packet_of};
 ghost use Rattle.picture_rows.specs.declared.limits.TheConstants.{ENTRIES_LIMIT};
 ghost use Rattle.picture_rows.specs.Edge.{IsEdge, tick_at, tick_of};
+ghost use Rattle.picture_rows.specs.Lines.{IsLine};
 ghost use Rattle.picture_rows.specs.Tables.{AreTables, bar_ended, entry_by, row_behind};
 ghost use Rattle.picture_rows.specs.Rows.{row_y};
-ghost use Rattle.picture_rows.specs.Shapes.{arrow, arrow_to, bar_class, bar_down, bar_held, bar_in, ends, is_new_clock, mark_at, points, rows, spot, start_x, stop_x, texts_at, texts_front, turn_x};
+ghost use Rattle.picture_rows.specs.Shapes.{arrow, arrow_to, bar_down, bar_held, bar_in, is_new_clock, rows, start_x, stop_x, turn_x};
+ghost use Rattle.picture_rows.specs.Pieces.{bar_open, ends_piece, spot_piece, texts_piece, way_piece};
 ghost use Rattle.picture_texts.specs.Filling.{markup, shown_act};
 ghost use Rattle.picture_texts.specs.Stretches.{is_special};
 
 use crate::column::{Column, column_at, x_at};
 use crate::edge::Edge;
 use crate::limits::ENTRIES_LIMIT;
-use crate::lines::write_line;
-use crate::mark::{mark_name, mark_of, packet_name};
+use crate::lines::{Line, next_line};
+use crate::mark::{mark_of, mark_open, mark_use, packet_open, packet_title};
 use crate::rows::row_y;
 use crate::tables::{Before, Tables};
 use chorus_entry::{Act, Entry};
-use chorus_ui::Ui;
+use chorus_ui::{Ui, push_decimal};
 use itoa::Buffer;
 use law_picture::{Bar, PacketKind, Row};
-use picture_texts::{has_special, push_markup, push_numbered, push_plain_act, push_shown_act};
+use picture_texts::{push_markup, push_numbered, push_plain_act, push_shown_act};
 use std::alloc::AllocError;
 
-/// Appends the row of each entry, and fills the tables, which are to be empty. After an error a part of the rows may
-/// stand there.
+/// Appends the row of each entry, and fills the tables, which are to be empty. The text begins with the lines of the
+/// entries, from which the rows have their titles; gives how many bytes these lines are. After an error a part of the
+/// rows may stand there.
 pub fn push_rows(
     columns: &[Column],
     entries: &[Entry],
+    text: &[u8],
     tables: &mut Tables,
     out: &mut Vec<u8>,
-) -> Result<(), AllocError>
+) -> Result<usize, AllocError>
     requires few { length entries.now ≤ ENTRIES_LIMIT }
+    requires within { AreWithin entries.now }
+    requires lines { (more : List ℕ) × (text.now ≡ journal_lines entries.now ++ more) }
     requires empty { AreTables tables.old [] }
     ensures rows { OnOk result
         (out.new.items ≡ out.old.items ++ rows columns.now [] entries.now) }
     ensures tables { OnOk result (AreTables tables.new (reverse entries.now)) }
+    ensures lines { IfOk result (λ n. n ≡ length (journal_lines entries.now)) }
 {
     let edge = Edge::of(*out.allocator(), columns)?;
-    let mut room = Vec::new(*out.allocator());
+    let mut left = text;
     for entry in entries {
+        let (line, behind) = next_line(left);
         let before = tables.add(entry)?;
-        push_row(columns, &edge, &before, entry, &mut room, out)?;
+        push_row(columns, &edge, &before, entry, &line, out)?;
+        left = behind;
     }
-    Ok(())
+    Ok(text.len().saturating_sub(left.len()))
 }
 
-/// Appends all that stands for the entry, by what the tables said before it. Its line is written in the room, which is
-/// used again.
+/// Appends all that stands for the entry, by what the tables said before it, and by its line.
 fn push_row(
     columns: &[Column],
     edge: &Edge,
     before: &Before,
     entry: &Entry,
-    room: &mut Vec<u8>,
+    line: &Line<'_>,
     out: &mut Vec<u8>,
 ) -> Result<(), AllocError>
-    requires { IsEdge edge.now }
+    requires edge { IsEdge edge.now }
+    requires line { IsLine entry.now line.now }
     ensures { OnOk result (out.new.items ≡ out.old.items
         ++ row_behind edge.now.right columns.now before.now entry.now) }
 {
@@ -72,7 +82,7 @@ fn push_row(
     )?;
     push_bar_ended(columns, row_y(row), entry.act.held_port(), before.bar, out)?;
     push_arrow(columns, row, entry, before.cause, out)?;
-    push_entry(columns, edge, row, entry, before.cause, room, out)?;
+    push_entry(columns, edge, row, entry, before.cause, line, out)?;
     Ok(())
 }
 
@@ -147,7 +157,6 @@ fn push_held(
 }
 
 /// Appends the bar of a port down to y, with how many messages wait. After an error a part of it may stand there.
-#[tactic(auto, unfolding(crate::specs::Shapes::bar_in))]
 pub fn push_bar(
     column: &Column,
     port: Ui,
@@ -157,9 +166,7 @@ pub fn push_bar(
 ) -> Result<(), AllocError>
     ensures { OnOk result (out.new.items ≡ out.old.items ++ bar_in port bar y column.now) }
 {
-    out.extend_from_slice(b"<g class='")?;
-    out.extend_from_slice(bar_class(bar.waits).as_bytes())?;
-    out.extend_from_slice(b"'><title>")?;
+    out.extend_from_slice(bar_open(bar.waits).as_bytes())?;
     port.text(out)?;
     let top = row_y(bar.row.number);
     push_down(
@@ -172,12 +179,15 @@ pub fn push_bar(
     Ok(())
 }
 
-/// The class of a bar, by which it is drawn: `idle`, or `waits` where messages wait.
-#[tactic(auto, unfolding(crate::specs::Shapes::bar_class))]
-fn bar_class(waits: u32) -> &'static str
-    ensures { result.now ≡ bar_class waits }
+/// What stands before the title of a bar by which so many wait.
+fn bar_open(waits: u32) -> &'static str
+    ensures { result.now ≡ bar_open waits }
 {
-    if waits == 0 { "idle" } else { "waits" }
+    if waits == 0 {
+        "<g class='idle'><title>"
+    } else {
+        "<g class='waits'><title>"
+    }
 }
 
 /// Appends a bar in this lane, from `top` on and so high, with the count of the messages that wait.
@@ -241,18 +251,15 @@ struct Way {
 }
 
 /// Appends the arrow of a packet, from the line of a place at x to the line of this column.
-#[tactic(auto, unfolding(crate::specs::Shapes::arrow_along))]
 fn push_way(way: &Way, x: u64, column: &Column, out: &mut Vec<u8>) -> Result<(), AllocError>
     requires { x < 2 ^ 40 }
     ensures { OnOk result (out.new.items ≡ out.old.items
         ++ arrow_to way.now.kind way.now.rightward x way.now.from way.now.to (Some column.now)) }
 {
-    let name = packet_name(way.kind);
     let start = start_x(way.rightward, x);
     let turn = turn_x(way.rightward, column);
     let stop = stop_x(way.rightward, column);
-    out.extend_from_slice(b"<path class='")?;
-    out.extend_from_slice(name.as_bytes())?;
+    out.extend_from_slice(packet_open(way.kind).as_bytes())?;
     push_points(
         start,
         row_y(way.from.number),
@@ -261,13 +268,12 @@ fn push_way(way: &Way, x: u64, column: &Column, out: &mut Vec<u8>) -> Result<(),
         row_y(way.to),
         out,
     )?;
-    out.extend_from_slice(name.as_bytes())?;
+    out.extend_from_slice(packet_title(way.kind).as_bytes())?;
     push_ends(u64::from(way.from.number) + 2, u64::from(way.to) + 2, out)?;
     Ok(())
 }
 
-/// Appends the points of an arrow: from its start along a row to its turn, and from there to its stop.
-#[tactic(auto, unfolding(crate::specs::Shapes::points))]
+/// Appends the way of an arrow.
 fn push_points(
     start: u64,
     top: u64,
@@ -276,23 +282,21 @@ fn push_points(
     y: u64,
     out: &mut Vec<u8>,
 ) -> Result<(), AllocError>
-    ensures { OnOk result (out.new.items ≡ out.old.items ++ points start top turn stop y) }
+    ensures { OnOk result (out.new.items ≡ out.old.items ++ way_piece start top turn stop y) }
 {
-    push_numbered(b"' d='M", start, out)?;
+    push_decimal(start, out)?;
     push_numbered(b" ", top, out)?;
     push_numbered(b"H", turn, out)?;
     push_numbered(b"L", stop, out)?;
     push_numbered(b" ", y, out)?;
-    out.extend_from_slice(b"'><title>")?;
     Ok(())
 }
 
-/// Appends from which line of the journal to which one an arrow leads, and ends the arrow.
-#[tactic(auto, unfolding(crate::specs::Shapes::ends))]
+/// Appends the lines that an arrow joins.
 fn push_ends(from: u64, to: u64, out: &mut Vec<u8>) -> Result<(), AllocError>
-    ensures { OnOk result (out.new.items ≡ out.old.items ++ ends from to) }
+    ensures { OnOk result (out.new.items ≡ out.old.items ++ ends_piece from to) }
 {
-    push_numbered(b", line ", from, out)?;
+    push_decimal(from, out)?;
     push_numbered(b" to line ", to, out)?;
     out.extend_from_slice(b"</title></path>\n")?;
     Ok(())
@@ -345,32 +349,27 @@ fn packet_of(act: &Act) -> PacketKind
     }
 }
 
-/// Appends the entry with its mark. Its line is searched once for bytes that are not written as themselves.
-#[tactic(auto, unfolding(crate::specs::Shapes::entry_in))]
+/// Appends the entry with its mark.
 fn push_entry(
     columns: &[Column],
     edge: &Edge,
     row: u32,
     entry: &Entry,
     cause: Option<Row>,
-    room: &mut Vec<u8>,
+    line: &Line<'_>,
     out: &mut Vec<u8>,
 ) -> Result<(), AllocError>
-    requires { IsEdge edge.now }
+    requires edge { IsEdge edge.now }
+    requires line { IsLine entry.now line.now }
     ensures { OnOk result (out.new.items ≡ out.old.items
         ++ entry_by edge.now.right columns.now row entry.now cause) }
 {
-    let name = mark_name(mark_of(cause, &entry.act));
-    let at = write_line(entry, room)?;
-    let (_, act) = room.as_slice().split_at(at);
-    let special = has_special(room);
-    out.extend_from_slice(b"<g class='")?;
-    out.extend_from_slice(name.as_bytes())?;
-    out.extend_from_slice(b"'><title>")?;
-    push_title(room, special, out)?;
-    out.extend_from_slice(b"</title>")?;
-    push_mark(name, x_at(columns, entry.place), row_y(row), out)?;
-    push_texts(edge, row_y(row) + 4, entry, act, special, out)?;
+    let mark = mark_of(cause, &entry.act);
+    out.extend_from_slice(mark_open(mark).as_bytes())?;
+    push_title(line.text, line.special, out)?;
+    out.extend_from_slice(mark_use(mark).as_bytes())?;
+    push_spot(x_at(columns, entry.place), row_y(row), out)?;
+    push_texts(edge, row_y(row) + 4, line, out)?;
     Ok(())
 }
 
@@ -386,69 +385,47 @@ fn push_title(line: &[u8], special: bool, out: &mut Vec<u8>) -> Result<(), Alloc
     Ok(())
 }
 
-/// Appends the mark of this name.
-#[tactic(auto, unfolding(crate::specs::Shapes::mark_at))]
-fn push_mark(name: &str, x: u64, y: u64, out: &mut Vec<u8>) -> Result<(), AllocError>
-    ensures { OnOk result (out.new.items ≡ out.old.items ++ mark_at name.now x y) }
-{
-    out.extend_from_slice(b"<use href='#")?;
-    out.extend_from_slice(name.as_bytes())?;
-    push_spot(x, y, out)?;
-    Ok(())
-}
-
-/// Appends where a mark stands, at x and y, and ends the mark.
-#[tactic(auto, unfolding(crate::specs::Shapes::spot))]
+/// Appends the place of a mark, up to the height of its clock.
 fn push_spot(x: u64, y: u64, out: &mut Vec<u8>) -> Result<(), AllocError>
-    ensures { OnOk result (out.new.items ≡ out.old.items ++ spot x y) }
+    ensures { OnOk result (out.new.items ≡ out.old.items ++ spot_piece x y) }
 {
-    push_numbered(b"' x='", x, out)?;
+    push_decimal(x, out)?;
     push_numbered(b"' y='", y, out)?;
-    out.extend_from_slice(b"'/>")?;
+    out.extend_from_slice(b"'/><text x='8' y='")?;
     Ok(())
 }
 
 /// Appends the entry's clock, its caller and its act.
-#[tactic(auto, unfolding(crate::specs::Shapes::texts_at))]
-fn push_texts(
-    edge: &Edge,
-    y: u64,
-    entry: &Entry,
-    act: &[u8],
-    special: bool,
-    out: &mut Vec<u8>,
-) -> Result<(), AllocError>
+fn push_texts(edge: &Edge, y: u64, line: &Line<'_>, out: &mut Vec<u8>) -> Result<(), AllocError>
     requires edge { IsEdge edge.now }
-    requires act { act.now ≡ act_text entry.now.act }
-    requires plain { special ≡ false → list_any is_special act.now ≡ false }
-    ensures { OnOk result
-        (out.new.items ≡ out.old.items ++ texts_at edge.now.right y entry.now) }
+    requires plain { line.now.special ≡ false → list_any is_special line.now.act.now ≡ false }
+    ensures { OnOk result (out.new.items ≡ out.old.items
+        ++ (texts_piece edge.now.right y line.now.clock.now line.now.seat.now
+        ++ shown_act line.now.act.now ++ codes "</text></g>\n")) }
 {
-    push_texts_front(edge, y, entry.clock, u64::from(entry.seat), out)?;
-    push_act_text(act, special, out)?;
+    push_texts_front(edge, y, line, out)?;
+    push_act_text(line.act, line.special, out)?;
     out.extend_from_slice(b"</text></g>\n")?;
     Ok(())
 }
 
 /// Appends the clock and the caller. The height stands there three times and is written once.
-#[tactic(auto, unfolding(crate::specs::Shapes::texts_front))]
 fn push_texts_front(
     edge: &Edge,
     y: u64,
-    clock: u64,
-    seat: u64,
+    line: &Line<'_>,
     out: &mut Vec<u8>,
 ) -> Result<(), AllocError>
     requires { IsEdge edge.now }
-    ensures { OnOk result
-        (out.new.items ≡ out.old.items ++ texts_front edge.now.right y clock seat) }
+    ensures { OnOk result (out.new.items ≡ out.old.items
+        ++ texts_piece edge.now.right y line.now.clock.now line.now.seat.now) }
 {
     let mut buffer = Buffer::new();
     let y = buffer.format(y).as_bytes();
-    push_both(b"<text x='8' y='", y, out)?;
-    push_numbered(b"'>", clock, out)?;
+    out.extend_from_slice(y)?;
+    push_both(b"'>", line.clock, out)?;
     push_both(&edge.seat_front, y, out)?;
-    push_numbered(b"'>", seat, out)?;
+    push_both(b"'>", line.seat, out)?;
     push_both(&edge.act_front, y, out)?;
     out.extend_from_slice(b"'>")?;
     Ok(())

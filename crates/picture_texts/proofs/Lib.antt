@@ -2,4 +2,4 @@ pub mod Pieces
 mod PlainNames
 pub mod PlainTexts
 mod ReadBack
-mod Stretches
+pub mod Stretches

@@ -17,10 +17,10 @@ uncons (x ∷ xs) h = ap (λ t. x ∷ t) (sym (take_all (length (x ∷ xs) - 1) 
 
 module _ (p : ℕ → Bool) where
   -- the first byte that passes is the first, or stands one place later than behind it
-  first_here : (c : ℕ) (cs : List ℕ) → p c ≡ true → position_or_len p (c ∷ cs) ≡ 0
+  pub first_here : (c : ℕ) (cs : List ℕ) → p c ≡ true → position_or_len p (c ∷ cs) ≡ 0
   first_here c cs h = ap (λ b. cond (not b) (1 + position_or_len p cs) 0) h
 
-  first_later : (c : ℕ) (cs : List ℕ) → p c ≡ false → position_or_len p (c ∷ cs) ≡ suc (position_or_len p cs)
+  pub first_later : (c : ℕ) (cs : List ℕ) → p c ≡ false → position_or_len p (c ∷ cs) ≡ suc (position_or_len p cs)
   first_later c cs h =
       let one : 1 + position_or_len p cs ≡ suc (position_or_len p cs) = omega arith in
       ap (λ b. cond (not b) (1 + position_or_len p cs) 0) h ∙ one

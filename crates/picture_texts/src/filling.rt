@@ -67,7 +67,7 @@ pub fn push_markup(text: &[u8], out: &mut Vec<u8>) -> Result<(), AllocError>
 
 /// How many bytes stand before the first that is not written as itself.
 #[tactic(auto, using(crate::proofs::Stretches::or_length))]
-fn plain_front(text: &[u8]) -> usize
+pub fn plain_front(text: &[u8]) -> usize
     ensures value { result ≡ position_or_len is_special text.now }
     ensures within { result ≤ length text.now }
 {
@@ -79,13 +79,6 @@ fn special_in(text: &[u8]) -> Option<usize>
     ensures { result ≡ position is_special text.now }
 {
     text.iter().position(|c| is_special(*c))
-}
-
-/// Whether a byte of the text is not written as itself.
-pub fn has_special(text: &[u8]) -> bool
-    ensures { result ≡ list_any is_special text.now }
-{
-    text.iter().any(|c| is_special(*c))
 }
 
 /// Whether a byte is not written as itself.
@@ -139,7 +132,7 @@ pub fn push_plain_act(act: &[u8], out: &mut Vec<u8>) -> Result<(), AllocError>
         out.extend_from_slice(act)?;
         return Ok(());
     }
-    push_shown_act(act, out)
+    push_plain_cut(most_shown(equals_sign_in(act)), act, out)
 }
 
 /// The place of the first `=`.
@@ -169,5 +162,20 @@ fn push_cut(most: usize, text: &[u8], out: &mut Vec<u8>) -> Result<(), AllocErro
     let (front, _) = text.split_at(most);
     push_markup(front, out)?;
     push_markup(b"...", out)?;
+    Ok(())
+}
+
+/// Appends the text as [`push_cut`] does, where each of its bytes is written as itself.
+fn push_plain_cut(most: usize, text: &[u8], out: &mut Vec<u8>) -> Result<(), AllocError>
+    requires { list_any is_special text.now ≡ false }
+    ensures { OnOk result (out.new.items ≡ out.old.items ++ markup (cut most text.now)) }
+{
+    if text.len() <= most {
+        out.extend_from_slice(text)?;
+        return Ok(());
+    }
+    let (front, _) = text.split_at(most);
+    out.extend_from_slice(front)?;
+    out.extend_from_slice(b"...")?;
     Ok(())
 }

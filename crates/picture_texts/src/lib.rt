@@ -15,7 +15,7 @@ mod laws;
 mod limits;
 
 pub use filling::{
-    has_special, push_filled, push_markup, push_numbered, push_plain_act, push_shown,
+    plain_front, push_filled, push_markup, push_numbered, push_plain_act, push_shown,
     push_shown_act,
 };
 pub use laws::texts_are_read_as_they_are;

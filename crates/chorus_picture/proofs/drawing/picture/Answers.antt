@@ -1,9 +1,18 @@
-use Rattle.std.proofs.Common.{◌≤◌, length, subst, arith}
+use Rattle.std.proofs.Common.{◌≤◌, length, reverse, sym, ◌∙◌, subst, arith}
 use Rattle.std.specs.Io.KnownBytes.{Appends}
 use Rattle.chorus_io.specs.Bytes.{AppendsPrefix}
 use Rattle.picture_rows.specs.declared.limits.TheConstants.{ENTRIES_LIMIT}
+use Rattle.chorus_audit.specs.Tests.{IsRead}
+use Rattle.chorus_picture.specs.Picture.{HasLines}
+use Rattle.chorus_picture.proofs.Lines.{has_lines}
 use Rattle.chorus_picture.proofs.Whole.{is-drawn, whole-input}
 use Rattle.chorus_picture.proofs.drawing.picture.Goals as goal
+
+pub drawn-requires-clause-lines : goal.drawn-requires-clause-lines
+drawn-requires-clause-lines g c =
+    subst (λ es. HasLines c.deref-2.result.now es c.in-Ok-read_text.reading.audit) (sym c.entries-entries.ensures.value)
+    (has_lines c.args.layout c.deref-2.result.now c.in-Ok-read_text.reading.audit (reverse c.in-Ok-read_text.reading.world.past)
+    (subst (λ t. IsRead c.args.layout t c.in-Ok-read_text.reading.audit (reverse c.in-Ok-read_text.reading.world.past)) (c.deref.ensures.value ∙ sym c.deref-2.ensures.value) c.in-Ok-read_text.ensures))
 
 pub returns-in-Ok-write_all-clause-draws : goal.returns-in-Ok-write_all-clause-draws
 returns-in-Ok-write_all-clause-draws g c =

@@ -1,15 +1,9 @@
-use Rattle.std.proofs.Common.{◌≡◌, ℕ, ◌++◌, List, codes, decimal}
-use Rattle.picture_rows.specs.Shapes.{ends}
-use Rattle.picture_texts.proofs.Pieces.{two}
+use Rattle.std.proofs.Common.{◌++◌, codes, decimal}
+use Rattle.picture_texts.proofs.Pieces.{three_right}
 use Rattle.picture_rows.proofs.shapes.push_ends.Goals as goal
 
 pub returns : goal.returns
-unfolding ends
 returns c =
-    let o = c.args.out.now.items in
-    let w = c.extend_from_slice.new.self.items in
-    let r2 : List ℕ = codes "</title></path>\n" in
-    let r1 : List ℕ = (codes " to line " ++ decimal c.args.to) ++ r2 in
-    let h1 : w ≡ c.push_numbered.new.out.items ++ ((codes " to line " ++ decimal c.args.to) ++ r2) = two c.push_numbered.new.out.items (codes " to line " ++ decimal c.args.to) r2 c.push_numbered-2.new.out.items w c.in_ok-push_numbered-2.ensures c.in_ok-extend_from_slice.ensures.items in
-    let h0 : w ≡ o ++ ((codes ", line " ++ decimal c.args.from) ++ r1) = two o (codes ", line " ++ decimal c.args.from) r1 c.push_numbered.new.out.items w c.in_ok-push_numbered.ensures h1 in
-    h0
+    three_right c.args.out.now.items (decimal c.args.from) (codes " to line " ++ decimal c.args.to) (codes "</title></path>\n")
+    c.push_decimal.new.out.items c.push_numbered.new.out.items c.extend_from_slice.new.self.items
+    c.in_ok-push_decimal.ensures.ok c.in_ok-push_numbered.ensures c.in_ok-extend_from_slice.ensures.items

@@ -1,0 +1,23 @@
+use Rattle.std.proofs.Common.{length, ap, ◌∙◌, arith}
+use Rattle.std.proofs.lemmas.List.{length-append}
+use Rattle.chorus_show.specs.Journal.{journal_lines}
+use Rattle.chorus_picture.proofs.Lines.{behind_them}
+use Rattle.chorus_picture.proofs.drawing.drawn.Goals as goal
+
+pub push_rows-requires-clause-within : goal.push_rows-requires-clause-within
+push_rows-requires-clause-within c = c.requires.lines.within
+
+pub push_rows-requires-clause-lines : goal.push_rows-requires-clause-lines
+push_rows-requires-clause-lines c = (c.requires.lines.more, c.behind_lines-lines.ensures ∙ c.requires.lines.lines)
+
+pub split_at-requires : goal.split_at-requires
+split_at-requires c =
+    let all = ap length (c.behind_lines-lines.ensures ∙ c.requires.lines.lines) ∙ length-append (journal_lines c.args.entries.now) c.requires.lines.more in
+    omega (arith, all, c.in_ok-passed.ensures.lines)
+
+pub push_behind_rows-requires-clause-summary : goal.push_behind_rows-requires-clause-summary
+push_behind_rows-requires-clause-summary c =
+    λ n legal.
+    behind_them c.args.text.now c.behind_lines-lines.result.now c.split_at.result.1.now c.args.entries.now c.args.audit c.in_ok-passed.passed c.requires.lines
+    c.behind_lines-lines.ensures c.in_ok-passed.ensures.lines c.split_at.ensures.back
+    ∙ c.requires.lines.summary n legal
