@@ -10,7 +10,7 @@ ghost use Rattle.chorus_show.specs.Summary.{summary_text};
 ghost use Rattle.chorus_picture.specs.Picture.{HasLines, behind_rows, picture_text};
 ghost use Rattle.picture_rows.specs.Tables.{AreTables};
 
-use crate::found::{behind_lines, push_foot, push_found};
+use crate::below_rows::{behind_lines, push_foot, push_found};
 use crate::sheet::{push_bars_left, push_front, push_heads};
 use chorus_audit::{AUDIT_LIMIT, Audit, read_text};
 use chorus_entry::Entry;

@@ -5,13 +5,14 @@
 //! the text. A text that is not lawful is drawn up to its first wrong line. Nothing that a journal says is read as
 //! markup (`picture_texts`).
 //!
-//! Begin with `drawing`. `sheet` and `found` have what stands round the rows, `style` how it looks, and `rule_words`
-//! the rules of an audit in words, each beginning with the act that it refuses ([`rules_name_their_acts`]).
+//! Begin with `drawing`. `sheet` and `below_rows` have what stands round the rows, `style` how it looks, and
+//! `rule_words` the rules of an audit in words, each beginning with the act that it refuses
+//! ([`rules_name_their_acts`]).
 
 #![tactic(auto)]
 
+mod below_rows;
 mod drawing;
-mod found;
 mod laws;
 mod rule_words;
 mod sheet;

@@ -6,7 +6,7 @@
 //! places stand. Marks stand apart ([`marks_stand_apart`]) and tell what happened ([`marks_tell_what_happened`]).
 //!
 //! Begin with `shapes`, which has what stands for an entry, a packet and a port. `column` has the columns, `edge` what
-//! each row has of their right edge, and `rows` how far down a row stands; `mark` has the shape of an entry
+//! each row has of their right edge, and `row_heights` how far down a row stands; `mark` has the shape of an entry
 //! and `lines` its line, as the journal has it; `tables` keeps what is asked of the entries before, so that a row costs about the same whatever went
 //! before.
 
@@ -18,13 +18,13 @@ mod laws;
 mod limits;
 mod lines;
 mod mark;
-mod rows;
+mod row_heights;
 mod shapes;
 mod tables;
 
 pub use column::{Column, columns, right_edge};
 pub use laws::{marks_stand_apart, marks_tell_what_happened};
 pub use limits::ENTRIES_LIMIT;
-pub use rows::{end_y, heads};
+pub use row_heights::{end_y, heads};
 pub use shapes::{push_bar, push_rows};
 pub use tables::Tables;

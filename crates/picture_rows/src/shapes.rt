@@ -20,7 +20,7 @@ use crate::edge::Edge;
 use crate::limits::ENTRIES_LIMIT;
 use crate::lines::{Line, next_line};
 use crate::mark::{mark_of, mark_open, mark_use, packet_open, packet_title};
-use crate::rows::row_y;
+use crate::row_heights::row_y;
 use crate::tables::{Before, Tables};
 use chorus_entry::{Act, Entry};
 use chorus_ui::{Ui, push_decimal};

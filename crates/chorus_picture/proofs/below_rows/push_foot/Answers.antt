@@ -1,7 +1,7 @@
 use Rattle.std.proofs.Common.{◌≡◌, ◌++◌, codes}
 use Rattle.chorus_picture.specs.declared.style.TheConstants.{LEGEND}
 use Rattle.picture_texts.proofs.Pieces.{three}
-use Rattle.chorus_picture.proofs.found.push_foot.Goals as goal
+use Rattle.chorus_picture.proofs.below_rows.push_foot.Goals as goal
 
 pub returns : goal.returns
 returns c =

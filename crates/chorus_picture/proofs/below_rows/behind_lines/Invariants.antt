@@ -1,6 +1,6 @@
 use Rattle.std.proofs.Common.{◌≡◌, length}
 use Rattle.chorus_picture.specs.Found.{behind_lines}
-use Rattle.chorus_picture.proofs.found.behind_lines.Given as goal
+use Rattle.chorus_picture.proofs.below_rows.behind_lines.Given as goal
 
 abbrev pub invariant-loop-rest : goal.invariant-loop-rest
 invariant-loop-rest l = behind_lines l.left l.rest ≡ behind_lines l.lines l.text
