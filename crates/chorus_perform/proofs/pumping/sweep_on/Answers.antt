@@ -11,8 +11,8 @@ pub returns-in_err-look_round-clause-goes : goal.returns-in_err-look_round-claus
 returns-in_err-look_round-clause-goes g c =
     goes-none c.args.pass.now c.sweep.new.pass c.look_round.new.pass (goes-none c.args.pass.now c.loop.pass c.sweep.new.pass c.loop.invariant.1 c.sweep.ensures.goes) c.look_round.ensures.goes
 
-pub loop-preserved-then-not-goes_on : goal.loop-preserved-then-not-goes_on
-loop-preserved-then-not-goes_on g c = (
+pub loop-preserved-in-Continue-branch-2 : goal.loop-preserved-in-Continue-branch-2
+loop-preserved-in-Continue-branch-2 g c = (
   c.look_round.ensures.pass,
   goes-none c.args.pass.now c.sweep.new.pass c.look_round.new.pass (goes-none c.args.pass.now c.loop.pass c.sweep.new.pass c.loop.invariant.1 c.sweep.ensures.goes) c.look_round.ensures.goes,
 )
