@@ -205,7 +205,7 @@ enum Came {
 }
 
 /// Receives on all ports, once.
-fn came(rt: &impl Abort, nucleus: &Nucleus, pass: &mut Pass, chooser: &Chooser) -> Came
+fn receive_once(rt: &impl Abort, nucleus: &Nucleus, pass: &mut Pass, chooser: &Chooser) -> Came
     requires { IsPassOf nucleus.now pass.old }
     ensures { IsPassOf nucleus.now pass.new }
 {
@@ -234,7 +234,7 @@ fn receive_all<R: Wait + Abort>(
             meeting.over.store(true, Ordering::SeqCst);
             return pass;
         }
-        match came(rt, nucleus, &mut pass, &meeting.chooser) {
+        match receive_once(rt, nucleus, &mut pass, &meeting.chooser) {
             Came::Number(number) => {
                 count = count.saturating_add(1);
                 meeting.sum.fetch_add(number, Ordering::SeqCst);
