@@ -9,8 +9,8 @@
 //! `specs/Bells.antt`.
 #![tactic(auto)]
 
-mod bell;
 mod bell_ends;
+mod bells;
 mod chooser;
 mod fault;
 mod laws;
@@ -19,8 +19,8 @@ mod receiving;
 mod rule;
 mod waiting;
 
-pub use bell::bell;
 pub use bell_ends::{Ringer, Waiter};
+pub use bells::bell;
 pub use chooser::{Chooser, ENABLED_LIMIT, Enabled};
 pub use fault::{EnableFault, NotEnabled};
 pub use laws::looking_order;
