@@ -2,6 +2,7 @@
 use Rattle.std.proofs.Common.{◌≡◌, ◌+◌, ◌≤◌, min, List, [], length, ◌∙◌, ap, arith}
 use Rattle.chorus_entry.specs.declared.command.Command.{Command}
 use Rattle.chorus_calls.specs.Callers.{Seated}
+use Rattle.place_outbox.specs.Waiting.{Waiting}
 use Rattle.law_machine.specs.declared.reply.Reply.{Reply}
 use Rattle.law_machine.specs.declared.outgoing.Outgoing.{Outgoing}
 use Rattle.law_machine.specs.PlaceState.{Turn}
@@ -20,6 +21,10 @@ begins p c none = ap (λ (os : List Outgoing). record { place = state p; caller 
 -- and nothing where the turn was refused
 pub still-none : (old new : Tables) (before after : Seated) → old.puts ≡ [] → turn new after ≡ turn old before → new.puts ≡ []
 still-none old new before after none same = ap (λ t. t.puts) same ∙ none
+
+-- what went out stays, in two parts of a turn
+pub stays-then : {a b c : Waiting} → StaysOut a b → c ≡ b → StaysOut a c
+stays-then h same = record { lists = ap (λ (w : Waiting). w.lists) same ∙ h.lists; puts = ap (λ (w : Waiting). w.puts) same ∙ h.puts }
 
 -- what the end of a turn does
 pub record Sent (mid new : Tables) : Type 0 where

@@ -25,7 +25,7 @@ use law_bounds::are_within;
 use law_machine::{Outcome, Reply};
 use place_outbox::Outbox;
 use place_outcome::outcome_in;
-use place_packets::{is_lawful, open};
+use place_packets::{is_lawful, make_ready, open};
 use place_tables::Tables;
 use std::alloc::{AllocError, Global};
 use std::marker::Model;
@@ -195,23 +195,20 @@ impl Place {
         ensures back { IfErr result (λ refused. refused.0 ≡ packet) }
         ensures refused { OnErr result (Stays self.old self.new × (caller.new ≡ caller.old)) }
     {
-        let last = caller.last();
-        let heard = last.max(packet.clock);
+        let heard = caller.last().max(packet.clock);
         let clock = self.tables.clock().max(heard);
         if clock >= CLOCK_LIMIT {
             return Err((packet, PlaceFault::Worn { clock }));
         }
+        let tables = &mut *self.tables;
+        let ready = match make_ready(tables, &packet) {
+            Ok(ready) => ready,
+            Err(none) => return Err((packet, PlaceFault::Memory(none))),
+        };
         caller.tick(heard);
-        match open(&mut *self.tables, packet, caller) {
-            Ok(()) => {
-                self.tables.send_out();
-                Ok(())
-            }
-            Err((back, none)) => {
-                caller.tick(last);
-                Err((back, PlaceFault::Memory(none)))
-            }
-        }
+        open(tables, packet, ready, caller);
+        tables.send_out();
+        Ok(())
     }
 
     /// Takes out the first packet that waits to go to the place; None exactly where none waits, and then nothing changes. The packet

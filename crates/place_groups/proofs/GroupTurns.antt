@@ -31,7 +31,7 @@ use Rattle.chorus_entry.specs.Members.{is_member, are_distinct}
 use Rattle.chorus_groups.specs.declared.choice.Choice.{Choice}
 use Rattle.chorus_groups.specs.declared.choice.Choice.TheVariants as choices
 use Rattle.chorus_groups.specs.Made.{made_of, chosen_in}
-use Rattle.chorus_calls.specs.Callers.{Seated}
+use Rattle.chorus_calls.specs.Callers.{Seated, new_caller}
 use Rattle.place_unsettled.specs.declared.wait.Key.{Key}
 use Rattle.place_unsettled.specs.Queues.{Queue, queue, room, changed, with_last}
 use Rattle.law_machine.specs.PlaceState.{PlaceState, Turn, newest, greatest_clock, unchanged, say}
@@ -41,7 +41,8 @@ use Rattle.place_state.specs.declared.copies.MemberCopy.{MemberCopy}
 use Rattle.place_state.specs.Tables.{Tables, state, turn, IsPort, IsSound}
 use Rattle.place_state.specs.Going.{leaving_to}
 use Rattle.place_state.specs.Groups.{ports_of, when_free, free_leaving, going, waiting_for, AllGoing, members_of, with_each, HaveLines, IsCopy, chosen, leaving_with, courses_of, posted_alone}
-use Rattle.place_groups.specs.GroupTurns.{IsReady, chosen_go, copies}
+use Rattle.place_groups.specs.declared.turns.Chosen.{Chosen}
+use Rattle.place_groups.specs.GroupTurns.{IsReady, IsPrepared, IsAskReady, chosen_go, copies}
 use Rattle.place_state.proofs.Reports.{at-key}
 use Rattle.place_state.proofs.Groups.{Agree, or-none, not-at, other-key, not-here, member-first, member-more, waiting-same, put-elsewhere}
 
@@ -253,10 +254,26 @@ pub answered-ask : (m : Message) (d : Dest) (g : Ui) (home : ℕ) (cs : List Mem
 answered-ask m d g home cs t u v e same made done =
     done ∙ ap (chosen_go m.id g home cs) same ∙ ap (λ xs. chosen_go m.id g home xs t) made ∙ chosen-these m d g home (choice d t.place) t ∙ asked-for m d g home t e
 
-pub ready-less : (g : Ui) (home : ℕ) (made : Choice) (cs : List MemberCopy) (course : List Course) (p : Tables) → IsReady g home made cs course 2 p → IsReady g home made cs course 1 p
+-- the group of a destination is one
+pub one-group : (d : Dest) (g h : Ui) → group_in d ≡ Some g → group_in d ≡ Some h → g ≡ h
+one-group d g h e f = cc
+
+ready-less : (g : Ui) (home : ℕ) (made : Choice) (cs : List MemberCopy) (course : List Course) (p : Tables) → IsReady g home made cs course 2 p → IsReady g home made cs course 1 p
 ready-less g home made cs course p h =
     let spare = h.spare in
     record { chosen = h.chosen; kinds = h.kinds; distinct = h.distinct; copied = h.copied; courses = h.courses; lines = h.lines; few = h.few; spare = omega (arith, spare); room = h.room }
+
+-- an Ask is ready, behind what changed nothing
+pub ask-ready : {E : Type 0} (res : Result Chosen E) (m : Message) (d : Dest) (g : Ui) (home : ℕ) (p now : Tables) → group_in d ≡ Some g → ((c : Seated) → turn now c ≡ turn p c)
+    → IfOk res (λ made. IsPrepared g home made 2 now) → IfOk res (λ made. made.copies.items ≡ copies m d home 1 (choice d (state p))) → IfOk res (λ made. IsAskReady home m d made now)
+ask-ready (Ok made) m d g home p now e same ready those =
+    record {
+      group = g;
+      asked = e;
+      prepared = ready-less g home made.choice made.copies.items made.courses.items now ready;
+      those = those ∙ ap (λ (t : Turn). copies m d home 1 (choice d t.place)) (sym (same (new_caller 0 g 0)));
+    }
+ask-ready (Err x) m d g home p now e same ready those = tt
 
 -- the post was made, and all is still ready
 pub ready-posted : (g : Ui) (home : ℕ) (made : Choice) (cs : List MemberCopy) (course : List Course) (p now : Tables) → IsReady g home made cs course 2 p

@@ -1,17 +1,18 @@
 -- Groups in whole turns: what is ready for a choice, and what is carried out then.
 -- m is a post, x its id, d its destination, g the group, q a port, c a member with its copy, p the tables of a place, t
 -- a turn; `home` is the place where the post was made.
-use Rattle.std.specs.Prelude.{ℕ, ◌≡◌, ◌+◌, ◌≤◌, ◌^◌, true, All, List, [], ◌∷◌, length}
+use Rattle.std.specs.Prelude.{ℕ, ◌≡◌, ◌+◌, ◌≤◌, ◌^◌, true, Some, All, List, [], ◌∷◌, length}
 use Rattle.chorus_ui.specs.declared.ui.Ui.{Ui}
 use Rattle.chorus_entry.specs.declared.id.MsgId.{MsgId}
 use Rattle.chorus_entry.specs.declared.dest.Dest.{Dest}
 use Rattle.chorus_entry.specs.declared.message.Message.{Message}
+use Rattle.chorus_entry.specs.Dest.{group_in}
 use Rattle.chorus_entry.specs.Members.{are_distinct}
 use Rattle.chorus_groups.specs.declared.choice.Choice.{Choice}
 use Rattle.chorus_groups.specs.Made.{made_of}
 use Rattle.place_unsettled.specs.Queues.{queue, room}
 use Rattle.law_machine.specs.PlaceState.{Turn}
-use Rattle.law_machine.specs.Choosing.{all_go, copy}
+use Rattle.law_machine.specs.Choosing.{all_go, copy, choice}
 use Rattle.place_state.specs.declared.copies.Course.{Course}
 use Rattle.place_state.specs.declared.copies.MemberCopy.{MemberCopy}
 use Rattle.place_groups.specs.declared.turns.Chosen.{Chosen}
@@ -39,6 +40,13 @@ pub record IsReady (g : Ui) (home : ℕ) (choice : Choice) (copies : List Member
 -- this choice is ready
 abbrev pub IsPrepared : Ui → ℕ → Chosen → ℕ → Tables → Type 0
 IsPrepared g home made entries p = IsReady g home made.choice made.copies.items made.courses.items entries p
+
+-- this choice is ready for a post that the place `home` asks for
+pub record IsAskReady (home : ℕ) (m : Message) (d : Dest) (made : Chosen) (p : Tables) : Type 0 where
+  pub group : Ui
+  pub asked : group_in d ≡ Some group
+  pub prepared : IsPrepared group home made 1 p
+  pub those : made.copies.items ≡ copies m d home 1 (choice d (state p))
 
 -- the copies are chosen and go; without one the group has no member
 abbrev pub chosen_go : MsgId → Ui → ℕ → List MemberCopy → Turn → Turn

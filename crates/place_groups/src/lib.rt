@@ -1,7 +1,7 @@
 //! Whole turns with groups.
 //!
 //! The layer above rests on this: a turn with a group does exactly what the place machine does (`law_machine`), gives its reply,
-//! and where it is refused changes nothing.
+//! and where it is refused changes nothing. The choice that another place asks for is made ready first, and then cannot fail.
 //!
 //! Begin with `turns`; `courses` looks for the messages that leave once copies for members wait. The tables and their steps are
 //! those of `place_tables`.
@@ -10,4 +10,4 @@
 mod courses;
 mod turns;
 
-pub use turns::{hear_ask, join, leave, make_group, post_to_group};
+pub use turns::{Chosen, join, leave, make_group, open_ask, post_to_group, ready_ask};

@@ -1,6 +1,6 @@
 //! Whole turns with groups: what can fail comes first, and then one step after the other.
 
-ghost use Rattle.std.specs.Prelude.{◌≡◌, ◌+◌, ◌^◌, ◌<◌, ◌≤◌, true, List, Some, None, length, IsOk, IfOk, IfErr, OnOk, OnErr};
+ghost use Rattle.std.specs.Prelude.{◌≡◌, ◌+◌, ◌^◌, ◌<◌, ◌≤◌, true, List, Some, None, length, IsOk, IfOk, OnOk, OnErr};
 ghost use Rattle.chorus_ui.specs.declared.ui.Ui.{Ui};
 ghost use Rattle.chorus_ui.specs.declared.kind.Kind.TheVariants as Kind;
 ghost use Rattle.chorus_ui.specs.declared.limits.TheConstants.{CLOCK_LIMIT, GROUPS_PER_SITE_LIMIT, MEMBERS_LIMIT};
@@ -11,7 +11,7 @@ ghost use Rattle.chorus_entry.specs.Kinds.{has_kinds_in_dest};
 ghost use Rattle.chorus_groups.specs.Made.{made_of};
 ghost use Rattle.chorus_calls.specs.Callers.{Seated};
 ghost use Rattle.law_machine.specs.Choosing.{choice};
-ghost use Rattle.place_groups.specs.GroupTurns.{IsPrepared, copies, chosen_go};
+ghost use Rattle.place_groups.specs.GroupTurns.{IsPrepared, IsAskReady, copies, chosen_go};
 ghost use Rattle.chorus_entry.specs.declared.command.Command.TheVariants as Command;
 ghost use Rattle.chorus_world.specs.Groups.{groups_made};
 ghost use Rattle.law_machine.specs.PlaceState.{greatest_clock};
@@ -38,7 +38,7 @@ use std::collections::VecDeque;
 
 /// A choice that is ready: who is chosen, the copy for each, and what is tried at other places then.
 #[derive(Debug, Drop)]
-pub(crate) struct Chosen {
+pub struct Chosen {
     choice: Choice,
     copies: VecDeque<MemberCopy>,
     courses: VecDeque<Course>,
@@ -207,34 +207,48 @@ pub fn post_to_group(
     ask_for(tables, message, &dest, place, caller)
 }
 
-/// Chooses members for a post that the place `from` asks for. An error changes nothing and hands the message back.
-pub fn hear_ask(
+/// Makes all ready for a choice of members for a post that the place `from` asks for. All else stays, whatever the answer.
+pub fn ready_ask(
     tables: &mut Tables,
     from: u16,
-    message: Message,
-    dest: Dest,
-    caller: &mut Caller,
-) -> Result<(), (Message, AllocError)>
-    requires from { has_place tables.old.layout from ≡ true }
-    requires sound { IsSound message }
-    requires clock { greatest_clock (turn tables.old caller.old) < CLOCK_LIMIT }
-    ensures ok { OnOk result (turn tables.new caller.new ≡
-        answers_ask from message dest (turn tables.old caller.old)) }
-    ensures back { IfErr result (λ refused. refused.0 ≡ message) }
-    ensures refused { OnErr result (turn tables.new caller.new ≡ turn tables.old caller.old) }
+    message: &Message,
+    dest: &Dest,
+) -> Result<Chosen, AllocError>
+    requires group { port_in dest.now ≡ None }
+    requires sound { IsSound message.now }
+    ensures turn { (c : Seated) → turn tables.new c ≡ turn tables.old c }
+    ensures ready { IfOk result (λ chosen.
+        IsAskReady from message.now dest.now chosen tables.new) }
     ensures out { StaysOut tables.old.out tables.new.out }
     ensures kept { KeepsRoom tables.old tables.new }
 {
     let Some(group) = dest.group() else {
-        return Ok(());
+        unreachable!()
     };
-    match prepare(tables, &message, &dest, group, from) {
-        Ok(chosen) => {
-            carry_out(tables, message.id, group, from, chosen, caller);
-            Ok(())
-        }
-        Err(error) => Err((message, error)),
-    }
+    prepare(tables, message, dest, group, from)
+}
+
+/// Chooses members for a post that the place `from` asks for, as is ready.
+pub fn open_ask(
+    tables: &mut Tables,
+    from: u16,
+    message: &Message,
+    dest: &Dest,
+    chosen: Chosen,
+    caller: &mut Caller,
+)
+    requires from { has_place tables.old.layout from ≡ true }
+    requires ready { IsAskReady from message.now dest.now chosen tables.old }
+    requires clock { greatest_clock (turn tables.old caller.old) < CLOCK_LIMIT }
+    ensures turn { turn tables.new caller.new ≡
+        answers_ask from message.now dest.now (turn tables.old caller.old) }
+    ensures out { tables.new.out ≡ tables.old.out }
+    ensures kept { KeepsRoom tables.old tables.new }
+{
+    let Some(group) = dest.group() else {
+        unreachable!()
+    };
+    carry_out(tables, message.id, group, from, chosen, caller);
 }
 
 /// Posts a message to a group, and chooses members for it.

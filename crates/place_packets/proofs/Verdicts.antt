@@ -1,36 +1,20 @@
 -- A message hears its verdict.
-use Rattle.std.proofs.Common.{◌≡◌, ℕ, max, ◌+◌, ◌≤◌, ◌==◌, Bool, true, false, not, cond, Result, Ok, Err, OnErr, Option, None, List, [], ◌∷◌, ◌++◌, length, drop, length-append, refl, sym, ◌∙◌, ap, arith}
+use Rattle.std.proofs.Common.{◌≡◌, ℕ, max, ◌+◌, ◌^◌, ◌<◌, ◌≤◌, Result, Ok, Err, IfOk, Option, None, List, [], ◌∷◌, ◌++◌, length, drop, sym, ◌∙◌, ap, arith}
 use Rattle.std.proofs.lemmas.List.{append-nil}
-use Rattle.chorus_ui.specs.declared.ui.Ui.{Ui}
-use Rattle.chorus_ui.specs.declared.layout.Layout.{Layout}
-use Rattle.chorus_ui.specs.Layout.{has_site}
 use Rattle.chorus_entry.specs.declared.id.MsgId.{MsgId}
 use Rattle.chorus_entry.specs.declared.answer.Answer.{Answer}
 use Rattle.chorus_entry.specs.declared.answer.Answer.TheVariants as A
 use Rattle.chorus_world.specs.Places.{taught}
-use Rattle.chorus_world.specs.declared.place.Location.{Location}
 use Rattle.chorus_hints.specs.Known.{newest_of}
 use Rattle.place_unsettled.specs.declared.wait.Key.{Key}
 use Rattle.place_unsettled.specs.declared.wait.Wait.{Wait}
-use Rattle.place_unsettled.specs.Queues.{Queue, changed, with_last}
-use Rattle.law_machine.specs.PlaceState.{Turn, location, newest, greatest_clock, say, unchanged}
-use Rattle.law_machine.specs.Trying.{go}
-use Rattle.law_machine.specs.Doing.{direct, post, does, after_tag}
-use Rattle.law_machine.specs.Own.{own}
-use Rattle.chorus_entry.specs.declared.tag.Tag.{Tag}
-use Rattle.chorus_entry.specs.declared.tag.Tag.TheVariants as tags
-use Rattle.chorus_entry.specs.declared.act.Act.{Act}
-use Rattle.chorus_entry.specs.declared.dest.Dest.{Dest}
-use Rattle.chorus_entry.specs.declared.command.Command.{Command}
-use Rattle.chorus_entry.specs.declared.message.Message.{Message}
-use Rattle.law_machine.specs.declared.reply.Reply.{Reply}
-use Rattle.law_machine.specs.Replies.{reply_to, post_reply}
-use Rattle.place_state.specs.Commands.{Performed}
-use Rattle.chorus_calls.specs.Callers.{after_post}
-use Rattle.law_machine.specs.Working.{hears_verdict, taught_of, told}
-use Rattle.place_state.specs.Going.{first_to, leaving_to, leaving}
-use Rattle.place_packets.specs.Hearing.{settled_by}
-use Rattle.place_state.specs.Steps.{told_by, posted}
+use Rattle.place_unsettled.specs.Queues.{Queue}
+use Rattle.law_machine.specs.PlaceState.{Turn, location, greatest_clock}
+use Rattle.law_machine.specs.Working.{taught_of, told}
+use Rattle.place_state.specs.Tables.{Tables}
+use Rattle.place_state.specs.Going.{leaving_to, leaving, leaving_after, waits_for, reports_for}
+use Rattle.place_packets.specs.Readiness.{settled_by, IsVerdictReady}
+use Rattle.place_state.specs.Steps.{told_by}
 use Rattle.place_state.proofs.Leaving.{leaving-at}
 use Rattle.place_state.proofs.Reports.{at-key}
 
@@ -70,5 +54,9 @@ tell-leaving k x a t u o e h =
     ∙ ap (λ ws. leaving_to t.place.layout t.place.number k.port (location t.place.layout k.port (taught_of k.port (taught a) t.place.known k.port)).to ws)
     (ap (λ (q : Queue). q.waits) (at-key k (told a) t.place.waiting) ∙ told-waits a (t.place.waiting k)))
 
-pub worked : (k : Key) (x : MsgId) (a : Answer) (t s u v : Turn) → s ≡ t → u ≡ told_by x k a s → v ≡ go k u → v ≡ hears_verdict x k a t
-worked k x a t s u v same f g = g ∙ ap (go k) (f ∙ ap (told_by x k a) same)
+-- all is ready, by what was looked for behind the room
+pub verdict-ready : {E : Type 0} (res : Result (Option Wait) E) (k : Key) (a : Answer) (n : ℕ) (p : Tables) → n ≡ settled_by a → IfOk res (λ o. o ≡ leaving_after k a n None p)
+    → length (waits_for k p) < 2 ^ 63 → length (waits_for k p) + 1 ≤ p.journal.spare → reports_for k p + 1 ≤ p.room → IfOk res (λ o. IsVerdictReady k a o p)
+verdict-ready (Ok o) k a n p is leaves few spare room =
+    record { leaves = leaves ∙ ap (λ m. leaving_after k a m None p) is; few = few; spare = spare; room = room }
+verdict-ready (Err x) k a n p is leaves few spare room = tt

@@ -1,2 +1,2 @@
-pub mod Hearing
 pub mod Opening
+pub mod Readiness
