@@ -26,7 +26,7 @@ use Rattle.checker_ledger.specs.Groups.{GroupRow, joined_here}
 use Rattle.checker_rows.proofs.KeyLemmas.{ui_sym}
 use Rattle.checker_ledger.specs.Ties.{grows}
 use Rattle.checker_rows.specs.declared.keys.NameAt.{NameAt}
-use Rattle.checker_rows.specs.declared.keys.Line.{Line}
+use Rattle.checker_rows.specs.declared.keys.LineKey.{LineKey}
 use Rattle.checker_ledger.specs.declared.tables.Growing.{Growing}
 use Rattle.checker_ledger.specs.declared.tables.Growing.TheVariants.{Ports, Groups, Asks, Lines}
 
@@ -88,7 +88,7 @@ nothing : (b : Bool) → (let xs : List MsgId = cond b [] [] in xs) ≡ []
 nothing true = refl
 nothing false = refl
 
-pub lines_stay : (e : Entry) (k : Line) (xs : List MsgId) → is_lines (grows e.act) ≡ false → xs ≡ xs ++ sent_by_line e.place k (sent_by e.act)
+pub lines_stay : (e : Entry) (k : LineKey) (xs : List MsgId) → is_lines (grows e.act) ≡ false → xs ≡ xs ++ sent_by_line e.place k (sent_by e.act)
 lines_stay e k xs h = sym (ap (λ ms. xs ++ sent_by_line e.place k ms) (no_send e.act h) ∙ (ap (λ ys. xs ++ ys) (nothing (e.place == k.place)) ∙ append-nil xs))
 
 no_ids : (b : Bool) (o : Option Ui) → cond b (direct o []) [] ≡ []
@@ -96,7 +96,7 @@ no_ids true None = refl
 no_ids true (Some g) = refl
 no_ids false o = refl
 
-pub asks_stay : (e : Entry) (k : Line) (xs : List MsgId) → is_asks (grows e.act) ≡ false → xs ≡ xs ++ asked_by k e
+pub asks_stay : (e : Entry) (k : LineKey) (xs : List MsgId) → is_asks (grows e.act) ≡ false → xs ≡ xs ++ asked_by k e
 asks_stay e k xs h =
     sym (ap (λ ms. xs ++ cond (e.place == k.place) (direct k.route ms) []) (no_ask k.name e.act h) ∙ (ap (λ ys. xs ++ ys) (no_ids (e.place == k.place) k.route) ∙ append-nil xs))
 
@@ -109,7 +109,7 @@ put_case true false None xs x = sym (append-nil xs)
 put_case true false (Some r) xs x = sym (append-nil xs)
 put_case false b o xs x = sym (append-nil xs)
 
-pub ask_put : (e : Entry) (m : Message) (d : Dest) (g : Ui) (j k : Line) (xs ys : List MsgId)
+pub ask_put : (e : Entry) (m : Message) (d : Dest) (g : Ui) (j k : LineKey) (xs ys : List MsgId)
     → e.act ≡ Post m d → group_in d ≡ Some g → j ≡ record { place = e.place; name = g; route = None }
     → ys ≡ cond (same_line j k) (xs ++ m.id ∷ []) xs → ys ≡ xs ++ asked_by k e
 ask_put e m d g j k xs ys act to key put =

@@ -30,7 +30,7 @@ use Rattle.chorus_world.proofs.Messages.SentFacts.{EachSent, IsFound, all-found,
 use Rattle.chorus_world.proofs.Messages.SentLemmas.{find_sent_append}
 use Rattle.checker_rows.specs.Lines.{goes_by, ids_by, is_pending, line_row}
 use Rattle.checker_rows.specs.Messages.{is_away, is_from, is_over, sending, sending_at, sending_by, sent_from}
-use Rattle.checker_rows.specs.declared.keys.Line.{Line}
+use Rattle.checker_rows.specs.declared.keys.LineKey.{LineKey}
 use Rattle.checker_rows.specs.declared.sending.Sending.{Sending}
 use Rattle.checker_rows.proofs.OpenLines.{first_is, open_at, same_first}
 
@@ -267,15 +267,15 @@ tried_is l past x p legal h = by (sent_as x p past) refl h
 
 -- The first pending message of a line is the first that is not settled at its place.
 
-pending_case : (k : Line) (test : MsgId → Bool) (other : MsgId → Bool) (m : Sent) (ms : List Sent) (b : Bool) → test m.id ≡ other m.id → find test (ids_by k ms) ≡ find other (ids_by k ms) → find test (cond b (m.id ∷ ids_by k ms) (ids_by k ms)) ≡ find other (cond b (m.id ∷ ids_by k ms) (ids_by k ms))
+pending_case : (k : LineKey) (test : MsgId → Bool) (other : MsgId → Bool) (m : Sent) (ms : List Sent) (b : Bool) → test m.id ≡ other m.id → find test (ids_by k ms) ≡ find other (ids_by k ms) → find test (cond b (m.id ∷ ids_by k ms) (ids_by k ms)) ≡ find other (cond b (m.id ∷ ids_by k ms) (ids_by k ms))
 pending_case k test other m ms true e h = (λ i. cond (e i) (Some m.id) (h i))
 pending_case k test other m ms false e h = h
 
-pending_same : (k : Line) (test other : MsgId → Bool) (ms : List Sent) → EachSent (λ m. test m.id ≡ other m.id) ms → find test (ids_by k ms) ≡ find other (ids_by k ms)
+pending_same : (k : LineKey) (test other : MsgId → Bool) (ms : List Sent) → EachSent (λ m. test m.id ≡ other m.id) ms → find test (ids_by k ms) ≡ find other (ids_by k ms)
 pending_same k test other [] h = refl
 pending_same k test other (m ∷ ms) h = pending_case k test other m ms (goes_by k m) h.0 (pending_same k test other ms h.1)
 
-pub line_first : (l : Layout) (past : List Entry) (k : Line) (xs : List MsgId) → is_legal l past ≡ true → filter (is_pending past) xs ≡ filter (is_pending past) (line_row past k) → find (is_pending past) xs ≡ first_for k.name k.route (unsettled (at k.place past) (sent (at k.place past)))
+pub line_first : (l : Layout) (past : List Entry) (k : LineKey) (xs : List MsgId) → is_legal l past ≡ true → filter (is_pending past) xs ≡ filter (is_pending past) (line_row past k) → find (is_pending past) xs ≡ first_for k.name k.route (unsettled (at k.place past) (sent (at k.place past)))
 line_first l past k xs legal h =
     let here = at k.place past in
     let each = each-map (IsFound (sent here)) (λ m. is_pending past m.id ≡ open_at here m.id) (λ m f. ap not (marks_of l past m.id k.place m legal f).0) (sent here) (all-found l past k.place legal) in

@@ -30,8 +30,8 @@ use Rattle.checker_rows.specs.Seats.{HasTag, no_seat, seat_in, seat_after}
 use Rattle.checker_ledger.specs.Groups.{group_in, group_after}
 use Rattle.checker_rows.specs.Clients.{kept_in, kept_by, clients_in, clients_by}
 use Rattle.checker_ledger.specs.Ties.{IsAskedOf, Follows, HasFew, HasRoom, HasSameRows, ListsAfter, RowsAfter, sent_told, tag_in, tag_by, act_tag}
-use Rattle.checker_rows.specs.declared.keys.Line.{Line}
-use Rattle.checker_rows.specs.declared.lines.End.TheVariants.{Settled, Chosen}
+use Rattle.checker_rows.specs.declared.keys.LineKey.{LineKey}
+use Rattle.checker_rows.specs.declared.message_lines.End.TheVariants.{Settled, Chosen}
 use Rattle.checker_ledger.specs.declared.tables.Tables.{Tables}
 use Rattle.checker_rows.proofs.KeyLemmas.{from_same_line}
 use Rattle.checker_rows.proofs.MessageLemmas.{message_grows}
@@ -62,7 +62,7 @@ unchosen_before past e x h = go (chooses x e.act) (is_chosen x past) h
     go true c g = absurd (false≢true g)
     go false c g = g
 
-asked_grows : (past : List Entry) (e : Entry) (k : Line) (xs : List MsgId) → IsAskedOf past k xs → IsAskedOf (e ∷ past) k (xs ++ asked_by k e)
+asked_grows : (past : List Entry) (e : Entry) (k : LineKey) (xs : List MsgId) → IsAskedOf past k xs → IsAskedOf (e ∷ past) k (xs ++ asked_by k e)
 asked_grows past e k xs h =
     let now = is_unchosen (e ∷ past) in
     longer now xs (asked_row past k) (asked_by k e) (narrower (is_unchosen past) now xs (asked_row past k) (λ x. unchosen_before past e x) h)
@@ -161,7 +161,7 @@ pub chosen_open : (l : Layout) (past : List Entry) (t : Tables) → Follows l pa
 chosen_open l past t f i x = not ((f.messages x) i).chosen
 
 -- the lists in which those of one key alone changed, and the same pass the test there
-shorter : (test : MsgId → Bool) (row : Line → List MsgId) (j : Line) (old new : Line → List MsgId) → ((k : Line) → filter test (old k) ≡ filter test (row k)) → OpensSame test (old j) (new j) → OthersStay j old new → (k : Line) → filter test (new k) ≡ filter test (row k)
+shorter : (test : MsgId → Bool) (row : LineKey → List MsgId) (j : LineKey) (old new : LineKey → List MsgId) → ((k : LineKey) → filter test (old k) ≡ filter test (row k)) → OpensSame test (old j) (new j) → OthersStay j old new → (k : LineKey) → filter test (new k) ≡ filter test (row k)
 shorter test row j old new f own others k = go (same_line j k) refl
   where
     go : (b : Bool) → same_line j k ≡ b → filter test (new k) ≡ filter test (row k)
@@ -175,7 +175,7 @@ with_lines s t = record s { lines = t.lines }
 abbrev pub with_asks : Tables → Tables → Tables
 with_asks s t = record s { asks = t.asks }
 
-pub lines_shorter : (l : Layout) (past : List Entry) (j : Line) (s t : Tables) → Follows l past s → OpensSame (is_open s.messages Settled) (line_in s.lines j) (line_in t.lines j) → OthersStay j (line_in s.lines) (line_in t.lines) → Follows l past (with_lines s t)
+pub lines_shorter : (l : Layout) (past : List Entry) (j : LineKey) (s t : Tables) → Follows l past s → OpensSame (is_open s.messages Settled) (line_in s.lines j) (line_in t.lines j) → OthersStay j (line_in s.lines) (line_in t.lines) → Follows l past (with_lines s t)
 lines_shorter l past j s t f own others =
     record {
       ports = f.ports;
@@ -193,7 +193,7 @@ lines_shorter l past j s t f own others =
     here : OpensSame (is_pending past) (line_in s.lines j) (line_in t.lines j)
     here = subst (λ test. OpensSame test (line_in s.lines j) (line_in t.lines j)) (settled_open l past s f) own
 
-pub asks_shorter : (l : Layout) (past : List Entry) (j : Line) (s t : Tables) → Follows l past s → OpensSame (is_open s.messages Chosen) (line_in s.asks j) (line_in t.asks j) → OthersStay j (line_in s.asks) (line_in t.asks) → Follows l past (with_asks s t)
+pub asks_shorter : (l : Layout) (past : List Entry) (j : LineKey) (s t : Tables) → Follows l past s → OpensSame (is_open s.messages Chosen) (line_in s.asks j) (line_in t.asks j) → OthersStay j (line_in s.asks) (line_in t.asks) → Follows l past (with_asks s t)
 asks_shorter l past j s t f own others =
     record {
       ports = f.ports;

@@ -9,7 +9,7 @@ use Rattle.chorus_entry.specs.declared.entry.Entry.{Entry}
 use Rattle.chorus_entry.specs.declared.id.MsgId.{MsgId}
 use Rattle.chorus_entry.specs.declared.act.Act.{Act}
 use Rattle.chorus_entry.specs.declared.act.Act.TheVariants.{Make, Take}
-use Rattle.chorus_world.specs.declared.port.Spot.{Spot}
+use Rattle.chorus_world.specs.declared.spot.Spot.{Spot}
 use Rattle.chorus_world.specs.Views.{is_on}
 use Rattle.chorus_world.specs.Ports.{PortState, changed, fate_after}
 use Rattle.checker_rows.specs.Keys.{same_port}

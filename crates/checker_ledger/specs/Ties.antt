@@ -33,22 +33,22 @@ use Rattle.checker_ledger.specs.Groups.{group_in, group_row, GroupsJoined, Group
 use Rattle.checker_rows.specs.Clients.{kept_in, kept_row, KeptAfter, clients_in, clients_row, ClientsAfter}
 use Rattle.checker_rows.specs.declared.posting.Posting.{Posting}
 use Rattle.checker_rows.specs.declared.keys.NameAt.{NameAt}
-use Rattle.checker_rows.specs.declared.keys.Line.{Line}
+use Rattle.checker_rows.specs.declared.keys.LineKey.{LineKey}
 use Rattle.checker_ledger.specs.declared.tables.Tables.{Tables}
 
 -- of the lists, the same messages are not settled where they were sent from, and the same posts are not chosen for
-abbrev pub IsLineOf : List Entry → Line → List MsgId → Type 0
+abbrev pub IsLineOf : List Entry → LineKey → List MsgId → Type 0
 IsLineOf past k xs = filter (is_pending past) xs ≡ filter (is_pending past) (line_row past k)
 
-abbrev pub IsAskedOf : List Entry → Line → List MsgId → Type 0
+abbrev pub IsAskedOf : List Entry → LineKey → List MsgId → Type 0
 IsAskedOf past k xs = filter (is_unchosen past) xs ≡ filter (is_unchosen past) (asked_row past k)
 
 -- the tables have, at each key, what the past says
 pub record Follows (l : Layout) (past : List Entry) (t : Tables) : Type 0 where
   pub ports : (q : Ui) → fate_in t.ports q ≡ fate (on q past)
   pub messages : (x : MsgId) → message_in t.messages x ≡ message_row past x
-  pub lines : (k : Line) → IsLineOf past k (line_in t.lines k)
-  pub asks : (k : Line) → IsAskedOf past k (line_in t.asks k)
+  pub lines : (k : LineKey) → IsLineOf past k (line_in t.lines k)
+  pub asks : (k : LineKey) → IsAskedOf past k (line_in t.asks k)
   pub locations : (k : NameAt) → location_in l t.locations k ≡ location_row l past k
   pub places : (p : ℕ) → place_in t.places p ≡ place_row past p
   pub seats : (s : ℕ) → seat_in t.seats s ≡ seat_row past s
@@ -64,8 +64,8 @@ IsLedger l entries t = (is_legal l (reverse entries) ≡ true) × Follows l (rev
 pub record HasSameRows (s t : Tables) : Type 0 where
   pub ports : (q : Ui) → fate_in t.ports q ≡ fate_in s.ports q
   pub messages : (x : MsgId) → get same_id t.messages x ≡ get same_id s.messages x
-  pub lines : (k : Line) → line_in t.lines k ≡ line_in s.lines k
-  pub asks : (k : Line) → line_in t.asks k ≡ line_in s.asks k
+  pub lines : (k : LineKey) → line_in t.lines k ≡ line_in s.lines k
+  pub asks : (k : LineKey) → line_in t.asks k ≡ line_in s.asks k
   pub locations : (k : NameAt) → get same_name_at t.locations k ≡ get same_name_at s.locations k
   pub places : (p : ℕ) → get nat_eq t.places p ≡ get nat_eq s.places p
   pub seats : (x : ℕ) → get nat_eq t.seats x ≡ get nat_eq s.seats x
@@ -125,7 +125,7 @@ pub record ListsAfter (e : Entry) (s t : Tables) : Type 0 where
   pub ports : PortsAfter e (fate_in s.ports) (fate_in t.ports)
   pub groups : GroupsJoined e (group_in s.groups) (group_in t.groups)
   pub lines : ArePut e.place (sent_by e.act) (line_in s.lines) (line_in t.lines)
-  pub asks : (k : Line) → line_in t.asks k ≡ line_in s.asks k ++ asked_by k e
+  pub asks : (k : LineKey) → line_in t.asks k ≡ line_in s.asks k ++ asked_by k e
   pub messages : t.messages ≡ s.messages
   pub locations : t.locations ≡ s.locations
   pub places : t.places ≡ s.places

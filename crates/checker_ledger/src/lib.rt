@@ -9,12 +9,12 @@
 //! That they say what the entries say is one equation for each key of each table (`specs/Ties.antt`).
 #![tactic(auto)]
 
-mod fate;
 mod groups;
 mod ledger;
+mod port_state;
 mod ports;
 mod tables;
 
-pub use fate::PortState;
 pub use ledger::Ledger;
+pub use port_state::PortState;
 pub use tables::choosing_place;

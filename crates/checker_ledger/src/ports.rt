@@ -4,7 +4,7 @@ ghost use Rattle.std.specs.Prelude.{◌≡◌, OnOk, OnErr};
 ghost use Rattle.std.specs.Option.{option_copied};
 ghost use Rattle.checker_ledger.specs.Ports.{fate_in, MakeFits, TakesFit, ChangeFits, IsSet, IsChanged, PortsAfter, PortsStay};
 
-use crate::fate::PortState;
+use crate::port_state::PortState;
 use checker_rows::keys::PortKey;
 use chorus_entry::{Act, Entry};
 use chorus_ui::Ui;

@@ -6,19 +6,19 @@ ghost use Rattle.chorus_ui.specs.declared.layout.Layout.{Layout};
 ghost use Rattle.chorus_ui.specs.Layout.{group_place};
 ghost use Rattle.chorus_entry.specs.declared.entry.Entry.{Entry};
 ghost use Rattle.chorus_world.specs.Posts.{source};
-ghost use Rattle.checker_rows.specs.declared.keys.Line.{Line};
+ghost use Rattle.checker_rows.specs.declared.keys.LineKey.{LineKey};
 ghost use Rattle.checker_rows.specs.Lines.{line_in, AreSame};
 ghost use Rattle.checker_ledger.specs.Asks.{asked_by};
 ghost use Rattle.checker_ledger.specs.Ports.{fate_in, MakeFits, TakesFit};
 ghost use Rattle.checker_ledger.specs.Ties.{Follows, HasSameRows, HasRoom, HasFew, ListsAfter, RowsAfter, StillFollow, sent_told, tag_by, act_tag, grows};
 
-use crate::fate::PortState;
 use crate::groups::{Group, follow_groups, join_group};
+use crate::port_state::PortState;
 use crate::ports::follow_ports;
 use checker_rows::clients::{follow_clients, follow_kept};
-use checker_rows::keys::{ClientOf, Line, NameAt, PortKey};
-use checker_rows::lines::{End, follow_lines, push, shorten_line};
+use checker_rows::keys::{ClientOf, LineKey, NameAt, PortKey};
 use checker_rows::locations::follow_locations;
+use checker_rows::message_lines::{End, follow_lines, push, shorten_line};
 use checker_rows::messages::{MessageRow, follow_messages, post_in, sent_in};
 use checker_rows::places::{PlaceRow, follow_places};
 use checker_rows::seats::{SeatRow, follow_seats};
@@ -36,9 +36,9 @@ pub(crate) struct Tables {
     /// Each message, wherever it is.
     pub messages: HashMap<MsgId, MessageRow>,
     /// What was sent from each place in order, by port and route.
-    pub lines: HashMap<Line, VecDeque<MsgId>>,
+    pub lines: HashMap<LineKey, VecDeque<MsgId>>,
     /// The posts to each group in order, by the place where they were made.
-    pub asks: HashMap<Line, VecDeque<MsgId>>,
+    pub asks: HashMap<LineKey, VecDeque<MsgId>>,
     /// Where each place locates each port.
     pub locations: HashMap<NameAt, Location>,
     /// Each place.
@@ -78,10 +78,10 @@ fn grows(act: &Act) -> Growing
 }
 
 /// The line of what was sent.
-fn sent_line(place: u16, sent: &Sent) -> Line
+fn sent_line(place: u16, sent: &Sent) -> LineKey
     ensures { result ≡ record { place = place; name = sent.now.port; route = sent.now.route } }
 {
-    Line {
+    LineKey {
         place,
         name: sent.port,
         route: sent.route,
@@ -89,10 +89,10 @@ fn sent_line(place: u16, sent: &Sent) -> Line
 }
 
 /// The line of the posts to a group that are made at the place.
-pub(crate) fn asked_line(place: u16, group: Ui) -> Line
+pub(crate) fn asked_line(place: u16, group: Ui) -> LineKey
     ensures { result ≡ record { place = place; name = group; route = None } }
 {
-    Line {
+    LineKey {
         place,
         name: group,
         route: None,
@@ -123,11 +123,11 @@ pub(crate) fn source(id: MsgId) -> MsgId
 
 /// Puts the entry's post to a group last in its line. An error leaves the lines as they were.
 fn follow_asks(
-    asks: &mut HashMap<Line, VecDeque<MsgId>>,
+    asks: &mut HashMap<LineKey, VecDeque<MsgId>>,
     alloc: Global,
     entry: &Entry,
 ) -> Result<(), AllocError>
-    ensures ok { OnOk result ((k : Line) →
+    ensures ok { OnOk result ((k : LineKey) →
         line_in asks.new k ≡ line_in asks.old k ++ asked_by k entry.now) }
     ensures err { OnErr result (AreSame (line_in asks.old) (line_in asks.new)) }
 {

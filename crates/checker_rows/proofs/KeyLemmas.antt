@@ -7,7 +7,7 @@ use Rattle.chorus_ui.specs.Name.{same_ui}
 use Rattle.chorus_ui.proofs.Names.{from_same_ui, same_ui-self}
 use Rattle.checker_rows.specs.Keys.{same_name_at, same_line}
 use Rattle.checker_rows.specs.declared.keys.NameAt.{NameAt}
-use Rattle.checker_rows.specs.declared.keys.Line.{Line}
+use Rattle.checker_rows.specs.declared.keys.LineKey.{LineKey}
 
 -- the order does not matter
 pub ui_sym : (u v : Ui) → same_ui u v ≡ same_ui v u
@@ -21,7 +21,7 @@ ui_sym u v = go (same_ui u v) (same_ui v u) refl refl
 name_at : (p q : ℕ) (x y : Ui) → p ≡ q → x ≡ y → (let k : NameAt = record { place = p; name = x } in k) ≡ record { place = q; name = y }
 name_at p q x y a b = cc
 
-line : (p q : ℕ) (x y : Ui) (r s : Option Ui) → p ≡ q → x ≡ y → r ≡ s → (let k : Line = record { place = p; name = x; route = r } in k) ≡ record { place = q; name = y; route = s }
+line : (p q : ℕ) (x y : Ui) (r s : Option Ui) → p ≡ q → x ≡ y → r ≡ s → (let k : LineKey = record { place = p; name = x; route = r } in k) ≡ record { place = q; name = y; route = s }
 line p q x y r s a b c = cc
 
 pub from_same_name_at : (k l : NameAt) → same_name_at k l ≡ true → k ≡ l
@@ -35,7 +35,7 @@ from_route None (Some b) h = absurd (false≢true h)
 from_route (Some a) None h = absurd (false≢true h)
 from_route (Some a) (Some b) h = ap Some (from_same_ui a b h)
 
-pub from_same_line : (k l : Line) → same_line k l ≡ true → k ≡ l
+pub from_same_line : (k l : LineKey) → same_line k l ≡ true → k ≡ l
 from_same_line k l h =
     let two = and_parts (k.place == l.place) (same_ui k.name l.name && option_eq same_ui k.route l.route) h in
     let one = and_parts (same_ui k.name l.name) (option_eq same_ui k.route l.route) two.1 in

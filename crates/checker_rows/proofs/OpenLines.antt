@@ -16,7 +16,7 @@ use Rattle.checker_rows.specs.Lines.{goes_by, ids_by, line_row, sent_by_line, bu
 use Rattle.checker_rows.specs.Messages.{is_from, is_over, sending}
 use Rattle.checker_rows.specs.Keys.{same_line}
 use Rattle.chorus_world.proofs.Messages.SentLemmas.{copy, copies_push}
-use Rattle.checker_rows.specs.declared.keys.Line.{Line}
+use Rattle.checker_rows.specs.declared.keys.LineKey.{LineKey}
 
 module _ {A : Type 0} where
   -- the first that passes is the first of those that pass
@@ -51,11 +51,11 @@ module _ {A : Type 0} where
   pub longer : (t : A → Bool) (xs ys zs : List A) → filter t xs ≡ filter t ys → filter t (xs ++ zs) ≡ filter t (ys ++ zs)
   longer t xs ys zs e = filter-append t xs zs ∙ (ap (λ ws. ws ++ filter t zs) e ∙ sym (filter-append t ys zs))
 
-ids_case : (k : Line) (m : Sent) (ms ns : List Sent) (b : Bool) → ids_by k (ms ++ ns) ≡ ids_by k ms ++ ids_by k ns → cond b (m.id ∷ ids_by k (ms ++ ns)) (ids_by k (ms ++ ns)) ≡ cond b (m.id ∷ ids_by k ms) (ids_by k ms) ++ ids_by k ns
+ids_case : (k : LineKey) (m : Sent) (ms ns : List Sent) (b : Bool) → ids_by k (ms ++ ns) ≡ ids_by k ms ++ ids_by k ns → cond b (m.id ∷ ids_by k (ms ++ ns)) (ids_by k (ms ++ ns)) ≡ cond b (m.id ∷ ids_by k ms) (ids_by k ms) ++ ids_by k ns
 ids_case k m ms ns true h = ap (λ xs. m.id ∷ xs) h
 ids_case k m ms ns false h = h
 
-pub ids_append : (k : Line) (ms ns : List Sent) → ids_by k (ms ++ ns) ≡ ids_by k ms ++ ids_by k ns
+pub ids_append : (k : LineKey) (ms ns : List Sent) → ids_by k (ms ++ ns) ≡ ids_by k ms ++ ids_by k ns
 ids_append k [] ns = refl
 ids_append k (m ∷ ms) ns = ids_case k m ms ns (goes_by k m) (ids_append k ms ns)
 
@@ -63,7 +63,7 @@ ids_append k (m ∷ ms) ns = ids_case k m ms ns (goes_by k m) (ids_append k ms n
 abbrev pub open_at : List Entry → MsgId → Bool
 open_at here x = not (is_settled x here)
 
-first_line : (k : Line) (here : List Entry) (m : Sent) (ms : List Sent) (b c : Bool) → first_for k.name k.route (unsettled here ms) ≡ find (open_at here) (ids_by k ms)
+first_line : (k : LineKey) (here : List Entry) (m : Sent) (ms : List Sent) (b c : Bool) → first_for k.name k.route (unsettled here ms) ≡ find (open_at here) (ids_by k ms)
     → goes_by k m ≡ c → open_at here m.id ≡ b
     → first_for k.name k.route (cond b (m ∷ unsettled here ms) (unsettled here ms)) ≡ find (open_at here) (cond c (m.id ∷ ids_by k ms) (ids_by k ms))
 first_line k here m ms true true h e f =
@@ -73,12 +73,12 @@ first_line k here m ms false true h e f = h ∙ sym (ap (λ d. cond d (Some m.id
 first_line k here m ms false false h e f = h
 
 -- the first unsettled message of a port and route is the first open one of its line
-pub first_is : (k : Line) (here : List Entry) (ms : List Sent) → first_for k.name k.route (unsettled here ms) ≡ find (open_at here) (ids_by k ms)
+pub first_is : (k : LineKey) (here : List Entry) (ms : List Sent) → first_for k.name k.route (unsettled here ms) ≡ find (open_at here) (ids_by k ms)
 first_is k here [] = refl
 first_is k here (m ∷ ms) = first_line k here m ms (open_at here m.id) (goes_by k m) (first_is k here ms) refl refl
 
 -- The tie of a line to the past.
-abbrev pub IsLine : List Entry → Line → List MsgId → Type 0
+abbrev pub IsLine : List Entry → LineKey → List MsgId → Type 0
 IsLine past k xs = filter (is_pending past) xs ≡ filter (is_pending past) (line_row past k)
 
 -- lists that agree under a test have the same first one that passes it
@@ -92,12 +92,12 @@ pending_before past e x h = by (is_from e.place (sending x past) && settles x e.
     by true c g = absurd (false≢true g)
     by false c g = g
 
-row_case : (k : Line) (e : Entry) (here : List Entry) (b : Bool) → ids_by k (sent (cond b (e ∷ here) here)) ≡ ids_by k (sent here) ++ cond b (ids_by k (sent_by e.act)) []
+row_case : (k : LineKey) (e : Entry) (here : List Entry) (b : Bool) → ids_by k (sent (cond b (e ∷ here) here)) ≡ ids_by k (sent here) ++ cond b (ids_by k (sent_by e.act)) []
 row_case k e here true = ids_append k (sent here) (sent_by e.act)
 row_case k e here false = sym (append-nil (ids_by k (sent here)))
 
 -- an entry puts what it sends behind the line
-pub line_grows : (past : List Entry) (e : Entry) (k : Line) (xs : List MsgId) → IsLine past k xs → IsLine (e ∷ past) k (xs ++ cond (e.place == k.place) (ids_by k (sent_by e.act)) [])
+pub line_grows : (past : List Entry) (e : Entry) (k : LineKey) (xs : List MsgId) → IsLine past k xs → IsLine (e ∷ past) k (xs ++ cond (e.place == k.place) (ids_by k (sent_by e.act)) [])
 line_grows past e k xs h =
     let here = at k.place past in
     let now = is_pending (e ∷ past) in
@@ -119,7 +119,7 @@ one_case true false xs x = sym (append-nil xs)
 one_case false b xs x = sym (append-nil xs)
 
 -- one message more in its line
-pub one_more : (p : ℕ) (q : Ui) (r : Option Ui) (m : Sent) (k : Line) (xs ys : List MsgId) → m.port ≡ q → m.route ≡ r
+pub one_more : (p : ℕ) (q : Ui) (r : Option Ui) (m : Sent) (k : LineKey) (xs ys : List MsgId) → m.port ≡ q → m.route ≡ r
     → ys ≡ cond (same_line (record { place = p; name = q; route = r }) k) (xs ++ m.id ∷ []) xs → ys ≡ xs ++ sent_by_line p k (m ∷ [])
 one_more p q r m k xs ys a b h =
     h
@@ -132,7 +132,7 @@ line_case : (b : Bool) (xs ys : List MsgId) → cond b (xs ++ ys) [] ≡ cond b 
 line_case true xs ys = refl
 line_case false xs ys = refl
 
-pub by_line_append : (p : ℕ) (k : Line) (ms ns : List Sent) → sent_by_line p k (ms ++ ns) ≡ sent_by_line p k ms ++ sent_by_line p k ns
+pub by_line_append : (p : ℕ) (k : LineKey) (ms ns : List Sent) → sent_by_line p k (ms ++ ns) ≡ sent_by_line p k ms ++ sent_by_line p k ns
 by_line_append p k ms ns =
     ap (λ xs. cond (p == k.place) xs []) (ids_append k ms ns) ∙ line_case (p == k.place) (ids_by k ms) (ids_by k ns)
 
@@ -145,7 +145,7 @@ copies_next x g qs i q lt at =
     ∙ ap (λ u. copies x g 1 (take i qs) ++ copy x g (i + 1) u ∷ []) (sym at)))
 
 -- the copy for one member more in its line
-pub copy_more : (p : ℕ) (k : Line) (x y : MsgId) (g : Ui) (qs : List Ui) (i : ℕ) (q : Ui) (l : Line) (b xs ys : List MsgId)
+pub copy_more : (p : ℕ) (k : LineKey) (x y : MsgId) (g : Ui) (qs : List Ui) (i : ℕ) (q : Ui) (l : LineKey) (b xs ys : List MsgId)
     → i < length qs → q ≡ get_or qs i q → y ≡ record x { copy = i + 1 } → l ≡ record { place = p; name = q; route = Some g }
     → xs ≡ b ++ sent_by_line p k (copies x g 1 (take i qs)) → ys ≡ cond (same_line l k) (xs ++ y ∷ []) xs
     → ys ≡ b ++ sent_by_line p k (copies x g 1 (take (i + 1) qs))
@@ -172,7 +172,7 @@ back_case true true b zs x xs h = ap but_last (h ∙ sym (append_assoc b zs (x �
 back_case true false b zs x xs h = h ∙ ap (λ ws. b ++ ws) (append-nil zs)
 back_case false c b zs x xs h = h ∙ ap (λ ws. b ++ ws) (append-nil zs)
 
-pub copy_back : (p : ℕ) (k : Line) (x : MsgId) (g : Ui) (qs : List Ui) (i : ℕ) (q : Ui) (l : Line) (b xs ys : List MsgId)
+pub copy_back : (p : ℕ) (k : LineKey) (x : MsgId) (g : Ui) (qs : List Ui) (i : ℕ) (q : Ui) (l : LineKey) (b xs ys : List MsgId)
     → i < length qs → q ≡ get_or qs i q → l ≡ record { place = p; name = q; route = Some g }
     → xs ≡ b ++ sent_by_line p k (copies x g 1 (take (i + 1) qs)) → ys ≡ cond (same_line l k) (but_last xs) xs
     → ys ≡ b ++ sent_by_line p k (copies x g 1 (take i qs))
@@ -189,7 +189,7 @@ cond_same : (b : Bool) → (let xs : List MsgId = cond b [] [] in xs) ≡ []
 cond_same true = refl
 cond_same false = refl
 
-pub all_back : (p : ℕ) (k : Line) (x : MsgId) (g : Ui) (qs : List Ui) (i : ℕ) (b xs : List MsgId) → i ≤ 0 → xs ≡ b ++ sent_by_line p k (copies x g 1 (take i qs)) → xs ≡ b
+pub all_back : (p : ℕ) (k : LineKey) (x : MsgId) (g : Ui) (qs : List Ui) (i : ℕ) (b xs : List MsgId) → i ≤ 0 → xs ≡ b ++ sent_by_line p k (copies x g 1 (take i qs)) → xs ≡ b
 all_back p k x g qs i b xs le h =
     let z : i ≡ 0 = omega arith in
     h ∙ (ap (λ j. b ++ sent_by_line p k (copies x g 1 (take j qs))) z ∙ (ap (λ ys. b ++ ys) (cond_same (p == k.place)) ∙ append-nil b))

@@ -7,7 +7,7 @@ use Rattle.chorus_entry.specs.declared.id.MsgId.{MsgId}
 use Rattle.chorus_entry.specs.declared.act.Act.{Act}
 use Rattle.chorus_entry.specs.declared.act.Act.TheVariants.{Post, NoMember, Choose}
 use Rattle.chorus_entry.specs.MsgId.{same_id}
-use Rattle.chorus_world.specs.declared.message.Progress.TheVariants.{Idle}
+use Rattle.chorus_world.specs.declared.progress.Progress.TheVariants.{Idle}
 use Rattle.chorus_world.specs.declared.place.Sent.{Sent}
 use Rattle.chorus_world.specs.Views.{by, about, is_about}
 use Rattle.chorus_world.specs.Messages.{progress_after, progress, verdict_by, verdict}

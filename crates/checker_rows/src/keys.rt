@@ -26,7 +26,7 @@ pub struct NameAt {
 
 /// What goes from a place to a port by one route: directly, or by a group.
 #[derive(Clone, Copy, Debug, PartialEq, Eq)]
-pub struct Line {
+pub struct LineKey {
     /// The place that it goes from.
     pub place: u16,
     /// The port; of posts to a group, the group.
@@ -103,7 +103,7 @@ impl Hash for NameAt {
     }
 }
 
-impl Hash for Line {
+impl Hash for LineKey {
     ghost hash_input = { λ k. fed.u16 k.place ++ fed.u16 k.name.site ++ fed.u64 k.name.number };
 
     ghost respects_eq = { Prim.search (hashing, rules) };

@@ -11,8 +11,8 @@
 pub mod clients;
 pub mod keep;
 pub mod keys;
-pub mod lines;
 pub mod locations;
+pub mod message_lines;
 pub mod messages;
 pub mod places;
 pub mod posting;

@@ -7,9 +7,9 @@ use Rattle.chorus_entry.specs.declared.message.Message.{Message}
 use Rattle.chorus_entry.specs.declared.dest.Dest.{Dest}
 use Rattle.chorus_entry.specs.declared.act.Act.{Act}
 use Rattle.chorus_entry.specs.declared.act.Act.TheVariants.{Post, NoMember, GroupMake}
-use Rattle.chorus_world.specs.declared.message.Progress.{Progress}
+use Rattle.chorus_world.specs.declared.progress.Progress.{Progress}
 use Rattle.chorus_world.specs.declared.place.Location.{Location}
-use Rattle.chorus_world.specs.declared.step.Due.{Due}
+use Rattle.chorus_world.specs.declared.due.Due.{Due}
 use Rattle.chorus_world.specs.Views.{Views, at, by, views, views_about}
 use Rattle.chorus_entry.specs.Same.{are_same}
 use Rattle.chorus_world.specs.Places.{located}

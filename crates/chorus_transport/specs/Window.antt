@@ -1,6 +1,6 @@
 -- How wide a window may be.
 use Rattle.std.specs.Prelude.{ℕ, ◌≤◌}
-use Rattle.chorus_transport.specs.declared.window.TheConstants.{WIDEST}
+use Rattle.chorus_transport.specs.declared.window_limit.TheConstants.{WIDEST}
 
 -- from one chunk to the widest
 abbrev pub IsWindow : ℕ → Type 0

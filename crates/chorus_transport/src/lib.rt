@@ -13,10 +13,10 @@
 
 mod chunk;
 mod line;
-mod places;
 mod receiver;
 mod sender;
-mod window;
+mod window_limit;
+mod window_slots;
 
 pub use chunk::Chunk;
 pub use line::line_delivers_prefix;

@@ -4,8 +4,8 @@ ghost use Rattle.chorus_transport.specs.Window.{IsWindow};
 ghost use Rattle.chorus_transport.specs.Receiving.{new_receiving, is_known, answer_to, after_arrival, next_chunk, after_next, ack_of};
 
 use crate::chunk::Chunk;
-use crate::places::{filled, is_filled, widen};
-use crate::window::is_window;
+use crate::window_limit::is_window;
+use crate::window_slots::{filled, is_filled, widen};
 use std::alloc::{AllocError, Global};
 use std::collections::VecDeque;
 use std::marker::Model;

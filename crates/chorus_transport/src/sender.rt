@@ -4,7 +4,7 @@ ghost use Rattle.chorus_transport.specs.Window.{IsWindow};
 ghost use Rattle.chorus_transport.specs.Sending.{new_sending, next_number, has_room, Refuses, after_put, emitted, answer_to, after_ack};
 
 use crate::chunk::Chunk;
-use crate::window::is_window;
+use crate::window_limit::is_window;
 use std::alloc::{AllocError, AllocFailed, Global};
 use std::collections::VecDeque;
 use std::marker::Model;

@@ -10,20 +10,20 @@
 #![tactic(auto)]
 
 mod close;
+mod coming;
 mod job;
 mod knowledge;
 mod pass;
 mod room;
 mod rule;
-mod seats;
 mod start;
 mod steps;
 mod turns;
 mod view;
 
 pub use close::{PassesOut, Spent};
+pub use coming::NoSeat;
 pub use job::{Job, Kept};
 pub use knowledge::{Knowledge, Note, Placed, Remarked};
 pub use pass::Pass;
-pub use seats::NoSeat;
 pub use turns::{Busy, Turns};

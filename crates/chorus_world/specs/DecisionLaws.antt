@@ -11,7 +11,7 @@ use Rattle.chorus_entry.specs.declared.act.Act.{Act}
 use Rattle.chorus_entry.specs.declared.act.Act.TheVariants.{Accept, Full, Already, ClientsFull, Stale, Elsewhere, Told, Heard}
 use Rattle.chorus_entry.specs.Act.{is_decision, message_of}
 use Rattle.chorus_entry.specs.Answer.{is_final}
-use Rattle.chorus_world.specs.declared.message.Progress.TheVariants.{Tried}
+use Rattle.chorus_world.specs.declared.progress.Progress.TheVariants.{Tried}
 use Rattle.chorus_world.specs.Views.{at, on, about}
 use Rattle.chorus_world.specs.Ports.{PortState, fate, is_held_at, waiting}
 use Rattle.chorus_world.specs.Posts.{site_asked}

@@ -1,7 +1,7 @@
 -- Fates: what became of each message that a port accepted.
 use Rattle.std.specs.Prelude.{ℕ, nat_lt, if◌then◌else◌}
-use Rattle.chorus_world.specs.declared.port.Spot.{Spot}
-use Rattle.chorus_world.specs.declared.port.Spot.TheVariants.{Held, Moving, Ended}
+use Rattle.chorus_world.specs.declared.spot.Spot.{Spot}
+use Rattle.chorus_world.specs.declared.spot.Spot.TheVariants.{Held, Moving, Ended}
 use Rattle.chorus_world.specs.Ports.{PortState}
 
 pub data MessageFate : Type 0 where

@@ -6,8 +6,8 @@ use Rattle.chorus_ui.specs.declared.layout.Layout.{Layout}
 use Rattle.chorus_entry.specs.declared.entry.Entry.{Entry}
 use Rattle.chorus_entry.specs.declared.act.Act.{Act}
 use Rattle.chorus_entry.specs.declared.act.Act.TheVariants.{Take, Empty, NotHere, Rehome, Depart, Delete}
-use Rattle.chorus_world.specs.declared.port.Spot.{Spot}
-use Rattle.chorus_world.specs.declared.port.Spot.TheVariants.{Held}
+use Rattle.chorus_world.specs.declared.spot.Spot.{Spot}
+use Rattle.chorus_world.specs.declared.spot.Spot.TheVariants.{Held}
 use Rattle.chorus_world.specs.Views.{by, on}
 use Rattle.chorus_world.specs.Ports.{PortState, fate, is_last}
 use Rattle.chorus_world.specs.Places.{last_clock}

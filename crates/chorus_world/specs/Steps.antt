@@ -22,13 +22,13 @@ use Rattle.chorus_entry.specs.Same.{is_number, are_same}
 use Rattle.chorus_world.specs.Ports.{fate, is_made, is_held_at, is_ended_at, is_coming, is_next_hop, has_room, is_full, is_first_waiting, is_empty, are_waiting}
 use Rattle.chorus_world.specs.Posts.{Posted, post_of, site_asked, is_on_site}
 use Rattle.chorus_world.specs.Clients.{is_already, finds_clients_full}
-use Rattle.chorus_world.specs.declared.message.Progress.{Progress}
-use Rattle.chorus_world.specs.declared.message.Progress.TheVariants.{Tried, Asked}
+use Rattle.chorus_world.specs.declared.progress.Progress.{Progress}
+use Rattle.chorus_world.specs.declared.progress.Progress.TheVariants.{Tried, Asked}
 use Rattle.chorus_world.specs.declared.place.Location.{Location}
 use Rattle.chorus_world.specs.declared.place.TakenReply.{TakenReply}
 use Rattle.chorus_entry.specs.declared.hand.Hand.{Hand}
-use Rattle.chorus_world.specs.declared.step.Due.{Due}
-use Rattle.chorus_world.specs.declared.step.Due.TheVariants.{NotDue, ByTry, AtHome}
+use Rattle.chorus_world.specs.declared.due.Due.{Due}
+use Rattle.chorus_world.specs.declared.due.Due.TheVariants.{NotDue, ByTry, AtHome}
 use Rattle.chorus_world.specs.Messages.{progress, is_to_be_told, is_to_be_heard}
 use Rattle.chorus_world.specs.Places.{last_clock, ports_made, is_first, located, is_location, just_taken}
 use Rattle.chorus_world.specs.Groups.{groups_made, members, choice, is_next_to, is_group_place, is_choosing_place}

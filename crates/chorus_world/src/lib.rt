@@ -15,14 +15,14 @@
 //! Begin with `specs/Views.antt` and `specs/Steps.antt`.
 #![tactic(auto)]
 
+mod due;
 pub mod laws;
-mod message;
 mod place;
-mod port;
+mod progress;
 pub mod sorting;
-mod step;
+mod spot;
 
-pub use message::Progress;
+pub use due::Due;
 pub use place::{Location, Sent, TakenReply};
-pub use port::Spot;
-pub use step::Due;
+pub use progress::Progress;
+pub use spot::Spot;

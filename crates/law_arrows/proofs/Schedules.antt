@@ -19,8 +19,8 @@ use Rattle.chorus_entry.proofs.Same.{same_id-self}
 use Rattle.chorus_world.specs.Steps.{is_legal}
 use Rattle.chorus_world.proofs.Ports.LineLemmas.{none_some}
 use Rattle.chorus_world.proofs.Sorted.Holders.{run_is_legal}
-use Rattle.chorus_world.specs.declared.port.Spot.{Spot}
-use Rattle.chorus_world.specs.declared.port.Spot.TheVariants as S
+use Rattle.chorus_world.specs.declared.spot.Spot.{Spot}
+use Rattle.chorus_world.specs.declared.spot.Spot.TheVariants as S
 use Rattle.chorus_world.specs.Ports.{PortState, fate}
 use Rattle.chorus_world.specs.Views.{about, on}
 use Rattle.chorus_world.specs.Messages.{progress}

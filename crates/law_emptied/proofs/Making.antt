@@ -27,7 +27,7 @@ use Rattle.chorus_entry.specs.Kinds.{has_kinds}
 use Rattle.chorus_entry.specs.Order.{is_at}
 use Rattle.chorus_entry.specs.Places.{place_for}
 use Rattle.chorus_entry.proofs.Same.{from_same_body}
-use Rattle.chorus_world.specs.declared.port.Spot.TheVariants.{Held}
+use Rattle.chorus_world.specs.declared.spot.Spot.TheVariants.{Held}
 use Rattle.chorus_world.specs.Views.{views, at, on, is_on}
 use Rattle.chorus_world.specs.Ports.{PortState, fate, fate_after, is_made, is_coming, new_port}
 use Rattle.chorus_world.specs.Places.{ports_made, ports_after}

@@ -21,8 +21,8 @@ use Rattle.chorus_entry.specs.MsgId.{same_id}
 use Rattle.chorus_entry.specs.Order.{is_at}
 use Rattle.chorus_entry.proofs.Same.{from_same_id, same_id-self}
 use Rattle.chorus_world.specs.declared.place.Sent.{Sent}
-use Rattle.chorus_world.specs.declared.port.Spot.{Spot}
-use Rattle.chorus_world.specs.declared.port.Spot.TheVariants.{Held, Moving, Ended}
+use Rattle.chorus_world.specs.declared.spot.Spot.{Spot}
+use Rattle.chorus_world.specs.declared.spot.Spot.TheVariants.{Held, Moving, Ended}
 use Rattle.chorus_world.specs.Views.{views, at, by, on, is_on, is_by}
 use Rattle.chorus_world.specs.Ports.{PortState, fate, fate_after, is_made, is_held, is_moving, is_ended, is_coming, is_ended_at, is_last}
 use Rattle.chorus_world.specs.Places.{sent, sent_by, find_sent}

@@ -9,7 +9,7 @@ use Rattle.chorus_entry.specs.declared.dest.Dest.{Dest}
 use Rattle.chorus_entry.specs.declared.answer.Answer.{Answer}
 use Rattle.chorus_entry.specs.declared.act.Act.{Act}
 use Rattle.chorus_entry.specs.declared.packet.Packet.{Packet}
-use Rattle.chorus_world.specs.declared.message.Progress.TheVariants.{Asked}
+use Rattle.chorus_world.specs.declared.progress.Progress.TheVariants.{Asked}
 use Rattle.chorus_world.specs.Views.{at, about, on, views}
 use Rattle.chorus_world.specs.Messages.{progress}
 use Rattle.chorus_world.specs.Ports.{PortState, fate, is_moving}

@@ -12,8 +12,8 @@ use Rattle.chorus_entry.specs.declared.act.Act.TheVariants.{Post, Accept, Full, 
 use Rattle.chorus_entry.specs.Act.{message_of, port_of, is_decision}
 use Rattle.chorus_entry.specs.Dest.{group_in}
 use Rattle.chorus_entry.specs.Same.{is_number}
-use Rattle.chorus_world.specs.declared.message.Progress.{Progress}
-use Rattle.chorus_world.specs.declared.message.Progress.TheVariants.{Idle, Asked, Tried, Decided, Settled, Reported}
+use Rattle.chorus_world.specs.declared.progress.Progress.{Progress}
+use Rattle.chorus_world.specs.declared.progress.Progress.TheVariants.{Idle, Asked, Tried, Decided, Settled, Reported}
 use Rattle.chorus_world.specs.Views.{views, at, by, about, is_about, is_on}
 use Rattle.chorus_world.specs.Groups.{is_choosing_place}
 use Rattle.chorus_world.specs.Messages.{progress, is_to_be_heard}

@@ -21,8 +21,8 @@ use Rattle.chorus_entry.specs.Answer.{is_final}
 use Rattle.chorus_entry.specs.Dest.{group_in}
 use Rattle.chorus_entry.proofs.Same.{same_id-self}
 use Rattle.chorus_world.specs.declared.place.Sent.{Sent}
-use Rattle.chorus_world.specs.declared.message.Progress.{Progress}
-use Rattle.chorus_world.specs.declared.message.Progress.TheVariants.{Idle, Asked, Tried, Decided, Settled, Reported}
+use Rattle.chorus_world.specs.declared.progress.Progress.{Progress}
+use Rattle.chorus_world.specs.declared.progress.Progress.TheVariants.{Idle, Asked, Tried, Decided, Settled, Reported}
 use Rattle.chorus_world.specs.Views.{views, at, by, about, is_about}
 use Rattle.chorus_world.specs.Messages.{progress, progress_after, decided, told, settled}
 use Rattle.chorus_world.specs.Places.{sent, sent_by, find_sent}

@@ -9,8 +9,8 @@ use Rattle.chorus_entry.specs.declared.entry.Entry.{Entry}
 use Rattle.chorus_entry.specs.declared.act.Act.{Act}
 use Rattle.chorus_entry.specs.declared.act.Act.TheVariants.{Make, Accept, Full, Already, ClientsFull, Take, Empty, Rehome, Depart, Arrive, Delete}
 use Rattle.chorus_entry.specs.Act.{held_port_of}
-use Rattle.chorus_world.specs.declared.port.Spot.{Spot}
-use Rattle.chorus_world.specs.declared.port.Spot.TheVariants as S
+use Rattle.chorus_world.specs.declared.spot.Spot.{Spot}
+use Rattle.chorus_world.specs.declared.spot.Spot.TheVariants as S
 use Rattle.chorus_world.specs.Views.{views, on, is_on}
 use Rattle.chorus_world.specs.Ports.{PortState, fate, fate_after, arrived, waiting, is_coming, is_held, is_held_at, is_last, is_moving, last_of}
 use Rattle.chorus_world.specs.Steps.{act_may, is_legal}

@@ -10,8 +10,8 @@ use Rattle.chorus_entry.specs.declared.act.Act.{Act}
 use Rattle.chorus_entry.specs.declared.act.Act.TheVariants.{Told, Heard, Arrive}
 use Rattle.chorus_entry.specs.Act.{message_of}
 use Rattle.chorus_entry.specs.Dest.{group_in}
-use Rattle.chorus_world.specs.declared.message.Progress.{Progress}
-use Rattle.chorus_world.specs.declared.message.Progress.TheVariants.{Idle, Asked, Tried, Decided, Settled, Reported}
+use Rattle.chorus_world.specs.declared.progress.Progress.{Progress}
+use Rattle.chorus_world.specs.declared.progress.Progress.TheVariants.{Idle, Asked, Tried, Decided, Settled, Reported}
 use Rattle.chorus_world.specs.Views.{on, about}
 use Rattle.chorus_world.specs.Ports.{PortState, fate, is_held, last_of, waiting}
 use Rattle.chorus_world.specs.Messages.{progress}

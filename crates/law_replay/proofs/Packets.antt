@@ -18,8 +18,8 @@ use Rattle.chorus_entry.specs.declared.packet.Cargo.TheVariants as cargos
 use Rattle.chorus_entry.specs.Act.{port_of, answer_of}
 use Rattle.chorus_entry.specs.Answer.{is_final}
 use Rattle.chorus_entry.proofs.Same.{same_id-self}
-use Rattle.chorus_world.specs.declared.message.Progress.{Progress}
-use Rattle.chorus_world.specs.declared.message.Progress.TheVariants.{Idle, Asked, Tried, Decided, Settled, Reported}
+use Rattle.chorus_world.specs.declared.progress.Progress.{Progress}
+use Rattle.chorus_world.specs.declared.progress.Progress.TheVariants.{Idle, Asked, Tried, Decided, Settled, Reported}
 use Rattle.chorus_world.specs.Views.{about, is_about}
 use Rattle.chorus_world.specs.Messages.{settled, posted, decided, told, decided_by, progress_after, progress}
 use Rattle.chorus_world.specs.Places.{last_clock}

@@ -14,8 +14,8 @@ use Rattle.chorus_entry.specs.declared.act.Act.TheVariants.{Make, Accept, Full, 
 use Rattle.chorus_entry.specs.Act.{held_port_of}
 use Rattle.chorus_entry.specs.Same.{are_same}
 use Rattle.chorus_entry.proofs.Same.{from_same_ids}
-use Rattle.chorus_world.specs.declared.port.Spot as world
-use Rattle.chorus_world.specs.declared.port.Spot.TheVariants as spots
+use Rattle.chorus_world.specs.declared.spot.Spot as world
+use Rattle.chorus_world.specs.declared.spot.Spot.TheVariants as spots
 use Rattle.chorus_world.specs.Views.{views, on, is_on}
 use Rattle.chorus_world.specs.Ports.{PortState, fate, fate_after, changed, is_made, is_held, is_moving, is_ended, is_held_at, are_waiting, arrived}
 use Rattle.chorus_world.specs.Ports as ports

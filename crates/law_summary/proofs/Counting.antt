@@ -14,8 +14,8 @@ use Rattle.chorus_entry.specs.declared.id.MsgId.{MsgId}
 use Rattle.chorus_entry.specs.declared.act.Act.{Act}
 use Rattle.chorus_entry.specs.declared.act.Act.TheVariants.{Make, Accept, Full, Already, ClientsFull, Take, Empty, Rehome, Depart, Arrive, Delete}
 use Rattle.chorus_entry.specs.Act.{held_port_of}
-use Rattle.chorus_world.specs.declared.port.Spot as world
-use Rattle.chorus_world.specs.declared.port.Spot.TheVariants as spots
+use Rattle.chorus_world.specs.declared.spot.Spot as world
+use Rattle.chorus_world.specs.declared.spot.Spot.TheVariants as spots
 use Rattle.chorus_world.specs.Views.{is_on, on, views}
 use Rattle.chorus_entry.specs.Same.{are_same}
 use Rattle.chorus_world.specs.Ports.{PortState, fate, fate_after, changed, new_port, is_held, is_held_at, is_moving, arrived}

@@ -14,8 +14,8 @@ use Rattle.chorus_entry.specs.Act.{is_decision, is_verdict, message_of, answer_o
 use Rattle.chorus_entry.specs.MsgId.{same_id}
 use Rattle.chorus_entry.specs.Same.{are_same}
 use Rattle.chorus_entry.proofs.Same.{from_same_id, same_id-self}
-use Rattle.chorus_world.specs.declared.message.Progress.{Progress}
-use Rattle.chorus_world.specs.declared.message.Progress.TheVariants.{Idle, Asked, Tried, Decided, Settled, Reported}
+use Rattle.chorus_world.specs.declared.progress.Progress.{Progress}
+use Rattle.chorus_world.specs.declared.progress.Progress.TheVariants.{Idle, Asked, Tried, Decided, Settled, Reported}
 use Rattle.chorus_world.specs.declared.place.Location.{Location}
 use Rattle.chorus_world.specs.Views.{at, by, about, on}
 use Rattle.chorus_world.specs.Ports.{fate, is_held_at}

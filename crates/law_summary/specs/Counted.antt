@@ -6,8 +6,8 @@ use Rattle.chorus_ui.specs.declared.layout.Layout.{Layout}
 use Rattle.chorus_ui.specs.Layout.{IsLayout}
 use Rattle.chorus_ui.specs.Name.{same_ui}
 use Rattle.chorus_entry.specs.declared.entry.Entry.{Entry}
-use Rattle.chorus_world.specs.declared.port.Spot as world
-use Rattle.chorus_world.specs.declared.port.Spot.TheVariants as spots
+use Rattle.chorus_world.specs.declared.spot.Spot as world
+use Rattle.chorus_world.specs.declared.spot.Spot.TheVariants as spots
 use Rattle.chorus_world.specs.Views.{on}
 use Rattle.chorus_world.specs.Ports.{PortState, fate}
 use Rattle.chorus_world.specs.Ports as ports

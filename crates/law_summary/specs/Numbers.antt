@@ -12,8 +12,8 @@ use Rattle.chorus_entry.specs.declared.entry.Entry.{Entry}
 use Rattle.chorus_entry.specs.declared.id.MsgId.{MsgId}
 use Rattle.chorus_entry.specs.Act.{is_decision, message_of}
 use Rattle.chorus_entry.specs.MsgId.{same_id}
-use Rattle.chorus_world.specs.declared.message.Progress.{Progress}
-use Rattle.chorus_world.specs.declared.message.Progress.TheVariants.{Tried}
+use Rattle.chorus_world.specs.declared.progress.Progress.{Progress}
+use Rattle.chorus_world.specs.declared.progress.Progress.TheVariants.{Tried}
 use Rattle.chorus_world.specs.Views.{at, by, about, on}
 use Rattle.chorus_world.specs.Ports.{PortState, fate, is_made, is_ended, is_held_at}
 use Rattle.chorus_world.specs.Ports as ports

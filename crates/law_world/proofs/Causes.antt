@@ -12,7 +12,7 @@ use Rattle.chorus_entry.specs.declared.act.Act.{Act}
 use Rattle.chorus_entry.specs.declared.act.Act.TheVariants.{Make, Accept, Full, Already, ClientsFull, Stale, Early, NoPort, Elsewhere, Gone}
 use Rattle.chorus_entry.specs.Act.{is_decision, message_of, port_of}
 use Rattle.chorus_world.specs.declared.place.Location.{Location}
-use Rattle.chorus_world.specs.declared.message.Progress.TheVariants.{Tried}
+use Rattle.chorus_world.specs.declared.progress.Progress.TheVariants.{Tried}
 use Rattle.chorus_world.specs.Views.{views, views_about, at, on}
 use Rattle.chorus_world.specs.Ports.{PortState, fate, is_made, last_of, is_held_at, is_ended_at, is_coming, has_room, is_full, waiting}
 use Rattle.chorus_world.specs.Posts.{site_asked, is_on_site}

@@ -13,13 +13,13 @@ use Rattle.chorus_entry.specs.declared.id.MsgId.{MsgId}
 use Rattle.chorus_entry.specs.declared.act.Act.{Act}
 use Rattle.chorus_entry.specs.declared.act.Act.TheVariants.{Accept, Full, Already, ClientsFull, Stale, Early, NoPort, Elsewhere, Gone}
 use Rattle.chorus_entry.specs.Act.{is_decision, message_of, port_of}
-use Rattle.chorus_world.specs.declared.message.Progress.{Progress}
-use Rattle.chorus_world.specs.declared.message.Progress.TheVariants.{Idle, Asked, Tried, Decided, Settled, Reported}
+use Rattle.chorus_world.specs.declared.progress.Progress.{Progress}
+use Rattle.chorus_world.specs.declared.progress.Progress.TheVariants.{Idle, Asked, Tried, Decided, Settled, Reported}
 use Rattle.chorus_world.specs.declared.place.Location.{Location}
-use Rattle.chorus_world.specs.declared.port.Spot.{Spot}
-use Rattle.chorus_world.specs.declared.port.Spot.TheVariants.{Held, Moving, Ended}
-use Rattle.chorus_world.specs.declared.step.Due.{Due}
-use Rattle.chorus_world.specs.declared.step.Due.TheVariants.{NotDue, ByTry, AtHome}
+use Rattle.chorus_world.specs.declared.spot.Spot.{Spot}
+use Rattle.chorus_world.specs.declared.spot.Spot.TheVariants.{Held, Moving, Ended}
+use Rattle.chorus_world.specs.declared.due.Due.{Due}
+use Rattle.chorus_world.specs.declared.due.Due.TheVariants.{NotDue, ByTry, AtHome}
 use Rattle.chorus_world.specs.Views.{views, views_about, at, about, on}
 use Rattle.chorus_world.specs.Ports.{PortState, fate, is_made, is_held, is_moving, is_ended, is_last, last_of, is_held_at, is_ended_at, is_coming, has_room, is_full, waiting}
 use Rattle.chorus_world.specs.Posts.{tag_of, site_asked, is_on_site}

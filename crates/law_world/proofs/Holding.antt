@@ -13,8 +13,8 @@ use Rattle.chorus_entry.specs.declared.entry.Entry.{Entry}
 use Rattle.chorus_entry.specs.declared.act.Act.{Act}
 use Rattle.chorus_entry.specs.declared.act.Act.TheVariants.{Make, NoActor, Accept, Full, Already, ClientsFull, Take, Empty, NotHere, Rehome, Depart, Arrive, Delete}
 use Rattle.chorus_entry.specs.Act.{held_port_of}
-use Rattle.chorus_world.specs.declared.port.Spot.{Spot}
-use Rattle.chorus_world.specs.declared.port.Spot.TheVariants.{Held, Moving, Ended}
+use Rattle.chorus_world.specs.declared.spot.Spot.{Spot}
+use Rattle.chorus_world.specs.declared.spot.Spot.TheVariants.{Held, Moving, Ended}
 use Rattle.chorus_world.specs.Views.{views, on, is_on}
 use Rattle.chorus_world.specs.Ports.{PortState, fate, fate_after, changed, is_held_at, is_last, last_of, is_next_hop, arrived}
 use Rattle.chorus_world.specs.Steps.{act_may, may, is_legal}

@@ -13,7 +13,7 @@ use Rattle.chorus_entry.specs.declared.tag.Tag.TheVariants.{Request}
 use Rattle.chorus_entry.specs.declared.act.Act.{Act}
 use Rattle.chorus_entry.specs.declared.act.Act.TheVariants.{Make, Already, ClientsFull, Early, NoPort, Elsewhere, Depart, Arrive, Delete, Gone}
 use Rattle.chorus_entry.specs.Act.{is_decision, message_of, port_of}
-use Rattle.chorus_world.specs.declared.message.Progress.TheVariants.{Tried}
+use Rattle.chorus_world.specs.declared.progress.Progress.TheVariants.{Tried}
 use Rattle.chorus_world.specs.Views.{at, about, on}
 use Rattle.chorus_world.specs.Ports.{fate, is_held_at}
 use Rattle.chorus_world.specs.Posts.{tag_of, site_asked, is_on_site}

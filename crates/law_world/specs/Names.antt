@@ -15,7 +15,7 @@ use Rattle.chorus_entry.specs.declared.message.Message.{Message}
 use Rattle.chorus_entry.specs.declared.act.Act.{Act}
 use Rattle.chorus_entry.specs.declared.act.Act.TheVariants.{Make, MakeFull, Post, NotHere, GroupMake, GroupsFull}
 use Rattle.chorus_entry.specs.MsgId.{same_id}
-use Rattle.chorus_world.specs.declared.port.Spot.TheVariants.{Held}
+use Rattle.chorus_world.specs.declared.spot.Spot.TheVariants.{Held}
 use Rattle.chorus_world.specs.Views.{on, is_group, makes_group}
 use Rattle.chorus_world.specs.Ports.{PortState, fate, last_of}
 use Rattle.chorus_world.specs.Places.{makes, is_made_here}

@@ -71,7 +71,7 @@ fn port(rt: &impl Abort, text: &str) -> Ui
 }
 
 /// What the rows call. The words are read over this, so that no more is known there than a call asks.
-trait Calls {
+trait RowCalls {
     /// Performs a command of the seat.
     fn act(&mut self, rt: &impl Abort, seat: u32, command: Command)
         requires conditions { meets_conditions command ≡ true }
@@ -85,7 +85,7 @@ trait Calls {
     fn drain(&mut self, rt: &impl Abort);
 }
 
-impl Calls for Sites {
+impl RowCalls for Sites {
     fn act(&mut self, rt: &impl Abort, seat: u32, command: Command) {
         assert!(rt; seat < self.seats());
         assert!(rt; self.posts(seat) < u32::MAX);
@@ -111,13 +111,13 @@ impl Calls for Sites {
     }
 }
 
-fn enter<S: Calls>(rt: &impl Abort, sites: &mut S, who: &str) {
+fn enter<S: RowCalls>(rt: &impl Abort, sites: &mut S, who: &str) {
     let actor = actor(rt, who);
     sites.enter(rt, actor);
 }
 
 /// A seat, an actor and a capacity.
-fn make<S: Calls>(rt: &impl Abort, sites: &mut S, words: &str) {
+fn make<S: RowCalls>(rt: &impl Abort, sites: &mut S, words: &str) {
     let (seat, words) = first_seat(rt, words);
     let (holder, capacity) = first(words);
     let actor = actor(rt, holder);
@@ -133,7 +133,7 @@ fn body_of(rt: &impl Abort, alloc: Global, text: &str) -> Body {
 }
 
 /// A seat, a port and a text.
-fn send<S: Calls>(rt: &impl Abort, alloc: Global, sites: &mut S, words: &str) {
+fn send<S: RowCalls>(rt: &impl Abort, alloc: Global, sites: &mut S, words: &str) {
     let (seat, words) = first_seat(rt, words);
     let (to, text) = first(words);
     let dest = Dest::Port(port(rt, to));
@@ -143,14 +143,14 @@ fn send<S: Calls>(rt: &impl Abort, alloc: Global, sites: &mut S, words: &str) {
 }
 
 /// A seat and a port.
-fn take<S: Calls>(rt: &impl Abort, sites: &mut S, words: &str) {
+fn take<S: RowCalls>(rt: &impl Abort, sites: &mut S, words: &str) {
     let (seat, from) = first_seat(rt, words);
     let port = port(rt, from);
     sites.act(rt, seat, Command::Take { port });
 }
 
 /// A seat, a port and an actor.
-fn move_port<S: Calls>(rt: &impl Abort, sites: &mut S, words: &str) {
+fn move_port<S: RowCalls>(rt: &impl Abort, sites: &mut S, words: &str) {
     let (seat, words) = first_seat(rt, words);
     let (which, to) = first(words);
     let port = port(rt, which);
@@ -159,19 +159,19 @@ fn move_port<S: Calls>(rt: &impl Abort, sites: &mut S, words: &str) {
 }
 
 /// A seat and a port.
-fn delete<S: Calls>(rt: &impl Abort, sites: &mut S, words: &str) {
+fn delete<S: RowCalls>(rt: &impl Abort, sites: &mut S, words: &str) {
     let (seat, which) = first_seat(rt, words);
     let port = port(rt, which);
     sites.act(rt, seat, Command::Delete { port });
 }
 
 /// Two places.
-fn deliver<S: Calls>(rt: &impl Abort, sites: &mut S, words: &str) {
+fn deliver<S: RowCalls>(rt: &impl Abort, sites: &mut S, words: &str) {
     let (from, to) = first(words);
     sites.deliver(rt, place(rt, from), place(rt, to));
 }
 
-fn perform<S: Calls>(rt: &impl Abort, alloc: Global, sites: &mut S, line: &str) {
+fn perform<S: RowCalls>(rt: &impl Abort, alloc: Global, sites: &mut S, line: &str) {
     let (call, words) = first(line);
     match call {
         "enter" => enter(rt, sites, words),
@@ -186,7 +186,7 @@ fn perform<S: Calls>(rt: &impl Abort, alloc: Global, sites: &mut S, line: &str) 
     }
 }
 
-fn perform_all<S: Calls>(rt: &impl Abort, alloc: Global, sites: &mut S, calls: &str) {
+fn perform_all<S: RowCalls>(rt: &impl Abort, alloc: Global, sites: &mut S, calls: &str) {
     for line in calls.lines() {
         perform(rt, alloc, sites, line);
     }

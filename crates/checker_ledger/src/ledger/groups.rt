@@ -9,7 +9,7 @@ ghost use Rattle.checker_ledger.specs.Worlds.{next_to};
 use crate::groups::group_at;
 use crate::ledger::Ledger;
 use crate::tables::asked_line;
-use checker_rows::lines::{End, first_open};
+use checker_rows::message_lines::{End, first_open};
 use chorus_entry::MsgId;
 use chorus_ui::Ui;
 

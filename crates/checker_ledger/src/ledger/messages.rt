@@ -10,8 +10,8 @@ ghost use Rattle.chorus_world.specs.Steps.{is_legal};
 ghost use Rattle.chorus_world.specs.Views.{about, on};
 ghost use Rattle.checker_rows.specs.Messages.{in_brief};
 
-use crate::fate::PortState;
 use crate::ledger::Ledger;
+use crate::port_state::PortState;
 use crate::ports::fate_in;
 use crate::tables::source;
 use checker_rows::clients::{clients_in, kept_in};

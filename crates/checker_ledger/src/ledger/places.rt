@@ -6,9 +6,9 @@ ghost use Rattle.chorus_world.specs.Places.{last_clock, ports_made, just_taken, 
 ghost use Rattle.chorus_world.specs.Views.{at};
 
 use crate::ledger::Ledger;
-use checker_rows::keys::{Line, NameAt};
-use checker_rows::lines::{End, first_open};
+use checker_rows::keys::{LineKey, NameAt};
 use checker_rows::locations::location_in;
+use checker_rows::message_lines::{End, first_open};
 use checker_rows::messages::{is_tried_in, sent_in};
 use checker_rows::places::place_in;
 use chorus_entry::{MsgId, Tag};
@@ -87,7 +87,7 @@ impl Ledger {
             first_for port route
             (unsettled (at place self.now.past) (sent (at place self.now.past))) }
     {
-        let line = Line {
+        let line = LineKey {
             place,
             name: port,
             route,

@@ -4,7 +4,7 @@ use Rattle.std.proofs.lemmas.Bool.{false≢true}
 use Rattle.chorus_entry.specs.declared.answer.Answer.{Answer}
 use Rattle.chorus_entry.specs.declared.entry.Entry.{Entry}
 use Rattle.chorus_entry.specs.declared.act.Act.{Act}
-use Rattle.chorus_world.specs.declared.port.Spot.{Spot}
+use Rattle.chorus_world.specs.declared.spot.Spot.{Spot}
 use Rattle.chorus_world.specs.Ports.{PortState}
 use Rattle.chorus_world.specs.Always.{EachEntry}
 use Rattle.chorus_world.specs.DecisionLaws.{FullWithoutRoom, MeetsWhereHeld, TellsTheVerdict}

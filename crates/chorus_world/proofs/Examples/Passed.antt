@@ -10,7 +10,7 @@ use Rattle.chorus_entry.specs.declared.entry.Entry.{Entry}
 use Rattle.chorus_entry.specs.declared.id.MsgId.{MsgId}
 use Rattle.chorus_entry.specs.declared.tag.Tag.{Tag}
 use Rattle.chorus_entry.specs.declared.act.Act.{Act}
-use Rattle.chorus_world.specs.declared.message.Progress.{Progress}
+use Rattle.chorus_world.specs.declared.progress.Progress.{Progress}
 use Rattle.chorus_world.specs.Always.{EachEntry}
 use Rattle.chorus_world.specs.Steps.{is_legal}
 use Rattle.chorus_world.specs.DecisionLaws.{AnswersNewer, ElsewhereNamesPath, IsPassed, StaleNamesLater}

@@ -15,7 +15,7 @@ use Rattle.chorus_entry.specs.declared.act.Act.TheVariants.{Make, Accept}
 use Rattle.chorus_entry.specs.Act.{held_port_of}
 use Rattle.chorus_entry.proofs.Same.{same_id-self}
 use Rattle.chorus_world.specs.declared.place.Sent.{Sent}
-use Rattle.chorus_world.specs.declared.message.Progress.TheVariants.{Tried}
+use Rattle.chorus_world.specs.declared.progress.Progress.TheVariants.{Tried}
 use Rattle.chorus_world.specs.Views.{views, is_about, is_on, at, on, about}
 use Rattle.chorus_world.specs.Ports.{PortState, fate, fate_after}
 use Rattle.chorus_world.specs.Messages.{verdict, verdict_by}

@@ -8,7 +8,7 @@ use Rattle.chorus_entry.specs.declared.id.MsgId.{MsgId}
 use Rattle.chorus_entry.specs.declared.act.Act.{Act}
 use Rattle.chorus_entry.specs.declared.act.Act.TheVariants.{Post, Accept, Full, Already, ClientsFull, Stale, Early, NoPort, Elsewhere, NoMember, Choose, Try, Told, Heard, Gone}
 use Rattle.chorus_entry.specs.Act.{message_of, port_of, is_decision}
-use Rattle.chorus_world.specs.declared.message.Progress.TheVariants.{Idle, Asked, Tried, Decided, Reported}
+use Rattle.chorus_world.specs.declared.progress.Progress.TheVariants.{Idle, Asked, Tried, Decided, Reported}
 use Rattle.chorus_world.specs.Views.{views, at, by, about, is_about}
 use Rattle.chorus_world.specs.Messages.{progress, is_to_be_heard}
 use Rattle.chorus_world.specs.Places.{is_first}

@@ -24,8 +24,8 @@ use Rattle.chorus_entry.specs.Kinds.{has_kinds}
 use Rattle.chorus_entry.proofs.Same.{from_same_id}
 use Rattle.chorus_world.specs.declared.place.Location.{Location}
 use Rattle.chorus_world.specs.declared.place.Sent.{Sent}
-use Rattle.chorus_world.specs.declared.message.Progress.{Progress}
-use Rattle.chorus_world.specs.declared.message.Progress.TheVariants.{Idle, Asked, Tried, Decided, Settled, Reported}
+use Rattle.chorus_world.specs.declared.progress.Progress.{Progress}
+use Rattle.chorus_world.specs.declared.progress.Progress.TheVariants.{Idle, Asked, Tried, Decided, Settled, Reported}
 use Rattle.chorus_world.specs.Views.{views, at, on, about, is_about}
 use Rattle.chorus_entry.specs.Order.{is_at}
 use Rattle.chorus_entry.specs.Same.{are_same}

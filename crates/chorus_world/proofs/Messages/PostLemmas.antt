@@ -17,8 +17,8 @@ use Rattle.chorus_entry.specs.MsgId.{same_id}
 use Rattle.chorus_entry.specs.Members.{same_uis}
 use Rattle.chorus_entry.proofs.Same.{from_same_id}
 use Rattle.chorus_world.specs.declared.place.Sent.{Sent}
-use Rattle.chorus_world.specs.declared.message.Progress.{Progress}
-use Rattle.chorus_world.specs.declared.message.Progress.TheVariants.{Idle, Asked, Tried, Decided, Settled, Reported}
+use Rattle.chorus_world.specs.declared.progress.Progress.{Progress}
+use Rattle.chorus_world.specs.declared.progress.Progress.TheVariants.{Idle, Asked, Tried, Decided, Settled, Reported}
 use Rattle.chorus_world.specs.Views.{Views, views, is_by, at, by, about}
 use Rattle.chorus_entry.specs.Same.{are_same}
 use Rattle.chorus_world.specs.Messages.{progress}

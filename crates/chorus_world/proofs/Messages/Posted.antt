@@ -17,9 +17,9 @@ use Rattle.chorus_entry.specs.Act.{message_of}
 use Rattle.chorus_entry.specs.MsgId.{same_id}
 use Rattle.chorus_entry.proofs.Same.{from_same_id}
 use Rattle.chorus_world.specs.declared.place.Sent.{Sent}
-use Rattle.chorus_world.specs.declared.message.Progress.{Progress}
-use Rattle.chorus_world.specs.declared.message.Progress.TheVariants.{Idle, Asked, Tried, Decided, Settled, Reported}
-use Rattle.chorus_world.specs.declared.step.Due.TheVariants.{NotDue, AtHome}
+use Rattle.chorus_world.specs.declared.progress.Progress.{Progress}
+use Rattle.chorus_world.specs.declared.progress.Progress.TheVariants.{Idle, Asked, Tried, Decided, Settled, Reported}
+use Rattle.chorus_world.specs.declared.due.Due.TheVariants.{NotDue, AtHome}
 use Rattle.chorus_world.specs.Views.{Views, views, at, by, on, about, is_by, is_on, is_about}
 use Rattle.chorus_entry.specs.Order.{is_at}
 use Rattle.chorus_entry.specs.Same.{are_same}

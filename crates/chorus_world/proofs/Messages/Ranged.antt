@@ -24,10 +24,10 @@ use Rattle.chorus_entry.specs.Answer.{is_final}
 use Rattle.chorus_entry.specs.Ranges.{is_place_number, has_range_of_id, has_ranges_of_answer, is_told}
 use Rattle.chorus_world.specs.declared.place.Location.{Location}
 use Rattle.chorus_world.specs.declared.place.Sent.{Sent}
-use Rattle.chorus_world.specs.declared.message.Progress.{Progress}
-use Rattle.chorus_world.specs.declared.message.Progress.TheVariants.{Idle, Asked, Tried, Decided, Settled, Reported}
-use Rattle.chorus_world.specs.declared.step.Due.{Due}
-use Rattle.chorus_world.specs.declared.step.Due.TheVariants.{NotDue, ByTry, AtHome}
+use Rattle.chorus_world.specs.declared.progress.Progress.{Progress}
+use Rattle.chorus_world.specs.declared.progress.Progress.TheVariants.{Idle, Asked, Tried, Decided, Settled, Reported}
+use Rattle.chorus_world.specs.declared.due.Due.{Due}
+use Rattle.chorus_world.specs.declared.due.Due.TheVariants.{NotDue, ByTry, AtHome}
 use Rattle.chorus_world.specs.Views.{Views, views, at, on, about, is_on, is_about}
 use Rattle.chorus_entry.specs.Order.{is_at}
 use Rattle.chorus_entry.specs.Same.{are_same}

@@ -17,8 +17,8 @@ use Rattle.chorus_entry.specs.Act.{message_of, port_of, is_decision}
 use Rattle.chorus_entry.specs.Answer.{is_final}
 use Rattle.chorus_ui.specs.NameKind.{is_port}
 use Rattle.chorus_entry.specs.Kinds.{has_kinds}
-use Rattle.chorus_world.specs.declared.message.Progress.{Progress}
-use Rattle.chorus_world.specs.declared.message.Progress.TheVariants.{Idle, Asked, Tried, Decided, Settled, Reported}
+use Rattle.chorus_world.specs.declared.progress.Progress.{Progress}
+use Rattle.chorus_world.specs.declared.progress.Progress.TheVariants.{Idle, Asked, Tried, Decided, Settled, Reported}
 use Rattle.chorus_world.specs.Views.{views, at, about, is_about}
 use Rattle.chorus_entry.specs.Order.{is_at}
 use Rattle.chorus_world.specs.Places.{is_settled, located}

@@ -18,8 +18,8 @@ use Rattle.chorus_entry.specs.Answer.{is_final}
 use Rattle.chorus_entry.specs.Same.{are_same}
 use Rattle.chorus_entry.specs.MsgId.{same_id}
 use Rattle.chorus_entry.proofs.Same.{from_same_answer, from_same_id, same_id-self}
-use Rattle.chorus_world.specs.declared.message.Progress.{Progress}
-use Rattle.chorus_world.specs.declared.message.Progress.TheVariants.{Idle, Asked, Tried, Decided, Settled, Reported}
+use Rattle.chorus_world.specs.declared.progress.Progress.{Progress}
+use Rattle.chorus_world.specs.declared.progress.Progress.TheVariants.{Idle, Asked, Tried, Decided, Settled, Reported}
 use Rattle.chorus_world.specs.Views.{about, is_about, views}
 use Rattle.chorus_world.specs.Posts.{post_of}
 use Rattle.chorus_world.specs.Messages.{is_to_be_heard, is_to_be_told, progress, progress_after, settled, decided, told, posted, verdict, verdict_by}

@@ -19,8 +19,8 @@ use Rattle.chorus_entry.specs.declared.act.Act.TheVariants.{Post, Accept, Full, 
 use Rattle.chorus_entry.specs.Act.{message_of}
 use Rattle.chorus_entry.specs.Answer.{is_final}
 use Rattle.chorus_entry.specs.MsgId.{same_id}
-use Rattle.chorus_world.specs.declared.message.Progress.{Progress}
-use Rattle.chorus_world.specs.declared.message.Progress.TheVariants.{Idle, Asked, Tried, Decided, Settled}
+use Rattle.chorus_world.specs.declared.progress.Progress.{Progress}
+use Rattle.chorus_world.specs.declared.progress.Progress.TheVariants.{Idle, Asked, Tried, Decided, Settled}
 use Rattle.chorus_world.specs.Views.{views, at, on, about, is_about}
 use Rattle.chorus_world.specs.Messages.{progress, progress_after, decided, told, settled}
 use Rattle.chorus_world.specs.Ports.{PortState, fate}

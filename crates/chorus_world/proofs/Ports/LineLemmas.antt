@@ -14,8 +14,8 @@ use Rattle.chorus_entry.specs.declared.act.Act.TheVariants.{Make, Accept, Full, 
 use Rattle.chorus_entry.specs.MsgId.{same_id}
 use Rattle.chorus_entry.specs.Act.{held_port_of}
 use Rattle.chorus_entry.proofs.Same.{from_same_id, from_same_ids}
-use Rattle.chorus_world.specs.declared.port.Spot.{Spot}
-use Rattle.chorus_world.specs.declared.port.Spot.TheVariants.{Held, Moving, Ended}
+use Rattle.chorus_world.specs.declared.spot.Spot.{Spot}
+use Rattle.chorus_world.specs.declared.spot.Spot.TheVariants.{Held, Moving, Ended}
 use Rattle.chorus_world.specs.Views.{Views, views, on}
 use Rattle.chorus_entry.specs.Same.{are_same}
 use Rattle.chorus_world.specs.Ports.{PortState, fate, fate_after, changed, new_port, arrived, waiting, is_held, is_moving, is_last, is_held_at, is_coming, has_room, is_full, is_first_waiting, is_empty, is_next_hop, are_waiting}

@@ -17,8 +17,8 @@ use Rattle.chorus_entry.specs.declared.act.Act.TheVariants.{Make, Accept, Full, 
 use Rattle.chorus_entry.specs.Act.{held_port_of}
 use Rattle.chorus_ui.specs.NameKind.{is_actor, is_port}
 use Rattle.chorus_entry.specs.Kinds.{has_kinds}
-use Rattle.chorus_world.specs.declared.port.Spot.{Spot}
-use Rattle.chorus_world.specs.declared.port.Spot.TheVariants.{Held, Moving, Ended}
+use Rattle.chorus_world.specs.declared.spot.Spot.{Spot}
+use Rattle.chorus_world.specs.declared.spot.Spot.TheVariants.{Held, Moving, Ended}
 use Rattle.chorus_world.specs.Views.{views, at, on, is_by, is_about, is_on}
 use Rattle.chorus_entry.specs.Order.{is_at, IsRising, comes_before}
 use Rattle.chorus_entry.specs.Same.{are_same}

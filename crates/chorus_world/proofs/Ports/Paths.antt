@@ -12,8 +12,8 @@ use Rattle.chorus_ui.proofs.Names.{from_same_ui}
 use Rattle.chorus_entry.specs.declared.entry.Entry.{Entry}
 use Rattle.chorus_entry.specs.declared.act.Act.{Act}
 use Rattle.chorus_entry.specs.declared.act.Act.TheVariants as acts
-use Rattle.chorus_world.specs.declared.port.Spot.{Spot}
-use Rattle.chorus_world.specs.declared.port.Spot.TheVariants as spots
+use Rattle.chorus_world.specs.declared.spot.Spot.{Spot}
+use Rattle.chorus_world.specs.declared.spot.Spot.TheVariants as spots
 use Rattle.chorus_world.specs.Views.{views, on, is_on}
 use Rattle.chorus_world.specs.Ports.{PortState, fate, fate_after, last_of, is_held_at, is_next_hop, arrived}
 use Rattle.chorus_world.specs.Steps.{act_may, act_follows, may, is_timely, is_legal}

@@ -12,8 +12,8 @@ use Rattle.chorus_entry.specs.declared.id.MsgId.{MsgId}
 use Rattle.chorus_entry.specs.declared.act.Act.{Act}
 use Rattle.chorus_entry.specs.declared.act.Act.TheVariants.{Make, Accept, Arrive}
 use Rattle.chorus_entry.specs.Act.{held_port_of}
-use Rattle.chorus_world.specs.declared.port.Spot.{Spot}
-use Rattle.chorus_world.specs.declared.port.Spot.TheVariants.{Held, Moving, Ended}
+use Rattle.chorus_world.specs.declared.spot.Spot.{Spot}
+use Rattle.chorus_world.specs.declared.spot.Spot.TheVariants.{Held, Moving, Ended}
 use Rattle.chorus_world.specs.Views.{views, is_on, on, at}
 use Rattle.chorus_entry.specs.Order.{is_at}
 use Rattle.chorus_world.specs.Ports.{PortState, fate, fate_after, is_made, is_held, is_moving, is_held_at}

@@ -13,12 +13,12 @@ use Rattle.chorus_entry.specs.declared.act.Act.{Act}
 use Rattle.chorus_entry.specs.declared.act.Act.TheVariants.{Make, Told, Rehome, Depart, Arrive, Delete}
 use Rattle.chorus_entry.specs.Answer.{same_answer}
 use Rattle.chorus_entry.proofs.Same.{from_same_answer}
-use Rattle.chorus_world.specs.declared.port.Spot.{Spot}
-use Rattle.chorus_world.specs.declared.port.Spot.TheVariants.{Held, Moving, Ended}
+use Rattle.chorus_world.specs.declared.spot.Spot.{Spot}
+use Rattle.chorus_world.specs.declared.spot.Spot.TheVariants.{Held, Moving, Ended}
 use Rattle.chorus_world.specs.declared.place.Location.{Location}
 use Rattle.chorus_world.specs.declared.place.Sent.{Sent}
-use Rattle.chorus_world.specs.declared.message.Progress.{Progress}
-use Rattle.chorus_world.specs.declared.message.Progress.TheVariants.{Decided}
+use Rattle.chorus_world.specs.declared.progress.Progress.{Progress}
+use Rattle.chorus_world.specs.declared.progress.Progress.TheVariants.{Decided}
 use Rattle.chorus_world.specs.Views.{views, at, on, is_on}
 use Rattle.chorus_entry.specs.Order.{is_at}
 use Rattle.chorus_world.specs.Ports.{PortState, fate, fate_after, last_of, is_held, is_moving, is_held_at, is_coming, is_next_hop, are_waiting, arrived}

@@ -10,7 +10,7 @@ use Rattle.chorus_ui.proofs.Names.{from_same_ui, same_ui-self}
 use Rattle.chorus_entry.specs.declared.entry.Entry.{Entry}
 use Rattle.chorus_entry.specs.declared.act.Act.{Act}
 use Rattle.chorus_entry.specs.declared.act.Act.TheVariants.{Make, Rehome, Depart, Arrive, Delete}
-use Rattle.chorus_world.specs.declared.port.Spot.{Spot}
+use Rattle.chorus_world.specs.declared.spot.Spot.{Spot}
 use Rattle.chorus_world.specs.Views.{at, on, is_on}
 use Rattle.chorus_entry.specs.Order.{is_at}
 use Rattle.chorus_world.specs.Ports.{PortState, fate, fate_after}

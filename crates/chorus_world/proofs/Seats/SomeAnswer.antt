@@ -33,8 +33,8 @@ use Rattle.chorus_ui.specs.NameKind as name_kind
 use Rattle.chorus_ui.specs.NameKind.{is_actor, is_port}
 use Rattle.chorus_entry.specs.Kinds.{has_kinds_in_dest}
 use Rattle.chorus_entry.proofs.Same.{same_id-self, same_dest-self, same_body-self, same_ids-self}
-use Rattle.chorus_world.specs.declared.port.Spot.{Spot}
-use Rattle.chorus_world.specs.declared.port.Spot.TheVariants.{Held, Moving, Ended}
+use Rattle.chorus_world.specs.declared.spot.Spot.{Spot}
+use Rattle.chorus_world.specs.declared.spot.Spot.TheVariants.{Held, Moving, Ended}
 use Rattle.chorus_world.specs.Views.{views, at, by, on, is_group}
 use Rattle.chorus_world.specs.Ports.{PortState, fate, is_last, is_held, is_held_at, is_first_waiting, is_empty, are_waiting, is_next_hop}
 use Rattle.chorus_world.specs.Groups.{groups_made, members, is_group_place}

@@ -26,7 +26,7 @@ use Rattle.chorus_entry.specs.declared.dest.Dest.TheVariants.{Port, All, One, On
 use Rattle.chorus_entry.specs.MsgId.{same_id}
 use Rattle.chorus_entry.proofs.Same.{same_id-self}
 use Rattle.chorus_world.specs.declared.place.Sent.{Sent}
-use Rattle.chorus_world.specs.declared.message.Progress.TheVariants.{Idle, Tried, Decided}
+use Rattle.chorus_world.specs.declared.progress.Progress.TheVariants.{Idle, Tried, Decided}
 use Rattle.chorus_entry.specs.Same.{are_same}
 use Rattle.chorus_world.specs.Messages.{progress, progress_after, decided}
 use Rattle.chorus_world.specs.Groups.{is_chosen}

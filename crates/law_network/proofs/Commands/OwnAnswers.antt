@@ -23,8 +23,8 @@ use Rattle.chorus_entry.specs.Dest.{same_dest}
 use Rattle.chorus_entry.specs.Body.{same_body}
 use Rattle.chorus_entry.specs.Places.{place_for}
 use Rattle.chorus_entry.proofs.Same.{same_dest-self, same_body-self}
-use Rattle.chorus_world.specs.declared.port.Spot.{Spot}
-use Rattle.chorus_world.specs.declared.port.Spot.TheVariants as spots
+use Rattle.chorus_world.specs.declared.spot.Spot.{Spot}
+use Rattle.chorus_world.specs.declared.spot.Spot.TheVariants as spots
 use Rattle.chorus_world.specs.Views.{at, by, on, is_group}
 use Rattle.chorus_entry.specs.Same.{is_number}
 use Rattle.chorus_world.specs.Ports.{PortState, fate, last_of}

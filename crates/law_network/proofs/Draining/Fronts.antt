@@ -14,7 +14,7 @@ use Rattle.chorus_entry.specs.declared.packet.Cargo.TheVariants as cargos
 use Rattle.chorus_ui.specs.NameKind.{is_port}
 use Rattle.chorus_entry.specs.MsgId.{same_id}
 use Rattle.chorus_entry.proofs.Same.{same_id-self, from_same_id}
-use Rattle.chorus_world.specs.declared.message.Progress.TheVariants.{Decided}
+use Rattle.chorus_world.specs.declared.progress.Progress.TheVariants.{Decided}
 use Rattle.chorus_world.specs.declared.place.Sent.{Sent}
 use Rattle.chorus_world.specs.Views.{at, about}
 use Rattle.chorus_world.specs.Messages.{progress}

@@ -26,8 +26,8 @@ use Rattle.chorus_world.specs.declared.place.Sent.{Sent}
 use Rattle.chorus_world.proofs.Ports.LineLemmas.{id_is}
 use Rattle.chorus_world.proofs.Messages.SendingLemmas.{sent_as, some_is}
 use Rattle.std.proofs.lemmas.List.{append_assoc}
-use Rattle.chorus_world.specs.declared.message.Progress.{Progress}
-use Rattle.chorus_world.specs.declared.message.Progress.TheVariants.{Asked, Settled}
+use Rattle.chorus_world.specs.declared.progress.Progress.{Progress}
+use Rattle.chorus_world.specs.declared.progress.Progress.TheVariants.{Asked, Settled}
 use Rattle.chorus_world.specs.Views.{at, about}
 use Rattle.chorus_entry.specs.Same.{are_same}
 use Rattle.chorus_world.specs.Messages.{progress, progress_after}

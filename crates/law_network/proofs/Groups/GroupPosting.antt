@@ -25,7 +25,7 @@ use Rattle.chorus_entry.specs.Dest.{group_in}
 use Rattle.chorus_entry.specs.Kinds.{has_kinds_in_tag, has_kinds_in_dest}
 use Rattle.chorus_entry.specs.MsgId.{same_id}
 use Rattle.chorus_entry.proofs.Same.{same_id-self, from_same_id}
-use Rattle.chorus_world.specs.declared.message.Progress.TheVariants.{Asked}
+use Rattle.chorus_world.specs.declared.progress.Progress.TheVariants.{Asked}
 use Rattle.chorus_world.specs.declared.place.Sent.{Sent}
 use Rattle.chorus_world.specs.Views.{at, by, about, is_about}
 use Rattle.chorus_entry.specs.Order.{is_at}
@@ -35,7 +35,7 @@ use Rattle.chorus_world.specs.Seats.{posts, call}
 use Rattle.chorus_world.proofs.Messages.PostLemmas.{own_source}
 use Rattle.chorus_world.proofs.Messages.StageLemmas.{Stage}
 use Rattle.chorus_entry.specs.Act.{message_of}
-use Rattle.chorus_world.specs.declared.message.Progress.{Progress}
+use Rattle.chorus_world.specs.declared.progress.Progress.{Progress}
 use Rattle.chorus_world.specs.Messages.{posted, progress, progress_after}
 use Rattle.chorus_world.specs.Places.{last_clock, sent_to, hears, is_heard}
 use Rattle.chorus_world.specs.Groups as groups

@@ -14,8 +14,8 @@ use Rattle.chorus_entry.specs.declared.message.Message.{Message}
 use Rattle.chorus_entry.specs.declared.record.PortRecord.{PortRecord}
 use Rattle.chorus_entry.specs.MsgId.{same_id}
 use Rattle.chorus_entry.proofs.Same.{from_same_id, same_id-self}
-use Rattle.chorus_world.specs.declared.port.Spot.{Spot}
-use Rattle.chorus_world.specs.declared.port.Spot.TheVariants as spots
+use Rattle.chorus_world.specs.declared.spot.Spot.{Spot}
+use Rattle.chorus_world.specs.declared.spot.Spot.TheVariants as spots
 use Rattle.chorus_world.specs.Views.{on}
 use Rattle.chorus_world.specs.Posts.{Posted, as_posted, post_of}
 use Rattle.chorus_world.specs.Ports.{PortState, fate, last_of}

@@ -21,8 +21,8 @@ use Rattle.chorus_entry.specs.Dest.{group_in}
 use Rattle.chorus_entry.specs.MsgId.{same_id}
 use Rattle.chorus_entry.proofs.Same.{same_id-self, same_answer-self, from_same_id}
 use Rattle.chorus_world.specs.declared.place.Sent.{Sent}
-use Rattle.chorus_world.specs.declared.message.Progress.TheVariants.{Idle, Tried, Decided, Settled}
-use Rattle.chorus_world.specs.declared.step.Due.TheVariants.{ByTry}
+use Rattle.chorus_world.specs.declared.progress.Progress.TheVariants.{Idle, Tried, Decided, Settled}
+use Rattle.chorus_world.specs.declared.due.Due.TheVariants.{ByTry}
 use Rattle.chorus_world.specs.Views.{at, about, is_about}
 use Rattle.chorus_world.specs.Places.{last_clock, is_settled, find_sent, sent, unsettled, first_for, taught}
 use Rattle.chorus_entry.specs.Same.{same_route}

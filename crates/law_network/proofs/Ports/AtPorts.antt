@@ -14,8 +14,8 @@ use Rattle.chorus_entry.specs.declared.act.Act.{Act}
 use Rattle.chorus_entry.specs.declared.act.Act.TheVariants as acts
 use Rattle.chorus_entry.specs.declared.record.PortRecord.{PortRecord}
 use Rattle.chorus_ui.specs.NameKind.{is_port, is_actor}
-use Rattle.chorus_world.specs.declared.port.Spot.{Spot}
-use Rattle.chorus_world.specs.declared.port.Spot.TheVariants as spots
+use Rattle.chorus_world.specs.declared.spot.Spot.{Spot}
+use Rattle.chorus_world.specs.declared.spot.Spot.TheVariants as spots
 use Rattle.chorus_world.specs.Views.{at, on}
 use Rattle.chorus_world.specs.Ports.{PortState, fate, last_of}
 use Rattle.chorus_world.specs.Places.{just_taken, reply_taken}

@@ -10,7 +10,7 @@ use Rattle.chorus_ui.specs.Layout.{IsLayout}
 use Rattle.chorus_entry.specs.declared.entry.Entry.{Entry}
 use Rattle.chorus_entry.specs.declared.record.PortRecord.{PortRecord}
 use Rattle.chorus_entry.specs.Act.{held_port_of}
-use Rattle.chorus_world.specs.declared.port.Spot.TheVariants.{Held}
+use Rattle.chorus_world.specs.declared.spot.Spot.TheVariants.{Held}
 use Rattle.chorus_world.specs.Views.{on, is_on}
 use Rattle.chorus_entry.specs.Same.{are_same}
 use Rattle.chorus_world.specs.Ports.{PortState, fate, fate_after, last_of, is_held, is_last, is_held_at}

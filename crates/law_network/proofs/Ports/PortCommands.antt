@@ -20,7 +20,7 @@ use Rattle.chorus_entry.specs.Ids.{same_ids}
 use Rattle.chorus_ui.specs.NameKind.{is_port, is_actor}
 use Rattle.chorus_entry.specs.Kinds.{has_kinds}
 use Rattle.chorus_entry.proofs.Same.{same_ids-self}
-use Rattle.chorus_world.specs.declared.port.Spot.TheVariants.{Held, Moving, Ended}
+use Rattle.chorus_world.specs.declared.spot.Spot.TheVariants.{Held, Moving, Ended}
 use Rattle.chorus_hints.specs.Known.{learned}
 use Rattle.chorus_world.specs.Views.{at, on, is_on}
 use Rattle.chorus_world.specs.Ports.{PortState, fate, fate_after, last_of, is_empty, is_held_at, is_next_hop, are_waiting}

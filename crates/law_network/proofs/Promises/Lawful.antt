@@ -33,10 +33,10 @@ use Rattle.chorus_entry.specs.MsgId.{same_id}
 use Rattle.chorus_entry.proofs.Same.{same_id-self, from_same_id}
 use Rattle.chorus_entry.specs.Ranges.{is_place_number, has_range_of_id, has_range_of_tag, has_ranges_of_message, is_route, is_demanded_site, has_ranges_of_answer, is_told, is_reported, has_range_of_client, has_ranges_of_clients, has_ranges_of_record, is_asked, has_ranges_of_cargo, has_ranges}
 use Rattle.chorus_entry.specs.ClientTable.{are_distinct}
-use Rattle.chorus_world.specs.declared.port.Spot.{Spot}
-use Rattle.chorus_world.specs.declared.port.Spot.TheVariants as spots
+use Rattle.chorus_world.specs.declared.spot.Spot.{Spot}
+use Rattle.chorus_world.specs.declared.spot.Spot.TheVariants as spots
 use Rattle.chorus_world.specs.declared.place.Sent.{Sent}
-use Rattle.chorus_world.specs.declared.message.Progress.TheVariants.{Tried, Decided, Settled, Reported}
+use Rattle.chorus_world.specs.declared.progress.Progress.TheVariants.{Tried, Decided, Settled, Reported}
 use Rattle.chorus_world.specs.Views.{views, at, on, about, is_on, is_about}
 use Rattle.chorus_entry.specs.Order.{is_at}
 use Rattle.chorus_entry.specs.Same.{is_number, are_same}

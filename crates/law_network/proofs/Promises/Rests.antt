@@ -20,11 +20,11 @@ use Rattle.chorus_entry.specs.Answer.{is_final}
 use Rattle.chorus_entry.specs.Dest.{group_in}
 use Rattle.chorus_entry.specs.MsgId.{same_id}
 use Rattle.chorus_entry.proofs.Same.{same_id-self, from_same_id}
-use Rattle.chorus_world.specs.declared.message.Progress.{Progress}
-use Rattle.chorus_world.specs.declared.message.Progress.TheVariants.{Idle, Asked, Tried, Decided, Settled, Reported}
+use Rattle.chorus_world.specs.declared.progress.Progress.{Progress}
+use Rattle.chorus_world.specs.declared.progress.Progress.TheVariants.{Idle, Asked, Tried, Decided, Settled, Reported}
 use Rattle.chorus_world.specs.declared.place.Sent.{Sent}
-use Rattle.chorus_world.specs.declared.port.Spot.{Spot}
-use Rattle.chorus_world.specs.declared.port.Spot.TheVariants as spots
+use Rattle.chorus_world.specs.declared.spot.Spot.{Spot}
+use Rattle.chorus_world.specs.declared.spot.Spot.TheVariants as spots
 use Rattle.chorus_world.specs.Views.{views, at, about, on, is_about}
 use Rattle.chorus_entry.specs.Order.{is_at}
 use Rattle.chorus_entry.specs.Same.{are_same, is_number, same_route}

@@ -17,8 +17,8 @@ use Rattle.chorus_entry.specs.Same.{are_same}
 use Rattle.chorus_world.specs.Places.{last_clock}
 use Rattle.chorus_world.specs.Messages.{progress, progress_after}
 use Rattle.chorus_world.specs.Ports.{PortState, fate, last_of}
-use Rattle.chorus_world.specs.declared.port.Spot.{Spot}
-use Rattle.chorus_world.specs.declared.port.Spot.TheVariants.{Held, Moving, Ended}
+use Rattle.chorus_world.specs.declared.spot.Spot.{Spot}
+use Rattle.chorus_world.specs.declared.spot.Spot.TheVariants.{Held, Moving, Ended}
 use Rattle.chorus_world.proofs.Steps.LegalLemmas.{skips, keeps}
 use Rattle.chorus_world.proofs.Messages.Posted.{AllPosted, filtered}
 use Rattle.chorus_world.proofs.Messages.SendingLemmas.{same_id_sym}

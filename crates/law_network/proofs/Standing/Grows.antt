@@ -10,10 +10,10 @@ use Rattle.chorus_entry.specs.declared.packet.Cargo.{Cargo}
 use Rattle.chorus_entry.specs.declared.record.PortRecord.{PortRecord}
 use Rattle.chorus_entry.specs.Dest.{group_in}
 use Rattle.chorus_world.specs.declared.place.Sent.{Sent}
-use Rattle.chorus_world.specs.declared.port.Spot.{Spot}
-use Rattle.chorus_world.specs.declared.port.Spot.TheVariants.{Held, Moving, Ended}
-use Rattle.chorus_world.specs.declared.message.Progress.{Progress}
-use Rattle.chorus_world.specs.declared.message.Progress.TheVariants.{Idle, Asked, Tried, Decided, Settled, Reported}
+use Rattle.chorus_world.specs.declared.spot.Spot.{Spot}
+use Rattle.chorus_world.specs.declared.spot.Spot.TheVariants.{Held, Moving, Ended}
+use Rattle.chorus_world.specs.declared.progress.Progress.{Progress}
+use Rattle.chorus_world.specs.declared.progress.Progress.TheVariants.{Idle, Asked, Tried, Decided, Settled, Reported}
 use Rattle.chorus_world.specs.Views.{about}
 use Rattle.chorus_world.specs.Ports.{PortState, fate, last_of}
 use Rattle.chorus_world.specs.Posts.{Posted, post_of, site_from, as_posted}

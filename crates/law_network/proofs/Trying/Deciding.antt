@@ -13,10 +13,10 @@ use Rattle.chorus_entry.specs.declared.act.Act.TheVariants as acts
 use Rattle.chorus_entry.specs.declared.record.PortRecord.{PortRecord}
 use Rattle.chorus_entry.specs.Answer.{is_final}
 use Rattle.chorus_world.specs.declared.place.Location.{Location}
-use Rattle.chorus_world.specs.declared.port.Spot.{Spot}
-use Rattle.chorus_world.specs.declared.step.Due.{Due}
-use Rattle.chorus_world.specs.declared.step.Due.TheVariants.{NotDue, AtHome}
-use Rattle.chorus_world.specs.declared.port.Spot.TheVariants.{Held, Moving, Ended}
+use Rattle.chorus_world.specs.declared.spot.Spot.{Spot}
+use Rattle.chorus_world.specs.declared.due.Due.{Due}
+use Rattle.chorus_world.specs.declared.due.Due.TheVariants.{NotDue, AtHome}
+use Rattle.chorus_world.specs.declared.spot.Spot.TheVariants.{Held, Moving, Ended}
 use Rattle.chorus_world.specs.Views.{Views, at, on, is_on}
 use Rattle.chorus_entry.specs.Act.{held_port_of}
 use Rattle.chorus_world.specs.Ports.{PortState, fate, fate_after, waiting, is_held, is_last, last_of, is_held_at, has_room, is_full}

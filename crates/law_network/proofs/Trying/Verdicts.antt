@@ -17,8 +17,8 @@ use Rattle.chorus_ui.specs.NameKind.{is_port}
 use Rattle.chorus_entry.specs.Kinds.{has_kinds}
 use Rattle.chorus_entry.proofs.Same.{same_id-self}
 use Rattle.chorus_world.specs.declared.place.Location.{Location}
-use Rattle.chorus_world.specs.declared.message.Progress.{Progress}
-use Rattle.chorus_world.specs.declared.message.Progress.TheVariants.{Idle, Settled}
+use Rattle.chorus_world.specs.declared.progress.Progress.{Progress}
+use Rattle.chorus_world.specs.declared.progress.Progress.TheVariants.{Idle, Settled}
 use Rattle.chorus_world.specs.Views.{at, about, is_on, is_about}
 use Rattle.chorus_world.specs.Places.{last_clock, located, is_first, reply_taken_by, sent_by, is_settling}
 use Rattle.chorus_world.specs.Posts.{site_asked, site_from, is_on_site}

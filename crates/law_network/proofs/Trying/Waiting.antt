@@ -7,7 +7,7 @@ use Rattle.chorus_entry.specs.declared.act.Act.{Act}
 use Rattle.chorus_entry.specs.Act.{message_of}
 use Rattle.chorus_ui.specs.NameKind.{is_port}
 use Rattle.chorus_world.specs.declared.place.Sent.{Sent}
-use Rattle.chorus_world.specs.declared.message.Progress.TheVariants.{Idle}
+use Rattle.chorus_world.specs.declared.progress.Progress.TheVariants.{Idle}
 use Rattle.chorus_world.specs.Views.{at, about, is_about}
 use Rattle.chorus_world.specs.Places.{last_clock, sent, sent_by, find_sent, is_first, is_settling}
 use Rattle.chorus_world.specs.Posts.{site_asked}

@@ -9,7 +9,7 @@ use Rattle.chorus_entry.specs.declared.id.MsgId.{MsgId}
 use Rattle.chorus_entry.specs.declared.message.Message.{Message}
 use Rattle.chorus_entry.specs.declared.tag.Tag.{Tag}
 use Rattle.chorus_entry.specs.declared.act.Act.{Act}
-use Rattle.chorus_world.specs.declared.port.Spot.{Spot}
+use Rattle.chorus_world.specs.declared.spot.Spot.{Spot}
 use Rattle.chorus_world.specs.Ports.{PortState}
 use Rattle.law_network.specs.Holdings.{Holding, At}
 use Rattle.law_network.specs.EachMessage.{HoldEachMessage, HoldsAccepted}

@@ -8,7 +8,7 @@ use Rattle.chorus_entry.specs.declared.entry.Entry.{Entry}
 use Rattle.chorus_entry.specs.declared.tag.Tag.{Tag}
 use Rattle.chorus_entry.specs.declared.tag.Tag.TheVariants as tags
 use Rattle.chorus_entry.specs.declared.act.Act.{Act}
-use Rattle.chorus_world.specs.declared.message.Progress.{Progress}
+use Rattle.chorus_world.specs.declared.progress.Progress.{Progress}
 use Rattle.chorus_world.specs.Always.{EachEntry}
 use Rattle.chorus_world.specs.Steps.{may}
 use Rattle.chorus_world.proofs.Examples.Names.{actor, away, first, now, other, port, second, two_sites}

@@ -10,7 +10,7 @@ use Rattle.chorus_entry.specs.declared.dest.Dest.{Dest}
 use Rattle.chorus_entry.specs.declared.entry.Entry.{Entry}
 use Rattle.chorus_entry.specs.declared.tag.Tag.{Tag}
 use Rattle.chorus_entry.specs.declared.act.Act.{Act}
-use Rattle.chorus_world.specs.declared.port.Spot.{Spot}
+use Rattle.chorus_world.specs.declared.spot.Spot.{Spot}
 use Rattle.chorus_world.specs.Always.{EachEntry}
 use Rattle.chorus_world.specs.Views.{on}
 use Rattle.chorus_world.specs.Ports.{PortState, fate}

@@ -7,8 +7,8 @@ use Rattle.chorus_world.specs.Views.{at}
 use Rattle.checker_rows.specs.Lines.{line_in, is_open}
 use Rattle.checker_ledger.specs.Asks.{is_unchosen}
 use Rattle.checker_ledger.specs.Worlds.{next_to}
-use Rattle.checker_rows.specs.declared.keys.Line.{Line}
-use Rattle.checker_rows.specs.declared.lines.End.TheVariants.{Chosen}
+use Rattle.checker_rows.specs.declared.keys.LineKey.{LineKey}
+use Rattle.checker_rows.specs.declared.message_lines.End.TheVariants.{Chosen}
 use Rattle.checker_ledger.proofs.ChosenLemmas.{asked_first, choosing}
 use Rattle.checker_ledger.proofs.ReadLemmas.{asked_is}
 use Rattle.checker_ledger.proofs.TieLemmas.{chosen_open}
@@ -22,7 +22,7 @@ returns c =
     let f = c.self.invariant.1 in
     let g = c.args.group in
     let from = c.args.from in
-    let k : Line = record { place = from; name = g; route = None } in
+    let k : LineKey = record { place = from; name = g; route = None } in
     let xs = line_in t.asks k in
     let here : choosing l g from ≡ c.args.place = ap (λ (w : State). unwrap_or (group_place w.layout g) from) c.self.view_is ∙ c.requires in
     c.first_open.ensures

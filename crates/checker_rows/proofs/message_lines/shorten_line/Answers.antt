@@ -3,7 +3,7 @@ use Rattle.std.specs.Option.{option_copied_mut}
 use Rattle.std.specs.HashMap.{get}
 use Rattle.checker_rows.specs.Keys.{same_line}
 use Rattle.checker_rows.proofs.LineChanges.{others_stay}
-use Rattle.checker_rows.proofs.lines.shorten_line.Goals as goal
+use Rattle.checker_rows.proofs.message_lines.shorten_line.Goals as goal
 
 pub returns-in-Some-clause-others : goal.returns-in-Some-clause-others
 returns-in-Some-clause-others c =

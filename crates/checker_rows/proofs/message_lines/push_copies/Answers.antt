@@ -2,7 +2,7 @@ use Rattle.std.proofs.Common.{sym, ◌∙◌}
 use Rattle.checker_rows.specs.Lines.{line_in}
 use Rattle.checker_rows.proofs.LineChanges.{on_err, when_ok}
 use Rattle.checker_rows.proofs.OpenLines.{copy_more}
-use Rattle.checker_rows.proofs.lines.push_copies.Goals as goal
+use Rattle.checker_rows.proofs.message_lines.push_copies.Goals as goal
 
 pub returns-then-is_err-clause-err : goal.returns-then-is_err-clause-err
 returns-then-is_err-clause-err c =

@@ -1,6 +1,6 @@
 use Rattle.std.proofs.Common.{sym, ◌∙◌}
 use Rattle.chorus_transport.proofs.PlaceLemmas.{one_more_filled, no_more_filled}
-use Rattle.chorus_transport.proofs.places.filled.Goals as goal
+use Rattle.chorus_transport.proofs.window_slots.filled.Goals as goal
 
 pub loop-ready-preserved : goal.loop-ready-preserved
 loop-ready-preserved c =

@@ -5,7 +5,7 @@ use Rattle.std.proofs.lemmas.Result.{MatchResult-from_err}
 use Rattle.checker_rows.specs.Keys.{same_line}
 use Rattle.checker_rows.specs.Lines.{items_of}
 use Rattle.checker_rows.proofs.LineChanges.{put_longer, put_same}
-use Rattle.checker_rows.proofs.lines.push.Goals as goal
+use Rattle.checker_rows.proofs.message_lines.push.Goals as goal
 
 pub returns-in_err-push_back-clause-err : goal.returns-in_err-push_back-clause-err
 returns-in_err-push_back-clause-err c =

@@ -4,7 +4,7 @@ use Rattle.std.specs.HashMap.{get}
 use Rattle.checker_rows.specs.Keys.{same_line}
 use Rattle.checker_rows.specs.Lines.{items_of, but_last}
 use Rattle.checker_rows.proofs.LineChanges.{put_by}
-use Rattle.checker_rows.proofs.lines.take_last.Goals as goal
+use Rattle.checker_rows.proofs.message_lines.take_last.Goals as goal
 
 pub returns-in-Some : goal.returns-in-Some
 returns-in-Some c =

@@ -1,6 +1,6 @@
 use Rattle.std.proofs.Common.{◌≡◌, ◌+◌, ◌-◌, ◌≤◌, ◌++◌, replicate, None}
 use Rattle.std.specs.VecDeque.{deque_len, deque_capacity}
-use Rattle.chorus_transport.proofs.places.widen.Given as goal
+use Rattle.chorus_transport.proofs.window_slots.widen.Given as goal
 
 abbrev pub invariant-loop : goal.invariant-loop
 invariant-loop l = record {

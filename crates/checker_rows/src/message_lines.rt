@@ -8,7 +8,7 @@ ghost use Rattle.chorus_ui.specs.declared.limits.TheConstants.{MEMBERS_LIMIT};
 ghost use Rattle.chorus_world.specs.Places.{copies, sent_by};
 ghost use Rattle.checker_rows.specs.Lines.{line_in, is_open, AreSame, IsLonger, IsShorter, ArePut, AreTakenBack, OpensSame, OthersStay};
 
-use crate::keys::Line;
+use crate::keys::LineKey;
 use crate::messages::MessageRow;
 use crate::sending::copy_of;
 use chorus_entry::{Act, Dest, Entry, MsgId};
@@ -40,9 +40,9 @@ fn is_open(messages: &HashMap<MsgId, MessageRow>, end: End, id: MsgId) -> bool
 
 /// Puts the id last in its line. An error leaves the lines as they were.
 pub fn push(
-    lines: &mut HashMap<Line, VecDeque<MsgId>>,
+    lines: &mut HashMap<LineKey, VecDeque<MsgId>>,
     alloc: Global,
-    key: Line,
+    key: LineKey,
     id: MsgId,
 ) -> Result<(), AllocError>
     ensures ok { OnOk result (IsLonger key id (line_in lines.old) (line_in lines.new)) }
@@ -59,7 +59,7 @@ pub fn push(
 }
 
 /// Takes the last one out of the line.
-fn take_last(lines: &mut HashMap<Line, VecDeque<MsgId>>, key: &Line)
+fn take_last(lines: &mut HashMap<LineKey, VecDeque<MsgId>>, key: &LineKey)
     ensures { IsShorter key.now (line_in lines.old) (line_in lines.new) }
 {
     if let Some(line) = lines.get_mut(key) {
@@ -68,10 +68,10 @@ fn take_last(lines: &mut HashMap<Line, VecDeque<MsgId>>, key: &Line)
 }
 
 /// The line of a copy to this member.
-fn copy_line(place: u16, group: Ui, member: Ui) -> Line
+fn copy_line(place: u16, group: Ui, member: Ui) -> LineKey
     ensures { result ≡ record { place = place; name = member; route = Some group } }
 {
-    Line {
+    LineKey {
         place,
         name: member,
         route: Some(group),
@@ -80,7 +80,7 @@ fn copy_line(place: u16, group: Ui, member: Ui) -> Line
 
 /// Takes back what was put last for the copies of a post to these members.
 fn take_back(
-    lines: &mut HashMap<Line, VecDeque<MsgId>>,
+    lines: &mut HashMap<LineKey, VecDeque<MsgId>>,
     place: u16,
     post: MsgId,
     group: Ui,
@@ -99,7 +99,7 @@ fn take_back(
 
 /// Puts the copies of a post to these members last in their lines. An error leaves the lines as they were.
 fn push_copies(
-    lines: &mut HashMap<Line, VecDeque<MsgId>>,
+    lines: &mut HashMap<LineKey, VecDeque<MsgId>>,
     alloc: Global,
     place: u16,
     post: MsgId,
@@ -128,7 +128,7 @@ fn push_copies(
 
 /// Puts what the entry sends last in its lines. An error leaves the lines as they were.
 pub fn follow_lines(
-    lines: &mut HashMap<Line, VecDeque<MsgId>>,
+    lines: &mut HashMap<LineKey, VecDeque<MsgId>>,
     alloc: Global,
     entry: &Entry,
 ) -> Result<(), AllocError>
@@ -143,7 +143,7 @@ pub fn follow_lines(
         } => push(
             lines,
             alloc,
-            Line {
+            LineKey {
                 place: entry.place,
                 name: *port,
                 route: None,
@@ -159,9 +159,9 @@ pub fn follow_lines(
 
 /// The first in the line that is open.
 pub fn first_open(
-    lines: &HashMap<Line, VecDeque<MsgId>>,
+    lines: &HashMap<LineKey, VecDeque<MsgId>>,
     messages: &HashMap<MsgId, MessageRow>,
-    key: &Line,
+    key: &LineKey,
     end: End,
 ) -> Option<MsgId>
     ensures { result ≡ find (is_open messages.now end) (line_in lines.now key.now) }
@@ -204,9 +204,9 @@ fn shorten(line: &mut VecDeque<MsgId>, messages: &HashMap<MsgId, MessageRow>, en
 
 /// Takes the first ones out of a line that are not open.
 pub fn shorten_line(
-    lines: &mut HashMap<Line, VecDeque<MsgId>>,
+    lines: &mut HashMap<LineKey, VecDeque<MsgId>>,
     messages: &HashMap<MsgId, MessageRow>,
-    key: &Line,
+    key: &LineKey,
     end: End,
 )
     ensures at_key { OpensSame (is_open messages.now end)

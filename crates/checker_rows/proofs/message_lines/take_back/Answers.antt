@@ -3,7 +3,7 @@ use Rattle.std.proofs.Math.Seq.{take-length}
 use Rattle.chorus_world.specs.Places.{copies}
 use Rattle.checker_rows.specs.Lines.{line_in, sent_by_line}
 use Rattle.checker_rows.proofs.OpenLines.{copy_back, all_back}
-use Rattle.checker_rows.proofs.lines.take_back.Goals as goal
+use Rattle.checker_rows.proofs.message_lines.take_back.Goals as goal
 
 pub loop-left-init : goal.loop-left-init
 loop-left-init c = (
