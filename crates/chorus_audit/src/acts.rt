@@ -234,6 +234,7 @@ fn call_act(kind: &[u8], words: &mut Words<'_>) -> Result<Act, Unread>
     }
 }
 
+/// Reads the words of a `post` in a printed journal: id, destination, tag, and the escaped body at the end.
 fn post(alloc: Global, room: &mut Vec<u8>, words: &mut Words<'_>) -> Result<Act, Unread>
     ensures reads { Reads result (held (post_in words.old)) }
     ensures allowed { IfOk result IsAct }
@@ -246,6 +247,7 @@ fn post(alloc: Global, room: &mut Vec<u8>, words: &mut Words<'_>) -> Result<Act,
     Ok(Act::Post { message, dest })
 }
 
+/// Reads the words of a `choose` in a printed journal; more members than a group may have are no entry.
 fn choose(alloc: Global, words: &mut Words<'_>) -> Result<Act, Unread>
     ensures reads { Reads result (held (choose_in words.old)) }
     ensures allowed { IfOk result IsAct }
@@ -259,6 +261,7 @@ fn choose(alloc: Global, words: &mut Words<'_>) -> Result<Act, Unread>
     Ok(Act::Choose { id, group, members })
 }
 
+/// Reads the words of a `delete` in a printed journal: the port, and the ids of the messages discarded with it.
 fn delete(alloc: Global, words: &mut Words<'_>) -> Result<Act, Unread>
     ensures reads { Reads result (held (delete_in words.old)) }
     ensures allowed { IfOk result IsAct }

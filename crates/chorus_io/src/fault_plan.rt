@@ -24,6 +24,7 @@ impl Model for FaultPlan {
 }
 
 impl FaultPlan {
+    /// No call was made yet, and the calls with these numbers, counted from 1, will fail.
     pub(crate) fn new(failing: Vec<u64>) -> Self
         ensures { result ≡ fresh failing.items }
     {
@@ -54,6 +55,7 @@ impl FaultPlan {
         Failed
     }
 
+    /// How many faults of this source or sink in memory were counted so far.
     pub(crate) fn faults(&self) -> u64
         ensures { result ≡ self.now.faults }
     {

@@ -90,6 +90,7 @@ fn are_hex(text: &[u8]) -> bool
     true
 }
 
+/// Whether the byte is one of the digits of a body in hexadecimal: `0` to `9` or `a` to `f`, no capital.
 fn is_hex(c: u8) -> bool
     ensures { result ≡ is_hex c }
 {

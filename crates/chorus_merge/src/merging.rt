@@ -44,6 +44,7 @@ pub fn merge_lent<'a>(
     }
 }
 
+/// References to all entries of a single journal, in its order; the only error is want of memory.
 fn borrow_all(alloc: Global, journal: &[Entry]) -> Result<Vec<&Entry>, AllocError>
     ensures { IfOk result (λ entries. lent entries.items ≡ journal.now) }
 {
@@ -83,6 +84,7 @@ fn merge_two<'a>(
     Ok(entries)
 }
 
+/// Whether one entry has the lesser clock, or the same clock and the lesser place: the order of merged journals.
 fn comes_before(one: &Entry, other: &Entry) -> bool
     ensures { result ≡ comes_before one.now other.now }
 {

@@ -30,6 +30,7 @@ pub fn print(scenario: &Scenario, out: &mut Vec<u8>) -> Result<(), AllocError>
     written
 }
 
+/// Appends the whole text of a scenario, down to `end`; after an error a part of it may stand there.
 fn push_scenario(scenario: &Scenario, out: &mut Vec<u8>) -> Result<(), AllocError>
     ensures text { OnOk result (out.new.items ≡ out.old.items ++ printed scenario.now) }
     ensures again { IsReadAgain scenario.now }
@@ -44,6 +45,7 @@ fn push_scenario(scenario: &Scenario, out: &mut Vec<u8>) -> Result<(), AllocErro
     Ok(())
 }
 
+/// Appends the first two lines of a scenario: `chorus` with the version, and `sites` with their number.
 fn push_head(version: u8, sites: u16, out: &mut Vec<u8>) -> Result<(), AllocError>
     ensures ok { OnOk result
         (out.new.items
@@ -70,6 +72,7 @@ fn push_setup(lines: &[SetupLine], names: &[Ui], out: &mut Vec<u8>) -> Result<()
     Ok(())
 }
 
+/// Appends a `port`, `group` or `member` line of the setup, which begins with this name, without its end of line.
 fn push_setup_line(name: Ui, line: &SetupLine, out: &mut Vec<u8>) -> Result<(), AllocError>
     ensures ok { OnOk result (out.new.items ≡ out.old.items ++ said_text name line.now) }
     ensures err { OnErr result (take (length out.old.items) out.new.items ≡ out.old.items) }
@@ -84,6 +87,7 @@ fn push_setup_line(name: Ui, line: &SetupLine, out: &mut Vec<u8>) -> Result<(), 
     }
 }
 
+/// Appends each script of a scenario: its `script` line and the lines of its commands.
 fn push_scripts(scripts: &[Script], out: &mut Vec<u8>) -> Result<(), AllocError>
     ensures ok { OnOk result
         (out.new.items ≡ out.old.items ++ all_ended (flat_map script_texts scripts.now)) }
@@ -95,6 +99,7 @@ fn push_scripts(scripts: &[Script], out: &mut Vec<u8>) -> Result<(), AllocError>
     Ok(())
 }
 
+/// Appends the line `script ACTOR`, and behind it a line for each command of the script.
 fn push_script(script: &Script, out: &mut Vec<u8>) -> Result<(), AllocError>
     ensures ok { OnOk result
         (out.new.items ≡ out.old.items ++ all_ended (script_texts script.now)) }
@@ -109,6 +114,7 @@ fn push_script(script: &Script, out: &mut Vec<u8>) -> Result<(), AllocError>
     Ok(())
 }
 
+/// Appends the line of one command of a script, without its end of line.
 fn push_command(command: &Command, out: &mut Vec<u8>) -> Result<(), AllocError>
     ensures ok { OnOk result (out.new.items ≡ out.old.items ++ command_text command.now) }
     ensures err { OnErr result (take (length out.old.items) out.new.items ≡ out.old.items) }
@@ -158,6 +164,7 @@ fn push_dest(dest: &Dest, out: &mut Vec<u8>) -> Result<(), AllocError>
     }
 }
 
+/// Appends the line `schedule`, and behind it a line for each step of the scenario.
 fn push_schedule(steps: &[Step], out: &mut Vec<u8>) -> Result<(), AllocError>
     ensures ok { OnOk result
         (out.new.items ≡ out.old.items ++ all_ended (codes "schedule" ∷ map step_text steps.now)) }
@@ -171,6 +178,7 @@ fn push_schedule(steps: &[Step], out: &mut Vec<u8>) -> Result<(), AllocError>
     Ok(())
 }
 
+/// Appends a `step`, `deliver` or `drain` line of the schedule, without its end of line.
 fn push_step(step: Step, out: &mut Vec<u8>) -> Result<(), AllocError>
     ensures ok { OnOk result (out.new.items ≡ out.old.items ++ step_text step) }
     ensures err { OnErr result (take (length out.old.items) out.new.items ≡ out.old.items) }
@@ -217,6 +225,7 @@ fn push_numbered(word: &[u8], number: u64, out: &mut Vec<u8>) -> Result<(), Allo
     push_number(number, out)
 }
 
+/// Appends a space and the text of a name, as one more field of a scenario's line.
 fn push_name(name: Ui, out: &mut Vec<u8>) -> Result<(), AllocError>
     ensures ok { OnOk result (out.new.items ≡ out.old.items ++ 32 ∷ name_text name) }
     ensures err { OnErr result (take (length out.old.items) out.new.items ≡ out.old.items) }
@@ -225,6 +234,7 @@ fn push_name(name: Ui, out: &mut Vec<u8>) -> Result<(), AllocError>
     name.text(out)
 }
 
+/// Appends a space and the number in decimal, as one more field of a scenario's line.
 fn push_number(number: u64, out: &mut Vec<u8>) -> Result<(), AllocError>
     ensures ok { OnOk result (out.new.items ≡ out.old.items ++ 32 ∷ decimal number) }
     ensures err { OnErr result (take (length out.old.items) out.new.items ≡ out.old.items) }
@@ -233,6 +243,7 @@ fn push_number(number: u64, out: &mut Vec<u8>) -> Result<(), AllocError>
     push_decimal(number, out)
 }
 
+/// Appends a body as a line's last field: behind `=` as it is where it is printable, else in hex behind `x`.
 fn push_body(bytes: &[u8], out: &mut Vec<u8>) -> Result<(), AllocError>
     ensures ok { OnOk result (out.new.items ≡ out.old.items ++ 32 ∷ body_text bytes.now) }
     ensures err { OnErr result (take (length out.old.items) out.new.items ≡ out.old.items) }
@@ -246,6 +257,7 @@ fn push_body(bytes: &[u8], out: &mut Vec<u8>) -> Result<(), AllocError>
     }
 }
 
+/// Appends two hexadecimal digits for each byte of a body that cannot be printed as text.
 fn push_hex(bytes: &[u8], out: &mut Vec<u8>) -> Result<(), AllocError>
     ensures ok { OnOk result (out.new.items ≡ out.old.items ++ hex_text bytes.now) }
     ensures err { OnErr result (take (length out.old.items) out.new.items ≡ out.old.items) }
@@ -257,6 +269,7 @@ fn push_hex(bytes: &[u8], out: &mut Vec<u8>) -> Result<(), AllocError>
     Ok(())
 }
 
+/// The hexadecimal digit, `0` to `9` or `a` to `f`, by which a printed scenario says a number below 16.
 fn hex_digit(n: u8) -> u8
     requires { n < 16 }
     ensures { result ≡ hex_digit n }
@@ -264,6 +277,7 @@ fn hex_digit(n: u8) -> u8
     if n < 10 { b'0' + n } else { b'a' - 10 + n }
 }
 
+/// Appends the LF that ends a line of a printed scenario.
 fn end_line(out: &mut Vec<u8>) -> Result<(), AllocError>
     ensures ok { OnOk result (out.new.items ≡ out.old.items ++ 10 ∷ []) }
     ensures err { OnErr result (take (length out.old.items) out.new.items ≡ out.old.items) }

@@ -57,42 +57,49 @@ impl Counts {
     }
 }
 
+/// Whether the summary counts the act as `posted`.
 fn is_post(act: &Act) -> bool
     ensures { result ≡ is_post act.now }
 {
     matches!(act, Act::Post { .. })
 }
 
+/// Whether the summary counts the act as `accepted`: a port took a message into its queue.
 fn is_accept(act: &Act) -> bool
     ensures { result ≡ is_accept act.now }
 {
     matches!(act, Act::Accept { .. })
 }
 
+/// Whether the summary counts the act as `taken`: a message was received from a port.
 fn is_take(act: &Act) -> bool
     ensures { result ≡ is_take act.now }
 {
     matches!(act, Act::Take { .. })
 }
 
+/// Whether the summary counts the act as `stale`: a message was tried where the port had left.
 fn is_stale(act: &Act) -> bool
     ensures { result ≡ is_stale act.now }
 {
     matches!(act, Act::Stale { .. })
 }
 
+/// Whether the summary counts the act among the `departs`: a port left for another place.
 fn is_depart(act: &Act) -> bool
     ensures { result ≡ is_depart act.now }
 {
     matches!(act, Act::Depart { .. })
 }
 
+/// Whether the act deletes a port, so that the summary has a line `discarded`.
 fn is_delete(act: &Act) -> bool
     ensures { result ≡ is_delete act.now }
 {
     matches!(act, Act::Delete { .. })
 }
 
+/// Whether the summary counts the act as `refused`: no port takes the message in, and it is not `stale`.
 fn is_refusal(act: &Act) -> bool
     ensures { result ≡ is_refusal act.now }
 {

@@ -117,6 +117,7 @@ impl Field for Body {
     }
 }
 
+/// Appends the bytes of a body, each that is not printable, and each `%`, as `%` and two hexadecimal digits.
 fn push_escaped(bytes: &[u8], out: &mut Vec<u8>) -> Result<(), AllocError>
     ensures text { OnOk result (out.new.items ≡ out.old.items ++ flat_map byte_text bytes.now) }
     ensures fits { OnOk result (AreBytes bytes.now) }
@@ -139,6 +140,7 @@ pub fn push_byte(byte: u8, out: &mut Vec<u8>) -> Result<(), AllocError>
     out.extend_from_slice(&[b'%', hex_digit(byte / 16), hex_digit(byte % 16)])
 }
 
+/// The hexadecimal digit, `0` to `9` or `a` to `f`, by which an escaped byte of a body says a number below 16.
 fn hex_digit(digit: u8) -> u8
     requires { digit < 16 }
     ensures { result ≡ hex_digit digit }

@@ -103,6 +103,7 @@ fn push_summary(counts: &Counts, queues: &Queues, out: &mut Vec<u8>) -> Result<(
     Ok(())
 }
 
+/// Appends the first five count lines of a summary, from `posted` to `moving`.
 fn push_message_lines(counts: &Counts, queues: &Queues, out: &mut Vec<u8>) -> Result<(), AllocError>
     ensures { OnOk result
         ((entries : List Entry) → AreCounts counts.now entries → AreQueues queues.now entries →
@@ -116,6 +117,7 @@ fn push_message_lines(counts: &Counts, queues: &Queues, out: &mut Vec<u8>) -> Re
     Ok(())
 }
 
+/// Appends the summary's line `discarded`, and nothing where no port was deleted.
 fn push_discarded_line(counts: &Counts, out: &mut Vec<u8>) -> Result<(), AllocError>
     ensures { OnOk result
         ((entries : List Entry) → AreCounts counts.now entries →
@@ -128,6 +130,7 @@ fn push_discarded_line(counts: &Counts, out: &mut Vec<u8>) -> Result<(), AllocEr
     Ok(())
 }
 
+/// Appends the last three count lines of a summary: `refused`, `stale` and `departs`.
 fn push_other_lines(counts: &Counts, out: &mut Vec<u8>) -> Result<(), AllocError>
     ensures { OnOk result
         ((entries : List Entry) → AreCounts counts.now entries →

@@ -31,6 +31,7 @@ pub fn read_words<'a>(alloc: Global, words: &'a [&'a str]) -> Result<Option<Word
     ))
 }
 
+/// Whether each word of the command line may be a value: none is empty or begins with `-`.
 fn are_values(words: &[&str]) -> bool
     ensures { result ≡ list_all (λ word. is_value word.now) words.now }
 {

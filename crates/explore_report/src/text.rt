@@ -98,6 +98,7 @@ fn is_same(one: &[u8], other: &[u8]) -> bool
     are_equal(one, other)
 }
 
+/// Whether two byte strings of a report are equal, with a contract that says so of the bytes themselves.
 fn are_equal(one: &[u8], other: &[u8]) -> bool
     ensures yes { result ≡ true → one.now ≡ other.now }
     ensures no { result ≡ false → one.now ≢ other.now }

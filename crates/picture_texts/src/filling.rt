@@ -88,6 +88,7 @@ fn is_special(byte: u8) -> bool
     matches!(byte, b'<' | b'>' | b'&' | b'\'' | b'"' | b'\n')
 }
 
+/// Appends a byte as it stands in the picture's markup: the special ones by a reference, LF as a space.
 fn push_markup_byte(byte: u8, out: &mut Vec<u8>) -> Result<(), AllocError>
     ensures { OnOk result (out.new.items ≡ out.old.items ++ markup_byte byte) }
 {

@@ -27,6 +27,7 @@ use std::thread::Threads;
 /// How many jobs each client sends.
 const JOBS: u8 = 8;
 
+/// Runs the queue of jobs and prints its report; the exit status is a failure where either could not be done.
 fn main(rt: HostRuntime) -> ExitCode {
     let Some(finished) = run(rt.alloc(), &rt) else {
         return ExitCode::FAILURE;
@@ -37,10 +38,12 @@ fn main(rt: HostRuntime) -> ExitCode {
     }
 }
 
+/// The actor of this number on the site, who will be a worker or a client; None where there is no such name.
 fn actor(site: u16, number: u64) -> Option<Ui> {
     Ui::new(site, Kind::Actor, number)
 }
 
+/// Runs a job queue with two workers on sites 1 and 2 and three clients; None where a name or the run fails.
 fn run<R: Threads + Wait + Sync>(alloc: Global, rt: &R) -> Option<Finished> {
     let comers = [
         Comer {
@@ -76,6 +79,7 @@ fn run<R: Threads + Wait + Sync>(alloc: Global, rt: &R) -> Option<Finished> {
     run_queue(alloc, rt, Layout::new(3, 1)?, 1, &comers).ok()
 }
 
+/// Prints how many jobs were accepted and handed out and whether the journal is lawful; None where that fails.
 fn report(rt: &HostRuntime, finished: &Finished) -> Option<()> {
     let judged = judge(rt.alloc(), finished).ok()?;
     let (accepted, lawful) = (judged.accepted, judged.is_lawful);
@@ -102,6 +106,7 @@ struct Judged {
     is_lawful: bool,
 }
 
+/// Merges the journals and lets the checker apply each entry, down to the first that is not lawful.
 fn judge(alloc: Global, finished: &Finished) -> Result<Judged, AllocError> {
     let mut judged = Judged {
         accepted: 0,

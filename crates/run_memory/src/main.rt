@@ -43,6 +43,7 @@ struct Called {
     is_digest: bool,
 }
 
+/// Does the cases of standard input in memory; when all were done and words were given, runs the program too.
 fn main(rt: HostRuntime) -> ExitCode {
     let number = run(&rt, &rt);
     if number == 0 && has_words(&rt) {

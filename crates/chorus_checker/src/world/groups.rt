@@ -24,6 +24,7 @@ impl World {
         self.is_group_place(place, group) && self.ledger.is_group_here(place, group)
     }
 
+    /// Whether a journal may say that a group was to be made on this site and the layout has no such site.
     pub(super) fn may_find_no_site(&self, place: u16, site: u16) -> bool
         ensures { result ≡ may_do self.now place 0 (Act.NoSite site) }
     {
@@ -31,6 +32,7 @@ impl World {
         !self.layout().has_site(site)
     }
 
+    /// Whether the place may make this group: it is the group's own, and the number is the next and within the limit.
     pub(super) fn may_make_group(&self, place: u16, group: Ui) -> bool
         ensures { result ≡ may_do self.now place 0 (Act.GroupMake group) }
     {
@@ -40,6 +42,7 @@ impl World {
             && group.number() - 1 == made
     }
 
+    /// Whether the place makes the groups of this site, and has made all that a site may have.
     pub(super) fn may_find_groups_full(&self, place: u16, site: u16) -> bool
         ensures { result ≡ may_do self.now place 0 (Act.GroupsFull site) }
     {
@@ -48,6 +51,7 @@ impl World {
             && self.ledger.groups_made(place) == GROUPS_PER_SITE_LIMIT
     }
 
+    /// Whether the port may join the group at its place: it is no member yet, and the group has room for one more.
     pub(super) fn may_join(&self, place: u16, group: Ui, port: Ui) -> bool
         ensures { result ≡ may_do self.now place 0 (Act.Join group port) }
     {
@@ -55,30 +59,35 @@ impl World {
         self.is_group_at(place, group) && !is_member(members, port) && members.len() < MEMBERS_LIMIT
     }
 
+    /// Whether the place may answer a join with There: the group is made here, and the port is a member already.
     pub(super) fn may_find_there(&self, place: u16, group: Ui, port: Ui) -> bool
         ensures { result ≡ may_do self.now place 0 (Act.There group port) }
     {
         self.is_group_at(place, group) && is_member(self.ledger.members(place, group), port)
     }
 
+    /// Whether the port may leave the group, which is made at this place and has the port as a member.
     pub(super) fn may_leave(&self, place: u16, group: Ui, port: Ui) -> bool
         ensures { result ≡ may_do self.now place 0 (Act.Leave group port) }
     {
         self.may_find_there(place, group, port)
     }
 
+    /// Whether the place may answer a leave with NotThere: the group is made here, and the port is no member.
     pub(super) fn may_find_not_there(&self, place: u16, group: Ui, port: Ui) -> bool
         ensures { result ≡ may_do self.now place 0 (Act.NotThere group port) }
     {
         self.is_group_at(place, group) && !is_member(self.ledger.members(place, group), port)
     }
 
+    /// Whether the place may answer a join with MembersFull: the group is made here, and has the most members.
     pub(super) fn may_find_members_full(&self, place: u16, group: Ui) -> bool
         ensures { result ≡ may_do self.now place 0 (Act.MembersFull group) }
     {
         self.is_group_at(place, group) && self.ledger.members(place, group).len() == MEMBERS_LIMIT
     }
 
+    /// Whether a journal may say that there is no such group to join or to leave: none with this name was made.
     pub(super) fn may_find_no_group(&self, place: u16, group: Ui) -> bool
         ensures { result ≡ may_do self.now place 0 (Act.NoGroup group) }
     {

@@ -46,6 +46,7 @@ impl World {
         u128::from(number) == made * turns + turn + 1
     }
 
+    /// Whether the place may make this port for an actor at home there: its next name, within its share of ports.
     pub(super) fn may_make(&self, place: u16, port: Ui, actor: Ui, capacity: u8) -> bool
         ensures { result ≡ may_do self.now place 0 (Act.Make port actor capacity) }
     {
@@ -57,30 +58,35 @@ impl World {
             && self.is_next_number(place, port.number())
     }
 
+    /// Whether the place may answer that it has made its share of the site's ports, when one is asked for its actor.
     pub(super) fn may_find_ports_full(&self, place: u16, actor: Ui) -> bool
         ensures { result ≡ may_do self.now place 0 (Act.MakeFull actor) }
     {
         self.is_home(actor, place) && self.is_full_of_ports(place)
     }
 
+    /// Whether a journal may say that a port was for an actor that the layout does not have.
     pub(super) fn may_find_no_actor(&self, place: u16, actor: Ui) -> bool
         ensures { result ≡ may_do self.now place 0 (Act.NoActor actor) }
     {
         !self.has_actor(actor)
     }
 
+    /// Whether this message, at this position, may be received: the place holds the port, and it waits there first.
     pub(super) fn may_take(&self, place: u16, port: Ui, pos: u64, id: MsgId) -> bool
         ensures { result ≡ may_do self.now place 0 (Act.Take port pos id) }
     {
         is_held_at(self.port(port), place) && is_first_waiting(self.port(port), pos, id)
     }
 
+    /// Whether the place may answer a receive with Empty: it holds the port, and no message waits in it.
     pub(super) fn may_find_empty(&self, place: u16, port: Ui) -> bool
         ensures { result ≡ may_do self.now place 0 (Act.Empty port) }
     {
         is_held_at(self.port(port), place) && is_empty(self.port(port))
     }
 
+    /// Whether the port, which the place holds, may move to this actor: one of the place's own site.
     pub(super) fn may_rehome(&self, place: u16, port: Ui, actor: Ui) -> bool
         ensures { result ≡ may_do self.now place 0 (Act.Rehome port actor) }
     {
@@ -89,6 +95,7 @@ impl World {
             && actor.site() == site_of(self.layout(), place)
     }
 
+    /// Whether the port may leave this place, by its next hop, for its place on the other site where the actor is.
     pub(super) fn may_depart(&self, place: u16, port: Ui, to: u16, actor: Ui, hop: u64) -> bool
         ensures { result ≡ may_do self.now place 0 (Act.Depart port to actor hop) }
     {
@@ -99,12 +106,14 @@ impl World {
             && is_next_hop(self.port(port), hop)
     }
 
+    /// Whether the port may arrive at the place: it is on its way there, and this is its last hop.
     pub(super) fn may_arrive(&self, place: u16, port: Ui, hop: u64) -> bool
         ensures { result ≡ may_do self.now place 0 (Act.Arrive port hop) }
     {
         is_coming(self.port(port), place, hop)
     }
 
+    /// Whether the place may delete the port: it holds it, and just these messages wait in it, in this order.
     pub(super) fn may_delete(&self, place: u16, port: Ui, discarded: &Ids) -> bool
         ensures { result ≡ may_do self.now place 0 (Act.Delete port discarded.now) }
     {

@@ -63,6 +63,7 @@ impl World {
         }
     }
 
+    /// Whether this may be the caller's next post: its number is the next, and it has a tag that the caller may give.
     pub(super) fn may_post(&self, place: u16, seat: u32, message: &Message, dest: &Dest) -> bool
         ensures { result ≡ may_do self.now place seat (Act.Post message.now dest.now) }
     {
@@ -84,12 +85,14 @@ impl World {
         }
     }
 
+    /// Whether the caller has no outstanding call, so that there is none to repeat or to cancel.
     pub(super) fn has_no_call(&self, seat: u32) -> bool
         ensures { result ≡ is_none (call (by seat self.now.past)) }
     {
         self.ledger.call(seat).is_none()
     }
 
+    /// Whether the caller holds no request in hand to which it could reply.
     pub(super) fn has_no_request(&self, seat: u32) -> bool
         ensures { result ≡ is_none (hand self.now.past (by seat self.now.past)) }
     {
@@ -103,6 +106,7 @@ impl World {
         reply.client == seat && self.is_outstanding(seat, number)
     }
 
+    /// Whether the reply that the caller just took at the place ends its outstanding call of this number.
     pub(super) fn may_be_done(&self, place: u16, seat: u32, number: u32) -> bool
         ensures { result ≡ may_do self.now place seat (Act.Done number) }
     {
@@ -116,6 +120,7 @@ impl World {
         }
     }
 
+    /// Whether the reply that the caller just took at the place has this number and ends no call of the caller's.
     pub(super) fn may_be_late(&self, place: u16, seat: u32, number: u32) -> bool
         ensures { result ≡ may_do self.now place seat (Act.Late number) }
     {

@@ -106,30 +106,35 @@ impl World {
             && !self.ledger.finds_clients_full(port, id)
     }
 
+    /// Whether the port may take the message in at this position: the message may enter, and the queue has room.
     pub(super) fn may_accept(&self, place: u16, id: MsgId, port: Ui, pos: u64) -> bool
         ensures { result ≡ may_do self.now place 0 (Act.Accept id port pos) }
     {
         self.may_enter(place, id, port) && has_room(self.port(port), pos)
     }
 
+    /// Whether the message may be refused with Full: it could enter, but the port's queue is full with so many.
     pub(super) fn may_find_full(&self, place: u16, id: MsgId, port: Ui, len: u8) -> bool
         ensures { result ≡ may_do self.now place 0 (Act.Full id port len) }
     {
         self.may_enter(place, id, port) && is_full(self.port(port), len)
     }
 
+    /// Whether the message, due where its port is held, may be refused as a request that the port accepted before.
     pub(super) fn may_find_already(&self, place: u16, id: MsgId, port: Ui) -> bool
         ensures { result ≡ may_do self.now place 0 (Act.Already id port) }
     {
         self.meets(place, id, port) && self.ledger.is_already(port, id)
     }
 
+    /// Whether the message, due where its port is held, may be refused as the port remembers too many clients.
     pub(super) fn may_find_clients_full(&self, place: u16, id: MsgId, port: Ui) -> bool
         ensures { result ≡ may_do self.now place 0 (Act.ClientsFull id port) }
     {
         self.meets(place, id, port) && self.ledger.finds_clients_full(port, id)
     }
 
+    /// Whether the message, which demands no site, may be answered with where its port went since the hop tried.
     pub(super) fn may_be_stale(
         &self,
         place: u16,
@@ -160,6 +165,7 @@ impl World {
         location.to == to && location.hop == hop
     }
 
+    /// Whether the message may be answered with Early: it is due, but its port is still under way here by this hop.
     pub(super) fn may_be_early(&self, place: u16, id: MsgId, port: Ui, hop: u64) -> bool
         ensures { result ≡ may_do self.now place 0 (Act.Early id port hop) }
     {
@@ -173,6 +179,7 @@ impl World {
         early && is_coming(self.port(port), place, hop)
     }
 
+    /// Whether the message may be answered with NoPort: its port is not made, or its site is beyond the layout.
     pub(super) fn may_find_no_port(&self, place: u16, id: MsgId, port: Ui) -> bool
         ensures { result ≡ may_do self.now place 0 (Act.NoPort id port) }
     {
@@ -199,6 +206,7 @@ impl World {
         }
     }
 
+    /// Whether the message, which demands a site, may be answered with where else the place locates its port.
     pub(super) fn may_be_elsewhere(
         &self,
         place: u16,
@@ -214,12 +222,14 @@ impl World {
             && self.is_elsewhere(place, id, port, to, hop)
     }
 
+    /// Whether the message may be answered with Gone: it is due at the place, and its port was deleted there.
     pub(super) fn may_find_gone(&self, place: u16, id: MsgId, port: Ui) -> bool
         ensures { result ≡ may_do self.now place 0 (Act.Gone id port) }
     {
         self.is_due(place, id, port) && is_ended_at(self.port(port), place)
     }
 
+    /// Whether the place may send the message on to another, where it locates the port, on the site demanded if any.
     pub(super) fn may_try(&self, place: u16, id: MsgId, port: Ui, to: u16, hop: u64) -> bool
         ensures { result ≡ may_do self.now place 0 (Act.Try id port to hop) }
     {
@@ -229,6 +239,7 @@ impl World {
             && self.is_on_site(self.ledger.site_asked(id), to)
     }
 
+    /// Whether the place, which tried the message elsewhere, may now learn this decision on it.
     pub(super) fn may_be_told(&self, place: u16, id: MsgId, answer: Answer) -> bool
         ensures { result ≡ may_do self.now place 0 (Act.Told id answer) }
     {
@@ -266,6 +277,7 @@ impl World {
         }
     }
 
+    /// Whether it is the post's turn at the group's place, and just these members, at least one, are chosen for it.
     pub(super) fn may_choose(&self, place: u16, id: MsgId, group: Ui, members: &Members) -> bool
         ensures { result ≡ may_do self.now place 0 (Act.Choose id group members.now) }
     {
@@ -275,6 +287,7 @@ impl World {
             && members.uis() == self.choice_from(place, &progress)
     }
 
+    /// Whether the post to the group may be answered with NoMember: its turn has come, and nobody can be chosen.
     pub(super) fn may_find_no_member(&self, place: u16, id: MsgId, group: Ui) -> bool
         ensures { result ≡ may_do self.now place 0 (Act.NoMember id group) }
     {
@@ -302,6 +315,7 @@ impl World {
         }
     }
 
+    /// Whether the place, which posted the message to another place's group, may now hear that this became of it.
     pub(super) fn may_hear(&self, place: u16, id: MsgId, answer: Answer) -> bool
         ensures { result ≡ may_do self.now place 0 (Act.Heard id answer) }
     {

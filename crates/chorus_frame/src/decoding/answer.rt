@@ -18,6 +18,7 @@ fn located_from(reader: &mut Reader<'_>, clock: u64) -> Result<(u16, u64), Decod
     Ok((to, hop))
 }
 
+/// Decodes what stands behind the code of an Accepted answer: the message's position in the port.
 #[tactic(auto, unfolding(crate::specs::Reading::accepted_at))]
 fn accepted_from(reader: &mut Reader<'_>, clock: u64) -> Result<Answer, DecodeFault>
     ensures { Reads result reader.new (accepted_at clock reader.old) }
@@ -26,6 +27,7 @@ fn accepted_from(reader: &mut Reader<'_>, clock: u64) -> Result<Answer, DecodeFa
     Ok(Answer::Accepted { pos })
 }
 
+/// Decodes what stands behind the code of a Full answer; 0 messages, or more than a port may hold, are out of range.
 #[tactic(auto, unfolding(crate::specs::Reading::full_at, crate::specs::Numbers::tested_at))]
 fn full_from(reader: &mut Reader<'_>) -> Result<Answer, DecodeFault>
     ensures { Reads result reader.new (full_at reader.old) }
@@ -37,6 +39,7 @@ fn full_from(reader: &mut Reader<'_>) -> Result<Answer, DecodeFault>
     Ok(Answer::Full { len })
 }
 
+/// Decodes what stands behind the code of a Stale answer: where the port went, and by which hop.
 #[tactic(auto, unfolding(crate::specs::Reading::stale_at))]
 fn stale_from(reader: &mut Reader<'_>, clock: u64) -> Result<Answer, DecodeFault>
     ensures { Reads result reader.new (stale_at clock reader.old) }
@@ -45,6 +48,7 @@ fn stale_from(reader: &mut Reader<'_>, clock: u64) -> Result<Answer, DecodeFault
     Ok(Answer::Stale { to, hop })
 }
 
+/// Decodes what stands behind the code of an Early answer: the hop by which the port is still under way.
 #[tactic(auto, unfolding(crate::specs::Reading::early_at))]
 fn early_from(reader: &mut Reader<'_>, clock: u64) -> Result<Answer, DecodeFault>
     ensures { Reads result reader.new (early_at clock reader.old) }
@@ -53,6 +57,7 @@ fn early_from(reader: &mut Reader<'_>, clock: u64) -> Result<Answer, DecodeFault
     Ok(Answer::Early { hop })
 }
 
+/// Decodes what stands behind the code of an Elsewhere answer: the place that has the port, and the port's hop.
 #[tactic(auto, unfolding(crate::specs::Reading::elsewhere_at))]
 fn elsewhere_from(reader: &mut Reader<'_>, clock: u64) -> Result<Answer, DecodeFault>
     ensures { Reads result reader.new (elsewhere_at clock reader.old) }
@@ -61,6 +66,7 @@ fn elsewhere_from(reader: &mut Reader<'_>, clock: u64) -> Result<Answer, DecodeF
     Ok(Answer::Elsewhere { to, hop })
 }
 
+/// Decodes the answer that a group's members were chosen; 0 of them, or more than a group has, are out of range.
 #[tactic(auto, unfolding(crate::specs::Reading::chosen_at, crate::specs::Numbers::tested_at))]
 fn chosen_from(reader: &mut Reader<'_>) -> Result<Answer, DecodeFault>
     ensures { Reads result reader.new (chosen_at reader.old) }

@@ -32,6 +32,7 @@ fn asked_from(reader: &mut Reader<'_>) -> Result<Dest, DecodeFault>
     }
 }
 
+/// Decodes what a Try packet carries: the route, the site demanded, the port's hop, the port, and the message.
 #[tactic(auto, unfolding(crate::specs::Reading::try_at))]
 fn try_from(alloc: Global, reader: &mut Reader<'_>, clock: u64) -> Result<Cargo, DecodeFault>
     ensures { Reads result reader.new (try_at clock reader.old) }
@@ -50,6 +51,7 @@ fn try_from(alloc: Global, reader: &mut Reader<'_>, clock: u64) -> Result<Cargo,
     })
 }
 
+/// Decodes what a Verdict packet carries: whose decision it is, at which port, by which route, and its answer.
 #[tactic(auto, unfolding(crate::specs::Reading::verdict_at))]
 fn verdict_from(reader: &mut Reader<'_>, clock: u64) -> Result<Cargo, DecodeFault>
     ensures { Reads result reader.new (verdict_at clock reader.old) }
@@ -62,6 +64,7 @@ fn verdict_from(reader: &mut Reader<'_>, clock: u64) -> Result<Cargo, DecodeFaul
     })
 }
 
+/// Decodes what a Transfer packet carries: the record of the port that moves.
 #[tactic(auto, unfolding(crate::specs::Reading::transfer_at))]
 fn transfer_from(alloc: Global, reader: &mut Reader<'_>, clock: u64) -> Result<Cargo, DecodeFault>
     ensures { Reads result reader.new (transfer_at clock reader.old) }
@@ -70,6 +73,7 @@ fn transfer_from(alloc: Global, reader: &mut Reader<'_>, clock: u64) -> Result<C
     Ok(Cargo::Transfer { port })
 }
 
+/// Decodes what an Ask packet carries: for which group members are to be chosen, and the post itself.
 #[tactic(auto, unfolding(crate::specs::Reading::ask_at))]
 fn ask_from(alloc: Global, reader: &mut Reader<'_>) -> Result<Cargo, DecodeFault>
     ensures { Reads result reader.new (ask_at reader.old) }
@@ -79,6 +83,7 @@ fn ask_from(alloc: Global, reader: &mut Reader<'_>) -> Result<Cargo, DecodeFault
     Ok(Cargo::Ask { message, dest })
 }
 
+/// Decodes what a Report packet carries: the id of a post or copy, and what became of it.
 #[tactic(auto, unfolding(crate::specs::Reading::report_at))]
 fn report_from(reader: &mut Reader<'_>, clock: u64) -> Result<Cargo, DecodeFault>
     ensures { Reads result reader.new (report_at clock reader.old) }
