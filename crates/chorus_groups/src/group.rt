@@ -65,6 +65,13 @@ impl Group {
         self.members.as_slice()
     }
 
+    /// Its rotation place: a position in the list of its members.
+    pub(crate) fn rotation(&self) -> usize
+        ensures { result ≡ self.now.rotation }
+    {
+        self.rotation
+    }
+
     /// Why the port does not join, where it does not.
     pub(crate) fn join_fault(&self, port: Ui) -> Option<JoinFault>
         ensures { result ≡ refuses_join port self.now }

@@ -161,6 +161,16 @@ impl Groups {
         }
     }
 
+    /// The rotation place of the group: a position in `members`, from 0; 0 where it is not made. Takes no memory.
+    pub fn rotation(&self, group: Ui) -> usize
+        ensures { result ≡ rotation group self.now }
+    {
+        match self.get(group) {
+            Some(made) => made.rotation(),
+            None => 0,
+        }
+    }
+
     /// The members that a post to this destination, a group, is turned into copies for. `located` has the newest site of each
     /// member, in the order of `members`, and 0 for one that is located nowhere.
     ///

@@ -87,6 +87,13 @@ impl Hints {
         }
     }
 
+    /// The kept pairs, by site and number of the port. Takes no memory.
+    pub fn pairs(&self) -> &[Option<(u16, u64)>]
+        ensures { result.now ≡ self.now.pairs }
+    {
+        &self.pairs
+    }
+
     /// Keeps what the other one keeps, of the same layout. Takes no memory.
     pub fn copy_from(&mut self, other: &Hints)
         requires { other.now.layout ≡ self.old.layout }

@@ -105,6 +105,13 @@ impl Ports {
         self.records.get(row)
     }
 
+    /// All records, in table order. Takes no memory.
+    pub fn records(&self) -> &[PortRecord]
+        ensures { result.now ≡ self.now.records }
+    {
+        &self.records
+    }
+
     /// Makes the port, with its actor and its capacity: it is the last, and nothing waits in it. This takes the room of its
     /// messages and of 64 clients. An error leaves the table as it was.
     pub fn make(&mut self, ui: Ui, actor: Ui, capacity: u8) -> Result<(), AllocError>

@@ -1,10 +1,10 @@
 -- What each pool keeps, after each call.
-use Rattle.std.proofs.Common.{◌≡◌, ◌≢◌, ℕ, ◌+◌, ◌-◌, ◌<◌, ◌≤◌, ◌==◌, zero, suc, Bool, true, false, Option, Some, None, IsSome, is_some, List, [], ◌∷◌, length, get_or, set, replicate, refl, sym, ◌∙◌, ap, subst, arith, eqb-true, eq-eqb, get_or-set_same, get_or-set_other, length-append, true≢false}
+use Rattle.std.proofs.Common.{◌≡◌, ◌≢◌, ℕ, ◌+◌, ◌-◌, ◌<◌, ◌≤◌, ◌==◌, zero, suc, Bool, true, false, Option, Some, None, IsSome, is_some, List, [], ◌∷◌, ◌++◌, length, get_or, set, replicate, slice_get, refl, sym, ◌∙◌, ap, subst, arith, eqb-true, eq-eqb, get_or-set_same, get_or-set_other, length-append, true≢false}
 use Rattle.chorus_entry.specs.declared.packet.Packet.{Packet}
 use Rattle.place_outbox.specs.declared.pool.Span.{Span}
-use Rattle.place_outbox.specs.Waiting.{count, nothing_to}
+use Rattle.place_outbox.specs.Waiting.{count, list_to, nothing_to}
 use Rattle.place_outbox.specs.Spans.{packets_from, listed, no_span, size, total, lists_of, IsWhole, IsPool}
-use Rattle.place_outbox.proofs.Lists.{Sets, sets-here, sets-place, sets-number, longer, shorter}
+use Rattle.place_outbox.proofs.Lists.{list-at, Sets, sets-here, sets-place, sets-number, longer, shorter}
 
 pub total-set : (ss : List Span) (i : ℕ) (s : Span) → i < length ss → total (set ss i s) + size (get_or ss i no_span) ≡ total ss + size s
 total-set [] i s l = absurd (omega (arith, l))
@@ -175,3 +175,37 @@ lists-none f p (suc n) = ap (λ ls. [] ∷ ls) (lists-none f (p + 1) n)
 
 pub new-lists : (f : ℕ → ℕ → Option Packet) (n : ℕ) (ss : List Span) → ss ≡ replicate (n + 1) no_span → lists_of f 0 ss ≡ nothing_to n
 new-lists f n ss e = ap (lists_of f 0) e ∙ lists-none f 0 (n + 1)
+
+-- the packet at a position in a span that is whole, and none past its end
+pub packet-at : (f : ℕ → Option Packet) (n k i : ℕ) → ((j : ℕ) → n ≤ j → j < n + k → IsSome (f j)) → i < k
+    → slice_get (packets_from f n k) i ≡ f (n + i)
+packet-at f n zero i h l = absurd (omega (arith, l))
+packet-at f n (suc k) i h l =
+    at-first (f n) i refl (h n (omega arith) (omega arith)) l (λ j less. packet-at f (n + 1) k j (λ m a b. h m (omega arith) (omega arith)) less)
+  where
+    at-first : (o : Option Packet) (i : ℕ) → f n ≡ o → IsSome o → i < suc k
+        → ((j : ℕ) → j < k → slice_get (packets_from f (n + 1) k) j ≡ f ((n + 1) + j))
+        → slice_get (listed o ++ packets_from f (n + 1) k) i ≡ f (n + i)
+    at-first None i e s l r = cc
+    at-first (Some v) zero e s l r = let z : n ≡ n + 0 = omega arith in sym e ∙ ap f z
+    at-first (Some v) (suc i) e s l r = let z : (n + 1) + i ≡ n + suc i = omega arith in r i (omega (arith, l)) ∙ ap f z
+
+none-past : (xs : List Packet) (i : ℕ) → length xs ≤ i → slice_get xs i ≡ None
+none-past [] i l = refl
+none-past (x ∷ xs) zero l = absurd (omega (arith, l))
+none-past (x ∷ xs) (suc i) l = none-past xs i (omega (arith, l))
+
+pub within-span : (f : ℕ → ℕ → Option Packet) (ss : List Span) (puts waiting p : ℕ) (s : Span) (i : ℕ) → IsPool f ss puts waiting
+    → s ≡ get_or ss p no_span → i < s.next - s.first → slice_get (list_to p (lists_of f 0 ss)) i ≡ f p (s.first + i)
+within-span f ss puts waiting p s i h e l =
+    let w = subst (λ t. IsWhole (f p) puts t) (sym e) (h.whole p) in
+    ap (λ xs. slice_get xs i) (list-at f 0 p p ss (omega arith) ∙ ap (λ t. packets_from (f p) t.first (size t)) (sym e))
+    ∙ packet-at (f p) s.first (size s) i (λ j a b. w.filled j a (let o = w.ordered in omega arith)) l
+
+pub past-span : (f : ℕ → ℕ → Option Packet) (ss : List Span) (puts waiting p : ℕ) (s : Span) (i : ℕ) → IsPool f ss puts waiting
+    → s ≡ get_or ss p no_span → s.next - s.first ≤ i → slice_get (list_to p (lists_of f 0 ss)) i ≡ None
+past-span f ss puts waiting p s i h e l =
+    let w = subst (λ t. IsWhole (f p) puts t) (sym e) (h.whole p) in
+    let n = length-packets (f p) s.first (size s) (λ j a b. w.filled j a (let o = w.ordered in omega arith)) in
+    ap (λ xs. slice_get xs i) (list-at f 0 p p ss (omega arith) ∙ ap (λ t. packets_from (f p) t.first (size t)) (sym e))
+    ∙ none-past (packets_from (f p) s.first (size s)) i (omega (arith, n, l))

@@ -1,6 +1,7 @@
 //! The packets that wait to go to other places.
 
 ghost use Rattle.std.specs.Prelude.{◌≡◌, ◌==◌, ◌+◌, ◌-◌, ◌^◌, ◌<◌, ◌≤◌, length, slice_get, IfOk, IfSome, OnOk};
+ghost use Rattle.std.specs.Option.{option_copied};
 ghost use Rattle.place_outbox.specs.Fronts.{is_filled};
 ghost use Rattle.place_outbox.specs.Waiting.{nothing_to, list_to, with_last, with_first, without_first, count, next, after_next, first_place, MayPutBack};
 
@@ -130,6 +131,21 @@ impl Outbox {
             return false;
         }
         self.is_filled(place)
+    }
+
+    /// The packet at this position among those for the place, from 0; None exactly where fewer wait for it. Takes no memory.
+    pub fn get(&self, place: u16, at: u64) -> Option<&Packet>
+        ensures { option_copied result ≡ slice_get (list_to place self.now.lists) at }
+    {
+        let place = usize::from(place);
+        if place >= self.fronts.len() {
+            return None;
+        }
+        match &self.fronts[place] {
+            Some(packet) if at == 0 => Some(packet),
+            Some(_) => self.pool.get(place, at - 1),
+            None => self.pool.get(place, at),
+        }
     }
 
     /// Puts a packet that was taken out in front of those that wait for the place. Takes no memory.

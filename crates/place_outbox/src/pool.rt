@@ -1,6 +1,7 @@
 //! One pool of packets, with a list for each place in it.
 
 ghost use Rattle.std.specs.Prelude.{◌≡◌, ◌+◌, ◌-◌, ◌^◌, ◌<◌, ◌≤◌, length, slice_get, IfOk, OnOk};
+ghost use Rattle.std.specs.Option.{option_copied};
 ghost use Rattle.place_outbox.specs.Fronts.{is_filled};
 ghost use Rattle.place_outbox.specs.Waiting.{nothing_to, list_to, with_last, without_first, count};
 
@@ -126,6 +127,21 @@ impl Pool {
     {
         let span = self.spans[place];
         span.first < span.next
+    }
+
+    /// The packet at this position among those for the place, from 0; None exactly where fewer wait for it. Takes no memory.
+    pub(crate) fn get(&self, place: usize, at: u64) -> Option<&Packet>
+        requires { place < length self.now.lists }
+        ensures { option_copied result ≡ slice_get (list_to place self.now.lists) at }
+    {
+        let span = self.spans[place];
+        if at >= span.next - span.first {
+            return None;
+        }
+        self.packets.get(&Spot {
+            place,
+            number: span.first + at,
+        })
     }
 
     /// Takes the first packet for the place out; None exactly where none waits for it, and then nothing changes. Takes no

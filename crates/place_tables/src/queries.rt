@@ -5,7 +5,7 @@ ghost use Rattle.chorus_ui.specs.declared.ui.Ui.{Ui};
 ghost use Rattle.chorus_ui.specs.declared.kind.Kind.TheVariants as Kind;
 ghost use Rattle.chorus_ui.specs.declared.limits.TheConstants.{PENDING_LIMIT};
 ghost use Rattle.chorus_ui.specs.Layout.{has_site, has_place};
-ghost use Rattle.chorus_world.specs.Places.{last_clock, is_made_here, ports_made};
+ghost use Rattle.chorus_world.specs.Places.{last_clock, is_deleted, is_made_here, ports_made};
 ghost use Rattle.chorus_world.specs.Views.{is_group};
 ghost use Rattle.chorus_world.specs.Groups.{groups_made};
 ghost use Rattle.chorus_world.specs.Groups as world;
@@ -21,6 +21,7 @@ ghost use Rattle.place_state.specs.Tables.{state};
 use crate::tables::Tables;
 use chorus_entry::{Entry, Ids};
 use chorus_groups::Groups;
+use chorus_hints::Hints;
 use chorus_ports::Ports;
 use chorus_ui::{Layout, Ui};
 use place_outbox::Outbox;
@@ -48,6 +49,20 @@ impl Tables {
         &self.ports
     }
 
+    /// Where ports are, as far as the place knows.
+    pub fn hints(&self) -> &Hints
+        ensures { result.now ≡ self.now.known }
+    {
+        &self.hints
+    }
+
+    /// The packets that wait to go to other places.
+    pub fn out(&self) -> &Outbox
+        ensures { result.now ≡ self.now.out }
+    {
+        &self.out
+    }
+
     /// The messages that wait, by port and route.
     pub fn waits(&self) -> &Waits
         ensures { result.now ≡ self.now.waits }
@@ -67,6 +82,13 @@ impl Tables {
         ensures { result ≡ is_made_here port self.now.journal.past }
     {
         self.journal.is_made(port)
+    }
+
+    /// Whether the port was deleted here.
+    pub fn is_deleted(&self, port: Ui) -> bool
+        ensures { result ≡ is_deleted port self.now.journal.past }
+    {
+        self.journal.is_deleted(port)
     }
 
     /// How many ports were made here.

@@ -1,8 +1,8 @@
 -- The messages that wait, by port and route.
-use Rattle.std.specs.Prelude.{ℕ, ◌-◌, Bool, cond, List, [], ◌∷◌, ◌++◌, drop, Option, None, unwrap_or}
+use Rattle.std.specs.Prelude.{ℕ, ◌-◌, Bool, cond, List, [], ◌∷◌, ◌++◌, drop, Option, None, unwrap_or, slice_get}
 use Rattle.std.specs.declared.cmp.Ordering.{Ordering}
 use Rattle.std.specs.Ordering.{eq_by_cmp, then_cmp, on}
-use Rattle.std.specs.Option.{option_cmp}
+use Rattle.std.specs.Option.{option_cmp, option_map}
 use Rattle.std.specs.Map.{lookup}
 use Rattle.chorus_ui.specs.Name.{name_cmp}
 use Rattle.place_unsettled.specs.declared.wait.Key.{Key}
@@ -33,6 +33,10 @@ same_key k l = eq_by_cmp key_cmp k l
 
 abbrev pub row : List (Key × Row) → Key → Row
 row rows k = unwrap_or (lookup (same_key k) rows) empty_row
+
+-- the key at this position
+abbrev pub key_at : List (Key × Row) → ℕ → Option Key
+key_at rows i = option_map (λ (r : Key × Row). r.0) (slice_get rows i)
 
 -- the queue of this port and route
 abbrev pub queue : List (Key × Row) → Key → Queue

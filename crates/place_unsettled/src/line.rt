@@ -48,12 +48,14 @@ impl Line {
         self.waits.reserve(1)
     }
 
+    /// How many messages more may be put in this line without taking memory.
     pub(crate) fn room(&self) -> usize
         ensures { result ≡ self.now.room }
     {
         self.waits.capacity() - self.waits.len()
     }
 
+    /// How many messages wait for the port and route of this line, with the one that is under way.
     pub(crate) fn len(&self) -> usize
         ensures len { result ≡ length self.now.queue.waits }
         ensures small { result < 2 ^ 63 }
@@ -61,6 +63,7 @@ impl Line {
         self.waits.len()
     }
 
+    /// The place to which the first of the waiting messages is under way; None while it is not under way.
     pub(crate) fn tried(&self) -> Option<u16>
         ensures { result ≡ self.now.queue.tried }
     {
@@ -92,6 +95,7 @@ impl Line {
         self.waits.pop_front()
     }
 
+    /// Notes that the first of the waiting messages is under way to a place, or with None that it is not.
     pub(crate) fn set_tried(&mut self, to: Option<u16>)
         ensures { self.new ≡ record self.old { queue = at to self.old.queue } }
     {

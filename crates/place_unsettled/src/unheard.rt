@@ -1,9 +1,10 @@
 //! What a place may still hear of its posts to groups of other places.
 
 ghost use Rattle.std.specs.Prelude.{◌≡◌, ◌<◌, ◌≤◌, ℕ, true, false, length, slice_index_or, slice_set, OnOk, OnErr};
+ghost use Rattle.std.specs.Option.{option_copied};
 ghost use Rattle.chorus_entry.specs.declared.id.MsgId.{MsgId};
 ghost use Rattle.chorus_ui.specs.declared.limits.TheConstants.{MEMBERS_LIMIT};
-ghost use Rattle.place_unsettled.specs.Unheard.{is_unheard, asked, heard};
+ghost use Rattle.place_unsettled.specs.Unheard.{is_unheard, post_at, copies_of, asked, heard};
 
 use chorus_entry::MsgId;
 use chorus_ui::MEMBERS_LIMIT;
@@ -64,12 +65,14 @@ impl Copies {
         }
     }
 
+    /// Whether nothing was heard of this copy of a group post yet; a number above the last copy's counts as open.
     fn is_open(&self, copy: u16) -> bool
         ensures { result ≡ slice_index_or self.now.open copy true }
     {
         self.open.get(usize::from(copy)).copied().unwrap_or(true)
     }
 
+    /// Notes that the place heard of this copy, or of the group post itself where the number is 0.
     fn close(&mut self, copy: u16)
         requires { copy ≤ MEMBERS_LIMIT }
         ensures open { self.new.open ≡ slice_set self.old.open copy false }
@@ -108,6 +111,26 @@ impl Unheard {
         match self.posts.get(&post_of(id)) {
             Some(copies) => copies.is_open(id.copy),
             None => false,
+        }
+    }
+
+    /// The post at this position, from 0, in an order of the table's own: which caller's, and its how-manieth; None exactly where
+    /// there are fewer. Takes no memory.
+    pub fn post_at(&self, at: usize) -> Option<(u32, u32)>
+        ensures { result ≡ post_at self.now at }
+    {
+        let post = self.posts.keys().nth(at)?;
+        Some((post.seat, post.number))
+    }
+
+    /// Of each copy of this post, by its number, whether the place may still hear of it; None exactly where the post is not in the
+    /// table. Takes no memory.
+    pub fn copies_of(&self, seat: u32, number: u32) -> Option<&[bool]>
+        ensures { option_copied result ≡ copies_of self.now seat number }
+    {
+        match self.posts.get(&Post { seat, number }) {
+            Some(copies) => Some(&copies.open),
+            None => None,
         }
     }
 

@@ -3,7 +3,7 @@
 ghost use Rattle.std.specs.Prelude.{◌≡◌, ◌^◌, ◌<◌, ◌≤◌, false, length, slice_get, OnOk};
 ghost use Rattle.std.specs.Option.{option_copied};
 ghost use Rattle.place_unsettled.specs.declared.wait.Key.{Key};
-ghost use Rattle.place_unsettled.specs.Queues.{queue, room, empty_queue, same_key, changed, with_last, passed, at, less_one};
+ghost use Rattle.place_unsettled.specs.Queues.{queue, room, empty_queue, same_key, key_at, changed, with_last, passed, at, less_one};
 
 use crate::line::Line;
 use crate::wait::{Key, Wait};
@@ -76,6 +76,15 @@ impl Waits {
         ensures { option_copied result ≡ slice_get (queue self.now key.now).waits 0 }
     {
         self.get(key, 0)
+    }
+
+    /// The key at this position, from 0, in the order of keys; None exactly where there are fewer. A key is there that has a
+    /// message or room. Takes no memory.
+    pub fn key_at(&self, at: usize) -> Option<Key>
+        ensures { result ≡ key_at self.now at }
+    {
+        let key = self.lines.keys().nth(at)?;
+        Some(*key)
     }
 
     /// How many messages more may be pushed without memory.
