@@ -1,8 +1,11 @@
 -- What a clause says of a board and of its readers.
-use Rattle.std.specs.Prelude.{ℕ, ◌≡◌, List, [], None}
+use Rattle.std.specs.Prelude.{ℕ, ◌≡◌, List, [], length, None, IsTrue}
+use mathlib.Core.List.{IsPrefix}
 use Rattle.logbook.specs.Pages.{Book}
 use Rattle.chorus_ui.specs.declared.ui.Ui.{Ui}
+use Rattle.chorus_ui.specs.declared.kind.Kind.TheVariants.{Port}
 use Rattle.chorus_ui.specs.declared.layout.Layout.{Layout}
+use Rattle.chorus_ui.specs.Layout.{can_make_port}
 use Rattle.chorus_entry.specs.declared.entry.Entry.{Entry}
 use Rattle.chorus_world.specs.Places.{farther}
 use Rattle.chorus_board.specs.declared.table.Table.{Table}
@@ -10,7 +13,7 @@ use Rattle.chorus_board.specs.declared.reader.BoardReader.{BoardReader}
 use Rattle.chorus_board.specs.declared.reader.Located.{Located}
 use Rattle.chorus_board.specs.declared.board.Board.{Board}
 use Rattle.chorus_board.specs.declared.name.BoardName.{BoardName}
-use Rattle.chorus_board.specs.Located.{located_after, told_of, IsPortIn}
+use Rattle.chorus_board.specs.Located.{located_after, told_of, IsOfPlace, IsPortIn}
 
 -- the place and the hop of an answer
 abbrev pub pair_told : Located → ℕ × ℕ
@@ -45,6 +48,13 @@ HasSameHandle old new = new.handle ≡ old.handle
 abbrev pub IsSameReader : BoardReader → BoardReader → Type 0
 IsSameReader old new =
     (book_read new ≡ book_read old) × (layout_read new ≡ layout_read old) × (place_read new ≡ place_read old)
+
+-- a reader of the same board, with all that it had seen and more perhaps; without a handle it stays as it was
+pub record ReadsOn (old new : BoardReader) : Type 0 where
+  pub reader : IsSameReader old new
+  pub begins : IsPrefix (entries_seen old) (entries_seen new)
+  pub unread : IsWithoutHandle old → new ≡ old
+  pub keeps : KeepsHandle old new
 
 -- what readers read now
 abbrev pub shown : Board → Table
@@ -95,6 +105,16 @@ abbrev pub LocatesAfter : Board → Ui → ℕ → ℕ → List Entry → Type 0
 LocatesAfter board ui place hop entries = (q : Ui) → IsPortIn (layout_of board) q →
     farther (located_after (layout_of board) (entries_published board) q) (told_of q ui place hop)
     ≡ located_after (layout_of board) entries q
+
+-- a publish of the port, with `number` entries: these, of the board's place, which begin with those of the publish begun
+-- before, and after which each port is located where the board then has it
+pub record MayPublish (board : Board) (ui : Ui) (to hop number : ℕ) (entries : List Entry) : Type 0 where
+  pub port : ui.kind ≡ Port
+  pub in_layout : IsTrue (can_make_port (layout_of board) ui)
+  pub longer : IsPrefix (entries_begun board) entries
+  pub count : number ≡ length entries
+  pub of_place : IsOfPlace (place_of board) entries
+  pub located : LocatesAfter board ui to hop entries
 
 -- it is of this layout and place, and nothing was published or begun
 abbrev pub IsNewBoard : Layout → ℕ → Board → Type 0

@@ -24,6 +24,12 @@ Exact known log = (q : Ui) → IsPortIn known.layout q → newest known q ≡ pa
 abbrev pub IsRoomy : Known → Type 0
 IsRoomy known = length known.pairs ≡ ports_of known.layout
 
+-- both tables are of one board: of one history, layout and place
+pub record IsOfOneBoard (t u : Table) : Type 0 where
+  pub book : u.seen.book ≡ t.seen.book
+  pub layout : u.hints.layout ≡ t.hints.layout
+  pub place : u.place ≡ t.place
+
 -- the table stands for all that it has seen
 abbrev pub Fine : Table → Type 0
 Fine table = Exact table.hints table.seen.log × (table.upto ≡ length table.seen.log) × IsRoomy table.hints

@@ -4,9 +4,9 @@ ghost use Rattle.left_right.specs.Sides.{view};
 ghost use Rattle.chorus_board.specs.Ids.{board_props};
 ghost use Rattle.chorus_board.specs.Law.{head_of};
 ghost use Rattle.chorus_board.specs.Located.{IsOfPlace};
-ghost use Rattle.chorus_board.specs.Rule.{book_known, layout_known, home_of};
-ghost use Rattle.chorus_board.specs.Writers.{after_all, IsReady, IsShown};
-ghost use Rattle.chorus_board.specs.Table.{Exact, IsRoomy, Fine};
+ghost use Rattle.chorus_board.specs.Rule.{book_known, layout_known};
+ghost use Rattle.chorus_board.specs.Writers.{after_all, IsReady, IsSettled, IsShown};
+ghost use Rattle.chorus_board.specs.Table.{Exact, IsRoomy, IsOfOneBoard};
 
 use crate::history::{Head, Stands, Witness, bring_to, covers};
 use crate::reader::{BoardReader, take_in};
@@ -41,12 +41,9 @@ pub struct Board {
 }
 
 impl Board {
-    ghost use Rattle.std.specs.Prelude.{◌≡◌, length, IsTrue, OnOk, OnErr};
+    ghost use Rattle.std.specs.Prelude.{◌≡◌, length, OnOk, OnErr};
     ghost use mathlib.Core.List.{IsPrefix};
-    ghost use Rattle.chorus_ui.specs.declared.kind.Kind.TheVariants.{Port};
-    ghost use Rattle.chorus_ui.specs.Layout.{can_make_port};
-    ghost use Rattle.chorus_board.specs.Located.{IsOfPlace};
-    ghost use Rattle.chorus_board.specs.Boards.{entries_seen, entries_published, entries_begun, layout_of, place_of, shown, LocatesAfter, IsReaderOf, IsSameBoard};
+    ghost use Rattle.chorus_board.specs.Boards.{entries_seen, entries_published, entries_begun, shown, MayPublish, IsReaderOf, IsSameBoard};
 
     /// Publishes that the port is at the place, by that hop. The publish stands for the entries that `X` names: `upto` of
     /// them, of the board's place, which begin with those of the publish before, and after which each port is located where the
@@ -62,12 +59,7 @@ impl Board {
         hop: u64,
         upto: u64,
     ) -> Result<(), AllocError>
-        requires port { ui.kind ≡ Port }
-        requires in_layout { IsTrue (can_make_port (layout_of self.old) ui) }
-        requires longer { IsPrefix (entries_begun self.old) X.entries }
-        requires count { upto ≡ length X.entries }
-        requires of_place { IsOfPlace (place_of self.old) X.entries }
-        requires located { LocatesAfter self.old ui place hop X.entries }
+        requires may { MayPublish self.old ui place hop upto X.entries }
         ensures board { IsSameBoard self.old self.new }
         ensures begun { entries_begun self.new ≡ X.entries }
         ensures published { OnOk result (entries_published self.new ≡ X.entries) }
@@ -148,15 +140,9 @@ fn show_in<R: Wait>(writer: &mut TableWriter, rt: &R) -> Result<(), AllocError>
     requires { IsReady writer.old.desk.shown.value (drop writer.old.behind writer.old.log.items) }
     ensures shown { writer.new.desk.shown.value
         ≡ after_all writer.old.desk.shown.value (drop writer.old.behind writer.old.log.items) }
-    ensures fine { Fine writer.new.desk.shown.value }
-    ensures book { writer.new.desk.shown.value.seen.book ≡ writer.old.desk.shown.value.seen.book }
-    ensures layout { writer.new.desk.shown.value.hints.layout
-        ≡ writer.old.desk.shown.value.hints.layout }
-    ensures place { writer.new.desk.shown.value.place ≡ writer.old.desk.shown.value.place }
-    ensures none_pending { length (drop writer.new.behind writer.new.log.items) ≡ 0 }
-    ensures knows { view writer.new.desk.place
-        ≡ home_of writer.new.desk.shown.value.seen.book writer.new.desk.shown.value.hints.layout
-        writer.new.desk.shown.value.place }
+    ensures settled { IsSettled writer.new.desk.shown.value
+        (drop writer.new.behind writer.new.log.items) (view writer.new.desk.place) }
+    ensures same { IsOfOneBoard writer.old.desk.shown.value writer.new.desk.shown.value }
     ensures ok { IsOk result }
 {
     replace_with(

@@ -4,7 +4,7 @@ ghost use Rattle.left_right.specs.Sides.{view};
 ghost use Rattle.chorus_board.specs.Ids.{board_props};
 ghost use Rattle.chorus_board.specs.Rule.{book_known, layout_known};
 ghost use Rattle.chorus_board.specs.Located.{IsOfPlace};
-ghost use Rattle.chorus_board.specs.Table.{Exact, IsRoomy, Fine};
+ghost use Rattle.chorus_board.specs.Table.{Exact, IsRoomy, IsOfOneBoard, Fine};
 ghost use mathlib.Core.List.{IsPrefix};
 
 use crate::rule::{Sees, TableReader};
@@ -40,11 +40,10 @@ pub struct Located {
 
 impl BoardReader {
     ghost use Rattle.std.specs.Prelude.{◌≡◌, length, IsTrue};
-    ghost use mathlib.Core.List.{IsPrefix};
     ghost use Rattle.chorus_ui.specs.declared.kind.Kind.TheVariants.{Port};
     ghost use Rattle.chorus_ui.specs.Layout.{has_site};
     ghost use Rattle.chorus_board.specs.Located.{located_after, pair_of, IsOfPlace};
-    ghost use Rattle.chorus_board.specs.Boards.{entries_seen, layout_read, place_read, pair_told, IsWithoutHandle, IsSameReader, KeepsHandle};
+    ghost use Rattle.chorus_board.specs.Boards.{entries_seen, layout_read, place_read, pair_told, ReadsOn};
 
     /// Where the port is located after some entries of the board's place, which begin with all that this reader had seen. The port's site is in
     /// the layout.
@@ -54,11 +53,8 @@ impl BoardReader {
     pub fn newest(&mut self, ui: Ui) -> Located
         requires port { ui.kind ≡ Port }
         requires in_layout { IsTrue (has_site (layout_read self.old) ui.site) }
-        ensures reader { IsSameReader self.old self.new }
-        ensures begins { IsPrefix (entries_seen self.old) (entries_seen self.new) }
+        ensures on { ReadsOn self.old self.new }
         ensures of_place { IsOfPlace (place_read self.old) (entries_seen self.new) }
-        ensures unread { IsWithoutHandle self.old → self.new ≡ self.old }
-        ensures keeps { KeepsHandle self.old self.new }
         ensures located { pair_told result
             ≡ pair_of (located_after (layout_read self.old) (entries_seen self.new) ui) }
         ensures upto { result.upto ≡ length (entries_seen self.new) }
@@ -74,10 +70,7 @@ impl BoardReader {
 
     // Reads the board, if the read is not refused.
     fn refresh(&mut self)
-        ensures reader { IsSameReader self.old self.new }
-        ensures begins { IsPrefix (entries_seen self.old) (entries_seen self.new) }
-        ensures unread { IsWithoutHandle self.old → self.new ≡ self.old }
-        ensures keeps { KeepsHandle self.old self.new }
+        ensures { ReadsOn self.old self.new }
     {
         let Some(handle) = self.handle.take() else {
             return;
@@ -94,13 +87,9 @@ impl BoardReader {
 
 // The longer of the two tables. Where both stand for as many entries nothing is copied.
 pub(crate) fn take_in(kept: &mut Table, newer: &Table)
-    requires book { newer.now.seen.book ≡ kept.old.seen.book }
-    requires layout { newer.now.hints.layout ≡ kept.old.hints.layout }
-    requires place { newer.now.place ≡ kept.old.place }
+    requires same { IsOfOneBoard kept.old newer.now }
     requires fine { Fine newer.now × Fine kept.old }
-    ensures book { kept.new.seen.book ≡ kept.old.seen.book }
-    ensures layout { kept.new.hints.layout ≡ kept.old.hints.layout }
-    ensures place { kept.new.place ≡ kept.old.place }
+    ensures same { IsOfOneBoard kept.old kept.new }
     ensures fine { Fine kept.new }
     ensures begins { IsPrefix kept.old.seen.log kept.new.seen.log }
     ensures newer { IsPrefix newer.now.seen.log kept.new.seen.log }

@@ -70,6 +70,7 @@ fn readers_of(
     Ok(all)
 }
 
+/// A reader of a board that has no handle on its copies yet and answers from this table, which it keeps.
 fn new_reader(kept: Table) -> BoardReader
     requires { Fine kept }
     ensures { result.kept ≡ kept }

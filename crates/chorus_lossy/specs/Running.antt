@@ -1,5 +1,5 @@
 -- The values of the code at a moment of the run.
-use Rattle.std.specs.Prelude.{ℕ, ◌≡◌, ◌<◌, ◌-◌, ◌^◌, List, ◌++◌, reverse, All}
+use Rattle.std.specs.Prelude.{ℕ, ◌≡◌, ◌+◌, ◌-◌, ◌<◌, ◌≤◌, ◌^◌, List, ◌++◌, length, reverse, All}
 use Rattle.chorus_transport.specs.declared.chunk.Chunk.{Chunk}
 use Rattle.chorus_transport.specs.Sending.{Sending}
 use Rattle.chorus_transport.specs.Receiving.{Receiving}
@@ -28,13 +28,22 @@ pub record Grows (m later : Moment) : Type 0 where
   pub events : later.events ≡ since ++ m.events
   pub ends : later.ends ≡ after since m.ends
 
+-- the numbers of chunks are small enough for the receiver
+abbrev pub AreSmall : List (ℕ × Chunk) → Type 0
+AreSmall held = All (λ h. h.0 < 2 ^ 64 - 1) held
+
+-- the chunk of this number may be emitted, which the sender keeps: the counts go up by one, and all numbers of chunks are
+-- small enough for the receiver
+pub record MayEmit (number : ℕ) (run : Run) (s : Sending) : Type 0 where
+  pub kept : (s.base ≤ number) × (number < s.base + length s.kept)
+  pub small : number < 2 ^ 64 - 1
+  pub emitted : run.emitted + 1 < 2 ^ 64
+  pub lost : run.lost + 1 < 2 ^ 64
+  pub held : AreSmall run.held.items
+
 -- the ends are those of a moment between the two
 pub record IsBetween (m later : Moment) (e : Ends) : Type 0 where
   pub mid : Moment
   pub from : Grows m mid
   pub to : Grows mid later
   pub ends : e ≡ mid.ends
-
--- the numbers of chunks are small enough for the receiver
-abbrev pub AreSmall : List (ℕ × Chunk) → Type 0
-AreSmall held = All (λ h. h.0 < 2 ^ 64 - 1) held

@@ -1,13 +1,13 @@
 //! The parts of a round, and the rounds.
 
-ghost use Rattle.std.specs.Prelude.{◌≡◌, ◌<◌, ◌≤◌, ◌+◌, ◌-◌, ◌^◌, ◌%◌, ◌==◌, ℕ, [], length, OnOk, OnErr, not};
+ghost use Rattle.std.specs.Prelude.{◌≡◌, ◌<◌, ◌≤◌, ◌+◌, ◌-◌, ◌^◌, ◌%◌, ◌==◌, ℕ, [], OnOk, OnErr, not};
 ghost use Rattle.chorus_draw.specs.Draws.{next_state, number_of};
 ghost use Rattle.chorus_transport.specs.Sending.{Sending};
 ghost use Rattle.chorus_transport.specs.Receiving.{Receiving};
 ghost use Rattle.chorus_lossy.specs.declared.rounds.Run.{Run};
 ghost use Rattle.chorus_lossy.specs.Line.{chunk_count, ends};
 ghost use Rattle.chorus_lossy.specs.Rounds.{Moment, is_lost, filled, emission, all_sent, released, all_delivered, acknowledged, round};
-ghost use Rattle.chorus_lossy.specs.Running.{IsAt, IsBetween, AreSmall};
+ghost use Rattle.chorus_lossy.specs.Running.{IsAt, IsBetween, AreSmall, MayEmit};
 
 use crate::carrying::Carried;
 use crate::line::{WINDOW, arrive, arrive_twice, chunk_at, chunk_count};
@@ -135,12 +135,7 @@ fn emit(
     sender: &Sender,
     receiver: &mut Receiver,
 ) -> Result<(), AllocError>
-    requires kept { (sender.now.base ≤ number)
-        × (number < sender.now.base + length sender.now.kept) }
-    requires small { number < 2 ^ 64 - 1 }
-    requires emitted { run.old.emitted + 1 < 2 ^ 64 }
-    requires lost { run.old.lost + 1 < 2 ^ 64 }
-    requires held { AreSmall run.old.held.items }
+    requires may { MayEmit number run.old sender.now }
     ensures ok { (m : Moment) → IsAt m run.old sender.now receiver.old →
         OnOk result (IsAt (emission round number m) run.new sender.now receiver.new) }
     ensures emitted { run.new.emitted ≡ run.old.emitted + 1 }

@@ -23,6 +23,11 @@ KeepRoom [] qs = Unit {0}
 KeepRoom (p ∷ ps) [] = Unit {0}
 KeepRoom (p ∷ ps) (q ∷ qs) = (p.spare ≤ q.spare) × KeepRoom ps qs
 
+-- nothing changed but the room, of which there is as much at each place at least
+pub record StayAsTheyWere (old new : SitesState) : Type 0 where
+  pub same : net new ≡ net old
+  pub room : KeepRoom old.places new.places
+
 -- at one place
 abbrev pub HasRoomAt : ℕ → ℕ → List Place → Type 0
 HasRoomAt more i [] = Unit {0}

@@ -1,6 +1,6 @@
 -- The sites: their places and their callers, and the network that they are.
 -- l is a layout, p is a place, ps are places, k is the number of the first one, b of a place that packets go to.
-use Rattle.std.specs.Prelude.{ℕ, ◌≡◌, ◌+◌, ◌≤◌, true, List, [], ◌∷◌, ◌++◌, length, map, is_some}
+use Rattle.std.specs.Prelude.{ℕ, ◌≡◌, ◌≢◌, ◌+◌, ◌≤◌, true, List, [], ◌∷◌, ◌++◌, length, map, is_some}
 use Rattle.chorus_ui.specs.declared.layout.Layout.{Layout}
 use Rattle.chorus_ui.specs.declared.limits.TheConstants.{SEATS_LIMIT}
 use Rattle.chorus_ui.specs.Layout as layouts
@@ -58,6 +58,12 @@ AreFrom k (packet ∷ packets) = (packet.from ≡ k) × AreFrom k packets
 abbrev pub AllFrom : ℕ → List (List Packet) → Type 0
 AllFrom k [] = Unit {0}
 AllFrom k (l ∷ ls) = AreFrom k l × AllFrom k ls
+
+-- a and b are two places, and not the same one
+pub record AreTwoPlaces (l : Layout) (a b : ℕ) : Type 0 where
+  pub from : layouts.has_place l a ≡ true
+  pub to : layouts.has_place l b ≡ true
+  pub apart : a ≢ b
 
 -- the place of this number: it has a list of packets for each place, and all are from it
 pub record IsPlaceOf (l : Layout) (k : ℕ) (p : Place) : Type 0 where

@@ -3,7 +3,7 @@
 ghost use Rattle.std.specs.Prelude.{◌≡◌, ◌+◌, ◌≤◌, ◌++◌, [], length, vec_len, vec_capacity, IfSome};
 ghost use Rattle.place_outbox.specs.Waiting.{count};
 ghost use Rattle.law_network.specs.Left.{placed_at};
-ghost use Rattle.chorus_net.specs.Closing.{flat, packets_of, journals_in, ports_of, total_waiting, total_held, closed_journals, IsOfSites};
+ghost use Rattle.chorus_net.specs.Closing.{flat, total_waiting, total_held, HasPartsOf};
 
 use crate::closed::{Closed, Origin};
 use chorus_entry::{Entry, Packet};
@@ -71,10 +71,7 @@ pub(crate) fn take_apart(
     requires room_for_journals { length places.items ≤ vec_capacity journals }
     requires room_for_packets { total_waiting places.items ≤ vec_capacity rest }
     requires room_for_ports { total_held places.items ≤ vec_capacity ports }
-    ensures journals { closed_journals result ≡ journals_in places.items }
-    ensures rest { result.rest.items ≡ packets_of places.items }
-    ensures ports { result.ports.items ≡ ports_of places.items }
-    ensures origin { IsOfSites result }
+    ensures { HasPartsOf places.items result }
 {
     let mut places = places;
     let mut journals = journals;

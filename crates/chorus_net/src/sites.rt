@@ -12,8 +12,8 @@ ghost use Rattle.law_network.specs.Schedules.{may_happen};
 ghost use Rattle.law_network.specs.Calls.{just_started, entering, delivering, posts_of, compared, compared_at};
 ghost use Rattle.chorus_net.specs.Closing.{IsClosed};
 ghost use Rattle.chorus_net.specs.Drains.{Ticks, Goes, GoesRound, Drains, Stops, StopsAmong, AnyCause, ComparesWorn, row_from, puts_forward};
-ghost use Rattle.chorus_net.specs.Room.{HaveRoom, HasRoomAt, KeepRoom, HasReserved, UsesRoom, UsesRoomInRounds, TakesNoneAt, puts_in, puts_of};
-ghost use Rattle.chorus_net.specs.Sites.{net, IsScheduled, IsSending};
+ghost use Rattle.chorus_net.specs.Room.{HaveRoom, HasRoomAt, KeepRoom, HasReserved, StayAsTheyWere, UsesRoom, UsesRoomInRounds, TakesNoneAt, puts_in, puts_of};
+ghost use Rattle.chorus_net.specs.Sites.{net, AreTwoPlaces, IsScheduled, IsSending, IsSites};
 ghost use Rattle.chorus_net.specs.Starting.{HaveStarted};
 ghost use Rattle.chorus_net.specs.Worn.{IsWornIn};
 
@@ -170,10 +170,9 @@ impl Sites {
         ensures worn { (clock : ℕ) → IsErrOf result (PlaceFault.Worn clock) ↔
             ((CLOCK_LIMIT ≤ compared seat command (net self.old))
             × (clock ≡ compared seat command (net self.old))) }
-        ensures refused { OnErr result (net self.new ≡ net self.old) }
+        ensures refused { OnErr result (StayAsTheyWere self.old self.new) }
         ensures room { OnOk result (UsesRoom
             (puts_in (Act seat command) (net self.old)) self.old.places self.new.places) }
-        ensures kept { OnErr result (KeepRoom self.old.places self.new.places) }
         ensures takes_no_memory { TakesNoneAt command (slice_get self.old.callers seat) self.old →
             compared seat command (net self.old) < CLOCK_LIMIT → IsOk result }
         ensures layout { self.new.layout ≡ self.old.layout }
@@ -190,9 +189,7 @@ impl Sites {
     /// It is refused as worn exactly where the greatest of the place's, seat 0's and the packet's clocks is at least 2^62, and
     /// else only for want of memory. A refusal changes nothing.
     pub fn deliver(&mut self, from: u16, to: u16) -> Result<Delivered, PlaceFault>
-        requires from { has_place self.old.layout from ≡ true }
-        requires to { has_place self.old.layout to ≡ true }
-        requires apart { from ≢ to }
+        requires link { AreTwoPlaces self.old.layout from to }
         ensures ok { OnOk result (net self.new ≡ happened (delivering from to) (net self.old)) }
         ensures answer { IfOk result (λ delivered. delivered ≡ delivery from to (net self.old)) }
         ensures worn { (clock : ℕ) → IsErrOf result (PlaceFault.Worn clock) ↔
@@ -200,10 +197,9 @@ impl Sites {
         // Where a packet was worked off, seat 0's last clock was below 2^62, and has risen.
         ensures ticks { result ≡ Ok Delivered.Served → Ticks (net self.old) (net self.new) }
         ensures layout { self.new.layout ≡ self.old.layout }
-        ensures refused { OnErr result (net self.new ≡ net self.old) }
+        ensures refused { OnErr result (StayAsTheyWere self.old self.new) }
         ensures room { OnOk result (UsesRoom
             (puts_in (delivering from to) (net self.old)) self.old.places self.new.places) }
-        ensures kept { OnErr result (KeepRoom self.old.places self.new.places) }
     {
         let Some(packet) = self.places[usize::from(from) - 1].out(to) else {
             return Ok(Delivered::Nothing);
@@ -251,6 +247,21 @@ impl Sites {
         ensures { reverse result.now ≡ (place_of place (net self.now)).journal }
     {
         self.places[usize::from(place) - 1].journal()
+    }
+
+    /// The places by their numbers, to be read: place 1 is the first.
+    pub fn places(&self) -> &[Place]
+        ensures value { result.now ≡ self.now.places }
+        ensures kept { IsSites self.now }
+    {
+        &self.places
+    }
+
+    /// The callers by their seats, to be read: seat 0 is the first.
+    pub fn callers(&self) -> &[Caller]
+        ensures { result.now ≡ self.now.callers }
+    {
+        &self.callers
     }
 
     /// Seat 0 works off packets until none is left: in rounds, for each place rising, the first packet to each other place

@@ -1,6 +1,6 @@
 -- A place as its callers see it, and what its calls do.
 -- p is the place, s its state, c a command, t the turn.
-use Rattle.std.specs.Prelude.{ℕ, ◌≡◌, ◌+◌, ◌≤◌, min, Bool, true, false, List, [], length, IsNone}
+use Rattle.std.specs.Prelude.{ℕ, ◌≡◌, ◌+◌, ◌-◌, ◌^◌, ◌<◌, ◌≤◌, min, Bool, true, false, List, [], length, IsNone}
 use Rattle.chorus_ui.specs.declared.layout.Layout.{Layout}
 use Rattle.chorus_ui.specs.declared.limits.TheConstants.{CLOCK_LIMIT}
 use Rattle.chorus_entry.specs.declared.entry.Entry.{Entry}
@@ -8,7 +8,7 @@ use Rattle.chorus_entry.specs.declared.record.PortRecord.{PortRecord}
 use Rattle.chorus_entry.specs.declared.command.Command.{Command}
 use Rattle.chorus_entry.specs.declared.command.Command.TheVariants.{Call, Take, Move, Delete}
 use Rattle.chorus_entry.specs.declared.packet.Packet.{Packet}
-use Rattle.chorus_entry.specs.Command.{meets_conditions}
+use Rattle.chorus_entry.specs.Command.{is_post, meets_conditions}
 use Rattle.chorus_entry.specs.Places.{place_for}
 use Rattle.chorus_ports.specs.Table.{find}
 use Rattle.chorus_hints.specs.Known.{Known, kept}
@@ -84,6 +84,14 @@ pub record MayCall (s : PlaceState) (caller : Seated) (c : Command) : Type 0 whe
 abbrev pub is_call : Command → Bool
 is_call (Call q back body) = true
 is_call _ = false
+
+-- the place that has these tables may perform the command: its conditions are met, and the caller has a number for its
+-- post and its call
+pub record MayPerform (p : Tables) (caller : Seated) (c : Command) : Type 0 where
+  pub conditions : meets_conditions c ≡ true
+  pub here : place_for p.layout caller.actor c ≡ p.number
+  pub posts : is_post c ≡ true → caller.posts < 2 ^ 32 - 1
+  pub given : is_call c ≡ true → caller.client.given < 2 ^ 32 - 1
 
 -- the place and the caller are as the turn left them, what it put waits behind what waited and is counted, and no more
 -- room is taken than that of the entries and packets

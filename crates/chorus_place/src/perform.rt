@@ -3,11 +3,10 @@
 ghost use Rattle.std.specs.Prelude.{◌≡◌, ◌<◌, ◌≤◌, true, IsOk, IfOk, OnErr};
 ghost use Rattle.chorus_ui.specs.declared.limits.TheConstants.{CLOCK_LIMIT};
 ghost use Rattle.chorus_entry.specs.declared.command.Command.TheVariants as Command;
-ghost use Rattle.chorus_entry.specs.Command.{is_post, meets_conditions, demands_a_site};
+ghost use Rattle.chorus_entry.specs.Command.{demands_a_site};
 ghost use Rattle.chorus_entry.specs.Kinds.{has_kinds_in_dest};
-ghost use Rattle.chorus_entry.specs.Places.{place_for};
 ghost use Rattle.law_machine.specs.PlaceState.{greatest_clock};
-ghost use Rattle.chorus_place.specs.Calls.{is_call, TakesNone};
+ghost use Rattle.chorus_place.specs.Calls.{MayPerform, TakesNone};
 ghost use Rattle.place_state.specs.Commands.{Performed, StaysOut};
 ghost use Rattle.place_state.specs.Room.{KeepsRoom};
 ghost use Rattle.place_state.specs.Tables.{state, turn};
@@ -26,10 +25,7 @@ pub(crate) fn perform(
     command: Command,
     caller: &mut Caller,
 ) -> Result<Reply, AllocError>
-    requires conditions { meets_conditions command ≡ true }
-    requires here { place_for tables.old.layout caller.old.actor command ≡ tables.old.number }
-    requires posts { is_post command ≡ true → caller.old.posts < u32.MAX }
-    requires given { is_call command ≡ true → caller.old.client.given < u32.MAX }
+    requires may { MayPerform tables.old caller.old command }
     requires clock { greatest_clock (turn tables.old caller.old) < CLOCK_LIMIT }
     ensures performed { IfOk result (λ reply. Performed command
         (turn tables.old caller.old) (turn tables.new caller.new) reply) }

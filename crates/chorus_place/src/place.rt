@@ -13,7 +13,7 @@ ghost use Rattle.law_machine.specs.PlaceMachine.{begun, begun_by};
 ghost use Rattle.law_machine.specs.Lawful.{is_lawful};
 ghost use Rattle.law_machine.specs.Outcomes.{outcome};
 ghost use Rattle.law_bounds.specs.Bounds.{AreWaitingWithin};
-ghost use Rattle.chorus_place.specs.Calls.{state, is_call, Called, IsWornAt, IsWornBack, MayCall, Stays, TakesNone, WorkedOff};
+ghost use Rattle.chorus_place.specs.Calls.{state, place_of, is_call, Called, IsWornAt, IsWornBack, MayCall, Stays, TakesNone, WorkedOff};
 
 use crate::fault::PlaceFault;
 use crate::perform::perform;
@@ -82,6 +82,13 @@ impl Place {
         ensures { reverse result.now ≡ self.now.journal }
     {
         self.tables.entries()
+    }
+
+    /// The tables of the place, to be read.
+    pub fn tables(&self) -> &Tables
+        ensures { place_of result.now ≡ self.now }
+    {
+        &self.tables
     }
 
     /// The clock of the place's last entry, or 0.

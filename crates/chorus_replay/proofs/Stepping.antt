@@ -1,5 +1,5 @@
 -- The next task on the network that the tasks before it left.
-use Rattle.std.proofs.Common.{ℕ, ◌≡◌, ◌<◌, ◌≤◌, ◌≢◌, ◌==◌, ◌&&◌, not, is_some, true, List, [], ◌∷◌, ◌++◌, reverse, Option, Some, None, slice_get, refl, sym, ◌∙◌, ap, subst, append_assoc, append-nil, inl, inr}
+use Rattle.std.proofs.Common.{ℕ, ◌≡◌, ◌<◌, ◌≤◌, ◌==◌, ◌&&◌, not, is_some, true, List, [], ◌∷◌, ◌++◌, reverse, Option, Some, None, slice_get, refl, sym, ◌∙◌, ap, subst, append_assoc, append-nil, inl, inr}
 use Rattle.std.proofs.lemmas.Bool.{and_parts, and_from, eq-eqb, false≢true}
 use Rattle.std.proofs.lemmas.List.{reverse-append}
 use Rattle.chorus_ui.specs.declared.layout.Layout.{Layout}
@@ -29,6 +29,7 @@ use Rattle.chorus_replay.specs.Worn.{ComesNext}
 use Rattle.chorus_report.specs.Headline.{HasClock}
 use Rattle.chorus_net.specs.Closing.{IsClosed, merge_of, past_of}
 use Rattle.chorus_net.specs.Drains.{Drains}
+use Rattle.chorus_net.specs.Sites.{AreTwoPlaces}
 use Rattle.chorus_replay.specs.Performing.{AreLeft, AreStopped, ArePerformed, ArePlayed, HaveClocks}
 use Rattle.chorus_replay.specs.Ordered.{IsOrdered}
 use Rattle.chorus_replay.proofs.May.{tasks-may, first-there}
@@ -59,13 +60,7 @@ pub may-suffix : (l : Layout) (xs ys : List Event) → may_be l (xs ++ ys) ≡ t
 may-suffix l [] ys h = h
 may-suffix l (x ∷ xs) ys h = may-suffix l xs ys (and_parts (may_happen x (schedule l (xs ++ ys))) (may_be l (xs ++ ys)) h).1
 
--- what a delivery asks of its places
-pub record AreTwoPlaces (a b : ℕ) (n : NetState) : Type 0 where
-  pub from : has_place n.layout a ≡ true
-  pub to : has_place n.layout b ≡ true
-  pub apart : a ≢ b
-
-two-places : (a b : ℕ) (n : NetState) → may_happen (calls.delivering a b) n ≡ true → AreTwoPlaces a b n
+two-places : (a b : ℕ) (n : NetState) → may_happen (calls.delivering a b) n ≡ true → AreTwoPlaces n.layout a b
 two-places a b n h =
     let last = and_parts (is_some (slice_get n.callers 0) && has_place n.layout a && has_place n.layout b) (not (a == b)) h in
     let to = and_parts (is_some (slice_get n.callers 0) && has_place n.layout a) (has_place n.layout b) last.0 in
@@ -118,7 +113,7 @@ module _ {l : Layout} {all : List Task} (can : CanBe l all) where
   }
 
   -- a delivery between two places of the layout
-  pub deliver-may : (a b : ℕ) (rest : List Task) (n : NetState) → AreLeft l all (Do (calls.delivering a b) ∷ rest) n → AreTwoPlaces a b n
+  pub deliver-may : (a b : ℕ) (rest : List Task) (n : NetState) → AreLeft l all (Do (calls.delivering a b) ∷ rest) n → AreTwoPlaces n.layout a b
   deliver-may a b rest n before = two-places a b n (step-may (calls.delivering a b) rest n before)
 
   -- a caller that comes

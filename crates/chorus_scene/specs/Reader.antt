@@ -1,5 +1,5 @@
 -- What a reader keeps: what the lines so far have said, and tables beside that.
-use Rattle.std.specs.Prelude.{◌≡◌, ℕ, ◌+◌, ◌-◌, ◌*◌, ◌≤◌, ◌<◌, ◌%◌, Bool, true, false, ◌&&◌, List, [], length, map, Option, Result, Ok, Err, slice_index, slice_index_or, nat_le, count_by}
+use Rattle.std.specs.Prelude.{◌≡◌, ℕ, ◌+◌, ◌-◌, ◌*◌, ◌≤◌, ◌<◌, ◌%◌, Bool, true, false, ◌&&◌, List, [], ◌∷◌, length, map, Option, Result, Ok, Err, slice_index, slice_index_or, nat_le, count_by}
 use Rattle.chorus_ui.specs.declared.kind.Kind.{Kind}
 use Rattle.chorus_ui.specs.declared.kind.Kind.TheVariants as kinds
 use Rattle.chorus_ui.specs.Kind.{same_kind}
@@ -13,6 +13,7 @@ use Rattle.chorus_lines.specs.declared.word.Verb.{Verb}
 use Rattle.chorus_lines.specs.declared.word.Section.{Section}
 use Rattle.chorus_lines.specs.declared.word.Section.TheVariants as sections
 use Rattle.chorus_lines.specs.declared.word.Reason.{Reason}
+use Rattle.chorus_scene.specs.declared.scenario.SetupLine.{SetupLine}
 use Rattle.chorus_scene.specs.declared.setup.Setup.{Setup}
 use Rattle.chorus_scene.specs.declared.reader.Reader.{Reader}
 use Rattle.chorus_lines.specs.declared.fault.Stop.{Stop}
@@ -22,7 +23,7 @@ use Rattle.chorus_scene.specs.declared.limits.TheConstants.{SCRIPTS_LIMIT}
 use Rattle.chorus_scene.specs.declared.setup.TheConstants.{SITE_COUNTS, PORT_COUNTS, COUNTS, SITE_LISTS, LISTS}
 use Rattle.chorus_lines.specs.Text.{fields}
 use Rattle.chorus_scene.specs.Scene.{Scene}
-use Rattle.chorus_scene.specs.Making.{stride, shares_place, made_after, names_said, members_of}
+use Rattle.chorus_scene.specs.Making.{stride, next_name, shares_place, makes, made_after, name_said, names_said, members_of}
 use Rattle.chorus_scene.specs.Line.{Line, CommandLine, cuts}
 use Rattle.chorus_scene.specs.Grammar.{State, judge_fields, then_after, is_step}
 
@@ -55,6 +56,16 @@ most_number _ = PORTS_PER_SITE_LIMIT
 -- what the setup lines of a setup have made
 abbrev pub made_by : Layout → Setup → List Ui
 made_by l s = made_after l [] s.lines.items
+
+-- the line makes a port or group, by the place of the site that gives the number n: u is of its kind, with a number that
+-- the site may give
+pub record IsMaking (l : Layout) (line : SetupLine) (u : Ui) (site n : ℕ) : Type 0 where
+  pub kind : is_actor u.kind ≡ false
+  pub from_one : 1 ≤ n
+  pub room : u.number ≤ most_number u.kind
+  pub made : (before : List Ui) → makes l before line ≡ next_name l u.kind site n before ∷ []
+  pub said : (before : List Ui) → name_said l before line ≡ next_name l u.kind site n before
+  pub joined : (g : Ui) → members_of g (line ∷ []) ≡ []
 
 -- the tables of a setup are those of its lines
 pub record IsSetup (l : Layout) (s : Setup) : Type 0 where

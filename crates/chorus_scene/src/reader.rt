@@ -143,6 +143,7 @@ impl Reader {
         }
     }
 
+    /// Reads the line `sites N`; 0 sites, or more than the version or the layout allows, are a fault of Limit.
     fn sites_line(&mut self, rest: Option<&[u8]>) -> Result<(), Stop>
         requires stands { Stands self.old }
         requires may { may_stand self.old.section Word.Sites ≡ true }
@@ -169,6 +170,7 @@ impl Reader {
         Ok(())
     }
 
+    /// Reads the line `script ACTOR`, which begins a further script; one above the most scripts is a fault of Limit.
     fn script_line(&mut self, alloc: Global, rest: Option<&[u8]>) -> Result<(), Stop>
         requires stands { Stands self.old }
         requires may { may_stand self.old.section Word.Script ≡ true }
@@ -191,6 +193,7 @@ impl Reader {
         self.push_script(alloc, actor)
     }
 
+    /// Begins a script without commands for this actor, none of whose commands is scheduled yet.
     fn push_script(&mut self, alloc: Global, actor: Ui) -> Result<(), Stop>
         requires stands { Stands self.old }
         requires may { may_stand self.old.section Word.Script ≡ true }
@@ -206,6 +209,7 @@ impl Reader {
         Ok(())
     }
 
+    /// Reads the line `schedule`, behind which the steps stand; a field on it is a fault of Word.
     fn schedule_line(&mut self, rest: Option<&[u8]>) -> Result<(), Stop>
         requires stands { Stands self.old }
         requires may { may_stand self.old.section Word.Schedule ≡ true }
@@ -220,6 +224,7 @@ impl Reader {
         Ok(())
     }
 
+    /// Reads the line `end`, which ends the scenario; a field on it is a fault of Word.
     fn end_line(&mut self, rest: Option<&[u8]>) -> Result<(), Stop>
         requires stands { Stands self.old }
         requires may { may_stand self.old.section Word.End ≡ true }

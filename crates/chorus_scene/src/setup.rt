@@ -1,14 +1,13 @@
 //! The setup lines that were read, with tables of what they made.
 
-ghost use Rattle.std.specs.Prelude.{◌≡◌, ◌+◌, ◌<◌, ◌≤◌, List, [], ◌∷◌, ◌++◌, true, false, OnOk, IfOk};
+ghost use Rattle.std.specs.Prelude.{◌≡◌, ◌+◌, ◌<◌, ◌≤◌, [], ◌∷◌, ◌++◌, true, false, OnOk, IfOk};
 ghost use Rattle.chorus_ui.specs.declared.limits.TheConstants.{PLACES_PER_SITE_LIMIT, SITES_LIMIT};
-ghost use Rattle.chorus_ui.specs.declared.ui.Ui.{Ui};
 ghost use Rattle.chorus_ui.specs.Layout.{IsLayout};
 ghost use Rattle.chorus_ui.specs.declared.layout.Layout.{Layout};
 ghost use Rattle.chorus_entry.specs.Members.{is_member};
 ghost use Rattle.chorus_scene.specs.declared.setup.TheConstants.{COUNTS, LISTS};
-ghost use Rattle.chorus_scene.specs.Making.{stride, next_name, makes, name_said, members_of};
-ghost use Rattle.chorus_scene.specs.Reader.{count_at, is_actor, is_listed, list_number, most_number, made_by, IsSetup};
+ghost use Rattle.chorus_scene.specs.Making.{stride, next_name, members_of};
+ghost use Rattle.chorus_scene.specs.Reader.{count_at, is_actor, is_listed, list_number, made_by, IsMaking, IsSetup};
 
 use crate::scenario::SetupLine;
 use chorus_ui::{GROUPS_PER_SITE_LIMIT, Kind, Layout, PLACES_PER_SITE_LIMIT, SITES_LIMIT, Ui};
@@ -153,15 +152,8 @@ impl Setup {
     ) -> Result<(), AllocError>
         requires tables { IsSetup layout self.old }
         requires site { ui.site ≤ SITES_LIMIT }
-        requires number { 1 ≤ number }
-        requires kind { is_actor ui.kind ≡ false }
+        requires making { IsMaking layout line ui ui.site number }
         requires given { ui ≡ next_name layout ui.kind ui.site number (made_by layout self.old) }
-        requires room { ui.number ≤ most_number ui.kind }
-        requires makes { (made : List Ui) →
-            makes layout made line ≡ next_name layout ui.kind ui.site number made ∷ [] }
-        requires says { (made : List Ui) →
-            name_said layout made line ≡ next_name layout ui.kind ui.site number made }
-        requires joins { (group : Ui) → members_of group (line ∷ []) ≡ [] }
         ensures ok { OnOk result (self.new.lines.items ≡ self.old.lines.items ++ line ∷ []) }
         ensures tables { OnOk result (IsSetup layout self.new) }
     {

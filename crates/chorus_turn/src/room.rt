@@ -50,6 +50,7 @@ impl<S> Room<S> {
         }
     }
 
+    /// Gives back the empty list that was put away, with its room for the states, and frees the table where it lay.
     pub(crate) fn take(self) -> Vec<S>
         ensures { (vec_len result ≡ 0) × (self.table.shared.key ≤ vec_capacity result) }
     {

@@ -54,6 +54,7 @@ impl<S: Kept> Turns<S> {
         }
     }
 
+    /// Puts the state back into the slot from which this pass lifted it, and which is therefore empty.
     pub(crate) fn lower(&self, seat: &mut Held<S, S::Remark>, slot: usize, state: S)
         requires table { seat.old.table_id ≡ table_of self.now }
         requires empty { seat.old.me.1 ≡ (slot, None) ∷ [] }

@@ -56,8 +56,8 @@ impl<S: Kept> Turns<S> {
     ) -> Result<J::Out, Busy>
         requires table { seat.old.table_id ≡ table_of self.now }
         requires place { IsPlaceOf self.now place }
-        requires seat { (seat.old.me.1 ≡ []) × IsAtRest seat.old.me.0 }
-        requires number { seat.old.me.0.knows.seat ≡ number }
+        requires seat { (seat.old.me.1 ≡ []) × IsAtRest seat.old.me.0
+            × (seat.old.me.0.knows.seat ≡ number) }
         requires job { AcceptsAt S.mark (handed self.now) place (λ m. J.accepts job.old m number) }
         ensures table { seat.new.table_id ≡ seat.old.table_id }
         ensures seat { (seat.new.me.1 ≡ []) × IsAtRest seat.new.me.0 }

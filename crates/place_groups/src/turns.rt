@@ -5,17 +5,16 @@ ghost use Rattle.chorus_ui.specs.declared.ui.Ui.{Ui};
 ghost use Rattle.chorus_ui.specs.declared.kind.Kind.TheVariants as Kind;
 ghost use Rattle.chorus_ui.specs.declared.limits.TheConstants.{CLOCK_LIMIT, GROUPS_PER_SITE_LIMIT, MEMBERS_LIMIT};
 ghost use Rattle.chorus_ui.specs.Layout.{has_site, has_place};
-ghost use Rattle.chorus_entry.specs.declared.tag.Tag.TheVariants as Tag;
 ghost use Rattle.chorus_entry.specs.Dest.{group_in, port_in};
-ghost use Rattle.chorus_entry.specs.Kinds.{has_kinds_in_dest};
 ghost use Rattle.chorus_groups.specs.Made.{made_of};
 ghost use Rattle.chorus_calls.specs.Callers.{Seated};
 ghost use Rattle.law_machine.specs.Choosing.{choice};
+ghost use Rattle.place_groups.specs.Allowed.{MayPostAway, MayPostHere, MayPostToGroup};
 ghost use Rattle.place_groups.specs.GroupTurns.{IsPrepared, IsAskReady, copies, chosen_go};
 ghost use Rattle.chorus_entry.specs.declared.command.Command.TheVariants as Command;
 ghost use Rattle.chorus_world.specs.Groups.{groups_made};
 ghost use Rattle.law_machine.specs.PlaceState.{greatest_clock};
-ghost use Rattle.law_machine.specs.Own.{next_group, next_message};
+ghost use Rattle.law_machine.specs.Own.{next_group};
 ghost use Rattle.law_machine.specs.Doing.{choosing_place, chooses_own, asks};
 ghost use Rattle.law_machine.specs.Working.{answers_ask};
 ghost use Rattle.law_machine.specs.Replies.{choice_reply};
@@ -185,10 +184,7 @@ pub fn post_to_group(
     body: Body,
     caller: &mut Caller,
 ) -> Result<Reply, AllocError>
-    requires group { port_in dest ≡ None }
-    requires kinds { has_kinds_in_dest dest ≡ true }
-    requires posts { caller.old.posts < u32.MAX }
-    requires sound { IsSound (next_message Tag.Plain body caller.old) }
+    requires may { MayPostToGroup dest body caller.old }
     requires clock { greatest_clock (turn tables.old caller.old) < CLOCK_LIMIT }
     ensures performed { IfOk result (λ reply. Performed (Command.Send dest body)
         (turn tables.old caller.old) (turn tables.new caller.new) reply) }
@@ -259,9 +255,7 @@ fn post_here(
     group: Ui,
     caller: &mut Caller,
 ) -> Result<Reply, AllocError>
-    requires group { group_in dest ≡ Some group }
-    requires posts { caller.old.posts < u32.MAX }
-    requires sound { IsSound message }
+    requires may { MayPostHere message dest group caller.old }
     requires clock { greatest_clock (turn tables.old caller.old) < CLOCK_LIMIT }
     ensures ok { OnOk result (turn tables.new caller.new ≡
         chooses_own message dest group (turn tables.old caller.old)) }
@@ -288,10 +282,7 @@ fn ask_for(
     to: u16,
     caller: &mut Caller,
 ) -> Result<Reply, AllocError>
-    requires group { port_in dest.now ≡ None }
-    requires to { has_place tables.old.layout to ≡ true }
-    requires post { message.id.copy ≡ 0 }
-    requires posts { caller.old.posts < u32.MAX }
+    requires may { MayPostAway message dest.now to tables.old caller.old }
     requires clock { greatest_clock (turn tables.old caller.old) + 1 < 2 ^ 64 }
     ensures ok { OnOk result (turn tables.new caller.new ≡
         asks message dest.now to (turn tables.old caller.old)) }

@@ -161,10 +161,11 @@ module _ (l : Layout) (p : ℕ) (J : List Entry) where
   of-place b n h all i e at = all-at J i e all (taken-at n J i e at) ∙ sym h.of_place
 
   -- where all is taught
-  pub locates-all : (b : Board) (ui : Ui) → IsUpTo l p J (length J) b → LocatesAfter b ui 1 0 (take (length J) J)
-  locates-all b ui h =
-      subst (λ k. (q : Ui) → IsPortIn k q → farther (located_after k (entries_published b) q) (told_of q ui 1 0) ≡ located_after k (take (length J) J) q) (sym h.is.layout)
-      (λ q port. nothing_told (located_after l (entries_published b) q) q ui 1 ∙ h.same q port)
+  pub locates-all : (b : Board) (ui : Ui) (to hop : ℕ) → hop ≡ 0 → IsUpTo l p J (length J) b → LocatesAfter b ui to hop (take (length J) J)
+  locates-all b ui to hop none h =
+      subst (λ n. LocatesAfter b ui to n (take (length J) J)) (sym none)
+      (subst (λ k. (q : Ui) → IsPortIn k q → farther (located_after k (entries_published b) q) (told_of q ui to 0) ≡ located_after k (take (length J) J) q) (sym h.is.layout)
+      (λ q port. nothing_told (located_after l (entries_published b) q) q ui to ∙ h.same q port))
 
 -- more entries of the place
 pub published-on : (l : Layout) (p : ℕ) (J news : List Entry) (b : Board) → IsBoardAt l p J b → IsBoardAt l p (J ++ news) b

@@ -1,10 +1,6 @@
 //! One publish.
-ghost use Rattle.std.specs.Prelude.{◌≡◌, ◌<◌, true, length, take, IsTrue, OnOk, OnErr};
-ghost use mathlib.Core.List.{IsPrefix};
-ghost use Rattle.chorus_ui.specs.declared.kind.Kind.TheVariants.{Port};
-ghost use Rattle.chorus_ui.specs.Layout.{can_make_port};
-ghost use Rattle.chorus_board.specs.Located.{IsOfPlace};
-ghost use Rattle.chorus_board.specs.Boards.{entries_published, entries_begun, layout_of, place_of, LocatesAfter, IsSameBoard, shown};
+ghost use Rattle.std.specs.Prelude.{◌≡◌, true, take, OnOk, OnErr};
+ghost use Rattle.chorus_board.specs.Boards.{entries_published, entries_begun, shown, MayPublish, IsSameBoard};
 
 use crate::lesson::Lesson;
 use chorus_board::{Board, Stands};
@@ -33,12 +29,7 @@ fn publish_as<X: Stands, R: Wait>(
     upto: usize,
 ) -> Result<(), AllocError>
     requires stands { X.entries ≡ take upto journal.now }
-    requires port { lesson.ui.kind ≡ Port }
-    requires in_layout { IsTrue (can_make_port (layout_of board.old) lesson.ui) }
-    requires longer { IsPrefix (entries_begun board.old) X.entries }
-    requires count { upto ≡ length X.entries }
-    requires of_place { IsOfPlace (place_of board.old) X.entries }
-    requires located { LocatesAfter board.old lesson.ui lesson.place lesson.hop X.entries }
+    requires may { MayPublish board.old lesson.ui lesson.place lesson.hop upto X.entries }
     ensures board { IsSameBoard board.old board.new }
     ensures begun { entries_begun board.new ≡ X.entries }
     ensures published { OnOk result (entries_published board.new ≡ X.entries) }
@@ -56,12 +47,7 @@ pub(crate) fn publish_first<R: Wait>(
     journal: &[Entry],
     upto: usize,
 ) -> Result<(), AllocError>
-    requires port { lesson.ui.kind ≡ Port }
-    requires in_layout { IsTrue (can_make_port (layout_of board.old) lesson.ui) }
-    requires longer { IsPrefix (entries_begun board.old) (take upto journal.now) }
-    requires count { upto ≡ length (take upto journal.now) }
-    requires of_place { IsOfPlace (place_of board.old) (take upto journal.now) }
-    requires located { LocatesAfter board.old lesson.ui lesson.place lesson.hop
+    requires may { MayPublish board.old lesson.ui lesson.place lesson.hop upto
         (take upto journal.now) }
     ensures board { IsSameBoard board.old board.new }
     ensures begun { entries_begun board.new ≡ take upto journal.now }

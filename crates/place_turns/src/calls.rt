@@ -1,6 +1,6 @@
 //! Whole turns with calls: what can fail comes first, and then the caller and the place change.
 
-ghost use Rattle.std.specs.Prelude.{◌≡◌, ◌+◌, ◌^◌, ◌<◌, ◌≤◌, None, Some, length, IfOk, OnOk, OnErr, true};
+ghost use Rattle.std.specs.Prelude.{◌≡◌, ◌+◌, ◌^◌, ◌<◌, ◌≤◌, None, length, IfOk, OnOk, OnErr, true};
 ghost use Rattle.chorus_ui.specs.declared.kind.Kind.TheVariants as Kind;
 ghost use Rattle.chorus_ui.specs.declared.limits.TheConstants.{BODY_LIMIT, CLOCK_LIMIT};
 ghost use Rattle.chorus_entry.specs.declared.command.Command.TheVariants as Command;
@@ -9,6 +9,7 @@ ghost use Rattle.place_state.specs.Plain.{is_plain};
 ghost use Rattle.place_state.specs.Room.{KeepsRoom};
 ghost use Rattle.place_state.specs.Tables.{turn};
 ghost use Rattle.place_state.specs.Commands.{Performed, StaysOut};
+ghost use Rattle.place_turns.specs.Allowed.{MayBeginCall, MayReply};
 ghost use Rattle.place_turns.specs.CallTurns.{outstanding_number, with_call, without_call};
 
 use crate::messages::{post_prepared, ready_post};
@@ -66,10 +67,7 @@ pub fn call(
     body: Body,
     caller: &mut Caller,
 ) -> Result<Reply, AllocError>
-    requires port { port.kind ≡ Kind.Port }
-    requires back { back.kind ≡ Kind.Port }
-    requires posts { caller.old.posts < u32.MAX }
-    requires given { caller.old.client.given < u32.MAX }
+    requires may { MayBeginCall port back caller.old }
     requires clock { greatest_clock (turn tables.old caller.old) < CLOCK_LIMIT }
     ensures performed { IfOk result (λ reply. Performed (Command.Call port back body)
         (turn tables.old caller.old) (turn tables.new caller.new) reply) }
@@ -93,10 +91,7 @@ fn begin_call(
     caller: &mut Caller,
 ) -> Result<Reply, AllocError>
     requires free { caller.old.client.outstanding ≡ None }
-    requires port { port.kind ≡ Kind.Port }
-    requires back { back.kind ≡ Kind.Port }
-    requires posts { caller.old.posts < u32.MAX }
-    requires given { caller.old.client.given < u32.MAX }
+    requires may { MayBeginCall port back caller.old }
     requires clock { greatest_clock (turn tables.old caller.old) < CLOCK_LIMIT }
     ensures performed { IfOk result (λ reply. Performed (Command.Call port back body)
         (turn tables.old caller.old) (turn tables.new caller.new) reply) }
@@ -179,10 +174,7 @@ fn answer_request(
     body: Body,
     caller: &mut Caller,
 ) -> Result<Reply, AllocError>
-    requires hand { caller.old.hand ≡ Some hand.now }
-    requires number { 1 ≤ hand.now.number }
-    requires back { hand.now.back.kind ≡ Kind.Port }
-    requires posts { caller.old.posts < u32.MAX }
+    requires may { MayReply hand.now caller.old }
     requires clock { greatest_clock (turn tables.old caller.old) < CLOCK_LIMIT }
     ensures performed { IfOk result (λ reply. Performed (Command.Reply body)
         (turn tables.old caller.old) (turn tables.new caller.new) reply) }

@@ -2,15 +2,14 @@
 
 ghost use Rattle.std.specs.Prelude.{◌≡◌, ◌+◌, ◌^◌, ◌<◌, ◌≤◌, IsNone, IsOk, IfOk, OnErr};
 ghost use Rattle.chorus_ui.specs.declared.kind.Kind.TheVariants as Kind;
-ghost use Rattle.chorus_ui.specs.declared.limits.TheConstants.{PENDING_LIMIT};
 ghost use Rattle.chorus_entry.specs.declared.command.Command.TheVariants as Command;
-ghost use Rattle.chorus_entry.specs.Places.{place_for};
 ghost use Rattle.chorus_ports.specs.Table.{find};
 ghost use Rattle.law_machine.specs.PlaceState.{greatest_clock};
 ghost use Rattle.law_machine.specs.Own.{held_by, next_port};
 ghost use Rattle.place_state.specs.Commands.{Performed, StaysOut};
 ghost use Rattle.place_state.specs.Room.{KeepsRoom};
 ghost use Rattle.place_state.specs.Tables.{turn};
+ghost use Rattle.place_turns.specs.Allowed.{MayMakePort};
 
 use chorus_calls::Caller;
 use chorus_entry::Act;
@@ -28,11 +27,7 @@ pub fn make(
     capacity: u8,
     caller: &mut Caller,
 ) -> Result<Reply, AllocError>
-    requires kind { actor.kind ≡ Kind.Actor }
-    requires least { 1 ≤ capacity }
-    requires most { capacity ≤ PENDING_LIMIT }
-    requires here { place_for tables.old.layout caller.old.actor (Command.Make actor capacity)
-        ≡ tables.old.number }
+    requires may { MayMakePort actor capacity tables.old caller.old }
     requires clock { greatest_clock (turn tables.old caller.old) + 1 < 2 ^ 64 }
     ensures performed { IfOk result (λ reply. Performed (Command.Make actor capacity)
         (turn tables.old caller.old) (turn tables.new caller.new) reply) }

@@ -19,6 +19,7 @@ use chorus_ui::{Kind, Ui};
 use std::alloc::Global;
 
 impl Reader {
+    /// Reads a line of a script, which begins with this verb, and puts its command behind the last script's others.
     pub(crate) fn command_line(
         &mut self,
         alloc: Global,
@@ -35,6 +36,7 @@ impl Reader {
         self.push_command(command)
     }
 
+    /// Puts the command behind the others of the script that was begun last; the only error is want of memory.
     fn push_command(&mut self, command: Command) -> Result<(), Stop>
         requires stands { Stands self.old }
         requires some { 0 < length self.old.scripts.items }
@@ -154,6 +156,7 @@ impl Reader {
         Ok((group, port))
     }
 
+    /// The command of a `send`, `all` or `one` line: to a port, to all members of a group, or to one of them.
     fn send(&self, alloc: Global, target: Target, rest: Option<&[u8]>) -> Result<Command, Stop>
         requires some { 0 < length self.now.scripts.items }
         ensures { Tells result
@@ -181,6 +184,7 @@ impl Reader {
         })
     }
 
+    /// The command of an `at` line: a message to one member of a group, where it is on the site that the line names.
     fn at(&self, alloc: Global, rest: Option<&[u8]>) -> Result<Command, Stop>
         requires some { 0 < length self.now.scripts.items }
         ensures { Tells result (command_with self.now Verb.At (option_copied rest.entry)) }
@@ -211,6 +215,7 @@ impl Reader {
         })
     }
 
+    /// The command of a `call` line: a request to one port, and the port to which the reply is to come back.
     fn call(&self, alloc: Global, rest: Option<&[u8]>) -> Result<Command, Stop>
         requires some { 0 < length self.now.scripts.items }
         ensures { Tells result (command_with self.now Verb.Call (option_copied rest.entry)) }
@@ -238,6 +243,7 @@ impl Reader {
         Ok(Command::Call { port, back, body })
     }
 
+    /// The command of a `reply` line, on which only the body stands.
     fn reply(&self, alloc: Global, rest: Option<&[u8]>) -> Result<Command, Stop>
         requires some { 0 < length self.now.scripts.items }
         ensures { Tells result (command_with self.now Verb.Reply (option_copied rest.entry)) }
@@ -258,6 +264,7 @@ impl Reader {
         Ok(Command::Reply { body })
     }
 
+    /// The command of a `move` line: a port, and the actor of the scenario that it is to move to.
     fn move_port(&self, rest: Option<&[u8]>) -> Result<Command, Stop>
         requires some { 0 < length self.now.scripts.items }
         ensures { Tells result (command_with self.now Verb.Move (option_copied rest.entry)) }
@@ -278,6 +285,7 @@ impl Reader {
         Ok(Command::Move { port, actor })
     }
 
+    /// The command of a `newport` line; a capacity of 0 or above the most messages of a port is a fault of Limit.
     fn new_port(&self, rest: Option<&[u8]>) -> Result<Command, Stop>
         requires some { 0 < length self.now.scripts.items }
         ensures { Tells result (command_with self.now Verb.NewPort (option_copied rest.entry)) }
@@ -301,6 +309,7 @@ impl Reader {
         })
     }
 
+    /// The command of a `newgroup` line; a site that the scenario does not have is a fault of Unknown.
     fn new_group(&self, rest: Option<&[u8]>) -> Result<Command, Stop>
         requires some { 0 < length self.now.scripts.items }
         ensures { Tells result (command_with self.now Verb.NewGroup (option_copied rest.entry)) }
@@ -341,6 +350,7 @@ impl Reader {
     }
 }
 
+/// Of which kind the name behind `send`, `all` or `one` has to be: a port's behind `send`, else a group's.
 fn target_kind(target: Target) -> Kind
     ensures { result ≡ target_kind target }
 {
@@ -350,6 +360,7 @@ fn target_kind(target: Target) -> Kind
     }
 }
 
+/// Where a `send`, `all` or `one` line sends its message: to this port, or to all or one of this group.
 fn dest_of(target: Target, name: Ui) -> Dest
     ensures { result ≡ dest_of target name }
 {

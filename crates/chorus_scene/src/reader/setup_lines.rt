@@ -1,14 +1,13 @@
 //! The lines of the setup.
 
-ghost use Rattle.std.specs.Prelude.{◌≡◌, ◌≤◌, List, [], ◌∷◌, true, false, not, OnOk, IfErr};
+ghost use Rattle.std.specs.Prelude.{◌≡◌, ◌≤◌, true, false, not, OnOk, IfErr};
 ghost use Rattle.std.specs.Option.{option_copied};
 ghost use Rattle.chorus_ui.specs.declared.limits.TheConstants.{SITES_LIMIT};
 ghost use Rattle.chorus_ui.specs.Name.{same_ui};
-ghost use Rattle.chorus_ui.specs.declared.ui.Ui.{Ui};
-ghost use Rattle.chorus_scene.specs.Making.{makes, name_said, next_name, members_of};
+ghost use Rattle.chorus_scene.specs.Making.{next_name};
 ghost use Rattle.chorus_scene.specs.Grammar.{is_known, made, unless, with_setup};
 ghost use Rattle.chorus_lines.specs.Words.{may_stand};
-ghost use Rattle.chorus_scene.specs.Reader.{Gives, Stands, IsMemory, read_with, state_of, scene_of, is_actor, most_number};
+ghost use Rattle.chorus_scene.specs.Reader.{Gives, Stands, IsMaking, IsMemory, read_with, state_of, scene_of, is_actor};
 
 use crate::reader::{Reader, name_in};
 use crate::scenario::SetupLine;
@@ -18,6 +17,7 @@ use chorus_lines::{Reason, Section, Stop, Word, number_in};
 use chorus_ui::{GROUPS_PER_SITE_LIMIT, Kind, PORTS_PER_SITE_LIMIT, Ui};
 
 impl Reader {
+    /// Reads the setup line `port PORT ACTOR CAPACITY`, whose port has to be the next that the actor's place makes.
     pub(crate) fn port_line(&mut self, rest: Option<&[u8]>) -> Result<(), Stop>
         requires stands { Stands self.old }
         requires may { may_stand self.old.section Word.Port ≡ true }
@@ -54,6 +54,7 @@ impl Reader {
         self.make(port, line, actor.site(), actor.number())
     }
 
+    /// Reads the setup line `group GROUP`, whose group has to be the next that its site makes.
     pub(crate) fn group_line(&mut self, rest: Option<&[u8]>) -> Result<(), Stop>
         requires stands { Stands self.old }
         requires may { may_stand self.old.section Word.Group ≡ true }
@@ -80,6 +81,7 @@ impl Reader {
         self.make(group, SetupLine::Group { site }, site, 1)
     }
 
+    /// Reads the setup line `member GROUP PORT`, where earlier lines made both and the port is no member yet.
     pub(crate) fn member_line(&mut self, rest: Option<&[u8]>) -> Result<(), Stop>
         requires stands { Stands self.old }
         requires may { may_stand self.old.section Word.Member ≡ true }
@@ -121,16 +123,7 @@ impl Reader {
         requires stands { Stands self.old }
         requires section { self.old.section ≡ Section.Setup }
         requires site { (1 ≤ site) × (site ≤ SITES_LIMIT) }
-        requires number { 1 ≤ number }
-        requires kind { is_actor ui.kind ≡ false }
-        requires room { ui.number ≤ most_number ui.kind }
-        requires makes { (made : List Ui) →
-            makes self.old.layout made line
-            ≡ next_name self.old.layout ui.kind site number made ∷ [] }
-        requires says { (made : List Ui) →
-            name_said self.old.layout made line
-            ≡ next_name self.old.layout ui.kind site number made }
-        requires joins { (group : Ui) → members_of group (line ∷ []) ≡ [] }
+        requires making { IsMaking self.old.layout line ui site number }
         ensures gives { Gives (state_of self.new) result
             (unless (not (same_ui ui
             (next_name self.old.layout ui.kind site number (made (scene_of self.old)))))
@@ -146,6 +139,7 @@ impl Reader {
         Ok(())
     }
 
+    /// Notes the port as the group's last member of the setup; the only error is want of memory.
     fn enlist(&mut self, group: Ui, port: Ui) -> Result<(), Stop>
         requires stands { Stands self.old }
         requires section { self.old.section ≡ Section.Setup }

@@ -15,6 +15,7 @@ use chorus_lines::fields::{none, one, two};
 use chorus_lines::{BEYOND, Reason, Section, Stop, Word, number_in};
 
 impl Reader {
+    /// Reads the schedule line `step SCRIPT`, by which the script with this number runs its next command.
     pub(crate) fn step_line(&mut self, rest: Option<&[u8]>) -> Result<(), Stop>
         requires stands { Stands self.old }
         requires may { may_stand self.old.section Word.Step ≡ true }
@@ -37,6 +38,7 @@ impl Reader {
         self.push_step(script as u32)
     }
 
+    /// Reads the schedule line `deliver FROM TO`, of two different places of the scenario, by their numbers from 1.
     pub(crate) fn deliver_line(&mut self, rest: Option<&[u8]>) -> Result<(), Stop>
         requires stands { Stands self.old }
         requires may { may_stand self.old.section Word.Deliver ≡ true }
@@ -62,6 +64,7 @@ impl Reader {
         Ok(())
     }
 
+    /// Reads the schedule line `drain`, behind which no field may stand.
     pub(crate) fn drain_line(&mut self, rest: Option<&[u8]>) -> Result<(), Stop>
         requires stands { Stands self.old }
         requires may { may_stand self.old.section Word.Drain ≡ true }
@@ -90,6 +93,7 @@ impl Reader {
         self.scripts[at].commands().len() <= self.used[at] as usize
     }
 
+    /// Puts a step of this script into the schedule, and counts one more of its commands as scheduled.
     fn push_step(&mut self, script: u32) -> Result<(), Stop>
         requires stands { Stands self.old }
         requires script { (1 ≤ script) × (script ≤ length self.old.scripts.items) }

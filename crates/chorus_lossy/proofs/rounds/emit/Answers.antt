@@ -7,7 +7,7 @@ use Rattle.chorus_lossy.proofs.rounds.emit.Goals as goal
 
 pub returns-then-is_lost-clause-ok : goal.returns-then-is_lost-clause-ok
 returns-then-is_lost-clause-ok c = λ m e.
-    lost_unseen c.args.round c.args.number c.draw-fate.result m c.args.run.now c.draw-fate.new.run c.args.sender.now c.args.receiver.now e c.requires.kept.0 c.requires.kept.1 c.draw-fate.ensures.state c.draw-fate.ensures.fate
+    lost_unseen c.args.round c.args.number c.draw-fate.result m c.args.run.now c.draw-fate.new.run c.args.sender.now c.args.receiver.now e c.requires.may.kept.0 c.requires.may.kept.1 c.draw-fate.ensures.state c.draw-fate.ensures.fate
     (sym c.is_lost.ensures ∙ c.if-is_lost.true)
 
 pub returns-in_err-chunk-clause-err : goal.returns-in_err-chunk-clause-err

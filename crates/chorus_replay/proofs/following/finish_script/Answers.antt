@@ -30,7 +30,7 @@ returns-in_err-act-clause-worn c clock is =
     let read = slice_get_read _ _ _ _ refl c.loop-command-test.true c.command-item.is in
     let next = left-next scene c.args.index (take (length c.commands.result.now - c.args.first) (drop c.args.first c.commands.result.now)) c.loop-command.command-index _ c.in_ok-copied.field-0 (net c.loop-command.sites) read c.in_ok-copied.ensures c.loop-command.invariant in
     let p = err_from_is_err_and c.from_residual-in_err-act.result c.from_residual-in_err-act.ensures.1 in
-    act-worn (can scene c.requires.shape c.requires.keeps) (c.args.index + 1) c.in_ok-copied.field-0 _ _ _ clock next c.in_err-act.ensures.refused
+    act-worn (can scene c.requires.shape c.requires.keeps) (c.args.index + 1) c.in_ok-copied.field-0 _ _ _ clock next c.in_err-act.ensures.refused.same
     ((c.act.ensures.worn clock).0 (exit c.from_residual-in_err-act.result c.act.result _ p.0 _ p.1 p.2 c.in_err-act.was is))
 
 pub returns-in_err-drain-clause-worn : goal.returns-in_err-drain-clause-worn

@@ -88,7 +88,7 @@ returns-in_err-act-in-Step-clause-worn c clock is =
     let performs = performs-it scene.scripts before next c.requires.next k has c.index.result.now c.commands.result.now c.index-commands-index.result c.in_ok-command-in-Step.command c.index.ensures of c.index-commands-index.is c.in_ok-command-in-Step.ensures in
     let here = subst (λ ts. IsBefore scene (ts ++ schedule_from scene (c.args.index + 1)) (net c.args.sites.now)) performs (step-next scene c.args.index (steps.Step k) (net c.args.sites.now) at c.requires.before) in
     let p = err_from_is_err_and c.from_residual-in_err-act-in-Step.result c.from_residual-in_err-act-in-Step.ensures.1 in
-    act-worn (can scene c.requires.shape c.requires.keeps) k c.in_ok-command-in-Step.command _ _ _ clock here c.in_err-act-in-Step.ensures.refused
+    act-worn (can scene c.requires.shape c.requires.keeps) k c.in_ok-command-in-Step.command _ _ _ clock here c.in_err-act-in-Step.ensures.refused.same
     ((c.act.ensures.worn clock).0 (exit c.from_residual-in_err-act-in-Step.result c.act.result _ p.0 _ p.1 p.2 c.in_err-act-in-Step.was is))
 
 pub index_mut-requires : goal.index_mut-requires
@@ -114,26 +114,12 @@ overflow_add-index_mut c =
     let below = next-below scene.scripts before next c.requires.next k has c.index_mut.result.now c.commands.result.now c.index_mut.ensures.value of in
     omega (arith, below, c.commands.type_inv.0)
 
-pub deliver-requires-clause-from : goal.deliver-requires-clause-from
-deliver-requires-clause-from c =
+pub deliver-requires : goal.deliver-requires
+deliver-requires c =
     let scene = c.args.scenario.now in
     let at = step-at scene c.schedule.result.now c.args.index _ (steps.Deliver c.in-Deliver.from c.in-Deliver.to) c.schedule.ensures c.requires.index c.in-Deliver.is in
     let here = step-next scene c.args.index (steps.Deliver c.in-Deliver.from c.in-Deliver.to) (net c.args.sites.now) at c.requires.before in
-    (deliver-may (can scene c.requires.shape c.requires.keeps) c.in-Deliver.from c.in-Deliver.to (schedule_from scene (c.args.index + 1)) (net c.args.sites.now) here).from
-
-pub deliver-requires-clause-to : goal.deliver-requires-clause-to
-deliver-requires-clause-to c =
-    let scene = c.args.scenario.now in
-    let at = step-at scene c.schedule.result.now c.args.index _ (steps.Deliver c.in-Deliver.from c.in-Deliver.to) c.schedule.ensures c.requires.index c.in-Deliver.is in
-    let here = step-next scene c.args.index (steps.Deliver c.in-Deliver.from c.in-Deliver.to) (net c.args.sites.now) at c.requires.before in
-    (deliver-may (can scene c.requires.shape c.requires.keeps) c.in-Deliver.from c.in-Deliver.to (schedule_from scene (c.args.index + 1)) (net c.args.sites.now) here).to
-
-pub deliver-requires-clause-apart : goal.deliver-requires-clause-apart
-deliver-requires-clause-apart c =
-    let scene = c.args.scenario.now in
-    let at = step-at scene c.schedule.result.now c.args.index _ (steps.Deliver c.in-Deliver.from c.in-Deliver.to) c.schedule.ensures c.requires.index c.in-Deliver.is in
-    let here = step-next scene c.args.index (steps.Deliver c.in-Deliver.from c.in-Deliver.to) (net c.args.sites.now) at c.requires.before in
-    (deliver-may (can scene c.requires.shape c.requires.keeps) c.in-Deliver.from c.in-Deliver.to (schedule_from scene (c.args.index + 1)) (net c.args.sites.now) here).apart
+    record { link = deliver-may (can scene c.requires.shape c.requires.keeps) c.in-Deliver.from c.in-Deliver.to (schedule_from scene (c.args.index + 1)) (net c.args.sites.now) here }
 
 pub returns-in_err-deliver-in-Deliver-clause-worn : goal.returns-in_err-deliver-in-Deliver-clause-worn
 returns-in_err-deliver-in-Deliver-clause-worn c clock is =
@@ -142,7 +128,7 @@ returns-in_err-deliver-in-Deliver-clause-worn c clock is =
     let here = step-next scene c.args.index (steps.Deliver c.in-Deliver.from c.in-Deliver.to) (net c.args.sites.now) at c.requires.before in
     let p = err_from_is_err_and c.from_residual-in_err-deliver-in-Deliver.result c.from_residual-in_err-deliver-in-Deliver.ensures.1 in
     let worn = (c.deliver.ensures.worn clock).0 (exit c.from_residual-in_err-deliver-in-Deliver.result c.deliver.result _ p.0 _ p.1 p.2 c.in_err-deliver-in-Deliver.was is) in
-    step-worn (can scene c.requires.shape c.requires.keeps) (delivering c.in-Deliver.from c.in-Deliver.to) (schedule_from scene (c.args.index + 1)) _ _ clock here c.in_err-deliver-in-Deliver.ensures.refused worn.1 worn.0
+    step-worn (can scene c.requires.shape c.requires.keeps) (delivering c.in-Deliver.from c.in-Deliver.to) (schedule_from scene (c.args.index + 1)) _ _ clock here c.in_err-deliver-in-Deliver.ensures.refused.same worn.1 worn.0
 
 pub returns-in_err-drain-in-Drain-clause-worn : goal.returns-in_err-drain-in-Drain-clause-worn
 returns-in_err-drain-in-Drain-clause-worn c clock is =

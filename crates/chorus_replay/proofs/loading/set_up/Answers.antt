@@ -27,7 +27,7 @@ returns-in_err-act-clause-worn c clock is =
     let commands = c.args.commands in
     let next = setup-next first commands c.loop-index.index c.setup_command.result (net c.loop-index.sites) c.setup_command.ensures c.loop-index.invariant.0 in
     let p = err_from_is_err_and c.from_residual.result c.from_residual.ensures.1 in
-    act-worn (load-can first commands c.requires.commands) 0 c.setup_command.result _ _ _ clock next c.in_err-act.ensures.refused
+    act-worn (load-can first commands c.requires.commands) 0 c.setup_command.result _ _ _ clock next c.in_err-act.ensures.refused.same
     ((c.act.ensures.worn clock).0 (exit c.from_residual.result c.act.result _ p.0 _ p.1 p.2 c.in_err-act.was is))
 
 pub loop-index-preserved : goal.loop-index-preserved

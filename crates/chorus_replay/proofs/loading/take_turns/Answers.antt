@@ -29,11 +29,11 @@ returns-in_err-act-clause-worn c clock is =
     let d = c.in_ok-seat.field-0 in
     let next = turn-next first commands i c.loop-index.state c.next_state-state.result d (net c.loop-index.sites) c.next_state-state.ensures c.in_ok-seat.ensures c.loop-index-test.true c.loop-index.invariant in
     let p = err_from_is_err_and c.from_residual-in_err-act.result c.from_residual-in_err-act.ensures.1 in
-    act-worn (load-can first commands c.requires.commands) d.seat d.command _ _ _ clock next c.in_err-act.ensures.refused
+    act-worn (load-can first commands c.requires.commands) d.seat d.command _ _ _ clock next c.in_err-act.ensures.refused.same
     ((c.act.ensures.worn clock).0 (exit c.from_residual-in_err-act.result c.act.result _ p.0 _ p.1 p.2 c.in_err-act.was is))
 
-pub deliver-requires-clause-from : goal.deliver-requires-clause-from
-deliver-requires-clause-from c =
+pub deliver-requires : goal.deliver-requires
+deliver-requires c =
     let first = c.args.first in
     let commands = c.args.commands in
     let i = c.loop-index.index in
@@ -43,20 +43,7 @@ deliver-requires-clause-from c =
     let next = turn-next first commands i c.loop-index.state c.next_state-state.result d (net c.loop-index.sites) c.next_state-state.ensures c.in_ok-seat.ensures c.loop-index-test.true c.loop-index.invariant in
     let acted = act-done can d.seat d.command (behind d rest) _ (net c.act.new.self) next c.in_ok-act.ensures.ok (act-unworn c.act.result c.in_ok-act.field-0 _ c.in_ok-act.was c.act.ensures.worn) in
     let here = subst (λ ts. AreLeft load_layout (load_order first commands) ts (net c.act.new.self)) (one-delivery d rest c.if-from-to.true) acted in
-    (deliver-may can d.from d.to rest (net c.act.new.self) here).from
-
-pub deliver-requires-clause-to : goal.deliver-requires-clause-to
-deliver-requires-clause-to c =
-    let first = c.args.first in
-    let commands = c.args.commands in
-    let i = c.loop-index.index in
-    let d = c.in_ok-seat.field-0 in
-    let rest = to_draw (commands - (i + 1)) (i + 1 + 1) c.next_state-state.result in
-    let can = load-can first commands c.requires.commands in
-    let next = turn-next first commands i c.loop-index.state c.next_state-state.result d (net c.loop-index.sites) c.next_state-state.ensures c.in_ok-seat.ensures c.loop-index-test.true c.loop-index.invariant in
-    let acted = act-done can d.seat d.command (behind d rest) _ (net c.act.new.self) next c.in_ok-act.ensures.ok (act-unworn c.act.result c.in_ok-act.field-0 _ c.in_ok-act.was c.act.ensures.worn) in
-    let here = subst (λ ts. AreLeft load_layout (load_order first commands) ts (net c.act.new.self)) (one-delivery d rest c.if-from-to.true) acted in
-    (deliver-may can d.from d.to rest (net c.act.new.self) here).to
+    record { link = deliver-may can d.from d.to rest (net c.act.new.self) here }
 
 pub returns-in_err-deliver-clause-worn : goal.returns-in_err-deliver-clause-worn
 returns-in_err-deliver-clause-worn c clock is =
@@ -71,7 +58,7 @@ returns-in_err-deliver-clause-worn c clock is =
     let here = subst (λ ts. AreLeft load_layout (load_order first commands) ts (net c.act.new.self)) (one-delivery d rest c.if-from-to.true) acted in
     let p = err_from_is_err_and c.from_residual-in_err-deliver.result c.from_residual-in_err-deliver.ensures.1 in
     let worn = (c.deliver.ensures.worn clock).0 (exit c.from_residual-in_err-deliver.result c.deliver.result _ p.0 _ p.1 p.2 c.in_err-deliver.was is) in
-    step-worn can (delivering d.from d.to) rest _ _ clock here c.in_err-deliver.ensures.refused worn.1 worn.0
+    step-worn can (delivering d.from d.to) rest _ _ clock here c.in_err-deliver.ensures.refused.same worn.1 worn.0
 
 pub loop-index-preserved : goal.loop-index-preserved
 loop-index-preserved c =

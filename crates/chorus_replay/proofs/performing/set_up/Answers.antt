@@ -26,7 +26,7 @@ returns-in_err-act-clause-worn c clock is =
     let read = slice_get_read _ _ _ _ refl c.loop-line-test.true c.line-item.is in
     let next = setup-next scene _ _ _ _ _ c.setup-line-items.ensures read c.setup_command.ensures c.loop-line.invariant.0 in
     let p = err_from_is_err_and c.from_residual.result c.from_residual.ensures.1 in
-    act-worn (can scene c.requires.shape c.requires.keeps) 0 c.setup_command.result _ _ _ clock next c.in_err-act.ensures.refused
+    act-worn (can scene c.requires.shape c.requires.keeps) 0 c.setup_command.result _ _ _ clock next c.in_err-act.ensures.refused.same
     ((c.act.ensures.worn clock).0 (exit c.from_residual.result c.act.result _ p.0 _ p.1 p.2 c.in_err-act.was is))
 
 pub loop-line-preserved : goal.loop-line-preserved

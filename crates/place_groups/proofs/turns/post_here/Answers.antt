@@ -34,7 +34,7 @@ carry_out-requires-clause-clock c =
 pub returns-clause-ok : goal.returns-clause-ok
 returns-clause-ok c =
     posted-here c.args.message c.args.dest c.args.group c.number-home.result c.in_ok-chosen.chosen.copies.items (turn c.args.tables.now c.args.caller.now)
-    (turn c.prepare.new.tables c.args.caller.now) (turn c.post_alone.new.self c.post_alone.new.caller) _ c.requires.group c.number-home.ensures.value
+    (turn c.prepare.new.tables c.args.caller.now) (turn c.post_alone.new.self c.post_alone.new.caller) _ c.requires.may.group c.number-home.ensures.value
     (c.prepare.ensures.turn c.args.caller.now) c.post_alone.ensures.turn c.in_ok-chosen.ensures.copies c.carry_out.ensures.turn
 
 pub returns-clause-reply : goal.returns-clause-reply

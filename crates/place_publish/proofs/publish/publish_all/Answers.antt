@@ -1,14 +1,25 @@
-use Rattle.std.proofs.Common.{length, sym, ◌∙◌, subst, arith}
+use Rattle.std.proofs.Common.{length, rules, sym, ◌∙◌, ap, subst, arith}
+use Rattle.std.proofs.Math.Seq.{take-length}
 use mathlib.Core.List.{IsPrefix}
 use Rattle.chorus_board.specs.Boards.{entries_published}
 use Rattle.place_publish.specs.Publishing.{IsUpTo}
-use Rattle.place_publish.proofs.Growing.{of-place, after-publish, grows-publish}
+use Rattle.place_publish.proofs.Growing.{of-place, locates-all, after-publish, grows-publish}
 use Rattle.place_publish.proofs.publish.publish_all.Goals as goal
 
-pub publish_first-requires-clause-of_place : goal.publish_first-requires-clause-of_place
-publish_first-requires-clause-of_place g c =
+pub publish_first-requires : goal.publish_first-requires
+publish_first-requires g c =
     let at = subst (λ b. IsUpTo c.args.layout c.args.number c.args.journal.now (length c.args.journal.now) b) (sym c.published.ensures.board) c.requires.upto in
-    of-place c.args.layout c.args.number c.args.journal.now c.published.new.self (length c.args.journal.now) at.is c.requires.own
+    let all = take-length c.args.journal.now in
+    record {
+      may = record {
+        port = search rules;
+        in_layout = search rules;
+        longer = (at.is.begun.0, at.is.begun.1 ∙ sym all);
+        count = ap length (sym all);
+        of_place = of-place c.args.layout c.args.number c.args.journal.now c.published.new.self (length c.args.journal.now) at.is c.requires.own;
+        located = locates-all c.args.layout c.args.number c.args.journal.now c.published.new.self c.nothing.result.ui c.nothing.result.place c.nothing.result.hop c.nothing.ensures.hop at;
+      };
+    }
 
 pub returns-clause-board : goal.returns-clause-board
 returns-clause-board g c =

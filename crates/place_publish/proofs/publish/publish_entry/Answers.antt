@@ -9,20 +9,22 @@ returns-in_default-lesson_of-clause-upto g c =
     let none : lesson (reverse (take c.args.index c.args.journal.now)) c.in-Some.entry.now ≡ None = sym c.lesson_of.ensures ∙ c.in_default-lesson_of.is in
     step-none c.args.layout c.args.number c.args.journal.now c.args.board.now c.args.index c.in-Some.entry.now c.requires.upto at none
 
-pub publish_first-requires-clause-longer : goal.publish_first-requires-clause-longer
-publish_first-requires-clause-longer g c =
+pub publish_first-requires : goal.publish_first-requires
+publish_first-requires g c =
     let le : c.begun.result ≤ c.args.index + 1 = search rules in
     let n = c.begun.ensures in
-    prefix-take _ c.args.journal.now (c.args.index + 1) c.requires.upto.is.begun (omega (arith, le, n))
-
-pub publish_first-requires-clause-of_place : goal.publish_first-requires-clause-of_place
-publish_first-requires-clause-of_place g c = of-place c.args.layout c.args.number c.args.journal.now c.args.board.now (c.args.index + 1) c.requires.upto.is c.requires.own
-
-pub publish_first-requires-clause-located : goal.publish_first-requires-clause-located
-publish_first-requires-clause-located g c =
     let at : slice_get c.args.journal.now c.args.index ≡ Some c.in-Some.entry.now = slice-at c.args.journal.now c.args.index c.in-Some.entry.now c.requires.within c.in-Some.ensures.lookup.1 in
-    locates c.args.layout c.args.number c.args.journal.now c.args.board.now c.args.index c.in-Some.entry.now c.in-Some-lesson_of.lesson c.requires.upto at
-    (sym c.lesson_of.ensures ∙ c.in-Some-lesson_of.is)
+    record {
+      may = record {
+        port = search rules;
+        in_layout = search rules;
+        longer = prefix-take _ c.args.journal.now (c.args.index + 1) c.requires.upto.is.begun (omega (arith, le, n));
+        count = search rules;
+        of_place = of-place c.args.layout c.args.number c.args.journal.now c.args.board.now (c.args.index + 1) c.requires.upto.is c.requires.own;
+        located = locates c.args.layout c.args.number c.args.journal.now c.args.board.now c.args.index c.in-Some.entry.now c.in-Some-lesson_of.lesson c.requires.upto at
+            (sym c.lesson_of.ensures ∙ c.in-Some-lesson_of.is);
+      };
+    }
 
 pub returns-clause-board : goal.returns-clause-board
 returns-clause-board g c =

@@ -24,5 +24,5 @@ returns-clause-performed c =
     let after = c.post_prepared in
     post-done (Command.Reply c.args.body) (next_message (Tag.Reply hand.client hand.number) c.args.body caller) ready.message hand.back ready.port c.args.tables.now
     c.ready_post.new.tables caller c.set_hand.new.self (turn after.new.tables after.new.caller) after.result
-    (ap (reply_act c.args.body caller) c.requires.hand) c.in_ok-ready.ensures.port c.in_ok-ready.ensures.message c.ready_post.ensures.turn c.set_hand.ensures after.ensures.turn
+    (ap (reply_act c.args.body caller) c.requires.may.held) c.in_ok-ready.ensures.port c.in_ok-ready.ensures.message c.ready_post.ensures.turn c.set_hand.ensures after.ensures.turn
     after.ensures.reply

@@ -26,11 +26,11 @@ make_port-requires-clause-may c =
     record {
       next = c.next_port-port.ensures;
       actor = ap (λ l. has_actor l a) layout ∙ has-home c.args.tables.now.layout a there;
-      home = ap (λ l. creation_place l a) layout ∙ home-here c.args.tables.now.layout a c.args.caller.now.actor c.args.capacity c.args.tables.now.number c.requires.here there
+      home = ap (λ l. creation_place l a) layout ∙ home-here c.args.tables.now.layout a c.args.caller.now.actor c.args.capacity c.args.tables.now.number c.requires.may.here there
           ∙ sym (ap (λ t. t.place.number) (c.make_port_room.ensures.turn c.args.caller.now) ∙ same.number);
       few = ap (λ (p : Tables). is_full_of_ports p.layout p.journal.past) c.make_port_room.ensures.same ∙ sym c.has_made_all.ensures ∙ c.if-has_made_all.false;
-      least = c.requires.least;
-      most = c.requires.most;
+      least = c.requires.may.least;
+      most = c.requires.may.most;
       slot = c.in_ok-make_port_room.ensures.slot;
     }
 

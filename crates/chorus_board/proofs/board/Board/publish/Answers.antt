@@ -15,7 +15,7 @@ show_in-requires g c =
     let log : o.seen.log ≡ g.X.Stands.entries = ap (λ w. w.log) c.again.ensures ∙ c.bring_to.ensures.1 in
     let book : o.seen.book ≡ shown.seen.book = ap (λ w. w.book) c.again.ensures ∙ c.bring_to.ensures.0 ∙ sym s.here in
     let same : c.append.new.self.desk.shown.value ≡ shown = ap (λ d. d.shown.value) c.append.ensures.desk in
-    let ready : IsReady shown (o ∷ []) = publishes shown o (s.exact, s.long, s.roomy, s.of_place) c.requires.port c.requires.in_layout
-    (c.requires.count ∙ sym (ap length log)) (subst (IsOfPlace shown.place) (sym log) c.requires.of_place)
-    (λ q here. c.requires.located q here ∙ ap (λ (l : List Entry). located_after shown.hints.layout l q) (sym log)) book in
+    let ready : IsReady shown (o ∷ []) = publishes shown o (s.exact, s.long, s.roomy, s.of_place) c.requires.may.port c.requires.may.in_layout
+    (c.requires.may.count ∙ sym (ap length log)) (subst (IsOfPlace shown.place) (sym log) c.requires.may.of_place)
+    (λ q here. c.requires.may.located q here ∙ ap (λ (l : List Entry). located_after shown.hints.layout l q) (sym log)) book in
     subst (λ (z : Table × List Publish). IsReady z.0 z.1) (λ i. (sym same i, sym (c.in-Ok.ensures.pending ∙ ap (λ l. l ++ o ∷ []) (none_of _ s.none_pending)) i)) ready

@@ -9,17 +9,19 @@ use Rattle.chorus_explore.proofs.Entering.{exit, wears-behind}
 use Rattle.chorus_explore.proofs.Moving.{layout-at, linked}
 use Rattle.chorus_explore.proofs.race_sites.Stage.carry.Goals as goal
 
-pub deliver-requires-clause-from : goal.deliver-requires-clause-from
-deliver-requires-clause-from c =
+pub deliver-requires : goal.deliver-requires
+deliver-requires c =
     let scene = c.args.scenario.now in
     let s = c.args.self.now in
-    ap (λ (l : Layout). has_place l c.args.from) (layout-at scene s c.requires.reached) ∙ (linked scene c.args.from c.args.to (moves_of s) c.requires.may).from
-
-pub deliver-requires-clause-to : goal.deliver-requires-clause-to
-deliver-requires-clause-to c =
-    let scene = c.args.scenario.now in
-    let s = c.args.self.now in
-    ap (λ (l : Layout). has_place l c.args.to) (layout-at scene s c.requires.reached) ∙ (linked scene c.args.from c.args.to (moves_of s) c.requires.may).to
+    let at = layout-at scene s c.requires.reached in
+    let link = linked scene c.args.from c.args.to (moves_of s) c.requires.may in
+    record {
+      link = record {
+        from = ap (λ (l : Layout). has_place l c.args.from) at ∙ link.from;
+        to = ap (λ (l : Layout). has_place l c.args.to) at ∙ link.to;
+        apart = link.apart;
+      };
+    }
 
 pub returns-in_err-deliver-clause-worn : goal.returns-in_err-deliver-clause-worn
 returns-in_err-deliver-clause-worn c clock is =

@@ -133,7 +133,11 @@ returns-clause-refused c =
     let number : place_for c.self.inside.layout c.index_mut-caller.result.now.actor c.args.command ≡ 1 + (c.from.result - 1) = ap (λ (a : Ui). place_for c.self.inside.layout a c.args.command) (sym c.actor.ensures) ∙ sym c.place_for-number.ensures.value ∙ stands.0 in
     let here = c.index_mut-caller.ensures.value in
     on-err c.act.result _ _ c.act.ensures.refused
-    (λ h. refused-net s c.args.seat i x c.act.new.caller p c.act.new.self c.self.invariant stands.1 c.index_mut-place.ensures.value here h.0 h.1 ∙ ap net c.self.view_is)
+    (λ h. record {
+      same = refused-net s c.args.seat i x c.act.new.caller p c.act.new.self c.self.invariant stands.1 c.index_mut-place.ensures.value here h.0 h.1 ∙ ap net c.self.view_is;
+      room = subst (λ (v : SitesState). KeepRoom v.places (set c.self.inside.places.items (c.from.result - 1) c.act.new.self)) c.self.view_is
+          (keep-set c.self.inside.places.items (c.from.result - 1) c.index_mut-place.result.now c.act.new.self c.index_mut-place.ensures.value h.0.spare);
+    })
 
 pub returns-clause-room : goal.returns-clause-room
 returns-clause-room c =
@@ -149,12 +153,6 @@ returns-clause-room c =
     if-ok c.act.result _ _ c.act.ensures.called
     (λ r h. subst (λ (v : SitesState). UsesRoom (puts_in (Act c.args.seat c.args.command) (net v)) v.places (set c.self.inside.places.items (c.from.result - 1) c.act.new.self)) c.self.view_is
     (acted-uses s c.args.seat i c.args.command x p c.self.invariant may found number stands.1 c.index_mut-place.ensures.value c.act.new.self c.act.new.caller h.ended))
-
-pub returns-clause-kept : goal.returns-clause-kept
-returns-clause-kept c =
-    on-err c.act.result _ _ c.act.ensures.refused
-    (λ h. subst (λ (v : SitesState). KeepRoom v.places (set c.self.inside.places.items (c.from.result - 1) c.act.new.self)) c.self.view_is
-    (keep-set c.self.inside.places.items (c.from.result - 1) c.index_mut-place.result.now c.act.new.self c.index_mut-place.ensures.value h.0.spare))
 
 pub returns-clause-takes_no_memory : goal.returns-clause-takes_no_memory
 returns-clause-takes_no_memory c = λ takes below.

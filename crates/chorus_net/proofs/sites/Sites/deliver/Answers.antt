@@ -29,14 +29,14 @@ invariant_of-self c =
     let i = c.from.result - 1 in
     let p = c.index_mut.result.now in
     let p' = c.out.new.self in
-    let has : has_place c.self.inside.layout c.args.from ≡ true = ap (λ (v : SitesState). has_place v.layout c.args.from) c.self.view_is ∙ c.requires.from in
-    let has' : has_place c.self.inside.layout c.args.to ≡ true = ap (λ (v : SitesState). has_place v.layout c.args.to) c.self.view_is ∙ c.requires.to in
+    let has : has_place c.self.inside.layout c.args.from ≡ true = ap (λ (v : SitesState). has_place v.layout c.args.from) c.self.view_is ∙ c.requires.link.from in
+    let has' : has_place c.self.inside.layout c.args.to ≡ true = ap (λ (v : SitesState). has_place v.layout c.args.to) c.self.view_is ∙ c.requires.link.to in
     let fi = stands-at-index c.self.inside.layout c.args.from c.from.result (length c.self.inside.places.items) has c.from.ensures h.all in
     let j = c.args.to - 1 in
     let fj = stands-at-index c.self.inside.layout c.args.to c.args.to (length c.self.inside.places.items) has' refl h.all in
     let w = first-caller c.self.inside.callers.items h.some_seat in
     let none : slice_get (list_to c.args.to c.index_mut.result.now.out.lists) 0 ≡ None = sym c.out.ensures.value ∙ c.in_default.is in
-    idle-sites s a b i j w.0 p p' h fi.0 fj.0 fi.1 fj.1 c.requires.apart c.index_mut.ensures.value w.1 has has' c.out.ensures.state c.out.ensures.waits none
+    idle-sites s a b i j w.0 p p' h fi.0 fj.0 fi.1 fj.1 c.requires.link.apart c.index_mut.ensures.value w.1 has has' c.out.ensures.state c.out.ensures.waits none
 
 pub returns-in_default-clause-ok : goal.returns-in_default-clause-ok
 returns-in_default-clause-ok c =
@@ -48,14 +48,14 @@ returns-in_default-clause-ok c =
     let i = c.from.result - 1 in
     let p = c.index_mut.result.now in
     let p' = c.out.new.self in
-    let has : has_place c.self.inside.layout c.args.from ≡ true = ap (λ (v : SitesState). has_place v.layout c.args.from) c.self.view_is ∙ c.requires.from in
-    let has' : has_place c.self.inside.layout c.args.to ≡ true = ap (λ (v : SitesState). has_place v.layout c.args.to) c.self.view_is ∙ c.requires.to in
+    let has : has_place c.self.inside.layout c.args.from ≡ true = ap (λ (v : SitesState). has_place v.layout c.args.from) c.self.view_is ∙ c.requires.link.from in
+    let has' : has_place c.self.inside.layout c.args.to ≡ true = ap (λ (v : SitesState). has_place v.layout c.args.to) c.self.view_is ∙ c.requires.link.to in
     let fi = stands-at-index c.self.inside.layout c.args.from c.from.result (length c.self.inside.places.items) has c.from.ensures h.all in
     let j = c.args.to - 1 in
     let fj = stands-at-index c.self.inside.layout c.args.to c.args.to (length c.self.inside.places.items) has' refl h.all in
     let w = first-caller c.self.inside.callers.items h.some_seat in
     let none : slice_get (list_to c.args.to c.index_mut.result.now.out.lists) 0 ≡ None = sym c.out.ensures.value ∙ c.in_default.is in
-    idle-net s a b i j w.0 p p' h fi.0 fj.0 fi.1 fj.1 c.requires.apart c.index_mut.ensures.value w.1 has has' c.out.ensures.state c.out.ensures.waits none ∙ sym (idle-event s a b i j w.0 p p' h fi.0 fj.0 fi.1 fj.1 c.requires.apart c.index_mut.ensures.value w.1 has has' c.out.ensures.state c.out.ensures.waits none) ∙ ap (λ (v : SitesState). happened (Deliver 0 c.args.from c.args.to) (net v)) c.self.view_is
+    idle-net s a b i j w.0 p p' h fi.0 fj.0 fi.1 fj.1 c.requires.link.apart c.index_mut.ensures.value w.1 has has' c.out.ensures.state c.out.ensures.waits none ∙ sym (idle-event s a b i j w.0 p p' h fi.0 fj.0 fi.1 fj.1 c.requires.link.apart c.index_mut.ensures.value w.1 has has' c.out.ensures.state c.out.ensures.waits none) ∙ ap (λ (v : SitesState). happened (Deliver 0 c.args.from c.args.to) (net v)) c.self.view_is
 
 pub returns-in_default-clause-answer : goal.returns-in_default-clause-answer
 returns-in_default-clause-answer c =
@@ -67,14 +67,14 @@ returns-in_default-clause-answer c =
     let i = c.from.result - 1 in
     let p = c.index_mut.result.now in
     let p' = c.out.new.self in
-    let has : has_place c.self.inside.layout c.args.from ≡ true = ap (λ (v : SitesState). has_place v.layout c.args.from) c.self.view_is ∙ c.requires.from in
-    let has' : has_place c.self.inside.layout c.args.to ≡ true = ap (λ (v : SitesState). has_place v.layout c.args.to) c.self.view_is ∙ c.requires.to in
+    let has : has_place c.self.inside.layout c.args.from ≡ true = ap (λ (v : SitesState). has_place v.layout c.args.from) c.self.view_is ∙ c.requires.link.from in
+    let has' : has_place c.self.inside.layout c.args.to ≡ true = ap (λ (v : SitesState). has_place v.layout c.args.to) c.self.view_is ∙ c.requires.link.to in
     let fi = stands-at-index c.self.inside.layout c.args.from c.from.result (length c.self.inside.places.items) has c.from.ensures h.all in
     let j = c.args.to - 1 in
     let fj = stands-at-index c.self.inside.layout c.args.to c.args.to (length c.self.inside.places.items) has' refl h.all in
     let w = first-caller c.self.inside.callers.items h.some_seat in
     let none : slice_get (list_to c.args.to c.index_mut.result.now.out.lists) 0 ≡ None = sym c.out.ensures.value ∙ c.in_default.is in
-    idle-answer s a b i j w.0 p p' h fi.0 fj.0 fi.1 fj.1 c.requires.apart c.index_mut.ensures.value w.1 has has' c.out.ensures.state c.out.ensures.waits none ∙ ap (λ (v : SitesState). delivery c.args.from c.args.to (net v)) c.self.view_is
+    idle-answer s a b i j w.0 p p' h fi.0 fj.0 fi.1 fj.1 c.requires.link.apart c.index_mut.ensures.value w.1 has has' c.out.ensures.state c.out.ensures.waits none ∙ ap (λ (v : SitesState). delivery c.args.from c.args.to (net v)) c.self.view_is
 
 pub returns-in_default-clause-worn : goal.returns-in_default-clause-worn
 returns-in_default-clause-worn c clock =
@@ -86,14 +86,14 @@ returns-in_default-clause-worn c clock =
     let i = c.from.result - 1 in
     let p = c.index_mut.result.now in
     let p' = c.out.new.self in
-    let has : has_place c.self.inside.layout c.args.from ≡ true = ap (λ (v : SitesState). has_place v.layout c.args.from) c.self.view_is ∙ c.requires.from in
-    let has' : has_place c.self.inside.layout c.args.to ≡ true = ap (λ (v : SitesState). has_place v.layout c.args.to) c.self.view_is ∙ c.requires.to in
+    let has : has_place c.self.inside.layout c.args.from ≡ true = ap (λ (v : SitesState). has_place v.layout c.args.from) c.self.view_is ∙ c.requires.link.from in
+    let has' : has_place c.self.inside.layout c.args.to ≡ true = ap (λ (v : SitesState). has_place v.layout c.args.to) c.self.view_is ∙ c.requires.link.to in
     let fi = stands-at-index c.self.inside.layout c.args.from c.from.result (length c.self.inside.places.items) has c.from.ensures h.all in
     let j = c.args.to - 1 in
     let fj = stands-at-index c.self.inside.layout c.args.to c.args.to (length c.self.inside.places.items) has' refl h.all in
     let w = first-caller c.self.inside.callers.items h.some_seat in
     let none : slice_get (list_to c.args.to c.index_mut.result.now.out.lists) 0 ≡ None = sym c.out.ensures.value ∙ c.in_default.is in
-    nobody-worn Delivered.Nothing clock (compared_at 0 c.args.from c.args.to (net c.args.self.now)) (sym (ap (λ (v : SitesState). compared_at 0 c.args.from c.args.to (net v)) c.self.view_is) ∙ idle-compared s a b i j w.0 p p' h fi.0 fj.0 fi.1 fj.1 c.requires.apart c.index_mut.ensures.value w.1 has has' c.out.ensures.state c.out.ensures.waits none)
+    nobody-worn Delivered.Nothing clock (compared_at 0 c.args.from c.args.to (net c.args.self.now)) (sym (ap (λ (v : SitesState). compared_at 0 c.args.from c.args.to (net v)) c.self.view_is) ∙ idle-compared s a b i j w.0 p p' h fi.0 fj.0 fi.1 fj.1 c.requires.link.apart c.index_mut.ensures.value w.1 has has' c.out.ensures.state c.out.ensures.waits none)
 
 pub work-requires : goal.work-requires
 work-requires c =
@@ -105,8 +105,8 @@ work-requires c =
     let i = c.from.result - 1 in
     let p = c.index_mut.result.now in
     let p' = c.out.new.self in
-    let has : has_place c.self.inside.layout c.args.from ≡ true = ap (λ (v : SitesState). has_place v.layout c.args.from) c.self.view_is ∙ c.requires.from in
-    let has' : has_place c.self.inside.layout c.args.to ≡ true = ap (λ (v : SitesState). has_place v.layout c.args.to) c.self.view_is ∙ c.requires.to in
+    let has : has_place c.self.inside.layout c.args.from ≡ true = ap (λ (v : SitesState). has_place v.layout c.args.from) c.self.view_is ∙ c.requires.link.from in
+    let has' : has_place c.self.inside.layout c.args.to ≡ true = ap (λ (v : SitesState). has_place v.layout c.args.to) c.self.view_is ∙ c.requires.link.to in
     let fi = stands-at-index c.self.inside.layout c.args.from c.from.result (length c.self.inside.places.items) has c.from.ensures h.all in
     let j = c.from-2.result - 1 in
     let fj = stands-at-index c.self.inside.layout c.args.to c.from-2.result (length c.self.inside.places.items) has' c.from-2.ensures h.all in
@@ -115,7 +115,7 @@ work-requires c =
     let r = c.index_mut-2.result.now in
     let found : slice_get c.self.inside.callers.items 0 ≡ Some c.index_mut-caller.result.now = slice_get_read c.self.inside.callers.items _ 0 c.index_mut-caller.result.now refl h.some_seat c.index_mut-caller.ensures.value in
     let some : slice_get (list_to c.args.to c.index_mut.result.now.out.lists) 0 ≡ Some c.in-Some.packet = sym c.out.ensures.value ∙ c.in-Some.is in
-    lawful s a b i j x p p' h fi.0 fj.0 fi.1 fj.1 c.requires.apart c.index_mut.ensures.value found has has' c.out.ensures.state c.out.ensures.waits k r some c.index_mut-2.ensures.value
+    lawful s a b i j x p p' h fi.0 fj.0 fi.1 fj.1 c.requires.link.apart c.index_mut.ensures.value found has has' c.out.ensures.state c.out.ensures.waits k r some c.index_mut-2.ensures.value
 
 pub invariant_of-self-in-Ok : goal.invariant_of-self-in-Ok
 invariant_of-self-in-Ok c =
@@ -127,8 +127,8 @@ invariant_of-self-in-Ok c =
     let i = c.from.result - 1 in
     let p = c.index_mut.result.now in
     let p' = c.out.new.self in
-    let has : has_place c.self.inside.layout c.args.from ≡ true = ap (λ (v : SitesState). has_place v.layout c.args.from) c.self.view_is ∙ c.requires.from in
-    let has' : has_place c.self.inside.layout c.args.to ≡ true = ap (λ (v : SitesState). has_place v.layout c.args.to) c.self.view_is ∙ c.requires.to in
+    let has : has_place c.self.inside.layout c.args.from ≡ true = ap (λ (v : SitesState). has_place v.layout c.args.from) c.self.view_is ∙ c.requires.link.from in
+    let has' : has_place c.self.inside.layout c.args.to ≡ true = ap (λ (v : SitesState). has_place v.layout c.args.to) c.self.view_is ∙ c.requires.link.to in
     let fi = stands-at-index c.self.inside.layout c.args.from c.from.result (length c.self.inside.places.items) has c.from.ensures h.all in
     let j = c.from-2.result - 1 in
     let fj = stands-at-index c.self.inside.layout c.args.to c.from-2.result (length c.self.inside.places.items) has' c.from-2.ensures h.all in
@@ -137,7 +137,7 @@ invariant_of-self-in-Ok c =
     let r = c.index_mut-2.result.now in
     let found : slice_get c.self.inside.callers.items 0 ≡ Some c.index_mut-caller.result.now = slice_get_read c.self.inside.callers.items _ 0 c.index_mut-caller.result.now refl h.some_seat c.index_mut-caller.ensures.value in
     let some : slice_get (list_to c.args.to c.index_mut.result.now.out.lists) 0 ≡ Some c.in-Some.packet = sym c.out.ensures.value ∙ c.in-Some.is in
-    worked-sites s a b i j x p p' h fi.0 fj.0 fi.1 fj.1 c.requires.apart c.index_mut.ensures.value found has has' c.out.ensures.state c.out.ensures.waits k r some c.index_mut-2.ensures.value c.work.new.self c.work.new.caller c.in-Ok.ensures.worked
+    worked-sites s a b i j x p p' h fi.0 fj.0 fi.1 fj.1 c.requires.link.apart c.index_mut.ensures.value found has has' c.out.ensures.state c.out.ensures.waits k r some c.index_mut-2.ensures.value c.work.new.self c.work.new.caller c.in-Ok.ensures.worked
 
 pub returns-in-Ok-clause-ok : goal.returns-in-Ok-clause-ok
 returns-in-Ok-clause-ok c =
@@ -149,8 +149,8 @@ returns-in-Ok-clause-ok c =
     let i = c.from.result - 1 in
     let p = c.index_mut.result.now in
     let p' = c.out.new.self in
-    let has : has_place c.self.inside.layout c.args.from ≡ true = ap (λ (v : SitesState). has_place v.layout c.args.from) c.self.view_is ∙ c.requires.from in
-    let has' : has_place c.self.inside.layout c.args.to ≡ true = ap (λ (v : SitesState). has_place v.layout c.args.to) c.self.view_is ∙ c.requires.to in
+    let has : has_place c.self.inside.layout c.args.from ≡ true = ap (λ (v : SitesState). has_place v.layout c.args.from) c.self.view_is ∙ c.requires.link.from in
+    let has' : has_place c.self.inside.layout c.args.to ≡ true = ap (λ (v : SitesState). has_place v.layout c.args.to) c.self.view_is ∙ c.requires.link.to in
     let fi = stands-at-index c.self.inside.layout c.args.from c.from.result (length c.self.inside.places.items) has c.from.ensures h.all in
     let j = c.from-2.result - 1 in
     let fj = stands-at-index c.self.inside.layout c.args.to c.from-2.result (length c.self.inside.places.items) has' c.from-2.ensures h.all in
@@ -159,7 +159,7 @@ returns-in-Ok-clause-ok c =
     let r = c.index_mut-2.result.now in
     let found : slice_get c.self.inside.callers.items 0 ≡ Some c.index_mut-caller.result.now = slice_get_read c.self.inside.callers.items _ 0 c.index_mut-caller.result.now refl h.some_seat c.index_mut-caller.ensures.value in
     let some : slice_get (list_to c.args.to c.index_mut.result.now.out.lists) 0 ≡ Some c.in-Some.packet = sym c.out.ensures.value ∙ c.in-Some.is in
-    worked-net s a b i j x p p' h fi.0 fj.0 fi.1 fj.1 c.requires.apart c.index_mut.ensures.value found has has' c.out.ensures.state c.out.ensures.waits k r some c.index_mut-2.ensures.value c.work.new.self c.work.new.caller c.in-Ok.ensures.worked ∙ ap (λ (v : SitesState). happened (Deliver 0 c.args.from c.args.to) (net v)) c.self.view_is
+    worked-net s a b i j x p p' h fi.0 fj.0 fi.1 fj.1 c.requires.link.apart c.index_mut.ensures.value found has has' c.out.ensures.state c.out.ensures.waits k r some c.index_mut-2.ensures.value c.work.new.self c.work.new.caller c.in-Ok.ensures.worked ∙ ap (λ (v : SitesState). happened (Deliver 0 c.args.from c.args.to) (net v)) c.self.view_is
 
 pub returns-in-Ok-clause-answer : goal.returns-in-Ok-clause-answer
 returns-in-Ok-clause-answer c =
@@ -171,8 +171,8 @@ returns-in-Ok-clause-answer c =
     let i = c.from.result - 1 in
     let p = c.index_mut.result.now in
     let p' = c.out.new.self in
-    let has : has_place c.self.inside.layout c.args.from ≡ true = ap (λ (v : SitesState). has_place v.layout c.args.from) c.self.view_is ∙ c.requires.from in
-    let has' : has_place c.self.inside.layout c.args.to ≡ true = ap (λ (v : SitesState). has_place v.layout c.args.to) c.self.view_is ∙ c.requires.to in
+    let has : has_place c.self.inside.layout c.args.from ≡ true = ap (λ (v : SitesState). has_place v.layout c.args.from) c.self.view_is ∙ c.requires.link.from in
+    let has' : has_place c.self.inside.layout c.args.to ≡ true = ap (λ (v : SitesState). has_place v.layout c.args.to) c.self.view_is ∙ c.requires.link.to in
     let fi = stands-at-index c.self.inside.layout c.args.from c.from.result (length c.self.inside.places.items) has c.from.ensures h.all in
     let j = c.from-2.result - 1 in
     let fj = stands-at-index c.self.inside.layout c.args.to c.from-2.result (length c.self.inside.places.items) has' c.from-2.ensures h.all in
@@ -181,7 +181,7 @@ returns-in-Ok-clause-answer c =
     let r = c.index_mut-2.result.now in
     let found : slice_get c.self.inside.callers.items 0 ≡ Some c.index_mut-caller.result.now = slice_get_read c.self.inside.callers.items _ 0 c.index_mut-caller.result.now refl h.some_seat c.index_mut-caller.ensures.value in
     let some : slice_get (list_to c.args.to c.index_mut.result.now.out.lists) 0 ≡ Some c.in-Some.packet = sym c.out.ensures.value ∙ c.in-Some.is in
-    served-answer s a b i j x p p' h fi.0 fj.0 fi.1 fj.1 c.requires.apart c.index_mut.ensures.value found has has' c.out.ensures.state c.out.ensures.waits k r some c.index_mut-2.ensures.value ∙ ap (λ (v : SitesState). delivery c.args.from c.args.to (net v)) c.self.view_is
+    served-answer s a b i j x p p' h fi.0 fj.0 fi.1 fj.1 c.requires.link.apart c.index_mut.ensures.value found has has' c.out.ensures.state c.out.ensures.waits k r some c.index_mut-2.ensures.value ∙ ap (λ (v : SitesState). delivery c.args.from c.args.to (net v)) c.self.view_is
 
 pub returns-in-Ok-clause-worn : goal.returns-in-Ok-clause-worn
 returns-in-Ok-clause-worn c clock =
@@ -193,8 +193,8 @@ returns-in-Ok-clause-worn c clock =
     let i = c.from.result - 1 in
     let p = c.index_mut.result.now in
     let p' = c.out.new.self in
-    let has : has_place c.self.inside.layout c.args.from ≡ true = ap (λ (v : SitesState). has_place v.layout c.args.from) c.self.view_is ∙ c.requires.from in
-    let has' : has_place c.self.inside.layout c.args.to ≡ true = ap (λ (v : SitesState). has_place v.layout c.args.to) c.self.view_is ∙ c.requires.to in
+    let has : has_place c.self.inside.layout c.args.from ≡ true = ap (λ (v : SitesState). has_place v.layout c.args.from) c.self.view_is ∙ c.requires.link.from in
+    let has' : has_place c.self.inside.layout c.args.to ≡ true = ap (λ (v : SitesState). has_place v.layout c.args.to) c.self.view_is ∙ c.requires.link.to in
     let fi = stands-at-index c.self.inside.layout c.args.from c.from.result (length c.self.inside.places.items) has c.from.ensures h.all in
     let j = c.from-2.result - 1 in
     let fj = stands-at-index c.self.inside.layout c.args.to c.from-2.result (length c.self.inside.places.items) has' c.from-2.ensures h.all in
@@ -203,7 +203,7 @@ returns-in-Ok-clause-worn c clock =
     let r = c.index_mut-2.result.now in
     let found : slice_get c.self.inside.callers.items 0 ≡ Some c.index_mut-caller.result.now = slice_get_read c.self.inside.callers.items _ 0 c.index_mut-caller.result.now refl h.some_seat c.index_mut-caller.ensures.value in
     let some : slice_get (list_to c.args.to c.index_mut.result.now.out.lists) 0 ≡ Some c.in-Some.packet = sym c.out.ensures.value ∙ c.in-Some.is in
-    not-worn Delivered.Served c.work.result c.in-Ok.field-0 c.in-Some.packet clock (greatest_clock (begun_by (state c.index_mut-2.result.now) c.index_mut-caller.result.now c.in-Some.packet)) (compared_at 0 c.args.from c.args.to (net c.args.self.now)) c.in-Ok.is (sym (ap (λ (v : SitesState). compared_at 0 c.args.from c.args.to (net v)) c.self.view_is) ∙ served-compared s a b i j x p p' h fi.0 fj.0 fi.1 fj.1 c.requires.apart c.index_mut.ensures.value found has has' c.out.ensures.state c.out.ensures.waits k r some c.index_mut-2.ensures.value) c.work.ensures.worn
+    not-worn Delivered.Served c.work.result c.in-Ok.field-0 c.in-Some.packet clock (greatest_clock (begun_by (state c.index_mut-2.result.now) c.index_mut-caller.result.now c.in-Some.packet)) (compared_at 0 c.args.from c.args.to (net c.args.self.now)) c.in-Ok.is (sym (ap (λ (v : SitesState). compared_at 0 c.args.from c.args.to (net v)) c.self.view_is) ∙ served-compared s a b i j x p p' h fi.0 fj.0 fi.1 fj.1 c.requires.link.apart c.index_mut.ensures.value found has has' c.out.ensures.state c.out.ensures.waits k r some c.index_mut-2.ensures.value) c.work.ensures.worn
 
 pub returns-in-Err-clause-worn : goal.returns-in-Err-clause-worn
 returns-in-Err-clause-worn c clock =
@@ -215,8 +215,8 @@ returns-in-Err-clause-worn c clock =
     let i = c.from.result - 1 in
     let p = c.index_mut.result.now in
     let p' = c.out.new.self in
-    let has : has_place c.self.inside.layout c.args.from ≡ true = ap (λ (v : SitesState). has_place v.layout c.args.from) c.self.view_is ∙ c.requires.from in
-    let has' : has_place c.self.inside.layout c.args.to ≡ true = ap (λ (v : SitesState). has_place v.layout c.args.to) c.self.view_is ∙ c.requires.to in
+    let has : has_place c.self.inside.layout c.args.from ≡ true = ap (λ (v : SitesState). has_place v.layout c.args.from) c.self.view_is ∙ c.requires.link.from in
+    let has' : has_place c.self.inside.layout c.args.to ≡ true = ap (λ (v : SitesState). has_place v.layout c.args.to) c.self.view_is ∙ c.requires.link.to in
     let fi = stands-at-index c.self.inside.layout c.args.from c.from.result (length c.self.inside.places.items) has c.from.ensures h.all in
     let j = c.from-2.result - 1 in
     let fj = stands-at-index c.self.inside.layout c.args.to c.from-2.result (length c.self.inside.places.items) has' c.from-2.ensures h.all in
@@ -225,18 +225,18 @@ returns-in-Err-clause-worn c clock =
     let r = c.index_mut-2.result.now in
     let found : slice_get c.self.inside.callers.items 0 ≡ Some c.index_mut-caller.result.now = slice_get_read c.self.inside.callers.items _ 0 c.index_mut-caller.result.now refl h.some_seat c.index_mut-caller.ensures.value in
     let some : slice_get (list_to c.args.to c.index_mut.result.now.out.lists) 0 ≡ Some c.in-Some.packet = sym c.out.ensures.value ∙ c.in-Some.is in
-    why-worn c.work.result c.in-Err.packet c.in-Some.packet c.in-Err.fault clock (greatest_clock (begun_by (state c.index_mut-2.result.now) c.index_mut-caller.result.now c.in-Some.packet)) (compared_at 0 c.args.from c.args.to (net c.args.self.now)) c.in-Err.is (sym (ap (λ (v : SitesState). compared_at 0 c.args.from c.args.to (net v)) c.self.view_is) ∙ served-compared s a b i j x p p' h fi.0 fj.0 fi.1 fj.1 c.requires.apart c.index_mut.ensures.value found has has' c.out.ensures.state c.out.ensures.waits k r some c.index_mut-2.ensures.value) c.work.ensures.worn
+    why-worn c.work.result c.in-Err.packet c.in-Some.packet c.in-Err.fault clock (greatest_clock (begun_by (state c.index_mut-2.result.now) c.index_mut-caller.result.now c.in-Some.packet)) (compared_at 0 c.args.from c.args.to (net c.args.self.now)) c.in-Err.is (sym (ap (λ (v : SitesState). compared_at 0 c.args.from c.args.to (net v)) c.self.view_is) ∙ served-compared s a b i j x p p' h fi.0 fj.0 fi.1 fj.1 c.requires.link.apart c.index_mut.ensures.value found has has' c.out.ensures.state c.out.ensures.waits k r some c.index_mut-2.ensures.value) c.work.ensures.worn
 
 pub put_back-requires-clause-back : goal.put_back-requires-clause-back
 put_back-requires-clause-back c =
     let h = c.self.invariant in
-    let has : has_place c.self.inside.layout c.args.from ≡ true = ap (λ (v : SitesState). has_place v.layout c.args.from) c.self.view_is ∙ c.requires.from in
+    let has : has_place c.self.inside.layout c.args.from ≡ true = ap (λ (v : SitesState). has_place v.layout c.args.from) c.self.view_is ∙ c.requires.link.from in
     let fi = stands-at-index c.self.inside.layout c.args.from c.from.result (length c.self.inside.places.items) has c.from.ensures h.all in
-    let there = stands-at-index c.self.inside.layout c.args.to c.from-2.result (length c.self.inside.places.items) (ap (λ (v : SitesState). has_place v.layout c.args.to) c.self.view_is ∙ c.requires.to) c.from-2.ensures h.all in
+    let there = stands-at-index c.self.inside.layout c.args.to c.from-2.result (length c.self.inside.places.items) (ap (λ (v : SitesState). has_place v.layout c.args.to) c.self.view_is ∙ c.requires.link.to) c.from-2.ensures h.all in
     let n : c.from-in-Err.result ≡ c.from.result = c.from-in-Err.ensures ∙ sym c.from.ensures in
     let taken : c.index_mut-in-Err.result.now ≡ c.out.new.self =
     c.index_mut-in-Err.ensures.value ∙ ap (λ m. get_or (set (set c.self.inside.places.items (c.from.result - 1) c.out.new.self) (c.from-2.result - 1) c.work.new.self) (m - 1) c.index_mut-in-Err.result.now) n
-    ∙ set-apart c.self.inside.places.items c.args.from c.args.to (c.from.result - 1) (c.from-2.result - 1) c.out.new.self c.work.new.self c.index_mut-in-Err.result.now fi.0 there.0 fi.1 c.requires.apart in
+    ∙ set-apart c.self.inside.places.items c.args.from c.args.to (c.from.result - 1) (c.from-2.result - 1) c.out.new.self c.work.new.self c.index_mut-in-Err.result.now fi.0 there.0 fi.1 c.requires.link.apart in
     subst (λ (q : Place). MayPutBack c.args.to q.out) (sym taken) c.in-Some.ensures.taken
 
 pub invariant_of-self-in-Err : goal.invariant_of-self-in-Err
@@ -249,8 +249,8 @@ invariant_of-self-in-Err c =
     let i = c.from.result - 1 in
     let p = c.index_mut.result.now in
     let p' = c.out.new.self in
-    let has : has_place c.self.inside.layout c.args.from ≡ true = ap (λ (v : SitesState). has_place v.layout c.args.from) c.self.view_is ∙ c.requires.from in
-    let has' : has_place c.self.inside.layout c.args.to ≡ true = ap (λ (v : SitesState). has_place v.layout c.args.to) c.self.view_is ∙ c.requires.to in
+    let has : has_place c.self.inside.layout c.args.from ≡ true = ap (λ (v : SitesState). has_place v.layout c.args.from) c.self.view_is ∙ c.requires.link.from in
+    let has' : has_place c.self.inside.layout c.args.to ≡ true = ap (λ (v : SitesState). has_place v.layout c.args.to) c.self.view_is ∙ c.requires.link.to in
     let fi = stands-at-index c.self.inside.layout c.args.from c.from.result (length c.self.inside.places.items) has c.from.ensures h.all in
     let j = c.from-2.result - 1 in
     let fj = stands-at-index c.self.inside.layout c.args.to c.from-2.result (length c.self.inside.places.items) has' c.from-2.ensures h.all in
@@ -264,7 +264,7 @@ invariant_of-self-in-Err c =
     c.put_back.ensures.waits ∙ ap (λ z. with_first c.args.to z c.index_mut-in-Err.result.now.out.lists) same in
     let n : c.from-in-Err.result ≡ c.from.result = c.from-in-Err.ensures ∙ sym c.from.ensures in
     subst (λ m. IsSites (record { layout = c.self.inside.layout; places = set (set (set c.self.inside.places.items (c.from.result - 1) c.out.new.self) (c.from-2.result - 1) c.work.new.self) (m - 1) c.put_back.new.self; callers = set c.self.inside.callers.items 0 c.work.new.caller })) (sym n)
-    (restored-sites s a b i j x p p' h fi.0 fj.0 fi.1 fj.1 c.requires.apart c.index_mut.ensures.value found has has' c.out.ensures.state c.out.ensures.waits k r some c.index_mut-2.ensures.value c.work.new.self c.index_mut-in-Err.result.now c.put_back.new.self c.work.new.caller c.in-Err.ensures.refused.0 c.in-Err.ensures.refused.1 c.index_mut-caller.ensures.value (c.index_mut-in-Err.ensures.value ∙ ap (λ m. get_or (set (set c.self.inside.places.items (c.from.result - 1) c.out.new.self) (c.from-2.result - 1) c.work.new.self) (m - 1) c.index_mut-in-Err.result.now) n) c.put_back.ensures.state back)
+    (restored-sites s a b i j x p p' h fi.0 fj.0 fi.1 fj.1 c.requires.link.apart c.index_mut.ensures.value found has has' c.out.ensures.state c.out.ensures.waits k r some c.index_mut-2.ensures.value c.work.new.self c.index_mut-in-Err.result.now c.put_back.new.self c.work.new.caller c.in-Err.ensures.refused.0 c.in-Err.ensures.refused.1 c.index_mut-caller.ensures.value (c.index_mut-in-Err.ensures.value ∙ ap (λ m. get_or (set (set c.self.inside.places.items (c.from.result - 1) c.out.new.self) (c.from-2.result - 1) c.work.new.self) (m - 1) c.index_mut-in-Err.result.now) n) c.put_back.ensures.state back)
 
 pub returns-in-Err-clause-refused : goal.returns-in-Err-clause-refused
 returns-in-Err-clause-refused c =
@@ -276,8 +276,8 @@ returns-in-Err-clause-refused c =
     let i = c.from.result - 1 in
     let p = c.index_mut.result.now in
     let p' = c.out.new.self in
-    let has : has_place c.self.inside.layout c.args.from ≡ true = ap (λ (v : SitesState). has_place v.layout c.args.from) c.self.view_is ∙ c.requires.from in
-    let has' : has_place c.self.inside.layout c.args.to ≡ true = ap (λ (v : SitesState). has_place v.layout c.args.to) c.self.view_is ∙ c.requires.to in
+    let has : has_place c.self.inside.layout c.args.from ≡ true = ap (λ (v : SitesState). has_place v.layout c.args.from) c.self.view_is ∙ c.requires.link.from in
+    let has' : has_place c.self.inside.layout c.args.to ≡ true = ap (λ (v : SitesState). has_place v.layout c.args.to) c.self.view_is ∙ c.requires.link.to in
     let fi = stands-at-index c.self.inside.layout c.args.from c.from.result (length c.self.inside.places.items) has c.from.ensures h.all in
     let j = c.from-2.result - 1 in
     let fj = stands-at-index c.self.inside.layout c.args.to c.from-2.result (length c.self.inside.places.items) has' c.from-2.ensures h.all in
@@ -291,7 +291,17 @@ returns-in-Err-clause-refused c =
     c.put_back.ensures.waits ∙ ap (λ z. with_first c.args.to z c.index_mut-in-Err.result.now.out.lists) same in
     let n : c.from-in-Err.result ≡ c.from.result = c.from-in-Err.ensures ∙ sym c.from.ensures in
     let moved = ap (λ m. net (record { layout = c.self.inside.layout; places = set (set (set c.self.inside.places.items (c.from.result - 1) c.out.new.self) (c.from-2.result - 1) c.work.new.self) (m - 1) c.put_back.new.self; callers = set c.self.inside.callers.items 0 c.work.new.caller })) n in
-    moved ∙ restored-net s a b i j x p p' h fi.0 fj.0 fi.1 fj.1 c.requires.apart c.index_mut.ensures.value found has has' c.out.ensures.state c.out.ensures.waits k r some c.index_mut-2.ensures.value c.work.new.self c.index_mut-in-Err.result.now c.put_back.new.self c.work.new.caller c.in-Err.ensures.refused.0 c.in-Err.ensures.refused.1 c.index_mut-caller.ensures.value (c.index_mut-in-Err.ensures.value ∙ ap (λ m. get_or (set (set c.self.inside.places.items (c.from.result - 1) c.out.new.self) (c.from-2.result - 1) c.work.new.self) (m - 1) c.index_mut-in-Err.result.now) n) c.put_back.ensures.state back ∙ ap net c.self.view_is
+    let ps = c.self.inside.places.items in
+    let one = keep-set c.self.inside.places.items (c.from.result - 1) c.index_mut.result.now c.out.new.self c.index_mut.ensures.value c.out.ensures.spare in
+    let two = keep-set (set c.self.inside.places.items (c.from.result - 1) c.out.new.self) (c.from-2.result - 1) c.index_mut-2.result.now c.work.new.self c.index_mut-2.ensures.value c.in-Err.ensures.refused.0.spare in
+    let three = keep-set (set (set c.self.inside.places.items (c.from.result - 1) c.out.new.self) (c.from-2.result - 1) c.work.new.self) (c.from-in-Err.result - 1) c.index_mut-in-Err.result.now c.put_back.new.self c.index_mut-in-Err.ensures.value c.put_back.ensures.spare in
+    let m₁ = length-set c.self.inside.places.items (c.from.result - 1) c.out.new.self in
+    let m₂ = length-set (set c.self.inside.places.items (c.from.result - 1) c.out.new.self) (c.from-2.result - 1) c.work.new.self in
+    record {
+      same = moved ∙ restored-net s a b i j x p p' h fi.0 fj.0 fi.1 fj.1 c.requires.link.apart c.index_mut.ensures.value found has has' c.out.ensures.state c.out.ensures.waits k r some c.index_mut-2.ensures.value c.work.new.self c.index_mut-in-Err.result.now c.put_back.new.self c.work.new.caller c.in-Err.ensures.refused.0 c.in-Err.ensures.refused.1 c.index_mut-caller.ensures.value (c.index_mut-in-Err.ensures.value ∙ ap (λ m. get_or (set (set c.self.inside.places.items (c.from.result - 1) c.out.new.self) (c.from-2.result - 1) c.work.new.self) (m - 1) c.index_mut-in-Err.result.now) n) c.put_back.ensures.state back ∙ ap net c.self.view_is;
+      room = subst (λ (v : SitesState). KeepRoom v.places (set (set (set c.self.inside.places.items (c.from.result - 1) c.out.new.self) (c.from-2.result - 1) c.work.new.self) (c.from-in-Err.result - 1) c.put_back.new.self)) c.self.view_is
+          (keep-on ps _ _ (sym m₁) one (keep-on _ _ _ (sym m₂) two three));
+    }
 
 pub returns-in-Ok-clause-ticks : goal.returns-in-Ok-clause-ticks
 returns-in-Ok-clause-ticks c = λ ok.
@@ -303,8 +313,8 @@ returns-in-Ok-clause-ticks c = λ ok.
     let i = c.from.result - 1 in
     let p = c.index_mut.result.now in
     let p' = c.out.new.self in
-    let has : has_place c.self.inside.layout c.args.from ≡ true = ap (λ (v : SitesState). has_place v.layout c.args.from) c.self.view_is ∙ c.requires.from in
-    let has' : has_place c.self.inside.layout c.args.to ≡ true = ap (λ (v : SitesState). has_place v.layout c.args.to) c.self.view_is ∙ c.requires.to in
+    let has : has_place c.self.inside.layout c.args.from ≡ true = ap (λ (v : SitesState). has_place v.layout c.args.from) c.self.view_is ∙ c.requires.link.from in
+    let has' : has_place c.self.inside.layout c.args.to ≡ true = ap (λ (v : SitesState). has_place v.layout c.args.to) c.self.view_is ∙ c.requires.link.to in
     let fi = stands-at-index c.self.inside.layout c.args.from c.from.result (length c.self.inside.places.items) has c.from.ensures h.all in
     let j = c.from-2.result - 1 in
     let fj = stands-at-index c.self.inside.layout c.args.to c.from-2.result (length c.self.inside.places.items) has' c.from-2.ensures h.all in
@@ -315,7 +325,7 @@ returns-in-Ok-clause-ticks c = λ ok.
     let some : slice_get (list_to c.args.to c.index_mut.result.now.out.lists) 0 ≡ Some c.in-Some.packet = sym c.out.ensures.value ∙ c.in-Some.is in
     let g = greatest_clock (begun_by (state c.index_mut-2.result.now) c.index_mut-caller.result.now c.in-Some.packet) in
     let below = below-limit c.work.result c.in-Ok.field-0 c.in-Some.packet (greatest_clock (begun_by (state c.index_mut-2.result.now) c.index_mut-caller.result.now c.in-Some.packet)) c.in-Ok.is c.work.ensures.worn in
-    let up = risen s a b i j x p p' h fi.0 fj.0 fi.1 fj.1 c.requires.apart c.index_mut.ensures.value found has has' c.out.ensures.state c.out.ensures.waits k r some c.index_mut-2.ensures.value c.work.new.self c.work.new.caller c.in-Ok.ensures.worked in
+    let up = risen s a b i j x p p' h fi.0 fj.0 fi.1 fj.1 c.requires.link.apart c.index_mut.ensures.value found has has' c.out.ensures.state c.out.ensures.waits k r some c.index_mut-2.ensures.value c.work.new.self c.work.new.caller c.in-Ok.ensures.worked in
     let old : seat_clock (net c.args.self.now) ≡ c.index_mut-caller.result.now.last = ap (λ (v : SitesState). seat_clock (net v)) (sym c.self.view_is) ∙ ap last_of found in
     let new : last_of (slice_get (set c.self.inside.callers.items 0 c.work.new.caller) 0) ≡ c.work.new.caller.last = ap last_of (slice_get-set c.self.inside.callers.items c.work.new.caller h.some_seat) in
     record { below = omega (arith, below, old); risen = omega (arith, up, old, new) }
@@ -337,8 +347,8 @@ returns-in-Ok-clause-room c =
     let i = c.from.result - 1 in
     let p = c.index_mut.result.now in
     let p' = c.out.new.self in
-    let has : has_place c.self.inside.layout c.args.from ≡ true = ap (λ (v : SitesState). has_place v.layout c.args.from) c.self.view_is ∙ c.requires.from in
-    let has' : has_place c.self.inside.layout c.args.to ≡ true = ap (λ (v : SitesState). has_place v.layout c.args.to) c.self.view_is ∙ c.requires.to in
+    let has : has_place c.self.inside.layout c.args.from ≡ true = ap (λ (v : SitesState). has_place v.layout c.args.from) c.self.view_is ∙ c.requires.link.from in
+    let has' : has_place c.self.inside.layout c.args.to ≡ true = ap (λ (v : SitesState). has_place v.layout c.args.to) c.self.view_is ∙ c.requires.link.to in
     let fi = stands-at-index c.self.inside.layout c.args.from c.from.result (length c.self.inside.places.items) has c.from.ensures h.all in
     let j = c.from-2.result - 1 in
     let fj = stands-at-index c.self.inside.layout c.args.to c.from-2.result (length c.self.inside.places.items) has' c.from-2.ensures h.all in
@@ -348,16 +358,5 @@ returns-in-Ok-clause-room c =
     let found : slice_get c.self.inside.callers.items 0 ≡ Some c.index_mut-caller.result.now = slice_get_read c.self.inside.callers.items _ 0 c.index_mut-caller.result.now refl h.some_seat c.index_mut-caller.ensures.value in
     let some : slice_get (list_to c.args.to c.index_mut.result.now.out.lists) 0 ≡ Some c.in-Some.packet = sym c.out.ensures.value ∙ c.in-Some.is in
     subst (λ (v : SitesState). UsesRoom (puts_in (Deliver 0 c.args.from c.args.to) (net v)) v.places (set (set c.self.inside.places.items (c.from.result - 1) c.out.new.self) (c.from-2.result - 1) c.work.new.self)) c.self.view_is
-    (worked-uses s a b i j x p p' h fi.0 fj.0 fi.1 fj.1 c.requires.apart c.index_mut.ensures.value found has has' c.out.ensures.state c.out.ensures.waits k r some c.index_mut-2.ensures.value
+    (worked-uses s a b i j x p p' h fi.0 fj.0 fi.1 fj.1 c.requires.link.apart c.index_mut.ensures.value found has has' c.out.ensures.state c.out.ensures.waits k r some c.index_mut-2.ensures.value
     c.work.new.self c.work.new.caller c.in-Ok.ensures.worked c.out.ensures.spare)
-
-pub returns-in-Err-clause-kept : goal.returns-in-Err-clause-kept
-returns-in-Err-clause-kept c =
-    let ps = c.self.inside.places.items in
-    let one = keep-set c.self.inside.places.items (c.from.result - 1) c.index_mut.result.now c.out.new.self c.index_mut.ensures.value c.out.ensures.spare in
-    let two = keep-set (set c.self.inside.places.items (c.from.result - 1) c.out.new.self) (c.from-2.result - 1) c.index_mut-2.result.now c.work.new.self c.index_mut-2.ensures.value c.in-Err.ensures.refused.0.spare in
-    let three = keep-set (set (set c.self.inside.places.items (c.from.result - 1) c.out.new.self) (c.from-2.result - 1) c.work.new.self) (c.from-in-Err.result - 1) c.index_mut-in-Err.result.now c.put_back.new.self c.index_mut-in-Err.ensures.value c.put_back.ensures.spare in
-    let m = length-set c.self.inside.places.items (c.from.result - 1) c.out.new.self in
-    let n = length-set (set c.self.inside.places.items (c.from.result - 1) c.out.new.self) (c.from-2.result - 1) c.work.new.self in
-    subst (λ (v : SitesState). KeepRoom v.places (set (set (set c.self.inside.places.items (c.from.result - 1) c.out.new.self) (c.from-2.result - 1) c.work.new.self) (c.from-in-Err.result - 1) c.put_back.new.self)) c.self.view_is
-    (keep-on ps _ _ (sym m) one (keep-on _ _ _ (sym n) two three))

@@ -40,8 +40,8 @@ returns-in-Nothing-clause-room c = uses-delivery c.args.from c.args.to c.args.se
 pub returns-in_err-deliver-clause-stopped : goal.returns-in_err-deliver-clause-stopped
 returns-in_err-deliver-clause-stopped c =
     MatchResult-from_err c.from_residual.result _ _ c.from_residual.ensures.0 (λ _.
-    let same : net c.deliver.new.self ≡ net c.args.self.now = c.in_err-deliver.ensures.refused in
-    let room = kept-uses c.args.self.now.places c.deliver.new.self.places (ap (λ (n : NetState). n.places) (sym same)) c.in_err-deliver.ensures.kept in
+    let same : net c.deliver.new.self ≡ net c.args.self.now = c.in_err-deliver.ensures.refused.same in
+    let room = kept-uses c.args.self.now.places c.deliver.new.self.places (ap (λ (n : NetState). n.places) (sym same)) c.in_err-deliver.ensures.refused.room in
     stops-here AnyCause c.args.from c.args.to c.args.self.now c.deliver.new.self c.if-from-to.false same room tt)
 
 pub returns-in_err-deliver-clause-worn : goal.returns-in_err-deliver-clause-worn
@@ -52,6 +52,6 @@ returns-in_err-deliver-clause-worn c = λ clock e.
     let was = c.in_err-deliver.was in
     let w : c.deliver.result ≡ Err (faults.Worn clock) = was ∙ ap Err (sym b ∙ ap (λ z. fault-in z (faults.Worn clock)) (sym a ∙ e)) in
     let both = (c.deliver.ensures.worn clock).0 w in
-    let same : net c.deliver.new.self ≡ net c.args.self.now = c.in_err-deliver.ensures.refused in
-    let room = kept-uses c.args.self.now.places c.deliver.new.self.places (ap (λ (n : NetState). n.places) (sym same)) c.in_err-deliver.ensures.kept in
+    let same : net c.deliver.new.self ≡ net c.args.self.now = c.in_err-deliver.ensures.refused.same in
+    let room = kept-uses c.args.self.now.places c.deliver.new.self.places (ap (λ (n : NetState). n.places) (sym same)) c.in_err-deliver.ensures.refused.room in
     stops-here (ComparesWorn clock) c.args.from c.args.to c.args.self.now c.deliver.new.self c.if-from-to.false same room (ap (compared_at 0 c.args.from c.args.to) same ∙ both.1, both.0)

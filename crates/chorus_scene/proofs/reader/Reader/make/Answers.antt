@@ -1,8 +1,13 @@
-use Rattle.std.proofs.Common.{ℕ, sym, ap, ◌∙◌}
+use Rattle.std.proofs.Common.{ℕ, sym, ap, subst, ◌∙◌}
 use Rattle.chorus_ui.specs.declared.ui.Ui.{Ui}
 use Rattle.chorus_scene.specs.Making.{next_name}
-use Rattle.chorus_scene.specs.Reader.{made_by}
+use Rattle.chorus_scene.specs.Reader.{made_by, IsMaking}
 use Rattle.chorus_scene.proofs.reader.Reader.make.Goals as goal
+
+pub push_making-requires-clause-making : goal.push_making-requires-clause-making
+push_making-requires-clause-making c =
+    let site = sym c.if-site.false ∙ c.site.ensures.value in
+    subst (λ s. IsMaking c.args.self.now.layout c.args.line c.args.ui s c.args.number) site c.requires.making
 
 pub push_making-requires-clause-given : goal.push_making-requires-clause-given
 push_making-requires-clause-given c =

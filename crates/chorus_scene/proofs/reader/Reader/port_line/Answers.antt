@@ -1,9 +1,25 @@
-use Rattle.std.proofs.Common.{sym, ap, ◌∙◌, subst, arith}
+use Rattle.std.proofs.Common.{◌∷◌, [], refl, sym, ap, ◌∙◌, subst, rules, arith}
 use Rattle.chorus_lines.specs.declared.word.Word.TheVariants as words
+use Rattle.chorus_scene.specs.Making.{next_name}
 use Rattle.chorus_scene.specs.Grammar.{judge_fields, then_after}
 use Rattle.chorus_scene.specs.Reader.{Gives, state_of, scene_of}
 use Rattle.chorus_scene.proofs.Next.{port_read}
 use Rattle.chorus_scene.proofs.reader.Reader.port_line.Goals as goal
+
+pub make-requires-clause-making : goal.make-requires-clause-making
+make-requires-clause-making c =
+    let l = c.args.self.now.layout in
+    let kind = c.in-Some-Some-Some.ensures.kind in
+    let site = c.site.ensures.value in
+    let number = c.number-2.ensures.value in
+    record {
+      kind = search rules;
+      from_one = search rules;
+      room = search rules;
+      made = λ before i. next_name l (sym kind i) (sym site i) (sym number i) before ∷ [];
+      said = λ before i. next_name l (sym kind i) (sym site i) (sym number i) before;
+      joined = λ g. refl;
+    }
 
 pub returns-clause-gives : goal.returns-clause-gives
 returns-clause-gives c =

@@ -10,5 +10,5 @@ returns-clause-tables c =
     let u = c.args.ui in
     let s = c.args.self.now in
     let at = c.count_at-at.ensures.value ∙ ap (λ k. count_at c.args.layout k c.site.result c.args.number) c.kind.ensures ∙ ap (λ n. count_at c.args.layout u.kind n c.args.number) c.site.ensures.value in
-    making_tables c.args.layout s _ c.count_at-at.ensures.shape r.tables c.args.line c.in_ok-push.ensures.items u.kind u.site c.args.number r.kind c.site.ensures.name.site_from_one r.site r.makes r.joins
-    c.count_at-at.result at (ap (λ n. s.names.items ++ n ∷ []) (sym r.given) ∙ sym c.in_ok-push-2.ensures.items) (r.says (made_by c.args.layout s)) refl refl (subst (λ (n : Ui). n.number ≤ most_number u.kind) r.given r.room) c.count_at-at.ensures.small
+    making_tables c.args.layout s _ c.count_at-at.ensures.shape r.tables c.args.line c.in_ok-push.ensures.items u.kind u.site c.args.number r.making.kind c.site.ensures.name.site_from_one r.site r.making.made r.making.joined
+    c.count_at-at.result at (ap (λ n. s.names.items ++ n ∷ []) (sym r.given) ∙ sym c.in_ok-push-2.ensures.items) (r.making.said (made_by c.args.layout s)) refl refl (subst (λ (n : Ui). n.number ≤ most_number u.kind) r.given r.making.room) c.count_at-at.ensures.small

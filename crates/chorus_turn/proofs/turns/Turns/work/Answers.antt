@@ -22,7 +22,7 @@ give-requires-clause-state g c = let t = c.take-found.ensures.free c.if-found-ne
     let before = subst (λ (x : g.row.S.Denot). IsJournal g.S.Kept.entries g.S.Kept.fits x t.1) same t.3 in
     let more = run.remarks t.1 before in
     let now : c.lower.new.seat.me.0 ≡ holding_view c.args.place t.1 c.args.seat.now.me.0 = ap (λ x. x.0) c.lower.ensures.lowered ∙ ap (λ x. x.0) lifted.1 ∙ ap (λ x. x.0) t.2 in
-    let number : c.lower.new.seat.me.0.knows.seat ≡ c.args.number = ap (λ x. x.knows.seat) now ∙ c.requires.number in (
+    let number : c.lower.new.seat.me.0.knows.seat ≡ c.args.number = ap (λ x. x.knows.seat) now ∙ c.requires.seat.2 in (
       c.run-out.new.state,
       more.0,
       ap (λ x. x.1) c.lower.ensures.lowered,
