@@ -13,10 +13,10 @@ use Rattle.chorus_nucleus.specs.declared.nucleus.Nucleus.{Nucleus}
 use Rattle.chorus_nucleus.specs.declared.pass.Pass.{Pass}
 use Rattle.chorus_nucleus.specs.Passes.{layout_of, known, worn_by, IsPassOf}
 use Rattle.chorus_nucleus.specs.Calls.{worn_after}
-use Rattle.chorus_take.specs.declared.message.TakenMessage.{TakenMessage}
-use Rattle.chorus_take.specs.Taking.{Appends, Misses, KeepsPass, IsTake, reply_with}
-use Rattle.chorus_take.proofs.Turns.{worn-ok, worn-err}
-use Rattle.chorus_take.proofs.Trying.{appends-none, appends-then, keeps-none, keeps-then}
+use Rattle.chorus_nucleus.specs.declared.taken_message.TakenMessage.{TakenMessage}
+use Rattle.chorus_nucleus.specs.Taking.{Appends, Misses, KeepsPass, IsTake, reply_with}
+use Rattle.chorus_nucleus.proofs.TakeTurns.{worn-ok, worn-err}
+use Rattle.chorus_nucleus.proofs.Trying.{appends-none, appends-then, keeps-none, keeps-then}
 use Rattle.chorus_choose.specs.declared.chooser.Enabled.{Enabled}
 use Rattle.chorus_choose.specs.declared.received.Received.{Received}
 use Rattle.chorus_choose.specs.declared.received.Received.TheVariants as receives

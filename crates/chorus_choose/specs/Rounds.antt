@@ -15,7 +15,7 @@ use Rattle.chorus_nucleus.specs.declared.nucleus.Nucleus.{Nucleus}
 use Rattle.chorus_nucleus.specs.declared.pass.Pass.{Pass}
 use Rattle.chorus_nucleus.specs.Passes.{layout_of, known, worn_by}
 use Rattle.chorus_nucleus.specs.Calls.{worn_after}
-use Rattle.chorus_take.specs.Taking.{Appends, IsMiss, HasOrigin, KeepsPass, IsFault}
+use Rattle.chorus_nucleus.specs.Taking.{Appends, IsMiss, HasOrigin, KeepsPass, IsFault}
 use Rattle.chorus_choose.specs.declared.received.Received.{Received}
 use Rattle.chorus_choose.specs.declared.received.Received.TheVariants as receives
 

@@ -6,8 +6,7 @@ ghost use Rattle.std.specs.Prelude.{[]};
 
 use crate::chooser::Chooser;
 use crate::received::Received;
-use chorus_nucleus::{CallFault, Nucleus, Pass};
-use chorus_take::take_once;
+use chorus_nucleus::{CallFault, Nucleus, Pass, take_once};
 
 impl Chooser {
     /// Looks at the enabled ports in their order, each by one take, and takes from the first that the caller's actor

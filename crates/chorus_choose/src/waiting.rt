@@ -1,7 +1,7 @@
 //! A receive that waits.
 ghost use Rattle.std.specs.Prelude.{◌≡◌, ◌+◌, ℕ, false, [], IfErr};
 ghost use Rattle.chorus_nucleus.specs.Passes.{IsPassOf};
-ghost use Rattle.chorus_take.specs.Taking.{is_busy};
+ghost use Rattle.chorus_nucleus.specs.Taking.{is_busy};
 ghost use Rattle.chorus_choose.specs.Looking.{ports_of};
 ghost use Rattle.chorus_choose.specs.Rounds.{IsReceive};
 ghost use Rattle.chorus_choose.specs.Waits.{WaitsAndReceives};
@@ -10,8 +10,7 @@ ghost use Rattle.chorus_choose.specs.Bells.{waits_of, waiter_bell};
 use crate::bell_ends::Waiter;
 use crate::chooser::Chooser;
 use crate::received::{Received, Waited};
-use chorus_nucleus::{CallFault, Nucleus, Pass};
-use chorus_take::take_when_free;
+use chorus_nucleus::{CallFault, Nucleus, Pass, take_when_free};
 use std::sync::Wait;
 
 impl Chooser {

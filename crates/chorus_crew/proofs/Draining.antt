@@ -15,10 +15,10 @@ use Rattle.chorus_nucleus.specs.declared.nucleus.Nucleus.{Nucleus}
 use Rattle.chorus_nucleus.specs.declared.pass.Pass.{Pass}
 use Rattle.chorus_nucleus.specs.Passes.{layout_of, known, worn_by, IsPassOf}
 use Rattle.chorus_nucleus.specs.Calls.{worn_after}
-use Rattle.chorus_take.specs.declared.message.TakenMessage.{TakenMessage}
-use Rattle.chorus_take.specs.Taking.{Appends, HasOrigin, SeesMore, KeepsPass, TakesOn, IsTake, reply_with}
-use Rattle.chorus_take.proofs.Turns.{worn-ok, worn-err, takes-nothing}
-use Rattle.chorus_take.proofs.Trying.{appends-none, appends-then, appends-still, origin-later, keeps-none, keeps-then, takes-then}
+use Rattle.chorus_nucleus.specs.declared.taken_message.TakenMessage.{TakenMessage}
+use Rattle.chorus_nucleus.specs.Taking.{Appends, HasOrigin, SeesMore, KeepsPass, TakesOn, IsTake, reply_with}
+use Rattle.chorus_nucleus.proofs.TakeTurns.{worn-ok, worn-err, takes-nothing}
+use Rattle.chorus_nucleus.proofs.Trying.{appends-none, appends-then, appends-still, origin-later, keeps-none, keeps-then, takes-then}
 use Rattle.chorus_crew.specs.declared.job.Tally.{Tally}
 use Rattle.chorus_crew.specs.Handling.{took_acts, AreGiven, first_position, worth, Counts}
 use Rattle.chorus_crew.specs.Jobs.{IsWork}

@@ -14,9 +14,9 @@ use Rattle.chorus_nucleus.specs.declared.nucleus.Nucleus.{Nucleus}
 use Rattle.chorus_nucleus.specs.declared.pass.Pass.{Pass}
 use Rattle.chorus_nucleus.specs.Passes.{known, worn_by, IsPassOf}
 use Rattle.chorus_nucleus.specs.Coming.{Retires}
-use Rattle.chorus_take.specs.Taking.{SeesMore}
-use Rattle.chorus_take.proofs.Trying.{sees-then}
-use Rattle.chorus_take.proofs.Turns.{sees-same}
+use Rattle.chorus_nucleus.specs.Taking.{SeesMore}
+use Rattle.chorus_nucleus.proofs.Trying.{sees-then}
+use Rattle.chorus_nucleus.proofs.TakeTurns.{sees-same}
 use Rattle.chorus_ui.specs.declared.ui.Ui.{Ui}
 use Rattle.chorus_crew.specs.declared.job.Done.{Done}
 use Rattle.chorus_crew.specs.declared.job.Job.{Job}

@@ -24,9 +24,9 @@ use Rattle.chorus_nucleus.specs.declared.fault.CallFault.{CallFault}
 use Rattle.chorus_nucleus.specs.declared.nucleus.Nucleus.{Nucleus}
 use Rattle.chorus_nucleus.specs.declared.pass.Pass.{Pass}
 use Rattle.chorus_nucleus.specs.Passes.{layout_of, known, caller_of, IsPassOf}
-use Rattle.chorus_take.specs.Taking.{acts_made, Appends, IsByTakes, IsMiss, SeesMore}
-use Rattle.chorus_take.proofs.Trying.{sees-then}
-use Rattle.chorus_take.proofs.Turns.{sees-same}
+use Rattle.chorus_nucleus.specs.Taking.{acts_made, Appends, IsByTakes, IsMiss, SeesMore}
+use Rattle.chorus_nucleus.proofs.Trying.{sees-then}
+use Rattle.chorus_nucleus.proofs.TakeTurns.{sees-same}
 use Rattle.chorus_crew.specs.declared.fault.CrewFault.{CrewFault}
 use Rattle.chorus_crew.specs.declared.handler.Handled.{Handled}
 use Rattle.chorus_crew.specs.declared.job.Done.{Done}

@@ -10,8 +10,8 @@ use Rattle.chorus_entry.specs.declared.message.Message.{Message}
 use Rattle.law_replies.specs.Taking.{taken_acts}
 use Rattle.chorus_turn.specs.declared.knowledge.Knowledge.{Knowledge}
 use Rattle.law_closing.specs.Places.{PlaceNote}
-use Rattle.chorus_take.specs.declared.message.TakenMessage.{TakenMessage}
-use Rattle.chorus_take.specs.Taking.{Appends, IsMiss, HasOrigin, reply_with}
+use Rattle.chorus_nucleus.specs.declared.taken_message.TakenMessage.{TakenMessage}
+use Rattle.chorus_nucleus.specs.Taking.{Appends, IsMiss, HasOrigin, reply_with}
 
 -- the acts of these takes, in order
 abbrev pub took_acts : Ui → List TakenMessage → List Act

@@ -14,7 +14,7 @@ use Rattle.chorus_nucleus.specs.declared.nucleus.Nucleus.{Nucleus}
 use Rattle.chorus_nucleus.specs.declared.pass.Pass.{Pass}
 use Rattle.chorus_nucleus.specs.Passes.{layout_of, known, caller_of, worn_by, IsPassOf}
 use Rattle.chorus_nucleus.specs.Calls.{worn_after}
-use Rattle.chorus_take.specs.Taking.{KeepsPass, TakesOn}
+use Rattle.chorus_nucleus.specs.Taking.{KeepsPass, TakesOn}
 use Rattle.chorus_crew.specs.declared.job.Job.{Job}
 use Rattle.chorus_crew.specs.declared.job.Done.{Done}
 use Rattle.chorus_crew.specs.declared.job.Tally.{Tally}

@@ -1,9 +1,10 @@
 -- What a crew takes memory for.
-use Rattle.std.specs.Prelude.{ℕ, ◌≡◌, ◌≤◌, Option, None, [], length, vec_capacity}
+use Rattle.std.specs.Prelude.{ℕ, ◌≡◌, ◌<◌, ◌≤◌, Option, None, [], length, vec_capacity}
 use Rattle.std.specs.List.{All}
 use Rattle.std.specs.Global.{Vec}
 use Rattle.crossbeam_deque.specs.Handles.{worker_deque, worker_flavor, worker_view, stealer_deque}
 use Rattle.chorus_crew.specs.declared.job.Done.{Done}
+use Rattle.chorus_crew.specs.declared.handler.Handled.{Handled}
 use Rattle.chorus_crew.specs.declared.tools.Tools.{Tools}
 use Rattle.chorus_crew.specs.Rule.{share}
 
@@ -22,6 +23,12 @@ pub record AreToolsFor (count workers : ℕ) (t : Tools) : Type 0 where
 pub record AreTools (count workers : ℕ) (t : Tools) : Type 0 where
   pub tools : AreToolsFor count workers t
   pub jobs : (t.jobs.items ≡ []) × (count ≤ vec_capacity t.jobs)
+
+-- so many workers, from 1 to 16, with tools for so many jobs, and room for what is handled, of which nothing is there
+pub record IsEquipped (count workers : ℕ) (t : Tools) (handled : Vec Handled) : Type 0 where
+  pub few : (0 < workers) × (workers ≤ 16)
+  pub tools : AreTools count workers t
+  pub room : (handled.items ≡ []) × (count ≤ vec_capacity handled)
 
 -- for the jobs that are in them
 abbrev pub AreReadyTools : ℕ → Tools → Type 0

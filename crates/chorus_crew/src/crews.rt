@@ -6,7 +6,7 @@ ghost use Rattle.chorus_crew.specs.declared.fault.CrewFault.TheVariants as CrewF
 ghost use Rattle.chorus_crew.specs.Crews.{IsCaller, ArePairs, HasHandled};
 ghost use Rattle.chorus_crew.specs.Pairs.{are_pairs};
 ghost use Rattle.chorus_crew.specs.Retiring.{IsRetired};
-ghost use Rattle.chorus_crew.specs.Tools.{AreTools};
+ghost use Rattle.chorus_crew.specs.Tools.{IsEquipped};
 
 use crate::doing::do_jobs;
 use crate::fault::CrewFault;
@@ -52,9 +52,7 @@ fn crew_with<H: Handler, R: Threads + Wait + Sync>(
     requires caller { IsCaller nucleus.now pass.old }
     requires ports { ArePairs (layout_of nucleus.now) ports.now }
     requires seats { (known pass.old).made + length ports.now ≤ limit }
-    requires workers { (0 < workers) × (workers ≤ 16) }
-    requires tools { AreTools (length ports.now) workers tools }
-    requires room { (handled.items ≡ []) × (length ports.now ≤ vec_capacity handled) }
+    requires equipped { IsEquipped (length ports.now) workers tools handled }
     ensures retired { IsRetired nucleus.now pass.old pass.new }
     ensures ok { IfOk result (λ v. HasHandled (H.value handler.now) nucleus.now ports.now v.items
         pass.old pass.new) }

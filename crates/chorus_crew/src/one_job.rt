@@ -2,13 +2,12 @@
 ghost use Rattle.std.specs.Prelude.{◌≡◌, ◌≢◌, ◌+◌, true, false, IfErr};
 ghost use Rattle.chorus_ui.specs.NameKind.{is_port};
 ghost use Rattle.chorus_nucleus.specs.Passes.{IsPassOf};
-ghost use Rattle.chorus_take.specs.Taking.{is_busy};
+ghost use Rattle.chorus_nucleus.specs.Taking.{is_busy};
 ghost use Rattle.chorus_crew.specs.Jobs.{IsWork, IsJobOf, IsDoneOf};
 
 use crate::handler::Handler;
 use crate::job::{Done, Job, Tally};
-use chorus_nucleus::{CallFault, Nucleus, Pass};
-use chorus_take::take_when_free;
+use chorus_nucleus::{CallFault, Nucleus, Pass, take_when_free};
 use chorus_ui::Ui;
 use std::sync::Wait;
 

@@ -1,6 +1,6 @@
 -- What the crew did on a nucleus, and what of it the journals have.
 -- n is the nucleus, p and last are its passes.
-use Rattle.std.specs.Prelude.{ℕ, ◌≡◌, ◌+◌, List, [], ◌∷◌, length}
+use Rattle.std.specs.Prelude.{ℕ, ◌≡◌, ◌+◌, true, List, [], ◌∷◌, length}
 use Rattle.law_network.specs.Calls.{first_actor}
 use Rattle.law_closing.specs.Actors.{AreIn}
 use Rattle.law_closing.specs.Places.{PlaceNote}
@@ -21,6 +21,12 @@ use Rattle.chorus_drawn_crew.specs.Names.{crew_pairs}
 use Rattle.chorus_drawn_crew.specs.Value.{message_value}
 use Rattle.chorus_drawn_crew.specs.Sends.{tally}
 use Rattle.chorus_drawn_crew.specs.Filling.{crew_commands}
+
+-- it is the pass of the nucleus that draws the numbers, with a note of each other pass that was drawn
+pub record HasAllNotes (n : Nucleus) (p : Pass) : Type 0 where
+  pub pass : IsPassOf n p
+  pub keeper : (known p).keeper ≡ true
+  pub ended : (known p).made ≡ length (known p).notes + 1
 
 -- Seat 0 made the ports and sent, till nothing was left. Then the passes of the crew came, those of seats 1 to 8 for
 -- the ports in their order, which are retired into it: each took what waited in its port, above the clock that seat 0

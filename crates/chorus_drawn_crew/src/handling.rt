@@ -8,7 +8,7 @@ ghost use Rattle.chorus_drawn_crew.specs.declared.counting.TheConstants.{DRAWS_L
 ghost use Rattle.chorus_drawn_crew.specs.declared.names.TheConstants.{CREW_PORTS};
 ghost use Rattle.chorus_drawn_crew.specs.Names.{crew_pairs};
 ghost use Rattle.chorus_drawn_crew.specs.Value.{message_value};
-ghost use Rattle.chorus_drawn_crew.specs.Takes.{HasCrewed};
+ghost use Rattle.chorus_drawn_crew.specs.Takes.{HasAllNotes, HasCrewed};
 
 use crate::filling::fill;
 use crate::names::crew_pairs;
@@ -37,9 +37,7 @@ pub(crate) fn fill_and_handle<R: Threads + Wait + Sync>(
     requires opening { IsOpening pass.old }
     requires sites { CREW_PORTS ≤ (layout_of nucleus.now).sites }
     requires commands { commands ≤ DRAWS_LIMIT }
-    ensures pass { IsPassOf nucleus.now pass.new }
-    ensures keeper { (known pass.new).keeper ≡ true }
-    ensures ended { (known pass.new).made ≡ length (known pass.new).notes + 1 }
+    ensures back { HasAllNotes nucleus.now pass.new }
     ensures ok { IfOk result (λ handled.
         HasCrewed nucleus.now first commands handled.items pass.new) }
     ensures worn { (clock : ℕ) → IsErrOf result (Stopped.Worn clock) →

@@ -13,3 +13,5 @@ pub mod Leaving
 pub mod Left
 pub mod Ended
 pub mod Running
+pub mod TakeTurns
+pub mod Trying

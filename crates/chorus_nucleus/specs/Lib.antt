@@ -7,3 +7,4 @@ pub mod Reading
 pub mod Leaving
 pub mod Closing
 pub mod Runs
+pub mod Taking

@@ -22,6 +22,8 @@ mod nucleus;
 mod pass;
 mod pump;
 mod starting;
+mod taken_message;
+mod taking;
 
 pub use close::CloseFault;
 pub use fault::CallFault;
@@ -29,3 +31,5 @@ pub use laws::{a_closed_nucleus_is_a_run, each_message_stands_once};
 pub use locate::ReadersFull;
 pub use nucleus::Nucleus;
 pub use pass::Pass;
+pub use taken_message::TakenMessage;
+pub use taking::{take_once, take_when_free};

@@ -35,8 +35,8 @@ use Rattle.chorus_nucleus.specs.declared.nucleus.Nucleus.{Nucleus}
 use Rattle.chorus_nucleus.specs.declared.pass.Pass.{Pass}
 use Rattle.chorus_nucleus.specs.Passes.{caller_of, known, layout_of}
 use Rattle.chorus_nucleus.specs.Closing.{ClosesAs, IsClosed}
-use Rattle.chorus_take.specs.declared.message.TakenMessage.{TakenMessage}
-use Rattle.chorus_take.specs.Taking.{HasOrigin, IsMiss, reply_with}
+use Rattle.chorus_nucleus.specs.declared.taken_message.TakenMessage.{TakenMessage}
+use Rattle.chorus_nucleus.specs.Taking.{HasOrigin, IsMiss, reply_with}
 use Rattle.chorus_crew.specs.declared.handler.Handled.{Handled}
 use Rattle.chorus_crew.specs.Handling.{took_acts, worth as total_worth}
 use Rattle.chorus_crew.specs.Crews.{AreHandled, IsHandled}

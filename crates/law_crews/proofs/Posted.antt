@@ -27,7 +27,7 @@ use Rattle.chorus_turn.specs.Knowing.{Shows}
 use Rattle.chorus_net.specs.declared.closed.Closed.{Closed}
 use Rattle.chorus_net.specs.Closing.{IsLeft, past_of}
 use Rattle.chorus_nucleus.specs.Closing.{ClosesAs}
-use Rattle.chorus_take.specs.Taking.{HasOrigin}
+use Rattle.chorus_nucleus.specs.Taking.{HasOrigin}
 use Rattle.law_crews.specs.Posted.{MessagesTakenWerePosted}
 
 pub turns-append : (p : ℕ) (xs ys : List (Remarked PlaceNote)) → turns_at p (xs ++ ys) ≡ turns_at p xs ++ turns_at p ys

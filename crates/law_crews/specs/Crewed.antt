@@ -25,7 +25,7 @@ use Rattle.chorus_net.specs.declared.closed.Closed.{Closed}
 use Rattle.chorus_net.specs.Closing.{past_of}
 use Rattle.chorus_nucleus.specs.Calls.{gave}
 use Rattle.chorus_nucleus.specs.Closing.{ClosesAs}
-use Rattle.chorus_take.specs.Taking.{SeesMore, IsByTakes}
+use Rattle.chorus_nucleus.specs.Taking.{SeesMore, IsByTakes}
 use Rattle.law_emptied.specs.Crewed.{Sending, AreWithin, IsCrewed, IsOfTake, actor_on, place_on, port_on, script}
 
 -- the entries that a pass made, in order

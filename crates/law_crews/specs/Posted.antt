@@ -15,7 +15,7 @@ use Rattle.chorus_turn.specs.declared.knowledge.Knowledge.{Knowledge}
 use Rattle.chorus_net.specs.declared.closed.Closed.{Closed}
 use Rattle.chorus_nucleus.specs.Closing.{ClosesAs}
 use Rattle.chorus_net.specs.Closing.{past_of}
-use Rattle.chorus_take.specs.Taking.{HasOrigin}
+use Rattle.chorus_nucleus.specs.Taking.{HasOrigin}
 
 abbrev pub MessagesTakenWerePosted : Type 0
 MessagesTakenWerePosted =

@@ -8,7 +8,7 @@ use Rattle.chorus_crew.proofs.crews.crew_with.Goals as goal
 
 pub do_jobs-slots-requires-clause-tools : goal.do_jobs-slots-requires-clause-tools
 do_jobs-slots-requires-clause-tools g c κs within =
-    let t = c.requires.tools.tools in
+    let t = c.requires.equipped.tools.tools in
     let len : length c.enter_all.new.jobs.items ≡ length c.args.ports.now = entered-count c.args.nucleus.now 0 (known c.args.pass.now).made c.args.ports.now c.enter_all.new.jobs.items c.in_default.ensures.ok.1 in
     record {
       view_is = t.view_is;
@@ -44,8 +44,8 @@ retire_done-all-requires-clause-room g c =
     let len = entered-count n 0 (known c.args.pass.now).made c.args.ports.now c.enter_all.new.jobs.items c.in_default.ensures.ok.1 in
     let count = done-count (g.H.Handler.value c.args.handler.now) n c.enter_all.new.jobs.items d.0 d.2 in
     let slots = ap length d.1 in
-    let room = c.requires.room.1 in
-    (c.requires.room.0, omega (arith, len, count, slots, room))
+    let room = c.requires.equipped.room.1 in
+    (c.requires.equipped.room.0, omega (arith, len, count, slots, room))
 
 pub returns-clause-retired : goal.returns-clause-retired
 returns-clause-retired g c =

@@ -54,19 +54,19 @@ pub do_left-requires-clause-jobs : goal.do_left-requires-clause-jobs
 do_left-requires-clause-jobs g c κs within =
     let n = c.args.nucleus.now in
     let put : List Job = (worker_view c.put_jobs.new.owner).put in
-    let kept : put ≡ (worker_view c.take_in.new.owner).put = sym (c.take_in.ensures.put ∙ ap (λ (v : Share). v.put) c.give_passes.ensures.view.0) in
+    let kept : put ≡ (worker_view c.take_in.new.owner).put = sym (c.take_in.ensures.parts.put ∙ ap (λ (v : Share). v.put) c.give_passes.ensures.view.0) in
     subst (λ (l : List Job). All (IsJobOf n) l) kept (all-of (IsJobOf n) c.args.tools.jobs.items put c.requires.jobs c.put_jobs.ensures.dealt.put)
 
 pub do_left-requires-clause-numbers : goal.do_left-requires-clause-numbers
 do_left-requires-clause-numbers g c κs within =
     let put : List Job = (worker_view c.put_jobs.new.owner).put in
-    let kept : put ≡ (worker_view c.take_in.new.owner).put = sym (c.take_in.ensures.put ∙ ap (λ (v : Share). v.put) c.give_passes.ensures.view.0) in
+    let kept : put ≡ (worker_view c.take_in.new.owner).put = sym (c.take_in.ensures.parts.put ∙ ap (λ (v : Share). v.put) c.give_passes.ensures.view.0) in
     let P = λ (j : Job). j.index < length c.take_in.new.slots.items in
     subst (λ (l : List Job). All P l) kept (all-of P c.args.tools.jobs.items put (numbers-within c.args.tools.jobs.items (length c.take_in.new.slots.items) c.requires.numbers (c.take_in.ensures.count ∙ c.requires.tools.slots)) c.put_jobs.ensures.dealt.put)
 
 pub do_left-requires-clause-slots : goal.do_left-requires-clause-slots
 do_left-requires-clause-slots g c κs within =
-    subst (λ (l : List Job). AreSlots (g.H.Handler.value c.args.handler.now) c.args.nucleus.now l (worker_view c.take_in.new.owner).taken c.take_in.new.slots.items) (sym c.take_in.ensures.put) c.take_in.ensures.slots
+    subst (λ (l : List Job). AreSlots (g.H.Handler.value c.args.handler.now) c.args.nucleus.now l (worker_view c.take_in.new.owner).taken c.take_in.new.slots.items) (sym c.take_in.ensures.parts.put) c.take_in.ensures.slots
 
 pub do_refused-requires-clause-jobs : goal.do_refused-requires-clause-jobs
 do_refused-requires-clause-jobs g c κs within =
@@ -85,7 +85,7 @@ returns g c =
     let n = c.args.nucleus.now in
     let jobs : List Job = c.args.tools.jobs.items in
     let v : Share = worker_view c.put_jobs.new.owner in
-    let kept : (worker_view c.take_in.new.owner).put ≡ v.put = c.take_in.ensures.put ∙ ap (λ (w : Share). w.put) c.give_passes.ensures.view.0 in
+    let kept : (worker_view c.take_in.new.owner).put ≡ v.put = c.take_in.ensures.parts.put ∙ ap (λ (w : Share). w.put) c.give_passes.ensures.view.0 in
     let left : AreSlots V n v.put (indices v.put) c.do_left.new.slots.items =
     subst (λ (l : List Job). AreSlots V n l (indices l) c.do_left.new.slots.items) kept c.do_left.ensures.slots in
     let all = slots-all V n jobs c.put_jobs.new.refused.items v c.do_left.new.slots.items c.do_refused.new.slots.items c.put_jobs.ensures.dealt left

@@ -22,7 +22,7 @@ returns-in-Some c =
         turner = is.turner;
         caller = is.caller;
         sight = record {
-          own = reads-same n.layout (handed n.turns) home c.in-Some.own read told.reader own;
+          own = reads-same n.layout (handed n.turns) home c.in-Some.own read told.on.reader own;
           spare = is.sight.spare;
           rows = is.sight.rows;
           none = is.sight.none;
@@ -32,7 +32,7 @@ returns-in-Some c =
       caller = refl;
       worn = refl;
       found = subst (λ o. Locates n.layout home c.args.port o (Some read) c.newest-found.result) (sym had)
-          (told.begins, subst (λ k. IsOfPlace k (entries_seen read)) own.place told.of_place, told.located ∙ ap (λ k. pair_of (located_after k (entries_seen read) c.args.port)) own.layout, told.upto);
+          (told.on.begins, subst (λ k. IsOfPlace k (entries_seen read)) own.place told.of_place, told.located ∙ ap (λ k. pair_of (located_after k (entries_seen read) c.args.port)) own.layout, told.upto);
       full = tt;
       readers = λ q. refl;
     }

@@ -41,8 +41,8 @@ use Rattle.chorus_nucleus.specs.declared.nucleus.Nucleus.{Nucleus}
 use Rattle.chorus_nucleus.specs.declared.pass.Pass.{Pass}
 use Rattle.chorus_nucleus.specs.Passes.{layout_of, known, caller_of, worn_by}
 use Rattle.chorus_nucleus.specs.Calls.{FindsWorn, Because, Performs, IsCall, place_of, worn_after}
-use Rattle.chorus_take.specs.declared.message.TakenMessage.{TakenMessage}
-use Rattle.chorus_take.specs.Taking.{acts_made, Appends, HasOrigin, SeesMore, KeepsPass, IsByTakes, TakesOn, IsTake}
+use Rattle.chorus_nucleus.specs.declared.taken_message.TakenMessage.{TakenMessage}
+use Rattle.chorus_nucleus.specs.Taking.{acts_made, Appends, HasOrigin, SeesMore, KeepsPass, IsByTakes, TakesOn, IsTake}
 
 made-acts : (p k : ℕ) (r : PlaceNote) (es : List Entry) → acts_made (with_place p (numbered k r es)) ≡ acts_of es
 made-acts p k r [] = refl

@@ -2,10 +2,12 @@
 ghost use Rattle.std.specs.Prelude.{◌≡◌, true, false, IfErr};
 ghost use Rattle.chorus_ui.specs.NameKind.{is_port};
 ghost use Rattle.chorus_nucleus.specs.Passes.{IsPassOf};
-ghost use Rattle.chorus_take.specs.Taking.{IsTake, is_busy};
+ghost use Rattle.chorus_nucleus.specs.Taking.{IsTake, is_busy};
 
-use crate::message::TakenMessage;
-use chorus_nucleus::{CallFault, Nucleus, Pass};
+use crate::fault::CallFault;
+use crate::nucleus::Nucleus;
+use crate::pass::Pass;
+use crate::taken_message::TakenMessage;
 use chorus_ui::Ui;
 use law_machine::Reply;
 use std::sync::Wait;
@@ -14,7 +16,7 @@ use std::thread;
 /// Takes the first message of the port, in one turn at the port's place on the caller's site. None comes exactly where
 /// the caller's actor does not hold the port there, or no message waits in it. The faults are those of
 /// [`Nucleus::take`], which tries the place once.
-#[tactic(auto, using(crate::proofs::Turns::calls))]
+#[tactic(auto, using(crate::proofs::TakeTurns::calls))]
 pub fn take_once(
     nucleus: &Nucleus,
     pass: &mut Pass,

@@ -1,6 +1,6 @@
 use Rattle.std.proofs.Common.{Ok, Err, rules}
-use Rattle.chorus_take.proofs.Trying.{waited-more, take-after}
-use Rattle.chorus_take.proofs.taking.take_when_free.Goals as goal
+use Rattle.chorus_nucleus.proofs.Trying.{waited-more, take-after}
+use Rattle.chorus_nucleus.proofs.taking.take_when_free.Goals as goal
 
 pub returns-in-Ok-clause-take : goal.returns-in-Ok-clause-take
 returns-in-Ok-clause-take g c = take-after c.args.nucleus.now c.args.port (Ok c.in-Ok.answer) c.args.pass.now c.loop.pass c.take_once.new.pass c.loop.invariant c.in-Ok.ensures

@@ -17,9 +17,9 @@ use Rattle.chorus_nucleus.specs.declared.nucleus.Nucleus.{Nucleus}
 use Rattle.chorus_nucleus.specs.declared.pass.Pass.{Pass}
 use Rattle.chorus_nucleus.specs.Passes.{layout_of, known, caller_of, worn_by, IsPassOf}
 use Rattle.chorus_nucleus.specs.Calls.{FindsWorn, Because, worn_after}
-use Rattle.chorus_take.specs.declared.message.TakenMessage.{TakenMessage}
-use Rattle.chorus_take.specs.Taking.{acts_made, Appends, HasOrigin, Answers, SeesMore, KeepsPass, IsByTakes, TakesOn, IsFault, IsTake}
-use Rattle.chorus_take.proofs.Turns.{sees-same, takes-nothing}
+use Rattle.chorus_nucleus.specs.declared.taken_message.TakenMessage.{TakenMessage}
+use Rattle.chorus_nucleus.specs.Taking.{acts_made, Appends, HasOrigin, Answers, SeesMore, KeepsPass, IsByTakes, TakesOn, IsFault, IsTake}
+use Rattle.chorus_nucleus.proofs.TakeTurns.{sees-same, takes-nothing}
 
 -- Entries.
 

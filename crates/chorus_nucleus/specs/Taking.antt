@@ -31,7 +31,7 @@ use Rattle.chorus_nucleus.specs.declared.nucleus.Nucleus.{Nucleus}
 use Rattle.chorus_nucleus.specs.declared.pass.Pass.{Pass}
 use Rattle.chorus_nucleus.specs.Passes.{layout_of, known, caller_of, worn_by, sight_of, IsPassOf}
 use Rattle.chorus_nucleus.specs.Calls.{FindsWorn, Because, place_of, worn_after}
-use Rattle.chorus_take.specs.declared.message.TakenMessage.{TakenMessage}
+use Rattle.chorus_nucleus.specs.declared.taken_message.TakenMessage.{TakenMessage}
 
 -- the acts of what a pass made, in order
 abbrev pub acts_made : List (Placed PlaceNote) → List Act
