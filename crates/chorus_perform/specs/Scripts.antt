@@ -12,10 +12,12 @@ use Rattle.chorus_turn.specs.declared.knowledge.Knowledge.{Knowledge}
 use Rattle.law_history.specs.Runs.{commands_given}
 use Rattle.law_closing.specs.Places.{PlaceNote}
 use Rattle.law_closing.specs.Remarks.{turns_in}
+use Rattle.chorus_scene.specs.Limits.{Keeps}
 use Rattle.chorus_scene.specs.Scene.{Scene, Script}
 use Rattle.chorus_report.specs.Setup.{setup_commands}
+use Rattle.chorus_nucleus.specs.declared.nucleus.Nucleus.{Nucleus}
 use Rattle.chorus_nucleus.specs.declared.pass.Pass.{Pass}
-use Rattle.chorus_nucleus.specs.Passes.{known, caller_of}
+use Rattle.chorus_nucleus.specs.Passes.{known, caller_of, layout_of}
 use Rattle.law_closing.specs.Actors.{AreIn}
 use Rattle.chorus_perform.specs.Going.{BeginAbove, CommandsUpTo}
 
@@ -31,6 +33,11 @@ pub record IsOpening (pass : Pass) : Type 0 where
   pub keeper : IsKeeper 0 pass
   pub mine : (known pass).mine ≡ []
   pub actor : (caller_of pass).actor ≡ first_actor
+
+-- the scenario is of the nucleus' layout, and keeps its limits
+pub record IsScenarioOf (n : Nucleus) (c : Scene) : Type 0 where
+  pub layout : c.layout ≡ layout_of n
+  pub keeps : Keeps c
 
 -- What a pass made are turns of callers in this actor, and those with a command performed these commands, each once and
 -- in their order, or the first of them.

@@ -5,7 +5,7 @@ ghost use Rattle.std.specs.Vec.{vec_len, vec_capacity};
 ghost use Rattle.chorus_scene.specs.Limits.{Keeps};
 ghost use Rattle.chorus_nucleus.specs.Passes.{caller_of, layout_of, known, IsPassOf};
 ghost use Rattle.chorus_nucleus.specs.Coming.{Retires};
-ghost use Rattle.chorus_perform.specs.Scripts.{IsKeeper};
+ghost use Rattle.chorus_perform.specs.Scripts.{IsKeeper, IsScenarioOf};
 ghost use Rattle.chorus_perform.specs.Runners.{AreEnding, AreEntered, HasEntered, HasRetired};
 
 use crate::runner::Runner;
@@ -23,8 +23,7 @@ pub(crate) fn enter(
 ) -> Result<(), Halted>
     requires pass { IsPassOf nucleus.now pass.old }
     requires keeper { IsKeeper 0 pass.old }
-    requires layout { scenario.now.layout ≡ layout_of nucleus.now }
-    requires keeps { Keeps scenario.now }
+    requires scenario { IsScenarioOf nucleus.now scenario.now }
     requires room { (runners.old.items ≡ [])
         × (length scenario.now.scripts ≤ vec_capacity runners.old) }
     ensures pass { IsPassOf nucleus.now pass.new }

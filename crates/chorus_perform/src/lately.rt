@@ -1,7 +1,5 @@
 //! Where a thread found something to do lately.
 
-use crate::pace::PUMPS_AT_A_PLACE;
-
 /// Every so many sweeps a thread goes over all places of its range.
 const WHOLE: u32 = 8;
 
@@ -32,13 +30,9 @@ impl Lately {
         }
     }
 
-    /// How often this sweep pumps the place at most: not at all where it is left out.
-    pub(crate) fn pumps_at(&self, place: u16) -> u32 {
-        if self.due & bit(place) != 0 {
-            PUMPS_AT_A_PLACE
-        } else {
-            0
-        }
+    /// Whether this sweep pumps the place, which else is left out.
+    pub(crate) fn is_due(&self, place: u16) -> bool {
+        self.due & bit(place) != 0
     }
 
     /// Tells whether the place worked off a packet.

@@ -8,8 +8,9 @@
 //!
 //! Begin with `performing`. `setup`, `entering`, `running` and `rounds` are its steps; `commands` performs the commands
 //! of a thread, `pumping` moves packets meanwhile and then, at the `pace` and the places, its `share`, that are those
-//! of the thread; `lately` leaves places out at which nothing was found. The threads that are done with their commands
-//! last go on to pump, and help one another.
+//! of the thread; `lately` leaves places out at which nothing was found, and `stay` says how long a thread stays at one.
+//! The threads that are done with their commands last go on to pump, follow packets from place to place, and help one
+//! another.
 //!
 //! [`perform_command`], and [`settle`], the last step, may be called alone, by what performs commands in another way:
 //! the first performs one command, the other pumps all places until nothing is left.
@@ -29,6 +30,7 @@ mod runner;
 mod running;
 mod setup;
 mod share;
+mod stay;
 mod stopped;
 
 pub use commands::perform_command;

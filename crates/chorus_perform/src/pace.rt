@@ -4,7 +4,7 @@
 pub(crate) const PUMPS_AT_A_PLACE: u32 = 64;
 
 /// Behind how many commands a thread pumps at least once.
-const MOST: u32 = 16;
+const MOST: u32 = 256;
 
 /// Behind how many commands a thread pumps: behind each at first; half as often after each pump that finds nothing, and
 /// twice as often after one that works off something.

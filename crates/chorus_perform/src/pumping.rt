@@ -1,6 +1,6 @@
 //! A thread pumps.
 
-ghost use Rattle.std.specs.Prelude.{◌≡◌, ◌<◌, ◌≤◌, [], true};
+ghost use Rattle.std.specs.Prelude.{◌≡◌, ◌<◌, ◌≤◌, [], true, IfSome};
 ghost use Rattle.chorus_ui.specs.Layout.{has_place, places};
 ghost use Rattle.chorus_nucleus.specs.Passes.{layout_of, IsPassOf};
 ghost use Rattle.chorus_perform.specs.Going.{Goes};
@@ -9,19 +9,24 @@ use crate::at_work::{AtWork, Told};
 use crate::lately::Lately;
 use crate::pace::{PUMPS_AT_A_PLACE, Pace};
 use crate::share::{Share, Stretch};
+use crate::stay::Stay;
 use crate::stopped::Halted;
 use chorus_nucleus::{CallFault, Nucleus, Pass};
 use chorus_serve::Pump;
+use chorus_ui::Layout;
 use std::sync::Wait;
 use std::thread;
 
 /// Behind every so many idle sweeps a thread helps the others.
 const HELP: u32 = 4;
 
+/// From how many places a thread goes on to the next one, at most, before it goes back to its sweep.
+const HOPS: u32 = 64;
+
 /// What came of a pump.
 enum Pumped {
-    /// It worked off a packet.
-    Served,
+    /// It worked off a packet from this place.
+    Served { from: u16 },
     /// Nothing was there. The place put so many packets more than it worked off, modulo 2^64.
     Idle { under_way: u64 },
     /// Another thread has the place.
@@ -31,8 +36,10 @@ enum Pumped {
 /// What came of pumps at a place.
 #[derive(Clone, Copy)]
 pub(crate) struct Visit {
-    /// Whether one worked off a packet.
-    pub(crate) served: bool,
+    /// How many packets were worked off.
+    pub(crate) served: u32,
+    /// The place from which the last one came, where it is to be pumped next.
+    pub(crate) from: Option<u16>,
     /// How many packets the place put more than it worked off, modulo 2^64, where it was idle at last.
     pub(crate) under_way: Option<u64>,
 }
@@ -45,7 +52,7 @@ fn pump<R: Wait>(rt: &R, nucleus: &Nucleus, pass: &mut Pass, place: u16) -> Resu
     ensures goes { Goes [] pass.old pass.new }
 {
     match nucleus.pump(rt, pass, place) {
-        Ok(Pump::Served { .. }) => Ok(Pumped::Served),
+        Ok(Pump::Served { from }) => Ok(Pumped::Served { from }),
         Ok(Pump::Idle { put, worked }) => Ok(Pumped::Idle {
             under_way: put.wrapping_sub(worked),
         }),
@@ -69,7 +76,7 @@ pub(crate) fn pump_behind<R: Wait>(
 {
     if pace.is_due() {
         let visit = pump_at(rt, nucleus, pass, share.home(), PUMPS_AT_A_PLACE)?;
-        pace.note(visit.served);
+        pace.note(visit.served > 0);
     }
     Ok(())
 }
@@ -87,28 +94,90 @@ pub(crate) fn pump_at<R: Wait>(
     ensures pass { IsPassOf nucleus.now pass.new }
     ensures goes { Goes [] pass.old pass.new }
 {
+    let mut from = None;
     for count in 0..most {
-        let served = count > 0;
         match pump(rt, nucleus, pass, place)? {
-            Pumped::Served => {}
+            Pumped::Served { from: came } => from = Some(came),
             Pumped::Idle { under_way } => {
                 return Ok(Visit {
-                    served,
+                    served: count,
+                    from,
                     under_way: Some(under_way),
                 });
             }
             Pumped::Busy => {
                 return Ok(Visit {
-                    served,
+                    served: count,
+                    from: None,
                     under_way: None,
                 });
             }
         }
     }
     Ok(Visit {
-        served: most > 0,
+        served: most,
+        from,
         under_way: None,
     })
+}
+
+/// Pumps a place as often as the thread stays there.
+fn stay_at<R: Wait>(
+    rt: &R,
+    nucleus: &Nucleus,
+    pass: &mut Pass,
+    place: u16,
+    stay: &mut Stay,
+) -> Result<Visit, Halted>
+    requires pass { IsPassOf nucleus.now pass.old }
+    requires place { has_place (layout_of nucleus.now) place ≡ true }
+    ensures pass { IsPassOf nucleus.now pass.new }
+    ensures goes { Goes [] pass.old pass.new }
+{
+    let most = stay.pumps_at(place);
+    let mut visit = pump_at(rt, nucleus, pass, place, most)?;
+    if !stay.note(place, most, visit.served, visit.under_way.is_some()) {
+        visit.from = None;
+    }
+    Ok(visit)
+}
+
+/// The place that is pumped behind this visit, if one is.
+fn next_place(layout: Layout, visit: Visit) -> Option<u16>
+    ensures { IfSome result (λ place. has_place layout place ≡ true) }
+{
+    let from = visit.from?;
+    if layout.has_place(from) {
+        Some(from)
+    } else {
+        None
+    }
+}
+
+/// Pumps a place, and then each time the one from which the last packet came, since what that led to was sent there: until nothing is
+/// found or another thread has the place, or so many times. Gives what came of the first one.
+fn follow<R: Wait>(
+    rt: &R,
+    nucleus: &Nucleus,
+    pass: &mut Pass,
+    place: u16,
+    stay: &mut Stay,
+) -> Result<Visit, Halted>
+    requires pass { IsPassOf nucleus.now pass.old }
+    requires place { has_place (layout_of nucleus.now) place ≡ true }
+    ensures pass { IsPassOf nucleus.now pass.new }
+    ensures goes { Goes [] pass.old pass.new }
+{
+    let layout = nucleus.layout();
+    let first = stay_at(rt, nucleus, pass, place, stay)?;
+    let mut visit = first;
+    for _hop in 0..HOPS {
+        let Some(next) = next_place(layout, visit) else {
+            return Ok(first);
+        };
+        visit = stay_at(rt, nucleus, pass, next, stay)?;
+    }
+    Ok(first)
 }
 
 /// Pumps when all commands are done: the home place, and then the range of places where this thread is one of the last, until no
@@ -151,9 +220,10 @@ fn sweep_on<R: Wait>(
 {
     let mut told = Told::new();
     let mut lately = Lately::new();
+    let mut stay = Stay::new();
     let mut idle: u32 = 0;
     for _ in rt.forever() {
-        let under_way = sweep(rt, nucleus, pass, range, &mut lately)?;
+        let under_way = sweep(rt, nucleus, pass, range, &mut lately, &mut stay)?;
         let goes_on = lately.end_sweep();
         at_work.note(&mut told, goes_on, under_way);
         if at_work.is_over(&told) {
@@ -161,7 +231,7 @@ fn sweep_on<R: Wait>(
         }
         if !goes_on {
             idle = idle.wrapping_add(1);
-            look_round(rt, nucleus, pass, share, idle)?;
+            look_round(rt, nucleus, pass, share, idle, &mut stay)?;
         }
     }
     unreachable!()
@@ -175,6 +245,7 @@ fn look_round<R: Wait>(
     pass: &mut Pass,
     share: &Share,
     idle: u32,
+    stay: &mut Stay,
 ) -> Result<(), Halted>
     requires pass { IsPassOf nucleus.now pass.old }
     requires share { share.now.places ≡ places (layout_of nucleus.now) }
@@ -186,21 +257,47 @@ fn look_round<R: Wait>(
         return Ok(());
     }
     let mut lately = Lately::new();
-    sweep(rt, nucleus, pass, share.all(), &mut lately)?;
+    sweep(rt, nucleus, pass, share.all(), &mut lately, stay)?;
     if !lately.found() {
         thread::yield_now();
     }
     Ok(())
 }
 
-/// Pumps the places of the range that are due, each until it is idle. Gives how many packets the places of the range put more than
-/// they worked off, modulo 2^64, where each of them was due and idle at last.
+/// Pumps the place where it is due, and follows what it works off.
+fn pump_due<R: Wait>(
+    rt: &R,
+    nucleus: &Nucleus,
+    pass: &mut Pass,
+    place: u16,
+    is_due: bool,
+    stay: &mut Stay,
+) -> Result<Visit, Halted>
+    requires pass { IsPassOf nucleus.now pass.old }
+    requires place { has_place (layout_of nucleus.now) place ≡ true }
+    ensures pass { IsPassOf nucleus.now pass.new }
+    ensures goes { Goes [] pass.old pass.new }
+{
+    if is_due {
+        follow(rt, nucleus, pass, place, stay)
+    } else {
+        Ok(Visit {
+            served: 0,
+            from: None,
+            under_way: None,
+        })
+    }
+}
+
+/// Pumps the places of the range that are due, and follows what they work off. Gives how many packets the places of the range put more
+/// than they worked off, modulo 2^64, where each of them was due and idle.
 fn sweep<R: Wait>(
     rt: &R,
     nucleus: &Nucleus,
     pass: &mut Pass,
     range: Stretch,
     lately: &mut Lately,
+    stay: &mut Stay,
 ) -> Result<Option<u64>, Halted>
     requires pass { IsPassOf nucleus.now pass.old }
     requires range { range.last ≤ places (layout_of nucleus.now) }
@@ -209,9 +306,9 @@ fn sweep<R: Wait>(
 {
     let mut under_way = Some(0);
     for index in range.before..range.last {
-        let most = lately.pumps_at(index + 1);
-        let visit = pump_at(rt, nucleus, pass, index + 1, most)?;
-        lately.note(index + 1, visit.served);
+        let is_due = lately.is_due(index + 1);
+        let visit = pump_due(rt, nucleus, pass, index + 1, is_due, stay)?;
+        lately.note(index + 1, visit.served > 0);
         under_way = sum(under_way, visit.under_way);
     }
     Ok(under_way)

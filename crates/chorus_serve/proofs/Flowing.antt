@@ -289,3 +289,11 @@ comes-behind y number last (Some (from, packet)) k l m b c n = record {
   other = n.other;
   empties = λ p o t. rose-behind (k.empties p) (l.empties p) (m.empties p) (b.empties p) (c.empties p) (n.empties p o t);
 }
+
+-- and up to a later one
+pub comes-on : (y : Layout) (number last : ℕ) (o : Option (ℕ × Packet)) (k l m : Links) → Counts l m → ComesNext y number last o k l → ComesNext y number last o k m
+comes-on y number last None k l m c n = tt
+comes-on y number last (Some (from, packet)) k l m c n = record {
+  other = n.other;
+  empties = λ p o t. rose-on (k.empties p) (l.empties p) (m.empties p) (n.empties p o t) (c.empties p);
+}

@@ -1,7 +1,7 @@
 -- The parts of a call of `serve`, put together.
 -- a, b, c, d and e are the desk before it, when what waited was sent, when a packet is in hand, when it is taken out, and at the
 -- end; w and x are the caller before and after, k is the packet.
-use Rattle.std.proofs.Common.{ℕ, ◌≡◌, ◌+◌, ◌<◌, ◌≤◌, ◌==◌, ◌⊎◌, nat_le, true, ◌&&◌, not, length, map, List, [], ◌∷◌, ◌++◌, Option, Some, None, refl, sym, ◌∙◌, ap, subst, inl, inr, arith, Result, Ok, Err, IfOk, OnOk, OnErr, max}
+use Rattle.std.proofs.Common.{ℕ, ◌≡◌, ◌+◌, ◌<◌, ◌≤◌, ◌==◌, ◌⊎◌, nat_le, true, ◌&&◌, not, length, map, List, [], ◌∷◌, ◌++◌, Option, Some, None, refl, sym, ◌∙◌, ap, subst, inl, inr, arith, append_assoc, Result, Ok, Err, IfOk, OnOk, OnErr, max}
 use Rattle.std.specs.Prelude.{option_to_list}
 use Rattle.std.proofs.lemmas.Bool.{and_from, and_parts, le-leb, leb-true, eqb-true}
 use Rattle.std.proofs.lemmas.List.{append-nil, length-replicate}
@@ -33,7 +33,7 @@ use Rattle.chorus_serve.specs.Desks.{DeskState, IsDesk, in_hand}
 use Rattle.chorus_serve.specs.declared.hand.Held.{Held}
 use Rattle.chorus_serve.specs.Working.{begins_with, AreCounted, Performs, Holds, IsWorkedOff, IsHeldBack, HandlesPacket, IsWornAt}
 use Rattle.chorus_serve.specs.Serving.{Moved, Rests, WorksOff, KeepsInHand, IsIdle, Answers, IsWornBy, SendsOut, TakesUp, FindsNone, LaysDown}
-use Rattle.chorus_serve.proofs.Flowing.{counts-self, counts-on, rose-on, rose-behind, comes-behind, goes-nothing, goes-on, all-length, all-wait}
+use Rattle.chorus_serve.proofs.Flowing.{counts-self, counts-on, rose-on, rose-behind, comes-behind, comes-on, goes-nothing, goes-on, all-length, all-wait}
 
 -- what was sent is as it was
 goes-kept : (p : ℕ) (put : List Packet) (ls ms : List (List Packet)) (k l m : Links) → GoesOut p put ls ms k l → m.sent p ≡ l.sent p → GoesOut p put ls ms k m
@@ -55,7 +55,7 @@ counted-on os a b c x y = record {
 -- all that waited was sent, or a link was found full
 pub emptied : (p : ℕ) (ls ms : List (List Packet)) (k l : Links) → GoesOut p [] ls ms k l → KeepsAtFull p ms k l → EmptiesOrFull p ls k l
 emptied p ls ms k l g (inl none) =
-    inl (g.sent ∙ ap (λ xs. k.sent p ++ xs) (sym (append-nil g.pushed) ∙ sym (ap (λ xs. g.pushed ++ xs) none) ∙ g.waits ∙ append-nil _))
+    inl (record { more = []; sent = g.sent ∙ ap (λ xs. k.sent p ++ xs) (sym (append-nil g.pushed) ∙ sym (ap (λ xs. g.pushed ++ xs) none) ∙ g.waits) ∙ sym (append_assoc (k.sent p) (list_to p ls) []) })
 emptied p ls ms k l g (inr rose) = inr rose
 
 pub all-emptied : {A E : Type 0} (result : Result A E) (q r : Place) (k l : Links) → Pushes q r k l
@@ -65,8 +65,18 @@ all-emptied (Ok a) q r k l s h = λ p o. emptied p q.out.lists r.out.lists k l (
 all-emptied (Err e) q r k l s h = tt
 
 pub emptied-on : (p : ℕ) (ls : List (List Packet)) (k l m : Links) → m.sent p ≡ l.sent p → l.fulls p ≤ m.fulls p → EmptiesOrFull p ls k l → EmptiesOrFull p ls k m
-emptied-on p ls k l m e le (inl sent) = inl (e ∙ sent)
+emptied-on p ls k l m e le (inl all) = inl (record { more = all.more; sent = e ∙ all.sent })
 emptied-on p ls k l m e le (inr rose) = inr (rose-on (k.fulls p) (l.fulls p) (m.fulls p) rose le)
+
+-- more was sent
+pub emptied-more : (p : ℕ) (ls ms ns : List (List Packet)) (k l m : Links) → GoesOut p [] ms ns l m → l.fulls p ≤ m.fulls p → EmptiesOrFull p ls k l → EmptiesOrFull p ls k m
+emptied-more p ls ms ns k l m g le (inl all) =
+    inl (record {
+      more = all.more ++ g.pushed;
+      sent =
+          g.sent ∙ ap (λ xs. xs ++ g.pushed) all.sent ∙ append_assoc (k.sent p ++ list_to p ls) all.more g.pushed;
+    })
+emptied-more p ls ms ns k l m g le (inr rose) = inr (rose-on (k.fulls p) (l.fulls p) (m.fulls p) rose le)
 
 -- where only what waited was sent
 pub sent-moved : (a b : DeskState) → SendsOut a b → Moved None [] a b
@@ -259,6 +269,60 @@ module _ (a b c : DeskState) (s : SendsOut a b) (t : TakesUp b c) where
       err-worn result fault clock is worn refused =
           let holds : Holds from k d e w x = subst (λ r. OnErr r (Holds from k d e w x)) is refused in
           worn-by clock worn holds (still-emptied holds.links)
+
+-- What waits then is sent once more: f is the desk then.
+
+module _ (a e f : DeskState) (s : SendsOut e f) where
+  moved-more : (served : Option (ℕ × Packet)) (puts : List Outgoing) → Moved served puts a e → Moved served puts a f
+  moved-more served puts m = record {
+    out = λ p h.
+        subst (λ xs. GoesOut p xs a.place.out.lists f.place.out.lists a.links f.links) (append-nil (puts_to p (map as_sent puts)))
+        (goes-on p (puts_to p (map as_sent puts)) [] a.place.out.lists e.place.out.lists f.place.out.lists a.links e.links f.links (m.out p h) (s.out p));
+    popped = m.popped;
+    received = λ p. s.received p ∙ m.received p;
+    hand = ap (λ o. option_to_list served ++ option_to_list o) s.hand ∙ m.hand;
+    next = comes-on a.place.layout a.place.number a.last m.popped a.links e.links f.links s.counts m.next;
+    last = s.last ∙ m.last;
+    counted = record {
+      puts = s.puts ∙ m.counted.puts;
+      spare = (let j = ap (λ (z : PlaceState). length z.journal) s.state in let more = s.spare in let room = m.counted.spare in omega (arith, j, more, room));
+    };
+    counts = counts-on a.links e.links f.links m.counts s.counts;
+  }
+
+  rests-more : (w x : Seated) → Rests a e w x → Rests a f w x
+  rests-more w x r = record { state = s.state ∙ r.state; caller = r.caller; moved = moved-more None [] r.moved; worked = s.worked ∙ r.worked }
+
+  works-more : (from : ℕ) (k : Packet) (w x : Seated) → WorksOff from k a e w x → WorksOff from k a f w x
+  works-more from k w x h = record {
+    lawful = h.lawful;
+    unworn = h.unworn;
+    state = s.state ∙ h.state;
+    caller = h.caller;
+    moved = moved-more (Some (from, k)) (work k (begins_with k a w)).puts h.moved;
+    hand = s.hand ∙ h.hand;
+    worked = s.worked ∙ h.worked;
+  }
+
+  keeps-more : (from : ℕ) (k : Packet) (w x : Seated) → KeepsInHand from k a e w x → KeepsInHand from k a f w x
+  keeps-more from k w x h = record { unlawful = h.unlawful; unworn = h.unworn; rests = rests-more w x h.rests; hand = s.hand ∙ h.hand }
+
+  idle-more : (w x : Seated) → IsIdle a e w x → IsIdle a f w x
+  idle-more w x h = record {
+    rests = rests-more w x h.rests;
+    had_none = h.had_none;
+    has_none = s.hand ∙ h.has_none;
+    empties = λ p o. rose-on (a.links.empties p) (e.links.empties p) (f.links.empties p) (h.empties p o) (s.counts.empties p);
+  }
+
+  pub answers-more : (w x : Seated) (pump : Pump) → Answers pump a e w x → Answers pump a f w x
+  answers-more w x (pumps.Served from) (k, inl h) = (k, inl (works-more from k w x h))
+  answers-more w x (pumps.Served from) (k, inr h) = (k, inr (keeps-more from k w x h))
+  answers-more w x (pumps.Idle put worked) h = (idle-more w x h.0, h.1 ∙ sym s.puts, h.2 ∙ sym s.worked)
+
+  pub all-more : ((p : ℕ) → IsOther a.place.layout a.place.number p → EmptiesOrFull p a.place.out.lists a.links e.links)
+      → (p : ℕ) → IsOther a.place.layout a.place.number p → EmptiesOrFull p a.place.out.lists a.links f.links
+  all-more h p o = emptied-more p a.place.out.lists e.place.out.lists f.place.out.lists a.links e.links f.links (s.out p) (s.counts.fulls p) (h p o)
 
 -- Places of a layout.
 

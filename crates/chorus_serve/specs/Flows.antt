@@ -25,9 +25,14 @@ pub record GoesOut (p : ℕ) (put : List Packet) (before after : List (List Pack
 abbrev pub KeepsAtFull : ℕ → List (List Packet) → Links → Links → Type 0
 KeepsAtFull p after old new = (list_to p after ≡ []) ⊎ Rose (old.fulls p) (new.fulls p)
 
+-- all that waited for the place was sent, and maybe more behind it
+pub record Empties (p : ℕ) (before : List (List Packet)) (old new : Links) : Type 0 where
+  pub more : List Packet
+  pub sent : new.sent p ≡ old.sent p ++ list_to p before ++ more
+
 -- all that waited for the place was sent, or a link to it was found full
 abbrev pub EmptiesOrFull : ℕ → List (List Packet) → Links → Links → Type 0
-EmptiesOrFull p before old new = (new.sent p ≡ old.sent p ++ list_to p before) ⊎ Rose (old.fulls p) (new.fulls p)
+EmptiesOrFull p before old new = Empties p before old new ⊎ Rose (old.fulls p) (new.fulls p)
 
 -- a link from the place was found empty
 abbrev pub WasEmpty : ℕ → Links → Links → Type 0

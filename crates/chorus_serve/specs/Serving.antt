@@ -69,7 +69,7 @@ Answers (pumps.Served from) old new before after =
 Answers (pumps.Idle put worked) old new before after =
     IsIdle old new before after × (put ≡ new.place.out.puts) × (worked ≡ new.worked)
 
--- all that waited for a place was sent, or a link to it was found full
+-- all that waited for a place was sent, and maybe more, or a link to it was found full
 abbrev pub AreEmptied : DeskState → DeskState → Type 0
 AreEmptied old new =
     (p : ℕ) → IsOther old.place.layout old.place.number p

@@ -69,7 +69,7 @@ fn push_other<G, E: Moves<G>>(
     push_to(place, ends, ground, to)
 }
 
-/// Sends what waits for each other place, as far as the links have room. Where nothing waits it asks no place's list.
+/// Sends what waits for each other place, as far as the links have room. Where nothing waits any more it asks no place's list.
 pub(crate) fn push_all<G, E: Moves<G>>(
     place: &mut Place,
     ends: &mut E,
@@ -81,12 +81,12 @@ pub(crate) fn push_all<G, E: Moves<G>>(
     ensures emptied { OnOk result ((p : ℕ) → IsOther place.old.layout place.old.number p →
         KeepsAtFull p place.new.out.lists (E.links ends.old) (E.links ends.new)) }
 {
-    if place.waiting() == 0 {
-        return Ok(());
-    }
     let places = place.layout().places();
     let mut to = 1;
     while to <= places {
+        if place.waiting() == 0 {
+            return Ok(());
+        }
         push_other(place, ends, ground, to)?;
         to += 1;
     }

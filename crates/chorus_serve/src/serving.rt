@@ -62,16 +62,8 @@ fn lay_down<E: Ends>(desk: &mut Desk<E>) -> Result<Option<(u16, Packet)>, AllocE
     }
 }
 
-/// Serves the links of a place.
-///
-/// It first sends what waits for other places, as far as the links have room. Then it takes the packet in hand; where none is
-/// in hand it asks the links from the other places, from the one behind the place served last on and around, and takes the first
-/// packet that one gives. It works that packet off as the place machine does, where it is lawful; an unlawful one stays in hand.
-///
-/// Worn comes only where the greatest of the clocks of the place, the caller and the packet in hand is at least 2^62, and tells it;
-/// Served comes only where that clock is lower. Want of memory, for a packet on its way, its opening or its turn, may come first.
-/// Each error leaves the journal, the tables and the caller as they were; packets may have been sent, and one taken into the hand.
-pub fn serve<G, E: Moves<G>>(
+/// Serves the links of a place, but for what it sends at the end.
+fn take_turn<G, E: Moves<G>>(
     desk: &mut Desk<E>,
     ground: &G,
     caller: &mut Caller,
@@ -94,4 +86,41 @@ pub fn serve<G, E: Moves<G>>(
         return Ok(Pump::Idle { put, worked });
     };
     handle_packet(desk, caller, from, packet)
+}
+
+/// Sends what waits once more. Where there is no memory for a packet on its way, that waits on.
+fn send_rest<G, E: Moves<G>>(desk: &mut Desk<E>, ground: &G)
+    ensures { SendsOut (seen E.links E.packet desk.old) (seen E.links E.packet desk.new) }
+{
+    let _ = send_out(desk, ground);
+}
+
+/// Serves the links of a place.
+///
+/// It first sends what waits for other places, as far as the links have room. Then it takes the packet in hand; where none is
+/// in hand it asks the links from the other places, from the one behind the place served last on and around, and takes the first
+/// packet that one gives. It works that packet off as the place machine does, where it is lawful; an unlawful one stays in hand. What
+/// then waits it sends once more, as far as there is room and memory, so what the packet led to goes out in the same call.
+///
+/// Worn comes only where the greatest of the clocks of the place, the caller and the packet in hand is at least 2^62, and tells it;
+/// Served comes only where that clock is lower. Want of memory, for a packet on its way, its opening or its turn, may come first.
+/// Each error leaves the journal, the tables and the caller as they were; packets may have been sent, and one taken into the hand.
+pub fn serve<G, E: Moves<G>>(
+    desk: &mut Desk<E>,
+    ground: &G,
+    caller: &mut Caller,
+) -> Result<Pump, PlaceFault>
+    ensures ok { IfOk result (λ pump. Answers pump (seen E.links E.packet desk.old)
+        (seen E.links E.packet desk.new) caller.old caller.new) }
+    ensures emptied { OnOk result ((p : ℕ) → IsOther desk.old.place.layout desk.old.place.number p →
+        EmptiesOrFull p desk.old.place.out.lists (E.links desk.old.ends) (E.links desk.new.ends)) }
+    ensures refused { OnErr result (Rests (seen E.links E.packet desk.old)
+        (seen E.links E.packet desk.new) caller.old caller.new) }
+    ensures worn { (clock : ℕ) → IsErrOf result (PlaceFault.Worn clock) →
+        IsWornBy clock (seen E.links E.packet desk.old)
+        (seen E.links E.packet desk.new) caller.old }
+{
+    let pump = take_turn(desk, ground, caller)?;
+    send_rest(desk, ground);
+    Ok(pump)
 }

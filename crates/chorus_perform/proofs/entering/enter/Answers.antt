@@ -26,6 +26,6 @@ unreachable-requires-in-Err-NoSeat c =
     let told = (c.enter.ensures.no_seat c.in-Err-NoSeat.field-0-0).0 (c.in-Err-NoSeat.is ∙ ap (λ e. Err e) c.in-Err-NoSeat.field-0-is) in
     let most : (known c.loop-index.pass).made ≡ limit = told.1 in
     let made = c.loop-index.invariant.1.keeper.made in
-    let few = c.requires.keeps.few_scripts in
+    let few = c.requires.scenario.keeps.few_scripts in
     let lt : c.loop-index.index < length c.args.scenario.now.scripts = subst (λ xs. c.loop-index.index < length xs) c.scripts-index-end.ensures c.loop-index-test.true in
     absurd (omega (arith, most, made, few, lt))

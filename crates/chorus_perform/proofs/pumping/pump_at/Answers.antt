@@ -1,8 +1,8 @@
 use Rattle.chorus_perform.proofs.Steps.{goes-none}
 use Rattle.chorus_perform.proofs.pumping.pump_at.Goals as goal
 
-pub returns-in_err-pump-clause-goes : goal.returns-in_err-pump-clause-goes
-returns-in_err-pump-clause-goes g c = goes-none c.args.pass.now c.loop-count.pass c.pump.new.pass c.loop-count.invariant.1 c.pump.ensures.goes
+pub returns-in_err-came-clause-goes : goal.returns-in_err-came-clause-goes
+returns-in_err-came-clause-goes g c = goes-none c.args.pass.now c.loop-count.pass c.pump.new.pass c.loop-count.invariant.1 c.pump.ensures.goes
 
 pub returns-in-Idle-clause-goes : goal.returns-in-Idle-clause-goes
 returns-in-Idle-clause-goes g c = goes-none c.args.pass.now c.loop-count.pass c.pump.new.pass c.loop-count.invariant.1 c.pump.ensures.goes

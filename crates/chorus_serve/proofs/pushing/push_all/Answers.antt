@@ -2,11 +2,8 @@ use Rattle.std.proofs.Common.{sym, ◌∙◌, inl, arith}
 use Rattle.chorus_serve.proofs.Flowing.{nothing-to, pushes-self, pushes-on, full-more}
 use Rattle.chorus_serve.proofs.pushing.push_all.Goals as goal
 
-pub returns-then-waiting-eq0-clause-pushes : goal.returns-then-waiting-eq0-clause-pushes
-returns-then-waiting-eq0-clause-pushes g c = pushes-self c.args.place.now (g.E.Ends.links c.args.ends.now)
-
 pub returns-then-waiting-eq0-clause-emptied : goal.returns-then-waiting-eq0-clause-emptied
-returns-then-waiting-eq0-clause-emptied g c = λ p o. inl (nothing-to p c.args.place.now.out.lists (sym c.waiting.ensures ∙ c.if-waiting-eq0.true))
+returns-then-waiting-eq0-clause-emptied g c = λ p o. inl (nothing-to p c.loop-to.place.out.lists (sym c.waiting.ensures ∙ c.if-waiting-eq0.true))
 
 pub returns-in_err-push_other-clause-pushes : goal.returns-in_err-push_other-clause-pushes
 returns-in_err-push_other-clause-pushes g c =
