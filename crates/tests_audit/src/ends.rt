@@ -33,6 +33,7 @@ struct Run {
     written: Vec<u8>,
 }
 
+/// Calls `audit` for eight sites of one place over this source and sink, and gives its status.
 fn audit_on<S: Source, K: Sink>(
     rt: &impl Abort,
     alloc: Global,
@@ -43,6 +44,7 @@ fn audit_on<S: Source, K: Sink>(
     audit(alloc, layout, source, sink)
 }
 
+/// The list, for a source or a sink, by which the call of this number alone fails; by 0 none does.
 fn failing_at(rt: &impl Abort, alloc: Global, call: u64) -> Vec<u64> {
     Vec::from_slice(alloc, &[call]).expect(rt, "memory")
 }
@@ -59,6 +61,7 @@ fn run_on(rt: &impl Abort, alloc: Global, read: u64, write: u64) -> Run {
     }
 }
 
+/// Asserts an audit's status and all that it wrote, and tells by `name` which source or sink it had.
 fn assert_ended(rt: &impl Abort, run: &Run, status: Status, written: &[u8], name: &str) {
     assert_eq!(rt; run.status, status, "{name}");
     assert!(rt; run.written.as_slice() == written, "{name}");
@@ -105,6 +108,7 @@ impl Source for Endless {
     }
 }
 
+/// Asserts that an audit of a text without end is refused (line 0, reason 6) and writes nothing.
 fn assert_longer(rt: &impl Abort, alloc: Global) {
     let mut sink = MemSink::new(alloc, 64, Vec::new(alloc));
     let status = audit_on(rt, alloc, &mut Endless, &mut sink);

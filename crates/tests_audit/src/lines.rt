@@ -16,6 +16,7 @@ fn assert_entry(rt: &impl Abort, alloc: Global, line: &str, entry: Entry) {
     assert!(rt; found == entry, "{line}");
 }
 
+/// Asserts that two journal lines parse into their entries, one of them with the greatest numbers.
 fn assert_entries(rt: &impl Abort, alloc: Global) {
     let no_call = Entry {
         clock: 5,
@@ -39,6 +40,7 @@ fn lines_have_their_entries(rt: HostRuntime) {
     assert_entries(&rt, rt.alloc());
 }
 
+/// Asserts that the audit parses no entry from this line.
 fn assert_none(rt: &impl Abort, alloc: Global, line: &str) {
     assert!(rt; entry_of(rt, alloc, line).is_none(), "{line}");
 }

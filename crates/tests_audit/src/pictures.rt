@@ -19,6 +19,7 @@ struct Run {
     written: Vec<u8>,
 }
 
+/// Calls `picture` for sixteen sites of one place over this source and sink, and gives its status.
 fn picture_on<S: Source, K: Sink>(
     rt: &impl Abort,
     alloc: Global,
@@ -31,14 +32,17 @@ fn picture_on<S: Source, K: Sink>(
     picture(alloc, layout, source, sink)
 }
 
+/// The bytes of a journal that is to be drawn, in memory that a source can own.
 fn bytes_of(rt: &impl Abort, alloc: Global, text: &str) -> Vec<u8> {
     Vec::from_slice(alloc, text.as_bytes()).expect(rt, "memory")
 }
 
+/// A source of the journal to draw, whose reads of the listed numbers fail.
 fn source_of(rt: &impl Abort, alloc: Global, text: Vec<u8>, failing: &[u64]) -> MemSource {
     MemSource::new(text, Vec::from_slice(alloc, failing).expect(rt, "memory"))
 }
 
+/// A sink for the picture that takes at most `most` bytes a write, whose listed writes fail.
 fn sink_of(rt: &impl Abort, alloc: Global, most: usize, failing: &[u64]) -> MemSink {
     assert!(rt; most > 0);
     let failing = Vec::from_slice(alloc, failing).expect(rt, "memory");
@@ -101,15 +105,37 @@ fn assert_ended(rt: &impl Abort, run: &Run, status: Status, count: u64) {
 
 #[test]
 fn faults_end_pictures(rt: HostRuntime) {
-    let unread = run_on(&rt, rt.alloc(), stale(&rt, rt.alloc()), &[1], 64, &[]);
+    let unread = run_on(
+        &rt,
+        rt.alloc(),
+        stale_journal(&rt, rt.alloc()),
+        &[1],
+        64,
+        &[],
+    );
     assert_ended(&rt, &unread, Status::ReadFault, 0);
-    let unwritten = run_on(&rt, rt.alloc(), stale(&rt, rt.alloc()), &[], 64, &[1]);
+    let unwritten = run_on(
+        &rt,
+        rt.alloc(),
+        stale_journal(&rt, rt.alloc()),
+        &[],
+        64,
+        &[1],
+    );
     assert_ended(&rt, &unwritten, Status::WriteFault, 0);
-    let cut = run_on(&rt, rt.alloc(), stale(&rt, rt.alloc()), &[], 64, &[3]);
+    let cut = run_on(
+        &rt,
+        rt.alloc(),
+        stale_journal(&rt, rt.alloc()),
+        &[],
+        64,
+        &[3],
+    );
     assert_ended(&rt, &cut, Status::WriteFault, 128);
 }
 
-fn stale(rt: &impl Abort, alloc: Global) -> Vec<u8> {
+/// The bytes of the drawn journal in which a message is stale, for runs whose reads or writes fail.
+fn stale_journal(rt: &impl Abort, alloc: Global) -> Vec<u8> {
     bytes_of(rt, alloc, STALE)
 }
 

@@ -47,6 +47,7 @@ fn text_of(rt: &impl Abort, alloc: Global, row: &str) -> String {
     text
 }
 
+/// Audits the text of a row and asserts the verdict behind its `|`, on sites with so many places each.
 fn assert_row(rt: &impl Abort, alloc: Global, turns: u16, row: &str) {
     let (text, want) = row.split_once('|').expect(rt, "a row");
     let text = text_of(rt, alloc, text);

@@ -22,6 +22,7 @@ pub(crate) fn sink_of(rt: &impl Abort, alloc: Global, most: usize, failing: &[u6
     MemSink::new(alloc, most, copied(rt, alloc, failing))
 }
 
+/// Copies bytes, or the numbers of failing calls, into memory that a source or sink can own.
 pub(crate) fn copied<T: Copy>(rt: &impl Abort, alloc: Global, items: &[T]) -> Vec<T> {
     Vec::from_slice(alloc, items).expect(rt, "memory")
 }
@@ -37,6 +38,7 @@ fn assert_left<S: Source>(rt: &impl Abort, alloc: Global, source: &mut S, left: 
     assert_same(rt, &read, left, 10);
 }
 
+/// Asserts that what was read or written is as expected, and names the bytes per call where it is not.
 pub(crate) fn assert_same(rt: &impl Abort, bytes: &[u8], expected: &[u8], most: usize) {
     assert_eq!(rt; bytes, expected, "up to {most} bytes");
 }
@@ -82,6 +84,7 @@ fn assert_write<K: Sink>(
     assert!(rt; sink.faults() == faults);
 }
 
+/// The first `len` bytes of what is written, which a failing sink still took.
 fn front<'a>(rt: &impl Abort, bytes: &'a [u8], len: usize) -> &'a [u8] {
     bytes.get(..len).expect(rt, "a part")
 }

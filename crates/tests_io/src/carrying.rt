@@ -26,6 +26,7 @@ fn carry_through(rt: &impl Abort, alloc: Global, first: u64, bytes: &[u8]) -> (C
     (carried, sender.next(), receiver.ack())
 }
 
+/// Asserts one count of a carrying over the lossy line, and names the carrying where it is wrong.
 fn assert_count(rt: &impl Abort, found: u64, count: u64, name: &str) {
     assert_eq!(rt; found, count, "{name}");
 }
@@ -44,7 +45,8 @@ fn assert_carried(rt: &impl Abort, alloc: Global, first: u64, len: usize, emitte
     assert_count(rt, acknowledged, chunks, name);
 }
 
-fn assert_texts(rt: &impl Abort, alloc: Global) {
+/// Asserts the emitted chunks and the losses for 21 pairs of a first draw and a length, from none to 10000 bytes.
+fn assert_lengths_and_draws(rt: &impl Abort, alloc: Global) {
     for (first, len, emitted, lost) in [
         (0, 0, 0, 0),
         (0, 1, 1, 0),
@@ -74,5 +76,5 @@ fn assert_texts(rt: &impl Abort, alloc: Global) {
 
 #[test]
 fn texts_are_carried(rt: HostRuntime) {
-    assert_texts(&rt, rt.alloc());
+    assert_lengths_and_draws(&rt, rt.alloc());
 }

@@ -59,14 +59,17 @@ fn assert_delivers(rt: &impl Abort, receiver: &mut Receiver, bytes: &[u8]) {
     assert_bytes(rt, &next, bytes);
 }
 
+/// Asserts that a chunk that was emitted or delivered has these bytes.
 fn assert_bytes(rt: &impl Abort, chunk: &Chunk, bytes: &[u8]) {
     assert!(rt; chunk.bytes() == bytes);
 }
 
+/// Makes a chunk of these bytes, to be put into a window or to arrive.
 fn chunk(rt: &impl Abort, alloc: Global, bytes: &[u8]) -> Chunk {
     Chunk::new(alloc, bytes).expect(rt, "memory")
 }
 
+/// Gives the sender a chunk of these bytes; a full window hands it back with the fault.
 fn put(
     rt: &impl Abort,
     alloc: Global,
@@ -77,10 +80,12 @@ fn put(
     sender.put(chunk(rt, alloc, bytes))
 }
 
+/// The copy of the chunk of this number that the sender emits, if its window still keeps it.
 fn emitted(rt: &impl Abort, alloc: Global, sender: &Sender, number: u64) -> Option<Chunk> {
     sender.emit(alloc, number).ok().expect(rt, "memory")
 }
 
+/// Lets a chunk arrive at the receiver under this number, and tells what the window did with it.
 fn arrive(rt: &impl Abort, receiver: &mut Receiver, number: u64, chunk: Chunk) -> Got {
     assert!(rt; number < u64::MAX);
     receiver.arrived(number, chunk).ok().expect(rt, "memory")

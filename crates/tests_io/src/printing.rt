@@ -22,6 +22,7 @@ struct Run {
     written: Vec<u8>,
 }
 
+/// Calls `lossy` once, from the draw 7 on, over this source and sink with fresh windows, and gives its status.
 fn lossy_on<S: Source, K: Sink>(
     rt: &impl Abort,
     alloc: Global,
@@ -89,6 +90,7 @@ fn assert_write_fails(rt: &impl Abort, alloc: Global, write: u64, status: Status
     assert!(rt; HELLO.as_bytes().starts_with(&run.written), "at {write}");
 }
 
+/// Asserts that each of the 15 one-byte writes for `hello`, when it fails, ends the run behind those before it.
 fn assert_each_write_fails(rt: &impl Abort, alloc: Global) {
     for count in 0..15_u64 {
         assert_write_fails(rt, alloc, count + 1, Status::WriteFault, count);
@@ -104,6 +106,7 @@ fn faults_end_it(rt: HostRuntime) {
     assert_each_write_fails(&rt, rt.alloc());
 }
 
+/// Asserts that `lossy` prints an input of the greatest length whole, and how many chunks it emitted and lost.
 fn assert_longest(rt: &impl Abort, alloc: Global) {
     let bytes = bytes_of(rt, alloc, INPUT_LIMIT);
     let run = run_on(rt, alloc, &bytes, &[], 65_536, &[]);
@@ -112,6 +115,7 @@ fn assert_longest(rt: &impl Abort, alloc: Global) {
     assert!(rt; run.written.ends_with(b"\nwire 123001 25987\n"));
 }
 
+/// Asserts that `lossy` refuses an input one byte over its limit (line 0, reason 6) and writes nothing.
 fn assert_longer(rt: &impl Abort, alloc: Global) {
     let mut bytes = bytes_of(rt, alloc, INPUT_LIMIT);
     bytes.push(b'x').expect(rt, "memory");

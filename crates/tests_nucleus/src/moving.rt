@@ -307,10 +307,10 @@ fn four_meet<R: Threads + Wait + Abort + Sync>(
     high: Two,
     meeting: &Meeting,
 ) -> ((Pass, Pass), (Pass, Pass))
-    requires low { IsPassOf nucleus.now low.0.0 × IsPassOf nucleus.now low.1.0 }
-    requires high { IsPassOf nucleus.now high.0.0 × IsPassOf nucleus.now high.1.0 }
-    ensures low { IsPassOf nucleus.now result.0.0 × IsPassOf nucleus.now result.0.1 }
-    ensures high { IsPassOf nucleus.now result.1.0 × IsPassOf nucleus.now result.1.1 }
+    requires { IsPassOf nucleus.now low.0.0 × IsPassOf nucleus.now low.1.0
+        × IsPassOf nucleus.now high.0.0 × IsPassOf nucleus.now high.1.0 }
+    ensures { IsPassOf nucleus.now result.0.0 × IsPassOf nucleus.now result.0.1
+        × IsPassOf nucleus.now result.1.0 × IsPassOf nucleus.now result.1.1 }
 {
     join(
         rt,
@@ -362,6 +362,7 @@ fn enter_one<R: Wait + Abort>(
     pass
 }
 
+/// Makes the ports of this site, with capacity 64, by its caller's pass, and asserts which name each gets.
 fn make_ports<R: Wait + Abort>(rt: &R, nucleus: &Nucleus, pass: &mut Pass, turns: u64, site: u16)
     requires { IsPassOf nucleus.now pass.old }
     ensures { IsPassOf nucleus.now pass.new }
@@ -374,6 +375,7 @@ fn make_ports<R: Wait + Abort>(rt: &R, nucleus: &Nucleus, pass: &mut Pass, turns
     }
 }
 
+/// Ends the passes of two callers that have met, into the keeper's.
 fn retire_two(nucleus: &Nucleus, two: (Pass, Pass), keeper: &mut Pass)
     requires passes { IsPassOf nucleus.now two.0 × IsPassOf nucleus.now two.1 }
     requires keeper { IsPassOf nucleus.now keeper.old }

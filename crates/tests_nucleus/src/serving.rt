@@ -1,6 +1,6 @@
 //! A server that waits on two ports, urgent messages first, and a sender on a thread of its own.
 
-ghost use Rattle.std.specs.Prelude.{◌≡◌, true};
+ghost use Rattle.std.specs.Prelude.{◌≡◌};
 ghost use Rattle.chorus_nucleus.specs.Passes.{IsPassOf};
 
 use crate::choosing::chooser_of;

@@ -1,7 +1,6 @@
 //! Posts to groups, in the three ways, over one site and two.
 
-use crate::judge::Ground;
-use tests_ground::assert_rows;
+use crate::playing::assert_rows;
 
 const GROUPS: &str = "\
 a broadcast from another site: 2 1
@@ -94,5 +93,5 @@ end
 
 #[test]
 fn members_are_chosen_and_reported(rt: HostRuntime) {
-    assert_rows(&Ground { rt: &rt }, rt.alloc(), GROUPS);
+    assert_rows(&rt, rt.alloc(), GROUPS);
 }

@@ -1,16 +1,21 @@
-//! Tests of a place, by public items alone: what callers are told and what journals say, over places that are handed
-//! packets one by one, and which packets are lawful. They stand apart, so that no crate below is proved twice.
+//! Tests of a place, by public items alone. They stand apart, so that no crate below is proved twice.
 //!
-//! A scenario's text says what happens, and tables of them are texts too (`tests_ground`); so are packets, which
-//! `packets` reads from `words`. The worked rows are in `tests_rows`.
+//! - Scenarios are played over places that are handed packets one by one: what callers are told and what journals say.
+//!   Tables of scenarios are texts, which `playing` plays over the places and callers of `net`; what callers are told is
+//!   written as `lines`. The worked rows are in `tests_rows`.
+//! - `limits` has those that take many callers, many ports or late clocks.
+//! - `packets` has packets by hand, lawful and not, which it reads from `words`; `records` are the ports in them.
+//! - `drawn` has packets and commands that are drawn, and a place that is served and given them.
 #![tactic(auto)]
 
 #[cfg(test)]
+mod drawn;
+#[cfg(test)]
 mod groups;
 #[cfg(test)]
-mod judge;
-#[cfg(test)]
 mod limits;
+#[cfg(test)]
+mod lines;
 #[cfg(test)]
 mod messages;
 #[cfg(test)]
@@ -18,7 +23,13 @@ mod migration;
 #[cfg(test)]
 mod names;
 #[cfg(test)]
+mod net;
+#[cfg(test)]
 mod packets;
+#[cfg(test)]
+mod playing;
+#[cfg(test)]
+mod records;
 #[cfg(test)]
 mod words;
 #[cfg(test)]

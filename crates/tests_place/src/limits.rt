@@ -1,16 +1,12 @@
 //! Limits that take many callers, many ports or late clocks.
 
-use crate::judge::Ground;
+use crate::net::named;
+use crate::playing::{assert_ends, start};
 use chorus_calls::Caller;
 use chorus_entry::{Body, Command, Dest};
 use chorus_ui::{CLOCK_LIMIT, Kind, Ui};
 use std::alloc::Global;
 use std::process::Abort;
-use tests_ground::{assert_ends, start};
-
-fn named(rt: &impl Abort, text: &str) -> Ui {
-    Ui::parse(text.as_bytes()).expect(rt, "a name")
-}
 
 /// A call of the port, to be answered there too.
 fn call(rt: &impl Abort, alloc: Global, port: Ui) -> Command {
@@ -44,20 +40,19 @@ told
 #[test]
 fn at_most_once_table_fills(rt: HostRuntime) {
     let alloc = rt.alloc();
-    let ground = Ground { rt: &rt };
-    let mut net = start(&ground, alloc, 1, 1);
+    let mut net = start(&rt, alloc, 1, 1);
     let port = named(&rt, "1.p.1");
     let actor = named(&rt, "1.a.1");
     let capacity = 64;
-    net.act(&ground, 0, Command::Make { actor, capacity });
+    net.act(&rt, 0, Command::Make { actor, capacity });
     for seat in 1..=65 {
-        net.enter(&ground, actor);
-        net.act(&ground, seat, call(&rt, alloc, port));
+        net.enter(&rt, actor);
+        net.act(&rt, seat, call(&rt, alloc, port));
     }
-    net.act(&ground, 64, Command::Retry);
-    net.act(&ground, 1, Command::Cancel);
-    net.act(&ground, 1, call(&rt, alloc, port));
-    assert_ends(&ground, alloc, "clients", &net, TABLE_FILLS);
+    net.act(&rt, 64, Command::Retry);
+    net.act(&rt, 1, Command::Cancel);
+    net.act(&rt, 1, call(&rt, alloc, port));
+    assert_ends(&rt, alloc, "clients", &net, TABLE_FILLS);
 }
 
 /// How it ends where a port with 64 messages is deleted: all are discarded, in their order.
@@ -76,21 +71,20 @@ fn deleted_full(rt: &impl Abort, alloc: Global) -> String {
 #[test]
 fn a_full_port_is_deleted(rt: HostRuntime) {
     let alloc = rt.alloc();
-    let ground = Ground { rt: &rt };
-    let mut net = start(&ground, alloc, 1, 1);
+    let mut net = start(&rt, alloc, 1, 1);
     let port = named(&rt, "1.p.1");
     let actor = named(&rt, "1.a.1");
     let capacity = 64;
-    net.act(&ground, 0, Command::Make { actor, capacity });
-    net.enter(&ground, actor);
+    net.act(&rt, 0, Command::Make { actor, capacity });
+    net.enter(&rt, actor);
     for _ in 0..64 {
         let dest = Dest::Port(port);
         let body = Body::new(alloc, b"m").expect(&rt, "memory");
-        net.act(&ground, 1, Command::Send { dest, body });
+        net.act(&rt, 1, Command::Send { dest, body });
     }
-    net.act(&ground, 1, Command::Delete { port });
+    net.act(&rt, 1, Command::Delete { port });
     let ends = deleted_full(&rt, alloc);
-    assert_ends(&ground, alloc, "a full port", &net, ends.as_str());
+    assert_ends(&rt, alloc, "a full port", &net, ends.as_str());
 }
 
 const MEMBERS_FILL: &str = "\
@@ -104,15 +98,14 @@ told
 
 #[test]
 fn group_has_at_most_32_members(rt: HostRuntime) {
-    let ground = Ground { rt: &rt };
-    let mut net = start(&ground, rt.alloc(), 1, 1);
+    let mut net = start(&rt, rt.alloc(), 1, 1);
     let group = named(&rt, "1.g.1");
-    net.act(&ground, 0, Command::GroupMake { site: 1 });
+    net.act(&rt, 0, Command::GroupMake { site: 1 });
     for number in 1..=33 {
         let port = Ui::new(1, Kind::Port, number).expect(&rt, "a name");
-        net.act(&ground, 0, Command::Join { group, port });
+        net.act(&rt, 0, Command::Join { group, port });
     }
-    assert_ends(&ground, rt.alloc(), "members", &net, MEMBERS_FILL);
+    assert_ends(&rt, rt.alloc(), "members", &net, MEMBERS_FILL);
 }
 
 const WORN: &str = "\
@@ -127,15 +120,14 @@ told
 /// The callers' last clocks are 2^62, 2^62 - 1, which is the last at which a place acts, and 0.
 #[test]
 fn worn_at_the_clock_limit(rt: HostRuntime) {
-    let ground = Ground { rt: &rt };
-    let mut net = start(&ground, rt.alloc(), 1, 1);
+    let mut net = start(&rt, rt.alloc(), 1, 1);
     let actor = named(&rt, "1.a.1");
     let port = named(&rt, "1.p.1");
     for last in [CLOCK_LIMIT, 4_611_686_018_427_387_903, 0] {
         let seat = u32::try_from(net.callers.len()).expect(&rt, "a seat");
         let caller = Caller::new(seat, actor, last);
         net.callers.push(caller).ok().expect(&rt, "memory");
-        net.act(&ground, seat, Command::Take { port });
+        net.act(&rt, seat, Command::Take { port });
     }
-    assert_ends(&ground, rt.alloc(), "clocks", &net, WORN);
+    assert_ends(&rt, rt.alloc(), "clocks", &net, WORN);
 }

@@ -1,7 +1,6 @@
 //! Messages to ports, and remote calls.
 
-use crate::judge::Ground;
-use tests_ground::assert_rows;
+use crate::playing::assert_rows;
 
 const MESSAGES: &str = "\
 no port of another site, and none of a site that is not there: 2 1
@@ -24,7 +23,7 @@ end
 
 #[test]
 fn messages_are_decided_where_the_port_is(rt: HostRuntime) {
-    assert_rows(&Ground { rt: &rt }, rt.alloc(), MESSAGES);
+    assert_rows(&rt, rt.alloc(), MESSAGES);
 }
 
 const CALLS: &str = "\
@@ -197,5 +196,5 @@ end
 
 #[test]
 fn calls_are_answered_once(rt: HostRuntime) {
-    assert_rows(&Ground { rt: &rt }, rt.alloc(), CALLS);
+    assert_rows(&rt, rt.alloc(), CALLS);
 }

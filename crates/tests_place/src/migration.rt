@@ -1,7 +1,6 @@
 //! Ports that migrate, and messages that come before and behind them.
 
-use crate::judge::Ground;
-use tests_ground::assert_rows;
+use crate::playing::assert_rows;
 
 const MOVES: &str = "\
 a port comes back with what waits in it: 2 1
@@ -89,5 +88,5 @@ end
 
 #[test]
 fn messages_find_ports_that_move(rt: HostRuntime) {
-    assert_rows(&Ground { rt: &rt }, rt.alloc(), MOVES);
+    assert_rows(&rt, rt.alloc(), MOVES);
 }

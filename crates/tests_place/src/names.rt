@@ -1,7 +1,6 @@
 //! Names and limits, and members of groups.
 
-use crate::judge::Ground;
-use tests_ground::assert_rows;
+use crate::playing::assert_rows;
 
 const NAMES: &str = "\
 membership: 2 1
@@ -98,5 +97,5 @@ end
 
 #[test]
 fn names_and_limits(rt: HostRuntime) {
-    assert_rows(&Ground { rt: &rt }, rt.alloc(), NAMES);
+    assert_rows(&rt, rt.alloc(), NAMES);
 }

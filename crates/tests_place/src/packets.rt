@@ -6,18 +6,19 @@
 //! no tag stands; of a port there are its name, its holder, its capacity, hop and first position, the number of client 7 or `-`, and
 //! the ids that wait in it.
 
-use crate::judge::Ground;
+use crate::net::Net;
+use crate::playing::{Row, begin, rows_of};
+use crate::records::{push_client, push_message};
 use crate::words::Words;
-use chorus_entry::{Answer, Cargo, Dest, Message, Packet, PortRecord, Tag};
+use chorus_entry::{Answer, Body, Cargo, Dest, Message, MsgId, Packet, PortRecord, Tag};
 use chorus_place::Place;
 use std::alloc::Global;
 use std::process::Abort;
-use tests_ground::{Net, Row, begin, message_of, push_message, rows_of};
 
 /// Plays the scenario of the row, and then shows each packet to its place, as its line says.
 fn assert_row<R: Abort>(rt: &R, alloc: Global, row: &Row<'_>) {
     let (lines, packets) = row.lines.split_once("packets\n").expect(rt, "packets");
-    let mut net = begin(&Ground { rt }, alloc, row.sites, row.turns, lines);
+    let mut net = begin(rt, alloc, row.sites, row.turns, lines);
     for line in packets.lines() {
         assert_packet(rt, alloc, &mut net, line);
     }
@@ -32,6 +33,7 @@ fn says_lawful(rt: &impl Abort, want: &str) -> bool {
     }
 }
 
+/// Shows the packet of a line to its place, asserts whether it is lawful there, and has it worked off if so said.
 fn assert_packet<R: Abort>(rt: &R, alloc: Global, net: &mut Net<Place>, line: &str) {
     let mut words = Words::of(rt, line);
     let want = words.next();
@@ -39,13 +41,14 @@ fn assert_packet<R: Abort>(rt: &R, alloc: Global, net: &mut Net<Place>, line: &s
     let from: u16 = words.read();
     let packet = packet_in(alloc, &mut words);
     assert!(rt; words.is_empty(), "more than a packet: {line}");
-    let is_lawful = net.place(&Ground { rt }, to).lawful(from, &packet);
+    let is_lawful = net.place(rt, to).lawful(from, &packet);
     assert_eq!(rt; is_lawful, says_lawful(rt, want), "{line}");
     if want == "worked" {
-        net.hand(&Ground { rt }, to, packet);
+        net.hand(rt, to, packet);
     }
 }
 
+/// Reads the packet from the words of a row's line: the place that it names, its clock and its cargo.
 fn packet_in<R: Abort>(alloc: Global, words: &mut Words<'_, R>) -> Packet {
     Packet {
         from: words.read(),
@@ -54,6 +57,7 @@ fn packet_in<R: Abort>(alloc: Global, words: &mut Words<'_, R>) -> Packet {
     }
 }
 
+/// Reads a packet's cargo, whose first word says whether it is a Try, Verdict, Transfer, Ask or Report.
 fn cargo_in<R: Abort>(alloc: Global, words: &mut Words<'_, R>) -> Cargo {
     match words.next() {
         "try" => Cargo::Try {
@@ -84,13 +88,20 @@ fn cargo_in<R: Abort>(alloc: Global, words: &mut Words<'_, R>) -> Cargo {
     }
 }
 
+/// Reads the id and the tag of a packet's message, whose body is one byte.
 fn message_in<R: Abort>(alloc: Global, words: &mut Words<'_, R>) -> Message {
     let id = words.read();
     let tag = tag_in(words);
-    let ground = Ground { rt: words.rt };
-    message_of(&ground, alloc, id, tag)
+    message_of(words.rt, alloc, id, tag)
 }
 
+/// A message with a body of one byte.
+fn message_of(rt: &impl Abort, alloc: Global, id: MsgId, tag: Tag) -> Message {
+    let body = Body::new(alloc, b"x").expect(rt, "memory");
+    Message { id, tag, body }
+}
+
+/// Reads a packet's tag: `plain`, `request` with its number and port, or `reply` with its client and number.
 fn tag_in<R: Abort>(words: &mut Words<'_, R>) -> Tag {
     match words.next() {
         "plain" => Tag::Plain,
@@ -106,6 +117,7 @@ fn tag_in<R: Abort>(words: &mut Words<'_, R>) -> Tag {
     }
 }
 
+/// Reads for whom the message of an Ask is: a port, all of a group, one of it, or one of it at a site.
 fn dest_in<R: Abort>(words: &mut Words<'_, R>) -> Dest {
     let word = words.next();
     let to = words.read();
@@ -118,6 +130,7 @@ fn dest_in<R: Abort>(words: &mut Words<'_, R>) -> Dest {
     }
 }
 
+/// Reads the answer that a Verdict or a Report tells, in the words that journals have for it.
 fn answer_in<R: Abort>(words: &mut Words<'_, R>) -> Answer {
     match words.next() {
         "accepted" => Answer::Accepted { pos: words.read() },
@@ -143,6 +156,7 @@ fn answer_in<R: Abort>(words: &mut Words<'_, R>) -> Answer {
     }
 }
 
+/// Reads the port of a Transfer: its numbers, the number of client 7 or none, and up to eight waiting ids.
 fn port_in<R: Abort>(alloc: Global, words: &mut Words<'_, R>) -> PortRecord {
     let made = PortRecord::with_room(alloc, words.read(), words.read(), 2);
     let mut port = made.expect(words.rt, "memory");
@@ -151,23 +165,15 @@ fn port_in<R: Abort>(alloc: Global, words: &mut Words<'_, R>) -> PortRecord {
     port.first = words.read();
     let number: Option<u32> = words.read();
     if let Some(number) = number {
-        push_client(words.rt, &mut port, number);
+        push_client(words.rt, &mut port.clients, 7, number);
     }
     for _ in 0..8 {
         if !words.is_empty() {
-            let id = words.read();
-            let ground = Ground { rt: words.rt };
-            push_message(&ground, alloc, &mut port, id, Tag::Plain);
+            let message = message_of(words.rt, alloc, words.read(), Tag::Plain);
+            push_message(words.rt, &mut port.pending, message);
         }
     }
     port
-}
-
-/// Notes client 7 with the number in a port that has no clients.
-fn push_client(rt: &impl Abort, port: &mut PortRecord, number: u32) {
-    assert!(rt; port.clients.len() < 64);
-    assert!(rt; port.clients.number_of(7).is_none());
-    port.clients.push(7, number);
 }
 
 /// From place 2 seat 1 has 1:1:0 for 1.p.1 and 1:2:0 for 1.p.40, which nothing makes, under way to place 1. In the row of
@@ -321,7 +327,7 @@ end
 
 #[test]
 fn packets_are_lawful_or_not(rt: HostRuntime) {
-    for row in &rows_of(&Ground { rt: &rt }, rt.alloc(), PACKETS) {
+    for row in &rows_of(&rt, rt.alloc(), PACKETS) {
         assert_row(&rt, rt.alloc(), row);
     }
 }

@@ -1,7 +1,6 @@
 //! Worked rows, played over places.
 
-use crate::judge::Ground;
-use tests_ground::assert_worked;
+use crate::playing::assert_worked;
 use tests_rows::{
     BROADCAST_MEETS_FULL, CALL_AND_REPLY_ON_ONE_SITE, DELETE_AFTER_A_MOVE, DELETE_DISCARDS,
     EARLY_THEN_ARRIVE, FULL_THEN_TAKEN_THEN_EMPTY, FUNCTIONAL_AT_A_SITE, FUNCTIONAL_SEND_ROTATES,
@@ -13,7 +12,6 @@ use tests_rows::{
 
 #[test]
 fn worked_rows_are_played(rt: HostRuntime) {
-    let judge = Ground { rt: &rt };
     for row in [
         BROADCAST_MEETS_FULL,
         CALL_AND_REPLY_ON_ONE_SITE,
@@ -36,6 +34,6 @@ fn worked_rows_are_played(rt: HostRuntime) {
         TWO_TURNS_AND_A_MOVE,
         TWO_TURNS_PER_SITE,
     ] {
-        assert_worked(&judge, rt.alloc(), &row);
+        assert_worked(&rt, rt.alloc(), &row);
     }
 }

@@ -3,13 +3,13 @@
 
 use crate::journals::printed_by_run;
 use chorus_draw::{next_state, number_of};
-use std::alloc::{AllocError, Global};
+use std::alloc::Global;
 use std::process::Abort;
 use std::sync::Wait;
 use std::thread::Threads;
 
 /// A scenario with so many sites, each with a port and a script in the actor of the same number, and so many commands of each script.
-#[derive(Clone, Copy, Debug)]
+#[derive(Clone, Copy)]
 struct Drawn {
     first: u64,
     sites: u64,
@@ -17,7 +17,7 @@ struct Drawn {
 }
 
 /// What a command does.
-#[derive(Clone, Copy, Debug)]
+#[derive(Clone, Copy)]
 enum Doing {
     Sends,
     Takes,
@@ -48,54 +48,37 @@ fn site_by(drawn: &Drawn, number: u64) -> u64 {
 }
 
 /// Appends the command of a step. The body of a send is the number of the step.
-fn push_command(
-    alloc: Global,
-    text: &mut String,
-    drawn: &Drawn,
-    script: u64,
-    step: u64,
-) -> Result<(), AllocError> {
+fn push_command(rt: &impl Abort, text: &mut String, drawn: &Drawn, script: u64, step: u64) {
     let number = draw(drawn, script, step);
     let port = site_by(drawn, number / 8);
     let to = site_by(drawn, number / 128);
-    let line = match does(drawn, script, step) {
-        Doing::Sends => format!(in alloc; "send {port}.p.1 ={step}\n")?,
-        Doing::Takes => format!(in alloc; "take {port}.p.1\n")?,
-        Doing::Moves => format!(in alloc; "move {port}.p.1 {to}.a.1\n")?,
+    let pushed = match does(drawn, script, step) {
+        Doing::Sends => writeln!(text, "send {port}.p.1 ={step}"),
+        Doing::Takes => writeln!(text, "take {port}.p.1"),
+        Doing::Moves => writeln!(text, "move {port}.p.1 {to}.a.1"),
     };
-    text.push_str(line.as_str())
+    pushed.expect(rt, "memory");
 }
 
 /// Appends a script.
-fn push_script(
-    alloc: Global,
-    text: &mut String,
-    drawn: &Drawn,
-    script: u64,
-) -> Result<(), AllocError> {
-    text.push_str(format!(in alloc; "script {script}.a.1\n")?.as_str())?;
+fn push_script(rt: &impl Abort, text: &mut String, drawn: &Drawn, script: u64) {
+    writeln!(text, "script {script}.a.1").expect(rt, "memory");
     for step in 0..drawn.commands {
-        push_command(alloc, text, drawn, script, step)?;
+        push_command(rt, text, drawn, script, step);
     }
-    Ok(())
-}
-
-/// Appends the line of a port.
-fn push_port(alloc: Global, text: &mut String, site: u64) -> Result<(), AllocError> {
-    text.push_str(format!(in alloc; "port {site}.p.1 {site}.a.1 8\n")?.as_str())
 }
 
 /// The text of the scenario.
-fn text_of(alloc: Global, drawn: &Drawn) -> Result<String, AllocError> {
-    let mut text = format!(in alloc; "chorus 2\nsites {}\n", drawn.sites)?;
+fn text_of(rt: &impl Abort, alloc: Global, drawn: &Drawn) -> String {
+    let mut text = format!(in alloc; "chorus 2\nsites {}\n", drawn.sites).expect(rt, "memory");
     for site in 1..=drawn.sites {
-        push_port(alloc, &mut text, site)?;
+        writeln!(text, "port {site}.p.1 {site}.a.1 8").expect(rt, "memory");
     }
     for script in 1..=drawn.sites {
-        push_script(alloc, &mut text, drawn, script)?;
+        push_script(rt, &mut text, drawn, script);
     }
-    text.push_str("schedule\nend\n")?;
-    Ok(text)
+    text.push_str("schedule\nend\n").expect(rt, "memory");
+    text
 }
 
 /// The act of the line, where it is that of an entry by the seat.
@@ -111,10 +94,12 @@ fn is_answer(act: &str) -> bool {
     is_answer_to_take(act) || is_answer_to_move(act) || act.starts_with("post ")
 }
 
+/// Whether an act of the printed journal can answer a script's `take`: taken, empty, or not here.
 fn is_answer_to_take(act: &str) -> bool {
     act.starts_with("take ") || act.starts_with("empty ") || act.starts_with("not-here ")
 }
 
+/// Whether an act of the printed journal can answer a script's `move`: rehomed, departed, or not here.
 fn is_answer_to_move(act: &str) -> bool {
     act.starts_with("rehome ") || act.starts_with("depart ") || act.starts_with("not-here ")
 }
@@ -161,7 +146,7 @@ fn assert_runs(
     turns: &str,
     drawn: &Drawn,
 ) {
-    let text = text_of(alloc, drawn).expect(rt, "memory");
+    let text = text_of(rt, alloc, drawn);
     let printed = printed_by_run(rt, alloc, turns, text.as_str());
     for script in 1..=drawn.sites {
         assert_performed(rt, alloc, drawn, script, printed.as_str());

@@ -34,13 +34,7 @@ fn run(
 }
 
 /// Asserts that a run with a fault ended with this status and a front of the whole output, of so many bytes.
-fn assert_ended(
-    rt: &(impl Abort + Threads + Wait + Sync),
-    run: &Run,
-    status: Status,
-    whole: &str,
-    count: u64,
-) {
+fn assert_ended(rt: &impl Abort, run: &Run, status: Status, whole: &str, count: u64) {
     let written = run.written.as_bytes();
     assert_same(rt, run.status, status, count);
     assert_same(rt, written.len() as u64, count, "bytes");

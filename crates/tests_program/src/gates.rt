@@ -29,6 +29,7 @@ struct Meeting {
 }
 
 impl Meeting {
+    /// Yields the script's thread until the other script set this mark, and counts a miss if it never does.
     fn hold(&self, until: &AtomicBool) {
         for _ in 0..LOOKS {
             if until.load(Ordering::SeqCst) {
@@ -94,6 +95,7 @@ fn run_on<R: Abort + Threads + Wait + Sync, S: Source, K: Sink, G: Gate>(
     (finished.status, finished.closed.is_some())
 }
 
+/// Runs the scenario over this gate, and asserts that it ends well and closes its nucleus.
 fn assert_performed<R: Abort + Threads + Wait + Sync, G: Gate>(
     rt: &R,
     alloc: Global,
@@ -107,6 +109,7 @@ fn assert_performed<R: Abort + Threads + Wait + Sync, G: Gate>(
     assert!(rt; closed);
 }
 
+/// Asserts that two scripts, each held at the gate until the other comes, both come: their threads overlap.
 fn assert_meets<R: Abort + Threads + Wait + Sync>(rt: &R, alloc: Global) {
     let gate = Meeting {
         first_came: AtomicBool::new(false),

@@ -1,7 +1,7 @@
 //! Senders to a port that is moved while they send.
 
 use crate::journals::{counted, printed_by_run};
-use std::alloc::{AllocError, Global};
+use std::alloc::Global;
 use std::process::Abort;
 use std::sync::Wait;
 use std::thread::Threads;
@@ -14,54 +14,39 @@ const ROUNDS: u64 = 40;
 
 /// Four scripts send to `1.p.1`, and three scripts, on three sites, take from it and move it to the next of the three. In version 2 the
 /// first mover then deletes it.
-fn movers_and_senders(alloc: Global, with_delete: bool) -> Result<String, AllocError> {
-    let mut text = String::new(alloc);
-    text.push_str(if with_delete {
-        "chorus 2\n"
+fn movers_and_senders(rt: &impl Abort, alloc: Global, with_delete: bool) -> String {
+    let (version, deletion) = if with_delete {
+        (2, "delete 1.p.1\n")
     } else {
-        "chorus 1\n"
-    })?;
-    text.push_str("sites 7\nport 1.p.1 1.a.1 64\n")?;
-    for site in ["1", "2", "3"] {
-        let next = match site {
-            "1" => "2",
-            "2" => "3",
-            _ => "1",
-        };
-        push_mover(&mut text, site, next)?;
-        if with_delete && site == "1" {
-            text.push_str("delete 1.p.1\n")?;
-        }
+        (1, "")
+    };
+    let mut text = String::new(alloc);
+    writeln!(text, "chorus {version}\nsites 7\nport 1.p.1 1.a.1 64").expect(rt, "memory");
+    for (site, next, last) in [(1, 2, deletion), (2, 3, ""), (3, 1, "")] {
+        push_mover(rt, &mut text, site, next);
+        text.push_str(last).expect(rt, "memory");
     }
-    for site in ["4", "5", "6", "7"] {
-        push_sender(&mut text, site)?;
+    for site in 4..=7 {
+        push_sender(rt, &mut text, site);
     }
-    text.push_str("schedule\nend\n")?;
-    Ok(text)
+    text.push_str("schedule\nend\n").expect(rt, "memory");
+    text
 }
 
 /// The script of one that takes and moves on.
-fn push_mover(text: &mut String, site: &str, next: &str) -> Result<(), AllocError> {
-    text.push_str("script ")?;
-    text.push_str(site)?;
-    text.push_str(".a.1\n")?;
+fn push_mover(rt: &impl Abort, text: &mut String, site: u64, next: u64) {
+    writeln!(text, "script {site}.a.1").expect(rt, "memory");
     for _ in 0..ROUNDS {
-        text.push_str("take 1.p.1\nmove 1.p.1 ")?;
-        text.push_str(next)?;
-        text.push_str(".a.1\n")?;
+        writeln!(text, "take 1.p.1\nmove 1.p.1 {next}.a.1").expect(rt, "memory");
     }
-    Ok(())
 }
 
 /// The script of one that sends.
-fn push_sender(text: &mut String, site: &str) -> Result<(), AllocError> {
-    text.push_str("script ")?;
-    text.push_str(site)?;
-    text.push_str(".a.1\n")?;
+fn push_sender(rt: &impl Abort, text: &mut String, site: u64) {
+    writeln!(text, "script {site}.a.1").expect(rt, "memory");
     for _ in 0..SENDS {
-        text.push_str("send 1.p.1 =x\n")?;
+        text.push_str("send 1.p.1 =x\n").expect(rt, "memory");
     }
-    Ok(())
 }
 
 /// Asserts that it is performed with so many places a site, and that what is printed is lawful and counts each message once.
@@ -71,7 +56,7 @@ fn assert_moves_and_sends(
     turns: &str,
     with_delete: bool,
 ) {
-    let text = movers_and_senders(alloc, with_delete).expect(rt, "memory");
+    let text = movers_and_senders(rt, alloc, with_delete);
     let printed = printed_by_run(rt, alloc, turns, text.as_str());
     assert_counted(rt, printed.as_str());
 }

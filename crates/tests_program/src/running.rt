@@ -18,7 +18,8 @@ pub(crate) struct Run {
     pub(crate) written: String,
 }
 
-fn ends_with<R: Abort + Threads + Wait + Sync, S: Source, K: Sink>(
+/// Starts the program with these words over this source and sink, and gives the status with which it ends.
+fn status_of<R: Abort + Threads + Wait + Sync, S: Source, K: Sink>(
     rt: &R,
     alloc: Global,
     words: &[&str],
@@ -29,37 +30,27 @@ fn ends_with<R: Abort + Threads + Wait + Sync, S: Source, K: Sink>(
 }
 
 /// A source of the text. `failing` lists the reads that fail.
-pub(crate) fn source_of(
-    rt: &(impl Abort + Threads + Wait + Sync),
-    alloc: Global,
-    text: &str,
-    failing: &[u64],
-) -> MemSource {
+pub(crate) fn source_of(rt: &impl Abort, alloc: Global, text: &str, failing: &[u64]) -> MemSource {
     let bytes = Vec::from_slice(alloc, text.as_bytes()).expect(rt, "memory");
     MemSource::new(bytes, Vec::from_slice(alloc, failing).expect(rt, "memory"))
 }
 
 /// An empty sink that takes so many bytes at a write. `failing` lists the writes that fail.
-pub(crate) fn sink_of(
-    rt: &(impl Abort + Threads + Wait + Sync),
-    alloc: Global,
-    most: usize,
-    failing: &[u64],
-) -> MemSink {
+pub(crate) fn sink_of(rt: &impl Abort, alloc: Global, most: usize, failing: &[u64]) -> MemSink {
     assert!(rt; most > 0);
     let failing = Vec::from_slice(alloc, failing).expect(rt, "memory");
     MemSink::new(alloc, most, failing)
 }
 
 /// What the sink holds.
-fn text_in(rt: &(impl Abort + Threads + Wait + Sync), alloc: Global, sink: &MemSink) -> String {
+fn text_in(rt: &impl Abort, alloc: Global, sink: &MemSink) -> String {
     let bytes = Vec::from_slice(alloc, sink.bytes()).expect(rt, "memory");
     String::from_utf8(bytes).ok().expect(rt, "a text")
 }
 
 /// Asserts that what is told of this is what is wanted.
 pub(crate) fn assert_same<T: PartialEq + Debug + Copy, W: Debug + Copy>(
-    rt: &(impl Abort + Threads + Wait + Sync),
+    rt: &impl Abort,
     told: T,
     wanted: T,
     of: W,
@@ -77,7 +68,7 @@ pub(crate) fn run_over<S: Source>(
     failing: &[u64],
 ) -> Run {
     let mut sink = sink_of(rt, alloc, most, failing);
-    let status = ends_with(rt, alloc, words, source, &mut sink);
+    let status = status_of(rt, alloc, words, source, &mut sink);
     Run {
         status,
         written: text_in(rt, alloc, &sink),
@@ -96,7 +87,7 @@ pub(crate) fn run_on(
 }
 
 /// Asserts that the run did all.
-pub(crate) fn assert_done(rt: &(impl Abort + Threads + Wait + Sync), run: &Run, of: &str) {
+pub(crate) fn assert_done(rt: &impl Abort, run: &Run, of: &str) {
     assert_same(rt, run.status, Status::Done, of);
 }
 

@@ -51,12 +51,7 @@ fn assert_replays(
 
 /// The lines of a summary that say how many messages are accepted, received, left waiting, refused and told `stale` in the outcome of this
 /// number; a port moves once at most, so each is told that once at most, and no port is under way at the end.
-fn summary_of(
-    rt: &(impl Abort + Threads + Wait + Sync),
-    alloc: Global,
-    outcomes: &str,
-    number: &str,
-) -> String {
+fn summary_of(rt: &impl Abort, alloc: Global, outcomes: &str, number: &str) -> String {
     let mut accepted: u64 = 0;
     let mut taken: u64 = 0;
     let mut queued: u64 = 0;

@@ -14,26 +14,19 @@ const LOADS_NOTHING: &str =
 const LOADS_ONE_COMMAND: &str =
     "summary\nposted 1\naccepted 1\ntaken 0\nqueued 1\nmoving 0\nrefused 0\nstale 0\ndeparts 0\nend\n";
 
-fn asked_by(
-    rt: &(impl Abort + Threads + Wait + Sync),
-    alloc: Global,
-    words: &[&str],
-) -> Option<Words> {
+/// What the program's words ask for; none where they are not in the list of its uses.
+fn asked_by(rt: &impl Abort, alloc: Global, words: &[&str]) -> Option<Words> {
     read_words(alloc, words).expect(rt, "memory")
 }
 
-fn assert_reads(
-    rt: &(impl Abort + Threads + Wait + Sync),
-    alloc: Global,
-    words: &[&str],
-    asked: Option<Words>,
-) {
+/// Asserts what the program reads in its words, or that it reads nothing in them.
+fn assert_reads(rt: &impl Abort, alloc: Global, words: &[&str], asked: Option<Words>) {
     let read = asked_by(rt, alloc, words);
     assert!(rt; read == asked, "{words:?}");
 }
 
 /// Asserts that the text is read as this first number of a load.
-fn assert_first(rt: &(impl Abort + Threads + Wait + Sync), alloc: Global, text: &str, first: u64) {
+fn assert_first(rt: &impl Abort, alloc: Global, text: &str, first: u64) {
     let commands = Words::Load {
         first,
         commands: 65_536,
@@ -42,13 +35,14 @@ fn assert_first(rt: &(impl Abort + Threads + Wait + Sync), alloc: Global, text: 
 }
 
 /// Asserts that the text is read as no number, wherever one stands.
-fn assert_no_number(rt: &(impl Abort + Threads + Wait + Sync), alloc: Global, text: &str) {
+fn assert_no_number(rt: &impl Abort, alloc: Global, text: &str) {
     assert_reads(rt, alloc, &["load", text, "1"], None);
     assert_reads(rt, alloc, &["load", "1", text], None);
     assert_reads(rt, alloc, &["lossy", text], None);
 }
 
-fn assert_no_numbers(rt: &(impl Abort + Threads + Wait + Sync), alloc: Global) {
+/// Asserts that a sign, a leading zero, a blank, a letter or too great a number is refused in the program's words.
+fn assert_no_numbers(rt: &impl Abort, alloc: Global) {
     for text in [
         "",
         "-1",
@@ -65,7 +59,7 @@ fn assert_no_numbers(rt: &(impl Abort + Threads + Wait + Sync), alloc: Global) {
 }
 
 /// Asserts how `run` is read, alone and with a number of places.
-fn assert_runs(rt: &(impl Abort + Threads + Wait + Sync), alloc: Global) {
+fn assert_runs(rt: &impl Abort, alloc: Global) {
     assert_reads(rt, alloc, &["run"], Some(Words::Run));
     for (text, asked) in [
         ("1", Some(Words::RunOn { turns: 1 })),
@@ -85,7 +79,7 @@ fn assert_runs(rt: &(impl Abort + Threads + Wait + Sync), alloc: Global) {
 const MOST: &str = "18446744073709551615";
 
 /// Asserts how one word is read, and a word with a number.
-fn assert_short_words(rt: &(impl Abort + Threads + Wait + Sync), alloc: Global) {
+fn assert_short_words(rt: &impl Abort, alloc: Global) {
     for (word, asked) in [("replay", Words::Replay), ("explore", Words::Explore)] {
         assert_reads(rt, alloc, &[word], Some(asked));
     }
@@ -101,7 +95,7 @@ fn assert_short_words(rt: &(impl Abort + Threads + Wait + Sync), alloc: Global) 
 }
 
 /// Asserts how `crew` and `picture` are read.
-fn assert_long_words(rt: &(impl Abort + Threads + Wait + Sync), alloc: Global) {
+fn assert_long_words(rt: &impl Abort, alloc: Global) {
     let crew = Words::Crew {
         first: u64::MAX,
         commands: 65_536,
@@ -145,6 +139,7 @@ fn assert_ends(
     assert!(rt; run.written.is_empty(), "{words:?}");
 }
 
+/// Asserts that the program, started with words that ask for nothing it knows, ends with the usage fault.
 fn assert_no_words(rt: &(impl Abort + Threads + Wait + Sync), alloc: Global) {
     let refused: [&[&str]; 14] = [
         &[],

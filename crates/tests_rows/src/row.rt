@@ -13,6 +13,6 @@ pub struct WorkedRow<'a> {
     pub text: &'a str,
     /// What a replay of it prints: the lines of all journals, by clock and then by place, and the summary.
     pub printed: &'a str,
-    /// The last lines of what callers are told, one for each reply, as `tests_ground` writes them.
+    /// The last lines of what callers are told, one for each reply, as `tests_place` writes them.
     pub told: &'a str,
 }

@@ -55,6 +55,7 @@ fn long_texts_are_refused(rt: HostRuntime) {
     assert_lines_are_refused(&rt, rt.alloc(), 4_194_305, 0, 6);
 }
 
+/// Asserts that a replay whose second write fails, with five bytes a write, wrote `journ` and closed its sites.
 fn assert_short_sink_fails(rt: &impl Abort, alloc: Global) {
     let text = tests_rows::FULL_THEN_TAKEN_THEN_EMPTY.text.as_bytes();
     let run = replayed(rt, alloc, text, &[], 5, &[2]);
@@ -85,6 +86,7 @@ fn assert_write_fails(rt: &impl Abort, alloc: Global, call: u64, status: Status,
     );
 }
 
+/// Asserts that each of the 96 one-byte writes of a replay, when it fails, ends it behind those before it.
 fn assert_each_write_fails(rt: &impl Abort, alloc: Global) {
     for count in 0..96_u64 {
         assert_write_fails(rt, alloc, count + 1, Status::WriteFault, count);

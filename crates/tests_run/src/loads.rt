@@ -73,11 +73,13 @@ fn loaded(rt: &impl Abort, alloc: Global, first: u64, commands: u32, writes: &[u
     run_of(rt, alloc, status, closed, &sink)
 }
 
+/// Asserts that the load of so many drawn commands from the first number on ends well and writes this summary.
 fn assert_loads(rt: &impl Abort, alloc: Global, first: u64, commands: u32, summary: &str) {
     let run = loaded(rt, alloc, first, commands, &[]);
     assert_done(rt, &run, summary, "a load");
 }
 
+/// Asserts that a load whose first write fails ends with a write fault, has written nothing and closed its sites.
 fn assert_write_fails(rt: &impl Abort, alloc: Global) {
     let run = loaded(rt, alloc, 7, 1, &[1]);
     assert_ended(rt, &run, Status::WriteFault, "", "a sink that fails");
@@ -118,6 +120,7 @@ fn assert_adds_up(rt: &impl Abort, summary: &str) {
     assert_same(rt, number(rt, summary, "moving "), 0, "moving");
 }
 
+/// Asserts that the load of 65536 commands from 1 on writes the same summary twice, and that its counts add up.
 fn assert_repeatable(rt: &impl Abort, alloc: Global) {
     let run = loaded(rt, alloc, 1, 65_536, &[]);
     let again = loaded(rt, alloc, 1, 65_536, &[]);

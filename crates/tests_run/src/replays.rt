@@ -182,6 +182,7 @@ fn assert_sixty_four_accepted(rt: &impl Abort, alloc: Global, printed: &str) {
     }
 }
 
+/// Asserts that a replay of 65 sends to a port of capacity 64 accepts 64 in order and refuses the last.
 fn assert_fills(rt: &impl Abort, alloc: Global) {
     let text = sixty_five_sends(rt, alloc);
     let run = replayed(rt, alloc, text.as_bytes(), &[], 4096, &[]);
@@ -233,6 +234,7 @@ fn assert_sixteen_posts(rt: &impl Abort, alloc: Global, printed: &str) {
     }
 }
 
+/// Asserts the posts and the end of a replay of 16 scripts that send to a port of capacity 1, which accepts one.
 fn assert_sixteen_scripts(rt: &impl Abort, alloc: Global) {
     let text = sixteen_senders(rt, alloc);
     let run = replayed(rt, alloc, text.as_bytes(), &[], 4096, &[]);

@@ -21,6 +21,7 @@ fn started(rt: &impl Abort, alloc: Global, sites: u16, turns: u16) -> Sites {
     Sites::start(alloc, layout).expect(rt, "memory")
 }
 
+/// Ends the sites behind a row's calls, and gives the journals that they leave.
 fn close(rt: &impl Abort, alloc: Global, sites: Sites) -> Closed {
     sites.close(alloc).ok().expect(rt, "memory")
 }
@@ -45,6 +46,7 @@ fn first_seat<'a>(rt: &impl Abort, text: &'a str) -> (u32, &'a str) {
     (seat, rest)
 }
 
+/// The number of a place, read from a word of a row's call.
 fn place(rt: &impl Abort, text: &str) -> u16 {
     text.parse().ok().expect(rt, "a place")
 }
@@ -58,12 +60,14 @@ fn name(rt: &impl Abort, text: &str, kind: Kind) -> Ui
     name
 }
 
+/// The actor that a word of a row's call names.
 fn actor(rt: &impl Abort, text: &str) -> Ui
     ensures { result.kind ≡ Kind.Actor }
 {
     name(rt, text, Kind::Actor)
 }
 
+/// The port that a word of a row's call names.
 fn port(rt: &impl Abort, text: &str) -> Ui
     ensures { result.kind ≡ Kind.Port }
 {
@@ -77,11 +81,14 @@ trait RowCalls {
         requires conditions { meets_conditions command ≡ true }
         requires body { has_body_in_limit command ≡ true };
 
+    /// Gives the next seat to a caller in this actor, by which calls behind it can be made.
     fn enter(&mut self, rt: &impl Abort, actor: Ui)
         requires { actor.kind ≡ Kind.Actor };
 
+    /// Works off, at `to`, the first packet that waits there from `from`, as the line `deliver` of a row asks.
     fn deliver(&mut self, rt: &impl Abort, from: u16, to: u16);
 
+    /// Works off packets between all places until none waits, as the line `drain` of a row asks.
     fn drain(&mut self, rt: &impl Abort);
 }
 
@@ -111,6 +118,7 @@ impl RowCalls for Sites {
     }
 }
 
+/// Performs the line `enter` of a row: the actor that the word names gets the next seat.
 fn enter<S: RowCalls>(rt: &impl Abort, sites: &mut S, who: &str) {
     let actor = actor(rt, who);
     sites.enter(rt, actor);
@@ -127,6 +135,7 @@ fn make<S: RowCalls>(rt: &impl Abort, sites: &mut S, words: &str) {
     sites.act(rt, seat, Command::Make { actor, capacity });
 }
 
+/// The body of a row's send, which is the text behind the port in its line.
 fn body_of(rt: &impl Abort, alloc: Global, text: &str) -> Body {
     assert!(rt; text.len() <= 4096);
     Body::new(alloc, text.as_bytes()).expect(rt, "memory")
@@ -171,6 +180,7 @@ fn deliver<S: RowCalls>(rt: &impl Abort, sites: &mut S, words: &str) {
     sites.deliver(rt, place(rt, from), place(rt, to));
 }
 
+/// Performs one line of a row's calls, whose first word says what is called on the sites.
 fn perform<S: RowCalls>(rt: &impl Abort, alloc: Global, sites: &mut S, line: &str) {
     let (call, words) = first(line);
     match call {
@@ -186,6 +196,7 @@ fn perform<S: RowCalls>(rt: &impl Abort, alloc: Global, sites: &mut S, line: &st
     }
 }
 
+/// Performs each line of the calls on the sites, in order.
 fn perform_all<S: RowCalls>(rt: &impl Abort, alloc: Global, sites: &mut S, calls: &str) {
     for line in calls.lines() {
         perform(rt, alloc, sites, line);

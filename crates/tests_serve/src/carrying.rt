@@ -60,6 +60,7 @@ fn receive<G, E: Moves<G>>(rt: &impl Abort, ground: &G, ends: &mut E, from: u16)
     }
 }
 
+/// The packet in a parcel that came from a link.
 fn opened<E: Ends>(rt: &impl Abort, parcel: E::Parcel) -> Packet {
     E::unpack(parcel).ok().expect(rt, "memory")
 }
@@ -97,6 +98,7 @@ fn assert_counts<E: Ends>(rt: &impl Abort, first: &E, second: &E, fulls: u64, em
     assert!(rt; second.empties(1) == empties);
 }
 
+/// Asserts that ruled ends carry as many packets as a link holds in order, and count one as full and one as empty.
 fn assert_carry_in_order<R: Abort + Wait>(rt: &R, alloc: Global) {
     let (mut first, mut second) = two_places(rt, alloc);
     assert!(rt; !first.reaches(1) && !first.reaches(3));

@@ -23,6 +23,7 @@ pub(crate) struct Pair<D: Drop> {
 
 /// Ends that say which places they reach.
 trait Reaches: Ends {
+    /// Asserts that these ends have a link with the place of this number.
     fn assert_reaches(&self, rt: &impl Abort, place: u16)
         ensures { (Self.links self.now).reaches place ≡ true };
 }
@@ -117,6 +118,7 @@ pub(crate) fn act<E: Ends>(
     desk.act(caller, command).ok().expect(rt, "memory");
 }
 
+/// The body of what one of the two places sends to a port.
 fn body_of(rt: &impl Abort, alloc: Global, text: &str) -> Body {
     let text = text.as_bytes();
     assert!(rt; text.len() <= BODY_LIMIT);

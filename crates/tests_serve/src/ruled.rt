@@ -127,6 +127,7 @@ fn lines_of_row(rt: &impl Abort) -> &'static str {
     lines
 }
 
+/// Sends from both places to a port of the second, and asserts what each serves and the journals of the worked row.
 fn assert_packets_are_carried<R: Abort, D: Works<R>>(rt: &R, alloc: Global, mut pair: Pair<D>) {
     let mut keeper = Caller::new(0, name(rt, "1.a.1"), 0);
     act_at_both(rt, alloc, &mut pair, &mut keeper);

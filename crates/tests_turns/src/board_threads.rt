@@ -16,6 +16,7 @@ use std::thread::{Threads, join};
 
 const LAST: u64 = 2_000;
 
+/// Publishes 2000 departures of the port on the board, hop after hop, while the other thread reads.
 fn publish_departures<R: Abort + Wait>(rt: &R, board: &mut Board, port: Ui)
     requires new { IsNewBoard (layout_of board.old) 1 board.old }
     requires port { (port.kind ≡ Port) × IsTrue (can_make_port (layout_of board.old) port) }
@@ -76,6 +77,7 @@ fn assert_comes_to_the_last<R: Abort + Threads + Wait + Sync>(
     assert!(rt; rises);
 }
 
+/// Starts a board of two sites, and asserts that its reader in another thread comes to the last departure.
 fn assert_two_threads_meet<R: Abort + Threads + Wait + Sync>(rt: &R, alloc: Global) {
     let layout = layout_of_sites(rt, 2, 1);
     let port = port_in(rt, layout, 1);

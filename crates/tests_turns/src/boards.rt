@@ -34,6 +34,7 @@ pub(crate) fn start<R: Abort + Wait>(
     started
 }
 
+/// The port of this site and number, of which the board may publish where it is.
 fn port_at(rt: &impl Abort, site: u16, number: u64) -> Ui {
     Ui::new(site, Kind::Port, number).expect(rt, "a port")
 }
@@ -47,7 +48,7 @@ pub(crate) fn port_in(rt: &impl Abort, layout: Layout, number: u64) -> Ui
     port
 }
 
-/// Publishes the second of three entries, a departure.
+/// Publishes that `port` left for `place` with `hop`, as of the first three entries.
 fn publish_departure<R: Abort + Wait>(rt: &R, board: &mut Board, port: Ui, place: u16, hop: u64)
     requires new { IsNewBoard (layout_of board.old) 1 board.old }
     requires port { (port.kind ≡ Port) × IsTrue (can_make_port (layout_of board.old) port) }
@@ -165,6 +166,7 @@ fn assert_sees<R: Abort + Wait>(
     assert_newest(rt, &mut idle, layout, port, UNSEEN);
 }
 
+/// Asserts who sees a publish: one reader that asks, one that follows, none that first asks after the board's end.
 fn assert_publish_is_seen<R: Abort + Wait>(rt: &R, alloc: Global) {
     let layout = layout_of_sites(rt, 2, 1);
     let (board, mut readers) = start(rt, alloc, layout);
@@ -174,7 +176,7 @@ fn assert_publish_is_seen<R: Abort + Wait>(rt: &R, alloc: Global) {
     assert_sees(rt, layout, board, reader, follower, idle);
 }
 
-// The reads of the last four are refused, since the board has ended.
+// The last four reads are refused, since the board has ended by then.
 #[test]
 fn board_reader_sees_a_publish(rt: HostRuntime) {
     assert_publish_is_seen(&rt, rt.alloc());
@@ -215,6 +217,7 @@ fn assert_all_see(
     assert!(rt; readers.is_empty());
 }
 
+/// Asserts that all 64 readers of a board see a publish, whichever port they asked for before.
 fn assert_64_readers_see<R: Abort + Wait>(rt: &R, alloc: Global) {
     let layout = layout_of_sites(rt, 2, 1);
     let port = port_in(rt, layout, 1);

@@ -24,6 +24,7 @@ fn get<R: Wait, P: Drop>(rt: &R, recv: &mut RecvEnd<P>) -> Option<P>
     recv.pop(rt)
 }
 
+/// Asserts that a link with room for two takes two packets, and hands the third back and counts that.
 fn assert_two_fit<R: Abort + Wait>(rt: &R, send: &mut SendEnd<char>) {
     assert!(rt; put(rt, send, 'a').is_none());
     assert!(rt; put(rt, send, 'b').is_none());
@@ -31,6 +32,7 @@ fn assert_two_fit<R: Abort + Wait>(rt: &R, send: &mut SendEnd<char>) {
     assert!(rt; send.fulls() == 1);
 }
 
+/// Asserts that the two packets leave the link in their order, and that the third try is counted as empty.
 fn assert_two_come<R: Abort + Wait>(rt: &R, recv: &mut RecvEnd<char>) {
     assert!(rt; get(rt, recv) == Some('a'));
     assert!(rt; get(rt, recv) == Some('b'));
@@ -38,6 +40,7 @@ fn assert_two_come<R: Abort + Wait>(rt: &R, recv: &mut RecvEnd<char>) {
     assert!(rt; recv.empties() == 1);
 }
 
+/// Makes a link with room for two, and asserts that packets leave it in the order in which they were put.
 fn assert_first_in_first_out<R: Abort + Wait>(rt: &R, alloc: Global) {
     let (mut send, mut recv) = link(alloc, 2).expect(rt, "memory");
     assert_two_fit(rt, &mut send);
@@ -49,6 +52,7 @@ fn link_is_first_in_first_out(rt: HostRuntime) {
     assert_first_in_first_out(&rt, rt.alloc());
 }
 
+/// Asserts that a link of one packet is empty, then full, then gives it, with `round` refusals at each end by then.
 fn assert_round<R: Abort + Wait>(
     rt: &R,
     send: &mut SendEnd<u64>,
@@ -62,6 +66,7 @@ fn assert_round<R: Abort + Wait>(
     assert!(rt; send.fulls() == round && recv.empties() == round);
 }
 
+/// Fills and empties a link of one packet three times, so that a refusal does not stay.
 fn assert_rounds<R: Abort + Wait>(rt: &R, alloc: Global) {
     let (mut send, mut recv) = link(alloc, 1).expect(rt, "memory");
     for round in 1..4u64 {
@@ -69,7 +74,7 @@ fn assert_rounds<R: Abort + Wait>(rt: &R, alloc: Global) {
     }
 }
 
-// A link that was filled and emptied takes a packet again, and one that holds a packet gives it.
+/// A link that was filled and emptied takes a packet again, and one that holds a packet gives it.
 #[test]
 fn a_refusal_is_of_its_moment(rt: HostRuntime) {
     assert_rounds(&rt, rt.alloc());
@@ -77,7 +82,7 @@ fn a_refusal_is_of_its_moment(rt: HostRuntime) {
 
 const MANY: u32 = 100_000;
 
-// Puts the numbers below MANY, each as often as it takes.
+/// Puts the numbers below MANY, each as often as it takes.
 fn put_all<R: Wait>(rt: &R, send: &mut SendEnd<u32>)
     ensures { send_link send.new ≡ send_link send.old }
 {
@@ -93,7 +98,7 @@ fn put_all<R: Wait>(rt: &R, send: &mut SendEnd<u32>)
     }
 }
 
-// Gets packets as long as each is one more than the one before, from 0 on, and says how many these were.
+/// Gets packets as long as each is one more than the one before, from 0 on, and says how many these were.
 fn got_in_order<R: Wait>(rt: &R, recv: &mut RecvEnd<u32>) -> u32
     ensures { recv_link recv.new ≡ recv_link recv.old }
 {
@@ -111,6 +116,7 @@ fn got_in_order<R: Wait>(rt: &R, recv: &mut RecvEnd<u32>) -> u32
     number
 }
 
+/// Asserts that no packet is left in the link after both threads have ended and its ends were settled.
 fn assert_nothing_is_left<R: Abort + Wait>(rt: &R, mut rest: Rest<u32>) {
     assert!(rt; rest.next(rt).is_none());
 }

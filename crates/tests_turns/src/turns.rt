@@ -34,6 +34,7 @@ impl Kept for Log {
 }
 
 impl Log {
+    /// A state of a place, to be kept by turns, whose journal is empty.
     fn new(alloc: Global) -> Log
         ensures { result.entries.items ≡ [] }
     {
@@ -206,6 +207,7 @@ fn assert_stays_open(
     (turns, first)
 }
 
+/// Asserts that a pass is refused at a busy place, and that turns cannot be closed while a pass is out.
 fn assert_refuses_and_stays_open(rt: &impl Abort, alloc: Global) {
     let (turns, mut first) = start_two(rt, alloc);
     let second = admit(rt, &turns, &mut first);

@@ -197,6 +197,7 @@ fn encoded_report(rt: &impl Abort, alloc: Global) -> Vec<u8> {
     written
 }
 
+/// Asserts that the Report that no member was there is encoded as the 22 bytes worked out by hand.
 fn assert_report_is_encoded(rt: &impl Abort, alloc: Global) {
     let written = encoded_report(rt, alloc);
     let bytes = bytes_of(rt, alloc, 5, "09");
@@ -204,6 +205,7 @@ fn assert_report_is_encoded(rt: &impl Abort, alloc: Global) {
     assert_eq!(rt; bytes.len(), 22);
 }
 
+/// Asserts that the Report's frame, worked out by hand, decodes to a packet with clock 5 from place 1.
 fn assert_report_is_read(rt: &impl Abort, alloc: Global) {
     let packet = packet_in(rt, alloc, 5, "09");
     assert_eq!(rt; (packet.clock, packet.from), (5, 1));
@@ -247,6 +249,7 @@ fn assert_numbers_told(rt: &impl Abort, alloc: Global) {
     assert_told(rt, alloc, "08 0002 0000000000000009", elsewhere);
 }
 
+/// Asserts the one-byte codes in Verdict frames of the answers without numbers: 05, 06, 07 and 0b.
 fn assert_others_told(rt: &impl Abort, alloc: Global) {
     assert_told(rt, alloc, "05", Answer::NoPort);
     assert_told(rt, alloc, "06", Answer::Already);
@@ -254,6 +257,7 @@ fn assert_others_told(rt: &impl Abort, alloc: Global) {
     assert_told(rt, alloc, "0b", Answer::Gone);
 }
 
+/// Asserts how Report frames code their answers: no member, how many were chosen, gone, and accepted.
 fn assert_all_reported(rt: &impl Abort, alloc: Global) {
     assert_reported(rt, alloc, "09", Answer::NoMember);
     assert_reported(rt, alloc, "0a 0020", Answer::Chosen { count: 32 });
@@ -278,6 +282,7 @@ fn the_first_field_at_fault_is_named(rt: HostRuntime) {
     assert_each_damaged(&rt, alloc, TRAILING, DecodeFault::Trailing);
 }
 
+/// The group `2.g.1`, which the frames worked out by hand name as route or destination.
 fn group(rt: &impl Abort) -> Ui {
     named(rt, 2, Kind::Group, 1)
 }
@@ -312,6 +317,7 @@ fn assert_asks(rt: &impl Abort, cargo: &Cargo) {
     }
 }
 
+/// Asserts that the frame of a Try decodes to a request with body `hi`, routed by the group, at site 16 alone.
 fn assert_message_is_tried(rt: &impl Abort, alloc: Global) {
     let end =
         "0002030000000001 0010 0000000000000003 0001020000000001 00000003 00000007 0001 01 00000004 0001020000000002 0002 6869";
@@ -325,6 +331,7 @@ fn a_message_is_tried(rt: HostRuntime) {
     assert_message_is_tried(&rt, rt.alloc());
 }
 
+/// Asserts that a Try frame whose route is all zeros decodes to none, and still demands site 16.
 fn assert_tried_without_a_route(rt: &impl Abort, alloc: Global) {
     let end =
         "0000000000000000 0010 0000000000000003 0001020000000001 00000003 00000007 0000 00 0000";
@@ -346,6 +353,7 @@ fn assert_asked(rt: &impl Abort, alloc: Global, end: &str, to: &Dest) {
     );
 }
 
+/// Asserts that the modes 01, 02 and 03 of an Ask frame are all of a group, one of it, and one of it at a site.
 fn assert_each_mode_is_asked(rt: &impl Abort, alloc: Global) {
     let to = group(rt);
     let all = "01 0002030000000001 0000 00000003 00000007 0000 02 00000005 00000004 0000";
@@ -371,6 +379,7 @@ fn assert_record(rt: &impl Abort, record: &PortRecord) {
     assert_eq!(rt; record.clients.get(1), Some((0, 7)));
 }
 
+/// Asserts that the frame of a Transfer decodes to the port with its capacity, hop, waiting messages and clients.
 fn assert_transferred(rt: &impl Abort, alloc: Global) {
     let packet = packet_in(rt, alloc, 3, "00000000 00000007");
     match &packet.cargo {

@@ -3,6 +3,7 @@
 use chorus_ui::{Kind, Ui};
 use std::process::Abort;
 
+/// The name of this site, kind and number, for tests of frames and of tables of ports; it must be in range.
 pub(crate) fn named(rt: &impl Abort, site: u16, kind: Kind, number: u64) -> Ui {
     Ui::new(site, kind, number).expect(rt, "a name")
 }

@@ -5,7 +5,7 @@ use chorus_merge::merge;
 use std::alloc::Global;
 use std::process::Abort;
 
-// An entry that tells by its seat where it stood.
+/// An entry that tells by its seat where it stood.
 fn entry(clock: u64, place: u16, seat: u32) -> Entry {
     Entry {
         clock,
@@ -15,6 +15,7 @@ fn entry(clock: u64, place: u16, seat: u32) -> Entry {
     }
 }
 
+/// A journal to merge, with an entry for each clock, place and seat listed.
 fn journal(rt: &impl Abort, alloc: Global, entries: &[(u64, u16, u32)]) -> Vec<Entry> {
     let mut journal = Vec::new(alloc);
     for (clock, place, seat) in entries.iter() {
@@ -25,6 +26,7 @@ fn journal(rt: &impl Abort, alloc: Global, entries: &[(u64, u16, u32)]) -> Vec<E
     journal
 }
 
+/// The journals to merge, one for each row of clocks, places and seats.
 fn journals(rt: &impl Abort, alloc: Global, rows: &[&[(u64, u16, u32)]]) -> Vec<Vec<Entry>> {
     let mut journals = Vec::new(alloc);
     for entries in rows.iter() {
@@ -46,6 +48,7 @@ fn assert_merged(
     assert!(rt; merged.as_slice() == journal(rt, alloc, want).as_slice());
 }
 
+/// Asserts that two journals merge by clock, at equal clocks by place, and that none merge into an empty one.
 fn assert_by_clock(rt: &impl Abort, alloc: Global) {
     let rows: [&[(u64, u16, u32)]; 2] = [&[(1, 1, 0), (4, 1, 0)], &[(1, 2, 0), (2, 2, 0)]];
     let want = [(1, 1, 0), (1, 2, 0), (2, 2, 0), (4, 1, 0)];

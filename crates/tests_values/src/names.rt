@@ -9,17 +9,20 @@ fn assert_written(rt: &impl Abort, out: &[u8], text: &[u8]) {
     assert!(rt; out.len() >= 2 && &out[2..] == text);
 }
 
+/// Asserts that the name appends exactly this text behind the bytes that are there.
 fn assert_name_written(rt: &impl Abort, alloc: Global, name: Ui, text: &[u8]) {
     let mut out = Vec::from_slice(alloc, b"> ").expect(rt, "memory");
     name.text(&mut out).expect(rt, "memory");
     assert_written(rt, out.as_slice(), text);
 }
 
+/// Asserts that the name packs into these 64 bits, and that they unpack into it again.
 fn assert_bits(rt: &impl Abort, name: Ui, bits: u64) {
     assert!(rt; name.bits() == bits);
     assert!(rt; Ui::of_bits(bits) == Some(name));
 }
 
+/// Asserts text and bits of three names, up to the greatest site and number: parsed, packed and written back.
 fn assert_names(rt: &impl Abort, alloc: Global) {
     let names: [(&[u8], u64); 3] = [
         (b"2.p.7", 565_148_976_676_871),
@@ -33,6 +36,7 @@ fn assert_names(rt: &impl Abort, alloc: Global) {
     }
 }
 
+/// Asserts that seven texts parse as no name: a zero, a leading zero, too great, an unknown kind, or empty.
 fn assert_no_names(rt: &impl Abort) {
     let no_names: [&[u8]; 7] = [
         b"0.p.1",

@@ -59,6 +59,7 @@ fn asked(
     }
 }
 
+/// Asserts that a port's at-most-once table takes 64 clients, knows the last again, and refuses a 65th.
 fn assert_fills(rt: &impl Abort, alloc: Global) {
     let ui = port(rt, 1);
     let mut ports = table(rt, alloc, 1);

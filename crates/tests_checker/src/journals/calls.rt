@@ -98,6 +98,7 @@ fn request_at(rt: &impl Abort, alloc: Global, at: u32) -> String {
     .expect(rt, "memory")
 }
 
+/// Asserts that the checker follows a port that accepts requests of 64 clients, and then refuses one of a 65th.
 fn assert_table_fills(rt: &impl Abort, alloc: Global) {
     let mut world = replay(rt, alloc, 1, 1, "1 1 0 make 1.p.1 1.a.1 64");
     for at in 0..64_u32 {
@@ -126,6 +127,7 @@ const DELETED: &str = "
     10 1 1 not-here 1.p.1
 ";
 
+/// Asserts that the checker follows a deletion that discards what waits, and has the port as ended.
 fn assert_deleted(rt: &impl Abort, alloc: Global) {
     let world = replay(rt, alloc, 1, 1, DELETED);
     assert!(rt; fate_of(rt, &world, "1.p.1").spot() == Spot::Ended);

@@ -191,6 +191,7 @@ fn joining(rt: &impl Abort, alloc: Global, number: u64) -> String {
     format!(in alloc; "{clock} 1 0 join 1.g.1 1.p.{number}").expect(rt, "memory")
 }
 
+/// Asserts that the checker lets four groups be made and 32 ports join, and refuses the next of each.
 fn assert_groups_fill(rt: &impl Abort, alloc: Global) {
     let mut world = replay(rt, alloc, 1, 1, FOUR_GROUPS);
     for number in 1..33_u64 {

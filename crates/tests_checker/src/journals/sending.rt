@@ -39,10 +39,12 @@ fn assert_moved(rt: &impl Abort, fate: &PortState, id: MsgId) {
     assert!(rt; fate.taken() == 0);
 }
 
+/// Asserts that the checker's world has no port of this name.
 fn assert_not_made(rt: &impl Abort, world: &World, name: &str) {
     assert!(rt; world.port(named(rt, name)).is_none());
 }
 
+/// Asserts that the checker's world has the verdict and the port's path after a message found it moved.
 fn assert_follows_a_move(rt: &impl Abort, alloc: Global) {
     let mut world = replay(rt, alloc, 3, 1, ACCEPTED_BEHIND_A_MOVE);
     let id = MsgId {

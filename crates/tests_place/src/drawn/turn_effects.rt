@@ -1,11 +1,12 @@
 //! How many entries a turn appends and how many packets it puts, and how many packets of each kind came.
 
+use crate::net::{Seen, look};
 use chorus_calls::Caller;
 use chorus_entry::{Cargo, Packet};
 use chorus_place::{Place, PlaceFault, Reply};
 use chorus_ui::CLOCK_LIMIT;
 use std::alloc::Global;
-use tests_ground::{Judge, Seen, check, look, must};
+use std::process::Abort;
 
 /// A place and a caller before a turn: what was seen of them, and how many entries and packets needed no memory.
 #[derive(Clone, Copy)]
@@ -22,35 +23,30 @@ pub(crate) fn look_before(place: &Place, caller: &Caller) -> Before {
     }
 }
 
-/// Asserts that the number is the one that is wanted.
-pub(crate) fn assert_is(judge: &impl Judge, number: u64, wanted: u64) {
-    check(judge, number == wanted, "the number that is wanted", "");
-}
-
 /// Asserts that what is wanted is seen.
-pub(crate) fn assert_seen(judge: &impl Judge, seen: &Seen, wanted: &Seen) {
-    check(judge, *seen == *wanted, "what is wanted", "");
+pub(crate) fn assert_seen(rt: &impl Abort, seen: &Seen, wanted: &Seen) {
+    assert!(rt; *seen == *wanted);
 }
 
 /// Asserts of the place's entries behind the first ones that they have the clocks behind this one, the place's number
 /// and the seat. Gives the last clock.
-fn assert_entries(judge: &impl Judge, place: &Place, first: usize, clock: u64, seat: u32) -> u64 {
+fn assert_entries(rt: &impl Abort, place: &Place, first: usize, clock: u64, seat: u32) -> u64 {
     let number = place.number();
     let mut clock = clock;
     for entry in place.journal().iter().skip(first) {
         clock = clock.saturating_add(1);
-        assert_is(judge, entry.clock, clock);
-        assert_is(judge, u64::from(entry.place), u64::from(number));
-        assert_is(judge, u64::from(entry.seat), u64::from(seat));
+        assert!(rt; entry.clock == clock);
+        assert!(rt; entry.place == number);
+        assert!(rt; entry.seat == seat);
     }
     clock
 }
 
-/// Asserts of a turn that ended: its entries have the next clocks, the place's number and the caller's seat, its
-/// packets wait, and no more room was taken than that of its entries and packets. Gives how many these are. `heard` is
-/// the clock of the packet, or 0.
+/// Asserts of a turn that ended: its entries have the next clocks, the place's number and the caller's seat, and no more
+/// room was taken than that of its entries and packets. Gives how many these are. `heard` is the clock of the packet, or
+/// 0.
 fn assert_counted(
-    judge: &impl Judge,
+    rt: &impl Abort,
     place: &Place,
     caller: &Caller,
     before: &Before,
@@ -58,33 +54,27 @@ fn assert_counted(
 ) -> (u64, u64) {
     let (old, new) = (before.seen, look(place, caller));
     let entries = new.entries.checked_sub(old.entries);
-    let entries = must(judge, entries, "no entry that is lost") as u64;
-    let packets = must(judge, new.puts.checked_sub(old.puts), "a count");
-    check(judge, entries >= 1, "an entry", "");
+    let entries = entries.expect(rt, "no entry that is lost") as u64;
+    let packets = new.puts.checked_sub(old.puts).expect(rt, "a count");
+    assert!(rt; entries >= 1);
     let clock = old.clock.max(old.last).max(heard);
-    let clock = assert_entries(judge, place, old.entries, clock, caller.seat());
+    let clock = assert_entries(rt, place, old.entries, clock, caller.seat());
     let mut wanted = new;
-    wanted.waiting = old.waiting.saturating_add(packets);
     wanted.clock = clock;
     wanted.last = clock;
-    assert_seen(judge, &new, &wanted);
+    assert_seen(rt, &new, &wanted);
     let left = place
         .spare()
         .saturating_add(entries)
         .saturating_add(packets);
-    check(
-        judge,
-        before.spare <= left,
-        "no more room that is taken",
-        "",
-    );
+    assert!(rt; before.spare <= left);
     (entries, packets)
 }
 
 /// Asserts of a command what came of it: it was worn exactly where a clock is, and then nothing changed; else its turn
-/// ended.
+/// ended, and its packets wait.
 pub(crate) fn assert_acted(
-    judge: &impl Judge,
+    rt: &impl Abort,
     place: &Place,
     caller: &Caller,
     before: &Before,
@@ -92,12 +82,12 @@ pub(crate) fn assert_acted(
 ) {
     let clock = before.seen.clock.max(before.seen.last);
     if clock >= CLOCK_LIMIT {
-        let is_worn = told.err() == Some(PlaceFault::Worn { clock });
-        check(judge, is_worn, "a worn clock", "");
-        assert_seen(judge, &look(place, caller), &before.seen);
+        assert!(rt; told.err() == Some(PlaceFault::Worn { clock }));
+        assert_seen(rt, &look(place, caller), &before.seen);
     } else {
-        check(judge, told.is_ok(), "a reply", "");
-        assert_counted(judge, place, caller, before, 0);
+        assert!(rt; told.is_ok());
+        let (_entries, packets) = assert_counted(rt, place, caller, before, 0);
+        assert!(rt; place.waiting() == before.seen.waiting.saturating_add(packets));
     }
 }
 
@@ -129,30 +119,30 @@ pub(crate) fn effect_of(packet: &Packet) -> Effect {
 }
 
 /// Asserts that the number is from one to the other.
-fn assert_between(judge: &impl Judge, number: u64, bounds: (u64, u64)) {
-    let is_within = bounds.0 <= number && number <= bounds.1;
-    check(judge, is_within, "a number within its bounds", "");
+fn assert_between(rt: &impl Abort, number: u64, bounds: (u64, u64)) {
+    assert!(rt; bounds.0 <= number && number <= bounds.1);
 }
 
-/// Asserts of a packet that was worked off that its turn ended and did what the packet leads to, and that nothing else
-/// of the caller changed.
+/// Asserts of a packet that was worked off that its turn ended and did what the packet leads to, that no packet waits,
+/// and that nothing else of the caller changed.
 pub(crate) fn assert_worked_off(
-    judge: &impl Judge,
+    rt: &impl Abort,
     place: &Place,
     caller: &Caller,
     before: &Before,
     effect: Effect,
 ) {
-    let (entries, packets) = assert_counted(judge, place, caller, before, effect.clock);
-    assert_between(judge, entries, effect.entries);
-    assert_between(judge, packets, effect.packets);
+    let (entries, packets) = assert_counted(rt, place, caller, before, effect.clock);
+    assert_between(rt, entries, effect.entries);
+    assert_between(rt, packets, effect.packets);
+    assert!(rt; place.waiting() == 0);
     let (old, new) = (before.seen, look(place, caller));
     let mut wanted = new;
     wanted.held = old.held.saturating_add(effect.ports);
     wanted.posts = old.posts;
     wanted.given = old.given;
     wanted.hand = old.hand;
-    assert_seen(judge, &new, &wanted);
+    assert_seen(rt, &new, &wanted);
 }
 
 /// The number of the kind of tries.
@@ -184,18 +174,18 @@ pub(crate) fn count(counts: &mut [u32], at: usize) {
 }
 
 /// None of any kind.
-pub(crate) fn no_counts(judge: &impl Judge, alloc: Global) -> Counts {
+pub(crate) fn no_counts(rt: &impl Abort, alloc: Global) -> Counts {
     Counts {
-        shown: must(judge, Vec::from_slice(alloc, &[0; 5]).ok(), "memory"),
-        worked: must(judge, Vec::from_slice(alloc, &[0; 5]).ok(), "memory"),
+        shown: Vec::from_slice(alloc, &[0; 5]).ok().expect(rt, "memory"),
+        worked: Vec::from_slice(alloc, &[0; 5]).ok().expect(rt, "memory"),
     }
 }
 
 /// Asserts that of each kind at least so many were worked off, and so many were not.
-pub(crate) fn assert_both(judge: &impl Judge, counts: &Counts, least: u32) {
+pub(crate) fn assert_both(rt: &impl Abort, counts: &Counts, least: u32) {
     for (worked, shown) in counts.worked.iter().zip(counts.shown.iter()) {
         let not_worked = shown.saturating_sub(*worked);
-        check(judge, *worked >= least, "enough that were worked off", "");
-        check(judge, not_worked >= least, "enough that were not", "");
+        assert!(rt; *worked >= least);
+        assert!(rt; not_worked >= least);
     }
 }

@@ -6,16 +6,19 @@ use chorus_place::{PlaceFault, Reply};
 use chorus_ui::{Ui, push_decimal};
 use std::alloc::AllocError;
 
+/// Appends a blank and the number to the line of a reply.
 fn push_number(out: &mut Vec<u8>, number: u64) -> Result<(), AllocError> {
     out.push(b' ')?;
     push_decimal(number, out)
 }
 
+/// Appends a blank and the name to the line of a reply.
 fn push_name(out: &mut Vec<u8>, ui: Ui) -> Result<(), AllocError> {
     out.push(b' ')?;
     ui.text(out)
 }
 
+/// Appends a blank and the message's id as `SEAT:NUMBER:COPY` to the line of a reply.
 fn push_id(out: &mut Vec<u8>, id: MsgId) -> Result<(), AllocError> {
     push_number(out, u64::from(id.seat))?;
     out.push(b':')?;
@@ -36,6 +39,7 @@ fn push_named(out: &mut Vec<u8>, words: &str, id: MsgId) -> Result<(), AllocErro
     push_id(out, id)
 }
 
+/// Appends the tag of a received message: `plain`, or `request` or `reply` with what answers or is answered.
 fn push_tag(out: &mut Vec<u8>, tag: Tag) -> Result<(), AllocError> {
     match tag {
         Tag::Plain => out.extend_from_slice(b" plain"),
@@ -50,6 +54,7 @@ fn push_tag(out: &mut Vec<u8>, tag: Tag) -> Result<(), AllocError> {
     }
 }
 
+/// Appends a received message to the line that tells a caller: its id, its tag and, behind ` =`, its body.
 fn push_message(out: &mut Vec<u8>, message: &Message) -> Result<(), AllocError> {
     push_id(out, message.id)?;
     push_tag(out, message.tag)?;
@@ -57,6 +62,7 @@ fn push_message(out: &mut Vec<u8>, message: &Message) -> Result<(), AllocError> 
     out.extend_from_slice(message.body.bytes())
 }
 
+/// Appends whether a reply that was taken settled the caller's call (`done`) or came too late (`late`), if either.
 fn push_settled(out: &mut Vec<u8>, settled: Option<Settle>) -> Result<(), AllocError> {
     match settled {
         Some(Settle::Done) => out.extend_from_slice(b" done"),

@@ -4,20 +4,20 @@
 use chorus_draw::{next_state, number_of};
 use chorus_ui::PLACES_LIMIT;
 use std::alloc::Global;
-use tests_ground::Judge;
+use std::process::Abort;
 
 /// Numbers that are drawn, and what is made of them.
 #[derive(Drop)]
-pub(crate) struct Draws<'a, J: Judge> {
+pub(crate) struct Draws<'a, R: Abort> {
     /// What ends the test.
-    pub(crate) judge: &'a J,
+    pub(crate) rt: &'a R,
     /// Where memory comes from.
     pub(crate) alloc: Global,
     /// The state of the generator: what is drawn follows from it.
     pub(crate) state: u64,
 }
 
-impl<'a, J: Judge> Draws<'a, J> {
+impl<'a, R: Abort> Draws<'a, R> {
     /// A number below `count`; 0 where that is 0.
     pub(crate) fn wide(&mut self, count: u64) -> u64 {
         self.state = next_state(self.state);

@@ -25,10 +25,12 @@ fn with_summary(rt: &impl Abort, alloc: Global, text: &str, entries: &[Entry]) -
     text_of(rt, out)
 }
 
+/// Pushes the act's entry (clock 5, place 2, seat 30) onto those whose journal or summary is shown.
 fn add(rt: &impl Abort, entries: &mut Vec<Entry>, act: Act) {
     entries.push(entry(5, act)).expect(rt, "memory");
 }
 
+/// Asserts that no entries are shown as `journal 0` and a summary of zeros, without a line `discarded`.
 fn assert_empty(rt: &impl Abort, alloc: Global) {
     let journal = with_journal(rt, alloc, "", &[]);
     let both = with_summary(rt, alloc, journal.as_str(), &[]);
@@ -42,6 +44,7 @@ fn empty_scenario(rt: HostRuntime) {
     assert_empty(&rt, rt.alloc());
 }
 
+/// Asserts that a journal of two entries is shown as its count and one line for each, behind what was there.
 fn assert_two_lines(rt: &impl Abort, alloc: Global) {
     let mut entries = Vec::new(alloc);
     add(rt, &mut entries, Act::NoCall);
@@ -56,11 +59,13 @@ fn journals_have_a_line_for_each_entry(rt: HostRuntime) {
     assert_two_lines(&rt, rt.alloc());
 }
 
+/// The port of this number at site 1, one of those of which the summary counts what waits.
 fn port(rt: &impl Abort, number: u64) -> Ui {
     name(rt, 1, Kind::Port, number)
 }
 
-fn make(rt: &impl Abort, entries: &mut Vec<Entry>, port: Ui) {
+/// Adds the entry by which actor `2.a.8` makes the port with capacity 4; what waits in it counts as `queued`.
+fn add_make(rt: &impl Abort, entries: &mut Vec<Entry>, port: Ui) {
     let make = Act::Make {
         port,
         actor: named_things(rt).actor,
@@ -69,7 +74,8 @@ fn make(rt: &impl Abort, entries: &mut Vec<Entry>, port: Ui) {
     add(rt, entries, make);
 }
 
-fn post(rt: &impl Abort, alloc: Global, entries: &mut Vec<Entry>, port: Ui) {
+/// Adds the entry by which message `3:7:1` is posted to the port, which the summary counts as `posted`.
+fn add_post(rt: &impl Abort, alloc: Global, entries: &mut Vec<Entry>, port: Ui) {
     let message = Message {
         id: named_things(rt).id,
         tag: Tag::Plain,
@@ -79,17 +85,20 @@ fn post(rt: &impl Abort, alloc: Global, entries: &mut Vec<Entry>, port: Ui) {
     add(rt, entries, Act::Post { message, dest });
 }
 
-fn accept(rt: &impl Abort, entries: &mut Vec<Entry>, port: Ui) {
+/// Adds the entry by which the port accepts message `3:7:1`, one more `accepted` in the summary.
+fn add_accept(rt: &impl Abort, entries: &mut Vec<Entry>, port: Ui) {
     let id = named_things(rt).id;
     add(rt, entries, Act::Accept { id, port, pos: 0 });
 }
 
-fn take(rt: &impl Abort, entries: &mut Vec<Entry>, port: Ui) {
+/// Adds the entry by which message `3:7:1` is taken from the port, one more `taken` in the summary.
+fn add_take(rt: &impl Abort, entries: &mut Vec<Entry>, port: Ui) {
     let id = named_things(rt).id;
     add(rt, entries, Act::Take { port, pos: 0, id });
 }
 
-fn depart(rt: &impl Abort, entries: &mut Vec<Entry>, port: Ui) {
+/// Adds the entry by which the port departs to place 2 by hop 1, one more of the summary's `departs`.
+fn add_depart(rt: &impl Abort, entries: &mut Vec<Entry>, port: Ui) {
     let depart = Act::Depart {
         port,
         to: 2,
@@ -99,7 +108,8 @@ fn depart(rt: &impl Abort, entries: &mut Vec<Entry>, port: Ui) {
     add(rt, entries, depart);
 }
 
-fn stale(rt: &impl Abort, entries: &mut Vec<Entry>, port: Ui) {
+/// Adds the entry by which message `3:7:1` finds that the port went to place 2, one more `stale` in the summary.
+fn add_stale(rt: &impl Abort, entries: &mut Vec<Entry>, port: Ui) {
     let stale = Act::Stale {
         id: named_things(rt).id,
         port,
@@ -110,7 +120,8 @@ fn stale(rt: &impl Abort, entries: &mut Vec<Entry>, port: Ui) {
     add(rt, entries, stale);
 }
 
-fn delete(rt: &impl Abort, alloc: Global, entries: &mut Vec<Entry>, port: Ui, ids: &[MsgId]) {
+/// Adds the entry that deletes the port and discards these messages, which the summary counts as `discarded`.
+fn add_delete(rt: &impl Abort, alloc: Global, entries: &mut Vec<Entry>, port: Ui, ids: &[MsgId]) {
     let discarded = ids_of(rt, alloc, ids);
     add(rt, entries, Act::Delete { port, discarded });
 }
@@ -118,22 +129,22 @@ fn delete(rt: &impl Abort, alloc: Global, entries: &mut Vec<Entry>, port: Ui, id
 /// Port 1 moves with two messages.
 fn add_port_one(rt: &impl Abort, alloc: Global, entries: &mut Vec<Entry>) {
     let one = port(rt, 1);
-    post(rt, alloc, entries, one);
-    make(rt, entries, one);
-    accept(rt, entries, one);
-    accept(rt, entries, one);
-    take(rt, entries, one);
-    depart(rt, entries, one);
-    accept(rt, entries, one);
+    add_post(rt, alloc, entries, one);
+    add_make(rt, entries, one);
+    add_accept(rt, entries, one);
+    add_accept(rt, entries, one);
+    add_take(rt, entries, one);
+    add_depart(rt, entries, one);
+    add_accept(rt, entries, one);
 }
 
 /// Port 2 is held, and more was taken than accepted.
 fn add_port_two(rt: &impl Abort, entries: &mut Vec<Entry>) {
     let two = port(rt, 2);
     add(rt, entries, Act::Arrive { port: two, hop: 1 });
-    accept(rt, entries, two);
-    take(rt, entries, two);
-    take(rt, entries, two);
+    add_accept(rt, entries, two);
+    add_take(rt, entries, two);
+    add_take(rt, entries, two);
     let full = Act::Full {
         id: named_things(rt).id,
         port: two,
@@ -145,7 +156,7 @@ fn add_port_two(rt: &impl Abort, entries: &mut Vec<Entry>) {
 /// Port 3 came back and holds one.
 fn add_port_three(rt: &impl Abort, entries: &mut Vec<Entry>) {
     let three = port(rt, 3);
-    depart(rt, entries, three);
+    add_depart(rt, entries, three);
     add(
         rt,
         entries,
@@ -154,7 +165,7 @@ fn add_port_three(rt: &impl Abort, entries: &mut Vec<Entry>) {
             hop: 1,
         },
     );
-    accept(rt, entries, three);
+    add_accept(rt, entries, three);
     let rehome = Act::Rehome {
         port: three,
         actor: named_things(rt).actor,
@@ -166,21 +177,22 @@ fn add_port_three(rt: &impl Abort, entries: &mut Vec<Entry>) {
 fn add_port_four(rt: &impl Abort, alloc: Global, entries: &mut Vec<Entry>) {
     let Things { id, .. } = named_things(rt);
     let four = port(rt, 4);
-    make(rt, entries, four);
-    accept(rt, entries, four);
-    delete(rt, alloc, entries, four, &[id, id]);
+    add_make(rt, entries, four);
+    add_accept(rt, entries, four);
+    add_delete(rt, alloc, entries, four, &[id, id]);
     add(rt, entries, Act::Gone { id, port: four });
 }
 
 /// Port 6 is deleted, with none discarded. A message for it was stale, and one for port 1. Port 5 was never made.
 fn add_port_six(rt: &impl Abort, alloc: Global, entries: &mut Vec<Entry>) {
     let six = port(rt, 6);
-    delete(rt, alloc, entries, six, &[]);
-    stale(rt, entries, six);
-    stale(rt, entries, port(rt, 1));
-    accept(rt, entries, port(rt, 5));
+    add_delete(rt, alloc, entries, six, &[]);
+    add_stale(rt, entries, six);
+    add_stale(rt, entries, port(rt, 1));
+    add_accept(rt, entries, port(rt, 5));
 }
 
+/// Asserts each number of the summary of six ports: moving, held, come back, deleted with messages and without.
 fn assert_six_ports(rt: &impl Abort, alloc: Global) {
     let mut entries = Vec::new(alloc);
     add_port_one(rt, alloc, &mut entries);
@@ -199,9 +211,10 @@ fn summaries_count_where_ports_are(rt: HostRuntime) {
     assert_six_ports(&rt, rt.alloc());
 }
 
+/// Asserts that the summary of a deletion that discards nothing still has the line `discarded 0`.
 fn assert_deleted_alone(rt: &impl Abort, alloc: Global) {
     let mut entries = Vec::new(alloc);
-    delete(rt, alloc, &mut entries, port(rt, 6), &[]);
+    add_delete(rt, alloc, &mut entries, port(rt, 6), &[]);
     let summary = with_summary(rt, alloc, "", &entries);
     let text =
         "summary\nposted 0\naccepted 0\ntaken 0\nqueued 0\nmoving 0\ndiscarded 0\nrefused 0\nstale 0\ndeparts 0\nend\n";
@@ -227,6 +240,7 @@ fn assert_fault(rt: &impl Abort, alloc: Global, status: Status, number: u8, line
     assert_text(rt, written.as_str(), line);
 }
 
+/// Asserts the exit numbers and lines of the two faults that tell a number: a refused scenario, and a worn clock.
 fn assert_faults_with_numbers(rt: &impl Abort, alloc: Global) {
     let scenario = Status::Scenario {
         line: 11,
@@ -241,6 +255,7 @@ fn assert_faults_with_numbers(rt: &impl Abort, alloc: Global) {
     assert_fault(rt, alloc, worn, 6, line);
 }
 
+/// Asserts the exit number of each status, and the line `chorus: ..` that tells it; for `Done` there is none.
 fn assert_faults(rt: &impl Abort, alloc: Global) {
     assert_fault(rt, alloc, Status::Done, 0, "> ");
     let usage = "> chorus: usage: chorus replay, run, or load FIRST COMMANDS\n";

@@ -1,4 +1,4 @@
-//! Texts that are read and printed, and the first rows of those that are refused.
+//! Texts of scenarios that are read and printed, and the first rows of those that are refused.
 //!
 //! A row has a text, in which `;` stands for the end of a line and `$` for the byte 255, then `|`, and what is told of it: the line
 //! and the reason for which it is refused, or `read`.
@@ -9,6 +9,7 @@ use chorus_ui::Layout;
 use std::alloc::Global;
 use std::process::Abort;
 
+/// The layout against which a scenario is read: so many sites, each with so many places.
 pub(crate) fn layout_of(rt: &impl Abort, sites: u16, turns: u16) -> Layout {
     Layout::new(sites, turns).expect(rt, "a layout")
 }
@@ -68,6 +69,7 @@ fn told_of(rt: &impl Abort, alloc: Global, layout: Layout, text: &[u8]) -> Strin
     told
 }
 
+/// Reads the row's text behind the front, and asserts that it is read, or refused by the line and reason told.
 fn assert_row(rt: &impl Abort, alloc: Global, layout: Layout, front: &str, row: &str) {
     let (text, told) = row.split_once('|').expect(rt, "a row");
     let whole = behind(rt, alloc, front, text);
@@ -119,6 +121,7 @@ fn assert_printed_back(rt: &impl Abort, alloc: Global, layout: Layout, head: &st
     assert_prints(rt, alloc, layout, &text, &text);
 }
 
+/// Asserts that version 1 refuses capacities 0 and 65 and a body of 241 bytes, and reads on behind one of 240.
 fn assert_limits(rt: &impl Abort, alloc: Global) {
     let sixteen = layout_of(rt, 16, 1);
     let send = "chorus 1\nsites 1\nport 1.p.1 1.a.1 1\nscript 1.a.1\nsend 1.p.1 =";
@@ -165,6 +168,7 @@ chorus 1;sites 1;script 1.a.1;send 1.p.1 x|4 2
 chorus 1;sites 1;schedule;deliver 1 1|4 10
 ";
 
+/// Asserts line and reason of each row of refused texts, and of texts with as many empty lines as may be, or more.
 fn assert_refused(rt: &impl Abort, alloc: Global) {
     let eight = layout_of(rt, 8, 1);
     assert_rows(rt, alloc, eight, "", REFUSED);
@@ -205,6 +209,7 @@ fn tests_in_their_order(rt: HostRuntime) {
     assert_rows(&rt, rt.alloc(), eight, "", IN_THEIR_ORDER);
 }
 
+/// Asserts that version 2 reads a body in hexadecimal digits and prints it back, and refuses an odd or capital one.
 fn assert_binary_bodies(rt: &impl Abort, alloc: Global) {
     let sixteen = layout_of(rt, 16, 1);
     let scenario = "sites 1;port 1.p.1 1.a.1 1;script 1.a.1;send 1.p.1 x00ff;schedule";
@@ -258,6 +263,7 @@ sites 1;port 1.p.1 1.a.1 4;script 1.a.1;call 1.p.1 1.p.1 =q;call 1.p.1 1.p.1 =r;
 sites 8;script 8.a.8;newport 8.a.8 64;newgroup 8;join 8.g.1 8.p.1;leave 8.g.1 8.p.1;send 1.p.1 =;reply = two  spaces ;schedule;drain
 ";
 
+/// Asserts that each scenario of the list is printed exactly as it was read.
 fn assert_scenarios(rt: &impl Abort, alloc: Global) {
     let sixteen = layout_of(rt, 16, 1);
     for scenario in SCENARIOS.lines() {

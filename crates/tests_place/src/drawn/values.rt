@@ -1,14 +1,14 @@
 //! What commands and packets are made of: mostly names and numbers such as four places of two sites have, seldom
 //! others.
 
-use crate::draws::Draws;
+use crate::drawn::draws::Draws;
 use chorus_entry::{Answer, BODY_LIMIT, Body, Dest, Message, MsgId, Tag};
 use chorus_ui::{
     ACTORS_PER_SITE_LIMIT, GROUPS_PER_SITE_LIMIT, Kind, PLACES_LIMIT, PORTS_PER_SITE_LIMIT,
     SEATS_LIMIT, SITES_LIMIT, Ui,
 };
 use std::alloc::Global;
-use tests_ground::{Judge, must};
+use std::process::Abort;
 
 /// The greatest number in a name.
 const NUMBERS_LIMIT: u64 = (1 << 40) - 1;
@@ -19,7 +19,7 @@ pub(crate) const LONGEST: u8 = 64;
 /// The most members of a group, and so the greatest number of a copy.
 const MOST_MEMBERS: u16 = 32;
 
-impl<'a, J: Judge> Draws<'a, J> {
+impl<'a, R: Abort> Draws<'a, R> {
     /// A name of this kind; seldom of another one.
     pub(crate) fn name(&mut self, kind: Kind, most: u64, limit: u64) -> Ui {
         let kind = match self.below(90) {
@@ -30,21 +30,20 @@ impl<'a, J: Judge> Draws<'a, J> {
         };
         let site = self.near_u16(2, SITES_LIMIT);
         let number = self.near(most, limit).min(NUMBERS_LIMIT);
-        must(
-            self.judge,
-            Ui::new(site.max(1), kind, number.max(1)),
-            "a name",
-        )
+        Ui::new(site.max(1), kind, number.max(1)).expect(self.rt, "a name")
     }
 
+    /// Draws a port's name, mostly one of the first four of two sites.
     pub(crate) fn port(&mut self) -> Ui {
         self.name(Kind::Port, 4, PORTS_PER_SITE_LIMIT)
     }
 
+    /// Draws a group's name, mostly one of the first two of two sites.
     pub(crate) fn group(&mut self) -> Ui {
         self.name(Kind::Group, 2, GROUPS_PER_SITE_LIMIT)
     }
 
+    /// Draws an actor's name, mostly one of the first two of two sites.
     pub(crate) fn actor(&mut self) -> Ui {
         self.name(Kind::Actor, 2, ACTORS_PER_SITE_LIMIT)
     }
@@ -55,13 +54,10 @@ impl<'a, J: Judge> Draws<'a, J> {
             return self.actor();
         }
         let number = u64::from(self.below(2).saturating_add(1));
-        must(
-            self.judge,
-            Ui::new(place.saturating_add(1) / 2, Kind::Actor, number),
-            "a name",
-        )
+        Ui::new(place.saturating_add(1) / 2, Kind::Actor, number).expect(self.rt, "a name")
     }
 
+    /// Draws by which group a message came: in one of three cases some group, else none.
     pub(crate) fn route(&mut self) -> Option<Ui> {
         if self.hits(3) {
             return Some(self.group());
@@ -69,6 +65,7 @@ impl<'a, J: Judge> Draws<'a, J> {
         None
     }
 
+    /// Draws at which site alone a message may be accepted: in one of three cases some site, else any.
     pub(crate) fn only(&mut self) -> Option<u16> {
         if self.hits(3) {
             return Some(self.near_u16(2, SITES_LIMIT));
@@ -81,6 +78,7 @@ impl<'a, J: Judge> Draws<'a, J> {
         self.near_u32(5, SEATS_LIMIT).saturating_sub(1)
     }
 
+    /// Draws a message's id, mostly with a seat from 0 to 4, a number from 1 to 6 and a copy from 0 to 3.
     pub(crate) fn id(&mut self) -> MsgId {
         MsgId {
             seat: self.seat(),
@@ -89,6 +87,7 @@ impl<'a, J: Judge> Draws<'a, J> {
         }
     }
 
+    /// Draws a message's tag: half are plain, a quarter requests and a quarter replies.
     pub(crate) fn tag(&mut self) -> Tag {
         match self.below(4) {
             0 => Tag::Request {
@@ -103,6 +102,7 @@ impl<'a, J: Judge> Draws<'a, J> {
         }
     }
 
+    /// Draws a message for a command or a packet, its id, tag and body each on its own.
     pub(crate) fn message(&mut self) -> Message {
         let id = self.id();
         let tag = self.tag();
@@ -117,9 +117,10 @@ impl<'a, J: Judge> Draws<'a, J> {
             1 => BODY_LIMIT,
             _ => 1,
         };
-        body_of(self.judge, self.alloc, length)
+        body_of(self.rt, self.alloc, length)
     }
 
+    /// Draws one of all kinds of answers, with positions and hops that are mostly not above the clock.
     pub(crate) fn answer(&mut self, clock: u64) -> Answer {
         let number = self.up_to(clock);
         let to = self.near_u16(4, PLACES_LIMIT);
@@ -151,6 +152,7 @@ impl<'a, J: Judge> Draws<'a, J> {
         answer
     }
 
+    /// Draws a destination, seldom a port, else a group: all, one, or one at a site.
     pub(crate) fn dest(&mut self) -> Dest {
         match self.below(13) {
             0 => Dest::Port(self.port()),
@@ -162,13 +164,11 @@ impl<'a, J: Judge> Draws<'a, J> {
 }
 
 /// A body of so many bytes.
-fn body_of(judge: &impl Judge, alloc: Global, length: usize) -> Body {
+fn body_of(rt: &impl Abort, alloc: Global, length: usize) -> Body {
     let mut bytes = Vec::new(alloc);
     for _ in 0..length {
-        must(judge, bytes.push(b'x').ok(), "memory");
+        bytes.push(b'x').ok().expect(rt, "memory");
     }
-    if bytes.len() > BODY_LIMIT {
-        match judge.fail("a body within its limit", "") {}
-    }
-    must(judge, Body::new(alloc, &bytes).ok(), "memory")
+    assert!(rt; bytes.len() <= BODY_LIMIT);
+    Body::new(alloc, &bytes).expect(rt, "memory")
 }

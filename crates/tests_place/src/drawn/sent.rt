@@ -1,10 +1,10 @@
 //! What a place sends: each packet is caused by an entry, and goes where that says.
 
-use crate::callers::PLACES;
+use crate::drawn::callers::PLACES;
 use chorus_ends::MemEnds;
 use chorus_entry::{Act, Cargo, Entry, Packet};
 use chorus_place::Place;
-use tests_ground::{Judge, check};
+use std::process::Abort;
 
 /// Whether the act sends a message or a port to the place.
 fn sends_to(act: &Act, place: u16) -> bool {
@@ -46,7 +46,7 @@ fn verdicts(packets: &[Packet]) -> u32 {
 /// Asserts of the packets that were sent to a place that they are of this place, that each was caused by an entry, in
 /// their order, and that so many of them are verdicts.
 fn assert_sent_to(
-    judge: &impl Judge,
+    rt: &impl Abort,
     place: &Place,
     to: u16,
     packets: &[Packet],
@@ -54,20 +54,17 @@ fn assert_sent_to(
 ) {
     let mut clock = 0;
     for packet in packets {
-        let is_own = packet.from == place.number();
-        check(judge, is_own, "a packet of this place", "");
-        check(judge, packet.clock > clock, "a later packet", "");
-        let has_cause = is_caused(place.journal(), packet, to);
-        check(judge, has_cause, "a packet of an entry", "");
+        assert!(rt; packet.from == place.number());
+        assert!(rt; packet.clock > clock);
+        assert!(rt; is_caused(place.journal(), packet, to));
         clock = packet.clock;
     }
-    let are_all = Some(verdicts(packets)) == decided.copied();
-    check(judge, are_all, "as many verdicts as decisions", "");
+    assert!(rt; Some(verdicts(packets)) == decided.copied());
 }
 
 /// Asserts that so many packets were sent, none of them to the place itself.
 pub(crate) fn assert_sent(
-    judge: &impl Judge,
+    rt: &impl Abort,
     place: &Place,
     ends: &MemEnds,
     decided: &[u32],
@@ -76,10 +73,9 @@ pub(crate) fn assert_sent(
     let mut count = 0usize;
     for to in 0..=PLACES {
         let packets = ends.sent(to);
-        assert_sent_to(judge, place, to, packets, decided.get(usize::from(to)));
+        assert_sent_to(rt, place, to, packets, decided.get(usize::from(to)));
         count = count.saturating_add(packets.len());
     }
-    check(judge, count as u64 == put, "all that was put", "");
-    let is_alone = ends.sent(place.number()).is_empty();
-    check(judge, is_alone, "nothing to the place itself", "");
+    assert!(rt; count as u64 == put);
+    assert!(rt; ends.sent(place.number()).is_empty());
 }

@@ -1,18 +1,17 @@
 //! Packets for a place: lawful ones, nearly lawful ones and arbitrary ones.
 
-use crate::drawn_values::LONGEST;
-use crate::draws::Draws;
-use chorus_entry::{
-    Act, CLIENTS_LIMIT, Cargo, ClientTable, Message, PENDING_LIMIT, Packet, Pending, PortRecord,
-};
+use crate::drawn::draws::Draws;
+use crate::drawn::values::LONGEST;
+use crate::records::{push_client, push_message};
+use chorus_entry::{Act, Cargo, Packet, PortRecord};
 use chorus_place::Place;
 use chorus_ui::{CLOCK_LIMIT, PLACES_LIMIT};
-use tests_ground::{Judge, must};
+use std::process::Abort;
 
 /// The most clients that a port remembers.
 const MOST_CLIENTS: u32 = 64;
 
-impl<'a, J: Judge> Draws<'a, J> {
+impl<'a, R: Abort> Draws<'a, R> {
     /// As `packet`; seldom with the greatest clock that is not worn, behind which the place is.
     pub(crate) fn wearing_packet(&mut self, place: &Place) -> Packet {
         let mut packet = self.packet(place);
@@ -59,6 +58,7 @@ impl<'a, J: Judge> Draws<'a, J> {
         }
     }
 
+    /// Draws the cargo of a packet that tries a message at a port, with a hop below 8 or drawn up to the clock.
     fn try_of_message(&mut self, clock: u64) -> Cargo {
         Cargo::Try {
             message: self.message(),
@@ -107,7 +107,7 @@ impl<'a, J: Judge> Draws<'a, J> {
         let ui = self.port();
         let actor = self.actor_of(place.number());
         let made = PortRecord::with_room(self.alloc, ui, actor, 2);
-        let mut port = must(self.judge, made.ok(), "memory");
+        let mut port = made.expect(self.rt, "memory");
         port.capacity = self.near_u8(4, LONGEST);
         port.hop = self.hop(clock);
         port.first = self.up_to(clock);
@@ -122,7 +122,7 @@ impl<'a, J: Judge> Draws<'a, J> {
         let count = if self.hits(20) { most } else { self.below(3) };
         for _ in 0..count {
             let message = self.message();
-            push_message(self.judge, &mut port.pending, message);
+            push_message(self.rt, &mut port.pending, message);
         }
     }
 
@@ -135,7 +135,7 @@ impl<'a, J: Judge> Draws<'a, J> {
         };
         for client in 0..count {
             let number = self.near_u32(4, u32::MAX);
-            push_client(self.judge, &mut port.clients, client, number);
+            push_client(self.rt, &mut port.clients, client, number);
         }
     }
 
@@ -152,25 +152,6 @@ impl<'a, J: Judge> Draws<'a, J> {
         }
         None
     }
-}
-
-/// A message more waits.
-fn push_message(judge: &impl Judge, pending: &mut Pending, message: Message) {
-    if pending.len() >= PENDING_LIMIT {
-        match judge.fail("room for a message", "") {}
-    }
-    pending.push(message);
-}
-
-/// A client more is remembered.
-fn push_client(judge: &impl Judge, clients: &mut ClientTable, client: u32, number: u32) {
-    if clients.len() >= CLIENTS_LIMIT {
-        match judge.fail("room for a client", "") {}
-    }
-    if clients.number_of(client).is_some() {
-        match judge.fail("a client that is not there", "") {}
-    }
-    clients.push(client, number);
 }
 
 /// Whether it is a try, or else a post to a group.

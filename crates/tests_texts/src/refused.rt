@@ -1,6 +1,6 @@
-//! Texts that are refused, each worked out by hand from the grammar, as rows (see [`crate::texts`]).
+//! Texts that are refused, each worked out by hand from the grammar, as rows (see [`crate::scenarios`]).
 
-use crate::texts::{assert_rows, layout_of};
+use crate::scenarios::{assert_rows, layout_of};
 use chorus_scene::SceneFault;
 use std::alloc::Global;
 use std::process::Abort;
@@ -34,6 +34,7 @@ chorus 2;delete 1.p.1|2 7
 chorus 1;sites 2;schedule\r;end|3 8
 ";
 
+/// Asserts line and reason of each scenario that is refused for its first lines, `chorus` and `sites`.
 fn assert_heads(rt: &impl Abort, alloc: Global) {
     assert_rows(rt, alloc, layout_of(rt, 16, 1), "", HEADS);
     let two = layout_of(rt, 2, 1);
@@ -86,6 +87,7 @@ script 1.a.1;call 1.p.1 1.p.1|4 2
 script 1.a.9|3 4
 ";
 
+/// Asserts line and reason of each scenario that is refused for a script's command, in version 1 and in 2.
 fn assert_commands(rt: &impl Abort, alloc: Global) {
     let sixteen = layout_of(rt, 16, 1);
     assert_rows(rt, alloc, sixteen, TWO_SITES, COMMANDS);
@@ -134,6 +136,7 @@ port 1.p.3 1.a.7 1;port 1.p.7 1.a.3 1;schedule;end|read
 port 1.p.3 1.a.7 1;port 1.p.4 1.a.7 1|4 7
 ";
 
+/// Asserts which places a step may name and which port an actor may have, for two and for four places a site.
 fn assert_turns(rt: &impl Abort, alloc: Global) {
     assert_rows(rt, alloc, layout_of(rt, 16, 2), TWO_SITES, TWO_TURNS);
     assert_rows(rt, alloc, layout_of(rt, 16, 4), TWO_SITES, FOUR_TURNS);
@@ -144,6 +147,7 @@ fn places_and_ports_are_those_of_the_turns(rt: HostRuntime) {
     assert_turns(&rt, rt.alloc());
 }
 
+/// Asserts the sentence in which a scenario's fault tells its line and its reason.
 fn assert_words(rt: &impl Abort, alloc: Global) {
     let fault = SceneFault { line: 3, reason: 6 };
     let told = format!(in alloc; "{fault}").expect(rt, "memory");

@@ -1,15 +1,14 @@
 //! What is to become of the packet in hand when a place is served, and that it does.
 
-use crate::turn_effects::{
-    Before, assert_is, assert_seen, assert_worked_off, effect_of, look_before,
-};
+use crate::drawn::turn_effects::{Before, assert_seen, assert_worked_off, effect_of, look_before};
+use crate::net::look;
 use chorus_calls::Caller;
 use chorus_ends::{Ends, Moves};
 use chorus_entry::Packet;
 use chorus_place::{Place, PlaceFault};
 use chorus_serve::{Desk, Pump, serve};
 use chorus_ui::CLOCK_LIMIT;
-use tests_ground::{Judge, check, look, must};
+use std::process::Abort;
 
 /// What is to become of the packet that is in hand.
 #[derive(Clone, Copy, PartialEq, Eq)]
@@ -54,35 +53,33 @@ fn answer(fate: Fate, put: u64, worked: u64) -> Result<Pump, PlaceFault> {
 
 /// Asserts that the packet was worked off.
 fn assert_done<E: Ends>(
-    judge: &impl Judge,
+    rt: &impl Abort,
     desk: &Desk<E>,
     caller: &Caller,
     old: &Before,
     packet: Option<&Packet>,
 ) {
-    let effect = effect_of(must(judge, packet, "a packet"));
-    assert_worked_off(judge, desk.place(), caller, old, effect);
-    check(judge, !desk.is_holding(), "an empty hand", "");
+    let effect = effect_of(packet.expect(rt, "a packet"));
+    assert_worked_off(rt, desk.place(), caller, old, effect);
+    assert!(rt; !desk.is_holding());
 }
 
 /// Asserts that nothing changed, and whether a packet is in hand.
 fn assert_rests<E: Ends>(
-    judge: &impl Judge,
+    rt: &impl Abort,
     desk: &Desk<E>,
     caller: &Caller,
     old: &Before,
     is_holding: bool,
 ) {
-    assert_seen(judge, &look(desk.place(), caller), &old.seen);
-    let is_roomy = old.spare <= desk.place().spare();
-    check(judge, is_roomy, "no room that is taken", "");
-    let is_same = desk.is_holding() == is_holding;
-    check(judge, is_same, "a hand as it is to be", "");
+    assert_seen(rt, &look(desk.place(), caller), &old.seen);
+    assert!(rt; old.spare <= desk.place().spare());
+    assert!(rt; desk.is_holding() == is_holding);
 }
 
 /// Asserts what became of the packet in hand.
 fn assert_became<E: Ends>(
-    judge: &impl Judge,
+    rt: &impl Abort,
     desk: &Desk<E>,
     caller: &Caller,
     old: &Before,
@@ -90,18 +87,18 @@ fn assert_became<E: Ends>(
     fate: Fate,
 ) {
     match fate {
-        Fate::WorkedOff { .. } => assert_done(judge, desk, caller, old, packet),
-        _ => assert_rests(judge, desk, caller, old, packet.is_some()),
+        Fate::WorkedOff { .. } => assert_done(rt, desk, caller, old, packet),
+        _ => assert_rests(rt, desk, caller, old, packet.is_some()),
     }
 }
 
 /// Asserts what the desk tells of its place and its hand, and how many packets it worked off.
-fn assert_told<E: Ends>(judge: &impl Judge, desk: &Desk<E>, worked: u64) {
+fn assert_told<E: Ends>(rt: &impl Abort, desk: &Desk<E>, worked: u64) {
     let (waiting, held) = (desk.place().waiting(), desk.place().held());
     let in_hand = u64::from(desk.is_holding());
-    assert_is(judge, desk.waiting(), waiting.saturating_add(in_hand));
-    assert_is(judge, u64::from(desk.held()), u64::from(held));
-    assert_is(judge, desk.worked(), worked);
+    assert!(rt; desk.waiting() == waiting.saturating_add(in_hand));
+    assert!(rt; desk.held() == held);
+    assert!(rt; desk.worked() == worked);
 }
 
 /// How many packets the place has worked off then, of so many before.
@@ -114,7 +111,7 @@ fn worked_then(fate: Fate, worked: u64) -> u64 {
 
 /// Serves the links, in the name of the caller, where this packet is to be in hand. Gives what became of it.
 pub(crate) fn serve_once<E: Moves<()>>(
-    judge: &impl Judge,
+    rt: &impl Abort,
     desk: &mut Desk<E>,
     caller: &mut Caller,
     packet: Option<&Packet>,
@@ -124,9 +121,8 @@ pub(crate) fn serve_once<E: Moves<()>>(
     let worked = desk.worked();
     let fate = fate_of_hand(desk.place(), caller, packet);
     let told = serve(desk, &(), caller);
-    let is_told = told == answer(fate, old.seen.puts, worked);
-    check(judge, is_told, "the answer that is wanted", "");
-    assert_became(judge, desk, caller, &old, packet, fate);
-    assert_told(judge, desk, worked_then(fate, worked));
+    assert!(rt; told == answer(fate, old.seen.puts, worked));
+    assert_became(rt, desk, caller, &old, packet, fate);
+    assert_told(rt, desk, worked_then(fate, worked));
     fate
 }

@@ -1,6 +1,6 @@
-//! The last that is taken and the first that is not, of all that is counted, as rows (see [`crate::texts`]).
+//! The last that is taken and the first that is not, of all that is counted, as rows (see [`crate::scenarios`]).
 
-use crate::texts::{assert_rows, assert_rows_behind, layout_of};
+use crate::scenarios::{assert_rows, assert_rows_behind, layout_of};
 use std::alloc::Global;
 use std::process::Abort;
 
@@ -38,6 +38,7 @@ member 1.g.1 1.p.1|69 6
 member 1.g.1 9.p.1|69 6
 ";
 
+/// Asserts that 32 ports of a site and 32 members of a group are read, and the 33rd is refused with its reason.
 fn assert_ports_and_members(rt: &impl Abort, alloc: Global) {
     let eight = layout_of(rt, 8, 1);
     let ports = all_ports(rt, alloc);
@@ -74,6 +75,7 @@ drain|131076 6
 step 9|131076 6
 ";
 
+/// Asserts that 16 scripts, 4096 commands and 131072 steps are read, and one more is refused with its reason.
 fn assert_scripts_commands_and_steps(rt: &impl Abort, alloc: Global) {
     let head = "chorus 1\nsites 2\n";
     assert_lines(rt, alloc, head, "script 1.a.1\n", 16, BEHIND_SCRIPTS);

@@ -1,7 +1,7 @@
 //! What a place is to receive, and which packet it is to have in hand.
 
-use crate::callers::PLACES;
-use crate::turn_effects::kind_of;
+use crate::drawn::callers::PLACES;
+use crate::drawn::turn_effects::kind_of;
 use chorus_entry::Packet;
 
 /// The packets that a place is still to receive, and the one that it is to have in hand.

@@ -1,12 +1,12 @@
 //! Commands, and the clocks of the callers who give them.
 
-use crate::drawn_values::LONGEST;
-use crate::draws::Draws;
+use crate::drawn::draws::Draws;
+use crate::drawn::values::LONGEST;
 use chorus_entry::{Command, Dest};
 use chorus_ui::{CLOCK_LIMIT, SITES_LIMIT};
-use tests_ground::Judge;
+use std::process::Abort;
 
-impl<'a, J: Judge> Draws<'a, J> {
+impl<'a, R: Abort> Draws<'a, R> {
     /// A command; seldom one that does not meet its conditions.
     pub(crate) fn command(&mut self) -> Command {
         match self.below(20) {

@@ -1,14 +1,14 @@
 //! A place at the ends of its links with its callers: it is served, and commands are given to it.
 
-ghost use Rattle.std.specs.Prelude.{◌≡◌, ◌<◌, ℕ, true};
-ghost use Rattle.chorus_place.specs.Calls.{state, MayCall};
+ghost use Rattle.std.specs.Prelude.{◌≡◌, ℕ, true};
 
-use crate::callers::five_callers;
-use crate::draws::Draws;
-use crate::fates::{Fate, serve_once};
-use crate::inbox::Inbox;
-use crate::sent::assert_sent;
-use crate::turn_effects::{Counts, TRY, assert_acted, assert_is, count, look_before};
+use crate::drawn::callers::five_callers;
+use crate::drawn::draws::Draws;
+use crate::drawn::fates::{Fate, serve_once};
+use crate::drawn::inbox::Inbox;
+use crate::drawn::sent::assert_sent;
+use crate::drawn::turn_effects::{Counts, TRY, assert_acted, count, look_before};
+use crate::net::{assert_may, number_for};
 use chorus_calls::Caller;
 use chorus_ends::{Ends, MemEnds, Moves};
 use chorus_entry::Command;
@@ -16,7 +16,7 @@ use chorus_place::{Place, PlaceFault, Reply};
 use chorus_serve::Desk;
 use chorus_ui::Layout;
 use std::alloc::Global;
-use tests_ground::{Judge, check, must, number_for};
+use std::process::Abort;
 
 /// How many commands are drawn before the packets are; about a fourth of them is for the place.
 const COMMANDS: u16 = 40;
@@ -76,7 +76,7 @@ fn note<E: Ends>(side: &mut Side<E>, tally: &mut Tally, fate: Fate) {
 /// Serves the links once, in the name of the caller of this seat. A link is found empty where there is no packet, and
 /// none is asked where one is in hand. Gives what became of it.
 fn serve_side<E: Moves<()>>(
-    judge: &impl Judge,
+    rt: &impl Abort,
     side: &mut Side<E>,
     seat: usize,
     shown: &mut [u32],
@@ -85,119 +85,80 @@ fn serve_side<E: Moves<()>>(
     let empties = side.desk.ends().empties(1);
     let number = side.desk.place().number();
     take_up(&mut side.inbox, number, shown);
-    let caller = must(judge, side.callers.get_mut(seat), "a caller");
-    let fate = serve_once(judge, &mut side.desk, caller, side.inbox.hand());
+    let caller = side.callers.get_mut(seat).expect(rt, "a caller");
+    let fate = serve_once(rt, &mut side.desk, caller, side.inbox.hand());
     let found = side.desk.ends().empties(1);
-    let is_looked_for = fate != Fate::Idle || empties < found;
-    check(judge, is_looked_for, "a link that is found empty", "");
-    let is_left = !was_holding || empties == found;
-    check(judge, is_left, "no link that is asked", "");
+    assert!(rt; fate != Fate::Idle || empties < found);
+    assert!(rt; !was_holding || empties == found);
     fate
 }
 
 /// Serves the links once, and asserts what was sent.
 pub(crate) fn serve_step(
-    judge: &impl Judge,
+    rt: &impl Abort,
     side: &mut Side<MemEnds>,
     seat: usize,
     tally: &mut Tally,
 ) {
-    let put = side.desk.place().puts();
-    let fate = serve_side(judge, side, seat, &mut tally.counts.shown);
-    assert_sent(
-        judge,
-        side.desk.place(),
-        side.desk.ends(),
-        &side.decided,
-        put,
-    );
+    let fate = serve_side(rt, side, seat, &mut tally.counts.shown);
     note(side, tally, fate);
+    let place = side.desk.place();
+    assert_sent(rt, place, side.desk.ends(), &side.decided, place.puts());
 }
 
 /// Whether the command may be performed at the place.
-fn is_for(judge: &impl Judge, place: &Place, caller: &Caller, command: &Command) -> bool {
+fn is_for(rt: &impl Abort, place: &Place, caller: &Caller, command: &Command) -> bool {
     if !command.meets_conditions() {
         return false;
     }
-    let number = number_for(judge, place.layout(), caller.actor(), command);
+    let number = number_for(rt, place.layout(), caller.actor(), command);
     number == place.number()
-}
-
-/// The caller may give the place the command, or else the test ends.
-fn assert_may(judge: &impl Judge, place: &Place, caller: &Caller, command: &Command)
-    ensures may { MayCall (state place.now) caller.now command.now }
-    ensures posts { caller.now.posts < u32.MAX }
-    ensures given { caller.now.client.given < u32.MAX }
-{
-    let layout = place.layout();
-    if !layout.has_site(caller.actor().site()) {
-        match judge.fail("a caller of the layout", "") {}
-    }
-    if !command.meets_conditions() {
-        match judge.fail("a command that meets its conditions", "") {}
-    }
-    if command.place_for(layout, caller.actor()) != place.number() {
-        match judge.fail("the place of the command", "") {}
-    }
-    if caller.posts() >= u32::MAX {
-        match judge.fail("a number for a post", "") {}
-    }
-    if caller.client().given() >= u32::MAX {
-        match judge.fail("a number for a call", "") {}
-    }
 }
 
 /// Performs the command at the place.
 fn perform<E: Ends>(
-    judge: &impl Judge,
+    rt: &impl Abort,
     desk: &mut Desk<E>,
     caller: &mut Caller,
     command: Command,
 ) -> Result<Reply, PlaceFault> {
-    assert_may(judge, desk.place(), caller, &command);
+    assert_may(rt, desk.place(), caller, &command);
     desk.act(caller, command)
 }
 
 /// Performs the command at the place. What is in hand stays there.
-fn act<E: Ends>(judge: &impl Judge, desk: &mut Desk<E>, caller: &mut Caller, command: Command) {
+fn act<E: Ends>(rt: &impl Abort, desk: &mut Desk<E>, caller: &mut Caller, command: Command) {
     let (was_holding, worked) = (desk.is_holding(), desk.worked());
     let old = look_before(desk.place(), caller);
-    let told = perform(judge, desk, caller, command);
-    assert_acted(judge, desk.place(), caller, &old, told);
-    let is_same = desk.is_holding() == was_holding;
-    check(judge, is_same, "a hand as it was", "");
-    assert_is(judge, desk.worked(), worked);
+    let told = perform(rt, desk, caller, command);
+    assert_acted(rt, desk.place(), caller, &old, told);
+    assert!(rt; desk.is_holding() == was_holding);
+    assert!(rt; desk.worked() == worked);
 }
 
 /// Performs a command that is drawn, where it is for the place.
-pub(crate) fn command<J: Judge, E: Ends>(draws: &mut Draws<'_, J>, side: &mut Side<E>) {
+pub(crate) fn command<R: Abort, E: Ends>(draws: &mut Draws<'_, R>, side: &mut Side<E>) {
     let seat = usize::from(draws.below(5));
     let command = draws.command();
-    let judge = draws.judge;
-    let caller = must(judge, side.callers.get_mut(seat), "a caller");
-    if is_for(judge, side.desk.place(), caller, &command) {
-        act(judge, &mut side.desk, caller, command);
+    let rt = draws.rt;
+    let caller = side.callers.get_mut(seat).expect(rt, "a caller");
+    if is_for(rt, side.desk.place(), caller, &command) {
+        act(rt, &mut side.desk, caller, command);
     }
 }
 
 /// The place of this number, at these ends, which reach each place.
-fn desk_at<E: Ends>(judge: &impl Judge, alloc: Global, number: u16, ends: E) -> Desk<E>
+fn desk_at<E: Ends>(rt: &impl Abort, alloc: Global, number: u16, ends: E) -> Desk<E>
     requires { (p : ℕ) → (E.links ends).reaches p ≡ true }
 {
-    let layout = must(judge, Layout::new(2, 2), "a layout");
-    if !layout.has_place(number) {
-        match judge.fail("a place of the layout", "") {}
-    }
-    must(
-        judge,
-        Desk::start(alloc, layout, number, ends).ok(),
-        "memory",
-    )
+    let layout = Layout::new(2, 2).expect(rt, "a layout");
+    assert!(rt; layout.has_place(number));
+    Desk::start(alloc, layout, number, ends).expect(rt, "memory")
 }
 
 /// The callers, with last clocks that are drawn.
-fn callers<J: Judge>(draws: &mut Draws<'_, J>) -> Vec<Caller> {
-    let mut callers = five_callers(draws.judge, draws.alloc);
+fn callers<R: Abort>(draws: &mut Draws<'_, R>) -> Vec<Caller> {
+    let mut callers = five_callers(draws.rt, draws.alloc);
     for caller in callers.iter_mut() {
         caller.tick(draws.last_clock());
     }
@@ -205,15 +166,15 @@ fn callers<J: Judge>(draws: &mut Draws<'_, J>) -> Vec<Caller> {
 }
 
 /// A place on which commands that are drawn were performed, at these ends, which reach each place.
-pub(crate) fn prepare<J: Judge, E: Ends>(draws: &mut Draws<'_, J>, number: u16, ends: E) -> Side<E>
+pub(crate) fn prepare<R: Abort, E: Ends>(draws: &mut Draws<'_, R>, number: u16, ends: E) -> Side<E>
     requires { (p : ℕ) → (E.links ends).reaches p ≡ true }
 {
-    let (judge, alloc) = (draws.judge, draws.alloc);
+    let (rt, alloc) = (draws.rt, draws.alloc);
     let mut side = Side {
-        desk: desk_at(judge, alloc, number, ends),
+        desk: desk_at(rt, alloc, number, ends),
         callers: callers(draws),
         inbox: Inbox::holding(Vec::new(alloc)),
-        decided: must(judge, Vec::from_slice(alloc, &[0; 5]).ok(), "memory"),
+        decided: Vec::from_slice(alloc, &[0; 5]).ok().expect(rt, "memory"),
     };
     for _ in 0..COMMANDS {
         command(draws, &mut side);

@@ -15,10 +15,12 @@ pub(crate) struct Things {
     pub(crate) id: MsgId,
 }
 
+/// The name of this site, kind and number, of which the acts speak whose lines are tested.
 pub(crate) fn name(rt: &impl Abort, site: u16, kind: Kind, number: u64) -> Ui {
     Ui::new(site, kind, number).expect(rt, "a name")
 }
 
+/// Builds the port, actor, group and message id that all tested lines name.
 pub(crate) fn named_things(rt: &impl Abort) -> Things {
     Things {
         port: name(rt, 1, Kind::Port, 1),
@@ -32,6 +34,7 @@ pub(crate) fn named_things(rt: &impl Abort) -> Things {
     }
 }
 
+/// The entry of the act by clock, at place 2 and by seat 30, whose line therefore begins with `CLOCK 2 30`.
 pub(crate) fn entry(clock: u64, act: Act) -> Entry {
     Entry {
         clock,
@@ -41,10 +44,12 @@ pub(crate) fn entry(clock: u64, act: Act) -> Entry {
     }
 }
 
+/// The discarded messages that an act `Delete` lists.
 pub(crate) fn ids_of(rt: &impl Abort, alloc: Global, ids: &[MsgId]) -> Ids {
     Ids::of(alloc, ids).expect(rt, "memory")
 }
 
+/// The body of a posted message, of at most 4096 bytes.
 pub(crate) fn body_of(rt: &impl Abort, alloc: Global, bytes: &[u8]) -> Body {
     assert!(rt; bytes.len() <= 4096);
     Body::new(alloc, bytes).expect(rt, "memory")
@@ -55,6 +60,7 @@ pub(crate) fn text_of(rt: &impl Abort, bytes: Vec<u8>) -> String {
     String::from_utf8(bytes).ok().expect(rt, "a text")
 }
 
+/// Asserts that what `chorus_show` wrote is exactly this text.
 pub(crate) fn assert_text(rt: &impl Abort, written: &str, text: &str) {
     assert_eq!(rt; written, text);
 }
@@ -73,6 +79,7 @@ fn assert_line(rt: &impl Abort, alloc: Global, act: Act, text: &str) {
     assert_text(rt, written.as_str(), line.as_str());
 }
 
+/// Asserts the journal lines of acts on ports: made, refused, found empty or not here, rehomed, departed, arrived.
 fn assert_ports(rt: &impl Abort, alloc: Global) {
     let Things { port, actor, .. } = named_things(rt);
     let make = Act::Make {
@@ -146,6 +153,7 @@ fn lines_of_messages(rt: HostRuntime) {
     assert_messages_elsewhere(&rt, rt.alloc());
 }
 
+/// Asserts the journal lines of acts on groups: made, joined, left, chosen from in vain, refused or full.
 fn assert_groups(rt: &impl Abort, alloc: Global) {
     let Things {
         port,
@@ -171,6 +179,7 @@ fn lines_of_groups(rt: HostRuntime) {
     assert_groups(&rt, rt.alloc());
 }
 
+/// Asserts the journal lines of what becomes of calls: done, late, outstanding, cancelled, not there, and heard.
 fn assert_calls(rt: &impl Abort, alloc: Global) {
     let number = 12;
     assert_line(rt, alloc, Act::Done { number }, "done 12");
@@ -197,6 +206,7 @@ fn assert_told(rt: &impl Abort, alloc: Global, answer: Answer, text: &str) {
     assert_line(rt, alloc, Act::Told { id, answer }, text);
 }
 
+/// Asserts how each kind of answer is written in a journal line `told`, with its numbers.
 fn assert_answers(rt: &impl Abort, alloc: Global) {
     let (to, hop) = (9, 6);
     let accepted = Answer::Accepted { pos: 8 };
@@ -221,11 +231,13 @@ fn lines_of_answers(rt: HostRuntime) {
     assert_answers(&rt, rt.alloc());
 }
 
+/// The names, at most 32, that an act `Choose` lists as members.
 fn members_of(rt: &impl Abort, alloc: Global, uis: &[Ui]) -> Members {
     assert!(rt; uis.len() <= 32);
     Members::of(alloc, uis).expect(rt, "memory")
 }
 
+/// Asserts that the journal line of a choice lists the chosen members behind the message and the group.
 fn assert_chosen(rt: &impl Abort, alloc: Global) {
     let things = named_things(rt);
     let choose = Act::Choose {
@@ -245,6 +257,7 @@ fn assert_deleted(rt: &impl Abort, alloc: Global, ids: &[MsgId], text: &str) {
     assert_line(rt, alloc, delete, text);
 }
 
+/// Asserts the journal lines that end in a list: of chosen members, and of two discarded messages and none.
 fn assert_lists(rt: &impl Abort, alloc: Global) {
     assert_chosen(rt, alloc);
     let id = named_things(rt).id;
@@ -274,6 +287,7 @@ fn assert_post(rt: &impl Abort, alloc: Global, dest: &Dest, tag: &Tag, bytes: &[
     assert_line(rt, alloc, Act::Post { message, dest }, text);
 }
 
+/// Asserts that the line of a post writes a `%` of the body as `%25`.
 fn assert_percent(rt: &impl Abort, alloc: Global) {
     let port = Dest::Port(named_things(rt).port);
     let text = "post 3:7:1 port 1.p.1 plain =100%25";
@@ -285,6 +299,7 @@ fn percent_is_escaped(rt: HostRuntime) {
     assert_percent(&rt, rt.alloc());
 }
 
+/// Asserts the lines of posts to a group (all, one, one at a site) with each tag, and how bytes are escaped.
 fn assert_posts(rt: &impl Abort, alloc: Global) {
     let Things { port, group, .. } = named_things(rt);
     let request = Tag::Request {
