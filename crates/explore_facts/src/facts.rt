@@ -71,6 +71,7 @@ fn push_plain_act(act: &Act, out: &mut Vec<u8>) -> Result<(), AllocError>
     }
 }
 
+/// Appends that a message is received from a port, without its position there, for a line of a fact.
 fn push_take(port: Ui, id: &MsgId, out: &mut Vec<u8>) -> Result<(), AllocError>
     ensures { OnOk result (out.new.items
         ≡ out.old.items ++ codes "take" ++ 32 ∷ name_text port ++ 32 ∷ id_text id.now) }
@@ -80,6 +81,7 @@ fn push_take(port: Ui, id: &MsgId, out: &mut Vec<u8>) -> Result<(), AllocError>
     push_message(id, out)
 }
 
+/// Appends that a port leaves for an actor at another place, without its hop, for a line of a fact.
 fn push_depart(port: Ui, to: u16, actor: Ui, out: &mut Vec<u8>) -> Result<(), AllocError>
     ensures { OnOk result (out.new.items ≡ out.old.items
         ++ codes "depart" ++ 32 ∷ name_text port ++ 32 ∷ decimal to ++ 32 ∷ name_text actor) }

@@ -16,6 +16,9 @@ pub mod Positions
 pub mod Histories
 pub mod Once
 pub mod Levels
+pub mod Merging
+pub mod Members
+pub mod Found
 pub mod Quiet
 pub mod Walking
 pub mod Showing

@@ -74,7 +74,7 @@ tells-joined j k i h f =
       made = h.made ∙ f.made;
     }
 
-places-itself : (ss : List PlaceState) → PlacesAlike TellAlike ss ss
+pub places-itself : (ss : List PlaceState) → PlacesAlike TellAlike ss ss
 places-itself [] = tt
 places-itself (s ∷ ss) = (record { journal = s.journal; is = refl; journals = tells-itself s.journal }, places-itself ss)
 
@@ -94,13 +94,13 @@ place-joined s r p h f =
       journals = tells-joined s.journal h.journal f.journal h.journals (subst (λ (x : PlaceState). TellAlike x.journal f.journal) h.is f.journals);
     }
 
-places-turned : (ss rs : List PlaceState) → PlacesAlike TellAlike ss rs → PlacesAlike TellAlike rs ss
+pub places-turned : (ss rs : List PlaceState) → PlacesAlike TellAlike ss rs → PlacesAlike TellAlike rs ss
 places-turned [] [] h = tt
 places-turned [] (r ∷ rs) h = absurd h
 places-turned (s ∷ ss) [] h = absurd h
 places-turned (s ∷ ss) (r ∷ rs) h = (place-turned s r h.0, places-turned ss rs h.1)
 
-places-joined : (ss rs ps : List PlaceState) → PlacesAlike TellAlike ss rs → PlacesAlike TellAlike rs ps → PlacesAlike TellAlike ss ps
+pub places-joined : (ss rs ps : List PlaceState) → PlacesAlike TellAlike ss rs → PlacesAlike TellAlike rs ps → PlacesAlike TellAlike ss ps
 places-joined [] [] [] h f = tt
 places-joined [] [] (p ∷ ps) h f = absurd f
 places-joined [] (r ∷ rs) ps h f = absurd h
@@ -108,18 +108,18 @@ places-joined (s ∷ ss) [] ps h f = absurd h
 places-joined (s ∷ ss) (r ∷ rs) [] h f = absurd f
 places-joined (s ∷ ss) (r ∷ rs) (p ∷ ps) h f = (place-joined s r p h.0 f.0, places-joined ss rs ps h.1 f.1)
 
-caller-itself : (o : Option Seated) → CallerAlike o o
+pub caller-itself : (o : Option Seated) → CallerAlike o o
 caller-itself None = tt
 caller-itself (Some w) = record { last = w.last; is = refl }
 
-caller-turned : (o p : Option Seated) → CallerAlike o p → CallerAlike p o
+pub caller-turned : (o p : Option Seated) → CallerAlike o p → CallerAlike p o
 caller-turned None None h = tt
 caller-turned None (Some v) h = absurd h
 caller-turned (Some w) None h = absurd h
 caller-turned (Some w) (Some v) h =
     record { last = w.last; is = ap (λ (x : Seated). let y : Seated = record x { last = w.last } in y) (sym h.is) }
 
-caller-joined : (o p q : Option Seated) → CallerAlike o p → CallerAlike p q → CallerAlike o q
+pub caller-joined : (o p q : Option Seated) → CallerAlike o p → CallerAlike p q → CallerAlike o q
 caller-joined None None None h f = tt
 caller-joined None None (Some u) h f = absurd f
 caller-joined None (Some v) q h f = absurd h
@@ -186,7 +186,7 @@ module _ (r : Race) (race : IsRace r) where
   as-many-by None m s = refl
   as-many-by (Some e) m s = long m s.left
 
-  as-many : (ms : List Move) → length (at ms).left ≡ length r.scripts
+  pub as-many : (ms : List Move) → length (at ms).left ≡ length r.scripts
   as-many [] = refl
   as-many (m ∷ ms) = as-many-by (event_of l seat_0 m (at ms).left) m (at ms) ∙ as-many ms
 
@@ -198,11 +198,11 @@ module _ (r : Race) (race : IsRace r) where
   first : (n k : ℕ) → n < k → 0 < k
   first n k lt = omega (arith, lt)
 
-  there : (ms : List Move) → IsHistory (replaying r) ms → is_some (slice_get (at ms).net.callers 0) ≡ true
+  pub there : (ms : List Move) → IsHistory (replaying r) ms → is_some (slice_get (at ms).net.callers 0) ≡ true
   there [] h = some-inside r.net.callers 0 (first (length r.scripts) (length r.net.callers) race.seats)
   there (m ∷ ms) h = there-by (event_of l seat_0 m (at ms).left) m (at ms) h.0 (there ms h.1)
 
-  not-scripted : (b k : ℕ) → 1 ≤ k → k ≤ length r.scripts → (0 ≡ k → ⊥) × (0 ≡ k → ⊥)
+  pub not-scripted : (b k : ℕ) → 1 ≤ k → k ≤ length r.scripts → (0 ≡ k → ⊥) × (0 ≡ k → ⊥)
   not-scripted b k low high = (not-0 k low, not-0 k low)
     where
       not-0 : (k : ℕ) → 1 ≤ k → 0 ≡ k → ⊥

@@ -10,3 +10,5 @@ pub mod Replays
 pub mod Quiet
 pub mod Laws
 pub mod Levels
+pub mod Merging
+pub mod Members

@@ -8,7 +8,8 @@
 //! crate has no code but the laws, which make no call.
 //!
 //! Behind positions that are alike (`specs/Positions.antt`) the same comes, so histories that come to such may be put
-//! together, level by level (`specs/Levels.antt`). The search does not do so.
+//! together, level by level (`specs/Levels.antt`). `specs/Merging.antt` says so where what was answered is told in any
+//! form, and `specs/Members.antt` with the histories for which each class stands. The search does not do so.
 //!
 //! Begin with `specs/Races.antt`, the moves of a race, and `specs/Outcome.antt`, what they come to;
 //! `specs/Explores.antt` says when all that may come of a race is said. `specs/Neighbours.antt` and `specs/Search.antt`
@@ -20,6 +21,8 @@ mod moves;
 ghost use Rattle.law_explore.specs.Alike.{ActAlike, CommandsStayAlike, NetsStayAlike, PacketsStayAlike, ReadAlike};
 ghost use Rattle.law_explore.specs.Laws.{AlikeIsAnEquivalence, AlikePositionsComeToTheSame, MovesComeToTheSame, NormalsComeToAll, RacesAreExplored, RacesAreWalked, RacesNeedNormalsOnly};
 ghost use Rattle.law_explore.specs.Levels.{HistoriesAreListed, LevelsStandForAll};
+ghost use Rattle.law_explore.specs.Members.{LevelsOfMergedFindAll, LevelsOfMergedGoOn};
+ghost use Rattle.law_explore.specs.Merging.{PlacesTellTheSame, ToldAlikeGoOn, ToldAlikeIsAnEquivalence};
 ghost use Rattle.law_explore.specs.Replays.{MovesAreReplayed};
 ghost use Rattle.law_explore.specs.Neighbours.{NeighboursCommute, NeighboursStay};
 ghost use Rattle.law_explore.specs.Positions.{TellAlike};
@@ -93,12 +96,32 @@ pub fn alike_positions_come_to_the_same()
     ensures equivalence { AlikeIsAnEquivalence }
 {}
 
+/// The same where what the commands were answered is told in any form, as a text: it is enough that one answer more keeps
+/// what is told the same. And of places that are alike the same outcome comes.
+pub fn told_alike_positions_come_to_the_same()
+    ensures on { ToldAlikeGoOn }
+    ensures equivalence { ToldAlikeIsAnEquivalence }
+    ensures places { PlacesTellTheSame }
+{}
+
 /// Of a race gone through level by level, where histories may be put together that come alike: each history has a class
 /// that comes to the same, and the classes stand for as many histories as they say. All histories of a level are listed,
 /// each once.
 pub fn levels_stand_for_all()
     ensures levels { LevelsStandForAll }
     ensures listed { HistoriesAreListed }
+{}
+
+/// Of a race gone through level by level, where each class is taken with all histories for which it stands: what goes on
+/// from the classes of a level is, each as often, all histories that are longer by one.
+pub fn levels_of_merged_go_on()
+    ensures { LevelsOfMergedGoOn }
+{}
+
+/// So, where the histories behind which nothing may come are taken out of each level: those that were found are all
+/// whole histories that have less moves, each once, and all of them where no class is left.
+pub fn levels_of_merged_find_all()
+    ensures { LevelsOfMergedFindAll }
 {}
 
 /// A schedule that does the moves, with a drain behind them, leaves the network that the moves come to, if they leave
