@@ -24,6 +24,7 @@ pub(crate) fn print_found<R: Print>(rt: &R, alloc: Global) -> io::Result<()> {
     print_audit(rt, found(alloc, &printed)?)
 }
 
+/// Prints what an audit found in a journal: `legal`, `wrong` with line and rule, or `too long` where there was none.
 fn print_audit<R: Print>(rt: &R, audit: Option<Audit>) -> io::Result<()> {
     match audit {
         Some(Audit::Legal { entries }) => println!(rt; "legal {entries}"),
@@ -49,6 +50,7 @@ pub(crate) fn print_rates<R: Clock + Print>(rt: &R, alloc: Global) -> io::Result
     print_drawing(rt, alloc)
 }
 
+/// Prints the rate of auditing a long journal beside those of reading its scenario and of one pass over its bytes.
 fn print_auditing<R: Clock + Print>(rt: &R, alloc: Global) -> io::Result<()> {
     let asked = text(alloc, MANY)?;
     let printed = printed_by(alloc, &asked)?;
@@ -68,6 +70,7 @@ fn print_auditing<R: Clock + Print>(rt: &R, alloc: Global) -> io::Result<()> {
     )
 }
 
+/// Prints the rate of drawing a picture of almost the most entries beside that of auditing the same journal.
 fn print_drawing<R: Clock + Print>(rt: &R, alloc: Global) -> io::Result<()> {
     let printed = printed_by(alloc, &text(alloc, DRAWN)?)?;
     let mut auditing: f64 = 0.0;
@@ -82,6 +85,7 @@ fn print_drawing<R: Clock + Print>(rt: &R, alloc: Global) -> io::Result<()> {
     )
 }
 
+/// Megabytes of a printed journal that become a picture per second; 0 where it is not drawn.
 fn draw_rate<R: Clock>(rt: &R, alloc: Global, text: &[u8]) -> io::Result<f64> {
     let mut source = MemSource::new(Vec::from_slice(alloc, text)?, Vec::new(alloc));
     let mut sink = MemSink::new(alloc, 65_536, Vec::new(alloc));
@@ -100,12 +104,14 @@ fn is_drawn(alloc: Global, source: &mut MemSource, sink: &mut MemSink) -> bool {
     picture(alloc, layout, source, sink) == Status::Done
 }
 
+/// Megabytes of a printed journal that are audited per second, whatever the audit finds.
 fn audit_rate<R: Clock>(rt: &R, alloc: Global, text: &[u8]) -> io::Result<f64> {
     let start = Instant::now(rt)?;
     found(alloc, text)?;
     megabytes_since(rt, start, text)
 }
 
+/// Megabytes of a scenario's text that are read per second; 0 where it is refused.
 fn read_rate<R: Clock>(rt: &R, alloc: Global, text: &[u8]) -> io::Result<f64> {
     let start = Instant::now(rt)?;
     if !is_read(alloc, text) {
@@ -114,6 +120,7 @@ fn read_rate<R: Clock>(rt: &R, alloc: Global, text: &[u8]) -> io::Result<f64> {
     megabytes_since(rt, start, text)
 }
 
+/// Megabytes per second of looking at each byte of a printed journal once; 0 where it has no line.
 fn pass_rate<R: Clock>(rt: &R, text: &[u8]) -> io::Result<f64> {
     let start = Instant::now(rt)?;
     if line_ends(text) == 0 {
@@ -122,6 +129,7 @@ fn pass_rate<R: Clock>(rt: &R, text: &[u8]) -> io::Result<f64> {
     megabytes_since(rt, start, text)
 }
 
+/// How many LF the text has, counted byte by byte, as the plain pass that an audit is compared with.
 fn line_ends(text: &[u8]) -> usize {
     let mut lines: usize = 0;
     for c in text {

@@ -4,7 +4,7 @@ ghost use Rattle.chorus_nucleus.specs.Passes.{IsPassOf};
 
 use crate::choosing::{look_often, receive_often};
 use crate::crews::handle;
-use crate::ground::{actor_of, close, enter, fill, port_of, start};
+use crate::ground::{actor_of, close, enter, entries_in, fill, port_of, start};
 use crate::rounds::{pump_often, send_and_take};
 use crate::threads::on_four_threads;
 use chorus_nucleus::{Nucleus, Pass};
@@ -97,10 +97,11 @@ impl Work {
         let pairs = load.pairs(alloc).ok_or(AllocError)?;
         let (nucleus, mut keeper) = start(alloc, rt, load.sites).ok_or(AllocError)?;
         let time = self.time(rt, alloc, &nucleus, &mut keeper, load, &pairs, count);
-        let entries = close(rt, nucleus, keeper).ok_or(AllocError)?;
-        Ok((entries, time?))
+        let closed = close(rt, nucleus, keeper).ok_or(AllocError)?;
+        Ok((entries_in(&closed.journals), time?))
     }
 
+    /// Fills the ports of the nucleus, then does the work so often, and gives how long the work alone took.
     fn time<R: Threads + Sync + Wait + Clock>(
         self,
         rt: &R,
@@ -122,6 +123,7 @@ impl Work {
         Ok(time)
     }
 
+    /// Does the work so often at a nucleus whose ports are filled; None where a part of it fails.
     fn work<R: Threads + Sync + Wait + Clock>(
         self,
         rt: &R,
@@ -159,6 +161,7 @@ fn fill_all(nucleus: &Nucleus, keeper: &mut Pass, load: Load) -> Option<()>
     Some(())
 }
 
+/// Makes and fills the ports of one site, by a caller who enters there and retires behind it.
 fn fill_site(nucleus: &Nucleus, keeper: &mut Pass, site: u16, load: Load) -> Option<()>
     requires { IsPassOf nucleus.now keeper.old }
     ensures { IsPassOf nucleus.now keeper.new }

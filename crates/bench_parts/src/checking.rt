@@ -68,6 +68,7 @@ fn pass(entries: &[Entry]) -> u64 {
     sum
 }
 
+/// Prints how many entries of a made journal the checker takes, and its best rate beside that of one plain pass.
 fn print_rates<R: Clock + Print>(
     rt: &R,
     alloc: Global,

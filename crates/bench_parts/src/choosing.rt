@@ -54,6 +54,7 @@ pub(crate) fn look_often(
     Some(())
 }
 
+/// Does one take at each of the ports, one behind the other, as the plain way beside a receive on any of them.
 fn take_at_each(nucleus: &Nucleus, pass: &mut Pass, pairs: &[(Ui, Ui)]) -> Option<()>
     requires { IsPassOf nucleus.now pass.old }
     ensures { IsPassOf nucleus.now pass.new }

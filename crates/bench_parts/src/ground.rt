@@ -8,7 +8,9 @@ ghost use Rattle.chorus_ui.specs.declared.kind.Kind.TheVariants as kinds;
 ghost use Rattle.chorus_nucleus.specs.Passes.{IsPassOf};
 
 use chorus_entry::{Dest, Entry};
+use chorus_net::Closed;
 use chorus_nucleus::{CloseFault, Nucleus, Pass};
+use chorus_serve::Pump;
 use chorus_ui::{Kind, Layout, Ui};
 use std::alloc::Global;
 use std::sync::Wait;
@@ -93,6 +95,17 @@ pub(crate) fn take(nucleus: &Nucleus, pass: &mut Pass, port: Ui) -> Option<()>
     Some(())
 }
 
+/// Pumps the place once. None also where there is no such place.
+pub(crate) fn pump<R: Wait>(rt: &R, nucleus: &Nucleus, pass: &mut Pass, place: u16) -> Option<Pump>
+    requires { IsPassOf nucleus.now pass.old }
+    ensures { IsPassOf nucleus.now pass.new }
+{
+    if !nucleus.layout().has_place(place) {
+        return None;
+    }
+    nucleus.pump(rt, pass, place).ok()
+}
+
 /// Sends so many messages to the port.
 fn send_all(nucleus: &Nucleus, pass: &mut Pass, port: Ui, messages: u32) -> Option<()>
     requires { IsPassOf nucleus.now pass.old }
@@ -122,30 +135,29 @@ pub(crate) fn fill(
     Some(())
 }
 
-/// Ends the nucleus. Gives how many entries its journals have. Each other pass was retired into this one: else it waits for them, so for
-/// ever.
-pub(crate) fn close<R: Wait>(rt: &R, nucleus: Nucleus, pass: Pass) -> Option<usize>
+/// Ends the nucleus. Each other pass was retired into this one: else it waits for them, so for ever.
+pub(crate) fn close<R: Wait>(rt: &R, nucleus: Nucleus, pass: Pass) -> Option<Closed>
     requires { IsPassOf nucleus pass }
 {
     if !pass.keeper() {
         return wait_for_ever(rt, nucleus);
     }
     match nucleus.close(rt, pass) {
-        Ok(closed) => Some(count(&closed.journals)),
+        Ok(closed) => Some(closed),
         Err(CloseFault::Memory(_)) => None,
         Err(CloseFault::PassesOut(nucleus, _pass, _out)) => wait_for_ever(rt, nucleus),
     }
 }
 
 /// A nucleus is not dropped, so where it cannot be closed nothing comes behind.
-fn wait_for_ever<R: Wait>(rt: &R, nucleus: Nucleus) -> Option<usize> {
+fn wait_for_ever<R: Wait>(rt: &R, nucleus: Nucleus) -> Option<Closed> {
     let _kept = nucleus;
     for _ in rt.forever() {}
     unreachable!()
 }
 
 /// How many entries the journals have.
-fn count(journals: &[Vec<Entry>]) -> usize {
+pub(crate) fn entries_in(journals: &[Vec<Entry>]) -> usize {
     journals
         .iter()
         .fold(0, |sum: usize, journal| sum.saturating_add(journal.len()))

@@ -37,6 +37,7 @@ struct Flow {
 }
 
 impl Maker {
+    /// Puts an act behind the made journal's entries, by the place's own caller, with the next number as its clock.
     fn push(&mut self, place: u16, act: Act) -> Result<(), AllocError> {
         let clock = (self.entries.len() as u64).wrapping_add(1);
         self.entries.push(Entry {
@@ -193,6 +194,7 @@ impl Maker {
         Ok(())
     }
 
+    /// Puts the making of this port into the journal, for actor 1 of its site, with room for 64 messages.
     fn make(&mut self, port: Ui) -> Result<(), AllocError> {
         let Some(actor) = Ui::new(port.site(), Kind::Actor, 1) else {
             return Ok(());

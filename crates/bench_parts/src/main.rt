@@ -1,4 +1,4 @@
-//! What the checker, places, texts, an audit, a picture, calls of a nucleus, a receive on any of 32 ports and a crew cost.
+//! What the checker, places, texts, an audit, a picture, calls of a nucleus, a receive on any of 32 ports, a crew and peers at a port cost.
 //!
 //! With no words it does a little of each and prints what came of it, which never varies. With a word it prints figures, each the best of
 //! some tries, in which what is compared takes turns: with `checker` entries a second of judging legal journals of three lengths, beside
@@ -6,7 +6,8 @@
 //! journal; with `scene` megabytes a second of reading and printing a scenario text, and commands a second of its replay; with `audit`
 //! megabytes a second of auditing what that prints, and of drawing a shorter journal; with `nucleus` nanoseconds of a send and a take and
 //! of an idle pump, beside a send and a take on four threads and at sites on one thread; with `choose` nanoseconds of a look at 32 empty
-//! ports; and with `crew` messages that crews of 1, 2 and 4 workers handle a second.
+//! ports; and with `crew` messages that crews of 1, 2 and 4 workers handle a second. With `peers` four senders and three movers work once
+//! at one port, and it prints what came of their messages and how many were sent and received a second.
 #![tactic(auto)]
 
 mod audits;
@@ -17,6 +18,7 @@ mod crews;
 mod ground;
 mod journal;
 mod nucleus;
+mod peers;
 mod rounds;
 mod scenarios;
 mod sites;
@@ -30,6 +32,7 @@ use std::thread::Threads;
 use std::time::Clock;
 use std::{env, io};
 
+/// Prints the figures that the first word of the command line asks for; without one, what a little work gives.
 fn main(rt: HostRuntime) -> io::Result<()> {
     match env::args(&rt)?.nth(1) {
         Some(word) => print_figures(&rt, rt.alloc(), word.as_str()),
@@ -37,6 +40,7 @@ fn main(rt: HostRuntime) -> io::Result<()> {
     }
 }
 
+/// Prints the rates or times of the part of chorus that the word names, or else which words there are.
 fn print_figures<R: Threads + Sync + Wait + Clock + Print>(
     rt: &R,
     alloc: Global,
@@ -50,14 +54,19 @@ fn print_figures<R: Threads + Sync + Wait + Clock + Print>(
         "nucleus" => nucleus::print_calls(rt, alloc),
         "choose" => nucleus::print_looks(rt, alloc),
         "crew" => nucleus::print_crews(rt, alloc),
-        _ => println!(rt; "the words are checker, place, scene, audit, nucleus, choose and crew"),
+        "peers" => peers::print_rates(rt, alloc),
+        _ => println!(rt;
+            "the words are checker, place, scene, audit, nucleus, choose, crew and peers"
+        ),
     }
 }
 
+/// Does a little of each part that is measured, and prints what came of it, without any time.
 fn print_few<R: Threads + Sync + Wait + Clock + Print>(rt: &R, alloc: Global) -> io::Result<()> {
     checking::print_taken(rt, alloc)?;
     work::print_few(rt, alloc)?;
     scenarios::print_few(rt, alloc)?;
     audits::print_found(rt, alloc)?;
-    nucleus::print_few(rt, alloc)
+    nucleus::print_few(rt, alloc)?;
+    peers::print_few(rt, alloc)
 }

@@ -2,7 +2,7 @@
 
 ghost use Rattle.chorus_nucleus.specs.Passes.{IsPassOf};
 
-use crate::ground::{send, take};
+use crate::ground::{pump, send, take};
 use chorus_nucleus::{Nucleus, Pass};
 use chorus_ui::Ui;
 use std::sync::Wait;
@@ -29,11 +29,8 @@ pub(crate) fn pump_often<R: Wait>(
     requires { IsPassOf nucleus.now pass.old }
     ensures { IsPassOf nucleus.now pass.new }
 {
-    if !nucleus.layout().has_place(1) {
-        return None;
-    }
     for _ in 0..count {
-        nucleus.pump(rt, pass, 1).ok()?;
+        pump(rt, nucleus, pass, 1)?;
     }
     Some(())
 }

@@ -61,6 +61,7 @@ pub(crate) fn print_rates<R: Clock + Print>(rt: &R, alloc: Global) -> io::Result
     )
 }
 
+/// Megabytes per second of printing a scenario that was read from this text; 0 where there is none.
 fn print_rate<R: Clock>(
     rt: &R,
     alloc: Global,
@@ -81,6 +82,7 @@ pub(crate) fn megabytes_since<R: Clock>(rt: &R, start: Instant, text: &[u8]) -> 
     Ok(f64::from(bytes) / start.elapsed(rt)?.as_secs_f64() / 1_000_000.0)
 }
 
+/// The text that the printer makes of a scenario, in memory of its own.
 fn printed(alloc: Global, scenario: &Scenario) -> Result<Vec<u8>, AllocError> {
     let mut text = Vec::new(alloc);
     print(scenario, &mut text)?;
@@ -100,6 +102,7 @@ fn entries_in(closed: Option<Closed>) -> usize {
     }
 }
 
+/// Replays the scenario of the source on fresh sites, prints into the sink, and counts the first journal's entries.
 fn entries_on<S: Source, K: Sink>(
     alloc: Global,
     source: &mut S,
@@ -151,6 +154,7 @@ pub(crate) fn text(alloc: Global, commands: u64) -> Result<Vec<u8>, AllocError> 
     Ok(text)
 }
 
+/// Appends the command of this number to a script's text: of ten, six sends round the ports, four takes at its own.
 fn push_command(text: &mut Vec<u8>, script: u64, number: u64) -> Result<(), AllocError> {
     if number % 10 < 6 {
         let port = (script % SCRIPTS + number % SCRIPTS) % SCRIPTS + 1;
@@ -159,6 +163,7 @@ fn push_command(text: &mut Vec<u8>, script: u64, number: u64) -> Result<(), Allo
     push_name(text, b"take 1.p.", script % SCRIPTS + 1, b"\n")
 }
 
+/// Appends a number of the scenario's text in decimal, between what stands before it and behind it.
 fn push_name(
     text: &mut Vec<u8>,
     before: &[u8],

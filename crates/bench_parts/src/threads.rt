@@ -56,6 +56,7 @@ fn enter_two(nucleus: &Nucleus, keeper: &mut Pass, first: u16, second: u16) -> O
     Some(((one, at_first), (other, at_second)))
 }
 
+/// Retires the passes of both callers of one pair of sites, when their threads have ended.
 fn retire_two(nucleus: &Nucleus, two: (Pass, Pass), keeper: &mut Pass)
     requires passes { IsPassOf nucleus.now two.0 × IsPassOf nucleus.now two.1 }
     requires keeper { IsPassOf nucleus.now keeper.old }
@@ -66,6 +67,7 @@ fn retire_two(nucleus: &Nucleus, two: (Pass, Pass), keeper: &mut Pass)
     nucleus.retire(second, keeper);
 }
 
+/// Does the sends and takes of two callers at once, each on a thread of its own, and gives their passes back.
 fn on_two_threads<R: Threads + Sync>(
     rt: &R,
     nucleus: &Nucleus,

@@ -108,6 +108,7 @@ pub(crate) fn print_times<R: Clock + Print>(rt: &R, alloc: Global) -> io::Result
     Ok(())
 }
 
+/// Prints the best nanoseconds of a round of this work at a place: alone, with many waiting, and behind many rounds.
 fn print_time<R: Clock + Print>(rt: &R, alloc: Global, work: Work) -> io::Result<()> {
     let mut one = Timed::start(alloc, work, 1, 0)?;
     let mut many = Timed::start(alloc, work, 100_000, 0)?;
