@@ -63,6 +63,6 @@ impl Lately {
 }
 
 /// The bit of a place, from 1 to 64.
-fn bit(place: u16) -> u64 {
+pub(crate) fn bit(place: u16) -> u64 {
     1u64.wrapping_shl(u32::from(place))
 }

@@ -1,5 +1,7 @@
 //! How long a thread stays at a place.
 
+use crate::lately::bit;
+
 /// How often a thread pumps a place at most where much was found.
 const LONG: u32 = 32;
 
@@ -46,9 +48,4 @@ impl Stay {
         }
         most <= FEW || !is_idle
     }
-}
-
-/// The bit of a place, from 1 to 64.
-fn bit(place: u16) -> u64 {
-    1u64.wrapping_shl(u32::from(place))
 }

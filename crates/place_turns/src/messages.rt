@@ -1,6 +1,6 @@
 //! Whole turns that post a message to a port: the room that they need is taken before their first change.
 
-ghost use Rattle.std.specs.Prelude.{◌≡◌, ◌<◌, reverse, OnOk, OnErr, IfOk};
+ghost use Rattle.std.specs.Prelude.{◌≡◌, ◌<◌, reverse, OnErr, IfOk};
 ghost use Rattle.chorus_ui.specs.declared.kind.Kind.TheVariants as Kind;
 ghost use Rattle.chorus_ui.specs.declared.limits.TheConstants.{CLOCK_LIMIT};
 ghost use Rattle.chorus_entry.specs.declared.command.Command.TheVariants as Command;
