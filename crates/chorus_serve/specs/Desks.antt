@@ -1,9 +1,12 @@
 -- A place at the ends of its links, as its callers see it.
 use Rattle.std.specs.Prelude.{ℕ, ◌≡◌, ◌+◌, true, length, Option, Some, None}
 use Rattle.chorus_io.specs.Count.{raised}
+use Rattle.chorus_ui.specs.declared.layout.Layout.{Layout}
 use Rattle.chorus_ui.specs.Layout.{places}
 use Rattle.chorus_entry.specs.declared.packet.Packet.{Packet}
-use Rattle.chorus_place.specs.Calls.{Place}
+use Rattle.place_outbox.specs.Waiting.{nothing_to}
+use Rattle.law_machine.specs.PlaceState.{started}
+use Rattle.chorus_place.specs.Calls.{Place, state}
 use Rattle.chorus_ends.specs.Links.{Links}
 use Rattle.chorus_serve.specs.declared.hand.Held.{Held}
 use Rattle.chorus_serve.specs.declared.hand.Content.{Content}
@@ -77,6 +80,16 @@ seen links packet d =
 pub record IsDesk (place : Place) (links : Links) : Type 0 where
   pub reaches : (p : ℕ) → IsOther place.layout place.number p → links.reaches p ≡ true
   pub lists : length place.out.lists ≡ places place.layout + 1
+
+-- the place of this number, on which nothing happened yet, at these ends; nothing was received or worked off
+pub record IsNewDesk {E P : Type 0} (l : Layout) (number : ℕ) (e : E) (d : DeskOf E P) : Type 0 where
+  pub state : state d.place ≡ started l number
+  pub out : d.place.out.lists ≡ nothing_to (places l)
+  pub puts : d.place.out.puts ≡ 0
+  pub ends : d.ends ≡ e
+  pub hand : d.hand ≡ None
+  pub last : d.last ≡ 0
+  pub worked : d.worked ≡ 0
 
 -- nothing was sent, received or worked off
 pub record SameHands {E P : Type 0} (old new : DeskOf E P) : Type 0 where

@@ -10,7 +10,7 @@ ghost use Rattle.law_machine.specs.PlaceMachine.{begun};
 ghost use Rattle.law_bounds.specs.Bounds.{AreWaitingWithin};
 ghost use Rattle.chorus_place.specs.Calls.{state, is_call, IsWornAt, MayCall, Stays, TakesNone};
 ghost use Rattle.chorus_place.specs.declared.fault.PlaceFault.TheVariants as PlaceFault;
-ghost use Rattle.chorus_serve.specs.Desks.{SameHands, seen, from_in, opened_in, sealed_in, packet_of, parcel_of, with_hand};
+ghost use Rattle.chorus_serve.specs.Desks.{IsNewDesk, SameHands, seen, from_in, opened_in, sealed_in, packet_of, parcel_of, with_hand};
 ghost use Rattle.chorus_serve.specs.Flows.{IsOther};
 ghost use Rattle.chorus_serve.specs.Working.{Performs};
 
@@ -111,13 +111,7 @@ impl<E: Ends> Desk<E> {
     pub fn start(alloc: Global, layout: Layout, number: u16, ends: E) -> Result<Desk<E>, AllocError>
         requires place { has_place layout number ≡ true }
         requires reaches { (p : ℕ) → IsOther layout number p → (E.links ends).reaches p ≡ true }
-        ensures state { IfOk result (λ desk. state desk.place ≡ started layout number) }
-        ensures out { IfOk result (λ desk. desk.place.out.lists ≡ nothing_to (places layout)) }
-        ensures puts { IfOk result (λ desk. desk.place.out.puts ≡ 0) }
-        ensures ends { IfOk result (λ desk. desk.ends ≡ ends) }
-        ensures hand { IfOk result (λ desk. desk.hand ≡ None) }
-        ensures last { IfOk result (λ desk. desk.last ≡ 0) }
-        ensures worked { IfOk result (λ desk. desk.worked ≡ 0) }
+        ensures { IfOk result (λ desk. IsNewDesk layout number ends desk) }
     {
         let place = Place::start(alloc, layout, number)?;
         Ok(Desk {
