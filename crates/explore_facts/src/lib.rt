@@ -12,4 +12,4 @@ mod facts;
 mod outcomes;
 
 pub use facts::push_answered;
-pub use outcomes::{push_all_ports, push_messages};
+pub use outcomes::{is_stale_at, push_all_ports, push_messages, verdict_at};

@@ -135,7 +135,7 @@ fn verdict_among(id: MsgId, journals: &[Vec<Entry>]) -> Option<Answer>
 }
 
 /// The verdict of the message that the journal tells.
-fn verdict_at(id: MsgId, journal: &[Entry]) -> Option<Answer>
+pub fn verdict_at(id: MsgId, journal: &[Entry]) -> Option<Answer>
     ensures { result ≡ verdict id (reverse journal.now) }
 {
     let mut found = None;
@@ -169,7 +169,7 @@ fn is_stale_among(id: MsgId, journals: &[Vec<Entry>]) -> bool
 }
 
 /// Whether the journal tells that the message was told `stale`.
-fn is_stale_at(id: MsgId, journal: &[Entry]) -> bool
+pub fn is_stale_at(id: MsgId, journal: &[Entry]) -> bool
     ensures { result ≡ is_stale_at id (reverse journal.now) }
 {
     let mut found = false;
