@@ -1,56 +1,57 @@
--- A history more is counted where it comes to.
-use Rattle.std.proofs.Common.{ℕ, zero, suc, ◌≡◌, ◌≢◌, ◌+◌, ◌<◌, ◌≤◌, List, [], ◌∷◌, ◌++◌, length, reverse, get_or, set, ◌⊎◌, inl, inr, refl, sym, ◌∙◌, ap, subst, arith}
+-- Histories more, that come to one text, are counted where they come to.
+use Rattle.std.proofs.Common.{ℕ, zero, suc, ◌≡◌, ◌≢◌, ◌+◌, ◌-◌, ◌^◌, ◌<◌, ◌≤◌, min, List, [], ◌∷◌, ◌++◌, length, reverse, get_or, set, ◌⊎◌, inl, inr, refl, sym, ◌∙◌, ap, subst, arith}
 use Rattle.std.specs.List.{All, AllPairs, Contains}
-use Rattle.std.proofs.lemmas.List.{map-append, length-map, length-set, get_or-set_same, get_or-set_other}
-use Rattle.std.proofs.lemmas.List.Elements.{All-push, All-set, All-weaker, All-contains, Contains-append_left, Contains-push}
+use Rattle.std.proofs.lemmas.List.{map-append, length-map, length-set, get_or-map, get_or-set_same, get_or-set_other}
+use Rattle.std.proofs.lemmas.List.Elements.{at_read, All-append, All-contains, All-map, All-push, All-set, All-weaker, Contains-append_left, Contains-append_right, Contains-get_or, Contains-push}
 use Rattle.std.proofs.lemmas.List.Quantifiers.{all_pairs_push}
-use Rattle.std.proofs.lemmas.Bool.{cases_lt}
+use Rattle.std.proofs.lemmas.Bool.{cases_eq, cases_lt}
 use Rattle.law_explore.specs.declared.moves.Move.{Move}
-use Rattle.law_explore.specs.Explores.{Count}
-use Rattle.law_explore.specs.Races.{Race}
+use Rattle.law_explore.specs.Explores.{Count, IsCounted, told_number}
 use Rattle.explore_report.specs.declared.findings.Finding.{Finding}
-use Rattle.explore_report.specs.Findings.{AreFindings, texts_of}
+use Rattle.explore_report.specs.Findings.{AreFindings, ComeTo, texts_of}
 
 -- Counts.
 
-module _ (r : Race) (comes : List Move → List ℕ) (o : List ℕ) where
-  count-none : (hs : List (List Move)) → All (λ (h : List Move). comes h ≢ o) hs → Count r comes o hs 0
+told-sum : (a b n m z : ℕ) → n ≡ told_number a → m ≡ told_number b → z ≡ min (n + m) (2 ^ 64 - 1) → z ≡ told_number (a + b)
+told-sum a b n m z x y e = grind (arith, x, y, e)
+
+module _ (comes : List Move → List ℕ) (o : List ℕ) where
+  count-none : (ks : List (List Move)) → All (λ (k : List Move). comes k ≢ o) ks → Count comes o ks 0
   count-none [] a = refl
-  count-none (h ∷ hs) a = (a 0 h (omega arith), count-none hs (λ k d lt. a (suc k) d (omega (arith, lt))))
+  count-none (k ∷ ks) a = (a 0 k (omega arith), count-none ks (λ i d lt. a (suc i) d (omega (arith, lt))))
 
-  count-same : (hs : List (List Move)) (n : ℕ) (h : List Move) → Count r comes o hs n → comes h ≡ o → Count r comes o (hs ++ h ∷ []) (suc n)
-  count-same [] n h c e = inl (e, c)
-  count-same (g ∷ hs) zero h c e = inr (c.0, count-same hs zero h c.1 e)
-  count-same (g ∷ hs) (suc n) h (inl c) e = inl (c.0, count-same hs n h c.1 e)
-  count-same (g ∷ hs) (suc n) h (inr c) e = inr (c.0, count-same hs (suc n) h c.1 e)
+  count-all : (ks : List (List Move)) → All (λ (k : List Move). comes k ≡ o) ks → Count comes o ks (length ks)
+  count-all [] a = refl
+  count-all (k ∷ ks) a = inl (a 0 k (omega arith), count-all ks (λ i d lt. a (suc i) d (omega (arith, lt))))
 
-  count-other : (hs : List (List Move)) (n : ℕ) (h : List Move) → Count r comes o hs n → comes h ≢ o → Count r comes o (hs ++ h ∷ []) n
-  count-other [] zero h c e = (e, c)
-  count-other [] (suc n) h c e = absurd (cc)
-  count-other (g ∷ hs) zero h c e = (c.0, count-other hs zero h c.1 e)
-  count-other (g ∷ hs) (suc n) h (inl c) e = inl (c.0, count-other hs n h c.1 e)
-  count-other (g ∷ hs) (suc n) h (inr c) e = inr (c.0, count-other hs (suc n) h c.1 e)
+  count-other : (g : List Move) (hs : List (List Move)) (n : ℕ) → comes g ≢ o → Count comes o hs n → Count comes o (g ∷ hs) n
+  count-other g hs zero ne c = (ne, c)
+  count-other g hs (suc n) ne c = inr (ne, c)
 
-  -- it is no more than there are histories
-  pub count-most : (hs : List (List Move)) (n : ℕ) → Count r comes o hs n → n ≤ length hs
-  count-most [] n c = omega (arith, c)
-  count-most (g ∷ hs) zero c = omega arith
-  count-most (g ∷ hs) (suc n) (inl c) = (let le = count-most hs n c.1 in omega (arith, le))
-  count-most (g ∷ hs) (suc n) (inr c) = (let le = count-most hs (suc n) c.1 in omega (arith, le))
+  count-append : (hs ks : List (List Move)) (n m : ℕ) → Count comes o hs n → Count comes o ks m → Count comes o (hs ++ ks) (n + m)
+  count-append [] ks n m c d = (let e : m ≡ n + m = omega (arith, c) in subst (λ (k : ℕ). Count comes o ks k) e d)
+  count-append (g ∷ hs) ks zero m c d = count-other g (hs ++ ks) (zero + m) c.0 (count-append hs ks zero m c.1 d)
+  count-append (g ∷ hs) ks (suc n) m (inl c) d =
+      let e : suc (n + m) ≡ suc n + m = omega arith in
+      subst (λ (k : ℕ). Count comes o (g ∷ (hs ++ ks)) k) e (inl (c.0, count-append hs ks n m c.1 d))
+  count-append (g ∷ hs) ks (suc n) m (inr c) d = count-other g (hs ++ ks) (suc n + m) c.0 (count-append hs ks (suc n) m c.1 d)
 
--- Texts.
+  counted-none : (hs : List (List Move)) → All (λ (h : List Move). comes h ≢ o) hs → IsCounted comes o hs 0
+  counted-none hs none = record { number = 0; count = count-none hs none; is = refl }
 
-text-at : (fs : List Finding) (k : ℕ) (d : Finding) → get_or (texts_of fs) k d.text.items ≡ (get_or fs k d).text.items
-text-at [] k d = refl
-text-at (f ∷ fs) zero d = refl
-text-at (f ∷ fs) (suc k) d = text-at fs k d
+  counted-all : (hs ks : List (List Move)) (n m z : ℕ) → IsCounted comes o hs n → All (λ (k : List Move). comes k ≡ o) ks → m ≡ told_number (length ks) → z ≡ min (n + m) (2 ^ 64 - 1) → IsCounted comes o (hs ++ ks) z
+  counted-all hs ks n m z c all told sum = record {
+    number = c.number + length ks;
+    count = count-append hs ks c.number (length ks) c.count (count-all ks all);
+    is = told-sum c.number (length ks) n m z c.is told sum;
+  }
 
-same-texts : (fs : List Finding) (i : ℕ) (g : Finding) → g.text.items ≡ (get_or fs i g).text.items → texts_of (set fs i g) ≡ texts_of fs
-same-texts [] i g e = refl
-same-texts (f ∷ fs) zero g e = ap (λ t. t ∷ texts_of fs) e
-same-texts (f ∷ fs) (suc i) g e = ap (λ ts. f.text.items ∷ ts) (same-texts fs i g e)
+  counted-other : (hs ks : List (List Move)) (n : ℕ) → IsCounted comes o hs n → All (λ (k : List Move). comes k ≢ o) ks → IsCounted comes o (hs ++ ks) n
+  counted-other hs ks n c none =
+      let e : c.number ≡ c.number + 0 = omega arith in
+      record { number = c.number + 0; count = count-append hs ks c.number 0 c.count (count-none ks none); is = c.is ∙ ap told_number e }
 
--- of texts that stand once each other one differs from this one
+-- Of texts that stand once each other one differs from this one.
 differs : (ts : List (List ℕ)) (i k : ℕ) (d : List ℕ) → AllPairs (λ (one other : List ℕ). one ≢ other) ts → i < length ts → k < length ts → k ≢ i → get_or ts k d ≢ get_or ts i d
 differs ts i k d once li lk ne e = by (cases_lt k i)
   where
@@ -61,128 +62,113 @@ differs ts i k d once li lk ne e = by (cases_lt k i)
     by (inl lt) = once k i d lt li e
     by (inr le) = once i k d (above k i le ne) lk (sym e)
 
-module _ (r : Race) (comes : List Move → List ℕ) (hs : List (List Move)) (fs : List Finding) (h : List Move) (t : List ℕ) (is : comes h ≡ t) (f : AreFindings r comes hs fs) where
-  abbrev more : List (List Move)
-  more = hs ++ h ∷ []
+same-texts : (fs : List Finding) (i : ℕ) (g : Finding) → g.text.items ≡ (get_or fs i g).text.items → texts_of (set fs i g) ≡ texts_of fs
+same-texts [] i g e = refl
+same-texts (f ∷ fs) zero g e = ap (λ t. t ∷ texts_of fs) e
+same-texts (f ∷ fs) (suc i) g e = ap (λ ts. f.text.items ∷ ts) (same-texts fs i g e)
 
-  shown-on : (g : Finding) → Contains hs (reverse g.moves.items) × (comes (reverse g.moves.items) ≡ g.text.items) → Contains (hs ++ h ∷ []) (reverse g.moves.items) × (comes (reverse g.moves.items) ≡ g.text.items)
-  shown-on g s = (Contains-append_left hs (h ∷ []) (reverse g.moves.items) s.0, s.1)
+module _ (comes : List Move → List ℕ) (hs ks : List (List Move)) (fs : List Finding) (h : List Move) (t : List ℕ) (number : ℕ) (is : ComeTo comes t h number ks) (f : AreFindings comes hs fs) where
+  abbrev Shown : List (List Move) → Finding → Type 0
+  Shown xs g = Contains xs (reverse g.moves.items) × (comes (reverse g.moves.items) ≡ g.text.items)
+
+  abbrev Counted : List (List Move) → Finding → Type 0
+  Counted xs g = IsCounted comes g.text.items xs g.histories
+
+  abbrev Comes : List (List ℕ) → List Move → Type 0
+  Comes ts g = Contains ts (comes g)
+
+  shown-on : All (Shown (hs ++ ks)) fs
+  shown-on = All-weaker (Shown hs) (Shown (hs ++ ks)) (λ g s. (Contains-append_left hs ks (reverse g.moves.items) s.0, s.1)) fs f.shown
+
+  found-on : (ts : List (List ℕ)) → Contains ts t → All (Comes ts) hs → All (Comes ts) (hs ++ ks)
+  found-on ts c a =
+      All-append (Comes ts) hs ks a
+      (All-weaker (λ (k : List Move). comes k ≡ t) (Comes ts) (λ k e. subst (Contains ts) (sym e) c) ks is.come)
+
+  counted-on : (g : Finding) → Counted hs g → g.text.items ≢ t → Counted (hs ++ ks) g
+  counted-on g c ne =
+      counted-other comes g.text.items hs ks g.histories c
+      (All-weaker (λ (k : List Move). comes k ≡ t) (λ (k : List Move). comes k ≢ g.text.items) (λ k e q. ne (sym q ∙ e)) ks is.come)
+
+  within : (k : ℕ) → k < length fs → k < length (texts_of fs)
+  within k lt = (let n = length-map fs (λ (z : Finding). z.text.items) in omega (arith, n, lt))
 
   -- an outcome that was found
-  module _ (i : ℕ) (old new : Finding) (lt : i < length fs) (at : old ≡ get_or fs i old) (text : old.text.items ≡ t) (same-text : new.text.items ≡ old.text.items)
-      (same-sum : new.sum ≡ old.sum) (same-moves : new.moves.items ≡ old.moves.items) (one : new.histories ≡ old.histories + 1) where
+  module _ (i : ℕ) (old : Finding) (sum : ℕ) (lt : i < length fs) (at : old ≡ get_or fs i old) (text : old.text.items ≡ t) (is-sum : sum ≡ min (old.histories + number) (2 ^ 64 - 1)) where
+    abbrev new : Finding
+    new = record old { histories = sum }
+
+    stands : (d : Finding) → get_or fs i d ≡ old
+    stands = at_read fs (λ (z : Finding). z ≡ old) i old lt at refl
+
+    text-at : (k : ℕ) (d : Finding) → k < length fs → get_or (texts_of fs) k t ≡ (get_or fs k d).text.items
+    text-at k d l = get_or-map (λ (z : Finding). z.text.items) fs k d t l
+
+    here : get_or (texts_of fs) i t ≡ t
+    here = text-at i old lt ∙ ap (λ (z : Finding). z.text.items) (stands old) ∙ text
+
     texts-are : texts_of (set fs i new) ≡ texts_of fs
-    texts-are = same-texts fs i new (same-text ∙ ap (λ (z : Finding). z.text.items) (at ∙ default fs i lt))
+    texts-are = same-texts fs i new (ap (λ (z : Finding). z.text.items) (sym (stands new)))
+
+    new-counted : Counted (hs ++ ks) new
+    new-counted =
+        counted-all comes old.text.items hs ks old.histories number sum (subst (Counted hs) (stands old) (f.counted i old lt))
+        (subst (λ (o : List ℕ). All (λ (k : List Move). comes k ≡ o) ks) (sym text) is.come) is.number is-sum
+
+    all-counted : All (Counted (hs ++ ks)) (set fs i new)
+    all-counted k d l = by (cases_eq k i)
       where
-        default : (xs : List Finding) (j : ℕ) → j < length xs → get_or xs j old ≡ get_or xs j new
-        default [] j l = absurd (omega (arith, l))
-        default (x ∷ xs) zero l = refl
-        default (x ∷ xs) (suc j) l = default xs j (omega (arith, l))
+        in-fs : k < length fs
+        in-fs = let n = length-set fs i new in omega (arith, l, n)
 
-    old-shown : Contains hs (reverse old.moves.items) × (comes (reverse old.moves.items) ≡ old.text.items)
-    old-shown = subst (λ (z : Finding). Contains hs (reverse z.moves.items) × (comes (reverse z.moves.items) ≡ z.text.items)) (sym at) (f.shown i old lt)
+        by : (k ≡ i) ⊎ (k ≢ i) → Counted (hs ++ ks) (get_or (set fs i new) k d)
+        by (inl e) = subst (Counted (hs ++ ks)) (sym (ap (λ (j : ℕ). get_or (set fs i new) j d) e ∙ get_or-set_same fs i new d lt)) new-counted
+        by (inr ne) =
+            subst (Counted (hs ++ ks)) (sym (get_or-set_other fs i k new d ne))
+            (counted-on (get_or fs k d) (f.counted k d in-fs)
+            (λ e. differs (texts_of fs) i k t f.once (within i lt) (within k in-fs) ne (text-at k d in-fs ∙ e ∙ sym here)))
 
-    new-shown : Contains (hs ++ h ∷ []) (reverse new.moves.items) × (comes (reverse new.moves.items) ≡ new.text.items)
-    new-shown =
-        let s = shown-on old old-shown in
-        let m : reverse old.moves.items ≡ reverse new.moves.items = ap reverse (sym same-moves) in
-        (subst (Contains (hs ++ h ∷ [])) m s.0, ap comes (sym m) ∙ s.1 ∙ sym same-text)
-
-    old-count : Count r comes old.text.items hs old.histories
-    old-count = subst (λ (z : Finding). Count r comes z.text.items hs z.histories) (sym at) (f.counted i old lt)
-
-    new-count : Count r comes new.text.items (hs ++ h ∷ []) new.histories
-    new-count =
-        let c = count-same r comes old.text.items hs old.histories h old-count (is ∙ sym text) in
-        let n : suc old.histories ≡ new.histories = omega (arith, one) in
-        subst (λ (m : ℕ). Count r comes new.text.items (hs ++ h ∷ []) m) n (subst (λ z. Count r comes z (hs ++ h ∷ []) (suc old.histories)) (sym same-text) c)
-
-    counts-on : All (λ (g : Finding). Count r comes g.text.items (hs ++ h ∷ []) g.histories) (set fs i new)
-    counts-on k d l = by (cases_lt k i) (cases_lt i k)
-      where
-        within : k < length fs
-        within = let n = length-set fs i new in omega (arith, l, n)
-
-        other : i ≢ k → Count r comes (get_or (set fs i new) k d).text.items (hs ++ h ∷ []) (get_or (set fs i new) k d).histories
-        other ne =
-            let at-k : get_or (set fs i new) k d ≡ get_or fs k d = get_or-set_other fs i k new d (λ q. ne (sym q)) in
-            let here : get_or (texts_of fs) i d.text.items ≡ t = text-at fs i d ∙ ap (λ (z : Finding). z.text.items) (sym (at ∙ default fs i lt)) ∙ text in
-            let apart : comes h ≢ (get_or fs k d).text.items =
-            (λ e. differs (texts_of fs) i k d.text.items f.once (let n = length-map fs (λ (z : Finding). z.text.items) in omega (arith, n, lt)) (let n = length-map fs (λ (z : Finding). z.text.items) in omega (arith, n, within)) (λ q. ne (sym q))
-            (text-at fs k d ∙ sym e ∙ is ∙ sym here)) in
-            subst (λ (z : Finding). Count r comes z.text.items (hs ++ h ∷ []) z.histories) (sym at-k) (count-other r comes (get_or fs k d).text.items hs (get_or fs k d).histories h (f.counted k d within) apart)
-          where
-            default : (xs : List Finding) (j : ℕ) → j < length xs → get_or xs j old ≡ get_or xs j d
-            default [] j m = absurd (omega (arith, m))
-            default (x ∷ xs) zero m = refl
-            default (x ∷ xs) (suc j) m = default xs j (omega (arith, m))
-
-        same : k ≡ i → Count r comes (get_or (set fs i new) k d).text.items (hs ++ h ∷ []) (get_or (set fs i new) k d).histories
-        same e =
-            subst (λ (z : Finding). Count r comes z.text.items (hs ++ h ∷ []) z.histories)
-            (sym (ap (λ (j : ℕ). get_or (set fs i new) j d) e ∙ get_or-set_same fs i new d lt)) new-count
-
-        by : (k < i) ⊎ (i ≤ k) → (i < k) ⊎ (k ≤ i) → Count r comes (get_or (set fs i new) k d).text.items (hs ++ h ∷ []) (get_or (set fs i new) k d).histories
-        by (inl a) b = other (λ e. omega (arith, a, e))
-        by (inr a) (inl b) = other (λ e. omega (arith, b, e))
-        by (inr a) (inr b) = same (omega (arith, a, b))
-
-    found-on : All (λ (g : List Move). Contains (texts_of (set fs i new)) (comes g)) (hs ++ h ∷ [])
-    found-on =
-        subst (λ ts. All (λ (g : List Move). Contains ts (comes g)) (hs ++ h ∷ [])) (sym texts-are)
-        (All-push (λ (g : List Move). Contains (texts_of fs) (comes g)) hs h f.found
-        (i, (let n = length-map fs (λ (z : Finding). z.text.items) in omega (arith, n, lt)), at-text fs i lt (ap (λ (z : Finding). z.text.items) (sym at) ∙ text ∙ sym is)))
-      where
-        at-text : (xs : List Finding) (j : ℕ) → j < length xs → (get_or xs j old).text.items ≡ comes h → get_or (texts_of xs) j (comes h) ≡ comes h
-        at-text [] j l e = absurd (omega (arith, l))
-        at-text (x ∷ xs) zero l e = e
-        at-text (x ∷ xs) (suc j) l e = at-text xs j (omega (arith, l)) e
-
-    pub counts-one-more : AreFindings r comes (hs ++ h ∷ []) (set fs i new)
-    counts-one-more = record {
-      shown = All-set (λ (g : Finding). Contains (hs ++ h ∷ []) (reverse g.moves.items) × (comes (reverse g.moves.items) ≡ g.text.items)) fs i new new-shown
-          (All-weaker (λ (g : Finding). Contains hs (reverse g.moves.items) × (comes (reverse g.moves.items) ≡ g.text.items)) (λ (g : Finding). Contains (hs ++ h ∷ []) (reverse g.moves.items) × (comes (reverse g.moves.items) ≡ g.text.items)) shown-on fs f.shown);
+    pub counts-more : AreFindings comes (hs ++ ks) (set fs i new)
+    counts-more = record {
+      shown = All-set (Shown (hs ++ ks)) fs i new (subst (Shown (hs ++ ks)) (stands old) (shown-on i old lt)) shown-on;
       once = subst (AllPairs (λ (one other : List ℕ). one ≢ other)) (sym texts-are) f.once;
-      found = found-on;
-      counted = counts-on;
+      found = subst (λ (ts : List (List ℕ)). All (Comes ts) (hs ++ ks)) (sym texts-are)
+          (found-on (texts_of fs) (subst (Contains (texts_of fs)) here (Contains-get_or (texts_of fs) i t (within i lt))) f.found);
+      counted = all-counted;
     }
 
   -- a new one
-  module _ (new : Finding) (none : All (λ (g : Finding). g.text.items ≢ t) fs) (text : new.text.items ≡ t) (moves : reverse new.moves.items ≡ h) (one : new.histories ≡ 1) where
-    none-comes : All (λ (g : List Move). comes g ≢ t) hs
-    none-comes k d l e =
-        let c = f.found k d l in
-        All-contains (λ (z : List ℕ). z ≢ t) (texts_of fs) (comes (get_or hs k d)) (texts-differ fs none) c e
-      where
-        texts-differ : (gs : List Finding) → All (λ (g : Finding). g.text.items ≢ t) gs → All (λ (z : List ℕ). z ≢ t) (texts_of gs)
-        texts-differ [] a = λ j q m. absurd (omega (arith, m))
-        texts-differ (g ∷ gs) a =
-            let rest = texts-differ gs (λ j q m. a (suc j) q (omega (arith, m))) in
-            λ j q m. go j q m rest
-          where
-            go : (j : ℕ) (q : List ℕ) → j < length (texts_of (g ∷ gs)) → All (λ (z : List ℕ). z ≢ t) (texts_of gs) → get_or (texts_of (g ∷ gs)) j q ≢ t
-            go zero q m rest = a 0 g (omega arith)
-            go (suc j) q m rest = rest j q (omega (arith, m))
+  module _ (new : Finding) (none : All (λ (g : Finding). g.text.items ≢ t) fs) (text : new.text.items ≡ t) (moves : reverse new.moves.items ≡ h) (is-number : new.histories ≡ number) where
+    apart : All (λ (z : List ℕ). z ≢ t) (texts_of fs)
+    apart = All-map (λ (z : List ℕ). z ≢ t) (λ (z : Finding). z.text.items) fs none
 
-    pub counts-a-new-one : AreFindings r comes (hs ++ h ∷ []) (fs ++ new ∷ [])
-    counts-a-new-one =
-        let texts : texts_of (fs ++ new ∷ []) ≡ texts_of fs ++ t ∷ [] = map-append (λ (g : Finding). g.text.items) fs (new ∷ []) ∙ ap (λ z. texts_of fs ++ z ∷ []) text in
-        record {
-          shown = All-push (λ (g : Finding). Contains (hs ++ h ∷ []) (reverse g.moves.items) × (comes (reverse g.moves.items) ≡ g.text.items)) fs new
-              (All-weaker (λ (g : Finding). Contains hs (reverse g.moves.items) × (comes (reverse g.moves.items) ≡ g.text.items)) (λ (g : Finding). Contains (hs ++ h ∷ []) (reverse g.moves.items) × (comes (reverse g.moves.items) ≡ g.text.items)) shown-on fs f.shown)
-              (subst (Contains (hs ++ h ∷ [])) (sym moves) (Contains-push hs h), ap comes moves ∙ is ∙ sym text);
-          once = subst (AllPairs (λ (one other : List ℕ). one ≢ other)) (sym texts)
-              (all_pairs_push (λ (one other : List ℕ). one ≢ other) (texts_of fs) t f.once (λ k d l. texts-at fs k d none (let n = length-map fs (λ (z : Finding). z.text.items) in omega (arith, n, l))));
-          found = subst (λ ts. All (λ (g : List Move). Contains ts (comes g)) (hs ++ h ∷ [])) (sym texts)
-              (All-push (λ (g : List Move). Contains (texts_of fs ++ t ∷ []) (comes g)) hs h
-              (All-weaker (λ (g : List Move). Contains (texts_of fs) (comes g)) (λ (g : List Move). Contains (texts_of fs ++ t ∷ []) (comes g)) (λ g c. Contains-append_left (texts_of fs) (t ∷ []) (comes g) c) hs f.found)
-              (subst (Contains (texts_of fs ++ t ∷ [])) (sym is) (Contains-push (texts_of fs) t)));
-          counted = All-push (λ (g : Finding). Count r comes g.text.items (hs ++ h ∷ []) g.histories) fs new
-              (λ k d l. count-other r comes (get_or fs k d).text.items hs (get_or fs k d).histories h (f.counted k d l) (λ e. none k d l (sym e ∙ is)))
-              (subst (λ z. Count r comes z (hs ++ h ∷ []) new.histories) (sym text) (subst (λ (n : ℕ). Count r comes t (hs ++ h ∷ []) n) (sym one) (count-same r comes t hs 0 h (count-none r comes t hs none-comes) is)));
-        }
-      where
-        texts-at : (gs : List Finding) (k : ℕ) (d : List ℕ) → All (λ (g : Finding). g.text.items ≢ t) gs → k < length gs → get_or (texts_of gs) k d ≢ t
-        texts-at [] k d a l = absurd (omega (arith, l))
-        texts-at (g ∷ gs) zero d a l = a 0 g (omega arith)
-        texts-at (g ∷ gs) (suc k) d a l = texts-at gs k d (λ j q m. a (suc j) q (omega (arith, m))) (omega (arith, l))
+    none-comes : All (λ (g : List Move). comes g ≢ t) hs
+    none-comes =
+        All-weaker (Comes (texts_of fs)) (λ (g : List Move). comes g ≢ t)
+        (λ g c. All-contains (λ (z : List ℕ). z ≢ t) (texts_of fs) (comes g) apart c) hs f.found
+
+    is-first : new.histories ≡ min (0 + number) (2 ^ 64 - 1)
+    is-first = let e = is.number in grind (arith, e, is-number)
+
+    this-counted : Counted (hs ++ ks) new
+    this-counted =
+        subst (λ (o : List ℕ). IsCounted comes o (hs ++ ks) new.histories) (sym text)
+        (counted-all comes t hs ks 0 number new.histories (counted-none comes t hs none-comes) is.come is.number is-first)
+
+    texts-with-it : texts_of (fs ++ new ∷ []) ≡ texts_of fs ++ t ∷ []
+    texts-with-it = map-append (λ (g : Finding). g.text.items) fs (new ∷ []) ∙ ap (λ z. texts_of fs ++ z ∷ []) text
+
+    pub counts-a-new-one : AreFindings comes (hs ++ ks) (fs ++ new ∷ [])
+    counts-a-new-one = record {
+      shown = All-push (Shown (hs ++ ks)) fs new shown-on (
+        subst (Contains (hs ++ ks)) (sym moves) (Contains-append_right hs ks h is.among),
+        ap comes moves ∙ All-contains (λ (k : List Move). comes k ≡ t) ks h is.come is.among ∙ sym text,
+      );
+      once = subst (AllPairs (λ (one other : List ℕ). one ≢ other)) (sym texts-with-it)
+          (all_pairs_push (λ (one other : List ℕ). one ≢ other) (texts_of fs) t f.once apart);
+      found = subst (λ (ts : List (List ℕ)). All (Comes ts) (hs ++ ks)) (sym texts-with-it)
+          (found-on (texts_of fs ++ t ∷ []) (Contains-push (texts_of fs) t)
+          (All-weaker (Comes (texts_of fs)) (Comes (texts_of fs ++ t ∷ [])) (λ g c. Contains-append_left (texts_of fs) (t ∷ []) (comes g) c) hs f.found));
+      counted = All-push (Counted (hs ++ ks)) fs new
+          (λ k d l. counted-on (get_or fs k d) (f.counted k d l) (none k d l)) this-counted;
+    }

@@ -7,9 +7,9 @@ use crate::findings::Findings;
 pub struct Explored {
     /// The outcomes that were found.
     pub findings: Findings,
-    /// How many histories were gone through to their ends.
+    /// How many whole histories were counted; 2^64 - 1 where they are more.
     pub histories: u64,
-    /// How many events were carried out first.
+    /// How many moves were carried out; those that were done again do not count.
     pub events: u64,
     /// Whether a limit was met.
     pub is_cut: bool,

@@ -3,19 +3,19 @@
 ghost use Rattle.std.specs.Prelude.{◌≡◌, ◌≢◌, ◌<◌, [], length, slice_index_or, true, false, IfSome, OnOk, IsNone, reverse};
 ghost use Rattle.std.specs.List.{All};
 ghost use Rattle.explore_report.specs.declared.findings.Finding.{Finding};
-ghost use Rattle.explore_report.specs.Findings.{Counts, MayCount, HaveSums, sum_from};
+ghost use Rattle.explore_report.specs.Findings.{Counts, HaveSums, sum_from};
 
 use law_explore::Move;
 use std::alloc::{AllocError, Global};
 
-/// An outcome, how many of the histories that were gone through come to it, and the first of these.
+/// An outcome, how many of the histories that were counted come to it, and the first of these.
 #[derive(Debug, Drop)]
 pub struct Finding {
     /// The lines of its facts.
     pub text: Vec<u8>,
-    /// Equal texts have equal sums.
+    /// The sum of the lines, by which they are looked for.
     sum: u64,
-    /// How many of the histories that were gone through come to it.
+    /// How many of the histories that were counted come to it; 2^64 - 1 where they are more.
     pub histories: u64,
     /// The first history that came to it, its moves in order.
     pub moves: Vec<Move>,
@@ -53,18 +53,25 @@ impl Findings {
         }
     }
 
-    /// Counts a history, these moves in order, that comes to the outcome of these lines. The only error is want of
-    /// memory.
-    pub fn add(&mut self, alloc: Global, text: Vec<u8>, moves: &[Move]) -> Result<(), AllocError>
-        requires { MayCount self.old.items.items }
-        ensures counts { OnOk result
-            (Counts text.items (reverse moves.now) self.old.items.items self.new.items.items) }
+    /// Counts so many histories, one of them these moves in order, that come to the outcome of these lines; 2^64 - 1
+    /// stands for more. The only error is want of memory.
+    pub fn add(
+        &mut self,
+        alloc: Global,
+        text: Vec<u8>,
+        moves: &[Move],
+        number: u64,
+    ) -> Result<(), AllocError>
+        requires { HaveSums self.old.items.items }
+        ensures counts { OnOk result (Counts text.items (reverse moves.now) number
+            self.old.items.items self.new.items.items) }
         ensures sums { OnOk result (HaveSums self.new.items.items) }
     {
         let sum = sum_of(&text);
         match self.position(&text, sum) {
             Some(index) => {
-                self.items[index].histories += 1;
+                let finding = &mut self.items[index];
+                finding.histories = finding.histories.saturating_add(number);
             }
             None => {
                 let moves = Vec::from_slice(alloc, moves)?;
@@ -72,7 +79,7 @@ impl Findings {
                 self.items.push_reserved(Finding {
                     text,
                     sum,
-                    histories: 1,
+                    histories: number,
                     moves,
                 });
             }

@@ -1,6 +1,6 @@
 -- What was found level by level: all whole histories, each once.
 -- r is a race, cs are classes, h and k are histories, hs and ks lists of them, m and o are moves.
-use Rattle.std.proofs.Common.{ℕ, zero, suc, ◌≡◌, ◌+◌, ◌<◌, ◌≤◌, ◌==◌, ◌&&◌, Bool, true, false, List, [], ◌∷◌, ◌++◌, length, sum_by, ◌⊎◌, inl, inr, refl, sym, ◌∙◌, ap, subst, arith}
+use Rattle.std.proofs.Common.{ℕ, zero, suc, ◌≡◌, ◌<◌, ◌≤◌, ◌==◌, ◌&&◌, Bool, true, false, List, [], ◌∷◌, ◌++◌, length, sum_by, ◌⊎◌, inl, inr, refl, sym, ◌∙◌, ap, subst, arith}
 use Rattle.std.specs.List.{All, Contains}
 use Rattle.std.proofs.lemmas.Bool.{false≢true, and_parts, eqb-true, eq-eqb}
 use Rattle.std.proofs.lemmas.List.Elements.{All-nil, All-cons, All-head, All-tail, Contains-append_left, Contains-append_right, Contains-append_cases}
@@ -12,7 +12,7 @@ use Rattle.law_explore.specs.Races.{Race, replaying, IsRace, IsWhole}
 use Rattle.law_explore.specs.Positions.{next_behind}
 use Rattle.law_explore.specs.Levels.{histories_of}
 use Rattle.law_explore.specs.Merging.{Telling, TellsOn}
-use Rattle.law_explore.specs.Members.{Merged, all_members, IsEnd, IsMerged, IsLevel, AreOnce, AreFound, LevelsOfMergedFindAll}
+use Rattle.law_explore.specs.Members.{Merged, all_members, SameHistories, IsEnd, IsMerged, IsLevel, AreOnce, AreFound, LevelsOfMergedFindAll}
 use Rattle.law_explore.proofs.Searching.{none, here, there, which, of-flat}
 use Rattle.law_explore.proofs.Exploring.{lists-next}
 use Rattle.law_explore.proofs.Histories.{are-listed, no-other}
@@ -161,6 +161,25 @@ less-or (suc a) (suc n) l = by (less-or a n (omega (arith, l)))
     by : (a < n) ⊎ (a ≡ n) → (suc a < suc n) ⊎ (suc a ≡ suc n)
     by (inl k) = inl (omega (arith, k))
     by (inr e) = inr (ap suc e)
+
+once-front : (hs ks : List (List Move)) → AreOnce (hs ++ ks) → AreOnce hs
+once-front [] ks f = tt
+once-front (h ∷ hs) ks f = ((λ c. f.0 (Contains-append_left hs ks h c)), once-front hs ks f.1)
+
+-- Of a level that is gone through in part, with what was found before, each stands once.
+pub front-once : (r : Race) (n : ℕ) (found others ends pending : List (List Move)) → AreFound r n found → SameHistories (others ++ ends ++ pending) (histories_of r n) → AreOnce (found ++ ends)
+front-once r n found others ends pending are same =
+    both-once found ends are.once (once-end others ends (once-front (others ++ ends) pending all-once))
+    (λ h i j.
+    let f = (all-has (λ (k : List Move). IsWhole r k × (length k < n)) found h are.whole i).1 in
+    let c = Contains-append_left (others ++ ends) pending h (Contains-append_right others ends h j) in
+    let l = sum-has h (others ++ ends ++ pending) c in
+    let s = same (is-one h) in
+    let e = (no-other r n h (has-sum h (histories_of r n) (omega (arith, l, s)))).1 in
+    omega (arith, f, e))
+  where
+    all-once : AreOnce (others ++ ends ++ pending)
+    all-once = sum-once (others ++ ends ++ pending) (λ h. let l = once-sum h (histories_of r n) (once-histories r n) in let s = same (is-one h) in omega (arith, l, s))
 
 module _ (tells : Telling) (r : Race) (on : TellsOn tells) (race : IsRace r) where
   module _ (n : ℕ) (cs : List Merged) (ends : List (List Move)) (level : IsLevel tells r n cs ends) where

@@ -11,7 +11,7 @@ use Rattle.law_explore.specs.Positions.{next_behind}
 use Rattle.law_explore.specs.Merging.{Telling, TellsOn, ComeToldAlike}
 use Rattle.law_explore.specs.Levels.{histories_of}
 
--- a history that is gone on from, and those for which it stands, itself among them
+-- a history that is gone on from, and those for which it stands
 pub record Merged : Type 0 where
   pub shows : List Move
   pub members : List (List Move)

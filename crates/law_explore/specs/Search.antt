@@ -60,7 +60,7 @@ module _ {S E : Type 0} (y : System S E) where
   abbrev pub NormalsSuffice : Type 0
   NormalsSuffice = (es : List E) → IsHistory y es → HasNormal es
 
-  -- The search: depth first, and only over normal forms. `next` lists the events that may come.
+  -- A search: depth first, and only over normal forms. `next` lists the events that may come.
   module _ (next : S → List E) where
     abbrev pub ListsNext : Type 0
     ListsNext =

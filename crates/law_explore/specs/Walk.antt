@@ -1,4 +1,4 @@
--- The search as a loop does it: what was found, and what is pending.
+-- That search as a loop does it: what was found, and what is pending.
 -- h is a history, f a frame, w a walk.
 use Rattle.std.specs.Prelude.{ℕ, zero, suc, ◌≡◌, if◌then◌else◌, List, [], ◌∷◌, ◌++◌}
 use Rattle.std.specs.List.{flat_map}

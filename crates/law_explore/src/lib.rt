@@ -1,15 +1,15 @@
 //! The laws of races: what may come of the commands of several scripts, and of the deliveries between places, in any
 //! order.
 //!
-//! A layer that goes over the schedules of a race rests on this: two events that have nothing in common may change
-//! places; so each schedule has one in normal form that comes to the same, and those in normal form are all that need
-//! be gone through. The search over them, depth first, comes to each and to no other, and as a loop it keeps one list:
-//! what was found, and then what is pending. What a schedule comes to depends on no clock, and not on who delivers. The
-//! crate has no code but the laws, which make no call.
+//! A layer that goes over the schedules of a race rests on this: behind positions that are alike
+//! (`specs/Positions.antt`) the same comes, so histories that come to such may be put together, level by level
+//! (`specs/Levels.antt`). `specs/Merging.antt` says so where what was answered is told in any form, and
+//! `specs/Members.antt` with the histories for which each class stands. What a schedule comes to depends on no clock, and
+//! not on who delivers. The crate has no code but the laws, which make no call.
 //!
-//! Behind positions that are alike (`specs/Positions.antt`) the same comes, so histories that come to such may be put
-//! together, level by level (`specs/Levels.antt`). `specs/Merging.antt` says so where what was answered is told in any
-//! form, and `specs/Members.antt` with the histories for which each class stands. The search does not do so.
+//! Kept as laws, though no search goes by them now: two events that have nothing in common may change places; so each
+//! schedule has one in normal form that comes to the same, and a search over those, depth first, comes to each and to no
+//! other.
 //!
 //! Begin with `specs/Races.antt`, the moves of a race, and `specs/Outcome.antt`, what they come to;
 //! `specs/Explores.antt` says when all that may come of a race is said. `specs/Neighbours.antt` and `specs/Search.antt`
