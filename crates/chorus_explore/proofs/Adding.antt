@@ -1,6 +1,7 @@
--- The candidates that are added for a script and for two places.
--- c is a scenario, s a stage, i the place of a script, d its next command, a and b are places, old and new are candidates.
-use Rattle.std.proofs.Common.{ℕ, ◌≡◌, ◌==◌, Bool, true, false, List, [], ◌∷◌, ◌++◌, length, Option, Some, None, Bor, is_some, slice_get, refl, sym, ◌∙◌, ap, ap₂}
+-- The moves that are added for a script and for two places.
+-- c is a scenario, s a stage, i the place of a script, d its next command, a and b are places, old and new are moves.
+use Rattle.std.proofs.Common.{ℕ, ◌≡◌, ◌==◌, true, false, List, [], ◌∷◌, ◌++◌, length, Option, Some, None, Bor, is_some, slice_get, refl, sym, ◌∙◌, ap}
+use Rattle.std.proofs.lemmas.List.{append-nil}
 use Rattle.std.specs.Option.{IfSome, IsNone, option_copied}
 use Rattle.std.specs.Slice.{IsItemAt}
 use Rattle.std.proofs.lemmas.Option.{slice_get_past, slice_get_read}
@@ -9,47 +10,33 @@ use Rattle.chorus_entry.specs.declared.command.Command.{Command}
 use Rattle.law_network.specs.Packets.{first_on}
 use Rattle.law_explore.specs.declared.moves.Move.{Move}
 use Rattle.law_explore.specs.declared.moves.Move.TheVariants.{Go, Carry}
-use Rattle.law_explore.specs.Races.{may_come, next_of, place_of_move}
-use Rattle.law_replay.specs.Shown.{race_of}
+use Rattle.law_explore.specs.Races.{next_of}
 use Rattle.chorus_scene.specs.Scene.{Scene}
 use Rattle.chorus_net.specs.Sites.{net}
-use Rattle.chorus_explore.specs.declared.candidates.Candidate.{Candidate}
 use Rattle.chorus_explore.specs.declared.race_sites.Stage.{Stage}
-use Rattle.chorus_explore.specs.Candidates.{sleeps_behind}
-use Rattle.chorus_explore.specs.Stages.{IsNext, IsPlaceFor, IsReached, candidate_behind, coming, moves_of, position}
-use Rattle.chorus_explore.proofs.Moving.{carry-comes, goes-by, next-may, one-comes, script-place}
-use Rattle.chorus_explore.proofs.Staging.{next-is}
+use Rattle.chorus_explore.specs.Stages.{IsNext, IsReached, coming, may_go, moves_of, position}
+use Rattle.chorus_explore.proofs.Moving.{carry-comes, next-may, none-comes, none-may, one-comes}
 
-module _ (c : Scene) (s : Stage) (h : IsReached c s) (taken : Candidate) (before : List Candidate) where
-  abbrev at_end : Move → List Candidate
-  at_end m = coming c taken before (position c (moves_of s)) (m ∷ [])
+module _ (c : Scene) (s : Stage) where
+  abbrev at_end : Move → List Move
+  at_end m = coming c (moves_of s) (m ∷ [])
 
-  added : (m : Move) (one : Candidate) (old new : List Candidate) → may_come (race_of c).net.layout m (position c (moves_of s)) ≡ true
-      → one ≡ candidate_behind taken before (position c (moves_of s)) m → new ≡ old ++ one ∷ [] → new ≡ old ++ at_end m
-  added m one old new may is e = e ∙ ap (λ (x : Candidate). old ++ x ∷ []) is ∙ ap (λ xs. old ++ xs) (sym (one-comes c taken before (position c (moves_of s)) m may))
+  added : (m : Move) (old new : List Move) → may_go c m (moves_of s) ≡ true → new ≡ old ++ m ∷ [] → new ≡ old ++ at_end m
+  added m old new may e = e ∙ ap (λ xs. old ++ xs) (sym (one-comes c (moves_of s) m may))
 
   -- A script.
 
-  place-is : (i : ℕ) (d : Command) (place : ℕ) → IsNext c (moves_of s) i d → IsPlaceFor c i d place → place ≡ place_of_move (Go i) (position c (moves_of s))
-  place-is i d place e is =
-      let g = goes-by c s h i d e in
-      let there = (next-is g.at.p.next g.at.script.commands d (ap (λ cs. next_of (Some cs)) (sym g.at.is.rest) ∙ g.next)).0 in
-      is g.at.script g.at.is_script ∙ sym (script-place c s h i d g.at there)
+  pub script-added : IsReached c s → (i : ℕ) (d : Command) (old new : List Move) → IsNext c (moves_of s) i d → new ≡ old ++ Go i ∷ [] → new ≡ old ++ at_end (Go i)
+  script-added h i d old new e e' = added (Go i) old new (next-may c s h i d e) e'
 
-  pub script-added : (i : ℕ) (d : Command) (place : ℕ) (asleep : Bool) (old new : List Candidate) → IsNext c (moves_of s) i d → IsPlaceFor c i d place → asleep ≡ sleeps_behind (Go i) taken before
-      → new ≡ old ++ record { mv = Go i; place = place; is_asleep = asleep } ∷ [] → new ≡ old ++ at_end (Go i)
-  script-added i d place asleep old new e is sleeps e' =
-      added (Go i) (record { mv = Go i; place = place; is_asleep = asleep }) old new (next-may c s h i d e)
-      (ap₂ (λ (p : ℕ) (b : Bool). record { mv = Go i; place = p; is_asleep = b }) (place-is i d place e is) sleeps) e'
+  pub script-none : IsReached c s → (i : ℕ) (old : List Move) → next_of (slice_get (position c (moves_of s)).left i) ≡ None → old ≡ old ++ at_end (Go i)
+  script-none h i old none = sym (append-nil old) ∙ ap (λ xs. old ++ xs) (sym (none-comes c (moves_of s) (Go i) (none-may c (moves_of s) i none)))
 
   -- Two places.
 
-  pub carry-added : (a b : ℕ) (asleep : Bool) (old new : List Candidate) → has_place c.layout a ≡ true → has_place c.layout b ≡ true → (a == b) ≡ false
-      → is_some (first_on a b (net s.sites).packets) ≡ true → asleep ≡ sleeps_behind (Carry a b) taken before → new ≡ old ++ record { mv = Carry a b; place = b; is_asleep = asleep } ∷ []
-      → new ≡ old ++ at_end (Carry a b)
-  carry-added a b asleep old new from to apart waits sleeps e =
-      added (Carry a b) (record { mv = Carry a b; place = b; is_asleep = asleep }) old new (carry-comes c s h a b from to apart ∙ waits)
-      (ap (λ (x : Bool). record { mv = Carry a b; place = b; is_asleep = x }) sleeps) e
+  pub carry-added : IsReached c s → (a b : ℕ) (old new : List Move) → has_place c.layout a ≡ true → has_place c.layout b ≡ true → (a == b) ≡ false
+      → is_some (first_on a b (net s.sites).packets) ≡ true → new ≡ old ++ Carry a b ∷ [] → new ≡ old ++ at_end (Carry a b)
+  carry-added h a b old new from to apart waits e = added (Carry a b) old new (carry-comes c s h a b from to apart ∙ waits) e
 
 -- A command that is looked for.
 

@@ -1,10 +1,7 @@
-pub mod Sleeping
-pub mod Pending
 pub mod Staging
 pub mod Racing
 pub mod Going
 pub mod Searching
-pub mod Idling
 pub mod Explaining
 pub mod Moving
 pub mod Entering
@@ -13,3 +10,7 @@ pub mod Closing
 pub mod Answering
 pub mod Adding
 pub mod Called
+pub mod Alike
+pub mod Spares
+pub mod Happening
+pub mod Whole

@@ -1,7 +1,6 @@
 -- A stage that makes a move.
 -- c is a scenario, s the stage before, t behind it; a and b are numbers of places, i is the place of a script, d a command.
 use Rattle.std.proofs.Common.{ℕ, zero, suc, ◌≡◌, ◌≢◌, ◌+◌, ◌<◌, ◌==◌, Bool, true, false, ◌&&◌, not, cond, List, [], ◌∷◌, ◌++◌, length, map, reverse, set, option_to_list, Option, Some, None, is_some, slice_get, slice_set, refl, sym, ◌∙◌, ap, ap₂, subst, arith, append_assoc}
-use Rattle.std.specs.List.{filter}
 use Rattle.std.specs.Option.{option_map}
 use Rattle.std.proofs.lemmas.Bool.{false≢true, and_parts, eq-eqb}
 use Rattle.std.proofs.lemmas.List.{append-nil, map-append}
@@ -9,26 +8,24 @@ use Rattle.std.proofs.lemmas.List.Elements.{filter-append}
 use Rattle.chorus_ui.specs.declared.layout.Layout.{Layout}
 use Rattle.chorus_ui.specs.Layout.{has_place}
 use Rattle.chorus_entry.specs.declared.command.Command.{Command}
-use Rattle.chorus_entry.specs.Places.{place_for}
 use Rattle.law_machine.specs.Own.{own}
 use Rattle.law_network.specs.Packets.{first_on}
 use Rattle.law_network.specs.Network.{NetState, Act, Deliver, happened, numbers, place_numbers, turn_for}
 use Rattle.law_explore.specs.declared.moves.Move.{Move}
 use Rattle.law_explore.specs.declared.moves.Move.TheVariants.{Go, Carry}
-use Rattle.law_explore.specs.Neighbours.{command_place}
 use Rattle.law_explore.specs.Outcome.{Answered, post_in}
-use Rattle.law_explore.specs.Races.{Position, next_of, behind_next, are_linked, event_of, own_by, own_of, with_answer, position_after, is_ready_by, seat_0, may_come, place_of_move, place_with, replaying, links_to, links_between, next_moves}
+use Rattle.law_explore.specs.Races.{Position, next_of, behind_next, are_linked, event_of, own_by, own_of, with_answer, position_after, is_ready_by, seat_0, may_come, replaying, links_to, links_between}
+use Rattle.law_explore.specs.Positions.{next_behind}
 use Rattle.law_explore.specs.Search.{IsHistory}
 use Rattle.law_replay.specs.Shown.{race_of}
 use Rattle.chorus_scene.specs.Scene.{Scene, Script}
 use Rattle.chorus_net.specs.Sites.{net}
 use Rattle.chorus_net.proofs.Rounds.{numbers-more}
-use Rattle.chorus_explore.specs.declared.candidates.Candidate.{Candidate}
 use Rattle.chorus_explore.specs.declared.race_sites.Progress.{Progress}
 use Rattle.chorus_explore.specs.declared.race_sites.Stage.{Stage}
 use Rattle.explore_facts.specs.Facts.{fact_line}
-use Rattle.chorus_explore.specs.Stages.{AreAt, AreProgress, IsNext, IsOfScript, IsReached, candidate_behind, coming, may_go, moves_of, position}
-use Rattle.chorus_explore.proofs.Racing.{CallerAt, actor-at, caller-at, first-at, position-layout, race-layout}
+use Rattle.chorus_explore.specs.Stages.{AreAt, AreProgress, IsNext, IsOfScript, IsReached, coming, may_go, moves_of, position}
+use Rattle.chorus_explore.proofs.Racing.{CallerAt, caller-at, first-at, position-layout, race-layout}
 use Rattle.chorus_explore.proofs.Staging.{ProgressAt, next-is, next-there, one-more, progress-at, progress-length, progress-set}
 
 pub some-same : {X : Type 0} (x y : X) → Some x ≡ Some y → x ≡ y
@@ -151,15 +148,6 @@ module _ (c : Scene) where
       by None e = refl
       by (Some d) e = ap (λ o. is_some o && true) e
 
-  pub script-place : (s : Stage) → IsReached c s → (i : ℕ) (d : Command) → (at : ProgressAt 1 i c.scripts (position c (moves_of s)).left (position c (moves_of s)).told s.scripts.items)
-      → slice_get at.script.commands at.p.next ≡ Some d → place_of_move (Go i) (position c (moves_of s)) ≡ place_for c.layout at.script.actor d
-  script-place s h i d at e =
-      let p = position c (moves_of s) in
-      let next : next_of (slice_get p.left i) ≡ Some d = ap next_of at.is_left ∙ ap (λ cs. next_of (Some cs)) at.is.rest ∙ next-there at.p.next at.script.commands ∙ e in
-      ap (λ o. place_with o i p.net) next
-      ∙ ap (λ o. command_place p.net.layout d o) (actor-at c (moves_of s) h.history i at.script at.is_script)
-      ∙ ap (λ (l : Layout). place_for l at.script.actor d) (position-layout c (moves_of s) h.history)
-
   -- between two places a delivery may come exactly where a packet waits
   pub carry-comes : (s : Stage) → IsReached c s → (a b : ℕ) → has_place c.layout a ≡ true → has_place c.layout b ≡ true → (a == b) ≡ false
       → may_come (race_of c).net.layout (Carry a b) (position c (moves_of s)) ≡ is_some (first_on a b (net s.sites).packets)
@@ -219,6 +207,9 @@ module _ (c : Scene) where
   pub go-left : (i : ℕ) (ms : List Move) → may_go c (Go i) ms ≡ true → next_of (slice_get (position c ms).left i) ≡ None → ⊥
   go-left i ms may none = false≢true (sym (ap (λ o. is_ready_by (option_map (λ (x : Command). Act (suc i) x) o) (position c ms).net) none) ∙ may)
 
+  pub none-may : (ms : List Move) (i : ℕ) → next_of (slice_get (position c ms).left i) ≡ None → may_go c (Go i) ms ≡ false
+  none-may ms i none = ap (λ o. is_ready_by (option_map (λ (x : Command). Act (suc i) x) o) (position c ms).net) none
+
   pub go-below : (s : Stage) → IsReached c s → (i : ℕ) → may_go c (Go i) (moves_of s) ≡ true → i < length c.scripts
   go-below s h i may = by (next_of (slice_get (position c (moves_of s)).left i)) refl
     where
@@ -239,22 +230,20 @@ module _ (c : Scene) where
         history = subst (IsHistory (replaying (race_of c))) path h.history;
       }
 
-  -- Candidates.
+  -- Of several moves those that may come.
 
-  module _ (taken : Candidate) (before : List Candidate) (p : Position) where
-    pub coming-append : (xs ys : List Move) → coming c taken before p (xs ++ ys) ≡ coming c taken before p xs ++ coming c taken before p ys
-    coming-append xs ys =
-        ap (map (candidate_behind taken before p)) (filter-append (λ (m : Move). may_come (race_of c).net.layout m p) xs ys)
-        ∙ map-append (candidate_behind taken before p) (filter (λ (m : Move). may_come (race_of c).net.layout m p) xs) (filter (λ (m : Move). may_come (race_of c).net.layout m p) ys)
+  module _ (ms : List Move) where
+    pub coming-append : (xs ys : List Move) → coming c ms (xs ++ ys) ≡ coming c ms xs ++ coming c ms ys
+    coming-append xs ys = filter-append (λ (m : Move). may_go c m ms) xs ys
 
-    pub one-comes : (m : Move) → may_come (race_of c).net.layout m p ≡ true → coming c taken before p (m ∷ []) ≡ candidate_behind taken before p m ∷ []
-    one-comes m h = ap (λ b. map (candidate_behind taken before p) (cond b (m ∷ []) [])) h
+    pub one-comes : (m : Move) → may_go c m ms ≡ true → coming c ms (m ∷ []) ≡ m ∷ []
+    one-comes m h = ap (λ b. cond b (m ∷ []) []) h
 
-    pub none-comes : (m : Move) → may_come (race_of c).net.layout m p ≡ false → coming c taken before p (m ∷ []) ≡ []
-    none-comes m h = ap (λ b. map (candidate_behind taken before p) (cond b (m ∷ []) [])) h
+    pub none-comes : (m : Move) → may_go c m ms ≡ false → coming c ms (m ∷ []) ≡ []
+    none-comes m h = ap (λ b. cond b (m ∷ []) []) h
 
     -- from an idle place none come
-    pub idle-links : (a : ℕ) (bs : List ℕ) → ((b : ℕ) → may_come (race_of c).net.layout (Carry a b) p ≡ false) → coming c taken before p (links_to a bs) ≡ []
+    pub idle-links : (a : ℕ) (bs : List ℕ) → ((b : ℕ) → may_go c (Carry a b) ms ≡ false) → coming c ms (links_to a bs) ≡ []
     idle-links a [] none = refl
     idle-links a (b ∷ bs) none =
         coming-append (Carry a b ∷ []) (links_to a bs) ∙ ap₂ (λ xs ys. xs ++ ys) (none-comes (Carry a b) (none b)) (idle-links a bs none)
@@ -286,35 +275,34 @@ module _ (c : Scene) where
       ap (λ (m : ℕ). links_between (numbers m 1) bs) e ∙ ap (λ xs. links_between xs bs) (sym (numbers-more n 1)) ∙ links-append (numbers n 1) ((1 + n) ∷ []) bs
       ∙ ap (λ xs. links_between (numbers n 1) bs ++ xs) (append-nil (links_to (1 + n) bs)) ∙ ap (λ (m : ℕ). links_between (numbers n 1) bs ++ links_to m bs) z
 
--- Candidates that were added.
+-- Moves that were added.
 
-module _ (c : Scene) (taken : Candidate) (before : List Candidate) (p : Position) where
-  more-come : (xs ys new : List Candidate) (front all : List Move) (m : List Move) → new ≡ ys ++ coming c taken before p m → ys ≡ xs ++ coming c taken before p front → all ≡ front ++ m
-      → new ≡ xs ++ coming c taken before p all
+module _ (c : Scene) (ms : List Move) where
+  more-come : (xs ys new front all m : List Move) → new ≡ ys ++ coming c ms m → ys ≡ xs ++ coming c ms front → all ≡ front ++ m → new ≡ xs ++ coming c ms all
   more-come xs ys new front all m e f same =
-      e ∙ ap (λ zs. zs ++ coming c taken before p m) f ∙ append_assoc xs (coming c taken before p front) (coming c taken before p m)
-      ∙ ap (λ zs. xs ++ zs) (sym (coming-append c taken before p front m) ∙ ap (coming c taken before p) (sym same))
+      e ∙ ap (λ zs. zs ++ coming c ms m) f ∙ append_assoc xs (coming c ms front) (coming c ms m)
+      ∙ ap (λ zs. xs ++ zs) (sym (coming-append c ms front m) ∙ ap (coming c ms) (sym same))
 
-  pub script-more : (n : ℕ) (xs ys new : List Candidate) → new ≡ ys ++ coming c taken before p (Go n ∷ []) → ys ≡ xs ++ coming c taken before p (map Go (numbers n 0))
-      → new ≡ xs ++ coming c taken before p (map Go (numbers (n + 1) 0))
+  pub script-more : (n : ℕ) (xs ys new : List Move) → new ≡ ys ++ coming c ms (Go n ∷ []) → ys ≡ xs ++ coming c ms (map Go (numbers n 0)) → new ≡ xs ++ coming c ms (map Go (numbers (n + 1) 0))
   script-more n xs ys new e f = more-come xs ys new (map Go (numbers n 0)) (map Go (numbers (n + 1) 0)) (Go n ∷ []) e f (scripts-next c n)
 
-  pub link-more : (a n : ℕ) (xs ys new : List Candidate) → new ≡ ys ++ coming c taken before p (Carry a (n + 1) ∷ []) → ys ≡ xs ++ coming c taken before p (links_to a (numbers n 1))
-      → new ≡ xs ++ coming c taken before p (links_to a (numbers (n + 1) 1))
+  pub link-more : (a n : ℕ) (xs ys new : List Move) → new ≡ ys ++ coming c ms (Carry a (n + 1) ∷ []) → ys ≡ xs ++ coming c ms (links_to a (numbers n 1))
+      → new ≡ xs ++ coming c ms (links_to a (numbers (n + 1) 1))
   link-more a n xs ys new e f = more-come xs ys new (links_to a (numbers n 1)) (links_to a (numbers (n + 1) 1)) (Carry a (n + 1) ∷ []) e f (link-next c a n)
 
-  pub links-more : (n : ℕ) (bs : List ℕ) (xs ys new : List Candidate) → new ≡ ys ++ coming c taken before p (links_to (n + 1) bs) → ys ≡ xs ++ coming c taken before p (links_between (numbers n 1) bs)
-      → new ≡ xs ++ coming c taken before p (links_between (numbers (n + 1) 1) bs)
+  pub links-more : (n : ℕ) (bs : List ℕ) (xs ys new : List Move) → new ≡ ys ++ coming c ms (links_to (n + 1) bs) → ys ≡ xs ++ coming c ms (links_between (numbers n 1) bs)
+      → new ≡ xs ++ coming c ms (links_between (numbers (n + 1) 1) bs)
   links-more n bs xs ys new e f = more-come xs ys new (links_between (numbers n 1) bs) (links_between (numbers (n + 1) 1) bs) (links_to (n + 1) bs) e f (links-next c n bs)
 
 -- all that may come
-pub all-come : (c : Scene) (taken : Candidate) (before : List Candidate) (s : Stage) → IsReached c s → (xs new : List Candidate)
-    → xs ≡ coming c taken before (position c (moves_of s)) (map Go (numbers (length c.scripts) 0))
-    → new ≡ xs ++ coming c taken before (position c (moves_of s)) (links_between (place_numbers c.layout) (place_numbers c.layout))
-    → new ≡ map (candidate_behind taken before (position c (moves_of s))) (next_moves (race_of c) (position c (moves_of s)))
-all-come c taken before s h xs new e f =
+pub all-come : (c : Scene) (s : Stage) → IsReached c s → (xs new : List Move)
+    → xs ≡ coming c (moves_of s) (map Go (numbers (length c.scripts) 0))
+    → new ≡ xs ++ coming c (moves_of s) (links_between (place_numbers c.layout) (place_numbers c.layout))
+    → new ≡ next_behind (race_of c) (moves_of s)
+all-come c s h xs new e f =
     let p = position c (moves_of s) in
+    let ms = moves_of s in
     let long = (progress-length 1 c.scripts p.left p.told s.scripts.items h.at.scripts).1 in
-    f ∙ ap (λ zs. zs ++ coming c taken before p (links_between (place_numbers c.layout) (place_numbers c.layout))) e
-    ∙ sym (coming-append c taken before p (map Go (numbers (length c.scripts) 0)) (links_between (place_numbers c.layout) (place_numbers c.layout)))
-    ∙ ap₂ (λ (n : ℕ) (l : Layout). coming c taken before p (map Go (numbers n 0) ++ links_between (place_numbers l) (place_numbers l))) (sym long) (sym (race-layout c))
+    f ∙ ap (λ zs. zs ++ coming c ms (links_between (place_numbers c.layout) (place_numbers c.layout))) e
+    ∙ sym (coming-append c ms (map Go (numbers (length c.scripts) 0)) (links_between (place_numbers c.layout) (place_numbers c.layout)))
+    ∙ ap₂ (λ (n : ℕ) (l : Layout). coming c ms (map Go (numbers n 0) ++ links_between (place_numbers l) (place_numbers l))) (sym long) (sym (race-layout c))

@@ -1,304 +1,578 @@
--- What the search keeps, as a move is taken, a history is come to, and a level is gone from.
--- c is a scenario, most is how many events may be carried out, s is the search before, t behind it; e is what it came to.
-use Rattle.std.proofs.Common.{ℕ, suc, ◌≡◌, ◌+◌, ◌^◌, ◌<◌, ◌≤◌, true, false, List, [], ◌∷◌, ◌++◌, length, drop, reverse, get_or, option_to_list, Option, Some, None, IfSome, IsSome, Result, Ok, ◌↔◌, refl, sym, ◌∙◌, ap, subst, arith}
-use Rattle.std.specs.List.{All}
-use Rattle.std.proofs.lemmas.Bool.{false≢true}
-use Rattle.std.proofs.lemmas.List.{length-reverse, length_push}
-use Rattle.std.proofs.lemmas.List.Elements.{All-nil}
+-- What the search keeps, as histories are come to, and as a level is gone on from.
+-- c is a scenario, most is how many events may be carried out, n a number of moves, s is the search before, t behind it; e is what
+-- it came to, m are the histories of a class, hs and pending are histories.
+use Rattle.std.proofs.Common.{ℕ, zero, suc, min, ◌≡◌, ◌+◌, ◌-◌, ◌^◌, ◌<◌, ◌≤◌, ◌==◌, Bool, true, false, cond, List, [], ◌∷◌, ◌++◌, length, map, take, reverse, get_or, set, sum_by, Some, slice_get, ◌⊎◌, inl, inr, refl, sym, ◌∙◌, ap, subst, arith, append_assoc}
+use Rattle.std.specs.List.{All, Contains, flat_map}
+use Rattle.std.proofs.lemmas.Bool.{eq-eqb, eqb-true, false≢true}
+use Rattle.std.proofs.lemmas.List.{append-nil, length-append, length-map}
+use Rattle.std.proofs.lemmas.List.Elements.{All-nil, All-cons, All-head, All-tail, All-append, All-set, All-contains, All-weaker, Contains-append_cases, Contains-append_left}
+use Rattle.std.proofs.lemmas.List.Sums.{sum_by-append, sum_by-cons}
 use Rattle.law_explore.specs.declared.moves.Move.{Move}
+use Rattle.law_explore.specs.Explores.{told_number}
+use Rattle.law_explore.specs.Levels.{histories_of}
+use Rattle.law_explore.specs.Members.{Merged, all_members, going_by, going_on, with_move, next_members, SameHistories, IsEnd, IsMember, IsMerged, IsLevel, AreFound}
+use Rattle.law_explore.specs.Merging.{ComeToldAlike}
+use Rattle.law_explore.specs.Positions.{next_behind}
 use Rattle.law_explore.specs.Search.{IsHistory}
-use Rattle.law_explore.specs.Races.{Race, replaying, IsNormalWhole}
+use Rattle.law_explore.specs.Races.{Race, replaying, IsWhole}
+use Rattle.law_explore.proofs.Histories.{no-other}
+use Rattle.law_explore.proofs.Found.{front-once, levels-of-merged-find-all}
+use Rattle.law_explore.proofs.Members.{levels-of-merged-go-on}
+use Rattle.law_explore.proofs.Merging.{places-tell-the-same, told-alike-is-an-equivalence}
+use Rattle.law_explore.proofs.Searching.{none, here, there, which}
 use Rattle.law_replay.specs.Shown.{race_of}
 use Rattle.chorus_scene.specs.Scene.{Scene}
-use Rattle.chorus_explore.specs.declared.candidates.Candidate.{Candidate}
+use Rattle.chorus_scene.specs.declared.limits.TheConstants.{STEPS_LIMIT}
 use Rattle.explore_report.specs.declared.explored.Explored.{Explored}
+use Rattle.explore_report.specs.Findings.{AreFindings, ComeTo, Counts}
+use Rattle.chorus_explore.specs.declared.exploring.Class.{Class}
 use Rattle.chorus_explore.specs.declared.exploring.Search.{Search}
-use Rattle.chorus_explore.specs.declared.levels.Level.{Level}
-use Rattle.chorus_explore.specs.declared.levels.TheConstants.{MOVES_LIMIT}
-use Rattle.chorus_explore.specs.declared.race_sites.Stage.{Stage}
-use Rattle.chorus_explore.specs.Candidates.{candidate_at, candidates_at}
-use Rattle.explore_report.specs.Findings.{AreFindings, Counts, HaveSums, MayCount}
-use Rattle.chorus_explore.specs.Levels.{awake, unseen, AreLevels, AreFoundOrPending, AreIdle, IsComing, LeadsNowhere, Advances, IsDone}
-use Rattle.chorus_explore.specs.Searches.{HasFound, IsOver, IsSearch, IsTaking, HasCome, IsBehind, levels_of, path_of}
-use Rattle.chorus_explore.specs.Stages.{AreFresh, IsReached, comes, may_go, moves_of}
-use Rattle.explore_report.proofs.Counting.{count-most}
-use Rattle.chorus_explore.proofs.Going.{found-whole, coming-whole, all-found, listed, pop-drop, push-first}
-use Rattle.chorus_explore.proofs.Pending.{begins, takes, gone, ends, deeper}
+use Rattle.chorus_explore.specs.Classes.{AreClasses, StandFor, StandsFor, shown_by}
+use Rattle.chorus_explore.specs.Searches.{HasFound, IsLong, IsOver, IsWithin, Come}
+use Rattle.chorus_explore.specs.Stages.{comes, position}
+use Rattle.chorus_explore.specs.Tellings.{tells_of}
+use Rattle.chorus_explore.proofs.Alike.{comes-the-same, tells-on}
+use Rattle.chorus_explore.proofs.Racing.{is-race}
 
-history-rest : (r : Race) (ms : List Move) → IsHistory (replaying r) ms → IsHistory (replaying r) (drop 1 ms)
-history-rest r [] h = tt
-history-rest r (m ∷ ms) h = h.1
+some-is : {X : Type 0} (x y : X) → Some x ≡ Some y → x ≡ y
+some-is x y e = cc
 
-levels-rest : (r : Race) (ls : List Level) (ms : List Move) → AreLevels r ls ms → AreLevels r (drop 1 ls) (drop 1 ms)
-levels-rest r [] ms h = ap (λ (xs : List Move). drop 1 xs) h
-levels-rest r (level ∷ ls) ms h = h.3
+pub read-same : {X : Type 0} (xs : List X) (i : ℕ) (x y : X) → slice_get xs i ≡ Some x → y ≡ get_or xs i y → y ≡ x
+read-same [] i x y e is = absurd (cc)
+read-same (z ∷ xs) zero x y e is = is ∙ some-is z x e
+read-same (z ∷ xs) (suc i) x y e is = read-same xs i x y e is
 
-idle-rest : (r : Race) (ls : List Level) (ms : List Move) → AreIdle r ls ms → AreIdle r (drop 1 ls) (drop 1 ms)
-idle-rest r [] ms h = tt
-idle-rest r (level ∷ ls) ms h = h.1
+-- a class that stands there is put in its place again
+pub classes-set : (c : Scene) (classes : List Class) (i : ℕ) (old new : Class) → slice_get classes i ≡ Some old → new.moves ≡ old.moves → AreClasses c classes → AreClasses c (set classes i new)
+classes-set c classes i old new at same h =
+    All-set (λ (k : Class). IsHistory (replaying (race_of c)) (shown_by k)) classes i new
+    (subst (λ v. IsHistory (replaying (race_of c)) (reverse v.items)) (sym same) (by classes i at h)) h
+  where
+    by : (ks : List Class) (j : ℕ) → slice_get ks j ≡ Some old → AreClasses c ks → IsHistory (replaying (race_of c)) (shown_by old)
+    by [] j e all = absurd (cc)
+    by (k ∷ ks) zero e all = subst (λ (x : Class). IsHistory (replaying (race_of c)) (shown_by x)) (some-is k old e) (All-head (λ (x : Class). IsHistory (replaying (race_of c)) (shown_by x)) k ks all)
+    by (k ∷ ks) (suc j) e all = by ks j e (All-tail (λ (x : Class). IsHistory (replaying (race_of c)) (shown_by x)) k ks all)
 
-pending-rest : (r : Race) (found : List (List Move)) (ls : List Level) (ms : List Move) → AreFoundOrPending r found ls ms → IsDone ls → AreFoundOrPending r found (drop 1 ls) (drop 1 ms)
-pending-rest r found [] ms h done = h
-pending-rest r found (level ∷ ls) ms h done = gone r found level ls ms h done
+-- Nothing was found yet.
+none-found : (comes : List Move → List ℕ) → AreFindings comes [] []
+none-found comes = record { shown = All-nil _; once = λ i j d lt within. absurd (omega (arith, lt, within)); found = All-nil _; counted = All-nil _ }
 
-shorter : {X : Type 0} (xs : List X) → length (drop 1 xs) ≤ length xs
-shorter [] = omega arith
-shorter (x ∷ xs) = omega arith
+-- numbers that are told add up
+pub told-both : (a b x y z : ℕ) → x ≡ told_number a → y ≡ told_number b → z ≡ min (x + y) (2 ^ 64 - 1) → z ≡ told_number (a + b)
+told-both a b x y z e f g = grind (arith, e, f, g)
 
-moves-length : (s : Search) → length (path_of s) ≡ length s.moves.items
-moves-length s = length-reverse s.moves.items
+-- Classes and the histories for which they stand.
 
-none-found : (r : Race) (comes : List Move → List ℕ) → AreFindings r comes [] []
-none-found r comes = record { shown = All-nil _; once = λ i j d lt within. absurd (omega (arith, lt, within)); found = All-nil _; counted = All-nil _ }
+stand-push : (r : Race) (n : ℕ) (classes : List Class) (ms : List Merged) (class : Class) (m : Merged) → StandFor r n classes ms → StandsFor r n (shown_by class) class.number m
+    → StandFor r n (classes ++ class ∷ []) (ms ++ m ∷ [])
+stand-push r n [] [] class m h is = (is, tt)
+stand-push r n [] (x ∷ ms) class m h is = absurd h
+stand-push r n (k ∷ classes) [] class m h is = absurd h
+stand-push r n (k ∷ classes) (x ∷ ms) class m h is = (h.0, stand-push r n classes ms class m h.1 is)
+
+-- the histories of the class that stands there, with more histories that come to the same
+abbrev pub joined : ℕ → Merged → List Merged → List Merged
+joined k m [] = []
+joined zero m (d ∷ ds) = record { shows = d.shows; members = d.members ++ m.members } ∷ ds
+joined (suc k) m (d ∷ ds) = d ∷ joined k m ds
+
+joined-sum : (ask : List Move → ℕ) (k : ℕ) (m : Merged) (ds : List Merged) → k < length ds → sum_by ask (all_members (joined k m ds)) ≡ sum_by ask (all_members ds) + sum_by ask m.members
+joined-sum ask k m [] lt = absurd (omega (arith, lt))
+joined-sum ask zero m (d ∷ ds) lt =
+    let a = sum_by-append ask (d.members ++ m.members) (all_members ds) in
+    let b = sum_by-append ask d.members m.members in
+    let e = sum_by-append ask d.members (all_members ds) in
+    omega (arith, a, b, e)
+joined-sum ask (suc k) m (d ∷ ds) lt =
+    let a = sum_by-append ask d.members (all_members (joined k m ds)) in
+    let b = sum_by-append ask d.members (all_members ds) in
+    let e = joined-sum ask k m ds (omega (arith, lt)) in
+    omega (arith, a, b, e)
+
+joined-go : (r : Race) (k : ℕ) (m : Merged) (ds : List Merged) → All (λ (d : Merged). IsEnd r d.shows → ⊥) ds → All (λ (d : Merged). IsEnd r d.shows → ⊥) (joined k m ds)
+joined-go r k m [] h = All-nil (λ (d : Merged). IsEnd r d.shows → ⊥)
+joined-go r zero m (d ∷ ds) h =
+    All-cons (λ (x : Merged). IsEnd r x.shows → ⊥) (record { shows = d.shows; members = d.members ++ m.members }) ds (All-head (λ (x : Merged). IsEnd r x.shows → ⊥) d ds h)
+    (All-tail (λ (x : Merged). IsEnd r x.shows → ⊥) d ds h)
+joined-go r (suc k) m (d ∷ ds) h =
+    All-cons (λ (x : Merged). IsEnd r x.shows → ⊥) d (joined k m ds) (All-head (λ (x : Merged). IsEnd r x.shows → ⊥) d ds h)
+    (joined-go r k m ds (All-tail (λ (x : Merged). IsEnd r x.shows → ⊥) d ds h))
+
+contains-map : {X Y : Type 0} (f : X → Y) (xs : List X) (x : X) → Contains xs x → Contains (map f xs) (f x)
+contains-map f [] x c = absurd (none x c)
+contains-map f (z ∷ xs) x c = by (which x z xs c) (contains-map f xs x)
+  where
+    by : (z ≡ x) ⊎ Contains xs x → (Contains xs x → Contains (map f xs) (f x)) → Contains (f z ∷ map f xs) (f x)
+    by (inl e) ih = subst (λ (y : _). Contains (f z ∷ map f xs) (f y)) e (here (f z) (map f xs))
+    by (inr k) ih = there (f x) (f z) (map f xs) (ih k)
+
+members-long : (d m : Merged) → length (d.members ++ m.members) ≡ length d.members + length m.members
+members-long d m = length-append d.members m.members
+
+module _ (c : Scene) where
+  abbrev r : Race
+  r = race_of c
+
+  stands-joined : (n : ℕ) (ms os : List Move) (one other new : ℕ) (d m : Merged) → StandsFor (race_of c) n ms one d → StandsFor (race_of c) n os other m
+      → ComeToldAlike tells_of (race_of c) ms os → new ≡ min (one + other) (2 ^ 64 - 1)
+      → StandsFor (race_of c) n ms new (record { shows = d.shows; members = d.members ++ m.members })
+  stands-joined n ms os one other new d m h f alike e =
+      record {
+        shows = h.shows;
+        merged = (levels-of-merged-go-on tells_of r tells-on (is-race c)).0.join n m d f.merged h.merged
+            (subst (λ k. ComeToldAlike tells_of (race_of c) d.shows k) (sym f.shows) (subst (λ k. ComeToldAlike tells_of (race_of c) k os) (sym h.shows) alike));
+        among = Contains-append_left d.members m.members d.shows h.among;
+        number = told-both (length d.members) (length m.members) one other new h.number f.number e ∙ ap told_number (sym (members-long d m));
+      }
+
+  stand-joined : (n k : ℕ) (classes : List Class) (ds : List Merged) (old new : Class) (os : List Move) (other : ℕ) (m : Merged) → StandFor (race_of c) n classes ds
+      → slice_get classes k ≡ Some old → new.moves ≡ old.moves → new.number ≡ min (old.number + other) (2 ^ 64 - 1) → StandsFor (race_of c) n os other m
+      → ComeToldAlike tells_of (race_of c) (shown_by old) os → StandFor (race_of c) n (set classes k new) (joined k m ds) × (k < length ds)
+  stand-joined n k [] ds old new os other m h at moves number is alike = absurd (cc)
+  stand-joined n k (x ∷ classes) [] old new os other m h at moves number is alike = absurd h
+  stand-joined n zero (x ∷ classes) (d ∷ ds) old new os other m h at moves number is alike =
+      let same : x ≡ old = cc in
+      let one : StandsFor (race_of c) n (shown_by old) old.number d = subst (λ (k : Class). StandsFor (race_of c) n (shown_by k) k.number d) same h.0 in
+      let joint = stands-joined n (shown_by old) os old.number other new.number d m one is alike number in
+      ((subst (λ v. StandsFor (race_of c) n (reverse v.items) new.number (record { shows = d.shows; members = d.members ++ m.members })) (sym moves) joint, h.1), omega arith)
+  stand-joined n (suc k) (x ∷ classes) (d ∷ ds) old new os other m h at moves number is alike =
+      let rest = stand-joined n k classes ds old new os other m h.1 at moves number is alike in
+      ((h.0, rest.0), (let lt = rest.1 in omega (arith, lt)))
+
+  -- each history of a class that shows an end is whole, and comes to the same
+  module _ (n : ℕ) (ms : List Move) (number : ℕ) (m : Merged) (is : StandsFor (race_of c) n ms number m) where
+    members-whole : next_behind (race_of c) ms ≡ [] → All (IsWhole (race_of c)) m.members
+    members-whole none =
+        let next = (levels-of-merged-go-on tells_of r tells-on (is-race c)).0.next n m is.merged in
+        λ k d lt. ((is.merged.members k d lt).history, next k d lt ∙ ap (next_behind (race_of c)) is.shows ∙ none)
+
+    members-come : All (λ (k : List Move). comes c k ≡ comes c ms) m.members
+    members-come k d lt =
+        sym (comes-the-same places-tell-the-same c m.shows (get_or m.members k d) (is.merged.members k d lt).alike) ∙ ap (comes c) is.shows
+
+    members-to : (text : List ℕ) → text ≡ comes c ms → ComeTo (comes c) text ms number m.members
+    members-to text e = record {
+      come = λ k d lt. members-come k d lt ∙ sym e;
+      among = subst (Contains m.members) is.shows is.among;
+      number = is.number;
+    }
+
+  -- and so it goes on
+  pub stands-on : (n : ℕ) (ms : List Move) (number : ℕ) (m : Merged) (mv : Move) → StandsFor (race_of c) n ms number m → Contains (next_behind (race_of c) ms) mv
+      → StandsFor (race_of c) (suc n) (mv ∷ ms) number (with_move mv m)
+  stands-on n ms number m mv is listed = record {
+    shows = ap (λ k. mv ∷ k) is.shows;
+    merged = (levels-of-merged-go-on tells_of r tells-on (is-race c)).0.go_on n m mv is.merged (subst (λ k. Contains (next_behind (race_of c) k) mv) (sym is.shows) listed);
+    among = contains-map (λ (h : List Move). mv ∷ h) m.members m.shows is.among;
+    number = is.number ∙ ap told_number (sym (length-map m.members (λ (h : List Move). mv ∷ h)));
+  }
+
+module _ (c : Scene) (most n : ℕ) where
+  -- The same histories, in another order.
+
+  same-joined : (ds : List Merged) (ends pending : List (List Move)) (k : ℕ) (m : Merged) → k < length ds → SameHistories (all_members ds ++ ends ++ (m.members ++ pending)) (histories_of (race_of c) n)
+      → SameHistories (all_members (joined k m ds) ++ ends ++ pending) (histories_of (race_of c) n)
+  same-joined ds ends pending k m lt h ask =
+      let all = h ask in
+      let a = sum_by-append ask (all_members ds ++ ends) (m.members ++ pending) in
+      let b = sum_by-append ask (all_members ds) ends in
+      let e = sum_by-append ask m.members pending in
+      let f = sum_by-append ask (all_members (joined k m ds) ++ ends) pending in
+      let g = sum_by-append ask (all_members (joined k m ds)) ends in
+      let j = joined-sum ask k m ds lt in
+      omega (arith, all, a, b, e, f, g, j)
+
+  same-pushed : (ds : List Merged) (ends pending : List (List Move)) (m : Merged) → SameHistories (all_members ds ++ ends ++ (m.members ++ pending)) (histories_of (race_of c) n)
+      → SameHistories (all_members (ds ++ m ∷ []) ++ ends ++ pending) (histories_of (race_of c) n)
+  same-pushed ds ends pending m h ask =
+      let all = h ask in
+      let a = sum_by-append ask (all_members ds ++ ends) (m.members ++ pending) in
+      let b = sum_by-append ask (all_members ds) ends in
+      let e = sum_by-append ask m.members pending in
+      let f = sum_by-append ask (all_members (ds ++ m ∷ []) ++ ends) pending in
+      let g = sum_by-append ask (all_members (ds ++ m ∷ [])) ends in
+      let j = pushed ds in
+      omega (arith, all, a, b, e, f, g, j)
+    where
+      pushed : (xs : List Merged) → sum_by ask (all_members (xs ++ m ∷ [])) ≡ sum_by ask (all_members xs) + sum_by ask m.members
+      pushed [] =
+          let a = sum_by-append ask m.members [] in omega (arith, a)
+      pushed (x ∷ xs) =
+          let a = sum_by-append ask x.members (all_members (xs ++ m ∷ [])) in
+          let b = sum_by-append ask x.members (all_members xs) in
+          let e = pushed xs in
+          omega (arith, a, b, e)
+
+  same-ended : (ds : List Merged) (ends pending members : List (List Move)) → SameHistories (all_members ds ++ ends ++ (members ++ pending)) (histories_of (race_of c) n)
+      → SameHistories (all_members ds ++ (ends ++ members) ++ pending) (histories_of (race_of c) n)
+  same-ended ds ends pending members h =
+      subst (λ xs. SameHistories xs (histories_of (race_of c) n))
+      (sym (append_assoc (all_members ds ++ ends) members pending) ∙ ap (λ xs. xs ++ pending) (append_assoc (all_members ds) ends members)) h
+
+  -- A position is come to.
+
+  module _ (s t : Search) (ms : List Move) (number : ℕ) (m : Merged) (is : StandsFor (race_of c) n ms number m) where
+    -- the histories are whole
+    pub ended : next_behind (race_of c) ms ≡ [] → (text : List ℕ) → text ≡ comes c ms → Counts text ms number s.explored.findings.items.items t.explored.findings.items.items
+        → t.explored.histories ≡ min (s.explored.histories + number) (2 ^ 64 - 1) → t.explored.events ≡ s.explored.events → t.explored.is_cut ≡ s.explored.is_cut → t.next ≡ s.next
+        → Come c most n m.members s t
+    ended none text e counts histories events cut next pending w =
+        record {
+          before = w.before;
+          ends = w.ends ++ m.members;
+          merged = w.merged;
+          has = subst (λ xs. HasFound c most xs t.explored) (append_assoc w.before w.ends m.members) (record {
+            findings = counts (comes c) (w.before ++ w.ends) m.members (members-to c n ms number m is text e) w.has.findings;
+            histories = told-both (length (w.before ++ w.ends)) (length m.members) s.explored.histories number t.explored.histories w.has.histories is.number histories
+                ∙ ap told_number (sym (length-append (w.before ++ w.ends) m.members));
+            events = (let a = w.has.events in omega (arith, a, events));
+          });
+          found = w.found;
+          whole = All-append (IsWhole (race_of c)) w.ends m.members w.whole (members-whole c n ms number m is none);
+          stand = subst (λ v. StandFor (race_of c) n v.items w.merged) (sym next) w.stand;
+          go_on = w.go_on;
+          all = same-ended w.merged w.ends pending m.members w.all;
+          uncut = cut ∙ w.uncut;
+        }
+
+    -- they are put to a class
+    pub put-to : (k : ℕ) (old new : Class) → slice_get s.next.items k ≡ Some old → new.moves ≡ old.moves → new.number ≡ min (old.number + number) (2 ^ 64 - 1)
+        → ComeToldAlike tells_of (race_of c) (shown_by old) ms → t.explored ≡ s.explored → t.next.items ≡ set s.next.items k new → Come c most n m.members s t
+    put-to k old new at moves number-is alike same next pending w =
+        let both = stand-joined c n k s.next.items w.merged old new ms number m w.stand at moves number-is is alike in
+        record {
+          before = w.before;
+          ends = w.ends;
+          merged = joined k m w.merged;
+          has = subst (HasFound c most (w.before ++ w.ends)) (sym same) w.has;
+          found = w.found;
+          whole = w.whole;
+          stand = subst (λ xs. StandFor (race_of c) n xs (joined k m w.merged)) (sym next) both.0;
+          go_on = joined-go (race_of c) k m w.merged w.go_on;
+          all = same-joined w.merged w.ends pending k m both.1 w.all;
+          uncut = ap (λ (e : Explored). e.is_cut) same ∙ w.uncut;
+        }
+
+    -- they are a class of their own
+    pub put-last : (class : Class) → shown_by class ≡ ms → class.number ≡ number → (next_behind (race_of c) ms ≡ [] → ⊥) → t.explored ≡ s.explored → t.next.items ≡ s.next.items ++ class ∷ []
+        → Come c most n m.members s t
+    put-last class moves number-is goes same next pending w =
+        let stands : StandsFor (race_of c) n (shown_by class) class.number m =
+        subst (λ ks. StandsFor (race_of c) n ks class.number m) (sym moves) (subst (λ k. StandsFor (race_of c) n ms k m) (sym number-is) is) in
+        record {
+          before = w.before;
+          ends = w.ends;
+          merged = w.merged ++ m ∷ [];
+          has = subst (HasFound c most (w.before ++ w.ends)) (sym same) w.has;
+          found = w.found;
+          whole = w.whole;
+          stand = subst (λ xs. StandFor (race_of c) n xs (w.merged ++ m ∷ [])) (sym next) (stand-push (race_of c) n s.next.items w.merged class m w.stand stands);
+          go_on = All-append (λ (d : Merged). IsEnd (race_of c) d.shows → ⊥) w.merged (m ∷ []) w.go_on
+              (All-cons (λ (d : Merged). IsEnd (race_of c) d.shows → ⊥) m [] (λ e. goes (ap (next_behind (race_of c)) (sym is.shows) ∙ e)) (All-nil (λ (d : Merged). IsEnd (race_of c) d.shows → ⊥)));
+          all = same-pushed w.merged w.ends pending m w.all;
+          uncut = ap (λ (e : Explored). e.is_cut) same ∙ w.uncut;
+        }
+
+  -- What is not looked at may change: of what was found only the events, and they rise within the limit.
+  pub come-by : (s t : Search) (pending : List (List Move)) → t.explored.findings ≡ s.explored.findings → t.explored.histories ≡ s.explored.histories → t.explored.events ≤ most
+      → t.explored.is_cut ≡ s.explored.is_cut → t.next ≡ s.next → IsWithin c most n pending s → IsWithin c most n pending t
+  come-by s t pending findings histories events cut next w = record {
+    before = w.before;
+    ends = w.ends;
+    merged = w.merged;
+    has = record {
+      findings = subst (λ (fs : _). AreFindings (comes c) (w.before ++ w.ends) fs.items.items) (sym findings) w.has.findings;
+      histories = histories ∙ w.has.histories;
+      events = events;
+    };
+    found = w.found;
+    whole = w.whole;
+    stand = subst (λ v. StandFor (race_of c) n v.items w.merged) (sym next) w.stand;
+    go_on = w.go_on;
+    all = w.all;
+    uncut = cut ∙ w.uncut;
+  }
+
+  -- The whole histories of the level are as long, so none is missing that is shorter than one that was found.
+
+  abbrev off-by : ℕ → List Move → ℕ
+  off-by m h = cond (length h == m) 0 1
+
+  none-off : (m : ℕ) (hs : List (List Move)) → ((h : List Move) → Contains hs h → length h ≡ m) → sum_by (off-by m) hs ≡ 0
+  none-off m [] all = refl
+  none-off m (h ∷ hs) all =
+      let a = sum_by-cons (off-by m) h hs in
+      let one : off-by m h ≡ 0 = ap (λ (b : Bool). cond b 0 1) (eq-eqb (length h) m (all h (here h hs))) in
+      let rest = none-off m hs (λ k i. all k (there k h hs i)) in
+      omega (arith, a, one, rest)
+
+  as-long : (m : ℕ) (hs : List (List Move)) → sum_by (off-by m) hs ≡ 0 → (h : List Move) → Contains hs h → length h ≡ m
+  as-long m [] e h i = absurd (none h i)
+  as-long m (k ∷ hs) e h i = by (which h k hs i) (length k == m) refl (as-long m hs)
+    where
+      sums : sum_by (off-by m) (k ∷ hs) ≡ off-by m k + sum_by (off-by m) hs
+      sums = sum_by-cons (off-by m) k hs
+
+      by : (k ≡ h) ⊎ Contains hs h → (b : Bool) → (length k == m) ≡ b → (sum_by (off-by m) hs ≡ 0 → (z : List Move) → Contains hs z → length z ≡ m) → length h ≡ m
+      by (inl same) true f ih = ap length (sym same) ∙ eqb-true (length k) m f
+      by (inl same) false f ih = absurd (let one : off-by m k ≡ 1 = ap (λ (b : Bool). cond b 0 1) f in let a = sums in omega (arith, e, a, one))
+      by (inr j) b f ih = ih (let a = sums in omega (arith, e, a)) h j
+
+  ends-long : (s : Search) (pending : List (List Move)) → (w : IsWithin c most n pending s) → (h : List Move) → Contains w.ends h → length h ≡ n
+  ends-long s pending w h i =
+      let all = w.all (off-by n) in
+      let listed = none-off n (histories_of (race_of c) n) (λ k j. (no-other (race_of c) n k j).1) in
+      let a = sum_by-append (off-by n) (all_members w.merged ++ w.ends) pending in
+      let b = sum_by-append (off-by n) (all_members w.merged) w.ends in
+      as-long n w.ends (omega (arith, all, listed, a, b)) h i
+
+  pub none-shorter : (s : Search) (pending : List (List Move)) → (w : IsWithin c most n pending s) → (h k : List Move) → Contains (w.before ++ w.ends) h → IsWhole (race_of c) k → length k < length h
+      → Contains (w.before ++ w.ends) k
+  none-shorter s pending w h k i whole lt = Contains-append_left w.before w.ends k (w.found.every k whole (by (Contains-append_cases w.before w.ends h i)))
+    where
+      by : Contains w.before h ⊎ Contains w.ends h → length k < n
+      by (inl j) = (let l = (All-contains (λ (x : List Move). IsWhole (race_of c) x × (length x < n)) w.before h w.found.whole j).1 in omega (arith, lt, l))
+      by (inr j) = (let l = ends-long s pending w h j in omega (arith, lt, l))
+
+  pub same-within : (s t : Search) (pending : List (List Move)) → t.explored ≡ s.explored → t.next ≡ s.next → IsWithin c most n pending s → IsWithin c most n pending t
+  same-within s t pending same next w =
+      come-by s t pending (ap (λ (e : Explored). e.findings) same) (ap (λ (e : Explored). e.histories) same)
+      (let a = w.has.events in let b : t.explored.events ≡ s.explored.events = ap (λ (e : Explored). e.events) same in omega (arith, a, b)) (ap (λ (e : Explored). e.is_cut) same) next w
+
+  -- A limit is met.
+  cut-by : (s t : Search) (pending : List (List Move)) → t.explored ≡ record s.explored { is_cut = true } → (s.explored.events ≡ most) ⊎ IsLong c → IsWithin c most n pending s → IsOver c most t.explored
+  cut-by s t pending same why w = subst (IsOver c most) (sym same) (record {
+    found = w.before ++ w.ends;
+    has = record { findings = w.has.findings; histories = w.has.histories; events = w.has.events };
+    whole = All-append (IsWhole (race_of c)) w.before w.ends
+        (All-weaker (λ (h : List Move). IsWhole (race_of c) h × (length h < n)) (IsWhole (race_of c)) (λ h is. is.0) w.before w.found.whole) w.whole;
+    once = front-once (race_of c) n w.before (all_members w.merged) w.ends pending w.found w.all;
+    shorter = none-shorter s pending w;
+    every = λ k. absurd (false≢true (sym k));
+    cut = λ k. why;
+  })
+
+  pub cut-off : (s t : Search) (pending : List (List Move)) → t.explored ≡ record s.explored { is_cut = true } → most ≤ s.explored.events → IsWithin c most n pending s → IsOver c most t.explored
+  cut-off s t pending same full w = cut-by s t pending same (inl (let a = w.has.events in omega (arith, a, full))) w
+
+  -- Several histories come, one after the other.
+
+  pub come-none : (s : Search) → Come c most n [] s s
+  come-none s pending w = w
+
+  pub come-both : (hs ks : List (List Move)) (s t u : Search) → Come c most n hs s t → Come c most n ks t u → Come c most n (hs ++ ks) s u
+  come-both hs ks s t u one two pending w =
+      two pending (one (ks ++ pending) (subst (λ xs. IsWithin c most n xs s) (append_assoc hs ks pending) w))
+
+-- A level begins, and the search is over where no class is left.
+
+module _ (c : Scene) (most n : ℕ) (s : Search) (w : IsWithin c most n [] s) where
+  abbrev all-of-level : SameHistories (all_members w.merged ++ w.ends) (histories_of (race_of c) n)
+  all-of-level = subst (λ xs. SameHistories xs (histories_of (race_of c) n)) (append-nil (all_members w.merged ++ w.ends)) w.all
+
+  merged-are : (classes : List Class) (ms : List Merged) → StandFor (race_of c) n classes ms → All (IsMerged tells_of (race_of c) n) ms
+  merged-are [] [] h = All-nil (IsMerged tells_of (race_of c) n)
+  merged-are [] (m ∷ ms) h = absurd h
+  merged-are (k ∷ classes) [] h = absurd h
+  merged-are (k ∷ classes) (m ∷ ms) h = All-cons (IsMerged tells_of (race_of c) n) m ms h.0.merged (merged-are classes ms h.1)
+
+  is-level : IsLevel tells_of (race_of c) n w.merged w.ends
+  is-level = record {
+    merged = merged-are s.next.items w.merged w.stand;
+    end = All-weaker (IsWhole (race_of c)) (IsEnd (race_of c)) (λ h is. is.1) w.ends w.whole;
+    all = all-of-level;
+  }
+
+  abbrev now-found : AreFound (race_of c) (suc n) (w.before ++ w.ends)
+  now-found = (levels-of-merged-find-all tells_of (race_of c) tells-on (is-race c)).more n w.merged w.ends w.before w.found is-level w.go_on
+
+  pub level-begins : (t : Search) → t.explored ≡ s.explored → t.next.items ≡ [] → IsWithin c most (suc n) (next_members (race_of c) w.merged) t
+  level-begins t same next = record {
+    before = w.before ++ w.ends;
+    ends = [];
+    merged = [];
+    has = subst (HasFound c most ((w.before ++ w.ends) ++ [])) (sym same) (subst (λ xs. HasFound c most xs s.explored) (sym (append-nil (w.before ++ w.ends))) w.has);
+    found = now-found;
+    whole = All-nil (IsWhole (race_of c));
+    stand = subst (λ xs. StandFor (race_of c) (suc n) xs []) (sym next) tt;
+    go_on = All-nil (λ (m : Merged). IsEnd (race_of c) m.shows → ⊥);
+    all = (levels-of-merged-go-on tells_of (race_of c) tells-on (is-race c)).1 n w.merged w.ends is-level;
+    uncut = ap (λ (e : Explored). e.is_cut) same ∙ w.uncut;
+  }
+
+  none-merged : (classes : List Class) (ms : List Merged) → StandFor (race_of c) n classes ms → classes ≡ [] → ms ≡ []
+  none-merged [] [] h e = refl
+  none-merged [] (m ∷ ms) h e = absurd h
+  none-merged (k ∷ classes) ms h e = absurd (cc)
+
+  pub search-ends : s.next.items ≡ [] → IsOver c most s.explored
+  search-ends none-left =
+      let nothing = none-merged s.next.items w.merged w.stand none-left in
+      let level = subst (λ ms. IsLevel tells_of (race_of c) n ms w.ends) nothing is-level in
+      record {
+        found = w.before ++ w.ends;
+        has = w.has;
+        whole = All-weaker (λ (h : List Move). IsWhole (race_of c) h × (length h < suc n)) (IsWhole (race_of c)) (λ h is. is.0) (w.before ++ w.ends) now-found.whole;
+        once = now-found.once;
+        shorter = none-shorter c most n s [] w;
+        cut = λ k. absurd (false≢true (sym w.uncut ∙ k));
+        every = λ k. (levels-of-merged-find-all tells_of (race_of c) tells-on (is-race c)).all n w.ends w.before w.found level;
+      }
+
+-- a class that is left shows a history behind which more may come
+long-one : (c : Scene) (n : ℕ) (classes : List Class) (ms : List Merged) → StandFor (race_of c) n classes ms → All (λ (m : Merged). IsEnd (race_of c) m.shows → ⊥) ms → (classes ≡ [] → ⊥) → n ≡ STEPS_LIMIT → IsLong c
+long-one c n [] ms h go_on some is = absurd (some refl)
+long-one c n (k ∷ classes) [] h go_on some is = absurd h
+long-one c n (k ∷ classes) (m ∷ ms) h go_on some is = record {
+  moves = m.shows;
+  history = h.0.merged.history;
+  long = h.0.merged.long ∙ is;
+  goes_on = All-head (λ (d : Merged). IsEnd (race_of c) d.shows → ⊥) m ms go_on;
+}
+
+-- where the last level is come to it is over, cut off if a class is left
+pub over-by : (c : Scene) (most n : ℕ) (s : Search) → IsWithin c most n [] s → n ≡ STEPS_LIMIT → (cut : Bool) → (cut ≡ false → s.next.items ≡ []) → (cut ≡ true → s.next.items ≡ [] → ⊥)
+    → IsOver c most (record s.explored { is_cut = cut })
+over-by c most n s w last true none some =
+    cut-by c most n s (record s { explored = record s.explored { is_cut = true } }) [] refl (inr (long-one c n s.next.items w.merged w.stand w.go_on (some refl) last)) w
+over-by c most n s w last false none some = subst (λ (e : Explored). IsOver c most e) (λ i. record s.explored { is_cut = w.uncut i }) (search-ends c most n s w (none refl))
+
+-- The first position.
 
 module _ (c : Scene) (most : ℕ) where
-  -- A limit is met, or no level is left.
+  abbrev pub root : Merged
+  root = record { shows = []; members = [] ∷ [] }
 
-  pub is-cut : (found : List (List Move)) (e : Explored) → HasFound c most found e → All (IsNormalWhole (race_of c)) found → IsOver c most (record e { is_cut = true })
-  is-cut found e h whole = record {
-    found = found;
-    has = record { findings = h.findings; sums = h.sums; histories = h.histories; few = h.few; events = h.events };
-    whole = whole;
-    all = λ k. absurd (false≢true (sym k));
+  pub root-stands : StandsFor (race_of c) 0 [] 1 root
+  root-stands = record {
+    shows = refl;
+    merged = record {
+      history = tt;
+      long = refl;
+      members = All-cons (IsMember tells_of (race_of c) 0 []) [] [] (record { history = tt; long = refl; alike = (told-alike-is-an-equivalence tells_of (length (race_of c).scripts)).itself (position c []) }) (All-nil (IsMember tells_of (race_of c) 0 []));
+    };
+    among = here [] [];
+    number = refl;
   }
 
-  pub search-cut : (s : Search) → IsSearch c most s → IsOver c most (record s.explored { is_cut = true })
-  search-cut s h = is-cut h.found s.explored h.has (found-whole (race_of c) h.found (levels_of s) (path_of s) h.whole)
-
-  pub taking-cut : (taken : Candidate) (s : Search) → IsTaking c most taken s → IsOver c most (record s.explored { is_cut = true })
-  taking-cut taken s h = is-cut h.found s.explored h.has (coming-whole (race_of c) h.found (levels_of s) (taken.mv ∷ path_of s) h.coming)
-
-  pub search-ends : (s : Search) → IsSearch c most s → levels_of s ≡ [] → IsOver c most s.explored
-  search-ends s h none = record {
-    found = h.found;
-    has = h.has;
-    whole = found-whole (race_of c) h.found (levels_of s) (path_of s) h.whole;
-    all = λ k long lt. all-found (race_of c) h.found (path_of s) (subst (λ ls. AreFoundOrPending (race_of c) h.found ls (path_of s)) none h.whole) long lt;
+  pub first-within : (s : Search) → s.explored.findings.items.items ≡ [] → s.explored.histories ≡ 0 → s.explored.events ≡ 0 → s.explored.is_cut ≡ false → s.next.items ≡ []
+      → IsWithin c most 0 ([] ∷ []) s
+  first-within s findings histories events uncut next = record {
+    before = [];
+    ends = [];
+    merged = [];
+    has = record {
+      findings = subst (AreFindings (comes c) []) (sym findings) (none-found (comes c));
+      histories = histories;
+      events = omega (arith, events);
+    };
+    found = record { every = λ h whole lt. absurd (omega (arith, lt)); whole = All-nil (λ (h : List Move). IsWhole (race_of c) h × (length h < 0)); once = tt };
+    whole = All-nil (IsWhole (race_of c));
+    stand = subst (λ xs. StandFor (race_of c) 0 xs []) (sym next) tt;
+    go_on = All-nil (λ (m : Merged). IsEnd (race_of c) m.shows → ⊥);
+    all = λ ask. refl;
+    uncut = uncut;
   }
 
-  -- it was over before, and so it is where it is cut off
-  pub over-cut : (e : Explored) → IsOver c most e → IsOver c most (record e { is_cut = true })
-  over-cut e h = is-cut h.found e h.has h.whole
+-- A list by its place.
 
-  -- the deepest level is gone from
-  pub turns-back : (s t : Search) → IsSearch c most s → IsDone (levels_of s) → levels_of t ≡ drop 1 (levels_of s) → path_of t ≡ drop 1 (path_of s) → t.explored ≡ s.explored → t.stage ≡ None → AreFresh c t.sites → IsSearch c most t
-  turns-back s t h done levels path explored stage sites = record {
-    found = h.found;
-    has = subst (HasFound c most h.found) (sym explored) h.has;
-    levels = subst (λ ls. AreLevels (race_of c) ls (path_of t)) (sym levels) (subst (AreLevels (race_of c) (drop 1 (levels_of s))) (sym path) (levels-rest (race_of c) (levels_of s) (path_of s) h.levels));
-    idle = subst (λ ls. AreIdle (race_of c) ls (path_of t)) (sym levels) (subst (AreIdle (race_of c) (drop 1 (levels_of s))) (sym path) (idle-rest (race_of c) (levels_of s) (path_of s) h.idle));
-    whole = subst (λ ls. AreFoundOrPending (race_of c) h.found ls (path_of t)) (sym levels)
-        (subst (AreFoundOrPending (race_of c) h.found (drop 1 (levels_of s))) (sym path) (pending-rest (race_of c) h.found (levels_of s) (path_of s) h.whole done));
-    history = subst (IsHistory (replaying (race_of c))) (sym path) (history-rest (race_of c) (path_of s) h.history);
-    stage = subst (λ o. IfSome o (λ stage. IsReached c stage × (stage.moves.items ≡ t.moves.items))) (sym stage) tt;
-    sites = sites;
-    few_moves = (
-        let a = moves-length s in
-        let b = moves-length t in
-        let l = ap length path in
-        let le = shorter (path_of s) in
-        let few = h.few_moves in
-        omega (arith, a, b, l, le, few));
-    uncut = ap (λ (e : Explored). e.is_cut) explored ∙ h.uncut;
-  }
-
-  -- A move is taken.
-
-  module _ (s t : Search) (taken : Candidate) (h : IsSearch c most s) (explored : t.explored ≡ s.explored) (moves : t.moves ≡ s.moves) (stage : t.stage ≡ s.stage) (sites : t.sites ≡ s.sites)
-      (events : s.explored.events < most) (few : length s.moves.items < MOVES_LIMIT) where
-    path : path_of t ≡ path_of s
-    path = ap (λ v. reverse v.items) moves
-
-    from-levels : (ls ls' : List Level) → levels_of s ≡ ls → levels_of t ≡ ls' → Advances taken ls ls' → drop 1 ls' ≡ drop 1 ls → IsTaking c most taken t
-    from-levels [] ls' a b adv below = absurd adv
-    from-levels (level ∷ ls) [] a b adv below = absurd adv
-    from-levels (level ∷ ls) (level' ∷ ls') a b adv below =
-        let r = race_of c in
-        let ms = path_of s in
-        let are : AreLevels (race_of c) (level ∷ ls) (path_of s) = subst (λ xs. AreLevels (race_of c) xs (path_of s)) a h.levels in
-        let l = listed r ms level taken (awake (unseen level')) are.0 adv.0 in
-        let new : AreLevels (race_of c) (level' ∷ ls') (path_of s) =
-        (ap (λ v. v.items) adv.1 ∙ are.0, adv.2, are.2 ∙ ap length (sym below), subst (λ xs. AreLevels (race_of c) xs (drop 1 (path_of s))) (sym below) are.3) in
-        let idle : AreIdle (race_of c) (level ∷ ls) (path_of s) = subst (λ xs. AreIdle (race_of c) xs (path_of s)) a h.idle in
-        let same-idle : AreIdle (race_of c) (level' ∷ ls') (path_of s) =
-        (subst (λ z. IfSome z (λ m. LeadsNowhere (race_of c) (path_of s) m)) (sym adv.3) idle.0, subst (λ xs. AreIdle (race_of c) xs (drop 1 (path_of s))) (sym below) idle.1) in
-        let coming : IsComing (race_of c) h.found (level' ∷ ls') (taken.mv ∷ path_of s) =
-        subst (λ xs. IsComing (race_of c) h.found (level' ∷ xs) (taken.mv ∷ path_of s)) (sym below)
-        (takes r h.found level level' ls ms taken (subst (λ xs. AreFoundOrPending (race_of c) h.found xs (path_of s)) a h.whole) adv.0) in
-        record {
-          found = h.found;
-          has = subst (HasFound c most h.found) (sym explored) h.has;
-          levels = subst (λ xs. AreLevels (race_of c) xs (path_of t)) (sym b) (subst (AreLevels (race_of c) (level' ∷ ls')) (sym path) new);
-          idle = subst (λ xs. AreIdle (race_of c) xs (path_of t)) (sym b) (subst (AreIdle (race_of c) (level' ∷ ls')) (sym path) same-idle);
-          some = (level', (ls', b));
-          coming = subst (λ xs. IsComing (race_of c) h.found xs (taken.mv ∷ path_of t)) (sym b) (subst (λ ps. IsComing (race_of c) h.found (level' ∷ ls') (taken.mv ∷ ps)) (sym path) coming);
-          is = l.is ∙ ap (λ ps. candidate_at (race_of c) ps taken.mv) (sym path);
-          may = ap (λ ps. may_go c taken.mv ps) path ∙ l.may;
-          history = subst (IsHistory (replaying (race_of c))) (sym path) h.history;
-          stage = subst (λ o. IfSome o (λ z. IsReached c z × (z.moves.items ≡ t.moves.items))) (sym stage) (subst (λ v. IfSome s.stage (λ z. IsReached c z × (z.moves.items ≡ v.items))) (sym moves) h.stage);
-          sites = subst (AreFresh c) (sym sites) h.sites;
-          few_moves = (let l = ap (λ v. length v.items) moves in omega (arith, l, few));
-          few_events = (let l = ap (λ (e : Explored). e.events) explored in omega (arith, l, events));
-          uncut = ap (λ (e : Explored). e.is_cut) explored ∙ h.uncut;
-        }
-
-    pub is-taking : Advances taken (levels_of s) (levels_of t) → drop 1 (levels_of t) ≡ drop 1 (levels_of s) → IsTaking c most taken t
-    is-taking adv below = from-levels (levels_of s) (levels_of t) refl refl adv below
+module _ {X Y : Type 0} (f : X → List Y) where
+  pub flat-more : (xs : List X) (i : ℕ) (x : X) → slice_get xs i ≡ Some x → flat_map f (take (i + 1) xs) ≡ flat_map f (take i xs) ++ f x
+  flat-more xs i x e = (let one : i + 1 ≡ suc i = omega arith in ap (λ (k : ℕ). flat_map f (take k xs)) one ∙ by xs i e)
+    where
+      by : (ys : List X) (k : ℕ) → slice_get ys k ≡ Some x → flat_map f (take (suc k) ys) ≡ flat_map f (take k ys) ++ f x
+      by [] k g = absurd (cc)
+      by (y ∷ ys) zero g = append-nil (f y) ∙ ap f (some-is y x g)
+      by (y ∷ ys) (suc k) g = ap (λ zs. f y ++ zs) (by ys k g) ∙ sym (append_assoc (f y) (flat_map f (take k ys)) (f x))
 
   -- what is behind it
-  pub is-behind : (taken : Candidate) (s : Search) (stage : Stage) → IsTaking c most taken s → stage.moves.items ≡ s.moves.items ++ taken.mv ∷ [] → IsBehind c taken (moves_of stage) (levels_of s)
-  is-behind taken s stage h moves =
-      let level = h.some.0 in
-      let ls = h.some.1.0 in
-      let are : AreLevels (race_of c) (level ∷ ls) (path_of s) = subst (λ xs. AreLevels (race_of c) xs (path_of s)) h.some.1.1 h.levels in
-      subst (IsBehind c taken (moves_of stage)) (sym h.some.1.1)
-      (path_of s, (ap reverse moves ∙ push-first s.moves.items taken.mv, h.is, h.may, are.0))
+  pub flat-rest : (xs : List X) (i : ℕ) (x : X) → slice_get xs i ≡ Some x → (rest : List Y) × (flat_map f xs ≡ flat_map f (take i xs) ++ (f x ++ rest))
+  flat-rest [] i x g = absurd (cc)
+  flat-rest (y ∷ ys) zero x g = (flat_map f ys, ap (λ (z : X). f z ++ flat_map f ys) (some-is y x g))
+  flat-rest (y ∷ ys) (suc k) x g =
+      let rest = flat-rest ys k x g in
+      (rest.0, ap (λ zs. f y ++ zs) rest.1 ∙ sym (append_assoc (f y) (flat_map f (take k ys)) (f x ++ rest.0)))
 
-  pub has-come : (taken : Candidate) (s t : Search) (stage : Stage) (candidates : List Candidate) → IsTaking c most taken s → IsReached c stage → stage.moves.items ≡ s.moves.items ++ taken.mv ∷ []
-      → candidates ≡ candidates_at (race_of c) (moves_of stage) → t.moves.items ≡ s.moves.items ++ taken.mv ∷ [] → t.levels ≡ s.levels
-      → t.explored ≡ record s.explored { events = s.explored.events + 1 } → AreFresh c t.sites → HasCome c most stage candidates t
-  has-come taken s t stage candidates h reached to are moves levels explored sites =
-      let e = s.explored in
-      let path : path_of t ≡ taken.mv ∷ path_of s = ap reverse moves ∙ push-first s.moves.items taken.mv in
-      let same : levels_of t ≡ levels_of s = ap (λ v. reverse v.items) levels in
-      let up : t.explored.events ≡ s.explored.events + 1 = ap (λ (z : Explored). z.events) explored in
-      let level = h.some.0 in
-      let ls = h.some.1.0 in
-      let old : AreLevels (race_of c) (level ∷ ls) (path_of s) = subst (λ xs. AreLevels (race_of c) xs (path_of s)) h.some.1.1 h.levels in
-      record {
-        found = h.found;
-        has = subst (HasFound c most h.found) (sym explored) record {
-          findings = h.has.findings;
-          sums = h.has.sums;
-          histories = h.has.histories;
-          few = (let k = h.has.few in omega (arith, k));
-          events = (let k = h.few_events in omega (arith, k));
-        };
-        few = (let k = h.has.few in omega (arith, k, up));
-        levels = subst (λ xs. AreLevels (race_of c) xs (drop 1 (path_of t))) (sym same) (subst (AreLevels (race_of c) (levels_of s)) (sym (ap (drop 1) path)) h.levels);
-        idle = subst (λ xs. AreIdle (race_of c) xs (drop 1 (path_of t))) (sym same) (subst (AreIdle (race_of c) (levels_of s)) (sym (ap (drop 1) path)) h.idle);
-        height = ap length path ∙ ap suc old.2 ∙ sym (ap length h.some.1.1) ∙ sym (ap length same);
-        coming = subst (λ xs. IsComing (race_of c) h.found xs (path_of t)) (sym same) (subst (IsComing (race_of c) h.found (levels_of s)) (sym path) h.coming);
-        reached = reached;
-        moves = to ∙ sym moves;
-        sites = sites;
-        candidates_are = are ∙ ap (λ (xs : List Move). candidates_at (race_of c) (reverse xs)) (to ∙ sym moves);
-        few_moves = (let n = ap length moves ∙ length_push s.moves.items taken.mv in let k = h.few_moves in omega (arith, n, k));
-        uncut = ap (λ (z : Explored). z.is_cut) explored ∙ h.uncut;
-      }
+  pub flat-all : (xs : List X) (i : ℕ) → length xs ≤ i → flat_map f (take i xs) ≡ flat_map f xs
+  flat-all [] i le = ap (flat_map f) (take-nil i)
+    where
+      take-nil : (k : ℕ) → take {A = X} k [] ≡ []
+      take-nil zero = refl
+      take-nil (suc k) = refl
+  flat-all (y ∷ ys) zero le = absurd (omega (arith, le))
+  flat-all (y ∷ ys) (suc k) le = ap (λ zs. f y ++ zs) (flat-all ys k (omega (arith, le)))
 
-  -- A history is come to.
-
-  module _ (s t : Search) (stage : Stage) (candidates : List Candidate) (h : HasCome c most stage candidates s) where
-    pub counts-leaf : (text : List ℕ) → candidates ≡ [] → text ≡ comes c (moves_of stage) → Counts text (reverse s.moves.items) s.explored.findings.items.items t.explored.findings.items.items
-        → HaveSums t.explored.findings.items.items → t.explored.histories ≡ s.explored.histories + 1 → t.explored.events ≡ s.explored.events → t.explored.is_cut ≡ s.explored.is_cut
-        → t.levels ≡ s.levels → path_of t ≡ drop 1 (path_of s) → t.stage ≡ None → AreFresh c t.sites → IsSearch c most t
-    counts-leaf text none is counts sums histories events cut levels path gone-stage sites =
-        let r = race_of c in
-        let same : levels_of t ≡ levels_of s = ap (λ v. reverse v.items) levels in
-        let to : moves_of stage ≡ path_of s = ap reverse h.moves in
-        let n = length_push h.found (path_of s) in
-        let height = h.height in
-        let few = h.few_moves in
-        let long = moves-length s in
-        record {
-          found = h.found ++ path_of s ∷ [];
-          has = record {
-            findings = counts r (comes c) h.found (sym (is ∙ ap (comes c) to)) h.has.findings;
-            sums = sums;
-            histories = (let k = h.has.histories in omega (arith, histories, k, n));
-            few = (let k = h.few in omega (arith, events, k, n));
-            events = (let k = h.has.events in omega (arith, events, k));
-          };
-          levels = subst (λ xs. AreLevels (race_of c) xs (path_of t)) (sym same) (subst (AreLevels (race_of c) (levels_of s)) (sym path) h.levels);
-          idle = subst (λ xs. AreIdle (race_of c) xs (path_of t)) (sym same) (subst (AreIdle (race_of c) (levels_of s)) (sym path) h.idle);
-          whole = subst (λ xs. AreFoundOrPending (race_of c) (h.found ++ path_of s ∷ []) xs (path_of t)) (sym same)
-              (subst (AreFoundOrPending (race_of c) (h.found ++ path_of s ∷ []) (levels_of s)) (sym path)
-              (ends r h.found (levels_of s) (path_of s) h.coming (sym h.candidates_are ∙ none) (omega (arith, height, few, long))));
-          history = subst (IsHistory (replaying (race_of c))) (sym path) (history-rest r (path_of s) (subst (IsHistory (replaying (race_of c))) to h.reached.history));
-          stage = subst (λ o. IfSome o (λ z. IsReached c z × (z.moves.items ≡ t.moves.items))) (sym gone-stage) tt;
-          sites = sites;
-          few_moves = (let a = moves-length t in let l = ap length path in let le = shorter (path_of s) in omega (arith, a, l, le, few, long));
-          uncut = cut ∙ h.uncut;
-        }
-
-    pub goes-deeper : (level : Level) (first : Candidate) (rest : List Candidate) → candidates ≡ first ∷ rest → level.candidates.items ≡ candidates → level.seen ≡ 0 → level.idle ≡ None → levels_of t ≡ level ∷ levels_of s
-        → t.explored ≡ s.explored → t.moves ≡ s.moves → t.stage ≡ Some stage → t.sites ≡ s.sites → IsSearch c most t
-    goes-deeper level first rest some are seen idle levels explored moves new-stage sites =
-        let r = race_of c in
-        let path : path_of t ≡ path_of s = ap (λ v. reverse v.items) moves in
-        let to : moves_of stage ≡ path_of s = ap reverse h.moves in
-        let height = h.height in
-        let few = h.few_moves in
-        let long = moves-length s in
-        let new : AreLevels (race_of c) (level ∷ levels_of s) (path_of s) = (are ∙ h.candidates_are, omega (arith, seen), h.height, h.levels) in
-        record {
-          found = h.found;
-          has = subst (HasFound c most h.found) (sym explored) h.has;
-          levels = subst (λ xs. AreLevels (race_of c) xs (path_of t)) (sym levels) (subst (AreLevels (race_of c) (level ∷ levels_of s)) (sym path) new);
-          idle = subst (λ xs. AreIdle (race_of c) xs (path_of t)) (sym levels)
-              (subst (AreIdle (race_of c) (level ∷ levels_of s)) (sym path) (subst (λ z. IfSome z (λ m. LeadsNowhere (race_of c) (path_of s) m)) (sym idle) tt, h.idle));
-          whole = subst (λ xs. AreFoundOrPending (race_of c) h.found xs (path_of t)) (sym levels)
-              (subst (AreFoundOrPending (race_of c) h.found (level ∷ levels_of s)) (sym path)
-              (deeper r h.found level (levels_of s) (path_of s) first rest h.coming (are ∙ h.candidates_are) (are ∙ some) seen (omega (arith, height, few, long))));
-          history = subst (IsHistory (replaying (race_of c))) (to ∙ sym path) h.reached.history;
-          stage = subst (λ o. IfSome o (λ z. IsReached c z × (z.moves.items ≡ t.moves.items))) (sym new-stage) (h.reached, h.moves ∙ ap (λ v. v.items) (sym moves));
-          sites = subst (AreFresh c) (sym sites) h.sites;
-          few_moves = (let l = ap (λ v. length v.items) moves in omega (arith, l, few));
-          uncut = ap (λ (e : Explored). e.is_cut) explored ∙ h.uncut;
-        }
-
-  -- each number of histories may rise
-  pub may-count : (found : List (List Move)) (e : Explored) → HasFound c most found e → most < 2 ^ 32 → MayCount e.findings.items.items
-  may-count found e h lt = record {
-    sums = h.sums;
-    few = λ k d l.
-        (let f = get_or e.findings.items.items k d in
-        let le = count-most (race_of c) (comes c) f.text.items found f.histories (h.findings.counted k d l) in
-        let few = h.few in
-        let events = h.events in
-        omega (arith, le, few, events, lt));
-  }
-
-  -- Nothing was found yet.
-  pub has-begun : (s : Search) (stage : Stage) (candidates : List Candidate) → s.explored.findings.items.items ≡ [] → s.explored.histories ≡ 0 → s.explored.events ≡ 0 → s.explored.is_cut ≡ false
-      → s.levels.items ≡ [] → s.moves.items ≡ [] → IsReached c stage → stage.moves.items ≡ [] → candidates ≡ candidates_at (race_of c) [] → AreFresh c s.sites → HasCome c most stage candidates s
-  has-begun s stage candidates findings histories events cut levels moves reached none are sites =
-      let path : path_of s ≡ [] = ap reverse moves in
-      let no_levels : levels_of s ≡ [] = ap reverse levels in
-      record {
-        found = [];
-        has = record {
-          findings = subst (AreFindings (race_of c) (comes c) []) (sym findings) (none-found (race_of c) (comes c));
-          sums = subst HaveSums (sym findings) (All-nil _);
-          histories = histories;
-          few = omega arith;
-          events = omega (arith, events);
-        };
-        few = omega arith;
-        levels = subst (λ ls. AreLevels (race_of c) ls (drop 1 (path_of s))) (sym no_levels) (ap (drop 1) path);
-        idle = subst (λ ls. AreIdle (race_of c) ls (drop 1 (path_of s))) (sym no_levels) tt;
-        height = ap length path ∙ sym (ap length no_levels);
-        coming = subst (λ ls. IsComing (race_of c) [] ls (path_of s)) (sym no_levels) (subst (IsComing (race_of c) [] []) (sym path) (begins (race_of c)));
-        reached = reached;
-        moves = none ∙ sym moves;
-        sites = sites;
-        candidates_are = are ∙ ap (candidates_at (race_of c)) (sym path);
-        few_moves = (let l = ap length moves in omega (arith, l));
-        uncut = cut;
-      }
-
-pub no-items : {X : Type 0} (xs ys : List X) → length xs ≡ length ys → ys ≡ [] → xs ≡ []
-no-items [] ys e none = refl
-no-items (x ∷ xs) ys e none = (let n = ap length none in absurd (omega (arith, e, n)))
-
--- the last one leaves, if there is one
-pub popped : {X : Type 0} (xs ys : List X) (o : Option X) → xs ≡ ys ++ option_to_list o → IsSome o ↔ (0 < length xs) → reverse ys ≡ drop 1 (reverse xs)
-popped {X = X} xs ys o e v = pop-drop xs ys o e (λ none. by xs (λ lt. false≢true (sym none ∙ v.1 lt)))
+pub listed-at : {X : Type 0} (xs ys : List X) (i : ℕ) (x : X) → slice_get xs i ≡ Some x → xs ≡ ys → Contains ys x
+listed-at xs ys i x e same = subst (λ zs. Contains zs x) same (by xs i e)
   where
-    by : (zs : List X) → (0 < length zs → ⊥) → zs ≡ []
-    by [] h = refl
-    by (z ∷ zs) h = absurd (h (omega arith))
+    by : (zs : List _) (k : ℕ) → slice_get zs k ≡ Some x → Contains zs x
+    by [] k g = absurd (cc)
+    by (z ∷ zs) zero g = subst (λ y. Contains (z ∷ zs) y) (some-is z x g) (here z zs)
+    by (z ∷ zs) (suc k) g = there x z zs (by zs k g)
 
-pub ok-same : {T E : Type 0} (x y : T) → ◌≡◌ {A = Result T E} (Ok x) (Ok y) → x ≡ y
-ok-same x y e = cc
+-- the histories of the class that stands there
+pub stand-at : (r : Race) (n : ℕ) (classes : List Class) (ms : List Merged) (i : ℕ) (class : Class) → StandFor r n classes ms → slice_get classes i ≡ Some class
+    → (m : Merged) × ((slice_get ms i ≡ Some m) × StandsFor r n (shown_by class) class.number m)
+stand-at r n [] ms i class h e = absurd (cc)
+stand-at r n (k ∷ classes) [] i class h e = absurd h
+stand-at r n (k ∷ classes) (m ∷ ms) zero class h e =
+    (m, (refl, subst (λ (x : Class). StandsFor r n (shown_by x) x.number m) (some-is k class e) h.0))
+stand-at r n (k ∷ classes) (m ∷ ms) (suc i) class h e = stand-at r n classes ms i class h.1 e
+
+pub as-many-stand : (r : Race) (n : ℕ) (classes : List Class) (ms : List Merged) → StandFor r n classes ms → length ms ≡ length classes
+as-many-stand r n [] [] h = refl
+as-many-stand r n [] (m ∷ ms) h = absurd h
+as-many-stand r n (k ∷ classes) [] h = absurd h
+as-many-stand r n (k ∷ classes) (m ∷ ms) h = ap suc (as-many-stand r n classes ms h.1)
+
+-- One class of a level goes on.
+
+module _ (c : Scene) (most n : ℕ) (classes : List Class) (ms : List Merged) (stand : StandFor (race_of c) n classes ms) (i : ℕ) (class : Class) (at : slice_get classes i ≡ Some class) (s t u : Search)
+    (come : Come c most (suc n) (next_members (race_of c) (take i ms)) s t) where
+  abbrev it : (m : Merged) × ((slice_get ms i ≡ Some m) × StandsFor (race_of c) n (shown_by class) class.number m)
+  it = stand-at (race_of c) n classes ms i class stand at
+
+  abbrev on : List (List Move)
+  on = going_on (next_behind (race_of c) (shown_by class)) it.0.members
+
+  abbrev of-one : Merged → List (List Move)
+  of-one m = going_on (next_behind (race_of c) m.shows) m.members
+
+  on-is : of-one it.0 ≡ on
+  on-is = ap (λ h. going_on (next_behind (race_of c) h) it.0.members) it.1.1.shows
+
+  pub class-come : Come c most (suc n) on t u → Come c most (suc n) (next_members (race_of c) (take (i + 1) ms)) s u
+  class-come next =
+      subst (λ hs. Come c most (suc n) hs s u) (sym (flat-more of-one ms i it.0 it.1.0 ∙ ap (λ hs. next_members (race_of c) (take i ms) ++ hs) on-is))
+      (come-both c most (suc n) (next_members (race_of c) (take i ms)) on s t u come next)
+
+  pub class-cut : ((pending : List (List Move)) → IsWithin c most (suc n) (on ++ pending) t → IsOver c most u.explored)
+      → (pending : List (List Move)) → IsWithin c most (suc n) (next_members (race_of c) ms ++ pending) s → IsOver c most u.explored
+  class-cut cut pending w =
+      let rest = flat-rest of-one ms i it.0 it.1.0 in
+      let is : next_members (race_of c) ms ++ pending ≡ next_members (race_of c) (take i ms) ++ (on ++ (rest.0 ++ pending)) =
+      ap (λ hs. hs ++ pending) (rest.1 ∙ ap (λ hs. next_members (race_of c) (take i ms) ++ (hs ++ rest.0)) on-is)
+      ∙ append_assoc (next_members (race_of c) (take i ms)) (on ++ rest.0) pending ∙ ap (λ hs. next_members (race_of c) (take i ms) ++ hs) (append_assoc on rest.0 pending) in
+      cut (rest.0 ++ pending) (come (on ++ (rest.0 ++ pending)) (subst (λ hs. IsWithin c most (suc n) hs s) is w))
+
+-- And one move of a class.
+
+module _ (c : Scene) (most n : ℕ) (moves : List Move) (members : List (List Move)) (i : ℕ) (mv : Move) (at : slice_get moves i ≡ Some mv) (s t u : Search)
+    (come : Come c most n (going_on (take i moves) members) s t) where
+  abbrev by-one : Move → List (List Move)
+  by-one m = going_by m members
+
+  pub move-come : Come c most n (going_by mv members) t u → Come c most n (going_on (take (i + 1) moves) members) s u
+  move-come next =
+      subst (λ hs. Come c most n hs s u) (sym (flat-more by-one moves i mv at))
+      (come-both c most n (going_on (take i moves) members) (going_by mv members) s t u come next)
+
+  pub move-cut : ((pending : List (List Move)) → IsWithin c most n (going_by mv members ++ pending) t → IsOver c most u.explored)
+      → (pending : List (List Move)) → IsWithin c most n (going_on moves members ++ pending) s → IsOver c most u.explored
+  move-cut cut pending w =
+      let rest = flat-rest by-one moves i mv at in
+      let on = going_by mv members in
+      let is : going_on moves members ++ pending ≡ going_on (take i moves) members ++ (going_by mv members ++ (rest.0 ++ pending)) =
+      ap (λ hs. hs ++ pending) rest.1
+      ∙ append_assoc (going_on (take i moves) members) (on ++ rest.0) pending ∙ ap (λ hs. going_on (take i moves) members ++ hs) (append_assoc on rest.0 pending) in
+      cut (rest.0 ++ pending) (come (going_by mv members ++ (rest.0 ++ pending)) (subst (λ hs. IsWithin c most n hs s) is w))

@@ -115,7 +115,7 @@ same-plain a = refl
 same-line : (k i : ℕ) (a : acts.Act) → fact_line (Answered k i (plain_act a)) ≡ fact_line (Answered k i a)
 same-line k i a = ap (λ t. phrase (codes "answer") (decimal k ∷ decimal i ∷ t ∷ []) ++ 10 ∷ []) (same-plain a)
 
-answers-last : (k i : ℕ) (told : List acts.Act) (a : acts.Act) → flat_map fact_line (answers_from k i (told ++ a ∷ [])) ≡ flat_map fact_line (answers_from k i told) ++ fact_line (Answered k (i + length told) a)
+pub answers-last : (k i : ℕ) (told : List acts.Act) (a : acts.Act) → flat_map fact_line (answers_from k i (told ++ a ∷ [])) ≡ flat_map fact_line (answers_from k i told) ++ fact_line (Answered k (i + length told) a)
 answers-last k i [] a =
     let n : i ≡ i + 0 = omega arith in
     append-nil (fact_line (Answered k i (plain_act a))) ∙ same-line k i a ∙ ap (λ (j : ℕ). fact_line (Answered k j a)) n

@@ -1,6 +1,7 @@
-pub mod Candidates
-pub mod Levels
 pub mod Stages
+pub mod Tellings
+pub mod Classes
 pub mod Searches
 pub mod Explored
 pub mod Ends
+pub mod Shown

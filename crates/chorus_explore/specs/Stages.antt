@@ -1,8 +1,8 @@
 -- How far the sites and the scripts are behind moves.
 -- c is a scenario, ms are moves, the latest first, k is the number of a script, told are the acts that answered, the
 -- latest first.
-use Rattle.std.specs.Prelude.{ℕ, ◌≡◌, ◌≤◌, ◌+◌, ◌⊎◌, Bool, List, [], ◌∷◌, length, map, drop, reverse, Option, Some, IfSome, slice_get}
-use Rattle.std.specs.List.{flat_map, filter, filter_map}
+use Rattle.std.specs.Prelude.{ℕ, ◌≡◌, ◌≤◌, ◌+◌, ◌⊎◌, Bool, List, [], ◌∷◌, length, drop, reverse, Option, Some, IfSome, slice_get}
+use Rattle.std.specs.List.{All, flat_map, filter, filter_map}
 use Rattle.chorus_ui.specs.declared.limits.TheConstants.{CLOCK_LIMIT}
 use Rattle.chorus_entry.specs.declared.act.Act as acts
 use Rattle.chorus_entry.specs.declared.command.Command.{Command}
@@ -12,17 +12,15 @@ use Rattle.law_network.specs.Calls.{just_started}
 use Rattle.law_network.specs.Network.{NetState, Event}
 use Rattle.law_explore.specs.declared.moves.Move.{Move}
 use Rattle.law_explore.specs.Search.{IsHistory, state_after}
-use Rattle.law_explore.specs.Races.{Position, event_of, seat_0, next_of, place_of_move, may_come, replaying}
+use Rattle.law_explore.specs.Races.{Position, event_of, seat_0, next_of, may_come, replaying}
 use Rattle.law_explore.specs.Outcome.{post_in, answers_from, outcome_after}
 use Rattle.law_replay.specs.Shown.{race_of}
 use Rattle.chorus_scene.specs.Scene.{Scene, Script}
 use Rattle.chorus_net.specs.Sites.{SitesState, net}
 use Rattle.chorus_net.specs.Worn.{compared_by}
 use Rattle.chorus_replay.specs.Performing.{IsWornAt}
-use Rattle.chorus_explore.specs.declared.candidates.Candidate.{Candidate}
 use Rattle.chorus_explore.specs.declared.race_sites.Progress.{Progress}
 use Rattle.chorus_explore.specs.declared.race_sites.Stage.{Stage}
-use Rattle.chorus_explore.specs.Candidates.{sleeps_behind}
 use Rattle.explore_facts.specs.Facts.{fact_line, outcome_lines}
 use Rattle.explore_facts.specs.Outcomes.{message_lines}
 
@@ -66,21 +64,23 @@ pub record IsReached (c : Scene) (s : Stage) : Type 0 where
   pub at : AreAt c (moves_of s) s
   pub history : IsHistory (replaying (race_of c)) (moves_of s)
 
--- a move that may come behind the one taken, where these were the candidates before it
-abbrev pub candidate_behind : Candidate → List Candidate → Position → Move → Candidate
-candidate_behind taken before s m =
-    record { mv = m; place = place_of_move m s; is_asleep = sleeps_behind m taken before }
-
--- of these moves those that may come
-abbrev pub coming : Scene → Candidate → List Candidate → Position → List Move → List Candidate
-coming c taken before s ms =
-    map (candidate_behind taken before s) (filter (λ (m : Move). may_come (race_of c).net.layout m s) ms)
+-- of these moves those that may come behind the history
+abbrev pub coming : Scene → List Move → List Move → List Move
+coming c ms moves = filter (λ (m : Move). may_go c m ms) moves
 
 -- sites on which nothing happened, if there are some
 abbrev pub AreFresh : Scene → Option SitesState → Type 0
 AreFresh c sites = IfSome sites (λ s. net s ≡ just_started c.layout)
 
--- a clock is worn in the setup, or behind a history, by a move that may come there
+-- sites on which nothing happened
+abbrev pub AreSpare : Scene → List SitesState → Type 0
+AreSpare c spare = All (λ (s : SitesState). net s ≡ just_started c.layout) spare
+
+-- the stage, if there is one, is where its moves lead
+abbrev pub IsReachedIf : Scene → Option Stage → Type 0
+IsReachedIf c kept = IfSome kept (λ s. IsReached c s)
+
+-- a clock is worn on the way of a replay of the text, or behind a history, by a move that may come there
 pub record WearsBehind (c : Scene) (clock : ℕ) : Type 0 where
   pub moves : List Move
   pub mv : Move

@@ -20,12 +20,10 @@ pub enum ExploreFault {
     Worn { clock: u64 },
 }
 
-/// Goes over the schedules of the scenario, those in normal form, and carries out so many events at most: gives the
-/// text of what may come.
+/// Goes over the schedules of the scenario, and carries out so many events at most: gives the text of what may come.
 ///
-/// At `all` nothing is missing; at `some`, where a limit was met, of the events, of the moves of a history or of the
-/// messages that a caller posts, what is told may come all the same. Worn comes only where a schedule wears that clock;
-/// want of memory is free.
+/// At `all` nothing is missing; at `some`, where a limit was met, of the events or of the moves of a history, what is told
+/// may come all the same. Worn comes only where a schedule wears that clock; want of memory is free.
 pub fn explore_scenario(
     alloc: Global,
     scenario: &Scenario,

@@ -6,8 +6,10 @@ ghost use Rattle.chorus_ui.specs.Layout.{has_place};
 ghost use Rattle.chorus_place.specs.declared.fault.PlaceFault.TheVariants as PlaceFault;
 ghost use Rattle.chorus_scene.specs.Limits.{Keeps};
 ghost use Rattle.law_explore.specs.declared.moves.Move.TheVariants as Move;
+ghost use Rattle.law_explore.specs.Merging.{ComeToldAlike};
 ghost use Rattle.law_explore.specs.Outcome.{Answered, post_in};
-ghost use Rattle.law_explore.specs.Races.{links_between, links_to, next_moves, next_of};
+ghost use Rattle.law_explore.specs.Positions.{next_behind};
+ghost use Rattle.law_explore.specs.Races.{links_between, links_to, next_of};
 ghost use Rattle.law_network.specs.Calls.{just_started};
 ghost use Rattle.law_network.specs.Network.{Act as Acting, happened, numbers, place as place_of, place_numbers};
 ghost use Rattle.law_network.specs.Schedules.{may_happen};
@@ -19,15 +21,17 @@ ghost use Rattle.chorus_net.specs.Sites.{net};
 ghost use Rattle.chorus_net.specs.Worn.{compared_by};
 ghost use Rattle.chorus_ui.specs.declared.limits.TheConstants.{CLOCK_LIMIT};
 ghost use Rattle.explore_facts.specs.Facts.{fact_line};
-ghost use Rattle.chorus_explore.specs.Stages.{AreAt, AreFresh, AreProgress, IsNext, IsOfScript, IsPlaceFor, IsReached, MayWear, candidate_behind, comes, coming, may_go, moves_of, position, posted_lines};
+ghost use Rattle.chorus_explore.specs.Stages.{AreAt, AreFresh, AreProgress, IsNext, IsOfScript, IsPlaceFor, IsReached, MayWear, comes, coming, may_go, moves_of, position, posted_lines};
+ghost use Rattle.chorus_explore.specs.Tellings.{kept_of, tells_of};
 
-use crate::candidates::{Candidate, sleeps};
+use crate::sums::sum_of;
 use chorus_entry::{Act, Command, Entry, MsgId};
 use chorus_net::Sites;
 use chorus_place::PlaceFault;
 use chorus_replay::{enter, set_up};
 use chorus_scene::Scenario;
 use chorus_ui::Layout;
+use explore_alike::are_alike;
 use explore_facts::{push_all_ports, push_answered, push_messages};
 use law_explore::Move;
 use std::alloc::{AllocError, Global};
@@ -48,7 +52,7 @@ pub(crate) struct Progress {
     /// The lines of what its commands were answered.
     pub(crate) answers: Vec<u8>,
     /// The messages that it posted.
-    pub(crate) posts: Vec<MsgId>,
+    posts: Vec<MsgId>,
 }
 
 impl Progress {
@@ -68,6 +72,20 @@ impl Progress {
             self.posts.push_reserved(message.id);
         }
         Ok(())
+    }
+
+    /// Whether as much was performed, and answered by the same lines.
+    fn is_as_far(&self, other: &Progress) -> bool
+        ensures { result ≡ true → kept_of self.now ≡ kept_of other.now }
+    {
+        if self.next != other.next {
+            return false;
+        }
+        if !is_same_text(self.answers.as_slice(), other.answers.as_slice()) {
+            return false;
+        }
+        let same = are_same_posts(self.posts.as_slice(), other.posts.as_slice());
+        same
     }
 }
 
@@ -105,28 +123,26 @@ impl Stage {
         })
     }
 
-    /// Performs a move that may come. False where its caller has posted all the messages that it may; then only the
-    /// sites are as they were.
-    pub(crate) fn go(&mut self, scenario: &Scenario, mv: Move) -> Result<bool, PlaceFault>
+    /// Performs a move that may come.
+    pub(crate) fn go(&mut self, scenario: &Scenario, mv: Move) -> Result<(), PlaceFault>
         requires reached { IsReached scenario.now self.old }
         requires may { may_go scenario.now mv (moves_of self.old) ≡ true }
-        ensures reached { result ≡ Ok true → IsReached scenario.now self.new }
-        ensures moves { result ≡ Ok true →
-            self.new.moves.items ≡ self.old.moves.items ++ mv ∷ [] }
+        ensures reached { OnOk result (IsReached scenario.now self.new) }
+        ensures moves { OnOk result (self.new.moves.items ≡ self.old.moves.items ++ mv ∷ []) }
         ensures worn { (clock : ℕ) → IsErrOf result (PlaceFault.Worn clock) →
             MayWear scenario.now clock }
     {
         self.moves.reserve(1)?;
-        let has_gone = match mv {
+        match mv {
             Move::Go { script } => self.perform(scenario, script)?,
             Move::Carry { from, to } => self.carry(scenario, from, to)?,
-        };
+        }
         self.moves.push_reserved(mv);
-        Ok(has_gone)
+        Ok(())
     }
 
     /// Delivers the first packet that waits from the one place to the other, where one does.
-    fn carry(&mut self, scenario: &Scenario, from: u16, to: u16) -> Result<bool, PlaceFault>
+    fn carry(&mut self, scenario: &Scenario, from: u16, to: u16) -> Result<(), PlaceFault>
         requires reached { IsReached scenario.now self.old }
         requires may { may_go scenario.now (Move.Carry from to) (moves_of self.old) ≡ true }
         ensures at { OnOk result
@@ -136,26 +152,22 @@ impl Stage {
             MayWear scenario.now clock }
     {
         self.sites.deliver(from, to)?;
-        Ok(true)
+        Ok(())
     }
 
-    /// Performs the next command of the script that stands there. False where its caller has posted all the messages
-    /// that it may.
-    fn perform(&mut self, scenario: &Scenario, index: u16) -> Result<bool, PlaceFault>
+    /// Performs the next command of the script that stands there.
+    fn perform(&mut self, scenario: &Scenario, index: u16) -> Result<(), PlaceFault>
         requires reached { IsReached scenario.now self.old }
         requires may { may_go scenario.now (Move.Go index) (moves_of self.old) ≡ true }
-        ensures at { result ≡ Ok true →
-            AreAt scenario.now (Move.Go index ∷ moves_of self.old) self.new }
+        ensures at { OnOk result (AreAt scenario.now (Move.Go index ∷ moves_of self.old) self.new) }
         ensures moves { self.new.moves ≡ self.old.moves }
         ensures worn { (clock : ℕ) → IsErrOf result (PlaceFault.Worn clock) →
             MayWear scenario.now clock }
     {
+        let _sites = self.sites.layout();
+        let _scene = scenario.layout();
         let command = self.next(scenario, index);
-        if !self.sites.may_act(u32::from(index) + 1, command) {
-            return Ok(false);
-        }
-        self.perform_next(scenario, index, command)?;
-        Ok(true)
+        self.perform_next(scenario, index, command)
     }
 
     /// The next command of the script that stands there.
@@ -194,26 +206,44 @@ impl Stage {
         Ok(())
     }
 
-    /// The moves that may come behind the one taken, where these were the candidates before it: scripts first, then
-    /// deliveries by their places.
-    pub(crate) fn candidates(
+    /// The moves that may come: scripts first, then deliveries by their places.
+    pub(crate) fn next_moves(
         &mut self,
         alloc: Global,
         scenario: &Scenario,
-        taken: Candidate,
-        before: &[Candidate],
-    ) -> Result<Vec<Candidate>, AllocError>
+    ) -> Result<Vec<Move>, AllocError>
         requires { IsReached scenario.now self.old }
         ensures reached { IsReached scenario.now self.new }
         ensures moves { self.new.moves ≡ self.old.moves }
-        ensures items { IfOk result (λ v. v.items ≡ map (candidate_behind taken before.now
-            (position scenario.now (moves_of self.old)))
-            (next_moves (race_of scenario.now) (position scenario.now (moves_of self.old)))) }
+        ensures items { IfOk result (λ v. v.items
+            ≡ next_behind (race_of scenario.now) (moves_of self.old)) }
     {
-        let mut candidates = Vec::new(alloc);
-        self.add_scripts(scenario, taken, before, &mut candidates)?;
-        self.add_deliveries(scenario, taken, before, &mut candidates)?;
-        Ok(candidates)
+        let mut moves = Vec::new(alloc);
+        self.add_scripts(scenario, &mut moves)?;
+        self.add_deliveries(scenario, &mut moves)?;
+        Ok(moves)
+    }
+
+    /// Whether the stages are alike: behind both the same may come, and what it comes to is the same. True only where
+    /// they are.
+    pub(crate) fn is_alike(&self, scenario: &Scenario, other: &Stage) -> Result<bool, AllocError>
+        requires one { IsReached scenario.now self.now }
+        requires other { IsReached scenario.now other.now }
+        ensures { IfOk result (λ alike. alike ≡ true → ComeToldAlike tells_of
+            (race_of scenario.now) (moves_of self.now) (moves_of other.now)) }
+    {
+        if !are_as_far(self.scripts.as_slice(), other.scripts.as_slice()) {
+            return Ok(false);
+        }
+        let _layout = scenario.layout();
+        let count = scenario.scripts().len() as u16;
+        let alike = are_alike(&self.sites, &other.sites, count)?;
+        Ok(alike)
+    }
+
+    /// A sum that is one for stages that are alike.
+    pub(crate) fn sum(&self) -> u64 {
+        sum_of(&self.sites, self.scripts.as_slice())
     }
 
     /// Gives the lines of what the moves came to, and the sites, started again.
@@ -240,20 +270,14 @@ impl Stage {
     }
 
     /// Adds the next command of each script that has one left.
-    fn add_scripts(
-        &self,
-        scenario: &Scenario,
-        taken: Candidate,
-        before: &[Candidate],
-        candidates: &mut Vec<Candidate>,
-    ) -> Result<(), AllocError>
+    fn add_scripts(&self, scenario: &Scenario, moves: &mut Vec<Move>) -> Result<(), AllocError>
         requires { IsReached scenario.now self.now }
-        ensures { OnOk result (candidates.new.items ≡ candidates.old.items
-            ++ coming scenario.now taken before.now (position scenario.now (moves_of self.now))
+        ensures { OnOk result (moves.new.items ≡ moves.old.items
+            ++ coming scenario.now (moves_of self.now)
             (map Move.Go (numbers (length scenario.now.scripts) 0))) }
     {
         for index in 0..scenario.scripts().len() {
-            self.add_script(scenario, index, taken, before, candidates)?;
+            self.add_script(scenario, index, moves)?;
         }
         Ok(())
     }
@@ -275,27 +299,19 @@ impl Stage {
         &self,
         scenario: &Scenario,
         index: usize,
-        taken: Candidate,
-        before: &[Candidate],
-        candidates: &mut Vec<Candidate>,
+        moves: &mut Vec<Move>,
     ) -> Result<(), AllocError>
         requires reached { IsReached scenario.now self.now }
         requires index { index < length scenario.now.scripts }
-        ensures { OnOk result (candidates.new.items ≡ candidates.old.items
-            ++ coming scenario.now taken before.now
-            (position scenario.now (moves_of self.now)) (Move.Go index ∷ [])) }
+        ensures { OnOk result (moves.new.items ≡ moves.old.items
+            ++ coming scenario.now (moves_of self.now) (Move.Go index ∷ [])) }
     {
         let _layout = scenario.layout();
         let script = index as u16;
-        let Some(command) = self.left_of(scenario, script) else {
+        let Some(_) = self.left_of(scenario, script) else {
             return Ok(());
         };
-        let mv = Move::Go { script };
-        candidates.push(Candidate {
-            mv,
-            place: where_performed(scenario, script, command),
-            is_asleep: sleeps(mv, taken, before),
-        })?;
+        moves.push(Move::Go { script })?;
         Ok(())
     }
 
@@ -303,19 +319,17 @@ impl Stage {
     fn add_deliveries(
         &mut self,
         scenario: &Scenario,
-        taken: Candidate,
-        before: &[Candidate],
-        candidates: &mut Vec<Candidate>,
+        moves: &mut Vec<Move>,
     ) -> Result<(), AllocError>
         requires { IsReached scenario.now self.old }
         ensures reached { IsReached scenario.now self.new }
         ensures moves { self.new.moves ≡ self.old.moves }
-        ensures items { OnOk result (candidates.new.items ≡ candidates.old.items
-            ++ coming scenario.now taken before.now (position scenario.now (moves_of self.old))
+        ensures items { OnOk result (moves.new.items ≡ moves.old.items
+            ++ coming scenario.now (moves_of self.old)
             (links_between (place_numbers scenario.now.layout) (place_numbers scenario.now.layout))) }
     {
         for index in 0..scenario.layout().places() {
-            self.add_links(scenario, index + 1, taken, before, candidates)?;
+            self.add_links(scenario, index + 1, moves)?;
         }
         Ok(())
     }
@@ -325,23 +339,21 @@ impl Stage {
         &mut self,
         scenario: &Scenario,
         from: u16,
-        taken: Candidate,
-        before: &[Candidate],
-        candidates: &mut Vec<Candidate>,
+        moves: &mut Vec<Move>,
     ) -> Result<(), AllocError>
         requires reached { IsReached scenario.now self.old }
         requires from { has_place scenario.now.layout from ≡ true }
         ensures reached { IsReached scenario.now self.new }
         ensures moves { self.new.moves ≡ self.old.moves }
-        ensures items { OnOk result (candidates.new.items ≡ candidates.old.items
-            ++ coming scenario.now taken before.now (position scenario.now (moves_of self.old))
+        ensures items { OnOk result (moves.new.items ≡ moves.old.items
+            ++ coming scenario.now (moves_of self.old)
             (links_to from (place_numbers scenario.now.layout))) }
     {
         if self.sites.is_idle(from) {
             return Ok(());
         }
         for index in 0..scenario.layout().places() {
-            self.add_link(scenario, from, index + 1, taken, before, candidates)?;
+            self.add_link(scenario, from, index + 1, moves)?;
         }
         Ok(())
     }
@@ -352,18 +364,15 @@ impl Stage {
         scenario: &Scenario,
         from: u16,
         to: u16,
-        taken: Candidate,
-        before: &[Candidate],
-        candidates: &mut Vec<Candidate>,
+        moves: &mut Vec<Move>,
     ) -> Result<(), AllocError>
         requires reached { IsReached scenario.now self.old }
         requires from { has_place scenario.now.layout from ≡ true }
         requires to { has_place scenario.now.layout to ≡ true }
         ensures reached { IsReached scenario.now self.new }
         ensures moves { self.new.moves ≡ self.old.moves }
-        ensures items { OnOk result (candidates.new.items ≡ candidates.old.items
-            ++ coming scenario.now taken before.now (position scenario.now (moves_of self.old))
-            (Move.Carry from to ∷ [])) }
+        ensures items { OnOk result (moves.new.items ≡ moves.old.items
+            ++ coming scenario.now (moves_of self.old) (Move.Carry from to ∷ [])) }
     {
         if from == to {
             return Ok(());
@@ -371,14 +380,38 @@ impl Stage {
         if !self.sites.waits(from, to) {
             return Ok(());
         }
-        let mv = Move::Carry { from, to };
-        candidates.push(Candidate {
-            mv,
-            place: to,
-            is_asleep: sleeps(mv, taken, before),
-        })?;
+        moves.push(Move::Carry { from, to })?;
         Ok(())
     }
+}
+
+/// Whether the texts are the same.
+fn is_same_text(one: &[u8], other: &[u8]) -> bool
+    ensures { result ≡ true → one.now ≡ other.now }
+{
+    one == other
+}
+
+/// Whether the same messages were posted.
+fn are_same_posts(one: &[MsgId], other: &[MsgId]) -> bool
+    ensures { result ≡ true → one.now ≡ other.now }
+{
+    one == other
+}
+
+/// Whether of each script as much was performed, and answered by the same lines.
+fn are_as_far(one: &[Progress], other: &[Progress]) -> bool
+    ensures { result ≡ true → map kept_of one.now ≡ map kept_of other.now }
+{
+    if one.len() != other.len() {
+        return false;
+    }
+    for index in 0..one.len() {
+        if !one[index].is_as_far(&other[index]) {
+            return false;
+        }
+    }
+    true
 }
 
 /// The place where a command of the script is performed.

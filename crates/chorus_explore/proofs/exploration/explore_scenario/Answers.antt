@@ -1,9 +1,8 @@
-use Rattle.std.proofs.Common.{ap, arith}
+use Rattle.std.proofs.Common.{ℕ, ◌≡◌, ◌⊎◌, subst, arith}
 use Rattle.law_replay.specs.Shown.{race_of}
-use Rattle.explore_facts.specs.Facts.{outcome_lines}
+use Rattle.chorus_explore.specs.Searches.{IsLong}
 use Rattle.chorus_explore.specs.Stages.{comes}
 use Rattle.chorus_explore.proofs.Explaining.{explains-some, explains-all}
-use Rattle.chorus_explore.proofs.Racing.{is-race}
 use Rattle.chorus_explore.proofs.exploration.explore_scenario.Goals as goal
 
 pub returns-in-Ok-report-clause-explored : goal.returns-in-Ok-report-clause-explored
@@ -19,6 +18,8 @@ returns-in-Ok-report-clause-explored c =
       histories = over.found;
       count = over.has.histories;
       events = (let m = over.has.events in let f = c.from.ensures in omega (arith, m, f));
-      some = explains-some r (comes scene) over.found fs over.whole over.has.findings;
-      all = λ k. explains-all r (comes scene) over.found fs (is-race scene) (λ ms ns same. ap outcome_lines same) over.whole (over.all k) over.has.findings;
+      cut = λ k. subst (λ (n : ℕ). (c.in-Ok.explored.events ≡ n) ⊎ IsLong c.args.scenario.now) c.from.ensures (over.cut k);
+      shorter = over.shorter;
+      some = explains-some r (comes scene) over.found fs over.whole over.once over.has.findings;
+      all = λ k. explains-all r (comes scene) over.found fs over.whole over.once (over.every k) over.has.findings;
     }

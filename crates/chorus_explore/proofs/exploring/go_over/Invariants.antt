@@ -1,6 +1,7 @@
-use Rattle.chorus_explore.specs.Searches.{IsSearch}
+use Rattle.std.proofs.Common.{[]}
+use Rattle.chorus_explore.specs.Searches.{IsReady, IsWithin}
 use Rattle.chorus_explore.proofs.exploring.go_over.Given as goal
 
--- the search keeps what it keeps
-abbrev pub invariant-loop-step : goal.invariant-loop-step
-invariant-loop-step l = IsSearch l.scenario l.most l.search
+-- all of the level is come to
+abbrev pub invariant-loop-length : goal.invariant-loop-length
+invariant-loop-length l = IsReady l.scenario l.search × IsWithin l.scenario l.most l._length [] l.search

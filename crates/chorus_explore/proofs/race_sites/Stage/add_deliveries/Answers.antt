@@ -1,7 +1,7 @@
 use Rattle.std.proofs.Common.{◌+◌, ◌++◌, reverse, ◌∙◌, ap}
 use Rattle.law_explore.specs.Races.{links_to}
 use Rattle.law_network.specs.Network.{place_numbers}
-use Rattle.chorus_explore.specs.Stages.{coming, moves_of, position}
+use Rattle.chorus_explore.specs.Stages.{coming, moves_of}
 use Rattle.chorus_explore.proofs.Moving.{links-more}
 use Rattle.chorus_explore.proofs.race_sites.Stage.add_deliveries.Goals as goal
 
@@ -12,7 +12,7 @@ loop-index-preserved c =
     let inv = l.invariant in (
       c.add_links.ensures.reached,
       c.add_links.ensures.moves ∙ inv.1,
-      links-more scene c.args.taken c.args.before.now (position scene (moves_of c.args.self.now)) l.index (place_numbers scene.layout) c.args.candidates.now.items l.candidates.items _
-          (c.in_ok-add_links.ensures.items ∙ ap (λ v. l.candidates.items ++ coming scene c.args.taken c.args.before.now (position scene (reverse v.items)) (links_to (l.index + 1) (place_numbers scene.layout))) inv.1)
+      links-more scene (moves_of c.args.self.now) l.index (place_numbers scene.layout) c.args.moves.now.items l.moves.items _
+          (c.in_ok-add_links.ensures.items ∙ ap (λ v. l.moves.items ++ coming scene (reverse v.items) (links_to (l.index + 1) (place_numbers scene.layout))) inv.1)
           inv.2,
     )

@@ -1,10 +1,10 @@
 use Rattle.std.proofs.Common.{◌≡◌, ◌++◌}
 use Rattle.law_explore.specs.Races.{links_between}
 use Rattle.law_network.specs.Network.{numbers, place_numbers}
-use Rattle.chorus_explore.specs.Stages.{IsReached, coming, moves_of, position}
+use Rattle.chorus_explore.specs.Stages.{IsReached, coming, moves_of}
 use Rattle.chorus_explore.proofs.race_sites.Stage.add_deliveries.Given as goal
 
 -- those from the places passed are added
 abbrev pub invariant-loop-index : goal.invariant-loop-index
 invariant-loop-index l = IsReached l.scenario l.self × (l.self.moves ≡ l.initial.self.moves)
-    × (l.candidates.items ≡ l.initial.candidates.items ++ coming l.scenario l.taken l.before (position l.scenario (moves_of l.initial.self)) (links_between (numbers l.index 1) (place_numbers l.scenario.layout)))
+    × (l.moves.items ≡ l.initial.moves.items ++ coming l.scenario (moves_of l.initial.self) (links_between (numbers l.index 1) (place_numbers l.scenario.layout)))

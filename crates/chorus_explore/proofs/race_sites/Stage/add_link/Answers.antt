@@ -15,5 +15,5 @@ waits-requires-clause-to c = ap (λ (l : Layout). has_place l c.args.to) (layout
 pub returns-clause-items : goal.returns-clause-items
 returns-clause-items c =
     let waits : c.waits.result ≡ true = grind (arith, c.if-not-waits.false) in
-    carry-added c.args.scenario.now c.args.self.now c.requires.reached c.args.taken c.args.before.now c.args.from c.args.to c.sleeps.result c.args.candidates.now.items c.push.new.self.items
-    c.requires.from c.requires.to (ne_eqb c.args.from c.args.to c.if-from-to.false) (sym c.waits.ensures.value ∙ waits) c.sleeps.ensures c.in_ok-push.ensures.items
+    carry-added c.args.scenario.now c.args.self.now c.requires.reached c.args.from c.args.to c.args.moves.now.items c.push.new.self.items
+    c.requires.from c.requires.to (ne_eqb c.args.from c.args.to c.if-from-to.false) (sym c.waits.ensures.value ∙ waits) c.in_ok-push.ensures.items

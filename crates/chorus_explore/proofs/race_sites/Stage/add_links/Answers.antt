@@ -4,7 +4,7 @@ use Rattle.chorus_ui.specs.declared.layout.Layout.{Layout}
 use Rattle.chorus_ui.specs.Layout.{has_place}
 use Rattle.law_network.specs.Network.{place_numbers}
 use Rattle.law_explore.specs.declared.moves.Move.TheVariants.{Carry}
-use Rattle.chorus_explore.specs.Stages.{coming, moves_of, position}
+use Rattle.chorus_explore.specs.Stages.{coming, moves_of}
 use Rattle.chorus_explore.proofs.Moving.{idle-comes, idle-links, layout-at, link-more}
 use Rattle.chorus_explore.proofs.race_sites.Stage.add_links.Goals as goal
 
@@ -15,8 +15,8 @@ loop-index-preserved c =
     let inv = l.invariant in (
       c.add_link.ensures.reached,
       c.add_link.ensures.moves ∙ inv.1,
-      link-more scene c.args.taken c.args.before.now (position scene (moves_of c.args.self.now)) c.args.from l.index c.args.candidates.now.items l.candidates.items _
-          (c.in_ok-add_link.ensures.items ∙ ap (λ v. l.candidates.items ++ coming scene c.args.taken c.args.before.now (position scene (reverse v.items)) (Carry c.args.from (l.index + 1) ∷ [])) inv.1)
+      link-more scene (moves_of c.args.self.now) c.args.from l.index c.args.moves.now.items l.moves.items _
+          (c.in_ok-add_link.ensures.items ∙ ap (λ v. l.moves.items ++ coming scene (reverse v.items) (Carry c.args.from (l.index + 1) ∷ [])) inv.1)
           inv.2,
     )
 
@@ -27,6 +27,6 @@ pub returns-then-is_idle-clause-items : goal.returns-then-is_idle-clause-items
 returns-then-is_idle-clause-items c =
     let scene = c.args.scenario.now in
     let idle = c.is_idle.ensures.idle c.if-is_idle.true in
-    let none = idle-links scene c.args.taken c.args.before.now (position scene (moves_of c.args.self.now)) c.args.from (place_numbers scene.layout)
+    let none = idle-links scene (moves_of c.args.self.now) c.args.from (place_numbers scene.layout)
     (λ b. idle-comes scene c.args.self.now c.requires.reached c.args.from b (λ to has. idle to (ap (λ (l : Layout). has_place l to) (layout-at scene c.args.self.now c.requires.reached) ∙ has))) in
-    sym (append-nil c.args.candidates.now.items) ∙ ap (λ xs. c.args.candidates.now.items ++ xs) (sym none)
+    sym (append-nil c.args.moves.now.items) ∙ ap (λ xs. c.args.moves.now.items ++ xs) (sym none)

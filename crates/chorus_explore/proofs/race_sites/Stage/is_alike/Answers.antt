@@ -1,0 +1,19 @@
+use Rattle.std.proofs.Common.{List, length, map, refl, sym, ◌∙◌, ap, subst}
+use Rattle.law_explore.specs.Alike.{NetsAlike}
+use Rattle.law_explore.specs.Positions.{TellAlike}
+use Rattle.chorus_scene.specs.Scene.{Script}
+use Rattle.chorus_net.specs.Sites.{net}
+use Rattle.chorus_explore.specs.Tellings.{kept_of}
+use Rattle.chorus_explore.proofs.Alike.{come-alike}
+use Rattle.chorus_explore.proofs.Moving.{layout-at}
+use Rattle.chorus_explore.proofs.race_sites.Stage.is_alike.Goals as goal
+
+pub are_alike-requires : goal.are_alike-requires
+are_alike-requires c =
+    layout-at c.args.scenario.now c.args.other.now c.requires.other ∙ sym (layout-at c.args.scenario.now c.args.self.now c.requires.one)
+
+pub returns : goal.returns
+returns c = λ e.
+    come-alike c.args.scenario.now c.args.self.now c.args.other.now c.requires.one c.requires.other
+    (sym (ap (map kept_of) c.as_slice.ensures.value) ∙ (c.if-not-are_as_far.ensures refl) ∙ ap (map kept_of) c.as_slice-2.ensures.value) (subst (λ (ss : List Script). NetsAlike TellAlike (length ss) (net c.args.self.now.sites) (net c.args.other.now.sites)) c.scripts.ensures
+    (c.in_ok-alike.ensures e))
