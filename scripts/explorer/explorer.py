@@ -1,10 +1,6 @@
-"""All that may come of a race, by every schedule, without any reduction but merging equal states. Written from the rules alone."""
-import sys, copy, re
+"""The places, the scripts and the moves of a race, and what it comes to. Written from the rules alone."""
 
 SITES = 16
-
-class Ui(tuple):
-    pass
 
 def ui(text):
     s, k, n = text.split('.')
@@ -473,48 +469,6 @@ def moves(n, scripts, at):
         if n.links[link]:
             yield ('deliver',) + link
 
-def explore(text, limit=None, layout=None):
-    n, scripts, _ = begin(text, layout)
-    at = tuple(0 for _ in scripts)
-    told = tuple(() for _ in scripts)
-    level = {(n.key(), at, told): [n, at, told, 1]}
-    outcomes = {}
-    raw = 0
-    states = 1
-    widest = 1
-    events = 0
-    while level:
-        after = {}
-        for n, at, told, count in level.values():
-            some = False
-            for m in moves(n, scripts, at):
-                some = True
-                events += 1
-                if limit and events > limit:
-                    raise RuntimeError('limit')
-                r = n.copy()
-                a, t = at, told
-                if m[0] == 'step':
-                    k = m[1] - 1
-                    act = r.act(k + 1, scripts[k][at[k]])
-                    a = at[:k] + (at[k] + 1,) + at[k + 1:]
-                    t = told[:k] + (told[k] + (act,),) + told[k + 1:]
-                else:
-                    r.deliver(m[1], m[2])
-                key = (r.key(), a, t)
-                if key in after:
-                    after[key][3] += count
-                else:
-                    after[key] = [r, a, t, count]
-            if not some:
-                raw += count
-                o = facts(n, told)
-                outcomes[o] = outcomes.get(o, 0) + count
-        level = after
-        states += len(after)
-        widest = max(widest, len(after))
-    return outcomes, raw, events, states, widest
-
 def follow(text, steps, layout=None):
     """The outcome of one schedule: step and deliver lines."""
     n, scripts, _ = begin(text, layout)
@@ -530,12 +484,3 @@ def follow(text, steps, layout=None):
             n.deliver(int(f[1]), int(f[2]))
     assert not any(True for _ in moves(n, scripts, at)), 'not whole'
     return facts(n, told)
-
-if __name__ == '__main__':
-    text = open(sys.argv[1]).read()
-    outcomes, raw, events, states, widest = explore(text)
-    single = sorted({f for o in outcomes for f in o})
-    print('raw', raw, 'outcomes', len(outcomes), 'facts', len(single), 'events', events, 'widest', widest)
-    if len(sys.argv) > 2:
-        for f in single:
-            print(f)

@@ -1,11 +1,13 @@
-//! What is compared of an exploration: how many single facts there are and how many outcomes, each with a sum over their lines that does
-//! not depend on their order. Where there are more than 64 outcomes the exploration tells none, and there is no sum of theirs.
+//! What is compared of an exploration: how many histories there are, how many single facts and how many outcomes, the latter two each with a
+//! sum over their lines that does not depend on their order. To the lines of an outcome belongs how many histories come to it. Where there
+//! are more than 64 outcomes the exploration tells none, and there is no sum of theirs.
 
 use chorus_io::{Failed, Sink, write_all};
 
 /// What is compared of an exploration.
 #[derive(Clone, Copy)]
 pub(crate) struct Digest {
+    histories: u64,
     facts: u64,
     facts_sum: u64,
     outcomes: u64,
@@ -29,6 +31,7 @@ enum Part {
 /// The digest of the text of an exploration.
 pub(crate) fn digest_of(text: &[u8]) -> Digest {
     let mut digest = Digest {
+        histories: 0,
         facts: 0,
         facts_sum: 0,
         outcomes: 0,
@@ -49,7 +52,8 @@ impl Digest {
         if !self.is_whole {
             return write_all(output, b"not explored\n");
         }
-        say_number(b"", self.facts, output)?;
+        say_number(b"", self.histories, output)?;
+        say_number(b" ", self.facts, output)?;
         say_number(b" ", self.facts_sum, output)?;
         say_number(b" ", self.outcomes, output)?;
         say_number(b" ", self.outcomes_sum, output)?;
@@ -72,7 +76,7 @@ impl Digest {
         } else if line.starts_with(b"outcome ") || line.starts_with(b"schedule ") {
             self.with_outcome(line)
         } else {
-            self.with_fact(line)
+            self.with_line_of_part(line)
         }
     }
 
@@ -91,23 +95,35 @@ impl Digest {
         }
     }
 
-    /// With a fact, in the list of facts or in an outcome.
-    fn with_fact(self, line: &[u8]) -> Digest {
+    /// With a line of the part that is gone through: in front, a fact, or one of an outcome.
+    fn with_line_of_part(self, line: &[u8]) -> Digest {
         match self.part {
+            Part::Head => self.with_front(line),
             Part::Facts => Digest {
                 facts: self.facts.wrapping_add(1),
                 facts_sum: self.facts_sum.wrapping_add(sum_on(0, behind_space(line))),
                 ..self
             },
-            Part::Outcomes if !line.starts_with(b"histories ") => Digest {
+            Part::Outcomes => Digest {
                 outcome_sum: sum_on(self.outcome_sum, line),
                 ..self
             },
-            Part::Head if line == b"all".as_slice() => Digest {
-                is_whole: true,
+            Part::Schedules => self,
+        }
+    }
+
+    /// With a line in front of the facts.
+    fn with_front(self, line: &[u8]) -> Digest {
+        if line.starts_with(b"histories ") {
+            Digest {
+                histories: number_behind(b"histories ", line),
                 ..self
-            },
-            _ => self,
+            }
+        } else {
+            Digest {
+                is_whole: self.is_whole || line == b"all".as_slice(),
+                ..self
+            }
         }
     }
 }

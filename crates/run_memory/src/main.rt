@@ -4,7 +4,7 @@
 //! source that holds that and a sink that takes one byte at a write. When the call has ended there come the line of [`ended`], the exit
 //! status, how many bytes the sink holds, and these bytes; where the line begins with `digest` and all was done, only the digest of
 //! them. So one stored run has words that run threads, words that are none, a text that is refused, and two hundred drawn races, beside an
-//! explorer that was written anew from the rules and has no reduction (`scripts/explorer`).
+//! explorer that was written anew from the rules (`scripts/explorer`).
 //!
 //! Behind the cases it is the program itself, where it was given words: these find standard input at its end. So the stored run, with
 //! `replay`, shows that of a process too which ends with a status that is not 0.

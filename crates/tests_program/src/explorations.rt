@@ -8,22 +8,24 @@ use std::process::Abort;
 use std::sync::Wait;
 use std::thread::Threads;
 
-const MOVES_WITH_TEN_EVENTS: &str = "\
-histories 1
-events 10
+const MOVES_WITH_FIFTY_EVENTS: &str = "\
+histories 33
+events 50
 some
-facts 8
+facts 10
 1 answer 1 1 post 1:1:0 port 1.p.1 plain =a
 1 answer 1 2 depart 1.p.1 2 2.a.1
 1 answer 1 3 post 1:2:0 port 1.p.1 plain =b
 1 answer 2 1 not-here 1.p.1
 1 answer 2 2 not-here 1.p.1
+2 answer 2 2 take 1.p.1 1:1:0
 1 verdict 1:1:0 accepted
 1 verdict 1:2:0 accepted
 1 port 1.p.1 2.a.1 1:1:0 1:2:0
-outcomes 1
+2 port 1.p.1 2.a.1 1:2:0
+outcomes 2
 outcome 1
-histories 1
+histories 16
 answer 1 1 post 1:1:0 port 1.p.1 plain =a
 answer 1 2 depart 1.p.1 2 2.a.1
 answer 1 3 post 1:2:0 port 1.p.1 plain =b
@@ -32,6 +34,16 @@ answer 2 2 not-here 1.p.1
 verdict 1:1:0 accepted
 verdict 1:2:0 accepted
 port 1.p.1 2.a.1 1:1:0 1:2:0
+outcome 2
+histories 17
+answer 1 1 post 1:1:0 port 1.p.1 plain =a
+answer 1 2 depart 1.p.1 2 2.a.1
+answer 1 3 post 1:2:0 port 1.p.1 plain =b
+answer 2 1 not-here 1.p.1
+answer 2 2 take 1.p.1 1:1:0
+verdict 1:1:0 accepted
+verdict 1:2:0 accepted
+port 1.p.1 2.a.1 1:2:0
 schedule 1
 step 1
 step 1
@@ -41,8 +53,19 @@ step 2
 deliver 1 2
 deliver 1 2
 deliver 2 1
+schedule 2
+step 1
+step 1
+step 1
+step 2
+deliver 1 2
+step 2
+deliver 1 2
+deliver 2 1
 end
 ";
+
+const MOVES_WITH_TEN_EVENTS: &str = "histories 0\nevents 10\nsome\nfacts 0\noutcomes 0\nend\n";
 
 const MOVES_WITH_NONE: &str = "histories 0\nevents 0\nsome\nfacts 0\noutcomes 0\nend\n";
 
@@ -54,7 +77,11 @@ const NOTHING_MAY_COME: &str =
 #[test]
 fn a_limit_is_met_in_the_midst(rt: HostRuntime) {
     let alloc = rt.alloc();
-    for (most, written) in [("10", MOVES_WITH_TEN_EVENTS), ("0", MOVES_WITH_NONE)] {
+    for (most, written) in [
+        ("50", MOVES_WITH_FIFTY_EVENTS),
+        ("10", MOVES_WITH_TEN_EVENTS),
+        ("0", MOVES_WITH_NONE),
+    ] {
         assert_prints(&rt, alloc, &["explore", most], MOVES, written);
     }
 }
@@ -62,7 +89,7 @@ fn a_limit_is_met_in_the_midst(rt: HostRuntime) {
 #[test]
 fn a_limit_that_suffices_is_not_met(rt: HostRuntime) {
     let alloc = rt.alloc();
-    for (most, limit) in [("43", "\nall\n"), ("42", "\nsome\n")] {
+    for (most, limit) in [("54", "\nall\n"), ("53", "\nsome\n")] {
         let run = run_on(&rt, alloc, &["explore", most], MOVES);
         assert_same(&rt, run.written.as_str().contains(limit), true, most);
     }

@@ -6,8 +6,8 @@ const FULL_PORT: &str =
     "chorus 2\nsites 2\nport 1.p.1 1.a.1 1\nscript 1.a.1\nsend 1.p.1 =near\nscript 2.a.1\nsend 1.p.1 =far\nschedule\nend\n";
 
 const FULL_PORT_TOLD: &str = "\
-histories 2
-events 9
+histories 4
+events 11
 all
 facts 8
 1 answer 1 1 post 1:1:0 port 1.p.1 plain =near
@@ -20,14 +20,14 @@ facts 8
 2 port 1.p.1 1.a.1 2:1:0
 outcomes 2
 outcome 1
-histories 1
+histories 2
 answer 1 1 post 1:1:0 port 1.p.1 plain =near
 answer 2 1 post 2:1:0 port 1.p.1 plain =far
 verdict 1:1:0 accepted
 verdict 2:1:0 full 1
 port 1.p.1 1.a.1 1:1:0
 outcome 2
-histories 1
+histories 2
 answer 1 1 post 1:1:0 port 1.p.1 plain =near
 answer 2 1 post 2:1:0 port 1.p.1 plain =far
 verdict 1:1:0 full 1
@@ -50,105 +50,101 @@ const MOVE: &str =
     "chorus 2\nsites 2\nport 1.p.1 1.a.1 1\nscript 2.a.1\nsend 1.p.1 =one\nscript 1.a.1\nmove 1.p.1 2.a.1\nscript 2.a.1\ntake 1.p.1\nschedule\nend\n";
 
 const MOVE_TOLD: &str = "\
-histories 11
-events 51
+histories 40
+events 52
 all
 facts 9
 1 answer 1 1 post 1:1:0 port 1.p.1 plain =one
 1 answer 2 1 depart 1.p.1 2 2.a.1
 1 answer 3 1 not-here 1.p.1
-2 answer 3 1 empty 1.p.1
-3 answer 3 1 take 1.p.1 1:1:0
+2 answer 3 1 take 1.p.1 1:1:0
+3 answer 3 1 empty 1.p.1
 1 verdict 1:1:0 accepted
-1 stale 1:1:0
+4 stale 1:1:0
 1 port 1.p.1 2.a.1 1:1:0
-3 port 1.p.1 2.a.1
+2 port 1.p.1 2.a.1
 outcomes 6
 outcome 1
-histories 2
+histories 12
 answer 1 1 post 1:1:0 port 1.p.1 plain =one
 answer 2 1 depart 1.p.1 2 2.a.1
 answer 3 1 not-here 1.p.1
 verdict 1:1:0 accepted
-stale 1:1:0
 port 1.p.1 2.a.1 1:1:0
 outcome 2
-histories 1
+histories 3
 answer 1 1 post 1:1:0 port 1.p.1 plain =one
 answer 2 1 depart 1.p.1 2 2.a.1
-answer 3 1 empty 1.p.1
+answer 3 1 take 1.p.1 1:1:0
 verdict 1:1:0 accepted
-stale 1:1:0
-port 1.p.1 2.a.1 1:1:0
+port 1.p.1 2.a.1
 outcome 3
 histories 1
 answer 1 1 post 1:1:0 port 1.p.1 plain =one
 answer 2 1 depart 1.p.1 2 2.a.1
-answer 3 1 take 1.p.1 1:1:0
+answer 3 1 empty 1.p.1
 verdict 1:1:0 accepted
-stale 1:1:0
-port 1.p.1 2.a.1
+port 1.p.1 2.a.1 1:1:0
 outcome 4
-histories 4
+histories 14
 answer 1 1 post 1:1:0 port 1.p.1 plain =one
 answer 2 1 depart 1.p.1 2 2.a.1
 answer 3 1 not-here 1.p.1
 verdict 1:1:0 accepted
+stale 1:1:0
 port 1.p.1 2.a.1 1:1:0
 outcome 5
-histories 2
-answer 1 1 post 1:1:0 port 1.p.1 plain =one
-answer 2 1 depart 1.p.1 2 2.a.1
-answer 3 1 take 1.p.1 1:1:0
-verdict 1:1:0 accepted
-port 1.p.1 2.a.1
-outcome 6
-histories 1
+histories 6
 answer 1 1 post 1:1:0 port 1.p.1 plain =one
 answer 2 1 depart 1.p.1 2 2.a.1
 answer 3 1 empty 1.p.1
 verdict 1:1:0 accepted
+stale 1:1:0
 port 1.p.1 2.a.1 1:1:0
+outcome 6
+histories 4
+answer 1 1 post 1:1:0 port 1.p.1 plain =one
+answer 2 1 depart 1.p.1 2 2.a.1
+answer 3 1 take 1.p.1 1:1:0
+verdict 1:1:0 accepted
+stale 1:1:0
+port 1.p.1 2.a.1
 schedule 1
-step 1
 step 2
 step 3
 deliver 1 2
-deliver 2 1
-deliver 1 2
+step 1
 schedule 2
-step 1
 step 2
 deliver 1 2
+step 1
 step 3
-deliver 2 1
-deliver 1 2
 schedule 3
-step 1
 step 2
 deliver 1 2
-deliver 2 1
-deliver 1 2
 step 3
+step 1
 schedule 4
 step 1
-step 3
-deliver 2 1
 step 2
+step 3
 deliver 1 2
+deliver 2 1
 deliver 1 2
 schedule 5
 step 1
+step 2
+deliver 1 2
+step 3
 deliver 2 1
-step 2
 deliver 1 2
-deliver 1 2
-step 3
 schedule 6
+step 1
 step 2
 deliver 1 2
+deliver 2 1
+deliver 1 2
 step 3
-step 1
 end
 ";
 
@@ -156,8 +152,8 @@ pub(crate) const MOVES: &str =
     "chorus 1\nsites 2\nport 1.p.1 1.a.1 2\nscript 1.a.1\nsend 1.p.1 =a\nmove 1.p.1 2.a.1\nsend 1.p.1 =b\nscript 2.a.1\ntake 1.p.1\ntake 1.p.1\nschedule\nend\n";
 
 const MOVES_TOLD: &str = "\
-histories 6
-events 43
+histories 56
+events 54
 all
 facts 14
 1 answer 1 1 post 1:1:0 port 1.p.1 plain =a
@@ -176,7 +172,7 @@ facts 14
 4 port 1.p.1 2.a.1
 outcomes 4
 outcome 1
-histories 1
+histories 16
 answer 1 1 post 1:1:0 port 1.p.1 plain =a
 answer 1 2 depart 1.p.1 2 2.a.1
 answer 1 3 post 1:2:0 port 1.p.1 plain =b
@@ -186,7 +182,7 @@ verdict 1:1:0 accepted
 verdict 1:2:0 accepted
 port 1.p.1 2.a.1 1:1:0 1:2:0
 outcome 2
-histories 2
+histories 24
 answer 1 1 post 1:1:0 port 1.p.1 plain =a
 answer 1 2 depart 1.p.1 2 2.a.1
 answer 1 3 post 1:2:0 port 1.p.1 plain =b
@@ -196,7 +192,7 @@ verdict 1:1:0 accepted
 verdict 1:2:0 accepted
 port 1.p.1 2.a.1 1:2:0
 outcome 3
-histories 1
+histories 4
 answer 1 1 post 1:1:0 port 1.p.1 plain =a
 answer 1 2 depart 1.p.1 2 2.a.1
 answer 1 3 post 1:2:0 port 1.p.1 plain =b
@@ -206,7 +202,7 @@ verdict 1:1:0 accepted
 verdict 1:2:0 accepted
 port 1.p.1 2.a.1 1:2:0
 outcome 4
-histories 2
+histories 12
 answer 1 1 post 1:1:0 port 1.p.1 plain =a
 answer 1 2 depart 1.p.1 2 2.a.1
 answer 1 3 post 1:2:0 port 1.p.1 plain =b
