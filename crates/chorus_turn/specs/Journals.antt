@@ -41,3 +41,17 @@ module _ {S R : Type 0} (entries : S → List Entry) (fits : S → List (Remarke
   GoesOn notes old new =
       (log : List (Remarked R)) → IsJournal old log → (news : List (Remarked R)) × IsJournal new (log ++ news) ×
       notes news
+
+  -- what a job is to be given: it accepts the state, which has a journal
+  pub record MayRun (accepted : Type 0) (state : S) : Type 0 where
+    pub accepts : accepted
+    pub log : List (Remarked R)
+    pub kept : IsJournal state log
+
+  -- what a job that ran leaves, as `Job::run` says it
+  pub record HasRun {M : Type 0} (mark : S → M) (seat : ℕ) (done : Type 0) (notes : List (Remarked R) → Type 0)
+      (old new : S) : Type 0 where
+    pub ran : done
+    pub marked : mark new ≡ mark old
+    pub grows : GrowsBy seat (entries old) (entries new)
+    pub goes_on : GoesOn notes old new

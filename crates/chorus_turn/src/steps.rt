@@ -1,17 +1,31 @@
-//! Each kind of step on the places, once: one atomic step on a word, or the plain exchange of a slot.
+//! Each kind of step on the places, once: one atomic step on a word, or a job on the state in a slot.
 //!
 //! The word of a place is 0 where it is free, and else the number of the pass that holds it and 1. Word 0 counts the
 //! numbers drawn. The slot of place p is p - 1.
 ghost use Rattle.std.specs.Prelude.{◌≡◌, ◌≢◌, ◌+◌, ◌-◌, ◌<◌, ◌≤◌, true, [], ◌∷◌, length, Some, None};
 ghost use Rattle.chorus_turn.specs.Lists.{StartsWithBoth};
-ghost use Rattle.chorus_turn.specs.Journals.{IsJournal};
+ghost use Rattle.chorus_turn.specs.Journals.{IsJournal, MayRun, HasRun};
 ghost use Rattle.chorus_turn.specs.Knowing.{limit};
 ghost use Rattle.chorus_turn.specs.Rule.{IsAtRest, TakesOver, Misses, HasToGive, GivesBack, drawn_view, left_view, admitted_view, joined_view, settled_view, closing_view};
 
-use crate::job::Kept;
+use crate::job::{Job, Kept};
 use crate::rule::{Admit, Count, Draw, Give, Leave, Noting, Origin, Retire, Take};
 use crate::turns::{Held, Turns};
 use std::snapshot::Snapshot;
+
+// Runs the job on the state that stands there.
+fn run_in<S: Kept, J: Job<S>>(slot: &mut Option<S>, number: u32, job: &mut J) -> J::Out
+    requires { (x : S) × (slot.old ≡ Some x)
+        × MayRun S.entries S.fits (J.accepts job.old (S.mark x) number) x }
+    ensures { (x : S) → slot.old ≡ Some x → (y : S) × (slot.new ≡ Some y)
+        × HasRun S.entries S.fits S.mark number (J.ran job.old x number job.new y result)
+        (J.notes job.old job.new) x y }
+{
+    match slot {
+        Some(state) => job.run(state, number),
+        None => unreachable!(),
+    }
+}
 
 impl<S: Kept> Turns<S> {
     ghost use Rattle.chorus_turn.specs.Passes.{handed, table_of, IsPlaceOf};
@@ -40,31 +54,25 @@ impl<S: Kept> Turns<S> {
             .compare_exchange::<Take<X>>(seat, place, 0, own)
     }
 
-    // The state, out of the slot of a place that the pass holds.
-    pub(crate) fn lift(&self, seat: &mut Held<S, S::Remark>, slot: usize) -> S
+    // Runs the job, as the pass with this number, on the state in the slot of a place that the pass holds. The state stays where
+    // it is.
+    pub(crate) fn run<J: Job<S>>(
+        &self,
+        seat: &mut Held<S, S::Remark>,
+        slot: usize,
+        number: u32,
+        job: &mut J,
+    ) -> J::Out
         requires table { seat.old.table_id ≡ table_of self.now }
-        requires full { (x : S) × (seat.old.me.1 ≡ (slot, Some x) ∷ []) }
+        requires full { (x : S) × (seat.old.me.1 ≡ (slot, Some x) ∷ [])
+            × MayRun S.entries S.fits (J.accepts job.old (S.mark x) number) x }
         ensures table { seat.new.table_id ≡ seat.old.table_id }
-        ensures lifted { (seat.old.me.1 ≡ (slot, Some result) ∷ [])
-            × (seat.new.me ≡ (seat.old.me.0, (slot, None) ∷ [])) }
+        ensures ran { (x : S) → seat.old.me.1 ≡ (slot, Some x) ∷ [] → (y : S)
+            × (seat.new.me ≡ (seat.old.me.0, (slot, Some y) ∷ []))
+            × HasRun S.entries S.fits S.mark number (J.ran job.old x number job.new y result)
+            (J.notes job.old job.new) x y }
     {
-        match self.table.shared.exchange(seat, slot, None) {
-            Some(state) => state,
-            None => unreachable!(),
-        }
-    }
-
-    /// Puts the state back into the slot from which this pass lifted it, and which is therefore empty.
-    pub(crate) fn lower(&self, seat: &mut Held<S, S::Remark>, slot: usize, state: S)
-        requires table { seat.old.table_id ≡ table_of self.now }
-        requires empty { seat.old.me.1 ≡ (slot, None) ∷ [] }
-        ensures table { seat.new.table_id ≡ seat.old.table_id }
-        ensures lowered { seat.new.me ≡ (seat.old.me.0, (slot, Some state) ∷ []) }
-    {
-        match self.table.shared.exchange(seat, slot, Some(state)) {
-            None => {}
-            Some(_) => unreachable!(),
-        }
+        run_in(seat.slot_mut(&self.table.shared, slot), number, job)
     }
 
     // The place is free again, and its state has the journal that was found and then entries of this pass. The job, and

@@ -73,10 +73,8 @@ impl<S: Kept> Turns<S> {
                 by: (found - 1) as u32,
             });
         }
-        let mut state = self.lift(seat, place - 1);
         let before = Snapshot::of(job);
-        let out = job.run(&mut state, number);
-        self.lower(seat, place - 1, state);
+        let out = self.run(seat, place - 1, number, job);
         self.give::<Brand, J>(seat, place, &before, job);
         Ok(out)
     }
