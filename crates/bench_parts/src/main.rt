@@ -51,7 +51,7 @@ fn print_figures<R: Threads + Sync + Wait + Clock + Print>(
         "place" => work::print_times(rt, alloc),
         "scene" => scenarios::print_rates(rt, alloc),
         "audit" => audits::print_rates(rt, alloc),
-        "nucleus" => nucleus::print_calls(rt, alloc),
+        "nucleus" => nucleus::print_call_times(rt, alloc),
         "choose" => nucleus::print_looks(rt, alloc),
         "crew" => nucleus::print_crews(rt, alloc),
         "peers" => peers::print_rates(rt, alloc),

@@ -61,7 +61,7 @@ fn mean<R: Threads + Sync + Wait + Clock>(
 }
 
 /// Prints nanoseconds of a send and a take, of the same at sites and on four threads, and of an idle pump.
-pub(crate) fn print_calls<R: Threads + Sync + Wait + Clock + Print>(
+pub(crate) fn print_call_times<R: Threads + Sync + Wait + Clock + Print>(
     rt: &R,
     alloc: Global,
 ) -> io::Result<()> {

@@ -24,7 +24,7 @@ fn act(sites: &mut Sites, command: Command) -> Option<()>
 }
 
 /// Makes the first port of the site, with room for 64 messages.
-fn make(sites: &mut Sites, site: u16) -> Option<()> {
+fn make_port(sites: &mut Sites, site: u16) -> Option<()> {
     let actor = actor_of(site)?;
     let capacity = 64;
     act(sites, Command::Make { actor, capacity })
@@ -34,7 +34,7 @@ fn make(sites: &mut Sites, site: u16) -> Option<()> {
 pub(crate) fn start(alloc: Global, count: u16) -> Option<Sites> {
     let mut sites = Sites::start(alloc, Layout::new(count, 1)?).ok()?;
     for site in 1..=count {
-        make(&mut sites, site)?;
+        make_port(&mut sites, site)?;
     }
     Some(sites)
 }

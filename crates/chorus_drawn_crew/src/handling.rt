@@ -1,6 +1,6 @@
 //! The crew handles what waits.
-ghost use Rattle.std.specs.Prelude.{◌≡◌, ◌≤◌, ◌+◌, ℕ, true, None, Some, length, IfOk, IsErrOf};
-ghost use Rattle.chorus_nucleus.specs.Passes.{known, layout_of, worn_by, IsPassOf};
+ghost use Rattle.std.specs.Prelude.{◌≡◌, ◌≤◌, ◌+◌, ℕ, None, Some, IfOk, IsErrOf};
+ghost use Rattle.chorus_nucleus.specs.Passes.{layout_of, worn_by, IsPassOf};
 ghost use Rattle.chorus_perform.specs.Scripts.{IsKeeper, IsOpening};
 ghost use Rattle.chorus_crew.specs.Crews.{HasHandled};
 ghost use Rattle.chorus_crew.specs.Retiring.{IsRetired};

@@ -72,7 +72,8 @@ impl Search {
     /// Begins: nothing was found, and the empty history is come to.
     fn begin(alloc: Global, scenario: &Scenario) -> Result<Search, PlaceFault>
         ensures ready { IfOk result (λ search. IsReady scenario.now search) }
-        ensures begun { IfOk result (λ search. (most : ℕ) → IsWithin scenario.now most 0 [] search) }
+        ensures begun { IfOk result (λ search.
+            (most : ℕ) → IsWithin scenario.now most 0 [] search) }
         ensures worn { (clock : ℕ) → IsErrOf result (PlaceFault.Worn clock) →
             MayWear scenario.now clock }
     {
@@ -104,7 +105,8 @@ impl Search {
         requires ready { IsReady scenario.now self.old }
         requires most { most < 2 ^ 32 }
         ensures ready { OnOk result (IsReady scenario.now self.new) }
-        ensures go_on { (n : ℕ) (ms : List Merged) → StandFor (race_of scenario.now) n level.now ms →
+        ensures go_on { (n : ℕ) (ms : List Merged) →
+            StandFor (race_of scenario.now) n level.now ms →
             GoOn scenario.now most (suc n) (next_members (race_of scenario.now) ms)
             result self.old self.new }
         ensures worn { (clock : ℕ) → IsErrOf result (PlaceFault.Worn clock) →

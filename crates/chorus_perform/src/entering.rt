@@ -2,8 +2,7 @@
 
 ghost use Rattle.std.specs.Prelude.{◌≡◌, ◌≤◌, [], length, OnOk};
 ghost use Rattle.std.specs.Vec.{vec_len, vec_capacity};
-ghost use Rattle.chorus_scene.specs.Limits.{Keeps};
-ghost use Rattle.chorus_nucleus.specs.Passes.{caller_of, layout_of, known, IsPassOf};
+ghost use Rattle.chorus_nucleus.specs.Passes.{caller_of, known, IsPassOf};
 ghost use Rattle.chorus_nucleus.specs.Coming.{Retires};
 ghost use Rattle.chorus_perform.specs.Scripts.{IsKeeper, IsScenarioOf};
 ghost use Rattle.chorus_perform.specs.Runners.{AreEnding, AreEntered, HasEntered, HasRetired};

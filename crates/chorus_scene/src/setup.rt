@@ -54,7 +54,7 @@ fn stride(layout: Layout, kind: Kind) -> u64
     }
 }
 
-/// Where the count stands of the place that gives this number.
+/// Where in the table of counts that of the place stands which gives this number.
 fn count_at(layout: Layout, kind: Kind, site: u16, number: u64) -> usize
     requires site { (1 ≤ site) × (site ≤ SITES_LIMIT) }
     requires number { 1 ≤ number }

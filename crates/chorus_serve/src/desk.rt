@@ -4,8 +4,8 @@ ghost use Rattle.std.specs.Prelude.{◌≡◌, ℕ, ◌<◌, ◌≤◌, ◌↔�
 ghost use Rattle.chorus_ui.specs.declared.limits.TheConstants.{CLOCK_LIMIT};
 ghost use Rattle.chorus_ui.specs.Layout.{has_place, places};
 ghost use Rattle.chorus_entry.specs.Command.{is_post};
-ghost use Rattle.place_outbox.specs.Waiting.{nothing_to, count};
-ghost use Rattle.law_machine.specs.PlaceState.{started, greatest_clock};
+ghost use Rattle.place_outbox.specs.Waiting.{count};
+ghost use Rattle.law_machine.specs.PlaceState.{greatest_clock};
 ghost use Rattle.law_machine.specs.PlaceMachine.{begun};
 ghost use Rattle.law_bounds.specs.Bounds.{AreWaitingWithin};
 ghost use Rattle.chorus_place.specs.Calls.{state, is_call, IsWornAt, MayCall, Stays, TakesNone};
@@ -106,7 +106,8 @@ fn came_from<P>(hand: &Option<Held<P>>) -> Option<u16>
 }
 
 impl<E: Ends> Desk<E> {
-    /// The place of this number, one of the layout, on which nothing happened yet, at these ends, which reach each other place.
+    /// The desk of the place of this number, one of the layout, on which nothing happened yet, at these ends, which reach each other
+    /// place.
     /// The first packet is asked for from place 1 on. The only error is want of memory.
     pub fn start(alloc: Global, layout: Layout, number: u16, ends: E) -> Result<Desk<E>, AllocError>
         requires place { has_place layout number ≡ true }

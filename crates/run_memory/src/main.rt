@@ -100,7 +100,7 @@ fn call_of<R: Threads + Wait + Sync>(rt: &R, alloc: Global, case: &[u8]) -> Opti
     })
 }
 
-/// How the call of these words ends.
+/// Does the words of a case between the source and the sink, and gives the status with which that ended.
 fn call<R: Threads + Wait + Sync, S: Source, K: Sink>(
     rt: &R,
     alloc: Global,

@@ -29,7 +29,7 @@ pub(super) fn entry_in<R: Abort>(rt: &R, alloc: Global, line: &str) -> Entry {
     }
 }
 
-/// The post that the next words say.
+/// The act of a post, of which the next words tell the message and where it goes.
 fn post_in<R: Abort>(alloc: Global, words: &mut Words<'_, R>) -> Act {
     let id = words.read();
     let dest = dest_in(words);
