@@ -3,22 +3,14 @@
 use Rattle.std.proofs.Common.{ℕ, zero, suc, ◌≡◌, ◌+◌, ◌-◌, ◌^◌, ◌≤◌, ◌==◌, nat_le, nat_lt, Bool, true, false, ◌&&◌, ◌||◌, not, cond, List, [], ◌∷◌, ◌++◌, length, map, reverse, Option, Some, None, is_some, slice_get, slice_set, option_to_list, refl, sym, ◌∙◌, ap, subst, arith, append_assoc}
 use Rattle.std.specs.List.{All, list_all}
 use Rattle.std.specs.Option.{option_map}
-use Rattle.std.proofs.lemmas.Bool.{and_parts, and_from, ne_eqb, eqb-true, eq-eqb, false≢true, le-leb, leb-true, lt-ltb}
+use Rattle.std.proofs.lemmas.Bool.{and_parts, and_from, ne_eqb, eqb-true, eq-eqb, false≢true, lt-ltb}
 use Rattle.std.proofs.lemmas.List.{length-append, reverse-append}
 use Rattle.std.proofs.lemmas.List.Elements.{All-nil, All-cons, All-head, All-tail, All-append}
 use Rattle.std.proofs.lemmas.Option.{slice_get-map}
 use Rattle.chorus_ui.specs.declared.layout.Layout.{Layout}
-use Rattle.chorus_ui.specs.declared.limits.TheConstants.{BODY_LIMIT}
-use Rattle.chorus_ui.specs.declared.ui.Ui.{Ui}
 use Rattle.chorus_ui.specs.Layout.{IsLayout, has_place}
-use Rattle.chorus_entry.specs.declared.act.Act as acts
 use Rattle.chorus_entry.specs.declared.command.Command.{Command}
-use Rattle.chorus_entry.specs.declared.entry.Entry.{Entry}
-use Rattle.chorus_entry.specs.Act.{is_command_entry}
 use Rattle.chorus_entry.specs.Command.{has_body_in_limit, is_post, meets_conditions}
-use Rattle.chorus_world.specs.Commands.{performs, answers, is_own_of}
-use Rattle.chorus_world.specs.Seats.{posts, posts_after}
-use Rattle.chorus_world.specs.Views.{by}
 use Rattle.chorus_calls.specs.Callers.{Seated}
 use Rattle.law_network.specs.Network.{NetState, Event, Act, Deliver, after, happened, schedule}
 use Rattle.law_network.specs.History.{history}
@@ -36,10 +28,10 @@ use Rattle.law_replay.specs.Shown.{race_of}
 use Rattle.chorus_scene.specs.Grammar.{most_bytes}
 use Rattle.chorus_scene.specs.Limits.{Keeps, bytes_sent, command_is_of, command_keeps, is_actor_of, is_of_version, script_keeps}
 use Rattle.chorus_scene.specs.Scene.{Scene, Script}
-use Rattle.chorus_scene.specs.declared.limits.TheConstants.{COMMANDS_LIMIT, VERSION_ONE_BODY}
+use Rattle.chorus_scene.specs.declared.limits.TheConstants.{COMMANDS_LIMIT}
 use Rattle.chorus_replay.specs.Order.{entering, in_schedule, in_setup, left_from, order, tasks}
-use Rattle.chorus_replay.proofs.May.{all-get, tasks-may}
-use Rattle.chorus_replay.proofs.Needs.{carried-may}
+use Rattle.chorus_replay.proofs.May.{all-get, command-fits, tasks-may}
+use Rattle.chorus_replay.proofs.Needs.{carried-may, posts-few}
 use Rattle.chorus_report.specs.Setup.{setup_commands}
 use Rattle.chorus_explore.specs.Stages.{position}
 use Rattle.chorus_explore.proofs.Keeping.{script-keeps}
@@ -212,71 +204,7 @@ left-none c i (Go j ∷ ms) h none =
     ap (λ (p : Position). slice_get p.left i) (comes c (Go j) ms h.0).after
     ∙ set-none (position c ms).left i j (behind_next (slice_get (position c ms).left j)) (left-none c i ms h.1 none)
 
--- A caller has posted at most as many messages as it gave commands.
-
-module _ (s : ℕ) (e : Entry) (past : List Entry) where
-  abbrev here : Bool → ℕ
-  here b = posts (cond b (e ∷ by s past) (by s past))
-
-  most : (b : Bool) → here b ≤ posts (by s past) + 1
-  most false = omega arith
-  most true = grows e.act (posts (by s past))
-    where
-      grows : (a : acts.Act) (n : ℕ) → posts_after a n ≤ n + 1
-      grows (acts.Act.Post m d) n = omega arith
-      grows a n = omega arith
-
-  none : (b : Bool) → b && is_command_entry e.act ≡ false → here b ≡ posts (by s past)
-  none false h = refl
-  none true h = stays e.act (posts (by s past)) h
-    where
-      stays : (a : acts.Act) (n : ℕ) → is_command_entry a ≡ false → posts_after a n ≡ n
-      stays (acts.Act.Post m d) n h = absurd (false≢true (sym h))
-      stays a n h = refl
-
-posts-few : (l : Layout) (s : ℕ) (a : Ui) (past : List Entry) (cs : List Command) → performs l s a past cs ≡ true → posts (by s past) ≤ length cs
-posts-few l s a [] cs h = omega arith
-posts-few l s a (e ∷ past) [] h =
-    let two = and_parts (not (is_own_of s e)) (performs l s a past []) h in
-    let rest = posts-few l s a past [] two.1 in
-    let same = none s e past (e.seat == s) (not-true (is_own_of s e) two.0) in
-    omega (arith, rest, same)
-  where
-    not-true : (b : Bool) → not b ≡ true → b ≡ false
-    not-true true h = absurd (false≢true h)
-    not-true false h = refl
-posts-few l s a (e ∷ past) (c ∷ cs) h = go (posts-few l s a past cs) (posts-few l s a past (c ∷ cs)) (is_own_of s e) refl h
-  where
-    go : (performs l s a past cs ≡ true → posts (by s past) ≤ length cs) → (performs l s a past (c ∷ cs) ≡ true → posts (by s past) ≤ length (c ∷ cs)) → (b : Bool) → is_own_of s e ≡ b → cond b (answers l past a c e && performs l s a past cs) (performs l s a past (c ∷ cs)) ≡ true → here s e past (e.seat == s) ≤ length (c ∷ cs)
-    go less all true f k =
-        let rest = less (and_parts (answers l past a c e) (performs l s a past cs) k).1 in
-        let one = most s e past (e.seat == s) in
-        by-one (here s e past (e.seat == s)) (posts (by s past)) (length cs) one rest
-      where
-        by-one : (x y z : ℕ) → x ≤ y + 1 → y ≤ z → x ≤ suc z
-        by-one x y z h k = omega arith
-    go less all false f k =
-        let rest = all k in
-        let same = none s e past (e.seat == s) f in
-        omega (arith, rest, same)
-
--- A command of a script has a body within the limit.
-
-body-fits : (version m : ℕ) → nat_le m (most_bytes version) ≡ true → nat_le m BODY_LIMIT ≡ true
-body-fits version m h = go (version == 1) h
-  where
-    shorter : (m : ℕ) → m ≤ VERSION_ONE_BODY → m ≤ BODY_LIMIT
-    shorter m h = omega arith
-
-    go : (b : Bool) → nat_le m (cond b VERSION_ONE_BODY BODY_LIMIT) ≡ true → nat_le m BODY_LIMIT ≡ true
-    go true h = le-leb m BODY_LIMIT (shorter m (leb-true m VERSION_ONE_BODY h))
-    go false h = h
-
-command-fits : (version : ℕ) (c : Command) → nat_le (length (bytes_sent c)) (most_bytes version) ≡ true → has_body_in_limit c ≡ true
-command-fits version (Command.Send dest body) h = body-fits version (length body) h
-command-fits version (Command.Call port back body) h = body-fits version (length body) h
-command-fits version (Command.Reply body) h = body-fits version (length body) h
-command-fits version c h = refl
+-- The next command of a script may be given: its body is within the limit, and its caller gave few before it.
 
 module _ (c : Scene) (shape : IsLayout c.layout) (keeps : Keeps c) where
   fits : (i n : ℕ) (script : Script) (d : Command) → slice_get c.scripts i ≡ Some script → slice_get script.commands n ≡ Some d → has_body_in_limit d ≡ true

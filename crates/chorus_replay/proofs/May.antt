@@ -56,7 +56,7 @@ body-fits version m h = go (version == 1) h
     go true h = le-leb m BODY_LIMIT (shorter m (leb-true m VERSION_ONE_BODY h))
     go false h = h
 
-command-fits : (version : ℕ) (c : Command) → nat_le (length (bytes_sent c)) (most_bytes version) ≡ true → has_body_in_limit c ≡ true
+pub command-fits : (version : ℕ) (c : Command) → nat_le (length (bytes_sent c)) (most_bytes version) ≡ true → has_body_in_limit c ≡ true
 command-fits version (Command.Send dest body) h = body-fits version (length body) h
 command-fits version (Command.Call port back body) h = body-fits version (length body) h
 command-fits version (Command.Reply body) h = body-fits version (length body) h

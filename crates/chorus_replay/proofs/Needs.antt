@@ -80,7 +80,7 @@ pub not-false : (b : Bool) → not b ≡ true → b ≡ false
 not-false true h = absurd (false≢true h)
 not-false false h = refl
 
-posts-few : (l : Layout) (s : ℕ) (a : Ui) (past : List Entry) (cs : List Command) → performs l s a past cs ≡ true → posts (by s past) ≤ length cs
+pub posts-few : (l : Layout) (s : ℕ) (a : Ui) (past : List Entry) (cs : List Command) → performs l s a past cs ≡ true → posts (by s past) ≤ length cs
 posts-few l s a [] cs h = omega arith
 posts-few l s a (e ∷ past) [] h =
     let two = and_parts (not (is_own_of s e)) (performs l s a past []) h in
