@@ -8,7 +8,7 @@ ghost use Rattle.chorus_entry.specs.Same.{is_number};
 ghost use Rattle.chorus_ports.specs.Table.{find};
 ghost use Rattle.place_unsettled.specs.Queues.{queue};
 ghost use Rattle.chorus_world.specs.Places.{is_made_here};
-ghost use Rattle.law_machine.specs.Lawful.{is_first_of, is_under_way, is_known_answer, may_teach, may_receive, is_asked_here, is_lawful_cargo, is_lawful};
+ghost use Rattle.law_machine.specs.Lawful.{is_under_way, is_known_answer, may_teach, may_receive, is_asked_here, is_lawful_cargo, is_lawful};
 ghost use Rattle.place_state.specs.Tables.{state, end_of};
 
 use chorus_entry::{Answer, Cargo, MsgId, Packet, PortRecord};
@@ -88,31 +88,14 @@ fn is_lawful_cargo(tables: &Tables, clock: u64, from: u16, cargo: &Cargo) -> boo
     }
 }
 
-/// Whether the first message of a port and route has this id.
-fn is_first(tables: &Tables, id: MsgId, key: &Key) -> bool
-    ensures { result ≡ is_first_of id (queue tables.now.waits key.now).waits }
-{
-    match tables.waits().first(key) {
-        Some(wait) => wait.message.id == id,
-        None => false,
-    }
-}
-
-/// Whether the first message of a port and route is under way to the place.
-fn is_tried_at(tables: &Tables, place: u16, key: &Key) -> bool
-    ensures { result ≡ is_number place (queue tables.now.waits key.now).tried }
-{
-    match tables.waits().tried(key) {
-        Some(to) => to == place,
-        None => false,
-    }
-}
-
 /// Whether the first message of a port and route has this id and is under way to the place.
 fn is_under_way(tables: &Tables, id: MsgId, place: u16, key: &Key) -> bool
     ensures { result ≡ is_under_way id place (queue tables.now.waits key.now) }
 {
-    is_first(tables, id, key) && is_tried_at(tables, place, key)
+    match tables.waits().under_way(key, place) {
+        Some(wait) => wait.message.id == id,
+        None => false,
+    }
 }
 
 /// Whether the port may be held here: this is its place on this site, it is not held here, and it was made here if

@@ -139,10 +139,7 @@ impl Tables {
         ensures { IfSome result (λ hop. IsFree port hop (state self.now)) }
     {
         let key = Key { port, route: None };
-        if self.waits.len(&key) > 0 {
-            return None;
-        }
-        if self.waits.tried(&key).is_some() {
+        if !self.waits.is_free(&key) {
             return None;
         }
         if !self.layout.has_site(port.site()) {

@@ -1,10 +1,11 @@
 -- The messages that wait, by port and route.
-use Rattle.std.specs.Prelude.{ℕ, ◌-◌, Bool, cond, List, [], ◌∷◌, ◌++◌, drop, Option, None, unwrap_or, slice_get}
+use Rattle.std.specs.Prelude.{ℕ, ◌-◌, ◌==◌, ◌&&◌, Bool, cond, List, [], ◌∷◌, ◌++◌, drop, length, Option, None, is_none, unwrap_or, slice_get}
 use Rattle.std.specs.declared.cmp.Ordering.{Ordering}
 use Rattle.std.specs.Ordering.{eq_by_cmp, then_cmp, on}
 use Rattle.std.specs.Option.{option_cmp, option_map}
 use Rattle.std.specs.Map.{lookup}
 use Rattle.chorus_ui.specs.Name.{name_cmp}
+use Rattle.chorus_entry.specs.Same.{is_number}
 use Rattle.place_unsettled.specs.declared.wait.Key.{Key}
 use Rattle.place_unsettled.specs.declared.wait.Wait.{Wait}
 
@@ -23,6 +24,14 @@ empty_queue = record { tried = None; waits = [] }
 
 abbrev pub empty_row : Row
 empty_row = record { queue = empty_queue; room = 0 }
+
+-- nothing waits, and nothing is under way
+abbrev pub is_free : Queue → Bool
+is_free q = is_none q.tried && (length q.waits == 0)
+
+-- the first message, where it is under way to the place
+abbrev pub under_way : ℕ → Queue → Option Wait
+under_way to q = cond (is_number to q.tried) (slice_get q.waits 0) None
 
 -- by port and then by route
 abbrev pub key_cmp : Key → Key → Ordering

@@ -2,7 +2,7 @@
 
 ghost use Rattle.std.specs.Prelude.{◌≡◌, ◌-◌, ◌^◌, ◌<◌, ◌≤◌, length, slice_get, IfOk, OnOk};
 ghost use Rattle.std.specs.Option.{option_copied};
-ghost use Rattle.place_unsettled.specs.Queues.{empty_queue, with_last, passed, at};
+ghost use Rattle.place_unsettled.specs.Queues.{empty_queue, is_free, under_way, with_last, passed, at};
 
 use crate::wait::Wait;
 use std::alloc::{AllocError, Global};
@@ -68,6 +68,23 @@ impl Line {
         ensures { result ≡ self.now.queue.tried }
     {
         self.tried
+    }
+
+    /// Whether no message waits, and none is under way.
+    pub(crate) fn is_free(&self) -> bool
+        ensures { result ≡ is_free self.now.queue }
+    {
+        self.tried.is_none() && self.waits.is_empty()
+    }
+
+    /// The first of the waiting messages, where it is under way to this place.
+    pub(crate) fn under_way(&self, to: u16) -> Option<&Wait>
+        ensures { option_copied result ≡ under_way to self.now.queue }
+    {
+        match self.tried {
+            Some(place) if place == to => self.waits.get(0),
+            _ => None,
+        }
     }
 
     /// The one at this position, from 0.

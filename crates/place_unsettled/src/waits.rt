@@ -3,7 +3,7 @@
 ghost use Rattle.std.specs.Prelude.{◌≡◌, ◌^◌, ◌<◌, ◌≤◌, false, length, slice_get, OnOk};
 ghost use Rattle.std.specs.Option.{option_copied};
 ghost use Rattle.place_unsettled.specs.declared.wait.Key.{Key};
-ghost use Rattle.place_unsettled.specs.Queues.{queue, room, empty_queue, same_key, key_at, changed, with_last, passed, at, less_one};
+ghost use Rattle.place_unsettled.specs.Queues.{queue, room, empty_queue, is_free, under_way, same_key, key_at, changed, with_last, passed, at, less_one};
 
 use crate::line::Line;
 use crate::wait::{Key, Wait};
@@ -57,6 +57,26 @@ impl Waits {
     {
         match self.lines.get(key) {
             Some(line) => line.tried(),
+            None => None,
+        }
+    }
+
+    /// Whether nothing waits for this port and route, and nothing is under way there.
+    pub fn is_free(&self, key: &Key) -> bool
+        ensures { result ≡ is_free (queue self.now key.now) }
+    {
+        match self.lines.get(key) {
+            Some(line) => line.is_free(),
+            None => true,
+        }
+    }
+
+    /// The first of them, where it is under way to this place; else None.
+    pub fn under_way(&self, key: &Key, to: u16) -> Option<&Wait>
+        ensures { option_copied result ≡ under_way to (queue self.now key.now) }
+    {
+        match self.lines.get(key) {
+            Some(line) => line.under_way(to),
             None => None,
         }
     }
