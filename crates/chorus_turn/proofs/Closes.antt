@@ -13,7 +13,7 @@ use Rattle.chorus_turn.specs.declared.view.View.{View}
 use Rattle.chorus_turn.specs.Lists.{times}
 use Rattle.chorus_turn.specs.Journals.{IsJournal, at_place}
 use Rattle.chorus_turn.specs.Knowing.{seats_of}
-use Rattle.chorus_turn.specs.Rule.{claims, Turned, IsAtRest}
+use Rattle.chorus_turn.specs.Rule.{word_of, claims, Turned, IsAtRest}
 use Rattle.chorus_turn.specs.Calls.{IsMarkAt, Finished}
 use Rattle.chorus_turn.proofs.Counts.{total-alone, times-none}
 use Rattle.chorus_turn.proofs.Parts.{seats_below, times_contains}
@@ -34,8 +34,8 @@ module _ {S M R : Type 0} (entries : S → List Entry) (fits : S → List (Remar
     count = (r.each id v at rest.0).counts keeper
 
     -- a holder would be one more live view
-    all_free : (k : ℕ) → k < length s.homes → get_or s.words (k + 1) 0 ≡ 0
-    all_free k inside = dite (ℕ_discrete (get_or s.words (k + 1) 0) 0) (λ z. z)
+    all_free : (k : ℕ) → k < length s.homes → get_or s.words (word_of (k + 1)) 0 ≡ 0
+    all_free k inside = dite (ℕ_discrete (get_or s.words (word_of (k + 1)) 0) 0) (λ z. z)
         (λ taken. let held = r.out k inside taken in let c = count in absurd (alone (get_or s.words 0 0) s.views r.numbered id held.0 v held.1 at rest.0 held.2 held.3 (holder_apart s.views id (k + 1) v at (λ e. let z = rest.1 in omega arith) held) (omega arith)))
 
     home : (k : ℕ) → k < length s.homes → (x : S) × (get_elem? s.homes k ≡ some (some (Some x))) × journal x (r.log (k + 1)) × marked (k + 1) x

@@ -11,7 +11,7 @@ use Rattle.chorus_turn.specs.declared.knowledge.Remarked.{Remarked}
 use Rattle.chorus_turn.specs.declared.view.View.{View}
 use Rattle.chorus_turn.specs.Lists.{list_at, longer, one}
 use Rattle.chorus_turn.specs.Knowing.{limit}
-use Rattle.chorus_turn.specs.Rule.{claims, keepers, Grasp, IsNumbered, Turned, IsAtRest, drawn_view, settled_view, draw_then, count_then}
+use Rattle.chorus_turn.specs.Rule.{word_of, claims, keepers, Grasp, IsNumbered, Turned, IsAtRest, drawn_view, settled_view, draw_then, count_then}
 use Rattle.chorus_turn.proofs.Counts.{one_within, two_within, one-other, nothing_in}
 use Rattle.chorus_turn.proofs.Fronts.{list_at-longer, longer_of_fronts, starts_empty}
 use Rattle.chorus_turn.proofs.Views.{length-claims, keepers_live, each_set, still_held}
@@ -27,7 +27,7 @@ module _ {S R : Type 0} (journal : S → List (Remarked R) → Type 0) (marked :
       let ws : List ℕ = set s.words 0 n in
       let first : get_or ws 0 0 ≡ n = get_or-set_same s.words 0 n 0 (omega arith) in
       let more : n ≡ get_or s.words 0 0 + 1 = omega arith in
-      let other : (k : ℕ) → get_or ws (k + 1) 0 ≡ get_or s.words (k + 1) 0 = λ k. get_or-set_other s.words 0 (k + 1) n 0 (λ e. omega arith) in record {
+      let other : (k : ℕ) → get_or ws (word_of (k + 1)) 0 ≡ get_or s.words (word_of (k + 1)) 0 = λ k. get_or-set_other s.words 0 (word_of (k + 1)) n 0 (λ e. omega arith) in record {
         work = r.work;
         log = r.log;
         wide = omega (arith, length-set s.words 0 n);

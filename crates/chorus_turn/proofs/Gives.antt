@@ -14,12 +14,12 @@ use Rattle.chorus_turn.specs.declared.view.View.{View}
 use Rattle.chorus_turn.specs.Lists.{StartsWith, list_at, list_put, times}
 use Rattle.chorus_turn.specs.Journals.{IsBy, with_place}
 use Rattle.chorus_turn.specs.Knowing.{seats_of}
-use Rattle.chorus_turn.specs.Rule.{claims, Grasp, IsNumbered, Turned, given_view, give_then}
+use Rattle.chorus_turn.specs.Rule.{word_of, claims, Grasp, IsNumbered, Turned, given_view, GivesBack, give_then}
 use Rattle.chorus_turn.proofs.Counts.{one_within, one-same}
 use Rattle.chorus_turn.proofs.Fronts.{put_here, put_elsewhere, starts_itself}
 use Rattle.chorus_turn.proofs.Growth.{work_after, log_after, work_here, work_elsewhere, log_here, log_elsewhere, log_grows, made_after}
 use Rattle.chorus_turn.proofs.Parts.{notes_apart}
-use Rattle.chorus_turn.proofs.Views.{times_claims, each_set, still_held, seat_below, seat_apart, seats_differ}
+use Rattle.chorus_turn.proofs.Views.{at_word, times_claims, each_set, still_held, seat_below, seat_apart, seats_differ}
 use Rattle.chorus_turn.proofs.Numbers.{numbered_same}
 
 module _ {S : Type 0} where
@@ -48,7 +48,7 @@ module _ {R : Type 0} where
 
 module _ {S R : Type 0} (journal : S → List (Remarked R) → Type 0) (marked : ℕ → S → Type 0) where
   given : (s : State (Option S) (View R)) (r : Turned journal marked s) (id k : ℕ) (v : View R) (x : S) (news : List (Remarked R)) → get_elem? s.views id ≡ some v → v.live ≡ true → v.holding ≡ k + 1 → k < length s.homes → IsBy v.knows.seat news → journal x (v.took ++ news) → marked (k + 1) x
-      → Turned journal marked (stepped s (k + 1) 0 id ((k, Some x) ∷ []) (given_view (k + 1) news v) gives)
+      → Turned journal marked (stepped s (word_of (k + 1)) 0 id ((k, Some x) ∷ []) (given_view (k + 1) news v) gives)
   given s r id k v x news at live held inside all fit has = let w : View R = given_view (k + 1) news v in let h : ℕ = v.knows.seat in let mine = r.each id v at live in let hold = mine.holds k held in
       let wide = r.wide in
       let work : ℕ → List (Placed R) = work_after h (k + 1) news r.work in
@@ -58,15 +58,15 @@ module _ {S R : Type 0} (journal : S → List (Remarked R) → Type 0) (marked :
       let grows : (i : ℕ) (front : List (Remarked R)) → StartsWith (r.log i) front → StartsWith (log i) front = log_grows h (k + 1) news r.log in
       let now : log (k + 1) ≡ v.took ++ news = log_here h (k + 1) news r.log ∙ ap (λ l. l ++ news) (sym hold.1) in
       let below = seat_below (get_or s.words 0 0) s.views r.numbered id v at live in
-      let ws : List ℕ = set s.words (k + 1) 0 in
-      let first : get_or ws 0 0 ≡ get_or s.words 0 0 = get_or-set_other s.words (k + 1) 0 0 0 (λ e. omega arith) in
-      let other : (i : ℕ) → i ≢ k → get_or ws (i + 1) 0 ≡ get_or s.words (i + 1) 0 = λ i apart. get_or-set_other s.words (k + 1) (i + 1) 0 0 (λ e. apart (omega arith)) in
-      let here : get_or ws (k + 1) 0 ≡ 0 = get_or-set_same s.words (k + 1) 0 0 (omega arith) in
+      let ws : List ℕ = set s.words (word_of (k + 1)) 0 in
+      let first : get_or ws 0 0 ≡ get_or s.words 0 0 = get_or-set_other s.words (word_of (k + 1)) 0 0 0 (λ e. omega arith) in
+      let other : (i : ℕ) → i ≢ k → get_or ws (word_of (i + 1)) 0 ≡ get_or s.words (word_of (i + 1)) 0 = λ i apart. get_or-set_other s.words (word_of (k + 1)) (word_of (i + 1)) 0 0 (λ e. apart (omega arith)) in
+      let here : get_or ws (word_of (k + 1)) 0 ≡ 0 = get_or-set_same s.words (word_of (k + 1)) 0 0 (omega arith) in
       let long = length-set s.homes k (some (Some x)) in
       let own_once = claims_once v live (let b = r.numbered.once h in let c = one_within (λ (y : View R). times h (claims y)) s.views id v at in omega arith) in record {
         work = work;
         log = log;
-        wide = omega (arith, length-set s.words (k + 1) 0, long);
+        wide = omega (arith, length-set s.words (word_of (k + 1)) 0, long);
         numbered = subst (λ (n : ℕ). IsNumbered n (set s.views id w)) (sym first) (numbered_same (get_or s.words 0 0) s.views id v w r.numbered at refl refl);
         each = each_set (λ _ y. y.live ≡ true → Grasp work log ws y) s.views id w
             (λ _. record {
@@ -89,28 +89,29 @@ module _ {S R : Type 0} (journal : S → List (Remarked R) → Type 0) (marked :
               unused = λ q there. same_work q (λ e. let z = none_there.0 in let t = ap (λ (n : ℕ). times n y.drawn) e in omega arith) ∙ b.unused q there;
               counts = λ e. b.counts e ∙ sym first;
               plain = b.plain;
-              holds = λ i e. let p = b.holds i e in let ne : i ≢ k = λ same. let t = ap (λ (n : ℕ). get_or s.words (n + 1) 0) same in let a = p.0 in let c = hold.0 in differ (omega arith) in (other i ne ∙ p.0, p.1 ∙ sym (same_log (i + 1) (λ e. ne (omega arith))));
+              holds = λ i e. let p = b.holds i e in let ne : i ≢ k = λ same. let t = ap (λ (n : ℕ). get_or s.words (word_of (n + 1)) 0) same in let a = p.0 in let c = hold.0 in differ (omega arith) in (other i ne ∙ p.0, p.1 ∙ sym (same_log (i + 1) (λ e. ne (omega arith))));
             });
         made = made_after h (k + 1) news r.work r.log r.made all;
         unmade = λ q le. same_work q (λ e. omega arith) ∙ r.unmade q (omega arith);
         home = λ i b z. dite (ℕ_discrete i k)
             (λ e. (x, ap (λ (n : ℕ). get_elem? (set s.homes k (some (Some x))) n) e ∙ set_here s.homes k (some (Some x)) inside, subst (λ (l : List (Remarked R)). journal x l) (sym (ap (λ (n : ℕ). log (n + 1)) e ∙ now)) fit, subst (λ (n : ℕ). marked (n + 1) x) (sym e) has))
             (λ ne. let p = r.home i (omega arith) (sym (other i ne) ∙ z) in (p.0, set_else s.homes k i (some (Some x)) ne ∙ p.1, subst (λ (l : List (Remarked R)). journal p.0 l) (sym (same_log (i + 1) (λ e. ne (omega arith)))) p.2, p.3));
-        out = λ i b z. let ne : i ≢ k = λ e. z (ap (λ (n : ℕ). get_or ws (n + 1) 0) e ∙ here) in still_held s.views id (i + 1) v w at (λ e. ne (omega arith)) (r.out i (omega arith) (λ e. z (other i ne ∙ e)));
+        out = λ i b z. let ne : i ≢ k = λ e. z (ap (λ (n : ℕ). get_or ws (word_of (n + 1)) 0) e ∙ here) in still_held s.views id (i + 1) v w at (λ e. ne (omega arith)) (r.out i (omega arith) (λ e. z (other i ne ∙ e)));
       }
 
   gives_turn : (notes : List (Remarked R) → Type 0) (slots id k : ℕ) (v : View R) (x : S) (news : List (Remarked R)) → v.live ≡ true → v.holding ≡ k + 1 → k < slots → IsBy v.knows.seat news → journal x (v.took ++ news) → notes news → marked (k + 1) x
-      → Allows (Turned journal marked) slots id (v, (k, Some x) ∷ []) (k + 1) (λ _. 0) (λ _. give_then journal notes (step slots (k + 1) 0 0 none) (v, (k, Some x) ∷ []) 0)
+      → Allows (Turned journal marked) slots id (v, (k, Some x) ∷ []) (word_of (k + 1)) (λ _. 0) (λ _. give_then journal notes (step slots (word_of (k + 1)) 0 0 none) (v, (k, Some x) ∷ []) 0)
   gives_turn notes slots id k v x news live held inside all fit noted has s r size at small = (
     given_view (k + 1) news v,
     gives,
     tt,
     given s r id k v x news at live held (omega arith) all fit has,
-    λ y e. (news, all, subst (λ (z : S). journal z (v.took ++ news)) (ap (held_value x) e) fit, noted, refl),
+    at_word k (λ (q : ℕ). GivesBack journal notes q (v, (k, Some x) ∷ []) (given_view (k + 1) news v, []))
+        (λ y e. (news, all, subst (λ (z : S). journal z (v.took ++ news)) (ap (held_value x) e) fit, noted, refl)),
   )
 
   pub gives_at : (notes : List (Remarked R) → Type 0) (slots id p : ℕ) (me : Me (Option S) (View R)) (x : S) (news : List (Remarked R)) → me.1 ≡ (p - 1, Some x) ∷ [] → me.0.live ≡ true → me.0.holding ≡ p → 1 ≤ p → p ≤ slots → IsBy me.0.knows.seat news → journal x (me.0.took ++ news) → notes news → marked p x
-      → Allows (Turned journal marked) slots id me p (λ _. 0) (λ _. give_then journal notes (step slots p 0 0 none) me 0)
+      → Allows (Turned journal marked) slots id me (word_of p) (λ _. 0) (λ _. give_then journal notes (step slots (word_of p) 0 0 none) me 0)
   gives_at notes slots id p me x news out live held from to all fit noted has = let up : (p - 1) + 1 ≡ p = omega arith in
-      subst (λ (z : ℕ × List (ℕ × Option S)). Allows (Turned journal marked) slots id (me.0, z.1) z.0 (λ _. 0) (λ _. give_then journal notes (step slots z.0 0 0 none) (me.0, z.1) 0)) (λ i. (up i, sym out i))
+      subst (λ (z : ℕ × List (ℕ × Option S)). Allows (Turned journal marked) slots id (me.0, z.1) (word_of z.0) (λ _. 0) (λ _. give_then journal notes (step slots (word_of z.0) 0 0 none) (me.0, z.1) 0)) (λ i. (up i, sym out i))
       (gives_turn notes slots id (p - 1) me.0 x news live (held ∙ sym up) (omega arith) all fit noted (subst (λ (n : ℕ). marked n x) (sym up) has))

@@ -1,4 +1,4 @@
--- What the rule says of single views.
+-- What the rule says of single views, and of the words.
 use Rattle.std.proofs.Common.{◌≡◌, ◌≢◌, ℕ, zero, suc, ◌+◌, ◌<◌, ◌≤◌, eqb, true, List, [], ◌∷◌, ◌++◌, get_or, set, length, sym, refl, ap, ◌∙◌, subst, ⊎_elim, arith, length-append, lt_of_not-le}
 use mathlib.Core.Option.{some, some-injective, some-ne-none}
 use mathlib.Core.Logic.{dite}
@@ -10,13 +10,17 @@ use Rattle.chorus_turn.specs.declared.knowledge.Placed.{Placed}
 use Rattle.chorus_turn.specs.declared.view.View.{View}
 use Rattle.chorus_turn.specs.Lists.{one, times}
 use Rattle.chorus_turn.specs.Knowing.{seats_of}
-use Rattle.chorus_turn.specs.Rule.{if_live, one_if_live, claims, keepers, Grasp, IsHeld, IsNumbered}
+use Rattle.chorus_turn.specs.Rule.{word_of, if_live, one_if_live, claims, keepers, Grasp, IsHeld, IsNumbered}
 use Rattle.chorus_turn.proofs.Counts.{one_within, two_within, times-append, one-same}
 use Rattle.chorus_turn.proofs.Parts.{length-seats_of}
 
+-- the words of two places differ, so what holds of a place holds of each place with its word
+pub at_word : (k : ℕ) (F : ℕ → Type 0) → F (k + 1) → (p : ℕ) → word_of (k + 1) ≡ word_of p → F p
+at_word k F here p same = let is : k + 1 ≡ p = omega arith in subst F is here
+
 module _ {R : Type 0} where
   -- other words tell the view the same, where word 0 and the word of its place are as they were
-  pub grasp_again : (work : ℕ → List (Placed R)) (log : ℕ → List (Remarked R)) (ws ws' : List ℕ) (u : View R) → get_or ws' 0 0 ≡ get_or ws 0 0 → ((k : ℕ) → u.holding ≡ k + 1 → get_or ws' (k + 1) 0 ≡ get_or ws (k + 1) 0)
+  pub grasp_again : (work : ℕ → List (Placed R)) (log : ℕ → List (Remarked R)) (ws ws' : List ℕ) (u : View R) → get_or ws' 0 0 ≡ get_or ws 0 0 → ((k : ℕ) → u.holding ≡ k + 1 → get_or ws' (word_of (k + 1)) 0 ≡ get_or ws (word_of (k + 1)) 0)
       → Grasp work log ws u → Grasp work log ws' u
   grasp_again work log ws ws' u first same g = record {
     sees = g.sees;

@@ -1,5 +1,5 @@
 -- The rule of turns, which holds between any two steps, and what each kind of step tells.
-use Rattle.std.specs.Prelude.{◌≡◌, ◌≢◌, ℕ, ◌+◌, ◌-◌, ◌<◌, ◌≤◌, Bool, true, false, Option, Some, List, [], ◌∷◌, ◌++◌, length, slice_index}
+use Rattle.std.specs.Prelude.{◌≡◌, ◌≢◌, ℕ, ◌+◌, ◌-◌, ◌*◌, ◌<◌, ◌≤◌, Bool, true, false, Option, Some, List, [], ◌∷◌, ◌++◌, length, slice_index}
 use Rattle.std.specs.List.{All}
 use mathlib.Core.Option.{some}
 use lib.ListN.{get_elem?}
@@ -13,6 +13,11 @@ use Rattle.chorus_turn.specs.declared.view.View.{View}
 use Rattle.chorus_turn.specs.Lists.{StartsWith, StartsWithBoth, list_at, all_longer, first_or, total, one, times}
 use Rattle.chorus_turn.specs.Journals.{by_seat, IsBy, at_place}
 use Rattle.chorus_turn.specs.Knowing.{limit, seats_of, opening_knowledge, after_draw, newcomer, after_refusal, after_turn, after_retirement, Shows}
+
+-- Where the word of a place stands. A word has 8 bytes and a line of the cache 64, so no two places' words, nor word 0 and
+-- one of them, are on one line, for which threads at different places would wait.
+abbrev pub word_of : ℕ → ℕ
+word_of place = 8 * place
 
 -- what a view claims while it is live
 abbrev pub if_live : Bool → List ℕ → List ℕ
@@ -52,7 +57,8 @@ module _ {R : Type 0} where
     pub unused : (q : ℕ) → 0 < times q v.drawn → work q ≡ []
     pub counts : v.knows.keeper ≡ true → v.knows.made ≡ slice_index words 0
     pub plain : v.knows.keeper ≡ false → v.drawn ≡ []
-    pub holds : (k : ℕ) → v.holding ≡ k + 1 → (slice_index words (k + 1) ≡ v.knows.seat + 1) × (v.took ≡ log (k + 1))
+    pub holds : (k : ℕ) → v.holding ≡ k + 1 → (slice_index words (word_of (k + 1)) ≡ v.knows.seat + 1)
+        × (v.took ≡ log (k + 1))
 
   -- a live view holds the place
   abbrev pub IsHeld : ℕ → List (View R) → Type 0
@@ -143,22 +149,22 @@ module _ {S R : Type 0} (journal : S → List (Remarked R) → Type 0) (notes : 
       × journal x (m.0.took ++ news) × notes news × marked p x
 
   abbrev pub give_then : Step (Option S) → Seated S R → ℕ → Seated S R → Type 0
-  give_then st m r m' = GivesBack st.word m m'
+  give_then st m r m' = (p : ℕ) → st.word ≡ word_of p → GivesBack p m m'
 
 module _ {S R : Type 0} (journal : S → List (Remarked R) → Type 0) (marked : ℕ → S → Type 0) where
   -- Word 0 counts the numbers drawn. The word of a place is 0 where its state is at home, and else the holder's number
-  -- and 1.
+  -- and 1. Of the words between nothing is said: they are 0, and no step is on them.
   pub record Turned (s : State (Option S) (View R)) : Type 0 where
     pub work : ℕ → List (Placed R)
     pub log : ℕ → List (Remarked R)
-    pub wide : length s.words ≡ length s.homes + 1
+    pub wide : length s.words ≡ word_of (length s.homes) + 1
     pub numbered : IsNumbered (slice_index s.words 0) s.views
     pub each : (j : ℕ) (v : View R) → get_elem? s.views j ≡ some v → v.live ≡ true → Grasp work log s.words v
     pub made : (p q : ℕ) → by_seat q (log p) ≡ at_place p (work q)
     pub unmade : (q : ℕ) → slice_index s.words 0 ≤ q → work q ≡ []
-    pub home : (k : ℕ) → k < length s.homes → slice_index s.words (k + 1) ≡ 0 →
+    pub home : (k : ℕ) → k < length s.homes → slice_index s.words (word_of (k + 1)) ≡ 0 →
         (x : S) × (get_elem? s.homes k ≡ some (some (Some x))) × journal x (log (k + 1)) × marked (k + 1) x
-    pub out : (k : ℕ) → k < length s.homes → slice_index s.words (k + 1) ≢ 0 → IsHeld (k + 1) s.views
+    pub out : (k : ℕ) → k < length s.homes → slice_index s.words (word_of (k + 1)) ≢ 0 → IsHeld (k + 1) s.views
 
   -- the place was free, and the seat holds its state
   abbrev pub TakesOver : ℕ → View R → Seated S R → Type 0
@@ -171,4 +177,5 @@ module _ {S R : Type 0} (journal : S → List (Remarked R) → Type 0) (marked :
       × (v.knows.keeper ≡ true → length v.knows.notes + 1 ≢ v.knows.made)
 
   abbrev pub take_then : Step (Option S) → Seated S R → ℕ → Seated S R → Type 0
-  take_then st m r m' = (r ≡ 0 → TakesOver st.word m.0 m') × (r ≢ 0 → Misses st.word m.0 (r - 1) m')
+  take_then st m r m' =
+      (p : ℕ) → st.word ≡ word_of p → (r ≡ 0 → TakesOver p m.0 m') × (r ≢ 0 → Misses p m.0 (r - 1) m')

@@ -4,10 +4,12 @@ ghost use Rattle.std.specs.List.{All};
 ghost use Rattle.std.specs.Vec.{vec_len, vec_capacity};
 ghost use Rattle.chorus_turn.specs.Lists.{somes, AreFull};
 ghost use Rattle.chorus_turn.specs.Knowing.{opening_knowledge};
+ghost use Rattle.chorus_turn.specs.Rule.{word_of};
 
 use crate::job::Kept;
 use crate::pass::Pass;
 use crate::room::Room;
+use crate::steps::APART;
 use crate::turns::Turns;
 use atomic_table::{Refused, Table};
 use std::alloc::{AllocError, Global};
@@ -48,14 +50,13 @@ fn unwrap<S>(mut slots: Vec<Option<S>>, states: &mut Vec<S>)
     slots.destroy_empty();
 }
 
-// The first word counts the numbers drawn, and each other one is a place's.
+// The first word counts the numbers drawn. The others are 0: those of the places, which are free, and those between.
 fn first_words(alloc: Global, places: usize) -> Result<Vec<u64>, AllocError>
-    ensures { IfOk result (λ w. (length w.items ≡ places + 1) × (slice_index w.items 0 ≡ 1)
+    ensures { IfOk result (λ w. (length w.items ≡ word_of places + 1) × (slice_index w.items 0 ≡ 1)
         × ((k : ℕ) → slice_index w.items (k + 1) ≡ 0)) }
 {
-    let Some(count) = places.checked_add(1) else {
-        return Err(AllocError);
-    };
+    let last = places.checked_mul(APART).ok_or(AllocError)?;
+    let count = last.checked_add(1).ok_or(AllocError)?;
     let mut words = Vec::from_elem(alloc, 0u64, count)?;
     words.as_mut_slice()[0] = 1;
     Ok(words)

@@ -1,17 +1,28 @@
 //! Each kind of step on the places, once: one atomic step on a word, or a job on the state in a slot.
 //!
 //! The word of a place is 0 where it is free, and else the number of the pass that holds it and 1. Word 0 counts the
-//! numbers drawn. The slot of place p is p - 1.
+//! numbers drawn. The slot of place p is p - 1, and its word is word 8 * p, so that no two of these words are on one line
+//! of the cache, for which threads at different places would wait. The words between are 0, and no step is on them.
 ghost use Rattle.std.specs.Prelude.{◌≡◌, ◌≢◌, ◌+◌, ◌-◌, ◌<◌, ◌≤◌, true, [], ◌∷◌, length, Some, None};
 ghost use Rattle.chorus_turn.specs.Lists.{StartsWithBoth};
 ghost use Rattle.chorus_turn.specs.Journals.{IsJournal, MayRun, HasRun};
 ghost use Rattle.chorus_turn.specs.Knowing.{limit};
-ghost use Rattle.chorus_turn.specs.Rule.{IsAtRest, TakesOver, Misses, HasToGive, GivesBack, drawn_view, left_view, admitted_view, joined_view, settled_view, closing_view};
+ghost use Rattle.chorus_turn.specs.Rule.{word_of, IsAtRest, TakesOver, Misses, HasToGive, GivesBack, drawn_view, left_view, admitted_view, joined_view, settled_view, closing_view};
 
 use crate::job::{Job, Kept};
 use crate::rule::{Admit, Count, Draw, Give, Leave, Noting, Origin, Retire, Take};
 use crate::turns::{Held, Turns};
 use std::snapshot::Snapshot;
+
+/// How many words stand from one place's word to the next one's: 64 bytes, a line of the cache.
+pub(crate) const APART: usize = 8;
+
+// Where the word of a place stands.
+fn word_of(place: u16) -> usize
+    ensures { result ≡ word_of place }
+{
+    APART * place as usize
+}
 
 // Runs the job on the state that stands there.
 fn run_in<S: Kept, J: Job<S>>(slot: &mut Option<S>, number: u32, job: &mut J) -> J::Out
@@ -35,7 +46,7 @@ impl<S: Kept> Turns<S> {
     pub(crate) fn take<X: Origin<S>>(
         &self,
         seat: &mut Held<S, S::Remark>,
-        place: usize,
+        place: u16,
         own: u64,
     ) -> u64
         requires origin { X.origin ≡ handed self.now }
@@ -51,7 +62,7 @@ impl<S: Kept> Turns<S> {
     {
         self.table
             .shared
-            .compare_exchange::<Take<X>>(seat, place, 0, own)
+            .compare_exchange::<Take<X>>(seat, word_of(place), 0, own)
     }
 
     // Runs the job, as the pass with this number, on the state in the slot of a place that the pass holds. The state stays where
@@ -80,7 +91,7 @@ impl<S: Kept> Turns<S> {
     pub(crate) fn give<X: Noting<S::Remark>, J>(
         &self,
         seat: &mut Held<S, S::Remark>,
-        place: usize,
+        place: u16,
         _before: &Snapshot<J>,
         _job: &J,
     )
@@ -93,7 +104,7 @@ impl<S: Kept> Turns<S> {
         ensures given { GivesBack (IsJournal S.entries S.fits) X.notes place
             seat.old.me seat.new.me }
     {
-        self.table.shared.store::<Give<X>>(seat, place, 0)
+        self.table.shared.store::<Give<X>>(seat, word_of(place), 0)
     }
 
     // The keeper's next number, which goes to a new seat.

@@ -1,5 +1,6 @@
 //! The places, and a turn at one of them.
 ghost use Rattle.std.specs.Prelude.{◌≡◌, ◌+◌, [], length, IfOk, IfErr};
+ghost use Rattle.chorus_turn.specs.Rule.{word_of};
 
 use crate::job::{Job, Kept};
 use crate::pass::Pass;
@@ -20,7 +21,7 @@ pub(crate) type Held<S, R> = Seat<Option<S>, View<R>>;
 pub struct Turns<S: Kept> {
     pub(crate) table: Table<Option<S>, View<S::Remark>, Snapshot<Vec<S>>, InTurn, Global>,
     pub(crate) room: Room<S>,
-    ghost sized: { table.shared.table_id.words ≡ table.shared.table_id.slots + 1 },
+    ghost sized: { table.shared.table_id.words ≡ word_of table.shared.table_id.slots + 1 },
     ghost roomy: { room.table.shared.key ≡ table.shared.table_id.slots },
     ghost handed: { length table.shared.key.value.items ≡ table.shared.table_id.slots },
 }
@@ -50,7 +51,7 @@ impl<S: Kept> Turns<S> {
     fn work<J: Job<S>>(
         &self,
         seat: &mut Held<S, S::Remark>,
-        place: usize,
+        place: u16,
         number: u32,
         job: &mut J,
     ) -> Result<J::Out, Busy>
@@ -74,7 +75,7 @@ impl<S: Kept> Turns<S> {
             });
         }
         let before = Snapshot::of(job);
-        let out = self.run(seat, place - 1, number, job);
+        let out = self.run(seat, place as usize - 1, number, job);
         self.give::<Brand, J>(seat, place, &before, job);
         Ok(out)
     }
@@ -103,7 +104,7 @@ impl<S: Kept> Turns<S> {
             FoundBusy place b.by (known pass.old) (known pass.new) × (job.new ≡ job.old)) }
     {
         let mut seat = mem::replace(&mut pass.badge, Badge::blank()).into_seat::<Option<S>>();
-        let worked = self.work(&mut seat, place as usize, pass.seat, job);
+        let worked = self.work(&mut seat, place, pass.seat, job);
         pass.badge = seat.into_badge();
         worked
     }
