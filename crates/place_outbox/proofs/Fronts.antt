@@ -2,7 +2,7 @@
 use Rattle.std.proofs.Common.{◌≡◌, ℕ, zero, suc, ◌+◌, ◌<◌, ◌≤◌, true, false, Option, Some, None, is_none, List, [], ◌∷◌, ◌++◌, length, drop, get_or, set, replicate, refl, sym, ◌∙◌, ap, arith, append_assoc, length-append, slice_get}
 use Rattle.std.proofs.lemmas.Bool.{false≢true}
 use Rattle.chorus_entry.specs.declared.packet.Packet.{Packet}
-use Rattle.place_outbox.specs.Spans.{listed}
+use Rattle.place_outbox.specs.Chains.{listed}
 use Rattle.place_outbox.specs.Waiting.{list_to, with_last, with_first, without_first, count, first_place}
 use Rattle.place_outbox.specs.Fronts.{with_fronts, fronts, are_free, is_filled}
 

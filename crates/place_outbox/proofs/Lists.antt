@@ -1,146 +1,89 @@
--- Lists that stand in one map, and what a change of the map makes of them.
-use Rattle.std.proofs.Common.{◌≡◌, ◌≢◌, ℕ, ◌+◌, ◌-◌, ◌<◌, ◌≤◌, ◌==◌, zero, suc, Bool, true, false, ◌&&◌, cond, Option, Some, None, IsSome, Result, Ok, Err, IsOk, OnOk, List, [], ◌∷◌, ◌++◌, length, drop, get_or, set, refl, sym, ◌∙◌, ap, arith, eqb-true, eq-eqb, append-nil, append_assoc}
+-- Lists that stand in one slab, and what a change of the slab makes of them.
+use Rattle.std.proofs.Common.{◌≡◌, ◌≢◌, ℕ, ◌<◌, ◌≤◌, zero, suc, Option, Some, None, IsSome, List, [], ◌∷◌, ◌++◌, length, drop, get_or, set, refl, sym, ◌∙◌, ap, arith, append-nil, append_assoc}
 use Rattle.chorus_entry.specs.declared.packet.Packet.{Packet}
-use Rattle.place_outbox.specs.declared.pool.Span.{Span}
-use Rattle.place_outbox.specs.Waiting.{list_to, with_last, without_first}
-use Rattle.place_outbox.specs.Spans.{listed, packets_from, no_span, size, lists_of}
+use Rattle.place_outbox.specs.declared.pool.Node.{Node}
+use Rattle.place_outbox.specs.declared.pool.Chain.{Chain}
+use Rattle.place_outbox.specs.Waiting.{list_to, without_first}
+use Rattle.place_outbox.specs.Chains.{listed, packet_of, next_of, key_after, packets_from, lists_of, no_chain}
 
-pub on_ok : {T E P : Type 0} (r : Result T E) → IsOk r → OnOk r P → P
-on_ok (Ok x) h p = p
-on_ok (Err e) h p = cc
-
-pub found : (o : Option Packet) → IsSome o → (v : Packet) × (o ≡ Some v)
-found None h = cc
-found (Some v) h = (v, refl)
-
-pub any-default : (ss : List Span) (i : ℕ) (d e : Span) → i < length ss → get_or ss i d ≡ get_or ss i e
+pub any-default : (cs : List Chain) (i : ℕ) (d e : Chain) → i < length cs → get_or cs i d ≡ get_or cs i e
 any-default [] i d e l = absurd (omega (arith, l))
-any-default (s ∷ ss) zero d e l = refl
-any-default (s ∷ ss) (suc i) d e l = any-default ss i d e (omega (arith, l))
+any-default (c ∷ cs) zero d e l = refl
+any-default (c ∷ cs) (suc i) d e l = any-default cs i d e (omega (arith, l))
 
--- the packets of a span
+pub found : (o : Option Node) → IsSome o → (node : Node) × (o ≡ Some node)
+found None h = cc
+found (Some node) h = (node, refl)
 
-pub packets-same : (f g : ℕ → Option Packet) (n k : ℕ) → ((i : ℕ) → n ≤ i → i < n + k → g i ≡ f i) → packets_from g n k ≡ packets_from f n k
-packets-same f g n zero h = refl
-packets-same f g n (suc k) h =
-    ap (λ o. listed o ++ packets_from g (n + 1) k) (h n (omega arith) (omega arith))
-    ∙ ap (λ l. listed (f n) ++ l) (packets-same f g (n + 1) k (λ i a b. h i (omega arith) (omega arith)))
+-- the keys of a chain
 
-pub packets-last : (f : ℕ → Option Packet) (n k : ℕ) → packets_from f n (suc k) ≡ packets_from f n k ++ listed (f (n + k))
-packets-last f n zero = let e : n ≡ n + 0 = omega arith in append-nil (listed (f n)) ∙ ap (λ i. listed (f i)) e
-packets-last f n (suc k) =
-    let e : (n + 1) + k ≡ n + suc k = omega arith in
-    ap (λ l. listed (f n) ++ l) (packets-last f (n + 1) k ∙ ap (λ i. packets_from f (n + 1) k ++ listed (f i)) e)
-    ∙ sym (append_assoc (listed (f n)) (packets_from f (n + 1) k) (listed (f (n + suc k))))
+pub key-first : (f : ℕ → Option Node) (key n : ℕ) → key_after f key (suc n) ≡ key_after f (next_of (f key)) n
+key-first f key zero = refl
+key-first f key (suc n) = ap (λ k. next_of (f k)) (key-first f key n)
 
-pub packets-first : (f : ℕ → Option Packet) (s : Span) (v : Packet) → s.first < s.next → f s.first ≡ Some v
-    → packets_from f s.first (size s) ≡ v ∷ packets_from f (s.first + 1) (s.next - (s.first + 1))
-packets-first f s v l e =
-    let n : size s ≡ suc (s.next - (s.first + 1)) = omega arith in
-    ap (λ k. packets_from f s.first k) n ∙ ap (λ o. listed o ++ packets_from f (s.first + 1) (s.next - (s.first + 1))) e
+pub keys-same : (f g : ℕ → Option Node) (key n : ℕ) → ((i : ℕ) → i < n → next_of (g (key_after f key i)) ≡ next_of (f (key_after f key i)))
+    → key_after g key n ≡ key_after f key n
+keys-same f g key zero h = refl
+keys-same f g key (suc n) h = ap (λ k. next_of (g k)) (keys-same f g key n (λ i l. h i (omega arith))) ∙ h n (omega arith)
 
-pub packets-none : (f : ℕ → Option Packet) (s : Span) → s.first ≡ s.next → packets_from f s.first (size s) ≡ []
-packets-none f s e = let n : size s ≡ 0 = omega arith in ap (λ k. packets_from f s.first k) n
+-- the packets of a chain
+
+pub packets-last : (f : ℕ → Option Node) (key n : ℕ) → packets_from f key (suc n) ≡ packets_from f key n ++ listed (packet_of (f (key_after f key n)))
+packets-last f key zero = append-nil (listed (packet_of (f key)))
+packets-last f key (suc n) =
+    ap (λ l. listed (packet_of (f key)) ++ l)
+    (packets-last f (next_of (f key)) n ∙ ap (λ k. packets_from f (next_of (f key)) n ++ listed (packet_of (f k))) (sym (key-first f key n)))
+    ∙ sym (append_assoc (listed (packet_of (f key))) (packets_from f (next_of (f key)) n) (listed (packet_of (f (key_after f key (suc n))))))
+
+-- a slab in which these many nodes from this key on have the packets that they had, and all but the last of them the next keys
+pub record Keeps (f g : ℕ → Option Node) (key n : ℕ) : Type 0 where
+  pub packets : (i : ℕ) → i < n → packet_of (g (key_after f key i)) ≡ packet_of (f (key_after f key i))
+  pub nexts : (i : ℕ) → suc i < n → next_of (g (key_after f key i)) ≡ next_of (f (key_after f key i))
+
+pub packets-same : (f g : ℕ → Option Node) (key n : ℕ) → Keeps f g key n → packets_from g key n ≡ packets_from f key n
+packets-same f g key zero h = refl
+packets-same f g key (suc n) h =
+    packets-last g key n
+    ∙ ap (λ l. l ++ listed (packet_of (g (key_after g key n))))
+    (packets-same f g key n record { packets = λ i l. h.packets i (omega arith); nexts = λ i l. h.nexts i (omega arith) })
+    ∙ ap (λ o. packets_from f key n ++ listed o)
+    (ap (λ k. packet_of (g k)) (keys-same f g key n (λ i l. h.nexts i (omega arith))) ∙ h.packets n (omega arith))
+    ∙ sym (packets-last f key n)
 
 -- the list of each place
 
-pub length-lists_of : (f : ℕ → ℕ → Option Packet) (p : ℕ) (ss : List Span) → length (lists_of f p ss) ≡ length ss
-length-lists_of f p [] = refl
-length-lists_of f p (s ∷ ss) = ap suc (length-lists_of f (p + 1) ss)
+pub length-lists_of : (f : ℕ → Option Node) (cs : List Chain) → length (lists_of f cs) ≡ length cs
+length-lists_of f [] = refl
+length-lists_of f (c ∷ cs) = ap suc (length-lists_of f cs)
 
-pub list-at : (f : ℕ → ℕ → Option Packet) (p i k : ℕ) (ss : List Span) → k ≡ p + i
-    → get_or (lists_of f p ss) i [] ≡ packets_from (f k) (get_or ss i no_span).first (size (get_or ss i no_span))
-list-at f p i k [] e = refl
-list-at f p zero k (s ∷ ss) e = let q : p ≡ k = omega arith in ap (λ i. packets_from (f i) s.first (size s)) q
-list-at f p (suc i) k (s ∷ ss) e = list-at f (p + 1) i k ss (omega arith)
+pub within : (f : ℕ → Option Node) (cs : List Chain) (ls : List (List Packet)) (place p : ℕ) → lists_of f cs ≡ ls → place < length ls → p ≡ place
+    → p < length cs
+within f cs ls place p e l same =
+    let n : length (lists_of f cs) ≡ length ls = ap length e in
+    let m = length-lists_of f cs in
+    omega (arith, n, m, l, same)
 
-pub lists-same : (f g : ℕ → ℕ → Option Packet) (p : ℕ) (ss : List Span) → ((i n : ℕ) → p ≤ i → g i n ≡ f i n) → lists_of g p ss ≡ lists_of f p ss
-lists-same f g p [] h = refl
-lists-same f g p (s ∷ ss) h =
-    ap (λ l. l ∷ lists_of g (p + 1) ss) (packets-same (f p) (g p) s.first (size s) (λ i a b. h p i (omega arith)))
-    ∙ ap (λ ls. packets_from (f p) s.first (size s) ∷ ls) (lists-same f g (p + 1) ss (λ i n l. h i n (omega arith)))
+pub list-at : (f : ℕ → Option Node) (i : ℕ) (cs : List Chain) → list_to i (lists_of f cs) ≡ packets_from f (get_or cs i no_chain).first (get_or cs i no_chain).len
+list-at f i [] = refl
+list-at f zero (c ∷ cs) = refl
+list-at f (suc i) (c ∷ cs) = list-at f i cs
 
-pub lists-set : (f g : ℕ → ℕ → Option Packet) (p i k : ℕ) (ss : List Span) (s' : Span) → k ≡ p + i → ((j n : ℕ) → j ≢ k → g j n ≡ f j n)
-    → lists_of g p (set ss i s') ≡ set (lists_of f p ss) i (packets_from (g k) s'.first (size s'))
-lists-set f g p i k [] s' e h = refl
-lists-set f g p zero k (s ∷ ss) s' e h =
-    let q : p ≡ k = omega arith in
-    ap (λ j. packets_from (g j) s'.first (size s') ∷ lists_of g (p + 1) ss) q
-    ∙ ap (λ ls. packets_from (g k) s'.first (size s') ∷ ls) (lists-same f g (p + 1) ss (λ j n l. h j n (λ c. omega arith)))
-lists-set f g p (suc i) k (s ∷ ss) s' e h =
-    ap (λ l. l ∷ lists_of g (p + 1) (set ss i s')) (packets-same (f p) (g p) s.first (size s) (λ n a b. h p n (λ c. omega arith)))
-    ∙ ap (λ ls. packets_from (f p) s.first (size s) ∷ ls) (lists-set f g (p + 1) i k ss s' (omega arith) h)
+pub lists-same : (f g : ℕ → Option Node) (cs : List Chain)
+    → ((q : ℕ) → packets_from g (get_or cs q no_chain).first (get_or cs q no_chain).len ≡ packets_from f (get_or cs q no_chain).first (get_or cs q no_chain).len)
+    → lists_of g cs ≡ lists_of f cs
+lists-same f g [] h = refl
+lists-same f g (c ∷ cs) h =
+    ap (λ l. l ∷ lists_of g cs) (h 0) ∙ ap (λ ls. packets_from f c.first c.len ∷ ls) (lists-same f g cs (λ q. h (suc q)))
 
--- a map of which one place and number changed
-
-abbrev pub Sets : (ℕ → ℕ → Option Packet) → (ℕ → ℕ → Option Packet) → ℕ → ℕ → Option Packet → Type 0
-Sets f g place number o = (i n : ℕ) → g i n ≡ cond ((place == i) && (number == n)) o (f i n)
-
-and-false : (a b : Bool) → b ≡ false → (a && b) ≡ false
-and-false true b h = h
-and-false false b h = refl
-
-apart : (a b : ℕ) → b ≢ a → (a == b) ≡ false
-apart a b h = by (a == b) refl
-  where
-    by : (c : Bool) → (a == b) ≡ c → c ≡ false
-    by true e = absurd (h (sym (eqb-true a b e)))
-    by false e = refl
-
-pub sets-here : (f g : ℕ → ℕ → Option Packet) (p x : ℕ) (o : Option Packet) → Sets f g p x o → g p x ≡ o
-sets-here f g p x o h =
-    h p x ∙ ap (λ b. cond (b && (x == x)) o (f p x)) (eq-eqb p p refl) ∙ ap (λ b. cond b o (f p x)) (eq-eqb x x refl)
-
-pub sets-place : (f g : ℕ → ℕ → Option Packet) (p x : ℕ) (o : Option Packet) → Sets f g p x o → (i n : ℕ) → i ≢ p → g i n ≡ f i n
-sets-place f g p x o h i n ne = h i n ∙ ap (λ b. cond (b && (x == n)) o (f i n)) (apart p i ne)
-
-pub sets-number : (f g : ℕ → ℕ → Option Packet) (p x : ℕ) (o : Option Packet) → Sets f g p x o → (i n : ℕ) → n ≢ x → g i n ≡ f i n
-sets-number f g p x o h i n ne = h i n ∙ ap (λ b. cond b o (f i n)) (and-false (p == i) (x == n) (apart x n ne))
-
--- a packet put, and one taken
-
-abbrev pub longer : Span → Span
-longer s = record { first = s.first; next = s.next + 1 }
-
-abbrev pub shorter : Span → Span
-shorter s = record { first = s.first + 1; next = s.next }
-
-pub put-lists : (f g : ℕ → ℕ → Option Packet) (p : ℕ) (ss : List Span) (s : Span) (packet : Packet) → s ≡ get_or ss p no_span
-    → s.first ≤ s.next → Sets f g p s.next (Some packet) → lists_of g 0 (set ss p (longer s)) ≡ with_last p packet (lists_of f 0 ss)
-put-lists f g p ss s packet e l h =
-    lists-set f g 0 p p ss (longer s) (omega arith) (sets-place f g p s.next (Some packet) h)
-    ∙ ap (λ l. set (lists_of f 0 ss) p l) list
-  where
-    list : packets_from (g p) s.first (size (longer s)) ≡ list_to p (lists_of f 0 ss) ++ packet ∷ []
-    list =
-        let k = s.next - s.first in
-        let more : size (longer s) ≡ suc k = omega arith in
-        let last : s.first + k ≡ s.next = omega arith in
-        ap (λ n. packets_from (g p) s.first n) more ∙ packets-last (g p) s.first k
-        ∙ ap (λ o. packets_from (g p) s.first k ++ listed o) (ap (λ n. g p n) last ∙ sets-here f g p s.next (Some packet) h)
-        ∙ ap (λ ps. ps ++ packet ∷ [])
-        (packets-same (f p) (g p) s.first k (λ n a b. sets-number f g p s.next (Some packet) h p n (λ c. omega arith))
-        ∙ ap (λ t. packets_from (f p) t.first (size t)) e ∙ sym (list-at f 0 p p ss (omega arith)))
-
-pub taken-list : (f : ℕ → ℕ → Option Packet) (p : ℕ) (ss : List Span) (s : Span) (v : Packet) → s ≡ get_or ss p no_span
-    → s.first < s.next → f p s.first ≡ Some v
-    → list_to p (lists_of f 0 ss) ≡ v ∷ packets_from (f p) (s.first + 1) (s.next - (s.first + 1))
-taken-list f p ss s v e l v-is =
-    list-at f 0 p p ss (omega arith) ∙ ap (λ t. packets_from (f p) t.first (size t)) (sym e) ∙ packets-first (f p) s v l v-is
-
-pub take-lists : (f g : ℕ → ℕ → Option Packet) (p : ℕ) (ss : List Span) (s : Span) (v : Packet) → s ≡ get_or ss p no_span
-    → s.first < s.next → f p s.first ≡ Some v → Sets f g p s.first None
-    → lists_of g 0 (set ss p (shorter s)) ≡ without_first p (lists_of f 0 ss)
-take-lists f g p ss s v e l v-is h =
-    lists-set f g 0 p p ss (shorter s) (omega arith) (sets-place f g p s.first None h)
-    ∙ ap (λ l. set (lists_of f 0 ss) p l)
-    (packets-same (f p) (g p) (s.first + 1) (s.next - (s.first + 1)) (λ n a b. sets-number f g p s.first None h p n (λ c. omega arith))
-    ∙ ap (drop 1) (sym (taken-list f p ss s v e l v-is)))
-
-pub empty-list : (f : ℕ → ℕ → Option Packet) (p : ℕ) (ss : List Span) (s : Span) → s ≡ get_or ss p no_span → s.first ≡ s.next
-    → list_to p (lists_of f 0 ss) ≡ []
-empty-list f p ss s e z =
-    list-at f 0 p p ss (omega arith) ∙ ap (λ t. packets_from (f p) t.first (size t)) (sym e) ∙ packets-none (f p) s z
+pub lists-set : (f g : ℕ → Option Node) (cs : List Chain) (p : ℕ) (c' : Chain)
+    → ((q : ℕ) → q ≢ p → packets_from g (get_or cs q no_chain).first (get_or cs q no_chain).len ≡ packets_from f (get_or cs q no_chain).first (get_or cs q no_chain).len)
+    → lists_of g (set cs p c') ≡ set (lists_of f cs) p (packets_from g c'.first c'.len)
+lists-set f g [] p c' h = refl
+lists-set f g (c ∷ cs) zero c' h =
+    ap (λ ls. packets_from g c'.first c'.len ∷ ls) (lists-same f g cs (λ q. h (suc q) (λ e. absurd (omega (arith, e)))))
+lists-set f g (c ∷ cs) (suc p) c' h =
+    ap (λ l. l ∷ lists_of g (set cs p c')) (h 0 (λ e. absurd (omega (arith, e))))
+    ∙ ap (λ ls. packets_from f c.first c.len ∷ ls) (lists-set f g cs p c' (λ q ne. h (suc q) (λ e. ne (omega (arith, e)))))
 
 -- where nothing waits, nothing is taken
 pub nothing-first : (ls : List (List Packet)) (p : ℕ) → list_to p ls ≡ [] → ls ≡ without_first p ls
@@ -148,10 +91,13 @@ nothing-first [] p h = refl
 nothing-first (l ∷ ls) zero h = ap (λ x. x ∷ ls) (h ∙ ap (drop 1) (sym h))
 nothing-first (l ∷ ls) (suc p) h = ap (λ x. l ∷ x) (nothing-first ls p h)
 
-pub past-lists : (f : ℕ → ℕ → Option Packet) (p : ℕ) (ss : List Span) → length ss ≤ p → list_to p (lists_of f 0 ss) ≡ []
-past-lists f p ss l = past (lists_of f 0 ss) p (omega (arith, length-lists_of f 0 ss))
+pub past-lists : (f : ℕ → Option Node) (p : ℕ) (cs : List Chain) → length cs ≤ p → list_to p (lists_of f cs) ≡ []
+past-lists f p cs l = past (lists_of f cs) p (omega (arith, length-lists_of f cs))
   where
     past : (ls : List (List Packet)) (i : ℕ) → length ls ≤ i → get_or ls i [] ≡ []
     past [] i l = refl
     past (x ∷ ls) zero l = absurd (omega (arith, l))
     past (x ∷ ls) (suc i) l = past ls i (omega (arith, l))
+
+pub empty-list : (f : ℕ → Option Node) (p : ℕ) (cs : List Chain) (c : Chain) → c ≡ get_or cs p no_chain → c.len ≡ 0 → list_to p (lists_of f cs) ≡ []
+empty-list f p cs c e z = list-at f p cs ∙ ap (λ t. packets_from f t.first t.len) (sym e) ∙ ap (λ n. packets_from f c.first n) z

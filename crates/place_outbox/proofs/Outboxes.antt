@@ -1,13 +1,10 @@
 -- What each outbox keeps, after each call.
-use Rattle.std.proofs.Common.{◌≡◌, ℕ, ◌+◌, ◌-◌, ◌<◌, ◌≤◌, Option, Some, None, IfSome, IsSome, zero, suc, true, false, Bool, ltb, List, [], length, get_or, set, replicate, refl, sym, ◌∙◌, ap, subst, arith, ltb-true, ltb-false}
+use Rattle.std.proofs.Common.{◌≡◌, ℕ, ◌+◌, ◌-◌, ◌<◌, ◌≤◌, Option, Some, None, IfSome, zero, suc, List, [], length, get_or, set, replicate, refl, sym, ◌∙◌, ap, subst, arith}
 use Rattle.std.proofs.lemmas.List.{length-set, get_or_default, get_or_past, set-get_or}
 use Rattle.chorus_entry.specs.declared.packet.Packet.{Packet}
-use Rattle.place_outbox.specs.declared.pool.Span.{Span}
-use Rattle.place_outbox.specs.Spans.{lists_of, packets_from, no_span, size, IsWhole}
 use Rattle.place_outbox.specs.Waiting.{Pooled, list_to, with_last, without_first, count, nothing_to}
-use Rattle.place_outbox.specs.Fronts.{with_fronts, fronts, is_filled, IsOutbox}
+use Rattle.place_outbox.specs.Fronts.{with_fronts, fronts, IsOutbox}
 use Rattle.place_outbox.proofs.Fronts.{length-fronts, count-fronts, front-less, count-less, count-last, no-fronts, fronts-none, count-none, front-more}
-use Rattle.place_outbox.proofs.Lists.{list-at, packets-first, packets-none}
 
 pub here : (os : List (Option Packet)) (p : ℕ) (o v : Option Packet) → p < length os → o ≡ get_or os p o → o ≡ v → get_or os p None ≡ v
 here os p o v l e f = get_or_default os p None o l ∙ sym e ∙ f
@@ -101,21 +98,3 @@ new-lists os pool n e f = ap (λ xs. with_fronts xs pool.lists) e ∙ ap (with_f
 pub if-some : (r : Option Packet) (P : Type 0) → ((v : Packet) → r ≡ Some v → P) → IfSome r (λ v. P)
 if-some None P h = tt
 if-some (Some v) P h = h v refl
-
--- whether some wait: those of a span
-pub filled-span : (f : ℕ → ℕ → Option Packet) (puts p : ℕ) (ss : List Span) (s : Span) → IsWhole (f p) puts s → s ≡ get_or ss p no_span
-    → ltb s.first s.next ≡ is_filled (list_to p (lists_of f 0 ss))
-filled-span f puts p ss s w e = go (ltb s.first s.next) refl ∙ sym (ap is_filled list)
-  where
-    list : list_to p (lists_of f 0 ss) ≡ packets_from (f p) s.first (size s)
-    list = list-at f 0 p p ss (omega arith) ∙ ap (λ t. packets_from (f p) t.first (size t)) (sym e)
-
-    go : (b : Bool) → ltb s.first s.next ≡ b → b ≡ is_filled (packets_from (f p) s.first (size s))
-    go true g = some (f p s.first) refl (w.filled s.first (omega arith) (ltb-true s.first s.next g))
-      where
-        some : (o : Option Packet) → f p s.first ≡ o → IsSome o → true ≡ is_filled (packets_from (f p) s.first (size s))
-        some None q k = absurd (cc)
-        some (Some v) q k = ap is_filled (sym (packets-first (f p) s v (ltb-true s.first s.next g) q))
-    go false g =
-        let z : s.first ≡ s.next = (let a = w.ordered in let b = ltb-false s.first s.next g in omega (arith, a, b)) in
-        ap is_filled (sym (packets-none (f p) s z))

@@ -1,7 +1,7 @@
 -- The packets that were put back stand in front of the others of their places.
 use Rattle.std.specs.Prelude.{ℕ, ◌≡◌, ◌+◌, ◌^◌, ◌<◌, ◌≤◌, Bool, true, false, List, [], ◌∷◌, ◌++◌, length, map, Option, is_none}
 use Rattle.chorus_entry.specs.declared.packet.Packet.{Packet}
-use Rattle.place_outbox.specs.Spans.{listed}
+use Rattle.place_outbox.specs.Chains.{listed}
 use Rattle.place_outbox.specs.Waiting.{Pooled, count}
 
 abbrev pub with_fronts : List (Option Packet) → List (List Packet) → List (List Packet)

@@ -1,3 +1,3 @@
+pub mod Chains
 pub mod Fronts
-pub mod Spans
 pub mod Waiting

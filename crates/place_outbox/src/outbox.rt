@@ -133,7 +133,8 @@ impl Outbox {
         self.is_filled(place)
     }
 
-    /// The packet at this position among those for the place, from 0; None exactly where fewer wait for it. Takes no memory.
+    /// The packet at this position among those for the place, from 0; None exactly where fewer wait for it. Takes no memory, and
+    /// steps over the packets before it.
     pub fn get(&self, place: u16, at: u64) -> Option<&Packet>
         ensures { option_copied result ≡ slice_get (list_to place self.now.lists) at }
     {

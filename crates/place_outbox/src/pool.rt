@@ -6,49 +6,52 @@ ghost use Rattle.place_outbox.specs.Fronts.{is_filled};
 ghost use Rattle.place_outbox.specs.Waiting.{nothing_to, list_to, with_last, without_first, count};
 
 use chorus_entry::Packet;
+use slab::Slab;
 use std::alloc::{AllocError, Global};
-use std::collections::HashMap;
 use std::marker::Model;
 
-/// Where a packet stands: the place that it goes to, and its number among those that were put for it, from 0.
-#[derive(Clone, Copy, Debug, PartialEq, Eq, Hash)]
-pub(crate) struct Spot {
-    pub(crate) place: usize,
-    pub(crate) number: u64,
+/// A packet in the pool.
+#[derive(Debug, Drop)]
+pub(crate) struct Node {
+    pub(crate) packet: Packet,
+    /// The key of the packet behind it; of no meaning at the last one.
+    pub(crate) next: usize,
 }
 
-/// The numbers of the packets that wait for a place: from `first` on, below `next`.
+/// The packets that wait for a place: the keys of the first and the last one, of no meaning where none waits, and how many
+/// there are.
 #[derive(Clone, Copy, Debug)]
-pub(crate) struct Span {
-    pub(crate) first: u64,
-    pub(crate) next: u64,
+pub(crate) struct Chain {
+    pub(crate) first: usize,
+    pub(crate) last: usize,
+    pub(crate) len: u64,
 }
 
 /// The packets that wait to go to other places, of each place in the order put. There is one pool of packets, and each place
-/// has a span of numbers in it, so room for a packet is room for any place.
+/// has a chain in it, so room for a packet is room for any place.
 #[derive(Debug, Drop)]
 pub(crate) struct Pool {
-    packets: HashMap<Spot, Packet>,
-    spans: Vec<Span>,
+    nodes: Slab<Node>,
+    chains: Vec<Chain>,
     puts: u64,
     waiting: u64,
 }
 
 impl Model for Pool {
-    ghost use Rattle.std.specs.HashMap.{spare};
+    ghost use Rattle.std.specs.Prelude.{◌-◌};
+    ghost use Rattle.slab.specs.Slab.{get, slab_len};
     ghost use Rattle.place_outbox.specs.Waiting.{Pooled};
-    ghost use Rattle.place_outbox.specs.Spans.{packet_at, lists_of, IsPool};
+    ghost use Rattle.place_outbox.specs.Chains.{lists_of, IsPool};
 
     ghost Value = { Pooled };
 
     ghost view = { λ o. record {
-      lists = lists_of (packet_at o.packets.entries) 0 o.spans.items;
-      spare = spare o.packets;
+      lists = lists_of (get o.nodes) o.chains.items;
+      spare = o.nodes.capacity - slab_len o.nodes;
       puts = o.puts;
     } };
 
-    ghost invariant = { λ o.
-        IsPool (packet_at o.packets.entries) o.spans.items o.puts o.waiting };
+    ghost invariant = { λ o. IsPool (get o.nodes) o.chains.items o.puts o.waiting };
 }
 
 impl Pool {
@@ -57,11 +60,15 @@ impl Pool {
         ensures lists { IfOk result (λ pool. pool.lists ≡ nothing_to places) }
         ensures puts { IfOk result (λ pool. pool.puts ≡ 0) }
     {
-        let none = Span { first: 0, next: 0 };
-        let spans = vec![in alloc; none; usize::from(places) + 1]?;
+        let none = Chain {
+            first: 0,
+            last: 0,
+            len: 0,
+        };
+        let chains = vec![in alloc; none; usize::from(places) + 1]?;
         Ok(Pool {
-            packets: HashMap::new(alloc),
-            spans,
+            nodes: Slab::new(alloc),
+            chains,
             puts: 0,
             waiting: 0,
         })
@@ -85,7 +92,7 @@ impl Pool {
     pub(crate) fn spare(&self) -> usize
         ensures { result ≡ self.now.spare }
     {
-        self.packets.capacity() - self.packets.len()
+        self.nodes.capacity() - self.nodes.len()
     }
 
     /// Takes room for this many packets more, whatever places they go to. Changes no list, whatever the answer.
@@ -95,7 +102,7 @@ impl Pool {
         ensures kept { self.old.spare ≤ self.new.spare }
         ensures spare { OnOk result (more ≤ self.new.spare) }
     {
-        self.packets.reserve(more)
+        self.nodes.reserve(more)
     }
 
     /// Puts a packet behind those that wait for the place, in the room that is there. Takes no memory.
@@ -108,14 +115,16 @@ impl Pool {
         ensures puts { self.new.puts ≡ self.old.puts + 1 }
     {
         let place = usize::from(place);
-        let mut span = self.spans[place];
-        let spot = Spot {
-            place,
-            number: span.next,
-        };
-        let _ = self.packets.insert(spot, packet);
-        span.next += 1;
-        self.spans[place] = span;
+        let mut chain = self.chains[place];
+        let key = self.nodes.insert_reserved(Node { packet, next: 0 });
+        if chain.len == 0 {
+            chain.first = key;
+        } else {
+            self.nodes[chain.last].next = key;
+        }
+        chain.last = key;
+        chain.len += 1;
+        self.chains[place] = chain;
         self.puts += 1;
         self.waiting += 1;
     }
@@ -125,23 +134,24 @@ impl Pool {
         requires { place < length self.now.lists }
         ensures { result ≡ is_filled (list_to place self.now.lists) }
     {
-        let span = self.spans[place];
-        span.first < span.next
+        self.chains[place].len > 0
     }
 
-    /// The packet at this position among those for the place, from 0; None exactly where fewer wait for it. Takes no memory.
+    /// The packet at this position among those for the place, from 0; None exactly where fewer wait for it. Takes no memory, and
+    /// steps over the packets before it.
     pub(crate) fn get(&self, place: usize, at: u64) -> Option<&Packet>
         requires { place < length self.now.lists }
         ensures { option_copied result ≡ slice_get (list_to place self.now.lists) at }
     {
-        let span = self.spans[place];
-        if at >= span.next - span.first {
+        let chain = self.chains[place];
+        if at >= chain.len {
             return None;
         }
-        self.packets.get(&Spot {
-            place,
-            number: span.first + at,
-        })
+        let mut key = chain.first;
+        for _step in 0..at {
+            key = self.nodes[key].next;
+        }
+        Some(&self.nodes[key].packet)
     }
 
     /// Takes the first packet for the place out; None exactly where none waits for it, and then nothing changes. Takes no
@@ -152,20 +162,18 @@ impl Pool {
         ensures spare { self.old.spare ≤ self.new.spare }
         ensures puts { self.new.puts ≡ self.old.puts }
     {
-        if place >= self.spans.len() {
+        if place >= self.chains.len() {
             return None;
         }
-        let mut span = self.spans[place];
-        if span.first == span.next {
+        let mut chain = self.chains[place];
+        if chain.len == 0 {
             return None;
         }
-        let spot = Spot {
-            place,
-            number: span.first,
-        };
-        span.first += 1;
-        self.spans[place] = span;
+        let Node { packet, next } = self.nodes.remove(chain.first);
+        chain.first = next;
+        chain.len -= 1;
+        self.chains[place] = chain;
         self.waiting -= 1;
-        self.packets.remove(&spot)
+        Some(packet)
     }
 }

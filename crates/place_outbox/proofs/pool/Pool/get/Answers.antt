@@ -1,45 +1,61 @@
-use Rattle.std.proofs.Common.{◌<◌, ◌-◌, ap, subst, sym, ◌∙◌, arith, length, slice_get}
+use Rattle.std.proofs.Common.{refl, ◌≡◌, IsSome, subst, ap, sym, ◌∙◌, add-one, arith, slice_get}
+use Rattle.slab.specs.Slab.{get}
 use Rattle.place_outbox.specs.Waiting.{list_to}
-use Rattle.place_outbox.specs.Spans.{packet_at, no_span, IsWhole}
-use Rattle.place_outbox.proofs.Lists.{length-lists_of, any-default}
-use Rattle.place_outbox.proofs.Whole.{within-span, past-span}
+use Rattle.place_outbox.specs.Chains.{packet_of, next_of, no_chain, chain_of, key_at}
+use Rattle.place_outbox.proofs.Lists.{within, any-default}
+use Rattle.place_outbox.proofs.Whole.{within-chain, past-chain}
 use Rattle.place_outbox.proofs.pool.Pool.get.Goals as goal
 
-pub index-span-requires : goal.index-span-requires
-index-span-requires c =
-    let n = ap (λ v. length v.lists) c.self.view_is in
-    let m = length-lists_of (packet_at c.self.inside.packets.entries) 0 c.self.inside.spans.items in
-    let r = c.requires in
-    let o = c.self.inside.spans.ok in
-    omega (arith, n, m, r, o)
-
-pub overflow_sub-span : goal.overflow_sub-span
-overflow_sub-span c =
-    let n = ap (λ v. length v.lists) c.self.view_is in
-    let m = length-lists_of (packet_at c.self.inside.packets.entries) 0 c.self.inside.spans.items in
-    let r = c.requires in
-    let l : c.args.place < length c.self.inside.spans.items = omega (arith, n, m, r) in
-    let at = c.index-span.ensures ∙ any-default c.self.inside.spans.items c.args.place c.index-span.result.now no_span l in
-    (subst (λ t. IsWhole (packet_at c.self.inside.packets.entries c.args.place) c.self.inside.puts t) (sym at) (c.self.invariant.whole c.args.place)).ordered
-
-pub returns-then-at-span : goal.returns-then-at-span
-returns-then-at-span c =
-    let n = ap (λ v. length v.lists) c.self.view_is in
-    let m = length-lists_of (packet_at c.self.inside.packets.entries) 0 c.self.inside.spans.items in
-    let r = c.requires in
-    let l : c.args.place < length c.self.inside.spans.items = omega (arith, n, m, r) in
-    let at = c.index-span.ensures ∙ any-default c.self.inside.spans.items c.args.place c.index-span.result.now no_span l in
-    sym (past-span (packet_at c.self.inside.packets.entries) c.self.inside.spans.items _ _ c.args.place c.index-span.result.now c.args.at c.self.invariant at c.if-at-span.true)
+pub returns-then-at-chain : goal.returns-then-at-chain
+returns-then-at-chain c =
+    let l = within (get c.self.inside.nodes) c.self.inside.chains.items _ c.args.place c.args.place (ap (λ v. v.lists) c.self.view_is) c.requires refl in
+    let at = c.index-chain.ensures ∙ any-default c.self.inside.chains.items c.args.place c.index-chain.result.now no_chain l in
+    let len : c.index-chain.result.now.len ≡ (chain_of c.self.inside.chains.items c.args.place).len = ap (λ t. t.len) at in
+    let b = c.if-at-chain.true in
+    sym (past-chain _ c.self.inside.chains.items _ _ c.args.place c.args.at c.self.invariant (omega (arith, len, b)))
     ∙ ap (λ v. slice_get (list_to c.args.place v.lists) c.args.at) c.self.view_is
+
+pub loop-step-init : goal.loop-step-init
+loop-step-init c =
+    let l = within (get c.self.inside.nodes) c.self.inside.chains.items _ c.args.place c.args.place (ap (λ v. v.lists) c.self.view_is) c.requires refl in
+    let at = c.index-chain.ensures ∙ any-default c.self.inside.chains.items c.args.place c.index-chain.result.now no_chain l in
+    ap (λ t. t.first) at
+
+pub index-requires : goal.index-requires
+index-requires c =
+    let l = within (get c.self.inside.nodes) c.self.inside.chains.items _ c.args.place c.args.place (ap (λ v. v.lists) c.self.view_is) c.requires refl in
+    let at = c.index-chain.ensures ∙ any-default c.self.inside.chains.items c.args.place c.index-chain.result.now no_chain l in
+    let len : c.index-chain.result.now.len ≡ (chain_of c.self.inside.chains.items c.args.place).len = ap (λ t. t.len) at in
+    let b = c.if-at-chain.false in
+    let t = c.loop-step-test.true in
+    subst (λ k. IsSome (get c.self.inside.nodes k)) (sym c.loop-step.invariant)
+    (c.self.invariant.filled c.args.place c.loop-step._step (omega (arith, len, b, t)))
+
+pub loop-step-preserved : goal.loop-step-preserved
+loop-step-preserved c =
+    ap next_of (sym c.index.ensures ∙ ap (get c.self.inside.nodes) c.loop-step.invariant)
+    ∙ ap (key_at (get c.self.inside.nodes) c.self.inside.chains.items c.args.place) (sym (add-one c.loop-step._step))
+
+pub index-requires-2 : goal.index-requires-2
+index-requires-2 c =
+    let l = within (get c.self.inside.nodes) c.self.inside.chains.items _ c.args.place c.args.place (ap (λ v. v.lists) c.self.view_is) c.requires refl in
+    let at = c.index-chain.ensures ∙ any-default c.self.inside.chains.items c.args.place c.index-chain.result.now no_chain l in
+    let len : c.index-chain.result.now.len ≡ (chain_of c.self.inside.chains.items c.args.place).len = ap (λ t. t.len) at in
+    let b = c.if-at-chain.false in
+    let e = c.loop-step.auto._step-end in
+    subst (λ k. IsSome (get c.self.inside.nodes k)) (sym c.loop-step.invariant)
+    (c.self.invariant.filled c.args.place c.loop-step._step (omega (arith, len, b, e)))
 
 pub returns : goal.returns
 returns c =
-    let n = ap (λ v. length v.lists) c.self.view_is in
-    let m = length-lists_of (packet_at c.self.inside.packets.entries) 0 c.self.inside.spans.items in
-    let r = c.requires in
-    let l : c.args.place < length c.self.inside.spans.items = omega (arith, n, m, r) in
-    let at = c.index-span.ensures ∙ any-default c.self.inside.spans.items c.args.place c.index-span.result.now no_span l in
-    let few : c.args.at < c.index-span.result.now.next - c.index-span.result.now.first = let f = c.if-at-span.false in omega (arith, f) in
-    c.get.ensures.value
-    ∙ sym (within-span (packet_at c.self.inside.packets.entries) c.self.inside.spans.items _ _ c.args.place c.index-span.result.now c.args.at c.self.invariant at few)
+    let l = within (get c.self.inside.nodes) c.self.inside.chains.items _ c.args.place c.args.place (ap (λ v. v.lists) c.self.view_is) c.requires refl in
+    let at = c.index-chain.ensures ∙ any-default c.self.inside.chains.items c.args.place c.index-chain.result.now no_chain l in
+    let len : c.index-chain.result.now.len ≡ (chain_of c.self.inside.chains.items c.args.place).len = ap (λ t. t.len) at in
+    let b = c.if-at-chain.false in
+    let e = c.loop-step.auto._step-end in
+    let f = c.loop-step-test.false in
+    let step : c.loop-step._step ≡ c.args.at = omega (arith, e, f) in
+    ap packet_of (sym c.index-2.ensures ∙ ap (get c.self.inside.nodes) c.loop-step.invariant)
+    ∙ ap (λ i. packet_of (get c.self.inside.nodes (key_at (get c.self.inside.nodes) c.self.inside.chains.items c.args.place i))) step
+    ∙ sym (within-chain _ c.self.inside.chains.items _ _ c.args.place c.args.at c.self.invariant (omega (arith, len, b)))
     ∙ ap (λ v. slice_get (list_to c.args.place v.lists) c.args.at) c.self.view_is

@@ -1,13 +1,8 @@
-use Rattle.std.proofs.Common.{ap, ◌∙◌}
-use Rattle.place_outbox.proofs.Lists.{lists-same}
-use Rattle.place_outbox.proofs.Whole.{same-pool}
+use Rattle.std.proofs.Common.{sym, subst}
+use Rattle.slab.specs.Slab.{get}
+use Rattle.place_outbox.specs.Chains.{IsPool}
 use Rattle.place_outbox.proofs.pool.Pool.reserve.Goals as goal
 
 pub invariant_of-self : goal.invariant_of-self
 invariant_of-self c =
-    same-pool _ _ _ _ _ (λ i n. c.reserve.ensures.entries.2 (record { place = i; number = n })) c.self.invariant
-
-pub returns-clause-lists : goal.returns-clause-lists
-returns-clause-lists c =
-    lists-same _ _ 0 _ (λ i n l. c.reserve.ensures.entries.2 (record { place = i; number = n }))
-    ∙ ap (λ v. v.lists) c.self.view_is
+    subst (λ s. IsPool (get s) c.self.inside.chains.items c.self.inside.puts c.self.inside.waiting) (sym c.reserve.ensures.rest_kept) c.self.invariant
