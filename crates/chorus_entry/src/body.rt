@@ -2,22 +2,39 @@
 
 ghost use Rattle.std.specs.Prelude.{◌≡◌, ℕ, ◌≤◌, List, length, IfOk};
 ghost use Rattle.chorus_ui.specs.declared.limits.TheConstants.{BODY_LIMIT};
+ghost use Rattle.chorus_entry.specs.declared.body.TheConstants.{SHORT_LIMIT};
+ghost use Rattle.chorus_entry.specs.Body.{bytes_of, IsWithin};
 
 use std::alloc::{AllocError, Global};
+use std::fmt::{self, Debug, Formatter};
 use std::marker::Model;
 
+/// How many bytes stand in a body itself. With their number and the tag they fill the room that a `Vec` would take.
+const SHORT_LIMIT: usize = 22;
+
+const _: () = prove!(size_of::<Body>() == 24);
+
 /// The bytes of a message, a contiguous string of at most 4,096, which nothing changes once it is made.
-#[derive(Debug, Drop)]
+#[derive(Drop)]
 pub struct Body {
-    bytes: Vec<u8>,
+    bytes: Bytes,
+}
+
+/// Where the bytes of a body stand.
+#[derive(Drop)]
+enum Bytes {
+    /// Few of them are the first `len` of a room in the body itself, and take no memory.
+    Short { len: u8, room: [u8; SHORT_LIMIT] },
+    /// More have memory of their own.
+    Long { bytes: Box<Vec<u8>> },
 }
 
 impl Model for Body {
     ghost Value = { List ℕ };
 
-    ghost view = { λ body. body.bytes.items };
+    ghost view = { λ body. bytes_of body.bytes };
 
-    ghost invariant = { λ body. length body.bytes.items ≤ BODY_LIMIT };
+    ghost invariant = { λ body. IsWithin body.bytes };
 }
 
 impl Body {
@@ -26,7 +43,14 @@ impl Body {
         requires { length bytes.now ≤ BODY_LIMIT }
         ensures { IfOk result (λ body. body ≡ bytes.now) }
     {
-        let bytes = Vec::from_slice(alloc, bytes)?;
+        let bytes = if bytes.len() <= SHORT_LIMIT {
+            Bytes::short(bytes)
+        } else {
+            let bytes = Vec::from_slice(alloc, bytes)?;
+            Bytes::Long {
+                bytes: Box::new(alloc, bytes)?,
+            }
+        };
         Ok(Body { bytes })
     }
 
@@ -35,15 +59,50 @@ impl Body {
         ensures bytes { result.now ≡ self.now }
         ensures within { length self.now ≤ BODY_LIMIT }
     {
-        self.bytes.as_slice()
+        match &self.bytes {
+            Bytes::Short { len, room } => &room[..usize::from(*len)],
+            Bytes::Long { bytes } => bytes.as_slice(),
+        }
     }
 
-    /// The same bytes again, in memory of their own.
+    /// The same bytes again. Where they are few, this takes no memory.
     pub fn copied(&self) -> Result<Body, AllocError>
         ensures { IfOk result (λ body. body ≡ self.now) }
     {
-        let bytes = self.bytes.clone()?;
+        let bytes = match &self.bytes {
+            Bytes::Short { len, room } => Bytes::Short {
+                len: *len,
+                room: *room,
+            },
+            Bytes::Long { bytes } => Bytes::Long {
+                bytes: bytes.clone()?,
+            },
+        };
         Ok(Body { bytes })
+    }
+}
+
+impl Bytes {
+    /// These few bytes, in a room in the body itself.
+    fn short(bytes: &[u8]) -> Bytes
+        requires { length bytes.now ≤ SHORT_LIMIT }
+        ensures bytes { bytes_of result ≡ bytes.now }
+        ensures within { IsWithin result }
+    {
+        let mut room = [0; SHORT_LIMIT];
+        room[..bytes.len()].copy_from_slice(bytes);
+        Bytes::Short {
+            len: bytes.len() as u8,
+            room,
+        }
+    }
+}
+
+impl Debug for Body {
+    fn fmt<W: fmt::Write>(&self, f: &mut Formatter<W>) -> fmt::Result {
+        f.debug_struct("Body")
+            .field("bytes", &self.bytes())
+            .finish()
     }
 }
 
@@ -57,7 +116,7 @@ impl PartialEq for Body {
     ghost laws = { Prim.search (comparing, rules) };
 
     fn eq(&self, other: &Body) -> bool {
-        self.bytes == other.bytes
+        self.bytes() == other.bytes()
     }
 }
 
