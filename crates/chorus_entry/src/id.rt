@@ -1,11 +1,18 @@
 //! The ids of messages.
 
+ghost use Rattle.std.specs.Prelude.{◌++◌};
 ghost use Rattle.std.proofs.Common.{rules};
-ghost use Rattle.std.specs.Cmp.Rules.{comparing};
+ghost use Rattle.std.specs.Cmp.Rules.{comparing, hashing};
+ghost use Rattle.std.specs.Hash as fed;
+
+use std::hash::{Hash, Hasher};
+
+/// How many numbers there are for the posts of one caller.
+const NUMBERS: u64 = 1 << 32;
 
 /// The name of a message, unique in a journal: which caller posted it, as the caller's how-manieth post, and which copy
 /// of that post it is. A post has copy 0; the copies that a group's post is turned into count from 1.
-#[derive(Clone, Copy, Debug, Eq, PartialOrd, Ord, Hash)]
+#[derive(Clone, Copy, Debug, Eq, PartialOrd, Ord)]
 pub struct MsgId {
     /// The caller that posted it.
     pub seat: u32,
@@ -24,5 +31,19 @@ impl PartialEq for MsgId {
 
     fn eq(&self, other: &MsgId) -> bool {
         self.seat == other.seat && self.number == other.number && self.copy == other.copy
+    }
+}
+
+impl Hash for MsgId {
+    ghost use Rattle.chorus_entry.specs.MsgId.{post_number};
+
+    ghost hash_input = { λ id. fed.u64 (post_number id) ++ fed.u16 id.copy };
+
+    ghost respects_eq = { Prim.search (hashing, rules) };
+
+    fn hash<H: Hasher>(&self, state: &mut H) {
+        let post = u64::from(self.seat) * NUMBERS + u64::from(self.number);
+        post.hash(state);
+        self.copy.hash(state);
     }
 }
