@@ -171,7 +171,7 @@ fn assert_carries<R: Abort + Wait>(rt: &R, alloc: Global, len: usize) {
 
 #[test]
 fn ruled_ends_carry_bodies_of_each_length(rt: HostRuntime) {
-    for len in [0, 1, 255, 256, 3_001, 4_095, 4_096] {
+    for len in [0, 1, 22, 23, 255, 256, 3_001, 4_095, 4_096] {
         assert_carries(&rt, rt.alloc(), len);
     }
 }
