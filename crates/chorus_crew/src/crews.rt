@@ -1,5 +1,5 @@
 //! The crew.
-ghost use Rattle.std.specs.Prelude.{◌≡◌, ◌+◌, ◌<◌, ◌≤◌, ◌↔◌, ℕ, true, Some, IfOk, IsErrOf, [], length};
+ghost use Rattle.std.specs.Prelude.{◌≡◌, ◌+◌, ◌<◌, ◌≤◌, ◌↔◌, ℕ, true, Some, IfOk, IsErrOf, length};
 ghost use Rattle.chorus_turn.specs.Knowing.{limit};
 ghost use Rattle.chorus_nucleus.specs.Passes.{layout_of, known, worn_by};
 ghost use Rattle.chorus_crew.specs.declared.fault.CrewFault.TheVariants as CrewFault;

@@ -1,6 +1,6 @@
 //! The bytes of a message.
 
-ghost use Rattle.std.specs.Prelude.{◌≡◌, ℕ, ◌≤◌, List, length, IfOk};
+ghost use Rattle.std.specs.Prelude.{◌≡◌, ℕ, ◌≤◌, List, length, IsOk, IfOk};
 ghost use Rattle.chorus_ui.specs.declared.limits.TheConstants.{BODY_LIMIT};
 ghost use Rattle.chorus_entry.specs.declared.body.TheConstants.{SHORT_LIMIT};
 ghost use Rattle.chorus_entry.specs.Body.{bytes_of, IsWithin};
@@ -9,12 +9,13 @@ use std::alloc::{AllocError, Global};
 use std::fmt::{self, Debug, Formatter};
 use std::marker::Model;
 
-/// How many bytes stand in a body itself. With their number and the tag they fill the room that a `Vec` would take.
-const SHORT_LIMIT: usize = 22;
+/// The most bytes that stand in a body itself. With their number and the tag they fill the room that a `Vec` would take.
+pub const SHORT_LIMIT: usize = 22;
 
 const _: () = prove!(size_of::<Body>() == 24);
 
-/// The bytes of a message, a contiguous string of at most 4,096, which nothing changes once it is made.
+/// The bytes of a message, a contiguous string of at most 4,096, which nothing changes once it is made. Up to 22 bytes stand in it
+/// and take no memory.
 #[derive(Drop)]
 pub struct Body {
     bytes: Bytes,
@@ -25,7 +26,7 @@ pub struct Body {
 enum Bytes {
     /// Few of them are the first `len` of a room in the body itself, and take no memory.
     Short { len: u8, room: [u8; SHORT_LIMIT] },
-    /// More have memory of their own.
+    /// More have memory of their own, behind a box, so that a body is no larger than a `Vec`.
     Long { bytes: Box<Vec<u8>> },
 }
 
@@ -38,10 +39,11 @@ impl Model for Body {
 }
 
 impl Body {
-    /// The body with these bytes, copied.
+    /// The body with these bytes, copied. Up to 22 of them take no memory.
     pub fn new(alloc: Global, bytes: &[u8]) -> Result<Body, AllocError>
         requires { length bytes.now ≤ BODY_LIMIT }
-        ensures { IfOk result (λ body. body ≡ bytes.now) }
+        ensures value { IfOk result (λ body. body ≡ bytes.now) }
+        ensures short { length bytes.now ≤ SHORT_LIMIT → IsOk result }
     {
         let bytes = if bytes.len() <= SHORT_LIMIT {
             Bytes::short(bytes)
@@ -65,9 +67,10 @@ impl Body {
         }
     }
 
-    /// The same bytes again. Where they are few, this takes no memory.
+    /// The same bytes again. Up to 22 of them take no memory.
     pub fn copied(&self) -> Result<Body, AllocError>
-        ensures { IfOk result (λ body. body ≡ self.now) }
+        ensures value { IfOk result (λ body. body ≡ self.now) }
+        ensures short { length self.now ≤ SHORT_LIMIT → IsOk result }
     {
         let bytes = match &self.bytes {
             Bytes::Short { len, room } => Bytes::Short {

@@ -153,7 +153,7 @@ module _ {S R : Type 0} (journal : S → List (Remarked R) → Type 0) (notes : 
 
 module _ {S R : Type 0} (journal : S → List (Remarked R) → Type 0) (marked : ℕ → S → Type 0) where
   -- Word 0 counts the numbers drawn. The word of a place is 0 where its state is at home, and else the holder's number
-  -- and 1. Of the words between nothing is said: they are 0, and no step is on them.
+  -- and 1. The rule says nothing of the words between: they are 0 from the start, and no step is on them.
   pub record Turned (s : State (Option S) (View R)) : Type 0 where
     pub work : ℕ → List (Placed R)
     pub log : ℕ → List (Remarked R)

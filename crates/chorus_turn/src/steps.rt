@@ -17,6 +17,8 @@ use std::snapshot::Snapshot;
 /// How many words stand from one place's word to the next one's: 64 bytes, a line of the cache.
 pub(crate) const APART: usize = 8;
 
+const _: () = prove!(APART * size_of::<u64>() == 64);
+
 // Where the word of a place stands.
 fn word_of(place: u16) -> usize
     ensures { result ≡ word_of place }

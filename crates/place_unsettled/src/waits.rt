@@ -173,15 +173,4 @@ impl Waits {
         };
         line.set_tried(to);
     }
-
-    /// Gives back the room of a key where nothing waits. Changes no queue. Takes no memory.
-    pub fn release(&mut self, key: &Key)
-        ensures queues { (k : Key) → queue self.new k ≡ queue self.old k }
-        ensures released { queue self.old key.now ≡ empty_queue → room self.new key.now ≡ 0 }
-        ensures rooms { (k : Key) → same_key key.now k ≡ false → room self.new k ≡ room self.old k }
-    {
-        if self.tried(key).is_none() && self.len(key) == 0 {
-            let _ = self.lines.remove(key);
-        }
-    }
 }
