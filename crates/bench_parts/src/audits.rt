@@ -18,7 +18,7 @@ const DRAWN: u64 = 388;
 
 const ROUNDS: u32 = 5;
 
-/// Prints what is found in a short journal.
+/// Prints what an audit finds in a short journal.
 pub(crate) fn print_found<R: Print>(rt: &R, alloc: Global) -> io::Result<()> {
     let printed = printed_by(alloc, &text(alloc, FEW)?)?;
     print_audit(rt, found(alloc, &printed)?)
@@ -33,7 +33,7 @@ fn print_audit<R: Print>(rt: &R, audit: Option<Audit>) -> io::Result<()> {
     }
 }
 
-// What an audit finds. None where the text is too long for one.
+/// What the measured audit finds. None where the text is too long for one.
 fn found(alloc: Global, text: &[u8]) -> Result<Option<Audit>, AllocError> {
     let Some(layout) = Layout::new(16, 1) else {
         return Ok(None);
@@ -96,7 +96,7 @@ fn draw_rate<R: Clock>(rt: &R, alloc: Global, text: &[u8]) -> io::Result<f64> {
     megabytes_since(rt, start, text)
 }
 
-// Whether the journal that the source gives is drawn.
+/// Whether the journal that the source gives is drawn as a picture.
 fn is_drawn(alloc: Global, source: &mut MemSource, sink: &mut MemSink) -> bool {
     let Some(layout) = Layout::new(16, 1) else {
         return false;
@@ -111,7 +111,7 @@ fn audit_rate<R: Clock>(rt: &R, alloc: Global, text: &[u8]) -> io::Result<f64> {
     megabytes_since(rt, start, text)
 }
 
-/// Megabytes of a scenario's text that are read per second; 0 where it is refused.
+/// Megabytes of a scenario's text that are read per second, to compare an audit with; 0 where it is refused.
 fn read_rate<R: Clock>(rt: &R, alloc: Global, text: &[u8]) -> io::Result<f64> {
     let start = Instant::now(rt)?;
     if !is_read(alloc, text) {

@@ -20,7 +20,7 @@ const MOST: usize = 262_144;
 
 const ROUNDS: u32 = 3;
 
-/// Prints how many entries of a short journal are taken.
+/// Prints how many entries of a short journal the checker takes.
 pub(crate) fn print_taken<R: Print>(rt: &R, alloc: Global) -> io::Result<()> {
     let Some(layout) = Layout::new(SITES, 1) else {
         return Ok(());
@@ -31,7 +31,7 @@ pub(crate) fn print_taken<R: Print>(rt: &R, alloc: Global) -> io::Result<()> {
     println!(rt; "{taken} of {many} entries taken")
 }
 
-/// Prints how fast journals of some lengths are judged, the longest of 262,144 entries.
+/// Prints how fast the checker judges journals of some lengths, the longest of 262,144 entries.
 pub(crate) fn print_all<R: Clock + Print>(rt: &R, alloc: Global) -> io::Result<()> {
     let Some(layout) = Layout::new(SITES, 1) else {
         return Ok(());
@@ -41,7 +41,7 @@ pub(crate) fn print_all<R: Clock + Print>(rt: &R, alloc: Global) -> io::Result<(
     print_rates(rt, alloc, layout, MOST)
 }
 
-/// How many entries are taken.
+/// How many entries of the made journal the checker takes.
 fn judge(alloc: Global, layout: Layout, entries: Vec<Entry>) -> Result<usize, AllocError> {
     let mut world = World::opening(alloc, layout)?;
     let mut taken: usize = 0;
@@ -53,7 +53,7 @@ fn judge(alloc: Global, layout: Layout, entries: Vec<Entry>) -> Result<usize, Al
     Ok(taken)
 }
 
-/// One pass over the entries: the sum of their clocks and of the messages that they are about.
+/// One pass over the entries, to compare the checker with: the sum of their clocks and of the messages that they are about.
 fn pass(entries: &[Entry]) -> u64 {
     let mut sum: u64 = 0;
     for entry in entries {
@@ -96,7 +96,7 @@ fn print_rates<R: Clock + Print>(
     )
 }
 
-/// Millions of entries per second.
+/// Millions of entries of the made journal per second, by the checker or a pass.
 fn rate_since<R: Clock>(rt: &R, start: Instant, entries: usize) -> io::Result<f64> {
     let entries = u32::try_from(entries).unwrap_or(u32::MAX);
     Ok(f64::from(entries) / start.elapsed(rt)?.as_secs_f64() / 1_000_000.0)

@@ -8,7 +8,7 @@ use chorus_nucleus::{Nucleus, Pass};
 use chorus_ui::Ui;
 use std::alloc::Global;
 
-/// A chooser in which these ports are enabled, all with one priority.
+/// The measured chooser, in which these ports are enabled, all with one priority.
 fn chooser_of(alloc: Global, pairs: &[(Ui, Ui)]) -> Option<Chooser> {
     let mut chooser = Chooser::start(alloc).ok()?;
     for pair in pairs {
@@ -20,7 +20,7 @@ fn chooser_of(alloc: Global, pairs: &[(Ui, Ui)]) -> Option<Chooser> {
     Some(chooser)
 }
 
-/// Receives on any of the ports, so often.
+/// Receives by a chooser on any of the empty ports, so often.
 pub(crate) fn receive_often(
     alloc: Global,
     nucleus: &Nucleus,
@@ -38,7 +38,7 @@ pub(crate) fn receive_often(
     Some(())
 }
 
-/// Takes at each port, so often.
+/// Takes at each of the empty ports, so often, to compare a chooser with.
 pub(crate) fn look_often(
     nucleus: &Nucleus,
     pass: &mut Pass,

@@ -18,7 +18,7 @@ use std::sync::Wait;
 /// What a caller sends.
 pub(crate) const BODY: &[u8] = b"sixteen bytes...";
 
-/// The name, whose kind is looked at, so that what stands above can rest on it.
+/// The name that a measured caller uses, whose kind is looked at, so that what stands above can rest on it.
 fn named(site: u16, kind: Kind, number: u64) -> Option<Ui>
     ensures { IfSome result (λ ui. ui.kind ≡ kind) }
 {
@@ -26,21 +26,21 @@ fn named(site: u16, kind: Kind, number: u64) -> Option<Ui>
     if ui.kind() == kind { Some(ui) } else { None }
 }
 
-/// The first actor of the site, from 1 on. None where there is no such site.
+/// The first actor of the site, from 1 on, for a measured caller. None where there is no such site.
 pub(crate) fn actor_of(site: u16) -> Option<Ui>
     ensures { IfSome result (λ actor. actor.kind ≡ kinds.Actor) }
 {
     named(site, Kind::Actor, 1)
 }
 
-/// The port with this number of the site, both from 1 on. None where there is no such site or number.
+/// The port with this number of the site, both from 1 on, for a measured caller. None where there is no such site or number.
 pub(crate) fn port_of(site: u16, number: u64) -> Option<Ui>
     ensures { IfSome result (λ port. port.kind ≡ kinds.Port) }
 {
     named(site, Kind::Port, number)
 }
 
-/// A nucleus of so many sites of one place each, 1 to 16, and its opening pass, in the first actor of site 1.
+/// A nucleus to be measured, of so many sites of one place each, 1 to 16, and its opening pass, in the first actor of site 1.
 pub(crate) fn start<R: Wait>(alloc: Global, rt: &R, sites: u16) -> Option<(Nucleus, Pass)>
     ensures { IfSome result (λ r. IsPassOf r.0 r.1) }
 {
@@ -48,7 +48,7 @@ pub(crate) fn start<R: Wait>(alloc: Global, rt: &R, sites: u16) -> Option<(Nucle
     Nucleus::start(alloc, rt, layout).ok()
 }
 
-/// A pass more, in the first actor of the site. None also where the keeper's pass is not the keeper.
+/// A pass more at the measured nucleus, in the first actor of the site. None also where the keeper's pass is not the keeper.
 pub(crate) fn enter(nucleus: &Nucleus, keeper: &mut Pass, site: u16) -> Option<Pass>
     requires { IsPassOf nucleus.now keeper.old }
     ensures keeper { IsPassOf nucleus.now keeper.new }
@@ -61,7 +61,7 @@ pub(crate) fn enter(nucleus: &Nucleus, keeper: &mut Pass, site: u16) -> Option<P
     nucleus.enter(keeper, actor).ok()
 }
 
-/// Makes the next port of the site's first actor, with room for 64 messages.
+/// Makes the next port of the site's first actor at the measured nucleus, with room for 64 messages.
 fn make(nucleus: &Nucleus, pass: &mut Pass, site: u16) -> Option<()>
     requires { IsPassOf nucleus.now pass.old }
     ensures { IsPassOf nucleus.now pass.new }
@@ -71,7 +71,8 @@ fn make(nucleus: &Nucleus, pass: &mut Pass, site: u16) -> Option<()>
     Some(())
 }
 
-/// Sends a message of 16 bytes to the port. None also where the caller has posted 2^32 - 1 messages, or the name is not one of a port.
+/// Sends a message of 16 bytes to the port at the measured nucleus. None also where the caller has posted 2^32 - 1 messages, or the
+/// name is not one of a port.
 pub(crate) fn send(nucleus: &Nucleus, pass: &mut Pass, port: Ui) -> Option<()>
     requires { IsPassOf nucleus.now pass.old }
     ensures { IsPassOf nucleus.now pass.new }
@@ -83,7 +84,7 @@ pub(crate) fn send(nucleus: &Nucleus, pass: &mut Pass, port: Ui) -> Option<()>
     Some(())
 }
 
-/// Takes at the port. None also where the name is not one of a port.
+/// Takes at the port of the measured nucleus. None also where the name is not one of a port.
 pub(crate) fn take(nucleus: &Nucleus, pass: &mut Pass, port: Ui) -> Option<()>
     requires { IsPassOf nucleus.now pass.old }
     ensures { IsPassOf nucleus.now pass.new }
@@ -95,7 +96,7 @@ pub(crate) fn take(nucleus: &Nucleus, pass: &mut Pass, port: Ui) -> Option<()>
     Some(())
 }
 
-/// Pumps the place once. None also where there is no such place.
+/// Pumps the place of the measured nucleus once. None also where there is no such place.
 pub(crate) fn pump<R: Wait>(rt: &R, nucleus: &Nucleus, pass: &mut Pass, place: u16) -> Option<Pump>
     requires { IsPassOf nucleus.now pass.old }
     ensures { IsPassOf nucleus.now pass.new }
@@ -106,7 +107,7 @@ pub(crate) fn pump<R: Wait>(rt: &R, nucleus: &Nucleus, pass: &mut Pass, place: u
     nucleus.pump(rt, pass, place).ok()
 }
 
-/// Sends so many messages to the port.
+/// Sends so many messages to the port at the measured nucleus.
 fn send_all(nucleus: &Nucleus, pass: &mut Pass, port: Ui, messages: u32) -> Option<()>
     requires { IsPassOf nucleus.now pass.old }
     ensures { IsPassOf nucleus.now pass.new }
@@ -117,7 +118,7 @@ fn send_all(nucleus: &Nucleus, pass: &mut Pass, port: Ui, messages: u32) -> Opti
     Some(())
 }
 
-/// Makes the first ports of the site, so many, and sends so many messages to each.
+/// Makes the first ports of the site at the measured nucleus, so many, and sends so many messages to each.
 pub(crate) fn fill(
     nucleus: &Nucleus,
     pass: &mut Pass,
@@ -135,7 +136,7 @@ pub(crate) fn fill(
     Some(())
 }
 
-/// Ends the nucleus. Each other pass was retired into this one: else it waits for them, so for ever.
+/// Ends the measured nucleus. Each other pass was retired into this one: else it waits for them, so for ever.
 pub(crate) fn close<R: Wait>(rt: &R, nucleus: Nucleus, pass: Pass) -> Option<Closed>
     requires { IsPassOf nucleus pass }
 {
@@ -149,14 +150,14 @@ pub(crate) fn close<R: Wait>(rt: &R, nucleus: Nucleus, pass: Pass) -> Option<Clo
     }
 }
 
-/// A nucleus is not dropped, so where it cannot be closed nothing comes behind.
+/// The measured nucleus is not dropped, so where it cannot be closed nothing comes behind.
 fn wait_for_ever<R: Wait>(rt: &R, nucleus: Nucleus) -> Option<Closed> {
     let _kept = nucleus;
     for _ in rt.forever() {}
     unreachable!()
 }
 
-/// How many entries the journals have.
+/// How many entries the journals of the measured nucleus have.
 pub(crate) fn entries_in(journals: &[Vec<Entry>]) -> usize {
     journals
         .iter()

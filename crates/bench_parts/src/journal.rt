@@ -49,7 +49,7 @@ impl Maker {
         Ok(())
     }
 
-    // The caller of the site posts its next message.
+    /// In the made journal the caller of the site posts its next message.
     fn post(&mut self, place: u16, tag: Tag, dest: Dest) -> Result<MsgId, AllocError> {
         let mut number: u32 = 1;
         if let Some(posts) = self.posts.get_mut(usize::from(place)) {
@@ -67,7 +67,7 @@ impl Maker {
         Ok(id)
     }
 
-    // The message is tried at the place, which holds the port, and accepted and taken there.
+    /// In the made journal the message is tried at the place, which holds the port, and accepted and taken there.
     fn deliver(
         &mut self,
         from: u16,
@@ -84,7 +84,7 @@ impl Maker {
         self.push(to, Act::Take { port, pos, id })
     }
 
-    // The message is tried where the port was, and found stale.
+    /// In the made journal the message is tried where the port was, and found stale.
     fn miss(&mut self, flow: &Flow, id: MsgId) -> Result<(), AllocError> {
         let port = flow.port;
         let (to, hop) = (flow.holder, flow.hop);
@@ -112,7 +112,7 @@ impl Maker {
         self.push(flow.from, Act::Told { id, answer })
     }
 
-    // The message comes to the flow's port.
+    /// In the made journal the message comes to the flow's port.
     fn reach(&mut self, flow: &mut Flow, id: MsgId) -> Result<(), AllocError> {
         if flow.known != flow.holder {
             self.miss(flow, id)?;
@@ -125,7 +125,7 @@ impl Maker {
         Ok(())
     }
 
-    // One message to the group, for which the port is chosen.
+    /// One message of the made journal to the group, for which the port is chosen.
     fn choose(&mut self, flow: &mut Flow) -> Result<(), AllocError> {
         let group = flow.group;
         let id = self.post(flow.from, Tag::Plain, Dest::One(group))?;
@@ -139,7 +139,7 @@ impl Maker {
         self.reach(flow, copy)
     }
 
-    // One call: the request, the reply of the caller of the port's site, and the end of the call.
+    /// One call of the made journal: the request, the reply of the caller of the port's site, and the end of the call.
     fn call(&mut self, flow: &mut Flow) -> Result<(), AllocError> {
         flow.calls = flow.calls.wrapping_add(1);
         let number = flow.calls;
@@ -156,7 +156,7 @@ impl Maker {
         self.push(flow.from, Act::Done { number })
     }
 
-    // The port moves to the next site.
+    /// In the made journal the port moves to the next site.
     fn depart(&mut self, flow: &mut Flow) -> Result<(), AllocError> {
         let to = next_site(flow.holder, flow.from);
         let hop = flow.hop.wrapping_add(1);
@@ -177,7 +177,7 @@ impl Maker {
         Ok(())
     }
 
-    // The next message of the flow.
+    /// Makes the next message of the flow in the made journal.
     fn advance(&mut self, flow: &mut Flow) -> Result<(), AllocError> {
         match flow.turn % 3 {
             0 => {
@@ -194,7 +194,7 @@ impl Maker {
         Ok(())
     }
 
-    /// Puts the making of this port into the journal, for actor 1 of its site, with room for 64 messages.
+    /// Puts the making of this port into the made journal, for actor 1 of its site, with room for 64 messages.
     fn make(&mut self, port: Ui) -> Result<(), AllocError> {
         let Some(actor) = Ui::new(port.site(), Kind::Actor, 1) else {
             return Ok(());
@@ -208,7 +208,7 @@ impl Maker {
         self.push(port.site(), act)
     }
 
-    // Makes the flow's group, of which its port is the one member.
+    /// Makes the flow's group in the made journal, of which its port is the one member.
     fn open(&mut self, flow: &Flow) -> Result<(), AllocError> {
         let (group, port) = (flow.group, flow.port);
         self.push(flow.from, Act::GroupMake { group })?;
@@ -216,7 +216,7 @@ impl Maker {
     }
 }
 
-// The site behind this one, round all of them, but not that of the caller.
+/// The site behind this one in the made journal's pattern, round all of them, but not that of the caller.
 fn next_site(site: u16, from: u16) -> u16 {
     let next = if site < SITES {
         site.wrapping_add(1)
@@ -232,7 +232,7 @@ fn next_site(site: u16, from: u16) -> u16 {
     }
 }
 
-// The flow of the site's caller, at its start.
+/// The flow of the site's caller at the start of the made journal.
 fn start(from: u16) -> Option<Flow> {
     let site = next_site(from, from);
     Some(Flow {
@@ -251,7 +251,7 @@ fn start(from: u16) -> Option<Flow> {
     })
 }
 
-/// A legal journal of about so many entries, and no fewer.
+/// Makes a legal journal for the measured checker, of about so many entries, and no fewer.
 pub fn journal(alloc: Global, many: usize) -> Result<Vec<Entry>, AllocError> {
     let mut maker = Maker {
         alloc,

@@ -11,20 +11,20 @@
 #![tactic(auto)]
 
 mod audits;
-mod calls;
 mod checking;
 mod choosing;
 mod crews;
 mod ground;
 mod journal;
 mod nucleus;
+mod nucleus_work;
 mod peers;
 mod rounds;
 mod scenarios;
 mod sites;
 mod spinning;
 mod threads;
-mod work;
+mod two_sites;
 
 use std::alloc::Global;
 use std::sync::Wait;
@@ -48,7 +48,7 @@ fn print_figures<R: Threads + Sync + Wait + Clock + Print>(
 ) -> io::Result<()> {
     match word {
         "checker" => checking::print_all(rt, alloc),
-        "place" => work::print_times(rt, alloc),
+        "place" => two_sites::print_times(rt, alloc),
         "scene" => scenarios::print_rates(rt, alloc),
         "audit" => audits::print_rates(rt, alloc),
         "nucleus" => nucleus::print_call_times(rt, alloc),
@@ -64,7 +64,7 @@ fn print_figures<R: Threads + Sync + Wait + Clock + Print>(
 /// Does a little of each part that is measured, and prints what came of it, without any time.
 fn print_few<R: Threads + Sync + Wait + Clock + Print>(rt: &R, alloc: Global) -> io::Result<()> {
     checking::print_taken(rt, alloc)?;
-    work::print_few(rt, alloc)?;
+    two_sites::print_few(rt, alloc)?;
     scenarios::print_few(rt, alloc)?;
     audits::print_found(rt, alloc)?;
     nucleus::print_few(rt, alloc)?;

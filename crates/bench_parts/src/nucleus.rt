@@ -1,6 +1,6 @@
 //! What calls of a nucleus cost, a receive on any of 32 ports, and a crew.
 
-use crate::calls::Work;
+use crate::nucleus_work::Work;
 use crate::sites;
 use std::alloc::Global;
 use std::io;
@@ -21,7 +21,7 @@ const PORTS: u32 = 64;
 
 const TRIES: u32 = 5;
 
-/// Prints how many entries come of a little of each work.
+/// Prints how many entries come of a little of each work at a nucleus.
 pub(crate) fn print_few<R: Threads + Sync + Wait + Clock + Print>(
     rt: &R,
     alloc: Global,
@@ -44,12 +44,12 @@ pub(crate) fn print_few<R: Threads + Sync + Wait + Clock + Print>(
     Ok(())
 }
 
-/// Nanoseconds of one of so many.
+/// Nanoseconds of one of so many calls of a nucleus or of sites.
 fn each(time: Duration, count: u32) -> f64 {
     time.as_secs_f64() / f64::from(count) * 1_000_000_000.0
 }
 
-/// Nanoseconds of the work, done so often.
+/// Nanoseconds of the work at a nucleus, done so often.
 fn mean<R: Threads + Sync + Wait + Clock>(
     rt: &R,
     alloc: Global,
@@ -60,7 +60,7 @@ fn mean<R: Threads + Sync + Wait + Clock>(
     Ok(each(time, count))
 }
 
-/// Prints nanoseconds of a send and a take, of the same at sites and on four threads, and of an idle pump.
+/// Prints nanoseconds of a send and a take at a nucleus, of the same at sites and on four threads, and of an idle pump.
 pub(crate) fn print_call_times<R: Threads + Sync + Wait + Clock + Print>(
     rt: &R,
     alloc: Global,
@@ -84,7 +84,7 @@ pub(crate) fn print_call_times<R: Threads + Sync + Wait + Clock + Print>(
     println!(rt; "{}: {pump:.0} ns", Work::Pumps)
 }
 
-/// Prints nanoseconds of a receive on any of 32 empty ports and of a take at each.
+/// Prints nanoseconds of a receive at a nucleus on any of 32 empty ports and of a take at each.
 pub(crate) fn print_looks<R: Threads + Sync + Wait + Clock + Print>(
     rt: &R,
     alloc: Global,
@@ -99,7 +99,7 @@ pub(crate) fn print_looks<R: Threads + Sync + Wait + Clock + Print>(
     println!(rt; "{}: {takes:.0} ns", Work::Looks)
 }
 
-/// Prints messages that crews of three sizes handle a second, with handlers that take three times.
+/// Prints messages that a nucleus's crews of three sizes handle a second, with handlers that take three times.
 pub(crate) fn print_crews<R: Threads + Sync + Wait + Clock + Print>(
     rt: &R,
     alloc: Global,
@@ -119,7 +119,7 @@ pub(crate) fn print_crews<R: Threads + Sync + Wait + Clock + Print>(
     Ok(())
 }
 
-/// Prints the most messages per second that a crew of this size and handling time reached in a few tries.
+/// Prints the most messages per second that a nucleus's crew of this size and handling time reached in a few tries.
 fn print_crew<R: Threads + Sync + Wait + Clock + Print>(
     rt: &R,
     alloc: Global,

@@ -44,16 +44,17 @@ struct Shared {
 }
 
 impl Shared {
-    /// A sender has all its verdicts.
+    /// Notes that a sender at the shared port has all its verdicts.
     fn leave(&self) {
         self.ended.fetch_add(1, Ordering::SeqCst);
     }
 
-    /// A worker can go on no more.
+    /// Notes that a sender or mover at the shared port can go on no more.
     fn stop(&self) {
         self.ended.fetch_add(u32::from(SENDERS), Ordering::SeqCst);
     }
 
+    /// Whether all senders have all their verdicts, or a sender or mover can go on no more.
     fn is_over(&self) -> bool {
         self.ended.load(Ordering::SeqCst) >= u32::from(SENDERS)
     }
@@ -84,8 +85,8 @@ fn send_all<R: Wait>(
     Some(())
 }
 
-/// Pumps until the place has worked off as many packets as it put: each try was answered, and what waited was tried. None also where
-/// that does not come.
+/// Pumps until the sender's place has worked off as many packets as it put: each try was answered, and what waited was tried. None
+/// also where that does not come.
 fn wait_for_verdicts<R: Wait>(
     rt: &R,
     nucleus: &Nucleus,
@@ -144,7 +145,7 @@ fn move_on<R: Wait>(
     unreachable!()
 }
 
-/// Takes at the port, and moves it to the actor.
+/// Takes at the port, and moves it to the next mover's actor.
 fn hand_on(nucleus: &Nucleus, pass: &mut Pass, port: Ui, next: Ui) -> Option<()>
     requires { IsPassOf nucleus.now pass.old }
     ensures { IsPassOf nucleus.now pass.new }
@@ -157,7 +158,7 @@ fn hand_on(nucleus: &Nucleus, pass: &mut Pass, port: Ui, next: Ui) -> Option<()>
     Some(())
 }
 
-/// The worker of this site works to its end.
+/// The sender or mover of this site works to its end.
 fn work<R: Wait>(rt: &R, nucleus: &Nucleus, mut pass: Pass, site: u16, shared: &Shared) -> Pass
     requires { IsPassOf nucleus.now pass }
     ensures { IsPassOf nucleus.now result }
@@ -173,8 +174,8 @@ fn work<R: Wait>(rt: &R, nucleus: &Nucleus, mut pass: Pass, site: u16, shared: &
     pass
 }
 
-/// The workers of this site, from 1 on, and of the next ones enter and work side by side, each in a thread of its own where one can be
-/// made, and retire.
+/// The movers and senders of this site, from 1 on, and of the next ones enter and work side by side, each in a thread of its own
+/// where one can be made, and retire.
 #[cycle(workers)]
 fn work_from<R: Threads + Sync + Wait>(
     rt: &R,
@@ -206,7 +207,7 @@ fn work_from<R: Threads + Sync + Wait>(
     keeper
 }
 
-/// All workers work to their end. Gives how long that took.
+/// All movers and senders work to their end. Gives how long that took.
 fn time_all<R: Threads + Sync + Wait + Clock>(
     rt: &R,
     nucleus: &Nucleus,
@@ -236,7 +237,7 @@ struct Told {
 }
 
 impl Told {
-    /// Counts an entry.
+    /// Counts an entry of the senders' and movers' journals.
     fn add(&mut self, act: &Act) {
         match act {
             Act::Post { .. } => self.posted = self.posted.saturating_add(1),
@@ -247,14 +248,14 @@ impl Told {
         }
     }
 
-    /// Counts the entries of a journal.
+    /// Counts the entries of a sender's or mover's journal.
     fn add_all(&mut self, journal: &[Entry]) {
         for entry in journal {
             self.add(&entry.act);
         }
     }
 
-    /// What these journals say.
+    /// What these journals say of the senders' messages and of the port's moves.
     fn of(journals: &[Vec<Entry>]) -> Told {
         let mut told = Told {
             posted: 0,
@@ -270,7 +271,8 @@ impl Told {
     }
 }
 
-/// All workers at a nucleus of their own, of which each sender sends so many messages. Gives what came of these, and how long that took.
+/// All senders and movers at a nucleus of their own, of which each sender sends so many messages. Gives what came of these, and how
+/// long that took.
 fn measure<R: Threads + Sync + Wait + Clock>(
     rt: &R,
     alloc: Global,

@@ -7,7 +7,7 @@ use chorus_nucleus::{Nucleus, Pass};
 use chorus_ui::Ui;
 use std::sync::Wait;
 
-/// Sends to the port and takes there, so often.
+/// Rounds of one caller at a nucleus: sends to the port and takes there, so often.
 pub(crate) fn send_and_take(nucleus: &Nucleus, pass: &mut Pass, port: Ui, count: u32) -> Option<()>
     requires { IsPassOf nucleus.now pass.old }
     ensures { IsPassOf nucleus.now pass.new }
@@ -19,7 +19,7 @@ pub(crate) fn send_and_take(nucleus: &Nucleus, pass: &mut Pass, port: Ui, count:
     Some(())
 }
 
-/// Serves place 1, so often.
+/// Rounds of one caller at a nucleus: serves place 1, so often.
 pub(crate) fn pump_often<R: Wait>(
     rt: &R,
     nucleus: &Nucleus,

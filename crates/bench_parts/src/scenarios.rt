@@ -24,7 +24,7 @@ pub(crate) const MANY: u64 = 4_096;
 
 const ROUNDS: u32 = 5;
 
-/// Prints whether a short text is printed as it was read, and how many entries its replay has.
+/// Prints whether a short scenario text is printed as it was read, and how many entries its replay has.
 pub(crate) fn print_few<R: Print>(rt: &R, alloc: Global) -> io::Result<()> {
     let Some(layout) = Layout::new(16, 1) else {
         return Ok(());
@@ -38,7 +38,7 @@ pub(crate) fn print_few<R: Print>(rt: &R, alloc: Global) -> io::Result<()> {
     println!(rt; "{SCRIPTS} scripts of {FEW} commands, printed as read: {again}, {entries} entries")
 }
 
-/// Prints megabytes per second of reading a text and of printing it, and commands per second of its replay.
+/// Prints megabytes per second of reading a scenario text and of printing it, and commands per second of its replay.
 pub(crate) fn print_rates<R: Clock + Print>(rt: &R, alloc: Global) -> io::Result<()> {
     let Some(layout) = Layout::new(16, 1) else {
         return Ok(());
@@ -76,7 +76,7 @@ fn print_rate<R: Clock>(
     megabytes_since(rt, start, text)
 }
 
-/// Megabytes of the text per second.
+/// Megabytes of the scenario's or journal's text per second.
 pub(crate) fn megabytes_since<R: Clock>(rt: &R, start: Instant, text: &[u8]) -> io::Result<f64> {
     let bytes = u32::try_from(text.len()).unwrap_or(u32::MAX);
     Ok(f64::from(bytes) / start.elapsed(rt)?.as_secs_f64() / 1_000_000.0)
@@ -94,7 +94,7 @@ pub(crate) fn is_read(alloc: Global, text: &[u8]) -> bool {
     Layout::new(16, 1).is_some_and(|layout| read(alloc, text, layout).is_ok())
 }
 
-/// How many entries the journal has: none where nothing was closed.
+/// How many entries the journal of a replayed scenario has: none where nothing was closed.
 fn entries_in(closed: Option<Closed>) -> usize {
     match closed {
         Some(closed) => closed.journals.first().map_or(0, |journal| journal.len()),
@@ -114,14 +114,14 @@ fn entries_on<S: Source, K: Sink>(
     Ok(entries_in(finished.closed))
 }
 
-/// How many entries the journal of the replay has: none where it is refused.
+/// How many entries the journal of the scenario text's replay has: none where it is refused.
 fn entries_of(alloc: Global, text: &[u8], layout: Layout) -> Result<usize, AllocError> {
     let mut source = MemSource::new(Vec::from_slice(alloc, text)?, Vec::new(alloc));
     let mut sink = MemSink::new(alloc, usize::MAX, Vec::new(alloc));
     entries_on(alloc, &mut source, &mut sink, layout)
 }
 
-/// What the replay of the text prints.
+/// What the replay of the scenario text prints.
 pub(crate) fn printed_by(alloc: Global, text: &[u8]) -> Result<Vec<u8>, AllocError> {
     let mut source = MemSource::new(Vec::from_slice(alloc, text)?, Vec::new(alloc));
     let mut sink = MemSink::new(alloc, usize::MAX, Vec::new(alloc));
@@ -131,7 +131,7 @@ pub(crate) fn printed_by(alloc: Global, text: &[u8]) -> Result<Vec<u8>, AllocErr
     Vec::from_slice(alloc, sink.bytes())
 }
 
-/// The text, with so many commands of each script.
+/// The scenario text that is measured, with so many commands of each script.
 pub(crate) fn text(alloc: Global, commands: u64) -> Result<Vec<u8>, AllocError> {
     let mut text = Vec::from_slice(alloc, b"chorus 2\nsites 1\n")?;
     for script in 0..SCRIPTS {

@@ -11,7 +11,7 @@ use std::alloc::{AllocError, Global};
 use std::io;
 use std::time::{Clock, Duration, Instant};
 
-/// Performs a command of seat 0.
+/// Performs a command of seat 0 at the measured sites.
 fn act(sites: &mut Sites, command: Command) -> Option<()>
     requires conditions { meets_conditions command ≡ true }
     requires body { has_body_in_limit command ≡ true }
@@ -23,14 +23,14 @@ fn act(sites: &mut Sites, command: Command) -> Option<()>
     Some(())
 }
 
-/// Makes the first port of the site, with room for 64 messages.
+/// Makes the first port of the site for seat 0, with room for 64 messages.
 fn make_port(sites: &mut Sites, site: u16) -> Option<()> {
     let actor = actor_of(site)?;
     let capacity = 64;
     act(sites, Command::Make { actor, capacity })
 }
 
-/// So many sites of one place each, with a port at each.
+/// Sites to be measured, so many of one place each, with a port at each.
 pub(crate) fn start(alloc: Global, count: u16) -> Option<Sites> {
     let mut sites = Sites::start(alloc, Layout::new(count, 1)?).ok()?;
     for site in 1..=count {
@@ -39,7 +39,7 @@ pub(crate) fn start(alloc: Global, count: u16) -> Option<Sites> {
     Some(sites)
 }
 
-/// Sends a message of 16 bytes to the first port of the site.
+/// Sends a message of 16 bytes by seat 0 to the first port of the site.
 pub(crate) fn send(alloc: Global, sites: &mut Sites, site: u16) -> Option<()> {
     let dest = Dest::Port(port_of(site, 1)?);
     let body = Body::new(alloc, BODY).ok()?;
@@ -47,13 +47,13 @@ pub(crate) fn send(alloc: Global, sites: &mut Sites, site: u16) -> Option<()> {
     act(sites, Command::Send { dest, body })
 }
 
-/// Takes at the first port of site 1.
+/// Takes by seat 0 at the first port of site 1.
 fn take(sites: &mut Sites) -> Option<()> {
     let port = port_of(1, 1)?;
     act(sites, Command::Take { port })
 }
 
-/// Sends to the port of site 1 and takes there, so often.
+/// Sends by seat 0 to the port of site 1 and takes there, so often.
 pub(crate) fn send_and_take(alloc: Global, sites: &mut Sites, count: u32) -> Option<()> {
     for _ in 0..count {
         send(alloc, sites, 1)?;
@@ -62,7 +62,7 @@ pub(crate) fn send_and_take(alloc: Global, sites: &mut Sites, count: u32) -> Opt
     Some(())
 }
 
-/// Works off the first packet from one place to the other, where one waits.
+/// Works off the first packet from one place of the measured sites to the other, where one waits.
 fn deliver(sites: &mut Sites, from: u16, to: u16) -> Option<()> {
     let layout = sites.layout();
     if from == to || !layout.has_place(from) || !layout.has_place(to) {
@@ -72,7 +72,7 @@ fn deliver(sites: &mut Sites, from: u16, to: u16) -> Option<()> {
     Some(())
 }
 
-/// Sends to the port of site 2, and works off a packet there and one that comes back, so often.
+/// Sends by seat 0 to the port of site 2, and works off a packet there and one that comes back, so often.
 pub(crate) fn send_and_tell(alloc: Global, sites: &mut Sites, count: u32) -> Option<()> {
     for _ in 0..count {
         send(alloc, sites, 2)?;
@@ -82,7 +82,7 @@ pub(crate) fn send_and_tell(alloc: Global, sites: &mut Sites, count: u32) -> Opt
     Some(())
 }
 
-/// How many entries the place has. None where there is no such place.
+/// How many entries the place of the measured sites has. None where there is no such place.
 pub(crate) fn entries_at(sites: &Sites, place: u16) -> Option<usize> {
     if !sites.layout().has_place(place) {
         return None;
@@ -90,7 +90,7 @@ pub(crate) fn entries_at(sites: &Sites, place: u16) -> Option<usize> {
     Some(sites.journal(place).len())
 }
 
-/// How long so many sends and takes take.
+/// How long so many sends and takes by seat 0 take, at sites without a nucleus.
 pub(crate) fn time<R: Clock>(rt: &R, alloc: Global, count: u32) -> io::Result<Duration> {
     let mut sites = start(alloc, 1).ok_or(AllocError)?;
     let began = Instant::now(rt)?;

@@ -15,13 +15,14 @@ pub(crate) struct Spins<'a, R> {
 impl<'a, R: Clock + Sync> Handler for Spins<'a, R> {
     ghost value = { λ _ _ _ _. 1 };
 
+    /// Spins for the handler's time at the message.
     fn handle(&self, _port: Ui, _pos: u64, _message: &Message) -> u64 {
         spin(self.rt, Duration::from_micros(self.microseconds));
         1
     }
 }
 
-/// Goes on until the time is over; where there is no clock it does not begin.
+/// Spins on the clock until the time is over; where there is no clock it does not begin.
 fn spin<R: Clock>(rt: &R, time: Duration) {
     let Ok(start) = Instant::now(rt) else {
         return;

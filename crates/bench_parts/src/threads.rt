@@ -13,7 +13,7 @@ use std::thread::{Threads, join};
 /// The callers of two sites, each with the port at which it sends and takes.
 type Two = ((Pass, Ui), (Pass, Ui));
 
-/// Each caller sends to the first port of its site and takes there, so often.
+/// Four callers, each on a thread of its own, send to the first port of their sites and take there, so often.
 pub(crate) fn on_four_threads<R: Threads + Sync>(
     rt: &R,
     nucleus: &Nucleus,
@@ -43,7 +43,7 @@ pub(crate) fn on_four_threads<R: Threads + Sync>(
     Some(())
 }
 
-/// The callers of these sites.
+/// The callers of these two sites, each of which is to have a thread of its own.
 fn enter_two(nucleus: &Nucleus, keeper: &mut Pass, first: u16, second: u16) -> Option<Two>
     requires { IsPassOf nucleus.now keeper.old }
     ensures keeper { IsPassOf nucleus.now keeper.new }
@@ -91,7 +91,7 @@ fn on_two_threads<R: Threads + Sync>(
     )
 }
 
-/// The rounds of one caller. What is refused leaves fewer entries.
+/// The rounds of one caller on its thread. What is refused leaves fewer entries.
 fn rounds(nucleus: &Nucleus, mut pass: Pass, port: Ui, count: u32) -> Pass
     requires { IsPassOf nucleus.now pass }
     ensures { IsPassOf nucleus.now result }

@@ -33,7 +33,7 @@ impl Model for Group {
 }
 
 impl Group {
-    /// A group that no entry names.
+    /// The row of a group that no entry names.
     fn new(alloc: Global) -> Group
         ensures { result ≡ no_group }
     {
@@ -44,14 +44,14 @@ impl Group {
         }
     }
 
-    /// Whether it was made at the place.
+    /// Whether the group of the row was made at the place.
     pub(crate) fn is_made(&self) -> bool
         ensures { result ≡ self.now.made }
     {
         self.made
     }
 
-    /// Its members, in the order in which they joined.
+    /// The members in a group's row, in the order in which they joined.
     pub(crate) fn members(&self) -> &[Ui]
         ensures value { result.now ≡ self.now.members }
         ensures row { IsGroupRow self.now }
@@ -59,14 +59,14 @@ impl Group {
         self.members.as_slice()
     }
 
-    /// Its rotation place.
+    /// The rotation place in a group's row.
     pub(crate) fn rotation(&self) -> usize
         ensures { result ≡ self.now.rotation }
     {
         self.rotation
     }
 
-    /// The port joins, as the last member. An error leaves the group as it was.
+    /// The port joins in the group's row, as the last member. An error leaves the group as it was.
     fn join(&mut self, port: Ui) -> Result<(), AllocError>
         ensures ok { OnOk result (self.new ≡ joined port self.old) }
         ensures err { OnErr result (self.new ≡ self.old) }
@@ -75,7 +75,8 @@ impl Group {
         Ok(())
     }
 
-    /// The port leaves: the members behind it close up, and the rotation place moves one back where the port was before it.
+    /// The port leaves in the group's row: the members behind it close up, and the rotation place moves one back where
+    /// the port was before it.
     fn leave(&mut self, port: Ui)
         ensures { self.new ≡ left port self.old }
     {
@@ -86,7 +87,7 @@ impl Group {
         }
     }
 
-    /// Moves the rotation place behind the one member that was chosen. It stays where none or several were.
+    /// Moves the rotation place in the group's row behind the one member that was chosen. It stays where none or several were.
     fn turn(&mut self, chosen: &[Ui])
         ensures { self.new ≡ turned_by chosen.now self.old }
     {
@@ -106,7 +107,7 @@ impl Group {
     }
 }
 
-/// The group that the act makes, leaves or chooses of.
+/// The group whose row the act changes, where it makes, leaves or chooses of one.
 fn changed_group(act: &Act) -> Option<Ui>
     ensures { result ≡ changed_group act.now }
 {

@@ -48,7 +48,7 @@ impl Ledger {
         }
     }
 
-    /// The layout.
+    /// The layout of the ledger.
     pub fn layout(&self) -> Layout
         ensures value { result ≡ self.now.layout }
         ensures legal { is_legal self.now.layout self.now.past ≡ true }

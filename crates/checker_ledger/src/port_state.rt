@@ -125,7 +125,7 @@ impl PortState {
     }
 }
 
-/// Where a port is once it arrived.
+/// Where a port is, by its state, once it arrived.
 fn arrived(spot: Spot) -> Spot
     ensures { result ≡ arrived spot }
 {

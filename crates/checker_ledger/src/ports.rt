@@ -11,7 +11,7 @@ use chorus_ui::Ui;
 use std::alloc::{AllocError, Global};
 use std::collections::HashMap;
 
-/// The port's fate.
+/// The port's fate, by its row in the table of ports.
 pub(crate) fn fate_in(ports: &HashMap<PortKey, PortState>, port: Ui) -> Option<&PortState>
     ensures { option_copied result ≡ fate_in ports.now port }
 {

@@ -77,7 +77,7 @@ fn grows(act: &Act) -> Growing
     }
 }
 
-/// The line of what was sent.
+/// The line, in the ledger's table of lines, of what was sent from the place.
 fn sent_line(place: u16, sent: &Sent) -> LineKey
     ensures { result ≡ record { place = place; name = sent.now.port; route = sent.now.route } }
 {
@@ -88,7 +88,7 @@ fn sent_line(place: u16, sent: &Sent) -> LineKey
     }
 }
 
-/// The line of the posts to a group that are made at the place.
+/// The line, in the ledger's table of asks, of the posts to a group that are made at the place.
 pub(crate) fn asked_line(place: u16, group: Ui) -> LineKey
     ensures { result ≡ record { place = place; name = group; route = None } }
 {
@@ -99,7 +99,7 @@ pub(crate) fn asked_line(place: u16, group: Ui) -> LineKey
     }
 }
 
-/// The place where members are chosen for a post to the group that was made at the place `from`.
+/// The place where members are chosen for a post to the group that was made at the place `from`, as the checker asks.
 pub fn choosing_place(layout: Layout, group: Ui, from: u16) -> u16
     ensures { result ≡ unwrap_or (group_place layout group) from }
 {
@@ -110,7 +110,7 @@ pub fn choosing_place(layout: Layout, group: Ui, from: u16) -> u16
     }
 }
 
-/// The id of the post that the message is, or is a copy of.
+/// The id under which the tables have the post that the message is, or is a copy of.
 pub(crate) fn source(id: MsgId) -> MsgId
     ensures { result ≡ source id }
 {
@@ -141,7 +141,7 @@ fn follow_asks(
 }
 
 impl Tables {
-    /// The tables of no entries.
+    /// The ledger's tables of no entries.
     pub(crate) fn new(alloc: Global) -> Tables
         ensures { (l : Layout) → Follows l [] result }
     {
@@ -176,7 +176,7 @@ impl Tables {
         Ok(())
     }
 
-    /// The message that the entry tells of, as it was sent from its place.
+    /// The message that the entry tells of, as it was sent from its place by the table of messages.
     fn sent_told(&self, entry: &Entry) -> Option<Sent>
         ensures { result ≡ sent_told self.now entry.now.place entry.now.act }
     {
@@ -186,7 +186,7 @@ impl Tables {
         }
     }
 
-    /// The tag of the message, which its copies share; Plain where it is not posted.
+    /// The tag of the message, which its copies share, by the table of messages; Plain where it is not posted.
     pub(crate) fn tag_of(&self, id: MsgId) -> Tag
         ensures { result ≡ tag_by self.now id }
     {
@@ -196,7 +196,7 @@ impl Tables {
         }
     }
 
-    /// The tag of the message that the act takes or accepts.
+    /// The tag of the message that the act takes or accepts, by the table of messages.
     fn act_tag(&self, act: &Act) -> Tag
         ensures { result ≡ act_tag self.now act.now }
     {
@@ -206,7 +206,7 @@ impl Tables {
         }
     }
 
-    /// The lists after the entry. An error leaves all tables as they were.
+    /// The ledger's lists after the entry. An error leaves all tables as they were.
     pub(crate) fn grow_lists(&mut self, alloc: Global, entry: &Entry) -> Result<(), AllocError>
         requires makes { MakeFits entry.now.act }
         requires takes { TakesFit entry.now (fate_in self.old.ports) }
@@ -221,7 +221,7 @@ impl Tables {
         }
     }
 
-    /// The other tables after the entry, which stands behind `index` others.
+    /// The ledger's tables beside the lists, after the entry, which stands behind `index` others.
     pub(crate) fn grow_rows(&mut self, alloc: Global, layout: Layout, entry: &Entry, index: usize)
         requires room { HasRoom self.old }
         requires few { HasFew entry.now self.old }

@@ -12,14 +12,14 @@ use chorus_entry::{Act, Entry, Tag};
 use chorus_ui::Ui;
 use std::collections::HashMap;
 
-/// The number that the port keeps of the client.
+/// The number that the port keeps of the client, by the checker's row of the two.
 pub fn kept_in(kept: &HashMap<ClientOf, u32>, port: Ui, client: u32) -> Option<u32>
     ensures { result ≡ kept_in kept.now port client }
 {
     kept.get(&ClientOf { port, client }).copied()
 }
 
-/// Of how many clients the port keeps a number.
+/// Of how many clients the port keeps a number, by the checker's row of the port.
 pub fn clients_in(clients: &HashMap<PortKey, usize>, port: Ui) -> usize
     ensures { result ≡ clients_in clients.now port }
 {
@@ -29,7 +29,7 @@ pub fn clients_in(clients: &HashMap<PortKey, usize>, port: Ui) -> usize
     }
 }
 
-/// The greater of the number and the one that is kept.
+/// The greater of a request's number and the one that the port keeps of its client.
 fn raised(number: u32, kept: Option<u32>) -> u32
     ensures { result ≡ raised number kept }
 {
@@ -39,7 +39,7 @@ fn raised(number: u32, kept: Option<u32>) -> u32
     }
 }
 
-/// The numbers of clients after the entry. The message that it accepts has this tag.
+/// The numbers that ports keep of clients, after the entry. The message that it accepts has this tag.
 pub fn follow_kept(kept: &mut HashMap<ClientOf, u32>, entry: &Entry, tag: &Tag)
     requires { 0 < spare kept.old }
     ensures { KeptAfter tag.now entry.now (kept_in kept.old) (kept_in kept.new) }
@@ -56,7 +56,8 @@ pub fn follow_kept(kept: &mut HashMap<ClientOf, u32>, entry: &Entry, tag: &Tag)
     }
 }
 
-/// The counts of clients after the entry. The message that it accepts has this tag, and `kept` has the numbers before it.
+/// The counts of the clients of whom ports keep numbers, after the entry. The message that it accepts has this tag, and
+/// `kept` has the numbers before it.
 pub fn follow_clients(
     clients: &mut HashMap<PortKey, usize>,
     kept: &HashMap<ClientOf, u32>,

@@ -19,7 +19,7 @@ pub(crate) struct Lesson {
     pub location: Location,
 }
 
-/// Where the answer says that the port is.
+/// Where the answer in a Told entry says that the port is.
 fn taught(answer: Answer) -> Option<Location>
     ensures { result ≡ taught answer }
 {
@@ -29,7 +29,7 @@ fn taught(answer: Answer) -> Option<Location>
     }
 }
 
-/// The farther of the two, the first where they are as far.
+/// The farther of the location that a place knows and the one that an entry teaches it, the first where they are as far.
 fn farther(known: Location, learned: Option<Location>) -> Location
     ensures { result ≡ farther known learned }
 {
@@ -39,8 +39,8 @@ fn farther(known: Location, learned: Option<Location>) -> Location
     }
 }
 
-/// Where the port is as far as its name tells: at its creation place, and at no place, which is 0, where the layout has no
-/// such site.
+/// Where a place with no row of the port locates it, as far as its name tells: at its creation place, and at no place,
+/// which is 0, where the layout has no such site.
 fn named_location(layout: Layout, port: Ui) -> Location
     ensures { result ≡ named_location layout port }
 {
@@ -52,7 +52,7 @@ fn named_location(layout: Layout, port: Ui) -> Location
     Location { to, hop: 0 }
 }
 
-/// Where the place locates the port.
+/// Where the place locates the port, by its row of the port, or by the port's name where it has none.
 pub fn location_in(locations: &HashMap<NameAt, Location>, layout: Layout, key: &NameAt) -> Location
     ensures { result ≡ location_in layout locations.now key.now }
 {
@@ -62,7 +62,7 @@ pub fn location_in(locations: &HashMap<NameAt, Location>, layout: Layout, key: &
     }
 }
 
-/// What the entry teaches its place, where its message was sent from there as `sent` says.
+/// What the entry teaches its place of where a port is, where its message was sent from there as `sent` says.
 fn lesson_of(entry: &Entry, sent: Option<Sent>) -> Option<Lesson>
     ensures { result ≡ lesson entry.now.place sent entry.now.act }
 {
@@ -92,7 +92,7 @@ fn lesson_of(entry: &Entry, sent: Option<Sent>) -> Option<Lesson>
     }
 }
 
-/// The locations after the entry.
+/// The rows of where each place locates each port, after the entry.
 pub fn follow_locations(
     locations: &mut HashMap<NameAt, Location>,
     layout: Layout,

@@ -25,7 +25,7 @@ pub enum End {
     Chosen,
 }
 
-/// Whether the message is still open.
+/// Whether the message is still open in a line: it has not met this end.
 fn is_open(messages: &HashMap<MsgId, MessageRow>, end: End, id: MsgId) -> bool
     ensures { result ≡ is_open messages.now end id }
 {
@@ -58,7 +58,7 @@ pub fn push(
     Ok(())
 }
 
-/// Takes the last one out of the line.
+/// Takes the last message out of the line of this key.
 fn take_last(lines: &mut HashMap<LineKey, VecDeque<MsgId>>, key: &LineKey)
     ensures { IsShorter key.now (line_in lines.old) (line_in lines.new) }
 {
@@ -157,7 +157,7 @@ pub fn follow_lines(
     }
 }
 
-/// The first in the line that is open.
+/// The first message in the line that is open.
 pub fn first_open(
     lines: &HashMap<LineKey, VecDeque<MsgId>>,
     messages: &HashMap<MsgId, MessageRow>,
@@ -172,7 +172,7 @@ pub fn first_open(
     }
 }
 
-/// The first of these that is open.
+/// The first message of this line that is open.
 fn first_of(
     line: &VecDeque<MsgId>,
     messages: &HashMap<MsgId, MessageRow>,
@@ -190,7 +190,7 @@ fn first_of(
     None
 }
 
-/// Takes out the first ones that are not open.
+/// Takes the first messages out of this line that are not open.
 fn shorten(line: &mut VecDeque<MsgId>, messages: &HashMap<MsgId, MessageRow>, end: End)
     ensures { OpensSame (is_open messages.now end) line.old.items line.new.items }
 {
@@ -202,7 +202,7 @@ fn shorten(line: &mut VecDeque<MsgId>, messages: &HashMap<MsgId, MessageRow>, en
     }
 }
 
-/// Takes the first ones out of a line that are not open.
+/// Takes the first messages out of the line of this key that are not open.
 pub fn shorten_line(
     lines: &mut HashMap<LineKey, VecDeque<MsgId>>,
     messages: &HashMap<MsgId, MessageRow>,

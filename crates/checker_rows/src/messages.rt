@@ -58,7 +58,7 @@ fn message_in(messages: &HashMap<MsgId, MessageRow>, id: MsgId) -> MessageRow
     }
 }
 
-/// How far the message is on its way.
+/// How far the message is on its way, by its row.
 pub fn progress_in(messages: &HashMap<MsgId, MessageRow>, id: MsgId) -> Progress
     ensures { result ≡ (message_in messages.now id).progress }
 {
@@ -68,7 +68,7 @@ pub fn progress_in(messages: &HashMap<MsgId, MessageRow>, id: MsgId) -> Progress
     }
 }
 
-/// The answer of the message's first verdict.
+/// The answer of the message's first verdict, by its row.
 pub fn verdict_in(messages: &HashMap<MsgId, MessageRow>, id: MsgId) -> Option<Answer>
     ensures { result ≡ (message_in messages.now id).verdict }
 {
@@ -78,7 +78,7 @@ pub fn verdict_in(messages: &HashMap<MsgId, MessageRow>, id: MsgId) -> Option<An
     }
 }
 
-/// The first post under this very id.
+/// The first post under this very id, by the row of the message.
 pub fn post_in(messages: &HashMap<MsgId, MessageRow>, id: MsgId) -> Option<Posting>
     ensures { result ≡ (message_in messages.now id).post }
 {
@@ -88,7 +88,7 @@ pub fn post_in(messages: &HashMap<MsgId, MessageRow>, id: MsgId) -> Option<Posti
     }
 }
 
-/// Whether a try of the message stands at the place that sent it, and was not told yet.
+/// Whether a try of the message stands at the place that sent it, and was not told yet, by its row.
 pub fn is_tried_in(messages: &HashMap<MsgId, MessageRow>, id: MsgId) -> bool
     ensures { result ≡ (message_in messages.now id).tried }
 {
@@ -98,7 +98,7 @@ pub fn is_tried_in(messages: &HashMap<MsgId, MessageRow>, id: MsgId) -> bool
     }
 }
 
-/// The message as the place sent it, where it did.
+/// The message as the place sent it, where it did, by its row.
 pub fn sent_in(messages: &HashMap<MsgId, MessageRow>, place: u16, id: MsgId) -> Option<Sent>
     ensures { result ≡ sent_in messages.now place id }
 {
@@ -108,7 +108,7 @@ pub fn sent_in(messages: &HashMap<MsgId, MessageRow>, place: u16, id: MsgId) -> 
     }
 }
 
-/// Whether the entry is about the message.
+/// Whether the entry is about the message of a row.
 fn is_about(entry: &Entry, id: MsgId) -> bool
     ensures { result ≡ is_about (Some id) entry.now }
 {
@@ -118,7 +118,7 @@ fn is_about(entry: &Entry, id: MsgId) -> bool
     }
 }
 
-/// The answer of the entry, where it is a verdict of the message.
+/// The answer of the entry for the row of the message, where it is a verdict of it.
 fn verdict_by(entry: &Entry, id: MsgId) -> Option<Answer>
     ensures { result ≡ verdict_by id entry.now.act }
 {
@@ -129,7 +129,7 @@ fn verdict_by(entry: &Entry, id: MsgId) -> Option<Answer>
     }
 }
 
-/// Whether the act settles its message: it is a verdict, or tells one.
+/// Whether the act settles its message in the message's row: it is a verdict, or tells one.
 fn is_settling(act: &Act) -> bool
     ensures { result ≡ is_settling act.now }
 {
@@ -139,7 +139,7 @@ fn is_settling(act: &Act) -> bool
     }
 }
 
-/// Whether a try of the message stands at the place of the act, after it, that was not told yet.
+/// Whether the row of the message says after an act at the place that sent it that a try stands there, not told yet.
 fn tried_after(act: &Act, id: MsgId, tried: bool) -> bool
     ensures { result ≡ tried_after id act.now tried }
 {
@@ -150,7 +150,7 @@ fn tried_after(act: &Act, id: MsgId, tried: bool) -> bool
     }
 }
 
-/// Whether the act is a choice of members, or finds none.
+/// Whether the act is a choice of members for the message of a row, or finds none.
 fn is_choosing(act: &Act) -> bool
     ensures { result ≡ is_choosing act.now }
 {
@@ -227,7 +227,7 @@ fn follow_about(messages: &mut HashMap<MsgId, MessageRow>, entry: &Entry)
     }
 }
 
-/// The row with what was sent, where it has nothing sent.
+/// The row of a message with what was sent, where it has nothing sent.
 fn with_sending(sending: Sending, row: &MessageRow) -> MessageRow
     ensures { result ≡ with_sending (Some sending) row.now }
 {

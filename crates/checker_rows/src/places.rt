@@ -47,7 +47,7 @@ pub fn place_in(places: &HashMap<u16, PlaceRow>, place: u16) -> PlaceRow
     }
 }
 
-/// The message that the act takes.
+/// The message that the act takes, and by whom, for the row of its place.
 fn taking_of(seat: u32, act: &Act) -> Option<Taking>
     ensures { result ≡ taking seat act.now }
 {
@@ -60,7 +60,7 @@ fn taking_of(seat: u32, act: &Act) -> Option<Taking>
     }
 }
 
-/// How many ports are made after the act.
+/// How many ports are made after the act, in the row of its place.
 fn ports_after(act: &Act, made: u64) -> u64
     requires { made < 2 ^ 63 }
     ensures { result ≡ ports_after act.now made }
@@ -71,7 +71,7 @@ fn ports_after(act: &Act, made: u64) -> u64
     }
 }
 
-/// How many groups are made after the act.
+/// How many groups are made after the act, in the row of its place.
 fn groups_after(act: &Act, made: u64) -> u64
     requires { made < 2 ^ 63 }
     ensures { result ≡ groups_after act.now made }

@@ -17,7 +17,7 @@ pub struct Posting {
     pub dest: Dest,
 }
 
-/// The post that the entry makes under this id.
+/// The post, without its body, that the entry makes under this id.
 fn posted_by(entry: &Entry, id: MsgId) -> Option<Posting>
     ensures { result ≡ in_brief (posted_by id entry.now.place entry.now.act) }
 {
@@ -31,7 +31,7 @@ fn posted_by(entry: &Entry, id: MsgId) -> Option<Posting>
     }
 }
 
-/// The post that the entry makes under this id, where its seat is the id's.
+/// The post, without its body, that the entry makes under this id, where its seat is the id's.
 pub(crate) fn posted_under(entry: &Entry, id: MsgId) -> Option<Posting>
     ensures { result ≡ posted_under id entry.now }
 {

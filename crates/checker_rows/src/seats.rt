@@ -53,7 +53,7 @@ pub fn seat_in(seats: &HashMap<u32, SeatRow>, seat: u32) -> SeatRow
     }
 }
 
-/// How many messages are posted after the act.
+/// How many messages are posted after the act, in the row of its caller.
 fn posts_after(act: &Act, posts: u64) -> u64
     requires { posts < 2 ^ 63 }
     ensures { result ≡ posts_after act.now posts }
@@ -78,7 +78,7 @@ fn stay_after(place: u16, act: &Act, stay: Stay) -> Stay
     }
 }
 
-/// Whether the caller posted at this place alone.
+/// Whether the caller posted at this place alone, by its row.
 pub fn stays(stay: Stay, place: u16) -> bool
     ensures { result ≡ stays place stay }
 {
@@ -89,7 +89,7 @@ pub fn stays(stay: Stay, place: u16) -> bool
     }
 }
 
-/// The request number that the tag has, or 0.
+/// The request number that the tag of a post has, or 0, for the row of its caller.
 fn number_in(tag: Tag) -> u32
     ensures { result ≡ number_in tag }
 {
@@ -99,7 +99,7 @@ fn number_in(tag: Tag) -> u32
     }
 }
 
-/// The greatest request number after the act.
+/// The greatest request number after the act, in the row of its caller.
 fn requests_after(act: &Act, greatest: u32) -> u32
     ensures { result ≡ requests_after act.now greatest }
 {
@@ -109,7 +109,7 @@ fn requests_after(act: &Act, greatest: u32) -> u32
     }
 }
 
-/// The outstanding call after a post with this tag.
+/// The outstanding call in the row of a caller, after a post with this tag.
 fn call_with(tag: Tag, call: Option<u32>) -> Option<u32>
     ensures { result ≡ call_with tag call }
 {
@@ -119,7 +119,7 @@ fn call_with(tag: Tag, call: Option<u32>) -> Option<u32>
     }
 }
 
-/// The outstanding call once the call of this number is ended.
+/// The outstanding call in the row of a caller, once the call of this number is ended.
 fn ended(number: u32, call: Option<u32>) -> Option<u32>
     ensures { result ≡ ended number call }
 {
@@ -129,7 +129,7 @@ fn ended(number: u32, call: Option<u32>) -> Option<u32>
     }
 }
 
-/// The outstanding call after the act.
+/// The outstanding call in the row of a caller, after the act.
 fn call_after(act: &Act, call: Option<u32>) -> Option<u32>
     ensures { result ≡ call_after act.now call }
 {
@@ -140,7 +140,7 @@ fn call_after(act: &Act, call: Option<u32>) -> Option<u32>
     }
 }
 
-/// The hand after a message of the client with this tag was taken.
+/// The hand in the row of a caller, after a message of the client with this tag was taken.
 fn hand_with(client: u32, tag: Tag, hand: Option<Hand>) -> Option<Hand>
     ensures { result ≡ hand_with client tag hand }
 {
@@ -154,7 +154,7 @@ fn hand_with(client: u32, tag: Tag, hand: Option<Hand>) -> Option<Hand>
     }
 }
 
-/// The hand after a post with this tag.
+/// The hand in the row of a caller, after a post with this tag.
 fn hand_without(tag: Tag, hand: Option<Hand>) -> Option<Hand>
     ensures { result ≡ hand_without tag hand }
 {
@@ -164,7 +164,7 @@ fn hand_without(tag: Tag, hand: Option<Hand>) -> Option<Hand>
     }
 }
 
-/// The hand after the act, where the message that it takes has this tag.
+/// The hand in the row of a caller, after the act, where the message that it takes has this tag.
 fn hand_by(tag: &Tag, act: &Act, hand: Option<Hand>) -> Option<Hand>
     ensures { result ≡ hand_by tag.now act.now hand }
 {
@@ -175,7 +175,7 @@ fn hand_by(tag: &Tag, act: &Act, hand: Option<Hand>) -> Option<Hand>
     }
 }
 
-/// Where a post to this destination stands as a request: nowhere, where it does not go to a port.
+/// Where among all entries a post to this destination stands as a request: nowhere, where it does not go to a port.
 fn stands(dest: Dest, index: usize) -> Option<usize>
     ensures { result ≡ stands dest index }
 {
@@ -185,7 +185,7 @@ fn stands(dest: Dest, index: usize) -> Option<usize>
     }
 }
 
-/// Where the first post of the greatest request number stands, after a post with this tag.
+/// Where the caller's first post of the greatest request number stands, after a post with this tag.
 fn first_with(
     tag: Tag,
     dest: Dest,
@@ -209,7 +209,7 @@ fn first_with(
     }
 }
 
-/// Where the first post of the greatest request number stands, after the act.
+/// Where the caller's first post of the greatest request number stands, after the act.
 fn first_after(act: &Act, index: usize, greatest: u32, first: Option<usize>) -> Option<usize>
     ensures { result ≡ first_after act.now index greatest first }
 {
@@ -234,7 +234,7 @@ fn seat_here(entry: &Entry, tag: &Tag, index: usize, row: SeatRow) -> SeatRow
     }
 }
 
-/// Whether the act changes what is known of its caller.
+/// Whether the act changes what is known of its caller, in the caller's row.
 fn changes_seat(act: &Act) -> bool
     ensures { result ≡ changes_seat act.now }
 {

@@ -60,7 +60,7 @@ pub(crate) fn posts_as(id: MsgId, place: u16, act: &Act) -> Option<Sending>
     }
 }
 
-/// The id of the copy for the member at this place in the list, counted from 0.
+/// The id of a post's copy for the member at this place in the list, counted from 0, in the checker's rows.
 pub fn copy_of(post: MsgId, at: usize) -> MsgId
     requires { at < MEMBERS_LIMIT }
     ensures { result ≡ record post { copy = at + 1 } }

@@ -11,8 +11,8 @@ use crate::words::Words;
 use chorus_entry::{Act, Ids, MEMBERS_LIMIT, Members, Message};
 use std::alloc::Global;
 
-/// The act that the words say, the first of them being the word of its kind. A body is read in the room, which is used
-/// again.
+/// The act that the words of a printed line say, the first of them being the word of its kind. A body is read in the room, which
+/// is used again.
 pub(crate) fn act(alloc: Global, room: &mut Vec<u8>, words: &mut Words<'_>) -> Result<Act, Unread>
     ensures reads { Reads result (held (act_in words.old)) }
     ensures allowed { IfOk result IsAct }
@@ -21,7 +21,7 @@ pub(crate) fn act(alloc: Global, room: &mut Vec<u8>, words: &mut Words<'_>) -> R
     made(alloc, room, kind, words)
 }
 
-/// What a command makes, or a later kind.
+/// The act of a printed line of this kind: what a command makes, or one of a later kind.
 #[tactic(auto, unfolding(chorus_show::specs::Reading::act_of))]
 fn made(
     alloc: Global,
@@ -56,7 +56,7 @@ fn made(
     }
 }
 
-/// How a message is decided, or a later kind.
+/// The act of a printed line of this kind: how a message is decided, or one of a later kind.
 #[tactic(auto, unfolding(chorus_show::specs::Reading::decision_of))]
 fn decision(alloc: Global, kind: &[u8], words: &mut Words<'_>) -> Result<Act, Unread>
     ensures reads { Reads result (held (decision_of kind.now words.old)) }
@@ -104,7 +104,7 @@ fn decision(alloc: Global, kind: &[u8], words: &mut Words<'_>) -> Result<Act, Un
     }
 }
 
-/// The choice of members and what another place says, or a later kind.
+/// The act of a printed line of this kind: the choice of members and what another place says, or one of a later kind.
 #[tactic(auto, unfolding(chorus_show::specs::Reading::news_of))]
 fn news(alloc: Global, kind: &[u8], words: &mut Words<'_>) -> Result<Act, Unread>
     ensures reads { Reads result (held (news_of kind.now words.old)) }
@@ -132,7 +132,7 @@ fn news(alloc: Global, kind: &[u8], words: &mut Words<'_>) -> Result<Act, Unread
     }
 }
 
-/// What a port and what is received from it come to, or a later kind.
+/// The act of a printed line of this kind: what a port and what is received from it come to, or one of a later kind.
 #[tactic(auto, unfolding(chorus_show::specs::Reading::port_of))]
 fn port_act(alloc: Global, kind: &[u8], words: &mut Words<'_>) -> Result<Act, Unread>
     ensures reads { Reads result (held (port_of kind.now words.old)) }
@@ -174,7 +174,7 @@ fn port_act(alloc: Global, kind: &[u8], words: &mut Words<'_>) -> Result<Act, Un
     }
 }
 
-/// What happens to a group, or a later kind.
+/// The act of a printed line of this kind: what happens to a group, or one of a later kind.
 #[tactic(auto, unfolding(chorus_show::specs::Reading::group_of))]
 fn group_act(kind: &[u8], words: &mut Words<'_>) -> Result<Act, Unread>
     ensures reads { Reads result (held (group_of kind.now words.old)) }
@@ -211,7 +211,7 @@ fn group_act(kind: &[u8], words: &mut Words<'_>) -> Result<Act, Unread>
     }
 }
 
-/// What becomes of a call.
+/// The act of a printed line of this kind: what becomes of a call.
 #[tactic(auto, unfolding(chorus_show::specs::Reading::call_of))]
 fn call_act(kind: &[u8], words: &mut Words<'_>) -> Result<Act, Unread>
     ensures reads { Reads result (held (call_of kind.now words.old)) }

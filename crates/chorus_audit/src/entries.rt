@@ -28,7 +28,7 @@ pub fn parse_entry(alloc: Global, line: &[u8]) -> Result<Option<Entry>, AllocErr
     parse_in(alloc, &mut room, line)
 }
 
-/// The same, in room that is used again for each line.
+/// The entry whose line this is, as [`parse_entry`] reads it, in room that is used again for each line.
 pub(crate) fn parse_in(
     alloc: Global,
     room: &mut Vec<u8>,
@@ -59,7 +59,7 @@ fn as_printed(room: &mut Vec<u8>, entry: Entry, line: &[u8]) -> Result<Option<En
     if printed { Ok(Some(entry)) } else { Ok(None) }
 }
 
-/// What the words of the line say.
+/// The entry that the words of a journal's line say, however they are spelled.
 fn said(alloc: Global, room: &mut Vec<u8>, line: &[u8]) -> Result<Entry, Unread>
     ensures reads { Reads result (entry_held (parts 32 line.now)) }
     ensures within { IfOk result IsWithin }
@@ -75,7 +75,7 @@ fn said(alloc: Global, room: &mut Vec<u8>, line: &[u8]) -> Result<Entry, Unread>
     })
 }
 
-/// Whether the entry is printed as this line.
+/// Whether the entry that was read from a journal's line is printed as this line.
 fn is_printed(room: &mut Vec<u8>, entry: &Entry, line: &[u8]) -> Result<bool, AllocError>
     ensures { IfOk result (λ b. b ≡ bytes_eq (entry_text entry.now) (line.now ++ 10 ∷ [])) }
 {

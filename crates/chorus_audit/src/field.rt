@@ -17,7 +17,7 @@ pub(crate) trait Field: Copy {
     /// What its type allows.
     ghost allowed: { Self → Type 0 };
 
-    /// What the text says.
+    /// What the text of one word of a printed line says. None where it says no such thing.
     fn read(text: &[u8]) -> Option<Self>
         ensures value { result ≡ said text.now }
         ensures allowed { IfSome result allowed };

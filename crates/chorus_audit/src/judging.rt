@@ -61,7 +61,7 @@ pub fn read_text(alloc: Global, layout: Layout, text: &[u8]) -> Result<Reading, 
     read_in(alloc, &mut room, layout, text)
 }
 
-/// The same, with lines read in the room, which is used again.
+/// Reads the text as [`read_text`] does, with lines read in the room, which is used again.
 fn read_in(
     alloc: Global,
     room: &mut Vec<u8>,
@@ -102,7 +102,7 @@ fn stopped(world: World, line: u32, rule: u8) -> Reading
     }
 }
 
-/// What an audit finds.
+/// What an audit of the whole text finds.
 fn judged(alloc: Global, layout: Layout, text: &[u8]) -> Result<Audit, AllocError>
     requires { length text.now ≤ AUDIT_LIMIT }
     ensures { IfOk result (IsVerdict layout text.now) }
@@ -111,7 +111,8 @@ fn judged(alloc: Global, layout: Layout, text: &[u8]) -> Result<Audit, AllocErro
     Ok(reading.audit)
 }
 
-/// The number of entries that the first line tells, and the text behind that line. None exactly where the first line tells none.
+/// The number of entries that the first line of an audited text tells, and the text behind that line. None exactly where the
+/// first line tells none.
 fn told(text: &[u8]) -> Option<(u32, &[u8])>
     ensures { MatchOption result
         ((n : ℕ) (rest : List ℕ) → n < 2 ^ 32 → text.now ≢ head n ++ rest)
@@ -171,7 +172,7 @@ fn summary_fault(alloc: Global, entries: &[Entry], text: &[u8]) -> Result<Option
     }
 }
 
-/// How many lines, each with its LF, the two texts share before they differ.
+/// How many lines, each with its LF, the audited text shares with the other one before they differ.
 fn lines_shared(one: &[u8], other: &[u8]) -> u32
     requires { length one.now ≤ AUDIT_LIMIT }
     ensures value { result ≡ lines_shared one.now other.now }

@@ -10,7 +10,7 @@ use crate::words::Words;
 use chorus_entry::{Answer, BODY_LIMIT, Body, Dest, Tag};
 use std::alloc::Global;
 
-/// Where a message is posted to.
+/// Where a message is posted to, by the words of a printed line.
 #[tactic(auto, unfolding(chorus_show::specs::Reading::dest_in))]
 pub(crate) fn dest(words: &mut Words<'_>) -> Result<Dest, Unread>
     ensures reads { Reads result (dest_in words.old) }
@@ -32,7 +32,7 @@ pub(crate) fn dest(words: &mut Words<'_>) -> Result<Dest, Unread>
     }
 }
 
-/// Whether a message is a request, a reply or neither.
+/// Whether a message is a request, a reply or neither, by the words of a printed line.
 #[tactic(auto, unfolding(chorus_show::specs::Reading::tag_in))]
 pub(crate) fn tag(words: &mut Words<'_>) -> Result<Tag, Unread>
     ensures reads { Reads result (tag_in words.old) }
@@ -53,7 +53,7 @@ pub(crate) fn tag(words: &mut Words<'_>) -> Result<Tag, Unread>
     }
 }
 
-/// What was decided.
+/// What was decided, by the words of a printed line.
 #[tactic(auto, unfolding(chorus_show::specs::Reading::answer_in))]
 pub(crate) fn answer(words: &mut Words<'_>) -> Result<Answer, Unread>
     ensures reads { Reads result (answer_in words.old) }
@@ -91,7 +91,7 @@ pub(crate) fn answer(words: &mut Words<'_>) -> Result<Answer, Unread>
     }
 }
 
-/// The bytes of a body, which are read in the room.
+/// The body that the end of a printed line says, whose bytes are read in the room.
 #[tactic(auto, using(crate::proofs::Bodies::short_some, crate::proofs::Bodies::short_none))]
 pub(crate) fn body(alloc: Global, room: &mut Vec<u8>, text: &[u8]) -> Result<Body, Unread>
     ensures reads { Reads result (short (body_in text.now)) }
@@ -106,7 +106,7 @@ pub(crate) fn body(alloc: Global, room: &mut Vec<u8>, text: &[u8]) -> Result<Bod
     }
 }
 
-/// Writes the bytes of an escaped text over what `bytes` had, where they are few enough for a body.
+/// Writes the bytes of the escaped text in a printed line over what `bytes` had, where they are few enough for a body.
 fn unescape(text: &[u8], bytes: &mut Vec<u8>) -> Result<(), Unread>
     ensures { MatchResult result
         (λ _. IsUnescaped bytes.new.items text.now)
@@ -124,7 +124,7 @@ fn unescape(text: &[u8], bytes: &mut Vec<u8>) -> Result<(), Unread>
     Ok(())
 }
 
-/// The first byte of an escaped text, and the text behind it. None where the text ends, also within an escape.
+/// The first byte of an escaped text in a printed line, and the text behind it. None where the text ends, also within an escape.
 fn next_byte(text: &[u8]) -> Option<(u8, &[u8])>
     ensures byte { MatchOption result
         (unescape None text.now ≡ [])
@@ -139,7 +139,7 @@ fn next_byte(text: &[u8]) -> Option<(u8, &[u8])>
     }
 }
 
-/// The byte of the two digits, and the text behind them. None where there are fewer.
+/// The byte of the two digits of an escape in a printed line, and the text behind them. None where there are fewer.
 fn escaped_byte(digits: &[u8]) -> Option<(u8, &[u8])>
     ensures byte { MatchOption result
         (unescape (Some None) digits.now ≡ [])
@@ -153,7 +153,7 @@ fn escaped_byte(digits: &[u8]) -> Option<(u8, &[u8])>
     }
 }
 
-/// The value of a hexadecimal digit, and 0 of another byte.
+/// The value of a hexadecimal digit in a printed line, and 0 of another byte.
 fn digit_in(c: u8) -> u8
     ensures value { result ≡ digit_in c }
     ensures small { result < 16 }

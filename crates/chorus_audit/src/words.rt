@@ -25,14 +25,14 @@ impl<'a> Model for Words<'a> {
 }
 
 impl<'a> Words<'a> {
-    /// All the words of the line.
+    /// All the words of the printed line that is audited.
     pub(crate) fn new(line: &'a [u8]) -> Words<'a>
         ensures { result ≡ parts 32 line.now }
     {
         Words { rest: Some(line) }
     }
 
-    /// Whether no word is left.
+    /// Whether no word of the printed line is left.
     #[tactic(auto, using(crate::proofs::WordLists::some_word))]
     pub(crate) fn is_empty(&self) -> bool
         ensures { result ≡ (length self.now == 0) }
@@ -43,7 +43,7 @@ impl<'a> Words<'a> {
         }
     }
 
-    /// The next word.
+    /// The next word of the printed line.
     pub(crate) fn next(&mut self) -> &'a [u8]
         ensures word { result.now ≡ first self.old }
         ensures left { self.new ≡ rest self.old }
@@ -58,7 +58,7 @@ impl<'a> Words<'a> {
         }
     }
 
-    /// All that is left, with its spaces.
+    /// All that is left of the printed line, with its spaces.
     pub(crate) fn text(&self) -> &'a [u8]
         ensures { result.now ≡ join_with_byte 32 self.now }
     {
@@ -68,7 +68,7 @@ impl<'a> Words<'a> {
         }
     }
 
-    /// What the next word says.
+    /// What the next word of the printed line says.
     pub(crate) fn one<A: Field>(&mut self) -> Result<A, Unread>
         ensures reads { Reads result (A.said (first self.old)) }
         ensures left { OnOk result (self.new ≡ rest self.old) }
@@ -80,7 +80,7 @@ impl<'a> Words<'a> {
         }
     }
 
-    /// What the next two words say.
+    /// What the next two words of the printed line say.
     pub(crate) fn two<A: Field, B: Field>(&mut self) -> Result<(A, B), Unread>
         ensures reads { Reads result (two (A.said (first self.old)) (B.said (second self.old))) }
         ensures left { OnOk result (self.new ≡ rest (rest self.old)) }
@@ -89,7 +89,7 @@ impl<'a> Words<'a> {
         Ok((self.one()?, self.one()?))
     }
 
-    /// What the next three words say.
+    /// What the next three words of the printed line say.
     pub(crate) fn three<A: Field, B: Field, C: Field>(&mut self) -> Result<(A, B, C), Unread>
         ensures reads { Reads result
             (three (A.said (first self.old)) (B.said (second self.old)) (C.said (third self.old))) }
@@ -99,7 +99,7 @@ impl<'a> Words<'a> {
         Ok((self.one()?, self.one()?, self.one()?))
     }
 
-    /// What the next four words say.
+    /// What the next four words of the printed line say.
     pub(crate) fn four<A: Field, B: Field, C: Field, D: Field>(
         &mut self,
     ) -> Result<(A, B, C, D), Unread>
@@ -116,7 +116,7 @@ impl<'a> Words<'a> {
         Ok((self.one()?, self.one()?, self.one()?, self.one()?))
     }
 
-    /// What each word that is left says.
+    /// What each word says that is left of the printed line.
     pub(crate) fn each<A: Field>(&mut self, alloc: Global) -> Result<Vec<A>, Unread>
         ensures reads { MatchResult result
             (λ values. each A.said self.old ≡ Some values.items)

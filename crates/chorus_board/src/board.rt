@@ -98,7 +98,7 @@ impl Board {
         );
     }
 
-    /// For how many entries the last publish stands.
+    /// For how many entries the last publish of the board stands.
     pub fn published(&mut self) -> u64
         ensures count { result ≡ length (entries_published self.old) }
         ensures board { self.new ≡ self.old }
@@ -106,7 +106,7 @@ impl Board {
         self.writer.published().upto
     }
 
-    /// The same, of the last publish that was begun.
+    /// For how many entries the last publish that was begun on the board stands, shown or not.
     pub fn begun(&self) -> u64
         ensures { result ≡ length (entries_begun self.now) }
     {
@@ -125,7 +125,7 @@ impl Board {
     }
 }
 
-// Shows readers what is pending.
+/// Shows the board's readers what is pending at its writer.
 pub(crate) fn show<R: Wait>(writer: TableWriter, rt: &R) -> (TableWriter, Result<(), AllocError>)
     requires { IsReady writer.desk.shown.value (drop writer.behind writer.log.items) }
     ensures { IsShown (after_all writer.desk.shown.value (drop writer.behind writer.log.items))
@@ -135,7 +135,7 @@ pub(crate) fn show<R: Wait>(writer: TableWriter, rt: &R) -> (TableWriter, Result
     writer.publish_as::<Shows, R>(rt)
 }
 
-// The same, where the writer lies.
+/// Shows the board's readers what is pending at its writer, where that lies.
 fn show_in<R: Wait>(writer: &mut TableWriter, rt: &R) -> Result<(), AllocError>
     requires { IsReady writer.old.desk.shown.value (drop writer.old.behind writer.old.log.items) }
     ensures shown { writer.new.desk.shown.value
@@ -163,7 +163,8 @@ impl BoardReader {
     ghost use mathlib.Core.List.{IsPrefix};
     ghost use Rattle.chorus_board.specs.Boards.{entries_seen, entries_published, HasSameHandle, IsReaderOf, IsSameReader};
 
-    /// The reader, which is of this board, has then seen all that was published, and all that it had seen. Takes no memory.
+    /// The reader, which is of this board, has then seen all that the board's writer published, and all that it had seen. Takes no
+    /// memory.
     pub fn follow(&mut self, board: &mut Board)
         requires reader { IsReaderOf board.old self.old }
         ensures reader { IsSameReader self.old self.new }

@@ -79,7 +79,8 @@ impl<X> Plain<(), Entry, u64> for Extend<X> {
     ghost state = { λ _. None };
 }
 
-/// Makes the history the list that was picked. Where another author had added to it, which no code does, it waits for ever.
+/// Makes the history of a board the list that was picked. Where another author had added to it, which no code does, it waits for
+/// ever.
 pub(crate) fn bring_to<X: Stands, R: Wait>(
     rt: &R,
     head: &Head,
@@ -105,7 +106,7 @@ pub(crate) fn bring_to<X: Stands, R: Wait>(
     unreachable!()
 }
 
-/// Where a reader had seen more than was made known, which no code does, it waits for ever.
+/// Where a reader had seen more of the board's history than was made known, which no code does, it waits for ever.
 pub(crate) fn covers<R: Wait>(rt: &R, front: &Witness, upto: u64, heard: &Witness, heard_upto: u64)
     requires book { heard.now.book ≡ front.now.book }
     requires counts { (upto ≡ length front.now.log) × (heard_upto ≡ length heard.now.log) }
@@ -120,7 +121,7 @@ pub(crate) fn covers<R: Wait>(rt: &R, front: &Witness, upto: u64, heard: &Witnes
     unreachable!()
 }
 
-/// An empty history, and the word that is its length.
+/// The empty history of a new board, and the word that is its length.
 pub(crate) fn open_history() -> (Head, Witness)
     ensures { (result.0 ≡ head_of result.1.book) × (result.1.log ≡ []) }
 {

@@ -15,7 +15,7 @@ pub struct BoardName {
     pub cells_name: u64,
 }
 
-/// The law of names: they are equal exactly where they are of one board.
+/// The law of the names of boards: they are equal exactly where they are of one board.
 pub fn names_tell_boards()
     ensures names { (x y : Book) → (name_of_book x ≡ name_of_book y) ↔ (x ≡ y) }
     // A reader has the board's name exactly where it is one of that board.

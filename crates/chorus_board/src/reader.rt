@@ -68,7 +68,7 @@ impl BoardReader {
         }
     }
 
-    // Reads the board, if the read is not refused.
+    /// Reads the board, if the read is not refused.
     fn refresh(&mut self)
         ensures { ReadsOn self.old self.new }
     {
@@ -85,7 +85,7 @@ impl BoardReader {
     }
 }
 
-// The longer of the two tables. Where both stand for as many entries nothing is copied.
+/// A reader of the board keeps the longer of the two tables. Where both stand for as many entries nothing is copied.
 pub(crate) fn take_in(kept: &mut Table, newer: &Table)
     requires same { IsOfOneBoard kept.old newer.now }
     requires fine { Fine newer.now × Fine kept.old }
@@ -102,7 +102,7 @@ pub(crate) fn take_in(kept: &mut Table, newer: &Table)
     put_down(kept, newer);
 }
 
-// The table becomes the other one.
+/// The table that a reader of the board keeps becomes the other one.
 pub(crate) fn put_down(kept: &mut Table, newer: &Table)
     requires { newer.now.hints.layout ≡ kept.old.hints.layout }
     ensures { kept.new ≡ newer.now }

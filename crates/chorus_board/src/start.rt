@@ -19,7 +19,7 @@ use std::sync::Wait;
 /// The readers of a board.
 pub const READERS_PER_BOARD: usize = 64;
 
-// A table that stands for no entries.
+/// A table of a new board, which stands for no entries.
 #[tactic(auto, using(crate::proofs::Publishes::first_fine))]
 fn blank(alloc: Global, layout: Layout, place: u16, front: &Witness) -> Result<Table, AllocError>
     requires { front.now.log ≡ [] }
@@ -39,7 +39,7 @@ fn blank(alloc: Global, layout: Layout, place: u16, front: &Witness) -> Result<T
     })
 }
 
-// A reader of the copies, which knows what the writer knows. There may be none.
+/// A reader of the copies of a board, which knows what the writer knows. There may be none.
 fn handle_of(writer: &mut TableWriter) -> Option<TableReader>
     ensures handle { IfSome result (λ r. view r.place ≡ view writer.old.desk.place) }
     ensures shown { writer.new.desk.shown ≡ writer.old.desk.shown }
@@ -51,7 +51,7 @@ fn handle_of(writer: &mut TableWriter) -> Option<TableReader>
     Some(handle)
 }
 
-// Readers without a handle, which have seen nothing.
+/// The readers of a new board, without a handle, which have seen nothing.
 fn readers_of(
     alloc: Global,
     layout: Layout,
@@ -100,7 +100,7 @@ impl Board {
         Ok((board, all))
     }
 
-    // A board with no readers.
+    /// A new board with no readers.
     fn opened<R: Wait>(
         alloc: Global,
         rt: &R,
@@ -125,7 +125,7 @@ impl Board {
         })
     }
 
-    // Gives a reader a handle, if there is one.
+    /// Gives a reader of a new board a handle, if there is one.
     fn attach(&mut self, reader: &mut BoardReader)
         requires { IsReaderOf self.old reader.old }
         ensures reader { reader.new.kept ≡ reader.old.kept }

@@ -71,7 +71,7 @@ impl World {
         self.ledger.verdict(id)
     }
 
-    /// The layout.
+    /// The layout of the world.
     fn layout(&self) -> Layout
         ensures { result ≡ self.now.layout }
     {
@@ -85,7 +85,7 @@ impl World {
         self.layout().has_place(entry.place) && self.ledger.last_clock(entry.place) < entry.clock
     }
 
-    /// Whether the act may come next.
+    /// Whether the entry may come next in the world by its act, the kinds of its names and a reply that was just taken.
     fn act_follows(&self, entry: &Entry) -> bool
         ensures { result ≡ is_next self.now entry.now }
     {

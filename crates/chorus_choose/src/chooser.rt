@@ -38,7 +38,7 @@ impl Model for Chooser {
     ghost invariant = { λ c. (vec_capacity c.enabled ≡ enabled_limit) × IsChooser c.enabled.items };
 }
 
-/// Where a port of this priority comes to stand: behind all of at least this priority.
+/// Where a port of this priority comes to stand among the enabled ones: behind all of at least this priority.
 fn place_of(enabled: &[Enabled], priority: u8) -> usize
     ensures within { result ≤ length enabled.now }
     ensures stands { (e : Enabled) → e.priority ≡ priority →

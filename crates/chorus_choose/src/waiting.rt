@@ -14,7 +14,7 @@ use chorus_nucleus::{CallFault, Nucleus, Pass, take_when_free};
 use std::sync::Wait;
 
 impl Chooser {
-    /// A receive that tries each take again while another pass has the place.
+    /// One round of a receive that waits: it tries each take again while another pass has the place.
     #[tactic(auto, using(crate::proofs::Asking::looks))]
     fn round<R: Wait>(
         &self,

@@ -11,7 +11,7 @@ pub trait Handler: Sync {
     // The value of a message at its position of its port.
     ghost value: { Self → Ui → ℕ → Message → ℕ };
 
-    /// Handles the message and gives its value.
+    /// Handles a message that a crew took and gives its value.
     fn handle(&self, port: Ui, pos: u64, message: &Message) -> u64
         ensures { result ≡ value self.now port pos message.now };
 }

@@ -16,7 +16,7 @@ use chorus_nucleus::{Nucleus, Pass};
 use chorus_ui::Ui;
 use std::alloc::AllocError;
 
-/// Makes the job for a pair. The only error is want of memory.
+/// Makes the job of a crew for a pair. The only error is want of memory.
 fn enter_one(
     nucleus: &Nucleus,
     pass: &mut Pass,

@@ -11,7 +11,7 @@ use chorus_nucleus::{CallFault, Nucleus, Pass, take_when_free};
 use chorus_ui::Ui;
 use std::sync::Wait;
 
-/// One more than the count. No run counts to 2^64 - 1: there it waits for ever.
+/// One more than the count of messages of a job. No run counts to 2^64 - 1: there it waits for ever.
 fn one_more<R: Wait>(rt: &R, count: u64) -> u64
     ensures { result ≡ count + 1 }
 {
@@ -24,7 +24,7 @@ fn one_more<R: Wait>(rt: &R, count: u64) -> u64
     }
 }
 
-/// The position of the first message, where one more is taken behind so many.
+/// The position of the first message of a job, where one more is taken behind so many.
 fn first_of(count: u64, from: u64, pos: u64) -> u64
     ensures zero { count ≡ 0 → result ≡ pos }
     ensures later { count ≢ 0 → result ≡ from }
@@ -32,7 +32,7 @@ fn first_of(count: u64, from: u64, pos: u64) -> u64
     if count == 0 { pos } else { from }
 }
 
-/// Takes and handles the messages of the port, until there is none for the caller.
+/// Takes and handles the messages of a job's port, until there is none for the caller.
 #[tactic(auto, using(crate::proofs::Draining::draining))]
 fn drain<H: Handler, R: Wait>(
     rt: &R,

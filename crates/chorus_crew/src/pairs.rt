@@ -8,7 +8,7 @@ use chorus_ui::{Layout, Ui};
 /// The most pairs of a crew.
 pub const PAIRS_LIMIT: usize = 64;
 
-/// Whether the pair has the name of a port and that of an actor of the layout.
+/// Whether the pair, for a crew, has the name of a port and that of an actor of the layout.
 fn is_pair(layout: Layout, port: Ui, actor: Ui) -> bool
     ensures { result ≡ is_pair layout (port, actor) }
 {
@@ -18,14 +18,14 @@ fn is_pair(layout: Layout, port: Ui, actor: Ui) -> bool
     layout.home(actor).is_some()
 }
 
-/// Whether none of the pairs has the port.
+/// Whether none of a crew's pairs has the port.
 fn is_free(port: Ui, pairs: &[(Ui, Ui)]) -> bool
     ensures { result ≡ is_free port pairs.now }
 {
     pairs.iter().all(|pair| pair.0 != port)
 }
 
-/// Whether no two of the pairs have the same port.
+/// Whether no two of a crew's pairs have the same port.
 fn are_distinct(pairs: &[(Ui, Ui)]) -> bool
     ensures { result ≡ are_distinct pairs.now }
 {
@@ -38,7 +38,7 @@ fn are_distinct(pairs: &[(Ui, Ui)]) -> bool
     }
 }
 
-/// Whether each pair has the name of a port and that of an actor of the layout.
+/// Whether each of a crew's pairs has the name of a port and that of an actor of the layout.
 fn are_named(layout: Layout, pairs: &[(Ui, Ui)]) -> bool
     ensures { result ≡ list_all (is_pair layout) pairs.now }
 {

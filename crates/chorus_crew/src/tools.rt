@@ -23,7 +23,7 @@ pub(crate) struct Tools {
     pub(crate) slots: Vec<Option<Done>>,
 }
 
-/// Each worker's room for all jobs.
+/// Takes memory for each worker's room for all jobs.
 fn rooms_for(alloc: Global, count: usize, workers: usize) -> Result<Vec<Vec<Done>>, AllocError>
     ensures { IfOk result (λ r. (length r.items ≡ workers)
         × All (λ (room : Vec Done). room.items ≡ []) r.items) }
@@ -35,7 +35,7 @@ fn rooms_for(alloc: Global, count: usize, workers: usize) -> Result<Vec<Vec<Done
     Ok(rooms)
 }
 
-/// A slot for each job.
+/// Takes memory for a slot for each job.
 fn slots_for(alloc: Global, count: usize) -> Result<Vec<Option<Done>>, AllocError>
     ensures { IfOk result (λ r. (length r.items ≡ count)
         × All (λ (s : Option Done). s ≡ None) r.items) }

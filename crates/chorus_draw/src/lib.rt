@@ -12,7 +12,7 @@ const FACTOR: u64 = 6_364_136_223_846_793_005;
 
 const INCREMENT: u64 = 1_442_695_040_888_963_407;
 
-/// What the generator comes to next.
+/// The state that the generator of draws comes to next.
 pub fn next_state(state: u64) -> u64
     ensures { result ≡ next_state state }
 {

@@ -40,7 +40,7 @@ use Rattle.chorus_crew.specs.Retiring.{IsRetired}
 use Rattle.chorus_drawn_crew.specs.Names.{crew_pairs}
 use Rattle.chorus_drawn_crew.specs.Value.{message_value}
 use Rattle.chorus_drawn_crew.specs.Filling.{crew_commands}
-use Rattle.chorus_drawn_crew.specs.declared.counting.Tally.{Tally}
+use Rattle.chorus_drawn_crew.specs.declared.draws.Tally.{Tally}
 use Rattle.chorus_drawn_crew.specs.Sends.{tally}
 use Rattle.chorus_drawn_crew.specs.Text.{counted, crew_text, handled_lines, handled_text, port_line, port_lines}
 use Rattle.chorus_drawn_crew.specs.Takes.{AreTallied, HasCrewed, HasTaken, IsTallied, TakesUnless}

@@ -5,7 +5,7 @@ use Rattle.std.specs.List.{filter}
 use Rattle.chorus_ui.specs.declared.limits.TheConstants.{PENDING_LIMIT}
 use Rattle.chorus_draw.specs.Draws.{next_state, number_of}
 use Rattle.chorus_drawn_crew.specs.declared.names.TheConstants.{CREW_PORTS}
-use Rattle.chorus_drawn_crew.specs.declared.counting.Tally.{Tally}
+use Rattle.chorus_drawn_crew.specs.declared.draws.Tally.{Tally}
 
 -- half of the draws are sends, each to the port of one of the eight sites
 abbrev pub site_drawn : ℕ → Option ℕ

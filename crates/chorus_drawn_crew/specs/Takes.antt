@@ -16,7 +16,7 @@ use Rattle.law_crews.specs.Crewed.{IsSettledAt}
 use Rattle.chorus_run.specs.Threads.{IsClosedBy}
 use Rattle.chorus_show.specs.declared.status.Status.{Status}
 use Rattle.chorus_show.specs.declared.status.Status.TheVariants.{Worn}
-use Rattle.chorus_drawn_crew.specs.declared.counting.Tally.{Tally}
+use Rattle.chorus_drawn_crew.specs.declared.draws.Tally.{Tally}
 use Rattle.chorus_drawn_crew.specs.Names.{crew_pairs}
 use Rattle.chorus_drawn_crew.specs.Value.{message_value}
 use Rattle.chorus_drawn_crew.specs.Sends.{tally}

@@ -4,7 +4,7 @@ use Rattle.chorus_ui.specs.Text.{name_text}
 use Rattle.chorus_show.specs.Phrases.{phrase}
 use Rattle.chorus_crew.specs.declared.handler.Handled.{Handled}
 use Rattle.chorus_drawn_crew.specs.declared.names.TheConstants.{CREW_PORTS}
-use Rattle.chorus_drawn_crew.specs.declared.counting.Tally.{Tally}
+use Rattle.chorus_drawn_crew.specs.declared.draws.Tally.{Tally}
 use Rattle.chorus_drawn_crew.specs.Names.{crew_port}
 use Rattle.chorus_drawn_crew.specs.Sends.{tally}
 

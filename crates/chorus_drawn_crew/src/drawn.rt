@@ -2,7 +2,7 @@
 ghost use Rattle.std.specs.Prelude.{◌≡◌, ◌≤◌, ◌⊎◌, ℕ, None, length};
 ghost use Rattle.chorus_nucleus.specs.Passes.{layout_of, IsPassOf};
 ghost use Rattle.chorus_perform.specs.Scripts.{IsOpening};
-ghost use Rattle.chorus_drawn_crew.specs.declared.counting.TheConstants.{DRAWS_LIMIT};
+ghost use Rattle.chorus_drawn_crew.specs.declared.draws.TheConstants.{DRAWS_LIMIT};
 ghost use Rattle.chorus_drawn_crew.specs.declared.names.TheConstants.{CREW_PORTS};
 ghost use Rattle.chorus_nucleus.specs.declared.nucleus.Nucleus.{Nucleus};
 ghost use Rattle.chorus_nucleus.specs.declared.pass.Pass.{Pass};
@@ -57,7 +57,7 @@ pub fn handle_drawn<R: Threads + Wait + Sync, K: Sink>(
     }
 }
 
-/// Writes what the crew counted.
+/// Ends the crew on drawn messages by writing what it counted.
 fn print_counts<K: Sink>(
     alloc: Global,
     handled: &[Handled],
@@ -76,7 +76,8 @@ fn print_counts<K: Sink>(
     print(sink, &text, closed)
 }
 
-/// Ends with the clock that was worn, where an entry of what was closed has it, else for want of memory.
+/// Ends the crew on drawn messages with the clock that was worn, where an entry of what was closed has it, else for
+/// want of memory.
 fn stopped(alloc: Global, closed: Closed, why: Stopped) -> Finished
     ensures { (result ≡ record { status = Status.Memory; closed = None }) ⊎
         EndsWorn why closed result }

@@ -4,12 +4,12 @@ ghost use Rattle.chorus_turn.specs.Knowing.{IsSamePass};
 ghost use Rattle.chorus_nucleus.specs.Passes.{caller_of, known, layout_of, IsPassOf};
 ghost use Rattle.chorus_perform.specs.Going.{Goes};
 ghost use Rattle.chorus_perform.specs.Rounds.{IsEven};
-ghost use Rattle.chorus_drawn_crew.specs.declared.counting.TheConstants.{DRAWS_LIMIT};
+ghost use Rattle.chorus_drawn_crew.specs.declared.draws.TheConstants.{DRAWS_LIMIT};
 ghost use Rattle.chorus_drawn_crew.specs.declared.names.TheConstants.{CREW_PORTS};
 ghost use Rattle.chorus_drawn_crew.specs.Filling.{commands_of, crew_commands, makes, make_port, send_command, sends_of};
 ghost use Rattle.chorus_drawn_crew.specs.Sends.{sending};
 
-use crate::counting::{DRAWS_LIMIT, site_drawn};
+use crate::draws::{DRAWS_LIMIT, site_drawn};
 use crate::names::{CREW_PORTS, crew_actor, crew_port};
 use chorus_draw::next_state;
 use chorus_entry::{Body, Command, Dest};
@@ -41,7 +41,7 @@ pub(crate) fn fill<R: Wait>(
     settle(rt, nucleus, pass)
 }
 
-/// Makes the ports and sends.
+/// Makes the crew's ports, and sends the drawn messages to them.
 fn make_and_send<R: Wait>(
     alloc: Global,
     rt: &R,
@@ -61,7 +61,7 @@ fn make_and_send<R: Wait>(
     send_all(alloc, rt, nucleus, pass, first, commands)
 }
 
-/// Makes the ports.
+/// Makes the crew's ports, one of each of the first sites.
 fn make_ports<R: Wait>(rt: &R, nucleus: &Nucleus, pass: &mut Pass) -> Result<(), Halted>
     requires pass { IsPassOf nucleus.now pass.old }
     ensures pass { IsPassOf nucleus.now pass.new }
@@ -74,7 +74,7 @@ fn make_ports<R: Wait>(rt: &R, nucleus: &Nucleus, pass: &mut Pass) -> Result<(),
     Ok(())
 }
 
-/// The command by which the port of a site is made.
+/// The command by which the crew's port of a site is made.
 fn make_port(site: u16) -> Command
     requires { 1 ≤ site }
     ensures { result ≡ make_port site }
@@ -85,7 +85,7 @@ fn make_port(site: u16) -> Command
     }
 }
 
-/// Performs the sends among the drawn commands, each with nothing left of the one before.
+/// Performs the sends to the crew's ports among the drawn commands, each with nothing left of the one before.
 fn send_all<R: Wait>(
     alloc: Global,
     rt: &R,
@@ -135,7 +135,7 @@ fn send_drawn<R: Wait>(
     settle(rt, nucleus, pass)
 }
 
-/// The command that sends this number, in decimals, to the port of a site.
+/// The command that sends this number, in decimals, to the crew's port of a site.
 fn send_command(alloc: Global, site: u16, number: u32) -> Result<Command, AllocError>
     requires { 1 ≤ site }
     ensures { IfOk result (λ command. command ≡ send_command site number) }

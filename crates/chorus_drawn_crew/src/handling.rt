@@ -4,7 +4,7 @@ ghost use Rattle.chorus_nucleus.specs.Passes.{layout_of, worn_by, IsPassOf};
 ghost use Rattle.chorus_perform.specs.Scripts.{IsKeeper, IsOpening};
 ghost use Rattle.chorus_crew.specs.Crews.{HasHandled};
 ghost use Rattle.chorus_crew.specs.Retiring.{IsRetired};
-ghost use Rattle.chorus_drawn_crew.specs.declared.counting.TheConstants.{DRAWS_LIMIT};
+ghost use Rattle.chorus_drawn_crew.specs.declared.draws.TheConstants.{DRAWS_LIMIT};
 ghost use Rattle.chorus_drawn_crew.specs.declared.names.TheConstants.{CREW_PORTS};
 ghost use Rattle.chorus_drawn_crew.specs.Names.{crew_pairs};
 ghost use Rattle.chorus_drawn_crew.specs.Value.{message_value};
@@ -53,7 +53,7 @@ pub(crate) fn fill_and_handle<R: Threads + Wait + Sync>(
     }
 }
 
-/// Lets a crew handle what waits in the ports.
+/// Lets a crew handle what waits in the ports that were filled with drawn messages.
 fn handle<R: Threads + Wait + Sync>(
     alloc: Global,
     rt: &R,

@@ -8,14 +8,14 @@
 //! Begin with `specs/Sends.antt` (what is sent and counted), then `handling` and `drawn`.
 #![tactic(auto)]
 
-mod counting;
 mod drawn;
+mod draws;
 mod filling;
 mod handling;
 mod names;
 mod text;
 mod value;
 
-pub use counting::DRAWS_LIMIT;
 pub use drawn::handle_drawn;
+pub use draws::DRAWS_LIMIT;
 pub use names::CREW_PORTS;

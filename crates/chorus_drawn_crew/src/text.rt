@@ -8,7 +8,7 @@ use chorus_crew::Handled;
 use chorus_ui::push_decimal;
 use std::alloc::{AllocError, Global};
 
-/// The text of what was counted at each port.
+/// The text of what the crew counted at each port.
 pub(crate) fn text_of(alloc: Global, handled: &[Handled]) -> Result<Vec<u8>, AllocError>
     requires { length handled.now ≡ CREW_PORTS }
     ensures { IfOk result (λ text. text.items ≡ handled_text handled.now) }
@@ -21,7 +21,8 @@ pub(crate) fn text_of(alloc: Global, handled: &[Handled]) -> Result<Vec<u8>, All
     Ok(text)
 }
 
-/// Appends the line `port s.p.1 COUNT TOTAL`. After an error a part of it may stand there.
+/// Appends the line `port s.p.1 COUNT TOTAL` of what the crew counted at a site's port. After an error a part of it may
+/// stand there.
 fn push_line(site: u16, port: &Handled, out: &mut Vec<u8>) -> Result<(), AllocError>
     requires { 1 ≤ site }
     ensures { OnOk result (out.new.items ≡ out.old.items ++ port_line site (counted port.now)) }

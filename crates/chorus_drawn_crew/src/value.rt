@@ -6,7 +6,7 @@ use chorus_crew::Handler;
 use chorus_entry::Message;
 use chorus_ui::{Ui, parse_decimal};
 
-/// The number whose decimal the body is, and 0 where it is that of no number of 64 bits.
+/// What a message is worth: the number whose decimal its body is, and 0 where it is that of no number of 64 bits.
 fn read_decimal(body: &[u8]) -> u64
     ensures { result ≡ body_value body.now }
 {

@@ -70,7 +70,7 @@ impl MemEnds {
     }
 }
 
-/// The index of the first of the packets that comes from the place.
+/// The index of the first of the packets left in memory that comes from the place.
 fn first_from(packets: &[Packet], from: u16) -> Option<usize>
     ensures some { IfSome result (λ at. IsFirstFrom from at packets.now) }
     ensures none { IfNone result (from_place from packets.now ≡ []) }
@@ -85,7 +85,7 @@ fn first_from(packets: &[Packet], from: u16) -> Option<usize>
     None
 }
 
-/// Makes a list for the place, where there is none yet.
+/// Makes a list in memory of what is sent to the place, where there is none yet.
 fn make_list(sent: &mut Vec<Vec<Packet>>, place: usize) -> Result<(), AllocError>
     ensures made { OnOk result (place < vec_len sent.new) }
     ensures same { IsSame (map (λ l. l.items) sent.old.items) (map (λ l. l.items) sent.new.items) }
@@ -97,7 +97,7 @@ fn make_list(sent: &mut Vec<Vec<Packet>>, place: usize) -> Result<(), AllocError
     Ok(())
 }
 
-/// Puts a packet behind those of the place, which has a list.
+/// Puts a packet behind those that were sent in memory to the place, which has a list.
 fn put_behind(sent: &mut Vec<Vec<Packet>>, place: usize, packet: Packet) -> Result<(), Packet>
     requires { place < vec_len sent.old }
     ensures put { OnOk result (GoesTo place packet
@@ -119,7 +119,7 @@ impl Ends for MemEnds {
 
     ghost links = { links };
 
-    /// It is never refused.
+    /// Opens a parcel in memory, which is never refused.
     fn unpack(parcel: Packet) -> Result<Packet, (Packet, AllocError)>
         ensures { result ≡ Ok parcel }
     {
@@ -137,7 +137,7 @@ impl Ends for MemEnds {
 }
 
 impl Moves<()> for MemEnds {
-    /// It is refused for want of memory alone.
+    /// Sends the packet in memory. It is refused for want of memory alone.
     fn push(&mut self, _ground: &(), to: u16, packet: Packet) -> Result<(), (Packet, PushFault)>
         requires ranges { has_ranges packet ≡ true }
         ensures sent { OnOk result (Sends to packet (links self.old) (links self.new)) }
@@ -157,7 +157,7 @@ impl Moves<()> for MemEnds {
         }
     }
 
-    /// None comes exactly where nothing is left from the place.
+    /// Receives the next packet that is left from the place. None comes exactly where nothing is left from the place.
     fn pop(&mut self, _ground: &(), from: u16) -> Option<Packet>
         ensures some { IfSome result (λ packet. Gets from packet self.old self.new) }
         ensures none { IfNone result ((from_place from self.old.left ≡ [])

@@ -2,6 +2,7 @@
 
 ghost use Rattle.std.specs.Prelude.{◌≡◌, IfOk};
 
+mod kinds;
 mod names;
 
 use crate::answer::Answer;

@@ -50,7 +50,7 @@ impl Dest {
         }
     }
 
-    /// Whether the name in it is of the kind that it stands for.
+    /// Whether the name in the destination is of the kind that it stands for.
     pub fn has_kinds(&self) -> bool
         ensures { result ≡ has_kinds_in_dest self.now }
     {

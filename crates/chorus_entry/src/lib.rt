@@ -19,7 +19,6 @@ mod entry;
 mod hand;
 mod id;
 mod ids;
-mod kinds;
 mod members;
 mod message;
 mod packet;

@@ -69,7 +69,7 @@ impl Eq for Members {
     ghost laws = { same_uis-equivalence };
 }
 
-/// The position of the port in a list of members, counted from 0: the length where it is not in it.
+/// The position of the port in a list of members, from 0: the length where it is not in it.
 pub fn index_of(members: &[Ui], port: Ui) -> usize
     ensures value { result ≡ index_of port members.now }
     ensures within { result ≤ length members.now }
@@ -89,7 +89,7 @@ pub fn is_member(members: &[Ui], port: Ui) -> bool
     members.iter().any(|member| *member == port)
 }
 
-/// The position in a list of this length, or the first one where it comes to the end.
+/// The position in a list of so many members, or the first one where it comes to the end.
 fn wrapped(len: usize, at: usize) -> usize
     ensures { result ≡ wrapped len at }
 {
@@ -109,8 +109,8 @@ fn length_without(members: &[Ui], port: Ui) -> usize
     }
 }
 
-/// The rotation place of a group with these members after a choice: behind the one member that was chosen, and where it was
-/// where none or several were.
+/// The rotation place of a group with these members after a choice, as places and the checker turn it: behind the one
+/// member that was chosen, and where it was where none or several were.
 pub fn turned(members: &[Ui], chosen: &[Ui], rotation: usize) -> usize
     ensures { result ≡ turned members.now chosen.now rotation }
 {
@@ -120,7 +120,8 @@ pub fn turned(members: &[Ui], chosen: &[Ui], rotation: usize) -> usize
     }
 }
 
-/// The rotation place of a group with these members when the port leaves it: one back where the port stands before it.
+/// The rotation place of a group with these members when the port leaves it, as places and the checker turn it back: one
+/// back where the port stands before it.
 pub fn turned_back(members: &[Ui], port: Ui, rotation: usize) -> usize
     ensures { result ≡ turned_back members.now port rotation }
 {

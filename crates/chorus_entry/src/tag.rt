@@ -18,7 +18,7 @@ pub enum Tag {
 }
 
 impl Tag {
-    /// Whether the reply port of a request is a port.
+    /// Whether the tag, where it is a request's, names a port as the reply port.
     pub fn has_kinds(&self) -> bool
         ensures { result ≡ has_kinds_in_tag self.now }
     {

@@ -1,434 +1,52 @@
-//! The search. It goes level by level: all histories of a level have as many moves, and those that come alike are one
-//! class.
+//! What may come of the scenario that a source gives, written to a sink.
 
-ghost use Rattle.std.specs.Prelude.{◌≡◌, ◌≢◌, ℕ, suc, ◌<◌, ◌^◌, List, [], true, false, reverse, Ok, IfOk, OnOk, IsErrOf, IfSome, Some};
-ghost use Rattle.chorus_place.specs.declared.fault.PlaceFault.TheVariants as PlaceFault;
-ghost use Rattle.law_explore.specs.Members.{Merged, going_by, going_on, next_members};
-ghost use Rattle.law_explore.specs.Merging.{ComeToldAlike};
-ghost use Rattle.law_explore.specs.Positions.{next_behind};
-ghost use Rattle.law_explore.specs.Search.{IsHistory};
-ghost use Rattle.law_explore.specs.Races.{replaying};
-ghost use Rattle.law_replay.specs.Shown.{race_of};
-ghost use Rattle.chorus_scene.specs.Scene.{Scene};
-ghost use Rattle.chorus_explore.specs.Classes.{AreClasses, IsClassOf, StandFor, StandsFor, shown_by};
-ghost use Rattle.chorus_explore.specs.Searches.{Come, GoOn, IsOver, IsReady, IsWithin, LeadsThere};
-ghost use Rattle.chorus_explore.specs.Stages.{AreFresh, AreSpare, IsReached, IsReachedIf, MayWear, may_go, moves_of};
-ghost use Rattle.chorus_explore.specs.Tellings.{tells_of};
+ghost use Rattle.std.specs.Prelude.{◌≡◌, ◌⊎◌};
+ghost use Rattle.chorus_io.specs.Count.{Rose};
+ghost use Rattle.chorus_report.specs.Output.{Writes};
+ghost use Rattle.chorus_explore.specs.Ends.{EndsAsExplore};
 
-use crate::race_sites::Stage;
-use chorus_net::Sites;
-use chorus_place::PlaceFault;
-use chorus_scene::{STEPS_LIMIT, Scenario};
-use explore_report::{Explored, Findings};
-use law_explore::Move;
-use std::alloc::{AllocError, Global};
-use std::mem;
+use crate::exploration::{ExploreFault, explore_scenario};
+use chorus_io::{Sink, Source, write_all};
+use chorus_report::read_scenario;
+use chorus_show::Status;
+use chorus_ui::Layout;
+use std::alloc::Global;
 
-/// Histories of one length that come to positions that are alike.
-#[derive(Debug, Drop)]
-struct Class {
-    /// The moves of one of them, in order.
-    moves: Vec<Move>,
-    /// How many they are; 2^64 - 1 where they are more.
-    number: u64,
-    /// The sum of the stage where the moves lead.
-    sum: u64,
-}
-
-/// The search so far.
-#[derive(Debug, Drop)]
-struct Search {
-    explored: Explored,
-    /// The classes of the next level, so far.
-    next: Vec<Class>,
-    /// The stage of the one that stands last: a level of one class is gone on from without doing its moves again.
-    last: Option<Stage>,
-    /// Sites on which nothing happened, for the next stages.
-    spare: Vec<Sites>,
-}
-
-/// Goes over the schedules of the scenario, and carries out so many events at most.
-pub(crate) fn go_over(alloc: Global, scenario: &Scenario, most: u64) -> Result<Explored, PlaceFault>
-    requires { most < 2 ^ 32 }
-    ensures over { IfOk result (λ explored. IsOver scenario.now most explored) }
-    ensures worn { (clock : ℕ) → IsErrOf result (PlaceFault.Worn clock) →
-        MayWear scenario.now clock }
+/// Reads the source to its end, goes over the schedules of the scenario that it gives for this layout, and writes what
+/// may come of them, as [`explore_scenario`] tells it; `most` is how many events are carried out at most.
+///
+/// A text that is refused ends it with its line and reason, a clock that some schedule wears with that clock; then
+/// nothing is written. Want of memory is the one ending without a cause.
+pub fn explore<S: Source, K: Sink>(
+    alloc: Global,
+    layout: Layout,
+    most: u32,
+    source: &mut S,
+    sink: &mut K,
+) -> Status
+    ensures { EndsAsExplore layout most result S.left S.faults S.reliable source.old source.new
+        K.held K.faults sink.old sink.new }
 {
-    let mut search = Search::begin(alloc, scenario)?;
-    for _length in 0..STEPS_LIMIT {
-        let level = mem::replace(&mut search.next, Vec::new(alloc));
-        if level.is_empty() {
-            return Ok(search.explored);
-        }
-        if !search.go_on(alloc, scenario, &level, most)? {
-            return Ok(search.explored);
-        }
-    }
-    search.explored.is_cut = !search.next.is_empty();
-    Ok(search.explored)
-}
-
-impl Search {
-    /// Begins: nothing was found, and the empty history is come to.
-    fn begin(alloc: Global, scenario: &Scenario) -> Result<Search, PlaceFault>
-        ensures ready { IfOk result (λ search. IsReady scenario.now search) }
-        ensures begun { IfOk result (λ search.
-            (most : ℕ) → IsWithin scenario.now most 0 [] search) }
-        ensures worn { (clock : ℕ) → IsErrOf result (PlaceFault.Worn clock) →
-            MayWear scenario.now clock }
-    {
-        let mut search = Search {
-            explored: Explored {
-                findings: Findings::new(alloc),
-                histories: 0,
-                events: 0,
-                is_cut: false,
-            },
-            next: Vec::new(alloc),
-            last: None,
-            spare: Vec::new(alloc),
-        };
-        let stage = Stage::begin(alloc, scenario, None, 0)?;
-        search.come_to(alloc, scenario, stage, 1)?;
-        Ok(search)
-    }
-
-    /// Goes on from each class of a level. False where a limit was met.
-    fn go_on(
-        &mut self,
-        alloc: Global,
-        scenario: &Scenario,
-        level: &[Class],
-        most: u64,
-    ) -> Result<bool, PlaceFault>
-        requires level { AreClasses scenario.now level.now }
-        requires ready { IsReady scenario.now self.old }
-        requires most { most < 2 ^ 32 }
-        ensures ready { OnOk result (IsReady scenario.now self.new) }
-        ensures go_on { (n : ℕ) (ms : List Merged) →
-            StandFor (race_of scenario.now) n level.now ms →
-            GoOn scenario.now most (suc n) (next_members (race_of scenario.now) ms)
-            result self.old self.new }
-        ensures worn { (clock : ℕ) → IsErrOf result (PlaceFault.Worn clock) →
-            MayWear scenario.now clock }
-    {
-        let mut last = self.last.take();
-        for index in 0..level.len() {
-            let kept = take_if(index + 1 == level.len(), &mut last);
-            if !self.go_on_from(alloc, scenario, &level[index], kept, most)? {
-                return Ok(false);
-            }
-        }
-        Ok(true)
-    }
-
-    /// Goes on from the class by each move that may come; `kept` is a stage, if there is one, that may be where it leads.
-    /// False where a limit was met.
-    fn go_on_from(
-        &mut self,
-        alloc: Global,
-        scenario: &Scenario,
-        class: &Class,
-        kept: Option<Stage>,
-        most: u64,
-    ) -> Result<bool, PlaceFault>
-        requires history { IsHistory (replaying (race_of scenario.now)) (shown_by class.now) }
-        requires kept { IsReachedIf scenario.now kept }
-        requires ready { IsReady scenario.now self.old }
-        requires most { most < 2 ^ 32 }
-        ensures ready { OnOk result (IsReady scenario.now self.new) }
-        ensures go_on { (n : ℕ) (m : Merged) →
-            StandsFor (race_of scenario.now) n (shown_by class.now) class.now.number m →
-            GoOn scenario.now most (suc n)
-            (going_on (next_behind (race_of scenario.now) (shown_by class.now)) m.members)
-            result self.old self.new }
-        ensures worn { (clock : ℕ) → IsErrOf result (PlaceFault.Worn clock) →
-            MayWear scenario.now clock }
-    {
-        let kept = if_there(scenario, kept, &class.moves);
-        let mut stage = self.stage_there(alloc, scenario, &class.moves, kept)?;
-        let moves = stage.next_moves(alloc, scenario)?;
-        let mut kept = Some(stage);
-        for index in 0..moves.len() {
-            if !self.go_by(alloc, scenario, class, kept.take(), moves[index], most)? {
-                return Ok(false);
-            }
-        }
-        Ok(true)
-    }
-
-    /// Goes on from the class by the move; the stage that was kept, if one was, is where the class leads. False where a
-    /// limit was met.
-    fn go_by(
-        &mut self,
-        alloc: Global,
-        scenario: &Scenario,
-        class: &Class,
-        kept: Option<Stage>,
-        mv: Move,
-        most: u64,
-    ) -> Result<bool, PlaceFault>
-        requires history { IsHistory (replaying (race_of scenario.now)) (shown_by class.now) }
-        requires may { may_go scenario.now mv (shown_by class.now) ≡ true }
-        requires kept { LeadsThere scenario.now class.now.moves.items kept }
-        requires ready { IsReady scenario.now self.old }
-        requires most { most < 2 ^ 32 }
-        ensures ready { OnOk result (IsReady scenario.now self.new) }
-        ensures go_on { (n : ℕ) (m : Merged) →
-            StandsFor (race_of scenario.now) n (shown_by class.now) class.now.number m →
-            GoOn scenario.now most (suc n) (going_by mv m.members) result self.old self.new }
-        ensures worn { (clock : ℕ) → IsErrOf result (PlaceFault.Worn clock) →
-            MayWear scenario.now clock }
-    {
-        if self.explored.events >= most {
-            self.explored.is_cut = true;
-            return Ok(false);
-        }
-        let mut stage = self.stage_there(alloc, scenario, &class.moves, kept)?;
-        stage.go(scenario, mv)?;
-        self.explored.events += 1;
-        self.come_to(alloc, scenario, stage, class.number)?;
-        Ok(true)
-    }
-
-    /// The stage where the moves lead: the one that was kept, or one on which they are done again.
-    fn stage_there(
-        &mut self,
-        alloc: Global,
-        scenario: &Scenario,
-        moves: &[Move],
-        kept: Option<Stage>,
-    ) -> Result<Stage, PlaceFault>
-        requires history { IsHistory (replaying (race_of scenario.now)) (reverse moves.now) }
-        requires kept { LeadsThere scenario.now moves.now kept }
-        requires spare { AreSpare scenario.now self.old.spare.items }
-        ensures there { IfOk result (λ stage. LeadsThere scenario.now moves.now (Some stage)) }
-        ensures spare { AreSpare scenario.now self.new.spare.items }
-        ensures kept { (self.new.explored ≡ self.old.explored) × (self.new.next ≡ self.old.next)
-            × (self.new.last ≡ self.old.last) }
-        ensures worn { (clock : ℕ) → IsErrOf result (PlaceFault.Worn clock) →
-            MayWear scenario.now clock }
-    {
-        match kept {
-            Some(stage) => Ok(stage),
-            None => again(alloc, scenario, moves, self.spare.pop()),
-        }
-    }
-
-    /// The stage is come to, by so many histories: they are counted where nothing may come behind it, and else are put to
-    /// the class that is alike.
-    fn come_to(
-        &mut self,
-        alloc: Global,
-        scenario: &Scenario,
-        mut stage: Stage,
-        number: u64,
-    ) -> Result<(), PlaceFault>
-        requires reached { IsReached scenario.now stage }
-        requires ready { IsReady scenario.now self.old }
-        ensures ready { OnOk result (IsReady scenario.now self.new) }
-        ensures come { OnOk result ((most n : ℕ) (m : Merged) →
-            StandsFor (race_of scenario.now) n (moves_of stage) number m →
-            Come scenario.now most n m.members self.old self.new) }
-        ensures worn { (clock : ℕ) → IsErrOf result (PlaceFault.Worn clock) →
-            MayWear scenario.now clock }
-    {
-        if stage.next_moves(alloc, scenario)?.is_empty() {
-            self.end(alloc, scenario, stage, number)?;
-            Ok(())
-        } else {
-            self.merge(alloc, scenario, stage, number)
-        }
-    }
-
-    /// Counts so many histories, behind which nothing may come.
-    fn end(
-        &mut self,
-        alloc: Global,
-        scenario: &Scenario,
-        stage: Stage,
-        number: u64,
-    ) -> Result<(), AllocError>
-        requires reached { IsReached scenario.now stage }
-        requires end { next_behind (race_of scenario.now) (moves_of stage) ≡ [] }
-        requires ready { IsReady scenario.now self.old }
-        ensures ready { OnOk result (IsReady scenario.now self.new) }
-        ensures come { OnOk result ((most n : ℕ) (m : Merged) →
-            StandsFor (race_of scenario.now) n (moves_of stage) number m →
-            Come scenario.now most n m.members self.old self.new) }
-    {
-        let moves = Vec::from_slice(alloc, &stage.moves)?;
-        let (text, sites) = stage.outcome(alloc)?;
-        self.spare.reserve(1)?;
-        self.spare.push_reserved(sites);
-        self.explored.findings.add(alloc, text, &moves, number)?;
-        self.explored.histories = self.explored.histories.saturating_add(number);
-        Ok(())
-    }
-
-    /// Adds so many histories to the class that is alike, or makes one of them.
-    fn merge(
-        &mut self,
-        alloc: Global,
-        scenario: &Scenario,
-        stage: Stage,
-        number: u64,
-    ) -> Result<(), PlaceFault>
-        requires reached { IsReached scenario.now stage }
-        requires goes_on { next_behind (race_of scenario.now) (moves_of stage) ≢ [] }
-        requires ready { IsReady scenario.now self.old }
-        ensures ready { OnOk result (IsReady scenario.now self.new) }
-        ensures come { OnOk result ((most n : ℕ) (m : Merged) →
-            StandsFor (race_of scenario.now) n (moves_of stage) number m →
-            Come scenario.now most n m.members self.old self.new) }
-        ensures worn { (clock : ℕ) → IsErrOf result (PlaceFault.Worn clock) →
-            MayWear scenario.now clock }
-    {
-        let sum = stage.sum();
-        let found = class_of(alloc, scenario, &self.next, sum, &stage, &mut self.spare)?;
-        match found {
-            Some(index) => {
-                self.next[index].number = self.next[index].number.saturating_add(number);
-            }
-            None => {
-                let moves = Vec::from_slice(alloc, &stage.moves)?;
-                self.next.reserve(1)?;
-                self.next.push_reserved(Class { moves, number, sum });
-            }
-        }
-        self.keep(alloc, stage, found.is_none())?;
-        Ok(())
-    }
-
-    /// Keeps the stage, where it is that of the last class; the sites of the one that was kept, or else of this one, are
-    /// started again.
-    fn keep(&mut self, alloc: Global, stage: Stage, is_last: bool) -> Result<(), AllocError>
-        ensures ready { OnOk result ((c : Scene) → IsReached c stage →
-            IsReady c self.old → IsReady c self.new) }
-        ensures kept { OnOk result ((self.new.explored ≡ self.old.explored)
-            × (self.new.next ≡ self.old.next)) }
-    {
-        let used = if is_last {
-            self.last.replace(stage)
-        } else {
-            Some(stage)
-        };
-        if let Some(used) = used {
-            let sites = used.restarted(alloc)?;
-            self.spare.reserve(1)?;
-            self.spare.push_reserved(sites);
-        }
-        Ok(())
-    }
-}
-
-/// The stage that is kept, where it is asked for; it is kept no more then.
-fn take_if(is_asked: bool, last: &mut Option<Stage>) -> Option<Stage>
-    ensures { (c : Scene) → IsReachedIf c last.old → IsReachedIf c result × IsReachedIf c last.new }
-{
-    if is_asked { last.take() } else { None }
-}
-
-/// The stage, where these are the moves that led there.
-fn if_there(scenario: &Scenario, kept: Option<Stage>, moves: &[Move]) -> Option<Stage>
-    requires { IsReachedIf scenario.now kept }
-    ensures { LeadsThere scenario.now moves.now result }
-{
-    let _scene = scenario.layout();
-    let Some(stage) = kept else {
-        return None;
+    let scenario = match read_scenario(alloc, source, layout) {
+        Ok(scenario) => scenario,
+        Err(status) => return status,
     };
-    if !are_same_moves(&stage.moves, moves) {
-        return None;
+    match explore_scenario(alloc, &scenario, most) {
+        Ok(text) => write(sink, &text),
+        Err(ExploreFault::Memory) => Status::Memory,
+        Err(ExploreFault::Worn { clock }) => Status::Worn { clock },
     }
-    Some(stage)
 }
 
-/// Whether the moves are the same.
-fn are_same_moves(one: &[Move], other: &[Move]) -> bool
-    ensures { result ≡ true → one.now ≡ other.now }
+/// Writes the text of what may come of a scenario.
+fn write<K: Sink>(sink: &mut K, text: &[u8]) -> Status
+    ensures status { (result ≡ Status.Done) ⊎ (result ≡ Status.WriteFault) }
+    ensures written { Writes result (K.held sink.old) (K.held sink.new) text.now }
+    ensures write_fault { result ≡ Status.WriteFault →
+        Rose (K.faults sink.old) (K.faults sink.new) }
 {
-    if one.len() != other.len() {
-        return false;
+    match write_all(sink, text) {
+        Ok(()) => Status::Done,
+        Err(_) => Status::WriteFault,
     }
-    for index in 0..one.len() {
-        if one[index] != other[index] {
-            return false;
-        }
-    }
-    true
-}
-
-/// The stage behind the moves, from the start on.
-fn again(
-    alloc: Global,
-    scenario: &Scenario,
-    moves: &[Move],
-    fresh: Option<Sites>,
-) -> Result<Stage, PlaceFault>
-    requires history { IsHistory (replaying (race_of scenario.now)) (reverse moves.now) }
-    requires fresh { AreFresh scenario.now fresh }
-    ensures there { IfOk result (λ stage. LeadsThere scenario.now moves.now (Some stage)) }
-    ensures worn { (clock : ℕ) → IsErrOf result (PlaceFault.Worn clock) →
-        MayWear scenario.now clock }
-{
-    let mut stage = Stage::begin(alloc, scenario, fresh, moves.len() + 1)?;
-    for mv in moves {
-        stage.go(scenario, *mv)?;
-    }
-    Ok(stage)
-}
-
-/// The first class of this sum whose moves lead to a stage that is alike.
-fn class_of(
-    alloc: Global,
-    scenario: &Scenario,
-    classes: &[Class],
-    sum: u64,
-    stage: &Stage,
-    spare: &mut Vec<Sites>,
-) -> Result<Option<usize>, PlaceFault>
-    requires classes { AreClasses scenario.now classes.now }
-    requires reached { IsReached scenario.now stage.now }
-    requires spare { AreSpare scenario.now spare.old.items }
-    ensures some { IfOk result (λ found. IfSome found (λ index.
-        IsClassOf scenario.now classes.now index (moves_of stage.now))) }
-    ensures spare { OnOk result (AreSpare scenario.now spare.new.items) }
-    ensures worn { (clock : ℕ) → IsErrOf result (PlaceFault.Worn clock) →
-        MayWear scenario.now clock }
-{
-    for index in 0..classes.len() {
-        let class = &classes[index];
-        if class.sum != sum {
-            continue;
-        }
-        if lead_to_alike(alloc, scenario, &class.moves, stage, spare)? {
-            return Ok(Some(index));
-        }
-    }
-    Ok(None)
-}
-
-/// Whether the moves, performed from the start on, lead to a stage that is alike. True only where they do.
-fn lead_to_alike(
-    alloc: Global,
-    scenario: &Scenario,
-    moves: &[Move],
-    stage: &Stage,
-    spare: &mut Vec<Sites>,
-) -> Result<bool, PlaceFault>
-    requires history { IsHistory (replaying (race_of scenario.now)) (reverse moves.now) }
-    requires reached { IsReached scenario.now stage.now }
-    requires spare { AreSpare scenario.now spare.old.items }
-    ensures alike { IfOk result (λ alike. alike ≡ true → ComeToldAlike tells_of
-        (race_of scenario.now) (reverse moves.now) (moves_of stage.now)) }
-    ensures spare { OnOk result (AreSpare scenario.now spare.new.items) }
-    ensures worn { (clock : ℕ) → IsErrOf result (PlaceFault.Worn clock) →
-        MayWear scenario.now clock }
-{
-    let other = again(alloc, scenario, moves, spare.pop())?;
-    let alike = other.is_alike(scenario, stage)?;
-    spare.reserve(1)?;
-    spare.push_reserved(other.restarted(alloc)?);
-    Ok(alike)
 }

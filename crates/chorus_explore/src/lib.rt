@@ -10,13 +10,13 @@
 //! compares. What the moves came to `explore_facts` tells, and `explore_report` counts it and writes it down.
 #![tactic(auto)]
 
-mod ending;
 mod exploration;
 mod exploring;
 mod laws;
 mod race_sites;
+mod searching;
 mod sums;
 
-pub use ending::explore;
 pub use exploration::{ExploreFault, explore_scenario};
+pub use exploring::explore;
 pub use laws::{shown_schedules_are_replayed, whole_schedules_leave_nothing};

@@ -56,7 +56,8 @@ pub(crate) struct Progress {
 }
 
 impl Progress {
-    /// One command more was performed, of the script of this number, and answered by the act.
+    /// Notes of the script's progress that one command more was performed, of the script of this number, and answered
+    /// by the act.
     fn answered(&mut self, script: u64, act: &Act) -> Result<(), AllocError>
         requires { self.old.next < 2 ^ 32 }
         ensures next { OnOk result (self.new.next ≡ self.old.next + 1) }
@@ -74,7 +75,7 @@ impl Progress {
         Ok(())
     }
 
-    /// Whether as much was performed, and answered by the same lines.
+    /// Whether of the script as much was performed on both stages, and answered by the same lines.
     fn is_as_far(&self, other: &Progress) -> bool
         ensures { result ≡ true → kept_of self.now ≡ kept_of other.now }
     {
@@ -123,7 +124,7 @@ impl Stage {
         })
     }
 
-    /// Performs a move that may come.
+    /// Performs on the stage a move of the race that may come.
     pub(crate) fn go(&mut self, scenario: &Scenario, mv: Move) -> Result<(), PlaceFault>
         requires reached { IsReached scenario.now self.old }
         requires may { may_go scenario.now mv (moves_of self.old) ≡ true }
@@ -141,7 +142,7 @@ impl Stage {
         Ok(())
     }
 
-    /// Delivers the first packet that waits from the one place to the other, where one does.
+    /// Delivers on the stage the first packet that waits from the one place to the other, where one does.
     fn carry(&mut self, scenario: &Scenario, from: u16, to: u16) -> Result<(), PlaceFault>
         requires reached { IsReached scenario.now self.old }
         requires may { may_go scenario.now (Move.Carry from to) (moves_of self.old) ≡ true }
@@ -155,7 +156,7 @@ impl Stage {
         Ok(())
     }
 
-    /// Performs the next command of the script that stands there.
+    /// Performs on the stage the next command of the script that stands there.
     fn perform(&mut self, scenario: &Scenario, index: u16) -> Result<(), PlaceFault>
         requires reached { IsReached scenario.now self.old }
         requires may { may_go scenario.now (Move.Go index) (moves_of self.old) ≡ true }
@@ -170,7 +171,7 @@ impl Stage {
         self.perform_next(scenario, index, command)
     }
 
-    /// The next command of the script that stands there.
+    /// The next command that the stage performs of the script that stands there.
     fn next<'a>(&self, scenario: &'a Scenario, index: u16) -> &'a Command
         requires reached { IsReached scenario.now self.now }
         requires may { may_go scenario.now (Move.Go index) (moves_of self.now) ≡ true }
@@ -182,7 +183,7 @@ impl Stage {
         }
     }
 
-    /// Performs this command, the next one of the script.
+    /// Performs on the stage this command, the next one of the script.
     fn perform_next(
         &mut self,
         scenario: &Scenario,
@@ -206,7 +207,7 @@ impl Stage {
         Ok(())
     }
 
-    /// The moves that may come: scripts first, then deliveries by their places.
+    /// The moves of the race that may come behind the stage: scripts first, then deliveries by their places.
     pub(crate) fn next_moves(
         &mut self,
         alloc: Global,
@@ -246,7 +247,7 @@ impl Stage {
         sum_of(&self.sites, self.scripts.as_slice())
     }
 
-    /// Gives the lines of what the moves came to, and the sites, started again.
+    /// Gives the lines of what the moves of the stage came to, and the sites, started again.
     pub(crate) fn outcome(self, alloc: Global) -> Result<(Vec<u8>, Sites), AllocError>
         ensures text { (c : Scene) → IsReached c self →
             IfOk result (λ r. r.0.items ≡ comes c (moves_of self)) }
@@ -269,7 +270,7 @@ impl Stage {
         Ok(sites)
     }
 
-    /// Adds the next command of each script that has one left.
+    /// Adds to the moves that may come the next command of each script that has one left.
     fn add_scripts(&self, scenario: &Scenario, moves: &mut Vec<Move>) -> Result<(), AllocError>
         requires { IsReached scenario.now self.now }
         ensures { OnOk result (moves.new.items ≡ moves.old.items
@@ -282,7 +283,7 @@ impl Stage {
         Ok(())
     }
 
-    /// The next command of the script, where one is left.
+    /// The next command of the script behind what the stage has performed, where one is left.
     fn left_of<'a>(&self, scenario: &'a Scenario, index: u16) -> Option<&'a Command>
         requires reached { IsReached scenario.now self.now }
         requires index { index < length scenario.now.scripts }
@@ -294,7 +295,7 @@ impl Stage {
         script.commands().get(self.scripts[usize::from(index)].next)
     }
 
-    /// Adds the next command of the script, where one is left.
+    /// Adds to the moves that may come the next command of the script, where one is left.
     fn add_script(
         &self,
         scenario: &Scenario,
@@ -315,7 +316,7 @@ impl Stage {
         Ok(())
     }
 
-    /// Adds the deliveries from each place.
+    /// Adds to the moves that may come the deliveries from each place.
     fn add_deliveries(
         &mut self,
         scenario: &Scenario,
@@ -334,7 +335,7 @@ impl Stage {
         Ok(())
     }
 
-    /// Adds the deliveries from the place.
+    /// Adds to the moves that may come the deliveries from the place.
     fn add_links(
         &mut self,
         scenario: &Scenario,
@@ -358,7 +359,7 @@ impl Stage {
         Ok(())
     }
 
-    /// Adds the delivery from the one place to the other, where a packet waits.
+    /// Adds to the moves that may come the delivery from the one place to the other, where a packet waits.
     fn add_link(
         &mut self,
         scenario: &Scenario,
@@ -385,21 +386,21 @@ impl Stage {
     }
 }
 
-/// Whether the texts are the same.
+/// Whether the texts of what the script was answered on two stages are the same.
 fn is_same_text(one: &[u8], other: &[u8]) -> bool
     ensures { result ≡ true → one.now ≡ other.now }
 {
     one == other
 }
 
-/// Whether the same messages were posted.
+/// Whether the script posted the same messages on two stages.
 fn are_same_posts(one: &[MsgId], other: &[MsgId]) -> bool
     ensures { result ≡ true → one.now ≡ other.now }
 {
     one == other
 }
 
-/// Whether of each script as much was performed, and answered by the same lines.
+/// Whether of each script as much was performed on two stages, and answered by the same lines.
 fn are_as_far(one: &[Progress], other: &[Progress]) -> bool
     ensures { result ≡ true → map kept_of one.now ≡ map kept_of other.now }
 {
@@ -426,7 +427,8 @@ fn where_performed(scenario: &Scenario, index: u16, command: &Command) -> u16
     )
 }
 
-/// Performs the command of the seat, and gives where its own entry stands in the journal of its place.
+/// Performs the command of the seat on the sites of a race, and gives where its own entry stands in the journal of its
+/// place.
 fn act_at(sites: &mut Sites, seat: u32, command: &Command, place: u16) -> Result<usize, PlaceFault>
     requires may { may_happen (Acting seat command.now) (net sites.old) ≡ true }
     requires place { has_place sites.old.layout place ≡ true }
@@ -467,7 +469,7 @@ fn push_posts(
     Ok(())
 }
 
-/// Sites on which nothing happened: those that are given, or else sites that are started.
+/// Sites for a stage, on which nothing happened: those that are given, or else sites that are started.
 fn fresh_sites(alloc: Global, layout: Layout, fresh: Option<Sites>) -> Result<Sites, AllocError>
     requires { IfSome fresh (λ s. net s ≡ just_started layout) }
     ensures { IfOk result (λ s. net s ≡ just_started layout) }
@@ -478,7 +480,7 @@ fn fresh_sites(alloc: Global, layout: Layout, fresh: Option<Sites>) -> Result<Si
     }
 }
 
-/// The sites, which were just started, when the setup is done and all callers have entered.
+/// The sites of a race, which were just started, when the setup is done and all callers have entered.
 fn entered(mut sites: Sites, scenario: &Scenario) -> Result<Sites, PlaceFault>
     requires start { net sites ≡ just_started scenario.now.layout }
     requires keeps { Keeps scenario.now }

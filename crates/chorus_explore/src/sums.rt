@@ -19,7 +19,7 @@ pub(crate) fn sum_of(sites: &Sites, scripts: &[Progress]) -> u64 {
     hasher.finish()
 }
 
-/// Adds the ports of the place, and the packets that wait there.
+/// Adds to a stage's sum the ports of the place, and the packets that wait there.
 fn add_place(place: &Place, hasher: &mut FoldHasher) {
     for record in place.tables().ports().records() {
         add_record(record, hasher);
@@ -32,7 +32,7 @@ fn add_place(place: &Place, hasher: &mut FoldHasher) {
     }
 }
 
-/// Adds the packets that wait at the place to go to the other.
+/// Adds to a stage's sum the packets that wait at the place to go to the other.
 fn add_packets(place: &Place, to: u16, hasher: &mut FoldHasher) {
     for at in 0..u64::MAX {
         let Some(packet) = place.tables().out().get(to, at) else {
@@ -43,7 +43,7 @@ fn add_packets(place: &Place, to: u16, hasher: &mut FoldHasher) {
     }
 }
 
-/// Adds the ids of what is carried, or the port that moves.
+/// Adds to a stage's sum the ids of what is carried, or the port that moves.
 fn add_cargo(cargo: &Cargo, hasher: &mut FoldHasher) {
     match cargo {
         Cargo::Try { message, hop, .. } => {
@@ -57,7 +57,7 @@ fn add_cargo(cargo: &Cargo, hasher: &mut FoldHasher) {
     }
 }
 
-/// Adds the name of the port, how many messages were received from it, and those that wait.
+/// Adds to a stage's sum the name of the port, how many messages were received from it, and those that wait.
 fn add_record(record: &PortRecord, hasher: &mut FoldHasher) {
     record.ui.bits().hash(hasher);
     record.first.hash(hasher);

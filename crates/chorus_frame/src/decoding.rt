@@ -8,7 +8,7 @@ ghost use Rattle.chorus_frame.specs.Reading.{packet_of};
 mod answer;
 mod cargo;
 mod message;
-mod name;
+mod number;
 mod record;
 
 use crate::fault::DecodeFault;

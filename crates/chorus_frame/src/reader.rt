@@ -24,14 +24,14 @@ impl<'a> Model for Reader<'a> {
 impl<'a> Reader<'a> {
     ghost use Rattle.chorus_frame.specs.Calls.{Reads, Fails};
 
-    /// All of these bytes.
+    /// All of these bytes are left to read of the frame.
     pub(crate) fn new(bytes: &'a [u8]) -> Reader<'a>
         ensures { result ≡ bytes.now }
     {
         Reader { rest: bytes }
     }
 
-    /// Whether nothing is left.
+    /// Whether nothing is left to read of the frame.
     pub(crate) fn is_empty(&self) -> bool
         ensures { result ≡ (length self.now == 0) }
     {

@@ -57,7 +57,7 @@ impl Group {
         self.ui == ui
     }
 
-    /// Its members, in the order in which they joined.
+    /// The members of this one group, each once and at most 32, in the order in which they joined.
     pub(crate) fn members(&self) -> &[Ui]
         ensures members { result.now ≡ self.now.members }
         ensures group { IsGroup self.now }
@@ -65,7 +65,7 @@ impl Group {
         self.members.as_slice()
     }
 
-    /// Its rotation place: a position in the list of its members.
+    /// The rotation place of this one group: a position in the list of its members.
     pub(crate) fn rotation(&self) -> usize
         ensures { result ≡ self.now.rotation }
     {

@@ -36,7 +36,8 @@ impl Model for Groups {
         record { groups = g.groups.items; spare = vec_capacity g.groups - vec_len g.groups } };
 }
 
-/// Where the group of this name stands, counted from 0: the number of groups where it is not made.
+/// Where the group of this name stands among those made at the place, counted from 0: the number of groups where it is not
+/// made.
 fn row_of(groups: &[Group], group: Ui) -> usize
     ensures { result ≡ row_of group groups.now }
 {
@@ -48,7 +49,7 @@ fn row_of(groups: &[Group], group: Ui) -> usize
     groups.len()
 }
 
-/// The one port of a list of one.
+/// The one port of a list of chosen members that has just one; else None.
 fn only(chosen: &[Ui]) -> Option<Ui>
     ensures { result ≡ only chosen.now }
 {

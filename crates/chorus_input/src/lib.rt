@@ -12,8 +12,9 @@ ghost use Rattle.chorus_io.specs.Count.{Rose};
 use chorus_io::{ReadAll, Source, read_all};
 use std::alloc::Global;
 
-/// Reads the source to its end. `TooLong` comes exactly where `limit + 1` bytes were read, `Fault` only where the source's count of
-/// faults rose in this call, and bytes or `Memory` only where it did not. At each answer the source has given the bytes that were read.
+/// Reads the source, which is the input of a word of the program, to its end. `TooLong` comes exactly where `limit + 1`
+/// bytes were read, `Fault` only where the source's count of faults rose in this call, and bytes or `Memory` only where
+/// it did not. At each answer the source has given the bytes that were read.
 pub fn read_input<S: Source>(
     alloc: Global,
     source: &mut S,

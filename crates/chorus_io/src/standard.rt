@@ -14,7 +14,7 @@ pub struct StdSource {
 }
 
 impl StdSource {
-    /// No fault was met yet.
+    /// Standard input as a source that met no fault yet.
     pub fn new(stdin: Stdin) -> Self
         ensures { ⟦<StdSource as Source>⟧.faults result ≡ 0 }
     {
@@ -54,7 +54,7 @@ pub type StdSink = StdStream<Stdout>;
 pub type StdErrors = StdStream<Stderr>;
 
 impl<W: Write + Drop> StdStream<W> {
-    /// No fault was met yet.
+    /// A standard stream as a sink that met no fault yet.
     pub fn new(stream: W) -> Self
         ensures { ⟦<StdStream<W> as Sink>⟧.faults result ≡ 0 }
     {

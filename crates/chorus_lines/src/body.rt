@@ -19,7 +19,8 @@ pub fn begins_a_body(version: u8, text: &[u8]) -> bool
     }
 }
 
-/// How many bytes the body has. None exactly where an `x` body has an odd number of digits or another byte among them.
+/// How many bytes the body that is spelled so in a scenario text has. None exactly where an `x` body has an odd number of digits or
+/// another byte among them.
 #[tactic(auto, unfolding(crate::specs::Body::body_in))]
 pub fn body_len(text: &[u8]) -> Option<usize>
     ensures { result ≡ option_map length (body_in text.now) }
@@ -31,7 +32,7 @@ pub fn body_len(text: &[u8]) -> Option<usize>
     }
 }
 
-/// The body that is spelled so.
+/// The body that is spelled so in a scenario text.
 #[tactic(auto, unfolding(crate::specs::Body::body_in))]
 pub fn body_in(alloc: Global, text: &[u8]) -> Result<Body, AllocError>
     requires body { IsSome (body_in text.now) }
@@ -45,7 +46,7 @@ pub fn body_in(alloc: Global, text: &[u8]) -> Result<Body, AllocError>
     }
 }
 
-/// How many bytes the digits stand for.
+/// How many bytes the digits of an `x` body stand for.
 #[tactic(auto, using(crate::proofs::Hex::pairs_len))]
 fn hex_len(digits: &[u8]) -> Option<usize>
     ensures { result ≡ option_map length (bytes_of_hex digits.now) }
@@ -57,7 +58,7 @@ fn hex_len(digits: &[u8]) -> Option<usize>
     }
 }
 
-/// The body of the bytes that the digits stand for, with no other memory than the body's own.
+/// The body of the bytes that the digits of an `x` body stand for, with no other memory than the body's own.
 fn hex_body(alloc: Global, digits: &[u8]) -> Result<Body, AllocError>
     requires hex { is_hex_text digits.now ≡ true }
     requires small { length digits.now ≤ 2 * BODY_LIMIT }
@@ -69,7 +70,7 @@ fn hex_body(alloc: Global, digits: &[u8]) -> Result<Body, AllocError>
     Body::new(alloc, body)
 }
 
-/// Writes the bytes that the digits stand for.
+/// Writes the bytes that the digits of an `x` body stand for.
 fn write_bytes(digits: &[u8], bytes: &mut [u8])
     requires hex { is_hex_text digits.now ≡ true }
     requires room { 2 * length bytes.old ≡ length digits.now }
@@ -78,7 +79,7 @@ fn write_bytes(digits: &[u8], bytes: &mut [u8])
     let _ = hex::decode_to_slice(digits, bytes);
 }
 
-/// Whether each byte is a digit. Capitals are none.
+/// Whether each byte is a digit of an `x` body. Capitals are none.
 fn are_hex(text: &[u8]) -> bool
     ensures { result ≡ each_byte is_hex text.now }
 {

@@ -6,14 +6,14 @@ ghost use Rattle.chorus_lines.specs.Text.{fields, are_fields};
 
 use crate::text::cut;
 
-/// Whether nothing stands behind the word.
+/// Whether nothing stands behind the word of a line.
 pub fn none(rest: Option<&[u8]>) -> bool
     ensures { result ≡ are_fields 0 (fields 0 (option_copied rest.entry)) }
 {
     rest.is_none()
 }
 
-/// The one field.
+/// The one field behind the word of a line.
 pub fn one(rest: Option<&[u8]>) -> Option<&[u8]>
     ensures { MatchOption result
         (are_fields 1 (fields 1 (option_copied rest.entry)) ≡ false)
@@ -28,7 +28,7 @@ pub fn one(rest: Option<&[u8]>) -> Option<&[u8]>
     }
 }
 
-/// The two fields.
+/// The two fields behind the word of a line.
 pub fn two(rest: Option<&[u8]>) -> Option<(&[u8], &[u8])>
     ensures { MatchOption result
         (are_fields 2 (fields 2 (option_copied rest.entry)) ≡ false)
@@ -44,7 +44,7 @@ pub fn two(rest: Option<&[u8]>) -> Option<(&[u8], &[u8])>
     }
 }
 
-/// The three fields.
+/// The three fields behind the word of a line.
 pub fn three(rest: Option<&[u8]>) -> Option<(&[u8], &[u8], &[u8])>
     ensures { MatchOption result
         (are_fields 3 (fields 3 (option_copied rest.entry)) ≡ false)
@@ -61,7 +61,7 @@ pub fn three(rest: Option<&[u8]>) -> Option<(&[u8], &[u8], &[u8])>
     }
 }
 
-/// The body alone: all that stands behind the word.
+/// The body alone: all that stands behind the word of a line.
 pub fn body_alone(rest: Option<&[u8]>) -> Option<&[u8]>
     ensures { MatchOption result
         (are_fields 1 (fields 0 (option_copied rest.entry)) ≡ false)
@@ -72,7 +72,7 @@ pub fn body_alone(rest: Option<&[u8]>) -> Option<&[u8]>
     if body.is_empty() { None } else { Some(body) }
 }
 
-/// One field, and the body behind it.
+/// One field behind the word of a line, and the body behind it.
 pub fn one_and_body(rest: Option<&[u8]>) -> Option<(&[u8], &[u8])>
     ensures { MatchOption result
         (are_fields 2 (fields 1 (option_copied rest.entry)) ≡ false)
@@ -88,7 +88,7 @@ pub fn one_and_body(rest: Option<&[u8]>) -> Option<(&[u8], &[u8])>
     }
 }
 
-/// Two fields, and the body behind them.
+/// Two fields behind the word of a line, and the body behind them.
 pub fn two_and_body(rest: Option<&[u8]>) -> Option<(&[u8], &[u8], &[u8])>
     ensures { MatchOption result
         (are_fields 3 (fields 2 (option_copied rest.entry)) ≡ false)

@@ -9,7 +9,7 @@ use chorus_ui::{is_decimal, parse_decimal};
 /// Beyond every number of 64 bits.
 pub const BEYOND: u128 = 1 << 64;
 
-/// What stands before the first of these marks, and what stands behind it.
+/// Cuts a scenario text, or a line of it: what stands before the first of these marks, and what stands behind it.
 pub fn cut(mark: u8, text: &[u8]) -> (&[u8], Option<&[u8]>)
     ensures { (result.0.now, option_copied result.1) ≡ cut mark text.now }
 {
@@ -21,7 +21,7 @@ pub fn cut(mark: u8, text: &[u8]) -> (&[u8], Option<&[u8]>)
     (text, None)
 }
 
-/// Whether no byte is outside 0x20 to 0x7E.
+/// Whether no byte of the scenario line is outside 0x20 to 0x7E.
 pub fn is_text(line: &[u8]) -> bool
     ensures { result ≡ is_text line.now }
 {
@@ -33,7 +33,7 @@ pub fn is_text(line: &[u8]) -> bool
     true
 }
 
-/// Whether the line is empty or begins with `#`.
+/// Whether the scenario line is skipped: it is empty or begins with `#`.
 pub fn is_skipped(line: &[u8]) -> bool
     ensures { result ≡ is_skipped line.now }
 {
@@ -43,7 +43,7 @@ pub fn is_skipped(line: &[u8]) -> bool
     }
 }
 
-/// The number of a decimal; what is beyond 64 bits counts as `BEYOND`. None exactly where the text is no decimal.
+/// The number of a decimal in a scenario; what is beyond 64 bits counts as `BEYOND`. None exactly where the text is no decimal.
 pub fn number_in(text: &[u8]) -> Option<u128>
     ensures { result ≡ number_in text.now }
 {

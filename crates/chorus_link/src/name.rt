@@ -21,7 +21,7 @@ pub struct LinkName {
     pub slot_names: LinkedList<u64>,
 }
 
-/// The law of names: they are equal exactly where they are of one link.
+/// The law of the names of links: they are equal exactly where they are of one link.
 pub fn names_tell_links<P>()
     ensures names { (x y : TableId) → (name_of x ≡ name_of y) ↔ (x ≡ y) }
     // The two ends have one name exactly where `settle` may take them together.

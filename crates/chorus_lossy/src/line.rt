@@ -13,7 +13,7 @@ pub const CHUNK_BYTES: usize = 64;
 /// The window of both ends, in chunks.
 pub const WINDOW: u16 = 8;
 
-/// How many chunks the bytes are.
+/// How many chunks the bytes are that are carried over the line.
 pub(crate) fn chunk_count(bytes: &[u8]) -> u64
     ensures value { result ≡ chunk_count bytes.now }
     ensures small { result ≤ 2 ^ 57 }
@@ -21,7 +21,7 @@ pub(crate) fn chunk_count(bytes: &[u8]) -> u64
     bytes.len().div_ceil(CHUNK_BYTES) as u64
 }
 
-/// The chunk of that number, from 0.
+/// The chunk of that number, from 0, of the bytes that are carried over the line.
 pub(crate) fn chunk_at(alloc: Global, bytes: &[u8], number: u64) -> Result<Chunk, AllocError>
     requires { number < chunk_count bytes.now }
     ensures { IfOk result (λ chunk. chunk ≡ chunk_at bytes.now number) }
@@ -31,7 +31,7 @@ pub(crate) fn chunk_at(alloc: Global, bytes: &[u8], number: u64) -> Result<Chunk
     Chunk::new(alloc, &bytes[begin..begin + len])
 }
 
-/// Lets a chunk arrive.
+/// Lets a chunk arrive from the line at the receiver.
 pub(crate) fn arrive(number: u64, chunk: Chunk, receiver: &mut Receiver) -> Result<(), AllocError>
     requires { number < 2 ^ 64 - 1 }
     ensures ok { OnOk result (receiver.new ≡ after_arrival receiver.old number chunk) }
@@ -43,7 +43,7 @@ pub(crate) fn arrive(number: u64, chunk: Chunk, receiver: &mut Receiver) -> Resu
     }
 }
 
-/// Lets a chunk arrive, and again.
+/// Lets a chunk arrive from the line at the receiver, and again.
 pub(crate) fn arrive_twice(
     alloc: Global,
     number: u64,

@@ -61,7 +61,7 @@ pub fn lossy<S: Source, K: Sink>(
     }
 }
 
-/// Carries the bytes, and gives the text of what came of it.
+/// Carries the bytes, and gives the text that is printed of what came of it.
 fn carried_text(
     alloc: Global,
     first: u64,
@@ -78,7 +78,7 @@ fn carried_text(
     text_of(carried)
 }
 
-/// The text of what was carried.
+/// The text that is printed of what was carried: the bytes, LF, and the line `wire EMITTED LOST`.
 fn text_of(carried: Carried) -> Result<Vec<u8>, AllocError>
     ensures { IfOk result (λ text.
         text.items ≡ text_with carried.delivered.items carried.emitted carried.lost) }

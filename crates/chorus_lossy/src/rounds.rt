@@ -31,7 +31,7 @@ pub(crate) struct Run {
 }
 
 impl Run {
-    /// Nothing happened yet.
+    /// The run before its first round: nothing happened yet.
     pub(crate) fn new(alloc: Global, first: u64) -> Self
         ensures state { result.state ≡ first }
         ensures held { result.held.items ≡ [] }
@@ -48,7 +48,7 @@ impl Run {
         }
     }
 
-    /// What was carried.
+    /// What was carried in the run, with what it counted.
     pub(crate) fn carried(self) -> Carried
         ensures delivered { result.delivered ≡ self.delivered }
         ensures emitted { result.emitted ≡ self.emitted }
@@ -62,7 +62,7 @@ impl Run {
     }
 }
 
-/// What becomes of what is sent next, by the last digit of a draw in base four.
+/// What becomes of what is sent next in the round, by the last digit of a draw in base four.
 fn draw(run: &mut Run) -> u64
     ensures fate { result ≡ number_of run.new.state % 4 }
     ensures state { run.new ≡ record run.old { state = next_state run.old.state } }
@@ -78,7 +78,7 @@ fn is_lost(round: u64, fate: u64) -> bool
     fate == 0 && round % 4 != 0
 }
 
-/// Puts chunks while the window has room.
+/// Puts chunks into the sender, as a round begins, while the window has room.
 pub(crate) fn fill(alloc: Global, bytes: &[u8], sender: &mut Sender) -> Result<(), AllocError>
     requires { sender.old.window ≡ WINDOW }
     ensures ok { (m : Moment) (run : Run) (r : Receiving) → IsAt m run sender.old r →
@@ -163,7 +163,7 @@ fn emit(
     arrive(number, chunk, receiver)
 }
 
-/// Lets the chunks that are held arrive, the latest first.
+/// Lets the chunks that the line held back in the round arrive, the latest first.
 pub(crate) fn release(run: &mut Run, receiver: &mut Receiver) -> Result<(), AllocError>
     requires { AreSmall run.old.held.items }
     ensures ok { (m : Moment) (s : Sending) → IsAt m run.old s receiver.old →
@@ -179,7 +179,7 @@ pub(crate) fn release(run: &mut Run, receiver: &mut Receiver) -> Result<(), Allo
     Ok(())
 }
 
-/// Delivers all that the receiver gives.
+/// Delivers all that the receiver gives in a round.
 pub(crate) fn deliver(run: &mut Run, receiver: &mut Receiver) -> Result<(), AllocError>
     ensures ok { (m : Moment) (s : Sending) → IsAt m run.old s receiver.old →
         OnOk result (IsAt (all_delivered m) run.new s receiver.new) }
@@ -194,7 +194,7 @@ pub(crate) fn deliver(run: &mut Run, receiver: &mut Receiver) -> Result<(), Allo
     Ok(())
 }
 
-/// Sends the acknowledgement, with a draw.
+/// Sends the acknowledgement of a round, with a draw.
 pub(crate) fn acknowledge(round: u64, run: &mut Run, sender: &mut Sender, receiver: &Receiver)
     requires { run.old.lost + 1 < 2 ^ 64 }
     ensures ok { (m : Moment) → IsAt m run.old sender.old receiver.now →
@@ -209,7 +209,8 @@ pub(crate) fn acknowledge(round: u64, run: &mut Run, sender: &mut Sender, receiv
     }
 }
 
-/// The round of that number, from 1. Beside the chunks that are sent it may lose the acknowledgement.
+/// Plays the round of that number, from 1, of a run over the line. Beside the chunks that are sent it may lose the
+/// acknowledgement.
 pub(crate) fn play(
     alloc: Global,
     bytes: &[u8],

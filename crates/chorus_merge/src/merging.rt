@@ -25,7 +25,8 @@ pub fn merge(alloc: Global, journals: &[Vec<Entry>]) -> Result<Vec<Entry>, Alloc
     Ok(entries)
 }
 
-/// The same list, of references to the entries of the journals: no entry is copied. The only error is want of memory.
+/// The list that [`merge`] gives, of references to the entries of the journals: no entry is copied. The only error is want of
+/// memory.
 pub fn merge_lent<'a>(
     alloc: Global,
     journals: &'a [Vec<Entry>],
@@ -44,7 +45,7 @@ pub fn merge_lent<'a>(
     }
 }
 
-/// References to all entries of a single journal, in its order; the only error is want of memory.
+/// References to all entries of a single journal, in its order: the merge of one journal; the only error is want of memory.
 fn borrow_all(alloc: Global, journal: &[Entry]) -> Result<Vec<&Entry>, AllocError>
     ensures { IfOk result (λ entries. lent entries.items ≡ journal.now) }
 {
@@ -55,8 +56,8 @@ fn borrow_all(alloc: Global, journal: &[Entry]) -> Result<Vec<&Entry>, AllocErro
     Ok(entries)
 }
 
-// Both lists in one, each in its order. Of the two entries that stand first the second list's comes out only where it comes
-// before the other.
+/// The merge of two lists that are merged already: both in one, each in its order. Of the two entries that stand first the
+/// second list's comes out only where it comes before the other.
 fn merge_two<'a>(
     alloc: Global,
     first: &[&'a Entry],

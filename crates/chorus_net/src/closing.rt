@@ -12,7 +12,7 @@ use chorus_ports::Ports;
 use law_network::Placed;
 use place_outbox::Outbox;
 
-/// How many packets wait at the places. None where they are too many to count.
+/// How many packets wait at the places of sites that are closed. None where they are too many to count.
 pub(crate) fn count_packets(places: &[Place]) -> Option<usize>
     ensures { IfSome result (λ number. number ≡ total_waiting places.now) }
 {
@@ -23,7 +23,7 @@ pub(crate) fn count_packets(places: &[Place]) -> Option<usize>
     Some(number)
 }
 
-/// How many ports the places hold. None where they are too many to count.
+/// How many ports the places of sites that are closed hold. None where they are too many to count.
 pub(crate) fn count_ports(places: &[Place]) -> Option<usize>
     ensures { IfSome result (λ number. number ≡ total_held places.now) }
 {
@@ -34,7 +34,7 @@ pub(crate) fn count_ports(places: &[Place]) -> Option<usize>
     Some(number)
 }
 
-/// Puts the packets of an outbox last, in the room that is there.
+/// Puts the packets of a closed place's outbox last in what is left of the sites, in the room that is there.
 pub(crate) fn take_packets(rest: &mut Vec<Packet>, out: Outbox)
     requires { vec_len rest.old + count out.lists ≤ vec_capacity rest.old }
     ensures items { rest.new.items ≡ rest.old.items ++ flat out.lists }
@@ -46,7 +46,7 @@ pub(crate) fn take_packets(rest: &mut Vec<Packet>, out: Outbox)
     }
 }
 
-/// Puts the ports of a place last, in the room that is there.
+/// Puts the ports of a closed place last in what is left of the sites, in the room that is there.
 pub(crate) fn take_ports(placed: &mut Vec<Placed>, place: u16, ports: Ports)
     requires { vec_len placed.old + length ports.records ≤ vec_capacity placed.old }
     ensures items { placed.new.items ≡ placed.old.items ++ placed_at place ports.records }
@@ -58,7 +58,7 @@ pub(crate) fn take_ports(placed: &mut Vec<Placed>, place: u16, ports: Ports)
     }
 }
 
-/// What is left of the places, by place, in the room that is there.
+/// What is left of the places of sites that are closed, by place, in the room that is there.
 pub(crate) fn take_apart(
     places: Vec<Place>,
     journals: Vec<Vec<Entry>>,

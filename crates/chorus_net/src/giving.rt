@@ -7,7 +7,7 @@ ghost use Rattle.law_network.specs.Schedules.{may_give};
 use chorus_calls::Caller;
 use chorus_entry::{BODY_LIMIT, Command};
 
-/// Whether the command posts a message.
+/// Whether the command, which a seat is to give, posts a message.
 fn is_post(command: &Command) -> bool
     ensures { result ≡ is_post command.now }
 {
@@ -17,7 +17,7 @@ fn is_post(command: &Command) -> bool
     )
 }
 
-/// Whether the body that the command posts, if it has one, is within the limit.
+/// Whether the body that the command, which a seat is to give, posts, if it has one, is within the limit.
 fn has_body_in_limit(command: &Command) -> bool
     ensures { result ≡ has_body_in_limit command.now }
 {
@@ -29,7 +29,7 @@ fn has_body_in_limit(command: &Command) -> bool
     }
 }
 
-/// Whether the caller may give the command.
+/// Whether the caller of a seat may give the command to the sites.
 pub(crate) fn may_give(caller: &Caller, command: &Command) -> bool
     ensures { result ≡ may_give (Some caller.now) command.now }
 {

@@ -75,7 +75,7 @@ fn restart_place(
     Ok(())
 }
 
-/// Whether the place has no entry, and no packet waits there.
+/// Whether the place has no entry, and no packet waits there, so that it is not started again.
 fn has_nothing(place: &Place) -> bool
     ensures entries { result ≡ true → place.now.journal ≡ [] }
     ensures packets { result ≡ true → count place.now.out.lists ≡ 0 }

@@ -8,7 +8,7 @@ use chorus_place::Place;
 use chorus_ui::Layout;
 use std::alloc::{AllocError, Global};
 
-/// The places of the layout, by their numbers, on which nothing happened yet.
+/// The places of sites that start: those of the layout, by their numbers, on which nothing happened yet.
 pub(crate) fn start_places(alloc: Global, layout: Layout) -> Result<Vec<Place>, AllocError>
     ensures started { IfOk result (λ places. HaveStarted layout 1 places.items) }
     ensures all { IfOk result (λ started. length started.items ≡ places layout) }

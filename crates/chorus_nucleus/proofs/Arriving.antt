@@ -25,7 +25,7 @@ use Rattle.law_closing.specs.Places.{PlaceNote}
 use Rattle.place_site.specs.declared.site.Site.{Site}
 use Rattle.chorus_nucleus.specs.declared.nucleus.Nucleus.{Nucleus}
 use Rattle.chorus_nucleus.specs.declared.pass.Pass.{Pass}
-use Rattle.chorus_nucleus.specs.declared.board_readers.Sight.{Sight}
+use Rattle.chorus_nucleus.specs.declared.sight.Sight.{Sight}
 use Rattle.chorus_nucleus.specs.Passes.{Reads, AreSpare, IsCallerOf, IsPassOf, row_at, home_of, readers_at}
 use Rattle.chorus_nucleus.specs.Readers.{TakesReader, Inherits, with_reader}
 use Rattle.chorus_nucleus.specs.Coming.{GetsReader, Enters, IsKeptKeeper, Retires, given_back}

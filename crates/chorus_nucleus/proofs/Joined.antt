@@ -30,7 +30,7 @@ use Rattle.place_site.specs.Jobs.{MayAct, Acted, ServedAt}
 use Rattle.place_site.specs.Turning.{NotesAct, NotesServe}
 use Rattle.chorus_nucleus.specs.declared.nucleus.Nucleus.{Nucleus}
 use Rattle.chorus_nucleus.specs.declared.pass.Pass.{Pass}
-use Rattle.chorus_nucleus.specs.declared.board_readers.Sight.{Sight}
+use Rattle.chorus_nucleus.specs.declared.sight.Sight.{Sight}
 use Rattle.chorus_nucleus.specs.declared.fault.CallFault.{CallFault}
 use Rattle.chorus_nucleus.specs.Passes.{AreSites, Reads, IsSight, IsCallerOf, IsPassOf, mark_of}
 use Rattle.chorus_nucleus.specs.Calls.{answered, worn_after, IsCall, IsPump}

@@ -29,7 +29,7 @@ use Rattle.place_site.specs.Reading.{Follows, AcceptsReader}
 use Rattle.place_site.specs.Turning.{Looks, IsNoNews}
 use Rattle.chorus_nucleus.specs.declared.nucleus.Nucleus.{Nucleus}
 use Rattle.chorus_nucleus.specs.declared.pass.Pass.{Pass}
-use Rattle.chorus_nucleus.specs.declared.board_readers.Sight.{Sight}
+use Rattle.chorus_nucleus.specs.declared.sight.Sight.{Sight}
 use Rattle.chorus_nucleus.specs.declared.fault.CallFault.{CallFault}
 use Rattle.chorus_nucleus.specs.Passes.{AreSites, Reads, AreSpare, row_at, IsCallerOf, IsPassOf, home_of, mark_of}
 use Rattle.chorus_nucleus.specs.Reading.{HasPublished, Publishes, Unpublished, PublishDone, IsPublish, answered_publish}

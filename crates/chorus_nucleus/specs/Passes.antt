@@ -29,7 +29,7 @@ use Rattle.place_site.specs.declared.site.SiteMark.{SiteMark}
 use Rattle.place_site.specs.Sites.{mark}
 use Rattle.chorus_nucleus.specs.declared.nucleus.Nucleus.{Nucleus}
 use Rattle.chorus_nucleus.specs.declared.pass.Pass.{Pass}
-use Rattle.chorus_nucleus.specs.declared.board_readers.Sight.{Sight}
+use Rattle.chorus_nucleus.specs.declared.sight.Sight.{Sight}
 
 abbrev pub layout_of : Nucleus → Layout
 layout_of n = n.layout

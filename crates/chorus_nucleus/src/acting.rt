@@ -16,7 +16,7 @@ use law_bounds::are_within;
 use law_machine::Outcome;
 use place_site::{Acts, Asks, Draft};
 
-/// What a seat is told of a message: of another seat's nothing.
+/// What a seat of the nucleus is told of a message: of another seat's nothing.
 fn told(seat: u32, id: MsgId, outcome: Outcome) -> Outcome
     ensures { result ≡ (if id.seat == seat then outcome else Unknown) }
 {

@@ -8,7 +8,7 @@ use chorus_place::PlaceFault;
 use chorus_turn::Busy;
 use std::alloc::AllocError;
 
-/// The answer of a call, from that of its turn.
+/// The answer of a call of the nucleus, from that of its turn.
 pub(crate) fn answer<T: Drop>(done: Result<Result<T, PlaceFault>, Busy>) -> Result<T, CallFault>
     ensures { result ≡ answered done }
 {
@@ -20,7 +20,7 @@ pub(crate) fn answer<T: Drop>(done: Result<Result<T, PlaceFault>, Busy>) -> Resu
     }
 }
 
-/// The answer of a publish, from that of its turn.
+/// The answer of a publish of the nucleus, from that of its turn.
 pub(crate) fn answer_publish(done: Result<Result<(), AllocError>, Busy>) -> Result<(), CallFault>
     ensures { result ≡ answered_publish done }
 {
@@ -31,7 +31,7 @@ pub(crate) fn answer_publish(done: Result<Result<(), AllocError>, Busy>) -> Resu
     }
 }
 
-/// The first worn clock, after one call more.
+/// The first worn clock of a pass of the nucleus, after one call more.
 pub(crate) fn note_worn<T>(worn: Option<u64>, done: &Result<T, CallFault>) -> Option<u64>
     ensures { result ≡ worn_after worn done.now }
 {

@@ -35,7 +35,7 @@ pub(crate) struct Shut {
     pub(crate) alloc: Global,
 }
 
-/// Ends the boards, from the last on; the places stand behind the others, in this order.
+/// Ends the boards of a nucleus that is closed, from the last on; the places stand behind the others, in this order.
 fn move_desks<R: Wait>(rt: &R, desks: &mut Vec<Desk<RuledEnds>>, mut sites: Vec<Site<RuledEnds>>)
     requires { length desks.old.items + length sites.items ≤ vec_capacity desks.old }
     ensures { desks.new.items ≡ desks.old.items ++ reverse (desks_in sites.items) }
@@ -48,7 +48,7 @@ fn move_desks<R: Wait>(rt: &R, desks: &mut Vec<Desk<RuledEnds>>, mut sites: Vec<
     sites.destroy_empty();
 }
 
-/// Ends the boards, and gives the places. Want of memory, the one error, gives the places up.
+/// Ends the boards of a nucleus that is closed, and gives the places. Want of memory, the one error, gives the places up.
 fn end_sites<R: Wait>(
     rt: &R,
     alloc: Global,
@@ -69,7 +69,7 @@ fn end_sites<R: Wait>(
     }
 }
 
-/// Ends the boards, and takes the places apart.
+/// Ends the boards of a nucleus that is closed, and takes the places apart.
 fn take_sites<R: Wait>(
     rt: &R,
     alloc: Global,
@@ -84,7 +84,7 @@ fn take_sites<R: Wait>(
 }
 
 impl Nucleus {
-    /// Closes the table, once every other pass was retired into the keeper.
+    /// Closes the table of turns of the nucleus, once every other pass was retired into the keeper.
     fn shut(self, pass: Pass) -> Result<Shut, (Nucleus, Pass, PassesOut)>
         requires pass { IsPassOf self pass }
         requires keeper { (known pass).keeper ≡ true }

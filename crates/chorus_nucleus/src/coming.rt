@@ -8,9 +8,9 @@ ghost use Rattle.chorus_nucleus.specs.Passes.{known, layout_of, sight_of, AreRoo
 ghost use Rattle.chorus_nucleus.specs.Readers.{Inherits};
 ghost use Rattle.chorus_nucleus.specs.Coming.{Enters, IsKeptKeeper, Retires};
 
-use crate::board_readers::{Sight, give_reader, take_reader};
 use crate::nucleus::Nucleus;
 use crate::pass::Pass;
+use crate::sight::{Sight, give_reader, take_reader};
 use chorus_calls::Caller;
 use chorus_net::EnterFault;
 use chorus_ui::Ui;

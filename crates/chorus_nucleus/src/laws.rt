@@ -7,8 +7,8 @@ pub fn a_closed_nucleus_is_a_run()
     ensures { AClosedNucleusIsARun }
 {}
 
-/// Each message that a port accepted in that run stands in what was handed out by its fate: it is in exactly one queue or transfer where
-/// it is queued or under way, and in none where it was received, or discarded with its deleted port.
+/// Each message that a port accepted in the run of a closed nucleus stands in what was handed out by its fate: it is in exactly one
+/// queue or transfer where it is queued or under way, and in none where it was received, or discarded with its deleted port.
 pub fn each_message_stands_once()
     ensures { EachMessageStandsOnce }
 {}

@@ -11,7 +11,6 @@
 
 mod acting;
 mod answers;
-mod board_readers;
 mod close;
 mod coming;
 mod commands;
@@ -21,6 +20,7 @@ mod locate;
 mod nucleus;
 mod pass;
 mod pump;
+mod sight;
 mod starting;
 mod taken_message;
 mod taking;

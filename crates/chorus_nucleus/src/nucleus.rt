@@ -3,8 +3,8 @@ ghost use Rattle.std.specs.Prelude.{◌≡◌, IfOk};
 ghost use Rattle.chorus_nucleus.specs.Passes.{layout_of};
 ghost use Rattle.chorus_nucleus.specs.Coming.{IsStarted};
 
-use crate::board_readers::{Sight, take_reader};
 use crate::pass::{Pass, first_actor};
+use crate::sight::{Sight, take_reader};
 use crate::starting::{end_boards, start_sites};
 use chorus_calls::Caller;
 use chorus_ruled_ends::RuledEnds;

@@ -3,7 +3,7 @@ ghost use Rattle.std.specs.Prelude.{◌≡◌, ◌≤◌, length};
 ghost use Rattle.law_network.specs.Calls.{first_actor};
 ghost use Rattle.chorus_nucleus.specs.Passes.{known, caller_of, worn_by, readers_at};
 
-use crate::board_readers::Sight;
+use crate::sight::Sight;
 use chorus_calls::Caller;
 use chorus_turn::Pass as Turner;
 use chorus_ui::{Kind, Ui};
@@ -19,14 +19,14 @@ pub struct Pass {
     pub(crate) sight: Sight,
 }
 
-/// The first actor, that of seat 0.
+/// The first actor of a nucleus, that of seat 0.
 pub(crate) fn first_actor() -> Ui
     ensures { result ≡ first_actor }
 {
     Ui::new(1, Kind::Actor, 1).unwrap()
 }
 
-/// Takes the caller out; a new one stands there meanwhile.
+/// Takes the caller out of its pass, for a turn; a new one stands there meanwhile.
 pub(crate) fn take_caller(pass: &mut Pass) -> Caller
     ensures caller { result ≡ pass.old.caller }
     ensures turner { pass.new.turner ≡ pass.old.turner }
@@ -37,35 +37,35 @@ pub(crate) fn take_caller(pass: &mut Pass) -> Caller
 }
 
 impl Pass {
-    /// The number of the pass, which is its caller's seat.
+    /// The number of the pass of a nucleus, which is its caller's seat.
     pub fn seat(&self) -> u32
         ensures { result ≡ (known self.now).seat }
     {
         self.turner.seat()
     }
 
-    /// How many passes were retired into this one, also through others.
+    /// How many passes of the nucleus were retired into this one, also through others.
     pub fn ended(&self) -> u32
         ensures { result ≡ length (known self.now).notes }
     {
         self.turner.ended()
     }
 
-    /// Whether the pass is the keeper, the one that draws numbers.
+    /// Whether the pass is the keeper of the nucleus, the one that draws numbers.
     pub fn keeper(&self) -> bool
         ensures { result ≡ (known self.now).keeper }
     {
         self.turner.keeper()
     }
 
-    /// How many numbers the keeper has drawn, at most 1,048,576; 0 for any other pass.
+    /// How many numbers the keeper of the nucleus has drawn, at most 1,048,576; 0 for any other pass.
     pub fn made(&self) -> u32
         ensures { result ≡ (known self.now).made }
     {
         self.turner.made()
     }
 
-    /// How many messages the caller of the pass posted.
+    /// How many messages the caller of the pass of a nucleus posted.
     pub fn posts(&self) -> u32
         ensures { result ≡ (caller_of self.now).posts }
     {

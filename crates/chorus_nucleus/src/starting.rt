@@ -14,7 +14,7 @@ use place_site::Site;
 use std::alloc::{AllocError, Global};
 use std::sync::Wait;
 
-/// Ends the boards of these places.
+/// Ends the boards of these places of a nucleus, which are given up for want of memory.
 pub(crate) fn end_boards<R: Wait>(rt: &R, mut sites: Vec<Site<RuledEnds>>) {
     while let Some(site) = sites.pop() {
         let Site { desk: _, board } = site;

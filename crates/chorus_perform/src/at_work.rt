@@ -53,7 +53,7 @@ impl AtWork {
         }
     }
 
-    /// A thread has performed its commands. Tells how many others have commands left.
+    /// Tells the threads at work that one has performed its commands. Gives how many others have commands left.
     pub(crate) fn finish(&self) -> u32 {
         self.left.fetch_sub(1, Ordering::SeqCst).wrapping_sub(1)
     }
@@ -63,7 +63,8 @@ impl AtWork {
         self.count.fetch_sub(1, Ordering::SeqCst);
     }
 
-    /// A thread has ended. Where it is not done with its script, the others need not wait for what it would do.
+    /// Tells the threads at work that one has ended. Where it is not done with its script, the others need not wait for what it
+    /// would do.
     pub(crate) fn end(&self, is_done: bool) {
         if !is_done {
             self.halted.store(true, Ordering::SeqCst);

@@ -74,7 +74,7 @@ pub fn perform_command<R: Wait>(
     unreachable!()
 }
 
-/// Tries a command once. False where its place was busy.
+/// Tries a command of a thread once on the nucleus. False where its place was busy.
 fn try_command(nucleus: &Nucleus, pass: &mut Pass, command: &Command) -> Result<bool, Halted>
     requires pass { IsPassOf nucleus.now pass.old }
     requires conditions { meets_conditions command.now ≡ true }
@@ -90,7 +90,7 @@ fn try_command(nucleus: &Nucleus, pass: &mut Pass, command: &Command) -> Result<
     }
 }
 
-/// Counts a try that found the place busy, and lets other threads run after several.
+/// Counts a try of a command that found the place busy, and lets other threads run after several.
 fn give_way(tries: u32) -> u32
     requires { tries < TRIES }
     ensures { result < TRIES }

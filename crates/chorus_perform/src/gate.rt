@@ -3,8 +3,8 @@
 /// What each script passes before each of its commands, and once more after the last. It has no promise: a gate may let pass at once,
 /// or hold a script until another one has come as far, which a test of threads does.
 pub trait Gate: Sync {
-    /// Called by the script of this number, from 1, before its command `step`, counted from 0, and once more with the number of its
-    /// commands.
+    /// Lets a script pass the gate: called by the script of this number, from 1, before its command `step`, counted from 0, and
+    /// once more with the number of its commands.
     fn pass(&self, script: u32, step: u32);
 }
 

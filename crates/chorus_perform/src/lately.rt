@@ -35,7 +35,7 @@ impl Lately {
         self.due & bit(place) != 0
     }
 
-    /// Tells whether the place worked off a packet.
+    /// Tells whether the place worked off a packet in this sweep.
     pub(crate) fn note(&mut self, place: u16, served: bool) {
         if served {
             self.found |= bit(place);
@@ -62,7 +62,7 @@ impl Lately {
     }
 }
 
-/// The bit of a place, from 1 to 64.
+/// The bit of a place, from 1 to 64, where bits tell at which places a thread found something.
 pub(crate) fn bit(place: u16) -> u64 {
     1u64.wrapping_shl(u32::from(place))
 }

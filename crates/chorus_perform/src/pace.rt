@@ -20,7 +20,7 @@ impl Pace {
         Pace { apart: 1, since: 0 }
     }
 
-    /// Counts a command. Whether the thread pumps behind it.
+    /// Counts a command for the pace. Whether the thread pumps behind it.
     pub(crate) fn is_due(&mut self) -> bool {
         self.since = self.since.saturating_add(1);
         if self.since < self.apart {
@@ -30,7 +30,7 @@ impl Pace {
         true
     }
 
-    /// Tells whether the pump worked off something.
+    /// Tells the pace whether the pump behind a command worked off something.
     pub(crate) fn note(&mut self, served: bool) {
         self.apart = if served {
             (self.apart / 2).max(1)

@@ -314,7 +314,7 @@ fn sweep<R: Wait>(
     Ok(under_way)
 }
 
-/// The sum of both, modulo 2^64, where both are known.
+/// The sum of two counts of packets under way, modulo 2^64, where both are known.
 fn sum(so_far: Option<u64>, more: Option<u64>) -> Option<u64> {
     Some(so_far?.wrapping_add(more?))
 }

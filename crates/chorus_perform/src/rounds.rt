@@ -34,7 +34,7 @@ pub fn settle<R: Wait>(rt: &R, nucleus: &Nucleus, pass: &mut Pass) -> Result<(),
     unreachable!()
 }
 
-/// Pumps each place until it is idle, or several times.
+/// Pumps each place until it is idle, or several times, before a round asks whether nothing is left.
 fn work_off<R: Wait>(rt: &R, nucleus: &Nucleus, pass: &mut Pass) -> Result<(), Halted>
     requires pass { IsPassOf nucleus.now pass.old }
     ensures pass { IsPassOf nucleus.now pass.new }
@@ -80,7 +80,7 @@ pub(crate) struct Sums {
     pub(crate) worked: u64,
 }
 
-/// Pumps the place behind this index.
+/// Pumps the place behind this index in a round, and adds to what the round has found.
 fn visit<R: Wait>(
     rt: &R,
     nucleus: &Nucleus,

@@ -44,7 +44,7 @@ pub(crate) fn perform_scripts<R: Threads + Wait + Sync, G: Gate>(
     }
 }
 
-/// Performs a script, as far as it comes.
+/// Performs a script in its thread, as far as it comes.
 fn perform_script<R: Wait, G: Gate>(
     rt: &R,
     nucleus: &Nucleus,

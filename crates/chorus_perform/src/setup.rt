@@ -13,7 +13,7 @@ use chorus_report::setup_command;
 use chorus_scene::Scenario;
 use std::sync::Wait;
 
-/// Performs the setup. No line of it posts a message.
+/// Performs the scenario's setup by seat 0, on the nucleus. No line of it posts a message.
 pub(crate) fn set_up<R: Wait>(
     rt: &R,
     nucleus: &Nucleus,

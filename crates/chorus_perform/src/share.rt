@@ -49,7 +49,7 @@ impl Share {
         }
     }
 
-    /// The home place.
+    /// The home place of the thread, which it pumps while it performs commands.
     pub(crate) fn home(&self) -> u16
         ensures { (1 ≤ result) × (result ≤ self.now.places) }
     {
@@ -66,7 +66,7 @@ impl Share {
         }
     }
 
-    /// The range of a thread whose commands were done when so many others had commands left.
+    /// The range of places that a thread pumps whose commands were done when so many others had commands left.
     pub(crate) fn range(&self, left: u32) -> Stretch
         ensures { result.last ≤ self.now.places }
     {
@@ -93,7 +93,7 @@ impl Share {
     }
 }
 
-/// The home place of an actor of the layout.
+/// The home place of a thread whose caller is in this actor of the layout.
 fn home_place(layout: Layout, actor: Ui) -> u16
     ensures { (1 ≤ result) × (result ≤ places layout) }
 {

@@ -20,7 +20,7 @@ pub enum Stopped {
 #[derive(Clone, Copy, Debug)]
 pub struct Halted;
 
-/// Why all stopped, when all passes were retired into this one.
+/// Why all threads stopped, when all passes of the scripts were retired into this one.
 pub(crate) fn reason(pass: &Pass) -> Stopped
     ensures { (clock : ℕ) → result ≡ Stopped.Worn clock → worn_by pass.now ≡ Some clock }
 {

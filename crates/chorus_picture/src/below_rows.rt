@@ -30,7 +30,7 @@ pub(crate) fn push_found(
     }
 }
 
-/// Appends that all so many entries are lawful, and their summary.
+/// Appends below the rows, which end at y, that all so many entries are lawful, and their summary.
 fn push_lawful(summary: &[u8], entries: u32, y: u64, out: &mut Vec<u8>) -> Result<(), AllocError>
     requires { y < 2 ^ 50 }
     ensures { OnOk result
@@ -55,7 +55,7 @@ fn push_lawful_front(number: u64, y: u64, out: &mut Vec<u8>) -> Result<(), Alloc
     )
 }
 
-/// Appends the line that is wrong, and its rule.
+/// Appends below the rows, which end at y, the line that is wrong, and its rule.
 fn push_wrong(text: &[u8], line: u32, rule: u8, y: u64, out: &mut Vec<u8>) -> Result<(), AllocError>
     requires { y < 2 ^ 50 }
     ensures { OnOk result
@@ -97,7 +97,7 @@ fn push_rule_front(rule: u64, y: u64, out: &mut Vec<u8>) -> Result<(), AllocErro
     )
 }
 
-/// The text behind so many lines.
+/// The text of a journal behind so many lines: where its first entry or its wrong line begins.
 pub(crate) fn behind_lines(lines: u32, text: &[u8]) -> &[u8]
     ensures { result.now ≡ behind_lines lines text.now }
 {
@@ -114,7 +114,7 @@ pub(crate) fn behind_lines(lines: u32, text: &[u8]) -> &[u8]
     rest
 }
 
-/// Appends the first bytes of the line that the text begins with, at most so many, written as those of a body.
+/// Appends the first bytes of the wrong line, with which the text begins, at most so many, written as those of a body.
 fn push_line_bytes(most: u32, text: &[u8], out: &mut Vec<u8>) -> Result<(), AllocError>
     ensures { OnOk result
         (out.new.items ≡ out.old.items ++ flat_map byte_text (line_bytes most text.now)) }

@@ -91,7 +91,8 @@ fn drawn(
     Ok(out)
 }
 
-/// Appends what stands behind the rows. Where all is lawful the summary is that of the entries.
+/// Appends all that a picture has behind its rows, the last bars and the heads too. Where all is lawful the summary is
+/// that of the entries.
 fn push_behind_rows(
     layout: Layout,
     text: &[u8],

@@ -56,7 +56,7 @@ fn push_paper(width: u64, height: u64, out: &mut Vec<u8>) -> Result<(), AllocErr
     )
 }
 
-/// Appends the lines of the columns down to y.
+/// Appends to the sheet the lines of the columns down to y.
 fn push_lines(columns: &[Column], y: u64, out: &mut Vec<u8>) -> Result<(), AllocError>
     ensures { OnOk result (out.new.items ≡ out.old.items ++ flat_map (line_of y) columns.now) }
 {
@@ -66,7 +66,7 @@ fn push_lines(columns: &[Column], y: u64, out: &mut Vec<u8>) -> Result<(), Alloc
     Ok(())
 }
 
-/// Appends the line of a column, which is at x and goes down to y.
+/// Appends to the sheet the line of a column, which is at x and goes down to y.
 #[tactic(auto, unfolding(crate::specs::Sheet::line_at))]
 fn push_line(x: u64, y: u64, out: &mut Vec<u8>) -> Result<(), AllocError>
     ensures { OnOk result (out.new.items ≡ out.old.items ++ line_at x y) }
@@ -107,7 +107,7 @@ fn push_column_bars(
     Ok(())
 }
 
-/// Appends the bar of the port down to y, where it is held in the column.
+/// Appends the bar of the port down to y, where it is held in the column after the last entry.
 fn push_bar_left(
     column: &Column,
     port: Ui,
@@ -125,7 +125,7 @@ fn push_bar_left(
     }
 }
 
-/// Appends the heads of so many rows.
+/// Appends the heads of the columns, as a sheet of so many rows has them.
 pub(crate) fn push_heads(
     layout: Layout,
     columns: &[Column],
@@ -138,7 +138,7 @@ pub(crate) fn push_heads(
     push_heads_from(layout, columns, heads(count), 0, out)
 }
 
-/// Appends so many heads from this one on.
+/// Appends so many of the sheet's heads from this one on.
 fn push_heads_from(
     layout: Layout,
     columns: &[Column],
@@ -157,7 +157,7 @@ fn push_heads_from(
     push_heads_from(layout, columns, more - 1, first + 1, out)
 }
 
-/// Appends the head that begins at y.
+/// Appends the sheet's head that begins at y.
 #[tactic(auto, unfolding(crate::specs::Sheet::head_at))]
 fn push_head(
     layout: Layout,
@@ -173,7 +173,7 @@ fn push_head(
     Ok(())
 }
 
-/// Appends what stands over the columns.
+/// Appends what stands over the columns in the head that begins at y.
 fn push_column_heads(
     layout: Layout,
     columns: &[Column],
@@ -230,7 +230,7 @@ fn push_column_head(
     Ok(())
 }
 
-/// The site of a place.
+/// The site of a place, for the head of its column.
 fn site_of(layout: Layout, place: u16) -> u64
     ensures { result ≡ site_of layout place }
 {
@@ -260,7 +260,7 @@ fn push_place_head(
     Ok(())
 }
 
-/// Appends the names of the column's ports.
+/// Appends the names of the column's ports over their lanes, upright at y.
 fn push_lane_heads(column: &Column, y: u64, out: &mut Vec<u8>) -> Result<(), AllocError>
     ensures { OnOk result (out.new.items ≡ out.old.items
         ++ flat_map (λ q. lane_head (lane_of q column.now + 9) y q) column.now.ports) }

@@ -19,7 +19,7 @@ use place_tables::Tables;
 use place_turns::{call, cancel, delete, make, move_port, retry, send_reply, send_to_port, take};
 use std::alloc::AllocError;
 
-/// Performs a caller's command. Want of memory changes nothing.
+/// Performs a caller's command at a place, by the turn that is for it. Want of memory changes nothing.
 pub(crate) fn perform(
     tables: &mut Tables,
     command: Command,
@@ -51,7 +51,7 @@ pub(crate) fn perform(
     }
 }
 
-/// Posts a message to its destination. Want of memory changes nothing.
+/// Performs a command that sends: posts a message to its destination, a port or a group. Want of memory changes nothing.
 fn send(
     tables: &mut Tables,
     dest: Dest,

@@ -20,7 +20,7 @@ pub enum Accept {
     Full { len: u8, message: Message },
 }
 
-/// Whether the message is a request that was accepted before, or is one before such a one.
+/// Whether the message is a request that the port accepted before, or is one before such a one.
 fn is_repeated(clients: &ClientTable, message: &Message) -> bool
     ensures { result ≡ is_repeated message.now.id.seat message.now.tag clients.now }
 {
@@ -33,7 +33,7 @@ fn is_repeated(clients: &ClientTable, message: &Message) -> bool
     }
 }
 
-/// Whether the message is a request of a client for whom there is no room.
+/// Whether the message is a request of a client for whom the port has no room.
 fn is_one_too_many(clients: &ClientTable, message: &Message) -> bool
     ensures { result ≡ is_one_too_many message.now.id.seat message.now.tag clients.now }
 {
@@ -45,7 +45,7 @@ fn is_one_too_many(clients: &ClientTable, message: &Message) -> bool
     }
 }
 
-/// Remembers the client of a request.
+/// Has the port remember the client of a request.
 fn remember(clients: &mut ClientTable, message: &Message)
     requires { is_one_too_many message.now.id.seat message.now.tag clients.old ≡ false }
     ensures { clients.new ≡ remembered message.now.id.seat message.now.tag clients.old }
@@ -59,7 +59,7 @@ fn remember(clients: &mut ClientTable, message: &Message)
     }
 }
 
-/// Decides on the message, and enqueues it where it is accepted. Takes no memory.
+/// Decides on the message at a port that is held, and enqueues it where it is accepted. Takes no memory.
 pub(crate) fn offer(port: &mut PortRecord, message: Message) -> Accept
     requires limits { IsWithinLimits port.old }
     requires positions { HasPositionLeft port.old }

@@ -62,7 +62,7 @@ impl Ports {
         self.records.len() as u16
     }
 
-    /// Whether none is.
+    /// Whether no port is held.
     pub fn is_empty(&self) -> bool
         ensures { result ≡ (length self.now.records == 0) }
     {

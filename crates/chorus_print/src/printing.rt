@@ -147,7 +147,7 @@ fn push_command(command: &Command, out: &mut Vec<u8>) -> Result<(), AllocError>
     }
 }
 
-/// Appends the word and the fields of a send, before its body.
+/// Appends the word and the fields of a line `send`, `all`, `one` or `at`, before its body.
 fn push_dest(dest: &Dest, out: &mut Vec<u8>) -> Result<(), AllocError>
     ensures ok { OnOk result
         ((body : List ℕ) → out.new.items ++ 32 ∷ body ≡ out.old.items ++ dest_text dest.now body) }
@@ -193,7 +193,7 @@ fn push_step(step: Step, out: &mut Vec<u8>) -> Result<(), AllocError>
     }
 }
 
-/// Appends a word and a name.
+/// Appends the word of a scenario's line and a name.
 fn push_named(word: &[u8], name: Ui, out: &mut Vec<u8>) -> Result<(), AllocError>
     ensures ok { OnOk result
         (out.new.items ≡ out.old.items ++ (word.now ++ behind (name_text name ∷ []))) }
@@ -203,7 +203,7 @@ fn push_named(word: &[u8], name: Ui, out: &mut Vec<u8>) -> Result<(), AllocError
     push_name(name, out)
 }
 
-/// Appends a word and two names.
+/// Appends the word of a scenario's line and two names.
 fn push_two_named(word: &[u8], first: Ui, second: Ui, out: &mut Vec<u8>) -> Result<(), AllocError>
     ensures ok { OnOk result
         (out.new.items
@@ -215,7 +215,7 @@ fn push_two_named(word: &[u8], first: Ui, second: Ui, out: &mut Vec<u8>) -> Resu
     push_name(second, out)
 }
 
-/// Appends a word and a number.
+/// Appends the word of a scenario's line and a number.
 fn push_numbered(word: &[u8], number: u64, out: &mut Vec<u8>) -> Result<(), AllocError>
     ensures ok { OnOk result
         (out.new.items ≡ out.old.items ++ (word.now ++ behind (decimal number ∷ []))) }

@@ -35,7 +35,7 @@ pub fn without_words(fault: &io::Error) -> Status
     }
 }
 
-/// Writes the line of the status.
+/// Writes the fault line of the status with which the program ended, if it has one.
 fn say<K: Sink>(status: Status, errors: &mut K) -> Result<(), Failed>
     ensures ok { OnOk result
         (Appends (K.held errors.old) (K.held errors.new) (fault_line status)) }
@@ -56,7 +56,7 @@ fn say<K: Sink>(status: Status, errors: &mut K) -> Result<(), Failed>
     }
 }
 
-/// Writes the line of a text that is refused.
+/// Writes the program's fault line of a text that is refused.
 fn say_refused<K: Sink>(line: u32, reason: u8, errors: &mut K) -> Result<(), Failed>
     ensures ok { OnOk result (Appends (K.held errors.old) (K.held errors.new)
         (fault_line (Status.Scenario line reason))) }
@@ -69,7 +69,7 @@ fn say_refused<K: Sink>(line: u32, reason: u8, errors: &mut K) -> Result<(), Fai
     write_all(errors, b"\n")
 }
 
-/// Writes the line of a clock that is worn.
+/// Writes the program's fault line of a clock that is worn.
 fn say_worn<K: Sink>(clock: u64, errors: &mut K) -> Result<(), Failed>
     ensures ok { OnOk result (Appends (K.held errors.old) (K.held errors.new)
         (fault_line (Status.Worn clock))) }
@@ -81,7 +81,7 @@ fn say_worn<K: Sink>(clock: u64, errors: &mut K) -> Result<(), Failed>
     write_all(errors, b"\n")
 }
 
-/// Writes the text and the number's decimal.
+/// Writes the text and the number's decimal, of the program's fault line.
 fn write_number<K: Sink>(text: &[u8], number: u64, errors: &mut K) -> Result<(), Failed>
     ensures ok { OnOk result
         (Appends (K.held errors.old) (K.held errors.new) (text.now ++ decimal number)) }

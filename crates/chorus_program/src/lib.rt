@@ -9,14 +9,14 @@
 #![tactic(auto)]
 
 mod ending;
+mod one_thread;
+mod own_nucleus;
 mod printed_is_legal;
 mod running;
 mod standard;
-mod started;
-mod starting;
 
 pub use ending::{ended, without_words};
+pub use own_nucleus::start_program;
 pub use printed_is_legal::what_is_printed_is_legal;
 pub use running::{PROGRAM_SITES, program};
 pub use standard::process;
-pub use started::start_program;

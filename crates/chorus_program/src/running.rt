@@ -7,7 +7,7 @@ ghost use Rattle.chorus_nucleus.specs.Passes.{IsPassOf};
 ghost use Rattle.chorus_perform.specs.Scripts.{IsOpening};
 ghost use Rattle.chorus_program.specs.Running.{AskNothingOf, AskOf, Does, EndsWithCause, IsTurnedAway, Suits};
 
-use crate::starting::{closed_nothing, does_on_one_thread};
+use crate::one_thread::{closed_nothing, does_on_one_thread};
 use chorus_drawn_crew::{CREW_PORTS, handle_drawn};
 use chorus_io::{Sink, Source};
 use chorus_nucleus::{Nucleus, Pass};
@@ -113,7 +113,7 @@ fn turn_away<R: Wait>(rt: &R, nucleus: Nucleus, pass: Pass, status: Status) -> F
     closed_nothing(status)
 }
 
-/// Does what is asked. Where that uses no nucleus, this one is closed first.
+/// Does what the program's words ask. Where that uses no nucleus, this one is closed first.
 pub(crate) fn does<R: Threads + Wait + Sync, S: Source, K: Sink, G: Gate>(
     alloc: Global,
     rt: &R,

@@ -1,7 +1,7 @@
 //! The process: its words, its three streams and its exit status.
 
 use crate::ending::{ended, without_words};
-use crate::started::start_program;
+use crate::own_nucleus::start_program;
 use chorus_io::{StdErrors, StdSink, StdSource};
 use chorus_show::Status;
 use std::process::ExitCode;

@@ -8,7 +8,7 @@ use chorus_net::Sites;
 use chorus_report::Played;
 use std::alloc::{AllocError, Global};
 
-/// Closes the sites, on which this clock was worn, if one was.
+/// Closes the sites of a replay or a load, on which this clock was worn, if one was.
 pub(crate) fn close(alloc: Global, sites: Sites, worn: Option<u64>) -> Result<Played, AllocError>
     ensures { IfOk result
         (λ played. (played.worn ≡ worn) × IsClosed (net sites) played.closed) }

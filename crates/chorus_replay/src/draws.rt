@@ -27,7 +27,7 @@ pub(crate) struct Draw {
     pub(crate) to: u16,
 }
 
-/// The command of the setup that stands there, counted from 0.
+/// The command of a load's setup that stands there, counted from 0.
 pub(crate) fn setup_command(index: u16) -> Command
     requires { index < SETUP_COMMANDS }
     ensures { slice_get load_setup index ≡ Some result }
@@ -47,7 +47,7 @@ pub(crate) fn setup_command(index: u16) -> Command
     }
 }
 
-/// What is drawn for the command of this number, from 1, where the generator has come to this state.
+/// What is drawn for the load's command of this number, from 1, where the generator has come to this state.
 pub(crate) fn draw_for(alloc: Global, number: u32, state: u64) -> Result<Draw, AllocError>
     requires { 1 ≤ number }
     ensures { IfOk result (λ draw. draw ≡ drawn number (number_of state)) }
@@ -61,14 +61,14 @@ pub(crate) fn draw_for(alloc: Global, number: u32, state: u64) -> Result<Draw, A
     })
 }
 
-/// A site, or its place, by what is left of a number where it is divided by how many there are.
+/// A site of a load, or its place, by what is left of a number where it is divided by how many there are.
 fn site_by(number: u64) -> u16
     ensures { result ≡ site_by number }
 {
     (number % u64::from(LOAD_SITES)) as u16 + 1
 }
 
-/// The command of this number, where this was drawn.
+/// The load's command of this number, where this was drawn.
 fn drawn_command(alloc: Global, number: u32, drawn: u64) -> Result<Command, AllocError>
     ensures { IfOk result (λ command. command ≡ drawn_command number drawn) }
 {
@@ -90,7 +90,7 @@ fn drawn_command(alloc: Global, number: u32, drawn: u64) -> Result<Command, Allo
     })
 }
 
-/// The body that is the decimal of the number.
+/// The body of a load's message: the decimal of the number.
 fn numbered(alloc: Global, number: u32) -> Result<Body, AllocError>
     ensures { IfOk result (λ body. body ≡ decimal number) }
 {
@@ -98,7 +98,7 @@ fn numbered(alloc: Global, number: u32) -> Result<Body, AllocError>
     Body::new(alloc, buffer.format(number).as_bytes())
 }
 
-/// The actor of a site, from 1.
+/// The actor of a load's site, from 1.
 pub(crate) fn load_actor(site: u16) -> Ui
     requires { 1 ≤ site }
     ensures { result ≡ load_actor site }
@@ -106,7 +106,7 @@ pub(crate) fn load_actor(site: u16) -> Ui
     Ui::new(site, Kind::Actor, 1).unwrap()
 }
 
-/// The port of a site, from 1.
+/// The port of a load's site, from 1.
 pub(crate) fn load_port(site: u16) -> Ui
     requires { 1 ≤ site }
     ensures { result ≡ load_port site }
@@ -114,7 +114,7 @@ pub(crate) fn load_port(site: u16) -> Ui
     Ui::new(site, Kind::Port, 1).unwrap()
 }
 
-/// The group, which stands on the first site.
+/// The group of a load, which stands on the first site.
 pub(crate) fn load_group() -> Ui
     ensures { result ≡ load_group }
 {

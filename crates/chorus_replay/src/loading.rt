@@ -75,7 +75,7 @@ fn perform(
     }
 }
 
-/// Performs the setup by seat 0, enters a seat on each site, performs the commands that are drawn, and drains.
+/// Performs a load's setup by seat 0, enters a seat on each site, performs the commands that are drawn, and drains.
 fn perform_tasks(
     alloc: Global,
     sites: &mut Sites,
@@ -95,7 +95,7 @@ fn perform_tasks(
     Ok(())
 }
 
-/// Performs the setup, by seat 0.
+/// Performs a load's setup, by seat 0.
 fn set_up(sites: &mut Sites, first: u64, commands: u32) -> Result<(), PlaceFault>
     requires start { net sites.old ≡ just_started load_layout }
     requires commands { commands ≤ LOAD_LIMIT }
@@ -111,7 +111,7 @@ fn set_up(sites: &mut Sites, first: u64, commands: u32) -> Result<(), PlaceFault
     Ok(())
 }
 
-/// Enters a seat on each site.
+/// Enters a seat on each site of a load.
 fn enter(sites: &mut Sites, first: u64, commands: u32) -> Result<(), AllocError>
     requires before { AreLeft load_layout (load_order first commands)
         (to_enter first commands) (net sites.old) }
@@ -131,7 +131,8 @@ fn enter(sites: &mut Sites, first: u64, commands: u32) -> Result<(), AllocError>
     Ok(())
 }
 
-/// Performs the commands that are drawn, each by its seat, and delivers one packet behind each where two places were drawn.
+/// Performs the commands that are drawn for a load, each by its seat, and delivers one packet behind each where two places were
+/// drawn.
 fn take_turns(alloc: Global, sites: &mut Sites, first: u64, commands: u32) -> Result<(), PlaceFault>
     requires before { AreLeft load_layout (load_order first commands)
         (to_draw commands 1 first) (net sites.old) }

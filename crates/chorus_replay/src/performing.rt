@@ -54,7 +54,7 @@ fn perform_tasks(alloc: Global, sites: &mut Sites, scenario: &Scenario) -> Resul
     drain_last(sites, scenario)
 }
 
-/// Drains, when all else is done.
+/// Drains the sites at the end of a scenario's replay, when all else is done.
 fn drain_last(sites: &mut Sites, scenario: &Scenario) -> Result<(), PlaceFault>
     requires before { IsBefore scenario.now (Drain 0 ∷ []) (net sites.old) }
     requires keeps { Keeps scenario.now }

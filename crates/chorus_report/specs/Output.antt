@@ -5,8 +5,8 @@ use Rattle.chorus_io.specs.Bytes.{AppendsPrefix}
 use Rattle.chorus_show.specs.Summary.{summary_text}
 use Rattle.chorus_show.specs.Report.{report}
 use Rattle.chorus_net.specs.declared.closed.Closed.{Closed}
-use Rattle.chorus_report.specs.declared.text.Text.{Text}
-use Rattle.chorus_report.specs.declared.text.Text.TheVariants as texts
+use Rattle.chorus_report.specs.declared.writing.Text.{Text}
+use Rattle.chorus_report.specs.declared.writing.Text.TheVariants as texts
 use Rattle.chorus_net.specs.Closing.{merge_of}
 use Rattle.chorus_show.specs.declared.status.Status.{Status}
 use Rattle.chorus_show.specs.declared.status.Status.TheVariants.{Done, Scenario, ReadFault, WriteFault, Memory, Worn}

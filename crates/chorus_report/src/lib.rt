@@ -15,12 +15,10 @@ mod finished;
 mod played;
 mod reading;
 mod setup;
-mod text;
 mod writing;
 
 pub use finished::Finished;
 pub use played::Played;
 pub use reading::read_scenario;
 pub use setup::setup_command;
-pub use text::Text;
-pub use writing::{finish, gave_up, print};
+pub use writing::{Text, finish, gave_up, print};

@@ -44,7 +44,7 @@ pub fn read_scenario<S: Source>(
     Ok(scenario)
 }
 
-/// The whole text of the source. Where its count of faults rose that is a fault, whatever was read.
+/// The whole text that the source of a scenario gives. Where its count of faults rose that is a fault, whatever was read.
 fn read_text<S: Source>(alloc: Global, source: &mut S) -> Result<Vec<u8>, ReadAll>
     ensures whole { IfOk result (λ v. IfSome (S.left source.old) (λ input. v.items ≡ input)) }
     ensures read { IfOk result (λ v.
@@ -69,7 +69,7 @@ fn read_text<S: Source>(alloc: Global, source: &mut S) -> Result<Vec<u8>, ReadAl
     }
 }
 
-/// The status of a text that the grammar refuses.
+/// The status of a scenario's text that the grammar refuses.
 fn refused(fault: SceneFault) -> Status
     ensures { result ≡ Status.Scenario fault.line fault.reason }
 {

@@ -5,7 +5,7 @@ ghost use Rattle.chorus_report.specs.Setup.{setup_command};
 
 use chorus_scene::{Command, SetupLine};
 
-/// The command by which seat 0 performs a line of the setup.
+/// The command by which seat 0 performs a line of a scenario's setup, on one thread as on many.
 pub fn setup_command(line: &SetupLine) -> Command
     ensures { result ≡ setup_command line.now }
 {

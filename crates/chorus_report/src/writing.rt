@@ -11,12 +11,20 @@ ghost use Rattle.chorus_report.specs.Ending.{EndsWriting, HasWorn, IsFinished};
 
 use crate::finished::Finished;
 use crate::played::Played;
-use crate::text::Text;
 use chorus_io::{Sink, write_all};
 use chorus_merge::merge_lent;
 use chorus_net::Closed;
 use chorus_show::{Status, journal_text, lent_summary_text};
 use std::alloc::{AllocError, Global};
+
+/// What is written of what was played.
+#[derive(Clone, Copy, Debug, PartialEq, Eq)]
+pub enum Text {
+    /// The journal text and the summary text.
+    Report,
+    /// The summary text alone.
+    Summary,
+}
 
 /// Ends a call by what it played: writes the text of what was closed, where it played all; ends with the clock that was worn, where
 /// one was, and with want of memory, where it could not play for that.
@@ -62,7 +70,7 @@ pub fn gave_up(status: Status) -> Finished
     }
 }
 
-/// The text of what was closed.
+/// The text, report or summary, that is written of what was closed.
 fn text_as(alloc: Global, closed: &Closed, text: Text) -> Result<Vec<u8>, AllocError>
     ensures text { IfOk result (λ bytes. bytes.items ≡ text_as text (Some closed.now)) }
     ensures within { text ≡ Text.Report → IfOk result (λ bytes. AreWithin (merge_of closed.now)) }

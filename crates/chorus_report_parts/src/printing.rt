@@ -61,7 +61,7 @@ fn entry_parts<R: Threads + Sync>(
     Ok(parts)
 }
 
-/// The first line of a journal text of so many entries.
+/// The first part of a report: the first line of a journal text of so many entries.
 fn head_part(alloc: Global, count: usize) -> Result<Vec<u8>, AllocError>
     ensures { IfOk result (λ text. text.items ≡ journal_head count) }
 {
@@ -70,7 +70,7 @@ fn head_part(alloc: Global, count: usize) -> Result<Vec<u8>, AllocError>
     Ok(text)
 }
 
-/// The summary text of the entries.
+/// The last part of a report: the summary text of the entries.
 fn summary_part(alloc: Global, entries: &[&Entry]) -> Result<Vec<u8>, AllocError>
     ensures { IfOk result (λ text. text.items ≡ summary_text (lent entries.now)) }
 {
@@ -79,7 +79,7 @@ fn summary_part(alloc: Global, entries: &[&Entry]) -> Result<Vec<u8>, AllocError
     Ok(text)
 }
 
-/// The lines of the entries, in parts.
+/// The parts of a report that are the lines of the entries.
 fn line_parts<R: Threads + Sync>(
     alloc: Global,
     rt: &R,
@@ -115,7 +115,7 @@ fn print_side_by_side<R: Threads + Sync>(
     )
 }
 
-/// The lines of a part of the entries.
+/// Prints one part of a report: the lines of a part of the entries.
 fn print_part(alloc: Global, entries: &[&Entry]) -> Result<Vec<u8>, AllocError>
     ensures { PrintsPart entries.now result }
 {
@@ -124,7 +124,7 @@ fn print_part(alloc: Global, entries: &[&Entry]) -> Result<Vec<u8>, AllocError>
     Ok(text)
 }
 
-/// The parts, where each was printed.
+/// The parts of a report that threads printed, where each was printed.
 fn all_parts(
     alloc: Global,
     printed: Vec<Result<Vec<u8>, AllocError>>,

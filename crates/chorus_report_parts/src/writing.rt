@@ -8,8 +8,8 @@ ghost use Rattle.chorus_report_parts.specs.Parts.{whole};
 
 use chorus_io::{Failed, Sink, write_all};
 
-/// Writes the parts one behind the other. What went out is a prefix of the whole text, all of it at `Ok`. `Failed` comes only where the
-/// sink's count of faults rose in this call.
+/// Writes the parts of a text one behind the other. What went out is a prefix of the whole text, all of it at `Ok`. `Failed` comes
+/// only where the sink's count of faults rose in this call.
 pub fn write_parts<K: Sink>(sink: &mut K, parts: &[Vec<u8>]) -> Result<(), Failed>
     ensures ok { OnOk result (Appends (K.held sink.old) (K.held sink.new) (whole parts.now)) }
     ensures prefix { AppendsPrefix (K.held sink.old) (K.held sink.new) (whole parts.now) }

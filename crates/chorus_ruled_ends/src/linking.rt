@@ -12,7 +12,7 @@ use chorus_link::{RecvEnd, Rest, SendEnd, link, names_tell_links, settle};
 use chorus_ui::{LINK_LIMIT, Layout};
 use std::alloc::{AllocError, Global};
 
-/// So many slots in which nothing is.
+/// So many slots for ends of ruled links, in which nothing is.
 fn slots<T: Drop>(alloc: Global, count: usize) -> Result<Vec<Option<T>>, AllocError>
     ensures { IfOk result (λ slots. vec_len slots ≡ count) }
 {

@@ -20,7 +20,7 @@ use chorus_ui::CLOCK_LIMIT;
 use std::alloc::{AllocError, Global};
 use std::sync::Wait;
 
-/// Closes the nucleus, whose other passes have all ended.
+/// Closes the nucleus at the end of a top call, when its other passes have all ended.
 pub fn close<R: Wait>(rt: &R, nucleus: Nucleus, pass: Pass) -> Result<Closed, AllocError>
     requires pass { IsPassOf nucleus pass }
     requires keeper { (known pass).keeper ≡ true }
@@ -42,7 +42,8 @@ pub fn close_unused<R: Wait>(rt: &R, nucleus: Nucleus, pass: Pass)
     let _closed = close(rt, nucleus, pass);
 }
 
-/// What was closed, where all stopped for a clock that an entry of it has.
+/// What is left of a run or a crew that stopped: what was closed, where all stopped for a clock that an entry of it
+/// has.
 pub fn stop(alloc: Global, closed: Closed, why: Stopped) -> Result<Played, AllocError>
     ensures { IfOk result (λ played. StopsAt why closed played) }
 {
@@ -52,7 +53,7 @@ pub fn stop(alloc: Global, closed: Closed, why: Stopped) -> Result<Played, Alloc
     }
 }
 
-/// What was closed, where an entry has the clock that was worn.
+/// What is left of a run or a crew that stopped: what was closed, where an entry has the clock that was worn.
 fn worn(alloc: Global, closed: Closed, clock: u64) -> Result<Played, AllocError>
     ensures closed { IfOk result (λ played. played.closed ≡ closed) }
     ensures worn { IfOk result (λ played. played.worn ≡ Some clock) }
@@ -69,7 +70,7 @@ fn worn(alloc: Global, closed: Closed, clock: u64) -> Result<Played, AllocError>
     }
 }
 
-/// Whether an entry of the journals has the clock.
+/// Whether an entry of the closed journals has the clock for which all stopped.
 fn has_entry(alloc: Global, closed: &Closed, clock: u64) -> Result<bool, AllocError>
     ensures { result ≡ Ok true → HasClock clock (merge_of closed.now) }
 {
@@ -77,7 +78,7 @@ fn has_entry(alloc: Global, closed: &Closed, clock: u64) -> Result<bool, AllocEr
     Ok(has_clock(&entries, clock))
 }
 
-/// Whether one of the entries has the clock.
+/// Whether one of the merged entries of what was closed has the clock.
 fn has_clock(entries: &[&Entry], clock: u64) -> bool
     ensures { result ≡ true → HasClock clock (lent entries.now) }
 {

@@ -47,7 +47,7 @@ pub(crate) fn finish<R: Threads + Sync, K: Sink>(
     print(sink, &parts, played.closed)
 }
 
-/// The report of what was closed, in parts.
+/// The report of what a run closed, in parts.
 fn parts_of<R: Threads + Sync>(
     alloc: Global,
     rt: &R,
@@ -59,7 +59,7 @@ fn parts_of<R: Threads + Sync>(
     report_parts(alloc, rt, &closed.journals)
 }
 
-/// Writes the parts of the text of what was closed, and hands that out.
+/// Writes the parts of the report of what a run closed, and hands that out.
 fn print<K: Sink>(sink: &mut K, parts: &[Vec<u8>], closed: Closed) -> Finished
     ensures status { (result.status ≡ Status.Done) ⊎ (result.status ≡ Status.WriteFault) }
     ensures write_fault { result.status ≡ Status.WriteFault →

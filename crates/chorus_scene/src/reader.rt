@@ -39,7 +39,7 @@ pub(crate) struct Reader {
 }
 
 impl Reader {
-    /// Before the first line.
+    /// The reader of a scenario text before its first line.
     pub(crate) fn start(alloc: Global, layout: Layout) -> Result<Reader, AllocError>
         ensures state { IfOk result (λ r. state_of r ≡ opening layout) }
         ensures stands { IfOk result Stands }
@@ -57,7 +57,8 @@ impl Reader {
         })
     }
 
-    /// What all lines have said, where it is read again from its text and keeps the limits.
+    /// Ends the reader: the scenario that all lines have said, where it is read again from its text and keeps the
+    /// limits.
     pub(crate) fn finish(self) -> Scenario
         requires stands { Stands self }
         requires again { IsReadAgain (scene_of self) }
@@ -74,7 +75,7 @@ impl Reader {
         )
     }
 
-    /// Reads one line more.
+    /// Reads one line more of a scenario text, on from where the reader stands.
     #[tactic(auto, unfolding(crate::specs::Grammar::next))]
     pub(crate) fn line(&mut self, alloc: Global, bytes: &[u8]) -> Result<(), Stop>
         requires stands { Stands self.old }
@@ -100,7 +101,7 @@ impl Reader {
         self.word_line(alloc, word, rest)
     }
 
-    /// Reads the first line that is not skipped.
+    /// Reads the first line of a scenario text that is not skipped: `chorus 1` or `chorus 2`, else a fault of Header.
     fn head_line(&mut self, bytes: &[u8]) -> Result<(), Stop>
         requires stands { Stands self.old }
         requires head { self.old.section ≡ Section.Head }
@@ -119,7 +120,7 @@ impl Reader {
         Ok(())
     }
 
-    /// Reads a line whose word may stand here.
+    /// Reads a line of a scenario text whose word may stand here, by that word.
     fn word_line(&mut self, alloc: Global, word: Word, rest: Option<&[u8]>) -> Result<(), Stop>
         requires stands { Stands self.old }
         requires may { may_stand self.old.section word ≡ true }
@@ -143,7 +144,8 @@ impl Reader {
         }
     }
 
-    /// Reads the line `sites N`; 0 sites, or more than the version or the layout allows, are a fault of Limit.
+    /// Reads the line `sites N`, behind which the setup stands; 0 sites, or more than the version or the layout allows,
+    /// are a fault of Limit.
     fn sites_line(&mut self, rest: Option<&[u8]>) -> Result<(), Stop>
         requires stands { Stands self.old }
         requires may { may_stand self.old.section Word.Sites ≡ true }
@@ -239,14 +241,14 @@ impl Reader {
         Ok(())
     }
 
-    /// Whether the name's site is above the last.
+    /// Whether the site of a name on a line of the text is above the scenario's last.
     fn is_far(&self, name: Ui) -> bool
         ensures { result ≡ is_far (scene_of self.now) name }
     {
         self.sites < name.site()
     }
 
-    /// Whether the actor is none of the scenario's.
+    /// Whether the actor on a line of the text is none of the scenario's.
     fn is_no_actor(&self, actor: Ui) -> bool
         ensures { result ≡ is_no_actor (scene_of self.now) actor }
     {
@@ -254,7 +256,7 @@ impl Reader {
     }
 }
 
-/// The name of this kind that is spelled so.
+/// The name of this kind that the reader of a scenario finds spelled in a field, if it is one.
 pub(crate) fn name_in(kind: Kind, text: &[u8]) -> Option<Ui>
     ensures value { result ≡ name_in kind text.now }
     ensures kind { IfSome result (λ u. u.kind ≡ kind) }

@@ -44,7 +44,7 @@ pub fn read(alloc: Global, text: &[u8], layout: Layout) -> Result<Scenario, Read
     }))
 }
 
-/// The first line, and what stands behind it.
+/// The first line of what is left to read of a scenario text, without its LF, and what stands behind it.
 fn first_line(text: &[u8]) -> (&[u8], &[u8])
     requires { 0 < length text.now }
     ensures first { lines text.now ≡ result.0.now ∷ lines result.1.now }

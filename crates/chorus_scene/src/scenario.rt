@@ -48,14 +48,14 @@ impl Model for Script {
 impl Script {
     ghost use Rattle.chorus_scene.specs.Grammar.{with_command};
 
-    /// The caller's actor.
+    /// The actor of a script's caller.
     pub fn actor(&self) -> Ui
         ensures { result ≡ self.now.actor }
     {
         self.actor
     }
 
-    /// The commands, in the order of the text; at most 4,096.
+    /// The commands of a script, in the order of the text; at most 4,096.
     pub fn commands(&self) -> &[Command]
         ensures { result.now ≡ self.now.commands }
     {
@@ -72,7 +72,7 @@ impl Script {
         }
     }
 
-    /// Adds a command.
+    /// Adds a command to a script, behind its others.
     pub(crate) fn push(&mut self, command: Command) -> Result<(), AllocError>
         ensures { OnOk result (self.new ≡ with_command command self.old) }
     {
@@ -129,7 +129,7 @@ impl Scenario {
         self.layout
     }
 
-    /// The version of the text: 1 or 2.
+    /// The version of a scenario's text: 1 or 2.
     pub fn version(&self) -> u8
         ensures value { result ≡ self.now.version }
         ensures one_or_two { (1 ≤ result) × (result ≤ 2) }
@@ -144,7 +144,7 @@ impl Scenario {
         self.sites
     }
 
-    /// The lines of the setup, in the order of the text.
+    /// The lines of a scenario's setup, in the order of the text.
     pub fn setup(&self) -> &[SetupLine]
         ensures { result.now ≡ self.now.setup }
     {
@@ -158,14 +158,14 @@ impl Scenario {
         self.scripts.as_slice()
     }
 
-    /// The steps of the schedule, in the order of the text; at most 131,072.
+    /// The steps of a scenario's schedule, in the order of the text; at most 131,072.
     pub fn schedule(&self) -> &[Step]
         ensures { result.now ≡ self.now.schedule }
     {
         self.schedule.as_slice()
     }
 
-    /// The name that each line of the setup begins with: of what it makes, or of the group that is joined.
+    /// The name that each line of a scenario's setup begins with: of what it makes, or of the group that is joined.
     pub fn names(&self) -> &[Ui]
         ensures names { result.now ≡ names_said self.now.layout [] self.now.setup }
         ensures again { IsReadAgain self.now }

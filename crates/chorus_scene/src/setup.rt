@@ -40,7 +40,7 @@ pub(crate) struct Setup {
     pub(crate) members: Vec<Vec<Ui>>,
 }
 
-/// How far apart the numbers stand that one place gives.
+/// How far apart the numbers stand that one place gives to what setup lines make.
 fn stride(layout: Layout, kind: Kind) -> u64
     ensures value { result ≡ stride layout kind }
     ensures some { 1 ≤ result }
@@ -54,7 +54,7 @@ fn stride(layout: Layout, kind: Kind) -> u64
     }
 }
 
-/// Where in the table of counts that of the place stands which gives this number.
+/// Where in the setup's table of counts that of the place stands which gives this number.
 fn count_at(layout: Layout, kind: Kind, site: u16, number: u64) -> usize
     requires site { (1 ≤ site) × (site ≤ SITES_LIMIT) }
     requires number { 1 ≤ number }
@@ -69,7 +69,7 @@ fn count_at(layout: Layout, kind: Kind, site: u16, number: u64) -> usize
     }
 }
 
-/// Whether the table has a list for the members of this group.
+/// Whether the setup's table has a list for the members of this group.
 fn is_listed(group: Ui) -> bool
     requires { group.kind ≡ Kind.Group }
     ensures { result ≡ is_listed group }
@@ -78,7 +78,7 @@ fn is_listed(group: Ui) -> bool
     1 <= site && site <= SITES_LIMIT && 1 <= number && number <= GROUPS_PER_SITE_LIMIT
 }
 
-/// Where the list of the group's members stands.
+/// Where the list of the group's members stands in the setup's table.
 fn list_number(group: Ui) -> usize
     requires { is_listed group ≡ true }
     ensures value { result ≡ list_number group }
@@ -88,7 +88,7 @@ fn list_number(group: Ui) -> usize
 }
 
 impl Setup {
-    /// No lines.
+    /// The setup with its tables before any line was read.
     pub(crate) fn start(alloc: Global) -> Result<Setup, AllocError>
         ensures lines { IfOk result (λ s. s.lines.items ≡ []) }
         ensures tables { IfOk result (λ s. (l : Layout) → IsSetup l s) }
@@ -105,7 +105,7 @@ impl Setup {
         })
     }
 
-    /// Whether a line made this port or group.
+    /// Whether a setup line that was read made this port or group.
     pub(crate) fn has_made(&self, layout: Layout, ui: Ui) -> bool
         requires tables { IsSetup layout self.now }
         requires site { ui.site ≤ SITES_LIMIT }
@@ -116,7 +116,7 @@ impl Setup {
         (ui.number() - 1) / stride(layout, ui.kind()) < u64::from(self.counts[at])
     }
 
-    /// The number that the place of this number gives next.
+    /// The number that the place of this number gives next to what a setup line makes.
     pub(crate) fn next_number(&self, layout: Layout, kind: Kind, site: u16, number: u64) -> u64
         requires tables { IsSetup layout self.now }
         requires site { (1 ≤ site) × (site ≤ SITES_LIMIT) }
@@ -129,7 +129,7 @@ impl Setup {
         1 + (number - 1) % stride + stride * u64::from(given)
     }
 
-    /// The members of a group, in the order in which they joined.
+    /// The members that setup lines gave a group, in the order in which they joined.
     pub(crate) fn members(&self, group: Ui) -> &[Ui]
         requires tables { (l : Layout) × IsSetup l self.now }
         requires kind { group.kind ≡ Kind.Group }
@@ -142,7 +142,7 @@ impl Setup {
         }
     }
 
-    /// Adds a line that makes the next name of the place that gives this number.
+    /// Adds a setup line that makes the next name of the place that gives this number.
     pub(crate) fn push_making(
         &mut self,
         layout: Layout,
@@ -164,7 +164,7 @@ impl Setup {
         Ok(())
     }
 
-    /// Adds a member to a group.
+    /// Adds the setup line by which a port becomes a member of a group.
     pub(crate) fn push_member(
         &mut self,
         layout: Layout,

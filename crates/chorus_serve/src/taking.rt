@@ -88,7 +88,7 @@ pub(crate) fn take_next<G, E: Moves<G>>(
     take_between(ends, ground, number, 1, last)
 }
 
-/// Opens what is in hand. Want of memory, the one error, hands it back.
+/// Opens what was taken into the hand. Want of memory, the one error, hands it back.
 pub(crate) fn open<E: Ends>(
     held: Held<E::Parcel>,
 ) -> Result<(u16, Packet), (Held<E::Parcel>, AllocError)>

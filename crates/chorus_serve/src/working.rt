@@ -15,7 +15,7 @@ use chorus_entry::Packet;
 use chorus_place::PlaceFault;
 use chorus_ui::CLOCK_LIMIT;
 
-/// What is in hand with this packet.
+/// What is in hand with this packet, opened, where it was not worked off.
 fn opened<P>(from: u16, packet: Packet) -> Held<P>
     ensures from { result.from ≡ from }
     ensures content { result.content ≡ Content.Opened packet }

@@ -112,7 +112,7 @@ impl Session {
     }
 }
 
-/// Asks for the first message of the port.
+/// Asks for the first message of the port, for a take of a session.
 #[tactic(auto, using(crate::proofs::Steps::taking))]
 fn ask(nucleus: &Nucleus, pass: &mut Pass, port: Ui) -> Result<Option<PortMessage>, CallFault>
     requires pass { IsPassOf nucleus.now pass.old }

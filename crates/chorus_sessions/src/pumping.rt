@@ -17,7 +17,7 @@ pub(crate) struct Sums {
     pub(crate) worked: u64,
 }
 
-/// Pumps the place, and counts what it told.
+/// Pumps the place for sessions, and counts what it told.
 #[tactic(auto, using(crate::proofs::Steps::calls))]
 fn visit<R: Wait>(rt: &R, nucleus: &Nucleus, pass: &mut Pass, place: u16, sums: &mut Sums)
     requires pass { IsPassOf nucleus.now pass.old }
@@ -33,7 +33,7 @@ fn visit<R: Wait>(rt: &R, nucleus: &Nucleus, pass: &mut Pass, place: u16, sums: 
     }
 }
 
-/// Pumps each place once. A place that another pass has is left to that one.
+/// Pumps each place once, for sessions. A place that another pass has is left to that one.
 #[tactic(auto, using(crate::proofs::Steps::calls))]
 pub(crate) fn pump_all<R: Wait>(rt: &R, nucleus: &Nucleus, pass: &mut Pass) -> Sums
     requires { IsPassOf nucleus.now pass.old }
@@ -50,7 +50,7 @@ pub(crate) fn pump_all<R: Wait>(rt: &R, nucleus: &Nucleus, pass: &mut Pass) -> S
     sums
 }
 
-/// Pumps all places until each is idle, and as many packets were worked off as were put.
+/// Pumps all places, when the sessions have run, until each is idle, and as many packets were worked off as were put.
 #[tactic(auto, using(crate::proofs::Steps::calls))]
 pub(crate) fn settle<R: Wait>(rt: &R, nucleus: &Nucleus, pass: &mut Pass)
     requires { IsPassOf nucleus.now pass.old }

@@ -157,7 +157,7 @@ fn play<R: Threads + Wait + Sync, B: Behaviour>(
     Ok(hands)
 }
 
-/// Closes the nucleus, whose other passes were all retired.
+/// Closes the nucleus of the sessions, whose other passes were all retired.
 fn close<R: Wait>(rt: &R, nucleus: Nucleus, pass: Pass) -> Result<Closed, AllocError>
     requires pass { IsPassOf nucleus pass }
     requires back { HasAllBack pass }

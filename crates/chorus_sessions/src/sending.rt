@@ -28,7 +28,7 @@ enum Told {
     Refused,
 }
 
-/// What a verdict means.
+/// What a verdict means for a session that sends.
 fn meaning(answer: Answer) -> Told {
     match answer {
         Answer::Accepted { .. } => Told::Accepted,
@@ -37,7 +37,7 @@ fn meaning(answer: Answer) -> Told {
     }
 }
 
-/// Asks for the verdict of a message that was posted. None where there is none yet.
+/// Asks for the verdict of a message that a session posted. None where there is none yet.
 #[tactic(auto, using(crate::proofs::Steps::calls))]
 fn ask(nucleus: &Nucleus, pass: &mut Pass, id: MsgId) -> Option<Told>
     requires { IsPassOf nucleus.now pass.old }
@@ -51,7 +51,7 @@ fn ask(nucleus: &Nucleus, pass: &mut Pass, id: MsgId) -> Option<Told>
     }
 }
 
-/// Waits for the verdict of a message that was posted, and moves packets meanwhile.
+/// Waits for the verdict of a message that a session posted, and moves packets meanwhile.
 #[tactic(auto, using(crate::proofs::Steps::calls))]
 fn verdict<R: Wait>(rt: &R, nucleus: &Nucleus, pass: &mut Pass, id: MsgId) -> Told
     requires { IsPassOf nucleus.now pass.old }
@@ -67,7 +67,7 @@ fn verdict<R: Wait>(rt: &R, nucleus: &Nucleus, pass: &mut Pass, id: MsgId) -> To
     Told::Refused
 }
 
-/// Sends the message once.
+/// Sends a session's message once.
 #[tactic(auto, using(crate::proofs::Steps::calls))]
 fn send_once<R: Wait>(rt: &R, nucleus: &Nucleus, pass: &mut Pass, port: Ui, body: &[u8]) -> Told
     requires pass { IsPassOf nucleus.now pass.old }
@@ -88,7 +88,7 @@ fn send_once<R: Wait>(rt: &R, nucleus: &Nucleus, pass: &mut Pass, port: Ui, body
     }
 }
 
-/// Sends the message until the port accepted it. False where it was refused for good.
+/// Sends a session's message until the port accepted it. False where it was refused for good.
 #[tactic(auto, using(crate::proofs::Steps::calls))]
 fn send_until_told<R: Wait>(
     rt: &R,

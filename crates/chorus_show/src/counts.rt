@@ -23,7 +23,7 @@ pub(crate) struct Counts {
 impl Counts {
     ghost use Rattle.chorus_show.specs.Tally.{AreCounts};
 
-    /// The counts of no entries.
+    /// The counts of a summary of no entries.
     pub(crate) fn new() -> Counts
         ensures { AreCounts result [] }
     {
@@ -39,7 +39,7 @@ impl Counts {
         }
     }
 
-    /// Counts one more entry.
+    /// Counts one more entry for a summary, by its act.
     pub(crate) fn add(&mut self, entry: &Entry)
         requires { (later : List Entry) × AreCounts self.old later × (length later < 2 ^ 63) }
         ensures { (later : List Entry) → AreCounts self.old later →
@@ -116,7 +116,7 @@ fn is_refusal(act: &Act) -> bool
     )
 }
 
-/// How many ids a deleted port discarded.
+/// How many ids the summary counts as `discarded` by the act: those that a deleted port discarded.
 fn ids_discarded(act: &Act) -> usize
     ensures { result ≡ ids_discarded act.now }
 {

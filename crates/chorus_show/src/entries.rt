@@ -154,8 +154,8 @@ impl Field for Act {
     }
 }
 
-/// Appends the line of the entry, with its LF: an entry within the bounds of a line, as its type keeps it. After an error a part of
-/// it may stand there.
+/// Appends the fields of the entry as one line, with its LF: an entry within the bounds of a line, as its type keeps it. After an
+/// error a part of it may stand there.
 pub fn push_entry(entry: &Entry, out: &mut Vec<u8>) -> Result<(), AllocError>
     ensures text { OnOk result (out.new.items ≡ out.old.items ++ entry_text entry.now) }
     ensures within { OnOk result (IsWithin entry.now) }

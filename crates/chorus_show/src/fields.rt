@@ -19,7 +19,7 @@ pub(crate) trait Field {
     /// What its type keeps of it.
     ghost fits: { Self → Type 0 };
 
-    /// Appends its text. After an error a part of it may stand there.
+    /// Appends the text of the field. After an error a part of it may stand there.
     fn push(&self, out: &mut Vec<u8>) -> Result<(), AllocError>
         ensures text { OnOk result (out.new.items ≡ out.old.items ++ text self.now) }
         ensures fits { OnOk result (fits self.now) };

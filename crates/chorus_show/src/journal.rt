@@ -12,8 +12,8 @@ use crate::phrases::push_count;
 use chorus_entry::Entry;
 use std::alloc::AllocError;
 
-/// Appends the line of the entry, with its LF: an entry within the bounds of a line, as its type keeps it. An error leaves `out`
-/// as it was.
+/// Appends the line of the entry as a journal text has it, with its LF: an entry within the bounds of a line, as its type keeps it.
+/// An error leaves `out` as it was.
 pub fn entry_line(entry: &Entry, out: &mut Vec<u8>) -> Result<(), AllocError>
     ensures ok { OnOk result (out.new.items ≡ out.old.items ++ entry_text entry.now) }
     ensures within { OnOk result (IsWithin entry.now) }
@@ -101,7 +101,7 @@ fn push_head(count: u64, line: &mut Vec<u8>, out: &mut Vec<u8>) -> Result<(), Al
     out.extend_from_slice(line)
 }
 
-/// Appends the line of the entry, or nothing for want of memory. The buffer `line` is used again.
+/// Appends the line of the entry to a journal text, or nothing for want of memory. The buffer `line` is used again.
 fn push_line(entry: &Entry, line: &mut Vec<u8>, out: &mut Vec<u8>) -> Result<(), AllocError>
     ensures ok { OnOk result (out.new.items ≡ out.old.items ++ entry_text entry.now) }
     ensures within { OnOk result (IsWithin entry.now) }

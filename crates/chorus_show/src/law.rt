@@ -8,8 +8,8 @@ pub fn a_line_has_one_entry()
     ensures { LinesTellEntries }
 {}
 
-/// The law that a line is read back: what the words of such an entry's line say, without its LF, is the entry. The law makes no
-/// call.
+/// The law that a line is read back: what the words of an entry's line say, without its LF, is the entry, where its numbers are
+/// within their types and its names are names. The law makes no call.
 pub fn a_line_is_read_back()
     ensures { LinesAreReadBack }
 {}

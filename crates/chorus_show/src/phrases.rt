@@ -7,14 +7,14 @@ ghost use Rattle.chorus_show.specs.Phrases.{phrase, spaced};
 use crate::fields::Field;
 use std::alloc::AllocError;
 
-/// Appends the word alone.
+/// Appends the phrase of a word alone.
 pub(crate) fn push_word(word: &str, out: &mut Vec<u8>) -> Result<(), AllocError>
     ensures { OnOk result (out.new.items ≡ out.old.items ++ word.now) }
 {
     out.extend_from_slice(word.as_bytes())
 }
 
-/// Appends the word and one field.
+/// Appends the phrase of the word and one field.
 pub(crate) fn push_with_one<A: Field>(
     word: &str,
     a: &A,
@@ -28,7 +28,7 @@ pub(crate) fn push_with_one<A: Field>(
     push_field(a, out)
 }
 
-/// Appends the word and two fields.
+/// Appends the phrase of the word and two fields.
 pub(crate) fn push_with_two<A: Field, B: Field>(
     word: &str,
     a: &A,
@@ -43,7 +43,7 @@ pub(crate) fn push_with_two<A: Field, B: Field>(
     push_field(b, out)
 }
 
-/// Appends the word and three fields.
+/// Appends the phrase of the word and three fields.
 pub(crate) fn push_with_three<A: Field, B: Field, C: Field>(
     word: &str,
     a: &A,
@@ -60,7 +60,7 @@ pub(crate) fn push_with_three<A: Field, B: Field, C: Field>(
     push_field(c, out)
 }
 
-/// Appends the word and four fields.
+/// Appends the phrase of the word and four fields.
 pub(crate) fn push_with_four<A: Field, B: Field, C: Field, D: Field>(
     word: &str,
     a: &A,
@@ -79,7 +79,7 @@ pub(crate) fn push_with_four<A: Field, B: Field, C: Field, D: Field>(
     push_field(d, out)
 }
 
-/// Appends the fields, each behind a space.
+/// Appends the fields of a phrase, each behind a space.
 pub(crate) fn push_each<T: Field>(fields: &[T], out: &mut Vec<u8>) -> Result<(), AllocError>
     ensures text { OnOk result (out.new.items ≡ out.old.items ++ spaced (map T.text fields.now)) }
     ensures fits { OnOk result (All T.fits fields.now) }
@@ -90,7 +90,7 @@ pub(crate) fn push_each<T: Field>(fields: &[T], out: &mut Vec<u8>) -> Result<(),
     Ok(())
 }
 
-/// Appends the field behind a space.
+/// Appends one more field of a phrase, behind a space.
 pub(crate) fn push_field<T: Field>(field: &T, out: &mut Vec<u8>) -> Result<(), AllocError>
     ensures text { OnOk result (out.new.items ≡ out.old.items ++ 32 ∷ T.text field.now) }
     ensures fits { OnOk result (T.fits field.now) }
@@ -99,7 +99,7 @@ pub(crate) fn push_field<T: Field>(field: &T, out: &mut Vec<u8>) -> Result<(), A
     field.push(out)
 }
 
-/// Appends the line of the word and a number.
+/// Appends the phrase of the word and a number as a line, with its LF.
 pub(crate) fn push_count<N: Field>(
     word: &str,
     number: &N,

@@ -39,7 +39,8 @@ const NO_QUEUE: Queue = Queue {
 impl Queue {
     ghost use Rattle.chorus_show.specs.Tally.{share, with_later};
 
-    /// What waits, where the port is at the spot: accepted less taken, and 0 where more were taken.
+    /// How many messages wait in the port's queue, where the port is at the spot: accepted less taken, and 0 where more
+    /// were taken.
     fn share(self, spot: Spot) -> u64
         ensures { result ≡ share spot self }
     {
@@ -50,7 +51,7 @@ impl Queue {
         }
     }
 
-    /// What it says together with what the later entries say.
+    /// What entries say of the port's queue together with what the later entries say.
     fn with_later(self, later: Queue) -> Queue
         requires accepted { self.accepted + later.accepted < 2 ^ 64 }
         requires taken { self.taken + later.taken < 2 ^ 64 }
@@ -136,7 +137,7 @@ fn news_of(act: &Act) -> Option<(Ui, Queue)>
     Some((*port, news))
 }
 
-/// What an entry says that puts the port there.
+/// What an entry says of a port's queue that puts the port there.
 fn put(spot: Spot) -> Queue
     ensures { result ≡ put spot }
 {

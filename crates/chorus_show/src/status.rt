@@ -59,7 +59,7 @@ pub fn fault_text(status: Status, out: &mut Vec<u8>) -> Result<(), AllocError>
     out.extend_from_slice(&line)
 }
 
-/// Appends the line. After an error a part of it may stand there.
+/// Appends the line, with its LF, that says what went wrong, and nothing at `Done`. After an error a part of it may stand there.
 fn push_fault(status: Status, out: &mut Vec<u8>) -> Result<(), AllocError>
     ensures { OnOk result (out.new.items ≡ out.old.items ++ fault_line status) }
 {

@@ -23,7 +23,7 @@ struct Summary {
 impl Summary {
     ghost use Rattle.chorus_show.specs.Tally.{Tells};
 
-    /// The numbers of no entries.
+    /// The numbers of a summary of no entries.
     fn new(alloc: Global) -> Summary
         ensures { Tells result [] }
     {
@@ -33,7 +33,7 @@ impl Summary {
         }
     }
 
-    /// Counts the entry that stands before those that were counted. An error leaves the numbers as they were.
+    /// Counts for the summary the entry that stands before those that were counted. An error leaves the numbers as they were.
     fn add_before(&mut self, entry: &Entry) -> Result<(), AllocError>
         requires { (later : List Entry) × Tells self.old later × (length later < 2 ^ 63) }
         ensures ok { OnOk result ((later : List Entry) → Tells self.old later →

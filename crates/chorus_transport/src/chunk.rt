@@ -27,7 +27,7 @@ impl Chunk {
         })
     }
 
-    /// Its bytes.
+    /// The bytes of the chunk.
     pub fn bytes(&self) -> &[u8]
         ensures { result.now ≡ self.now }
     {

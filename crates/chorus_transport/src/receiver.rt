@@ -101,7 +101,7 @@ impl Receiver {
         self.places.pop_front()?
     }
 
-    /// What is acknowledged: the least number neither delivered nor kept. Takes no memory.
+    /// What the receiver acknowledges: the least number neither delivered nor kept. Takes no memory.
     pub fn ack(&self) -> u64
         ensures value { result ≡ ack_of self.now }
         ensures known_below { (number : ℕ) → number < result → IsTrue (is_known self.now number) }

@@ -65,14 +65,14 @@ impl Sender {
         })
     }
 
-    /// How many chunks were acknowledged: the number of the first that is kept.
+    /// How many chunks of the sender were acknowledged: the number of the first that is kept.
     pub fn base(&self) -> u64
         ensures { result ≡ self.now.base }
     {
         self.base
     }
 
-    /// How many chunks were put: the number of the next.
+    /// How many chunks were put into the sender: the number of the next.
     pub fn next(&self) -> u64
         ensures value { result ≡ next_number self.now }
         // It keeps at most a window of chunks.
@@ -104,7 +104,7 @@ impl Sender {
         }
     }
 
-    /// A copy of the chunk of that number; `None` exactly outside `base` to `next - 1`.
+    /// A copy of the sender's chunk of that number; `None` exactly outside `base` to `next - 1`.
     pub fn emit(&self, alloc: Global, number: u64) -> Result<Option<Chunk>, AllocError>
         ensures copy { IfOk result (λ chunk. chunk ≡ emitted self.now number) }
         ensures range { IfOk result

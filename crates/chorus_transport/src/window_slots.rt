@@ -8,15 +8,15 @@ use std::collections::VecDeque;
 
 pub(crate) type Places = VecDeque<Option<Chunk>>;
 
-/// Whether a chunk is at this place.
+/// Whether a chunk is at this place of the window.
 pub(crate) fn is_filled(places: &Places, at: usize) -> bool
     ensures { result ≡ is_some (slice_index_or places.now.items at None) }
 {
     at < places.len() && places[at].is_some()
 }
 
-/// How many places from the front on are filled, where at least `from` are. Over a receiver's life each chunk is passed
-/// over once.
+/// How many places of the window from the front on are filled, where at least `from` are. Over a receiver's life each
+/// chunk is passed over once.
 pub(crate) fn filled(places: &Places, from: usize) -> usize
     requires { from ≤ prefix_len is_some places.now.items }
     ensures { result ≡ prefix_len is_some places.now.items }
@@ -28,7 +28,7 @@ pub(crate) fn filled(places: &Places, from: usize) -> usize
     ready
 }
 
-/// Adds empty places until there are `len`, unless there are.
+/// Adds empty places to the window until there are `len`, unless there are.
 pub(crate) fn widen(places: &mut Places, len: usize) -> Result<(), AllocError>
     ensures ok { OnOk result
         (places.new.items ≡ places.old.items ++ replicate (len - length places.old.items) None) }

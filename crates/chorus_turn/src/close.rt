@@ -29,7 +29,7 @@ pub struct Spent<R> {
     pub(crate) badge: Badge<View<R>>,
 }
 
-// Takes the state out of each slot.
+/// Takes the state of each place out of its slot in the closed table of turns.
 fn unload<S>(closed: Closed<Option<S>, Global>, states: &mut Vec<S>)
     requires full { IsFull closed.slots × AreFull (slots_items closed.slots) }
     requires room { (slots_len closed.slots ≤ vec_capacity states.old) × (vec_len states.old ≡ 0) }

@@ -34,7 +34,8 @@ pub trait Job<S: Kept> {
     // What one run notes beside its new entries: of the job before and after.
     ghost notes: { Self → Self → List (Remarked S.Remark) → Type 0 };
 
-    /// Runs once, as the pass with this number. The state has a journal, and what is added to it are entries of this seat.
+    /// Runs the job once in a turn, as the pass with this number. The state has a journal, and what is added to it are entries of
+    /// this seat.
     fn run(&mut self, state: &mut S, seat: u32) -> Self::Out
         requires accepts { accepts self.old (S.mark state.old) seat }
         requires fits { (log : List (Remarked S.Remark)) ×

@@ -30,28 +30,28 @@ pub struct Pass<R> {
 impl<R> Pass<R> {
     ghost use Rattle.chorus_turn.specs.Passes.{known};
 
-    /// The number of the pass, from 0. Its entries have it as their seat.
+    /// The number of the pass that takes turns, from 0. Its entries have it as their seat.
     pub fn seat(&self) -> u32
         ensures { result ≡ (known self.now).seat }
     {
         self.seat
     }
 
-    /// The number of passes that were retired into this one, also through others.
+    /// The number of passes of the turns that were retired into this one, also through others.
     pub fn ended(&self) -> u32
         ensures { result ≡ length (known self.now).notes }
     {
         self.ended
     }
 
-    /// Whether this is the one pass that draws numbers: the opening one, or one into which the keeper was retired.
+    /// Whether this is the one pass of the turns that draws numbers: the opening one, or one into which the keeper was retired.
     pub fn keeper(&self) -> bool
         ensures { result ≡ (known self.now).keeper }
     {
         self.keeper
     }
 
-    /// For the keeper the count of numbers drawn, the opening one included, at most 1,048,576; 0 for any other pass.
+    /// For the keeper of the turns the count of numbers drawn, the opening one included, at most 1,048,576; 0 for any other pass.
     pub fn made(&self) -> u32
         ensures count { result ≡ (known self.now).made }
         ensures bounded { result ≤ limit }

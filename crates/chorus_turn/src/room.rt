@@ -27,7 +27,7 @@ pub struct Room<S> {
 }
 
 impl<S> Room<S> {
-    // At want of memory the empty list comes back.
+    /// Puts the empty list away, with its room for the states. At want of memory it comes back.
     pub(crate) fn new(alloc: Global, list: Vec<S>, count: usize) -> Result<Room<S>, Vec<S>>
         requires { (vec_len list ≡ 0) × (count ≤ vec_capacity list) }
         ensures ok { IfOk result (λ r. r.table.shared.key ≡ count) }

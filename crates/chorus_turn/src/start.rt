@@ -15,7 +15,7 @@ use atomic_table::{Refused, Table};
 use std::alloc::{AllocError, Global};
 use std::snapshot::Snapshot;
 
-// Puts the states into the slots, in order.
+/// Puts the states of the places into the slots of the table of turns, in order.
 fn wrap<S>(states: &mut Vec<S>, slots: &mut Vec<Option<S>>)
     requires { (slots.old.items ≡ []) × (vec_len states.old ≤ vec_capacity slots.old) }
     ensures slots { slots.new.items ≡ somes states.old.items }
@@ -31,7 +31,7 @@ fn wrap<S>(states: &mut Vec<S>, slots: &mut Vec<Option<S>>)
     }
 }
 
-// Takes them out again.
+/// Takes the states of the places out of the slots again, where the table of turns was not made.
 fn unwrap<S>(mut slots: Vec<Option<S>>, states: &mut Vec<S>)
     requires full { AreFull slots.items }
     requires room { (vec_len states.old ≡ 0) × (vec_len slots ≤ vec_capacity states.old) }
@@ -50,7 +50,8 @@ fn unwrap<S>(mut slots: Vec<Option<S>>, states: &mut Vec<S>)
     slots.destroy_empty();
 }
 
-// The first word counts the numbers drawn. The others are 0: those of the places, which are free, and those between.
+/// The words of a new table of turns. The first word counts the numbers drawn. The others are 0: those of the places, which are
+/// free, and those between.
 fn first_words(alloc: Global, places: usize) -> Result<Vec<u64>, AllocError>
     ensures { IfOk result (λ w. (length w.items ≡ word_of places + 1) × (slice_index w.items 0 ≡ 1)
         × ((k : ℕ) → slice_index w.items (k + 1) ≡ 0)) }

@@ -19,14 +19,14 @@ pub(crate) const APART: usize = 8;
 
 const _: () = prove!(APART * size_of::<u64>() == 64);
 
-// Where the word of a place stands.
+/// Where the word of a place stands in the table of turns.
 fn word_of(place: u16) -> usize
     ensures { result ≡ word_of place }
 {
     APART * place as usize
 }
 
-// Runs the job on the state that stands there.
+/// Runs the job of a turn on the state that stands in the slot.
 fn run_in<S: Kept, J: Job<S>>(slot: &mut Option<S>, number: u32, job: &mut J) -> J::Out
     requires { (x : S) × (slot.old ≡ Some x)
         × MayRun S.entries S.fits (J.accepts job.old (S.mark x) number) x }
@@ -44,7 +44,7 @@ impl<S: Kept> Turns<S> {
     ghost use Rattle.chorus_turn.specs.Passes.{handed, table_of, IsPlaceOf};
     ghost use Rattle.chorus_turn.specs.Calls.{IsMarked};
 
-    // The one try of a call. It gives the word that it found.
+    /// The step that takes a place, the one try of a call. It gives the word that it found.
     pub(crate) fn take<X: Origin<S>>(
         &self,
         seat: &mut Held<S, S::Remark>,
@@ -67,8 +67,8 @@ impl<S: Kept> Turns<S> {
             .compare_exchange::<Take<X>>(seat, word_of(place), 0, own)
     }
 
-    // Runs the job, as the pass with this number, on the state in the slot of a place that the pass holds. The state stays where
-    // it is.
+    /// The step that runs the job, as the pass with this number, on the state in the slot of a place that the pass holds. The state
+    /// stays where it is.
     pub(crate) fn run<J: Job<S>>(
         &self,
         seat: &mut Held<S, S::Remark>,
@@ -88,8 +88,8 @@ impl<S: Kept> Turns<S> {
         run_in(seat.slot_mut(&self.table.shared, slot), number, job)
     }
 
-    // The place is free again, and its state has the journal that was found and then entries of this pass. The job, and
-    // what it was before it ran, are for the proof alone, which picks what the job notes.
+    /// The step that gives a place back: it is free again, and its state has the journal that was found and then entries of this
+    /// pass. The job, and what it was before it ran, are for the proof alone, which picks what the job notes.
     pub(crate) fn give<X: Noting<S::Remark>, J>(
         &self,
         seat: &mut Held<S, S::Remark>,
@@ -109,7 +109,7 @@ impl<S: Kept> Turns<S> {
         self.table.shared.store::<Give<X>>(seat, word_of(place), 0)
     }
 
-    // The keeper's next number, which goes to a new seat.
+    /// The step that draws the keeper's next number, which goes to a new seat.
     pub(crate) fn draw(&self, seat: &mut Held<S, S::Remark>, made: u32) -> Held<S, S::Remark>
         requires table { seat.old.table_id ≡ table_of self.now }
         requires seat { (seat.old.me.1 ≡ []) × IsAtRest seat.old.me.0 }
@@ -124,7 +124,7 @@ impl<S: Kept> Turns<S> {
         self.table.shared.split_seat::<Admit>(seat)
     }
 
-    // The other seat ends in this one.
+    /// The step of a retirement: the other seat ends in this one.
     pub(crate) fn merge(&self, seat: &mut Held<S, S::Remark>, other: Held<S, S::Remark>)
         requires table { (seat.old.table_id ≡ table_of self.now)
             × (other.table_id ≡ table_of self.now) }
@@ -140,7 +140,7 @@ impl<S: Kept> Turns<S> {
         self.table.shared.load::<Count>(seat, 0);
     }
 
-    // A seat for what is left of the pass that closes the places.
+    /// The step that gives a seat for what is left of the pass that closes the places.
     pub(crate) fn leave(&self, seat: &mut Held<S, S::Remark>) -> Held<S, S::Remark>
         requires { seat.old.table_id ≡ table_of self.now }
         ensures { (seat.new.table_id ≡ seat.old.table_id) × (seat.new.id ≡ seat.old.id)

@@ -35,14 +35,14 @@ fn begins_decimal(text: &[u8]) -> bool
     }
 }
 
-/// Whether each byte is a digit.
+/// Whether each byte of the text is a digit, as in a decimal.
 fn all_digits(text: &[u8]) -> bool
     ensures { result ≡ all_digits text.now }
 {
     text.iter().all(u8::is_ascii_digit)
 }
 
-/// The number that these digits write. None exactly where a byte is no digit or the number has more than 64 bits.
+/// The number that the digits of a decimal write. None exactly where a byte is no digit or the number has more than 64 bits.
 fn digits_value(text: &[u8]) -> Option<u64>
     ensures { result ≡ (if all_digits text.now then value_in_64_bits text.now else None) }
 {
@@ -53,7 +53,8 @@ fn digits_value(text: &[u8]) -> Option<u64>
     Some(number)
 }
 
-/// The number with one digit more. None exactly where the byte is no digit or the number has more than 64 bits.
+/// The number that a decimal's digits write so far, with one digit more. None exactly where the byte is no digit or the
+/// number has more than 64 bits.
 fn read_digit(number: u64, c: u8) -> Option<u64>
     ensures { result ≡ read_digit number c }
 {

@@ -232,7 +232,7 @@ impl Ord for Ui {
     }
 }
 
-/// What stands before the first dot, and what stands behind it; all and nothing where there is none.
+/// What stands in the text of a name before the first dot, and what stands behind it; all and nothing where there is none.
 fn split_at_dot(text: &[u8]) -> (&[u8], &[u8])
     ensures before { result.0.now ≡ before_first is_dot text.now }
     ensures behind { result.1.now ≡ after_first is_dot text.now }
@@ -243,7 +243,7 @@ fn split_at_dot(text: &[u8]) -> (&[u8], &[u8])
     }
 }
 
-/// Where the first dot stands.
+/// Where the first dot stands in the text of a name, or in the rest of it.
 fn first_dot(text: &[u8]) -> Option<usize>
     ensures { result ≡ position is_dot text.now }
 {

@@ -36,7 +36,8 @@ pub(crate) fn cut<'a>(
     }
 }
 
-/// The command: its name is no word, and each of its three words may be left out from the last on.
+/// The command by which `clap` cuts the program's words: its name is no word, and each of its three words may be left out from
+/// the last on.
 fn command<'a>(alloc: Global) -> Result<Command<'a>, AllocError>
     ensures { IfOk result (λ command. app_of command ≡ the_command) }
 {

@@ -12,7 +12,7 @@ use crate::words::{LOAD_LIMIT, Words};
 use chorus_ui::{Layout, parse_decimal};
 use std::alloc::{AllocError, Global};
 
-/// What the words ask. None exactly where they are not in the list; want of memory is the one error.
+/// What the program's words ask. None exactly where they are not in the list; want of memory is the one error.
 pub fn read_words<'a>(alloc: Global, words: &'a [&'a str]) -> Result<Option<Words>, AllocError>
     ensures some { IfOk result (λ read. IfSome read (Ask (map (λ word. word.now) words.now))) }
     ensures listed { (asked : Words) → Ask (map (λ word. word.now) words.now) asked →
@@ -38,14 +38,14 @@ fn are_values(words: &[&str]) -> bool
     words.iter().all(|word| is_value(word))
 }
 
-/// Whether the word is one that the list may have: not empty, and not begun with `-`.
+/// Whether the word is one that the list of the program's words may have: not empty, and not begun with `-`.
 fn is_value(word: &str) -> bool
     ensures { result ≡ is_value word.now }
 {
     !word.is_empty() && !word.starts_with('-')
 }
 
-/// What these words ask, the first, the second and the third.
+/// What the program's words ask, by the first, the second and the third.
 fn asked_by(what: Option<&str>, first: Option<&str>, second: Option<&str>) -> Option<Words>
     ensures some { IfSome result (AskByThree (option_map (λ w. w.now) what.entry)
         (option_map (λ w. w.now) first.entry) (option_map (λ w. w.now) second.entry)) }
@@ -92,7 +92,7 @@ fn asked_by(what: Option<&str>, first: Option<&str>, second: Option<&str>) -> Op
     }
 }
 
-/// The number of places of a site whose decimal the word is. None exactly where a site may not have so many.
+/// The number of places of a site whose decimal the program's word is. None exactly where a site may not have so many.
 fn turns_of(word: &str) -> Option<u16>
     ensures some { IfSome result (λ n. (word.now ≡ decimal n) × IsTurns n) }
     ensures none { IsNone result → (n : ℕ) → IsTurns n → ¬ (word.now ≡ decimal n) }
@@ -101,7 +101,7 @@ fn turns_of(word: &str) -> Option<u16>
     Some(layout.turns())
 }
 
-/// The layout whose sites and places per site these decimals are. None exactly where there is none.
+/// The layout whose sites and places per site these decimals among the program's words are. None exactly where there is none.
 fn layout_of(sites: &str, turns: &str) -> Option<Layout>
     ensures some { IfSome result (λ l. (sites.now ≡ decimal l.sites) × (turns.now ≡ decimal l.turns)
         × IsLayout l) }
@@ -111,7 +111,7 @@ fn layout_of(sites: &str, turns: &str) -> Option<Layout>
     Layout::new(small_decimal(sites)?, small_decimal(turns)?)
 }
 
-/// The number whose decimal the word is. None exactly where it is that of no number of 16 bits.
+/// The number whose decimal the program's word is. None exactly where it is that of no number of 16 bits.
 fn small_decimal(word: &str) -> Option<u16>
     ensures some { IfSome result (λ n. word.now ≡ decimal n) }
     ensures none { IsNone result → (n : ℕ) → n < 2 ^ 16 → ¬ (word.now ≡ decimal n) }
@@ -122,7 +122,7 @@ fn small_decimal(word: &str) -> Option<u16>
     }
 }
 
-/// The number of commands whose decimal the word is. None exactly where there is none within the limit.
+/// The number of commands whose decimal the program's word is. None exactly where there is none within the limit.
 fn commands_of(word: &str) -> Option<u32>
     ensures some { IfSome result (λ n. (word.now ≡ decimal n) × (n ≤ LOAD_LIMIT)) }
     ensures none { IsNone result → (n : ℕ) → n ≤ LOAD_LIMIT → ¬ (word.now ≡ decimal n) }
@@ -133,7 +133,7 @@ fn commands_of(word: &str) -> Option<u32>
     }
 }
 
-/// The number of 32 bits whose decimal the word is. None exactly where there is none.
+/// The most events to be explored, a number of 32 bits whose decimal the program's word is. None exactly where there is none.
 fn most_of(word: &str) -> Option<u32>
     ensures some { IfSome result (λ n. word.now ≡ decimal n) }
     ensures none { IsNone result → (n : ℕ) → n < 2 ^ 32 → ¬ (word.now ≡ decimal n) }

@@ -9,33 +9,33 @@ ghost use Rattle.chorus_world.specs.RequestLaws.{AcceptsRequestsOnce, RequestsRi
 ghost use Rattle.chorus_world.specs.SenderLaws.{KeepsSenderOrder};
 ghost use Rattle.chorus_world.specs.GroupLaws.{AcceptsOnSite, HasOneCopy, IsChosenOnce, KeepsChoiceOrder, ReachesOneMember};
 
-/// A run is a legal list, so each law of legal lists holds of it.
+/// A run of the world is a legal list, so each law of legal lists holds of it.
 pub fn a_run_is_legal()
     ensures { RunsAreLegal }
 {}
 
-/// At each moment of a run each port has given out what it accepted, in order, and nothing else; and each accepted message
-/// has one fate.
+/// At each moment of a run of the world each port has given out what it accepted, in order, and nothing else; and each
+/// accepted message has one fate.
 pub fn a_run_keeps_each_message()
     ensures received { RunAlways ReceivesInOrder }
     ensures fate { RunAlways KeepsEachMessage }
 {}
 
-/// At most one act answers a command as the next entry of a run: the one that the entries of its place, of its caller and of its
-/// port tell. And in a run whose callers are in actors of the layout and posted at their home places alone it does answer,
-/// unless the last entry at the command's place is the Take of a reply.
+/// At most one act answers a command as the next entry of a run of the world: the one that the entries of its place, of
+/// its caller and of its port tell. And in a run whose callers are in actors of the layout and posted at their home
+/// places alone it does answer, unless the last entry at the command's place is the Take of a reply.
 pub fn exactly_one_act_answers()
     ensures most { OneActAtMost }
     ensures one { OneActAnswers }
 {}
 
-/// Each message that a port accepted always stands at one position of one port, and it always has exactly one fate: it was
-/// received, it is queued, it is under way or it was discarded.
+/// In a legal list each message that a port accepted always stands at one position of one port, and it always has exactly
+/// one fate: it was received, it is queued, it is under way or it was discarded.
 pub fn accepted_message_has_one_fate()
     ensures { LegalAlways KeepsEachMessage }
 {}
 
-/// What a port accepted stays at its position, whatever comes after: only more is put behind it.
+/// What a port accepted in a legal list stays at its position, whatever comes after: only more is put behind it.
 pub fn accepted_messages_stay()
     ensures { AcceptedGrows }
 {}
@@ -93,26 +93,26 @@ pub fn told_is_the_verdict()
     ensures heard { LegalEntries (λ l. HearsTheEnd) }
 {}
 
-/// A message has at most one verdict.
+/// In a legal list a message has at most one verdict.
 pub fn message_has_one_verdict()
     ensures { HasOneVerdict }
 {}
 
-/// Of each client, the numbers of the requests that a port accepted always rise; and each request is accepted at most once, at
-/// one position of one port, however often it is posted.
+/// In a legal list the numbers of the requests that a port accepted of each client always rise; and each request is
+/// accepted at most once, at one position of one port, however often it is posted.
 pub fn request_is_accepted_once()
     ensures rise { LegalAlways RequestsRise }
     ensures once { LegalAlways AcceptsRequestsOnce }
 {}
 
-/// A port always has the messages of one caller that came to it by one route in the order in which they were posted. A route
-/// is the direct one, or through one group.
+/// In a legal list a port always has the messages of one caller that came to it by one route in the order in which they
+/// were posted. A route is the direct one, or through one group.
 pub fn port_keeps_sender_order()
     ensures { LegalAlways KeepsSenderOrder }
 {}
 
-/// A post to one member of a group has at most one copy and is accepted at most once, one that asks for a site only by a
-/// place on that site.
+/// In a legal list a post to one member of a group has at most one copy and is accepted at most once, one that asks for a
+/// site only by a place on that site.
 pub fn functional_post_reaches_one_member()
     ensures copy { LegalAlways HasOneCopy }
     ensures accepted { LegalAlways ReachesOneMember }

@@ -3,14 +3,15 @@
 ghost use Rattle.chorus_world.specs.LocationLaws.{KnowsWhatLeft, LocatesOnPath, TriesWithinPath};
 ghost use Rattle.chorus_world.specs.SortingLaws.{AnswersLookAtHome, KeepsViews, SortsInOrder, SortsLegally, SortsRuns};
 
-/// A place locates a port only where the port was, with the hop that it had there; and a place that the port has left locates
-/// it by a later hop than the one that it had there.
+/// In a legal list a place locates a port only where the port was, with the hop that it had there; and a place that the
+/// port has left locates it by a later hop than the one that it had there.
 pub fn locates_on_path()
     ensures path { LocatesOnPath }
     ensures ahead { KnowsWhatLeft }
 {}
 
-/// A message is tried at most as many times as its port's path has places: with h hops of the port so far, at most h + 1 times.
+/// In a legal list a message is tried at most as many times as its port's path has places: with h hops of the port so
+/// far, at most h + 1 times.
 pub fn tries_are_within_path()
     ensures { TriesWithinPath }
 {}
@@ -28,7 +29,8 @@ pub fn sorting_is_legal()
     ensures runs { SortsRuns }
 {}
 
-/// A NoGroup that answers a command stands at the group's place, or names a group of no site of the layout.
+/// A NoGroup that answers a command stands where the sorting of legal lists wants it: at the group's place, or it names a
+/// group of no site of the layout.
 pub fn answers_look_at_home()
     ensures { AnswersLookAtHome }
 {}

@@ -29,7 +29,7 @@ fn is_same_client(one: &Client, other: &Client) -> bool
     }
 }
 
-/// Whether the requests in hand are the same, or none is there.
+/// Whether the requests that two callers have in hand are the same, or none is there.
 fn is_same_hand(one: Option<Hand>, other: Option<Hand>) -> bool
     ensures { result ≡ true → one ≡ other }
 {
@@ -44,7 +44,7 @@ fn is_same_hand(one: Option<Hand>, other: Option<Hand>) -> bool
     }
 }
 
-/// Whether the seats, the actors and the numbers of posts are the same.
+/// Whether the seats, the actors and the numbers of posts of two callers are the same.
 fn is_same_seat(one: &Caller, other: &Caller) -> bool
     ensures { result ≡ true → AreOfOneSeat one.now other.now }
 {

@@ -23,7 +23,7 @@ use explore_facts::{is_stale_at, verdict_at};
 use place_tables::Tables;
 use std::alloc::{AllocError, Global};
 
-/// The answer without the numbers that only tell when.
+/// The answer that a journal tells, without the numbers that only tell when, to be compared.
 fn plain_answer(answer: Answer) -> Answer
     ensures { result ≡ plain_answer answer }
 {
@@ -35,7 +35,7 @@ fn plain_answer(answer: Answer) -> Answer
     }
 }
 
-/// Whether the verdicts are the same but for such numbers, or none is there.
+/// Whether the verdicts in two journals are the same but for numbers that only tell when, or none is there.
 fn is_same_verdict(one: Option<Answer>, other: Option<Answer>) -> bool
     ensures { result ≡ true → option_map plain_answer one ≡ option_map plain_answer other }
 {
@@ -79,7 +79,7 @@ fn push_chosen(id: MsgId, act: &Act, ids: &mut Vec<MsgId>) -> Result<(), AllocEr
     }
 }
 
-/// Appends the ids of the copies for these members.
+/// Appends the ids of the message's copies for these members, as a journal makes them.
 fn push_each(id: MsgId, members: &[Ui], ids: &mut Vec<MsgId>) -> Result<(), AllocError>
     requires { length members.now ≤ MEMBERS_LIMIT }
     ensures { OnOk result ((g : Ui) →
@@ -144,7 +144,7 @@ fn tell_same(alloc: Global, id: MsgId, one: &[Entry], other: &[Entry]) -> Result
     Ok(copies)
 }
 
-/// Whether the group was made at both places, or at neither.
+/// Whether by their journals the group was made at both places, or at neither.
 fn is_same_named(group: Ui, one: &Tables, other: &Tables) -> bool
     ensures { result ≡ true →
         is_group group one.now.journal.past ≡ is_group group other.now.journal.past }
@@ -154,7 +154,7 @@ fn is_same_named(group: Ui, one: &Tables, other: &Tables) -> bool
     mine.is_made(group) == theirs.is_made(group)
 }
 
-/// Whether the group has the same members at both places, in one order.
+/// Whether by their journals the group has the same members at both places, in one order.
 fn are_same_members(group: Ui, one: &Tables, other: &Tables) -> bool
     ensures { result ≡ true →
         members group one.now.journal.past ≡ members group other.now.journal.past }
@@ -165,7 +165,7 @@ fn are_same_members(group: Ui, one: &Tables, other: &Tables) -> bool
     same
 }
 
-/// Whether the group has the same rotation place.
+/// Whether by their journals the group has the same rotation place at both places.
 fn is_same_rotation(group: Ui, one: &Tables, other: &Tables) -> bool
     ensures { result ≡ true →
         rotation group one.now.journal.past ≡ rotation group other.now.journal.past }
@@ -175,7 +175,7 @@ fn is_same_rotation(group: Ui, one: &Tables, other: &Tables) -> bool
     mine.rotation(group) == theirs.rotation(group)
 }
 
-/// Whether the group is the same at both places.
+/// Whether by their journals the group is the same at both places.
 fn have_same(group: Ui, one: &Tables, other: &Tables) -> bool
     ensures { result ≡ true → HaveSame group one.now.journal.past other.now.journal.past }
 {
@@ -189,7 +189,7 @@ fn have_same(group: Ui, one: &Tables, other: &Tables) -> bool
     turns
 }
 
-/// Whether the same is told of the message that the act names, if it names one.
+/// Whether both places' journals tell the same of the message that the act names, if it names one.
 fn agree_on_message(act: &Act, one: &Tables, other: &Tables) -> Result<bool, AllocError>
     ensures { IfOk result (λ same. same ≡ true → (x : MsgId) → message_of act.now ≡ Some x →
         TellSame x one.now.journal.past other.now.journal.past) }
@@ -200,7 +200,7 @@ fn agree_on_message(act: &Act, one: &Tables, other: &Tables) -> Result<bool, All
     }
 }
 
-/// Whether the group that the act makes, if it makes one, is the same.
+/// Whether the group that the act makes, if it makes one, is the same by both places' journals.
 fn agree_on_group(act: &Act, one: &Tables, other: &Tables) -> bool
     ensures { result ≡ true → (g : Ui) → act.now ≡ GroupMake g →
         HaveSame g one.now.journal.past other.now.journal.past }
@@ -211,7 +211,8 @@ fn agree_on_group(act: &Act, one: &Tables, other: &Tables) -> bool
     }
 }
 
-/// Whether the port that the act deletes, if it deletes one, is deleted at both places.
+/// Whether the port that the act deletes, if it deletes one, is deleted at both places by their journals, or at
+/// neither.
 fn agree_on_deleted(act: &Act, one: &Tables, other: &Tables) -> bool
     ensures { result ≡ true → (q : Ui) (discarded : List MsgId) → act.now ≡ Delete q discarded →
         is_deleted q one.now.journal.past ≡ is_deleted q other.now.journal.past }
@@ -222,7 +223,7 @@ fn agree_on_deleted(act: &Act, one: &Tables, other: &Tables) -> bool
     }
 }
 
-/// Whether the places agree on what the act names.
+/// Whether the places agree, by their journals, on what the act names.
 fn agree(act: &Act, one: &Tables, other: &Tables) -> Result<bool, AllocError>
     ensures { IfOk result (λ same. same ≡ true →
         Agree one.now.journal.past other.now.journal.past act.now) }
@@ -237,7 +238,7 @@ fn agree(act: &Act, one: &Tables, other: &Tables) -> Result<bool, AllocError>
     Ok(message)
 }
 
-/// Whether the places agree on what these entries name.
+/// Whether the places agree, by their journals, on what these entries name.
 fn agree_all(entries: &[Entry], one: &Tables, other: &Tables) -> Result<bool, AllocError>
     ensures { IfOk result (λ same. same ≡ true →
         AgreeAll one.now.journal.past other.now.journal.past entries.now) }
@@ -260,7 +261,7 @@ fn push_made(journal: &[Entry], made: &mut Vec<Ui>) -> Result<(), AllocError>
     Ok(())
 }
 
-/// Appends the port that the act makes, if it makes one.
+/// Appends the port that the act of a journal's entry makes, if it makes one.
 fn push_port(act: &Act, made: &mut Vec<Ui>) -> Result<(), AllocError>
     ensures { OnOk result (made.new.items ≡ made.old.items ++ made_in act.now) }
 {
@@ -273,7 +274,7 @@ fn push_port(act: &Act, made: &mut Vec<Ui>) -> Result<(), AllocError>
     }
 }
 
-/// Whether the same ports were made, in one order.
+/// Whether two journals make the same ports, in one order.
 fn are_same_made(alloc: Global, one: &[Entry], other: &[Entry]) -> Result<bool, AllocError>
     ensures { IfOk result (λ same. same ≡ true →
         made_by (reverse one.now) ≡ made_by (reverse other.now)) }

@@ -8,12 +8,12 @@
 #![tactic(auto)]
 
 mod callers;
+mod hints_and_waits;
 mod journals;
-mod messages;
 mod names;
 mod packets;
 mod places;
+mod records;
 mod sites;
-mod tables;
 
 pub use sites::are_alike;

@@ -12,7 +12,7 @@ pub(crate) fn is_same_name(one: Ui, other: Ui) -> bool
     one == other
 }
 
-/// Whether the names are the same, or none is there.
+/// Whether the names of two routes are the same, or none is there.
 pub(crate) fn is_same_route(one: Option<Ui>, other: Option<Ui>) -> bool
     ensures { result ≡ true → one ≡ other }
 {
@@ -25,7 +25,7 @@ pub(crate) fn is_same_route(one: Option<Ui>, other: Option<Ui>) -> bool
     }
 }
 
-/// Whether the numbers are the same, or none is there.
+/// Whether two numbers, of a site or of a place, are the same, or none is there.
 pub(crate) fn is_same_number(one: Option<u16>, other: Option<u16>) -> bool
     ensures { result ≡ true → one ≡ other }
 {

@@ -5,8 +5,8 @@ ghost use Rattle.std.specs.Option.{option_copied, option_map};
 ghost use Rattle.place_outbox.specs.Waiting.{list_to};
 ghost use Rattle.explore_alike.specs.Packets.{plain, are_plain};
 
-use crate::messages::{is_same_message, is_same_record};
 use crate::names::{is_same_name, is_same_number, is_same_route};
+use crate::records::{is_same_message, is_same_record};
 use chorus_entry::{Cargo, Packet};
 use chorus_ui::Ui;
 use place_outbox::Outbox;
@@ -18,14 +18,14 @@ fn is_same_packet(one: &Packet, other: &Packet) -> bool
     one.from == other.from && is_same_cargo(&one.cargo, &other.cargo)
 }
 
-/// Whether the port and the route are the same.
+/// Whether the port and the route of two packets are the same.
 fn is_same_way(port: Ui, other: Ui, route: Option<Ui>, by: Option<Ui>) -> bool
     ensures { result ≡ true → (port ≡ other) × (route ≡ by) }
 {
     is_same_name(port, other) && is_same_route(route, by)
 }
 
-/// Whether the same is carried.
+/// Whether the same is carried by two packets.
 fn is_same_cargo(one: &Cargo, other: &Cargo) -> bool
     ensures { result ≡ true → one.now ≡ other.now }
 {

@@ -4,10 +4,10 @@ ghost use Rattle.std.specs.Prelude.{◌≡◌, ◌+◌, true, length, IfOk};
 ghost use Rattle.chorus_ui.specs.Layout.{places};
 ghost use Rattle.explore_alike.specs.Places.{SamePlace};
 
+use crate::hints_and_waits::{are_same_hints, are_same_unheard, are_same_waits};
 use crate::journals::are_told_alike;
-use crate::messages::are_same_records;
 use crate::packets::are_same_packets;
-use crate::tables::{are_same_hints, are_same_unheard, are_same_waits};
+use crate::records::are_same_records;
 use chorus_place::Place;
 use std::alloc::AllocError;
 

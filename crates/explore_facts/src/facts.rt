@@ -11,7 +11,7 @@ use chorus_show::{push_act, push_answer, push_id};
 use chorus_ui::{Ui, push_decimal};
 use std::alloc::AllocError;
 
-/// Appends a space and the number.
+/// Appends a space and the number, as a word of a fact's line.
 fn push_number(number: u64, out: &mut Vec<u8>) -> Result<(), AllocError>
     ensures { OnOk result (out.new.items ≡ out.old.items ++ 32 ∷ decimal number) }
 {
@@ -19,7 +19,7 @@ fn push_number(number: u64, out: &mut Vec<u8>) -> Result<(), AllocError>
     push_decimal(number, out)
 }
 
-/// Appends a space and the name.
+/// Appends a space and the name, as a word of a fact's line.
 fn push_name(name: Ui, out: &mut Vec<u8>) -> Result<(), AllocError>
     ensures { OnOk result (out.new.items ≡ out.old.items ++ 32 ∷ name_text name) }
 {
@@ -27,7 +27,7 @@ fn push_name(name: Ui, out: &mut Vec<u8>) -> Result<(), AllocError>
     name.text(out)
 }
 
-/// Appends a space and the id.
+/// Appends a space and the id of a message, as a word of a fact's line.
 fn push_message(id: &MsgId, out: &mut Vec<u8>) -> Result<(), AllocError>
     ensures { OnOk result (out.new.items ≡ out.old.items ++ 32 ∷ id_text id.now) }
 {
@@ -55,7 +55,7 @@ pub fn push_answered(
     Ok(())
 }
 
-/// Appends the act without a position or a hop.
+/// Appends the act without a position or a hop, for a line of a fact.
 fn push_plain_act(act: &Act, out: &mut Vec<u8>) -> Result<(), AllocError>
     ensures { OnOk result (out.new.items ≡ out.old.items ++ plain_act_text act.now) }
 {
@@ -92,7 +92,7 @@ fn push_depart(port: Ui, to: u16, actor: Ui, out: &mut Vec<u8>) -> Result<(), Al
     push_name(actor, out)
 }
 
-/// Appends the line of the verdict of a message; none is `chosen`.
+/// Appends the line of the fact that is the verdict of a message; none is `chosen`.
 pub(crate) fn push_judged(
     id: &MsgId,
     verdict: Option<Answer>,
@@ -111,7 +111,7 @@ pub(crate) fn push_judged(
     Ok(())
 }
 
-/// Appends the line that the message was told `stale`.
+/// Appends the line of the fact that the message was told `stale`.
 pub(crate) fn push_stale(id: &MsgId, out: &mut Vec<u8>) -> Result<(), AllocError>
     ensures { OnOk result (out.new.items ≡ out.old.items ++ fact_line (Stale id.now)) }
 {
@@ -121,7 +121,7 @@ pub(crate) fn push_stale(id: &MsgId, out: &mut Vec<u8>) -> Result<(), AllocError
     Ok(())
 }
 
-/// Appends the answer without a position, a hop or a place.
+/// Appends the answer without a position, a hop or a place, for a line of a fact.
 fn push_plain_answer(answer: &Answer, out: &mut Vec<u8>) -> Result<(), AllocError>
     ensures { OnOk result (out.new.items ≡ out.old.items ++ plain_answer_text answer.now) }
 {
@@ -133,7 +133,7 @@ fn push_plain_answer(answer: &Answer, out: &mut Vec<u8>) -> Result<(), AllocErro
     }
 }
 
-/// Appends the line of a port: its actor, and the messages that wait in it.
+/// Appends the line of the fact that is a held port: its actor, and the messages that wait in it.
 pub(crate) fn push_held(port: &PortRecord, out: &mut Vec<u8>) -> Result<(), AllocError>
     ensures { OnOk result (out.new.items ≡ out.old.items ++ fact_line (port_fact port.now)) }
 {
@@ -145,7 +145,7 @@ pub(crate) fn push_held(port: &PortRecord, out: &mut Vec<u8>) -> Result<(), Allo
     Ok(())
 }
 
-/// Appends the ids of the messages that wait in the port, each behind a space.
+/// Appends to a fact's line the ids of the messages that wait in the port, each behind a space.
 fn push_waiting(port: &PortRecord, out: &mut Vec<u8>) -> Result<(), AllocError>
     ensures { OnOk result (out.new.items
         ≡ out.old.items ++ spaced (map id_text (waiting_in port.now.pending))) }

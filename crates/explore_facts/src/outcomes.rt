@@ -34,7 +34,7 @@ pub fn push_messages(
     Ok(())
 }
 
-/// Appends the lines of the message and of its copies.
+/// Appends the lines of what became of the message and of its copies.
 fn push_message(id: MsgId, journals: &[Vec<Entry>], text: &mut Vec<u8>) -> Result<(), AllocError>
     ensures { OnOk result (text.new.items
         ≡ text.old.items ++ message_lines (journals_of journals.now) id) }
@@ -46,7 +46,7 @@ fn push_message(id: MsgId, journals: &[Vec<Entry>], text: &mut Vec<u8>) -> Resul
     Ok(())
 }
 
-/// Appends the lines of this message alone.
+/// Appends the lines of what became of this message alone, without its copies.
 fn push_about(id: MsgId, journals: &[Vec<Entry>], text: &mut Vec<u8>) -> Result<(), AllocError>
     ensures { OnOk result (text.new.items
         ≡ text.old.items ++ lines_about (journals_of journals.now) id) }
@@ -58,7 +58,7 @@ fn push_about(id: MsgId, journals: &[Vec<Entry>], text: &mut Vec<u8>) -> Result<
     Ok(())
 }
 
-/// Appends the lines of the copies that the journal makes of the message.
+/// Appends the lines of what became of the copies that the journal makes of the message.
 fn push_copies(
     id: MsgId,
     journal: &[Entry],
@@ -74,7 +74,7 @@ fn push_copies(
     Ok(())
 }
 
-/// Appends the lines of the copies that the act makes of the message.
+/// Appends the lines of what became of the copies that the act makes of the message.
 fn push_chosen(
     id: MsgId,
     act: &Act,
@@ -100,7 +100,7 @@ fn push_chosen(
     }
 }
 
-/// Appends the lines of the copies for these members.
+/// Appends the lines of what became of the copies for these members.
 fn push_each(
     id: MsgId,
     group: Ui,
@@ -123,7 +123,7 @@ fn push_each(
     Ok(())
 }
 
-/// The verdict of the message. None where it has none.
+/// The verdict of the message that the journals of all places tell, for its line. None where it has none.
 fn verdict_among(id: MsgId, journals: &[Vec<Entry>]) -> Option<Answer>
     ensures { result ≡ verdict_among id (journals_of journals.now) }
 {
@@ -134,7 +134,7 @@ fn verdict_among(id: MsgId, journals: &[Vec<Entry>]) -> Option<Answer>
     found
 }
 
-/// The verdict of the message that the journal tells.
+/// The verdict of the message that the journal tells, for the lines of what a schedule came to.
 pub fn verdict_at(id: MsgId, journal: &[Entry]) -> Option<Answer>
     ensures { result ≡ verdict id (reverse journal.now) }
 {
@@ -145,7 +145,7 @@ pub fn verdict_at(id: MsgId, journal: &[Entry]) -> Option<Answer>
     found
 }
 
-/// The verdict of the message that the act is, if it is one.
+/// The verdict of the message that the act of a journal's entry is, if it is one.
 fn verdict_by(id: MsgId, act: &Act) -> Option<Answer>
     ensures { result ≡ verdict_by id act.now }
 {
@@ -156,7 +156,7 @@ fn verdict_by(id: MsgId, act: &Act) -> Option<Answer>
     }
 }
 
-/// Whether the message was told `stale`.
+/// Whether one of the journals of all places tells that the message was told `stale`.
 fn is_stale_among(id: MsgId, journals: &[Vec<Entry>]) -> bool
     ensures { result ≡ is_stale_among id (journals_of journals.now) }
 {
@@ -168,7 +168,7 @@ fn is_stale_among(id: MsgId, journals: &[Vec<Entry>]) -> bool
     false
 }
 
-/// Whether the journal tells that the message was told `stale`.
+/// Whether the journal tells that the message was told `stale`, for the lines of what a schedule came to.
 pub fn is_stale_at(id: MsgId, journal: &[Entry]) -> bool
     ensures { result ≡ is_stale_at id (reverse journal.now) }
 {
@@ -179,7 +179,7 @@ pub fn is_stale_at(id: MsgId, journal: &[Entry]) -> bool
     found
 }
 
-/// Whether the act tells the message that it is stale.
+/// Whether the act of a journal's entry tells the message that it is stale.
 fn is_stale_by(id: MsgId, act: &Act) -> bool
     ensures { result ≡ is_stale_by id act.now }
 {

@@ -22,7 +22,7 @@ pub struct Finding {
 }
 
 impl Finding {
-    /// Whether these are its lines, where this is their sum.
+    /// Whether these are the lines of the found outcome, where this is their sum.
     fn has(&self, text: &[u8], sum: u64) -> bool
         requires own { self.now.sum ≡ sum_from 0 self.now.text.items }
         requires sum { sum ≡ sum_from 0 text.now }
@@ -44,7 +44,7 @@ pub struct Findings {
 }
 
 impl Findings {
-    /// Nothing was found yet.
+    /// The findings at first: nothing was found yet.
     pub fn new(alloc: Global) -> Findings
         ensures { result.items.items ≡ [] }
     {
@@ -87,7 +87,7 @@ impl Findings {
         Ok(())
     }
 
-    /// Where the outcome of these lines stands, of which this is the sum.
+    /// Where among the findings the outcome of these lines stands, of which this is the sum.
     fn position(&self, text: &[u8], sum: u64) -> Option<usize>
         requires sums { HaveSums self.now.items.items }
         requires sum { sum ≡ sum_from 0 text.now }
@@ -105,7 +105,7 @@ impl Findings {
     }
 }
 
-/// A sum of the bytes in which their places count.
+/// A sum of the bytes of an outcome in which their places count, by which its finding is looked for.
 fn sum_of(text: &[u8]) -> u64
     ensures { result ≡ sum_from 0 text.now }
 {

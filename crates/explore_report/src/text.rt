@@ -51,7 +51,7 @@ fn facts_of<'a>(alloc: Global, items: &'a [Finding]) -> Result<Vec<Told<'a>>, Al
     Ok(facts)
 }
 
-/// Adds the lines of an outcome that were not told yet.
+/// Adds to the single facts the lines of an outcome that were not told yet.
 fn tell<'a>(outcome: u64, text: &'a [u8], facts: &mut Vec<Told<'a>>) -> Result<(), AllocError>
     ensures { OnOk result (map told_of facts.new.items
         ≡ tell_lines outcome (lines_in text.now) (map told_of facts.old.items)) }
@@ -66,7 +66,7 @@ fn tell<'a>(outcome: u64, text: &'a [u8], facts: &mut Vec<Told<'a>>) -> Result<(
     Ok(())
 }
 
-/// Adds the line, where it was not told yet.
+/// Adds the line to the single facts, where it was not told yet.
 fn tell_line<'a>(outcome: u64, line: &'a [u8], facts: &mut Vec<Told<'a>>) -> Result<(), AllocError>
     ensures { OnOk result (map told_of facts.new.items
         ≡ tell_line outcome line.now (map told_of facts.old.items)) }
@@ -79,7 +79,7 @@ fn tell_line<'a>(outcome: u64, line: &'a [u8], facts: &mut Vec<Told<'a>>) -> Res
     Ok(())
 }
 
-/// Whether the line was told.
+/// Whether the line was told as one of the single facts.
 fn is_told(line: &[u8], facts: &[Told<'_>]) -> bool
     ensures { result ≡ is_told line.now (map told_of facts.now) }
 {
@@ -91,7 +91,7 @@ fn is_told(line: &[u8], facts: &[Told<'_>]) -> bool
     false
 }
 
-/// Whether they are the same bytes.
+/// Whether two facts' lines, or the subjects of two, are the same bytes.
 fn is_same(one: &[u8], other: &[u8]) -> bool
     ensures { result ≡ same_bytes one.now other.now }
 {
@@ -106,7 +106,7 @@ fn are_equal(one: &[u8], other: &[u8]) -> bool
     one == other
 }
 
-/// Behind the last fact of the same subject, or behind all.
+/// Where the line is put among the single facts: behind the last fact of the same subject, or behind all.
 fn place_in(facts: &[Told<'_>], line: &[u8]) -> usize
     ensures within { result ≤ length facts.now }
     ensures value { result ≡ place_in line.now (map told_of facts.now) }
@@ -121,7 +121,7 @@ fn place_in(facts: &[Told<'_>], line: &[u8]) -> usize
     place
 }
 
-/// The words that the line is about: two of an answer, one of anything else, each behind the line's first word.
+/// The words that a fact's line is about: two of an answer, one of anything else, each behind the line's first word.
 fn subject_of(line: &[u8]) -> &[u8]
     ensures { result.now ≡ subject_of line.now }
 {
@@ -129,7 +129,7 @@ fn subject_of(line: &[u8]) -> &[u8]
     front_words(words, behind_word(line))
 }
 
-/// What stands behind the first word and its space.
+/// What stands behind the first word of a fact's line and its space.
 fn behind_word(line: &[u8]) -> &[u8]
     ensures { result.now ≡ behind_word line.now }
 {
@@ -141,7 +141,7 @@ fn behind_word(line: &[u8]) -> &[u8]
     &line[line.len()..]
 }
 
-/// The first words of the line, so many.
+/// The first words of a fact's line, so many.
 fn front_words(words: u32, line: &[u8]) -> &[u8]
     ensures { result.now ≡ front_words words line.now }
 {
@@ -157,7 +157,7 @@ fn front_words(words: u32, line: &[u8]) -> &[u8]
     line
 }
 
-/// Appends the facts.
+/// Appends how many single facts there are, and each with the number of the first outcome that has it.
 fn push_facts(facts: &[Told<'_>], text: &mut Vec<u8>) -> Result<(), AllocError>
     ensures { OnOk result (text.new.items ≡ text.old.items ++ facts_text (map told_of facts.now)) }
 {
@@ -240,7 +240,7 @@ fn is_shown(number: u64, is_few: bool, facts: &[Told<'_>]) -> bool
     is_few || is_named(number, facts)
 }
 
-/// Whether a fact has this outcome.
+/// Whether one of the single facts is told with the number of this outcome.
 fn is_named(outcome: u64, facts: &[Told<'_>]) -> bool
     ensures { result ≡ is_named outcome (map told_of facts.now) }
 {
@@ -279,7 +279,7 @@ fn push_step(mv: Move, text: &mut Vec<u8>) -> Result<(), AllocError>
     }
 }
 
-/// Appends the line that tells whether a limit was met.
+/// Appends the line that tells in the report whether a limit was met.
 fn push_limit(is_cut: bool, text: &mut Vec<u8>) -> Result<(), AllocError>
     ensures { OnOk result (text.new.items ≡ text.old.items ++ limit_line is_cut) }
 {
@@ -290,7 +290,7 @@ fn push_limit(is_cut: bool, text: &mut Vec<u8>) -> Result<(), AllocError>
     }
 }
 
-/// Appends the line of the word and the number.
+/// Appends the line of the report that has the word and the number.
 fn push_count(word: &str, number: u64, text: &mut Vec<u8>) -> Result<(), AllocError>
     ensures { OnOk result (text.new.items
         ≡ text.old.items ++ count_line word.now number) }

@@ -17,7 +17,7 @@ pub fn are_within(caller: &Caller, command: &Command)
     look_at_command(command);
 }
 
-/// What a caller keeps is within its ranges.
+/// What a caller keeps is within its ranges, those of packets: it is only looked at.
 fn look_at_caller(caller: &Caller)
     ensures { IsCallerWithin caller.now }
 {
@@ -27,7 +27,7 @@ fn look_at_caller(caller: &Caller)
     }
 }
 
-/// A command's body is within the limit.
+/// A command's body is within the limit: it is only looked at.
 fn look_at_command(command: &Command)
     ensures { has_body_in_limit command.now ≡ true }
 {

@@ -56,7 +56,8 @@ pub fn races_are_explored()
     ensures { RacesAreExplored }
 {}
 
-/// The search as a loop: at each step what was found, followed by what is pending, is what the search finds.
+/// The search over the histories of a race in normal form, as a loop: at each step what was found, followed by what is
+/// pending, is what the search finds.
 pub fn races_are_walked()
     ensures { RacesAreWalked }
 {}
@@ -96,8 +97,8 @@ pub fn alike_positions_come_to_the_same()
     ensures equivalence { AlikeIsAnEquivalence }
 {}
 
-/// The same where what the commands were answered is told in any form, as a text: it is enough that one answer more keeps
-/// what is told the same. And of places that are alike the same outcome comes.
+/// Behind positions that are alike the same may come where what the commands were answered is told in any form, as a text: it
+/// is enough that one answer more keeps what is told the same. And of places that are alike the same outcome comes.
 pub fn told_alike_positions_come_to_the_same()
     ensures on { ToldAlikeGoOn }
     ensures equivalence { ToldAlikeIsAnEquivalence }
@@ -118,8 +119,9 @@ pub fn levels_of_merged_go_on()
     ensures { LevelsOfMergedGoOn }
 {}
 
-/// So, where the histories behind which nothing may come are taken out of each level: those that were found are all
-/// whole histories that have less moves, each once, and all of them where no class is left.
+/// Of a race gone through level by level, by classes, where the histories behind which nothing may come are taken out of each
+/// level: those that were found are all whole histories that have less moves, each once, and all of them where no class is
+/// left.
 pub fn levels_of_merged_find_all()
     ensures { LevelsOfMergedFindAll }
 {}

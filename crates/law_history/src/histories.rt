@@ -11,12 +11,14 @@ pub fn histories_are_scheduled<P, C, M, K>()
     ensures { HistoriesAreScheduled P C M K }
 {}
 
-/// Where as many packets were taken as were put, over all places, no link holds one.
+/// Of histories that fit each other, for any places, callers, commands and packets: where as many packets were taken as were
+/// put, over all places, no link holds one.
 pub fn equal_counts_leave_nothing<P, C, M, K>()
     ensures { EqualCountsLeaveNothing P C M K }
 {}
 
-/// All that stood at a place when a caller had taken a turn there comes before each later turn of the caller, at any place.
+/// Where histories are those of a schedule, for any places, callers, commands and packets, all that stood at a place when a
+/// caller had taken a turn there comes before each later turn of the caller, at any place.
 pub fn stands_behind_all_seen<P, C, M, K>()
     ensures { StandsBehindAllSeen P C M K }
 {}

@@ -25,7 +25,8 @@ pub fn journals_are_a_schedule()
     ensures { JournalsAreASchedule }
 {}
 
-/// Such journals, merged by clock and place alone, are a run of the world for those who came.
+/// The journals of places that callers worked at side by side, merged by clock and place alone, are a run of the world for
+/// those who came.
 ///
 /// The parts of the merge are the journals, and it performs the commands of each caller in the order in which they were given.
 /// Where no link holds a packet, nothing is left to be done. And the schedule that the journals are of keeps all that each

@@ -2,12 +2,13 @@
 
 ghost use Rattle.law_history.specs.Places.{CountsTellWhatIsLeft, SchedulesLeaveLists, TurnsPutForOthers};
 
-/// Where histories fit each other, what a turn puts is for other places of the layout.
+/// Where histories of places fit each other, what a turn puts is for other places of the layout.
 pub fn turns_put_for_other_places()
     ensures { TurnsPutForOthers }
 {}
 
-/// Over all places of the layout no more packets are taken than were put; and where as many were taken as put, no link holds one.
+/// Where histories of places fit each other: over all places of the layout no more packets are taken than were put; and where
+/// as many were taken as put, no link holds one.
 pub fn counts_tell_what_is_left()
     ensures { CountsTellWhatIsLeft }
 {}

@@ -31,7 +31,7 @@ impl Model for Column {
 }
 
 impl Column {
-    /// The column of the place from the left edge on.
+    /// The picture's column of the place, from the left edge on.
     fn from(alloc: Global, left: u32, place: u16, entries: &[Entry]) -> Result<Column, AllocError>
         requires near { left < 2 ^ 30 }
         requires few { length entries.now ≤ ENTRIES_LIMIT }
@@ -77,7 +77,7 @@ impl Column {
         self.x() + 24 + 14 * (self.ports.len() as u64)
     }
 
-    /// Where the lane of a port begins; of a port that has none, where one behind all others would.
+    /// Where the lane of a port begins in the column; of a port that has none, where one behind all others would.
     pub fn lane(&self, port: Ui) -> u64
         ensures value { result ≡ lane_of port self.now }
         ensures bound { result < 2 ^ 33 }
@@ -125,14 +125,14 @@ fn push_columns(
     Ok(())
 }
 
-/// Whether one of the entries is at the place.
+/// Whether one of the entries is at the place, so that it has a column.
 fn has_entry(place: u16, entries: &[Entry]) -> bool
     ensures { result ≡ has_entry place entries.now }
 {
     entries.iter().any(|entry| entry.place == place)
 }
 
-/// The ports that the entries bring to the place, each once, in order.
+/// The ports of a place's column: those that the entries bring there, each once, in order.
 fn ports_at(alloc: Global, place: u16, entries: &[Entry]) -> Result<Vec<Ui>, AllocError>
     ensures value { IfOk result (λ ports. ports.items ≡ with_ports_at place [] entries.now) }
     ensures few { IfOk result (λ ports. length ports.items ≤ length entries.now) }
@@ -146,7 +146,7 @@ fn ports_at(alloc: Global, place: u16, entries: &[Entry]) -> Result<Vec<Ui>, All
     Ok(ports)
 }
 
-/// Appends the port that the act brings, if it is not there.
+/// Appends the port that the act brings to the ports of a column, if it is not there.
 fn add_port(act: &Act, ports: &mut Vec<Ui>) -> Result<(), AllocError>
     ensures value { OnOk result
         (ports.new.items ≡ with_port (port_brought act.now) ports.old.items) }
@@ -160,7 +160,7 @@ fn add_port(act: &Act, ports: &mut Vec<Ui>) -> Result<(), AllocError>
     Ok(())
 }
 
-/// The port that comes to be held by the act.
+/// The port that comes to be held by the act, so that the column has a lane for it.
 fn port_brought(act: &Act) -> Option<Ui>
     ensures { result ≡ port_brought act.now }
 {
@@ -170,7 +170,7 @@ fn port_brought(act: &Act) -> Option<Ui>
     }
 }
 
-/// The right edge of the columns.
+/// The right edge of a picture's columns: where the last one ends.
 pub fn right_edge(columns: &[Column]) -> u64
     ensures value { result ≡ right_edge columns.now }
     ensures bound { result < 2 ^ 33 }
@@ -178,7 +178,7 @@ pub fn right_edge(columns: &[Column]) -> u64
     right_after(64, columns)
 }
 
-/// The right edge of the columns, or `left` where there is no column.
+/// Where the last of the columns ends, or `left` where there is no column.
 fn right_after(left: u64, columns: &[Column]) -> u64
     requires { left < 2 ^ 33 }
     ensures value { result ≡ right_after left columns.now }
@@ -190,7 +190,7 @@ fn right_after(left: u64, columns: &[Column]) -> u64
     }
 }
 
-/// The column of the place.
+/// The column of the place, among a picture's columns.
 pub(crate) fn column_at(columns: &[Column], place: u16) -> Option<&Column>
     ensures { option_copied result ≡ column_at place columns.now }
 {
@@ -201,7 +201,7 @@ pub(crate) fn column_at(columns: &[Column], place: u16) -> Option<&Column>
     }
 }
 
-/// Where the line of the place is.
+/// Where the line of the place is, by its column among a picture's columns.
 pub(crate) fn x_at(columns: &[Column], place: u16) -> u64
     ensures value { result ≡ x_of (column_at place columns.now) }
     ensures bound { result < 2 ^ 32 }

@@ -26,7 +26,7 @@ pub(crate) struct Line<'a> {
     pub(crate) special: bool,
 }
 
-/// The line of the entry that the text begins with, and what stands behind its LF.
+/// The line of the entry that the text begins with, cut for its row of a picture, and what stands behind its LF.
 pub(crate) fn next_line(text: &[u8]) -> (Line<'_>, &[u8])
     ensures { (e : Entry) (more : List ℕ) → IsWithin e → text.now ≡ entry_text e ++ more →
         IsLine e result.0 × (result.1.now ≡ more) }
@@ -47,8 +47,8 @@ pub(crate) fn next_line(text: &[u8]) -> (Line<'_>, &[u8])
     )
 }
 
-/// The line that the text begins with, whether a byte of it is not written as itself, and what stands behind its LF.
-/// The line is searched once for both.
+/// The line that the text begins with, whether a byte of it is not written as itself in a picture, and what stands
+/// behind its LF. The line is searched once for both.
 fn cut_line(text: &[u8]) -> (&[u8], bool, &[u8])
     ensures { (line more : List ℕ) → lacks 10 line ≡ true → text.now ≡ line ++ 10 ∷ more →
         (result.0.now ≡ line) × (result.2.now ≡ more)
@@ -63,7 +63,7 @@ fn cut_line(text: &[u8]) -> (&[u8], bool, &[u8])
     (line, true, behind)
 }
 
-/// What stands before the first of these bytes, and what stands behind it.
+/// What stands before the first of these bytes in a picture's line of an entry, and what stands behind it.
 fn cut(mark: u8, text: &[u8]) -> (&[u8], &[u8])
     ensures { (word more : List ℕ) → lacks mark word ≡ true → text.now ≡ word ++ mark ∷ more →
         (result.0.now ≡ word) × (result.1.now ≡ more) }
@@ -72,7 +72,7 @@ fn cut(mark: u8, text: &[u8]) -> (&[u8], &[u8])
     (front, behind_first(back))
 }
 
-/// The text behind its first byte.
+/// The text behind its first byte, at which the line of an entry is cut for its row.
 fn behind_first(text: &[u8]) -> &[u8]
     ensures { (c : ℕ) (more : List ℕ) → text.now ≡ c ∷ more → result.now ≡ more }
 {
@@ -82,7 +82,7 @@ fn behind_first(text: &[u8]) -> &[u8]
     behind
 }
 
-/// Whether the text begins with this byte.
+/// Whether the text begins with this byte, where the line of an entry is cut for its row.
 fn begins_with(mark: u8, text: &[u8]) -> bool
     ensures { result ≡ begins_with mark text.now }
 {
@@ -92,7 +92,7 @@ fn begins_with(mark: u8, text: &[u8]) -> bool
     }
 }
 
-/// How many bytes stand before the first of these.
+/// How many bytes stand before the first of these in a picture's line of an entry.
 #[tactic(auto, using(picture_texts::proofs::Stretches::or_length))]
 fn place_of(mark: u8, text: &[u8]) -> usize
     ensures value { result ≡ position_or_len (λ c. c == mark) text.now }
@@ -101,7 +101,7 @@ fn place_of(mark: u8, text: &[u8]) -> usize
     found_in(mark, text).unwrap_or(text.len())
 }
 
-/// The place of the first of these bytes.
+/// The place of the first of these bytes in a picture's line of an entry.
 fn found_in(mark: u8, text: &[u8]) -> Option<usize>
     ensures { result ≡ position (λ c. c == mark) text.now }
 {

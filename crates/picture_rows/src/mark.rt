@@ -96,7 +96,7 @@ pub(crate) fn mark_open(mark: Mark) -> &'static str
     }
 }
 
-/// What stands between that title and the place of the shape.
+/// What stands between the title of an entry with this shape and the place of the shape.
 pub(crate) fn mark_use(mark: Mark) -> &'static str
     ensures { result.now ≡ mark_use mark }
 {
@@ -123,7 +123,7 @@ pub(crate) fn packet_open(kind: PacketKind) -> &'static str
     }
 }
 
-/// What stands between that way and the lines that it joins.
+/// What stands between the way of an arrow for a packet of this kind and the lines that it joins.
 pub(crate) fn packet_title(kind: PacketKind) -> &'static str
     ensures { result.now ≡ packet_title kind }
 {

@@ -3,7 +3,7 @@
 ghost use Rattle.std.specs.Prelude.{◌≡◌, ◌<◌, ◌^◌};
 ghost use Rattle.picture_rows.specs.Rows.{end_y, heads, row_y};
 
-/// The middle of a row; rows are numbered from 0.
+/// How far down the middle of a picture's row is; rows are numbered from 0.
 pub(crate) fn row_y(row: u32) -> u64
     ensures value { result ≡ row_y row }
     ensures bound { result < 2 ^ 40 }
@@ -12,7 +12,7 @@ pub(crate) fn row_y(row: u32) -> u64
     49 + 18 * row + 40 * (row / 32)
 }
 
-/// How many heads so many rows have, at least one.
+/// How many heads so many rows of a picture have, at least one.
 pub fn heads(rows: u32) -> u32
     ensures value { result ≡ heads rows }
     ensures bound { result < 2 ^ 28 }
@@ -20,7 +20,7 @@ pub fn heads(rows: u32) -> u32
     rows.saturating_sub(1) / 32 + 1
 }
 
-/// Where so many rows end.
+/// How far down so many rows of a picture end.
 pub fn end_y(rows: u32) -> u64
     ensures value { result ≡ end_y rows }
     ensures bound { result < 2 ^ 40 }

@@ -86,7 +86,7 @@ fn push_row(
     Ok(())
 }
 
-/// Whether the clock is not that of the entry before.
+/// Whether the clock is not that of the entry before, so that a thin line stands above its row.
 fn is_new_clock(before: Option<u64>, clock: u64) -> bool
     ensures { result ≡ is_new_clock before clock }
 {
@@ -137,7 +137,7 @@ fn push_bar_ended(
     Ok(())
 }
 
-/// Appends the bar of a port down to y, where it is held.
+/// Appends the bar of a port down to y, where the entry stands that ends it, if the port is held.
 fn push_held(
     columns: &[Column],
     port: Ui,
@@ -292,7 +292,7 @@ fn push_points(
     Ok(())
 }
 
-/// Appends the lines that an arrow joins.
+/// Appends which lines of the journal an arrow joins, and the arrow's end.
 fn push_ends(from: u64, to: u64, out: &mut Vec<u8>) -> Result<(), AllocError>
     ensures { OnOk result (out.new.items ≡ out.old.items ++ ends_piece from to) }
 {
@@ -336,7 +336,7 @@ fn stop_x(rightward: bool, column: &Column) -> u64
     }
 }
 
-/// What the packet was that an entry with this act works off.
+/// The kind of the packet that an entry with this act works off, for its arrow.
 fn packet_of(act: &Act) -> PacketKind
     ensures { result ≡ packet_of act.now }
 {
@@ -373,7 +373,7 @@ fn push_entry(
     Ok(())
 }
 
-/// Appends the line as it stands between tags.
+/// Appends the entry's line as it stands between tags, as the title of its mark.
 fn push_title(line: &[u8], special: bool, out: &mut Vec<u8>) -> Result<(), AllocError>
     requires { special ≡ false → list_any is_special line.now ≡ false }
     ensures { OnOk result (out.new.items ≡ out.old.items ++ markup line.now) }
@@ -409,7 +409,7 @@ fn push_texts(edge: &Edge, y: u64, line: &Line<'_>, out: &mut Vec<u8>) -> Result
     Ok(())
 }
 
-/// Appends the clock and the caller. The height stands there three times and is written once.
+/// Appends the clock and the caller in an entry's row. The height stands there three times and is written once.
 fn push_texts_front(
     edge: &Edge,
     y: u64,
@@ -431,7 +431,7 @@ fn push_texts_front(
     Ok(())
 }
 
-/// Appends the two texts, one behind the other.
+/// Appends two texts of a row, one behind the other.
 #[inline(always)]
 fn push_both(text: &[u8], more: &[u8], out: &mut Vec<u8>) -> Result<(), AllocError>
     ensures { OnOk result (out.new.items ≡ out.old.items ++ (text.now ++ more.now)) }
@@ -441,7 +441,7 @@ fn push_both(text: &[u8], more: &[u8], out: &mut Vec<u8>) -> Result<(), AllocErr
     Ok(())
 }
 
-/// Appends the act as it stands between tags, cut where it is long.
+/// Appends the act in an entry's row as it stands between tags, cut where it is long.
 fn push_act_text(act: &[u8], special: bool, out: &mut Vec<u8>) -> Result<(), AllocError>
     requires { special ≡ false → list_any is_special act.now ≡ false }
     ensures { OnOk result (out.new.items ≡ out.old.items ++ shown_act act.now) }

@@ -43,7 +43,7 @@ pub(crate) struct Before {
 }
 
 impl Tables {
-    /// The tables of no entry.
+    /// The tables of no entry that is drawn.
     pub fn new(alloc: Global) -> Tables
         ensures { AreTables result [] }
     {
@@ -55,14 +55,15 @@ impl Tables {
         }
     }
 
-    /// The bar of the port.
+    /// The bar of the port, as the tables of the drawn entries keep it.
     pub fn bar(&self, port: Ui) -> Option<Bar>
         ensures { result ≡ bar_of self.now.bars port }
     {
         bar_of(&self.bars, port)
     }
 
-    /// Where the last entry stands on the line of the port that arrives, or else about the message, which is known.
+    /// Where the last drawn entry stands on the line of the port that arrives, or else about the message, which is
+    /// known.
     fn last(&self, port: Option<Ui>, about: Option<Row>) -> Option<Row>
         ensures { result ≡ last_row (bar_of self.now.bars) port about }
     {
@@ -72,7 +73,7 @@ impl Tables {
         }
     }
 
-    /// Adds the entry, and gives what the tables said of it before. After an error they are of no use.
+    /// Adds the drawn entry to the tables, and gives what they said of it before. After an error they are of no use.
     pub(crate) fn add(&mut self, entry: &Entry) -> Result<Before, AllocError>
         requires few { self.old.number < ENTRIES_LIMIT }
         requires waits { HaveFew (bar_of self.old.bars) }
@@ -98,7 +99,8 @@ impl Tables {
     }
 }
 
-/// The messages after the entry, which stands at the row. Gives where the last one about its message stood.
+/// Where the last drawn entry about each message stands, after the entry, which stands at the row. Gives where the last
+/// one about its message stood.
 fn follow_messages(
     messages: &mut HashMap<MsgId, Row>,
     row: Row,
@@ -139,14 +141,14 @@ fn follow_bars(
     Ok(before)
 }
 
-/// The bar of the port.
+/// The bar of the port, among those that the tables keep.
 fn bar_of(bars: &HashMap<PortKey, Bar>, port: Ui) -> Option<Bar>
     ensures { result ≡ bar_of bars.now port }
 {
     bars.get(&PortKey { port }).copied()
 }
 
-/// How many messages wait by a bar.
+/// How many messages wait by a bar that the tables keep.
 fn waits_in(bar: Option<Bar>) -> u32
     ensures { result ≡ waits_in bar }
 {
@@ -156,14 +158,14 @@ fn waits_in(bar: Option<Bar>) -> u32
     }
 }
 
-/// Where the last entry of a bar stands.
+/// Where the last entry of a bar stands, as the tables keep it.
 fn row_in(bar: Option<Bar>) -> Option<Row>
     ensures { result ≡ row_in bar }
 {
     Some(bar?.row)
 }
 
-/// The row, where it is one of another place than the entry's.
+/// The row of what caused a drawn entry: this one, where it is one of another place than the entry's.
 fn from_elsewhere(entry: &Entry, row: Option<Row>) -> Option<Row>
     ensures { result ≡ from_elsewhere entry.now row }
 {
@@ -173,7 +175,7 @@ fn from_elsewhere(entry: &Entry, row: Option<Row>) -> Option<Row>
     }
 }
 
-/// The port that an act brings from another place.
+/// The port that an act brings from another place, by whose bar the tables find the cause.
 fn port_arrived(act: &Act) -> Option<Ui>
     ensures { result ≡ port_arrived act.now }
 {
@@ -183,7 +185,7 @@ fn port_arrived(act: &Act) -> Option<Ui>
     }
 }
 
-/// How many messages wait in a port after an act on its line, where so many waited before it.
+/// How many messages wait in a port, by its bar, after an act on its line, where so many waited before it.
 fn waits_after(act: &Act, waits: u32) -> u32
     requires { waits < ENTRIES_LIMIT }
     ensures { result ≡ waits_after act.now waits }
@@ -196,7 +198,7 @@ fn waits_after(act: &Act, waits: u32) -> u32
     }
 }
 
-/// Whether a port is held after an act on its line.
+/// Whether a port is held after an act on its line, as its bar says.
 fn keeps(act: &Act) -> bool
     ensures { result ≡ keeps act.now }
 {

@@ -36,7 +36,7 @@ pub fn push_numbered(text: &[u8], number: u64, out: &mut Vec<u8>) -> Result<(), 
     push_decimal(number, out)
 }
 
-/// How many bytes stand before the first `@`.
+/// How many bytes of a template stand before its first `@`.
 #[tactic(auto, using(crate::proofs::Stretches::or_length))]
 fn front_of(template: &[u8]) -> usize
     ensures value { result ≡ position_or_len (λ c. c == 64) template.now }
@@ -45,14 +45,14 @@ fn front_of(template: &[u8]) -> usize
     gap_in(template).unwrap_or(template.len())
 }
 
-/// The place of the first `@`.
+/// The place of the first `@` in a template.
 fn gap_in(template: &[u8]) -> Option<usize>
     ensures { result ≡ position (λ c. c == 64) template.now }
 {
     template.iter().position(|c| *c == b'@')
 }
 
-/// Appends the text as it stands between tags. After an error a part of it may stand there.
+/// Appends the text as it stands between the tags of a picture. After an error a part of it may stand there.
 pub fn push_markup(text: &[u8], out: &mut Vec<u8>) -> Result<(), AllocError>
     ensures { OnOk result (out.new.items ≡ out.old.items ++ markup text.now) }
 {
@@ -65,7 +65,7 @@ pub fn push_markup(text: &[u8], out: &mut Vec<u8>) -> Result<(), AllocError>
     push_markup(behind, out)
 }
 
-/// How many bytes stand before the first that is not written as itself.
+/// How many bytes of a text stand before the first that is not written as itself in a picture.
 #[tactic(auto, using(crate::proofs::Stretches::or_length))]
 pub fn plain_front(text: &[u8]) -> usize
     ensures value { result ≡ position_or_len is_special text.now }
@@ -74,14 +74,14 @@ pub fn plain_front(text: &[u8]) -> usize
     special_in(text).unwrap_or(text.len())
 }
 
-/// The place of the first byte that is not written as itself.
+/// The place of the first byte of a text that is not written as itself in a picture.
 fn special_in(text: &[u8]) -> Option<usize>
     ensures { result ≡ position is_special text.now }
 {
     text.iter().position(|c| is_special(*c))
 }
 
-/// Whether a byte is not written as itself.
+/// Whether a byte is not written as itself between the tags of a picture.
 fn is_special(byte: u8) -> bool
     ensures { result ≡ is_special byte }
 {
@@ -106,15 +106,16 @@ fn push_markup_byte(byte: u8, out: &mut Vec<u8>) -> Result<(), AllocError>
     }
 }
 
-/// Appends the text as it stands between tags, cut behind 72 bytes. After an error a part of it may stand there.
+/// Appends the text as it stands between the tags of a picture, cut behind 72 bytes. After an error a part of it may
+/// stand there.
 pub fn push_shown(text: &[u8], out: &mut Vec<u8>) -> Result<(), AllocError>
     ensures { OnOk result (out.new.items ≡ out.old.items ++ shown text.now) }
 {
     push_cut(SHOWN_LIMIT, text, out)
 }
 
-/// Appends the act as it stands between tags, cut behind 72 bytes and behind 24 of its body. After an error a part of
-/// it may stand there.
+/// Appends the act as it stands between the tags of a picture, cut behind 72 bytes and behind 24 of its body. After an
+/// error a part of it may stand there.
 pub fn push_shown_act(act: &[u8], out: &mut Vec<u8>) -> Result<(), AllocError>
     ensures { OnOk result (out.new.items ≡ out.old.items ++ shown_act act.now) }
 {
@@ -136,7 +137,7 @@ pub fn push_plain_act(act: &[u8], out: &mut Vec<u8>) -> Result<(), AllocError>
     push_plain_cut(most_shown(equals_sign_in(act)), act, out)
 }
 
-/// The place of the first `=`.
+/// The place of the first `=` in the text of an act, behind which its body is.
 fn equals_sign_in(act: &[u8]) -> Option<usize>
     ensures { result ≡ position (λ c. c == 61) act.now }
 {
@@ -153,7 +154,7 @@ fn most_shown(at: Option<usize>) -> usize
     }
 }
 
-/// Appends the text as it stands between tags, cut behind so many bytes.
+/// Appends the text as it stands between the tags of a picture, cut behind so many bytes.
 fn push_cut(most: usize, text: &[u8], out: &mut Vec<u8>) -> Result<(), AllocError>
     ensures { OnOk result (out.new.items ≡ out.old.items ++ markup (cut most text.now)) }
 {

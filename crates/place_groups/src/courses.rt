@@ -16,8 +16,8 @@ use std::collections::VecDeque;
 /// No memory holds so many messages.
 const MESSAGES_LIMIT: usize = 1 << 62;
 
-/// A copy of the message for this port and route that is tried at another place once `last` waits there too. None where one
-/// is under way.
+/// Of the course of a member, a copy of the message for this port and route that is tried at another place once `last` waits
+/// there too. None where one is under way.
 fn copy_free(tables: &Tables, key: &Key, last: &Wait) -> Result<Option<Wait>, AllocError>
     requires kind { key.now.port.kind ≡ Kind.Port }
     ensures { IfOk result (λ again. again ≡ leaving_with key.now last.now (state tables.now)) }
@@ -55,8 +55,8 @@ pub(crate) fn courses_for(
     Ok(made)
 }
 
-/// How many messages wait for these members by the group's route, with one more for each. Want of memory where no memory
-/// holds so many.
+/// How many messages wait for these members by the group's route, with one more, the copy of the post, for each. Want of
+/// memory where no memory holds so many.
 pub(crate) fn count_waiting(tables: &Tables, group: Ui, members: &[Ui]) -> Result<usize, AllocError>
     ensures value { IfOk result (λ count. count ≡
         waiting_for group members.now (queue tables.now.waits) + length members.now) }

@@ -43,7 +43,7 @@ pub struct Chosen {
     courses: VecDeque<Course>,
 }
 
-/// The copies of the message for these members, in their order.
+/// The copies of the message for which a turn with a group chooses these members, in their order.
 fn copies_for(
     alloc: Global,
     message: &Message,
@@ -68,7 +68,7 @@ fn copies_for(
     Ok(made)
 }
 
-/// What the caller is told of a choice for its post.
+/// What the turn of a post to a group tells its caller of the choice.
 fn reply_of(id: MsgId, choice: &Choice) -> Reply
     ensures { (qs : List Ui) → choice.now ≡ made_of qs → result ≡ choice_reply id qs }
 {
@@ -203,7 +203,8 @@ pub fn post_to_group(
     ask_for(tables, message, &dest, place, caller)
 }
 
-/// Makes all ready for a choice of members for a post that the place `from` asks for. All else stays, whatever the answer.
+/// Makes all ready for a turn with a group: the choice of members for a post that the place `from` asks for. All else stays,
+/// whatever the answer.
 pub fn ready_ask(
     tables: &mut Tables,
     from: u16,
@@ -224,7 +225,7 @@ pub fn ready_ask(
     prepare(tables, message, dest, group, from)
 }
 
-/// Chooses members for a post that the place `from` asks for, as is ready.
+/// A turn with a group: chooses members for a post that the place `from` asks for, as is ready.
 pub fn open_ask(
     tables: &mut Tables,
     from: u16,

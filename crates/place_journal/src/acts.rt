@@ -11,7 +11,7 @@ use chorus_entry::Act;
 use chorus_groups::Groups;
 use chorus_ui::{Layout, Ui};
 
-/// How many ports the act makes.
+/// How many ports the act makes: what it adds to the count of a journal.
 pub(crate) fn count_made(act: &Act) -> u64
     ensures made { result ≡ ports_after act.now 0 }
     ensures within { result ≤ 1 }
@@ -22,7 +22,7 @@ pub(crate) fn count_made(act: &Act) -> u64
     }
 }
 
-/// The port that the act makes.
+/// The port that the act makes, to be marked beside a journal.
 fn made_by(act: &Act) -> Option<Ui>
     ensures { result ≡ made_by act.now }
 {
@@ -32,7 +32,7 @@ fn made_by(act: &Act) -> Option<Ui>
     }
 }
 
-/// The port that the act deletes.
+/// The port that the act deletes, to be marked beside a journal.
 fn deleted_by(act: &Act) -> Option<Ui>
     ensures { result ≡ deleted_by act.now }
 {
@@ -42,7 +42,7 @@ fn deleted_by(act: &Act) -> Option<Ui>
     }
 }
 
-/// Marks the port that the act makes.
+/// What one act adds to a journal's marks: marks the port that the act makes.
 pub(crate) fn mark_made(made: &mut PortMarks, act: &Act, layout: Layout, groups: &Groups)
     requires layout { made.old.layout ≡ layout }
     requires follows { MayFollow layout groups.now act.now }
@@ -55,7 +55,7 @@ pub(crate) fn mark_made(made: &mut PortMarks, act: &Act, layout: Layout, groups:
     made.mark(port);
 }
 
-/// Marks the port that the act deletes.
+/// What one act adds to a journal's marks: marks the port that the act deletes.
 pub(crate) fn mark_deleted(deleted: &mut PortMarks, act: &Act, layout: Layout, groups: &Groups)
     requires layout { deleted.old.layout ≡ layout }
     requires follows { MayFollow layout groups.now act.now }
@@ -69,7 +69,7 @@ pub(crate) fn mark_deleted(deleted: &mut PortMarks, act: &Act, layout: Layout, g
     deleted.mark(port);
 }
 
-/// Makes of the groups what the act makes of them.
+/// Makes of the groups beside a journal what one act makes of them.
 pub(crate) fn change(groups: &mut Groups, act: &Act, layout: Layout)
     requires { MayFollow layout groups.old act.now }
     ensures { groups.new ≡ groups_with act.now groups.old }

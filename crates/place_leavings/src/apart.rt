@@ -31,7 +31,7 @@ pub struct Parted {
     pub ports: Vec<Placed>,
 }
 
-/// Takes the ports of a place.
+/// Takes the ports of a place of threads that is taken apart.
 fn take_ports(placed: &mut Vec<Placed>, place: u16, ports: Ports) -> Result<(), AllocError>
     ensures { OnOk result (placed.new.items ≡ placed.old.items ++ placed_at place ports.records) }
 {

@@ -27,7 +27,7 @@ pub(crate) struct Remains {
     pub(crate) parcel: Option<Frame>,
 }
 
-/// Opens the frame, and takes its packet.
+/// Opens a frame that is left, and takes its packet.
 fn take_frame(packets: &mut Vec<Packet>, frame: Frame) -> Result<(), AllocError>
     ensures { OnOk result (packets.new.items ≡ packets.old.items ++ frame ∷ []) }
 {
@@ -56,7 +56,7 @@ fn take_link<R: Wait>(
     Ok(())
 }
 
-/// Takes the frame, if there is one.
+/// Takes the packet of the frame that is left in hand, if there is one.
 fn take_parcel(packets: &mut Vec<Packet>, parcel: Option<Frame>) -> Result<(), AllocError>
     ensures { OnOk result (packets.new.items ≡ packets.old.items ++ option_to_list parcel) }
 {
@@ -66,7 +66,7 @@ fn take_parcel(packets: &mut Vec<Packet>, parcel: Option<Frame>) -> Result<(), A
     }
 }
 
-/// Takes the packet, if there is one.
+/// Takes the packet that is left in hand, if there is one.
 fn take_packet(packets: &mut Vec<Packet>, packet: Option<Packet>) -> Result<(), AllocError>
     ensures { OnOk result (packets.new.items ≡ packets.old.items ++ option_to_list packet) }
 {
@@ -76,7 +76,7 @@ fn take_packet(packets: &mut Vec<Packet>, packet: Option<Packet>) -> Result<(), 
     Ok(())
 }
 
-/// Takes what is in hand.
+/// Takes what is left in hand.
 fn take_content(packets: &mut Vec<Packet>, there: &mut Remains) -> Result<(), AllocError>
     ensures packets { OnOk result (packets.new.items ≡ packets.old.items ++ content there.old) }
     ensures there { OnOk result (there.new ≡ record there.old { hand = None; parcel = None }) }
@@ -85,7 +85,7 @@ fn take_content(packets: &mut Vec<Packet>, there: &mut Remains) -> Result<(), Al
     take_parcel(packets, there.parcel.take())
 }
 
-/// Takes what is in hand, where it came from the place.
+/// Takes what is left in hand, where it came from the place.
 fn take_hand(packets: &mut Vec<Packet>, there: &mut Remains, place: u16) -> Result<(), AllocError>
     ensures { OnOk result
         (TakesHand place packets.old.items packets.new.items there.old there.new) }
@@ -99,7 +99,7 @@ fn take_hand(packets: &mut Vec<Packet>, there: &mut Remains, place: u16) -> Resu
     take_content(packets, there)
 }
 
-/// Takes what waits for the place.
+/// Takes what is left waiting in an outbox for the place.
 fn take_waiting(packets: &mut Vec<Packet>, out: &mut Outbox, place: u16) -> Result<(), AllocError>
     ensures { OnOk result
         (TakesWaiting place packets.old.items packets.new.items out.old.lists out.new.lists) }
@@ -129,7 +129,7 @@ fn take_pair<R: Wait>(
     take_waiting(packets, &mut here.out, to)
 }
 
-/// The same, where the other place is there.
+/// Takes what goes from one place to another, whose remains stand in the slot.
 fn take_slot<R: Wait>(
     rt: &R,
     packets: &mut Vec<Packet>,
@@ -190,7 +190,7 @@ fn take_row<R: Wait>(
     Ok(())
 }
 
-/// The same of the place of this number.
+/// Takes what goes from the place of this number to each other one.
 fn take_from<R: Wait>(
     rt: &R,
     packets: &mut Vec<Packet>,

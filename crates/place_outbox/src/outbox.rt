@@ -100,7 +100,7 @@ impl Outbox {
         requires room { 0 < self.old.spare }
         requires puts { self.old.puts < 2 ^ 64 - 1 }
         ensures lists { self.new.lists ≡ with_last place packet self.old.lists }
-        ensures spare { self.old.spare ≤ self.new.spare + 1 }
+        ensures spare { self.new.spare + 1 ≡ self.old.spare }
         ensures puts { self.new.puts ≡ self.old.puts + 1 }
         ensures free { self.new.free ≡ self.old.free }
     {

@@ -1,6 +1,6 @@
 //! One pool of packets, with a list for each place in it.
 
-ghost use Rattle.std.specs.Prelude.{◌≡◌, ◌+◌, ◌-◌, ◌^◌, ◌<◌, ◌≤◌, length, slice_get, IfOk, OnOk};
+ghost use Rattle.std.specs.Prelude.{◌≡◌, ◌+◌, ◌-◌, ◌^◌, ◌<◌, ◌≤◌, length, slice_get, option_to_list, IfOk, OnOk};
 ghost use Rattle.std.specs.Option.{option_copied};
 ghost use Rattle.place_outbox.specs.Fronts.{is_filled};
 ghost use Rattle.place_outbox.specs.Waiting.{nothing_to, list_to, with_last, without_first, count};
@@ -111,7 +111,7 @@ impl Pool {
         requires room { 0 < self.old.spare }
         requires puts { self.old.puts < 2 ^ 64 - 1 }
         ensures lists { self.new.lists ≡ with_last place packet self.old.lists }
-        ensures spare { self.old.spare ≤ self.new.spare + 1 }
+        ensures spare { self.new.spare + 1 ≡ self.old.spare }
         ensures puts { self.new.puts ≡ self.old.puts + 1 }
     {
         let place = usize::from(place);
@@ -159,7 +159,7 @@ impl Pool {
     pub(crate) fn take(&mut self, place: usize) -> Option<Packet>
         ensures value { result ≡ slice_get (list_to place self.old.lists) 0 }
         ensures lists { self.new.lists ≡ without_first place self.old.lists }
-        ensures spare { self.old.spare ≤ self.new.spare }
+        ensures spare { self.new.spare ≡ self.old.spare + length (option_to_list result) }
         ensures puts { self.new.puts ≡ self.old.puts }
     {
         if place >= self.chains.len() {

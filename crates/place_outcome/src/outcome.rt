@@ -19,7 +19,7 @@ struct Said {
     own: Option<Answer>,
 }
 
-/// The post of which the message is a copy, or the message itself.
+/// The post of which the message is a copy, or the message itself, to tell what became of it.
 fn source(id: MsgId) -> MsgId
     ensures { result ≡ source id }
 {
@@ -30,7 +30,7 @@ fn source(id: MsgId) -> MsgId
     }
 }
 
-/// Where the post of this id goes, where the entry makes it.
+/// What an entry of the journal tells of a message: where the post of this id goes, where the entry makes it.
 fn dest_by(entry: &Entry, id: MsgId) -> Option<Dest>
     ensures { result ≡ dest_by id entry.now }
 {
@@ -43,7 +43,7 @@ fn dest_by(entry: &Entry, id: MsgId) -> Option<Dest>
     }
 }
 
-/// The answer that the act gives for its message.
+/// The answer that the act gives for its message, by which it tells what became of it.
 fn said_of(act: &Act) -> Option<Answer>
     ensures { result ≡ said_of act.now }
 {
@@ -61,7 +61,7 @@ fn said_of(act: &Act) -> Option<Answer>
     }
 }
 
-/// Whether the act is about the message.
+/// Whether the act is about the message whose outcome is told.
 fn is_about(act: &Act, id: MsgId) -> bool
     ensures { result ≡ are_same same_id (Some id) (message_of act.now) }
 {
@@ -71,7 +71,7 @@ fn is_about(act: &Act, id: MsgId) -> bool
     }
 }
 
-/// The answer that the act gives for this message.
+/// The answer that the act gives for this message, by which it tells what became of it.
 fn answer_by(act: &Act, id: MsgId) -> Option<Answer>
     ensures { result ≡ answer_by id act.now }
 {
@@ -82,7 +82,7 @@ fn answer_by(act: &Act, id: MsgId) -> Option<Answer>
     }
 }
 
-/// What the entries say of the message.
+/// What the entries of a journal say of the message: the parts of its outcome.
 fn read(entries: &[Entry], id: MsgId) -> Said
     ensures dest { result.dest ≡ goes_to (post_of id (reverse entries.now)) }
     ensures post { result.post ≡ answer_for (source id) (reverse entries.now) }
@@ -100,7 +100,7 @@ fn read(entries: &[Entry], id: MsgId) -> Said
     Said { dest, post, own }
 }
 
-/// How many copies a post with this destination has, by its answer.
+/// How many copies a post with this destination has, by its answer in the journal.
 fn copies(dest: Dest, answer: Option<Answer>) -> u16
     ensures { result ≡ copies_by dest answer }
 {

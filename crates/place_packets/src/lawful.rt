@@ -17,7 +17,7 @@ use place_ranges::has_ranges;
 use place_tables::Tables;
 use place_unsettled::Key;
 
-/// Whether the place that an answer names is one of the layout.
+/// Whether the place that an answer names is one of the layout, as it is in a lawful packet.
 fn is_known_answer(layout: Layout, answer: Answer) -> bool
     ensures { result ≡ is_known_answer layout answer }
 {
@@ -27,7 +27,7 @@ fn is_known_answer(layout: Layout, answer: Answer) -> bool
     }
 }
 
-/// Whether what an answer teaches of the port may be learned: the layout can make the port, and the hop is at least 1.
+/// Whether what an answer in a packet teaches of the port may be learned: the layout can make the port, and the hop is at least 1.
 fn may_teach(layout: Layout, port: Ui, answer: Answer) -> bool
     requires { is_port port ≡ true }
     ensures { result ≡ may_teach layout port answer }
@@ -40,7 +40,7 @@ fn may_teach(layout: Layout, port: Ui, answer: Answer) -> bool
     }
 }
 
-/// Whether the position of the port's next message is not above the clock.
+/// Whether the position of the next message of a port that a packet brings is not above the packet's clock.
 fn ends_by(port: &PortRecord, clock: u64) -> bool
     ensures { result ≡ nat_le (end_of port.now) clock }
 {
@@ -88,18 +88,18 @@ fn is_lawful_cargo(tables: &Tables, clock: u64, from: u16, cargo: &Cargo) -> boo
     }
 }
 
-/// Whether the first message of a port and route has this id and is under way to the place.
+/// Whether the first message of the port and route of a verdict has this id and is under way to the place.
 fn is_under_way(tables: &Tables, id: MsgId, place: u16, key: &Key) -> bool
     ensures { result ≡ is_under_way id place (queue tables.now.waits key.now) }
 {
-    match tables.waits().under_way(key, place) {
+    match tables.waits().first_under_way(key, place) {
         Some(wait) => wait.message.id == id,
         None => false,
     }
 }
 
-/// Whether the port may be held here: this is its place on this site, it is not held here, and it was made here if
-/// anywhere; its actor is one of this site; it moved at least once; and no position of its messages is above the clock.
+/// Whether the port that a packet brings may be held here: this is its place on this site, it is not held here, and it was made
+/// here if anywhere; its actor is one of this site; it moved at least once; and no position of its messages is above the clock.
 fn may_receive(tables: &Tables, clock: u64, port: &PortRecord) -> bool
     requires { has_ranges_of_record clock port.now ≡ true }
     ensures { result ≡ may_receive clock port.now (state tables.now) }
@@ -116,14 +116,14 @@ fn may_receive(tables: &Tables, clock: u64, port: &PortRecord) -> bool
         && ends_by(port, clock)
 }
 
-/// Whether this is the site of the place.
+/// Whether the site, that of the actor of a port that a packet brings, is the place's own.
 fn is_own_site(tables: &Tables, site: u16) -> bool
     ensures { result ≡ (site == site_of tables.now.layout tables.now.number) }
 {
     site == tables.layout().site_of(tables.number())
 }
 
-/// Whether a thing of this name stands at this place of its site.
+/// Whether a port that a packet brings stands, on the place's own site, at this place.
 fn stands_here(tables: &Tables, port: Ui) -> bool
     ensures { result ≡
         (place_at tables.now.layout (site_of tables.now.layout tables.now.number) port
@@ -133,7 +133,7 @@ fn stands_here(tables: &Tables, port: Ui) -> bool
     tables.layout().place_at(site, port) == tables.number()
 }
 
-/// Whether the port is not held here.
+/// Whether the port that a packet brings is not held here.
 fn is_absent(tables: &Tables, port: Ui) -> bool
     ensures { result ≡ is_none (find port tables.now.ports.records) }
 {
@@ -143,7 +143,7 @@ fn is_absent(tables: &Tables, port: Ui) -> bool
     }
 }
 
-/// Whether the port, which the layout can make, was made here if this is its creation place.
+/// Whether the port that a packet brings, which the layout can make, was made here if this is its creation place.
 fn is_made_if_own(tables: &Tables, port: Ui) -> bool
     requires { can_make_port tables.now.layout port ≡ true }
     ensures { result ≡ not (creation_place tables.now.layout port == tables.now.number)
@@ -152,7 +152,7 @@ fn is_made_if_own(tables: &Tables, port: Ui) -> bool
     tables.layout().place_at(port.site(), port) != tables.number() || tables.is_made(port)
 }
 
-/// Whether there is a group, and this is its place.
+/// Whether there is a group, as in a lawful Ask, and this is its place.
 fn is_asked_here(tables: &Tables, group: Option<Ui>) -> bool
     ensures { result ≡ is_asked_here group (state tables.now) }
 {
@@ -162,7 +162,7 @@ fn is_asked_here(tables: &Tables, group: Option<Ui>) -> bool
     }
 }
 
-/// Whether this is the place of the group.
+/// Whether this is the place of the group, as in a lawful Ask.
 fn is_place_of(tables: &Tables, group: Ui) -> bool
     ensures { result ≡ is_number tables.now.number (group_place tables.now.layout group) }
 {

@@ -72,7 +72,7 @@ fn open_cargo(tables: &mut Tables, from: u16, cargo: Cargo, ready: Ready, caller
     }
 }
 
-/// Tells the first message of a port and route what was decided, and lets what waits there go.
+/// Works off a verdict: tells the first message of its port and route what was decided, and lets what waits there go.
 fn open_verdict(
     tables: &mut Tables,
     id: MsgId,

@@ -29,7 +29,7 @@ pub enum Ready {
     Ask(Chosen),
 }
 
-/// How many messages the answer settles: one, or none where the message is tried again.
+/// How many messages the answer of a verdict settles: one, or none where the message is tried again.
 fn settled_by(answer: Answer) -> usize
     ensures value { result ≡ settled_by answer }
     ensures within { result ≤ 1 }
@@ -100,7 +100,8 @@ fn ready_verdict(tables: &mut Tables, key: &Key, answer: Answer) -> Result<Optio
     tables.copy_leaving(key, settled_by(answer), None, answer)
 }
 
-/// Takes room for an entry, and for the record of one port more. All else stays, whatever the answer.
+/// Takes room for a port that a packet brings: for an entry, and for the record of one port more. All else stays, whatever the
+/// answer.
 fn make_arrival_room(tables: &mut Tables) -> Result<(), AllocError>
     ensures turn { (c : Seated) → turn tables.new c ≡ turn tables.old c }
     ensures out { StaysOut tables.old.out tables.new.out }

@@ -14,7 +14,7 @@ pub struct Lesson {
     pub hop: u64,
 }
 
-/// The member to which the copy of the post goes.
+/// For the lesson of a Told: the member to which the copy of the post goes.
 fn copy_in(post: MsgId, group: Ui, members: &[Ui], id: MsgId) -> Option<Ui>
     ensures { result ≡ port_in (find_sent id (copies post group 1 members.now)) }
 {
@@ -28,7 +28,7 @@ fn copy_in(post: MsgId, group: Ui, members: &[Ui], id: MsgId) -> Option<Ui>
     }
 }
 
-/// The port to which the destination is.
+/// For the lesson of a Told: the port to which the destination of the message's post is.
 fn dest_in(post: MsgId, dest: &Dest, id: MsgId) -> Option<Ui>
     ensures { result ≡ port_in (find_sent id (sent_to post dest.now)) }
 {
@@ -38,7 +38,7 @@ fn dest_in(post: MsgId, dest: &Dest, id: MsgId) -> Option<Ui>
     }
 }
 
-/// The port to which the act sends the message.
+/// For the lesson of a Told: the port to which the act sends the message.
 fn sent_in(act: &Act, id: MsgId) -> Option<Ui>
     ensures { result ≡ port_in (find_sent id (sent_by act.now)) }
 {
@@ -53,7 +53,7 @@ fn sent_in(act: &Act, id: MsgId) -> Option<Ui>
     }
 }
 
-/// The port to which these entries sent the message.
+/// For the lesson of a Told: the port to which these entries sent the message.
 fn port_of(journal: &[Entry], upto: usize, id: MsgId) -> Option<Ui>
     requires { upto ≤ length journal.now }
     ensures { result ≡ port_in (find_sent id (sent (reverse (take upto journal.now)))) }
@@ -71,7 +71,7 @@ fn port_of(journal: &[Entry], upto: usize, id: MsgId) -> Option<Ui>
     None
 }
 
-/// What the entry behind the first `upto` teaches.
+/// What the entry behind the first `upto` teaches of a port.
 pub(crate) fn lesson_of(entry: &Entry, journal: &[Entry], upto: usize) -> Option<Lesson>
     requires { upto ≤ length journal.now }
     ensures { result ≡ lesson (reverse (take upto journal.now)) entry.now }
@@ -97,7 +97,7 @@ pub(crate) fn lesson_of(entry: &Entry, journal: &[Entry], upto: usize) -> Option
     }
 }
 
-/// What an answer about the port teaches.
+/// What the answer that an entry tells teaches about the port.
 fn told(port: Option<Ui>, answer: Answer) -> Option<Lesson>
     ensures { result ≡ lesson_told port answer }
 {

@@ -9,7 +9,7 @@ use std::alloc::AllocError;
 use std::marker::Brand;
 use std::sync::Wait;
 
-/// Waits for ever where the condition is false, which no entry of the place machine brings about.
+/// Waits for ever where the condition of a publish is false, which no entry of the place machine brings about.
 pub(crate) fn wait_unless<R: Wait>(rt: &R, holds: bool)
     ensures { holds ≡ true }
 {
@@ -20,7 +20,7 @@ pub(crate) fn wait_unless<R: Wait>(rt: &R, holds: bool)
     unreachable!()
 }
 
-/// Publishes the lesson for these entries.
+/// Publishes the lesson, in one publish, for the first `upto` entries, which `X` names.
 fn publish_as<X: Stands, R: Wait>(
     rt: &R,
     board: &mut Board,
@@ -39,7 +39,7 @@ fn publish_as<X: Stands, R: Wait>(
     board.publish::<X, R>(rt, lesson.ui, lesson.place, lesson.hop, upto as u64)
 }
 
-/// Publishes the lesson for the first `upto` entries of the journal.
+/// Publishes the lesson, in one publish, for the first `upto` entries of the journal.
 pub(crate) fn publish_first<R: Wait>(
     rt: &R,
     board: &mut Board,

@@ -46,7 +46,8 @@ fn publish_entry<R: Wait>(
     publish_first(rt, board, lesson, journal, upto)
 }
 
-/// The first port of the layout, at hop 0, which teaches nothing.
+/// The lesson with which a place publishes that all entries are there: the first port of the layout, at hop 0, which teaches
+/// nothing.
 fn nothing() -> Lesson
     ensures hop { result.hop ≡ 0 }
     ensures ui { (result.ui.site ≡ 1) × (result.ui.number ≡ 1) × (result.ui.kind ≡ Port) }

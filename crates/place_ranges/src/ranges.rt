@@ -10,21 +10,21 @@ use chorus_entry::{
 };
 use chorus_ui::{PLACES_LIMIT, SITES_LIMIT, Ui};
 
-/// Whether the number is from `low` to `high`.
+/// Whether the number, one that a packet holds, is from `low` to `high`.
 fn is_from(low: usize, high: usize, number: usize) -> bool
     ensures { result ≡ is_from low high number }
 {
     low <= number && number <= high
 }
 
-/// Whether it is the number of a place in the largest layout.
+/// Whether a number that a packet holds is within the range of places: that of a place in the largest layout.
 fn is_place_number(place: u16) -> bool
     ensures { result ≡ is_place_number place }
 {
     1 <= place && place <= PLACES_LIMIT
 }
 
-/// Whether it is the number of a site in the largest layout.
+/// Whether a number that a packet holds is within the range of sites: that of a site in the largest layout.
 fn is_site_number(site: u16) -> bool
     ensures { result ≡ is_site_number site }
 {
@@ -75,7 +75,7 @@ fn have_ranges(pending: &Pending) -> bool
     true
 }
 
-/// Whether the route is a group, where there is one.
+/// Whether the route that a packet holds is a group, where there is one.
 fn is_route(route: Option<Ui>) -> bool
     ensures { result ≡ is_route route }
 {
@@ -85,7 +85,7 @@ fn is_route(route: Option<Ui>) -> bool
     }
 }
 
-/// Whether the site that is demanded is one of the largest layout.
+/// Whether the site that is demanded, where a packet holds one, is within its range: one of the largest layout.
 fn is_demanded_site(only: Option<u16>) -> bool
     ensures { result ≡ is_demanded_site only }
 {
@@ -111,7 +111,7 @@ fn has_ranges_of_answer(clock: u64, answer: Answer) -> bool
     }
 }
 
-/// Whether the answer is a decision.
+/// Whether the answer that a Verdict holds is one that it may hold: a decision.
 fn is_told(answer: Answer) -> bool
     ensures { result ≡ is_told answer }
 {
@@ -125,7 +125,7 @@ fn has_range_of_client(entry: (u32, u32)) -> bool
     1 <= entry.1
 }
 
-/// Whether each client has a number from 1 on.
+/// Whether each client of the table that a packet holds has a number from 1 on.
 fn are_numbered(clients: &ClientTable) -> bool
     ensures { result ≡ list_all has_range_of_client clients.now }
 {
@@ -163,7 +163,7 @@ fn has_ranges_of_record(clock: u64, port: &PortRecord) -> bool
         && has_ranges_of_clients(&port.clients)
 }
 
-/// Whether a post with this destination may be asked for: it goes to a group.
+/// Whether a post with this destination, which an Ask holds, may be asked for: it goes to a group.
 fn is_asked(dest: Dest) -> bool
     ensures { result ≡ is_asked dest }
 {

@@ -38,6 +38,7 @@ impl<'a, E: Ends> Job<Site<E>> for Acts<'a> {
 
     ghost notes = { λ j k news. NotesAct (meant j.draft) k.took j.caller k.caller news };
 
+    /// Performs the command of the draft at the place, in the turn.
     fn run(&mut self, state: &mut Site<E>, _seat: u32) -> Result<Reply, PlaceFault> {
         self.took = None;
         let command = match self.draft.command(self.alloc) {

@@ -24,6 +24,7 @@ impl<E: Ends> Job<Site<E>> for Asks {
 
     ghost notes = { λ j k news. news ≡ [] };
 
+    /// Tells what became of the message, by the journal of the place.
     fn run(&mut self, state: &mut Site<E>, _seat: u32) -> Outcome {
         state.desk.place().outcome(self.id)
     }

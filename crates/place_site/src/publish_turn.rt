@@ -25,7 +25,7 @@ pub struct Publishes<'a, R> {
     pub reader: Option<BoardReader>,
 }
 
-/// Publishes what the board lacks of its place's journal. The reader, if there is one, is heard before, and follows.
+/// Publishes, in a turn, what the board lacks of its place's journal. The reader, if there is one, is heard before, and follows.
 fn publish_for<R: Wait>(
     rt: &R,
     board: &mut Board,
@@ -73,6 +73,7 @@ impl<'a, R: Wait, E: Ends> Job<Site<E>> for Publishes<'a, R> {
 
     ghost notes = { λ j k news. news ≡ [] };
 
+    /// Publishes what the board lacks of the place's journal, in the turn.
     fn run(&mut self, state: &mut Site<E>, _seat: u32) -> Result<(), AllocError> {
         let place = state.desk.place();
         let layout = place.layout();

@@ -24,7 +24,7 @@ pub struct Serves<'a, R> {
     pub before: Option<Snapshot<Place>>,
 }
 
-/// From where the packet came that was worked off: one was, where none is in hand then.
+/// From where the packet came that was worked off in a turn that serves: one was, where none is in hand then.
 fn worked_from(done: &Result<Pump, PlaceFault>, holding: bool) -> Option<u16>
     ensures { result ≡ worked_from done.now holding }
 {
@@ -47,6 +47,7 @@ impl<'a, R, E: Moves<R>> Job<Site<E>> for Serves<'a, R> {
 
     ghost notes = { λ j k news. NotesServe k.took k.before j.caller k.caller news };
 
+    /// Serves the links of the place, in the turn.
     fn run(&mut self, state: &mut Site<E>, _seat: u32) -> Result<Pump, PlaceFault> {
         let place = state.desk.place();
         let _number = place.number();

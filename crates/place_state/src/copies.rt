@@ -41,7 +41,7 @@ pub fn put_copies(waits: &mut Waits, group: Ui, copies: VecDeque<MemberCopy>)
     }
 }
 
-/// Takes room for one message more for each of these members. Changes no queue, whatever the answer.
+/// Takes room for one message more, a copy of a post, for each of these members. Changes no queue, whatever the answer.
 pub fn make_lines(waits: &mut Waits, group: Ui, members: &[Ui]) -> Result<(), AllocError>
     ensures queues { (k : Key) → queue waits.new k ≡ queue waits.old k }
     ensures lines { OnOk result (HaveLines group waits.new members.now) }

@@ -43,7 +43,7 @@ pub fn say(journal: &mut Journal, place: u16, caller: &mut Caller, act: Act)
     journal.append(entry);
 }
 
-/// Puts a packet, which carries this clock, in the room that is there.
+/// Puts a packet that an entry causes, which carries this clock, in the room that is there.
 pub fn put(puts: &mut VecDeque<Outgoing>, to: u16, clock: u64, from: u16, cargo: Cargo)
     requires { 1 ≤ deque_capacity puts.old - length puts.old.items }
     ensures items { puts.new.items ≡ puts.old.items ++ packed_at clock from (to, cargo) ∷ [] }

@@ -11,7 +11,7 @@ use chorus_ui::Layout;
 use place_unsettled::{Key, Wait, Waits};
 use std::alloc::AllocError;
 
-/// Whether the place is on the site, where one is demanded.
+/// Whether the place is on the site, where a message demands one, so that it may be tried there.
 pub fn is_on_site(layout: Layout, only: Option<u16>, place: u16) -> bool
     requires { has_place layout place ≡ true }
     ensures { result ≡ is_on_site layout only place }

@@ -18,7 +18,7 @@ use chorus_hints::Hints;
 use chorus_ui::Ui;
 use place_unsettled::{Key, Wait, Waits};
 
-/// The caller's next message.
+/// The message that a caller posts next, with the next number of its posts.
 pub fn next_message(caller: &Caller, tag: Tag, body: Body) -> Message
     requires { caller.now.posts < u32.MAX }
     ensures { result ≡ next_message tag body caller.now }
@@ -31,7 +31,7 @@ pub fn next_message(caller: &Caller, tag: Tag, body: Body) -> Message
     Message { id, tag, body }
 }
 
-/// What is sent to the place where a message is tried with this hop.
+/// What a step sends to the place where a message is tried with this hop.
 pub fn trying(key: &Key, wait: Wait, hop: u64) -> Cargo
     ensures { result ≡ Cargo.Try wait.message key.now.port key.now.route wait.only hop }
 {
@@ -45,7 +45,7 @@ pub fn trying(key: &Key, wait: Wait, hop: u64) -> Cargo
     }
 }
 
-/// Learns where an answer says that the port is.
+/// A part of a step with a message: learns where an answer says that the port is.
 pub fn teach(hints: &mut Hints, port: Ui, answer: Answer)
     requires kind { port.kind ≡ Kind.Port }
     requires teaches { MayTeach hints.old.layout port (taught answer) }
@@ -61,7 +61,7 @@ pub fn teach(hints: &mut Hints, port: Ui, answer: Answer)
     }
 }
 
-/// Settles the first message of a port and route, or lets it be tried again.
+/// A part of a step with a message: settles the first message of a port and route, or lets it be tried again.
 pub fn pass(waits: &mut Waits, key: &Key, answer: Answer)
     requires { 0 < length (queue waits.old key.now).waits }
     ensures { (k : Key) → queue waits.new k ≡ changed key.now (told answer) (queue waits.old) k }

@@ -8,7 +8,7 @@ use law_machine::Outgoing;
 use place_outbox::Outbox;
 use std::collections::VecDeque;
 
-/// Moves the packets into the outbox, in order, in the room that is there. Takes no memory.
+/// Moves the packets that a turn put into the outbox, in order, in the room that is there. Takes no memory.
 pub fn move_all(puts: &mut VecDeque<Outgoing>, out: &mut Outbox)
     requires places { All (IsFor out.old) puts.old.items }
     requires room { length puts.old.items ≤ out.old.spare }

@@ -16,7 +16,7 @@ use chorus_ports::{Accept, Ports};
 use chorus_ui::Ui;
 use place_journal::Journal;
 
-/// The answer of the record of a port that is held.
+/// The answer to a message that the record of a port that is held gives, when the place decides.
 fn answer_in(accept: Accept) -> Answer
     ensures { result ≡ answer_in accept }
 {
@@ -49,7 +49,7 @@ fn answer_away(place: u16, only: Option<u16>, tried: u64, newest: (u16, u64)) ->
     }
 }
 
-/// The act of the entry by which the message has this answer.
+/// The act of the entry that decides on a message, by which it has this answer.
 pub fn decision(id: MsgId, port: Ui, tried: u64, answer: Answer) -> Act
     ensures value { result ≡ decision id port tried answer }
     ensures plain { is_plain result ≡ true }
@@ -101,7 +101,7 @@ pub fn decide(
     answer_away(place, only, tried, hints.newest(port))
 }
 
-/// The answer that is given, or else what the place decides.
+/// The answer that is given, or else what the place decides on the message.
 pub fn decide_unless(
     given: Option<Answer>,
     place: u16,

@@ -16,8 +16,8 @@ use place_state::is_on_site;
 use place_unsettled::{Key, Wait};
 
 impl Tables {
-    /// Settles the first message of a port and route by one entry, where it is not to be tried at another place. Answers
-    /// whether it did.
+    /// Lets the first message of a port and route go: settles it by one entry, where it is not to be tried at another place.
+    /// Answers whether it did.
     fn settle_one(&mut self, key: &Key, caller: &mut Caller) -> bool
         requires may { MaySettleEach key.now self.old caller.old }
         ensures on { result ≡ true →

@@ -19,7 +19,8 @@ use place_unsettled::{Key, Wait};
 use std::alloc::AllocError;
 
 impl Tables {
-    /// How many packets the messages of a port and route may report at most: none where the messages are direct.
+    /// How many packets the turn may put at most as reports of the messages of a port and route: none where the messages are
+    /// direct.
     pub fn most_reports(&self, key: &Key) -> usize
         ensures enough { reports_for key.now self.now ≤ result }
         ensures small { result < 2 ^ 63 }
@@ -30,7 +31,7 @@ impl Tables {
         }
     }
 
-    /// Where the port will be located, once the answer is learned.
+    /// Where the port will be located, for messages that leave, once the answer is learned.
     fn newest_after(&self, port: Ui, answer: Answer) -> (u16, u64)
         requires kind { port.kind ≡ Kind.Port }
         requires site { has_site self.now.layout port.site ≡ true }

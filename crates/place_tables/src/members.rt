@@ -31,7 +31,7 @@ impl Tables {
         }
     }
 
-    /// The site where the port is located, 0 where the layout has no such site.
+    /// The site where the port, a member of a group, is located, 0 where the layout has no such site.
     fn site_at(&self, port: Ui) -> u16
         requires kind { port.kind ≡ Kind.Port }
         ensures { result ≡ site_at (state self.now) port }
@@ -43,7 +43,7 @@ impl Tables {
         self.layout.site_of(to)
     }
 
-    /// The sites where these ports are located.
+    /// The sites where these ports, the members of a group, are located.
     fn sites_of(&self, members: &[Ui]) -> Result<Vec<u16>, AllocError>
         requires kinds { All IsPort members.now }
         ensures { IfOk result (λ sites. sites.items ≡ map (site_at (state self.now)) members.now) }

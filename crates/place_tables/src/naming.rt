@@ -11,7 +11,7 @@ ghost use Rattle.place_state.specs.Tables.{state};
 use crate::tables::Tables;
 use chorus_ui::{Kind, PORTS_PER_SITE_LIMIT, Ui};
 
-/// Whether the place made as many ports as it may.
+/// Whether the place made as many ports as it may, so that it gives no further name of a port.
 pub fn has_made_all(tables: &Tables) -> bool
     ensures { result ≡ is_full_of_ports tables.now.layout tables.now.journal.past }
 {

@@ -56,7 +56,7 @@ impl Tables {
         &self.hints
     }
 
-    /// The packets that wait to go to other places.
+    /// The outbox, to be read: the packets that wait to go to other places.
     pub fn out(&self) -> &Outbox
         ensures { result.now ≡ self.now.out }
     {
@@ -160,7 +160,7 @@ impl Tables {
         self.journal.clock()
     }
 
-    /// How many entries and packets need no memory.
+    /// Reads how many entries and packets need no memory.
     pub fn spare(&self) -> usize
         ensures { result ≡ min self.now.journal.spare self.now.room }
     {
@@ -169,14 +169,14 @@ impl Tables {
         self.journal.spare().min(packets)
     }
 
-    /// How many packets wait to go to other places.
+    /// Reads how many packets wait to go to other places.
     pub fn waiting(&self) -> u64
         ensures { result ≡ count self.now.out.lists }
     {
         self.out.waiting()
     }
 
-    /// How many packets the turns put that have ended.
+    /// Reads how many packets the turns put that have ended.
     pub fn puts_before(&self) -> u64
         ensures { result ≡ self.now.out.puts }
     {

@@ -71,7 +71,8 @@ impl Tables {
         say(&mut self.journal, self.number, caller, act);
     }
 
-    /// Posts a message that waits for nothing: members are chosen here at once, or it is decided here at once.
+    /// Posts a message that waits for nothing: one to a group, whose members are chosen here at once, or one that is decided
+    /// here at once.
     pub fn post_alone(&mut self, message: Message, dest: Dest, caller: &mut Caller)
         requires posts { caller.old.posts < u32.MAX }
         requires entry { MayAppend self.old caller.old }
@@ -175,7 +176,7 @@ impl Tables {
         put_report(&mut self.puts, clock, self.number, home, id, answer);
     }
 
-    /// Lets the messages for each of these members of the group go, member by member.
+    /// A step with a group: lets the messages for each of these members of the group go, member by member.
     pub fn go_all(&mut self, group: Ui, courses: VecDeque<Course>, caller: &mut Caller)
         requires ready { AllGoing group (ports_of courses.items) (turn self.old caller.old)
             (turn self.old caller.old) courses.items self.old.journal.spare self.old.room }

@@ -104,7 +104,7 @@ impl Tables {
         );
     }
 
-    /// Appends an entry that changes nothing else.
+    /// A step that appends one entry, which changes nothing else.
     pub fn note(&mut self, act: Act, caller: &mut Caller)
         requires plain { is_plain act ≡ true }
         requires entry { MayAppend self.old caller.old }

@@ -24,7 +24,7 @@ use chorus_ui::Ui;
 use place_state::{put, say};
 use std::alloc::AllocError;
 
-/// The entry of what was taken from a port.
+/// The act of the entry that a step appends of what was taken from a port.
 fn take_act(port: Ui, taken: &Taken) -> Act
     ensures value { result ≡ take_act port taken.now }
     ensures plain { is_plain result ≡ true }
@@ -84,8 +84,8 @@ impl Tables {
         taken
     }
 
-    /// What follows the take of a message: a request is in the caller's hand, and a reply ends the call that is outstanding
-    /// or is late.
+    /// What follows the take of a message from a port: a request is in the caller's hand, and a reply ends the call that is
+    /// outstanding or is late.
     pub fn heed(&mut self, id: MsgId, tag: Tag, caller: &mut Caller) -> Option<Settle>
         requires numbered { HasNumber tag }
         requires entry { MayAppend self.old caller.old }
@@ -109,7 +109,8 @@ impl Tables {
         }
     }
 
-    /// Appends what the reply to a client's request does: it ends the caller's outstanding call, or is late.
+    /// Appends what a reply to a client's request does once it is taken from a port: it ends the caller's outstanding call,
+    /// or is late.
     fn end_call(&mut self, client: u32, number: u32, caller: &mut Caller) -> Settle
         requires entry { MayAppend self.old caller.old }
         ensures turn { turn self.new caller.new ≡

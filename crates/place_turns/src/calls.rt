@@ -20,7 +20,7 @@ use law_machine::Reply;
 use place_tables::Tables;
 use std::alloc::AllocError;
 
-/// A copy of the body, which is within the limit.
+/// A copy of the body of a call, which is within the limit.
 fn copied(body: &Body) -> Result<Body, AllocError>
     ensures copy { IfOk result (λ copy. copy ≡ body.now) }
     ensures within { length body.now ≤ BODY_LIMIT }
@@ -30,7 +30,7 @@ fn copied(body: &Body) -> Result<Body, AllocError>
     body.copied()
 }
 
-/// The number of the caller's outstanding call.
+/// The number of the call that the caller has outstanding, with which a turn refuses another one.
 fn outstanding_number(caller: &Caller) -> Option<u32>
     ensures { result ≡ outstanding_number caller.now }
 {
@@ -40,7 +40,7 @@ fn outstanding_number(caller: &Caller) -> Option<u32>
     }
 }
 
-/// Makes this call the caller's outstanding one, unless another one is.
+/// A part of the turn of a call: makes this call the caller's outstanding one, unless another one is.
 fn begin(caller: &mut Caller, port: Ui, back: Ui, body: Body)
     requires given { caller.old.client.given < u32.MAX }
     requires port { port.kind ≡ Kind.Port }
@@ -50,7 +50,7 @@ fn begin(caller: &mut Caller, port: Ui, back: Ui, body: Body)
     let _answer = caller.client_mut().begin(port, back, body);
 }
 
-/// Ends the caller's outstanding call, and gives its number.
+/// A part of the turn of a cancel: ends the caller's outstanding call, and gives its number.
 fn end_call(caller: &mut Caller) -> Option<u32>
     ensures number { result ≡ outstanding_number caller.old }
     ensures after { caller.new ≡ without_call caller.old }
@@ -193,7 +193,8 @@ fn answer_request(
     Ok(post_prepared(tables, ready, caller))
 }
 
-/// Appends an entry that changes nothing else, in room that it takes. Want of memory changes nothing.
+/// The turn of a call, a retry or a reply that is refused: appends an entry that changes nothing else, in room that it takes.
+/// Want of memory changes nothing.
 fn refuse(tables: &mut Tables, act: Act, caller: &mut Caller) -> Result<(), AllocError>
     requires plain { is_plain act ≡ true }
     requires clock { greatest_clock (turn tables.old caller.old) + 1 < 2 ^ 64 }

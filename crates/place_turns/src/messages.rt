@@ -46,7 +46,7 @@ pub(crate) struct Ready {
     way: Way,
 }
 
-/// The reply by the verdict of a direct message.
+/// The reply of a turn that posts a direct message, by its verdict.
 fn verdict_reply(msg: MsgId, answer: Answer) -> Reply
     ensures { result ≡ verdict_reply msg answer }
 {
@@ -232,7 +232,7 @@ fn post_behind(
     last_reply(tables, id)
 }
 
-/// The answer that the last entry gives, where it is a decision or a choice.
+/// The answer that the last entry gives at the end of a post's turn, where it is a decision or a choice.
 fn last_answer(entries: &[Entry]) -> Option<Answer>
     ensures { result ≡ last_answer (reverse entries.now) }
 {

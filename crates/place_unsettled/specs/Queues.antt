@@ -30,8 +30,8 @@ abbrev pub is_free : Queue → Bool
 is_free q = is_none q.tried && (length q.waits == 0)
 
 -- the first message, where it is under way to the place
-abbrev pub under_way : ℕ → Queue → Option Wait
-under_way to q = cond (is_number to q.tried) (slice_get q.waits 0) None
+abbrev pub first_under_way : ℕ → Queue → Option Wait
+first_under_way to q = cond (is_number to q.tried) (slice_get q.waits 0) None
 
 -- by port and then by route
 abbrev pub key_cmp : Key → Key → Ordering

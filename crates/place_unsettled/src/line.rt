@@ -2,7 +2,7 @@
 
 ghost use Rattle.std.specs.Prelude.{◌≡◌, ◌-◌, ◌^◌, ◌<◌, ◌≤◌, length, slice_get, IfOk, OnOk};
 ghost use Rattle.std.specs.Option.{option_copied};
-ghost use Rattle.place_unsettled.specs.Queues.{empty_queue, is_free, under_way, with_last, passed, at};
+ghost use Rattle.place_unsettled.specs.Queues.{empty_queue, is_free, first_under_way, with_last, passed, at};
 
 use crate::wait::Wait;
 use std::alloc::{AllocError, Global};
@@ -30,7 +30,7 @@ impl Model for Line {
 }
 
 impl Line {
-    /// Nothing, and room for one message.
+    /// A line in which nothing waits, with room for one message.
     pub(crate) fn with_room(alloc: Global) -> Result<Line, AllocError>
         ensures queue { IfOk result (λ line. line.queue ≡ empty_queue) }
         ensures room { IfOk result (λ line. 0 < line.room) }
@@ -39,7 +39,7 @@ impl Line {
         Ok(Line { tried: None, waits })
     }
 
-    /// Takes room for one message more, where there is none.
+    /// Takes room for one waiting message more in this line, where there is none.
     pub(crate) fn reserve(&mut self) -> Result<(), AllocError>
         ensures queue { self.new.queue ≡ self.old.queue }
         ensures kept { self.old.room ≤ self.new.room }
@@ -70,7 +70,7 @@ impl Line {
         self.tried
     }
 
-    /// Whether no message waits, and none is under way.
+    /// Whether no message waits for the port and route of this line, and none is under way.
     pub(crate) fn is_free(&self) -> bool
         ensures { result ≡ is_free self.now.queue }
     {
@@ -78,8 +78,8 @@ impl Line {
     }
 
     /// The first of the waiting messages, where it is under way to this place.
-    pub(crate) fn under_way(&self, to: u16) -> Option<&Wait>
-        ensures { option_copied result ≡ under_way to self.now.queue }
+    pub(crate) fn first_under_way(&self, to: u16) -> Option<&Wait>
+        ensures { option_copied result ≡ first_under_way to self.now.queue }
     {
         match self.tried {
             Some(place) if place == to => self.waits.get(0),
@@ -87,14 +87,14 @@ impl Line {
         }
     }
 
-    /// The one at this position, from 0.
+    /// The waiting message at this position of the line, from 0.
     pub(crate) fn get(&self, at: usize) -> Option<&Wait>
         ensures { option_copied result ≡ slice_get self.now.queue.waits at }
     {
         self.waits.get(at)
     }
 
-    /// Puts one behind them, in the room that is there.
+    /// Puts a message behind those that wait in this line, in the room that is there.
     pub(crate) fn push(&mut self, wait: Wait)
         requires { 0 < self.old.room }
         ensures queue { self.new.queue ≡ with_last wait self.old.queue }
@@ -103,7 +103,7 @@ impl Line {
         self.waits.push_back_reserved(wait);
     }
 
-    /// Takes the first out; the next is not under way.
+    /// Takes the first of the waiting messages out of this line; the next is not under way.
     pub(crate) fn pop(&mut self) -> Option<Wait>
         ensures value { result ≡ slice_get self.old.queue.waits 0 }
         ensures after { self.new.queue ≡ passed self.old.queue }

@@ -45,7 +45,7 @@ impl Model for Unheard {
     ghost view = { λ u. u.posts.entries };
 }
 
-/// The post of which the message is a copy, or which it is.
+/// The post of which the message is a copy, or which it is, by which the messages are kept that may still be heard of.
 fn post_of(id: MsgId) -> Post
     ensures { result ≡ record { seat = id.seat; number = id.number } }
 {
@@ -56,7 +56,7 @@ fn post_of(id: MsgId) -> Post
 }
 
 impl Copies {
-    /// Nothing was heard of any.
+    /// Nothing was heard yet of a group post, nor of any copy of it.
     fn all_open() -> Copies
         ensures { (copy : ℕ) → slice_index_or result.open copy true ≡ true }
     {

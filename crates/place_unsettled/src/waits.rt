@@ -3,7 +3,7 @@
 ghost use Rattle.std.specs.Prelude.{◌≡◌, ◌^◌, ◌<◌, ◌≤◌, false, length, slice_get, OnOk};
 ghost use Rattle.std.specs.Option.{option_copied};
 ghost use Rattle.place_unsettled.specs.declared.wait.Key.{Key};
-ghost use Rattle.place_unsettled.specs.Queues.{queue, room, empty_queue, is_free, under_way, same_key, key_at, changed, with_last, passed, at, less_one};
+ghost use Rattle.place_unsettled.specs.Queues.{queue, room, empty_queue, is_free, first_under_way, same_key, key_at, changed, with_last, passed, at, less_one};
 
 use crate::line::Line;
 use crate::wait::{Key, Wait};
@@ -72,16 +72,16 @@ impl Waits {
     }
 
     /// The first of them, where it is under way to this place; else None.
-    pub fn under_way(&self, key: &Key, to: u16) -> Option<&Wait>
-        ensures { option_copied result ≡ under_way to (queue self.now key.now) }
+    pub fn first_under_way(&self, key: &Key, to: u16) -> Option<&Wait>
+        ensures { option_copied result ≡ first_under_way to (queue self.now key.now) }
     {
         match self.lines.get(key) {
-            Some(line) => line.under_way(to),
+            Some(line) => line.first_under_way(to),
             None => None,
         }
     }
 
-    /// The one at this position, from 0; None exactly where fewer wait.
+    /// The message at this position of those that wait for this port and route, from 0; None exactly where fewer wait.
     pub fn get(&self, key: &Key, at: usize) -> Option<&Wait>
         ensures { option_copied result ≡ slice_get (queue self.now key.now).waits at }
     {
@@ -132,7 +132,7 @@ impl Waits {
         Ok(())
     }
 
-    /// Puts a message behind them, in the room that is there. Takes no memory.
+    /// Puts a message behind those that wait for this port and route, in the room that is there. Takes no memory.
     pub fn push(&mut self, key: &Key, wait: Wait)
         requires { 0 < room self.old key.now }
         ensures queues { (k : Key) →

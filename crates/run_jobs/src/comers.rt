@@ -69,7 +69,7 @@ impl Behaviour for Party {
     }
 }
 
-/// Sends so many jobs with this name.
+/// Sends so many jobs with this name to the queue, as a client does.
 fn send_jobs<R: Wait>(
     rt: &R,
     nucleus: &Nucleus,

@@ -90,7 +90,7 @@ fn report(rt: &HostRuntime, finished: &Finished) -> Option<()> {
     Some(())
 }
 
-/// How many jobs are in the hands.
+/// How many jobs are in the hands, for the report.
 fn count(hands: &[Hand]) -> u64 {
     let mut handed_out = 0u64;
     for hand in hands {
@@ -106,7 +106,8 @@ struct Judged {
     is_lawful: bool,
 }
 
-/// Merges the journals and lets the checker apply each entry, down to the first that is not lawful.
+/// Judges what came of the queue of jobs: merges the journals and lets the checker apply each entry, down to the first that is not
+/// lawful.
 fn judge(alloc: Global, finished: &Finished) -> Result<Judged, AllocError> {
     let mut judged = Judged {
         accepted: 0,

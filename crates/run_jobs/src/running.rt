@@ -24,7 +24,7 @@ pub struct Finished {
     pub closed: Closed,
 }
 
-/// Those who come to this queue.
+/// Those who come to this queue, as they are handed to its run.
 fn parties_at(alloc: Global, queue: Ui, comers: &[Comer]) -> Result<Vec<Party>, AllocError> {
     let mut parties = Vec::with_capacity(alloc, comers.len())?;
     for comer in comers {

@@ -47,7 +47,7 @@ pub(crate) fn digest_of(text: &[u8]) -> Digest {
 }
 
 impl Digest {
-    /// Prints it. Where the text does not tell of all that may come, only that.
+    /// Prints the digest. Where the text of the exploration does not tell of all that may come, only that.
     pub(crate) fn say<K: Sink>(&self, output: &mut K) -> Result<(), Failed> {
         if !self.is_whole {
             return write_all(output, b"not explored\n");
@@ -60,7 +60,7 @@ impl Digest {
         write_all(output, b"\n")
     }
 
-    /// With one line more.
+    /// The digest with one line more of the exploration's text.
     fn with_line(self, line: &[u8]) -> Digest {
         if line.starts_with(b"facts ") {
             Digest {
@@ -80,7 +80,7 @@ impl Digest {
         }
     }
 
-    /// With the outcome that was gone through, where another one or a schedule begins.
+    /// The digest with the outcome that was gone through, where another one or a schedule begins.
     fn with_outcome(self, line: &[u8]) -> Digest {
         let is_schedule = line.starts_with(b"schedule ");
         Digest {
@@ -95,7 +95,7 @@ impl Digest {
         }
     }
 
-    /// With a line of the part that is gone through: in front, a fact, or one of an outcome.
+    /// The digest with a line of the part that is gone through: in front, a fact, or one of an outcome.
     fn with_line_of_part(self, line: &[u8]) -> Digest {
         match self.part {
             Part::Head => self.with_front(line),
@@ -112,7 +112,7 @@ impl Digest {
         }
     }
 
-    /// With a line in front of the facts.
+    /// The digest with a line in front of the facts.
     fn with_front(self, line: &[u8]) -> Digest {
         if line.starts_with(b"histories ") {
             Digest {
@@ -128,7 +128,7 @@ impl Digest {
     }
 }
 
-/// What stands behind the first space.
+/// What stands behind the first space in a line of an exploration, all of it where there is none.
 fn behind_space(line: &[u8]) -> &[u8] {
     match line.iter().position(|byte| *byte == b' ') {
         Some(index) => &line[index + 1..],
@@ -136,7 +136,7 @@ fn behind_space(line: &[u8]) -> &[u8] {
     }
 }
 
-/// The number behind a word.
+/// The number behind a word that begins a line of an exploration.
 fn number_behind(word: &[u8], line: &[u8]) -> u64 {
     let mut number: u64 = 0;
     for byte in line.iter().skip(word.len()) {
@@ -147,7 +147,7 @@ fn number_behind(word: &[u8], line: &[u8]) -> u64 {
     number
 }
 
-/// A sum of the line and its LF in which their places count, from what the lines before gave.
+/// A digest's sum of the line and its LF in which their places count, from what the lines before gave.
 fn sum_on(before: u64, line: &[u8]) -> u64 {
     let mut sum = before;
     for byte in line {
@@ -156,7 +156,7 @@ fn sum_on(before: u64, line: &[u8]) -> u64 {
     sum.wrapping_mul(31).wrapping_add(u64::from(b'\n'))
 }
 
-/// Prints the text and the number.
+/// Prints the text and the number, of a digest or of how a case ended.
 pub(crate) fn say_number<K: Sink>(text: &[u8], number: u64, output: &mut K) -> Result<(), Failed> {
     write_all(output, text)?;
     let mut buffer = itoa::Buffer::new();

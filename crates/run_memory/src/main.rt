@@ -52,7 +52,7 @@ fn main(rt: HostRuntime) -> ExitCode {
     ExitCode::from(number)
 }
 
-/// Whether the process was given words.
+/// Whether the process was given words, beside the cases of standard input.
 fn has_words(host: &HostRuntime) -> bool {
     match env::args(host) {
         Ok(mut words) => words.nth(1).is_some(),
@@ -82,7 +82,7 @@ fn run<R: Threads + Wait + Sync>(host: &HostRuntime, rt: &R) -> u8 {
     0
 }
 
-/// The call of a case. None where it did not begin.
+/// The call of a case of standard input, done in memory. None where it did not begin.
 fn call_of<R: Threads + Wait + Sync>(rt: &R, alloc: Global, case: &[u8]) -> Option<Called> {
     let end = case.iter().position(|byte| *byte == b'\n')?;
     let line = String::from_utf8(Vec::from_slice(alloc, &case[..end]).ok()?).ok()?;
@@ -111,7 +111,7 @@ fn call<R: Threads + Wait + Sync, S: Source, K: Sink>(
     start_program(alloc, rt, words, source, sink).status
 }
 
-/// Prints how a call ended, and what its sink holds or the digest of that.
+/// Prints how the call of a case ended, and what its sink holds or the digest of that.
 fn say<K: Sink>(called: &Called, output: &mut K) -> Result<(), Failed> {
     let held = called.sink.bytes();
     if called.is_digest && called.status == Status::Done {

@@ -44,7 +44,7 @@ fn audit_on<S: Source, K: Sink>(
     audit(alloc, layout, source, sink)
 }
 
-/// The list, for a source or a sink, by which the call of this number alone fails; by 0 none does.
+/// The list, for a source or a sink of an audit, by which the call of this number alone fails; by 0 none does.
 fn failing_at(rt: &impl Abort, alloc: Global, call: u64) -> Vec<u64> {
     Vec::from_slice(alloc, &[call]).expect(rt, "memory")
 }

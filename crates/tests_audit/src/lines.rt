@@ -5,12 +5,12 @@ use chorus_entry::{Act, Entry};
 use std::alloc::Global;
 use std::process::Abort;
 
-/// The entry of the line; None where it has none.
+/// The entry that an audit parses from the line; None where it has none.
 fn entry_of(rt: &impl Abort, alloc: Global, line: &str) -> Option<Entry> {
     parse_entry(alloc, line.as_bytes()).expect(rt, "memory")
 }
 
-/// Asserts that the line has this entry.
+/// Asserts that an audit parses this entry from the line.
 fn assert_entry(rt: &impl Abort, alloc: Global, line: &str, entry: Entry) {
     let found = entry_of(rt, alloc, line).expect(rt, "an entry");
     assert!(rt; found == entry, "{line}");

@@ -49,7 +49,7 @@ fn sink_of(rt: &impl Abort, alloc: Global, most: usize, failing: &[u64]) -> MemS
     MemSink::new(alloc, most, failing)
 }
 
-/// Draws the text, with reads and writes that fail as listed and writes of at most `most` bytes.
+/// Draws the picture of the text, with reads and writes that fail as listed and writes of at most `most` bytes.
 fn run_on(
     rt: &impl Abort,
     alloc: Global,
@@ -67,7 +67,7 @@ fn run_on(
     }
 }
 
-/// Whether the piece stands somewhere in the text.
+/// Whether the piece stands somewhere in the text of a picture.
 fn has(text: &[u8], piece: &str) -> bool {
     for start in 0..text.len() {
         if text[start..].starts_with(piece.as_bytes()) {
@@ -139,7 +139,7 @@ fn stale_journal(rt: &impl Abort, alloc: Global) -> Vec<u8> {
     bytes_of(rt, alloc, STALE)
 }
 
-/// Draws the report of so many entries, each of which says that there is no site 17.
+/// Draws the picture of the report of so many entries, each of which says that there is no site 17.
 fn run_long(rt: &impl Abort, alloc: Global, count: u64) -> Run {
     let mut text = bytes_of(rt, alloc, "journal ");
     push_decimal(count, &mut text).expect(rt, "memory");

@@ -18,7 +18,7 @@ fn found(rt: &impl Abort, alloc: Global, turns: u16, text: &[u8]) -> Audit {
     audit_text(alloc, layout, text).expect(rt, "memory")
 }
 
-/// What is found, as in a row.
+/// What an audit finds in the text, told as in a row.
 fn told_of(rt: &impl Abort, alloc: Global, turns: u16, text: &str) -> String {
     let mut told = String::new(alloc);
     match found(rt, alloc, turns, text.as_bytes()) {
@@ -28,7 +28,7 @@ fn told_of(rt: &impl Abort, alloc: Global, turns: u16, text: &str) -> String {
     told
 }
 
-/// Appends what the character of a row stands for.
+/// Appends what the character of a row stands for to the text that is to be audited.
 fn push_part(rt: &impl Abort, text: &mut String, c: char) {
     let told = match c {
         ';' => text.push('\n'),
@@ -38,7 +38,7 @@ fn push_part(rt: &impl Abort, text: &mut String, c: char) {
     told.expect(rt, "memory");
 }
 
-/// The text of a row.
+/// The text of a row, which is to be audited.
 fn text_of(rt: &impl Abort, alloc: Global, row: &str) -> String {
     let mut text = String::new(alloc);
     for c in row.chars() {
@@ -55,7 +55,7 @@ fn assert_row(rt: &impl Abort, alloc: Global, turns: u16, row: &str) {
     assert_eq!(rt; told.as_str(), want, "{row}");
 }
 
-/// Asserts what each row says, for one place on each site.
+/// Asserts what each row says of the audit of its text, for one place on each site.
 fn assert_rows(rt: &impl Abort, alloc: Global, rows: &str) {
     for row in rows.lines() {
         assert_row(rt, alloc, 1, row);

@@ -24,7 +24,7 @@ impl From<Failed> for Stop {
     }
 }
 
-/// Writes a heading and then the whole input.
+/// Writes a heading and then the whole input, as a layer above sources and sinks may do.
 fn copy<S: Source, K: Sink>(
     alloc: Global,
     source: &mut S,
@@ -51,7 +51,7 @@ fn copy<S: Source, K: Sink>(
     Ok(())
 }
 
-/// The whole input of a source of which no read is listed.
+/// The whole input of a source in memory of which no read is listed to fail.
 fn read_reliable(alloc: Global, source: &mut MemSource) -> Result<Vec<u8>, ReadAll>
     requires unlisted { source.old.plan.failing ≡ [] }
     requires no_fault_yet { source.old.plan.faults ≡ 0 }

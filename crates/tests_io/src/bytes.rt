@@ -89,7 +89,7 @@ fn front<'a>(rt: &impl Abort, bytes: &'a [u8], len: usize) -> &'a [u8] {
     bytes.get(..len).expect(rt, "a part")
 }
 
-/// Two bytes stand behind the first `most`, and the last one of these is an `a`.
+/// In what a sink holds two bytes stand behind the first `most`, and the last one of these is an `a`.
 fn assert_ends_behind(rt: &impl Abort, bytes: &[u8], most: usize) {
     assert!(rt; bytes.len().checked_sub(most) == Some(2));
     assert!(rt; bytes.ends_with(b"abc"));

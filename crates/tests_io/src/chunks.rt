@@ -53,7 +53,7 @@ fn receive_in_window(rt: &impl Abort, alloc: Global, first: Chunk, second: Chunk
     assert!(rt; receiver.next().is_none());
 }
 
-/// The next chunk has these bytes.
+/// The next chunk that the receiver delivers has these bytes.
 fn assert_delivers(rt: &impl Abort, receiver: &mut Receiver, bytes: &[u8]) {
     let next = receiver.next().expect(rt, "the chunk");
     assert_bytes(rt, &next, bytes);

@@ -56,13 +56,13 @@ fn run_on(
     }
 }
 
-/// Asserts that the run of this name ended so and wrote this.
+/// Asserts that the run of `lossy` with this name ended so and wrote this.
 fn assert_ended(rt: &impl Abort, run: &Run, status: Status, written: &str, name: &str) {
     assert_eq!(rt; run.status, status, "{name}");
     assert!(rt; run.written.as_slice() == written.as_bytes(), "{name}");
 }
 
-/// Asserts what is written for the text, whatever a write takes.
+/// Asserts what `lossy` writes for the text, whatever a write takes.
 fn assert_writes(rt: &impl Abort, alloc: Global, text: &str, written: &str) {
     for most in [1, 4, 64] {
         let run = run_on(rt, alloc, text.as_bytes(), &[], most, &[]);
@@ -76,13 +76,13 @@ fn lossy_line_carries_hello(rt: HostRuntime) {
     assert_writes(&rt, rt.alloc(), "", "\nwire 0 0\n");
 }
 
-/// Asserts how it ends where this read fails, and what it wrote.
+/// Asserts how `lossy` ends where this read fails, and what it wrote.
 fn assert_read_fails(rt: &impl Abort, alloc: Global, read: u64, status: Status, written: &str) {
     let run = run_on(rt, alloc, b"hello", &[read], 64, &[]);
     assert_ended(rt, &run, status, written, "a source that fails");
 }
 
-/// Asserts how it ends where this write of one byte fails, and how many bytes it wrote.
+/// Asserts how `lossy` ends where this write of one byte fails, and how many bytes it wrote.
 fn assert_write_fails(rt: &impl Abort, alloc: Global, write: u64, status: Status, count: u64) {
     let run = run_on(rt, alloc, b"hello", &[], 1, &[write]);
     assert_eq!(rt; run.status, status, "at {write}");
@@ -90,7 +90,7 @@ fn assert_write_fails(rt: &impl Abort, alloc: Global, write: u64, status: Status
     assert!(rt; HELLO.as_bytes().starts_with(&run.written), "at {write}");
 }
 
-/// Asserts that each of the 15 one-byte writes for `hello`, when it fails, ends the run behind those before it.
+/// Asserts that each of the 15 one-byte writes of `lossy` for `hello`, when it fails, ends the run behind those before it.
 fn assert_each_write_fails(rt: &impl Abort, alloc: Global) {
     for count in 0..15_u64 {
         assert_write_fails(rt, alloc, count + 1, Status::WriteFault, count);

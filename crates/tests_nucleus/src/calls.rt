@@ -15,7 +15,7 @@ use std::alloc::Global;
 use std::process::Abort;
 use std::sync::Wait;
 
-/// The id of a direct message.
+/// The id of a direct message, as the calls of a nucleus on one thread have it.
 fn id(seat: u32, number: u32) -> MsgId {
     MsgId {
         seat,
@@ -24,22 +24,22 @@ fn id(seat: u32, number: u32) -> MsgId {
     }
 }
 
-/// The message is posted.
+/// What a call on one thread is to tell: the message is posted.
 fn posted(seat: u32, number: u32) -> Told {
     Told::Replied(Reply::Posted(id(seat, number)))
 }
 
-/// The first port of the site is made.
+/// What a call on one thread is to tell: the first port of the site is made.
 fn made(rt: &impl Abort, site: u16) -> Told {
     Told::Replied(Reply::Made(port_of(rt, site, 1)))
 }
 
-/// The port is there.
+/// What a call on one thread is to tell: the port is there.
 fn located(place: u16, hop: u64, upto: u64) -> Told {
     Told::Located(Located { place, hop, upto })
 }
 
-/// Seat 1 makes a port and a group, and puts the port into it.
+/// Calls, each with what it is to tell: seat 1 makes a port and a group, and puts the port into it.
 fn makes(rt: &impl Abort) -> [(Call, Told); 5] {
     [
         (Call::MakePort { site: 1 }, made(rt, 1)),
@@ -50,7 +50,8 @@ fn makes(rt: &impl Abort) -> [(Call, Told); 5] {
     ]
 }
 
-/// Seat 2 makes a port and sends to that of seat 1, and both places are served until the verdict is there.
+/// Calls, each with what it is to tell: seat 2 makes a port and sends to that of seat 1, and both places are served until the
+/// verdict is there.
 fn sends(rt: &impl Abort) -> [(Call, Told); 9] {
     let accepted = Outcome::Answer(Answer::Accepted { pos: 0 });
     [
@@ -66,7 +67,7 @@ fn sends(rt: &impl Abort) -> [(Call, Told); 9] {
     ]
 }
 
-/// Seat 2 calls, tries again and gives up.
+/// Calls, each with what it is to tell: seat 2 calls, tries again and gives up.
 fn asks() -> [(Call, Told); 7] {
     let outstanding = Reply::Outstanding { number: 1 };
     let cancelled = Reply::Cancelled { number: 1 };
@@ -81,7 +82,8 @@ fn asks() -> [(Call, Told); 7] {
     ]
 }
 
-/// Seat 1 receives both messages, answers the second, moves its port away and takes it out of the group.
+/// Calls, each with what it is to tell: seat 1 receives both messages, answers the second, moves its port away and takes it out of
+/// the group.
 fn receives() -> [(Call, Told); 6] {
     let away = Call::Move { site: 1, number: 2 };
     [
@@ -94,7 +96,7 @@ fn receives() -> [(Call, Told); 6] {
     ]
 }
 
-/// What both seats call.
+/// Plays what both seats call, on one thread.
 fn play_both<R: Wait + Abort>(
     rt: &R,
     nucleus: &Nucleus,
@@ -113,7 +115,7 @@ fn play_both<R: Wait + Abort>(
     play(rt, nucleus, one, &receives(), again);
 }
 
-/// Asserts that the layout has no such actor.
+/// Asserts that no pass enters the nucleus in an actor that the layout has not.
 fn assert_no_actor(rt: &impl Abort, nucleus: &Nucleus, keeper: &mut Pass)
     requires { IsPassOf nucleus.now keeper.old }
     ensures { IsPassOf nucleus.now keeper.new }
@@ -123,7 +125,8 @@ fn assert_no_actor(rt: &impl Abort, nucleus: &Nucleus, keeper: &mut Pass)
     assert!(rt; refused == Some(EnterFault::NoActor));
 }
 
-/// A nucleus of two sites of one place each, and its opening pass. Where `again` is true it is started once more for want of memory.
+/// A nucleus of two sites of one place each for the calls of two seats, and its opening pass. Where `again` is true it is started
+/// once more for want of memory.
 fn start_two_sites<R: Wait + Abort>(rt: &R, alloc: Global, again: bool) -> (Nucleus, Pass)
     ensures { IsPassOf result.0 result.1 }
 {
@@ -136,7 +139,8 @@ fn start_two_sites<R: Wait + Abort>(rt: &R, alloc: Global, again: bool) -> (Nucl
     start(rt, alloc, 2, 1)
 }
 
-/// Ends the nucleus, and asserts that two packets are left. Where there may be no memory it may be given up.
+/// Ends the nucleus behind the calls of two seats, and asserts that two packets are left. Where there may be no memory it may be
+/// given up.
 fn assert_two_are_left<R: Wait + Abort>(rt: &R, nucleus: Nucleus, pass: Pass, again: bool)
     requires { IsPassOf nucleus pass }
 {
@@ -188,6 +192,7 @@ fn refused<R: Wait + Abort>(rt: &R, nucleus: Nucleus, pass: Pass) -> (Nucleus, P
     }
 }
 
+/// A nucleus is not closed while a pass is out, and goes on behind that.
 #[test]
 fn close_asks_for_all_passes(rt: HostRuntime) {
     let (nucleus, mut pass) = start(&rt, rt.alloc(), 1, 1);
@@ -207,6 +212,7 @@ fn close_asks_for_all_passes(rt: HostRuntime) {
     close(&rt, nucleus, pass);
 }
 
+/// What a pass of a nucleus sent is worked off by another pass when the first one has ended.
 #[test]
 fn a_packet_goes_on_behind_its_sender(rt: HostRuntime) {
     let (nucleus, mut pass) = start(&rt, rt.alloc(), 2, 1);
@@ -231,8 +237,8 @@ fn a_packet_goes_on_behind_its_sender(rt: HostRuntime) {
     assert!(rt; closed.rest.len() == 1);
 }
 
-/// Enters a pass at site 1 and asks it, which finds a reader or not, and ends it in another pass than the keeper, so that its reader
-/// is dropped.
+/// Enters a pass at site 1 and asks it where the port is, for which it finds a reader or not, and ends it in another pass than the
+/// keeper, so that its reader is dropped.
 fn assert_reads<R: Wait + Abort>(
     rt: &R,
     nucleus: &Nucleus,
@@ -269,7 +275,7 @@ fn assert_readers_end<R: Wait + Abort>(
     assert_reads(rt, nucleus, keeper, into, Told::ReadersFull);
 }
 
-/// What the keeper calls: it makes a port, which then departs to the other site.
+/// Calls, each with what it is to tell: the keeper makes a port, which then departs to the other site.
 fn departs(rt: &impl Abort) -> [(Call, Told); 6] {
     let departed = Reply::Departed { hop: 1 };
     [
@@ -282,6 +288,7 @@ fn departs(rt: &impl Abort) -> [(Call, Told); 6] {
     ]
 }
 
+/// Passes of a nucleus locate a port by the board, while readers are left.
 #[test]
 fn locate_reads_the_board(rt: HostRuntime) {
     let (nucleus, mut pass) = start(&rt, rt.alloc(), 2, 1);

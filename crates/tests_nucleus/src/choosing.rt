@@ -22,7 +22,7 @@ enum Given {
     Other,
 }
 
-/// What the receive gave.
+/// What the receive of a chooser on one thread gave.
 fn outcome_of(received: &Received) -> Given {
     match received {
         Received::Taken {
@@ -42,7 +42,7 @@ fn outcome_of(received: &Received) -> Given {
     }
 }
 
-/// Receives, and asserts what is given.
+/// Receives by a chooser on one thread, and asserts what is given.
 fn assert_gives(
     rt: &impl Abort,
     nucleus: &Nucleus,
@@ -59,7 +59,7 @@ fn assert_gives(
     }
 }
 
-/// Receives once for each, and asserts what is given.
+/// Receives by a chooser on one thread, once for each, and asserts what is given.
 fn assert_all_given(
     rt: &impl Abort,
     nucleus: &Nucleus,
@@ -75,7 +75,7 @@ fn assert_all_given(
     }
 }
 
-/// A nucleus of one site, on which the opening pass made two ports, and sent `a` to the first and `b` to the second.
+/// A nucleus of one site for a chooser, on which the opening pass made two ports, and sent `a` to the first and `b` to the second.
 fn start_with_messages<R: Wait + Abort>(rt: &R, alloc: Global) -> (Nucleus, Pass)
     ensures { IsPassOf result.0 result.1 }
 {
@@ -95,7 +95,8 @@ pub(crate) fn chooser_of(rt: &impl Abort, alloc: Global, enabled: &[(u64, u8)]) 
     chooser
 }
 
-/// Asserts that the first place's journal has so many entries, of which the one with this index has this act.
+/// Asserts that behind a chooser's receives the first place's journal has so many entries, of which the one with this index has
+/// this act.
 fn assert_journal(rt: &impl Abort, closed: &Closed, length: usize, index: usize, act: &Act) {
     let Some(journal) = closed.journals.first() else {
         panic!(rt; "no journal")
@@ -140,7 +141,7 @@ fn assert_enables(
     assert!(rt; chooser.enable(port_of(rt, 1, number), 3) == wanted);
 }
 
-/// Disables it, and asserts what is told.
+/// Disables the port with this number of site 1, and asserts what is told.
 fn assert_disables(
     rt: &impl Abort,
     chooser: &mut Chooser,
@@ -150,6 +151,7 @@ fn assert_disables(
     assert!(rt; chooser.disable(port_of(rt, 1, number)) == wanted);
 }
 
+/// A chooser refuses to enable a port once more, or one beyond 32, and to disable one that is not enabled.
 #[test]
 fn enabling_is_refused(rt: HostRuntime) {
     let mut chooser = Chooser::start(rt.alloc()).expect(&rt, "memory");
@@ -163,7 +165,7 @@ fn enabling_is_refused(rt: HostRuntime) {
     assert_enables(&rt, &mut chooser, 33, Ok(()));
 }
 
-/// The pass moves both ports to another actor of their site.
+/// The pass moves both ports of the chooser to another actor of their site.
 fn move_both<R: Wait + Abort>(rt: &R, nucleus: &Nucleus, pass: &mut Pass)
     requires { IsPassOf nucleus.now pass.old }
     ensures { IsPassOf nucleus.now pass.new }

@@ -26,7 +26,7 @@ struct Task {
     crews: u64,
 }
 
-/// Sends so many messages to each of the ports of the caller's site. The ports are made where there are none.
+/// Sends so many messages for a crew to each of the ports of the caller's site. The ports are made where there are none.
 fn fill<R: Wait + Abort>(
     rt: &R,
     alloc: Global,
@@ -49,7 +49,7 @@ fn fill<R: Wait + Abort>(
     }
 }
 
-/// Does so at each site, by a caller that comes and goes.
+/// Fills the ports of a crew's task at each site, by a caller that comes and goes.
 fn fill_all<R: Wait + Abort>(
     rt: &R,
     alloc: Global,
@@ -68,7 +68,7 @@ fn fill_all<R: Wait + Abort>(
     }
 }
 
-/// Each of the ports, with the first actor of its site.
+/// Each of the ports of a crew's task, with the first actor of its site.
 fn pairs_of(rt: &impl Abort, alloc: Global, task: &Task) -> Vec<(Ui, Ui)> {
     let mut pairs = Vec::new(alloc);
     for site in 1..=task.sites {
@@ -134,7 +134,7 @@ fn crews<H: Handler, R: Threads + Wait + Abort + Sync>(
     done
 }
 
-/// How many takes a journal has.
+/// How many takes a journal of a crew's nucleus has.
 fn takes_in(journal: &[Entry]) -> u64 {
     let mut takes: u64 = 0;
     for entry in journal {
@@ -145,7 +145,7 @@ fn takes_in(journal: &[Entry]) -> u64 {
     takes
 }
 
-/// How many takes the journals have.
+/// How many takes the journals of a crew's nucleus have.
 fn takes_of(closed: &Closed) -> u64 {
     let mut takes: u64 = 0;
     for journal in &closed.journals {
@@ -169,7 +169,7 @@ fn played<H: Handler, R: Threads + Wait + Abort + Sync>(
     (done, close(rt, nucleus, pass))
 }
 
-/// Asserts that all crews do it, by so many takes, and that the merge of the journals is legal.
+/// Asserts that all crews do the task, by so many takes, and that the merge of the journals is legal.
 fn assert_all_done<H: Handler, R: Threads + Wait + Abort + Sync>(
     rt: &R,
     alloc: Global,

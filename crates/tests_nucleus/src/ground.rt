@@ -16,7 +16,7 @@ use std::process::Abort;
 use std::sync::Wait;
 use std::thread;
 
-/// The actor with this number of the site.
+/// The actor with this number of the site, as the tests of the nucleus name it.
 pub(crate) fn actor_of(rt: &impl Abort, site: u16, number: u64) -> Ui
     ensures { is_actor result ≡ true }
 {
@@ -25,7 +25,7 @@ pub(crate) fn actor_of(rt: &impl Abort, site: u16, number: u64) -> Ui
     name
 }
 
-/// The port with this number of the site.
+/// The port with this number of the site, as the tests of the nucleus name it.
 pub(crate) fn port_of(rt: &impl Abort, site: u16, number: u64) -> Ui
     ensures { is_port result ≡ true }
 {
@@ -34,7 +34,7 @@ pub(crate) fn port_of(rt: &impl Abort, site: u16, number: u64) -> Ui
     name
 }
 
-/// A nucleus of so many sites with so many places each, and its opening pass.
+/// A test's nucleus of so many sites with so many places each, and its opening pass.
 pub(crate) fn start<R: Wait + Abort>(
     rt: &R,
     alloc: Global,
@@ -50,7 +50,7 @@ pub(crate) fn start<R: Wait + Abort>(
     started
 }
 
-/// A pass of a caller in this actor of the site.
+/// A pass of a caller in this actor of the site, which enters a test's nucleus.
 pub(crate) fn enter(
     rt: &impl Abort,
     nucleus: &Nucleus,
@@ -68,7 +68,7 @@ pub(crate) fn enter(
     pass
 }
 
-/// Ends the pass in another one.
+/// Ends the pass of a test's nucleus in another one.
 pub(crate) fn retire(nucleus: &Nucleus, pass: Pass, into: &mut Pass)
     requires pass { IsPassOf nucleus.now pass }
     requires into { IsPassOf nucleus.now into.old }
@@ -77,7 +77,7 @@ pub(crate) fn retire(nucleus: &Nucleus, pass: Pass, into: &mut Pass)
     nucleus.retire(pass, into);
 }
 
-/// Gives the command until no other pass is in the way.
+/// Gives the command to a test's nucleus until no other pass is in the way.
 pub(crate) fn insist<R: Wait + Abort>(
     rt: &R,
     nucleus: &Nucleus,
@@ -98,7 +98,7 @@ pub(crate) fn insist<R: Wait + Abort>(
     unreachable!()
 }
 
-/// Makes the next port of the actor, with room for so many messages.
+/// Makes the next port of the actor in a test's nucleus, with room for so many messages.
 pub(crate) fn make<R: Wait + Abort>(
     rt: &R,
     nucleus: &Nucleus,
@@ -115,7 +115,7 @@ pub(crate) fn make<R: Wait + Abort>(
     }
 }
 
-/// A nucleus of one site, on which the opening pass made two ports.
+/// A test's nucleus of one site, on which the opening pass made two ports.
 pub(crate) fn start_two_ports<R: Wait + Abort>(rt: &R, alloc: Global) -> (Nucleus, Pass)
     ensures { IsPassOf result.0 result.1 }
 {
@@ -126,7 +126,7 @@ pub(crate) fn start_two_ports<R: Wait + Abort>(rt: &R, alloc: Global) -> (Nucleu
     (nucleus, pass)
 }
 
-/// The command that sends these bytes to the port.
+/// The command by which a test of the nucleus sends these bytes to the port.
 pub(crate) fn sending(rt: &impl Abort, alloc: Global, port: Ui, bytes: &[u8]) -> Command {
     let dest = Dest::Port(port);
     assert!(rt; bytes.len() <= BODY_LIMIT);
@@ -134,7 +134,7 @@ pub(crate) fn sending(rt: &impl Abort, alloc: Global, port: Ui, bytes: &[u8]) ->
     Command::Send { dest, body }
 }
 
-/// Sends to a port of the caller's own place, and again while it is full.
+/// Sends in a test's nucleus to a port of the caller's own place, and again while it is full.
 pub(crate) fn send<R: Wait + Abort>(
     rt: &R,
     alloc: Global,
@@ -156,7 +156,7 @@ pub(crate) fn send<R: Wait + Abort>(
     }
 }
 
-/// Ends the nucleus.
+/// Ends a test's nucleus, and gives what it leaves.
 pub(crate) fn close<R: Wait + Abort>(rt: &R, nucleus: Nucleus, pass: Pass) -> Closed
     requires { IsPassOf nucleus pass }
 {
@@ -167,7 +167,7 @@ pub(crate) fn close<R: Wait + Abort>(rt: &R, nucleus: Nucleus, pass: Pass) -> Cl
     }
 }
 
-/// Asserts that the merge of the journals is legal from the first entry on.
+/// Asserts that the merge of the journals that a test's nucleus left is legal from the first entry on.
 pub(crate) fn assert_lawful(rt: &impl Abort, alloc: Global, layout: Layout, closed: &Closed) {
     let all = merge(alloc, closed.journals.as_slice()).expect(rt, "memory");
     let mut world = World::opening(alloc, layout).expect(rt, "memory");

@@ -19,7 +19,7 @@ pub(crate) struct Counts {
 }
 
 impl Counts {
-    /// No call was made yet.
+    /// A handler that counts its calls, of which none was made yet.
     pub(crate) fn start() -> Counts {
         Counts {
             calls: AtomicU64::new(0),
@@ -28,7 +28,7 @@ impl Counts {
         }
     }
 
-    /// How many calls were made, and whether two were at once.
+    /// How many calls of the counting handler were made, and whether two were at once.
     pub(crate) fn counted(&self) -> (u64, bool) {
         (
             self.calls.load(Ordering::SeqCst),
@@ -40,6 +40,7 @@ impl Counts {
 impl Handler for Counts {
     ghost value = { λ _ _ _ _. 1 };
 
+    /// Counts the call of the handler, and sees whether another one is running.
     fn handle(&self, _port: Ui, pos: u64, _message: &Message) -> u64 {
         if self.running.fetch_add(1, Ordering::SeqCst) > 0 {
             self.met.store(true, Ordering::SeqCst);
@@ -62,7 +63,7 @@ pub(crate) struct Meets {
 }
 
 impl Meets {
-    /// No call was made yet.
+    /// A handler that holds the messages of two ports, of which no call was made yet.
     pub(crate) fn start() -> Meets {
         Meets {
             first: AtomicBool::new(false),
@@ -71,7 +72,7 @@ impl Meets {
         }
     }
 
-    /// Whether a call waited for the other in vain.
+    /// Whether a call of the handler waited for that of the other port in vain.
     pub(crate) fn missed(&self) -> bool {
         self.missed.load(Ordering::SeqCst)
     }
@@ -80,6 +81,7 @@ impl Meets {
 impl Handler for Meets {
     ghost value = { λ _ _ _ _. 1 };
 
+    /// Holds the message until that of the other port was begun, and notes where that does not come.
     fn handle(&self, port: Ui, _pos: u64, _message: &Message) -> u64 {
         let (own, other) = if port.number() == 2 {
             (&self.second, &self.first)

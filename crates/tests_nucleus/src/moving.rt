@@ -44,19 +44,21 @@ struct Meeting {
     sum: AtomicU64,
 }
 
-/// The caller of the site is in the actor of the same number, so that they are at different places of their sites.
+/// The actor of the site's caller, while ports move: it has the number of the site, so that the callers are at different places of
+/// their sites.
 fn caller_of(rt: &impl Abort, site: u16) -> Ui
     ensures { is_actor result ≡ true }
 {
     actor_of(rt, site, u64::from(site))
 }
 
-/// The site where the port with this index is made.
+/// The site where the port with this index, of the 32 that move, is made.
 fn site_at(index: u64) -> u16 {
     (1 + index / PORTS_OF_SITE % 4) as u16
 }
 
-/// The port with this index, where a site has so many places: the number of a name says at which place of the site it was made.
+/// The port with this index, of the 32 that move, where a site has so many places: the number of a name says at which place of the
+/// site it was made.
 fn port_at(rt: &impl Abort, turns: u64, index: u64) -> Ui
     ensures { is_port result ≡ true }
 {
@@ -66,7 +68,7 @@ fn port_at(rt: &impl Abort, turns: u64, index: u64) -> Ui
     port_of(rt, site, 1 + place + index % PORTS_OF_SITE * turns)
 }
 
-/// Pumps each place once.
+/// Pumps each place once, while the ports move.
 fn pump_all<R: Wait + Abort>(rt: &R, nucleus: &Nucleus, pass: &mut Pass)
     requires { IsPassOf nucleus.now pass.old }
     ensures { IsPassOf nucleus.now pass.new }
@@ -82,7 +84,7 @@ fn pump_all<R: Wait + Abort>(rt: &R, nucleus: &Nucleus, pass: &mut Pass)
     }
 }
 
-/// Moves the port to the caller of the site, where this caller has it.
+/// Moves one of the 32 ports to the caller of the site, where this caller has it.
 fn move_to<R: Wait + Abort>(rt: &R, nucleus: &Nucleus, pass: &mut Pass, port: Ui, site: u16)
     requires { IsPassOf nucleus.now pass.old }
     ensures { IsPassOf nucleus.now pass.new }
@@ -91,7 +93,7 @@ fn move_to<R: Wait + Abort>(rt: &R, nucleus: &Nucleus, pass: &mut Pass, port: Ui
     let _reply = insist(rt, nucleus, pass, &Command::Move { port, actor });
 }
 
-/// Whether the message was accepted. None where that is not known by now.
+/// Whether the message to a port that moves was accepted. None where that is not known by now.
 fn verdict(rt: &impl Abort, nucleus: &Nucleus, pass: &mut Pass, id: MsgId) -> Option<bool>
     requires { IsPassOf nucleus.now pass.old }
     ensures { IsPassOf nucleus.now pass.new }
@@ -106,7 +108,7 @@ fn verdict(rt: &impl Abort, nucleus: &Nucleus, pass: &mut Pass, id: MsgId) -> Op
     }
 }
 
-/// Whether the message was accepted, once that is known.
+/// Whether the message to a port that moves was accepted, once that is known.
 fn is_accepted<R: Wait + Abort>(rt: &R, nucleus: &Nucleus, pass: &mut Pass, id: MsgId) -> bool
     requires { IsPassOf nucleus.now pass.old }
     ensures { IsPassOf nucleus.now pass.new }
@@ -120,7 +122,7 @@ fn is_accepted<R: Wait + Abort>(rt: &R, nucleus: &Nucleus, pass: &mut Pass, id: 
     unreachable!()
 }
 
-/// Gives the command, which sends a message, once. Whether that is accepted.
+/// Gives the command, which sends a message to a port that moves, once. Whether that is accepted.
 fn is_sent<R: Wait + Abort>(rt: &R, nucleus: &Nucleus, pass: &mut Pass, command: &Command) -> bool
     requires { IsPassOf nucleus.now pass.old }
     ensures { IsPassOf nucleus.now pass.new }
@@ -135,7 +137,7 @@ fn is_sent<R: Wait + Abort>(rt: &R, nucleus: &Nucleus, pass: &mut Pass, command:
     }
 }
 
-/// Sends the number to the port until it is accepted.
+/// Sends the number to the port, which moves, until it is accepted.
 fn send_number<R: Wait + Abort>(
     rt: &R,
     alloc: Global,
@@ -187,7 +189,7 @@ fn send_and_bring<R: Wait + Abort>(
     unreachable!()
 }
 
-/// The number that a message says.
+/// The number that a message to a port that moves says.
 fn number_in(rt: &impl Abort, body: &[u8]) -> u64 {
     assert!(rt; body.len() == 2);
     u64::from(body[0]) * 256 + u64::from(body[1])
@@ -204,7 +206,7 @@ enum Came {
     Busy,
 }
 
-/// Receives on all ports, once.
+/// Receives on all ports that move, once.
 fn receive_once(rt: &impl Abort, nucleus: &Nucleus, pass: &mut Pass, chooser: &Chooser) -> Came
     requires { IsPassOf nucleus.now pass.old }
     ensures { IsPassOf nucleus.now pass.new }
@@ -251,7 +253,7 @@ fn receive_all<R: Wait + Abort>(
     unreachable!()
 }
 
-/// What the caller of the site does.
+/// What the caller of the site does while the ports move.
 fn take_part<R: Wait + Abort>(
     rt: &R,
     alloc: Global,
@@ -273,7 +275,7 @@ fn take_part<R: Wait + Abort>(
 /// The callers of two sites.
 type Two = ((Pass, u16), (Pass, u16));
 
-/// Both take part, each on a thread of its own.
+/// The callers of two sites meet at the ports that move, each on a thread of its own.
 fn two_meet<R: Threads + Wait + Abort + Sync>(
     rt: &R,
     alloc: Global,
@@ -298,7 +300,7 @@ fn two_meet<R: Threads + Wait + Abort + Sync>(
     )
 }
 
-/// Four take part.
+/// The callers of four sites meet at the ports that move, each on a thread of its own.
 fn four_meet<R: Threads + Wait + Abort + Sync>(
     rt: &R,
     alloc: Global,
@@ -327,7 +329,7 @@ fn four_meet<R: Threads + Wait + Abort + Sync>(
     )
 }
 
-/// The callers of this site, 1 or 3, and the next one. Each makes its ports.
+/// The callers of this site, 1 or 3, and the next one, who are to meet at the ports that move. Each makes its ports.
 fn enter_two<R: Wait + Abort>(
     rt: &R,
     nucleus: &Nucleus,
@@ -345,7 +347,7 @@ fn enter_two<R: Wait + Abort>(
     ((one, first), (other, second))
 }
 
-/// The caller of the site, which makes its ports.
+/// The caller of the site, which makes its share of the 32 ports that move.
 fn enter_one<R: Wait + Abort>(
     rt: &R,
     nucleus: &Nucleus,
@@ -362,7 +364,7 @@ fn enter_one<R: Wait + Abort>(
     pass
 }
 
-/// Makes the ports of this site, with capacity 64, by its caller's pass, and asserts which name each gets.
+/// Makes this site's share of the 32 ports that move, with capacity 64, by its caller's pass, and asserts which name each gets.
 fn make_ports<R: Wait + Abort>(rt: &R, nucleus: &Nucleus, pass: &mut Pass, turns: u64, site: u16)
     requires { IsPassOf nucleus.now pass.old }
     ensures { IsPassOf nucleus.now pass.new }
@@ -375,7 +377,7 @@ fn make_ports<R: Wait + Abort>(rt: &R, nucleus: &Nucleus, pass: &mut Pass, turns
     }
 }
 
-/// Ends the passes of two callers that have met, into the keeper's.
+/// Ends the passes of two callers that have met at the ports that move, into the keeper's.
 fn retire_two(nucleus: &Nucleus, two: (Pass, Pass), keeper: &mut Pass)
     requires passes { IsPassOf nucleus.now two.0 × IsPassOf nucleus.now two.1 }
     requires keeper { IsPassOf nucleus.now keeper.old }
@@ -386,7 +388,7 @@ fn retire_two(nucleus: &Nucleus, two: (Pass, Pass), keeper: &mut Pass)
     retire(nucleus, second, keeper);
 }
 
-/// The callers of all four sites meet.
+/// The callers of all four sites meet at the ports that move.
 fn all_meet<R: Threads + Wait + Abort + Sync>(
     rt: &R,
     alloc: Global,
@@ -404,7 +406,7 @@ fn all_meet<R: Threads + Wait + Abort + Sync>(
     retire_two(nucleus, high, keeper);
 }
 
-/// A chooser of all ports, with five priorities.
+/// A chooser of all 32 ports that move, with five priorities.
 fn chooser_of_all(rt: &impl Abort, alloc: Global, turns: u64) -> Chooser {
     let mut chooser = Chooser::start(alloc).expect(rt, "memory");
     for index in 0..PORTS {
@@ -414,7 +416,8 @@ fn chooser_of_all(rt: &impl Abort, alloc: Global, turns: u64) -> Chooser {
     chooser
 }
 
-/// Asserts that each message is received once, and that the merge of the journals is legal, with so many places a site.
+/// Asserts that each message to the ports that move is received once, and that the merge of the journals is legal, with so many
+/// places a site.
 fn assert_nothing_lost<R: Threads + Wait + Abort + Sync>(rt: &R, alloc: Global, turns: u16) {
     let (nucleus, mut keeper) = start(rt, alloc, 4, turns);
     let turns = u64::from(turns);

@@ -76,7 +76,7 @@ pub(crate) enum Told {
     Refused,
 }
 
-/// The first group of site 1.
+/// The first group of site 1, which the calls of a pass name.
 pub(crate) fn first_group(rt: &impl Abort) -> Ui
     ensures { is_group result ≡ true }
 {
@@ -85,7 +85,7 @@ pub(crate) fn first_group(rt: &impl Abort) -> Ui
     name
 }
 
-/// What is told of a fault.
+/// What a call of the nucleus tells, by its fault.
 fn fault(fault: CallFault) -> Told {
     match fault {
         CallFault::Memory(_) => Told::Memory,
@@ -93,7 +93,7 @@ fn fault(fault: CallFault) -> Told {
     }
 }
 
-/// What is told of a reply.
+/// What a call of the nucleus tells, by its reply or its fault.
 fn replied(told: Result<Reply, CallFault>) -> Told {
     match told {
         Ok(Reply::Taken { pos, .. }) => Told::Taken(pos),
@@ -102,7 +102,7 @@ fn replied(told: Result<Reply, CallFault>) -> Told {
     }
 }
 
-/// Makes a port or a group, or changes who is in the group.
+/// Makes a port or a group, or changes who is in the group, as the pass's call says.
 fn make_or_join(
     rt: &impl Abort,
     nucleus: &Nucleus,
@@ -122,7 +122,7 @@ fn make_or_join(
     }
 }
 
-/// Posts a message.
+/// Posts a message, as the pass's call says.
 fn post(rt: &impl Abort, nucleus: &Nucleus, pass: &mut Pass, call: Call) -> Result<Reply, CallFault>
     requires { IsPassOf nucleus.now pass.old }
     ensures { IsPassOf nucleus.now pass.new }
@@ -138,7 +138,7 @@ fn post(rt: &impl Abort, nucleus: &Nucleus, pass: &mut Pass, call: Call) -> Resu
     }
 }
 
-/// Gives a command.
+/// Gives a command, as the pass's call says.
 fn command(
     rt: &impl Abort,
     nucleus: &Nucleus,
@@ -158,7 +158,7 @@ fn command(
     }
 }
 
-/// Asks what became of the message.
+/// Asks what became of the message, and gives what the pass is told.
 fn outcome(nucleus: &Nucleus, pass: &mut Pass, id: MsgId) -> Told
     requires { IsPassOf nucleus.now pass.old }
     ensures { IsPassOf nucleus.now pass.new }
@@ -169,7 +169,7 @@ fn outcome(nucleus: &Nucleus, pass: &mut Pass, id: MsgId) -> Told
     }
 }
 
-/// Serves the place.
+/// Serves the place, and gives what the pass is told.
 fn pump<R: Wait + Abort>(rt: &R, nucleus: &Nucleus, pass: &mut Pass, place: u16) -> Told
     requires { IsPassOf nucleus.now pass.old }
     ensures { IsPassOf nucleus.now pass.new }
@@ -182,7 +182,7 @@ fn pump<R: Wait + Abort>(rt: &R, nucleus: &Nucleus, pass: &mut Pass, place: u16)
     }
 }
 
-/// Publishes what the place's board lacks.
+/// Publishes what the place's board lacks, and gives what the pass is told.
 fn publish<R: Wait + Abort>(rt: &R, nucleus: &Nucleus, pass: &mut Pass, place: u16) -> Told
     requires { IsPassOf nucleus.now pass.old }
     ensures { IsPassOf nucleus.now pass.new }
@@ -194,7 +194,7 @@ fn publish<R: Wait + Abort>(rt: &R, nucleus: &Nucleus, pass: &mut Pass, place: u
     }
 }
 
-/// Asks where the port is.
+/// Asks where the port is, and gives what the pass is told.
 fn locate(rt: &impl Abort, nucleus: &Nucleus, pass: &mut Pass) -> Told
     requires { IsPassOf nucleus.now pass.old }
     ensures { IsPassOf nucleus.now pass.new }
@@ -207,7 +207,7 @@ fn locate(rt: &impl Abort, nucleus: &Nucleus, pass: &mut Pass) -> Told
     }
 }
 
-/// Makes the call, and gives what it tells.
+/// Makes the pass's call, and gives what it tells.
 fn tell<R: Wait + Abort>(rt: &R, nucleus: &Nucleus, pass: &mut Pass, call: Call) -> Told
     requires { IsPassOf nucleus.now pass.old }
     ensures { IsPassOf nucleus.now pass.new }
@@ -221,7 +221,7 @@ fn tell<R: Wait + Abort>(rt: &R, nucleus: &Nucleus, pass: &mut Pass, call: Call)
     }
 }
 
-/// Asserts what the call tells. Where it found no memory and `again` is true, it is made once more.
+/// Asserts what the pass's call tells. Where it found no memory and `again` is true, it is made once more.
 fn assert_tells<R: Wait + Abort>(
     rt: &R,
     nucleus: &Nucleus,
@@ -240,7 +240,7 @@ fn assert_tells<R: Wait + Abort>(
     assert!(rt; told == *wanted);
 }
 
-/// Makes the calls one after another, and asserts what each tells.
+/// Makes the calls of a pass one after another, and asserts what each tells.
 pub(crate) fn play<R: Wait + Abort>(
     rt: &R,
     nucleus: &Nucleus,

@@ -42,7 +42,7 @@ fn serve<R: Wait>(
     unreachable!()
 }
 
-/// A chooser in which the first port of site 1 is plain, and the second urgent.
+/// The server's chooser, in which the first port of site 1 is plain, and the second urgent.
 fn chooser_of_two(rt: &impl Abort, alloc: Global) -> Chooser {
     chooser_of(rt, alloc, &[(1, 1), (2, 9)])
 }
@@ -127,7 +127,7 @@ fn send_and_serve<R: Threads + Wait + Abort + Sync>(
     )
 }
 
-/// A ring before the wait, and so many messages with a ring behind each, by a second thread.
+/// Asserts that the server serves all: a ring before the wait, and so many messages with a ring behind each, by a second thread.
 fn assert_all_served<R: Threads + Wait + Abort + Sync>(rt: &R, alloc: Global, count: u64) {
     let (nucleus, mut keeper) = start_two_ports(rt, alloc);
     let chooser = chooser_of_two(rt, alloc);

@@ -2,9 +2,9 @@
 //!
 //! - Scenarios are played over places that are handed packets one by one: what callers are told and what journals say.
 //!   Tables of scenarios are texts, which `playing` plays over the places and callers of `net`; what callers are told is
-//!   written as `lines`. The worked rows are in `tests_rows`.
+//!   written as `told_lines`. The worked rows are in `tests_rows`.
 //! - `limits` has those that take many callers, many ports or late clocks.
-//! - `packets` has packets by hand, lawful and not, which it reads from `words`; `records` are the ports in them.
+//! - `packets` has packets by hand, lawful and not, which it reads from `packet_words`; `records` are the ports in them.
 //! - `drawn` has packets and commands that are drawn, and a place that is served and given them.
 #![tactic(auto)]
 
@@ -15,8 +15,6 @@ mod groups;
 #[cfg(test)]
 mod limits;
 #[cfg(test)]
-mod lines;
-#[cfg(test)]
 mod messages;
 #[cfg(test)]
 mod migration;
@@ -25,12 +23,14 @@ mod names;
 #[cfg(test)]
 mod net;
 #[cfg(test)]
+mod packet_words;
+#[cfg(test)]
 mod packets;
 #[cfg(test)]
 mod playing;
 #[cfg(test)]
 mod records;
 #[cfg(test)]
-mod words;
+mod told_lines;
 #[cfg(test)]
 mod worked_rows;

@@ -8,7 +8,7 @@ use chorus_ui::{CLOCK_LIMIT, Kind, Ui};
 use std::alloc::Global;
 use std::process::Abort;
 
-/// A call of the port, to be answered there too.
+/// A call of the port whose table of clients is to fill, to be answered there too.
 fn call(rt: &impl Abort, alloc: Global, port: Ui) -> Command {
     let body = Body::new(alloc, b"q").expect(rt, "memory");
     Command::Call {
@@ -55,7 +55,8 @@ fn at_most_once_table_fills(rt: HostRuntime) {
     assert_ends(&rt, alloc, "clients", &net, TABLE_FILLS);
 }
 
-/// How it ends where a port with 64 messages is deleted: all are discarded, in their order.
+/// How the journals and what callers are told end where a port with 64 messages is deleted: all are discarded, in their
+/// order.
 fn deleted_full(rt: &impl Abort, alloc: Global) -> String {
     let mut text = String::new(alloc);
     text.push_str("journal\n129 1 1 accept 1:64:0 1.p.1 63\n130 1 1 delete 1.p.1")

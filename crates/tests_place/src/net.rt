@@ -4,7 +4,7 @@
 ghost use Rattle.std.specs.Prelude.{◌≡◌, ◌<◌};
 ghost use Rattle.chorus_place.specs.Calls.{state, MayCall};
 
-use crate::lines::push_told;
+use crate::told_lines::push_told;
 use chorus_calls::Caller;
 use chorus_entry::{Command, Entry, Hand, Packet};
 use chorus_merge::merge;
@@ -28,7 +28,7 @@ pub(crate) struct Seen {
     pub(crate) hand: Option<Hand>,
 }
 
-/// What is seen of them now.
+/// What is seen of the place and the caller now.
 pub(crate) fn look(place: &Place, caller: &Caller) -> Seen {
     Seen {
         entries: place.journal().len(),
@@ -43,12 +43,12 @@ pub(crate) fn look(place: &Place, caller: &Caller) -> Seen {
     }
 }
 
-/// The name that the text is of.
+/// The name that the text is of, for tests of places.
 pub(crate) fn named(rt: &impl Abort, text: &str) -> Ui {
     Ui::parse(text.as_bytes()).expect(rt, "a name")
 }
 
-/// Where the place of this number stands.
+/// Where the place of this number stands among those of a net.
 fn index(rt: &impl Abort, number: u16) -> usize {
     usize::from(number.checked_sub(1).expect(rt, "a place"))
 }
@@ -77,16 +77,16 @@ pub(crate) fn assert_may(rt: &impl Abort, place: &Place, caller: &Caller, comman
 /// A place as tests play it: its calls without what they promise, so that what plays it knows of a place no more than
 /// it asks. Where a call may not be made the test ends.
 pub(crate) trait Plays: Drop {
-    /// The place of this number, on which nothing happened yet.
+    /// The place of this number, to be played, on which nothing happened yet.
     fn begun(rt: &impl Abort, alloc: Global, layout: Layout, number: u16) -> Self;
 
-    /// What is seen of it and the caller.
+    /// What is seen of the played place and the caller.
     fn seen(&self, caller: &Caller) -> Seen;
 
-    /// All its entries, in order.
+    /// All entries of the played place, in order.
     fn entries(&self) -> &[Entry];
 
-    /// Gives it a command of the caller.
+    /// Gives the played place a command of the caller.
     fn told(
         &mut self,
         rt: &impl Abort,
@@ -94,13 +94,13 @@ pub(crate) trait Plays: Drop {
         command: Command,
     ) -> Result<Reply, PlaceFault>;
 
-    /// Hands it a packet that is lawful there.
+    /// Hands the played place a packet that is lawful there.
     fn handed(&mut self, rt: &impl Abort, caller: &mut Caller, packet: Packet) -> bool;
 
-    /// How many packets wait to go.
+    /// How many packets wait to go from the played place.
     fn waiting(&self) -> u64;
 
-    /// Takes out the first packet that waits to go to the place.
+    /// Takes out of the played place the first packet that waits to go to the other.
     fn taken_out(&mut self, to: u16) -> Option<Packet>;
 }
 
@@ -151,7 +151,7 @@ pub(crate) struct Net<P: Plays> {
     pub(crate) told: Vec<u8>,
 }
 
-/// Where the call was refused, what is seen is what was seen before.
+/// Where the call of a played place was refused, what is seen of it and the caller is what was seen before.
 fn assert_stays<P: Plays>(
     rt: &impl Abort,
     is_refused: bool,
@@ -202,7 +202,7 @@ impl<P: Plays> Net<P> {
         net
     }
 
-    /// Gives the next seat, to a caller in the actor, whose last clock is that of seat 0.
+    /// Gives the next seat of the net, to a caller in the actor, whose last clock is that of seat 0.
     pub(crate) fn enter(&mut self, rt: &impl Abort, actor: Ui) {
         let seat = u32::try_from(self.callers.len()).ok().expect(rt, "a seat");
         let last = match self.callers.get(0) {
@@ -213,13 +213,13 @@ impl<P: Plays> Net<P> {
         self.callers.push(caller).ok().expect(rt, "memory");
     }
 
-    /// The place of this number.
+    /// The place of this number among those of the net.
     pub(crate) fn place(&mut self, rt: &impl Abort, number: u16) -> &mut P {
         let at = index(rt, number);
         self.places.get_mut(at).expect(rt, "a place")
     }
 
-    /// Performs a command of the seat, and notes what it is told.
+    /// Performs a command of the seat at its place of the net, and notes what it is told.
     pub(crate) fn act(&mut self, rt: &impl Abort, seat: u32, command: Command) {
         let caller = self.callers.get_mut(seat as usize).expect(rt, "a caller");
         let number = number_for(rt, self.layout, caller.actor(), &command);
@@ -240,7 +240,7 @@ impl<P: Plays> Net<P> {
         }
     }
 
-    /// Hands a packet to a place, by seat 0.
+    /// Hands a packet to a place of the net, by seat 0.
     pub(crate) fn hand(&mut self, rt: &impl Abort, to: u16, packet: Packet) {
         let caller = self.callers.get_mut(0).expect(rt, "a caller");
         let place = self.places.get_mut(index(rt, to)).expect(rt, "a place");
@@ -271,7 +271,7 @@ impl<P: Plays> Net<P> {
         served
     }
 
-    /// How many packets wait to go.
+    /// How many packets wait to go from all places of the net.
     pub(crate) fn waiting(&self) -> u64 {
         let mut sum: u64 = 0;
         for place in &self.places {

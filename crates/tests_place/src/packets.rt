@@ -7,9 +7,9 @@
 //! the ids that wait in it.
 
 use crate::net::Net;
+use crate::packet_words::Words;
 use crate::playing::{Row, begin, rows_of};
 use crate::records::{push_client, push_message};
-use crate::words::Words;
 use chorus_entry::{Answer, Body, Cargo, Dest, Message, MsgId, Packet, PortRecord, Tag};
 use chorus_place::Place;
 use std::alloc::Global;
@@ -95,7 +95,7 @@ fn message_in<R: Abort>(alloc: Global, words: &mut Words<'_, R>) -> Message {
     message_of(words.rt, alloc, id, tag)
 }
 
-/// A message with a body of one byte.
+/// The message of a packet in a row's line, with a body of one byte.
 fn message_of(rt: &impl Abort, alloc: Global, id: MsgId, tag: Tag) -> Message {
     let body = Body::new(alloc, b"x").expect(rt, "memory");
     Message { id, tag, body }

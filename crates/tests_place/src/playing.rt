@@ -23,7 +23,7 @@ pub(crate) struct Row<'a> {
     pub(crate) lines: &'a str,
 }
 
-/// The rows of the table.
+/// The rows of a table of scenarios that are played over places.
 pub(crate) fn rows_of<'a>(rt: &impl Abort, alloc: Global, table: &'a str) -> Vec<Row<'a>> {
     let mut rows = Vec::new(alloc);
     let mut rest = table;
@@ -38,7 +38,7 @@ pub(crate) fn rows_of<'a>(rt: &impl Abort, alloc: Global, table: &'a str) -> Vec
     rows
 }
 
-/// What stands before and behind the mark, where what is wanted ends there.
+/// What stands before and behind the mark in the text of a row, where what is wanted ends there.
 fn parted<'a>(rt: &impl Abort, text: &'a str, mark: &str, wanted: &str) -> (&'a str, &'a str) {
     text.split_once(mark).expect(rt, wanted)
 }
@@ -69,7 +69,8 @@ pub(crate) fn assert_rows(rt: &impl Abort, alloc: Global, table: &str) {
     }
 }
 
-/// Whether the text ends with these lines, the first of which begins where a line of the text does.
+/// Whether the text of journals, or of what callers are told, ends with these lines, the first of which begins where a
+/// line of the text does.
 fn ends_with_lines(text: &[u8], lines: &[u8]) -> bool {
     let front = text.len().saturating_sub(lines.len());
     text.ends_with(lines) && (front == 0 || text[front - 1] == b'\n')
@@ -121,7 +122,7 @@ pub(crate) fn assert_worked(rt: &impl Abort, alloc: Global, row: &WorkedRow<'_>)
     assert!(rt; entries.len() == journal.len(), "the whole journal");
 }
 
-/// The scenario of the lines, up to a journal's.
+/// The scenario of a row's lines, up to a journal's.
 fn scenario_of(rt: &impl Abort, alloc: Global, lines: &str, turns: u16) -> Scenario {
     let lines = match lines.split_once("journal\n") {
         Some((lines, _)) => lines,
@@ -183,7 +184,7 @@ fn perform_all<P: Plays>(
     }
 }
 
-/// Performs the setup by seat 0 and then the schedule. Gives how many commands of each script were performed.
+/// Performs a scenario's setup by seat 0 and then its schedule. Gives how many commands of each script were performed.
 fn follow<P: Plays>(
     rt: &impl Abort,
     alloc: Global,
@@ -237,7 +238,7 @@ fn play(rt: &impl Abort, alloc: Global, sites: u16, turns: u16, lines: &str) -> 
     perform_scenario(rt, alloc, sites, turns, &scenario)
 }
 
-/// The same of the scenario itself.
+/// The places after the scenario itself: the setup by seat 0, the schedule, the commands that it leaves, and a drain.
 fn perform_scenario<P: Plays>(
     rt: &impl Abort,
     alloc: Global,

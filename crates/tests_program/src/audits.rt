@@ -20,6 +20,7 @@ departs 0
 end
 ";
 
+/// What the program's word `audit` finds in journals as the program prints them.
 #[test]
 fn audit_of_real_outputs(rt: HostRuntime) {
     let moved = RETRY_ACROSS_A_MOVE_IS_ACCEPTED_ONCE.printed;
@@ -32,7 +33,7 @@ fn audit_of_real_outputs(rt: HostRuntime) {
     }
 }
 
-/// `tests_audit` has what stands in a picture.
+/// The program's word `picture` draws what it printed; `tests_audit` has what stands in a picture.
 #[test]
 fn a_real_output_is_drawn(rt: HostRuntime) {
     let moved = RETRY_ACROSS_A_MOVE_IS_ACCEPTED_ONCE.printed;

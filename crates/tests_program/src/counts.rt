@@ -127,7 +127,7 @@ fn races_have_so_many_histories_and_outcomes(rt: HostRuntime) {
     }
 }
 
-/// What is told of two scripts of so many commands, each of which answers that there is no call.
+/// What `explore` tells of two scripts of so many commands, each of which answers that there is no call.
 fn told_of_two(rt: &(impl Abort + Threads + Wait + Sync), alloc: Global, commands: u64) -> String {
     let mut text = String::new(alloc);
     text.push_str("chorus 2\nsites 1\n").expect(rt, "memory");

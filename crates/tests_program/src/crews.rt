@@ -53,6 +53,7 @@ port 8.p.1 64 28979
 end
 ";
 
+/// What the program's word `crew` prints for no draw, one, 100 and 1,000.
 #[test]
 fn crew_totals(rt: HostRuntime) {
     for (first, commands, printed) in [
@@ -65,11 +66,13 @@ fn crew_totals(rt: HostRuntime) {
     }
 }
 
+/// What the program's word `crew` prints for 65,536 draws, of which all ports are full.
 #[test]
 fn a_full_crew(rt: HostRuntime) {
     assert_prints(&rt, rt.alloc(), &["crew", "1", "65536"], "", FULL);
 }
 
+/// What the program's word `crew` prints for the same 65,536 draws, in a second run.
 #[test]
 fn a_full_crew_again(rt: HostRuntime) {
     assert_prints(&rt, rt.alloc(), &["crew", "1", "65536"], "", FULL);

@@ -74,6 +74,7 @@ const NOTHING: &str = "chorus 1\nsites 1\nschedule\nend\n";
 const NOTHING_MAY_COME: &str =
     "histories 1\nevents 0\nall\nfacts 0\noutcomes 1\noutcome 1\nhistories 1\nschedule 1\nend\n";
 
+/// What `explore` prints where it meets its limit of events.
 #[test]
 fn a_limit_is_met_in_the_midst(rt: HostRuntime) {
     let alloc = rt.alloc();
@@ -86,6 +87,7 @@ fn a_limit_is_met_in_the_midst(rt: HostRuntime) {
     }
 }
 
+/// Whether `explore` says `all` or `some`, by a limit of events that just suffices and one less.
 #[test]
 fn a_limit_that_suffices_is_not_met(rt: HostRuntime) {
     let alloc = rt.alloc();
@@ -95,6 +97,7 @@ fn a_limit_that_suffices_is_not_met(rt: HostRuntime) {
     }
 }
 
+/// What `explore` prints of a scenario without scripts.
 #[test]
 fn nothing_to_do_has_one_schedule(rt: HostRuntime) {
     assert_prints(
@@ -121,6 +124,7 @@ fn assert_writes_nothing(
     assert!(rt; run.written.is_empty(), "{text}");
 }
 
+/// How an exploration ends by a text that is refused, and by a read and a write that fail.
 #[test]
 fn refused_texts_and_faults(rt: HostRuntime) {
     let alloc = rt.alloc();

@@ -16,7 +16,8 @@ use tests_rows::RETRY_ACROSS_A_MOVE_IS_ACCEPTED_ONCE;
 const LOADED: &str =
     "summary\nposted 69\naccepted 69\ntaken 3\nqueued 66\nmoving 0\nrefused 0\nstale 5\ndeparts 1\nend\n";
 
-/// How the words end on the scenario, and what is written, where the read and the write of these numbers fail; 0 is none.
+/// How the program ends for the words on a worked scenario, and what is written, where the read and the write of these numbers
+/// fail; 0 is none.
 fn run(
     rt: &(impl Abort + Threads + Wait + Sync),
     alloc: Global,
@@ -44,7 +45,7 @@ fn assert_ended(rt: &impl Abort, run: &Run, status: Status, whole: &str, count: 
     );
 }
 
-/// Asserts that the words write the whole, and where a write fails, all before it.
+/// Asserts that the program writes the whole for the words, and where a write fails, all before it.
 fn assert_each_write_fails(
     rt: &(impl Abort + Threads + Wait + Sync),
     alloc: Global,
@@ -76,7 +77,7 @@ fn each_write_of_a_crew_fails(rt: HostRuntime) {
     assert_each_write_fails(&rt, rt.alloc(), &["crew", "42", "100"], FEW);
 }
 
-/// Asserts that the words write the whole where the read of this number fails.
+/// Asserts that the program writes the whole for the words where the read of this number fails.
 fn assert_writes_all(
     rt: &(impl Abort + Threads + Wait + Sync),
     alloc: Global,

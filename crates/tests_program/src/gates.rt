@@ -42,6 +42,7 @@ impl Meeting {
 }
 
 impl Gate for Meeting {
+    /// Holds each of two scripts at the gate until the other has come.
     fn pass(&self, script: u32, step: u32) {
         match (script, step) {
             (1, 0) => self.hold(&self.second_came),
@@ -70,7 +71,7 @@ schedule
 end
 ";
 
-/// A nucleus of 16 sites with one place each, and its opening pass.
+/// A nucleus of 16 sites with one place each, for two scripts that wait for each other, and its opening pass.
 fn started<R: Abort + Threads + Wait + Sync>(rt: &R, alloc: Global) -> (Nucleus, Pass)
     ensures pass { IsPassOf result.0 result.1 }
     ensures opening { IsOpening result.1 }
@@ -82,7 +83,8 @@ fn started<R: Abort + Threads + Wait + Sync>(rt: &R, alloc: Global) -> (Nucleus,
     (nucleus, pass)
 }
 
-/// Performs what the source gives on such a nucleus. Gives how that ended, and whether it handed out what it closed.
+/// Performs what the source gives over this gate, on a nucleus of 16 sites with one place each. Gives how that ended, and whether
+/// it handed out what it closed.
 fn run_on<R: Abort + Threads + Wait + Sync, S: Source, K: Sink, G: Gate>(
     rt: &R,
     alloc: Global,
@@ -120,6 +122,7 @@ fn assert_meets<R: Abort + Threads + Wait + Sync>(rt: &R, alloc: Global) {
     assert_eq!(rt; gate.missed.load(Ordering::SeqCst), 0);
 }
 
+/// Two scripts that wait for each other at a gate both come.
 #[test]
 fn row_gate(rt: HostRuntime) {
     assert_meets(&rt, rt.alloc());

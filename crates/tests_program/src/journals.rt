@@ -19,7 +19,7 @@ pub(crate) fn printed_by_run(
     run.written
 }
 
-/// Asserts that what was printed is lawful on 16 sites with so many places each, with as many entries as it says.
+/// Asserts that what `run` printed is lawful on 16 sites with so many places each, with as many entries as it says.
 fn assert_lawful(
     rt: &(impl Abort + Threads + Wait + Sync),
     alloc: Global,
@@ -38,7 +38,7 @@ fn assert_lawful(
     assert_same(rt, counted(rt, printed, "moving "), 0, turns);
 }
 
-/// The number behind the name; 0 where no line begins with that.
+/// The number behind the name in what the program printed; 0 where no line begins with that.
 pub(crate) fn counted(rt: &impl Abort, printed: &str, name: &str) -> u64 {
     for line in printed.lines() {
         if let Some(number) = line.strip_prefix(name) {

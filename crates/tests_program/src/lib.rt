@@ -9,7 +9,7 @@ mod counts;
 #[cfg(test)]
 mod crews;
 #[cfg(test)]
-mod drawn;
+mod drawn_scenarios;
 #[cfg(test)]
 mod explorations;
 #[cfg(test)]

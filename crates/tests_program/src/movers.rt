@@ -33,7 +33,7 @@ fn movers_and_senders(rt: &impl Abort, alloc: Global, with_delete: bool) -> Stri
     text
 }
 
-/// The script of one that takes and moves on.
+/// Appends the script of a mover, which takes from `1.p.1` and moves it on.
 fn push_mover(rt: &impl Abort, text: &mut String, site: u64, next: u64) {
     writeln!(text, "script {site}.a.1").expect(rt, "memory");
     for _ in 0..ROUNDS {
@@ -41,7 +41,7 @@ fn push_mover(rt: &impl Abort, text: &mut String, site: u64, next: u64) {
     }
 }
 
-/// The script of one that sends.
+/// Appends the script of a sender to `1.p.1`, which is moved meanwhile.
 fn push_sender(rt: &impl Abort, text: &mut String, site: u64) {
     writeln!(text, "script {site}.a.1").expect(rt, "memory");
     for _ in 0..SENDS {
@@ -49,7 +49,8 @@ fn push_sender(rt: &impl Abort, text: &mut String, site: u64) {
     }
 }
 
-/// Asserts that it is performed with so many places a site, and that what is printed is lawful and counts each message once.
+/// Asserts that the scenario of movers and senders is performed with so many places a site, and that what is printed is lawful and
+/// counts each message once.
 fn assert_moves_and_sends(
     rt: &(impl Abort + Threads + Wait + Sync),
     alloc: Global,
@@ -61,7 +62,8 @@ fn assert_moves_and_sends(
     assert_counted(rt, printed.as_str());
 }
 
-/// Asserts that each message was accepted or refused, and each one that was accepted was received, discarded or waits.
+/// Asserts that each message of the senders was accepted or refused, and each one that was accepted was received, discarded or
+/// waits.
 fn assert_counted(rt: &impl Abort, printed: &str) {
     let accepted = counted(rt, printed, "accepted ");
     let refused = counted(rt, printed, "refused ");

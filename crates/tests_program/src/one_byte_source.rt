@@ -11,6 +11,7 @@ pub(crate) struct Short<S: Source + Drop> {
 impl<S: Source + Drop> Source for Short<S> {
     ghost faults = { λ s. S.faults s.whole };
 
+    /// Reads one byte of the whole source at most.
     fn read(&mut self, buf: &mut [u8]) -> Result<usize, Failed> {
         let most = buf.len().min(1);
         self.whole.read(&mut buf[..most])

@@ -250,18 +250,21 @@ deliver 2 1
 end
 ";
 
+/// What `explore` tells of two sends to a port with room for one.
 #[test]
 fn a_full_port(rt: HostRuntime) {
     let text = told(&rt, rt.alloc(), FULL_PORT);
     assert_same(&rt, text.as_str(), FULL_PORT_TOLD, FULL_PORT);
 }
 
+/// What `explore` tells of a send and a take while the port moves.
 #[test]
 fn a_port_moves(rt: HostRuntime) {
     let text = told(&rt, rt.alloc(), MOVE);
     assert_same(&rt, text.as_str(), MOVE_TOLD, MOVE);
 }
 
+/// What `explore` tells of two sends with a move between them, while another script takes twice.
 #[test]
 fn two_sends_and_a_move(rt: HostRuntime) {
     let text = told(&rt, rt.alloc(), MOVES);

@@ -4,6 +4,7 @@ use crate::running::assert_prints;
 use crate::texts::{ON_SIXTEEN_SITES, ON_SIXTEEN_SITES_PRINTED};
 use tests_rows::{FULL_THEN_TAKEN_THEN_EMPTY, RETRY_ACROSS_A_MOVE_IS_ACCEPTED_ONCE};
 
+/// What the program's word `replay` prints for worked scenarios.
 #[test]
 fn worked_scenarios_are_printed(rt: HostRuntime) {
     let row = RETRY_ACROSS_A_MOVE_IS_ACCEPTED_ONCE;
@@ -15,6 +16,7 @@ fn worked_scenarios_are_printed(rt: HostRuntime) {
     }
 }
 
+/// The program's words `replay` and `run` print the same for a worked scenario of one script.
 #[test]
 fn one_script_runs_as_it_is_replayed(rt: HostRuntime) {
     let each: [&[&str]; 5] = [

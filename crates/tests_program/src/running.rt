@@ -29,26 +29,26 @@ fn status_of<R: Abort + Threads + Wait + Sync, S: Source, K: Sink>(
     start_program(alloc, rt, words, source, sink).status
 }
 
-/// A source of the text. `failing` lists the reads that fail.
+/// A source of the text for a test of the program. `failing` lists the reads that fail.
 pub(crate) fn source_of(rt: &impl Abort, alloc: Global, text: &str, failing: &[u64]) -> MemSource {
     let bytes = Vec::from_slice(alloc, text.as_bytes()).expect(rt, "memory");
     MemSource::new(bytes, Vec::from_slice(alloc, failing).expect(rt, "memory"))
 }
 
-/// An empty sink that takes so many bytes at a write. `failing` lists the writes that fail.
+/// An empty sink for a test of the program, which takes so many bytes at a write. `failing` lists the writes that fail.
 pub(crate) fn sink_of(rt: &impl Abort, alloc: Global, most: usize, failing: &[u64]) -> MemSink {
     assert!(rt; most > 0);
     let failing = Vec::from_slice(alloc, failing).expect(rt, "memory");
     MemSink::new(alloc, most, failing)
 }
 
-/// What the sink holds.
+/// What the sink holds of the program's output.
 fn text_in(rt: &impl Abort, alloc: Global, sink: &MemSink) -> String {
     let bytes = Vec::from_slice(alloc, sink.bytes()).expect(rt, "memory");
     String::from_utf8(bytes).ok().expect(rt, "a text")
 }
 
-/// Asserts that what is told of this is what is wanted.
+/// Asserts that what a test of the program is told of this is what is wanted.
 pub(crate) fn assert_same<T: PartialEq + Debug + Copy, W: Debug + Copy>(
     rt: &impl Abort,
     told: T,
@@ -86,7 +86,7 @@ pub(crate) fn run_on(
     run_over(rt, alloc, words, &mut source, 64, &[])
 }
 
-/// Asserts that the run did all.
+/// Asserts that the run of the program did all.
 pub(crate) fn assert_done(rt: &impl Abort, run: &Run, of: &str) {
     assert_same(rt, run.status, Status::Done, of);
 }

@@ -76,12 +76,12 @@ fn summary_of(rt: &impl Abort, alloc: Global, outcomes: &str, number: &str) -> S
     ).expect(rt, "memory")
 }
 
-/// Whether the line is a verdict that refuses its message.
+/// Whether the line of an explored outcome is a verdict that refuses its message.
 fn is_refusal(line: &str) -> bool {
     line.starts_with("verdict ") && !line.ends_with(" accepted") && !line.ends_with(" chosen")
 }
 
-/// How many messages wait in the port of the line, if it has one: their ids stand behind the port and its actor.
+/// How many messages wait in the port of an explored outcome's line, if it has one: their ids stand behind the port and its actor.
 fn waiting_in(line: &str) -> u64 {
     match line.strip_prefix("port ") {
         Some(words) => words.split(" ").skip(2).count() as u64,

@@ -34,7 +34,7 @@ fn assert_first(rt: &impl Abort, alloc: Global, text: &str, first: u64) {
     assert_reads(rt, alloc, &["load", text, "65536"], Some(commands));
 }
 
-/// Asserts that the text is read as no number, wherever one stands.
+/// Asserts that the text is read as no number, wherever one stands in the program's words.
 fn assert_no_number(rt: &impl Abort, alloc: Global, text: &str) {
     assert_reads(rt, alloc, &["load", text, "1"], None);
     assert_reads(rt, alloc, &["load", "1", text], None);
@@ -58,7 +58,7 @@ fn assert_no_numbers(rt: &impl Abort, alloc: Global) {
     }
 }
 
-/// Asserts how `run` is read, alone and with a number of places.
+/// Asserts how the program's word `run` is read, alone and with a number of places.
 fn assert_runs(rt: &impl Abort, alloc: Global) {
     assert_reads(rt, alloc, &["run"], Some(Words::Run));
     for (text, asked) in [
@@ -78,7 +78,7 @@ fn assert_runs(rt: &impl Abort, alloc: Global) {
 /// The greatest number of a first draw.
 const MOST: &str = "18446744073709551615";
 
-/// Asserts how one word is read, and a word with a number.
+/// Asserts how one word of the program is read, and a word with a number.
 fn assert_short_words(rt: &impl Abort, alloc: Global) {
     for (word, asked) in [("replay", Words::Replay), ("explore", Words::Explore)] {
         assert_reads(rt, alloc, &[word], Some(asked));
@@ -94,7 +94,7 @@ fn assert_short_words(rt: &impl Abort, alloc: Global) {
     }
 }
 
-/// Asserts how `crew` and `picture` are read.
+/// Asserts how the program's words `crew` and `picture` are read.
 fn assert_long_words(rt: &impl Abort, alloc: Global) {
     let crew = Words::Crew {
         first: u64::MAX,
@@ -114,6 +114,7 @@ fn assert_long_words(rt: &impl Abort, alloc: Global) {
     }
 }
 
+/// The program's words are read as the list of its uses has them, and others not.
 #[test]
 fn the_list_and_nothing_else(rt: HostRuntime) {
     let alloc = rt.alloc();
@@ -127,7 +128,7 @@ fn the_list_and_nothing_else(rt: HostRuntime) {
     assert_runs(&rt, alloc);
 }
 
-/// Asserts how the program ends on an empty text, and that it writes nothing.
+/// Asserts how the program ends for these words on an empty text, and that it writes nothing.
 fn assert_ends(
     rt: &(impl Abort + Threads + Wait + Sync),
     alloc: Global,
@@ -162,7 +163,7 @@ fn assert_no_words(rt: &(impl Abort + Threads + Wait + Sync), alloc: Global) {
     }
 }
 
-/// Asserts that the words that read a scenario refuse an empty text.
+/// Asserts that the words by which the program reads a scenario refuse an empty text.
 fn assert_refused(rt: &(impl Abort + Threads + Wait + Sync), alloc: Global) {
     let reading: [&[&str]; 5] = [
         &["replay"],

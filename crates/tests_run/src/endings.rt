@@ -6,7 +6,7 @@ use chorus_show::Status;
 use std::alloc::Global;
 use std::process::Abort;
 
-/// Asserts that a body of 241 bytes is refused.
+/// Asserts that the replay of a scenario with a body of 241 bytes is refused.
 fn assert_long_body_is_refused(rt: &impl Abort, alloc: Global) {
     let body = letters(rt, alloc, 241);
     let text = format!(in alloc;
@@ -42,7 +42,7 @@ fn unfinished_and_unknown_texts(rt: HostRuntime) {
     }
 }
 
-/// Asserts that a text of so many empty lines is refused with this line and reason.
+/// Asserts that the replay of a text of so many empty lines is refused with this line and reason.
 fn assert_lines_are_refused(rt: &impl Abort, alloc: Global, count: usize, line: u32, reason: u8) {
     let text = vec![in alloc; b'\n'; count].expect(rt, "memory");
     let run = replayed(rt, alloc, &text, &[], 4096, &[]);
@@ -68,14 +68,14 @@ fn short_sink_fails_midway(rt: HostRuntime) {
     assert_short_sink_fails(&rt, rt.alloc());
 }
 
-/// Asserts how the run ends where this read fails, and what it wrote.
+/// Asserts how a replay ends where this read fails, and what it wrote.
 fn assert_read_fails(rt: &impl Abort, alloc: Global, call: u64, status: Status, written: &str) {
     let text = tests_rows::FULL_THEN_TAKEN_THEN_EMPTY.text.as_bytes();
     let run = replayed(rt, alloc, text, &[call], 4096, &[]);
     assert_ended(rt, &run, status, written, "a source that fails");
 }
 
-/// Asserts how the run ends where this write of one byte fails, and how many bytes it wrote.
+/// Asserts how a replay ends where this write of one byte fails, and how many bytes it wrote.
 fn assert_write_fails(rt: &impl Abort, alloc: Global, call: u64, status: Status, count: u64) {
     let run = replayed(rt, alloc, NOTHING.as_bytes(), &[], 1, &[call]);
     assert_same(rt, run.status, status, call);

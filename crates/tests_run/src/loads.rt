@@ -99,7 +99,7 @@ fn load_fills_its_ports(rt: HostRuntime) {
     assert_loads(&rt, rt.alloc(), 7, 2_000, FILLS_ALL_PORTS);
 }
 
-/// The number behind the word, with its blank, in a summary.
+/// The number behind the word, with its blank, in the summary of a load.
 fn number(rt: &impl Abort, summary: &str, word: &str) -> u64 {
     for line in summary.lines() {
         if let Some(text) = line.strip_prefix(word) {
@@ -109,8 +109,8 @@ fn number(rt: &impl Abort, summary: &str, word: &str) -> u64 {
     panic!(rt; "no line {word}")
 }
 
-/// Asserts that what was accepted or refused was posted, that what was accepted waits or was taken, and that nothing
-/// moves.
+/// Asserts of a load's summary that what was accepted or refused was posted, that what was accepted waits or was taken,
+/// and that nothing moves.
 fn assert_adds_up(rt: &impl Abort, summary: &str) {
     let accepted = number(rt, summary, "accepted ");
     let settled = accepted.saturating_add(number(rt, summary, "refused "));

@@ -148,7 +148,7 @@ fn another_actor_holds_the_port(rt: HostRuntime) {
     );
 }
 
-/// So many letters.
+/// So many letters, for a body in a scenario that is replayed.
 pub(crate) fn letters(rt: &impl Abort, alloc: Global, count: usize) -> String {
     let mut text = String::new(alloc);
     for _ in 0..count {
@@ -157,7 +157,7 @@ pub(crate) fn letters(rt: &impl Abort, alloc: Global, count: usize) -> String {
     text
 }
 
-/// A scenario with a port of capacity 64, and 65 sends of 240 bytes to it.
+/// A scenario to be replayed, with a port of capacity 64, and 65 sends of 240 bytes to it.
 fn sixty_five_sends(rt: &impl Abort, alloc: Global) -> String {
     let body = letters(rt, alloc, 240);
     let mut text = String::new(alloc);
@@ -170,7 +170,7 @@ fn sixty_five_sends(rt: &impl Abort, alloc: Global) -> String {
     text
 }
 
-/// Asserts that the first 64 sends are accepted in their order.
+/// Asserts that in what a replay printed the first 64 sends are accepted in their order.
 fn assert_sixty_four_accepted(rt: &impl Abort, alloc: Global, printed: &str) {
     for pos in 0..64_u64 {
         let clock = 2 * pos + 3;
@@ -210,7 +210,7 @@ departs 0
 end
 ";
 
-/// A scenario with a port of capacity 1, and a send to it by each of 16 scripts.
+/// A scenario to be replayed, with a port of capacity 1, and a send to it by each of 16 scripts.
 fn sixteen_senders(rt: &impl Abort, alloc: Global) -> String {
     let mut text = String::new(alloc);
     text.push_str("chorus 1\nsites 1\nport 1.p.1 1.a.1 1\n")
@@ -223,7 +223,7 @@ fn sixteen_senders(rt: &impl Abort, alloc: Global) -> String {
     text
 }
 
-/// Asserts that the posts of the scripts stand in their order, each by the seat of its script.
+/// Asserts that in what a replay printed the posts of the scripts stand in their order, each by the seat of its script.
 fn assert_sixteen_posts(rt: &impl Abort, alloc: Global, printed: &str) {
     for seat in 1..=16_u64 {
         let clock = 2 * seat;

@@ -20,13 +20,13 @@ pub(crate) struct Run {
     pub(crate) written: String,
 }
 
-/// A source of these bytes. `failing` lists the reads that fail.
+/// A source of the bytes of a scenario to be replayed. `failing` lists the reads that fail.
 fn source_of(rt: &impl Abort, alloc: Global, bytes: &[u8], failing: &[u64]) -> MemSource {
     let bytes = Vec::from_slice(alloc, bytes).expect(rt, "memory");
     MemSource::new(bytes, Vec::from_slice(alloc, failing).expect(rt, "memory"))
 }
 
-/// A sink of which one write takes at most `most` bytes. `failing` lists the writes that fail.
+/// A sink for a replay or a load, of which one write takes at most `most` bytes. `failing` lists the writes that fail.
 pub(crate) fn sink_of(rt: &impl Abort, alloc: Global, most: usize, failing: &[u64]) -> MemSink {
     assert!(rt; most > 0);
     MemSink::new(
@@ -36,7 +36,7 @@ pub(crate) fn sink_of(rt: &impl Abort, alloc: Global, most: usize, failing: &[u6
     )
 }
 
-/// The run that ended so and wrote what the sink holds.
+/// The run of a replay or a load that ended so and wrote what the sink holds.
 pub(crate) fn run_of(
     rt: &impl Abort,
     alloc: Global,
@@ -95,7 +95,7 @@ pub(crate) fn replayed_on_two_places_each(rt: &impl Abort, alloc: Global, text: 
     run_of(rt, alloc, status, closed, &sink)
 }
 
-/// Asserts that what is told of this is what is wanted.
+/// Asserts that what is told of this replay or load is what is wanted.
 pub(crate) fn assert_same<T: PartialEq + Debug + Copy, W: Debug + Copy>(
     rt: &impl Abort,
     told: T,
@@ -105,13 +105,13 @@ pub(crate) fn assert_same<T: PartialEq + Debug + Copy, W: Debug + Copy>(
     assert_eq!(rt; told, wanted, "{of:?}");
 }
 
-/// Asserts that the run of this name ended so and wrote this.
+/// Asserts that the replay or load of this name ended so and wrote this.
 pub(crate) fn assert_ended(rt: &impl Abort, run: &Run, status: Status, written: &str, name: &str) {
     assert_same(rt, run.status, status, name);
     assert_same(rt, run.written.as_str(), written, name);
 }
 
-/// Asserts that the run of this name did all, wrote this, and handed out what it closed.
+/// Asserts that the replay or load of this name did all, wrote this, and handed out what it closed.
 pub(crate) fn assert_done(rt: &impl Abort, run: &Run, written: &str, name: &str) {
     assert_ended(rt, run, Status::Done, written, name);
     assert!(rt; run.closed, "{name}");
@@ -125,7 +125,7 @@ pub(crate) fn assert_prints(rt: &impl Abort, alloc: Global, text: &str, printed:
     }
 }
 
-/// Asserts that the text is refused with this line and reason, and nothing is written or closed.
+/// Asserts that the replay of the text is refused with this line and reason, and nothing is written or closed.
 pub(crate) fn assert_refused(rt: &impl Abort, alloc: Global, text: &str, line: u32, reason: u8) {
     let run = replayed(rt, alloc, text.as_bytes(), &[], 4096, &[]);
     assert_ended(rt, &run, Status::Scenario { line, reason }, "", text);

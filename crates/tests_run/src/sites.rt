@@ -15,7 +15,7 @@ use std::alloc::Global;
 use std::process::Abort;
 use tests_rows::WorkedRow;
 
-/// So many sites, each with so many places, on which nothing happened.
+/// The sites for a row's calls: so many, each with so many places, on which nothing happened.
 fn started(rt: &impl Abort, alloc: Global, sites: u16, turns: u16) -> Sites {
     let layout = Layout::new(sites, turns).expect(rt, "a layout");
     Sites::start(alloc, layout).expect(rt, "memory")
@@ -26,12 +26,12 @@ fn close(rt: &impl Abort, alloc: Global, sites: Sites) -> Closed {
     sites.close(alloc).ok().expect(rt, "memory")
 }
 
-/// What is left of the sites, and sites that are started again.
+/// What is left of the sites behind a row's calls, and sites that are started again.
 fn restart(rt: &impl Abort, alloc: Global, sites: Sites) -> (Closed, Sites) {
     sites.restart(alloc).ok().expect(rt, "memory")
 }
 
-/// The first word, and what stands behind it.
+/// The first of the words of a row's call, and what stands behind it.
 fn first(text: &str) -> (&str, &str) {
     match text.split_once(' ') {
         Some(parts) => parts,
@@ -39,7 +39,7 @@ fn first(text: &str) -> (&str, &str) {
     }
 }
 
-/// The number of a seat, and what stands behind it.
+/// The number of the seat in a row's call, and what stands behind it.
 fn first_seat<'a>(rt: &impl Abort, text: &'a str) -> (u32, &'a str) {
     let (word, rest) = first(text);
     let seat: u32 = word.parse().ok().expect(rt, "a seat");
@@ -51,7 +51,7 @@ fn place(rt: &impl Abort, text: &str) -> u16 {
     text.parse().ok().expect(rt, "a place")
 }
 
-/// The name of this kind.
+/// The name of this kind that a word of a row's call spells.
 fn name(rt: &impl Abort, text: &str, kind: Kind) -> Ui
     ensures { result.kind ≡ kind }
 {
@@ -75,13 +75,13 @@ fn port(rt: &impl Abort, text: &str) -> Ui
 }
 
 /// What the rows call. The words are read over this, so that no more is known there than a call asks.
-trait RowCalls {
-    /// Performs a command of the seat.
+trait SiteCalls {
+    /// The sites perform a command of the seat, as a worked row asks.
     fn act(&mut self, rt: &impl Abort, seat: u32, command: Command)
         requires conditions { meets_conditions command ≡ true }
         requires body { has_body_in_limit command ≡ true };
 
-    /// Gives the next seat to a caller in this actor, by which calls behind it can be made.
+    /// Gives the next seat on the sites to a caller in this actor, by which calls of the row behind it can be made.
     fn enter(&mut self, rt: &impl Abort, actor: Ui)
         requires { actor.kind ≡ Kind.Actor };
 
@@ -92,7 +92,7 @@ trait RowCalls {
     fn drain(&mut self, rt: &impl Abort);
 }
 
-impl RowCalls for Sites {
+impl SiteCalls for Sites {
     fn act(&mut self, rt: &impl Abort, seat: u32, command: Command) {
         assert!(rt; seat < self.seats());
         assert!(rt; self.posts(seat) < u32::MAX);
@@ -119,13 +119,13 @@ impl RowCalls for Sites {
 }
 
 /// Performs the line `enter` of a row: the actor that the word names gets the next seat.
-fn enter<S: RowCalls>(rt: &impl Abort, sites: &mut S, who: &str) {
+fn enter<S: SiteCalls>(rt: &impl Abort, sites: &mut S, who: &str) {
     let actor = actor(rt, who);
     sites.enter(rt, actor);
 }
 
-/// A seat, an actor and a capacity.
-fn make<S: RowCalls>(rt: &impl Abort, sites: &mut S, words: &str) {
+/// Performs the line `make` of a row on the sites: a seat, an actor and a capacity.
+fn make<S: SiteCalls>(rt: &impl Abort, sites: &mut S, words: &str) {
     let (seat, words) = first_seat(rt, words);
     let (holder, capacity) = first(words);
     let actor = actor(rt, holder);
@@ -141,8 +141,8 @@ fn body_of(rt: &impl Abort, alloc: Global, text: &str) -> Body {
     Body::new(alloc, text.as_bytes()).expect(rt, "memory")
 }
 
-/// A seat, a port and a text.
-fn send<S: RowCalls>(rt: &impl Abort, alloc: Global, sites: &mut S, words: &str) {
+/// Performs the line `send` of a row on the sites: a seat, a port and a text.
+fn send<S: SiteCalls>(rt: &impl Abort, alloc: Global, sites: &mut S, words: &str) {
     let (seat, words) = first_seat(rt, words);
     let (to, text) = first(words);
     let dest = Dest::Port(port(rt, to));
@@ -151,15 +151,15 @@ fn send<S: RowCalls>(rt: &impl Abort, alloc: Global, sites: &mut S, words: &str)
     sites.act(rt, seat, Command::Send { dest, body });
 }
 
-/// A seat and a port.
-fn take<S: RowCalls>(rt: &impl Abort, sites: &mut S, words: &str) {
+/// Performs the line `take` of a row on the sites: a seat and a port.
+fn take<S: SiteCalls>(rt: &impl Abort, sites: &mut S, words: &str) {
     let (seat, from) = first_seat(rt, words);
     let port = port(rt, from);
     sites.act(rt, seat, Command::Take { port });
 }
 
-/// A seat, a port and an actor.
-fn move_port<S: RowCalls>(rt: &impl Abort, sites: &mut S, words: &str) {
+/// Performs the line `move` of a row on the sites: a seat, a port and an actor.
+fn move_port<S: SiteCalls>(rt: &impl Abort, sites: &mut S, words: &str) {
     let (seat, words) = first_seat(rt, words);
     let (which, to) = first(words);
     let port = port(rt, which);
@@ -167,21 +167,21 @@ fn move_port<S: RowCalls>(rt: &impl Abort, sites: &mut S, words: &str) {
     sites.act(rt, seat, Command::Move { port, actor });
 }
 
-/// A seat and a port.
-fn delete<S: RowCalls>(rt: &impl Abort, sites: &mut S, words: &str) {
+/// Performs the line `delete` of a row on the sites: a seat and a port.
+fn delete<S: SiteCalls>(rt: &impl Abort, sites: &mut S, words: &str) {
     let (seat, which) = first_seat(rt, words);
     let port = port(rt, which);
     sites.act(rt, seat, Command::Delete { port });
 }
 
-/// Two places.
-fn deliver<S: RowCalls>(rt: &impl Abort, sites: &mut S, words: &str) {
+/// Performs the line `deliver` of a row on the sites: two places.
+fn deliver<S: SiteCalls>(rt: &impl Abort, sites: &mut S, words: &str) {
     let (from, to) = first(words);
     sites.deliver(rt, place(rt, from), place(rt, to));
 }
 
 /// Performs one line of a row's calls, whose first word says what is called on the sites.
-fn perform<S: RowCalls>(rt: &impl Abort, alloc: Global, sites: &mut S, line: &str) {
+fn perform<S: SiteCalls>(rt: &impl Abort, alloc: Global, sites: &mut S, line: &str) {
     let (call, words) = first(line);
     match call {
         "enter" => enter(rt, sites, words),
@@ -197,13 +197,13 @@ fn perform<S: RowCalls>(rt: &impl Abort, alloc: Global, sites: &mut S, line: &st
 }
 
 /// Performs each line of the calls on the sites, in order.
-fn perform_all<S: RowCalls>(rt: &impl Abort, alloc: Global, sites: &mut S, calls: &str) {
+fn perform_all<S: SiteCalls>(rt: &impl Abort, alloc: Global, sites: &mut S, calls: &str) {
     for line in calls.lines() {
         perform(rt, alloc, sites, line);
     }
 }
 
-/// Journal and summary of what was left.
+/// Journal and summary of what the sites left, as one text.
 fn text_of(rt: &impl Abort, alloc: Global, closed: &Closed) -> String {
     let entries = merge_lent(alloc, &closed.journals).expect(rt, "memory");
     let mut text = Vec::new(alloc);

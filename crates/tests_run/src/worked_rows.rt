@@ -106,7 +106,7 @@ fn retry_across_a_move_is_accepted_once(rt: HostRuntime) {
     );
 }
 
-/// The same on two sites, each with two places.
+/// Asserts that the row is replayed and printed on two sites, each with two places.
 fn assert_row_of_two_places(rt: &impl Abort, alloc: Global, row: &WorkedRow<'_>) {
     let run = replayed_on_two_places_each(rt, alloc, row.text);
     assert_done(rt, &run, row.printed, row.name);
@@ -118,7 +118,7 @@ fn two_turns_per_site(rt: HostRuntime) {
     assert_row_of_two_places(&rt, rt.alloc(), &tests_rows::TWO_TURNS_AND_A_MOVE);
 }
 
-/// Asserts that version 1 refuses the delete of the row.
+/// Asserts that the replay of the row as a text of version 1 is refused for its delete.
 fn assert_version_one_refuses_delete(rt: &impl Abort, alloc: Global) {
     let text = tests_rows::DELETE_AFTER_A_MOVE.text;
     let lines = text.strip_prefix("chorus 2").expect(rt, "version 2");

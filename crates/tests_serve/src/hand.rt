@@ -8,7 +8,7 @@ use chorus_serve::{Desk, Pump};
 use std::alloc::Global;
 use std::process::Abort;
 
-/// A packet of place 1, with which `1.p.1` comes to `2.a.1` by this hop.
+/// A packet of place 1 that may stay in hand, with which `1.p.1` comes to `2.a.1` by this hop.
 fn transfer(rt: &impl Abort, alloc: Global, hop: u64) -> Packet {
     let made = PortRecord::with_room(alloc, name(rt, "1.p.1"), name(rt, "2.a.1"), 4);
     let mut port = made.expect(rt, "memory");
@@ -20,7 +20,7 @@ fn transfer(rt: &impl Abort, alloc: Global, hop: u64) -> Packet {
     }
 }
 
-/// The port comes twice.
+/// The packets of which the second one stays in hand: the port comes twice.
 fn transfers(rt: &impl Abort, alloc: Global) -> Vec<Packet> {
     let mut packets = Vec::new(alloc);
     for hop in [1, 3] {
@@ -42,7 +42,7 @@ fn assert_serves<E: Moves<()>>(
     assert_eq!(rt; (desk.worked(), desk.is_holding(), desk.held()), wanted);
 }
 
-/// Moves the port to `1.a.1`.
+/// Moves the port to `1.a.1`, after which the packet in hand may be worked off.
 fn move_back<E: Moves<()>>(rt: &impl Abort, desk: &mut Desk<E>, caller: &mut Caller) {
     let (port, actor) = (name(rt, "1.p.1"), name(rt, "1.a.1"));
     act(rt, desk, caller, Command::Move { port, actor });

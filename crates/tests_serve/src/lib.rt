@@ -3,10 +3,10 @@
 #![tactic(auto)]
 
 #[cfg(test)]
-mod carrying;
+mod ends;
 #[cfg(test)]
 mod hand;
 #[cfg(test)]
 mod pair;
 #[cfg(test)]
-mod ruled;
+mod worked_row;

@@ -39,12 +39,12 @@ impl Reaches for MemEnds {
     fn assert_reaches(&self, _rt: &impl Abort, _place: u16) {}
 }
 
-/// The name that the text is of.
+/// The name that the text is of, for the tests with two places at the ends of their links.
 pub(crate) fn name(rt: &impl Abort, text: &str) -> Ui {
     Ui::parse(text.as_bytes()).expect(rt, "a name")
 }
 
-/// The place of this number, at ends that reach the other one.
+/// The place of this number of the pair, at ends that reach the other one.
 #[tactic(auto, using(crate::proofs::Others::reaches_others))]
 fn desk_at<E: Ends>(rt: &impl Abort, alloc: Global, layout: Layout, number: u16, ends: E) -> Desk<E>
     requires { (E.links ends).reaches (3 - number) ≡ true }
@@ -54,7 +54,7 @@ fn desk_at<E: Ends>(rt: &impl Abort, alloc: Global, layout: Layout, number: u16,
     Desk::start(alloc, layout, number, ends).expect(rt, "memory")
 }
 
-/// The place of this number, at ends that are to reach the other one.
+/// The place of this number of the pair, at ends that are to reach the other one.
 fn linked_desk<E: Reaches>(
     rt: &impl Abort,
     alloc: Global,
@@ -67,7 +67,7 @@ fn linked_desk<E: Reaches>(
     desk_at(rt, alloc, layout, number, ends)
 }
 
-/// Two places at these ends, the first ones at the place here.
+/// The pair of places at these ends, the first ones at the place here.
 fn linked<E: Reaches>(
     rt: &impl Abort,
     alloc: Global,
@@ -79,18 +79,18 @@ fn linked<E: Reaches>(
     Pair { here, there }
 }
 
-/// The ruled ends of each place, in order.
+/// The ruled ends of each place of the pair, in order.
 fn ruled_ends(rt: &impl Abort, alloc: Global, layout: Layout) -> Vec<RuledEnds> {
     RuledEnds::all(alloc, layout).expect(rt, "memory")
 }
 
-/// Two places over ruled ends, on which nothing happened yet.
+/// The pair of places over ruled ends, on which nothing happened yet.
 pub(crate) fn start(rt: &impl Abort, alloc: Global) -> Pair<Desk<RuledEnds>> {
     let layout = Layout::new(2, 1).expect(rt, "a layout");
     linked(rt, alloc, layout, ruled_ends(rt, alloc, layout))
 }
 
-/// The second of two places, on which nothing happened yet, over ends in memory that hold these packets.
+/// The second place of the pair, on which nothing happened yet, over ends in memory that hold these packets.
 pub(crate) fn second_holding(
     rt: &impl Abort,
     alloc: Global,
@@ -101,7 +101,7 @@ pub(crate) fn second_holding(
     linked_desk(rt, alloc, layout, 2, Some(ends))
 }
 
-/// Performs the caller's command at the place, where it is to be carried out.
+/// Performs the caller's command at a place of the pair, where it is to be carried out.
 pub(crate) fn act<E: Ends>(
     rt: &impl Abort,
     desk: &mut Desk<E>,
@@ -125,14 +125,14 @@ fn body_of(rt: &impl Abort, alloc: Global, text: &str) -> Body {
     Body::new(alloc, text).expect(rt, "memory")
 }
 
-/// The command that sends the text to the port.
+/// The command by which one of the two places sends the text to the port.
 pub(crate) fn send_command(rt: &impl Abort, alloc: Global, port: Ui, text: &str) -> Command {
     let body = body_of(rt, alloc, text);
     let dest = Dest::Port(port);
     Command::Send { dest, body }
 }
 
-/// Serves the place's links once, on this ground.
+/// Serves the links of a place of the pair once, on this ground.
 pub(crate) fn pump<G, E: Moves<G>>(
     rt: &impl Abort,
     ground: &G,

@@ -4,7 +4,7 @@ use crate::scenarios::{assert_rows, assert_rows_behind, layout_of};
 use std::alloc::Global;
 use std::process::Abort;
 
-/// A text of two sites with the 32 ports of the first.
+/// The text of a scenario of two sites with the 32 ports of the first.
 fn all_ports(rt: &impl Abort, alloc: Global) -> String {
     let mut text = String::new(alloc);
     text.push_str("chorus 1\nsites 2\n").expect(rt, "memory");
@@ -14,7 +14,8 @@ fn all_ports(rt: &impl Abort, alloc: Global) -> String {
     text
 }
 
-/// The same, with the first port of the second site, and a group of which the ports of the first are members.
+/// The text of a scenario with the 32 ports of the first site, the first port of the second site, and a group of which
+/// the ports of the first are members.
 fn all_members(rt: &impl Abort, alloc: Global) -> String {
     let mut text = all_ports(rt, alloc);
     text.push_str("port 2.p.1 2.a.1 1\ngroup 1.g.1\n")
@@ -52,7 +53,7 @@ fn the_last_port_and_member_are_taken_and_the_next_refused(rt: HostRuntime) {
     assert_ports_and_members(&rt, rt.alloc());
 }
 
-/// Asserts what the rows say behind so many of these lines, on eight sites.
+/// Asserts what the rows of a count say behind so many of these lines, on eight sites.
 fn assert_lines(rt: &impl Abort, alloc: Global, front: &str, line: &str, count: usize, rows: &str) {
     let eight = layout_of(rt, 8, 1);
     assert_rows_behind(rt, alloc, eight, front, line, count, rows);
@@ -90,7 +91,7 @@ fn the_last_script_command_and_step_are_taken_and_the_next_refused(rt: HostRunti
     assert_scripts_commands_and_steps(&rt, rt.alloc());
 }
 
-/// Asserts what is told of a text that ends in so many of this letter, on sixteen sites.
+/// Asserts what is told of a scenario's text that ends in so many of this letter, on sixteen sites.
 fn assert_letters(
     rt: &impl Abort,
     alloc: Global,
@@ -103,7 +104,7 @@ fn assert_letters(
     assert_rows_behind(rt, alloc, sixteen, front, letter, count, row);
 }
 
-/// The lengths of bodies in version 2.
+/// Asserts which lengths of bodies are read in a scenario of version 2, and how others are refused.
 fn assert_long_bodies(rt: &impl Abort, alloc: Global) {
     let bytes = "chorus 2\nsites 2\nscript 1.a.1\nsend 1.p.1 =";
     assert_letters(rt, alloc, bytes, "x", 4_096, "|5 9");
@@ -115,7 +116,7 @@ fn assert_long_bodies(rt: &impl Abort, alloc: Global) {
     assert_letters(rt, alloc, digits, "0", 8_194, "|4 6");
 }
 
-/// The lengths of bodies in version 1.
+/// Asserts how scenarios of version 1 with bodies of 241 bytes, one more than the longest, are refused.
 fn assert_bodies(rt: &impl Abort, alloc: Global) {
     let one = "chorus 1\nsites 2\nscript 1.a.1\none 1.p.1 =";
     assert_letters(rt, alloc, one, "x", 241, "|4 3");

@@ -18,7 +18,7 @@ fn with_journal(rt: &impl Abort, alloc: Global, text: &str, entries: &[Entry]) -
     text_of(rt, out)
 }
 
-/// The text with the summary behind it.
+/// The text with the summary of the entries behind it.
 fn with_summary(rt: &impl Abort, alloc: Global, text: &str, entries: &[Entry]) -> String {
     let mut out = Vec::from_slice(alloc, text.as_bytes()).expect(rt, "memory");
     summary_text(entries, &mut out).expect(rt, "memory");
@@ -126,7 +126,7 @@ fn add_delete(rt: &impl Abort, alloc: Global, entries: &mut Vec<Entry>, port: Ui
     add(rt, entries, Act::Delete { port, discarded });
 }
 
-/// Port 1 moves with two messages.
+/// Adds the entries by which port 1 moves with two messages, for a summary to count.
 fn add_port_one(rt: &impl Abort, alloc: Global, entries: &mut Vec<Entry>) {
     let one = port(rt, 1);
     add_post(rt, alloc, entries, one);
@@ -138,7 +138,7 @@ fn add_port_one(rt: &impl Abort, alloc: Global, entries: &mut Vec<Entry>) {
     add_accept(rt, entries, one);
 }
 
-/// Port 2 is held, and more was taken than accepted.
+/// Adds the entries by which port 2 is held, and more was taken than accepted, for a summary to count.
 fn add_port_two(rt: &impl Abort, entries: &mut Vec<Entry>) {
     let two = port(rt, 2);
     add(rt, entries, Act::Arrive { port: two, hop: 1 });
@@ -153,7 +153,7 @@ fn add_port_two(rt: &impl Abort, entries: &mut Vec<Entry>) {
     add(rt, entries, full);
 }
 
-/// Port 3 came back and holds one.
+/// Adds the entries by which port 3 came back and holds one, for a summary to count.
 fn add_port_three(rt: &impl Abort, entries: &mut Vec<Entry>) {
     let three = port(rt, 3);
     add_depart(rt, entries, three);
@@ -173,7 +173,7 @@ fn add_port_three(rt: &impl Abort, entries: &mut Vec<Entry>) {
     add(rt, entries, rehome);
 }
 
-/// Port 4 is deleted, with two discarded.
+/// Adds the entries by which port 4 is deleted, with two discarded, for a summary to count.
 fn add_port_four(rt: &impl Abort, alloc: Global, entries: &mut Vec<Entry>) {
     let Things { id, .. } = named_things(rt);
     let four = port(rt, 4);
@@ -183,7 +183,8 @@ fn add_port_four(rt: &impl Abort, alloc: Global, entries: &mut Vec<Entry>) {
     add(rt, entries, Act::Gone { id, port: four });
 }
 
-/// Port 6 is deleted, with none discarded. A message for it was stale, and one for port 1. Port 5 was never made.
+/// Adds the entries by which port 6 is deleted, with none discarded, for a summary to count. A message for it was
+/// stale, and one for port 1. Port 5 was never made.
 fn add_port_six(rt: &impl Abort, alloc: Global, entries: &mut Vec<Entry>) {
     let six = port(rt, 6);
     add_delete(rt, alloc, entries, six, &[]);
@@ -226,14 +227,14 @@ fn deletes_without_ids_have_their_line(rt: HostRuntime) {
     assert_deleted_alone(&rt, rt.alloc());
 }
 
-/// The line of the status, behind what was there.
+/// The fault line of the status, behind what was there.
 fn line_of(rt: &impl Abort, alloc: Global, status: Status) -> String {
     let mut out = Vec::from_slice(alloc, b"> ").expect(rt, "memory");
     fault_text(status, &mut out).expect(rt, "memory");
     text_of(rt, out)
 }
 
-/// Asserts the number of the status, and its line behind what was there.
+/// Asserts the exit number of the status, and its fault line behind what was there.
 fn assert_fault(rt: &impl Abort, alloc: Global, status: Status, number: u8, line: &str) {
     assert_eq!(rt; status.number(), number);
     let written = line_of(rt, alloc, status);

@@ -55,7 +55,7 @@ pub(crate) fn body_of(rt: &impl Abort, alloc: Global, bytes: &[u8]) -> Body {
     Body::new(alloc, bytes).expect(rt, "memory")
 }
 
-/// The text that these bytes are.
+/// The text that these bytes are, to which `chorus_show` appended.
 pub(crate) fn text_of(rt: &impl Abort, bytes: Vec<u8>) -> String {
     String::from_utf8(bytes).ok().expect(rt, "a text")
 }
@@ -65,7 +65,7 @@ pub(crate) fn assert_text(rt: &impl Abort, written: &str, text: &str) {
     assert_eq!(rt; written, text);
 }
 
-/// The line of the act, behind what was there.
+/// The journal line of the act, behind what was there.
 fn line_of(rt: &impl Abort, alloc: Global, act: Act) -> String {
     let mut out = Vec::from_slice(alloc, b"> ").expect(rt, "memory");
     entry_line(&entry(5, act), &mut out).expect(rt, "memory");
@@ -110,7 +110,7 @@ fn lines_of_ports(rt: HostRuntime) {
     assert_ports(&rt, rt.alloc());
 }
 
-/// The lines of what becomes of a message at its port.
+/// Asserts the journal lines of what becomes of a message at its port.
 fn assert_messages(rt: &impl Abort, alloc: Global) {
     let Things { port, id, .. } = named_things(rt);
     let accept = Act::Accept { id, port, pos: 11 };
@@ -127,7 +127,7 @@ fn assert_messages(rt: &impl Abort, alloc: Global) {
     assert_line(rt, alloc, Act::NoPort { id, port }, "no-port 3:7:1 1.p.1");
 }
 
-/// The lines of a message whose port is somewhere else.
+/// Asserts the journal lines of a message whose port is somewhere else.
 fn assert_messages_elsewhere(rt: &impl Abort, alloc: Global) {
     let Things { port, id, .. } = named_things(rt);
     let (to, hop) = (9, 6);
@@ -200,7 +200,7 @@ fn lines_of_calls(rt: HostRuntime) {
     assert_calls(&rt, rt.alloc());
 }
 
-/// Asserts the line of an answer that is told.
+/// Asserts the journal line `told` of this answer.
 fn assert_told(rt: &impl Abort, alloc: Global, answer: Answer, text: &str) {
     let id = named_things(rt).id;
     assert_line(rt, alloc, Act::Told { id, answer }, text);
@@ -248,7 +248,7 @@ fn assert_chosen(rt: &impl Abort, alloc: Global) {
     assert_line(rt, alloc, choose, "choose 3:7:1 4.g.2 1.p.1 2.a.8");
 }
 
-/// Asserts the line of the port's deletion, with these messages.
+/// Asserts the journal line of the port's deletion, with these discarded messages.
 fn assert_deleted(rt: &impl Abort, alloc: Global, ids: &[MsgId], text: &str) {
     let delete = Act::Delete {
         port: named_things(rt).port,
@@ -276,7 +276,7 @@ fn lines_of_lists(rt: HostRuntime) {
     assert_lists(&rt, rt.alloc());
 }
 
-/// Asserts the line of a post to the destination, with this tag and body.
+/// Asserts the journal line of a post to the destination, with this tag and body.
 fn assert_post(rt: &impl Abort, alloc: Global, dest: &Dest, tag: &Tag, bytes: &[u8], text: &str) {
     let message = Message {
         id: named_things(rt).id,
@@ -287,7 +287,7 @@ fn assert_post(rt: &impl Abort, alloc: Global, dest: &Dest, tag: &Tag, bytes: &[
     assert_line(rt, alloc, Act::Post { message, dest }, text);
 }
 
-/// Asserts that the line of a post writes a `%` of the body as `%25`.
+/// Asserts that the journal line of a post writes a `%` of the body as `%25`.
 fn assert_percent(rt: &impl Abort, alloc: Global) {
     let port = Dest::Port(named_things(rt).port);
     let text = "post 3:7:1 port 1.p.1 plain =100%25";
@@ -299,7 +299,7 @@ fn percent_is_escaped(rt: HostRuntime) {
     assert_percent(&rt, rt.alloc());
 }
 
-/// Asserts the lines of posts to a group (all, one, one at a site) with each tag, and how bytes are escaped.
+/// Asserts the journal lines of posts to a group (all, one, one at a site) with each tag, and how bytes are escaped.
 fn assert_posts(rt: &impl Abort, alloc: Global) {
     let Things { port, group, .. } = named_things(rt);
     let request = Tag::Request {

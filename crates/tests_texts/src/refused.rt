@@ -136,7 +136,8 @@ port 1.p.3 1.a.7 1;port 1.p.7 1.a.3 1;schedule;end|read
 port 1.p.3 1.a.7 1;port 1.p.4 1.a.7 1|4 7
 ";
 
-/// Asserts which places a step may name and which port an actor may have, for two and for four places a site.
+/// Asserts which places a scenario's step may name and which port an actor may have, for two and for four places a
+/// site.
 fn assert_turns(rt: &impl Abort, alloc: Global) {
     assert_rows(rt, alloc, layout_of(rt, 16, 2), TWO_SITES, TWO_TURNS);
     assert_rows(rt, alloc, layout_of(rt, 16, 4), TWO_SITES, FOUR_TURNS);

@@ -14,7 +14,7 @@ pub(crate) fn layout_of(rt: &impl Abort, sites: u16, turns: u16) -> Layout {
     Layout::new(sites, turns).expect(rt, "a layout")
 }
 
-/// The front with so many of these lines behind it.
+/// A scenario's front with so many of these lines behind it.
 pub(crate) fn repeated(
     rt: &impl Abort,
     alloc: Global,
@@ -30,7 +30,7 @@ pub(crate) fn repeated(
     text
 }
 
-/// The byte for which this one stands in a row.
+/// The byte of a scenario's text for which this one stands in a row.
 fn byte_of(c: u8) -> u8 {
     match c {
         b';' => b'\n',
@@ -39,7 +39,7 @@ fn byte_of(c: u8) -> u8 {
     }
 }
 
-/// The front with the text of a row behind it.
+/// A scenario's front with the text of a row behind it.
 fn behind(rt: &impl Abort, alloc: Global, front: &str, text: &str) -> Vec<u8> {
     let mut whole = Vec::from_slice(alloc, front.as_bytes()).expect(rt, "memory");
     for c in text.as_bytes() {
@@ -48,7 +48,7 @@ fn behind(rt: &impl Abort, alloc: Global, front: &str, text: &str) -> Vec<u8> {
     whole
 }
 
-/// The fault of the text; None where it is read.
+/// The fault of the text of a scenario; None where it is read.
 fn fault_of(rt: &impl Abort, alloc: Global, layout: Layout, text: &[u8]) -> Option<SceneFault> {
     match read(alloc, text, layout) {
         Ok(_) => None,
@@ -57,7 +57,7 @@ fn fault_of(rt: &impl Abort, alloc: Global, layout: Layout, text: &[u8]) -> Opti
     }
 }
 
-/// What is told of the text, as in a row.
+/// What is told of the text of a scenario, as in a row.
 fn told_of(rt: &impl Abort, alloc: Global, layout: Layout, text: &[u8]) -> String {
     let mut told = String::new(alloc);
     match fault_of(rt, alloc, layout, text) {
@@ -77,7 +77,7 @@ fn assert_row(rt: &impl Abort, alloc: Global, layout: Layout, front: &str, row: 
     assert_eq!(rt; found.as_str(), told, "{row}");
 }
 
-/// Asserts what each row says of its text, which stands behind the front.
+/// Asserts what each row says of its scenario's text, which stands behind the front.
 pub(crate) fn assert_rows(rt: &impl Abort, alloc: Global, layout: Layout, front: &str, rows: &str) {
     for row in rows.lines() {
         assert_row(rt, alloc, layout, front, row);
@@ -98,7 +98,7 @@ pub(crate) fn assert_rows_behind(
     assert_rows(rt, alloc, layout, front.as_str(), rows);
 }
 
-/// What is printed of what the text says.
+/// What is printed of the scenario that the text says.
 fn printed(rt: &impl Abort, alloc: Global, layout: Layout, text: &[u8]) -> Vec<u8> {
     let Ok(scenario) = read(alloc, text, layout) else {
         panic!(rt; "a scenario")
@@ -108,7 +108,7 @@ fn printed(rt: &impl Abort, alloc: Global, layout: Layout, text: &[u8]) -> Vec<u
     out
 }
 
-/// Asserts that the text is read, and what it says is printed as the other.
+/// Asserts that the text is read, and the scenario that it says is printed as the other.
 fn assert_prints(rt: &impl Abort, alloc: Global, layout: Layout, text: &[u8], want: &[u8]) {
     let out = printed(rt, alloc, layout, text);
     assert!(rt; out.as_slice() == want);
@@ -226,7 +226,7 @@ fn binary_bodies(rt: HostRuntime) {
 const DELETES: &str =
     "sites 3;port 1.p.1 1.a.1 4;script 3.a.1;send 1.p.1 =x;script 1.a.1;move 1.p.1 2.a.1;script 2.a.1;delete 1.p.1;schedule;step 2;deliver 1 2;step 3;step 1;deliver 3 1;deliver 1 3;deliver 3 2;deliver 2 3";
 
-/// Version 2 has the command, and version 1 has not.
+/// Asserts that version 2 reads the command `delete` and prints it back, and version 1 refuses it.
 fn assert_deletes(rt: &impl Abort, alloc: Global) {
     let sixteen = layout_of(rt, 16, 1);
     assert_printed_back(rt, alloc, sixteen, "chorus 2\n", DELETES);
@@ -271,7 +271,7 @@ fn assert_scenarios(rt: &impl Abort, alloc: Global) {
     }
 }
 
-/// A port of capacity 64, and 65 sends of 240 bytes to it.
+/// Asserts that a scenario with a port of capacity 64, and 65 sends of 240 bytes to it, is printed as it is.
 fn assert_sends(rt: &impl Abort, alloc: Global) {
     let mut send = repeated(rt, alloc, "send 1.p.1 =", "x", 240);
     send.push('\n').expect(rt, "memory");
@@ -280,7 +280,7 @@ fn assert_sends(rt: &impl Abort, alloc: Global) {
     assert_printed_back(rt, alloc, layout_of(rt, 16, 1), sends.as_str(), "schedule");
 }
 
-/// Actors with two places on their site are as they are printed, and refused where there is one.
+/// Asserts that a scenario's actors with two places on their site are as they are printed, and refused where there is one.
 fn assert_turns(rt: &impl Abort, alloc: Global) {
     let scenario =
         "sites 1;port 1.p.2 1.a.2 4;port 1.p.1 1.a.3 1;port 1.p.4 1.a.4 2;script 1.a.1;send 1.p.2 =x;schedule";
@@ -297,7 +297,8 @@ fn texts_are_read_and_printed_back(rt: HostRuntime) {
     assert_turns(&rt, rt.alloc());
 }
 
-/// The one form of what is spelled in another: skipped lines, a last LF, and bodies of digits that are text.
+/// Asserts the one form in which a scenario is printed that is spelled in another: skipped lines, a last LF, and bodies of digits
+/// that are text.
 fn assert_one_form(rt: &impl Abort, alloc: Global) {
     let text =
         "# c\n\nchorus 2\nsites 1\n# d\nscript 1.a.1\nreply x6869\nreply x\nreply x0a\nschedule\nend\n\n#";

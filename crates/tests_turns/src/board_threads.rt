@@ -26,7 +26,7 @@ fn publish_departures<R: Abort + Wait>(rt: &R, board: &mut Board, port: Ui)
     }
 }
 
-/// Whether what was read does not go back, and is at the place of its hop.
+/// Whether what the reader in the other thread read does not go back, and is at the place of its hop.
 fn goes_on(found: &Located, seen: u64) -> bool {
     found.hop >= seen
         && found.upto == found.hop

@@ -14,7 +14,7 @@ use std::marker::Brand;
 use std::process::Abort;
 use std::sync::Wait;
 
-/// The layout of so many sites, each with so many places.
+/// The layout of a board: so many sites, each with so many places.
 pub(crate) fn layout_of_sites(rt: &impl Abort, sites: u16, places: u16) -> Layout {
     Layout::new(sites, places).expect(rt, "a layout")
 }
@@ -39,7 +39,7 @@ fn port_at(rt: &impl Abort, site: u16, number: u64) -> Ui {
     Ui::new(site, Kind::Port, number).expect(rt, "a port")
 }
 
-/// The port of this number at site 1, which the layout can make.
+/// The port of this number at site 1, which the layout of a board can make.
 pub(crate) fn port_in(rt: &impl Abort, layout: Layout, number: u64) -> Ui
     ensures { (result.kind ≡ Port) × IsTrue (can_make_port layout result) }
 {
@@ -86,7 +86,7 @@ pub(crate) fn publish_next<R: Abort + Wait>(rt: &R, board: &mut Board, port: Ui,
     };
 }
 
-/// The next reader.
+/// The next of a board's new readers.
 pub(crate) fn next_reader(
     rt: &impl Abort,
     board: &Board,
@@ -112,7 +112,7 @@ fn newest(rt: &impl Abort, reader: &mut BoardReader, layout: Layout, port: Ui) -
     reader.newest(port)
 }
 
-/// Asserts the place and the hop of the answer, and how many entries tell it.
+/// Asserts the place and the hop that a board's reader answers, and how many entries tell it.
 fn assert_located(rt: &impl Abort, found: Located, expected: (u16, u64, u64)) {
     assert_eq!(rt; (found.place, found.hop, found.upto), expected);
 }
@@ -176,7 +176,7 @@ fn assert_publish_is_seen<R: Abort + Wait>(rt: &R, alloc: Global) {
     assert_sees(rt, layout, board, reader, follower, idle);
 }
 
-// The last four reads are refused, since the board has ended by then.
+/// The last four reads of the board are refused, since it has ended by then.
 #[test]
 fn board_reader_sees_a_publish(rt: HostRuntime) {
     assert_publish_is_seen(&rt, rt.alloc());

@@ -10,14 +10,14 @@ use std::sync::Wait;
 use std::thread;
 use std::thread::join_mut;
 
-/// Puts a packet. Gives it where it comes back.
+/// Puts a packet into the link. Gives it where it comes back.
 fn put<R: Wait, P: Drop>(rt: &R, send: &mut SendEnd<P>, packet: P) -> Option<P>
     ensures { send_link send.new ≡ send_link send.old }
 {
     send.push(rt, packet).err()
 }
 
-/// Gets the next packet.
+/// Gets the next packet from the link.
 fn get<R: Wait, P: Drop>(rt: &R, recv: &mut RecvEnd<P>) -> Option<P>
     ensures { recv_link recv.new ≡ recv_link recv.old }
 {
@@ -82,7 +82,7 @@ fn a_refusal_is_of_its_moment(rt: HostRuntime) {
 
 const MANY: u32 = 100_000;
 
-/// Puts the numbers below MANY, each as often as it takes.
+/// Puts the numbers below MANY into the link, each as often as it takes.
 fn put_all<R: Wait>(rt: &R, send: &mut SendEnd<u32>)
     ensures { send_link send.new ≡ send_link send.old }
 {
@@ -98,7 +98,7 @@ fn put_all<R: Wait>(rt: &R, send: &mut SendEnd<u32>)
     }
 }
 
-/// Gets packets as long as each is one more than the one before, from 0 on, and says how many these were.
+/// Gets packets from the link as long as each is one more than the one before, from 0 on, and says how many these were.
 fn got_in_order<R: Wait>(rt: &R, recv: &mut RecvEnd<u32>) -> u32
     ensures { recv_link recv.new ≡ recv_link recv.old }
 {

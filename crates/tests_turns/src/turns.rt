@@ -44,7 +44,7 @@ impl Log {
         }
     }
 
-    // One entry more, if there is memory.
+    /// Adds an entry of this clock and seat to the journal that turns keep. Gives whether there was memory.
     fn add(&mut self, clock: u64, seat: u32) -> bool
         ensures { GrowsBy seat self.old.entries.items self.new.entries.items }
     {
@@ -111,7 +111,7 @@ impl<'a> Job<Log> for Inside<'a> {
     }
 }
 
-/// Two places, and the keeper's pass.
+/// Two places at which callers take turns, and the keeper's pass.
 fn start_two(rt: &impl Abort, alloc: Global) -> (Turns<Log>, Pass<u64>)
     ensures { IsPassOf result.0 result.1 × (2 ≤ places result.0) }
 {
@@ -124,7 +124,7 @@ fn start_two(rt: &impl Abort, alloc: Global) -> (Turns<Log>, Pass<u64>)
     started
 }
 
-/// The next pass.
+/// The next pass that the keeper admits to the turns.
 fn admit(rt: &impl Abort, turns: &Turns<Log>, keeper: &mut Pass<u64>) -> Pass<u64>
     requires { IsPassOf turns.now keeper.old }
     ensures { IsPassOf turns.now keeper.new × IsPassOf turns.now result }
@@ -148,14 +148,14 @@ fn finish(rt: &impl Abort, turns: Turns<Log>, mut first: Pass<u64>, second: Pass
     states
 }
 
-/// Asserts that the state has one entry, of this seat and clock.
+/// Asserts that the state that turns kept has one entry, of this seat and clock.
 fn assert_one_entry(rt: &impl Abort, state: Option<&Log>, seat: u32, clock: u64) {
     let entries = &state.expect(rt, "a state").entries;
     assert!(rt; entries.len() == 1);
     assert!(rt; entries[0].seat == seat && entries[0].clock == clock);
 }
 
-/// Asserts that there are two states with one entry each, of seats 0 and 1 and of these clocks.
+/// Asserts that turns kept two states with one entry each, of seats 0 and 1 and of these clocks.
 fn assert_two_entries(rt: &impl Abort, states: &[Log], one: u64, two: u64) {
     assert!(rt; states.len() == 2);
     assert_one_entry(rt, states.get(0), 0, one);

@@ -77,7 +77,7 @@ const TRAILING: &str = "
     3: 00000000 00000007 00
 ";
 
-/// What the hexadecimal digit stands for. None where it is none.
+/// What the hexadecimal digit of a frame worked out by hand stands for. None where it is none.
 fn digit(c: u8) -> Option<u8> {
     match c {
         b'0'..=b'9' => Some(c - b'0'),
@@ -86,7 +86,7 @@ fn digit(c: u8) -> Option<u8> {
     }
 }
 
-/// Appends the bytes of hexadecimal digits, two for each; what is no digit parts them for the eye.
+/// Appends the bytes of a frame in hexadecimal digits, two for each; what is no digit parts them for the eye.
 fn push_hex(rt: &impl Abort, text: &str, bytes: &mut Vec<u8>) {
     let mut first = None;
     for c in text.as_bytes() {
@@ -96,7 +96,7 @@ fn push_hex(rt: &impl Abort, text: &str, bytes: &mut Vec<u8>) {
     }
 }
 
-/// Appends the byte of two digits. Gives the first one back where it is the only one so far.
+/// Appends the byte of two hexadecimal digits of a frame. Gives the first one back where it is the only one so far.
 fn push_digit(rt: &impl Abort, first: Option<u8>, digit: u8, bytes: &mut Vec<u8>) -> Option<u8> {
     let Some(high) = first else {
         return Some(digit);
@@ -219,7 +219,7 @@ fn report_frame_bytes(rt: HostRuntime) {
     assert_damaged(&rt, rt.alloc(), 5, "09 00", DecodeFault::Trailing);
 }
 
-/// Asserts that a Verdict that ends so tells this answer.
+/// Asserts that the frame of a Verdict that ends so tells this answer.
 fn assert_told(rt: &impl Abort, alloc: Global, end: &str, expected: Answer) {
     let packet = packet_in(rt, alloc, 2, end);
     assert!(rt;
@@ -228,7 +228,7 @@ fn assert_told(rt: &impl Abort, alloc: Global, end: &str, expected: Answer) {
     );
 }
 
-/// Asserts that a Report that ends so tells this answer.
+/// Asserts that the frame of a Report that ends so tells this answer.
 fn assert_reported(rt: &impl Abort, alloc: Global, end: &str, expected: Answer) {
     let packet = packet_in(rt, alloc, 5, end);
     assert!(rt;
@@ -237,7 +237,7 @@ fn assert_reported(rt: &impl Abort, alloc: Global, end: &str, expected: Answer) 
     );
 }
 
-/// The answers with numbers in them.
+/// Asserts how Verdict frames code the answers with numbers in them.
 fn assert_numbers_told(rt: &impl Abort, alloc: Global) {
     let accepted = Answer::Accepted { pos: 9 };
     assert_told(rt, alloc, "01 0000000000000009", accepted);
@@ -287,7 +287,7 @@ fn group(rt: &impl Abort) -> Ui {
     named(rt, 2, Kind::Group, 1)
 }
 
-/// Asserts that a message is tried by this route at site 16 alone, with hop 3.
+/// Asserts that the frame of a Try carries a message that is tried by this route at site 16 alone, with hop 3.
 fn assert_tried(rt: &impl Abort, cargo: &Cargo, expected: Option<Ui>) {
     match cargo {
         Cargo::Try {
@@ -300,7 +300,7 @@ fn assert_tried(rt: &impl Abort, cargo: &Cargo, expected: Option<Ui>) {
     }
 }
 
-/// Asserts the message that is tried, and its port.
+/// Asserts the message that is tried, as the frame of a Try carries it, and its port.
 fn assert_asks(rt: &impl Abort, cargo: &Cargo) {
     match cargo {
         Cargo::Try {
@@ -344,7 +344,7 @@ fn a_site_is_demanded_without_a_route(rt: HostRuntime) {
     assert_tried_without_a_route(&rt, rt.alloc());
 }
 
-/// Asserts that an Ask that ends so is for this destination.
+/// Asserts that the frame of an Ask that ends so is for this destination.
 fn assert_asked(rt: &impl Abort, alloc: Global, end: &str, to: &Dest) {
     let packet = packet_in(rt, alloc, 4, end);
     assert!(rt;
@@ -369,7 +369,7 @@ fn a_message_is_asked(rt: HostRuntime) {
     assert_each_mode_is_asked(&rt, rt.alloc());
 }
 
-/// Asserts what the record of the port that is transferred says.
+/// Asserts what the record of the port says that is transferred in a frame.
 fn assert_record(rt: &impl Abort, record: &PortRecord) {
     assert_eq!(rt; record.ui, port(rt, 1));
     assert_eq!(rt; record.capacity, 2);

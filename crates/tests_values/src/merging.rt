@@ -5,7 +5,7 @@ use chorus_merge::merge;
 use std::alloc::Global;
 use std::process::Abort;
 
-/// An entry that tells by its seat where it stood.
+/// An entry of a journal to merge, which tells by its seat where it stood.
 fn entry(clock: u64, place: u16, seat: u32) -> Entry {
     Entry {
         clock,
@@ -37,7 +37,7 @@ fn journals(rt: &impl Abort, alloc: Global, rows: &[&[(u64, u16, u32)]]) -> Vec<
     journals
 }
 
-/// The journals are merged into this one.
+/// Asserts that the journals are merged into this one.
 fn assert_merged(
     rt: &impl Abort,
     alloc: Global,

@@ -4,7 +4,7 @@ use chorus_ui::Ui;
 use std::alloc::Global;
 use std::process::Abort;
 
-/// What was written behind two bytes is this text.
+/// Asserts that what was written of a name behind two bytes is this text.
 fn assert_written(rt: &impl Abort, out: &[u8], text: &[u8]) {
     assert!(rt; out.len() >= 2 && &out[2..] == text);
 }

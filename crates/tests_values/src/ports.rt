@@ -7,7 +7,7 @@ use chorus_ui::{Kind, Ui};
 use std::alloc::Global;
 use std::process::Abort;
 
-/// The message with which the client asks under this number of its own.
+/// The message with which the client of a port asks under this number of its own.
 fn request(rt: &impl Abort, alloc: Global, back: Ui, client: u32, number: u32) -> Message {
     Message {
         id: MsgId {
@@ -20,19 +20,19 @@ fn request(rt: &impl Abort, alloc: Global, back: Ui, client: u32, number: u32) -
     }
 }
 
-/// A table with this room.
+/// A table of ports with this room.
 fn table(rt: &impl Abort, alloc: Global, room: u16) -> Ports {
     Ports::with_room(alloc, room).expect(rt, "memory")
 }
 
-/// Makes the port.
+/// Makes the port in the table of ports.
 fn make(rt: &impl Abort, ports: &mut Ports, port: Ui, actor: Ui, capacity: u8) {
     assert!(rt; 1 <= capacity && usize::from(capacity) <= PENDING_LIMIT);
     assert!(rt; ports.get(port).is_none() && ports.spare() > 0);
     ports.make(port, actor, capacity).expect(rt, "memory");
 }
 
-/// Offers the message, where the port is held and has accepted few so far.
+/// Offers the message to the port of the table, where it is held and has accepted few so far.
 fn offer(ports: &mut Ports, port: Ui, message: Message) -> Option<Accept> {
     let record = ports.get(port)?;
     if record.first > 1000 || record.pending.len() > PENDING_LIMIT {
@@ -41,7 +41,7 @@ fn offer(ports: &mut Ports, port: Ui, message: Message) -> Option<Accept> {
     Some(ports.accept(port, message))
 }
 
-/// What comes of a request: its position, or the reason.
+/// What comes of a request to the port of the table: its position, or the reason.
 fn asked(
     rt: &impl Abort,
     alloc: Global,

@@ -22,7 +22,7 @@ use chorus_ui::Ui;
 use chorus_world::Progress;
 
 impl Ledger {
-    /// What became of the port. None exactly where it is not made.
+    /// What became of the port and of the messages that it accepted. None exactly where it is not made.
     pub fn port(&self, ui: Ui) -> Option<&PortState>
         ensures value { option_copied result ≡ fate (on ui self.now.past) }
         ensures legal { is_legal self.now.layout self.now.past ≡ true }

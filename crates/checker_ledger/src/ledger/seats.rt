@@ -62,14 +62,14 @@ impl Ledger {
     }
 }
 
-/// The entry behind `index` others.
+/// The entry of the ledger behind `index` others.
 fn entry_at(entries: &[Entry], index: usize) -> Option<&Entry>
     ensures { option_copied result ≡ slice_get entries.now index }
 {
     entries.get(index)
 }
 
-/// Whether the message is the call of this number that the act posts.
+/// Whether the caller's message is again the call of this number that the act posts.
 fn repeats(act: &Act, number: u32, message: &Message, dest: &Dest) -> bool
     ensures { result ≡ repeats (call_by number act.now) number message.now dest.now }
 {
@@ -90,7 +90,7 @@ fn repeats(act: &Act, number: u32, message: &Message, dest: &Dest) -> bool
     }
 }
 
-/// Whether a post of the request `number` is this call: the same port, reply port and body.
+/// Whether a caller's post of the request `number` is this call again: the same port, reply port and body.
 fn is_call(message: &Message, dest: &Dest, number: u32, port: Ui, back: Ui, body: &[u8]) -> bool
     ensures { result ≡ repeats (Some (call_to port back body.now)) number message.now dest.now }
 {

@@ -13,7 +13,7 @@ use chorus_entry::{Dest, Message, Tag};
 use chorus_world::TakenReply;
 
 impl World {
-    /// Whether the message is a new request of this number, or the outstanding one again.
+    /// Whether the message is a new request of the caller, with this number, or its outstanding one again.
     fn may_request(
         &self,
         place: u16,
@@ -37,7 +37,8 @@ impl World {
             }
     }
 
-    /// Whether the message is the reply to the request in hand: it has this client and number, and goes to the reply port.
+    /// Whether the message is the reply to the request in the caller's hand: it has this client and number, and goes to
+    /// the reply port.
     fn may_reply(&self, seat: u32, client: u32, number: u32, dest: &Dest) -> bool
         ensures { result ≡ may_reply_in self.now seat client number dest.now }
     {
@@ -52,7 +53,7 @@ impl World {
         }
     }
 
-    /// Whether the message may have its tag.
+    /// Whether the message that the caller posts may have its tag.
     fn may_tag(&self, place: u16, seat: u32, message: &Message, dest: &Dest) -> bool
         ensures { result ≡ may_tag_in self.now place seat message.now dest.now }
     {

@@ -17,14 +17,14 @@ use chorus_ui::Ui;
 use chorus_world::{Due, Location, Progress};
 
 impl World {
-    /// Whether the layout has no such site as that of the name.
+    /// Whether the layout has no such site as the name of a message's port has.
     fn is_beyond(&self, ui: Ui) -> bool
         ensures { result ≡ is_beyond self.now.layout ui }
     {
         !self.layout().has_site(ui.site())
     }
 
-    /// Whether the place is on the site, where one is asked for.
+    /// Whether the place is on this site, where a message asks for one.
     fn is_on_site(&self, site: Option<u16>, place: u16) -> bool
         ensures { result ≡ is_on_site self.now.layout site place }
     {

@@ -9,7 +9,7 @@ use crate::id::MsgId;
 use chorus_ui::Ui;
 
 impl Act {
-    /// The message that it is about. A Take is about its port.
+    /// The message that the act names as the one that it is about. A Take is about its port.
     pub fn message(&self) -> Option<MsgId>
         ensures { result ≡ message_of self.now }
     {
@@ -33,7 +33,7 @@ impl Act {
         }
     }
 
-    /// The port that it names; of a post, the one that it goes to.
+    /// The port that the act names; of a post, the one that it goes to.
     pub fn port(&self) -> Option<Ui>
         ensures { result ≡ port_of self.now }
     {
@@ -65,7 +65,7 @@ impl Act {
         }
     }
 
-    /// The port on whose line it stands: the one that it needs held at its place, makes or brings.
+    /// The port that the act names and on whose line it stands: the one that it needs held at its place, makes or brings.
     pub fn held_port(&self) -> Option<Ui>
         ensures { result ≡ held_port_of self.now }
     {
@@ -85,7 +85,7 @@ impl Act {
         }
     }
 
-    /// The answer that a decision or a choice of members gives.
+    /// The answer that the act gives, where it is a decision or a choice of members.
     pub fn answer(&self) -> Option<Answer>
         ensures { result ≡ answer_of self.now }
     {
@@ -108,7 +108,8 @@ impl Act {
         Some(answer)
     }
 
-    /// Whether it is a verdict: a decision other than Stale, or that there is no member to choose.
+    /// Whether the act, by the answer that it gives, is a verdict: a decision other than Stale, or that there is no
+    /// member to choose.
     pub fn is_verdict(&self) -> bool
         ensures { result ≡ is_verdict self.now }
     {

@@ -7,14 +7,14 @@ use super::Command;
 use crate::dest::Dest;
 use chorus_ui::{PENDING_LIMIT, SITES_LIMIT};
 
-/// Whether a port may have this capacity.
+/// Whether a port may have this capacity, as the conditions of a command demand.
 fn is_capacity(capacity: u8) -> bool
     ensures { result ≡ is_capacity capacity }
 {
     1 <= capacity && usize::from(capacity) <= PENDING_LIMIT
 }
 
-/// Whether the site that is demanded, where one is, is from 1 to 16.
+/// Whether the site that the destination of a command demands, where it demands one, is from 1 to 16.
 fn demands_a_site(dest: &Dest) -> bool
     ensures { result ≡ demands_a_site dest.now }
 {

@@ -9,7 +9,7 @@ use super::Command;
 use chorus_ui::{Layout, Ui};
 
 impl Command {
-    /// The place that it names, for a caller in this actor.
+    /// The place that the command names to be carried out at, for a caller in this actor.
     fn place_named(&self, layout: Layout, actor: Ui) -> Option<u16>
         requires site { has_site layout actor.site ≡ true }
         requires conditions { meets_conditions self.now ≡ true }

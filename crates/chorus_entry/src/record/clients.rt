@@ -42,7 +42,7 @@ impl ClientTable {
         self.entries.len()
     }
 
-    /// Whether none is.
+    /// Whether no client is remembered.
     pub fn is_empty(&self) -> bool
         ensures { result ≡ (length self.now == 0) }
     {

@@ -29,7 +29,7 @@ impl Model for Pending {
 }
 
 impl Pending {
-    /// No message, and room for 64.
+    /// The queue of a port's record with no message, and room for 64.
     pub(crate) fn with_room(alloc: Global) -> Result<Pending, AllocError>
         ensures { IfOk result (λ pending. pending ≡ []) }
     {
@@ -37,7 +37,7 @@ impl Pending {
         Ok(Pending { messages })
     }
 
-    /// How many messages wait.
+    /// How many messages wait in the queue of a port's record.
     pub fn len(&self) -> usize
         ensures len { result ≡ length self.now }
         ensures within { result ≤ PENDING_LIMIT }
@@ -45,21 +45,21 @@ impl Pending {
         self.messages.len()
     }
 
-    /// Whether none waits.
+    /// Whether no message waits in the queue of a port's record.
     pub fn is_empty(&self) -> bool
         ensures { result ≡ (length self.now == 0) }
     {
         self.messages.is_empty()
     }
 
-    /// The message at `at`, counted from 0; None exactly where so many do not wait.
+    /// The message at `at` in the queue of a port's record, counted from 0; None exactly where so many do not wait.
     pub fn get(&self, at: usize) -> Option<&Message>
         ensures { option_copied result ≡ slice_get self.now at }
     {
         self.messages.get(at)
     }
 
-    /// Puts a message last. It takes no memory.
+    /// Puts a message last in the queue of a port's record. It takes no memory.
     pub fn push(&mut self, message: Message)
         requires { length self.old < PENDING_LIMIT }
         ensures { self.new ≡ self.old ++ message ∷ [] }
@@ -67,7 +67,7 @@ impl Pending {
         self.messages.push_back_reserved(message);
     }
 
-    /// Takes the first message out; None exactly where none waits, and then nothing changes.
+    /// Takes the first message out of the queue of a port's record; None exactly where none waits, and then nothing changes.
     pub fn pop_first(&mut self) -> Option<Message>
         ensures first { result ≡ slice_get self.old 0 }
         ensures rest { self.new ≡ drop 1 self.old }

@@ -3,12 +3,12 @@
 ghost use Rattle.chorus_frame.specs.Calls.{Reads};
 ghost use Rattle.chorus_frame.specs.Reading.{accepted_at, full_at, located_at, stale_at, early_at, elsewhere_at, chosen_at, answer_of, answer_at, is_told_code, is_reported_code};
 
-use super::name::{place_from, up_to_clock_from};
+use super::number::{place_from, up_to_clock_from};
 use crate::fault::DecodeFault;
 use crate::reader::Reader;
 use chorus_entry::{Answer, MEMBERS_LIMIT, PENDING_LIMIT};
 
-/// A place, and the hop by which a port went there.
+/// Decodes what a Stale and an Elsewhere answer say: a place, and the hop by which a port went there.
 #[tactic(auto, unfolding(crate::specs::Reading::located_at))]
 fn located_from(reader: &mut Reader<'_>, clock: u64) -> Result<(u16, u64), DecodeFault>
     ensures { Reads result reader.new (located_at clock reader.old) }

@@ -5,7 +5,7 @@ ghost use Rattle.chorus_frame.specs.Reading.{asked_at, try_at, verdict_at, trans
 
 use super::answer::{reported_from, told_from};
 use super::message::{id_from, message_from};
-use super::name::{name_from, only_from, place_from, route_from, up_to_clock_from};
+use super::number::{name_from, only_from, place_from, route_from, up_to_clock_from};
 use super::record::record_from;
 use crate::fault::DecodeFault;
 use crate::reader::Reader;
@@ -13,7 +13,7 @@ use chorus_entry::{Cargo, Dest, Packet};
 use chorus_ui::{Kind, SITES_LIMIT};
 use std::alloc::Global;
 
-/// The mode of a post to a group, the group, and the site that the post demands or 0.
+/// Of what an Ask packet carries, the mode of a post to a group, the group, and the site that the post demands or 0.
 #[tactic(auto, unfolding(crate::specs::Reading::asked_at, crate::specs::Numbers::tested_at))]
 fn asked_from(reader: &mut Reader<'_>) -> Result<Dest, DecodeFault>
     ensures { Reads result reader.new (asked_at reader.old) }
@@ -112,7 +112,7 @@ fn cargo_from(
     }
 }
 
-/// A packet; what stands behind it is left.
+/// Decodes a packet, with what its kind carries; what stands behind it is left.
 #[tactic(auto, unfolding(crate::specs::Reading::packet_at, crate::specs::Numbers::tested_at))]
 pub(super) fn packet_from(alloc: Global, reader: &mut Reader<'_>) -> Result<Packet, DecodeFault>
     ensures { Reads result reader.new (packet_at reader.old) }

@@ -3,7 +3,7 @@
 ghost use Rattle.chorus_frame.specs.Calls.{Reads};
 ghost use Rattle.chorus_frame.specs.Reading.{id_at, request_at, reply_at, tag_at, body_at, message_at};
 
-use super::name::{name_from, positive_from};
+use super::number::{name_from, positive_from};
 use crate::fault::DecodeFault;
 use crate::reader::Reader;
 use chorus_entry::{BODY_LIMIT, Body, MEMBERS_LIMIT, Message, MsgId, Tag};
@@ -24,7 +24,7 @@ pub(super) fn id_from(reader: &mut Reader<'_>) -> Result<MsgId, DecodeFault>
     Ok(MsgId { seat, number, copy })
 }
 
-/// What goes with a request.
+/// What goes with a message that is a request.
 #[tactic(auto, unfolding(crate::specs::Reading::request_at))]
 fn request_from(reader: &mut Reader<'_>) -> Result<Tag, DecodeFault>
     ensures { Reads result reader.new (request_at reader.old) }
@@ -34,7 +34,7 @@ fn request_from(reader: &mut Reader<'_>) -> Result<Tag, DecodeFault>
     Ok(Tag::Request { number, back })
 }
 
-/// What goes with a reply.
+/// What goes with a message that is a reply.
 #[tactic(auto, unfolding(crate::specs::Reading::reply_at))]
 fn reply_from(reader: &mut Reader<'_>) -> Result<Tag, DecodeFault>
     ensures { Reads result reader.new (reply_at reader.old) }

@@ -6,14 +6,14 @@ ghost use Rattle.chorus_frame.specs.Calls.{Reads, Fills};
 ghost use Rattle.chorus_frame.specs.Reading.{capacity_at, messages_at, pending_at, client_at, entries_at, clients_at, record_at};
 
 use super::message::message_from;
-use super::name::{name_from, positive_from, up_to_clock_from};
+use super::number::{name_from, positive_from, up_to_clock_from};
 use crate::fault::DecodeFault;
 use crate::reader::Reader;
 use chorus_entry::{CLIENTS_LIMIT, ClientTable, PENDING_LIMIT, Pending, PortRecord};
 use chorus_ui::Kind;
 use std::alloc::Global;
 
-/// The most messages that the port holds.
+/// The most messages that the port of a record holds.
 #[tactic(auto, unfolding(crate::specs::Numbers::tested_at))]
 fn capacity_from(reader: &mut Reader<'_>) -> Result<u8, DecodeFault>
     ensures reads { Reads result reader.new (capacity_at reader.old) }
@@ -27,7 +27,7 @@ fn capacity_from(reader: &mut Reader<'_>) -> Result<u8, DecodeFault>
     Ok(capacity)
 }
 
-/// So many messages, each put last into the queue.
+/// So many messages of a port's record, each put last into its queue.
 fn messages_from(
     alloc: Global,
     reader: &mut Reader<'_>,
@@ -44,7 +44,7 @@ fn messages_from(
     Ok(())
 }
 
-/// The number of messages, and the messages, put into an empty queue.
+/// The number of messages in a port's record, and the messages, put into an empty queue.
 #[tactic(auto, unfolding(crate::specs::Reading::pending_at, crate::specs::Numbers::tested_at))]
 fn pending_from(
     alloc: Global,
@@ -63,7 +63,7 @@ fn pending_from(
     messages_from(alloc, reader, count, pending)
 }
 
-/// A client that the table does not have, and its number.
+/// A client that the table of a port's record does not have, and its number.
 #[tactic(auto, unfolding(crate::specs::Reading::client_at, crate::specs::Numbers::tested_at))]
 fn client_from(reader: &mut Reader<'_>, clients: &ClientTable) -> Result<(u32, u32), DecodeFault>
     ensures reads { Reads result reader.new (client_at clients.now reader.old) }
@@ -77,7 +77,7 @@ fn client_from(reader: &mut Reader<'_>, clients: &ClientTable) -> Result<(u32, u
     Ok((client, number))
 }
 
-/// So many clients, each put last into the table.
+/// So many clients of a port's record, each put last into its table.
 fn entries_from(
     reader: &mut Reader<'_>,
     count: u8,
@@ -93,7 +93,7 @@ fn entries_from(
     Ok(())
 }
 
-/// The number of clients, and the clients, put into an empty table.
+/// The number of clients in a port's record, and the clients, put into an empty table.
 #[tactic(auto, unfolding(crate::specs::Reading::clients_at, crate::specs::Numbers::tested_at))]
 fn clients_from(reader: &mut Reader<'_>, clients: &mut ClientTable) -> Result<(), DecodeFault>
     requires { clients.old ≡ [] }

@@ -11,7 +11,8 @@ use super::number::{push_name, push_only, push_route, push_u8, push_u16, push_u3
 use chorus_entry::{Cargo, ClientTable, Dest, Packet, Pending, PortRecord};
 use std::alloc::AllocError;
 
-/// Appends how many messages wait, and each of them, or a front of that for want of memory, here and in the calls below.
+/// Appends to a frame how many messages wait in a port, and each of them, or a front of that for want of memory, here and in
+/// the calls below.
 fn push_pending(pending: &Pending, out: &mut Vec<u8>) -> Result<(), AllocError>
     ensures ok { OnOk result (out.new.items ≡ out.old.items ++ pending_fields pending.now) }
     ensures err { OnErr result (take (length out.old.items) out.new.items ≡ out.old.items) }
@@ -27,7 +28,7 @@ fn push_pending(pending: &Pending, out: &mut Vec<u8>) -> Result<(), AllocError>
     Ok(())
 }
 
-/// Appends how many clients are remembered, and each of them.
+/// Appends to a frame how many clients are remembered, and each of them.
 fn push_clients(clients: &ClientTable, out: &mut Vec<u8>) -> Result<(), AllocError>
     ensures ok { OnOk result (out.new.items ≡ out.old.items ++ clients_fields clients.now) }
     ensures err { OnErr result (take (length out.old.items) out.new.items ≡ out.old.items) }
@@ -43,7 +44,7 @@ fn push_clients(clients: &ClientTable, out: &mut Vec<u8>) -> Result<(), AllocErr
     Ok(())
 }
 
-/// Appends a client and its number.
+/// Appends to a frame a client and its number.
 fn push_client(client: u32, number: u32, out: &mut Vec<u8>) -> Result<(), AllocError>
     ensures ok { OnOk result (out.new.items ≡ out.old.items ++ client_fields (client, number)) }
     ensures err { OnErr result (take (length out.old.items) out.new.items ≡ out.old.items) }
@@ -53,7 +54,7 @@ fn push_client(client: u32, number: u32, out: &mut Vec<u8>) -> Result<(), AllocE
     push_u32(number, out)
 }
 
-/// Appends the record of a port.
+/// Appends to a frame the record of a port.
 fn push_record(port: &PortRecord, out: &mut Vec<u8>) -> Result<(), AllocError>
     ensures ok { OnOk result (out.new.items ≡ out.old.items ++ record_fields port.now) }
     ensures err { OnErr result (take (length out.old.items) out.new.items ≡ out.old.items) }
@@ -68,7 +69,8 @@ fn push_record(port: &PortRecord, out: &mut Vec<u8>) -> Result<(), AllocError>
     push_clients(&port.clients, out)
 }
 
-/// Appends the mode of a post, the group, and the site that the post demands or 0. A post to a port has none of them.
+/// Appends to the frame of an Ask the mode of a post, the group, and the site that the post demands or 0. A post to a port
+/// has none of them.
 fn push_asked(dest: &Dest, out: &mut Vec<u8>) -> Result<(), AllocError>
     ensures ok { OnOk result (out.new.items ≡ out.old.items ++ asked_fields dest.now) }
     ensures err { OnErr result (take (length out.old.items) out.new.items ≡ out.old.items) }
@@ -85,7 +87,7 @@ fn push_asked(dest: &Dest, out: &mut Vec<u8>) -> Result<(), AllocError>
     push_u16(site, out)
 }
 
-/// Appends what a packet carries.
+/// Appends to a frame what a packet carries.
 fn push_cargo(cargo: &Cargo, out: &mut Vec<u8>) -> Result<(), AllocError>
     ensures ok { OnOk result (out.new.items ≡ out.old.items ++ cargo_fields cargo.now) }
     ensures err { OnErr result (take (length out.old.items) out.new.items ≡ out.old.items) }
@@ -128,7 +130,7 @@ fn push_cargo(cargo: &Cargo, out: &mut Vec<u8>) -> Result<(), AllocError>
     }
 }
 
-/// The number of the kind of packet that carries this.
+/// The number that a frame has for the kind of packet that carries this.
 fn kind_of(cargo: &Cargo) -> u8
     ensures { result ≡ kind_of cargo.now }
 {

@@ -9,7 +9,7 @@ use super::number::{push_name, push_u8, push_u16, push_u32, push_u64};
 use chorus_entry::{Answer, Body, Message, MsgId, Tag};
 use std::alloc::AllocError;
 
-/// Appends the id of a message, or a front of it for want of memory, here and in the calls below.
+/// Appends to a frame the id of a message, or a front of it for want of memory, here and in the calls below.
 pub(super) fn push_id(id: &MsgId, out: &mut Vec<u8>) -> Result<(), AllocError>
     ensures ok { OnOk result (out.new.items ≡ out.old.items ++ id_fields id.now) }
     ensures err { OnErr result (take (length out.old.items) out.new.items ≡ out.old.items) }
@@ -20,7 +20,7 @@ pub(super) fn push_id(id: &MsgId, out: &mut Vec<u8>) -> Result<(), AllocError>
     push_u16(id.copy, out)
 }
 
-/// Appends what a message is beside its body.
+/// Appends to a frame what a message is beside its body.
 fn push_tag(tag: &Tag, out: &mut Vec<u8>) -> Result<(), AllocError>
     ensures ok { OnOk result (out.new.items ≡ out.old.items ++ tag_fields tag.now) }
     ensures err { OnErr result (take (length out.old.items) out.new.items ≡ out.old.items) }
@@ -41,7 +41,7 @@ fn push_tag(tag: &Tag, out: &mut Vec<u8>) -> Result<(), AllocError>
     }
 }
 
-/// Appends the length of a body, and the body.
+/// Appends to a frame the length of a body, and the body.
 fn push_body(body: &Body, out: &mut Vec<u8>) -> Result<(), AllocError>
     ensures ok { OnOk result (out.new.items ≡ out.old.items ++ body_fields body.now) }
     ensures err { OnErr result (take (length out.old.items) out.new.items ≡ out.old.items) }
@@ -51,7 +51,7 @@ fn push_body(body: &Body, out: &mut Vec<u8>) -> Result<(), AllocError>
     out.extend_from_slice(bytes)
 }
 
-/// Appends a message.
+/// Appends to a frame a message.
 pub(super) fn push_message(message: &Message, out: &mut Vec<u8>) -> Result<(), AllocError>
     ensures ok { OnOk result (out.new.items ≡ out.old.items ++ message_fields message.now) }
     ensures err { OnErr result (take (length out.old.items) out.new.items ≡ out.old.items) }
@@ -62,7 +62,7 @@ pub(super) fn push_message(message: &Message, out: &mut Vec<u8>) -> Result<(), A
     push_body(&message.body, out)
 }
 
-/// Appends an answer.
+/// Appends to a frame an answer.
 pub(super) fn push_answer(answer: &Answer, out: &mut Vec<u8>) -> Result<(), AllocError>
     ensures ok { OnOk result (out.new.items ≡ out.old.items ++ answer_fields answer.now) }
     ensures err { OnErr result (take (length out.old.items) out.new.items ≡ out.old.items) }
@@ -94,7 +94,7 @@ pub(super) fn push_answer(answer: &Answer, out: &mut Vec<u8>) -> Result<(), Allo
     }
 }
 
-/// Appends the code of an answer, a place, and the hop by which a port went there.
+/// Appends to a frame the code of an answer, a place, and the hop by which a port went there.
 fn push_located(code: u8, to: u16, hop: u64, out: &mut Vec<u8>) -> Result<(), AllocError>
     ensures ok { OnOk result
         (out.new.items ≡ out.old.items ++ (number 1 code ++ located_fields to hop)) }

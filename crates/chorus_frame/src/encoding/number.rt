@@ -10,7 +10,7 @@ use byteorder::{BigEndian, ByteOrder};
 use chorus_ui::Ui;
 use std::alloc::AllocError;
 
-/// Appends a number of 8 bits. An error leaves `out` as it was, here and in the calls below.
+/// Appends to a frame a number of 8 bits. An error leaves `out` as it was, here and in the calls below.
 #[tactic(auto, unfolding(crate::specs::Numbers::number))]
 pub(super) fn push_u8(value: u8, out: &mut Vec<u8>) -> Result<(), AllocError>
     ensures ok { OnOk result (out.new.items ≡ out.old.items ++ number 1 value) }
@@ -19,7 +19,7 @@ pub(super) fn push_u8(value: u8, out: &mut Vec<u8>) -> Result<(), AllocError>
     out.extend_from_slice(&[value])
 }
 
-/// Appends a number of 16 bits.
+/// Appends to a frame a number of 16 bits.
 #[tactic(auto, unfolding(crate::specs::Numbers::number))]
 pub(super) fn push_u16(value: u16, out: &mut Vec<u8>) -> Result<(), AllocError>
     ensures ok { OnOk result (out.new.items ≡ out.old.items ++ number 2 value) }
@@ -30,7 +30,7 @@ pub(super) fn push_u16(value: u16, out: &mut Vec<u8>) -> Result<(), AllocError>
     out.extend_from_slice(&field)
 }
 
-/// Appends a number of 32 bits.
+/// Appends to a frame a number of 32 bits.
 #[tactic(auto, unfolding(crate::specs::Numbers::number))]
 pub(super) fn push_u32(value: u32, out: &mut Vec<u8>) -> Result<(), AllocError>
     ensures ok { OnOk result (out.new.items ≡ out.old.items ++ number 4 value) }
@@ -42,7 +42,7 @@ pub(super) fn push_u32(value: u32, out: &mut Vec<u8>) -> Result<(), AllocError>
     out.extend_from_slice(&field)
 }
 
-/// Appends a number of 64 bits.
+/// Appends to a frame a number of 64 bits.
 #[tactic(auto, unfolding(crate::specs::Numbers::number))]
 pub(super) fn push_u64(value: u64, out: &mut Vec<u8>) -> Result<(), AllocError>
     ensures ok { OnOk result (out.new.items ≡ out.old.items ++ number 8 value) }
@@ -54,7 +54,7 @@ pub(super) fn push_u64(value: u64, out: &mut Vec<u8>) -> Result<(), AllocError>
     out.extend_from_slice(&field)
 }
 
-/// Appends a name.
+/// Appends to a frame a name, as a number of 64 bits.
 pub(super) fn push_name(ui: &Ui, out: &mut Vec<u8>) -> Result<(), AllocError>
     ensures ok { OnOk result (out.new.items ≡ out.old.items ++ name_field ui.now) }
     ensures err { OnErr result (out.new.items ≡ out.old.items) }
@@ -63,7 +63,7 @@ pub(super) fn push_name(ui: &Ui, out: &mut Vec<u8>) -> Result<(), AllocError>
     push_u64(ui.bits(), out)
 }
 
-/// Appends the group that a message went through, or 0.
+/// Appends to a frame the name of the group that a message went through, or 0.
 pub(super) fn push_route(route: &Option<Ui>, out: &mut Vec<u8>) -> Result<(), AllocError>
     ensures ok { OnOk result (out.new.items ≡ out.old.items ++ route_field route.now) }
     ensures err { OnErr result (out.new.items ≡ out.old.items) }
@@ -75,7 +75,7 @@ pub(super) fn push_route(route: &Option<Ui>, out: &mut Vec<u8>) -> Result<(), Al
     }
 }
 
-/// Appends the site that a message demands, or 0.
+/// Appends to a frame the number of the site that a message demands, or 0.
 pub(super) fn push_only(only: Option<u16>, out: &mut Vec<u8>) -> Result<(), AllocError>
     ensures ok { OnOk result (out.new.items ≡ out.old.items ++ only_field only) }
     ensures err { OnErr result (out.new.items ≡ out.old.items) }

@@ -52,7 +52,7 @@ impl Reader {
         Ok(())
     }
 
-    /// The command that the fields say.
+    /// The command of a script's line, by its verb and what its fields say.
     fn command(&self, alloc: Global, verb: Verb, rest: Option<&[u8]>) -> Result<Command, Stop>
         requires some { 0 < length self.now.scripts.items }
         ensures { Tells result (command_with self.now verb (option_copied rest.entry)) }
@@ -92,7 +92,7 @@ impl Reader {
         }
     }
 
-    /// Nothing stands behind the word, as at `retry` and `cancel`.
+    /// Tests a script's line behind whose word nothing may stand, as at `retry` and `cancel`.
     fn nothing(&self, rest: Option<&[u8]>) -> Result<(), Stop>
         requires some { 0 < length self.now.scripts.items }
         ensures retry { TellsAs (λ _. Command.Retry) result
@@ -109,7 +109,7 @@ impl Reader {
         Ok(())
     }
 
-    /// One port, as at `take` and `delete`.
+    /// The one port that a script's line names, as at `take` and `delete`.
     fn port(&self, rest: Option<&[u8]>) -> Result<Ui, Stop>
         requires some { 0 < length self.now.scripts.items }
         ensures take { TellsAs Command.Take result
@@ -132,7 +132,7 @@ impl Reader {
         Ok(port)
     }
 
-    /// A group and a port, as at `join` and `leave`.
+    /// The group and the port that a script's line names, as at `join` and `leave`.
     fn group_and_port(&self, rest: Option<&[u8]>) -> Result<(Ui, Ui), Stop>
         requires some { 0 < length self.now.scripts.items }
         ensures join { TellsAs (λ names. Command.Join names.0 names.1) result
@@ -338,7 +338,7 @@ impl Reader {
         self.scripts[last].commands().len() >= COMMANDS_LIMIT
     }
 
-    /// The most bytes of a body.
+    /// The most bytes of a body on a script's line, by the scenario's version.
     fn most_bytes(&self) -> usize
         ensures { result ≡ most_bytes self.now.version }
     {

@@ -109,7 +109,7 @@ impl Reader {
         self.enlist(group, port)
     }
 
-    /// Whether an earlier line made the port or group.
+    /// Whether an earlier line made the port or group that a `member` line of the setup names.
     fn is_known(&self, ui: Ui) -> bool
         requires stands { Stands self.now }
         requires kind { is_actor ui.kind ≡ false }
@@ -118,7 +118,8 @@ impl Reader {
         !self.is_far(ui) && self.setup.has_made(self.layout, ui)
     }
 
-    /// Makes a port or group, by the place that gives this number, where it is the name that the making gives.
+    /// Makes the port or group of a setup line, by the place that gives this number, where it is the name that the
+    /// making gives.
     fn make(&mut self, ui: Ui, line: SetupLine, site: u16, number: u64) -> Result<(), Stop>
         requires stands { Stands self.old }
         requires section { self.old.section ≡ Section.Setup }

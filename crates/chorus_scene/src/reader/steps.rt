@@ -83,7 +83,7 @@ impl Reader {
         Ok(())
     }
 
-    /// Whether the script has no command left.
+    /// Whether the steps of the schedule so far leave no command of the script.
     fn is_done(&self, script: u32) -> bool
         requires stands { Stands self.now }
         requires script { (1 ≤ script) × (script ≤ length self.now.scripts.items) }

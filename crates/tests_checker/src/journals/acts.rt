@@ -8,7 +8,7 @@ use chorus_ui::Ui;
 use std::alloc::Global;
 use std::process::Abort;
 
-/// The entry that the line says.
+/// The entry that the line of a worked journal says.
 pub(super) fn entry_in<R: Abort>(rt: &R, alloc: Global, line: &str) -> Entry {
     let mut words = Words::of(rt, line);
     let clock = words.read();
@@ -29,7 +29,7 @@ pub(super) fn entry_in<R: Abort>(rt: &R, alloc: Global, line: &str) -> Entry {
     }
 }
 
-/// The act of a post, of which the next words tell the message and where it goes.
+/// The act of a post in a worked journal, of which the next words tell the message and where it goes.
 fn post_in<R: Abort>(alloc: Global, words: &mut Words<'_, R>) -> Act {
     let id = words.read();
     let dest = dest_in(words);
@@ -41,7 +41,7 @@ fn post_in<R: Abort>(alloc: Global, words: &mut Words<'_, R>) -> Act {
     }
 }
 
-/// The body that the rest of the line says. It is taken as it stands: no byte of it is escaped.
+/// The body that the rest of a worked journal's line says. It is taken as it stands: no byte of it is escaped.
 fn body_in<R: Abort>(alloc: Global, words: &mut Words<'_, R>) -> Body {
     let text = words
         .take_rest()
@@ -51,7 +51,7 @@ fn body_in<R: Abort>(alloc: Global, words: &mut Words<'_, R>) -> Body {
     Body::new(alloc, text.as_bytes()).expect(words.rt, "memory")
 }
 
-/// The destination that the next words say.
+/// The destination that the next words of a worked journal say.
 fn dest_in<R: Abort>(words: &mut Words<'_, R>) -> Dest {
     let word = words.next();
     let to = words.read();
@@ -64,7 +64,7 @@ fn dest_in<R: Abort>(words: &mut Words<'_, R>) -> Dest {
     }
 }
 
-/// The tag that the next words say.
+/// The tag that the next words of a worked journal say.
 fn tag_in<R: Abort>(words: &mut Words<'_, R>) -> Tag {
     match words.next() {
         "plain" => Tag::Plain,
@@ -80,7 +80,7 @@ fn tag_in<R: Abort>(words: &mut Words<'_, R>) -> Tag {
     }
 }
 
-/// The choice of members that the next words say.
+/// The choice of members that the next words of a worked journal say.
 fn choice_in<R: Abort>(alloc: Global, words: &mut Words<'_, R>) -> Act {
     Act::Choose {
         id: words.read(),
@@ -89,14 +89,14 @@ fn choice_in<R: Abort>(alloc: Global, words: &mut Words<'_, R>) -> Act {
     }
 }
 
-/// The members that the rest of the line says.
+/// The members that the rest of a worked journal's line says.
 fn members_in<R: Abort>(alloc: Global, words: &mut Words<'_, R>) -> Members {
     let uis: Vec<Ui> = words.read_each(alloc);
     assert!(words.rt; uis.len() <= MEMBERS_LIMIT);
     Members::of(alloc, uis.as_slice()).expect(words.rt, "memory")
 }
 
-/// The deletion that the next words say.
+/// The deletion that the next words of a worked journal say.
 fn deletion_in<R: Abort>(alloc: Global, words: &mut Words<'_, R>) -> Act {
     let port = words.read();
     let ids: Vec<MsgId> = words.read_each(alloc);
@@ -104,7 +104,7 @@ fn deletion_in<R: Abort>(alloc: Global, words: &mut Words<'_, R>) -> Act {
     Act::Delete { port, discarded }
 }
 
-/// The act of this word and the next ones. None where there is no such act.
+/// The act of this word and the next ones of a worked journal. None where there is no such act.
 fn act_in<R: Abort>(word: &str, words: &mut Words<'_, R>) -> Option<Act> {
     match word {
         "no-call" => Some(Act::NoCall),
@@ -133,7 +133,7 @@ fn act_in<R: Abort>(word: &str, words: &mut Words<'_, R>) -> Option<Act> {
     }
 }
 
-/// The act of a caller's call.
+/// The act of a caller's call, by its word in a worked journal.
 fn act_of_call(word: &str, number: u32) -> Option<Act> {
     match word {
         "done" => Some(Act::Done { number }),
@@ -144,7 +144,7 @@ fn act_of_call(word: &str, number: u32) -> Option<Act> {
     }
 }
 
-/// The act that has one name alone.
+/// The act that has one name alone, by its word in a worked journal.
 fn act_of_name(word: &str, name: Ui) -> Option<Act> {
     match word {
         "make-full" => Some(Act::MakeFull { actor: name }),
@@ -158,7 +158,7 @@ fn act_of_name(word: &str, name: Ui) -> Option<Act> {
     }
 }
 
-/// The act of two names.
+/// The act of two names, by its word in a worked journal.
 fn act_of_names(word: &str, first: Ui, port: Ui) -> Option<Act> {
     match word {
         "rehome" => Some(Act::Rehome {
@@ -173,7 +173,7 @@ fn act_of_names(word: &str, first: Ui, port: Ui) -> Option<Act> {
     }
 }
 
-/// The act of a port.
+/// The act of a port, by its word and the next ones of a worked journal.
 fn act_of_port<R: Abort>(word: &str, port: Ui, words: &mut Words<'_, R>) -> Option<Act> {
     match word {
         "make" => Some(Act::Make {
@@ -200,7 +200,7 @@ fn act_of_port<R: Abort>(word: &str, port: Ui, words: &mut Words<'_, R>) -> Opti
     }
 }
 
-/// The act of a message at a port or a group.
+/// The act of a message at a port or a group, by its word and the next ones of a worked journal.
 fn act_of_message<R: Abort>(
     word: &str,
     id: MsgId,
@@ -232,7 +232,7 @@ fn act_of_message<R: Abort>(
     }
 }
 
-/// The act of a message that goes to a place.
+/// The act of a message that goes to a place, by its word and the next ones of a worked journal.
 fn act_of_way<R: Abort>(word: &str, id: MsgId, port: Ui, words: &mut Words<'_, R>) -> Option<Act> {
     match word {
         "stale" => Some(Act::Stale {
@@ -258,7 +258,7 @@ fn act_of_way<R: Abort>(word: &str, id: MsgId, port: Ui, words: &mut Words<'_, R
     }
 }
 
-/// The answer that the next words say.
+/// The answer that the next words of a worked journal say.
 fn answer_in<R: Abort>(words: &mut Words<'_, R>) -> Answer {
     match words.next() {
         "accepted" => Answer::Accepted { pos: words.read() },

@@ -85,7 +85,7 @@ const BEHIND_64_CLIENTS: &str = "
     136 1 1 full 1:2:0 1.p.1 64
 ";
 
-/// The first request of client `at + 1`, which the port accepts at position `at`.
+/// The worked journal's lines of the first request of client `at + 1`, which the port accepts at position `at`.
 fn request_at(rt: &impl Abort, alloc: Global, at: u32) -> String {
     assert!(rt; at < 64);
     let client = at + 1;

@@ -184,7 +184,7 @@ const BEHIND_32_MEMBERS: &str = "
     41 1 1 there 1.g.1 1.p.32
 ";
 
-/// The port of this number joins the first group.
+/// The worked journal's line by which the port of this number joins the first group.
 fn joining(rt: &impl Abort, alloc: Global, number: u64) -> String {
     assert!(rt; number < 33);
     let clock = number + 7;

@@ -24,13 +24,13 @@ const ACCEPTED_BEHIND_A_MOVE: &str = "
     8 2 0 accept 1:1:0 1.p.1 0
 ";
 
-/// Asserts that the message's verdict is that it was accepted first.
+/// Asserts that the message's verdict in the checker's world is that it was accepted first.
 fn assert_accepted_first(rt: &impl Abort, world: &World, id: MsgId) {
     let verdict = world.verdict(id);
     assert!(rt; matches!(verdict, Some(Answer::Accepted { pos: 0 })));
 }
 
-/// Asserts that the port moved from place 1 to the actor at place 2, and accepted this message alone.
+/// Asserts that, for the checker, the port moved from place 1 to the actor at place 2, and accepted this message alone.
 fn assert_moved(rt: &impl Abort, fate: &PortState, id: MsgId) {
     assert!(rt; fate.path() == [1, 2].as_slice());
     assert!(rt; fate.spot() == Spot::Held(named(rt, "2.a.1")));

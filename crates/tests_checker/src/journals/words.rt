@@ -13,24 +13,24 @@ pub(super) struct Words<'a, R: Abort> {
 }
 
 impl<'a, R: Abort> Words<'a, R> {
-    /// All words of the line.
+    /// All words of a worked journal's line.
     pub(super) fn of(rt: &'a R, line: &'a str) -> Words<'a, R> {
         Words { rt, rest: line }
     }
 
-    /// Whether all words are read.
+    /// Whether all words of the worked journal's line are read.
     pub(super) fn is_empty(&self) -> bool {
         self.rest.is_empty()
     }
 
-    /// All that is not read yet, which is then read.
+    /// All that is not read yet of the worked journal's line, which is then read.
     pub(super) fn take_rest(&mut self) -> &'a str {
         let rest = self.rest;
         self.rest = "";
         rest
     }
 
-    /// The next word.
+    /// The next word of the worked journal's line.
     pub(super) fn next(&mut self) -> &'a str {
         match self.rest.split_once(' ') {
             Some((word, rest)) => {
@@ -41,13 +41,13 @@ impl<'a, R: Abort> Words<'a, R> {
         }
     }
 
-    /// What the next word says.
+    /// What the next word of the worked journal's line says.
     pub(super) fn read<F: Field>(&mut self) -> F {
         let word = self.next();
         self.field(word)
     }
 
-    /// What each word says that is not read yet.
+    /// What each word of the worked journal's line says that is not read yet.
     pub(super) fn read_each<F: Field + Drop>(&mut self, alloc: Global) -> Vec<F> {
         let mut fields = Vec::new(alloc);
         for word in self.take_rest().split_whitespace() {
@@ -57,7 +57,7 @@ impl<'a, R: Abort> Words<'a, R> {
         fields
     }
 
-    /// What the word says.
+    /// What the word of the worked journal's line says.
     fn field<F: Field>(&self, word: &str) -> F {
         match F::of(word) {
             Some(field) => field,
@@ -68,7 +68,7 @@ impl<'a, R: Abort> Words<'a, R> {
 
 /// What one word says.
 pub(super) trait Field: Sized {
-    /// What the word says. None where it says no such thing.
+    /// What the word of a worked journal says. None where it says no such thing.
     fn of(word: &str) -> Option<Self>;
 }
 
@@ -110,7 +110,7 @@ impl Field for MsgId {
     }
 }
 
-/// The id that these three words say.
+/// The id of a message that these three words of a worked journal say.
 fn id_of(seat: &str, number: &str, copy: &str) -> Option<MsgId> {
     Some(MsgId {
         seat: Field::of(seat)?,

@@ -41,7 +41,7 @@ const PACKETS: u16 = 5;
 /// How often a place is served or given a command.
 const STEPS: u16 = 10;
 
-/// Some packets for the place, or none.
+/// Some drawn packets for the place to receive, or none.
 fn packets<R: Abort>(rt: &R, alloc: Global, state: u64, place: &Place) -> Vec<Packet> {
     let mut draws = Draws { rt, alloc, state };
     let mut packets = Vec::new(alloc);
@@ -60,7 +60,7 @@ fn marks_of(packet: Option<&Packet>) -> Option<(usize, u64, u16)> {
     }
 }
 
-/// Takes the place apart, and asserts what is left of it.
+/// Takes the served place apart, and asserts what is left of it.
 fn finish<E: Ends>(rt: &impl Abort, desk: Desk<E>, hand: Option<&Packet>) {
     let place = desk.place();
     let seen = (place.journal().len(), place.waiting(), place.held());
@@ -82,7 +82,7 @@ fn serve_on<R: Abort>(draws: &mut Draws<'_, R>, side: &mut Side<MemEnds>, tally:
     }
 }
 
-/// Ends that hold these packets.
+/// Ends in memory that hold these drawn packets.
 fn holding(rt: &impl Abort, alloc: Global, packets: Vec<Packet>) -> MemEnds {
     MemEnds::holding(alloc, packets).expect(rt, "memory")
 }

@@ -7,7 +7,7 @@ use chorus_ui::{CLOCK_LIMIT, SITES_LIMIT};
 use std::process::Abort;
 
 impl<'a, R: Abort> Draws<'a, R> {
-    /// A command; seldom one that does not meet its conditions.
+    /// Draws a command; seldom one that does not meet its conditions.
     pub(crate) fn command(&mut self) -> Command {
         match self.below(20) {
             0 => Command::Make {
@@ -50,7 +50,7 @@ impl<'a, R: Abort> Draws<'a, R> {
         }
     }
 
-    /// The last clock of a caller; seldom one that is worn, or nearly so.
+    /// Draws the last clock of a caller; seldom one that is worn, or nearly so.
     pub(crate) fn last_clock(&mut self) -> u64 {
         match self.below(150) {
             0 => CLOCK_LIMIT - 1,

@@ -18,13 +18,13 @@ pub(crate) struct Draws<'a, R: Abort> {
 }
 
 impl<'a, R: Abort> Draws<'a, R> {
-    /// A number below `count`; 0 where that is 0.
+    /// Draws a number of 64 bits below `count`; 0 where that is 0.
     pub(crate) fn wide(&mut self, count: u64) -> u64 {
         self.state = next_state(self.state);
         number_of(self.state).checked_rem(count).unwrap_or(0)
     }
 
-    /// A number below `count`; 0 where that is 0.
+    /// Draws a number of 16 bits below `count`; 0 where that is 0.
     pub(crate) fn below(&mut self, count: u16) -> u16 {
         u16::try_from(self.wide(u64::from(count))).unwrap_or(0)
     }
@@ -34,7 +34,7 @@ impl<'a, R: Abort> Draws<'a, R> {
         self.below(count) == 0
     }
 
-    /// A number from 1 to `most`; seldom 0, one above `most`, the limit, one above that, or the greatest.
+    /// Draws a number from 1 to `most`; seldom 0, one above `most`, the limit, one above that, or the greatest.
     pub(crate) fn near(&mut self, most: u64, limit: u64) -> u64 {
         match self.below(80) {
             0 => 0,
@@ -46,22 +46,22 @@ impl<'a, R: Abort> Draws<'a, R> {
         }
     }
 
-    /// As `near`, in 32 bits.
+    /// Draws a number as `near` does, in 32 bits.
     pub(crate) fn near_u32(&mut self, most: u64, limit: u32) -> u32 {
         u32::try_from(self.near(most, u64::from(limit))).unwrap_or(u32::MAX)
     }
 
-    /// As `near`, in 16 bits.
+    /// Draws a number as `near` does, in 16 bits.
     pub(crate) fn near_u16(&mut self, most: u64, limit: u16) -> u16 {
         u16::try_from(self.near(most, u64::from(limit))).unwrap_or(u16::MAX)
     }
 
-    /// As `near`, in 8 bits.
+    /// Draws a number as `near` does, in 8 bits.
     pub(crate) fn near_u8(&mut self, most: u64, limit: u8) -> u8 {
         u8::try_from(self.near(most, u64::from(limit))).unwrap_or(u8::MAX)
     }
 
-    /// A number up to the clock; seldom one above it, or the greatest.
+    /// Draws a number up to the clock; seldom one above it, or the greatest.
     pub(crate) fn up_to(&mut self, clock: u64) -> u64 {
         match self.below(40) {
             0 => clock,
@@ -71,7 +71,7 @@ impl<'a, R: Abort> Draws<'a, R> {
         }
     }
 
-    /// As `up_to`, often below 8.
+    /// Draws a hop as `up_to` does, often below 8.
     pub(crate) fn hop(&mut self, clock: u64) -> u64 {
         if self.hits(2) {
             return self.wide(8);
@@ -79,7 +79,7 @@ impl<'a, R: Abort> Draws<'a, R> {
         self.up_to(clock)
     }
 
-    /// A place from 1 to 4 other than this one; seldom any number.
+    /// Draws a place from 1 to 4 other than this one; seldom any number.
     pub(crate) fn other(&mut self, place: u16) -> u16 {
         let other = self.near_u16(4, PLACES_LIMIT);
         if other == place && !self.hits(20) {

@@ -51,7 +51,7 @@ fn answer(fate: Fate, put: u64, worked: u64) -> Result<Pump, PlaceFault> {
     }
 }
 
-/// Asserts that the packet was worked off.
+/// Asserts that the packet in hand was worked off.
 fn assert_done<E: Ends>(
     rt: &impl Abort,
     desk: &Desk<E>,
@@ -64,7 +64,7 @@ fn assert_done<E: Ends>(
     assert!(rt; !desk.is_holding());
 }
 
-/// Asserts that nothing changed, and whether a packet is in hand.
+/// Asserts that a serve changed nothing, and whether a packet is in hand.
 fn assert_rests<E: Ends>(
     rt: &impl Abort,
     desk: &Desk<E>,

@@ -13,7 +13,7 @@ pub(crate) struct Inbox {
     last: u16,
 }
 
-/// Takes out the first packet from the place, where it is another place than this one.
+/// Takes out of an inbox the first packet from the place, where it is another place than this one.
 fn take_from_other(left: &mut Vec<Packet>, number: u16, from: u16) -> Option<Packet> {
     for at in 0..left.len() {
         if from != number && at < left.len() && left[at].from == from {
@@ -24,7 +24,7 @@ fn take_from_other(left: &mut Vec<Packet>, number: u16, from: u16) -> Option<Pac
 }
 
 impl Inbox {
-    /// These packets are to be received.
+    /// The inbox of a place that is to receive these packets.
     pub(crate) fn holding(packets: Vec<Packet>) -> Inbox {
         Inbox {
             left: packets,
@@ -33,7 +33,7 @@ impl Inbox {
         }
     }
 
-    /// The packet that is to be in hand.
+    /// The packet that the place is to have in hand.
     pub(crate) fn hand(&self) -> Option<&Packet> {
         self.hand.as_ref()
     }

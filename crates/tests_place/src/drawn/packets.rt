@@ -12,7 +12,7 @@ use std::process::Abort;
 const MOST_CLIENTS: u32 = 64;
 
 impl<'a, R: Abort> Draws<'a, R> {
-    /// As `packet`; seldom with the greatest clock that is not worn, behind which the place is.
+    /// Draws a packet as `packet` does; seldom with the greatest clock that is not worn, behind which the place is.
     pub(crate) fn wearing_packet(&mut self, place: &Place) -> Packet {
         let mut packet = self.packet(place);
         if self.hits(50) {
@@ -21,7 +21,7 @@ impl<'a, R: Abort> Draws<'a, R> {
         packet
     }
 
-    /// A packet for the place.
+    /// Draws a packet for the place.
     pub(crate) fn packet(&mut self, place: &Place) -> Packet {
         let clock = match self.below(32) {
             0 => 0,
@@ -69,7 +69,7 @@ impl<'a, R: Abort> Draws<'a, R> {
         }
     }
 
-    /// A verdict, often one that the place waits for, from where its message was tried.
+    /// Draws a verdict, often one that the place waits for, from where its message was tried.
     fn verdict(&mut self, place: &Place, clock: u64) -> Packet {
         let answer = self.decision(clock);
         let route = self.route();
@@ -91,7 +91,7 @@ impl<'a, R: Abort> Draws<'a, R> {
         Packet { clock, from, cargo }
     }
 
-    /// A report, often on a post of the place to a group.
+    /// Draws a report, often on a post of the place to a group.
     fn report(&mut self, place: &Place, clock: u64) -> Cargo {
         let answer = self.answer(clock);
         let mut id = self.id();
@@ -102,7 +102,7 @@ impl<'a, R: Abort> Draws<'a, R> {
         Cargo::Report { id, answer }
     }
 
-    /// A port, mostly for an actor of the place.
+    /// Draws a port that is transferred, mostly for an actor of the place.
     fn transfer(&mut self, place: &Place, clock: u64) -> Cargo {
         let ui = self.port();
         let actor = self.actor_of(place.number());
@@ -116,7 +116,7 @@ impl<'a, R: Abort> Draws<'a, R> {
         Cargo::Transfer { port }
     }
 
-    /// Mostly a few messages wait in the port, seldom as many as it holds.
+    /// Draws what waits in a transferred port: mostly a few messages, seldom as many as it holds.
     fn fill(&mut self, port: &mut PortRecord) {
         let most = u16::from(port.capacity.min(LONGEST));
         let count = if self.hits(20) { most } else { self.below(3) };
@@ -126,7 +126,7 @@ impl<'a, R: Abort> Draws<'a, R> {
         }
     }
 
-    /// Mostly the port remembers a few clients, seldom as many as it may.
+    /// Draws whom a transferred port remembers: mostly a few clients, seldom as many as it may.
     fn remember(&mut self, port: &mut PortRecord) {
         let count = if self.hits(20) {
             MOST_CLIENTS
@@ -154,7 +154,7 @@ impl<'a, R: Abort> Draws<'a, R> {
     }
 }
 
-/// Whether it is a try, or else a post to a group.
+/// Whether the act is a try, or else a post to a group, for a drawn packet to answer.
 fn is_wanted(act: &Act, of_try: bool) -> bool {
     match act {
         Act::Try { .. } => of_try,

@@ -32,7 +32,7 @@ fn is_caused(journal: &[Entry], packet: &Packet, to: u16) -> bool {
     false
 }
 
-/// How many of the packets are verdicts.
+/// How many of the packets that a place sent are verdicts.
 fn verdicts(packets: &[Packet]) -> u32 {
     let mut count = 0u32;
     for packet in packets {

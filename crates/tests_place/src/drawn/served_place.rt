@@ -106,7 +106,7 @@ pub(crate) fn serve_step(
     assert_sent(rt, place, side.desk.ends(), &side.decided, place.puts());
 }
 
-/// Whether the command may be performed at the place.
+/// Whether the drawn command may be performed at the served place.
 fn is_for(rt: &impl Abort, place: &Place, caller: &Caller, command: &Command) -> bool {
     if !command.meets_conditions() {
         return false;
@@ -115,7 +115,7 @@ fn is_for(rt: &impl Abort, place: &Place, caller: &Caller, command: &Command) ->
     number == place.number()
 }
 
-/// Performs the command at the place.
+/// Performs the drawn command at the served place.
 fn perform<E: Ends>(
     rt: &impl Abort,
     desk: &mut Desk<E>,
@@ -126,7 +126,7 @@ fn perform<E: Ends>(
     desk.act(caller, command)
 }
 
-/// Performs the command at the place. What is in hand stays there.
+/// Performs the drawn command at the served place. What is in hand stays there.
 fn act<E: Ends>(rt: &impl Abort, desk: &mut Desk<E>, caller: &mut Caller, command: Command) {
     let (was_holding, worked) = (desk.is_holding(), desk.worked());
     let old = look_before(desk.place(), caller);
@@ -147,7 +147,7 @@ pub(crate) fn command<R: Abort, E: Ends>(draws: &mut Draws<'_, R>, side: &mut Si
     }
 }
 
-/// The place of this number, at these ends, which reach each place.
+/// The place of this number that is to be served, at these ends, which reach each place.
 fn desk_at<E: Ends>(rt: &impl Abort, alloc: Global, number: u16, ends: E) -> Desk<E>
     requires { (p : ℕ) → (E.links ends).reaches p ≡ true }
 {

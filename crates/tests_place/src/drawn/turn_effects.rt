@@ -15,7 +15,7 @@ pub(crate) struct Before {
     pub(crate) spare: u64,
 }
 
-/// The two now, before a turn.
+/// The place and the caller now, before a turn.
 pub(crate) fn look_before(place: &Place, caller: &Caller) -> Before {
     Before {
         seen: look(place, caller),
@@ -23,7 +23,7 @@ pub(crate) fn look_before(place: &Place, caller: &Caller) -> Before {
     }
 }
 
-/// Asserts that what is wanted is seen.
+/// Asserts that what is wanted is seen of a place and a caller.
 pub(crate) fn assert_seen(rt: &impl Abort, seen: &Seen, wanted: &Seen) {
     assert!(rt; *seen == *wanted);
 }
@@ -118,7 +118,7 @@ pub(crate) fn effect_of(packet: &Packet) -> Effect {
     }
 }
 
-/// Asserts that the number is from one to the other.
+/// Asserts that a turn's number of entries or packets is from one to the other.
 fn assert_between(rt: &impl Abort, number: u64, bounds: (u64, u64)) {
     assert!(rt; bounds.0 <= number && number <= bounds.1);
 }
@@ -166,14 +166,14 @@ pub(crate) struct Counts {
     pub(crate) worked: Vec<u32>,
 }
 
-/// Counts one more at the index.
+/// Counts one more packet at the index, which is of a kind or a place.
 pub(crate) fn count(counts: &mut [u32], at: usize) {
     if let Some(count) = counts.get_mut(at) {
         *count = count.saturating_add(1);
     }
 }
 
-/// None of any kind.
+/// The counts of no packet of any kind.
 pub(crate) fn no_counts(rt: &impl Abort, alloc: Global) -> Counts {
     Counts {
         shown: Vec::from_slice(alloc, &[0; 5]).ok().expect(rt, "memory"),

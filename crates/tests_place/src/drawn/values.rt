@@ -20,7 +20,7 @@ pub(crate) const LONGEST: u8 = 64;
 const MOST_MEMBERS: u16 = 32;
 
 impl<'a, R: Abort> Draws<'a, R> {
-    /// A name of this kind; seldom of another one.
+    /// Draws a name of this kind; seldom of another one.
     pub(crate) fn name(&mut self, kind: Kind, most: u64, limit: u64) -> Ui {
         let kind = match self.below(90) {
             0 => Kind::Actor,
@@ -48,7 +48,7 @@ impl<'a, R: Abort> Draws<'a, R> {
         self.name(Kind::Actor, 2, ACTORS_PER_SITE_LIMIT)
     }
 
-    /// An actor of the place's site; seldom of another one.
+    /// Draws an actor of the place's site; seldom of another one.
     pub(crate) fn actor_of(&mut self, place: u16) -> Ui {
         if self.hits(20) {
             return self.actor();
@@ -73,7 +73,7 @@ impl<'a, R: Abort> Draws<'a, R> {
         None
     }
 
-    /// A seat from 0 to 4; seldom another one.
+    /// Draws a seat from 0 to 4; seldom another one.
     pub(crate) fn seat(&mut self) -> u32 {
         self.near_u32(5, SEATS_LIMIT).saturating_sub(1)
     }
@@ -110,7 +110,7 @@ impl<'a, R: Abort> Draws<'a, R> {
         Message { id, tag, body }
     }
 
-    /// A body of one byte; seldom an empty one, or a longest one.
+    /// Draws a body of one byte; seldom an empty one, or a longest one.
     pub(crate) fn body(&mut self) -> Body {
         let length = match self.below(40) {
             0 => 0,
@@ -143,7 +143,7 @@ impl<'a, R: Abort> Draws<'a, R> {
         }
     }
 
-    /// An answer; seldom one that is no verdict.
+    /// Draws an answer; seldom one that is no verdict.
     pub(crate) fn decision(&mut self, clock: u64) -> Answer {
         let answer = self.answer(clock);
         if matches!(answer, Answer::Chosen { .. } | Answer::NoMember) && !self.hits(9) {
@@ -163,7 +163,7 @@ impl<'a, R: Abort> Draws<'a, R> {
     }
 }
 
-/// A body of so many bytes.
+/// The body of so many bytes, for a drawn message or command.
 fn body_of(rt: &impl Abort, alloc: Global, length: usize) -> Body {
     let mut bytes = Vec::new(alloc);
     for _ in 0..length {
