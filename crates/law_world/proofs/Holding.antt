@@ -29,7 +29,7 @@ use Rattle.chorus_world.proofs.Ports.Sites.{place-site}
 use Rattle.chorus_world.proofs.Messages.SendingLemmas.{some_is}
 use Rattle.chorus_world.proofs.Messages.MessageSteps.{legal_inv}
 use Rattle.chorus_world.proofs.Sorted.Holders.{run_is_legal}
-use Rattle.law_world.specs.Names.{IsAtActorsSite, holds, port_wanted, NotHereMeansNotHeld}
+use Rattle.law_world.specs.Holding.{IsAtActorsSite, holds, port_wanted, NotHereMeansNotHeld}
 use Rattle.law_world.proofs.Naming.{make-needs}
 
 -- The site of the actor that holds a port, or that it is on its way to.

@@ -1,7 +1,7 @@
-//! How ports, groups and messages get their names, and where a port is that an actor holds.
+//! How ports, groups and messages get their names.
 
 ghost use Rattle.chorus_world.specs.Always.{LayoutAlways, LayoutEntries, LegalAlways, LegalEntries};
-ghost use Rattle.law_world.specs.Names.{GroupMakesTheLeast, IsAtActorsSite, MadeAllGroups, MadeAllPorts, MakesGroupsOnce, MakesOnce, MakesTheLeast, NotHereMeansNotHeld, PostsOnce, PostsTheLeast};
+ghost use Rattle.law_world.specs.Names.{GroupMakesTheLeast, MadeAllGroups, MadeAllPorts, MakesGroupsOnce, MakesOnce, MakesTheLeast, PostsOnce, PostsTheLeast};
 
 /// A name is made at most once: of a port, of a group, and the id of a message that is posted.
 pub fn a_name_is_made_once()
@@ -20,12 +20,4 @@ pub fn the_next_name_is_the_least()
     ensures group { LayoutEntries GroupMakesTheLeast }
     ensures groups_full { LayoutEntries (λ l. MadeAllGroups) }
     ensures message { LegalEntries (λ l. PostsTheLeast) }
-{}
-
-/// A port that an actor holds is at the port's place on the actor's site (`place`). So in a run NotHere answers a command to
-/// receive from a port, to move it or to delete it exactly where its caller's actor does not hold the port, at whatever place
-/// (`held`).
-pub fn not_here_means_not_held()
-    ensures place { IsAtActorsSite }
-    ensures held { NotHereMeansNotHeld }
 {}

@@ -73,6 +73,7 @@ fn assert_read_fails(rt: &impl Abort, alloc: Global, read: u64, status: Status, 
     assert_ended(rt, &run, status, written.as_bytes(), "a source that fails");
 }
 
+/// An audit ends by the read that fails, and writes nothing then.
 #[test]
 fn each_read_fails(rt: HostRuntime) {
     assert_read_fails(&rt, rt.alloc(), 1, Status::ReadFault, "");
@@ -80,6 +81,7 @@ fn each_read_fails(rt: HostRuntime) {
     assert_read_fails(&rt, rt.alloc(), 3, Status::Done, LEGAL);
 }
 
+/// An audit ends by the write that fails, behind what it wrote.
 #[test]
 fn each_write_fails(rt: HostRuntime) {
     let whole = LEGAL.as_bytes();
@@ -116,6 +118,7 @@ fn assert_longer(rt: &impl Abort, alloc: Global) {
     assert!(rt; sink.bytes().is_empty());
 }
 
+/// An audit refuses a text without end, and writes nothing.
 #[test]
 fn a_longer_text_is_refused(rt: HostRuntime) {
     assert_longer(&rt, rt.alloc());

@@ -35,6 +35,7 @@ fn assert_entries(rt: &impl Abort, alloc: Global) {
     assert_entry(rt, alloc, line, late);
 }
 
+/// An audit parses a journal line into its entry, up to the greatest numbers.
 #[test]
 fn lines_have_their_entries(rt: HostRuntime) {
     assert_entries(&rt, rt.alloc());
@@ -45,6 +46,7 @@ fn assert_none(rt: &impl Abort, alloc: Global, line: &str) {
     assert!(rt; entry_of(rt, alloc, line).is_none(), "{line}");
 }
 
+/// An audit parses no entry from a line that is not as journals have it.
 #[test]
 fn other_lines_have_none(rt: HostRuntime) {
     for line in [

@@ -90,6 +90,7 @@ fn assert_drawn(rt: &impl Abort, alloc: Global, text: &str, middle: &str) {
     assert!(rt; run.written.ends_with(b"</g>\n</svg>\n"), "{text}");
 }
 
+/// The picture of a journal is drawn, whether lawful, unlawful or without entries.
 #[test]
 fn journals_are_drawn(rt: HostRuntime) {
     assert_drawn(&rt, rt.alloc(), NOTHING, NOTHING_DRAWN);
@@ -103,6 +104,7 @@ fn assert_ended(rt: &impl Abort, run: &Run, status: Status, count: u64) {
     assert_eq!(rt; run.written.len() as u64, count);
 }
 
+/// A picture ends by a read or a write that fails, behind what was written.
 #[test]
 fn faults_end_pictures(rt: HostRuntime) {
     let unread = run_on(
@@ -162,6 +164,7 @@ fn assert_long(rt: &impl Abort, alloc: Global, count: u64, paper: &str, last: &s
     assert!(rt; has(&run.written, last), "{count}");
 }
 
+/// The picture of 2000 entries is drawn, and one of 10001 is refused.
 #[test]
 fn long_journals_are_drawn_or_refused(rt: HostRuntime) {
     assert_long(

@@ -67,6 +67,7 @@ journal 8;1 1 0 make 1.p.1 1.a.1 1;2 1 1 post 1:1:0 port 1.p.1 plain =a;3 1 1 ac
 journal 8;1 1 0 make 1.p.1 1.a.1 1;2 1 1 post 1:1:0 port 1.p.1 plain =a;3 1 1 accept 1:1:0 1.p.1 0;4 1 1 post 1:2:0 port 1.p.1 plain =b;5 1 1 accept 1:2:0 1.p.1 1;6 1 1 take 1.p.1 0 1:1:0;7 1 1 empty 1.p.1;8 1 1 empty 1.p.1;summary;posted 2;accepted 1;taken 1;queued 0;moving 0;refused 1;stale 0;departs 0;end;|wrong 6 6
 ";
 
+/// An audit finds a journal of a full port legal, or its wrong line.
 #[test]
 fn audit_finds_the_line(rt: HostRuntime) {
     assert_rows(&rt, rt.alloc(), FULL_PORT);
@@ -82,6 +83,7 @@ journal 4294967296;|wrong 1 99
 journal 4294967295;|wrong 2 99
 ";
 
+/// An audit finds the first line wrong that is no `journal` with its count.
 #[test]
 fn only_a_journal_line_is_taken_as_the_first_line(rt: HostRuntime) {
     assert_rows(&rt, rt.alloc(), FIRST_LINES);
@@ -96,6 +98,7 @@ journal 1;0 1 0 make 1.p.1 1.a.1 1;|wrong 2 0
 journal 2;1 1 0 make 1.p.1 1.a.1 1;2 1 1 post 1:1:0 port 1.p.1 plain =%41;|wrong 3 99
 ";
 
+/// An audit finds a line that may not stand, and tells its rule.
 #[test]
 fn lines_that_may_not_stand_are_found_with_their_rule(rt: HostRuntime) {
     assert_rows(&rt, rt.alloc(), ENTRIES);
@@ -109,11 +112,13 @@ journal 0;$end;|wrong 12 99
 journal 0;summary;posted 2;accepted 1;taken 1;queued 0;moving 0;refused 1;stale 0;departs 0;end;|wrong 3 99
 ";
 
+/// An audit takes the whole summary of the entries, and no other.
 #[test]
 fn only_the_whole_summary_of_the_entries_is_taken(rt: HostRuntime) {
     assert_rows(&rt, rt.alloc(), SUMMARIES);
 }
 
+/// An audit judges a journal by the layout's places of a site.
 #[test]
 fn a_layout_judges_its_own_journals(rt: HostRuntime) {
     for (turns, row) in [
@@ -132,6 +137,7 @@ journal 10;1 1 0 make 1.p.1 1.a.1 4;2 1 2 depart 1.p.1 2 2.a.1 1;2 3 1 post 1:1:
 journal 1;1 1 0 accept 1:1:0 1.p.1 0;|wrong 2 6
 ";
 
+/// An audit finds a message behind a port's move legal, and a lone accept wrong.
 #[test]
 fn world_refuses_and_follows_a_move(rt: HostRuntime) {
     assert_rows(&rt, rt.alloc(), MOVES);

@@ -3,16 +3,17 @@
 //! A journal is written as its lines are printed (docs/FORMATS.md, "Journal text"). A line `! RULE: ENTRY` has an entry
 //! that the world refuses there by that rule, and so is no line of the journal.
 
-mod acts;
 mod calls;
 mod groups;
+mod moves;
+mod reading_acts;
 mod sending;
 mod words;
 
-use acts::entry_in;
 use chorus_checker::{PortState, World, WorldFault};
 use chorus_entry::Entry;
 use chorus_ui::{Layout, Ui};
+use reading_acts::entry_in;
 use std::alloc::Global;
 use std::process::Abort;
 use words::Field;

@@ -61,6 +61,7 @@ fn read_reliable(alloc: Global, source: &mut MemSource) -> Result<Vec<u8>, ReadA
     read_all(alloc, source, 100)
 }
 
+/// A layer above copies a source to its sink, until a write fails.
 #[test]
 fn copies_until_the_sink_fails(rt: HostRuntime) {
     for (failing, result, held) in [
@@ -75,6 +76,7 @@ fn copies_until_the_sink_fails(rt: HostRuntime) {
     }
 }
 
+/// A layer above reads the whole of a source that never fails.
 #[test]
 fn reads_a_reliable_source(rt: HostRuntime) {
     let input = copied(&rt, rt.alloc(), b"0123");

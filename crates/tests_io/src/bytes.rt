@@ -43,6 +43,7 @@ pub(crate) fn assert_same(rt: &impl Abort, bytes: &[u8], expected: &[u8], most: 
     assert_eq!(rt; bytes, expected, "up to {most} bytes");
 }
 
+/// A source whose first or second read fails gives what is left behind that.
 #[test]
 fn source_fails_at_call_1_and_2(rt: HostRuntime) {
     // A source of ten bytes gives them all in one call. The second finds the end.
@@ -60,6 +61,7 @@ fn assert_one_fault<S: Source>(rt: &impl Abort, alloc: Global, source: &mut S, l
     assert!(rt; source.faults() == 1);
 }
 
+/// A sink whose second write fails keeps the first one's bytes, and goes on.
 #[test]
 fn second_write_fails(rt: HostRuntime) {
     // What went out is what one write takes. The sink goes on behind it.

@@ -74,6 +74,7 @@ fn assert_lengths_and_draws(rt: &impl Abort, alloc: Global) {
     }
 }
 
+/// Bytes carried over the lossy line arrive, with so many chunks emitted and lost.
 #[test]
 fn texts_are_carried(rt: HostRuntime) {
     assert_lengths_and_draws(&rt, rt.alloc());

@@ -3,6 +3,7 @@ use chorus_transport::{Acked, Chunk, Got, PutFault, Receiver, Sender};
 use std::alloc::Global;
 use std::process::Abort;
 
+/// A sender and a receiver with windows of one keep one chunk each.
 #[test]
 fn windows_and_acknowledgements(rt: HostRuntime) {
     let (first, second) = fill_window(&rt, rt.alloc());

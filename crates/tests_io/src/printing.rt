@@ -70,8 +70,9 @@ fn assert_writes(rt: &impl Abort, alloc: Global, text: &str, written: &str) {
     }
 }
 
+/// `lossy` writes its input and the line `wire`, whatever a write takes.
 #[test]
-fn lossy_line_carries_hello(rt: HostRuntime) {
+fn lossy_writes_hello(rt: HostRuntime) {
     assert_writes(&rt, rt.alloc(), "hello", HELLO);
     assert_writes(&rt, rt.alloc(), "", "\nwire 0 0\n");
 }
@@ -98,6 +99,7 @@ fn assert_each_write_fails(rt: &impl Abort, alloc: Global) {
     assert_write_fails(rt, alloc, 16, Status::Done, 15);
 }
 
+/// `lossy` ends by a read or a write that fails, behind what it wrote.
 #[test]
 fn faults_end_it(rt: HostRuntime) {
     assert_read_fails(&rt, rt.alloc(), 1, Status::ReadFault, "");
@@ -124,6 +126,7 @@ fn assert_longer(rt: &impl Abort, alloc: Global) {
     assert_ended(rt, &run, refused, "", "a longer input");
 }
 
+/// `lossy` writes an input of the greatest length, and refuses a longer one.
 #[test]
 fn inputs_up_to_the_limit(rt: HostRuntime) {
     assert_longest(&rt, rt.alloc());

@@ -166,6 +166,7 @@ fn assert_all_calls<R: Wait + Abort>(rt: &R, alloc: Global, again: bool) {
     assert_two_are_left(rt, nucleus, pass, again);
 }
 
+/// Two seats call a nucleus on one thread, and each call tells what it should.
 #[test]
 fn nucleus_calls_on_one_thread(rt: HostRuntime) {
     assert_all_calls(&rt, rt.alloc(), false);

@@ -108,6 +108,7 @@ fn assert_journal(rt: &impl Abort, closed: &Closed, length: usize, index: usize,
     }
 }
 
+/// A chooser receives from the port of higher priority first, and then finds nothing.
 #[test]
 fn receive_by_priority(rt: HostRuntime) {
     let (nucleus, mut pass) = start_with_messages(&rt, rt.alloc());
@@ -177,6 +178,7 @@ fn move_both<R: Wait + Abort>(rt: &R, nucleus: &Nucleus, pass: &mut Pass)
     }
 }
 
+/// A chooser receives by the order of enabling at equal priorities, nothing from others' ports.
 #[test]
 fn equal_priorities_and_ports_of_others(rt: HostRuntime) {
     let (nucleus, mut pass) = start_with_messages(&rt, rt.alloc());

@@ -434,11 +434,13 @@ fn assert_nothing_lost<R: Threads + Wait + Abort + Sync>(rt: &R, alloc: Global, 
     assert_lawful(rt, alloc, layout, &closed);
 }
 
+/// In a nucleus each message is received once while 32 ports move.
 #[test]
 fn nothing_is_lost_while_32_ports_move(rt: HostRuntime) {
     assert_nothing_lost(&rt, rt.alloc(), 1);
 }
 
+/// In a nucleus of two or four places per site no moving port loses messages.
 #[test]
 fn nothing_is_lost_on_two_and_on_four_places_per_site(rt: HostRuntime) {
     for turns in [2, 4] {

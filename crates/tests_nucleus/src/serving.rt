@@ -149,11 +149,13 @@ fn assert_all_served<R: Threads + Wait + Abort + Sync>(rt: &R, alloc: Global, co
     let _closed = close(rt, nucleus, keeper);
 }
 
+/// A server waits for a ring, and serves the message that another thread sends.
 #[test]
 fn receive_waits_for_a_ring(rt: HostRuntime) {
     assert_all_served(&rt, rt.alloc(), 1);
 }
 
+/// A server serves every one of 10000 messages that another thread rings for.
 #[test]
 fn every_message_that_was_rung_for_is_served(rt: HostRuntime) {
     assert_all_served(&rt, rt.alloc(), MESSAGES);

@@ -91,6 +91,7 @@ told
 end
 ";
 
+/// Scenarios of groups are played over places: members are chosen and reported.
 #[test]
 fn members_are_chosen_and_reported(rt: HostRuntime) {
     assert_rows(&rt, rt.alloc(), GROUPS);

@@ -37,6 +37,7 @@ told
 1 full 1:2:0 64
 ";
 
+/// A place with a port of 64 clients refuses a call of a 65th.
 #[test]
 fn at_most_once_table_fills(rt: HostRuntime) {
     let alloc = rt.alloc();
@@ -69,6 +70,7 @@ fn deleted_full(rt: &impl Abort, alloc: Global) -> String {
     text
 }
 
+/// A place deletes a full port, and discards its 64 messages in order.
 #[test]
 fn a_full_port_is_deleted(rt: HostRuntime) {
     let alloc = rt.alloc();
@@ -97,6 +99,7 @@ told
 0 members-full
 ";
 
+/// A place lets 32 ports join a group, and refuses a 33rd.
 #[test]
 fn group_has_at_most_32_members(rt: HostRuntime) {
     let mut net = start(&rt, rt.alloc(), 1, 1);

@@ -21,6 +21,7 @@ told
 end
 ";
 
+/// Sends to ports that nobody made are played over places: each answers `no-port`.
 #[test]
 fn messages_are_decided_where_the_port_is(rt: HostRuntime) {
     assert_rows(&rt, rt.alloc(), MESSAGES);
@@ -194,6 +195,7 @@ told
 end
 ";
 
+/// Scenarios of calls are played over places: each call is answered once.
 #[test]
 fn calls_are_answered_once(rt: HostRuntime) {
     assert_rows(&rt, rt.alloc(), CALLS);

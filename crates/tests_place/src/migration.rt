@@ -86,6 +86,7 @@ told
 end
 ";
 
+/// Scenarios of ports that move, with messages early or stale, are played over places.
 #[test]
 fn messages_find_ports_that_move(rt: HostRuntime) {
     assert_rows(&rt, rt.alloc(), MOVES);

@@ -95,6 +95,7 @@ told
 end
 ";
 
+/// Scenarios of names, limits and members are played over places.
 #[test]
 fn names_and_limits(rt: HostRuntime) {
     assert_rows(&rt, rt.alloc(), NAMES);

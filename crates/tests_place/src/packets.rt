@@ -325,6 +325,7 @@ lawful 2 1 1 9 report 1:2:2 gone
 end
 ";
 
+/// A place that is shown packets of each kind tells whether they are lawful.
 #[test]
 fn packets_are_lawful_or_not(rt: HostRuntime) {
     for row in &rows_of(&rt, rt.alloc(), PACKETS) {

@@ -10,6 +10,7 @@ use tests_rows::{
     TWO_SITES_SEND_TO_ONE_PORT, TWO_TURNS_AND_A_MOVE, TWO_TURNS_PER_SITE,
 };
 
+/// Each worked row is played over places that are handed packets, and leaves its journal.
 #[test]
 fn worked_rows_are_played(rt: HostRuntime) {
     for row in [

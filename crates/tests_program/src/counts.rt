@@ -113,6 +113,7 @@ const COUNTS: [(&str, &str, u64, u64, &str, &str); 11] = [
     ),
 ];
 
+/// `explore` tells of each race as many histories, facts and outcomes as another program counts.
 #[test]
 fn races_have_so_many_histories_and_outcomes(rt: HostRuntime) {
     let alloc = rt.alloc();

@@ -171,6 +171,7 @@ fn assert_all_run(
     }
 }
 
+/// The program's word `run` prints drawn scenarios lawfully, each script's commands in order.
 #[test]
 fn drawn_scenarios_run(rt: HostRuntime) {
     for (sites, commands) in [(1, 60), (2, 200), (5, 60), (16, 40)] {

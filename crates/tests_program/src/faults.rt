@@ -61,17 +61,20 @@ fn assert_each_write_fails(
     assert_ended(rt, &run, Status::Done, whole, count);
 }
 
+/// The program's word `replay` ends at the write that fails, behind what it wrote.
 #[test]
 fn each_write_of_a_replay_fails(rt: HostRuntime) {
     let whole = RETRY_ACROSS_A_MOVE_IS_ACCEPTED_ONCE.printed;
     assert_each_write_fails(&rt, rt.alloc(), &["replay"], whole);
 }
 
+/// The program's word `load` ends at the write that fails, behind what it wrote.
 #[test]
 fn each_write_of_a_load_fails(rt: HostRuntime) {
     assert_each_write_fails(&rt, rt.alloc(), &["load", "7", "100"], LOADED);
 }
 
+/// The program's word `crew` ends at the write that fails, behind what it wrote.
 #[test]
 fn each_write_of_a_crew_fails(rt: HostRuntime) {
     assert_each_write_fails(&rt, rt.alloc(), &["crew", "42", "100"], FEW);
@@ -101,11 +104,13 @@ fn assert_each_read_fails(rt: &(impl Abort + Threads + Wait + Sync), alloc: Glob
     assert_writes_all(rt, alloc, &words, reads.saturating_add(2), whole);
 }
 
+/// The program's word `replay` ends at the read that fails, and writes nothing.
 #[test]
 fn each_read_of_a_replay_fails(rt: HostRuntime) {
     assert_each_read_fails(&rt, rt.alloc());
 }
 
+/// The program's words `load` and `crew` read nothing, so no read can fail.
 #[test]
 fn a_load_and_a_crew_read_nothing(rt: HostRuntime) {
     assert_writes_all(&rt, rt.alloc(), &["load", "7", "100"], 1, LOADED);

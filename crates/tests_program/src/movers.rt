@@ -76,6 +76,7 @@ fn assert_counted(rt: &impl Abort, printed: &str) {
     );
 }
 
+/// The program's word `run` counts each message once while senders race a moving port.
 #[test]
 fn movers_and_senders_run(rt: HostRuntime) {
     for turns in ["1", "2", "4"] {

@@ -15,6 +15,7 @@ const RACES: [&str; 4] = [
     "chorus 1\nsites 2\nport 1.p.1 1.a.1 1\nport 2.p.1 2.a.1 1\ngroup 2.g.1\nmember 2.g.1 1.p.1\nmember 2.g.1 2.p.1\nscript 1.a.1\nall 2.g.1 =a\ntake 1.p.1\nscript 2.a.1\ntake 2.p.1\n",
 ];
 
+/// Each schedule that `explore` prints is replayed to the counts of its outcome.
 #[test]
 fn each_schedule_replays_to_its_outcome(rt: HostRuntime) {
     let alloc = rt.alloc();

@@ -177,6 +177,7 @@ fn assert_refused(rt: &(impl Abort + Threads + Wait + Sync), alloc: Global) {
     }
 }
 
+/// The program refuses words that it has not, and performs `lossy` and `load`.
 #[test]
 fn words_of_the_program(rt: HostRuntime) {
     let alloc = rt.alloc();

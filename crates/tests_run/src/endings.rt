@@ -15,6 +15,7 @@ fn assert_long_body_is_refused(rt: &impl Abort, alloc: Global) {
     assert_refused(rt, alloc, text.as_str(), 4, 6);
 }
 
+/// The replay of a text with a capacity or body beyond its limit is refused.
 #[test]
 fn limits_are_refused_with_line_and_reason(rt: HostRuntime) {
     assert_long_body_is_refused(&rt, rt.alloc());
@@ -26,6 +27,7 @@ fn limits_are_refused_with_line_and_reason(rt: HostRuntime) {
     }
 }
 
+/// The replay of a text that is unfinished or names what is unknown is refused.
 #[test]
 fn unfinished_and_unknown_texts(rt: HostRuntime) {
     for (text, line, reason) in [
@@ -49,6 +51,7 @@ fn assert_lines_are_refused(rt: &impl Abort, alloc: Global, count: usize, line: 
     assert_same(rt, run.status, Status::Scenario { line, reason }, count);
 }
 
+/// The replay of a text of 4194304 empty lines, or of one more, is refused.
 #[test]
 fn long_texts_are_refused(rt: HostRuntime) {
     assert_lines_are_refused(&rt, rt.alloc(), 4_194_304, 4_194_305, 9);
@@ -63,6 +66,7 @@ fn assert_short_sink_fails(rt: &impl Abort, alloc: Global) {
     assert!(rt; run.closed);
 }
 
+/// A replay whose second write fails has written the first, and closes its sites.
 #[test]
 fn short_sink_fails_midway(rt: HostRuntime) {
     assert_short_sink_fails(&rt, rt.alloc());
@@ -94,6 +98,7 @@ fn assert_each_write_fails(rt: &impl Abort, alloc: Global) {
     assert_write_fails(rt, alloc, 97, Status::Done, 96);
 }
 
+/// A replay ends by a read or a write that fails, behind what went out.
 #[test]
 fn faults_of_source_and_sink(rt: HostRuntime) {
     assert_read_fails(&rt, rt.alloc(), 1, Status::ReadFault, "");

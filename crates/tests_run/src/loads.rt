@@ -86,6 +86,7 @@ fn assert_write_fails(rt: &impl Abort, alloc: Global) {
     assert!(rt; run.closed);
 }
 
+/// A load writes its summary alone, and ends where its write fails.
 #[test]
 fn load_writes_its_summary(rt: HostRuntime) {
     assert_loads(&rt, rt.alloc(), 7, 0, POSTS_NOTHING);
@@ -94,6 +95,7 @@ fn load_writes_its_summary(rt: HostRuntime) {
     assert_write_fails(&rt, rt.alloc());
 }
 
+/// The load of 2000 commands fills its eight ports, and its summary says so.
 #[test]
 fn load_fills_its_ports(rt: HostRuntime) {
     assert_loads(&rt, rt.alloc(), 7, 2_000, FILLS_ALL_PORTS);
@@ -129,6 +131,7 @@ fn assert_repeatable(rt: &impl Abort, alloc: Global) {
     assert_adds_up(rt, run.written.as_str());
 }
 
+/// A load of 65536 commands writes the same summary twice, whose counts add up.
 #[test]
 fn load_is_repeatable(rt: HostRuntime) {
     assert_repeatable(&rt, rt.alloc());

@@ -123,21 +123,25 @@ departs 0
 end
 ";
 
+/// The replay of a scenario without commands prints an empty journal.
 #[test]
 fn empty_scenario(rt: HostRuntime) {
     assert_prints(&rt, rt.alloc(), NOTHING, PRINTS_NOTHING);
 }
 
+/// The replay of a send with a `%` prints it as `%25`.
 #[test]
 fn percent_is_escaped(rt: HostRuntime) {
     assert_prints(&rt, rt.alloc(), PERCENT, PRINTS_PERCENT);
 }
 
+/// The replay of three scripts prints their commands as the schedule interleaves them.
 #[test]
 fn scripts_are_interleaved(rt: HostRuntime) {
     assert_prints(&rt, rt.alloc(), INTERLEAVED, PRINTS_INTERLEAVED);
 }
 
+/// The replay of a take from another actor's port prints `not-here`.
 #[test]
 fn another_actor_holds_the_port(rt: HostRuntime) {
     assert_prints(
@@ -191,6 +195,7 @@ fn assert_fills(rt: &impl Abort, alloc: Global) {
     assert!(rt; run.written.as_str().ends_with(ENDS_SIXTY_FIVE_SENDS));
 }
 
+/// The replay of 65 sends to a port of 64 prints the last as full.
 #[test]
 fn fills_to_capacity(rt: HostRuntime) {
     assert_fills(&rt, rt.alloc());
@@ -244,6 +249,7 @@ fn assert_sixteen_scripts(rt: &impl Abort, alloc: Global) {
     assert!(rt; run.written.as_str().ends_with(ENDS_SIXTEEN_SENDERS));
 }
 
+/// The replay of 16 scripts that send prints each post by its own seat.
 #[test]
 fn sixteen_scripts_are_replayed(rt: HostRuntime) {
     assert_sixteen_scripts(&rt, rt.alloc());

@@ -247,6 +247,7 @@ fn assert_starts_again(rt: &impl Abort, alloc: Global, first: (&str, &str), then
     assert_eq!(rt; text_of(rt, alloc, &closed).as_str(), then.1);
 }
 
+/// Sites that are started again leave what new sites do by the same calls.
 #[test]
 fn sites_start_again(rt: HostRuntime) {
     let posts = (POSTS, tests_rows::TWO_TURNS_PER_SITE.printed);
@@ -272,6 +273,7 @@ const WAITING: [(&str, (bool, bool), (bool, bool)); 4] = [
     ("drain", (true, true), (false, false)),
 ];
 
+/// Calls of the sites tell which place is idle and where a packet waits.
 #[test]
 fn packets_wait(rt: HostRuntime) {
     let alloc = rt.alloc();
@@ -293,6 +295,7 @@ send 1 1.p.1 c
 take 1 1.p.1
 ";
 
+/// Calls of the sites that delete a port leave the worked row's journal.
 #[test]
 fn delete_discards(rt: HostRuntime) {
     assert_leaves(&rt, rt.alloc(), DISCARD, &tests_rows::DELETE_DISCARDS);
@@ -313,6 +316,7 @@ deliver 3 2
 deliver 2 3
 ";
 
+/// Calls of the sites that delete a moved port leave the worked row's journal.
 #[test]
 fn delete_after_a_move(rt: HostRuntime) {
     let row = tests_rows::DELETE_AFTER_A_MOVE;

@@ -22,6 +22,7 @@ departs 0
 end
 ";
 
+/// The replay of a body in hexadecimal digits prints its bytes, escaped.
 #[test]
 fn binary_bodies(rt: HostRuntime) {
     assert_prints(&rt, rt.alloc(), BINARY_BODIES, PRINTS_BINARY_BODIES);

@@ -10,21 +10,25 @@ fn assert_row(rt: &impl Abort, alloc: Global, row: &WorkedRow<'_>) {
     assert_prints(rt, alloc, row.text, row.printed);
 }
 
+/// The replay of the worked row of a full port prints its journal.
 #[test]
 fn full_then_taken_then_empty(rt: HostRuntime) {
     assert_row(&rt, rt.alloc(), &tests_rows::FULL_THEN_TAKEN_THEN_EMPTY);
 }
 
+/// The replay of the worked row of no port prints its journal.
 #[test]
 fn no_port(rt: HostRuntime) {
     assert_row(&rt, rt.alloc(), &tests_rows::NO_PORT);
 }
 
+/// The replay of the worked row of two senders prints its journal.
 #[test]
 fn two_sites_send_to_one_port(rt: HostRuntime) {
     assert_row(&rt, rt.alloc(), &tests_rows::TWO_SITES_SEND_TO_ONE_PORT);
 }
 
+/// The replay of the worked row of a migration prints its journal.
 #[test]
 fn migration_keeps_waiting_messages(rt: HostRuntime) {
     assert_row(
@@ -34,6 +38,7 @@ fn migration_keeps_waiting_messages(rt: HostRuntime) {
     );
 }
 
+/// The replay of the worked row of a stale place prints its journal.
 #[test]
 fn stale_place_names_the_newer_one(rt: HostRuntime) {
     assert_row(
@@ -43,21 +48,25 @@ fn stale_place_names_the_newer_one(rt: HostRuntime) {
     );
 }
 
+/// The replay of the worked row of an early message prints its journal.
 #[test]
 fn early_then_arrive(rt: HostRuntime) {
     assert_row(&rt, rt.alloc(), &tests_rows::EARLY_THEN_ARRIVE);
 }
 
+/// The replay of the worked row of a jump over hops prints its journal.
 #[test]
 fn stale_jumps_over_hops(rt: HostRuntime) {
     assert_row(&rt, rt.alloc(), &tests_rows::STALE_JUMPS_OVER_HOPS);
 }
 
+/// The replay of the worked row of a rehomed port prints its journal.
 #[test]
 fn rehome_on_one_site(rt: HostRuntime) {
     assert_row(&rt, rt.alloc(), &tests_rows::REHOME_ON_ONE_SITE);
 }
 
+/// The replay of the worked row of one message per route prints its journal.
 #[test]
 fn one_message_under_way_per_route(rt: HostRuntime) {
     assert_row(
@@ -67,11 +76,13 @@ fn one_message_under_way_per_route(rt: HostRuntime) {
     );
 }
 
+/// The replay of the worked row of a group's rotation prints its journal.
 #[test]
 fn functional_send_rotates(rt: HostRuntime) {
     assert_row(&rt, rt.alloc(), &tests_rows::FUNCTIONAL_SEND_ROTATES);
 }
 
+/// The replay of the worked rows of members at a site prints their journals.
 #[test]
 fn functional_at_a_site(rt: HostRuntime) {
     assert_row(&rt, rt.alloc(), &tests_rows::FUNCTIONAL_AT_A_SITE);
@@ -82,21 +93,25 @@ fn functional_at_a_site(rt: HostRuntime) {
     );
 }
 
+/// The replay of the worked row of a broadcast prints its journal.
 #[test]
 fn broadcast_meets_full(rt: HostRuntime) {
     assert_row(&rt, rt.alloc(), &tests_rows::BROADCAST_MEETS_FULL);
 }
 
+/// The replay of the worked row of a group's report prints its journal.
 #[test]
 fn report_reaches_the_home_place(rt: HostRuntime) {
     assert_row(&rt, rt.alloc(), &tests_rows::REPORT_REACHES_THE_HOME_PLACE);
 }
 
+/// The replay of the worked row of a call and reply prints its journal.
 #[test]
 fn call_and_reply_on_one_site(rt: HostRuntime) {
     assert_row(&rt, rt.alloc(), &tests_rows::CALL_AND_REPLY_ON_ONE_SITE);
 }
 
+/// The replay of the worked row of a retried call prints its journal.
 #[test]
 fn retry_across_a_move_is_accepted_once(rt: HostRuntime) {
     assert_row(
@@ -112,6 +127,7 @@ fn assert_row_of_two_places(rt: &impl Abort, alloc: Global, row: &WorkedRow<'_>)
     assert_done(rt, &run, row.printed, row.name);
 }
 
+/// The replay of the worked rows of two places a site prints their journals.
 #[test]
 fn two_turns_per_site(rt: HostRuntime) {
     assert_row_of_two_places(&rt, rt.alloc(), &tests_rows::TWO_TURNS_PER_SITE);
@@ -126,6 +142,7 @@ fn assert_version_one_refuses_delete(rt: &impl Abort, alloc: Global) {
     assert_refused(rt, alloc, text.as_str(), 9, 2);
 }
 
+/// The replay of the worked rows of `delete` prints their journals; version 1 refuses it.
 #[test]
 fn delete_in_scenarios(rt: HostRuntime) {
     assert_row(&rt, rt.alloc(), &tests_rows::DELETE_DISCARDS);

@@ -115,6 +115,7 @@ fn assert_carry_in_order<R: Abort + Wait>(rt: &R, alloc: Global) {
     assert_counts(rt, &first, &second, 1, 1);
 }
 
+/// Ruled ends carry a link's fill of packets in order, and give one more back.
 #[test]
 fn ruled_ends_carry_packets_in_order(rt: HostRuntime) {
     assert_carry_in_order(&rt, rt.alloc());
@@ -169,6 +170,7 @@ fn assert_carries<R: Abort + Wait>(rt: &R, alloc: Global, len: usize) {
     assert!(rt; body_of(rt, &packet).len() == len);
 }
 
+/// Ruled ends carry a message of each length as it went in.
 #[test]
 fn ruled_ends_carry_bodies_of_each_length(rt: HostRuntime) {
     for len in [0, 1, 22, 23, 255, 256, 3_001, 4_095, 4_096] {

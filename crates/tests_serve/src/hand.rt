@@ -59,6 +59,7 @@ fn assert_stays_in_hand<E: Moves<()>>(rt: &impl Abort, mut desk: Desk<E>) {
     assert_serves(rt, &mut desk, &mut caller, (2, false, 1));
 }
 
+/// A packet stays in the place's hand while the port that it brings is held.
 #[test]
 fn a_port_that_is_held_already_stays_in_hand(rt: HostRuntime) {
     let alloc = rt.alloc();

@@ -135,7 +135,8 @@ fn assert_packets_are_carried<R: Abort, D: Works<R>>(rt: &R, alloc: Global, mut 
     assert_leave(rt, alloc, pair, lines_of_row(rt));
 }
 
+/// Two places over ruled ends serve each other and leave the worked row's journals.
 #[test]
-fn ruled_ends_carry_packets(rt: HostRuntime) {
+fn two_places_play_the_worked_row(rt: HostRuntime) {
     assert_packets_are_carried(&rt, rt.alloc(), start(&rt, rt.alloc()));
 }

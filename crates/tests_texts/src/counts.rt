@@ -48,6 +48,7 @@ fn assert_ports_and_members(rt: &impl Abort, alloc: Global) {
     assert_rows(rt, alloc, eight, members.as_str(), BEHIND_MEMBERS);
 }
 
+/// A scenario text is read with 32 ports or members, and refused with a 33rd.
 #[test]
 fn the_last_port_and_member_are_taken_and_the_next_refused(rt: HostRuntime) {
     assert_ports_and_members(&rt, rt.alloc());
@@ -86,6 +87,7 @@ fn assert_scripts_commands_and_steps(rt: &impl Abort, alloc: Global) {
     assert_lines(rt, alloc, schedule, "drain\n", 131_072, BEHIND_STEPS);
 }
 
+/// A scenario text is read with 16 scripts, 4096 commands or 131072 steps, none more.
 #[test]
 fn the_last_script_command_and_step_are_taken_and_the_next_refused(rt: HostRuntime) {
     assert_scripts_commands_and_steps(&rt, rt.alloc());
@@ -124,6 +126,7 @@ fn assert_bodies(rt: &impl Abort, alloc: Global) {
     assert_letters(rt, alloc, at, "x", 241, "|4 6");
 }
 
+/// A scenario text's longest body is taken, and a longer one refused.
 #[test]
 fn the_longest_body_is_taken_and_a_longer_one_refused(rt: HostRuntime) {
     assert_long_bodies(&rt, rt.alloc());

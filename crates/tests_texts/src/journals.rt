@@ -39,6 +39,7 @@ fn assert_empty(rt: &impl Abort, alloc: Global) {
     assert_text(rt, both.as_str(), text);
 }
 
+/// The shown journal of no entries is `journal 0`, and its summary has zeros alone.
 #[test]
 fn empty_scenario(rt: HostRuntime) {
     assert_empty(&rt, rt.alloc());
@@ -54,6 +55,7 @@ fn assert_two_lines(rt: &impl Abort, alloc: Global) {
     assert_text(rt, journal.as_str(), text);
 }
 
+/// A shown journal has its count, and then a line for each entry.
 #[test]
 fn journals_have_a_line_for_each_entry(rt: HostRuntime) {
     assert_two_lines(&rt, rt.alloc());
@@ -207,6 +209,7 @@ fn assert_six_ports(rt: &impl Abort, alloc: Global) {
     assert_text(rt, summary.as_str(), text);
 }
 
+/// A shown summary counts messages by where six ports are: moving, held, or deleted.
 #[test]
 fn summaries_count_where_ports_are(rt: HostRuntime) {
     assert_six_ports(&rt, rt.alloc());
@@ -222,6 +225,7 @@ fn assert_deleted_alone(rt: &impl Abort, alloc: Global) {
     assert_text(rt, summary.as_str(), text);
 }
 
+/// A shown summary has the line `discarded 0` for a deletion that discards nothing.
 #[test]
 fn deletes_without_ids_have_their_line(rt: HostRuntime) {
     assert_deleted_alone(&rt, rt.alloc());
@@ -267,6 +271,7 @@ fn assert_faults(rt: &impl Abort, alloc: Global) {
     assert_faults_with_numbers(rt, alloc);
 }
 
+/// Each status has its exit number, and each fault is shown as one line.
 #[test]
 fn faults_have_one_line(rt: HostRuntime) {
     assert_faults(&rt, rt.alloc());

@@ -105,6 +105,7 @@ fn assert_ports(rt: &impl Abort, alloc: Global) {
     assert_line(rt, alloc, Act::Arrive { port, hop: 6 }, "arrive 1.p.1 6");
 }
 
+/// `entry_line` shows acts on ports as their journal lines.
 #[test]
 fn lines_of_ports(rt: HostRuntime) {
     assert_ports(&rt, rt.alloc());
@@ -147,6 +148,7 @@ fn assert_messages_elsewhere(rt: &impl Abort, alloc: Global) {
     assert_line(rt, alloc, tried, "try 3:7:1 1.p.1 9 6");
 }
 
+/// `entry_line` shows acts on messages as their journal lines.
 #[test]
 fn lines_of_messages(rt: HostRuntime) {
     assert_messages(&rt, rt.alloc());
@@ -174,6 +176,7 @@ fn assert_groups(rt: &impl Abort, alloc: Global) {
     assert_line(rt, alloc, Act::MembersFull { group }, "members-full 4.g.2");
 }
 
+/// `entry_line` shows acts on groups as their journal lines.
 #[test]
 fn lines_of_groups(rt: HostRuntime) {
     assert_groups(&rt, rt.alloc());
@@ -195,6 +198,7 @@ fn assert_calls(rt: &impl Abort, alloc: Global) {
     assert_line(rt, alloc, heard, "heard 3:7:1 accepted 0");
 }
 
+/// `entry_line` shows acts on calls, and `heard`, as their journal lines.
 #[test]
 fn lines_of_calls(rt: HostRuntime) {
     assert_calls(&rt, rt.alloc());
@@ -226,6 +230,7 @@ fn assert_answers(rt: &impl Abort, alloc: Global) {
     assert_told(rt, alloc, Answer::Gone, "told 3:7:1 gone");
 }
 
+/// `entry_line` shows each answer with its numbers in a journal line `told`.
 #[test]
 fn lines_of_answers(rt: HostRuntime) {
     assert_answers(&rt, rt.alloc());
@@ -271,6 +276,7 @@ fn assert_lists(rt: &impl Abort, alloc: Global) {
     assert_deleted(rt, alloc, &[], "delete 1.p.1");
 }
 
+/// `entry_line` shows chosen members and discarded messages as the list that ends a line.
 #[test]
 fn lines_of_lists(rt: HostRuntime) {
     assert_lists(&rt, rt.alloc());
@@ -294,6 +300,7 @@ fn assert_percent(rt: &impl Abort, alloc: Global) {
     assert_post(rt, alloc, &port, &Tag::Plain, b"100%", text);
 }
 
+/// `entry_line` shows a `%` of a posted body as `%25`.
 #[test]
 fn percent_is_escaped(rt: HostRuntime) {
     assert_percent(&rt, rt.alloc());
@@ -320,6 +327,7 @@ fn assert_posts(rt: &impl Abort, alloc: Global) {
     assert_post(rt, alloc, &at, &Tag::Plain, &bytes, text);
 }
 
+/// `entry_line` shows posts to groups with each tag, and escapes unprintable bytes.
 #[test]
 fn lines_of_posts(rt: HostRuntime) {
     assert_posts(&rt, rt.alloc());

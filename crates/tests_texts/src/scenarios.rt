@@ -1,4 +1,5 @@
-//! Texts of scenarios that are read and printed, and the first rows of those that are refused.
+//! Texts of scenarios that are read and printed back, and what reads the rows of all tests of scenarios, here and in `refused` and
+//! `counts`.
 //!
 //! A row has a text, in which `;` stands for the end of a line and `$` for the byte 255, then `|`, and what is told of it: the line
 //! and the reason for which it is refused, or `read`.
@@ -121,94 +122,6 @@ fn assert_printed_back(rt: &impl Abort, alloc: Global, layout: Layout, head: &st
     assert_prints(rt, alloc, layout, &text, &text);
 }
 
-/// Asserts that version 1 refuses capacities 0 and 65 and a body of 241 bytes, and reads on behind one of 240.
-fn assert_limits(rt: &impl Abort, alloc: Global) {
-    let sixteen = layout_of(rt, 16, 1);
-    let send = "chorus 1\nsites 1\nport 1.p.1 1.a.1 1\nscript 1.a.1\nsend 1.p.1 =";
-    assert_rows_behind(rt, alloc, sixteen, send, "x", 241, "|5 6");
-    assert_rows_behind(rt, alloc, sixteen, send, "x", 240, "|6 9");
-    let rows = "\
-chorus 1;sites 1;port 1.p.1 1.a.1 0|3 6
-chorus 1;sites 1;port 1.p.1 1.a.1 65|3 6
-";
-    assert_rows(rt, alloc, sixteen, "", rows);
-}
-
-#[test]
-fn limits_are_refused_with_line_and_reason(rt: HostRuntime) {
-    assert_limits(&rt, rt.alloc());
-}
-
-const UNFINISHED_AND_UNKNOWN: &str = "\
-chorus 1;sites 1;schedule;|4 9
-chorus 1;sites 2;script 3.a.1;schedule;end|3 4
-chorus 1;sites 1;script 1.a.1;schedule;step 1;end|5 10
-";
-
-#[test]
-fn unfinished_and_unknown_texts(rt: HostRuntime) {
-    let sixteen = layout_of(&rt, 16, 1);
-    assert_rows(&rt, rt.alloc(), sixteen, "", UNFINISHED_AND_UNKNOWN);
-}
-
-const REFUSED: &str = "\
-|1 9
-chorus 2|2 9
-chorus 1;|2 9
-chorus 1\r;|1 8
-chorus 1;chorus 1|2 7
-chorus 1;sites 9|2 6
-chorus 1;sites 01|2 3
-chorus 1;sites 99999999999999999999999|2 6
-chorus 1;sites  1|2 2
-chorus 1;sites 1;port 1.g.1 1.a.1 4|3 3
-chorus 1;sites 1;port 1.p.2 1.a.1 4|3 7
-chorus 1;sites 1;port 1.p.1 1.a.1 4;port 1.p.1 1.a.1 4|4 5
-chorus 1;sites 1;script 1.a.1;send 1.p.1 x|4 2
-chorus 1;sites 1;schedule;deliver 1 1|4 10
-";
-
-/// Asserts line and reason of each row of refused texts, and of texts with as many empty lines as may be, or more.
-fn assert_refused(rt: &impl Abort, alloc: Global) {
-    let eight = layout_of(rt, 8, 1);
-    assert_rows(rt, alloc, eight, "", REFUSED);
-    assert_rows_behind(rt, alloc, eight, "", "\n", 4_194_304, "|4194305 9");
-    assert_rows_behind(rt, alloc, eight, "", "\n", 4_194_305, "|0 6");
-}
-
-#[test]
-fn refused_texts(rt: HostRuntime) {
-    assert_refused(&rt, rt.alloc());
-}
-
-/// Each line is refused in the place where it stands, by the first of its tests: worked out from the table by hand.
-const IN_THEIR_ORDER: &str = "\
-;# a$;chorus 1|2 8
-;  ;chorus 1|2 1
-# a;;chorus 3|3 1
-chorus 1;sites 2;  |3 2
-chorus 1;sites 2;port 9.p.1 9.a.9 65|3 6
-chorus 1;sites 2;port 1.g.1 1.a.1 65|3 3
-chorus 1;sites 2;port 1.p.1 1.a.33 4|3 4
-chorus 1;sites 2;port 1.p.33 9.a.1 4|3 6
-chorus 1;sites 2;group 1.g.5|3 6
-chorus 1;sites 2;group 2.g.2|3 7
-chorus 1;sites 2;group 2.g.1;member 2.g.1 2.p.1|4 4
-chorus 1;sites 2;group 2.g.1;port 2.p.1 2.a.8 1;member 2.g.1 2.p.1;member 2.g.1 2.p.1|6 5
-chorus 1;sites 2;script 1.a.1;at 1.g.1 =x y|4 2
-chorus 1;sites 2;script 1.a.1;at 1.g.1 =x =y|4 3
-chorus 1;sites 2;script 1.a.1;send 1.p.1 |4 2
-chorus 1;sites 2;schedule;end;;#;foo|7 2
-chorus 1;sites 2;schedule;end;delete 1.p.1|5 2
-chorus 2;sites 2;schedule;end;delete 1.p.1|5 7
-";
-
-#[test]
-fn tests_in_their_order(rt: HostRuntime) {
-    let eight = layout_of(&rt, 8, 1);
-    assert_rows(&rt, rt.alloc(), eight, "", IN_THEIR_ORDER);
-}
-
 /// Asserts that version 2 reads a body in hexadecimal digits and prints it back, and refuses an odd or capital one.
 fn assert_binary_bodies(rt: &impl Abort, alloc: Global) {
     let sixteen = layout_of(rt, 16, 1);
@@ -218,6 +131,7 @@ fn assert_binary_bodies(rt: &impl Abort, alloc: Global) {
     assert_rows(rt, alloc, sixteen, front, "x|6 9\nx0|5 3\nx0F|5 3\n");
 }
 
+/// A scenario text's body in hexadecimal digits is read and printed back in version 2.
 #[test]
 fn binary_bodies(rt: HostRuntime) {
     assert_binary_bodies(&rt, rt.alloc());
@@ -235,6 +149,7 @@ fn assert_deletes(rt: &impl Abort, alloc: Global) {
     assert_rows(rt, alloc, sixteen, "chorus 1\n", row.as_str());
 }
 
+/// A scenario text's `delete` is printed back in version 2, and refused in version 1.
 #[test]
 fn delete_in_scenarios(rt: HostRuntime) {
     assert_deletes(&rt, rt.alloc());
@@ -290,6 +205,7 @@ fn assert_turns(rt: &impl Abort, alloc: Global) {
     assert_rows(rt, alloc, layout_of(rt, 16, 1), "chorus 1\n", row.as_str());
 }
 
+/// A scenario text in its printed form is read and printed back as it is.
 #[test]
 fn texts_are_read_and_printed_back(rt: HostRuntime) {
     assert_scenarios(&rt, rt.alloc());
@@ -307,6 +223,7 @@ fn assert_one_form(rt: &impl Abort, alloc: Global) {
     assert_prints(rt, alloc, sixteen, text.as_bytes(), want.as_bytes());
 }
 
+/// A scenario text with comments and bodies in digits is printed in its one form.
 #[test]
 fn other_forms_are_printed_in_the_one(rt: HostRuntime) {
     assert_one_form(&rt, rt.alloc());

@@ -86,6 +86,7 @@ fn assert_two_threads_meet<R: Abort + Threads + Wait + Sync>(rt: &R, alloc: Glob
     assert_comes_to_the_last(rt, board, reader, port);
 }
 
+/// A board's reader in another thread comes to the last publish, and never goes back.
 #[test]
 fn a_reader_in_another_thread_comes_to_the_last_publish(rt: HostRuntime) {
     assert_two_threads_meet(&rt, rt.alloc());

@@ -228,6 +228,7 @@ fn assert_64_readers_see<R: Abort + Wait>(rt: &R, alloc: Global) {
     board.end(rt);
 }
 
+/// All 64 readers of a board see a publish, whatever they asked before.
 #[test]
 fn all_64_readers_see_a_publish(rt: HostRuntime) {
     assert_64_readers_see(&rt, rt.alloc());

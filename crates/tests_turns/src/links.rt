@@ -47,6 +47,7 @@ fn assert_first_in_first_out<R: Abort + Wait>(rt: &R, alloc: Global) {
     assert_two_come(rt, &mut recv);
 }
 
+/// A link gives packets in the order put, and hands one back when full.
 #[test]
 fn link_is_first_in_first_out(rt: HostRuntime) {
     assert_first_in_first_out(&rt, rt.alloc());
@@ -121,6 +122,7 @@ fn assert_nothing_is_left<R: Abort + Wait>(rt: &R, mut rest: Rest<u32>) {
     assert!(rt; rest.next(rt).is_none());
 }
 
+/// A link hands 100000 packets from one thread to another, all in order.
 #[test]
 fn two_threads_hand_over_all_in_order(rt: HostRuntime) {
     let Ok((mut send, mut recv)) = link(rt.alloc(), 32) else {

@@ -218,6 +218,7 @@ fn assert_refuses_and_stays_open(rt: &impl Abort, alloc: Global) {
     assert_two_entries(rt, &states, 7, 6);
 }
 
+/// Turns refuse a pass at a busy place, and to close while one is out.
 #[test]
 fn turns_refuse_the_second_caller(rt: HostRuntime) {
     assert_refuses_and_stays_open(&rt, rt.alloc());

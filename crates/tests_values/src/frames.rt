@@ -211,6 +211,7 @@ fn assert_report_is_read(rt: &impl Abort, alloc: Global) {
     assert_eq!(rt; (packet.clock, packet.from), (5, 1));
 }
 
+/// The frame of a Report has its 22 bytes, and is refused damaged or longer.
 #[test]
 fn report_frame_bytes(rt: HostRuntime) {
     assert_report_is_encoded(&rt, rt.alloc());
@@ -266,6 +267,7 @@ fn assert_all_reported(rt: &impl Abort, alloc: Global) {
     assert_reported(rt, alloc, "01 0000000000000005", accepted);
 }
 
+/// Each answer has its code in the frame of a Verdict or a Report.
 #[test]
 fn each_answer_has_its_code(rt: HostRuntime) {
     assert_numbers_told(&rt, rt.alloc());
@@ -273,6 +275,7 @@ fn each_answer_has_its_code(rt: HostRuntime) {
     assert_all_reported(&rt, rt.alloc());
 }
 
+/// Decoding a damaged frame tells the fault of its first bad field.
 #[test]
 fn the_first_field_at_fault_is_named(rt: HostRuntime) {
     let alloc = rt.alloc();
@@ -326,6 +329,7 @@ fn assert_message_is_tried(rt: &impl Abort, alloc: Global) {
     assert_asks(rt, &packet.cargo);
 }
 
+/// The frame of a Try is read as a request to its port.
 #[test]
 fn a_message_is_tried(rt: HostRuntime) {
     assert_message_is_tried(&rt, rt.alloc());
@@ -339,6 +343,7 @@ fn assert_tried_without_a_route(rt: &impl Abort, alloc: Global) {
     assert_tried(rt, &packet.cargo, None);
 }
 
+/// The frame of a Try without a route still demands its site.
 #[test]
 fn a_site_is_demanded_without_a_route(rt: HostRuntime) {
     assert_tried_without_a_route(&rt, rt.alloc());
@@ -364,6 +369,7 @@ fn assert_each_mode_is_asked(rt: &impl Abort, alloc: Global) {
     assert_asked(rt, alloc, at, &Dest::OneAt(to, 16));
 }
 
+/// The frame of an Ask is for its group's members as its mode says.
 #[test]
 fn a_message_is_asked(rt: HostRuntime) {
     assert_each_mode_is_asked(&rt, rt.alloc());
@@ -388,6 +394,7 @@ fn assert_transferred(rt: &impl Abort, alloc: Global) {
     }
 }
 
+/// The frame of a Transfer is read as its port, with messages and clients.
 #[test]
 fn a_port_is_transferred(rt: HostRuntime) {
     assert_transferred(&rt, rt.alloc());

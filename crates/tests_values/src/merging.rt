@@ -56,6 +56,7 @@ fn assert_by_clock(rt: &impl Abort, alloc: Global) {
     assert_merged(rt, alloc, &[], &[]);
 }
 
+/// Two journals are merged by clock, and at equal clocks by place.
 #[test]
 fn merge_by_clock_then_place(rt: HostRuntime) {
     assert_by_clock(&rt, rt.alloc());

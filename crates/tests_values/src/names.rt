@@ -52,6 +52,7 @@ fn assert_no_names(rt: &impl Abort) {
     }
 }
 
+/// A name is parsed from one text, packed into 64 bits, and written back.
 #[test]
 fn names_are_parsed_one_way(rt: HostRuntime) {
     assert_names(&rt, rt.alloc());

@@ -77,6 +77,7 @@ fn assert_fills(rt: &impl Abort, alloc: Global) {
     }
 }
 
+/// A port in a table of ports takes 64 clients, and refuses a 65th.
 #[test]
 fn at_most_once_table_fills(rt: HostRuntime) {
     assert_fills(&rt, rt.alloc());

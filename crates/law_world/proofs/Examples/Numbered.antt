@@ -18,7 +18,8 @@ use Rattle.chorus_world.specs.Steps.{is_legal, may}
 use Rattle.chorus_world.specs.Runs.{is_run}
 use Rattle.chorus_world.specs.Commands.{answers}
 use Rattle.chorus_world.proofs.Examples.Names.{actor, away, first, group, now, other, port, second, two_sites}
-use Rattle.law_world.specs.Names.{MakesOnce, MakesGroupsOnce, PostsOnce, MakesTheLeast, MadeAllPorts, GroupMakesTheLeast, MadeAllGroups, PostsTheLeast, holds}
+use Rattle.law_world.specs.Holding.{holds}
+use Rattle.law_world.specs.Names.{MakesOnce, MakesGroupsOnce, PostsOnce, MakesTheLeast, MadeAllPorts, GroupMakesTheLeast, MadeAllGroups, PostsTheLeast}
 use Rattle.law_world.proofs.Examples.Played.{posted}
 
 -- Sites of several places.

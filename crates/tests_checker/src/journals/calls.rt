@@ -5,6 +5,7 @@ use chorus_world::Spot;
 use std::alloc::Global;
 use std::process::Abort;
 
+/// The checker follows a worked journal of a call and its reply on one site.
 #[test]
 fn call_and_reply_on_one_site(rt: HostRuntime) {
     let journal = "
@@ -36,6 +37,7 @@ fn call_and_reply_on_one_site(rt: HostRuntime) {
     assert_follows(&rt, rt.alloc(), 1, 1, journal);
 }
 
+/// The checker follows a call retried across a move, and refuses its second accept.
 #[test]
 fn retry_across_a_move_is_accepted_once(rt: HostRuntime) {
     let journal = "
@@ -108,6 +110,7 @@ fn assert_table_fills(rt: &impl Abort, alloc: Global) {
     follow(rt, alloc, &mut world, BEHIND_64_CLIENTS);
 }
 
+/// The checker follows a port that accepts requests of 64 clients and refuses a 65th.
 #[test]
 fn at_most_once_table_fills(rt: HostRuntime) {
     assert_table_fills(&rt, rt.alloc());
@@ -133,11 +136,13 @@ fn assert_deleted(rt: &impl Abort, alloc: Global) {
     assert!(rt; fate_of(rt, &world, "1.p.1").spot() == Spot::Ended);
 }
 
+/// The checker follows a deletion that discards what waits, and has the port as ended.
 #[test]
 fn delete_discards(rt: HostRuntime) {
     assert_deleted(&rt, rt.alloc());
 }
 
+/// The checker follows a message that finds its moved port deleted, and refuses `no-port` there.
 #[test]
 fn delete_after_a_move(rt: HostRuntime) {
     let journal = "

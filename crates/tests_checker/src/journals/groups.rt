@@ -4,6 +4,7 @@ use super::{assert_follows, follow, replay};
 use std::alloc::Global;
 use std::process::Abort;
 
+/// The checker follows a group's copy for one site whose port left: elsewhere, not stale.
 #[test]
 fn functional_at_a_site(rt: HostRuntime) {
     let journal = "
@@ -25,6 +26,7 @@ fn functional_at_a_site(rt: HostRuntime) {
     assert_follows(&rt, rt.alloc(), 3, 1, journal);
 }
 
+/// The checker follows reports of a group's choice and copy, and refuses each once more.
 #[test]
 fn report_reaches_the_home_place(rt: HostRuntime) {
     let journal = "
@@ -46,6 +48,7 @@ fn report_reaches_the_home_place(rt: HostRuntime) {
     assert_follows(&rt, rt.alloc(), 2, 1, journal);
 }
 
+/// The checker follows a group's rotation over three members, and refuses one out of turn.
 #[test]
 fn functional_send_rotates(rt: HostRuntime) {
     let journal = "
@@ -83,6 +86,7 @@ fn functional_send_rotates(rt: HostRuntime) {
     assert_follows(&rt, rt.alloc(), 1, 1, journal);
 }
 
+/// The checker follows copies for site 2 whose port comes to the group's own place.
 #[test]
 fn a_port_comes_to_the_groups_place(rt: HostRuntime) {
     let journal = "
@@ -105,6 +109,7 @@ fn a_port_comes_to_the_groups_place(rt: HostRuntime) {
     assert_follows(&rt, rt.alloc(), 2, 1, journal);
 }
 
+/// The checker follows a post to all of a group with one full port.
 #[test]
 fn broadcast_meets_full(rt: HostRuntime) {
     let journal = "
@@ -127,6 +132,7 @@ fn broadcast_meets_full(rt: HostRuntime) {
     assert_follows(&rt, rt.alloc(), 1, 1, journal);
 }
 
+/// The checker follows a group's rotation while members join and leave.
 #[test]
 fn members_take_turns_as_they_join_and_leave(rt: HostRuntime) {
     let journal = "
@@ -201,6 +207,7 @@ fn assert_groups_fill(rt: &impl Abort, alloc: Global) {
     follow(rt, alloc, &mut world, BEHIND_32_MEMBERS);
 }
 
+/// The checker lets four groups be made and 32 ports join, and refuses the next.
 #[test]
 fn groups_and_members_have_a_limit(rt: HostRuntime) {
     assert_groups_fill(&rt, rt.alloc());

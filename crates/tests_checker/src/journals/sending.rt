@@ -1,68 +1,8 @@
-//! Sending, receiving and migration.
+//! Ports that are made, sent to and received from.
 
-use super::{assert_follows, fate_of, follow, named, replay};
-use chorus_checker::{PortState, World};
-use chorus_entry::{Answer, MsgId};
-use chorus_world::Spot;
-use std::alloc::Global;
-use std::process::Abort;
+use super::assert_follows;
 
-const ACCEPTED_BEHIND_A_MOVE: &str = "
-    ! 6: 1 1 0 accept 1:1:0 1.p.1 0
-    1 1 0 make 1.p.1 1.a.1 4
-    2 1 2 depart 1.p.1 2 2.a.1 1
-    2 3 1 post 1:1:0 port 1.p.1 plain =x
-    3 3 1 try 1:1:0 1.p.1 1 0
-    ! 10: 4 1 0 stale 1:1:0 1.p.1 0 1 0
-    4 1 0 stale 1:1:0 1.p.1 0 2 1
-    5 3 0 told 1:1:0 stale 2 1
-    6 3 0 try 1:1:0 1.p.1 2 1
-    ! 6: 7 2 0 accept 1:1:0 1.p.1 0
-    7 2 0 arrive 1.p.1 1
-    ! 0: 7 2 0 accept 1:1:0 1.p.1 0
-    ! 0: 8 4 0 accept 1:1:0 1.p.1 0
-    8 2 0 accept 1:1:0 1.p.1 0
-";
-
-/// Asserts that the message's verdict in the checker's world is that it was accepted first.
-fn assert_accepted_first(rt: &impl Abort, world: &World, id: MsgId) {
-    let verdict = world.verdict(id);
-    assert!(rt; matches!(verdict, Some(Answer::Accepted { pos: 0 })));
-}
-
-/// Asserts that, for the checker, the port moved from place 1 to the actor at place 2, and accepted this message alone.
-fn assert_moved(rt: &impl Abort, fate: &PortState, id: MsgId) {
-    assert!(rt; fate.path() == [1, 2].as_slice());
-    assert!(rt; fate.spot() == Spot::Held(named(rt, "2.a.1")));
-    assert!(rt; fate.capacity() == 4);
-    assert!(rt; fate.accepted() == [id].as_slice());
-    assert!(rt; fate.taken() == 0);
-}
-
-/// Asserts that the checker's world has no port of this name.
-fn assert_not_made(rt: &impl Abort, world: &World, name: &str) {
-    assert!(rt; world.port(named(rt, name)).is_none());
-}
-
-/// Asserts that the checker's world has the verdict and the port's path after a message found it moved.
-fn assert_follows_a_move(rt: &impl Abort, alloc: Global) {
-    let mut world = replay(rt, alloc, 3, 1, ACCEPTED_BEHIND_A_MOVE);
-    let id = MsgId {
-        seat: 1,
-        number: 1,
-        copy: 0,
-    };
-    assert_accepted_first(rt, &world, id);
-    follow(rt, alloc, &mut world, "9 3 0 told 1:1:0 accepted 0");
-    assert_moved(rt, fate_of(rt, &world, "1.p.1"), id);
-    assert_not_made(rt, &world, "1.p.2");
-}
-
-#[test]
-fn world_refuses_and_follows_a_move(rt: HostRuntime) {
-    assert_follows_a_move(&rt, rt.alloc());
-}
-
+/// The checker follows a port that is full, is taken from, and is then empty.
 #[test]
 fn full_then_taken_then_empty(rt: HostRuntime) {
     let journal = "
@@ -89,6 +29,7 @@ fn full_then_taken_then_empty(rt: HostRuntime) {
     assert_follows(&rt, rt.alloc(), 1, 1, journal);
 }
 
+/// The checker follows two sites that send to one port, and refuses a wrong verdict.
 #[test]
 fn two_sites_send_to_one_port(rt: HostRuntime) {
     let journal = "
@@ -105,50 +46,7 @@ fn two_sites_send_to_one_port(rt: HostRuntime) {
     assert_follows(&rt, rt.alloc(), 2, 1, journal);
 }
 
-#[test]
-fn migration_keeps_waiting_messages(rt: HostRuntime) {
-    let journal = "
-        1 1 0 make 1.p.1 1.a.1 4
-        2 1 1 post 1:1:0 port 1.p.1 plain =a
-        3 1 1 accept 1:1:0 1.p.1 0
-        4 1 1 post 1:2:0 port 1.p.1 plain =b
-        5 1 1 accept 1:2:0 1.p.1 1
-        6 1 1 post 1:3:0 port 1.p.1 plain =c
-        7 1 1 accept 1:3:0 1.p.1 2
-        ! 24: 8 1 1 rehome 1.p.1 2.a.1
-        ! 25: 8 1 1 depart 1.p.1 1 2.a.1 1
-        8 1 1 depart 1.p.1 2 2.a.1 1
-        ! 26: 9 2 0 arrive 1.p.1 2
-        9 2 0 arrive 1.p.1 1
-        10 2 2 take 1.p.1 0 1:1:0
-        11 2 2 take 1.p.1 1 1:2:0
-        12 2 2 take 1.p.1 2 1:3:0
-    ";
-    assert_follows(&rt, rt.alloc(), 2, 1, journal);
-}
-
-#[test]
-fn early_then_arrive(rt: HostRuntime) {
-    let journal = "
-        1 1 0 make 1.p.1 1.a.1 4
-        2 1 2 depart 1.p.1 2 2.a.1 1
-        2 3 1 post 1:1:0 port 1.p.1 plain =x
-        3 3 1 try 1:1:0 1.p.1 1 0
-        4 1 0 stale 1:1:0 1.p.1 0 2 1
-        5 3 0 told 1:1:0 stale 2 1
-        6 3 0 try 1:1:0 1.p.1 2 1
-        ! 11: 7 2 0 early 1:1:0 1.p.1 2
-        7 2 0 early 1:1:0 1.p.1 1
-        8 3 0 told 1:1:0 early 1
-        9 2 0 arrive 1.p.1 1
-        9 3 1 post 1:2:0 port 1.p.1 plain =x
-        10 3 1 try 1:2:0 1.p.1 2 1
-        11 2 0 accept 1:2:0 1.p.1 0
-        12 3 0 told 1:2:0 accepted 0
-    ";
-    assert_follows(&rt, rt.alloc(), 3, 1, journal);
-}
-
+/// The checker takes `no-port` of ports that nobody made, and refuses it of others.
 #[test]
 fn no_port(rt: HostRuntime) {
     let journal = "
@@ -165,6 +63,7 @@ fn no_port(rt: HostRuntime) {
     assert_follows(&rt, rt.alloc(), 1, 1, journal);
 }
 
+/// The checker follows a send between two places of a site, and a departure.
 #[test]
 fn two_turns_per_site(rt: HostRuntime) {
     let journal = "
@@ -178,6 +77,7 @@ fn two_turns_per_site(rt: HostRuntime) {
     assert_follows(&rt, rt.alloc(), 2, 2, journal);
 }
 
+/// The checker refuses a message's try while another is under way to its port.
 #[test]
 fn one_message_under_way_per_route(rt: HostRuntime) {
     let journal = "
@@ -200,19 +100,7 @@ fn one_message_under_way_per_route(rt: HostRuntime) {
     assert_follows(&rt, rt.alloc(), 3, 1, journal);
 }
 
-#[test]
-fn rehome_on_one_site(rt: HostRuntime) {
-    let journal = "
-        1 1 0 make 1.p.1 1.a.1 2
-        2 1 1 post 1:1:0 port 1.p.1 plain =a
-        3 1 1 accept 1:1:0 1.p.1 0
-        4 1 1 rehome 1.p.1 1.a.2
-        5 1 1 not-here 1.p.1
-        6 1 2 take 1.p.1 0 1:1:0
-    ";
-    assert_follows(&rt, rt.alloc(), 1, 1, journal);
-}
-
+/// The checker lets one of four places make eight ports, its share, and no ninth.
 #[test]
 fn a_place_makes_its_share_of_the_ports(rt: HostRuntime) {
     let journal = "

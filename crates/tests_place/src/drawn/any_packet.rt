@@ -105,6 +105,7 @@ fn round<R: Abort>(rt: &R, alloc: Global, state: u64, tally: &mut Tally) {
     finish(rt, desk, inbox.hand());
 }
 
+/// A place that is served drawn packets works each off, or keeps it in hand.
 #[test]
 fn any_packet_is_worked_off_or_stays_in_hand(rt: HostRuntime) {
     let alloc = rt.alloc();

@@ -1,5 +1,5 @@
 use Rattle.law_world.proofs.Holding.{at-actors-site, not-here-means}
-use Rattle.law_world.proofs.names.not_here_means_not_held.Goals as goal
+use Rattle.law_world.proofs.holders.not_here_means_not_held.Goals as goal
 
 pub returns-clause-place : goal.returns-clause-place
 returns-clause-place c = at-actors-site
