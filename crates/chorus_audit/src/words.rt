@@ -116,7 +116,7 @@ impl<'a> Words<'a> {
         Ok((self.one()?, self.one()?, self.one()?, self.one()?))
     }
 
-    /// What each word says that is left of the printed line.
+    /// What each word that is left of the printed line says.
     pub(crate) fn each<A: Field>(&mut self, alloc: Global) -> Result<Vec<A>, Unread>
         ensures reads { MatchResult result
             (λ values. each A.said self.old ≡ Some values.items)

@@ -135,7 +135,7 @@ pub(crate) fn show<R: Wait>(writer: TableWriter, rt: &R) -> (TableWriter, Result
     writer.publish_as::<Shows, R>(rt)
 }
 
-/// Shows the board's readers what is pending at its writer, where that lies.
+/// Shows the board's readers what is pending at its writer, which stays where it lies.
 fn show_in<R: Wait>(writer: &mut TableWriter, rt: &R) -> Result<(), AllocError>
     requires { IsReady writer.old.desk.shown.value (drop writer.old.behind writer.old.log.items) }
     ensures shown { writer.new.desk.shown.value

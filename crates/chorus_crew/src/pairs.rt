@@ -8,7 +8,7 @@ use chorus_ui::{Layout, Ui};
 /// The most pairs of a crew.
 pub const PAIRS_LIMIT: usize = 64;
 
-/// Whether the pair, for a crew, has the name of a port and that of an actor of the layout.
+/// Whether a crew's pair has the name of a port and that of an actor of the layout.
 fn is_pair(layout: Layout, port: Ui, actor: Ui) -> bool
     ensures { result ≡ is_pair layout (port, actor) }
 {

@@ -61,7 +61,7 @@ fn make_and_send<R: Wait>(
     send_all(alloc, rt, nucleus, pass, first, commands)
 }
 
-/// Makes the crew's ports, one of each of the first sites.
+/// Makes the crew's ports, one on each of the first sites.
 fn make_ports<R: Wait>(rt: &R, nucleus: &Nucleus, pass: &mut Pass) -> Result<(), Halted>
     requires pass { IsPassOf nucleus.now pass.old }
     ensures pass { IsPassOf nucleus.now pass.new }

@@ -137,7 +137,7 @@ impl Ends for MemEnds {
 }
 
 impl Moves<()> for MemEnds {
-    /// Sends the packet in memory. It is refused for want of memory alone.
+    /// Sends the packet to the place, in memory. It is refused for want of memory alone.
     fn push(&mut self, _ground: &(), to: u16, packet: Packet) -> Result<(), (Packet, PushFault)>
         requires ranges { has_ranges packet ≡ true }
         ensures sent { OnOk result (Sends to packet (links self.old) (links self.new)) }
@@ -157,7 +157,7 @@ impl Moves<()> for MemEnds {
         }
     }
 
-    /// Receives the next packet that is left from the place. None comes exactly where nothing is left from the place.
+    /// Receives the first packet that is left from the place. None comes exactly where nothing is left from it.
     fn pop(&mut self, _ground: &(), from: u16) -> Option<Packet>
         ensures some { IfSome result (λ packet. Gets from packet self.old self.new) }
         ensures none { IfNone result ((from_place from self.old.left ≡ [])

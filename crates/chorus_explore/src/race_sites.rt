@@ -56,7 +56,7 @@ pub(crate) struct Progress {
 }
 
 impl Progress {
-    /// Notes of the script's progress that one command more was performed, of the script of this number, and answered
+    /// Notes in the progress of the script of this number that one command more was performed, and answered
     /// by the act.
     fn answered(&mut self, script: u64, act: &Act) -> Result<(), AllocError>
         requires { self.old.next < 2 ^ 32 }

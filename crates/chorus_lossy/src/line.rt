@@ -13,7 +13,7 @@ pub const CHUNK_BYTES: usize = 64;
 /// The window of both ends, in chunks.
 pub const WINDOW: u16 = 8;
 
-/// How many chunks the bytes are that are carried over the line.
+/// In how many chunks the bytes are carried over the line.
 pub(crate) fn chunk_count(bytes: &[u8]) -> u64
     ensures value { result ≡ chunk_count bytes.now }
     ensures small { result ≤ 2 ^ 57 }

@@ -20,7 +20,7 @@ pub fn merge(alloc: Global, journals: &[Vec<Entry>]) -> Result<Vec<Entry>, Alloc
     let in_order = merge_lent(alloc, journals)?;
     let mut entries = Vec::with_capacity(alloc, in_order.len())?;
     for entry in &in_order {
-        entries.push(entry.copied()?)?;
+        entries.push_reserved(entry.copied()?);
     }
     Ok(entries)
 }
@@ -51,7 +51,7 @@ fn borrow_all(alloc: Global, journal: &[Entry]) -> Result<Vec<&Entry>, AllocErro
 {
     let mut entries = Vec::with_capacity(alloc, journal.len())?;
     for entry in journal {
-        entries.push(entry)?;
+        entries.push_reserved(entry);
     }
     Ok(entries)
 }
@@ -73,10 +73,10 @@ fn merge_two<'a>(
         let one = first[i];
         let other = second[j];
         if comes_before(other, one) {
-            entries.push(other)?;
+            entries.push_reserved(other);
             j += 1;
         } else {
-            entries.push(one)?;
+            entries.push_reserved(one);
             i += 1;
         }
     }

@@ -7,7 +7,7 @@ ghost use Rattle.law_network.specs.Schedules.{may_give};
 use chorus_calls::Caller;
 use chorus_entry::{BODY_LIMIT, Command};
 
-/// Whether the command, which a seat is to give, posts a message.
+/// Whether a command that a seat is to give posts a message.
 fn is_post(command: &Command) -> bool
     ensures { result ≡ is_post command.now }
 {
@@ -17,7 +17,7 @@ fn is_post(command: &Command) -> bool
     )
 }
 
-/// Whether the body that the command, which a seat is to give, posts, if it has one, is within the limit.
+/// Whether the body of a command that a seat is to give, if it has one, is within the limit.
 fn has_body_in_limit(command: &Command) -> bool
     ensures { result ≡ has_body_in_limit command.now }
 {

@@ -6,10 +6,10 @@ ghost use Rattle.place_site.specs.Drafts.{meant};
 ghost use Rattle.chorus_nucleus.specs.Passes.{caller_of, IsPassOf};
 ghost use Rattle.chorus_nucleus.specs.Calls.{IsCall, IsOutcome};
 
-use crate::answers::{answer, note_worn};
+use crate::answers::answer;
 use crate::fault::CallFault;
 use crate::nucleus::Nucleus;
-use crate::pass::{Pass, take_caller};
+use crate::pass::{Pass, note_worn, take_caller};
 use chorus_entry::{Command, Dest, MsgId};
 use chorus_place::Reply;
 use law_bounds::are_within;

@@ -1,6 +1,6 @@
 //! The answers of calls, from those of their turns.
 ghost use Rattle.std.specs.Prelude.{◌≡◌};
-ghost use Rattle.chorus_nucleus.specs.Calls.{answered, worn_after};
+ghost use Rattle.chorus_nucleus.specs.Calls.{answered};
 ghost use Rattle.chorus_nucleus.specs.Reading.{answered_publish};
 
 use crate::fault::CallFault;
@@ -28,16 +28,5 @@ pub(crate) fn answer_publish(done: Result<Result<(), AllocError>, Busy>) -> Resu
         Ok(Ok(())) => Ok(()),
         Ok(Err(none)) => Err(CallFault::Memory(none)),
         Err(busy) => Err(CallFault::Busy { by: busy.by }),
-    }
-}
-
-/// The first worn clock of a pass of the nucleus, after one call more.
-pub(crate) fn note_worn<T>(worn: Option<u64>, done: &Result<T, CallFault>) -> Option<u64>
-    ensures { result ≡ worn_after worn done.now }
-{
-    match (worn, done) {
-        (Some(clock), _) => Some(clock),
-        (None, Err(CallFault::Worn { clock })) => Some(*clock),
-        (None, _) => None,
     }
 }

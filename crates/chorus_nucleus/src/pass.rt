@@ -1,8 +1,10 @@
 //! A caller's pass.
 ghost use Rattle.std.specs.Prelude.{◌≡◌, ◌≤◌, length};
 ghost use Rattle.law_network.specs.Calls.{first_actor};
+ghost use Rattle.chorus_nucleus.specs.Calls.{worn_after};
 ghost use Rattle.chorus_nucleus.specs.Passes.{known, caller_of, worn_by, readers_at};
 
+use crate::fault::CallFault;
 use crate::sight::Sight;
 use chorus_calls::Caller;
 use chorus_turn::Pass as Turner;
@@ -36,8 +38,19 @@ pub(crate) fn take_caller(pass: &mut Pass) -> Caller
     mem::replace(&mut pass.caller, Caller::new(0, first_actor(), 0))
 }
 
+/// The first worn clock of a pass of the nucleus, after one call more.
+pub(crate) fn note_worn<T>(worn: Option<u64>, done: &Result<T, CallFault>) -> Option<u64>
+    ensures { result ≡ worn_after worn done.now }
+{
+    match (worn, done) {
+        (Some(clock), _) => Some(clock),
+        (None, Err(CallFault::Worn { clock })) => Some(*clock),
+        (None, _) => None,
+    }
+}
+
 impl Pass {
-    /// The number of the pass of a nucleus, which is its caller's seat.
+    /// The number of this pass of the nucleus, which is its caller's seat.
     pub fn seat(&self) -> u32
         ensures { result ≡ (known self.now).seat }
     {
@@ -65,7 +78,7 @@ impl Pass {
         self.turner.made()
     }
 
-    /// How many messages the caller of the pass of a nucleus posted.
+    /// How many messages the caller of the pass posted at the nucleus.
     pub fn posts(&self) -> u32
         ensures { result ≡ (caller_of self.now).posts }
     {

@@ -8,10 +8,10 @@ ghost use Rattle.chorus_nucleus.specs.Passes.{layout_of, AreSites, IsCallerOf, I
 ghost use Rattle.chorus_nucleus.specs.Calls.{IsPump};
 ghost use Rattle.chorus_nucleus.specs.Reading.{IsPublish, PublishDone};
 
-use crate::answers::{answer, answer_publish, note_worn};
+use crate::answers::{answer, answer_publish};
 use crate::fault::CallFault;
 use crate::nucleus::Nucleus;
-use crate::pass::{Pass, take_caller};
+use crate::pass::{Pass, note_worn, take_caller};
 use chorus_board::BoardReader;
 use chorus_serve::Pump;
 use chorus_turn::Pass as Turner;

@@ -62,7 +62,7 @@ impl Lately {
     }
 }
 
-/// The bit of a place, from 1 to 64, where bits tell at which places a thread found something.
+/// The bit that stands for a place, from 1 to 64, in a set of places where a thread found something.
 pub(crate) fn bit(place: u16) -> u64 {
     1u64.wrapping_shl(u32::from(place))
 }

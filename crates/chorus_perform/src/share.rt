@@ -66,7 +66,7 @@ impl Share {
         }
     }
 
-    /// The range of places that a thread pumps whose commands were done when so many others had commands left.
+    /// The range of places of a thread whose commands were done when so many others had commands left.
     pub(crate) fn range(&self, left: u32) -> Stretch
         ensures { result.last ≤ self.now.places }
     {

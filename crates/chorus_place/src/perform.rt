@@ -19,7 +19,7 @@ use place_tables::Tables;
 use place_turns::{call, cancel, delete, make, move_port, retry, send_reply, send_to_port, take};
 use std::alloc::AllocError;
 
-/// Performs a caller's command at a place, by the turn that is for it. Want of memory changes nothing.
+/// Performs a caller's command at a place, by the turn for its kind. Want of memory changes nothing.
 pub(crate) fn perform(
     tables: &mut Tables,
     command: Command,

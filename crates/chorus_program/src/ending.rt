@@ -81,7 +81,7 @@ fn say_worn<K: Sink>(clock: u64, errors: &mut K) -> Result<(), Failed>
     write_all(errors, b"\n")
 }
 
-/// Writes the text and the number's decimal, of the program's fault line.
+/// Writes the text and the number's decimal, a part of the program's fault line.
 fn write_number<K: Sink>(text: &[u8], number: u64, errors: &mut K) -> Result<(), Failed>
     ensures ok { OnOk result
         (Appends (K.held errors.old) (K.held errors.new) (text.now ++ decimal number)) }

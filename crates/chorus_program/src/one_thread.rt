@@ -157,7 +157,7 @@ fn start(alloc: Global, sites: u16) -> Result<Sites, AllocError>
     Sites::start(alloc, Layout::new(sites, 1).unwrap())
 }
 
-/// The end of a program that ended with this status and closed nothing.
+/// The end of the program with this status, where nothing was closed.
 pub(crate) fn closed_nothing(status: Status) -> Finished
     ensures { result ≡ record { status = status; closed = None } }
 {

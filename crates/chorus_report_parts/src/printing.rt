@@ -124,7 +124,7 @@ fn print_part(alloc: Global, entries: &[&Entry]) -> Result<Vec<u8>, AllocError>
     Ok(text)
 }
 
-/// The parts of a report that threads printed, where each was printed.
+/// The parts of a report that threads printed, where there was memory for each.
 fn all_parts(
     alloc: Global,
     printed: Vec<Result<Vec<u8>, AllocError>>,

@@ -10,7 +10,7 @@
 #![tactic(auto)]
 
 mod linking;
-mod ruled;
+mod ruled_ends;
 
 pub use linking::end_link;
-pub use ruled::RuledEnds;
+pub use ruled_ends::RuledEnds;

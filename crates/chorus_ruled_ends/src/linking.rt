@@ -6,7 +6,7 @@ ghost use Rattle.chorus_link.specs.Ends.{packets_left};
 ghost use Rattle.chorus_ruled_ends.specs.Ruled.{end_to, end_from, sent_by, received_by};
 ghost use Rattle.chorus_ruled_ends.specs.Linked.{HaveSlots, AreLinked, LinksBelow, LinksOne, AreOfOneLink};
 
-use crate::ruled::RuledEnds;
+use crate::ruled_ends::RuledEnds;
 use chorus_frame::Frame;
 use chorus_link::{RecvEnd, Rest, SendEnd, link, names_tell_links, settle};
 use chorus_ui::{LINK_LIMIT, Layout};

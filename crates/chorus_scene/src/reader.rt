@@ -75,7 +75,7 @@ impl Reader {
         )
     }
 
-    /// Reads one line more of a scenario text, on from where the reader stands.
+    /// Reads one line more of a scenario text.
     #[tactic(auto, unfolding(crate::specs::Grammar::next))]
     pub(crate) fn line(&mut self, alloc: Global, bytes: &[u8]) -> Result<(), Stop>
         requires stands { Stands self.old }
@@ -256,7 +256,7 @@ impl Reader {
     }
 }
 
-/// The name of this kind that the reader of a scenario finds spelled in a field, if it is one.
+/// The name of this kind that a field of a scenario text spells, if it spells one.
 pub(crate) fn name_in(kind: Kind, text: &[u8]) -> Option<Ui>
     ensures value { result ≡ name_in kind text.now }
     ensures kind { IfSome result (λ u. u.kind ≡ kind) }

@@ -116,7 +116,7 @@ impl Setup {
         (ui.number() - 1) / stride(layout, ui.kind()) < u64::from(self.counts[at])
     }
 
-    /// The number that the place of this number gives next to what a setup line makes.
+    /// The number that the place of this number gives to the next port or group that a setup line makes.
     pub(crate) fn next_number(&self, layout: Layout, kind: Kind, site: u16, number: u64) -> u64
         requires tables { IsSetup layout self.now }
         requires site { (1 ≤ site) × (site ≤ SITES_LIMIT) }

@@ -73,7 +73,7 @@ pub struct Parts<E: Ends> {
     pub ends: E,
 }
 
-/// At a desk's end, the packet of a content that is opened, or else its parcel.
+/// The packet of a content that is opened, or else its parcel, for a desk that is taken apart.
 fn split<P>(content: Content<P>) -> (Option<Packet>, Option<P>)
     ensures packet { result.0 ≡ packet_of content }
     ensures parcel { result.1 ≡ parcel_of content }
@@ -84,7 +84,7 @@ fn split<P>(content: Content<P>) -> (Option<Packet>, Option<P>)
     }
 }
 
-/// At a desk's end, the packet in hand, where it is opened, or else its parcel; neither where nothing is in hand.
+/// The packet in hand at a desk that is taken apart, where it is opened, or else its parcel; neither where nothing is in hand.
 fn split_hand<P>(hand: Option<Held<P>>) -> (Option<Packet>, Option<P>)
     ensures packet { result.0 ≡ opened_in hand }
     ensures parcel { result.1 ≡ sealed_in hand }
@@ -95,7 +95,7 @@ fn split_hand<P>(hand: Option<Held<P>>) -> (Option<Packet>, Option<P>)
     }
 }
 
-/// At a desk's end, the place from which what is in hand came, if anything.
+/// The place from which what is in hand came, if anything, at a desk that is taken apart.
 fn came_from<P>(hand: &Option<Held<P>>) -> Option<u16>
     ensures { result ≡ from_in hand.now }
 {

@@ -17,7 +17,7 @@ use chorus_entry::Packet;
 use chorus_place::PlaceFault;
 use std::alloc::AllocError;
 
-/// Sends, as a place serves its links, what waits for other places, as far as the links have room.
+/// Sends what waits for other places, as far as the links that the place serves have room.
 fn send_out<G, E: Moves<G>>(desk: &mut Desk<E>, ground: &G) -> Result<(), AllocError>
     ensures sends { SendsOut (seen E.links E.packet desk.old) (seen E.links E.packet desk.new) }
     ensures emptied { OnOk result ((p : ℕ) → IsOther desk.old.place.layout desk.old.place.number p →
@@ -26,7 +26,7 @@ fn send_out<G, E: Moves<G>>(desk: &mut Desk<E>, ground: &G) -> Result<(), AllocE
     push_all(&mut desk.place, &mut desk.ends, ground)
 }
 
-/// Takes, as a place serves its links, a packet into the hand, where nothing is in hand.
+/// Takes a packet from the links that the place serves into the hand, where nothing is in hand.
 fn take_up<G, E: Moves<G>>(desk: &mut Desk<E>, ground: &G)
     ensures took { TakesUp (seen E.links E.packet desk.old) (seen E.links E.packet desk.new) }
     ensures none { desk.new.hand ≡ None → FindsNone (seen E.links E.packet desk.old)
@@ -43,7 +43,7 @@ fn take_up<G, E: Moves<G>>(desk: &mut Desk<E>, ground: &G)
     }
 }
 
-/// Takes, as a place serves its links, the packet in hand out of it, opened. Want of memory, the one error, leaves it in hand.
+/// Takes the packet in hand out of it, opened, as the place serves its links. Want of memory, the one error, leaves it in hand.
 fn lay_down<E: Ends>(desk: &mut Desk<E>) -> Result<Option<(u16, Packet)>, AllocError>
     ensures same { LaysDown (seen E.links E.packet desk.old) (seen E.links E.packet desk.new) }
     ensures packet { IfOk result (λ packet. packet ≡ in_hand E.packet desk.old.hand) }
@@ -88,7 +88,7 @@ fn take_turn<G, E: Moves<G>>(
     handle_packet(desk, caller, from, packet)
 }
 
-/// Sends what waits once more, at the end of a serve. Where there is no memory for a packet on its way, that waits on.
+/// Sends what waits once more, as the last step of [`serve`]. Where there is no memory for a packet on its way, that waits on.
 fn send_rest<G, E: Moves<G>>(desk: &mut Desk<E>, ground: &G)
     ensures { SendsOut (seen E.links E.packet desk.old) (seen E.links E.packet desk.new) }
 {

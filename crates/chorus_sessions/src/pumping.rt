@@ -50,7 +50,7 @@ pub(crate) fn pump_all<R: Wait>(rt: &R, nucleus: &Nucleus, pass: &mut Pass) -> S
     sums
 }
 
-/// Pumps all places, when the sessions have run, until each is idle, and as many packets were worked off as were put.
+/// When the sessions have run, pumps all places until each is idle, and as many packets were worked off as were put.
 #[tactic(auto, using(crate::proofs::Steps::calls))]
 pub(crate) fn settle<R: Wait>(rt: &R, nucleus: &Nucleus, pass: &mut Pass)
     requires { IsPassOf nucleus.now pass.old }

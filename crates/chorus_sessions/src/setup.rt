@@ -17,7 +17,7 @@ pub struct NewPort {
     pub capacity: u8,
 }
 
-/// Makes a port, before sessions come. True where it was made.
+/// Makes a port before sessions come. True where it was made.
 #[tactic(auto, using(crate::proofs::Steps::calls))]
 fn make_port(nucleus: &Nucleus, pass: &mut Pass, port: NewPort) -> bool
     requires { IsPassOf nucleus.now pass.old }
@@ -32,7 +32,7 @@ fn make_port(nucleus: &Nucleus, pass: &mut Pass, port: NewPort) -> bool
     }
 }
 
-/// Makes the ports, before sessions come, in their order, up to the first for which that fails. True where all were made.
+/// Makes the ports before sessions come, in their order, up to the first for which that fails. True where all were made.
 #[tactic(auto, using(crate::proofs::Steps::calls))]
 pub(crate) fn make_ports(nucleus: &Nucleus, pass: &mut Pass, ports: &[NewPort]) -> bool
     requires { IsPassOf nucleus.now pass.old }

@@ -137,7 +137,7 @@ fn news_of(act: &Act) -> Option<(Ui, Queue)>
     Some((*port, news))
 }
 
-/// What an entry says of a port's queue that puts the port there.
+/// What an entry that puts the port there says of its queue.
 fn put(spot: Spot) -> Queue
     ensures { result ≡ put spot }
 {

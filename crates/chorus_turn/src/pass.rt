@@ -30,7 +30,7 @@ pub struct Pass<R> {
 impl<R> Pass<R> {
     ghost use Rattle.chorus_turn.specs.Passes.{known};
 
-    /// The number of the pass that takes turns, from 0. Its entries have it as their seat.
+    /// The number of this pass of the turns, from 0. Its entries have it as their seat.
     pub fn seat(&self) -> u32
         ensures { result ≡ (known self.now).seat }
     {

@@ -133,7 +133,7 @@ fn commands_of(word: &str) -> Option<u32>
     }
 }
 
-/// The most events to be explored, a number of 32 bits whose decimal the program's word is. None exactly where there is none.
+/// The most events of an exploration, a number of 32 bits whose decimal the program's word is. None exactly where there is none.
 fn most_of(word: &str) -> Option<u32>
     ensures some { IfSome result (λ n. word.now ≡ decimal n) }
     ensures none { IsNone result → (n : ℕ) → n < 2 ^ 32 → ¬ (word.now ≡ decimal n) }

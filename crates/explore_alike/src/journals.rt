@@ -23,7 +23,7 @@ use explore_facts::{is_stale_at, verdict_at};
 use place_tables::Tables;
 use std::alloc::{AllocError, Global};
 
-/// The answer that a journal tells, without the numbers that only tell when, to be compared.
+/// The answer that a journal tells, as it is compared: without the numbers that only tell when.
 fn plain_answer(answer: Answer) -> Answer
     ensures { result ≡ plain_answer answer }
 {
@@ -144,7 +144,7 @@ fn tell_same(alloc: Global, id: MsgId, one: &[Entry], other: &[Entry]) -> Result
     Ok(copies)
 }
 
-/// Whether by their journals the group was made at both places, or at neither.
+/// Whether the group was made at both places, by their journals, or at neither.
 fn is_same_named(group: Ui, one: &Tables, other: &Tables) -> bool
     ensures { result ≡ true →
         is_group group one.now.journal.past ≡ is_group group other.now.journal.past }
@@ -154,7 +154,7 @@ fn is_same_named(group: Ui, one: &Tables, other: &Tables) -> bool
     mine.is_made(group) == theirs.is_made(group)
 }
 
-/// Whether by their journals the group has the same members at both places, in one order.
+/// Whether the group has the same members in one order at both places, by their journals.
 fn are_same_members(group: Ui, one: &Tables, other: &Tables) -> bool
     ensures { result ≡ true →
         members group one.now.journal.past ≡ members group other.now.journal.past }
@@ -165,7 +165,7 @@ fn are_same_members(group: Ui, one: &Tables, other: &Tables) -> bool
     same
 }
 
-/// Whether by their journals the group has the same rotation place at both places.
+/// Whether the group has the same rotation place at both places, by their journals.
 fn is_same_rotation(group: Ui, one: &Tables, other: &Tables) -> bool
     ensures { result ≡ true →
         rotation group one.now.journal.past ≡ rotation group other.now.journal.past }
@@ -175,7 +175,7 @@ fn is_same_rotation(group: Ui, one: &Tables, other: &Tables) -> bool
     mine.rotation(group) == theirs.rotation(group)
 }
 
-/// Whether by their journals the group is the same at both places.
+/// Whether the group is the same at both places, by their journals.
 fn have_same(group: Ui, one: &Tables, other: &Tables) -> bool
     ensures { result ≡ true → HaveSame group one.now.journal.past other.now.journal.past }
 {

@@ -92,7 +92,7 @@ fn push_depart(port: Ui, to: u16, actor: Ui, out: &mut Vec<u8>) -> Result<(), Al
     push_name(actor, out)
 }
 
-/// Appends the line of the fact that is the verdict of a message; none is `chosen`.
+/// Appends the line of a fact about a message: its verdict; none is `chosen`.
 pub(crate) fn push_judged(
     id: &MsgId,
     verdict: Option<Answer>,
@@ -133,7 +133,7 @@ fn push_plain_answer(answer: &Answer, out: &mut Vec<u8>) -> Result<(), AllocErro
     }
 }
 
-/// Appends the line of the fact that is a held port: its actor, and the messages that wait in it.
+/// Appends the line of a fact about a held port: its actor, and the messages that wait in it.
 pub(crate) fn push_held(port: &PortRecord, out: &mut Vec<u8>) -> Result<(), AllocError>
     ensures { OnOk result (out.new.items ≡ out.old.items ++ fact_line (port_fact port.now)) }
 {

@@ -105,7 +105,7 @@ impl Findings {
     }
 }
 
-/// A sum of the bytes of an outcome in which their places count, by which its finding is looked for.
+/// A sum of an outcome's bytes in which their places count, by which its finding is looked for.
 fn sum_of(text: &[u8]) -> u64
     ensures { result ≡ sum_from 0 text.now }
 {

@@ -279,7 +279,7 @@ fn push_step(mv: Move, text: &mut Vec<u8>) -> Result<(), AllocError>
     }
 }
 
-/// Appends the line that tells in the report whether a limit was met.
+/// Appends the report's line that tells whether a limit was met.
 fn push_limit(is_cut: bool, text: &mut Vec<u8>) -> Result<(), AllocError>
     ensures { OnOk result (text.new.items ≡ text.old.items ++ limit_line is_cut) }
 {

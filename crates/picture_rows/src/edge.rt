@@ -37,7 +37,7 @@ impl Edge {
     }
 }
 
-/// The number between two texts: a text of each row that names the right edge.
+/// A text that names the right edge in each row: the number between these two texts.
 fn text_round(alloc: Global, front: &[u8], number: u64, back: &[u8]) -> Result<Vec<u8>, AllocError>
     ensures { IfOk result
         (λ text. text.items ≡ (front.now ++ decimal number) ++ back.now) }

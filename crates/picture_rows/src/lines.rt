@@ -63,7 +63,7 @@ fn cut_line(text: &[u8]) -> (&[u8], bool, &[u8])
     (line, true, behind)
 }
 
-/// What stands before the first of these bytes in a picture's line of an entry, and what stands behind it.
+/// Cuts the line of an entry that is drawn: what stands before the first of these bytes, and what stands behind it.
 fn cut(mark: u8, text: &[u8]) -> (&[u8], &[u8])
     ensures { (word more : List ℕ) → lacks mark word ≡ true → text.now ≡ word ++ mark ∷ more →
         (result.0.now ≡ word) × (result.1.now ≡ more) }
@@ -92,7 +92,7 @@ fn begins_with(mark: u8, text: &[u8]) -> bool
     }
 }
 
-/// How many bytes stand before the first of these in a picture's line of an entry.
+/// How many bytes stand before the first of these in the line of an entry that is drawn.
 #[tactic(auto, using(picture_texts::proofs::Stretches::or_length))]
 fn place_of(mark: u8, text: &[u8]) -> usize
     ensures value { result ≡ position_or_len (λ c. c == mark) text.now }
@@ -101,7 +101,7 @@ fn place_of(mark: u8, text: &[u8]) -> usize
     found_in(mark, text).unwrap_or(text.len())
 }
 
-/// The place of the first of these bytes in a picture's line of an entry.
+/// The place of the first of these bytes in the line of an entry that is drawn.
 fn found_in(mark: u8, text: &[u8]) -> Option<usize>
     ensures { result ≡ position (λ c. c == mark) text.now }
 {

@@ -1,6 +1,7 @@
-//! The shape of an entry.
+//! The shape of an entry, and the kind of packet of an arrow.
 
 ghost use Rattle.std.specs.Prelude.{◌≡◌};
+ghost use Rattle.law_picture.specs.Causes.{packet_of};
 ghost use Rattle.picture_rows.specs.Marks.{mark_of, worked};
 ghost use Rattle.picture_rows.specs.Pieces.{mark_open, mark_use, packet_open, packet_title};
 
@@ -133,5 +134,18 @@ pub(crate) fn packet_title(kind: PacketKind) -> &'static str
         PacketKind::Transfer => "'><title>transfer, line ",
         PacketKind::Ask => "'><title>ask, line ",
         PacketKind::Report => "'><title>report, line ",
+    }
+}
+
+/// The kind of the packet that an entry with this act works off, for its arrow.
+pub(crate) fn packet_of(act: &Act) -> PacketKind
+    ensures { result ≡ packet_of act.now }
+{
+    match act {
+        Act::Arrive { .. } => PacketKind::Transfer,
+        Act::Told { .. } => PacketKind::Verdict,
+        Act::Heard { .. } => PacketKind::Report,
+        Act::Choose { .. } | Act::NoMember { .. } => PacketKind::Ask,
+        _ => PacketKind::Try,
     }
 }

@@ -4,7 +4,6 @@ ghost use Rattle.std.specs.Prelude.{◌≡◌, ◌≤◌, ◌<◌, ◌^◌, ◌+
 ghost use Rattle.std.specs.List.{list_any};
 ghost use Rattle.chorus_show.specs.Bounds.{AreWithin};
 ghost use Rattle.chorus_show.specs.Journal.{journal_lines};
-ghost use Rattle.law_picture.specs.Causes.{packet_of};
 ghost use Rattle.picture_rows.specs.declared.limits.TheConstants.{ENTRIES_LIMIT};
 ghost use Rattle.picture_rows.specs.Edge.{IsEdge, tick_at, tick_of};
 ghost use Rattle.picture_rows.specs.Lines.{IsLine};
@@ -19,7 +18,7 @@ use crate::column::{Column, column_at, x_at};
 use crate::edge::Edge;
 use crate::limits::ENTRIES_LIMIT;
 use crate::lines::{Line, next_line};
-use crate::mark::{mark_of, mark_open, mark_use, packet_open, packet_title};
+use crate::mark::{mark_of, mark_open, mark_use, packet_of, packet_open, packet_title};
 use crate::row_heights::row_y;
 use crate::tables::{Before, Tables};
 use chorus_entry::{Act, Entry};
@@ -333,19 +332,6 @@ fn stop_x(rightward: bool, column: &Column) -> u64
         column.x().saturating_sub(7)
     } else {
         column.x() + 7
-    }
-}
-
-/// The kind of the packet that an entry with this act works off, for its arrow.
-fn packet_of(act: &Act) -> PacketKind
-    ensures { result ≡ packet_of act.now }
-{
-    match act {
-        Act::Arrive { .. } => PacketKind::Transfer,
-        Act::Told { .. } => PacketKind::Verdict,
-        Act::Heard { .. } => PacketKind::Report,
-        Act::Choose { .. } | Act::NoMember { .. } => PacketKind::Ask,
-        _ => PacketKind::Try,
     }
 }
 

@@ -43,7 +43,7 @@ pub(crate) struct Before {
 }
 
 impl Tables {
-    /// The tables of no entry that is drawn.
+    /// The tables before any entry was drawn.
     pub fn new(alloc: Global) -> Tables
         ensures { AreTables result [] }
     {

@@ -17,6 +17,7 @@ ghost use Rattle.law_machine.specs.PlaceState.{newest};
 ghost use Rattle.place_state.specs.Going.{waits_for};
 ghost use Rattle.place_state.specs.Ports.{ids_of};
 ghost use Rattle.place_state.specs.Tables.{state};
+ghost use Rattle.place_tables.specs.AtOnce.{IsFree};
 
 use crate::tables::Tables;
 use chorus_entry::{Entry, Ids};
@@ -136,6 +137,26 @@ impl Tables {
         ensures in_layout { has_place self.now.layout result.0 ≡ true }
     {
         self.hints.newest(port)
+    }
+
+    /// The hop of the port, where a direct message to it is decided here at once: none waits for the port, and it is located here.
+    /// Else None.
+    pub fn hop_at_once(&self, port: Ui) -> Option<u64>
+        requires { port.kind ≡ Kind.Port }
+        ensures { IfSome result (λ hop. IsFree port hop (state self.now)) }
+    {
+        let key = Key { port, route: None };
+        if !self.waits.is_free(&key) {
+            return None;
+        }
+        if !self.layout.has_site(port.site()) {
+            return None;
+        }
+        let (to, hop) = self.hints.newest(port);
+        if to != self.number {
+            return None;
+        }
+        Some(hop)
     }
 
     /// The number of the place, one of the layout.

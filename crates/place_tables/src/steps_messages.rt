@@ -12,7 +12,7 @@ ghost use Rattle.place_state.specs.Plain.{is_plain};
 ghost use Rattle.place_state.specs.Steps.{posted, told_by, answered};
 ghost use Rattle.place_state.specs.Room.{KeepsRoom};
 ghost use Rattle.place_state.specs.Tables.{state, turn, IsSound};
-ghost use Rattle.place_tables.specs.AtOnce.{IsFree, decided};
+ghost use Rattle.place_tables.specs.AtOnce.{decided};
 ghost use Rattle.chorus_entry.specs.declared.packet.Cargo.TheVariants as Cargo;
 ghost use Rattle.place_state.specs.Going.{first_for, settles, reports_for};
 ghost use Rattle.place_tables.specs.Allowed.{MayAppend, AppendsOne, MayPost, MayTry, MayTell, MaySettle};
@@ -130,26 +130,6 @@ impl Tables {
         let act = Act::Post { message, dest };
         say(&mut self.journal, self.number, caller, act);
         caller.posted();
-    }
-
-    /// The hop of the port, where a direct message to it is decided here at once: none waits for the port, and it is located here.
-    /// Else None.
-    pub fn hop_at_once(&self, port: Ui) -> Option<u64>
-        requires { port.kind ≡ Kind.Port }
-        ensures { IfSome result (λ hop. IsFree port hop (state self.now)) }
-    {
-        let key = Key { port, route: None };
-        if !self.waits.is_free(&key) {
-            return None;
-        }
-        if !self.layout.has_site(port.site()) {
-            return None;
-        }
-        let (to, hop) = self.hints.newest(port);
-        if to != self.number {
-            return None;
-        }
-        Some(hop)
     }
 
     /// Decides on a message that was posted here to a port by whose hop `tried` it was tried here.

@@ -3,7 +3,7 @@ use Rattle.std.proofs.lemmas.List.{get_or_read}
 use Rattle.chorus_ruled_ends.specs.Ruled.{received_by, empties_by, name_from}
 use Rattle.chorus_ruled_ends.proofs.Lists.{within, if-some, if-none}
 use Rattle.chorus_ruled_ends.proofs.Moving.{counts-received, receives, receives-nothing, empty-rose}
-use Rattle.chorus_ruled_ends.proofs.ruled.receive_from.Goals as goal
+use Rattle.chorus_ruled_ends.proofs.ruled_ends.receive_from.Goals as goal
 
 pub index_mut-requires : goal.index_mut-requires
 index_mut-requires g c = let h = within c.args.into.now.items c.args.place c.requires in omega (arith, h)

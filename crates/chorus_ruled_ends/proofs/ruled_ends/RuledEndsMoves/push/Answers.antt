@@ -1,8 +1,8 @@
 use Rattle.std.proofs.Common.{◌≡◌, ℕ, subst, arith}
 use Rattle.chorus_io.specs.Count.{Rose}
 use Rattle.chorus_ruled_ends.specs.Ruled.{Ruled, end_to, fulls_by}
-use Rattle.chorus_ruled_ends.proofs.ruled.RuledEndsMoves.push.Goals.{in-Ok-send_to, in-Err-send_to}
-use Rattle.chorus_ruled_ends.proofs.ruled.RuledEndsMoves.push.Goals as goal
+use Rattle.chorus_ruled_ends.proofs.ruled_ends.RuledEndsMoves.push.Goals.{in-Ok-send_to, in-Err-send_to}
+use Rattle.chorus_ruled_ends.proofs.ruled_ends.RuledEndsMoves.push.Goals as goal
 
 pub returns-clause-full : goal.returns-clause-full
 returns-clause-full g c =

@@ -3,7 +3,7 @@ use Rattle.chorus_io.specs.Count.{Rose}
 use Rattle.chorus_ends.specs.Links.{Receives}
 use Rattle.chorus_ruled_ends.specs.Ruled.{Ruled, links, end_from, empties_by}
 use Rattle.chorus_ruled_ends.proofs.Lists.{if-some, if-none}
-use Rattle.chorus_ruled_ends.proofs.ruled.RuledEndsMoves.pop.Goals as goal
+use Rattle.chorus_ruled_ends.proofs.ruled_ends.RuledEndsMoves.pop.Goals as goal
 
 pub returns-clause-received : goal.returns-clause-received
 returns-clause-received g c =

@@ -3,7 +3,7 @@ use Rattle.std.proofs.lemmas.List.{get_or_read}
 use Rattle.chorus_ruled_ends.specs.Ruled.{sent_by, fulls_by, name_to}
 use Rattle.chorus_ruled_ends.proofs.Lists.{within, on-ok, on-err}
 use Rattle.chorus_ruled_ends.proofs.Moving.{counts-sent, sends, sends-nothing, full-rose}
-use Rattle.chorus_ruled_ends.proofs.ruled.send_to.Goals as goal
+use Rattle.chorus_ruled_ends.proofs.ruled_ends.send_to.Goals as goal
 
 pub index_mut-requires : goal.index_mut-requires
 index_mut-requires g c = let h = within c.args.out.now.items c.args.place c.requires in omega (arith, h)

@@ -1,7 +1,7 @@
 use Rattle.std.proofs.Common.{◌-◌, ◌+◌, ◌≤◌}
 use Rattle.chorus_ui.specs.declared.limits.TheConstants.{PLACES_LIMIT}
 use Rattle.chorus_ruled_ends.specs.Linked.{HaveSlots, AreLinkedBelow}
-use Rattle.chorus_ruled_ends.proofs.ruled.RuledEnds.all.Given as goal
+use Rattle.chorus_ruled_ends.proofs.ruled_ends.RuledEnds.all.Given as goal
 
 abbrev pub invariant-loop-from : goal.invariant-loop-from
 invariant-loop-from l = record {

@@ -1,7 +1,7 @@
 use Rattle.std.proofs.Common.{arith}
 use Rattle.chorus_ui.specs.Layout.{places}
 use Rattle.chorus_ruled_ends.proofs.Rows.{rows-more, rows-all}
-use Rattle.chorus_ruled_ends.proofs.ruled.RuledEnds.all.Goals as goal
+use Rattle.chorus_ruled_ends.proofs.ruled_ends.RuledEnds.all.Goals as goal
 
 pub loop-from-preserved : goal.loop-from-preserved
 loop-from-preserved c = record {

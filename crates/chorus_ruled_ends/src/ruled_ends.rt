@@ -30,7 +30,7 @@ impl Model for RuledEnds {
     ghost view = { λ e. record { out = e.out.items; into = e.into.items } };
 }
 
-/// Whether there is an end of a ruled link for the place in its slot.
+/// Whether the slot of the place has an end of a ruled link.
 fn is_linked<T>(slots: &Vec<Option<T>>, place: usize) -> bool
     ensures { result ≡ is_some (slice_index_or slots.now.items place None) }
 {
