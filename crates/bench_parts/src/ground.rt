@@ -62,7 +62,7 @@ pub(crate) fn enter(nucleus: &Nucleus, keeper: &mut Pass, site: u16) -> Option<P
 }
 
 /// Makes the next port of the site's first actor at the measured nucleus, with room for 64 messages.
-fn make(nucleus: &Nucleus, pass: &mut Pass, site: u16) -> Option<()>
+pub(crate) fn make(nucleus: &Nucleus, pass: &mut Pass, site: u16) -> Option<()>
     requires { IsPassOf nucleus.now pass.old }
     ensures { IsPassOf nucleus.now pass.new }
 {
@@ -105,35 +105,6 @@ pub(crate) fn pump<R: Wait>(rt: &R, nucleus: &Nucleus, pass: &mut Pass, place: u
         return None;
     }
     nucleus.pump(rt, pass, place).ok()
-}
-
-/// Sends so many messages to the port at the measured nucleus.
-fn send_all(nucleus: &Nucleus, pass: &mut Pass, port: Ui, messages: u32) -> Option<()>
-    requires { IsPassOf nucleus.now pass.old }
-    ensures { IsPassOf nucleus.now pass.new }
-{
-    for _ in 0..messages {
-        send(nucleus, pass, port)?;
-    }
-    Some(())
-}
-
-/// Makes the first ports of the site at the measured nucleus, so many, and sends so many messages to each.
-pub(crate) fn fill(
-    nucleus: &Nucleus,
-    pass: &mut Pass,
-    site: u16,
-    ports: u64,
-    messages: u32,
-) -> Option<()>
-    requires { IsPassOf nucleus.now pass.old }
-    ensures { IsPassOf nucleus.now pass.new }
-{
-    for number in 1..=ports {
-        make(nucleus, pass, site)?;
-        send_all(nucleus, pass, port_of(site, number)?, messages)?;
-    }
-    Some(())
 }
 
 /// Ends the measured nucleus. Each other pass was retired into this one: else it waits for them, so for ever.

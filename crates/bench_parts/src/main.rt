@@ -1,19 +1,16 @@
-//! What the checker, places, texts, an audit, a picture, calls of a nucleus, a receive on any of 32 ports, a crew and peers at a port cost.
+//! What the checker, places, texts, an audit, a picture, calls of a nucleus, and peers at a port cost.
 //!
 //! With no words it does a little of each and prints what came of it, which never varies. With a word it prints figures, each the best of
 //! some tries, in which what is compared takes turns: with `checker` entries a second of judging legal journals of three lengths, beside
 //! going over each once; with `place` nanoseconds of a round at two sites on one thread, with messages that wait and behind a long
 //! journal; with `scene` megabytes a second of reading and printing a scenario text, and commands a second of its replay; with `audit`
 //! megabytes a second of auditing what that prints, and of drawing a shorter journal; with `nucleus` nanoseconds of a send and a take and
-//! of an idle pump, beside a send and a take on four threads and at sites on one thread; with `choose` nanoseconds of a look at 32 empty
-//! ports; and with `crew` messages that crews of 1, 2 and 4 workers handle a second. With `peers` four senders and three movers work once
-//! at one port, and it prints what came of their messages and how many were sent and received a second.
+//! of an idle pump, beside a send and a take on four threads and at sites on one thread. With `peers` four senders and three movers work
+//! once at one port, and it prints what came of their messages and how many were sent and received a second.
 #![tactic(auto)]
 
 mod audits;
 mod checking;
-mod choosing;
-mod crews;
 mod ground;
 mod journal;
 mod nucleus;
@@ -22,7 +19,6 @@ mod peers;
 mod rounds;
 mod scenarios;
 mod sites;
-mod spinning;
 mod threads;
 mod two_sites;
 
@@ -52,12 +48,8 @@ fn print_figures<R: Threads + Sync + Wait + Clock + Print>(
         "scene" => scenarios::print_rates(rt, alloc),
         "audit" => audits::print_rates(rt, alloc),
         "nucleus" => nucleus::print_call_times(rt, alloc),
-        "choose" => nucleus::print_looks(rt, alloc),
-        "crew" => nucleus::print_crews(rt, alloc),
         "peers" => peers::print_rates(rt, alloc),
-        _ => println!(rt;
-            "the words are checker, place, scene, audit, nucleus, choose, crew and peers"
-        ),
+        _ => println!(rt; "the words are checker, place, scene, audit, nucleus and peers"),
     }
 }
 

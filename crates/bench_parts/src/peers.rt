@@ -9,7 +9,7 @@ ghost use Rattle.std.specs.Prelude.{◌≤◌};
 ghost use Rattle.std.specs.Thread.{IsSync};
 ghost use Rattle.chorus_nucleus.specs.Passes.{IsPassOf};
 
-use crate::ground::{actor_of, close, enter, fill, port_of, pump, send, start, take};
+use crate::ground::{actor_of, close, enter, make, port_of, pump, send, start, take};
 use chorus_entry::{Act, Entry};
 use chorus_nucleus::{Nucleus, Pass};
 use chorus_serve::Pump;
@@ -284,10 +284,10 @@ fn measure<R: Threads + Sync + Wait + Clock>(
         ended: AtomicU32::new(0),
     };
     let (nucleus, mut keeper) = start(alloc, rt, MOVERS + SENDERS).ok_or(AllocError)?;
-    let filled = fill(&nucleus, &mut keeper, 1, 1, 0);
+    let made = make(&nucleus, &mut keeper, 1);
     let (keeper, time) = time_all(rt, &nucleus, keeper, &shared);
     let closed = close(rt, nucleus, keeper).ok_or(AllocError)?;
-    filled.ok_or(AllocError)?;
+    made.ok_or(AllocError)?;
     if !shared.is_whole() {
         return Err(AllocError.into());
     }

@@ -25,8 +25,8 @@ use Rattle.chorus_scene.specs.Scene.{Scene}
 use Rattle.chorus_scene.specs.declared.limits.TheConstants.{STEPS_LIMIT}
 use Rattle.explore_report.specs.declared.explored.Explored.{Explored}
 use Rattle.explore_report.specs.Findings.{AreFindings, ComeTo, Counts}
-use Rattle.chorus_explore.specs.declared.searching.Class.{Class}
-use Rattle.chorus_explore.specs.declared.searching.Search.{Search}
+use Rattle.chorus_explore.specs.declared.level_search.Class.{Class}
+use Rattle.chorus_explore.specs.declared.level_search.Search.{Search}
 use Rattle.chorus_explore.specs.Classes.{AreClasses, StandFor, StandsFor, shown_by}
 use Rattle.chorus_explore.specs.Searches.{HasFound, IsLong, IsOver, IsWithin, Come}
 use Rattle.chorus_explore.specs.Stages.{comes, position}

@@ -11,7 +11,7 @@ use Rattle.law_explore.specs.Search.{IsHistory}
 use Rattle.law_explore.specs.Races.{Race, replaying}
 use Rattle.law_replay.specs.Shown.{race_of}
 use Rattle.chorus_scene.specs.Scene.{Scene}
-use Rattle.chorus_explore.specs.declared.searching.Class.{Class}
+use Rattle.chorus_explore.specs.declared.level_search.Class.{Class}
 use Rattle.chorus_explore.specs.Tellings.{tells_of}
 
 -- the history that a class shows, the latest move first

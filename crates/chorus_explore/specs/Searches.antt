@@ -15,7 +15,7 @@ use Rattle.chorus_scene.specs.Scene.{Scene}
 use Rattle.chorus_scene.specs.declared.limits.TheConstants.{STEPS_LIMIT}
 use Rattle.explore_report.specs.declared.explored.Explored.{Explored}
 use Rattle.explore_report.specs.Findings.{AreFindings, HaveSums}
-use Rattle.chorus_explore.specs.declared.searching.Search.{Search}
+use Rattle.chorus_explore.specs.declared.level_search.Search.{Search}
 use Rattle.chorus_explore.specs.declared.race_sites.Stage.{Stage}
 use Rattle.chorus_explore.specs.Classes.{AreClasses, StandFor}
 use Rattle.chorus_explore.specs.Stages.{AreSpare, IsReached, IsReachedIf, comes}

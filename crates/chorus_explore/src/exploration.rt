@@ -5,7 +5,7 @@ ghost use Rattle.chorus_explore.specs.declared.exploration.ExploreFault.TheVaria
 ghost use Rattle.chorus_explore.specs.Explored.{IsExploration};
 ghost use Rattle.chorus_explore.specs.Stages.{MayWear};
 
-use crate::searching::go_over;
+use crate::level_search::go_over;
 use chorus_place::PlaceFault;
 use chorus_scene::Scenario;
 use explore_report::report;

@@ -5,7 +5,7 @@
 //! schedule that shows it. [`explore_scenario`] gives that text. A layer above rests on `specs/Ends.antt` and
 //! `specs/Explored.antt`, which say what is promised, and on `specs/Shown.antt`: what is shown is seen in a replay.
 //!
-//! Begin with `exploration` and with `searching`, the search: level by level, with the histories put together that come
+//! Begin with `exploration` and with `level_search`: level by level, with the histories put together that come
 //! alike, as `specs/Searches.antt` says. `race_sites` performs the moves, and `sums` picks whom to compare; `explore_alike`
 //! compares. What the moves came to `explore_facts` tells, and `explore_report` counts it and writes it down.
 #![tactic(auto)]
@@ -13,8 +13,8 @@
 mod exploration;
 mod exploring;
 mod laws;
+mod level_search;
 mod race_sites;
-mod searching;
 mod sums;
 
 pub use exploration::{ExploreFault, explore_scenario};

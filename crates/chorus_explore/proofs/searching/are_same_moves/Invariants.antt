@@ -1,6 +1,0 @@
-use Rattle.explore_alike.proofs.Lists.{SameBelow}
-use Rattle.chorus_explore.proofs.searching.are_same_moves.Given as goal
-
--- those passed are the same
-abbrev pub invariant-loop-index : goal.invariant-loop-index
-invariant-loop-index l = SameBelow l.one l.other l.index
