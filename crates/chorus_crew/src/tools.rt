@@ -23,7 +23,7 @@ pub(crate) struct Tools {
     pub(crate) slots: Vec<Option<Done>>,
 }
 
-/// Takes memory for each worker's room for all jobs.
+/// One of a crew's tools: for each worker, memory for all jobs that it may do.
 fn rooms_for(alloc: Global, count: usize, workers: usize) -> Result<Vec<Vec<Done>>, AllocError>
     ensures { IfOk result (λ r. (length r.items ≡ workers)
         × All (λ (room : Vec Done). room.items ≡ []) r.items) }
@@ -35,7 +35,7 @@ fn rooms_for(alloc: Global, count: usize, workers: usize) -> Result<Vec<Vec<Done
     Ok(rooms)
 }
 
-/// Takes memory for a slot for each job.
+/// One of a crew's tools: a slot for each job.
 fn slots_for(alloc: Global, count: usize) -> Result<Vec<Option<Done>>, AllocError>
     ensures { IfOk result (λ r. (length r.items ≡ count)
         × All (λ (s : Option Done). s ≡ None) r.items) }
@@ -47,7 +47,7 @@ fn slots_for(alloc: Global, count: usize) -> Result<Vec<Option<Done>>, AllocErro
     Ok(slots)
 }
 
-/// Takes memory for so many jobs and workers.
+/// The tools of a crew of so many workers for so many jobs.
 pub(crate) fn tools_for(alloc: Global, count: usize, workers: usize) -> Result<Tools, AllocError>
     ensures { IfOk result (AreTools count workers) }
 {

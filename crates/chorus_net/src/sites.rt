@@ -75,7 +75,7 @@ impl Sites {
         Ok((closed, sites))
     }
 
-    /// The sites of these places, which have just started, when seat 0 has come.
+    /// The sites that `start` and `restart` give: of these places, which have just started, when seat 0 has come.
     fn of(layout: Layout, places: Vec<Place>, callers: Vec<Caller>) -> Result<Sites, AllocError>
         requires shape { IsLayout layout }
         requires started { HaveStarted layout 1 places.items }

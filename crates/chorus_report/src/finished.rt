@@ -1,5 +1,8 @@
 //! How a top call ended.
 
+ghost use Rattle.std.specs.Prelude.{◌≡◌, None};
+ghost use Rattle.chorus_report.specs.Output.{GivesUp};
+
 use chorus_net::Closed;
 use chorus_show::Status;
 
@@ -11,4 +14,15 @@ pub struct Finished {
     /// What was left when the sites, or the places of threads, were closed: of a replay, a load and a run Some exactly at `Done`,
     /// `WriteFault` and `Worn`. Of what plays no scenario and no load it is None.
     pub closed: Option<Closed>,
+}
+
+/// A call that ended with this status, and closed nothing.
+pub fn gave_up(status: Status) -> Finished
+    requires { GivesUp status }
+    ensures { result ≡ record { status = status; closed = None } }
+{
+    Finished {
+        status,
+        closed: None,
+    }
 }

@@ -17,8 +17,8 @@ mod reading;
 mod setup;
 mod writing;
 
-pub use finished::Finished;
+pub use finished::{Finished, gave_up};
 pub use played::Played;
 pub use reading::read_scenario;
 pub use setup::setup_command;
-pub use writing::{Text, finish, gave_up, print};
+pub use writing::{Text, finish, print};

@@ -1,15 +1,15 @@
 //! The end of a call that played something: what was closed is written.
 
-ghost use Rattle.std.specs.Prelude.{◌≡◌, ◌⊎◌, ℕ, Some, None, Ok, IfOk, IfSome};
+ghost use Rattle.std.specs.Prelude.{◌≡◌, ◌⊎◌, ℕ, Some, Ok, IfOk, IfSome};
 ghost use Rattle.chorus_io.specs.Count.{Rose};
 ghost use Rattle.chorus_show.specs.Bounds.{AreWithin};
 ghost use Rattle.chorus_show.specs.Report.{report};
 ghost use Rattle.chorus_report.specs.Headline.{AreWithinUnless};
 ghost use Rattle.chorus_net.specs.Closing.{merge_of};
-ghost use Rattle.chorus_report.specs.Output.{EndsUnread, GivesUp, HandsOut, Writes, summary, text_as};
+ghost use Rattle.chorus_report.specs.Output.{EndsUnread, HandsOut, Writes, summary, text_as};
 ghost use Rattle.chorus_report.specs.Ending.{EndsWriting, HasWorn, IsFinished};
 
-use crate::finished::Finished;
+use crate::finished::{Finished, gave_up};
 use crate::played::Played;
 use chorus_io::{Sink, write_all};
 use chorus_merge::merge_lent;
@@ -57,17 +57,6 @@ pub fn finish<K: Sink>(
         return gave_up(Status::Memory);
     };
     print(sink, &bytes, played.closed)
-}
-
-/// A call that ended with this status, and closed nothing.
-pub fn gave_up(status: Status) -> Finished
-    requires { GivesUp status }
-    ensures { result ≡ record { status = status; closed = None } }
-{
-    Finished {
-        status,
-        closed: None,
-    }
 }
 
 /// The text, report or summary, that is written of what was closed.

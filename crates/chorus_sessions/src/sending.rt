@@ -37,7 +37,7 @@ fn meaning(answer: Answer) -> Told {
     }
 }
 
-/// Asks for the verdict of a message that a session posted. None where there is none yet.
+/// Asks, for a session that sends, for the verdict of its message. None where there is none yet.
 #[tactic(auto, using(crate::proofs::Steps::calls))]
 fn ask(nucleus: &Nucleus, pass: &mut Pass, id: MsgId) -> Option<Told>
     requires { IsPassOf nucleus.now pass.old }

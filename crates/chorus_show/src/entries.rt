@@ -18,6 +18,7 @@ impl Field for Dest {
 
     ghost fits = { IsDest };
 
+    /// Appends where a message goes as fields of an entry's line.
     fn push(&self, out: &mut Vec<u8>) -> Result<(), AllocError> {
         match self {
             Dest::Port(port) => push_with_one("port", port, out),
@@ -35,6 +36,7 @@ impl Field for Tag {
 
     ghost fits = { IsTag };
 
+    /// Appends what a message is as fields of an entry's line.
     fn push(&self, out: &mut Vec<u8>) -> Result<(), AllocError> {
         match self {
             Tag::Plain => push_word("plain", out),
@@ -51,6 +53,7 @@ impl Field for Answer {
 
     ghost fits = { IsAnswer };
 
+    /// Appends an answer as fields of an entry's line.
     fn push(&self, out: &mut Vec<u8>) -> Result<(), AllocError> {
         match self {
             Answer::Accepted { pos } => push_with_one("accepted", pos, out),
@@ -75,6 +78,7 @@ impl Field for Act {
 
     ghost fits = { IsActWithin };
 
+    /// Appends the act as fields of an entry's line.
     fn push(&self, out: &mut Vec<u8>) -> Result<(), AllocError> {
         match self {
             Act::Make {

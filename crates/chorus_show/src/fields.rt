@@ -30,6 +30,7 @@ impl Field for u8 {
 
     ghost fits = { Is8 };
 
+    /// Appends the number as a field of a line, in decimal.
     fn push(&self, out: &mut Vec<u8>) -> Result<(), AllocError> {
         push_decimal(u64::from(*self), out)
     }
@@ -40,6 +41,7 @@ impl Field for u16 {
 
     ghost fits = { Is16 };
 
+    /// Appends the number as a field of a line, in decimal.
     fn push(&self, out: &mut Vec<u8>) -> Result<(), AllocError> {
         push_decimal(u64::from(*self), out)
     }
@@ -50,6 +52,7 @@ impl Field for u32 {
 
     ghost fits = { Is32 };
 
+    /// Appends the number as a field of a line, in decimal.
     fn push(&self, out: &mut Vec<u8>) -> Result<(), AllocError> {
         push_decimal(u64::from(*self), out)
     }
@@ -60,6 +63,7 @@ impl Field for u64 {
 
     ghost fits = { Is64 };
 
+    /// Appends the number as a field of a line, in decimal.
     fn push(&self, out: &mut Vec<u8>) -> Result<(), AllocError> {
         push_decimal(*self, out)
     }
@@ -70,6 +74,7 @@ impl Field for u128 {
 
     ghost fits = { λ n. Unit {0} };
 
+    /// Appends the number as a field of a line of the summary, in decimal.
     fn push(&self, out: &mut Vec<u8>) -> Result<(), AllocError> {
         let mut buffer = itoa::Buffer::new();
         out.extend_from_slice(buffer.format(*self).as_bytes())
@@ -81,6 +86,7 @@ impl Field for Ui {
 
     ghost fits = { IsName };
 
+    /// Appends the name as a field of a line.
     fn push(&self, out: &mut Vec<u8>) -> Result<(), AllocError> {
         // That it is a name is told by its bits.
         let _bits = self.bits();
@@ -95,6 +101,7 @@ impl Field for MsgId {
 
     ghost fits = { IsId };
 
+    /// Appends the id of a message as a field of a line.
     fn push(&self, out: &mut Vec<u8>) -> Result<(), AllocError> {
         push_decimal(u64::from(self.seat), out)?;
         out.push(b':')?;
@@ -111,6 +118,7 @@ impl Field for Body {
 
     ghost fits = { IsBody };
 
+    /// Appends the bytes of a body as a field of a line, behind `=`.
     fn push(&self, out: &mut Vec<u8>) -> Result<(), AllocError> {
         out.push(b'=')?;
         push_escaped(self.bytes(), out)

@@ -85,8 +85,8 @@ fn is_same_queue(one: &Waits, other: &Waits, key: &Key) -> bool
     true
 }
 
-/// Whether this key stands there in the table of waits.
-fn is_key_at(waits: &Waits, at: usize, key: &Key) -> bool
+/// Whether the other table of waits has this same key there.
+fn is_same_key_at(waits: &Waits, at: usize, key: &Key) -> bool
     ensures { result ≡ true → key_at waits.now at ≡ Some key.now }
 {
     match waits.key_at(at) {
@@ -95,7 +95,7 @@ fn is_key_at(waits: &Waits, at: usize, key: &Key) -> bool
     }
 }
 
-/// Whether no key stands there in the table of waits.
+/// Whether the other table of waits has no key there.
 fn is_past(waits: &Waits, at: usize) -> bool
     ensures { result ≡ true → key_at waits.now at ≡ None }
 {
@@ -111,7 +111,7 @@ pub(crate) fn are_same_waits(one: &Waits, other: &Waits) -> bool
             let past = is_past(other, at);
             return past;
         };
-        if !is_key_at(other, at, &key) {
+        if !is_same_key_at(other, at, &key) {
             return false;
         }
         if !is_same_queue(one, other, &key) {

@@ -123,7 +123,7 @@ fn push_each(
     Ok(())
 }
 
-/// The verdict of the message that the journals of all places tell, for its line. None where it has none.
+/// What a schedule came to for a message: its verdict, which the journals of all places tell. None where it has none.
 fn verdict_among(id: MsgId, journals: &[Vec<Entry>]) -> Option<Answer>
     ensures { result ≡ verdict_among id (journals_of journals.now) }
 {
@@ -156,7 +156,7 @@ fn verdict_by(id: MsgId, act: &Act) -> Option<Answer>
     }
 }
 
-/// Whether one of the journals of all places tells that the message was told `stale`.
+/// Whether a schedule came to `stale` for a message: one of the journals of all places tells that.
 fn is_stale_among(id: MsgId, journals: &[Vec<Entry>]) -> bool
     ensures { result ≡ is_stale_among id (journals_of journals.now) }
 {

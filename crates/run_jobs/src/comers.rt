@@ -37,6 +37,11 @@ pub struct Comer {
     pub role: Role,
 }
 
+/// The actor of this number on the site, for somebody who comes; None where there is no such name.
+pub(crate) fn actor(site: u16, number: u64) -> Option<Ui> {
+    Ui::new(site, Kind::Actor, number)
+}
+
 /// Somebody who came to this queue.
 #[derive(Clone, Copy)]
 pub(crate) struct Party {

@@ -16,8 +16,8 @@ use chorus_checker::World;
 use chorus_entry::Act;
 use chorus_merge::merge;
 use chorus_sessions::Hand;
-use chorus_ui::{Kind, Layout, Ui};
-use comers::{Comer, Role};
+use chorus_ui::Layout;
+use comers::{Comer, Role, actor};
 use running::{Finished, run_queue};
 use std::alloc::{AllocError, Global};
 use std::process::ExitCode;
@@ -36,11 +36,6 @@ fn main(rt: HostRuntime) -> ExitCode {
         Some(()) => ExitCode::SUCCESS,
         None => ExitCode::FAILURE,
     }
-}
-
-/// The actor of this number on the site, who will be a worker or a client; None where there is no such name.
-fn actor(site: u16, number: u64) -> Option<Ui> {
-    Ui::new(site, Kind::Actor, number)
 }
 
 /// Runs a job queue with two workers on sites 1 and 2 and three clients; None where a name or the run fails.

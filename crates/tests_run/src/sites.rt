@@ -31,7 +31,7 @@ fn restart(rt: &impl Abort, alloc: Global, sites: Sites) -> (Closed, Sites) {
     sites.restart(alloc).ok().expect(rt, "memory")
 }
 
-/// The first of the words of a row's call, and what stands behind it.
+/// The first word of a call of the sites in a row, and what stands behind it.
 fn first(text: &str) -> (&str, &str) {
     match text.split_once(' ') {
         Some(parts) => parts,
@@ -39,19 +39,19 @@ fn first(text: &str) -> (&str, &str) {
     }
 }
 
-/// The number of the seat in a row's call, and what stands behind it.
+/// The number of the seat in a call of the sites in a row, and what stands behind it.
 fn first_seat<'a>(rt: &impl Abort, text: &'a str) -> (u32, &'a str) {
     let (word, rest) = first(text);
     let seat: u32 = word.parse().ok().expect(rt, "a seat");
     (seat, rest)
 }
 
-/// The number of a place, read from a word of a row's call.
+/// The number of a place, read from a word of a call of the sites in a row.
 fn place(rt: &impl Abort, text: &str) -> u16 {
     text.parse().ok().expect(rt, "a place")
 }
 
-/// The name of this kind that a word of a row's call spells.
+/// The name of this kind that a word of a call of the sites in a row spells.
 fn name(rt: &impl Abort, text: &str, kind: Kind) -> Ui
     ensures { result.kind ≡ kind }
 {
@@ -60,14 +60,14 @@ fn name(rt: &impl Abort, text: &str, kind: Kind) -> Ui
     name
 }
 
-/// The actor that a word of a row's call names.
+/// The actor that a word of a call of the sites in a row names.
 fn actor(rt: &impl Abort, text: &str) -> Ui
     ensures { result.kind ≡ Kind.Actor }
 {
     name(rt, text, Kind::Actor)
 }
 
-/// The port that a word of a row's call names.
+/// The port that a word of a call of the sites in a row names.
 fn port(rt: &impl Abort, text: &str) -> Ui
     ensures { result.kind ≡ Kind.Port }
 {
@@ -135,7 +135,7 @@ fn make<S: SiteCalls>(rt: &impl Abort, sites: &mut S, words: &str) {
     sites.act(rt, seat, Command::Make { actor, capacity });
 }
 
-/// The body of a row's send, which is the text behind the port in its line.
+/// The body of the line `send` of a row on the sites: the text behind the port.
 fn body_of(rt: &impl Abort, alloc: Global, text: &str) -> Body {
     assert!(rt; text.len() <= 4096);
     Body::new(alloc, text.as_bytes()).expect(rt, "memory")

@@ -1,14 +1,14 @@
 //! Tests of texts, by public items alone, in a crate of their own, so that no crate below is proved twice.
 //!
 //! - `chorus_scene` and `chorus_print`: scenarios that were worked out by hand from the grammar, with what each is read and
-//!   printed as (`scenarios`), or the line and the reason for which it is refused (`refused`, `counts`).
+//!   printed as (`scenarios`), or the line and the reason for which it is refused (`refused`, `limits`).
 //! - `chorus_show`: the line of each act (`lines`), journals with their summaries and the lines of faults (`journals`).
 #![tactic(auto)]
 
 #[cfg(test)]
-mod counts;
-#[cfg(test)]
 mod journals;
+#[cfg(test)]
+mod limits;
 #[cfg(test)]
 mod lines;
 #[cfg(test)]

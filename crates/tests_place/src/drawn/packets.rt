@@ -154,7 +154,7 @@ impl<'a, R: Abort> Draws<'a, R> {
     }
 }
 
-/// Whether the act is a try, or else a post to a group, for a drawn packet to answer.
+/// Whether the act is one that a drawn packet can answer: a try, for a verdict, or else a post to a group, for a report.
 fn is_wanted(act: &Act, of_try: bool) -> bool {
     match act {
         Act::Try { .. } => of_try,

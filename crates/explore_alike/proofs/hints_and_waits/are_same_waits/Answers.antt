@@ -15,7 +15,7 @@ loop-at-preserved c =
     let rows = c.args.one.now in
     let others = c.args.other.now in
     let here = sym c.key_at.ensures ∙ c.in-Some.is in
-    let keys = below-next (λ i. key_at rows i ≡ key_at others i) c.loop-at.at c.loop-at.invariant.0 (here ∙ sym (c.if-not-is_key_at.ensures refl)) in
+    let keys = below-next (λ i. key_at rows i ≡ key_at others i) c.loop-at.at c.loop-at.invariant.0 (here ∙ sym (c.if-not-is_same_key_at.ensures refl)) in
     let same = below-next (λ i. (k : Key) → key_at rows i ≡ Some k → queue rows k ≡ queue others k) c.loop-at.at c.loop-at.invariant.1
     (λ k f. subst (λ (l : Key). queue rows l ≡ queue others l) (from-some c.in-Some.key k (sym here ∙ f)) (c.if-not-is_same_queue.ensures refl)) in
     ((λ i l. keys i (omega (arith, l))), (λ i l. same i (omega (arith, l))))
