@@ -88,7 +88,8 @@ fn send_once<R: Wait>(rt: &R, nucleus: &Nucleus, pass: &mut Pass, port: Ui, body
     }
 }
 
-/// Sends a session's message until the port accepted it. False where it was refused for good.
+/// Sends a session's message until the port accepted it, and moves packets in between: a port that is under way has to come. False
+/// where it was refused for good.
 #[tactic(auto, using(crate::proofs::Steps::calls))]
 fn send_until_told<R: Wait>(
     rt: &R,
@@ -105,7 +106,10 @@ fn send_until_told<R: Wait>(
     for _ in rt.forever() {
         match send_once(rt, nucleus, pass, port, body) {
             Told::Accepted => return true,
-            Told::Again => thread::yield_now(),
+            Told::Again => {
+                pump_all(rt, nucleus, pass);
+                thread::yield_now();
+            }
             Told::Refused => return false,
         }
     }
