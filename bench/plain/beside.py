@@ -1,7 +1,7 @@
 #!/usr/bin/env python3
 """Runs two programs in turns, and says how they compare.
 
-    bench/plain/beside.py [--rounds N] [--input FILE] [--rates|--figures] -- PROGRAM WORD .. -- OTHER WORD ..
+    bench/plain/beside.py [--rounds N] [--input FILE] [--rates] -- PROGRAM WORD .. -- OTHER WORD ..
 
 Each round runs the one and then the other, with FILE as standard input where one is named. Of each program the best and the
 median of the rounds are printed: the time by the clock on the wall, the time of the processor (user and system), and the most
@@ -11,9 +11,6 @@ and print the same.
 With --rates what is compared is what the programs print themselves: lines `N of N entries taken (SUM): X million entries/s, ..`,
 of which all but the rates have to be the same. The rates are printed for each number of entries, the ratio being the first
 program's rate over the other's. The load of the machine is printed at the beginning and at the end.
-
-With --figures they print lines `NAME: FIGURE UNIT`, of which a unit `../s` is a rate, where the most is best; else the least is. Each line
-of the first program is printed beside the other's line of that name. What they print need not be the same else.
 
 For example, with bench_parts and chorus built, and checker and load compiled as their heads say:
 
@@ -30,7 +27,6 @@ import sys
 import tempfile
 import time
 
-FIGURE = re.compile(r"(.+): ([\d.]+) (\S+)")
 RATE = re.compile(r"(\d+) of (\d+) entries taken \((\d+)\): ([\d.]+) million entries/s")
 
 
@@ -42,7 +38,10 @@ def run(words, source):
         if child == 0:
             os.dup2(os.open(source, os.O_RDONLY), 0)
             os.dup2(sink.fileno(), 1)
-            os.execvp(words[0], words)
+            try:
+                os.execvp(words[0], words)
+            except OSError:
+                os._exit(127)
         _, status, usage = os.wait4(child, 0)
         seconds = time.monotonic() - start
         if status != 0:
@@ -62,12 +61,6 @@ def rates_in(text):
     return rates
 
 
-def figures_in(text):
-    """The figure of each line, by its name and unit."""
-    found = [FIGURE.fullmatch(line) for line in text.splitlines()]
-    return {(one[1], one[3]): float(one[2]) for one in found if one}
-
-
 def compare(name, figures, best, places):
     """Prints the best and the median of both programs' figures, and the ratios of the first to the other."""
     ours, other = figures
@@ -83,7 +76,7 @@ def load():
 
 
 def main(words):
-    rounds, source, rates, figures = 5, os.devnull, False, False
+    rounds, source, rates = 5, os.devnull, False
     while words and words[0] != "--":
         word = words.pop(0)
         if word == "--rounds":
@@ -92,8 +85,6 @@ def main(words):
             source = words.pop(0)
         elif word == "--rates":
             rates = True
-        elif word == "--figures":
-            figures = True
         else:
             sys.exit(__doc__)
     if words.count("--") != 2:
@@ -106,16 +97,9 @@ def main(words):
     for _ in range(rounds):
         for program, done in zip(programs, runs):
             done.append(run(program, source))
-    if figures:
-        told = [[figures_in(one[3]) for one in done] for done in runs]
-        for name, unit in told[0][0]:
-            if (name, unit) in told[1][0]:
-                print(f"{name}, {unit}")
-                both = [[one[name, unit] for one in done] for done in told]
-                compare("", both, max if unit.endswith("/s") else min, 1)
-    elif rates:
+    if rates:
         told = [[rates_in(one[3]) for one in done] for done in runs]
-        if len({tuple(one) for done in told for one in done}) != 1:
+        if len({tuple(one) for done in told for one in done}) != 1 or not told[0][0]:
             sys.exit("the programs judged other journals")
         for many, total in told[0][0]:
             figures = [[one[many, total] for one in done] for done in told]

@@ -1,6 +1,6 @@
 //! A plain Rust program that plays the words `load FIRST COMMANDS` of `chorus`, for a measure of the proved program
 //! (docs/inside/BENCHMARKS.md, "Plain programs"). Written from docs/FORMATS.md and the place machine in
-//! `crates/law_network/specs`, with the hash map of std and its hasher, and no `unsafe`. Each place has its clock, its
+//! `crates/law_machine/specs`, with the hash map of std and its hasher, and no `unsafe`. Each place has its clock, its
 //! journal, port records, locations, groups, messages that wait, and a queue of packets for each other place; packets are
 //! delivered one by one. At the end the journals are merged, of which no entry is copied, and the summary is printed.
 //!
