@@ -12,7 +12,7 @@ ghost use Rattle.chorus_nucleus.specs.Calls.{IsCall, IsOutcome};
 ghost use Rattle.chorus_sessions.specs.Sessions.{pass_of, taken_by, takes, Asks, IsSession, TakesOne};
 
 use crate::hand::PortMessage;
-use crate::pumping::pump_all;
+use crate::pumping::{Pumped, pump_all};
 use crate::session::Session;
 use chorus_entry::{Command, Dest, MsgId};
 use chorus_nucleus::{CallFault, Nucleus, Pass};
@@ -101,14 +101,14 @@ impl Session {
         }
     }
 
-    /// Pumps each place once, so that packets go on. A place that another session has is left to that one.
+    /// Pumps each place once, so that packets go on, and tells whether one did. A place that another session has is left to that one.
     #[tactic(auto, using(crate::proofs::Steps::sessions))]
-    pub fn pump<R: Wait>(&mut self, rt: &R, nucleus: &Nucleus)
+    pub fn pump<R: Wait>(&mut self, rt: &R, nucleus: &Nucleus) -> Pumped
         requires { IsSession nucleus.now self.old }
         ensures session { IsSession nucleus.now self.new }
         ensures kept { taken_by self.new ≡ taken_by self.old }
     {
-        pump_all(rt, nucleus, &mut self.pass);
+        pump_all(rt, nucleus, &mut self.pass)
     }
 }
 

@@ -22,6 +22,7 @@ mod setup;
 pub use behaviour::Behaviour;
 pub use fault::SessionsFault;
 pub use hand::{Hand, PortMessage};
+pub use pumping::Pumped;
 pub use running::{Finished, run_sessions};
 pub use session::Session;
 pub use setup::NewPort;

@@ -5,16 +5,43 @@ ghost use Rattle.chorus_ui.specs.Layout.{has_place};
 ghost use Rattle.chorus_nucleus.specs.Passes.{layout_of, IsPassOf};
 ghost use Rattle.chorus_sessions.specs.Sessions.{Goes};
 
-use chorus_nucleus::{Nucleus, Pass};
+use chorus_nucleus::{CallFault, Nucleus, Pass};
 use chorus_serve::Pump;
 use std::sync::Wait;
 
-/// What pumps of all places found: whether each was idle, and how many packets were put and worked off.
+/// What a round of pumps came to, one of each place.
+#[derive(Clone, Copy, Debug, PartialEq, Eq)]
+pub enum Pumped {
+    /// A packet was worked off.
+    Served,
+    /// No packet was: none was there, or another session had its place.
+    Nothing,
+    /// No packet was, and a place can go no further: there is no memory, or its clock is worn.
+    Stuck,
+}
+
+/// What pumps of all places found: whether one worked off a packet, whether one was refused for good, whether each was idle, and how
+/// many packets were put and worked off.
 #[derive(Clone, Copy)]
-pub(crate) struct Sums {
-    pub(crate) idle: bool,
-    pub(crate) put: u64,
-    pub(crate) worked: u64,
+struct Sums {
+    served: bool,
+    refused: bool,
+    idle: bool,
+    put: u64,
+    worked: u64,
+}
+
+impl Sums {
+    /// What the round came to.
+    fn told(self) -> Pumped {
+        if self.served {
+            Pumped::Served
+        } else if self.refused {
+            Pumped::Stuck
+        } else {
+            Pumped::Nothing
+        }
+    }
 }
 
 /// Pumps the place for sessions, and counts what it told.
@@ -29,17 +56,27 @@ fn visit<R: Wait>(rt: &R, nucleus: &Nucleus, pass: &mut Pass, place: u16, sums: 
             sums.put = sums.put.saturating_add(put);
             sums.worked = sums.worked.saturating_add(worked);
         }
-        _ => sums.idle = false,
+        Ok(Pump::Served { .. }) => {
+            sums.idle = false;
+            sums.served = true;
+        }
+        Err(CallFault::Busy { .. }) => sums.idle = false,
+        Err(_) => {
+            sums.idle = false;
+            sums.refused = true;
+        }
     }
 }
 
-/// Pumps each place once, for sessions. A place that another pass has is left to that one.
+/// Pumps each place once, for sessions, and adds up what that found. A place that another pass has is left to that one.
 #[tactic(auto, using(crate::proofs::Steps::calls))]
-pub(crate) fn pump_all<R: Wait>(rt: &R, nucleus: &Nucleus, pass: &mut Pass) -> Sums
+fn sum_all<R: Wait>(rt: &R, nucleus: &Nucleus, pass: &mut Pass) -> Sums
     requires { IsPassOf nucleus.now pass.old }
     ensures { Goes nucleus.now pass.old pass.new }
 {
     let mut sums = Sums {
+        served: false,
+        refused: false,
         idle: true,
         put: 0,
         worked: 0,
@@ -50,16 +87,30 @@ pub(crate) fn pump_all<R: Wait>(rt: &R, nucleus: &Nucleus, pass: &mut Pass) -> S
     sums
 }
 
-/// When the sessions have run, pumps all places until each is idle, and as many packets were worked off as were put.
+/// Pumps each place once, for sessions. A place that another pass has is left to that one.
 #[tactic(auto, using(crate::proofs::Steps::calls))]
-pub(crate) fn settle<R: Wait>(rt: &R, nucleus: &Nucleus, pass: &mut Pass)
+pub(crate) fn pump_all<R: Wait>(rt: &R, nucleus: &Nucleus, pass: &mut Pass) -> Pumped
+    requires { IsPassOf nucleus.now pass.old }
+    ensures { Goes nucleus.now pass.old pass.new }
+{
+    sum_all(rt, nucleus, pass).told()
+}
+
+/// When the sessions have run, pumps all places until each is idle, and as many packets were worked off as were put, or until a clock
+/// is worn. False where memory is wanting for that.
+#[tactic(auto, using(crate::proofs::Steps::calls))]
+pub(crate) fn settle<R: Wait>(rt: &R, nucleus: &Nucleus, pass: &mut Pass) -> bool
     requires { IsPassOf nucleus.now pass.old }
     ensures { Goes nucleus.now pass.old pass.new }
 {
     for _ in rt.forever() {
-        let sums = pump_all(rt, nucleus, pass);
+        let sums = sum_all(rt, nucleus, pass);
         if pass.worn().is_some() || sums.idle && sums.put == sums.worked {
-            return;
+            return true;
+        }
+        if sums.told() == Pumped::Stuck {
+            return false;
         }
     }
+    true
 }

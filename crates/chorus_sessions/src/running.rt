@@ -106,7 +106,8 @@ fn finish_one<B: Behaviour>(
     }
 }
 
-/// The sessions run, packets are moved until none is left, and the sessions finish; all this where all came.
+/// The sessions run, packets are moved until none is left, and the sessions finish; all this where all came. Where memory is wanting to
+/// move them, no session finishes.
 fn run_to_the_end<R: Threads + Wait + Sync, B: Behaviour>(
     rt: &R,
     nucleus: &Nucleus,
@@ -114,18 +115,21 @@ fn run_to_the_end<R: Threads + Wait + Sync, B: Behaviour>(
     behaviours: &[B],
     sessions: &mut [Session],
     all_came: bool,
-)
+) -> Result<(), SessionsFault>
     requires pass { IsPassOf nucleus.now pass.old }
     requires sessions { AreSessions nucleus.now sessions.old }
     ensures pass { Goes nucleus.now pass.old pass.new }
     ensures sessions { HaveRun nucleus.now sessions.old sessions.new }
 {
     if !all_came {
-        return;
+        return Err(SessionsFault::NoSession);
     }
     run_all(rt, nucleus, behaviours, sessions);
-    settle(rt, nucleus, pass);
+    if !settle(rt, nucleus, pass) {
+        return Err(SessionsFault::Memory(AllocError));
+    }
     finish_all(rt, nucleus, behaviours, sessions);
+    Ok(())
 }
 
 /// The ports are made; the sessions come, run, and go. Gives what they have in hand.
@@ -143,17 +147,13 @@ fn play<R: Threads + Wait + Sync, B: Behaviour>(
     ensures back { HasAllBack pass.new }
     ensures kept { IfOk result (λ hands. AreKept (known pass.new).notes hands.items) }
 {
-    if !make_ports(nucleus, pass, ports) {
-        return Err(SessionsFault::NoPort);
-    }
+    make_ports(nucleus, pass, ports)?;
     let mut hands = Vec::with_capacity(alloc, behaviours.len())?;
     let mut sessions = Vec::with_capacity(alloc, behaviours.len())?;
     let all_came = enter_all(alloc, nucleus, pass, behaviours, &mut sessions);
-    run_to_the_end(rt, nucleus, pass, behaviours, &mut sessions, all_came);
+    let ran = run_to_the_end(rt, nucleus, pass, behaviours, &mut sessions, all_came);
     retire_all(nucleus, pass, sessions, &mut hands);
-    if !all_came {
-        return Err(SessionsFault::NoSession);
-    }
+    ran?;
     Ok(hands)
 }
 
@@ -174,7 +174,8 @@ fn close<R: Wait>(rt: &R, nucleus: Nucleus, pass: Pass) -> Result<Closed, AllocE
 /// the sessions come, each in its actor, and run, each in a thread of its own where one can be made. When all have run,
 /// packets are moved until none is left, and they finish, one after the other. Then the nucleus is closed.
 ///
-/// `NoPort` comes where a port was not made, `NoSession` where a session did not come; no behaviour has run then.
+/// `NoPort` comes where a port was not made, `NoSession` where a session did not come; no behaviour has run then. `Memory` comes also
+/// behind behaviours that ran, where no packet can be moved for want of it.
 pub fn run_sessions<R: Threads + Wait + Sync, B: Behaviour>(
     alloc: Global,
     rt: &R,

@@ -6,7 +6,7 @@ ghost use Rattle.chorus_ui.specs.NameKind.{is_port};
 ghost use Rattle.chorus_nucleus.specs.Passes.{IsPassOf};
 ghost use Rattle.chorus_sessions.specs.Sessions.{taken_by, Goes, IsSession};
 
-use crate::pumping::pump_all;
+use crate::pumping::{Pumped, pump_all};
 use crate::session::Session;
 use chorus_entry::{Answer, Dest, MsgId};
 use chorus_nucleus::{CallFault, Nucleus, Pass};
@@ -24,9 +24,12 @@ enum Told {
     /// It was not accepted, and never will be: it overtook the port, or another pass had the place. It may be sent
     /// again.
     Again,
-    /// It was not accepted: there is no room, no such port, or no memory.
+    /// It was not accepted: there is no room, no such port, or no memory; or no more can be learned of it.
     Refused,
 }
+
+/// How many rounds of pumps may work off nothing before the verdict is asked for again: another session may have brought it.
+const ROUNDS: u32 = 64;
 
 /// What a verdict means for a session that sends.
 fn meaning(answer: Answer) -> Told {
@@ -51,17 +54,36 @@ fn ask(nucleus: &Nucleus, pass: &mut Pass, id: MsgId) -> Option<Told>
     }
 }
 
-/// Waits for the verdict of a message that a session posted, and moves packets meanwhile.
+/// Asks for the verdict where it may have come: behind rounds of pumps of which the last worked off something, or at each 64th.
+#[tactic(auto, using(crate::proofs::Steps::calls))]
+fn ask_behind(nucleus: &Nucleus, pass: &mut Pass, id: MsgId, idle: u32) -> Option<Told>
+    requires { IsPassOf nucleus.now pass.old }
+    ensures { Goes nucleus.now pass.old pass.new }
+{
+    if idle % ROUNDS == 0 {
+        ask(nucleus, pass, id)
+    } else {
+        None
+    }
+}
+
+/// Waits for the verdict of a message that a session posted, and moves packets meanwhile. Refused also where no packet can be moved any
+/// more.
 #[tactic(auto, using(crate::proofs::Steps::calls))]
 fn verdict<R: Wait>(rt: &R, nucleus: &Nucleus, pass: &mut Pass, id: MsgId) -> Told
     requires { IsPassOf nucleus.now pass.old }
     ensures { Goes nucleus.now pass.old pass.new }
 {
+    let mut idle: u32 = 0;
     for _ in rt.forever() {
-        if let Some(told) = ask(nucleus, pass, id) {
+        if let Some(told) = ask_behind(nucleus, pass, id, idle) {
             return told;
         }
-        pump_all(rt, nucleus, pass);
+        idle = match pump_all(rt, nucleus, pass) {
+            Pumped::Served => 0,
+            Pumped::Nothing => idle.wrapping_add(1),
+            Pumped::Stuck => return Told::Refused,
+        };
         thread::yield_now();
     }
     Told::Refused
@@ -107,7 +129,9 @@ fn send_until_told<R: Wait>(
         match send_once(rt, nucleus, pass, port, body) {
             Told::Accepted => return true,
             Told::Again => {
-                pump_all(rt, nucleus, pass);
+                if pump_all(rt, nucleus, pass) == Pumped::Stuck {
+                    return false;
+                }
                 thread::yield_now();
             }
             Told::Refused => return false,
@@ -119,8 +143,8 @@ fn send_until_told<R: Wait>(
 impl Session {
     /// Sends a message with this body, at most 4,096 bytes, to the port, and waits for its verdict; meanwhile it moves
     /// packets. A message that overtook the port is sent again, as another message, and so is one that found its place
-    /// busy. True where the port accepted it; false where it was refused, or there is no memory, or the session has
-    /// posted 2^32 - 1 messages.
+    /// busy. True where the port accepted it; false where it was refused, or the session has posted 2^32 - 1 messages, or there is no
+    /// memory or a clock is worn: what was posted before that may still be accepted.
     #[tactic(auto, using(crate::proofs::Steps::sessions))]
     pub fn deliver<R: Wait>(&mut self, rt: &R, nucleus: &Nucleus, port: Ui, body: &[u8]) -> bool
         requires session { IsSession nucleus.now self.old }

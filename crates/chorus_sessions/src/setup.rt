@@ -3,7 +3,8 @@
 ghost use Rattle.chorus_nucleus.specs.Passes.{IsPassOf};
 ghost use Rattle.chorus_sessions.specs.Sessions.{Goes};
 
-use chorus_nucleus::{Nucleus, Pass};
+use crate::fault::SessionsFault;
+use chorus_nucleus::{CallFault, Nucleus, Pass};
 use chorus_place::Reply;
 use chorus_ui::Ui;
 
@@ -17,31 +18,34 @@ pub struct NewPort {
     pub capacity: u8,
 }
 
-/// Makes a port before sessions come. True where it was made.
+/// Makes a port before sessions come.
 #[tactic(auto, using(crate::proofs::Steps::calls))]
-fn make_port(nucleus: &Nucleus, pass: &mut Pass, port: NewPort) -> bool
+fn make_port(nucleus: &Nucleus, pass: &mut Pass, port: NewPort) -> Result<(), SessionsFault>
     requires { IsPassOf nucleus.now pass.old }
     ensures { Goes nucleus.now pass.old pass.new }
 {
     if !port.actor.is_actor() || port.capacity == 0 || port.capacity > 64 {
-        return false;
+        return Err(SessionsFault::NoPort);
     }
     match nucleus.make_port(pass, port.actor, port.capacity) {
-        Ok(Reply::Made(_)) => true,
-        _ => false,
+        Ok(Reply::Made(_)) => Ok(()),
+        Err(CallFault::Memory(none)) => Err(SessionsFault::Memory(none)),
+        _ => Err(SessionsFault::NoPort),
     }
 }
 
-/// Makes the ports before sessions come, in their order, up to the first for which that fails. True where all were made.
+/// Makes the ports before sessions come, in their order, up to the first for which that fails.
 #[tactic(auto, using(crate::proofs::Steps::calls))]
-pub(crate) fn make_ports(nucleus: &Nucleus, pass: &mut Pass, ports: &[NewPort]) -> bool
+pub(crate) fn make_ports(
+    nucleus: &Nucleus,
+    pass: &mut Pass,
+    ports: &[NewPort],
+) -> Result<(), SessionsFault>
     requires { IsPassOf nucleus.now pass.old }
     ensures { Goes nucleus.now pass.old pass.new }
 {
     for index in 0..ports.len() {
-        if !make_port(nucleus, pass, ports[index]) {
-            return false;
-        }
+        make_port(nucleus, pass, ports[index])?;
     }
-    true
+    Ok(())
 }

@@ -2,7 +2,10 @@ use Rattle.chorus_sessions.proofs.Steps.{goes-then}
 use Rattle.chorus_sessions.proofs.pumping.settle.Goals as goal
 
 pub loop-preserved : goal.loop-preserved
-loop-preserved g c = goes-then c.args.nucleus.now c.args.pass.now c.loop.pass c.pump_all-sums.new.pass c.loop.invariant c.pump_all-sums.ensures
+loop-preserved g c = goes-then c.args.nucleus.now c.args.pass.now c.loop.pass c.sum_all-sums.new.pass c.loop.invariant c.sum_all-sums.ensures
 
 pub returns-then-is_some : goal.returns-then-is_some
-returns-then-is_some g c = goes-then c.args.nucleus.now c.args.pass.now c.loop.pass c.pump_all-sums.new.pass c.loop.invariant c.pump_all-sums.ensures
+returns-then-is_some g c = goes-then c.args.nucleus.now c.args.pass.now c.loop.pass c.sum_all-sums.new.pass c.loop.invariant c.sum_all-sums.ensures
+
+pub returns-then-eq : goal.returns-then-eq
+returns-then-eq g c = goes-then c.args.nucleus.now c.args.pass.now c.loop.pass c.sum_all-sums.new.pass c.loop.invariant c.sum_all-sums.ensures

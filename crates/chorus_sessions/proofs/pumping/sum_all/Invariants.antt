@@ -1,5 +1,5 @@
 use Rattle.chorus_sessions.specs.Sessions.{Goes}
-use Rattle.chorus_sessions.proofs.pumping.pump_all.Given as goal
+use Rattle.chorus_sessions.proofs.pumping.sum_all.Given as goal
 
 abbrev pub invariant-loop-index : goal.invariant-loop-index
 invariant-loop-index g l = Goes l.nucleus l.fn.pass l.pass
