@@ -1,9 +1,10 @@
 //! The nucleus of running threads: the places of a layout, at which callers take turns.
 //!
-//! Each call is one turn at one place, tries that place once and waits for nobody. The layer above rests on this: a call that answers
-//! has appended the entries that the place machine gives, of which the first is the command's own act; a pump works off one packet as
-//! that machine does, or adds nothing; a publish or a locate tells where ports are without an entry; and what a closed nucleus hands
-//! out is the network of every schedule of its turns, so that the merge of its journals is a run of the world.
+//! Each call is one turn at one place and tries that place once. A command waits for nobody; `pump`, `publish` and `close` may wait. The
+//! layer above rests on this: a call that answers has appended the entries that the place machine gives, of which the first is the
+//! command's own act; a pump works off one packet as that machine does, or adds nothing; a publish or a locate tells where ports are
+//! without an entry; and what a closed nucleus hands out is the network of every schedule of its turns, so that the merge of its
+//! journals is a run of the world.
 //!
 //! Begin with `pass` and `specs/Passes.antt` (what a nucleus and its passes keep), then `nucleus`, `acting` (a command's turn) and
 //! `specs/Calls.antt`, `close` and `specs/Closing.antt`.

@@ -12,6 +12,7 @@ use crate::stopped::Halted;
 use chorus_nucleus::{CallFault, Nucleus, Pass};
 use chorus_serve::Pump;
 use std::sync::Wait;
+use std::thread;
 
 /// Pumps all places until nothing is left: those with work several times each, and then a round that finds each idle. The pass gives
 /// no command. At Ok it has seen each place, and they worked off as many packets as they put; where other threads go on meanwhile,
@@ -109,6 +110,7 @@ fn visit<R: Wait>(
         }
         Err(CallFault::Busy { .. }) => {
             sums.idle = false;
+            thread::yield_now();
             Ok(())
         }
         Err(_) => {

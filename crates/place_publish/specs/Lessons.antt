@@ -23,6 +23,12 @@ lesson_told (Some q) (A.Stale to hop) = Some (record { ui = q; place = to; hop =
 lesson_told (Some q) (A.Elsewhere to hop) = Some (record { ui = q; place = to; hop = hop })
 lesson_told _ _ = None
 
+-- the place and the hop that an answer names as newer
+abbrev pub newer : Answer → Option (ℕ × ℕ)
+newer (A.Stale to hop) = Some (to, hop)
+newer (A.Elsewhere to hop) = Some (to, hop)
+newer _ = None
+
 -- what an act at the place p teaches
 abbrev pub lesson_in : ℕ → List Entry → Act → Option Lesson
 lesson_in p here (Arrive q hop) = Some (record { ui = q; place = p; hop = hop })

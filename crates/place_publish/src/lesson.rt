@@ -1,7 +1,7 @@
 //! What an entry teaches of a port.
 ghost use Rattle.std.specs.Prelude.{◌≡◌, ◌≤◌, length, reverse, take};
 ghost use Rattle.chorus_world.specs.Places.{find_sent, sent, sent_by, sent_to, copies};
-ghost use Rattle.place_publish.specs.Lessons.{lesson, lesson_told, port_in};
+ghost use Rattle.place_publish.specs.Lessons.{lesson, lesson_told, newer, port_in};
 
 use chorus_entry::{Act, Answer, Dest, Entry, MsgId};
 use chorus_ui::Ui;
@@ -92,18 +92,30 @@ pub(crate) fn lesson_of(entry: &Entry, journal: &[Entry], upto: usize) -> Option
             place: *to,
             hop: *hop,
         }),
-        Act::Told { id, answer } => told(port_of(journal, upto, *id), *answer),
+        Act::Told { id, answer } => told(journal, upto, *id, *answer),
         _ => None,
     }
 }
 
-/// What the answer that an entry tells teaches about the port.
-fn told(port: Option<Ui>, answer: Answer) -> Option<Lesson>
-    ensures { result ≡ lesson_told port answer }
+/// The place and the hop that an answer names as newer, where it names one.
+fn newer(answer: Answer) -> Option<(u16, u64)>
+    ensures { result ≡ newer answer }
 {
-    match (port, answer) {
-        (Some(ui), Answer::Stale { to, hop }) => Some(Lesson { ui, place: to, hop }),
-        (Some(ui), Answer::Elsewhere { to, hop }) => Some(Lesson { ui, place: to, hop }),
+    match answer {
+        Answer::Stale { to, hop } => Some((to, hop)),
+        Answer::Elsewhere { to, hop } => Some((to, hop)),
         _ => None,
     }
+}
+
+/// What the answer on the message teaches, which the first `upto` entries sent. The message is looked for only where the answer
+/// names a newer place.
+fn told(journal: &[Entry], upto: usize, id: MsgId, answer: Answer) -> Option<Lesson>
+    requires { upto ≤ length journal.now }
+    ensures { result ≡
+        lesson_told (port_in (find_sent id (sent (reverse (take upto journal.now))))) answer }
+{
+    let (place, hop) = newer(answer)?;
+    let ui = port_of(journal, upto, id)?;
+    Some(Lesson { ui, place, hop })
 }
