@@ -87,7 +87,7 @@ impl<P: Drop> RecvEnd<P> {
     ghost use Rattle.chorus_link.specs.Lists.{StartsWith};
     ghost use Rattle.chorus_link.specs.Ends.{packets_got, known_put, empties_of, recv_link, GetsNothing, WasEmpty};
 
-    /// Gets the first packet that was put and not got, in one operation of the queue.
+    /// Gets the first packet that was put and not got, in one operation of the queue, behind a look whether it is empty.
     ///
     /// None comes only where the link was empty at a step of this call, and `empties` rises by one. Such a call that finds the
     /// count at 2^64 - 1 tries again until there is a packet, so the count stands still there. Takes no memory.
@@ -102,6 +102,11 @@ impl<P: Drop> RecvEnd<P> {
             (λ _. empties_of self.new ≡ empties_of self.old) }
         ensures empty { IfNone result (WasEmpty (packets_got self.old) (known_put self.old)) }
     {
+        // An empty link shows that in fewer loads than a pop takes to find it so.
+        if self.empties < u64::MAX && self.queue.is_empty_as::<Gets>(&mut self.pass) {
+            self.empties += 1;
+            return None;
+        }
         for _ in rt.forever() {
             match self.queue.pop_as::<Gets, R>(rt, &mut self.pass) {
                 Some(packet) => return Some(packet),
