@@ -6,9 +6,11 @@ ghost use Rattle.chorus_frame.specs.Reading.{packet_of};
 ghost use Rattle.chorus_frame.specs.Spelling.{frame};
 ghost use Rattle.chorus_frame.specs.Held.{IsHeld};
 
+mod answer;
 mod cargo;
 mod message;
 mod number;
+mod record;
 
 use chorus_entry::Packet;
 use std::alloc::AllocError;

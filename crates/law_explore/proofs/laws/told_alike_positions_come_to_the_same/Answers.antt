@@ -1,0 +1,11 @@
+use Rattle.law_explore.proofs.Merging.{told-alike-go-on, told-alike-is-an-equivalence, places-tell-the-same}
+use Rattle.law_explore.proofs.laws.told_alike_positions_come_to_the_same.Goals as goal
+
+pub returns-clause-on : goal.returns-clause-on
+returns-clause-on c = told-alike-go-on
+
+pub returns-clause-equivalence : goal.returns-clause-equivalence
+returns-clause-equivalence c = told-alike-is-an-equivalence
+
+pub returns-clause-places : goal.returns-clause-places
+returns-clause-places c = places-tell-the-same

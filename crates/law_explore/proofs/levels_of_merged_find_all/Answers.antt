@@ -1,5 +1,0 @@
-use Rattle.law_explore.proofs.Found.{levels-of-merged-find-all}
-use Rattle.law_explore.proofs.levels_of_merged_find_all.Goals as goal
-
-pub returns : goal.returns
-returns c = levels-of-merged-find-all

@@ -1,0 +1,24 @@
+//! The laws of what is replayed.
+
+ghost use Rattle.law_replay.specs.Shown.{ScheduleShowsItsOutcome};
+ghost use Rattle.law_replay.specs.Version.{ClosesTheSame, MergesTheSame, SaysTheSame, WritesTheSame};
+
+/// A text of version 1 is replayed the same on 8 and on 16 sites of one place each.
+///
+/// The grammar accepts it on both or on neither, and it says the same but for the layout (`says`). Whatever numbers of rounds the drains
+/// take, the events that carry out the tasks of its replay leave journals with one merge (`merges`). Two replays in that order wear the same
+/// clock or none, and what they close has one merge, and so one text (`closes`). So it is with what `replay` promises of two sources that
+/// give the same bytes (`writes`), so what it writes where both are done is the same. The law makes no call.
+pub fn version_one_stays()
+    ensures says { SaysTheSame }
+    ensures merges { MergesTheSame }
+    ensures closes { ClosesTheSame }
+    ensures writes { WritesTheSame }
+{}
+
+/// Put into the scenario in place of its schedule, the moves of a history that leaves no command and no packet are replayed to the network
+/// that they come to: its journals, its packets and its ports are those that are closed. Each step performs the next command of its
+/// script, each delivery finds its packet, no command is left behind the schedule, and the last drain finds nothing.
+pub fn a_schedule_shows_its_outcome()
+    ensures { ScheduleShowsItsOutcome }
+{}
