@@ -12,8 +12,8 @@ use Rattle.chorus_serve.specs.Desks.{DeskOf}
 use Rattle.chorus_turn.specs.Passes as turns
 use Rattle.chorus_net.specs.declared.closed.Closed.{Closed}
 use Rattle.chorus_net.specs.Closing.{closed_journals, journals_in, ports_of, HasParts, IsOfTurns}
-use Rattle.place_leavings.specs.declared.apart.Parted.{Parted}
-use Rattle.place_leavings.specs.Apart.{places_in, goes_from, IsParted}
+use Rattle.chorus_nucleus.specs.declared.apart.Parted.{Parted}
+use Rattle.chorus_nucleus.specs.Apart.{places_in, goes_from, IsParted}
 use Rattle.chorus_nucleus.specs.declared.nucleus.Nucleus.{Nucleus}
 use Rattle.chorus_nucleus.specs.declared.pass.Pass.{Pass}
 use Rattle.chorus_nucleus.specs.declared.close.Shut.{Shut}

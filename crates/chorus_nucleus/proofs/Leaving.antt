@@ -27,8 +27,8 @@ use Rattle.law_closing.specs.Places.{PlaceNote}
 use Rattle.place_site.specs.declared.site.Site.{Site}
 use Rattle.place_site.specs.Sites.{entries, Fits, IsPublished}
 use Rattle.place_site.proofs.Turning.{fits-as}
-use Rattle.place_leavings.specs.Apart.{desk_at, ends_of, ends_at, held_from, waits_to, left_between, goes_from, AreDesksLinked}
-use Rattle.place_leavings.proofs.Pairs.{link-same}
+use Rattle.chorus_nucleus.specs.Apart.{desk_at, ends_of, ends_at, held_from, waits_to, left_between, goes_from, AreDesksLinked}
+use Rattle.chorus_nucleus.proofs.Pairs.{link-same}
 use Rattle.chorus_nucleus.specs.Passes.{AreSites, IsCallerOf, mark_of, out_name, into_name}
 use Rattle.chorus_nucleus.specs.Leaving.{desks_in, state_of, sent_of, waits_of, received_of, held_of, AreSettled, left_at, AreClosedWith}
 use Rattle.chorus_nucleus.proofs.Called.{desk_of}

@@ -22,7 +22,7 @@ use Rattle.law_closing.proofs.Actors.{closed-places-in}
 use Rattle.chorus_net.specs.declared.closed.Closed.{Closed}
 use Rattle.chorus_net.specs.Closing.{closed_journals, journals_in, ports_of, IsLeft}
 use Rattle.chorus_net.proofs.Parts.{journals-are, ports-are}
-use Rattle.place_leavings.specs.Apart.{desk_at, places_in, goes_from}
+use Rattle.chorus_nucleus.specs.Apart.{desk_at, places_in, goes_from}
 use Rattle.chorus_nucleus.specs.Leaving.{state_of, left_at, waits_of, held_of, AreClosedWith}
 use Rattle.chorus_nucleus.specs.Closing.{ClosesAs, ClosesFor}
 use Rattle.chorus_nucleus.proofs.Beginning.{same-some}

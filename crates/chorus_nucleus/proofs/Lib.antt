@@ -15,3 +15,6 @@ pub mod Ended
 pub mod Running
 pub mod TakeTurns
 pub mod Trying
+pub mod Pairs
+pub mod Rests
+pub mod Parting

@@ -8,3 +8,5 @@ pub mod Leaving
 pub mod Closing
 pub mod Runs
 pub mod Taking
+pub mod Leavings
+pub mod Apart

@@ -2,11 +2,12 @@
 ghost use Rattle.std.specs.Prelude.{◌≡◌, ◌≤◌, ◌+◌, ◌++◌, true, length, reverse, IfOk, IfErr};
 ghost use Rattle.std.specs.Vec.{vec_capacity};
 ghost use Rattle.chorus_turn.specs.Calls.{AreOut};
-ghost use Rattle.place_leavings.specs.Apart.{AreDesksLinked, IsParted};
+ghost use Rattle.chorus_nucleus.specs.Apart.{AreDesksLinked, IsParted};
 ghost use Rattle.chorus_nucleus.specs.Passes.{known, IsPassOf};
 ghost use Rattle.chorus_nucleus.specs.Leaving.{desks_in, IsShut};
 ghost use Rattle.chorus_nucleus.specs.Closing.{IsClosed, IsNotClosed};
 
+use crate::apart::{Parted, take_apart};
 use crate::nucleus::Nucleus;
 use crate::pass::Pass;
 use crate::starting::end_boards;
@@ -14,7 +15,6 @@ use chorus_net::Closed;
 use chorus_ruled_ends::RuledEnds;
 use chorus_serve::Desk;
 use chorus_turn::{PassesOut, Spent};
-use place_leavings::{Parted, take_apart};
 use place_site::{Remark, Site};
 use std::alloc::{AllocError, Global};
 use std::sync::Wait;

@@ -7,16 +7,18 @@
 //! journals is a run of the world.
 //!
 //! Begin with `pass` and `specs/Passes.antt` (what a nucleus and its passes keep), then `nucleus`, `acting` (a command's turn) and
-//! `specs/Calls.antt`, `close` and `specs/Closing.antt`.
+//! `specs/Calls.antt`, `close`, over `apart` and `leavings`, and `specs/Closing.antt`.
 #![tactic(auto)]
 
 mod acting;
 mod answers;
+mod apart;
 mod close;
 mod coming;
 mod commands;
 mod fault;
 mod laws;
+mod leavings;
 mod locate;
 mod nucleus;
 mod pass;

@@ -23,9 +23,9 @@ use Rattle.chorus_replay.specs.Ordered.{Replays}
 use Rattle.chorus_run.specs.Ends.{EndsAsRun}
 use Rattle.chorus_run.specs.Threads.{HasWornOf, IsOfNucleus}
 use Rattle.chorus_audit.specs.Output.{Prints, ReadsBy}
-use Rattle.chorus_drawn_crew.specs.Ends.{EndsAsCrew}
-use Rattle.chorus_drawn_crew.specs.Text.{crew_text}
-use Rattle.chorus_drawn_crew.specs.Takes.{TakesUnless}
+use Rattle.chorus_run.specs.DrawnCrew.Ends.{EndsAsCrew}
+use Rattle.chorus_run.specs.DrawnCrew.Text.{crew_text}
+use Rattle.chorus_run.specs.DrawnCrew.Takes.{TakesUnless}
 use Rattle.chorus_picture.specs.Output as picture
 use Rattle.chorus_picture.specs.Output.{Draws}
 use Rattle.chorus_lossy.specs.Output as lossy

@@ -20,8 +20,8 @@ use Rattle.chorus_net.specs.Closing.{merge_of}
 use Rattle.chorus_report.specs.Output.{HandsOut}
 use Rattle.chorus_replay.specs.Ends.{EndsAsLoad, EndsAsReplay}
 use Rattle.chorus_run.specs.Ends.{EndsAsRun}
-use Rattle.chorus_drawn_crew.specs.declared.names.TheConstants.{CREW_PORTS}
-use Rattle.chorus_drawn_crew.specs.Ends.{EndsAsCrew}
+use Rattle.chorus_run.specs.declared.drawn_crew.names.TheConstants.{CREW_PORTS}
+use Rattle.chorus_run.specs.DrawnCrew.Ends.{EndsAsCrew}
 use Rattle.chorus_words.specs.declared.words.TheConstants.{EXPLORE_MOST}
 use Rattle.chorus_words.specs.declared.words.Words.{Words}
 use Rattle.chorus_words.specs.declared.words.Words.TheVariants as words

@@ -28,7 +28,7 @@ use std::alloc::{AllocError, Global};
 const _: () = prove!(chorus_words::LOAD_LIMIT == chorus_run::LOAD_LIMIT);
 
 // And a crew handles what so many give.
-const _: () = prove!(chorus_words::LOAD_LIMIT == chorus_drawn_crew::DRAWS_LIMIT);
+const _: () = prove!(chorus_words::LOAD_LIMIT == chorus_run::DRAWS_LIMIT);
 
 /// Does what the program's words ask, where one thread does it and so no nucleus is used.
 pub(crate) fn does_on_one_thread<S: Source, K: Sink>(

@@ -8,11 +8,10 @@ ghost use Rattle.chorus_perform.specs.Scripts.{IsOpening};
 ghost use Rattle.chorus_program.specs.Running.{AskNothingOf, AskOf, Does, EndsWithCause, IsTurnedAway, Suits};
 
 use crate::one_thread::{closed_nothing, does_on_one_thread};
-use chorus_drawn_crew::{CREW_PORTS, handle_drawn};
 use chorus_io::{Sink, Source};
 use chorus_nucleus::{Nucleus, Pass};
 use chorus_report::Finished;
-use chorus_run::{Gate, close_unused, run};
+use chorus_run::{CREW_PORTS, Gate, close_unused, handle_drawn, run};
 use chorus_show::Status;
 use chorus_words::{Words, read_words};
 use std::alloc::{AllocError, Global};

@@ -2,3 +2,5 @@ pub mod Totals
 pub mod Owning
 pub mod Playing
 pub mod Ending
+pub mod DrawnCrew
+pub mod ReportParts

@@ -1,2 +1,4 @@
 pub mod Threads
 pub mod Ends
+pub mod DrawnCrew
+pub mod ReportParts

@@ -6,14 +6,14 @@ ghost use Rattle.chorus_net.specs.Closing.{merge_of};
 ghost use Rattle.chorus_report.specs.Ending.{EndsWriting, HasWorn, IsFinished};
 ghost use Rattle.chorus_report.specs.Headline.{AreWithinUnless};
 ghost use Rattle.chorus_report.specs.Output.{EndsUnread, HandsOut, Writes, text_of};
-ghost use Rattle.chorus_report_parts.specs.Parts.{whole};
+ghost use Rattle.chorus_run.specs.ReportParts.Parts.{whole};
 ghost use Rattle.chorus_show.specs.Bounds.{AreWithin};
 ghost use Rattle.chorus_show.specs.Report.{report};
 
+use crate::report_parts::{report_parts, write_parts};
 use chorus_io::Sink;
 use chorus_net::Closed;
 use chorus_report::{Finished, Played, gave_up};
-use chorus_report_parts::{report_parts, write_parts};
 use chorus_show::Status;
 use std::alloc::{AllocError, Global};
 use std::thread::Threads;

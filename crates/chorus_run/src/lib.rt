@@ -7,16 +7,23 @@
 //! it; the records and packets that are handed out stand for its ports; nothing is left to be done; and each other ending but want of
 //! memory has its cause. Of `replay` and `load` it is said where they stand.
 //!
-//! Begin with `running`.
+//! [`handle_drawn`] sends drawn messages to eight ports of a nucleus, and lets a crew of four workers handle what waits: what is written
+//! is a function of its two numbers, and where it is written, the nucleus that was handed in performed the sends, and its journals have
+//! the takes that were counted.
+//!
+//! Begin with `running`, and with `drawn_crew`.
 
 #![tactic(auto)]
 
 mod closing;
+mod drawn_crew;
 mod finishing;
+mod report_parts;
 mod running;
 
 pub use chorus_perform::{Gate, OpenGate, Stopped, perform};
 pub use chorus_replay::{LOAD_LIMIT, LOAD_SITES, load, replay};
 pub use chorus_report::Finished;
 pub use closing::{close, close_unused, stop};
+pub use drawn_crew::{CREW_PORTS, DRAWS_LIMIT, handle_drawn};
 pub use running::run;

@@ -2,7 +2,7 @@ use Rattle.std.proofs.Common.{◌≡◌, IfOk, subst}
 use Rattle.chorus_merge.specs.Merge.{merged}
 use Rattle.chorus_merge.specs.Steps.{journals_of}
 use Rattle.chorus_show.specs.Report.{report}
-use Rattle.chorus_report_parts.specs.Parts.{whole}
+use Rattle.chorus_run.specs.ReportParts.Parts.{whole}
 use Rattle.chorus_run.proofs.finishing.parts_of.Goals as goal
 
 pub returns-clause-text : goal.returns-clause-text

@@ -1,7 +1,0 @@
-use Rattle.chorus_drawn_crew.proofs.Endings.{ok-crewed}
-use Rattle.chorus_drawn_crew.proofs.handling.fill_and_handle.Goals as goal
-
-pub returns-in-Ok-clause-ok : goal.returns-in-Ok-clause-ok
-returns-in-Ok-clause-ok g c =
-    ok-crewed c.args.nucleus.now c.args.first c.args.commands c.handle.result c.args.pass.now c.fill-filled.new.pass c.handle.new.pass
-    c.requires.opening c.in-Ok.ensures.same c.in-Ok.ensures.ok c.in-Ok.ensures.even c.handle.ensures.retired c.handle.ensures.ok

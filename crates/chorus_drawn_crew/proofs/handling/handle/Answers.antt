@@ -1,9 +1,0 @@
-use Rattle.std.proofs.Common.{List, ap, length}
-use Rattle.chorus_ui.specs.declared.ui.Ui.{Ui}
-use Rattle.chorus_drawn_crew.proofs.Endings.{no-seat-left}
-use Rattle.chorus_drawn_crew.proofs.handling.handle.Goals as goal
-
-pub unreachable-requires : goal.unreachable-requires
-unreachable-requires g c =
-    no-seat-left _ _ _ _ _ c.in-Err-NoSeat.is c.in-Err-NoSeat.field-0-is c.crew.ensures.no_seat c.requires.keeper.made
-    (ap (λ (ps : List (Ui × Ui)). length ps) c.crew_pairs-pairs.ensures)

@@ -1,9 +1,0 @@
-use Rattle.std.proofs.Common.{◌≡◌, IfOk, ap, ◌∙◌, subst}
-use Rattle.chorus_merge.specs.Steps.{lent}
-use Rattle.chorus_show.specs.Report.{report}
-use Rattle.chorus_report_parts.specs.Parts.{whole}
-use Rattle.chorus_report_parts.proofs.printing.report_parts.Goals as goal
-
-pub returns-clause-text : goal.returns-clause-text
-returns-clause-text g c =
-    subst (λ es. IfOk c.entry_parts.result (λ parts. whole parts.items ≡ report es)) (ap lent c.deref.ensures.value ∙ c.in_ok-entries.ensures) c.entry_parts.ensures.text
