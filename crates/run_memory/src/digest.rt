@@ -136,7 +136,7 @@ fn behind_space(line: &[u8]) -> &[u8] {
     }
 }
 
-/// The number behind a word that begins a line of an exploration.
+/// The number behind a word that begins a line of an exploration, for its digest.
 fn number_behind(word: &[u8], line: &[u8]) -> u64 {
     let mut number: u64 = 0;
     for byte in line.iter().skip(word.len()) {

@@ -1,11 +1,12 @@
 //! Tests of what reads a printed journal. Of `chorus_audit`: texts with the entries that they are the report of, or with the first line
-//! that fails and its rule; of `chorus_picture`: whole pictures; and how sources and sinks end both.
+//! that fails and its rule, and how sources and sinks end an audit (`audit_ends`); of `chorus_picture`: whole pictures, and how sources and
+//! sinks end one (`pictures`).
 #![tactic(auto)]
 
 #[cfg(test)]
-mod drawings;
+mod audit_ends;
 #[cfg(test)]
-mod ends;
+mod drawings;
 #[cfg(test)]
 mod lines;
 #[cfg(test)]

@@ -1,19 +1,22 @@
-//! Tests of a place, by public items alone. They stand apart, so that no crate below is proved twice.
+//! Tests of a place, and of places at the ends of their links, by public items alone. They stand apart, so that no crate below is proved
+//! twice.
 //!
 //! - Scenarios are played over places that are handed packets one by one: what callers are told and what journals say.
 //!   Tables of scenarios are texts, which `playing` plays over the places and callers of `net`; what callers are told is
 //!   written as `told_lines`. The worked rows are in `tests_rows`.
 //! - `limits` has those that take many callers, many ports or late clocks.
 //! - `packets` has packets by hand, lawful and not, which it reads from `packet_words`; `records` are the ports in them.
-//! - `drawn` has packets and commands that are drawn, and a place that is served and given them.
+//! - `link_ends` has the ends of ruled links (`chorus_ends`, `chorus_ruled_ends`); `served_pair` two places at such ends, which serve
+//!   (`chorus_serve`) a worked row (`served_row`), and one over ends in memory, which keeps in hand what it may not work off
+//!   (`served_hand`).
 #![tactic(auto)]
 
-#[cfg(test)]
-mod drawn;
 #[cfg(test)]
 mod groups;
 #[cfg(test)]
 mod limits;
+#[cfg(test)]
+mod link_ends;
 #[cfg(test)]
 mod messages;
 #[cfg(test)]
@@ -30,6 +33,12 @@ mod packets;
 mod playing;
 #[cfg(test)]
 mod records;
+#[cfg(test)]
+mod served_hand;
+#[cfg(test)]
+mod served_pair;
+#[cfg(test)]
+mod served_row;
 #[cfg(test)]
 mod told_lines;
 #[cfg(test)]

@@ -54,7 +54,7 @@ fn index(rt: &impl Abort, number: u16) -> usize {
 }
 
 /// The number of the place where the command of a caller in the actor is carried out.
-pub(crate) fn number_for(rt: &impl Abort, layout: Layout, actor: Ui, command: &Command) -> u16 {
+fn number_for(rt: &impl Abort, layout: Layout, actor: Ui, command: &Command) -> u16 {
     assert!(rt; layout.has_site(actor.site()));
     assert!(rt; command.meets_conditions());
     command.place_for(layout, actor)

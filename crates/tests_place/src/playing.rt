@@ -48,7 +48,8 @@ fn number_of(rt: &impl Abort, text: &str) -> u16 {
     text.parse::<u16>().ok().expect(rt, "a number")
 }
 
-/// Splits a row of a table, such as `name: 3 1` and lines, into its name, sites, turns and lines.
+/// Splits a row of a table of scenarios that are played over places, such as `name: 3 1` and lines, into its name, sites, turns and
+/// lines.
 fn row_of<'a>(rt: &impl Abort, row: &'a str) -> Row<'a> {
     let (name, rest) = parted(rt, row, ": ", "a name");
     let (sites, rest) = parted(rt, rest, " ", "sites");

@@ -9,7 +9,7 @@ pub(crate) fn push_message(rt: &impl Abort, pending: &mut Pending, message: Mess
     pending.push(message);
 }
 
-/// A client more is remembered in a port's record.
+/// A client more is remembered in the record of a port that a packet is to bring.
 pub(crate) fn push_client(rt: &impl Abort, clients: &mut ClientTable, client: u32, number: u32) {
     assert!(rt; clients.len() < CLIENTS_LIMIT);
     assert!(rt; clients.number_of(client).is_none());

@@ -1,6 +1,6 @@
 //! What the program prints is audited, and drawn, by the program.
 
-use crate::running::{assert_prints, assert_same, run_on};
+use crate::ground::{assert_prints, assert_same, run_on};
 use chorus_show::Status;
 use tests_rows::RETRY_ACROSS_A_MOVE_IS_ACCEPTED_ONCE;
 

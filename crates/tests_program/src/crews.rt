@@ -1,6 +1,6 @@
 //! What a crew handles of the messages that are drawn. What is printed was worked out by another program, from the words alone.
 
-use crate::running::assert_prints;
+use crate::ground::assert_prints;
 
 const NOTHING: &str = "\
 port 1.p.1 0 0

@@ -1,12 +1,14 @@
 //! How an exploration ends: at its limit, by a text that is refused, and by faults of its source and sink.
 
-use crate::races::MOVES;
-use crate::running::{assert_prints, assert_same, run_on, run_over, source_of};
+use crate::ground::{assert_prints, assert_same, run_on, run_over, source_of};
 use chorus_show::Status;
 use std::alloc::Global;
 use std::process::Abort;
 use std::sync::Wait;
 use std::thread::Threads;
+
+const MOVES: &str =
+    "chorus 1\nsites 2\nport 1.p.1 1.a.1 2\nscript 1.a.1\nsend 1.p.1 =a\nmove 1.p.1 2.a.1\nsend 1.p.1 =b\nscript 2.a.1\ntake 1.p.1\ntake 1.p.1\nschedule\nend\n";
 
 const MOVES_WITH_FIFTY_EVENTS: &str = "\
 histories 33

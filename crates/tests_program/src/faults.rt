@@ -3,8 +3,8 @@
 //! Where a write failed, the front of the whole output was written that comes before; where a read failed, nothing.
 
 use crate::crews::FEW;
+use crate::ground::{Run, assert_same, run_over, source_of};
 use crate::one_byte_source::Short;
-use crate::running::{Run, assert_same, run_over, source_of};
 use chorus_show::Status;
 use std::alloc::Global;
 use std::process::Abort;

@@ -5,7 +5,7 @@
 ghost use Rattle.chorus_nucleus.specs.Passes.{IsPassOf};
 ghost use Rattle.chorus_perform.specs.Scripts.{IsOpening};
 
-use crate::running::{assert_same, sink_of, source_of};
+use crate::ground::{assert_same, sink_of, source_of};
 use chorus_io::{Sink, Source};
 use chorus_nucleus::{Nucleus, Pass};
 use chorus_run::{Gate, run};

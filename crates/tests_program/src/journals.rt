@@ -1,6 +1,6 @@
 //! What the word `run` prints: a journal, which the word `audit` is to find legal, and a summary.
 
-use crate::running::{assert_done, assert_prints, assert_same, run_on};
+use crate::ground::{assert_done, assert_prints, assert_same, run_on};
 use std::alloc::Global;
 use std::process::Abort;
 use std::sync::Wait;

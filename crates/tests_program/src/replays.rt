@@ -1,6 +1,6 @@
 //! What the program prints for worked scenarios: replayed, and those of one script also run on threads.
 
-use crate::running::assert_prints;
+use crate::ground::assert_prints;
 use crate::texts::{ON_SIXTEEN_SITES, ON_SIXTEEN_SITES_PRINTED};
 use tests_rows::{FULL_THEN_TAKEN_THEN_EMPTY, RETRY_ACROSS_A_MOVE_IS_ACCEPTED_ONCE};
 

@@ -1,6 +1,6 @@
 //! What the program does with its words.
 
-use crate::running::{assert_prints, assert_same, run_on};
+use crate::ground::{assert_prints, assert_same, run_on};
 use chorus_show::Status;
 use chorus_words::{Words, read_words};
 use std::alloc::Global;

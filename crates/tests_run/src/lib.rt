@@ -1,15 +1,24 @@
-//! Tests of `chorus_replay` and `chorus_net`: what scenarios print and what calls of the sites leave, what loads write,
-//! and how texts, sources and sinks end a run. The worked rows are in `tests_rows`.
+//! Tests of `chorus_replay`, `chorus_net` and `chorus_explore`: what scenarios print and what calls of the sites leave, what loads write, how
+//! texts, sources and sinks end a run, and what explorations tell (`explored`: races, counts and schedules). The worked rows are in
+//! `tests_rows`.
 #![tactic(auto)]
 
 #[cfg(test)]
+mod counts;
+#[cfg(test)]
 mod endings;
 #[cfg(test)]
+mod explored;
+#[cfg(test)]
 mod loads;
+#[cfg(test)]
+mod races;
 #[cfg(test)]
 mod replays;
 #[cfg(test)]
 mod running;
+#[cfg(test)]
+mod schedules;
 #[cfg(test)]
 mod sites;
 #[cfg(test)]

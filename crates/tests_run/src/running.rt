@@ -20,13 +20,18 @@ pub(crate) struct Run {
     pub(crate) written: String,
 }
 
-/// A source of the bytes of a scenario to be replayed. `failing` lists the reads that fail.
-fn source_of(rt: &impl Abort, alloc: Global, bytes: &[u8], failing: &[u64]) -> MemSource {
+/// A source of the bytes of a scenario to be replayed or explored. `failing` lists the reads that fail.
+pub(crate) fn source_of(
+    rt: &impl Abort,
+    alloc: Global,
+    bytes: &[u8],
+    failing: &[u64],
+) -> MemSource {
     let bytes = Vec::from_slice(alloc, bytes).expect(rt, "memory");
     MemSource::new(bytes, Vec::from_slice(alloc, failing).expect(rt, "memory"))
 }
 
-/// A sink for a replay or a load, of which one write takes at most `most` bytes. `failing` lists the writes that fail.
+/// A sink for a replay, a load or an exploration, of which one write takes at most `most` bytes. `failing` lists the writes that fail.
 pub(crate) fn sink_of(rt: &impl Abort, alloc: Global, most: usize, failing: &[u64]) -> MemSink {
     assert!(rt; most > 0);
     MemSink::new(
@@ -36,7 +41,7 @@ pub(crate) fn sink_of(rt: &impl Abort, alloc: Global, most: usize, failing: &[u6
     )
 }
 
-/// The run of a replay or a load that ended so and wrote what the sink holds.
+/// The run of a replay, a load or an exploration that ended so and wrote what the sink holds.
 pub(crate) fn run_of(
     rt: &impl Abort,
     alloc: Global,
@@ -95,7 +100,7 @@ pub(crate) fn replayed_on_two_places_each(rt: &impl Abort, alloc: Global, text: 
     run_of(rt, alloc, status, closed, &sink)
 }
 
-/// Asserts that what is told of this replay or load is what is wanted.
+/// Asserts that what is told of this replay, load or exploration is what is wanted.
 pub(crate) fn assert_same<T: PartialEq + Debug + Copy, W: Debug + Copy>(
     rt: &impl Abort,
     told: T,

@@ -1,7 +1,7 @@
 //! Tests of texts, by public items alone, in a crate of their own, so that no crate below is proved twice.
 //!
 //! - `chorus_scene` and `chorus_print`: scenarios that were worked out by hand from the grammar, with what each is read and
-//!   printed as (`scenarios`), or the line and the reason for which it is refused (`refused`, `limits`).
+//!   printed as (`scenarios`), or the line and the reason for which it is refused (`refused`, `limits`); `rows` reads their tables.
 //! - `chorus_show`: the line of each act (`lines`), journals with their summaries and the lines of faults (`journals`).
 #![tactic(auto)]
 
@@ -13,5 +13,7 @@ mod limits;
 mod lines;
 #[cfg(test)]
 mod refused;
+#[cfg(test)]
+mod rows;
 #[cfg(test)]
 mod scenarios;

@@ -1,6 +1,6 @@
-//! The last that is taken and the first that is not, of all that is counted, as rows (see [`crate::scenarios`]).
+//! The last that is taken and the first that is not, of all that is counted, as rows (see [`crate::rows`]).
 
-use crate::scenarios::{assert_rows, assert_rows_behind, layout_of};
+use crate::rows::{assert_rows, assert_rows_behind, layout_of};
 use std::alloc::Global;
 use std::process::Abort;
 

@@ -1,7 +1,7 @@
 //! Texts of scenarios that are refused with a line and a reason, each worked out by hand from the grammar, as rows (see
-//! [`crate::scenarios`]), and how such a fault is told in words.
+//! [`crate::rows`]), and how such a fault is told in words.
 
-use crate::scenarios::{assert_rows, assert_rows_behind, layout_of};
+use crate::rows::{assert_rows, assert_rows_behind, layout_of};
 use chorus_scene::SceneFault;
 use std::alloc::Global;
 use std::process::Abort;

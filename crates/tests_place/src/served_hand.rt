@@ -1,6 +1,6 @@
 //! A packet that a place may not work off stays in its hand.
 
-use crate::pair::{act, name, pump, second_holding};
+use crate::served_pair::{act, name, pump, second_holding};
 use chorus_calls::Caller;
 use chorus_ends::Moves;
 use chorus_entry::{Cargo, Command, Packet, PortRecord};

@@ -91,13 +91,6 @@ pub(crate) fn assert_done(rt: &impl Abort, run: &Run, of: &str) {
     assert_same(rt, run.status, Status::Done, of);
 }
 
-/// What the word `explore` tells of the scenario.
-pub(crate) fn told(rt: &(impl Abort + Threads + Wait + Sync), alloc: Global, text: &str) -> String {
-    let run = run_on(rt, alloc, &["explore"], text);
-    assert_done(rt, &run, text);
-    run.written
-}
-
 /// Asserts that for these words and this input the program does all, and writes this.
 pub(crate) fn assert_prints(
     rt: &(impl Abort + Threads + Wait + Sync),

@@ -1,6 +1,6 @@
 //! Two places over ruled ends, on one thread.
 
-use crate::pair::{Pair, act, name, pump, send_command, start};
+use crate::served_pair::{Pair, act, name, pump, send_command, start};
 use chorus_calls::Caller;
 use chorus_ends::Moves;
 use chorus_entry::{Command, Entry};
@@ -12,24 +12,27 @@ use std::process::Abort;
 
 /// What a place does for callers, on a ground of this type. The rows are written over this, so that they know of a place no more than
 /// they ask.
-trait Works<R: Abort>: Drop {
+trait PlaysRow<R: Abort>: Drop {
     /// Performs the caller's command at a place of the row over ruled ends.
     fn act(&mut self, rt: &R, caller: &mut Caller, command: Command);
 
-    /// Serves once the links of a place of the row over ruled ends.
+    /// Serves once the links of a place of the row over ruled ends, and asserts that nothing waits at the place behind it: what a
+    /// packet led to goes out in the call that worked it off.
     fn serve(&mut self, rt: &R, caller: &mut Caller) -> Pump;
 
     /// The journal of a place of the row over ruled ends, where nothing is left, neither in hand nor on its way.
     fn journal(self, rt: &R) -> Vec<Entry>;
 }
 
-impl<R: Abort, E: Moves<R>> Works<R> for Desk<E> {
+impl<R: Abort, E: Moves<R>> PlaysRow<R> for Desk<E> {
     fn act(&mut self, rt: &R, caller: &mut Caller, command: Command) {
         act(rt, self, caller, command);
     }
 
     fn serve(&mut self, rt: &R, caller: &mut Caller) -> Pump {
-        pump(rt, rt, self, caller)
+        let pump = pump(rt, rt, self, caller);
+        assert_eq!(rt; self.waiting(), 0);
+        pump
     }
 
     fn journal(self, rt: &R) -> Vec<Entry> {
@@ -39,13 +42,13 @@ impl<R: Abort, E: Moves<R>> Works<R> for Desk<E> {
 }
 
 /// Makes the port of the row over ruled ends, in the name of the keeper.
-fn make<R: Abort, D: Works<R>>(rt: &R, desk: &mut D, keeper: &mut Caller) {
+fn make<R: Abort, D: PlaysRow<R>>(rt: &R, desk: &mut D, keeper: &mut Caller) {
     let actor = name(rt, "2.a.1");
     desk.act(rt, keeper, Command::Make { actor, capacity: 4 });
 }
 
 /// Sends the text to the port of the row, in the name of a new caller of this seat in the actor.
-fn send_from<R: Abort, D: Works<R>>(
+fn send_from<R: Abort, D: PlaysRow<R>>(
     rt: &R,
     alloc: Global,
     desk: &mut D,
@@ -59,7 +62,7 @@ fn send_from<R: Abort, D: Works<R>>(
 }
 
 /// Makes the port of the row at the second place, and sends it a message from each place.
-fn act_at_both<R: Abort, D: Works<R>>(
+fn act_at_both<R: Abort, D: PlaysRow<R>>(
     rt: &R,
     alloc: Global,
     pair: &mut Pair<D>,
@@ -71,7 +74,7 @@ fn act_at_both<R: Abort, D: Works<R>>(
 }
 
 /// Serves once the links of the place of this number in the row.
-fn serve_at<R: Abort, D: Works<R>>(
+fn serve_at<R: Abort, D: PlaysRow<R>>(
     rt: &R,
     pair: &mut Pair<D>,
     keeper: &mut Caller,
@@ -85,7 +88,7 @@ fn serve_at<R: Abort, D: Works<R>>(
 }
 
 /// Asserts that, as the places are served, one packet goes to the second place, which answers it by another one.
-fn assert_both_serve<R: Abort, D: Works<R>>(rt: &R, pair: &mut Pair<D>, keeper: &mut Caller) {
+fn assert_both_serve<R: Abort, D: PlaysRow<R>>(rt: &R, pair: &mut Pair<D>, keeper: &mut Caller) {
     for (number, done) in [
         (1, Pump::Idle { put: 1, worked: 0 }),
         (2, Pump::Served { from: 1 }),
@@ -112,7 +115,7 @@ fn assert_lines(rt: &impl Abort, alloc: Global, journals: &[Vec<Entry>], lines: 
 }
 
 /// Asserts that nothing is left at the places, and that these are the lines of their journals.
-fn assert_leave<R: Abort, D: Works<R>>(rt: &R, alloc: Global, pair: Pair<D>, lines: &str) {
+fn assert_leave<R: Abort, D: PlaysRow<R>>(rt: &R, alloc: Global, pair: Pair<D>, lines: &str) {
     let Pair { here, there } = pair;
     let (here, there) = (here.journal(rt), there.journal(rt));
     let journals = vec![in alloc; here, there].expect(rt, "memory");
@@ -128,7 +131,7 @@ fn lines_of_row(rt: &impl Abort) -> &'static str {
 }
 
 /// Sends from both places to a port of the second, and asserts what each serves and the journals of the worked row.
-fn assert_packets_are_carried<R: Abort, D: Works<R>>(rt: &R, alloc: Global, mut pair: Pair<D>) {
+fn assert_packets_are_carried<R: Abort, D: PlaysRow<R>>(rt: &R, alloc: Global, mut pair: Pair<D>) {
     let mut keeper = Caller::new(0, name(rt, "1.a.1"), 0);
     act_at_both(rt, alloc, &mut pair, &mut keeper);
     assert_both_serve(rt, &mut pair, &mut keeper);

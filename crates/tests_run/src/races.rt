@@ -1,6 +1,7 @@
-//! What the word `explore` tells of three races, whole.
+//! What an exploration tells of three races, whole.
 
-use crate::running::{assert_same, told};
+use crate::explored::told;
+use crate::running::assert_same;
 
 const FULL_PORT: &str =
     "chorus 2\nsites 2\nport 1.p.1 1.a.1 1\nscript 1.a.1\nsend 1.p.1 =near\nscript 2.a.1\nsend 1.p.1 =far\nschedule\nend\n";
@@ -148,7 +149,7 @@ step 3
 end
 ";
 
-pub(crate) const MOVES: &str =
+const MOVES: &str =
     "chorus 1\nsites 2\nport 1.p.1 1.a.1 2\nscript 1.a.1\nsend 1.p.1 =a\nmove 1.p.1 2.a.1\nsend 1.p.1 =b\nscript 2.a.1\ntake 1.p.1\ntake 1.p.1\nschedule\nend\n";
 
 const MOVES_TOLD: &str = "\
@@ -250,21 +251,21 @@ deliver 2 1
 end
 ";
 
-/// What `explore` tells of two sends to a port with room for one.
+/// What an exploration tells of two sends to a port with room for one.
 #[test]
 fn a_full_port(rt: HostRuntime) {
     let text = told(&rt, rt.alloc(), FULL_PORT);
     assert_same(&rt, text.as_str(), FULL_PORT_TOLD, FULL_PORT);
 }
 
-/// What `explore` tells of a send and a take while the port moves.
+/// What an exploration tells of a send and a take while the port moves.
 #[test]
 fn a_port_moves(rt: HostRuntime) {
     let text = told(&rt, rt.alloc(), MOVE);
     assert_same(&rt, text.as_str(), MOVE_TOLD, MOVE);
 }
 
-/// What `explore` tells of two sends with a move between them, while another script takes twice.
+/// What an exploration tells of two sends with a move between them, while another script takes twice.
 #[test]
 fn two_sends_and_a_move(rt: HostRuntime) {
     let text = told(&rt, rt.alloc(), MOVES);

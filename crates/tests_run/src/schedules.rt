@@ -1,11 +1,11 @@
 //! Each schedule that an exploration prints is replayed: as many messages are accepted, received, left waiting, refused and told `stale`
 //! as its outcome tells.
 
-use crate::running::{assert_done, run_on, told};
+use crate::explored::told;
+use crate::running::{assert_same, replayed};
+use chorus_show::Status;
 use std::alloc::Global;
 use std::process::Abort;
-use std::sync::Wait;
-use std::thread::Threads;
 
 /// Scenarios, each without what ends it: `schedule` and `end`.
 const RACES: [&str; 4] = [
@@ -15,7 +15,7 @@ const RACES: [&str; 4] = [
     "chorus 1\nsites 2\nport 1.p.1 1.a.1 1\nport 2.p.1 2.a.1 1\ngroup 2.g.1\nmember 2.g.1 1.p.1\nmember 2.g.1 2.p.1\nscript 1.a.1\nall 2.g.1 =a\ntake 1.p.1\nscript 2.a.1\ntake 2.p.1\n",
 ];
 
-/// Each schedule that `explore` prints is replayed to the counts of its outcome.
+/// Each schedule that an exploration prints is replayed to the counts of its outcome.
 #[test]
 fn each_schedule_replays_to_its_outcome(rt: HostRuntime) {
     let alloc = rt.alloc();
@@ -31,18 +31,12 @@ fn each_schedule_replays_to_its_outcome(rt: HostRuntime) {
 }
 
 /// Asserts that the race with this schedule, behind whose number its steps stand, replays to the outcome of that number.
-fn assert_replays(
-    rt: &(impl Abort + Threads + Wait + Sync),
-    alloc: Global,
-    race: &str,
-    outcomes: &str,
-    schedule: &str,
-) {
+fn assert_replays(rt: &impl Abort, alloc: Global, race: &str, outcomes: &str, schedule: &str) {
     let (number, steps) = schedule.split_once("\n").expect(rt, "a number");
     let steps = steps.strip_suffix("\nend\n").unwrap_or(steps);
     let scenario = format!(in alloc; "{race}schedule\n{steps}\nend\n").expect(rt, "memory");
-    let run = run_on(rt, alloc, &["replay"], scenario.as_str());
-    assert_done(rt, &run, scenario.as_str());
+    let run = replayed(rt, alloc, scenario.as_bytes(), &[], 4096, &[]);
+    assert_same(rt, run.status, Status::Done, scenario.as_str());
     let summary = summary_of(rt, alloc, outcomes, number);
     assert!(rt;
         run.written.as_str().contains(summary.as_str()),

@@ -1,12 +1,10 @@
 //! How many schedules there are, how many events they take when those that come alike are put together, and how many single facts and
 //! outcomes there are. The numbers are those of `scripts/explorer/levels.py`, which was written apart from this code.
 
-use crate::journals::counted;
-use crate::running::{assert_same, told};
+use crate::explored::told;
+use crate::running::assert_same;
 use std::alloc::Global;
 use std::process::Abort;
-use std::sync::Wait;
-use std::thread::Threads;
 
 /// Scenarios, each with how its text begins, with the least and the greatest number of events, and with the lines of its facts and outcomes.
 /// Least is where all positions are put together that are the same but for clocks; of those that the program tells apart it goes on from
@@ -113,7 +111,14 @@ const COUNTS: [(&str, &str, u64, u64, &str, &str); 11] = [
     ),
 ];
 
-/// `explore` tells of each race as many histories, facts and outcomes as another program counts.
+/// How many events an exploration says that it carried out.
+fn events_in(rt: &impl Abort, told: &str) -> u64 {
+    let line = told.lines().nth(1).expect(rt, "a second line");
+    let number = line.strip_prefix("events ").expect(rt, "the events");
+    number.parse().ok().expect(rt, "a number")
+}
+
+/// An exploration tells of each race as many histories, facts and outcomes as another program counts.
 #[test]
 fn races_have_so_many_histories_and_outcomes(rt: HostRuntime) {
     let alloc = rt.alloc();
@@ -122,14 +127,14 @@ fn races_have_so_many_histories_and_outcomes(rt: HostRuntime) {
         assert_same(&rt, text.as_str().starts_with(histories), true, histories);
         assert_same(&rt, text.as_str().contains(facts), true, facts);
         assert_same(&rt, text.as_str().contains(outcomes), true, outcomes);
-        let events = counted(&rt, text.as_str(), "events ");
+        let events = events_in(&rt, text.as_str());
         assert_same(&rt, events.max(least), events, scenario);
         assert_same(&rt, events.max(most), most, scenario);
     }
 }
 
-/// What `explore` tells of two scripts of so many commands, each of which answers that there is no call.
-fn told_of_two(rt: &(impl Abort + Threads + Wait + Sync), alloc: Global, commands: u64) -> String {
+/// What an exploration tells of two scripts of so many commands, each of which answers that there is no call.
+fn told_of_two(rt: &impl Abort, alloc: Global, commands: u64) -> String {
     let mut text = String::new(alloc);
     text.push_str("chorus 2\nsites 1\n").expect(rt, "memory");
     for _script in 0..2 {

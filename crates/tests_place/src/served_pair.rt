@@ -1,4 +1,4 @@
-//! Two places, of two sites, at the ends of their links. What is not as it is to be ends the test.
+//! Two places, of two sites, at the ends of their links, or one of them over ends in memory. What is not as it is to be ends the test.
 //!
 //! All is generic in the ends, but for what makes them. The contracts of a desk's calls are long, so each is called in one function,
 //! which has no clauses.
