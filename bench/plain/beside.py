@@ -12,9 +12,10 @@ With --rates what is compared is what the programs print themselves: lines `N of
 of which all but the rates have to be the same. The rates are printed for each number of entries, the ratio being the first
 program's rate over the other's. The load of the machine is printed at the beginning and at the end.
 
-For example, with bench_parts and chorus built, and checker and load compiled as their heads say:
+For example, with chorus built, and checker and load compiled as their heads say (the proved program that prints such rates is
+`bench_parts checker` of commit 69363f89):
 
-    bench/plain/beside.py --rates -- crates/bench_parts/out/bench_parts checker -- ./checker time
+    bench/plain/beside.py --rates -- bench_parts checker -- ./checker time
     ./checker report > report
     bench/plain/beside.py --input report -- crates/chorus/out/chorus audit 8 1 -- ./checker audit 8 1
     bench/plain/beside.py -- crates/chorus/out/chorus load 7 65536 -- ./load 7 65536

@@ -1,5 +1,5 @@
-//! A plain Rust program that judges journals by the rules of the world, for a measure of `crates/bench_parts` and of the
-//! words `audit` of `chorus` (docs/inside/BENCHMARKS.md, "Plain programs"). Written from docs/FORMATS.md and the step
+//! A plain Rust program that judges journals by the rules of the world, for a measure of the words `audit` of `chorus`
+//! (docs/inside/BENCHMARKS.md, "Plain programs"). Written from docs/FORMATS.md and the step
 //! relation in `crates/chorus_world/specs`, with the hash map of std and its hasher, and no `unsafe`. All forty acts and all
 //! that they need are judged, and each entry is kept.
 //!
@@ -10,7 +10,7 @@
 //!     ./checker report                     the longest of these journals is printed, with its summary
 //!     ./checker audit SITES TURNS < text   says whether a printed journal with its summary is legal
 //!
-//! `time` prints what `bench_parts checker` does, so that `beside.py` can compare the two.
+//! `time` prints what `bench_parts checker` of commit 69363f89 does, so that `beside.py` can compare the two.
 
 mod entry;
 mod journal;

@@ -1,4 +1,4 @@
-//! The journals of crates/bench_parts, made by the same pattern. A part of `checker.rs`.
+//! The journals of `bench_parts checker` of commit 69363f89, made by the same pattern. A part of `checker.rs`.
 
 use crate::entry::{Act, Answer, Dest, Entry, Kind, Message, MsgId, Tag, Ui};
 

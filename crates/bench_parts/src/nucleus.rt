@@ -5,7 +5,6 @@ use crate::sites;
 use std::alloc::Global;
 use std::io;
 use std::sync::Wait;
-use std::thread::Threads;
 use std::time::{Clock, Duration};
 
 const FEW: u32 = 20;
@@ -15,11 +14,8 @@ const ROUNDS: u32 = 100_000;
 const TRIES: u32 = 5;
 
 /// Prints how many entries come of a little of each work at a nucleus.
-pub(crate) fn print_few<R: Threads + Sync + Wait + Clock + Print>(
-    rt: &R,
-    alloc: Global,
-) -> io::Result<()> {
-    for work in [Work::Takes, Work::Pumps, Work::Threads] {
+pub(crate) fn print_few<R: Wait + Clock + Print>(rt: &R, alloc: Global) -> io::Result<()> {
+    for work in [Work::Takes, Work::Pumps] {
         let (entries, _) = work.run(rt, alloc, FEW)?;
         println!(rt; "{work}: {entries} entries")?;
     }
@@ -32,36 +28,25 @@ fn each(time: Duration, count: u32) -> f64 {
 }
 
 /// Nanoseconds of the work at a nucleus, done so often.
-fn mean<R: Threads + Sync + Wait + Clock>(
-    rt: &R,
-    alloc: Global,
-    work: Work,
-    count: u32,
-) -> io::Result<f64> {
+fn mean<R: Wait + Clock>(rt: &R, alloc: Global, work: Work, count: u32) -> io::Result<f64> {
     let (_, time) = work.run(rt, alloc, count)?;
     Ok(each(time, count))
 }
 
-/// Prints nanoseconds of a send and a take at a nucleus, of the same at sites and on four threads, and of an idle pump.
-pub(crate) fn print_call_times<R: Threads + Sync + Wait + Clock + Print>(
-    rt: &R,
-    alloc: Global,
-) -> io::Result<()> {
+/// Prints nanoseconds of a send and a take at a nucleus, of the same at sites, and of an idle pump.
+pub(crate) fn print_call_times<R: Wait + Clock + Print>(rt: &R, alloc: Global) -> io::Result<()> {
     let mut takes = f64::INFINITY;
     let mut sites = f64::INFINITY;
-    let mut four = f64::INFINITY;
     let mut pump = f64::INFINITY;
     for _ in 0..TRIES {
         takes = takes.min(mean(rt, alloc, Work::Takes, ROUNDS)?);
         sites = sites.min(each(sites::time(rt, alloc, ROUNDS)?, ROUNDS));
-        four = four.min(mean(rt, alloc, Work::Threads, ROUNDS)? / 4.0);
         pump = pump.min(mean(rt, alloc, Work::Pumps, ROUNDS)?);
     }
-    let (dearer, more) = (takes / sites, takes / four);
+    let dearer = takes / sites;
     println!(rt;
         "{}: {takes:.0} ns, at sites {sites:.0} ns, ratio {dearer:.2}",
         Work::Takes
     )?;
-    println!(rt; "{}: {four:.0} ns, ratio {more:.2}", Work::Threads)?;
     println!(rt; "{}: {pump:.0} ns", Work::Pumps)
 }

@@ -2,13 +2,11 @@
 
 ghost use Rattle.chorus_nucleus.specs.Passes.{IsPassOf};
 
-use crate::ground::{close, enter, entries_in, make, port_of, start};
+use crate::callers::{close, enter, entries_in, make, port_of, start};
 use crate::rounds::{pump_often, send_and_take};
-use crate::threads::on_four_threads;
 use chorus_nucleus::{Nucleus, Pass};
 use std::alloc::{AllocError, Global};
 use std::sync::Wait;
-use std::thread::Threads;
 use std::time::{Clock, Duration, Instant};
 use std::{fmt, io};
 
@@ -19,8 +17,6 @@ pub(crate) enum Work {
     Takes,
     /// A place is served where nothing is left.
     Pumps,
-    /// Four callers do the first, each on a thread and at a site of its own.
-    Threads,
 }
 
 impl fmt::Display for Work {
@@ -28,7 +24,6 @@ impl fmt::Display for Work {
         f.write_str(match self {
             Work::Takes => "a send and a take",
             Work::Pumps => "an idle pump",
-            Work::Threads => "a send and a take on four threads",
         })
     }
 }
@@ -39,13 +34,12 @@ impl Work {
         match self {
             Work::Takes => 1,
             Work::Pumps => 2,
-            Work::Threads => 4,
         }
     }
 
     /// Does the measured work so often at a nucleus. Gives how many entries the journals then have, and how long it took; making
     /// the nucleus is not in that.
-    pub(crate) fn run<R: Threads + Sync + Wait + Clock>(
+    pub(crate) fn run<R: Wait + Clock>(
         self,
         rt: &R,
         alloc: Global,
@@ -58,7 +52,7 @@ impl Work {
     }
 
     /// Makes a port at each site of the nucleus, then does the work so often, and gives how long the work alone took.
-    fn time<R: Threads + Sync + Wait + Clock>(
+    fn time<R: Wait + Clock>(
         self,
         rt: &R,
         nucleus: &Nucleus,
@@ -77,20 +71,13 @@ impl Work {
     }
 
     /// Does the work so often at a nucleus whose ports are made; None where a part of it fails.
-    fn work<R: Threads + Sync + Wait>(
-        self,
-        rt: &R,
-        nucleus: &Nucleus,
-        keeper: &mut Pass,
-        count: u32,
-    ) -> Option<()>
+    fn work<R: Wait>(self, rt: &R, nucleus: &Nucleus, keeper: &mut Pass, count: u32) -> Option<()>
         requires { IsPassOf nucleus.now keeper.old }
         ensures { IsPassOf nucleus.now keeper.new }
     {
         match self {
             Work::Takes => send_and_take(nucleus, keeper, port_of(1, 1)?, count),
             Work::Pumps => pump_often(rt, nucleus, keeper, count),
-            Work::Threads => on_four_threads(rt, nucleus, keeper, count),
         }
     }
 }

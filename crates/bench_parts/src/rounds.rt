@@ -2,7 +2,7 @@
 
 ghost use Rattle.chorus_nucleus.specs.Passes.{IsPassOf};
 
-use crate::ground::{pump, send, take};
+use crate::callers::{pump, send, take};
 use chorus_nucleus::{Nucleus, Pass};
 use chorus_ui::Ui;
 use std::sync::Wait;
