@@ -26,7 +26,7 @@ use Rattle.chorus_explore.specs.declared.race_sites.Stage.{Stage}
 use Rattle.chorus_explore.specs.Stages.{AreProgress, IsReached, comes, moves_of, position}
 use Rattle.chorus_explore.specs.Tellings.{told_of, tells_from, tells_of, kept_of}
 use Rattle.chorus_explore.proofs.Staging.{answers-last}
-use Rattle.explore_facts.specs.Facts.{fact_line, outcome_lines}
+use Rattle.explore_report.specs.Facts.{fact_line, outcome_lines}
 
 abbrev first : List ℕ → ℕ
 first [] = 0

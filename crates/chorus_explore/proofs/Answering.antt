@@ -23,7 +23,7 @@ use Rattle.chorus_net.specs.Sites.{IsScheduled, net}
 use Rattle.chorus_net.specs.Worn.{compared_by}
 use Rattle.chorus_explore.specs.declared.race_sites.Progress.{Progress}
 use Rattle.chorus_explore.specs.declared.race_sites.Stage.{Stage}
-use Rattle.explore_facts.specs.Facts.{fact_line}
+use Rattle.explore_report.specs.Facts.{fact_line}
 use Rattle.chorus_explore.specs.Stages.{AreAt, IsNext, IsPlaceFor, IsReached, MayWear, moves_of, position}
 use Rattle.chorus_explore.proofs.Entering.{wears-behind}
 use Rattle.chorus_explore.proofs.Keeping.{script-keeps}

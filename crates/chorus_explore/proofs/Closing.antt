@@ -17,11 +17,11 @@ use Rattle.chorus_scene.specs.Scene.{Scene}
 use Rattle.chorus_net.specs.Sites.{net}
 use Rattle.chorus_explore.specs.declared.race_sites.Progress.{Progress}
 use Rattle.chorus_explore.specs.declared.race_sites.Stage.{Stage}
-use Rattle.explore_facts.specs.Facts.{fact_line, outcome_lines}
-use Rattle.explore_facts.specs.Outcomes.{message_lines, made_lines}
+use Rattle.explore_report.specs.Facts.{fact_line, outcome_lines}
+use Rattle.explore_report.specs.Outcomes.{message_lines, made_lines}
 use Rattle.chorus_explore.specs.Stages.{IsReached, comes, moves_of, position, posted_lines}
 use Rattle.chorus_explore.proofs.Staging.{answers-are, posts-are}
-use Rattle.explore_facts.proofs.Telling.{flat-flat, journals_at, port-lines, told-lines}
+use Rattle.explore_report.proofs.Telling.{flat-flat, journals_at, port-lines, told-lines}
 
 lines-are : (told : List (List acts.Act)) (ps : List PlaceState) → outcome_lines (outcome_with told ps)
     ≡ flat_map fact_line (answer_facts 1 told) ++ flat_map (message_lines (journals_at ps)) (posts_in told) ++ flat_map (made_lines (placed_in ps)) (journals_at ps)

@@ -23,7 +23,7 @@ use Rattle.chorus_net.specs.Sites.{net}
 use Rattle.chorus_net.proofs.Rounds.{numbers-more}
 use Rattle.chorus_explore.specs.declared.race_sites.Progress.{Progress}
 use Rattle.chorus_explore.specs.declared.race_sites.Stage.{Stage}
-use Rattle.explore_facts.specs.Facts.{fact_line}
+use Rattle.explore_report.specs.Facts.{fact_line}
 use Rattle.chorus_explore.specs.Stages.{AreAt, AreProgress, IsNext, IsOfScript, IsReached, coming, may_go, moves_of, position}
 use Rattle.chorus_explore.proofs.Racing.{CallerAt, caller-at, first-at, position-layout, race-layout}
 use Rattle.chorus_explore.proofs.Staging.{ProgressAt, next-is, next-there, one-more, progress-at, progress-length, progress-set}

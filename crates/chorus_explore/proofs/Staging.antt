@@ -13,7 +13,7 @@ use Rattle.law_explore.specs.Races.{next_of, behind_next}
 use Rattle.chorus_scene.specs.Scene.{Script}
 use Rattle.chorus_show.specs.Phrases.{phrase}
 use Rattle.chorus_explore.specs.declared.race_sites.Progress.{Progress}
-use Rattle.explore_facts.specs.Facts.{plain_act_text, fact_line}
+use Rattle.explore_report.specs.Facts.{plain_act_text, fact_line}
 use Rattle.chorus_explore.specs.Stages.{IsProgress, AreProgress}
 
 -- Lists of the same length.

@@ -21,8 +21,8 @@ use Rattle.chorus_net.specs.Worn.{compared_by}
 use Rattle.chorus_replay.specs.Performing.{IsWornAt}
 use Rattle.chorus_explore.specs.declared.race_sites.Progress.{Progress}
 use Rattle.chorus_explore.specs.declared.race_sites.Stage.{Stage}
-use Rattle.explore_facts.specs.Facts.{fact_line, outcome_lines}
-use Rattle.explore_facts.specs.Outcomes.{message_lines}
+use Rattle.explore_report.specs.Facts.{fact_line, outcome_lines}
+use Rattle.explore_report.specs.Outcomes.{message_lines}
 
 -- where the moves lead
 abbrev pub position : Scene → List Move → Position

@@ -7,7 +7,7 @@ use Rattle.chorus_entry.specs.declared.id.MsgId.{MsgId}
 use Rattle.law_explore.specs.Merging.{Telling}
 use Rattle.law_explore.specs.Outcome.{post_in, answers_from}
 use Rattle.chorus_explore.specs.declared.race_sites.Progress.{Progress}
-use Rattle.explore_facts.specs.Facts.{fact_line}
+use Rattle.explore_report.specs.Facts.{fact_line}
 
 -- The number of answers, their lines, and the messages that were posted. The number stands in front, so that the next
 -- line is known by what is told.

@@ -7,7 +7,7 @@
 //!
 //! Begin with `exploration` and with `level_search`: level by level, with the histories put together that come
 //! alike, as `specs/Searches.antt` says. `race_sites` performs the moves, and `sums` picks whom to compare; `explore_alike`
-//! compares. What the moves came to `explore_facts` tells, and `explore_report` counts it and writes it down.
+//! compares. What the moves came to `explore_report` tells, counts and writes down.
 #![tactic(auto)]
 
 mod exploration;

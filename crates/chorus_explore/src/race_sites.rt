@@ -20,7 +20,7 @@ ghost use Rattle.chorus_explore.specs.declared.race_sites.Progress.{Progress};
 ghost use Rattle.chorus_net.specs.Sites.{net};
 ghost use Rattle.chorus_net.specs.Worn.{compared_by};
 ghost use Rattle.chorus_ui.specs.declared.limits.TheConstants.{CLOCK_LIMIT};
-ghost use Rattle.explore_facts.specs.Facts.{fact_line};
+ghost use Rattle.explore_report.specs.Facts.{fact_line};
 ghost use Rattle.chorus_explore.specs.Stages.{AreAt, AreFresh, AreProgress, IsNext, IsOfScript, IsPlaceFor, IsReached, MayWear, comes, coming, may_go, moves_of, position, posted_lines};
 ghost use Rattle.chorus_explore.specs.Tellings.{kept_of, tells_of};
 
@@ -32,7 +32,7 @@ use chorus_replay::{enter, set_up};
 use chorus_scene::Scenario;
 use chorus_ui::Layout;
 use explore_alike::are_alike;
-use explore_facts::{push_all_ports, push_answered, push_messages};
+use explore_report::{push_all_ports, push_answered, push_messages};
 use law_explore::Move;
 use std::alloc::{AllocError, Global};
 

@@ -22,7 +22,7 @@ use Rattle.chorus_turn.specs.Knowing.{newcomer, after_draw, after_retirement}
 use Rattle.chorus_turn.specs.Passes as turns
 use Rattle.law_closing.specs.Closing.{IsPlace}
 use Rattle.law_closing.specs.Places.{PlaceNote}
-use Rattle.place_site.specs.declared.site.Site.{Site}
+use Rattle.chorus_nucleus.specs.declared.site_turns.site.Site.{Site}
 use Rattle.chorus_nucleus.specs.declared.nucleus.Nucleus.{Nucleus}
 use Rattle.chorus_nucleus.specs.declared.pass.Pass.{Pass}
 use Rattle.chorus_nucleus.specs.declared.sight.Sight.{Sight}

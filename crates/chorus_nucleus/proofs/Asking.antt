@@ -18,9 +18,9 @@ use Rattle.chorus_turn.specs.Passes as turns
 use Rattle.chorus_turn.specs.Calls.{Worked, FoundBusy}
 use Rattle.law_closing.specs.Closing.{IsPlace}
 use Rattle.law_closing.specs.Places.{PlaceNote}
-use Rattle.place_site.specs.declared.site.Site.{Site}
-use Rattle.place_site.specs.Sites.{entries, Fits, IsPublished}
-use Rattle.place_site.specs.Turning.{IsNoNews, Looks}
+use Rattle.chorus_nucleus.specs.declared.site_turns.site.Site.{Site}
+use Rattle.chorus_nucleus.specs.SiteTurns.Sites.{entries, Fits, IsPublished}
+use Rattle.chorus_nucleus.specs.SiteTurns.Turning.{IsNoNews, Looks}
 use Rattle.chorus_nucleus.specs.declared.nucleus.Nucleus.{Nucleus}
 use Rattle.chorus_nucleus.specs.declared.pass.Pass.{Pass}
 use Rattle.chorus_nucleus.specs.declared.fault.CallFault.TheVariants as call_faults

@@ -31,13 +31,13 @@ use Rattle.law_closing.specs.Places.{PlaceNote}
 use Rattle.chorus_board.specs.declared.reader.BoardReader.{BoardReader}
 use Rattle.chorus_board.specs.Boards.{book_of, name_of_book, IsNewIn}
 use Rattle.place_publish.specs.Publishing.{IsBoardAt}
-use Rattle.place_site.specs.declared.site.Site.{Site}
-use Rattle.place_site.specs.declared.site.SiteMark.{SiteMark}
-use Rattle.place_site.specs.Sites as sites
-use Rattle.place_site.specs.Sites.{IsJournalOf, IsPublished}
+use Rattle.chorus_nucleus.specs.declared.site_turns.site.Site.{Site}
+use Rattle.chorus_nucleus.specs.declared.site_turns.site.SiteMark.{SiteMark}
+use Rattle.chorus_nucleus.specs.SiteTurns.Sites as sites
+use Rattle.chorus_nucleus.specs.SiteTurns.Sites.{IsJournalOf, IsPublished}
 use Rattle.chorus_nucleus.specs.Passes.{AreSites, Reads, AreSpare, AreRoomy, row_at, readers_in, out_name, into_name}
 use Rattle.chorus_nucleus.specs.Starting.{IsFresh, AreItsReaders, AreFreshFrom, AreFresh, HaveStarted}
-use Rattle.place_site.proofs.Turning.{fits-as}
+use Rattle.chorus_nucleus.proofs.SiteTurns.Turning.{fits-as}
 use Rattle.chorus_nucleus.proofs.Called.{place-is, desk_of}
 
 abbrev or-else : {A : Type 0} → A → Option A → A

@@ -36,10 +36,10 @@ use Rattle.law_history.proofs.Rising.{place-rises}
 use Rattle.law_closing.specs.Remarks.{turns_at}
 use Rattle.law_closing.specs.Places.{PlaceNote}
 use Rattle.law_closing.specs.Closing.{IsPlace}
-use Rattle.place_site.specs.declared.site.Site.{Site}
-use Rattle.place_site.specs.Sites.{IsJournalOf, IsPublished, entries, Fits}
-use Rattle.place_site.specs.Jobs.{Acted, ServedAt}
-use Rattle.place_site.specs.Turning.{IsNews, IsNoNews, NotesAct, NotesServe, TakesTurn, Looks}
+use Rattle.chorus_nucleus.specs.declared.site_turns.site.Site.{Site}
+use Rattle.chorus_nucleus.specs.SiteTurns.Sites.{IsJournalOf, IsPublished, entries, Fits}
+use Rattle.chorus_nucleus.specs.SiteTurns.Jobs.{Acted, ServedAt}
+use Rattle.chorus_nucleus.specs.SiteTurns.Turning.{IsNews, IsNoNews, NotesAct, NotesServe, TakesTurn, Looks}
 use Rattle.chorus_nucleus.specs.declared.fault.CallFault.{CallFault}
 use Rattle.chorus_nucleus.specs.Passes.{AreSites, IsCallerOf, mark_of}
 use Rattle.chorus_nucleus.specs.Calls.{answered, gave, gave_after, IsRefused, FindsWorn, FindsWornBy, AreDesks, WorksOffAt, Because, Performs, Serves, Grows, Stays}

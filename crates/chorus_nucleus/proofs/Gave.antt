@@ -19,7 +19,7 @@ use Rattle.law_closing.specs.Places.{PlaceNote}
 use Rattle.law_closing.proofs.Growth.{turns_in-append, turns_in-placed, turns_at-remarked}
 use Rattle.chorus_serve.specs.declared.served.Pump.{Pump}
 use Rattle.chorus_serve.specs.declared.served.Pump.TheVariants as pumps
-use Rattle.place_site.specs.Turning.{TakesTurn, Looks}
+use Rattle.chorus_nucleus.specs.SiteTurns.Turning.{TakesTurn, Looks}
 use Rattle.chorus_nucleus.specs.Calls.{gave, Serves}
 
 given-with : (i : Input Command Packet) (all bs cs : List Command) → all ≡ bs ++ cs → with_command i all ≡ with_command i bs ++ cs

@@ -24,10 +24,10 @@ use Rattle.chorus_turn.specs.Knowing.{IsSamePass}
 use Rattle.chorus_turn.specs.Passes as turns
 use Rattle.chorus_turn.specs.Calls.{IsMarkAt, FoundBusy}
 use Rattle.law_closing.specs.Places.{PlaceNote}
-use Rattle.place_site.specs.declared.site.Site.{Site}
-use Rattle.place_site.specs.declared.site.SiteMark.{SiteMark}
-use Rattle.place_site.specs.Jobs.{MayAct, Acted, ServedAt}
-use Rattle.place_site.specs.Turning.{NotesAct, NotesServe}
+use Rattle.chorus_nucleus.specs.declared.site_turns.site.Site.{Site}
+use Rattle.chorus_nucleus.specs.declared.site_turns.site.SiteMark.{SiteMark}
+use Rattle.chorus_nucleus.specs.SiteTurns.Jobs.{MayAct, Acted, ServedAt}
+use Rattle.chorus_nucleus.specs.SiteTurns.Turning.{NotesAct, NotesServe}
 use Rattle.chorus_nucleus.specs.declared.nucleus.Nucleus.{Nucleus}
 use Rattle.chorus_nucleus.specs.declared.pass.Pass.{Pass}
 use Rattle.chorus_nucleus.specs.declared.sight.Sight.{Sight}

@@ -24,9 +24,9 @@ use Rattle.law_history.specs.Places.{by_link}
 use Rattle.law_closing.specs.Remarks.{turns_at}
 use Rattle.law_closing.specs.Closing.{IsPlace, Keeps, Tells}
 use Rattle.law_closing.specs.Places.{PlaceNote}
-use Rattle.place_site.specs.declared.site.Site.{Site}
-use Rattle.place_site.specs.Sites.{entries, Fits, IsPublished}
-use Rattle.place_site.proofs.Turning.{fits-as}
+use Rattle.chorus_nucleus.specs.declared.site_turns.site.Site.{Site}
+use Rattle.chorus_nucleus.specs.SiteTurns.Sites.{entries, Fits, IsPublished}
+use Rattle.chorus_nucleus.proofs.SiteTurns.Turning.{fits-as}
 use Rattle.chorus_nucleus.specs.Apart.{desk_at, ends_of, ends_at, held_from, waits_to, left_between, goes_from, AreDesksLinked}
 use Rattle.chorus_nucleus.proofs.Pairs.{link-same}
 use Rattle.chorus_nucleus.specs.Passes.{AreSites, IsCallerOf, mark_of, out_name, into_name}

@@ -18,3 +18,4 @@ pub mod Trying
 pub mod Pairs
 pub mod Rests
 pub mod Parting
+pub mod SiteTurns

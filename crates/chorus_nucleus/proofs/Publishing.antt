@@ -22,11 +22,11 @@ use Rattle.law_closing.specs.Closing.{IsPlace}
 use Rattle.law_closing.specs.Places.{PlaceNote}
 use Rattle.chorus_board.specs.declared.reader.BoardReader.{BoardReader}
 use Rattle.chorus_board.specs.Boards.{name_of_book, entries_published, IsSameReader}
-use Rattle.place_site.specs.declared.site.Site.{Site}
-use Rattle.place_site.specs.declared.site.SiteMark.{SiteMark}
-use Rattle.place_site.specs.Sites.{entries, Fits, IsPublished}
-use Rattle.place_site.specs.Reading.{Follows, AcceptsReader}
-use Rattle.place_site.specs.Turning.{Looks, IsNoNews}
+use Rattle.chorus_nucleus.specs.declared.site_turns.site.Site.{Site}
+use Rattle.chorus_nucleus.specs.declared.site_turns.site.SiteMark.{SiteMark}
+use Rattle.chorus_nucleus.specs.SiteTurns.Sites.{entries, Fits, IsPublished}
+use Rattle.chorus_nucleus.specs.SiteTurns.Reading.{Follows, AcceptsReader}
+use Rattle.chorus_nucleus.specs.SiteTurns.Turning.{Looks, IsNoNews}
 use Rattle.chorus_nucleus.specs.declared.nucleus.Nucleus.{Nucleus}
 use Rattle.chorus_nucleus.specs.declared.pass.Pass.{Pass}
 use Rattle.chorus_nucleus.specs.declared.sight.Sight.{Sight}

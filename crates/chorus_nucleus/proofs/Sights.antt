@@ -11,7 +11,7 @@ use Rattle.chorus_merge.proofs.Places.{All-append_parts}
 use Rattle.chorus_ruled_ends.specs.Ruled.{Ruled}
 use Rattle.chorus_board.specs.declared.reader.BoardReader.{BoardReader}
 use Rattle.chorus_board.specs.declared.start.TheConstants.{READERS_PER_BOARD}
-use Rattle.place_site.specs.declared.site.Site.{Site}
+use Rattle.chorus_nucleus.specs.declared.site_turns.site.Site.{Site}
 use Rattle.chorus_nucleus.specs.Passes.{Reads, AreSpare, row_at}
 use Rattle.chorus_nucleus.specs.Readers.{Taken, TakesReader, GivesReader, Inherits}
 

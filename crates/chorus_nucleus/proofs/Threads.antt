@@ -30,7 +30,7 @@ use Rattle.law_closing.specs.Growth.{noted}
 use Rattle.law_closing.specs.Places.{PlaceNote, is_new}
 use Rattle.law_closing.specs.Closing.{IsPlace, IsThread}
 use Rattle.law_closing.proofs.Growth.{turns-keep-passes}
-use Rattle.place_site.specs.Turning.{IsNews, IsNoNews}
+use Rattle.chorus_nucleus.specs.SiteTurns.Turning.{IsNews, IsNoNews}
 use Rattle.chorus_nucleus.specs.Passes.{IsCallerOf}
 
 within : (i : Input Command Packet) (s : PlaceState) (w : Seated) → GaveWithinPosts w → GaveWithinPosts (turn i s w).caller

@@ -34,8 +34,8 @@ use Rattle.law_history.specs.Counts.{put_count, got_count}
 use Rattle.law_history.specs.Runs.{commands_given}
 use Rattle.law_closing.specs.Remarks.{turns_at, turns_in}
 use Rattle.law_closing.specs.Places.{PlaceNote}
-use Rattle.place_site.specs.Sites.{IsJournalOf}
-use Rattle.place_site.specs.Turning.{TakesTurn, Looks, MayWork}
+use Rattle.chorus_nucleus.specs.SiteTurns.Sites.{IsJournalOf}
+use Rattle.chorus_nucleus.specs.SiteTurns.Turning.{TakesTurn, Looks, MayWork}
 use Rattle.chorus_nucleus.specs.declared.fault.CallFault.{CallFault}
 use Rattle.chorus_nucleus.specs.declared.fault.CallFault.TheVariants as call_faults
 use Rattle.chorus_nucleus.specs.declared.nucleus.Nucleus.{Nucleus}

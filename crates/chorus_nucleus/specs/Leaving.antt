@@ -15,8 +15,8 @@ use Rattle.chorus_turn.specs.Passes as turns
 use Rattle.chorus_turn.specs.Journals.{entries_of}
 use Rattle.law_closing.specs.Closing.{IsPlace}
 use Rattle.law_closing.specs.Places.{PlaceNote, ArePlacesClosed}
-use Rattle.place_site.specs.declared.site.Site.{Site}
-use Rattle.place_site.specs.Sites.{sent_in, waits_in, received_in, held_in}
+use Rattle.chorus_nucleus.specs.declared.site_turns.site.Site.{Site}
+use Rattle.chorus_nucleus.specs.SiteTurns.Sites.{sent_in, waits_in, received_in, held_in}
 use Rattle.chorus_nucleus.specs.Apart.{desk_at, left_between, AreDesksLinked}
 use Rattle.chorus_nucleus.specs.declared.close.Shut.{Shut}
 use Rattle.chorus_nucleus.specs.declared.nucleus.Nucleus.{Nucleus}

@@ -10,3 +10,4 @@ pub mod Runs
 pub mod Taking
 pub mod Leavings
 pub mod Apart
+pub mod SiteTurns

@@ -24,9 +24,9 @@ use Rattle.chorus_turn.specs.Passes as turns
 use Rattle.chorus_turn.specs.Calls.{IsMarkAt}
 use Rattle.law_closing.specs.Closing.{IsPlace, IsThread}
 use Rattle.law_closing.specs.Places.{PlaceNote, is_new}
-use Rattle.place_site.specs.declared.site.Site.{Site}
-use Rattle.place_site.specs.declared.site.SiteMark.{SiteMark}
-use Rattle.place_site.specs.Sites.{mark}
+use Rattle.chorus_nucleus.specs.declared.site_turns.site.Site.{Site}
+use Rattle.chorus_nucleus.specs.declared.site_turns.site.SiteMark.{SiteMark}
+use Rattle.chorus_nucleus.specs.SiteTurns.Sites.{mark}
 use Rattle.chorus_nucleus.specs.declared.nucleus.Nucleus.{Nucleus}
 use Rattle.chorus_nucleus.specs.declared.pass.Pass.{Pass}
 use Rattle.chorus_nucleus.specs.declared.sight.Sight.{Sight}

@@ -20,10 +20,10 @@ use Rattle.chorus_turn.specs.Knowing.{IsSamePass}
 use Rattle.chorus_turn.specs.Journals.{entries_of}
 use Rattle.chorus_turn.specs.Calls.{IsMarkAt, FoundBusy}
 use Rattle.chorus_turn.specs.Passes as turns
-use Rattle.place_site.specs.declared.site.Site.{Site}
-use Rattle.place_site.specs.declared.site.SiteMark.{SiteMark}
-use Rattle.place_site.specs.Reading.{Follows}
-use Rattle.place_site.specs.Turning.{Looks}
+use Rattle.chorus_nucleus.specs.declared.site_turns.site.Site.{Site}
+use Rattle.chorus_nucleus.specs.declared.site_turns.site.SiteMark.{SiteMark}
+use Rattle.chorus_nucleus.specs.SiteTurns.Reading.{Follows}
+use Rattle.chorus_nucleus.specs.SiteTurns.Turning.{Looks}
 use Rattle.chorus_nucleus.specs.declared.fault.CallFault.{CallFault}
 use Rattle.chorus_nucleus.specs.declared.fault.CallFault.TheVariants as call_faults
 use Rattle.chorus_nucleus.specs.declared.locate.ReadersFull.{ReadersFull}

@@ -15,7 +15,7 @@ use Rattle.chorus_ruled_ends.specs.Linked.{AreLinked}
 use Rattle.chorus_board.specs.declared.reader.BoardReader.{BoardReader}
 use Rattle.chorus_board.specs.declared.start.TheConstants.{READERS_PER_BOARD}
 use Rattle.chorus_board.specs.Boards.{book_of, IsNewBoard, IsNewIn}
-use Rattle.place_site.specs.declared.site.Site.{Site}
+use Rattle.chorus_nucleus.specs.declared.site_turns.site.Site.{Site}
 
 -- the place of this number, on which nothing happened yet, at these ends
 pub record IsFresh (l : Layout) (number : ℕ) (r : Ruled) (s : Site Ruled Packet) : Type 0 where

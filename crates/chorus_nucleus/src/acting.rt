@@ -2,7 +2,7 @@
 ghost use Rattle.std.specs.Prelude.{◌≡◌, ◌<◌, true, if◌then◌else◌, ◌==◌};
 ghost use Rattle.chorus_entry.specs.Command.{meets_conditions, has_body_in_limit, is_post};
 ghost use Rattle.law_machine.specs.declared.outcome.Outcome.TheVariants.{Unknown};
-ghost use Rattle.place_site.specs.Drafts.{meant};
+ghost use Rattle.chorus_nucleus.specs.SiteTurns.Drafts.{meant};
 ghost use Rattle.chorus_nucleus.specs.Passes.{caller_of, IsPassOf};
 ghost use Rattle.chorus_nucleus.specs.Calls.{IsCall, IsOutcome};
 
@@ -10,11 +10,11 @@ use crate::answers::answer;
 use crate::fault::CallFault;
 use crate::nucleus::Nucleus;
 use crate::pass::{Pass, note_worn, take_caller};
+use crate::site_turns::{Acts, Asks, Draft};
 use chorus_entry::{Command, Dest, MsgId};
 use chorus_place::Reply;
 use law_bounds::are_within;
 use law_machine::Outcome;
-use place_site::{Acts, Asks, Draft};
 
 /// What a seat of the nucleus is told of a message: of another seat's nothing.
 fn told(seat: u32, id: MsgId, outcome: Outcome) -> Outcome

@@ -21,7 +21,7 @@ pub(crate) struct Heap {
 
 /// All that is left of places.
 #[derive(Drop)]
-pub struct Parted {
+pub(crate) struct Parted {
     /// The journal of each place, by place, in order.
     pub journals: Vec<Vec<Entry>>,
     /// The packets that were put and not worked off: for each place that they come from, rising, and each other place that they go
@@ -87,7 +87,7 @@ fn take_desks(
 
 /// Takes the places apart, in their order, and ends the links between them: there is one from each to each other. Each frame that is
 /// left is opened. The only error is want of memory, and then all is given up.
-pub fn take_apart<R: Wait>(
+pub(crate) fn take_apart<R: Wait>(
     rt: &R,
     alloc: Global,
     desks: Vec<Desk<RuledEnds>>,

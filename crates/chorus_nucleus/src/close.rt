@@ -10,12 +10,12 @@ ghost use Rattle.chorus_nucleus.specs.Closing.{IsClosed, IsNotClosed};
 use crate::apart::{Parted, take_apart};
 use crate::nucleus::Nucleus;
 use crate::pass::Pass;
+use crate::site_turns::{Remark, Site};
 use crate::starting::end_boards;
 use chorus_net::Closed;
 use chorus_ruled_ends::RuledEnds;
 use chorus_serve::Desk;
 use chorus_turn::{PassesOut, Spent};
-use place_site::{Remark, Site};
 use std::alloc::{AllocError, Global};
 use std::sync::Wait;
 

@@ -11,10 +11,10 @@ ghost use Rattle.chorus_nucleus.specs.Calls.{IsCall};
 use crate::fault::CallFault;
 use crate::nucleus::Nucleus;
 use crate::pass::Pass;
+use crate::site_turns::Draft;
 use chorus_entry::{Command, Dest};
 use chorus_place::Reply;
 use chorus_ui::Ui;
-use place_site::Draft;
 
 impl Nucleus {
     /// Makes a port of the actor, an actor's name, with room for `capacity` waiting messages, 1 to 64. The place is the actor's home.

@@ -6,6 +6,8 @@
 //! without an entry; and what a closed nucleus hands out is the network of every schedule of its turns, so that the merge of its
 //! journals is a run of the world.
 //!
+//! `site_turns` has the state at which callers take turns, and a job for each kind of turn.
+//!
 //! Begin with `pass` and `specs/Passes.antt` (what a nucleus and its passes keep), then `nucleus`, `acting` (a command's turn) and
 //! `specs/Calls.antt`, `close`, over `apart` and `leavings`, and `specs/Closing.antt`.
 #![tactic(auto)]
@@ -24,6 +26,7 @@ mod nucleus;
 mod pass;
 mod pump;
 mod sight;
+mod site_turns;
 mod starting;
 mod taken_message;
 mod taking;

@@ -5,12 +5,12 @@ ghost use Rattle.chorus_nucleus.specs.Coming.{IsStarted};
 
 use crate::pass::{Pass, first_actor};
 use crate::sight::{Sight, take_reader};
+use crate::site_turns::Site;
 use crate::starting::{end_boards, start_sites};
 use chorus_calls::Caller;
 use chorus_ruled_ends::RuledEnds;
 use chorus_turn::Turns;
 use chorus_ui::Layout;
-use place_site::Site;
 use std::alloc::{AllocError, Global};
 use std::sync::Wait;
 

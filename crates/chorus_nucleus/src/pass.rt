@@ -6,10 +6,10 @@ ghost use Rattle.chorus_nucleus.specs.Passes.{known, caller_of, worn_by, readers
 
 use crate::fault::CallFault;
 use crate::sight::Sight;
+use crate::site_turns::Remark;
 use chorus_calls::Caller;
 use chorus_turn::Pass as Turner;
 use chorus_ui::{Kind, Ui};
-use place_site::Remark;
 use std::mem;
 
 /// The leave to take turns at the places of one nucleus, in the name of a caller.

@@ -12,10 +12,10 @@ use crate::answers::{answer, answer_publish};
 use crate::fault::CallFault;
 use crate::nucleus::Nucleus;
 use crate::pass::{Pass, note_worn, take_caller};
+use crate::site_turns::{Publishes, Remark, Serves};
 use chorus_board::BoardReader;
 use chorus_serve::Pump;
 use chorus_turn::Pass as Turner;
-use place_site::{Publishes, Remark, Serves};
 use std::sync::Wait;
 
 impl Nucleus {

@@ -6,11 +6,11 @@ ghost use Rattle.chorus_ruled_ends.specs.Ruled.{Ruled, links};
 ghost use Rattle.chorus_ruled_ends.specs.Linked.{AreLinked};
 ghost use Rattle.chorus_nucleus.specs.Starting.{AreFresh, HaveStarted, TakesLast};
 
+use crate::site_turns::Site;
 use chorus_board::{Board, BoardReader};
 use chorus_ruled_ends::RuledEnds;
 use chorus_serve::Desk;
 use chorus_ui::Layout;
-use place_site::Site;
 use std::alloc::{AllocError, Global};
 use std::sync::Wait;
 

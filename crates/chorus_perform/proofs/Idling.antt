@@ -16,7 +16,7 @@ use Rattle.chorus_turn.proofs.Fronts.{put_here, put_elsewhere}
 use Rattle.law_history.specs.Counts.{total, put_count, got_count}
 use Rattle.law_closing.specs.Places.{PlaceNote}
 use Rattle.law_closing.specs.Remarks.{turns_at}
-use Rattle.place_site.specs.Turning.{Looks}
+use Rattle.chorus_nucleus.specs.SiteTurns.Turning.{Looks}
 use Rattle.law_closing.specs.Seen.{HasSeen}
 use Rattle.chorus_perform.specs.Rounds.{put_seen, got_seen, Counts, IsRound, IsEven}
 

@@ -24,7 +24,7 @@ use Rattle.law_closing.specs.Places.{PlaceNote}
 use Rattle.law_closing.specs.Remarks.{numbered, remarked, turn_of, turns_in}
 use Rattle.law_closing.proofs.Growth.{turns_in-append, turns_in-placed, turns_at-remarked}
 use Rattle.law_closing.specs.Growth.{noted}
-use Rattle.place_site.specs.Turning.{TakesTurn, Looks}
+use Rattle.chorus_nucleus.specs.SiteTurns.Turning.{TakesTurn, Looks}
 use Rattle.chorus_nucleus.specs.declared.nucleus.Nucleus.{Nucleus}
 use Rattle.chorus_nucleus.specs.declared.pass.Pass.{Pass}
 use Rattle.chorus_nucleus.specs.declared.fault.CallFault.{CallFault}

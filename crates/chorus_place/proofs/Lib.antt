@@ -1,3 +1,4 @@
 pub mod CallTurns
 pub mod Ended
 pub mod Bounded
+pub mod Passing

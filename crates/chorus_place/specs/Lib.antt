@@ -1,3 +1,4 @@
 pub mod CallTurns
 pub mod Calls
-pub use Rattle.place_state.specs.Sending
+pub mod Outcomes
+pub use Rattle.place_tables.specs.Sending

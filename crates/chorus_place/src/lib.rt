@@ -4,12 +4,12 @@
 //! every command and every lawful packet on every layout, and give its reply; what they put waits behind what waited. A refusal
 //! changes nothing, and says why.
 //!
-//! Begin with `place`, then `perform`, which chooses the turn of a command. The turns are in `place_turns` and, with groups, in
-//! `place_groups`; the turn of a packet is chosen in `place_packets`. The tables and the steps, with an entry each, are those of
-//! `place_tables`.
+//! Begin with `place`, then `perform`, which chooses the turn of a command. The turns, of packets too, are those of `place_turns`, the
+//! tables and the steps, with an entry each, those of `place_tables`. `journal_outcome` has what a journal alone tells of a message.
 #![tactic(auto)]
 
 mod fault;
+mod journal_outcome;
 mod perform;
 mod place;
 

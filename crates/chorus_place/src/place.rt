@@ -16,6 +16,7 @@ ghost use Rattle.law_bounds.specs.Bounds.{AreWaitingWithin};
 ghost use Rattle.chorus_place.specs.Calls.{state, place_of, is_call, Called, IsWornAt, IsWornBack, MayCall, Stays, TakesNone, WorkedOff};
 
 use crate::fault::PlaceFault;
+use crate::journal_outcome::outcome_in;
 use crate::perform::perform;
 use chorus_calls::Caller;
 use chorus_entry::{Command, Entry, MsgId, Packet};
@@ -24,9 +25,8 @@ use chorus_ui::{CLOCK_LIMIT, Layout, Ui};
 use law_bounds::are_within;
 use law_machine::{Outcome, Reply};
 use place_outbox::Outbox;
-use place_outcome::outcome_in;
-use place_packets::{is_lawful, make_ready, open};
 use place_tables::Tables;
+use place_turns::{is_lawful, make_ready, open};
 use std::alloc::{AllocError, Global};
 use std::marker::Model;
 

@@ -9,7 +9,7 @@ use Rattle.chorus_calls.specs.Callers.{Seated}
 use Rattle.chorus_hints.specs.Known.{kept}
 use Rattle.place_unsettled.specs.Queues.{queue}
 use Rattle.place_unsettled.specs.Unheard.{is_unheard}
-use Rattle.place_state.specs.Tables.{Tables}
+use Rattle.place_tables.specs.Tables.{Tables}
 use Rattle.chorus_place.specs.Calls.{Place, state, place_of}
 use Rattle.chorus_net.specs.Sites.{to_place, waiting_from, all_waiting, net, SitesState, IsSites, IsPlaceOf, ArePlaces}
 use Rattle.chorus_net.proofs.Changes.{place-of}

@@ -19,7 +19,7 @@ ghost use Rattle.explore_alike.specs.Journals.{ids_of, Agree, AgreeAll, HaveSame
 use crate::names::{are_same_ids, are_same_names};
 use chorus_entry::{Act, Answer, Entry, MsgId};
 use chorus_ui::Ui;
-use explore_facts::{is_stale_at, verdict_at};
+use explore_report::{is_stale_at, verdict_at};
 use place_tables::Tables;
 use std::alloc::{AllocError, Global};
 

@@ -1,18 +1,26 @@
-//! What a search over the schedules of a race found, and the text that tells it.
+//! What a search over the schedules of a race found, and the text that tells it: the lines of what a schedule came to, and each
+//! outcome once. The lines say how each command was answered, which verdict each message and copy got, which of them were told
+//! `stale`, and what each port holds.
 //!
-//! The layer above rests on this: [`Findings`] has each outcome once, with how many histories come to it and the first
-//! of them, and [`report`] writes exactly the bytes of `report_text`. That the single facts of that text are those of
-//! the outcomes, none made up and none missing, is the law [`single_facts_tell_all_outcomes`].
+//! The layer above rests on this: told from the journals of all places and from the ports that are held, the lines are those of the
+//! facts of `law_explore`, without the numbers that only tell when. [`Findings`] has each outcome once, with how many histories come
+//! to it and the first of them, and [`report`] writes exactly the bytes of `report_text`. That the single facts of that text are
+//! those of the outcomes, none made up and none missing, is the law [`single_facts_tell_all_outcomes`].
 //!
-//! Begin with [`Findings`], and with `specs/Reports.antt`, the text.
+//! Begin with `specs/Facts.antt`, a line for each fact, and `specs/Outcomes.antt`, the lines as they are told from an end; then
+//! [`Findings`], and `specs/Reports.antt`, the text.
 #![tactic(auto)]
 
 mod explored;
+mod facts;
 mod findings;
 mod laws;
+mod outcomes;
 mod text;
 
 pub use explored::Explored;
+pub use facts::push_answered;
 pub use findings::{Finding, Findings};
 pub use laws::single_facts_tell_all_outcomes;
+pub use outcomes::{is_stale_at, push_all_ports, push_messages, verdict_at};
 pub use text::report;

@@ -21,12 +21,12 @@ use Rattle.place_unsettled.specs.Queues.{room}
 use Rattle.law_machine.specs.PlaceState.{Turn, greatest_clock}
 use Rattle.law_machine.specs.Own.{next_port}
 use Rattle.law_machine.specs.Doing.{post}
-use Rattle.place_state.specs.declared.copies.MemberCopy.{MemberCopy}
-use Rattle.place_state.specs.Tables.{Tables, state, turn, IsSound}
-use Rattle.place_state.specs.Room.{KeepsRoom}
-use Rattle.place_state.specs.Steps.{MayTeach}
-use Rattle.place_state.specs.Going.{LeavesRecords, waits_for, first_for, reports_for}
-use Rattle.place_state.specs.Groups.{HaveLines, IsCopy, members_of}
+use Rattle.place_tables.specs.declared.copies.MemberCopy.{MemberCopy}
+use Rattle.place_tables.specs.Tables.{Tables, state, turn, IsSound}
+use Rattle.place_tables.specs.Room.{KeepsRoom}
+use Rattle.place_tables.specs.Steps.{MayTeach}
+use Rattle.place_tables.specs.Going.{LeavesRecords, waits_for, first_for, reports_for}
+use Rattle.place_tables.specs.Groups.{HaveLines, IsCopy, members_of}
 
 -- an entry of the caller may be appended: there is room for it, and its clock has 64 bits
 pub record MayAppend (p : Tables) (c : Seated) : Type 0 where

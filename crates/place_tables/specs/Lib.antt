@@ -1,2 +1,12 @@
 pub mod Allowed
 pub mod AtOnce
+pub mod Tables
+pub mod Plain
+pub mod Turns
+pub mod Going
+pub mod Steps
+pub mod Room
+pub mod Ports
+pub mod Sending
+pub mod Groups
+pub mod Commands

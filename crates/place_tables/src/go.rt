@@ -4,15 +4,15 @@ ghost use Rattle.std.specs.Prelude.{◌≡◌, ◌+◌, ◌-◌, ◌≤◌, true
 ghost use Rattle.chorus_world.specs.Posts.{is_on_site};
 ghost use Rattle.place_unsettled.specs.Queues.{queue};
 ghost use Rattle.law_machine.specs.Trying.{goes_on, go};
-ghost use Rattle.place_state.specs.Room.{KeepsRoom};
-ghost use Rattle.place_state.specs.Tables.{state, turn};
-ghost use Rattle.place_state.specs.Going.{GoesOn, Stops, leaving, reports_for, waits_for};
+ghost use Rattle.place_tables.specs.Room.{KeepsRoom};
+ghost use Rattle.place_tables.specs.Tables.{state, turn};
+ghost use Rattle.place_tables.specs.Going.{GoesOn, Stops, leaving, reports_for, waits_for};
 ghost use Rattle.place_tables.specs.Allowed.{MaySettleEach, MayGo};
 
+use crate::first::is_on_site;
 use crate::tables::Tables;
 use chorus_calls::Caller;
 use chorus_entry::Answer;
-use place_state::is_on_site;
 use place_unsettled::{Key, Wait};
 
 impl Tables {

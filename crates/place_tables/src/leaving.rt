@@ -8,13 +8,13 @@ ghost use Rattle.chorus_ui.specs.Layout.{has_site, has_place};
 ghost use Rattle.chorus_world.specs.Places.{taught};
 ghost use Rattle.chorus_hints.specs.Known.{kept, newest_of};
 ghost use Rattle.law_machine.specs.Working.{taught_of};
-ghost use Rattle.place_state.specs.Going.{waits_for, reports_for, leaving_after};
-ghost use Rattle.place_state.specs.Steps.{MayTeach};
+ghost use Rattle.place_tables.specs.Going.{waits_for, reports_for, leaving_after};
+ghost use Rattle.place_tables.specs.Steps.{MayTeach};
 
+use crate::first::first_to;
 use crate::tables::Tables;
 use chorus_entry::Answer;
 use chorus_ui::Ui;
-use place_state::first_to;
 use place_unsettled::{Key, Wait};
 use std::alloc::AllocError;
 

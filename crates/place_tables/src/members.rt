@@ -9,8 +9,8 @@ ghost use Rattle.chorus_entry.specs.Members.{are_distinct};
 ghost use Rattle.chorus_groups.specs.Made.{made_of};
 ghost use Rattle.law_machine.specs.Choosing.{choice};
 ghost use Rattle.law_machine.specs.Doing.{choosing_place};
-ghost use Rattle.place_state.specs.Groups.{site_at};
-ghost use Rattle.place_state.specs.Tables.{state, IsPort};
+ghost use Rattle.place_tables.specs.Groups.{site_at};
+ghost use Rattle.place_tables.specs.Tables.{state, IsPort};
 
 use crate::tables::Tables;
 use chorus_entry::Dest;

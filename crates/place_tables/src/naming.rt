@@ -6,7 +6,7 @@ ghost use Rattle.chorus_ui.specs.declared.limits.TheConstants.{GROUPS_PER_SITE_L
 ghost use Rattle.chorus_world.specs.Groups.{groups_made};
 ghost use Rattle.chorus_world.specs.Steps.{is_full_of_ports};
 ghost use Rattle.law_machine.specs.Own.{next_group, next_port};
-ghost use Rattle.place_state.specs.Tables.{state};
+ghost use Rattle.place_tables.specs.Tables.{state};
 
 use crate::tables::Tables;
 use chorus_ui::{Kind, PORTS_PER_SITE_LIMIT, Ui};

@@ -2,12 +2,12 @@
 
 ghost use Rattle.std.specs.Prelude.{◌≡◌, ◌+◌, ◌<◌, ◌≤◌, [], length, slice_get, IfSome};
 ghost use Rattle.place_outbox.specs.Waiting.{list_to, with_first, without_first, MayPutBack};
-ghost use Rattle.place_state.specs.Sending.{with_all};
-ghost use Rattle.place_state.specs.Tables.{state};
+ghost use Rattle.place_tables.specs.Sending.{with_all};
+ghost use Rattle.place_tables.specs.Tables.{state};
 
+use crate::outgoing::move_all;
 use crate::tables::Tables;
 use chorus_entry::Packet;
-use place_state::move_all;
 
 impl Tables {
     /// Moves the packets that the turn has put into the outbox, in order, in the room that is there: the turn ends. Takes no

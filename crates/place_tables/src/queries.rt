@@ -14,11 +14,12 @@ ghost use Rattle.chorus_ports.specs.Table.{find};
 ghost use Rattle.place_outbox.specs.Waiting.{count};
 ghost use Rattle.law_machine.specs.Own.{held_by};
 ghost use Rattle.law_machine.specs.PlaceState.{newest};
-ghost use Rattle.place_state.specs.Going.{waits_for};
-ghost use Rattle.place_state.specs.Ports.{ids_of};
-ghost use Rattle.place_state.specs.Tables.{state};
+ghost use Rattle.place_tables.specs.Going.{waits_for};
+ghost use Rattle.place_tables.specs.Ports.{ids_of};
+ghost use Rattle.place_tables.specs.Tables.{state};
 ghost use Rattle.place_tables.specs.AtOnce.{IsFree};
 
+use crate::pending::ids_of;
 use crate::tables::Tables;
 use chorus_entry::{Entry, Ids};
 use chorus_groups::Groups;
@@ -26,7 +27,6 @@ use chorus_hints::Hints;
 use chorus_ports::Ports;
 use chorus_ui::{Layout, Ui};
 use place_outbox::Outbox;
-use place_state::ids_of;
 use place_unsettled::{Key, Unheard, Waits};
 use std::alloc::{AllocError, Global};
 

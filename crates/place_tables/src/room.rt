@@ -4,13 +4,13 @@ ghost use Rattle.std.specs.Prelude.{◌≡◌, ◌<◌, ◌≤◌, IsOk, OnOk};
 ghost use Rattle.place_unsettled.specs.declared.wait.Key.{Key};
 ghost use Rattle.place_unsettled.specs.Queues.{queue, room};
 ghost use Rattle.chorus_calls.specs.Callers.{Seated};
-ghost use Rattle.place_state.specs.Groups.{HaveLines};
-ghost use Rattle.place_state.specs.Tables.{turn};
-ghost use Rattle.place_state.specs.Room.{KeepsRoom, Roomier};
+ghost use Rattle.place_tables.specs.Groups.{HaveLines};
+ghost use Rattle.place_tables.specs.Tables.{turn};
+ghost use Rattle.place_tables.specs.Room.{KeepsRoom, Roomier};
 
+use crate::copies::make_lines;
 use crate::tables::Tables;
 use chorus_ui::Ui;
-use place_state::make_lines;
 use place_unsettled::Key;
 use std::alloc::AllocError;
 

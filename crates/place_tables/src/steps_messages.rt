@@ -8,21 +8,37 @@ ghost use Rattle.law_machine.specs.Trying.{tries_at};
 ghost use Rattle.law_machine.specs.Deciding.{decide};
 ghost use Rattle.chorus_ui.specs.declared.limits.TheConstants.{MEMBERS_LIMIT};
 ghost use Rattle.law_machine.specs.Working.{hears};
-ghost use Rattle.place_state.specs.Plain.{is_plain};
-ghost use Rattle.place_state.specs.Steps.{posted, told_by, answered};
-ghost use Rattle.place_state.specs.Room.{KeepsRoom};
-ghost use Rattle.place_state.specs.Tables.{state, turn, IsSound};
+ghost use Rattle.place_tables.specs.Plain.{is_plain};
+ghost use Rattle.place_tables.specs.Steps.{posted, told_by, answered};
+ghost use Rattle.place_tables.specs.Room.{KeepsRoom};
+ghost use Rattle.place_tables.specs.Tables.{state, turn, IsSound};
 ghost use Rattle.place_tables.specs.AtOnce.{decided};
 ghost use Rattle.chorus_entry.specs.declared.packet.Cargo.TheVariants as Cargo;
-ghost use Rattle.place_state.specs.Going.{first_for, settles, reports_for};
+ghost use Rattle.place_tables.specs.Going.{first_for, settles, reports_for};
 ghost use Rattle.place_tables.specs.Allowed.{MayAppend, AppendsOne, MayPost, MayTry, MayTell, MaySettle};
 
+use crate::entry_and_packet::{put, put_report, say};
+use crate::messages::{pass, teach};
 use crate::tables::Tables;
+use crate::verdicts::{decide, decide_unless, decision};
 use chorus_calls::Caller;
 use chorus_entry::{Act, Answer, Cargo, Dest, Message, MsgId};
 use chorus_ui::Ui;
-use place_state::{decide, decide_unless, decision, pass, put, put_report, say, teach, trying};
 use place_unsettled::{Key, Wait};
+
+/// What a step with a message sends to the place where the message is tried, with this hop.
+fn trying(key: &Key, wait: Wait, hop: u64) -> Cargo
+    ensures { result ≡ Cargo.Try wait.message key.now.port key.now.route wait.only hop }
+{
+    let Wait { message, only, .. } = wait;
+    Cargo::Try {
+        message,
+        port: key.port,
+        route: key.route,
+        only,
+        hop,
+    }
+}
 
 impl Tables {
     /// Settles the first message of a port and route here, where it was tried with the hop `tried`: by the answer that is

@@ -10,18 +10,18 @@ ghost use Rattle.law_machine.specs.Own.{take_act};
 ghost use Rattle.law_machine.specs.Doing.{does, ends, ends_call, holding};
 ghost use Rattle.law_machine.specs.Replies.{settling};
 ghost use Rattle.law_machine.specs.Working.{receives_port};
-ghost use Rattle.place_state.specs.Plain.{is_plain};
-ghost use Rattle.place_state.specs.Ports.{HasNumber, IsSoundTaken, MayArrive, takes_from};
-ghost use Rattle.place_state.specs.Room.{KeepsRoom};
-ghost use Rattle.place_state.specs.Tables.{turn};
+ghost use Rattle.place_tables.specs.Plain.{is_plain};
+ghost use Rattle.place_tables.specs.Ports.{HasNumber, IsSoundTaken, MayArrive, takes_from};
+ghost use Rattle.place_tables.specs.Room.{KeepsRoom};
+ghost use Rattle.place_tables.specs.Tables.{turn};
 ghost use Rattle.place_tables.specs.Allowed.{MayAppend, AppendsOne, MayMake};
 
+use crate::entry_and_packet::{put, say};
 use crate::tables::Tables;
 use chorus_calls::{Caller, Settle};
 use chorus_entry::{Act, Cargo, Hand, Ids, MsgId, PortRecord, Tag};
 use chorus_ports::Taken;
 use chorus_ui::Ui;
-use place_state::{put, say};
 use std::alloc::AllocError;
 
 /// The act of the entry that a step appends of what was taken from a port.

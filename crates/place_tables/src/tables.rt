@@ -4,7 +4,7 @@ ghost use Rattle.std.specs.Prelude.{◌≡◌, [], true, IfOk};
 ghost use Rattle.chorus_ui.specs.Layout.{has_place, places, IsLayout};
 ghost use Rattle.place_outbox.specs.Waiting.{nothing_to};
 ghost use Rattle.law_machine.specs.PlaceState.{started};
-ghost use Rattle.place_state.specs.Tables.{state};
+ghost use Rattle.place_tables.specs.Tables.{state};
 
 use chorus_hints::Hints;
 use chorus_ports::Ports;
@@ -34,7 +34,7 @@ pub struct Tables {
 impl Model for Tables {
     ghost use Rattle.std.specs.Prelude.{◌≡◌, ◌-◌, min, length};
     ghost use Rattle.std.specs.VecDeque.{deque_capacity};
-    ghost use Rattle.place_state.specs.Tables as tables;
+    ghost use Rattle.place_tables.specs.Tables as tables;
 
     ghost Value = { tables.Tables };
 

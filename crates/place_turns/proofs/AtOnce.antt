@@ -19,11 +19,11 @@ use Rattle.law_machine.specs.PlaceState.{Turn, greatest_clock, next_entry, packe
 use Rattle.law_machine.specs.Deciding.{decide, decision, records_after}
 use Rattle.law_machine.specs.Trying.{report, settles_here, verdict_here, tries, goes_on, goes_unless, go}
 use Rattle.law_machine.specs.Doing.{direct, post}
-use Rattle.place_state.specs.Groups.{posted_alone}
-use Rattle.place_state.specs.Steps.{posted}
-use Rattle.place_state.proofs.States.{same_turn}
-use Rattle.place_state.proofs.Deciding.{same-answer}
-use Rattle.place_state.proofs.Reports.{at-key}
+use Rattle.place_tables.specs.Groups.{posted_alone}
+use Rattle.place_tables.specs.Steps.{posted}
+use Rattle.place_tables.proofs.States.{same_turn}
+use Rattle.place_tables.proofs.Deciding.{same-answer}
+use Rattle.place_tables.proofs.Reports.{at-key}
 use Rattle.place_tables.specs.AtOnce.{IsFree, decided}
 
 same-number : (n : ℕ) → (n == n) ≡ true

@@ -14,9 +14,9 @@ use Rattle.law_machine.specs.Own.{own}
 use Rattle.law_machine.specs.Doing.{direct, after_tag}
 use Rattle.law_machine.specs.Trying.{go}
 use Rattle.law_machine.specs.Replies.{post_reply}
-use Rattle.place_state.specs.Commands.{Performed}
-use Rattle.place_state.specs.Steps.{posted}
-use Rattle.place_state.specs.Tables.{Tables, turn}
+use Rattle.place_tables.specs.Commands.{Performed}
+use Rattle.place_tables.specs.Steps.{posted}
+use Rattle.place_tables.specs.Tables.{Tables, turn}
 use Rattle.place_turns.specs.CallTurns.{with_call}
 use Rattle.place_turns.proofs.Posting.{post-performs}
 

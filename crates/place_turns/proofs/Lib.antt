@@ -4,3 +4,5 @@ pub mod Posting
 pub mod CallTurns
 pub mod AtOnce
 pub mod Told
+pub mod WithGroups
+pub mod OfPackets

@@ -12,7 +12,7 @@ use Rattle.law_machine.specs.declared.reply.Reply.{Reply}
 use Rattle.law_machine.specs.PlaceState.{PlaceState, Turn}
 use Rattle.law_machine.specs.Own.{held_by, move_act}
 use Rattle.law_machine.specs.Doing.{does}
-use Rattle.place_state.specs.Commands.{Performed}
+use Rattle.place_tables.specs.Commands.{Performed}
 use Rattle.place_turns.proofs.Performing.{performs, has-home}
 
 same-number : (m n : ℕ) → m ≡ n → (m == n) ≡ true

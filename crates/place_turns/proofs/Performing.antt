@@ -25,8 +25,8 @@ use Rattle.law_machine.specs.PlaceState.{PlaceState, Turn, next_clock}
 use Rattle.law_machine.specs.Own.{own, make_act, next_port, take_act, held_by, delete_act}
 use Rattle.law_machine.specs.Doing.{does, takes, with_ports, first_message, ends, holding}
 use Rattle.law_machine.specs.Replies.{reply_to, settling, taken_reply}
-use Rattle.place_state.specs.Ports.{takes_from, ids_of}
-use Rattle.place_state.specs.Commands.{Performed}
+use Rattle.place_tables.specs.Ports.{takes_from, ids_of}
+use Rattle.place_tables.specs.Commands.{Performed}
 
 -- the command's own act is this one, and it was done
 pub performs : (c : Command) (x : Act) (t mid u : Turn) (r : Reply) → mid ≡ t → own c t ≡ x → u ≡ does x mid → r ≡ reply_to x t (does x t) → Performed c t u r

@@ -16,12 +16,12 @@ use Rattle.chorus_entry.specs.declared.command.Command.{Command}
 use Rattle.chorus_entry.specs.declared.message.Message.{Message}
 use Rattle.law_machine.specs.declared.reply.Reply.{Reply}
 use Rattle.law_machine.specs.Replies.{reply_to, post_reply}
-use Rattle.place_state.specs.Commands.{Performed}
+use Rattle.place_tables.specs.Commands.{Performed}
 use Rattle.chorus_calls.specs.Callers.{after_post}
-use Rattle.place_state.specs.Going.{leaving_to, leaving}
-use Rattle.place_state.specs.Steps.{posted}
-use Rattle.place_state.proofs.Leaving.{leaving-at}
-use Rattle.place_state.proofs.Reports.{at-key}
+use Rattle.place_tables.specs.Going.{leaving_to, leaving}
+use Rattle.place_tables.specs.Steps.{posted}
+use Rattle.place_tables.proofs.MessagesLeave.{leaving-at}
+use Rattle.place_tables.proofs.Reports.{at-key}
 
 max-same : (n : ℕ) → max n n ≡ n
 max-same n = omega arith

@@ -8,7 +8,7 @@ use Rattle.chorus_entry.specs.declared.command.Command.TheVariants.{Make}
 use Rattle.chorus_entry.specs.declared.hand.Hand.{Hand}
 use Rattle.chorus_entry.specs.Places.{place_for}
 use Rattle.chorus_calls.specs.Callers.{Seated}
-use Rattle.place_state.specs.Tables.{Tables}
+use Rattle.place_tables.specs.Tables.{Tables}
 
 -- the caller may make a port of this capacity for the actor, and this is the place that makes it
 pub record MayMakePort (a : Ui) (capacity : ℕ) (p : Tables) (c : Seated) : Type 0 where

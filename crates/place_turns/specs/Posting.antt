@@ -16,9 +16,9 @@ use Rattle.law_machine.specs.Doing.{direct, post}
 use Rattle.place_turns.specs.declared.messages.Ready.{Ready}
 use Rattle.place_turns.specs.declared.messages.Way.{Way}
 use Rattle.place_unsettled.specs.declared.wait.Wait.{Wait}
-use Rattle.place_state.specs.Tables.{Tables, state, IsSound}
+use Rattle.place_tables.specs.Tables.{Tables, state, IsSound}
 use Rattle.place_tables.specs.AtOnce.{IsFree}
-use Rattle.place_state.specs.Going.{waits_for, reports_for, leaving_after}
+use Rattle.place_tables.specs.Going.{waits_for, reports_for, leaving_after}
 
 -- the caller's next message, with this tag and body, may be posted to the port
 pub record MayPostTo (q : Ui) (tag : Tag) (body : List ℕ) (c : Seated) : Type 0 where

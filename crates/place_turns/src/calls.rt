@@ -5,10 +5,10 @@ ghost use Rattle.chorus_ui.specs.declared.kind.Kind.TheVariants as Kind;
 ghost use Rattle.chorus_ui.specs.declared.limits.TheConstants.{BODY_LIMIT, CLOCK_LIMIT};
 ghost use Rattle.chorus_entry.specs.declared.command.Command.TheVariants as Command;
 ghost use Rattle.law_machine.specs.PlaceState.{greatest_clock, note};
-ghost use Rattle.place_state.specs.Plain.{is_plain};
-ghost use Rattle.place_state.specs.Room.{KeepsRoom};
-ghost use Rattle.place_state.specs.Tables.{turn};
-ghost use Rattle.place_state.specs.Commands.{Performed, StaysOut};
+ghost use Rattle.place_tables.specs.Plain.{is_plain};
+ghost use Rattle.place_tables.specs.Room.{KeepsRoom};
+ghost use Rattle.place_tables.specs.Tables.{turn};
+ghost use Rattle.place_tables.specs.Commands.{Performed, StaysOut};
 ghost use Rattle.place_turns.specs.Allowed.{MayBeginCall, MayReply};
 ghost use Rattle.place_turns.specs.CallTurns.{outstanding_number, with_call, without_call};
 

@@ -1,16 +1,21 @@
-//! Whole turns with ports, messages and calls: the commands of a caller that no group takes part in.
+//! Whole turns of a place: a caller's command, with a group or without one, and a packet that is worked off.
 //!
 //! The layer above rests on this: each turn does exactly what the place machine does (`law_machine`), gives its reply, and where it
-//! is refused changes nothing.
+//! is refused changes nothing. A packet is told to be lawful exactly where that machine says so.
 //!
-//! Begin with `messages`, over which `calls` stands; `ports` has the turns at ports. A turn takes first all that can fail, and then
-//! goes step by step: the tables and their steps are those of `place_tables`.
+//! Begin with `messages`, over which `calls` stands; `ports` has the turns at ports, `with_groups` those with groups, and `of_packets`
+//! those of packets. A turn takes first all that can fail, and then goes step by step: the tables and their steps are those of
+//! `place_tables`.
 #![tactic(auto)]
 
 mod calls;
 mod messages;
+mod of_packets;
 mod ports;
+mod with_groups;
 
 pub use calls::{call, cancel, retry, send_reply};
 pub use messages::send_to_port;
+pub use of_packets::{Ready, is_lawful, make_ready, open};
 pub use ports::{delete, make, move_port, take};
+pub use with_groups::{join, leave, make_group, post_to_group};

@@ -12,10 +12,10 @@ ghost use Rattle.law_machine.specs.Trying.{go};
 ghost use Rattle.law_machine.specs.Doing.{direct};
 ghost use Rattle.law_machine.specs.Replies.{verdict_reply, post_reply};
 ghost use Rattle.chorus_calls.specs.Callers.{Seated};
-ghost use Rattle.place_state.specs.Room.{KeepsRoom};
-ghost use Rattle.place_state.specs.Tables.{state, turn, IsSound};
-ghost use Rattle.place_state.specs.Steps.{posted};
-ghost use Rattle.place_state.specs.Commands.{Performed, StaysOut};
+ghost use Rattle.place_tables.specs.Room.{KeepsRoom};
+ghost use Rattle.place_tables.specs.Tables.{state, turn, IsSound};
+ghost use Rattle.place_tables.specs.Steps.{posted};
+ghost use Rattle.place_tables.specs.Commands.{Performed, StaysOut};
 ghost use Rattle.place_tables.specs.AtOnce.{IsFree};
 ghost use Rattle.place_turns.specs.Posting.{last_answer, MayPostTo, IsToPort, IsReady, IsAtOnce, IsToWait};
 
@@ -23,8 +23,7 @@ use chorus_calls::Caller;
 use chorus_entry::{Answer, Body, Dest, Entry, Message, MsgId, Tag};
 use chorus_ui::Ui;
 use law_machine::Reply;
-use place_state::next_message;
-use place_tables::Tables;
+use place_tables::{Tables, next_message};
 use place_unsettled::{Key, Wait};
 use std::alloc::AllocError;
 

@@ -6,9 +6,9 @@ ghost use Rattle.chorus_entry.specs.declared.command.Command.TheVariants as Comm
 ghost use Rattle.chorus_ports.specs.Table.{find};
 ghost use Rattle.law_machine.specs.PlaceState.{greatest_clock};
 ghost use Rattle.law_machine.specs.Own.{held_by, next_port};
-ghost use Rattle.place_state.specs.Commands.{Performed, StaysOut};
-ghost use Rattle.place_state.specs.Room.{KeepsRoom};
-ghost use Rattle.place_state.specs.Tables.{turn};
+ghost use Rattle.place_tables.specs.Commands.{Performed, StaysOut};
+ghost use Rattle.place_tables.specs.Room.{KeepsRoom};
+ghost use Rattle.place_tables.specs.Tables.{turn};
 ghost use Rattle.place_turns.specs.Allowed.{MayMakePort};
 
 use chorus_calls::Caller;

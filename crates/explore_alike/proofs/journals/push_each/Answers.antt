@@ -1,6 +1,6 @@
 use Rattle.std.proofs.Common.{◌+◌, ◌++◌, ◌∷◌, [], drop, sym, ◌∙◌, ap, append_assoc}
 use Rattle.chorus_world.specs.Places.{copies}
-use Rattle.explore_facts.proofs.Lines.{drop-some}
+use Rattle.explore_report.proofs.Lines.{drop-some}
 use Rattle.explore_alike.specs.Journals.{ids_of}
 use Rattle.explore_alike.proofs.journals.push_each.Goals as goal
 

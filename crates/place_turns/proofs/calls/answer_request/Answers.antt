@@ -4,7 +4,7 @@ use Rattle.chorus_entry.specs.declared.command.Command.TheVariants as Command
 use Rattle.chorus_entry.specs.declared.tag.Tag.TheVariants as Tag
 use Rattle.law_machine.specs.PlaceState.{greatest_clock}
 use Rattle.law_machine.specs.Own.{next_message, reply_act}
-use Rattle.place_state.specs.Tables.{turn}
+use Rattle.place_tables.specs.Tables.{turn}
 use Rattle.place_turns.proofs.Posting.{on_err}
 use Rattle.place_turns.proofs.CallTurns.{post-done}
 use Rattle.place_turns.proofs.calls.answer_request.Goals as goal

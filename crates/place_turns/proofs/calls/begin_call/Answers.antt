@@ -5,7 +5,7 @@ use Rattle.chorus_entry.specs.declared.tag.Tag.TheVariants as Tag
 use Rattle.chorus_calls.specs.Clients.{Calling}
 use Rattle.law_machine.specs.PlaceState.{greatest_clock}
 use Rattle.law_machine.specs.Own.{next_message, call_act}
-use Rattle.place_state.specs.Tables.{turn}
+use Rattle.place_tables.specs.Tables.{turn}
 use Rattle.place_turns.proofs.Posting.{on_err}
 use Rattle.place_turns.proofs.CallTurns.{post-done}
 use Rattle.place_turns.proofs.calls.begin_call.Goals as goal

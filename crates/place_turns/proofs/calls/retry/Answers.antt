@@ -6,7 +6,7 @@ use Rattle.chorus_calls.specs.Again.{call_again}
 use Rattle.chorus_calls.specs.Clients.{Calling}
 use Rattle.law_machine.specs.PlaceState.{greatest_clock}
 use Rattle.law_machine.specs.Own.{next_message, retry_act}
-use Rattle.place_state.specs.Tables.{turn}
+use Rattle.place_tables.specs.Tables.{turn}
 use Rattle.place_turns.proofs.Posting.{on_err}
 use Rattle.place_turns.proofs.CallTurns.{post-done, same-call}
 use Rattle.place_turns.proofs.calls.retry.Goals as goal

@@ -6,8 +6,8 @@ use Rattle.place_unsettled.proofs.Keys.{same_row}
 use Rattle.law_machine.specs.Doing.{direct}
 use Rattle.law_machine.specs.Deciding.{decide}
 use Rattle.law_machine.specs.Replies.{verdict_reply}
-use Rattle.place_state.specs.Groups.{posted_alone}
-use Rattle.place_state.specs.Tables.{Tables, turn, IsSound}
+use Rattle.place_tables.specs.Groups.{posted_alone}
+use Rattle.place_tables.specs.Tables.{Tables, turn, IsSound}
 use Rattle.place_tables.specs.AtOnce.{decided}
 use Rattle.place_turns.proofs.AtOnce.{at-once, posted-alone-clock}
 use Rattle.place_turns.proofs.Told.{reply-told}

@@ -1,7 +1,7 @@
 use Rattle.std.proofs.Common.{ap, ◌∙◌, arith}
 use Rattle.law_machine.specs.Doing.{direct}
 use Rattle.law_machine.specs.Trying.{go}
-use Rattle.place_state.specs.Tables.{turn}
+use Rattle.place_tables.specs.Tables.{turn}
 use Rattle.place_turns.proofs.Posting.{posted-length, posted-clock, posted-leaving}
 use Rattle.place_turns.proofs.messages.post_behind.Goals as goal
 

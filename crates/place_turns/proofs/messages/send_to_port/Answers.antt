@@ -5,7 +5,7 @@ use Rattle.chorus_entry.specs.declared.dest.Dest.{Dest}
 use Rattle.chorus_entry.specs.declared.tag.Tag.TheVariants as Tag
 use Rattle.law_machine.specs.PlaceState.{greatest_clock}
 use Rattle.law_machine.specs.Own.{next_message}
-use Rattle.place_state.specs.Tables.{turn}
+use Rattle.place_tables.specs.Tables.{turn}
 use Rattle.place_turns.proofs.Posting.{on_err}
 use Rattle.place_turns.proofs.CallTurns.{post-done}
 use Rattle.place_turns.proofs.messages.send_to_port.Goals as goal

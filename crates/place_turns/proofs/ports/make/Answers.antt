@@ -5,7 +5,7 @@ use Rattle.chorus_entry.specs.declared.act.Act.TheVariants as Act
 use Rattle.chorus_world.specs.Steps.{is_full_of_ports}
 use Rattle.law_machine.specs.declared.reply.Reply.{Reply}
 use Rattle.law_machine.specs.Own.{next_port}
-use Rattle.place_state.specs.Tables.{Tables, turn}
+use Rattle.place_tables.specs.Tables.{Tables, turn}
 use Rattle.place_turns.proofs.Posting.{on_err}
 use Rattle.place_turns.proofs.Performing.{performs, making, home-here, has-home}
 use Rattle.place_turns.proofs.ports.make.Goals as goal

@@ -4,8 +4,8 @@ use Rattle.chorus_entry.specs.declared.command.Command.TheVariants as Command
 use Rattle.chorus_ports.specs.Table.{find}
 use Rattle.law_machine.specs.declared.reply.Reply.{Reply}
 use Rattle.law_machine.specs.Own.{held_by}
-use Rattle.place_state.specs.Commands.{Performed}
-use Rattle.place_state.specs.Tables.{turn}
+use Rattle.place_tables.specs.Commands.{Performed}
+use Rattle.place_tables.specs.Tables.{turn}
 use Rattle.place_turns.proofs.MovePort.{rehoming, departing}
 use Rattle.place_turns.proofs.ports.move_port.Goals as goal
 

@@ -2,10 +2,10 @@ use Rattle.std.proofs.Common.{refl, subst}
 use Rattle.chorus_entry.specs.declared.command.Command.TheVariants as Command
 use Rattle.chorus_ports.specs.declared.taking.Taken.TheVariants as T
 use Rattle.law_machine.specs.declared.reply.Reply.{Reply}
-use Rattle.place_state.specs.Commands.{Performed}
-use Rattle.place_state.specs.Tables.{turn}
+use Rattle.place_tables.specs.Commands.{Performed}
+use Rattle.place_tables.specs.Tables.{turn}
 use Rattle.place_turns.proofs.Performing.{taking, taking-refused}
-use Rattle.place_state.proofs.Ports.{has-number}
+use Rattle.place_tables.proofs.Ports.{has-number}
 use Rattle.place_turns.proofs.ports.take.Goals as goal
 
 pub returns-in-NotHere-clause-performed : goal.returns-in-NotHere-clause-performed

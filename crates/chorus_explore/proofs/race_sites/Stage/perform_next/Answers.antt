@@ -7,7 +7,7 @@ use Rattle.chorus_entry.specs.declared.entry.Entry.{Entry}
 use Rattle.law_explore.specs.Outcome.{Answered}
 use Rattle.law_network.specs.Network.{Act, happened}
 use Rattle.chorus_net.specs.Sites.{net}
-use Rattle.explore_facts.specs.Facts.{fact_line}
+use Rattle.explore_report.specs.Facts.{fact_line}
 use Rattle.chorus_explore.proofs.Answering.{answered-by, next-few, performed-by, script-below, wears-next}
 use Rattle.chorus_explore.proofs.Entering.{exit}
 use Rattle.chorus_explore.proofs.Moving.{layout-at, of-script, some-same, within}

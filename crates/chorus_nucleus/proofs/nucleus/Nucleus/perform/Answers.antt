@@ -3,9 +3,9 @@ use Rattle.chorus_ui.specs.declared.ui.Ui.{Ui}
 use Rattle.chorus_entry.specs.Places.{place_for}
 use Rattle.chorus_calls.specs.Callers.{Seated}
 use Rattle.chorus_turn.specs.Passes.{handed, known}
-use Rattle.place_site.specs.declared.draft.Draft.{Draft}
-use Rattle.place_site.specs.Drafts.{meant}
-use Rattle.place_site.specs.Jobs.{MayAct}
+use Rattle.chorus_nucleus.specs.declared.site_turns.draft.Draft.{Draft}
+use Rattle.chorus_nucleus.specs.SiteTurns.Drafts.{meant}
+use Rattle.chorus_nucleus.specs.SiteTurns.Jobs.{MayAct}
 use Rattle.chorus_nucleus.specs.Calls.{worn_after, IsCall}
 use Rattle.chorus_nucleus.proofs.Joined.{may-there, as-call, same-held}
 use Rattle.chorus_nucleus.proofs.nucleus.Nucleus.perform.Goals as goal

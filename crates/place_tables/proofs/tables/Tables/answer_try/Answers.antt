@@ -6,12 +6,12 @@ use Rattle.chorus_ports.specs.Table.{find}
 use Rattle.law_machine.specs.PlaceState.{packed_at, location, greatest_clock}
 use Rattle.law_machine.specs.Deciding.{decision, records_after}
 use Rattle.place_tables.specs.contracts.tables.Tables.{the_view}
-use Rattle.place_state.specs.Tables.{turn, state, seen}
-use Rattle.place_state.proofs.Plain.{may_follow}
-use Rattle.place_state.proofs.States.{same_turn, put-loads, said-as, said-at}
-use Rattle.place_state.proofs.Kept.{said-by, positions-fit, held-answered, numbered-plain, grouped-plain, boxed-more, sent-one}
-use Rattle.place_state.proofs.Deciding.{same-answer}
-use Rattle.place_state.proofs.Counted.{counted-more}
+use Rattle.place_tables.specs.Tables.{turn, state, seen}
+use Rattle.place_tables.proofs.Plain.{may_follow}
+use Rattle.place_tables.proofs.States.{same_turn, put-loads, said-as, said-at}
+use Rattle.place_tables.proofs.Kept.{said-by, positions-fit, held-answered, numbered-plain, grouped-plain, boxed-more, sent-one}
+use Rattle.place_tables.proofs.Deciding.{same-answer}
+use Rattle.place_tables.proofs.Counted.{counted-more}
 use Rattle.place_tables.proofs.tables.Tables.answer_try.Goals as goal
 
 pub decide-answer-requires-clause-positions : goal.decide-answer-requires-clause-positions

@@ -4,11 +4,11 @@ use Rattle.chorus_entry.specs.declared.act.Act.TheVariants as Act
 use Rattle.chorus_world.specs.Places.{last_clock, is_made_here}
 use Rattle.chorus_ports.specs.Table.{find}
 use Rattle.law_machine.specs.PlaceState.{greatest_clock}
-use Rattle.place_state.specs.Tables.{turn}
-use Rattle.place_state.proofs.States.{same_turn}
-use Rattle.place_state.proofs.Kept.{said-by, kept-plain, made-more}
-use Rattle.place_state.proofs.Ports.{kept-ports, kept-learned, held-came, no-more}
-use Rattle.place_state.proofs.Counted.{counted-later}
+use Rattle.place_tables.specs.Tables.{turn}
+use Rattle.place_tables.proofs.States.{same_turn}
+use Rattle.place_tables.proofs.Kept.{said-by, kept-plain, made-more}
+use Rattle.place_tables.proofs.Ports.{kept-ports, kept-learned, held-came, no-more}
+use Rattle.place_tables.proofs.Counted.{counted-later}
 use Rattle.place_tables.proofs.tables.Tables.arrive.Goals as goal
 
 pub invariant_of-self : goal.invariant_of-self

@@ -5,12 +5,12 @@ use Rattle.chorus_entry.specs.declared.act.Act.TheVariants as Act
 use Rattle.chorus_calls.specs.Callers.{after_post, after_tick}
 use Rattle.law_machine.specs.PlaceState.{packed_at}
 use Rattle.place_tables.specs.contracts.tables.Tables.{the_view}
-use Rattle.place_state.specs.Tables.{turn}
-use Rattle.place_state.specs.Turns.{next_clock}
-use Rattle.place_state.proofs.States.{same_turn, put-loads, said-at}
-use Rattle.place_state.proofs.Kept.{said-by, kept-plain, kept-put, boxed-more}
-use Rattle.place_state.proofs.Choosing.{no-port}
-use Rattle.place_state.proofs.Counted.{counted-more}
+use Rattle.place_tables.specs.Tables.{turn}
+use Rattle.place_tables.specs.Turns.{next_clock}
+use Rattle.place_tables.proofs.States.{same_turn, put-loads, said-at}
+use Rattle.place_tables.proofs.Kept.{said-by, kept-plain, kept-put, boxed-more}
+use Rattle.place_tables.proofs.Choosing.{no-port}
+use Rattle.place_tables.proofs.Counted.{counted-more}
 use Rattle.place_tables.proofs.tables.Tables.ask.Goals as goal
 
 pub invariant_of-self-2 : goal.invariant_of-self-2

@@ -2,9 +2,9 @@ use Rattle.std.proofs.Common.{All, ap, subst, ◌∙◌, map}
 use Rattle.chorus_groups.specs.Choosing.{choice as table_choice}
 use Rattle.law_machine.specs.Choosing.{choice}
 use Rattle.chorus_world.specs.Groups as world
-use Rattle.place_state.specs.Tables.{Tables, IsPort, state}
-use Rattle.place_state.specs.Groups.{site_at}
-use Rattle.place_state.proofs.Choosing.{chosen-same, chosen-as, all-chosen}
+use Rattle.place_tables.specs.Tables.{Tables, IsPort, state}
+use Rattle.place_tables.specs.Groups.{site_at}
+use Rattle.place_tables.proofs.Choosing.{chosen-same, chosen-as, all-chosen}
 use Rattle.place_tables.proofs.tables.Tables.choice.Goals as goal
 
 pub returns-clause-value : goal.returns-clause-value

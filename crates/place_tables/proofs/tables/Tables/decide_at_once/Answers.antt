@@ -5,12 +5,12 @@ use Rattle.chorus_ports.specs.Table.{find}
 use Rattle.law_machine.specs.PlaceState.{location, greatest_clock}
 use Rattle.law_machine.specs.Deciding.{decision, records_after}
 use Rattle.place_tables.specs.contracts.tables.Tables.{the_view}
-use Rattle.place_state.specs.Tables.{turn, state, seen}
-use Rattle.place_state.proofs.Plain.{may_follow}
-use Rattle.place_state.proofs.States.{same_turn, said-as}
-use Rattle.place_state.proofs.Kept.{said-by, positions-fit, held-answered, kept-ports}
-use Rattle.place_state.proofs.Deciding.{same-answer}
-use Rattle.place_state.proofs.Counted.{counted-later}
+use Rattle.place_tables.specs.Tables.{turn, state, seen}
+use Rattle.place_tables.proofs.Plain.{may_follow}
+use Rattle.place_tables.proofs.States.{same_turn, said-as}
+use Rattle.place_tables.proofs.Kept.{said-by, positions-fit, held-answered, kept-ports}
+use Rattle.place_tables.proofs.Deciding.{same-answer}
+use Rattle.place_tables.proofs.Counted.{counted-later}
 use Rattle.place_tables.proofs.tables.Tables.decide_at_once.Goals as goal
 
 pub decide-answer-requires-clause-positions : goal.decide-answer-requires-clause-positions

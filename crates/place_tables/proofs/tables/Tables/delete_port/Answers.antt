@@ -2,9 +2,9 @@ use Rattle.std.proofs.Common.{ap, refl, ◌∙◌, is_some}
 use Rattle.chorus_ports.specs.Table.{find}
 use Rattle.chorus_entry.specs.declared.act.Act.TheVariants as Act
 use Rattle.chorus_ui.specs.Layout.{can_make_port}
-use Rattle.place_state.proofs.Kept.{said-by}
-use Rattle.place_state.proofs.Ports.{kept-deleted, may-hold, listed}
-use Rattle.place_state.proofs.Counted.{counted-later}
+use Rattle.place_tables.proofs.Kept.{said-by}
+use Rattle.place_tables.proofs.Ports.{kept-deleted, may-hold, listed}
+use Rattle.place_tables.proofs.Counted.{counted-later}
 use Rattle.place_tables.proofs.tables.Tables.delete_port.Goals as goal
 
 pub say-requires-clause-follows : goal.say-requires-clause-follows

@@ -8,11 +8,11 @@ use Rattle.chorus_ports.specs.History.{migrated}
 use Rattle.law_machine.specs.PlaceState.{packed_at, greatest_clock}
 use Rattle.law_machine.specs.Doing.{transfer_to}
 use Rattle.place_tables.specs.contracts.tables.Tables.{the_view}
-use Rattle.place_state.specs.Tables.{turn}
-use Rattle.place_state.proofs.States.{same_turn, put-loads, said-at}
-use Rattle.place_state.proofs.Kept.{said-by, kept-plain, kept-put, boxed-more}
-use Rattle.place_state.proofs.Ports.{kept-ports, kept-learned, held-left}
-use Rattle.place_state.proofs.Counted.{counted-more}
+use Rattle.place_tables.specs.Tables.{turn}
+use Rattle.place_tables.proofs.States.{same_turn, put-loads, said-at}
+use Rattle.place_tables.proofs.Kept.{said-by, kept-plain, kept-put, boxed-more}
+use Rattle.place_tables.proofs.Ports.{kept-ports, kept-learned, held-left}
+use Rattle.place_tables.proofs.Counted.{counted-more}
 use Rattle.place_tables.proofs.tables.Tables.depart.Goals as goal
 
 pub overflow_add-record : goal.overflow_add-record

@@ -5,11 +5,11 @@ use Rattle.chorus_entry.specs.declared.answer.Answer.TheVariants as A
 use Rattle.law_machine.specs.PlaceState.{packed_at}
 use Rattle.law_machine.specs.Trying.{report}
 use Rattle.place_tables.specs.contracts.tables.Tables.{the_view}
-use Rattle.place_state.specs.Tables.{turn}
-use Rattle.place_state.proofs.States.{same_turn, put-loads, said-at}
-use Rattle.place_state.proofs.Kept.{said-by, sent-more, sent-report, boxed-more}
-use Rattle.place_state.proofs.Groups.{report-one, kept-chosen}
-use Rattle.place_state.proofs.Counted.{counted-more, report-one as packet-one}
+use Rattle.place_tables.specs.Tables.{turn}
+use Rattle.place_tables.proofs.States.{same_turn, put-loads, said-at}
+use Rattle.place_tables.proofs.Kept.{said-by, sent-more, sent-report, boxed-more}
+use Rattle.place_tables.proofs.Groups.{report-one, kept-chosen}
+use Rattle.place_tables.proofs.Counted.{counted-more, report-one as packet-one}
 use Rattle.place_tables.proofs.tables.Tables.find_no_member.Goals as goal
 
 pub put_report-requires : goal.put_report-requires

@@ -2,10 +2,10 @@ use Rattle.std.proofs.Common.{◌∙◌, subst, arith}
 use Rattle.std.proofs.lemmas.List.Elements.{All-head}
 use Rattle.place_unsettled.specs.Queues.{queue}
 use Rattle.law_machine.specs.Choosing.{by_group}
-use Rattle.place_state.specs.Tables.{state, turn, IsPort}
-use Rattle.place_state.specs.Groups.{AllGoing, ports_of}
-use Rattle.place_state.proofs.Groups.{reports-within, all-next, course-free}
-use Rattle.place_state.proofs.Rooms.{kept-then}
+use Rattle.place_tables.specs.Tables.{state, turn, IsPort}
+use Rattle.place_tables.specs.Groups.{AllGoing, ports_of}
+use Rattle.place_tables.proofs.Groups.{reports-within, all-next, course-free}
+use Rattle.place_tables.proofs.Rooms.{kept-then}
 use Rattle.place_tables.proofs.tables.Tables.go_all.Goals as goal
 
 pub go-requires-clause-may : goal.go-requires-clause-may

@@ -1,7 +1,7 @@
 use Rattle.std.proofs.Common.{◌≡◌, length}
-use Rattle.place_state.specs.Tables.{turn}
-use Rattle.place_state.specs.Groups.{AllGoing, ports_of}
-use Rattle.place_state.specs.Room.{KeepsRoom}
+use Rattle.place_tables.specs.Tables.{turn}
+use Rattle.place_tables.specs.Groups.{AllGoing, ports_of}
+use Rattle.place_tables.specs.Room.{KeepsRoom}
 use Rattle.place_tables.proofs.tables.Tables.go_all.Given as goal
 
 abbrev pub invariant-loop-course : goal.invariant-loop-course

@@ -1,7 +1,7 @@
 use Rattle.std.proofs.Common.{ap, sym, ◌∙◌}
 use Rattle.chorus_ui.specs.Layout.{has_place}
 use Rattle.chorus_hints.specs.Known.{kept}
-use Rattle.place_state.proofs.Going.{located-in_layout}
+use Rattle.place_tables.proofs.Going.{located-in_layout}
 use Rattle.place_tables.proofs.tables.Tables.go_on.Goals as goal
 
 pub try_first-requires-clause-place : goal.try_first-requires-clause-place

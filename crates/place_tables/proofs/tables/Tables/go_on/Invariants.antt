@@ -1,7 +1,7 @@
 use Rattle.std.proofs.Common.{◌≡◌, ◌+◌, ◌≤◌, length}
-use Rattle.place_state.specs.Tables.{turn}
-use Rattle.place_state.specs.Going.{Going, waits_for, reports_for}
-use Rattle.place_state.specs.Room.{KeepsRoom}
+use Rattle.place_tables.specs.Tables.{turn}
+use Rattle.place_tables.specs.Going.{Going, waits_for, reports_for}
+use Rattle.place_tables.specs.Room.{KeepsRoom}
 use Rattle.place_tables.proofs.tables.Tables.go_on.Given as goal
 
 abbrev pub invariant-loop : goal.invariant-loop

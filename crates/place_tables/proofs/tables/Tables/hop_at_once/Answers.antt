@@ -4,7 +4,7 @@ use Rattle.chorus_ui.specs.Layout.{has_site}
 use Rattle.place_unsettled.specs.declared.wait.Wait.{Wait}
 use Rattle.place_unsettled.specs.Queues.{Queue, queue, empty_queue, is_free}
 use Rattle.law_machine.specs.Doing.{direct}
-use Rattle.place_state.proofs.Going.{seen-site, placed}
+use Rattle.place_tables.proofs.Going.{seen-site, placed}
 use Rattle.place_tables.proofs.tables.Tables.hop_at_once.Goals as goal
 
 no-waits : (ws : List Wait) → (length ws == 0) ≡ true → ws ≡ []

@@ -1,8 +1,8 @@
 use Rattle.std.proofs.Common.{ap, refl, ◌∙◌}
 use Rattle.chorus_entry.specs.declared.act.Act.TheVariants as Act
-use Rattle.place_state.proofs.Kept.{said-by}
-use Rattle.place_state.proofs.Groups.{kept-grouped, grouped-left}
-use Rattle.place_state.proofs.Counted.{counted-later}
+use Rattle.place_tables.proofs.Kept.{said-by}
+use Rattle.place_tables.proofs.Groups.{kept-grouped, grouped-left}
+use Rattle.place_tables.proofs.Counted.{counted-later}
 use Rattle.place_tables.proofs.tables.Tables.leave_group.Goals as goal
 
 pub invariant_of-self : goal.invariant_of-self

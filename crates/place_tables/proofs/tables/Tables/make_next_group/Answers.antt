@@ -1,7 +1,7 @@
 use Rattle.std.proofs.Common.{ap, refl, ◌∙◌}
 use Rattle.chorus_entry.specs.declared.act.Act.TheVariants as Act
-use Rattle.place_state.proofs.Groups.{said-group, kept-grouped, grouped-same}
-use Rattle.place_state.proofs.Counted.{counted-later}
+use Rattle.place_tables.proofs.Groups.{said-group, kept-grouped, grouped-same}
+use Rattle.place_tables.proofs.Counted.{counted-later}
 use Rattle.place_tables.proofs.tables.Tables.make_next_group.Goals as goal
 
 pub invariant_of-self-2 : goal.invariant_of-self-2

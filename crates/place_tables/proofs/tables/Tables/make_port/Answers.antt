@@ -3,10 +3,10 @@ use Rattle.chorus_ui.specs.Layout.{has_actor, can_make_port, creation_place}
 use Rattle.chorus_entry.specs.declared.act.Act.TheVariants as Act
 use Rattle.chorus_world.specs.Steps.{is_full_of_ports}
 use Rattle.law_machine.specs.Own.{next_port}
-use Rattle.place_state.specs.Tables.{state}
-use Rattle.place_state.proofs.Kept.{said-by}
-use Rattle.place_state.proofs.Ports.{kept-made, absent-next, creation-next, can-make-next, listed, some-turns}
-use Rattle.place_state.proofs.Counted.{counted-later}
+use Rattle.place_tables.specs.Tables.{state}
+use Rattle.place_tables.proofs.Kept.{said-by}
+use Rattle.place_tables.proofs.Ports.{kept-made, absent-next, creation-next, can-make-next, listed, some-turns}
+use Rattle.place_tables.proofs.Counted.{counted-later}
 use Rattle.place_tables.proofs.tables.Tables.make_port.Goals as goal
 
 pub make-requires-clause-not_held : goal.make-requires-clause-not_held

@@ -1,7 +1,7 @@
 use Rattle.std.proofs.Common.{ap, arith}
 use Rattle.place_unsettled.specs.Queues.{queue}
-use Rattle.place_state.specs.Going.{reports_for}
-use Rattle.place_state.proofs.Reports.{reports-direct, reports-most}
+use Rattle.place_tables.specs.Going.{reports_for}
+use Rattle.place_tables.proofs.Reports.{reports-direct, reports-most}
 use Rattle.place_tables.proofs.tables.Tables.most_reports.Goals as goal
 
 pub returns-in-None-clause-enough : goal.returns-in-None-clause-enough

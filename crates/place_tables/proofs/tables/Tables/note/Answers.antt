@@ -1,6 +1,6 @@
 use Rattle.std.proofs.Common.{ap, ◌∙◌}
-use Rattle.place_state.proofs.Kept.{said-by, kept-plain}
-use Rattle.place_state.proofs.Counted.{counted-later}
+use Rattle.place_tables.proofs.Kept.{said-by, kept-plain}
+use Rattle.place_tables.proofs.Counted.{counted-later}
 use Rattle.place_tables.proofs.tables.Tables.note.Goals as goal
 
 pub invariant_of-self : goal.invariant_of-self

@@ -6,11 +6,11 @@ use Rattle.chorus_entry.specs.declared.act.Act.TheVariants as Act
 use Rattle.chorus_calls.specs.Callers.{after_post}
 use Rattle.place_unsettled.specs.Queues.{queue, changed, with_last}
 use Rattle.law_machine.specs.Doing.{post}
-use Rattle.place_state.specs.Tables.{Tables, IsSound}
-use Rattle.place_state.proofs.States.{same_turn}
-use Rattle.place_state.proofs.Reports.{reports-own}
-use Rattle.place_state.proofs.Kept.{said-by, kept-plain, kept-waits, waiting-last}
-use Rattle.place_state.proofs.Counted.{counted-later}
+use Rattle.place_tables.specs.Tables.{Tables, IsSound}
+use Rattle.place_tables.proofs.States.{same_turn}
+use Rattle.place_tables.proofs.Reports.{reports-own}
+use Rattle.place_tables.proofs.Kept.{said-by, kept-plain, kept-waits, waiting-last}
+use Rattle.place_tables.proofs.Counted.{counted-later}
 use Rattle.place_tables.proofs.tables.Tables.post.Goals as goal
 
 pub invariant_of-self : goal.invariant_of-self

@@ -1,7 +1,7 @@
 use Rattle.std.proofs.Common.{ap, refl, ◌∙◌}
 use Rattle.chorus_entry.specs.declared.act.Act.TheVariants as Act
-use Rattle.place_state.proofs.Kept.{said-by, kept-plain}
-use Rattle.place_state.proofs.Counted.{counted-later}
+use Rattle.place_tables.proofs.Kept.{said-by, kept-plain}
+use Rattle.place_tables.proofs.Counted.{counted-later}
 use Rattle.place_tables.proofs.tables.Tables.post_alone.Goals as goal
 
 pub invariant_of-self : goal.invariant_of-self

@@ -1,9 +1,9 @@
 use Rattle.std.proofs.Common.{ap, refl, ◌∙◌}
 use Rattle.chorus_entry.specs.declared.act.Act.TheVariants as Act
 use Rattle.chorus_ports.specs.Taking.{rehomed}
-use Rattle.place_state.proofs.Kept.{said-by, kept-plain, rehomed-raises}
-use Rattle.place_state.proofs.Ports.{kept-ports, held-changed}
-use Rattle.place_state.proofs.Counted.{counted-later}
+use Rattle.place_tables.proofs.Kept.{said-by, kept-plain, rehomed-raises}
+use Rattle.place_tables.proofs.Ports.{kept-ports, held-changed}
+use Rattle.place_tables.proofs.Counted.{counted-later}
 use Rattle.place_tables.proofs.tables.Tables.rehome.Goals as goal
 
 pub invariant_of-self : goal.invariant_of-self

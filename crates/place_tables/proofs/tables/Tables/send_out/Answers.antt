@@ -1,7 +1,7 @@
 use Rattle.std.proofs.Common.{ap, ◌∙◌, [], length, arith}
 use Rattle.std.proofs.lemmas.List.Elements.{All-nil, All-same}
-use Rattle.place_state.specs.Tables.{GoesTo}
-use Rattle.place_state.proofs.SentPackets.{all-places, places-for}
+use Rattle.place_tables.specs.Tables.{GoesTo}
+use Rattle.place_tables.proofs.SentPackets.{all-places, places-for}
 use Rattle.place_tables.proofs.tables.Tables.send_out.Goals as goal
 
 pub move_all-requires-clause-places : goal.move_all-requires-clause-places

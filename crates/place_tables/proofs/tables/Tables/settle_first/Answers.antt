@@ -6,14 +6,14 @@ use Rattle.law_machine.specs.Deciding.{decision, records_after}
 use Rattle.law_machine.specs.Trying.{report}
 use Rattle.chorus_hints.specs.Known.{kept}
 use Rattle.place_tables.specs.contracts.tables.Tables.{the_view}
-use Rattle.place_state.specs.Tables.{turn, state, seen, MayWait}
-use Rattle.place_state.specs.Going.{reports_for}
-use Rattle.place_state.proofs.States.{same_turn, put-loads, said-as, said-at}
-use Rattle.place_state.proofs.Kept.{said-by, positions-fit, held-answered, numbered-plain, grouped-plain, waiting-passed, all-first, sent-more, sent-report, boxed-more}
-use Rattle.place_state.proofs.Plain.{may_follow}
-use Rattle.place_state.proofs.Deciding.{same-answer}
-use Rattle.place_state.proofs.Reports.{report-length, reports-passed, room-left, if-first}
-use Rattle.place_state.proofs.Counted.{counted-more, report-one}
+use Rattle.place_tables.specs.Tables.{turn, state, seen, MayWait}
+use Rattle.place_tables.specs.Going.{reports_for}
+use Rattle.place_tables.proofs.States.{same_turn, put-loads, said-as, said-at}
+use Rattle.place_tables.proofs.Kept.{said-by, positions-fit, held-answered, numbered-plain, grouped-plain, waiting-passed, all-first, sent-more, sent-report, boxed-more}
+use Rattle.place_tables.proofs.Plain.{may_follow}
+use Rattle.place_tables.proofs.Deciding.{same-answer}
+use Rattle.place_tables.proofs.Reports.{report-length, reports-passed, room-left, if-first}
+use Rattle.place_tables.proofs.Counted.{counted-more, report-one}
 use Rattle.place_tables.proofs.tables.Tables.settle_first.Goals as goal
 
 pub decide_unless-answer-requires-clause-positions : goal.decide_unless-answer-requires-clause-positions

@@ -1,8 +1,8 @@
 use Rattle.std.proofs.Common.{ap, sym, ◌∙◌, option_copied}
 use Rattle.chorus_ui.specs.Layout.{has_site}
 use Rattle.chorus_hints.specs.Known.{kept}
-use Rattle.place_state.proofs.Going.{nothing, away, nowhere-seen, elsewhere-seen, here-seen, seen-first, seen-site, placed, on-site, eq-yes, eq-no, located-in_layout}
-use Rattle.place_state.specs.Tables.{turn}
+use Rattle.place_tables.proofs.Going.{nothing, away, nowhere-seen, elsewhere-seen, here-seen, seen-first, seen-site, placed, on-site, eq-yes, eq-no, located-in_layout}
+use Rattle.place_tables.specs.Tables.{turn}
 use Rattle.place_tables.proofs.tables.Tables.settle_one.Goals as goal
 
 pub is_on_site-requires : goal.is_on_site-requires

@@ -1,7 +1,7 @@
 use Rattle.std.proofs.Common.{◌≡◌, ◌≤◌, take, map}
 use Rattle.std.specs.Prelude.{vec_len, vec_capacity}
-use Rattle.place_state.specs.Tables.{state}
-use Rattle.place_state.specs.Groups.{site_at}
+use Rattle.place_tables.specs.Tables.{state}
+use Rattle.place_tables.specs.Groups.{site_at}
 use Rattle.place_tables.proofs.tables.Tables.sites_of.Given as goal
 
 abbrev pub invariant-loop-at : goal.invariant-loop-at

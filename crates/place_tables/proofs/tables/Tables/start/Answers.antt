@@ -1,7 +1,7 @@
 use Rattle.std.proofs.Common.{ap, refl, ◌∙◌, length, ◌+◌, [], arith}
 use Rattle.std.proofs.lemmas.List.{length-replicate}
-use Rattle.place_state.proofs.States.{same_place}
-use Rattle.place_state.proofs.Kept.{kept-start}
+use Rattle.place_tables.proofs.States.{same_place}
+use Rattle.place_tables.proofs.Kept.{kept-start}
 use Rattle.place_tables.proofs.tables.Tables.start.Goals as goal
 
 pub invariant_of-result : goal.invariant_of-result

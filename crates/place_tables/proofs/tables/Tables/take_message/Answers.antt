@@ -1,10 +1,10 @@
 use Rattle.std.proofs.Common.{ap, sym, subst, ◌∙◌}
 use Rattle.chorus_ports.specs.Table.{find}
-use Rattle.place_state.specs.Ports.{IsSoundTaken}
+use Rattle.place_tables.specs.Ports.{IsSoundTaken}
 use Rattle.chorus_ports.specs.Taking.{after_take}
-use Rattle.place_state.proofs.Kept.{said-by, kept-plain, take-raises}
-use Rattle.place_state.proofs.Ports.{kept-ports, held-changed, sound-taken}
-use Rattle.place_state.proofs.Counted.{counted-later}
+use Rattle.place_tables.proofs.Kept.{said-by, kept-plain, take-raises}
+use Rattle.place_tables.proofs.Ports.{kept-ports, held-changed, sound-taken}
+use Rattle.place_tables.proofs.Counted.{counted-later}
 use Rattle.place_tables.proofs.tables.Tables.take_message.Goals as goal
 
 pub invariant_of-self : goal.invariant_of-self

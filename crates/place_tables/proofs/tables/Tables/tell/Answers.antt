@@ -5,13 +5,13 @@ use Rattle.chorus_world.specs.Places.{taught}
 use Rattle.law_machine.specs.PlaceState.{packed_at}
 use Rattle.law_machine.specs.Trying.{report}
 use Rattle.place_tables.specs.contracts.tables.Tables.{the_view}
-use Rattle.place_state.specs.Tables.{turn, MayWait}
-use Rattle.place_state.specs.Going.{reports_for}
-use Rattle.place_state.specs.Steps.{MayTeach}
-use Rattle.place_state.proofs.States.{same_turn, put-loads, said-at}
-use Rattle.place_state.proofs.Kept.{said-by, held-later, numbered-plain, grouped-plain, all-first, sent-more, sent-report, boxed-more}
-use Rattle.place_state.proofs.Telling.{report-first, waiting-told, located-taught, reports-told, room-kept}
-use Rattle.place_state.proofs.Counted.{counted-more, report-one}
+use Rattle.place_tables.specs.Tables.{turn, MayWait}
+use Rattle.place_tables.specs.Going.{reports_for}
+use Rattle.place_tables.specs.Steps.{MayTeach}
+use Rattle.place_tables.proofs.States.{same_turn, put-loads, said-at}
+use Rattle.place_tables.proofs.Kept.{said-by, held-later, numbered-plain, grouped-plain, all-first, sent-more, sent-report, boxed-more}
+use Rattle.place_tables.proofs.Telling.{report-first, waiting-told, located-taught, reports-told, room-kept}
+use Rattle.place_tables.proofs.Counted.{counted-more, report-one}
 use Rattle.place_tables.proofs.tables.Tables.tell.Goals as goal
 
 pub invariant_of-self : goal.invariant_of-self

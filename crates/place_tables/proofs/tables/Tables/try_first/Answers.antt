@@ -2,11 +2,11 @@ use Rattle.std.proofs.Common.{ap, refl, ◌∙◌, [], ◌∷◌, Some, arith}
 use Rattle.chorus_entry.specs.declared.act.Act.TheVariants as Act
 use Rattle.law_machine.specs.PlaceState.{packed_at}
 use Rattle.place_tables.specs.contracts.tables.Tables.{the_view}
-use Rattle.place_state.specs.Tables.{turn}
+use Rattle.place_tables.specs.Tables.{turn}
 use Rattle.chorus_ui.specs.Layout.{has_place}
-use Rattle.place_state.proofs.States.{same_turn, put-loads, said-at}
-use Rattle.place_state.proofs.Kept.{said-by, kept-plain, kept-waits, kept-put, waiting-at, boxed-more}
-use Rattle.place_state.proofs.Counted.{counted-more}
+use Rattle.place_tables.proofs.States.{same_turn, put-loads, said-at}
+use Rattle.place_tables.proofs.Kept.{said-by, kept-plain, kept-waits, kept-put, waiting-at, boxed-more}
+use Rattle.place_tables.proofs.Counted.{counted-more}
 use Rattle.place_tables.proofs.tables.Tables.try_first.Goals as goal
 
 pub invariant_of-self : goal.invariant_of-self

@@ -1,0 +1,51 @@
+use Rattle.std.proofs.Common.{◌≡◌, sym, ◌∙◌, subst, true}
+use Rattle.chorus_ui.specs.Layout.{has_place}
+use Rattle.chorus_place.specs.Calls.{Place}
+use Rattle.chorus_board.specs.Boards.{name_of}
+use Rattle.chorus_turn.specs.Journals.{GrowsBy}
+use Rattle.chorus_serve.specs.Desks.{seen}
+use Rattle.chorus_nucleus.specs.SiteTurns.Sites.{entries}
+use Rattle.chorus_nucleus.specs.SiteTurns.Jobs.{HasWorked}
+use Rattle.chorus_nucleus.specs.SiteTurns.Turning.{NotesFrom}
+use Rattle.chorus_nucleus.proofs.SiteTurns.Published.{stays-published}
+use Rattle.chorus_nucleus.proofs.SiteTurns.Steps.{served-marks, served-grows, served-goes, served-has, holding}
+use Rattle.chorus_nucleus.proofs.site_turns.serve_turn.ServesJobSite.run.Goals as goal
+
+pub returns-clause-done : goal.returns-clause-done
+returns-clause-done g c =
+    let d = seen g.E.Ends.links g.E.Ends.packet c.args.state.now.desk in
+    let e = seen g.E.Ends.links g.E.Ends.packet c.serve-done.new.desk in
+    let w = c.args.self.now.caller in
+    let x = c.serve-done.new.caller in
+    let hold = c.is_holding.ensures ∙ holding g.E.Ends.packet c.serve-done.new.desk.hand in
+    let has = served-has c.serve-done.result d e w x c.is_holding.result hold c.serve-done.ensures.ok c.serve-done.ensures.refused in (
+      c.of.ensures ∙ c.place-place.ensures,
+      subst (λ o. HasWorked o c.serve-done.result w x d e) (sym c.worked_from-self.ensures) has,
+      c.serve-done.ensures.worn,
+      c.serve-done.ensures.emptied,
+    )
+
+pub returns-clause-mark : goal.returns-clause-mark
+returns-clause-mark g c =
+    served-marks c.serve-done.result (seen g.E.Ends.links g.E.Ends.packet c.args.state.now.desk) (seen g.E.Ends.links g.E.Ends.packet c.serve-done.new.desk)
+    (name_of c.args.state.now.board) c.args.self.now.caller c.serve-done.new.caller c.serve-done.ensures.ok c.serve-done.ensures.refused
+
+pub returns-clause-entries : goal.returns-clause-entries
+returns-clause-entries g c =
+    let place = subst (λ (q : Place). has_place q.layout q.number ≡ true) c.place-place.ensures c.number-number.ensures.in_layout in
+    subst (λ q. GrowsBy q (entries (seen g.E.Ends.links g.E.Ends.packet c.args.state.now.desk)) (entries (seen g.E.Ends.links g.E.Ends.packet c.serve-done.new.desk))) c.requires.accepts
+    (served-grows c.serve-done.result (seen g.E.Ends.links g.E.Ends.packet c.args.state.now.desk) (seen g.E.Ends.links g.E.Ends.packet c.serve-done.new.desk) c.args.self.now.caller c.serve-done.new.caller
+    place c.serve-done.ensures.ok c.serve-done.ensures.refused)
+
+pub returns-clause-remarks : goal.returns-clause-remarks
+returns-clause-remarks g c = λ log j.
+    let d = seen g.E.Ends.links g.E.Ends.packet c.args.state.now.desk in
+    let e = seen g.E.Ends.links g.E.Ends.packet c.serve-done.new.desk in
+    let w = c.args.self.now.caller in
+    let z = name_of c.args.state.now.board in
+    let place = subst (λ (q : Place). has_place q.layout q.number ≡ true) c.place-place.ensures c.number-number.ensures.in_layout in
+    let got = served-goes c.of.result.value c.serve-done.result d e w c.serve-done.new.caller c.is_holding.result
+    (c.is_holding.ensures ∙ holding g.E.Ends.packet c.serve-done.new.desk.hand) (c.of.ensures ∙ c.place-place.ensures) place c.serve-done.ensures.ok c.serve-done.ensures.refused log (j.0, j.1.0) in
+    let same = served-marks c.serve-done.result d e z w c.serve-done.new.caller c.serve-done.ensures.ok c.serve-done.ensures.refused in
+    let grows = served-grows c.serve-done.result d e w c.serve-done.new.caller place c.serve-done.ensures.ok c.serve-done.ensures.refused in
+    (got.0, (got.1.0, (got.1.1, stays-published w.seat d e z c.args.state.now.board same grows j.1.1)), subst (λ o. NotesFrom o c.of.result.value w c.serve-done.new.caller got.0) (sym c.worked_from-self.ensures) got.2)
