@@ -1,12 +1,17 @@
-//! The keys of the tables. Where a name is part of a key, its site and number are hashed: of names of one kind they say all.
+//! The keys of the tables. Of a key one number is hashed: the bits of its name, moved by the number of the place or client beside it,
+//! if there is one. The route of a line is not hashed.
 
-ghost use Rattle.std.specs.Prelude.{◌++◌};
+ghost use Rattle.std.specs.Prelude.{◌≡◌};
 ghost use Rattle.std.proofs.Common.{rules};
 ghost use Rattle.std.specs.Cmp.Rules.{comparing, hashing};
 ghost use Rattle.std.specs.Hash as fed;
+ghost use Rattle.checker_rows.specs.Keys.{hashed_number};
 
 use chorus_ui::Ui;
 use std::hash::{Hash, Hasher};
+
+/// How far apart two places, or two clients, whose numbers follow each other move the number that is hashed.
+const BESIDE_STEP: u64 = 1 << 24;
 
 /// A port.
 #[derive(Clone, Copy, Debug, Eq)]
@@ -80,49 +85,49 @@ impl PartialEq for ClientOf {
     }
 }
 
+/// The number that is hashed of a name, beside which a place or a client of this number stands; 0 where none does.
+fn hashed_number(name: Ui, beside: u32) -> u64
+    ensures { result ≡ hashed_number name beside }
+{
+    name.bits().wrapping_add(u64::from(beside) * BESIDE_STEP)
+}
+
 impl Hash for PortKey {
-    ghost hash_input = { λ k. fed.u16 k.port.site ++ fed.u64 k.port.number };
+    ghost hash_input = { λ k. fed.u64 (hashed_number k.port 0) };
 
     ghost respects_eq = { Prim.search (hashing, rules) };
 
     fn hash<H: Hasher>(&self, state: &mut H) {
-        self.port.site().hash(state);
-        self.port.number().hash(state);
+        hashed_number(self.port, 0).hash(state);
     }
 }
 
 impl Hash for NameAt {
-    ghost hash_input = { λ k. fed.u16 k.place ++ fed.u16 k.name.site ++ fed.u64 k.name.number };
+    ghost hash_input = { λ k. fed.u64 (hashed_number k.name k.place) };
 
     ghost respects_eq = { Prim.search (hashing, rules) };
 
     fn hash<H: Hasher>(&self, state: &mut H) {
-        self.place.hash(state);
-        self.name.site().hash(state);
-        self.name.number().hash(state);
+        hashed_number(self.name, u32::from(self.place)).hash(state);
     }
 }
 
 impl Hash for LineKey {
-    ghost hash_input = { λ k. fed.u16 k.place ++ fed.u16 k.name.site ++ fed.u64 k.name.number };
+    ghost hash_input = { λ k. fed.u64 (hashed_number k.name k.place) };
 
     ghost respects_eq = { Prim.search (hashing, rules) };
 
     fn hash<H: Hasher>(&self, state: &mut H) {
-        self.place.hash(state);
-        self.name.site().hash(state);
-        self.name.number().hash(state);
+        hashed_number(self.name, u32::from(self.place)).hash(state);
     }
 }
 
 impl Hash for ClientOf {
-    ghost hash_input = { λ k. fed.u16 k.port.site ++ fed.u64 k.port.number ++ fed.u32 k.client };
+    ghost hash_input = { λ k. fed.u64 (hashed_number k.port k.client) };
 
     ghost respects_eq = { Prim.search (hashing, rules) };
 
     fn hash<H: Hasher>(&self, state: &mut H) {
-        self.port.site().hash(state);
-        self.port.number().hash(state);
-        self.client.hash(state);
+        hashed_number(self.port, self.client).hash(state);
     }
 }

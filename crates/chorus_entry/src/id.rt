@@ -1,6 +1,5 @@
 //! The ids of messages.
 
-ghost use Rattle.std.specs.Prelude.{◌++◌};
 ghost use Rattle.std.proofs.Common.{rules};
 ghost use Rattle.std.specs.Cmp.Rules.{comparing, hashing};
 ghost use Rattle.std.specs.Hash as fed;
@@ -9,6 +8,9 @@ use std::hash::{Hash, Hasher};
 
 /// How many numbers there are for the posts of one caller.
 const NUMBERS: u64 = 1 << 32;
+
+/// How far each copy of a post is from the one before in the number that is hashed.
+const COPY_STEP: u64 = 1 << 48;
 
 /// The name of a message, unique in a journal: which caller posted it, as the caller's how-manieth post, and which copy
 /// of that post it is. A post has copy 0; the copies that a group's post is turned into count from 1.
@@ -35,15 +37,15 @@ impl PartialEq for MsgId {
 }
 
 impl Hash for MsgId {
-    ghost use Rattle.chorus_entry.specs.MsgId.{post_number};
+    ghost use Rattle.chorus_entry.specs.MsgId.{hashed_number};
 
-    ghost hash_input = { λ id. fed.u64 (post_number id) ++ fed.u16 id.copy };
+    ghost hash_input = { λ id. fed.u64 (hashed_number id) };
 
     ghost respects_eq = { Prim.search (hashing, rules) };
 
     fn hash<H: Hasher>(&self, state: &mut H) {
         let post = u64::from(self.seat) * NUMBERS + u64::from(self.number);
-        post.hash(state);
-        self.copy.hash(state);
+        post.wrapping_add(u64::from(self.copy) * COPY_STEP)
+            .hash(state);
     }
 }

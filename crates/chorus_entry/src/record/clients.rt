@@ -33,7 +33,7 @@ impl ClientTable {
         Ok(ClientTable { entries })
     }
 
-    /// How many clients are remembered.
+    /// How many clients a port's record remembers.
     pub fn len(&self) -> usize
         ensures len { result ≡ length self.now }
         ensures within { result ≤ CLIENTS_LIMIT }
@@ -42,21 +42,22 @@ impl ClientTable {
         self.entries.len()
     }
 
-    /// Whether no client is remembered.
+    /// Whether a port's record remembers no client.
     pub fn is_empty(&self) -> bool
         ensures { result ≡ (length self.now == 0) }
     {
         self.entries.is_empty()
     }
 
-    /// The client at `at`, counted from 0, and its number; None exactly where so many are not remembered.
+    /// The client at `at` of those that a port's record remembers, counted from 0, and its number; None exactly where so many are not
+    /// remembered.
     pub fn get(&self, at: usize) -> Option<(u32, u32)>
         ensures { result ≡ slice_get self.now at }
     {
         self.entries.get(at).copied()
     }
 
-    /// The number that is kept of the client; None exactly where the client is not remembered.
+    /// The number that a port's record keeps of the client; None exactly where the client is not remembered.
     pub fn number_of(&self, client: u32) -> Option<u32>
         ensures { result ≡ number_of self.now client }
     {
