@@ -1,4 +1,4 @@
--- What the ends of links show, and what a push and a pop do to it.
+-- What the ends of links show, and what a push, a pop and a look do to it.
 -- p is a place, l a list of packets, old and new are what the ends show before and after a call.
 use Rattle.std.specs.Prelude.{ℕ, ◌≡◌, ◌==◌, ◌-◌, ◌^◌, ◌<◌, ◌≤◌, if◌then◌else◌, Bool, List, [], ◌∷◌, ◌++◌}
 use Rattle.chorus_entry.specs.declared.packet.Packet.{Packet}

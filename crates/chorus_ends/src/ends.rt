@@ -1,6 +1,6 @@
 //! What a place sends and receives packets by.
 
-ghost use Rattle.std.specs.Prelude.{◌≡◌, ◌≢◌, ℕ, true, IfOk, IfErr, OnOk, OnErr, IfSome, IfNone};
+ghost use Rattle.std.specs.Prelude.{◌≡◌, ◌≢◌, ℕ, true, IsTrue, IfOk, IfErr, OnOk, OnErr, IfSome, IfNone};
 ghost use Rattle.chorus_entry.specs.declared.packet.Packet.{Packet};
 ghost use Rattle.chorus_entry.specs.Ranges.{has_ranges};
 ghost use Rattle.chorus_io.specs.Count.{Rose};
@@ -56,6 +56,16 @@ pub trait Ends: Drop {
     /// How often a link from the place was found empty, up to 2^64 - 1. The count never falls.
     fn empties(&self, from: u16) -> u64
         ensures { result ≡ (links self.now).empties from };
+
+    /// Looks whether a link from a place that is reached is empty, and receives nothing. The answer is yes only where the count of
+    /// `empties` of that place rose; from the answer no nothing follows. It is for a caller who asks many places: over ruled links it
+    /// is quicker than a [`Moves::pop`] that gives none.
+    fn finds_empty(&mut self, from: u16) -> bool
+        requires { (links self.old).reaches from ≡ true }
+        ensures counts { Counts (links self.old) (links self.new) }
+        ensures unmoved { MovesNothing (links self.old) (links self.new) }
+        ensures empty { IsTrue result →
+            Rose ((links self.old).empties from) ((links self.new).empties from) };
 }
 
 /// Ends that send and receive, on a ground of this type: what they need to do so, as a runtime that may wait.

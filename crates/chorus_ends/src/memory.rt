@@ -1,6 +1,6 @@
 //! Ends in memory.
 
-ghost use Rattle.std.specs.Prelude.{◌≡◌, ◌≢◌, ℕ, ◌<◌, [], map, true, vec_len, Ok, IfOk, IfErr, OnOk, OnErr, IfSome, IfNone};
+ghost use Rattle.std.specs.Prelude.{◌≡◌, ◌≢◌, ℕ, ◌<◌, [], map, true, false, IsTrue, vec_len, Ok, IfOk, IfErr, OnOk, OnErr, IfSome, IfNone};
 ghost use Rattle.chorus_entry.specs.Ranges.{has_ranges};
 ghost use Rattle.chorus_ends.specs.Links.{Sends, MovesNothing};
 ghost use Rattle.chorus_io.specs.Count.{raised};
@@ -133,6 +133,19 @@ impl Ends for MemEnds {
     /// How often nothing was left to be received, from whatever place.
     fn empties(&self, _from: u16) -> u64 {
         self.empties
+    }
+
+    /// Looks whether nothing is left in memory to be received from the place. Yes comes only where nothing is left from it.
+    fn finds_empty(&mut self, from: u16) -> bool
+        ensures yes { IsTrue result → ((from_place from self.old.left ≡ [])
+            × (self.new ≡ record self.old { empties = raised self.old.empties })) }
+        ensures no { result ≡ false → self.new ≡ self.old }
+    {
+        let empty = first_from(&self.left, from).is_none();
+        if empty {
+            self.empties = self.empties.saturating_add(1);
+        }
+        empty
     }
 }
 

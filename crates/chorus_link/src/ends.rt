@@ -83,9 +83,25 @@ impl<P: Drop> SendEnd<P> {
 }
 
 impl<P: Drop> RecvEnd<P> {
-    ghost use Rattle.std.specs.Prelude.{◌≡◌, ◌+◌, [], ◌∷◌, ◌++◌, OnSome, IfSome, IfNone, MatchOption};
+    ghost use Rattle.std.specs.Prelude.{◌≡◌, ◌+◌, [], ◌∷◌, ◌++◌, IsTrue, cond, OnSome, IfSome, IfNone, MatchOption};
     ghost use Rattle.chorus_link.specs.Lists.{StartsWith};
     ghost use Rattle.chorus_link.specs.Ends.{packets_got, known_put, empties_of, recv_link, GetsNothing, WasEmpty};
+
+    /// Looks once whether the link is empty, in fewer loads than a pop takes to find it so. Where it is, `empties` rises by one; where
+    /// that count stands at 2^64 - 1, the answer is no. Takes no memory.
+    #[tactic(auto, using(crate::proofs::Steps::steps))]
+    pub fn finds_empty(&mut self) -> bool
+        ensures link { recv_link self.new ≡ recv_link self.old }
+        ensures unmoved { GetsNothing self.old self.new }
+        ensures counted { empties_of self.new ≡ cond result (empties_of self.old + 1) (empties_of self.old) }
+        ensures empty { IsTrue result → WasEmpty (packets_got self.old) (known_put self.old) }
+    {
+        if self.empties == u64::MAX || !self.queue.is_empty_as::<Gets>(&mut self.pass) {
+            return false;
+        }
+        self.empties += 1;
+        true
+    }
 
     /// Gets the first packet that was put and not got, in one operation of the queue, behind a look whether it is empty.
     ///
@@ -102,9 +118,7 @@ impl<P: Drop> RecvEnd<P> {
             (λ _. empties_of self.new ≡ empties_of self.old) }
         ensures empty { IfNone result (WasEmpty (packets_got self.old) (known_put self.old)) }
     {
-        // An empty link shows that in fewer loads than a pop takes to find it so.
-        if self.empties < u64::MAX && self.queue.is_empty_as::<Gets>(&mut self.pass) {
-            self.empties += 1;
+        if self.finds_empty() {
             return None;
         }
         for _ in rt.forever() {
@@ -121,7 +135,7 @@ impl<P: Drop> RecvEnd<P> {
         unreachable!()
     }
 
-    /// How many calls of `pop` gave none because the link was empty, up to 2^64 - 1.
+    /// How often a look or a pop found the link empty, up to 2^64 - 1.
     pub fn empties(&self) -> u64
         ensures { result ≡ empties_of self.now }
     {

@@ -7,8 +7,9 @@
 //! between the sites of the 1988 Chorus article; its rules are this project's own.
 //!
 //! What the layer above rests on: each push and pop tells the one packet that it moved, and at `settle` what was put is what
-//! was got followed by the rest. A push hands its packet back only where the queue was full at a step of the call, and a pop
-//! gives none only where it was empty; each end counts these refusals. Nothing is said of waiting or of progress.
+//! was got followed by the rest. A push hands its packet back only where the queue was full at a step of the call, a pop gives none
+//! and a look ([`RecvEnd::finds_empty`]) says empty only where it was empty; each end counts these. Nothing is said of waiting or of
+//! progress.
 //!
 //! Begin with `specs/Rule.antt`, the rule that every step keeps, and `specs/Ends.antt`, the words of the contracts. A state
 //! that keeps ends says by their [`LinkName`]s which links they are of.

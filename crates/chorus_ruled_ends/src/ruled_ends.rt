@@ -1,6 +1,6 @@
 //! Ends over ruled links.
 
-ghost use Rattle.std.specs.Prelude.{◌≡◌, ◌<◌, ◌≤◌, ◌++◌, [], ◌∷◌, true, None, is_some, slice_index_or, OnOk, OnErr, IfSome, IfNone};
+ghost use Rattle.std.specs.Prelude.{◌≡◌, ◌<◌, ◌≤◌, ◌++◌, [], ◌∷◌, true, None, is_some, slice_index_or, IsTrue, OnOk, OnErr, IfSome, IfNone};
 ghost use Rattle.chorus_ruled_ends.specs.Ruled.{links, sent_by, received_by, fulls_by, empties_by, name_to, name_from};
 ghost use Rattle.chorus_ruled_ends.specs.Sides.{CountsOut, SendsOut, SendsNothing, FoundFull, CountsInto, ReceivesInto, ReceivesNothing, FoundEmpty};
 
@@ -112,6 +112,31 @@ fn receive_from<R: Wait>(
     receive(&mut into[place], ground)
 }
 
+/// Looks whether the link of the end that is there is empty; where it is, its count rises.
+fn is_found_empty(slot: &mut Option<RecvEnd<Frame>>) -> bool
+    requires { is_some slot.old ≡ true }
+    ensures there { is_some slot.new ≡ true }
+    ensures name { name_from slot.new ≡ name_from slot.old }
+    ensures unmoved { received_by slot.new ≡ received_by slot.old }
+    ensures empties { empties_by slot.old ≤ empties_by slot.new }
+    ensures empty { IsTrue result → empties_by slot.old < empties_by slot.new }
+{
+    match slot {
+        Some(end) => end.finds_empty(),
+        None => unreachable!(),
+    }
+}
+
+/// Looks whether the link of the end from the place, which is there, is empty.
+fn finds_empty_from(into: &mut Vec<Option<RecvEnd<Frame>>>, place: usize) -> bool
+    requires { is_some (slice_index_or into.old.items place None) ≡ true }
+    ensures counts { CountsInto into.old.items into.new.items }
+    ensures unmoved { ReceivesNothing into.old.items into.new.items }
+    ensures empty { IsTrue result → FoundEmpty place into.old.items into.new.items }
+{
+    is_found_empty(&mut into[place])
+}
+
 impl Ends for RuledEnds {
     type Parcel = Frame;
 
@@ -138,6 +163,10 @@ impl Ends for RuledEnds {
             Some(Some(end)) => end.empties(),
             _ => 0,
         }
+    }
+
+    fn finds_empty(&mut self, from: u16) -> bool {
+        finds_empty_from(&mut self.into, usize::from(from))
     }
 }
 

@@ -63,7 +63,7 @@ fn push_other<G, E: Moves<G>>(
     ensures emptied { OnOk result (to ≢ place.old.number → KeepsAtFull to place.new.out.lists
         (E.links ends.old) (E.links ends.new)) }
 {
-    if to == place.number() {
+    if to == place.number() || !place.tables().out().has_packet_for(to) {
         return Ok(());
     }
     push_to(place, ends, ground, to)
@@ -83,10 +83,7 @@ pub(crate) fn push_all<G, E: Moves<G>>(
 {
     let places = place.layout().places();
     let mut to = 1;
-    while to <= places {
-        if place.waiting() == 0 {
-            return Ok(());
-        }
+    while to <= places && place.waiting() > 0 {
         push_other(place, ends, ground, to)?;
         to += 1;
     }

@@ -1,6 +1,6 @@
 //! A packet is taken into the hand.
 
-ghost use Rattle.std.specs.Prelude.{◌≡◌, ◌≢◌, ℕ, ◌≤◌, ◌<◌, true, Some, None, IfOk, IfErr, IfSome, IfNone};
+ghost use Rattle.std.specs.Prelude.{◌≡◌, ◌≢◌, ℕ, ◌≤◌, ◌<◌, true, IsTrue, Some, None, IfOk, IfErr, IfSome, IfNone};
 ghost use Rattle.chorus_serve.specs.Desks.{in_hand};
 ghost use Rattle.chorus_serve.specs.Flows.{IsOther, Takes, WasEmpty, ComesNext};
 
@@ -35,6 +35,16 @@ fn take_from<G, E: Moves<G>>(
     }
 }
 
+/// Whether the place `from` is passed over: it is this one, or a look at the link from it finds that empty.
+fn is_passed_over<E: Ends>(ends: &mut E, number: u16, from: u16) -> bool
+    requires { from ≢ number → (E.links ends.old).reaches from ≡ true }
+    ensures took { Takes None (E.links ends.old) (E.links ends.new) }
+    ensures empty { IsTrue result → from ≢ number →
+        WasEmpty from (E.links ends.old) (E.links ends.new) }
+{
+    from == number || ends.finds_empty(from)
+}
+
 /// Asks the links from the places `first` to `end` in order, but for this one, and takes the first packet that one gives.
 fn take_between<G, E: Moves<G>>(
     ends: &mut E,
@@ -56,8 +66,11 @@ fn take_between<G, E: Moves<G>>(
 {
     let mut from = first;
     while from <= end {
-        if let Some(held) = take_from(ends, ground, number, from) {
-            return Some(held);
+        // Most links are empty, so each is looked at before room is made for what it may give.
+        if !is_passed_over(ends, number, from) {
+            if let Some(held) = take_from(ends, ground, number, from) {
+                return Some(held);
+            }
         }
         from += 1;
     }

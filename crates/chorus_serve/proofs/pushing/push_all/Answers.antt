@@ -1,9 +1,11 @@
-use Rattle.std.proofs.Common.{sym, ◌∙◌, inl, arith}
-use Rattle.chorus_serve.proofs.Flowing.{nothing-to, pushes-self, pushes-on, full-more}
+use Rattle.std.proofs.Common.{◌≡◌, sym, ◌∙◌, inl, arith}
+use Rattle.chorus_serve.proofs.Flowing.{nothing-to, pushes-on, full-more}
 use Rattle.chorus_serve.proofs.pushing.push_all.Goals as goal
 
-pub returns-then-waiting-eq0-clause-emptied : goal.returns-then-waiting-eq0-clause-emptied
-returns-then-waiting-eq0-clause-emptied g c = λ p o. inl (nothing-to p c.loop-to.place.out.lists (sym c.waiting.ensures ∙ c.if-waiting-eq0.true))
+pub returns-else-waiting-gt0-clause-emptied : goal.returns-else-waiting-gt0-clause-emptied
+returns-else-waiting-gt0-clause-emptied g c =
+    let none : c.waiting.result ≡ 0 = omega arith in
+    λ p o. inl (nothing-to p c.loop-to.place.out.lists (sym c.waiting.ensures ∙ none))
 
 pub returns-in_err-push_other-clause-pushes : goal.returns-in_err-push_other-clause-pushes
 returns-in_err-push_other-clause-pushes g c =
