@@ -1,6 +1,7 @@
-//! What each place knows of each group: a row of the table of groups.
+//! What each place knows of each group, a row of the table of groups; and where members are chosen.
 
-ghost use Rattle.std.specs.Prelude.{◌≡◌, ◌<◌, ◌≤◌, ◌+◌, OnOk, OnErr};
+ghost use Rattle.std.specs.Prelude.{◌≡◌, ◌<◌, ◌≤◌, ◌+◌, OnOk, OnErr, unwrap_or};
+ghost use Rattle.chorus_ui.specs.Layout.{group_place};
 ghost use Rattle.checker_ledger.specs.Groups.{IsGroupRow, no_group, group_in, joined, left, turned_by, changed_own, changed_group, GroupsJoined, GroupsChanged, GroupsStay};
 ghost use Rattle.std.specs.Option.{option_copied};
 ghost use Rattle.std.specs.HashMap.{get, spare};
@@ -9,7 +10,7 @@ ghost use Rattle.checker_rows.specs.Keys.{same_name_at};
 use checker_rows::keep::put;
 use checker_rows::keys::NameAt;
 use chorus_entry::{Act, Entry, index_of, turned, turned_back};
-use chorus_ui::Ui;
+use chorus_ui::{Layout, Ui};
 use std::alloc::{AllocError, Global};
 use std::collections::HashMap;
 use std::marker::Model;
@@ -104,6 +105,17 @@ impl Group {
             Act::Choose { members, .. } => self.turn(members.uis()),
             _ => {}
         }
+    }
+}
+
+/// The place where members are chosen for a post to the group that was made at the place `from`, as the checker asks.
+pub fn choosing_place(layout: Layout, group: Ui, from: u16) -> u16
+    ensures { result ≡ unwrap_or (group_place layout group) from }
+{
+    if layout.has_site(group.site()) {
+        layout.first_place(group.site())
+    } else {
+        from
     }
 }
 

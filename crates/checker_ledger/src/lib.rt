@@ -15,6 +15,6 @@ mod port_state;
 mod ports;
 mod tables;
 
+pub use groups::choosing_place;
 pub use ledger::Ledger;
 pub use port_state::PortState;
-pub use tables::choosing_place;

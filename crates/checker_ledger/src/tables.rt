@@ -1,9 +1,8 @@
 //! The tables beside the entries, and what an entry makes of them.
 
-ghost use Rattle.std.specs.Prelude.{◌≡◌, ◌<◌, ◌++◌, [], None, OnOk, OnErr, unwrap_or};
+ghost use Rattle.std.specs.Prelude.{◌≡◌, ◌<◌, ◌++◌, [], None, OnOk, OnErr};
 ghost use Rattle.std.specs.HashMap.{spare};
 ghost use Rattle.chorus_ui.specs.declared.layout.Layout.{Layout};
-ghost use Rattle.chorus_ui.specs.Layout.{group_place};
 ghost use Rattle.chorus_entry.specs.declared.entry.Entry.{Entry};
 ghost use Rattle.chorus_world.specs.Posts.{source};
 ghost use Rattle.checker_rows.specs.declared.keys.LineKey.{LineKey};
@@ -96,17 +95,6 @@ pub(crate) fn asked_line(place: u16, group: Ui) -> LineKey
         place,
         name: group,
         route: None,
-    }
-}
-
-/// The place where members are chosen for a post to the group that was made at the place `from`, as the checker asks.
-pub fn choosing_place(layout: Layout, group: Ui, from: u16) -> u16
-    ensures { result ≡ unwrap_or (group_place layout group) from }
-{
-    if layout.has_site(group.site()) {
-        layout.first_place(group.site())
-    } else {
-        from
     }
 }
 

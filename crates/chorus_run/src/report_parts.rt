@@ -8,5 +8,5 @@
 mod printing;
 mod writing;
 
-pub use printing::report_parts;
-pub use writing::write_parts;
+pub(crate) use printing::report_parts;
+pub(crate) use writing::write_parts;

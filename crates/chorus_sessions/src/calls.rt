@@ -1,5 +1,4 @@
-//! What a session may do. Each call but a pump is one turn at one place, as the nucleus says, tries that place once,
-//! and waits for nobody.
+//! What a session may do by one turn at one place, as the nucleus says: each call tries that place once, and waits for nobody.
 
 ghost use Rattle.std.specs.Prelude.{◌≡◌, ◌<◌, ◌≤◌, true, false, length};
 ghost use Rattle.chorus_ui.specs.declared.limits.TheConstants.{BODY_LIMIT};
@@ -12,14 +11,12 @@ ghost use Rattle.chorus_nucleus.specs.Calls.{IsCall, IsOutcome};
 ghost use Rattle.chorus_sessions.specs.Sessions.{pass_of, taken_by, takes, Asks, IsSession, TakesOne};
 
 use crate::hand::PortMessage;
-use crate::pumping::{Pumped, pump_all};
 use crate::session::Session;
 use chorus_entry::{Command, Dest, MsgId};
 use chorus_nucleus::{CallFault, Nucleus, Pass};
 use chorus_place::Reply;
 use chorus_ui::Ui;
 use law_machine::Outcome;
-use std::sync::Wait;
 
 impl Session {
     /// Gives any command but a take, as [`Nucleus::act`] does.
@@ -99,16 +96,6 @@ impl Session {
             Ok(None) => Ok(false),
             Err(fault) => Err(fault),
         }
-    }
-
-    /// Pumps each place once, so that packets go on, and tells whether one did. A place that another session has is left to that one.
-    #[tactic(auto, using(crate::proofs::Steps::sessions))]
-    pub fn pump<R: Wait>(&mut self, rt: &R, nucleus: &Nucleus) -> Pumped
-        requires { IsSession nucleus.now self.old }
-        ensures session { IsSession nucleus.now self.new }
-        ensures kept { taken_by self.new ≡ taken_by self.old }
-    {
-        pump_all(rt, nucleus, &mut self.pass)
     }
 }
 

@@ -5,7 +5,7 @@
 //! and what sessions have in hand at the end is what was handed out, each message once, and none is lost, whatever the
 //! behaviours did.
 //!
-//! Begin with `behaviour`, then `calls` (what a session may do) and `specs/Hands.antt`.
+//! Begin with `behaviour`, then `calls` and `pumping` (what a session may do) and `specs/Hands.antt`.
 #![tactic(auto)]
 
 mod behaviour;

@@ -1,10 +1,11 @@
-//! Packets are moved.
+//! Sessions pump places, so that packets go on.
 
 ghost use Rattle.std.specs.Prelude.{◌≡◌, true};
 ghost use Rattle.chorus_ui.specs.Layout.{has_place};
 ghost use Rattle.chorus_nucleus.specs.Passes.{layout_of, IsPassOf};
-ghost use Rattle.chorus_sessions.specs.Sessions.{Goes};
+ghost use Rattle.chorus_sessions.specs.Sessions.{taken_by, Goes, IsSession};
 
+use crate::session::Session;
 use chorus_nucleus::{CallFault, Nucleus, Pass};
 use chorus_serve::Pump;
 use std::sync::Wait;
@@ -85,6 +86,19 @@ fn sum_all<R: Wait>(rt: &R, nucleus: &Nucleus, pass: &mut Pass) -> Sums
         visit(rt, nucleus, pass, index + 1, &mut sums);
     }
     sums
+}
+
+impl Session {
+    /// Pumps each place once for this session, so that packets go on, and tells whether one did. A place that another session has is
+    /// left to that one.
+    #[tactic(auto, using(crate::proofs::Steps::sessions))]
+    pub fn pump<R: Wait>(&mut self, rt: &R, nucleus: &Nucleus) -> Pumped
+        requires { IsSession nucleus.now self.old }
+        ensures session { IsSession nucleus.now self.new }
+        ensures kept { taken_by self.new ≡ taken_by self.old }
+    {
+        pump_all(rt, nucleus, &mut self.pass)
+    }
 }
 
 /// Pumps each place once, for sessions. A place that another pass has is left to that one.

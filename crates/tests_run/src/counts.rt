@@ -1,7 +1,7 @@
 //! How many schedules there are, how many events they take when those that come alike are put together, and how many single facts and
 //! outcomes there are. The numbers are those of `scripts/explorer/levels.py`, which was written apart from this code.
 
-use crate::explored::told;
+use crate::exploring::told;
 use crate::running::assert_same;
 use std::alloc::Global;
 use std::process::Abort;

@@ -1,5 +1,5 @@
 //! Tests of `chorus_replay`, `chorus_net` and `chorus_explore`: what scenarios print and what calls of the sites leave, what loads write, how
-//! texts, sources and sinks end a run, and what explorations tell (`explored`: races, counts and schedules). The worked rows are in
+//! texts, sources and sinks end a run, and what explorations tell (`exploring`: races, counts and schedules). The worked rows are in
 //! `tests_rows`.
 #![tactic(auto)]
 
@@ -8,7 +8,7 @@ mod counts;
 #[cfg(test)]
 mod endings;
 #[cfg(test)]
-mod explored;
+mod exploring;
 #[cfg(test)]
 mod loads;
 #[cfg(test)]
@@ -20,7 +20,7 @@ mod running;
 #[cfg(test)]
 mod schedules;
 #[cfg(test)]
-mod sites;
+mod site_calls;
 #[cfg(test)]
 mod version_two;
 #[cfg(test)]

@@ -1,6 +1,6 @@
 //! What an exploration tells of three races, whole.
 
-use crate::explored::told;
+use crate::exploring::told;
 use crate::running::assert_same;
 
 const FULL_PORT: &str =
@@ -265,7 +265,7 @@ fn a_port_moves(rt: HostRuntime) {
     assert_same(&rt, text.as_str(), MOVE_TOLD, MOVE);
 }
 
-/// What an exploration tells of two sends with a move between them, while another script takes twice.
+/// What an exploration tells of a race, whole: two sends with a move between them, while another script takes twice.
 #[test]
 fn two_sends_and_a_move(rt: HostRuntime) {
     let text = told(&rt, rt.alloc(), MOVES);

@@ -1,7 +1,7 @@
 //! Each schedule that an exploration prints is replayed: as many messages are accepted, received, left waiting, refused and told `stale`
 //! as its outcome tells.
 
-use crate::explored::told;
+use crate::exploring::told;
 use crate::running::{assert_same, replayed};
 use chorus_show::Status;
 use std::alloc::Global;

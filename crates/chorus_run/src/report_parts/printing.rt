@@ -25,7 +25,7 @@ const LINE: usize = 40;
 
 /// The report of the merge of the journals, in parts: the first line, the lines of the entries by threads of their own where they can be
 /// made, and the summary text. No entry is copied. The only error is want of memory.
-pub fn report_parts<R: Threads + Sync>(
+pub(crate) fn report_parts<R: Threads + Sync>(
     alloc: Global,
     rt: &R,
     journals: &[Vec<Entry>],
