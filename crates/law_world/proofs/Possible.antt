@@ -54,7 +54,7 @@ tried-due l past p x q h t =
     ∙ (ap (λ b. cond (b && same_ui q q) (ByTry h) (due_at_home l (views_about past p x q) p x q)) (eq-eqb p p refl)
     ∙ ap (λ b. cond b (ByTry h) (due_at_home l (views_about past p x q) p x q)) (same_ui-self q))
 
-module _ (l : Layout) (past : List Entry) (p s : ℕ) (x : MsgId) (q : Ui) (h : ℕ) (layout : IsLayout l) (legal : is_legal l past ≡ true) (todo : IsToDecide l past p x q h) where
+module _ (l : Layout) (past : List Entry) (p s : ℕ) (x : MsgId) (q : Ui) (h : ℕ) (layout : IsLayout l) (legal : is_legal l past ≡ true) (undecided : IsToDecide l past p x q h) where
   abbrev o : Option PortState
   o = fate (on q past)
 
@@ -68,17 +68,17 @@ module _ (l : Layout) (past : List Entry) (p s : ℕ) (x : MsgId) (q : Ui) (h : 
   facts = (legal_inv l past layout legal).ports q
 
   hop : hop_of (due_of l past p x q) ≡ Some h
-  hop = due-is l past p x q h legal todo
+  hop = due-is l past p x q h legal undecided
 
   on-site : is_on_site l (site_asked x past) p ≡ true
-  on-site = by todo
+  on-site = by undecided
     where
       by : IsToDecide l past p x q h → is_on_site l (site_asked x past) p ≡ true
       by (inl t) = (let f : StageFacts l past x (Tried t.from q p h) = subst (StageFacts l past x) t.is (keeps-stages l past x layout legal) in f.1.0)
       by (inr n) = n.suits
 
   kind : is_port q ≡ true
-  kind = by todo
+  kind = by undecided
     where
       by : IsToDecide l past p x q h → is_port q ≡ true
       by (inl t) = (let f : StageFacts l past x (Tried t.from q p h) = subst (StageFacts l past x) t.is (keeps-stages l past x layout legal) in f.0)
@@ -88,7 +88,7 @@ module _ (l : Layout) (past : List Entry) (p s : ℕ) (x : MsgId) (q : Ui) (h : 
 
   -- the port was here by this hop
   was-here : slice_get (path_of l q (fate (on q past))) h ≡ Some p
-  was-here = by todo
+  was-here = by undecided
     where
       by : IsToDecide l past p x q h → slice_get (path_of l q (fate (on q past))) h ≡ Some p
       by (inl t) = (let f : Fits l past x (Tried t.from q p h) = subst (Fits l past x) t.is ((legal_inv l past layout legal).messages x) in f.0)
@@ -172,7 +172,7 @@ module _ (l : Layout) (past : List Entry) (p s : ℕ) (x : MsgId) (q : Ui) (h : 
 
   -- the place locates the port elsewhere by a later hop
   of-passed : is_held_at p o ≡ false → nat_lt h here.hop && not (here.to == p) ≡ true → IsPossible
-  of-passed away pass = by todo
+  of-passed away pass = by undecided
     where
       two : (nat_lt h (located l q (at p past)).hop ≡ true) × (not ((located l q (at p past)).to == p) ≡ true)
       two = and_parts (nat_lt h (located l q (at p past)).hop) (not ((located l q (at p past)).to == p)) pass
@@ -291,8 +291,8 @@ module _ (l : Layout) (past : List Entry) (p s : ℕ) (x : MsgId) (q : Ui) (h : 
       one false e = two e (is_ended_at p (fate (on q past))) refl
 
 pub some-decision : SomeDecisionIsPossible
-some-decision l past p s time x q h layout legal has todo free before =
-    let d = possible l past p s x q h layout legal todo in
+some-decision l past p s time x q h layout legal has undecided free before =
+    let d = possible l past p s x q h layout legal undecided in
     record {
       act = d.act;
       decides = d.decides;
