@@ -16,7 +16,7 @@ use std::collections::HashMap;
 use std::marker::Model;
 
 /// A group as the entries of its place leave it.
-#[derive(Debug, Drop)]
+#[derive(Drop)]
 pub(crate) struct Group {
     made: bool,
     members: Vec<Ui>,

@@ -17,7 +17,7 @@ use std::marker::Model;
 
 /// All entries so far, which are legal, and what they say, each in constant time. Contracts see a world: the layout and
 /// the entries, the newest first.
-#[derive(Debug, Drop)]
+#[derive(Drop)]
 pub struct Ledger {
     layout: Layout,
     entries: Vec<Entry>,

@@ -14,7 +14,7 @@ use std::marker::Model;
 /// What became of a made port: how many messages may wait in it, the ids that it accepted, how many of these were
 /// received, where it has been, and where it is. Ports, and that they migrate with what waits in them, are from the
 /// Chorus article of 1988; hops and positions are this project's own.
-#[derive(Debug, Drop)]
+#[derive(Drop)]
 pub struct PortState {
     capacity: u8,
     accepted: Vec<MsgId>,

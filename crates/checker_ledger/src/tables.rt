@@ -28,7 +28,7 @@ use std::alloc::{AllocError, Global};
 use std::collections::{HashMap, VecDeque};
 
 /// What the entries so far say, each by its key.
-#[derive(Debug, Drop)]
+#[derive(Drop)]
 pub(crate) struct Tables {
     /// What became of each port.
     pub ports: HashMap<PortKey, PortState>,
@@ -53,7 +53,7 @@ pub(crate) struct Tables {
 }
 
 /// The table whose lists an act may make longer: no act does so in two.
-#[derive(Clone, Copy, Debug)]
+#[derive(Clone, Copy)]
 enum Growing {
     Ports,
     Groups,

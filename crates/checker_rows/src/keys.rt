@@ -14,14 +14,14 @@ use std::hash::{Hash, Hasher};
 const BESIDE_STEP: u64 = 1 << 24;
 
 /// A port.
-#[derive(Clone, Copy, Debug, Eq)]
+#[derive(Clone, Copy, Eq)]
 pub struct PortKey {
     /// Its name.
     pub port: Ui,
 }
 
 /// A port, or a group, at a place.
-#[derive(Clone, Copy, Debug, Eq)]
+#[derive(Clone, Copy, Eq)]
 pub struct NameAt {
     /// The place.
     pub place: u16,
@@ -30,7 +30,7 @@ pub struct NameAt {
 }
 
 /// What goes from a place to a port by one route: directly, or by a group.
-#[derive(Clone, Copy, Debug, PartialEq, Eq)]
+#[derive(Clone, Copy, PartialEq, Eq)]
 pub struct LineKey {
     /// The place that it goes from.
     pub place: u16,
@@ -41,7 +41,7 @@ pub struct LineKey {
 }
 
 /// A client of a port.
-#[derive(Clone, Copy, Debug, Eq)]
+#[derive(Clone, Copy, Eq)]
 pub struct ClientOf {
     /// The port.
     pub port: Ui,

@@ -13,7 +13,7 @@ use chorus_world::{Location, Sent};
 use std::collections::HashMap;
 
 /// What an entry teaches its place: where a port is.
-#[derive(Clone, Copy, Debug)]
+#[derive(Clone, Copy)]
 pub(crate) struct Lesson {
     pub port: Ui,
     pub location: Location,

@@ -17,7 +17,7 @@ use std::alloc::{AllocError, Global};
 use std::collections::{HashMap, VecDeque};
 
 /// What ends the stay of a message in a line.
-#[derive(Clone, Copy, Debug)]
+#[derive(Clone, Copy)]
 pub enum End {
     /// It is settled where it was sent from.
     Settled,

@@ -22,7 +22,7 @@ use chorus_world::{Progress, Sent};
 use std::collections::HashMap;
 
 /// What the entries say of a message.
-#[derive(Clone, Copy, Debug)]
+#[derive(Clone, Copy)]
 pub struct MessageRow {
     /// How far it is on its way.
     pub progress: Progress,

@@ -11,7 +11,7 @@ use chorus_entry::{Act, Entry, MsgId};
 use std::collections::HashMap;
 
 /// Who took which message.
-#[derive(Clone, Copy, Debug)]
+#[derive(Clone, Copy)]
 pub struct Taking {
     /// The caller that took it.
     pub taker: u32,
@@ -20,7 +20,7 @@ pub struct Taking {
 }
 
 /// What the entries of a place say of it.
-#[derive(Clone, Copy, Debug)]
+#[derive(Clone, Copy)]
 pub struct PlaceRow {
     /// The clock of its last entry, or 0.
     pub clock: u64,

@@ -7,7 +7,7 @@ ghost use Rattle.checker_rows.specs.Messages.{in_brief, posted_under};
 use chorus_entry::{Act, Dest, Entry, MsgId, Tag};
 
 /// A post without its body: where it was made, what it is, and where it goes.
-#[derive(Clone, Copy, Debug)]
+#[derive(Clone, Copy)]
 pub struct Posting {
     /// The place where it was made.
     pub place: u16,

@@ -9,7 +9,7 @@ use chorus_entry::{Act, Dest, Entry, Hand, Tag};
 use std::collections::HashMap;
 
 /// Where a caller posted.
-#[derive(Clone, Copy, Debug)]
+#[derive(Clone, Copy)]
 pub enum Stay {
     /// Nowhere.
     Nowhere,
@@ -20,7 +20,7 @@ pub enum Stay {
 }
 
 /// What the entries of a caller say of it.
-#[derive(Clone, Copy, Debug)]
+#[derive(Clone, Copy)]
 pub struct SeatRow {
     /// How many messages it posted.
     pub posts: u64,

@@ -9,7 +9,7 @@ use chorus_ui::Ui;
 use chorus_world::Sent;
 
 /// Where a message was sent from, and how it goes: a direct post, or a copy, which goes by the route of its group.
-#[derive(Clone, Copy, Debug)]
+#[derive(Clone, Copy)]
 pub struct Sending {
     /// The place that it was sent from.
     pub place: u16,

@@ -6,7 +6,7 @@ ghost use Rattle.chorus_audit.specs.declared.fault.Unread.TheVariants.{Memory};
 use std::alloc::{AllocError, AllocFailed};
 
 /// Why a line is not read.
-#[derive(Clone, Copy, Debug)]
+#[derive(Clone, Copy)]
 pub(crate) enum Unread {
     /// It is no entry's line.
     NoEntry,

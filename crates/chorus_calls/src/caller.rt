@@ -11,7 +11,7 @@ use chorus_ui::Ui;
 use std::marker::Model;
 
 /// A seat of an actor, from which commands come: what its home place keeps of it. No function of it takes memory.
-#[derive(Debug, Drop)]
+#[derive(Drop)]
 pub struct Caller {
     seat: u32,
     actor: Ui,

@@ -11,7 +11,7 @@ use chorus_ui::Ui;
 use std::marker::Model;
 
 /// A call as it was begun.
-#[derive(Debug, Drop)]
+#[derive(Drop)]
 struct Call {
     number: u32,
     port: Ui,
@@ -20,14 +20,14 @@ struct Call {
 }
 
 /// A call is outstanding already, so that no other begins.
-#[derive(Clone, Copy, Debug, PartialEq, Eq)]
+#[derive(Clone, Copy)]
 pub struct Outstanding {
     /// The number of the outstanding call, from 1.
     pub number: u32,
 }
 
 /// The outstanding call, as it was begun, to be sent again.
-#[derive(Clone, Copy, Debug)]
+#[derive(Clone, Copy)]
 pub struct Again<'a> {
     /// Its number, from 1.
     pub number: u32,
@@ -40,7 +40,7 @@ pub struct Again<'a> {
 }
 
 /// What a reply finds.
-#[derive(Clone, Copy, Debug, PartialEq, Eq)]
+#[derive(Clone, Copy, PartialEq, Eq)]
 pub enum Settle {
     /// The call that it answers was outstanding, and is now ended.
     Done,
@@ -51,7 +51,7 @@ pub enum Settle {
 /// The calls of one caller: at most one of them is outstanding. Each has a number, from 1 on, and none has that of another.
 /// That a call is a request which is answered by a reply is from the Chorus article of 1988; the numbers, the port of the
 /// reply, sending again and `cancel` are this project's own. No function of it takes memory.
-#[derive(Debug, Drop)]
+#[derive(Drop)]
 pub struct Client {
     outstanding: Option<Call>,
     given: u32,

@@ -24,7 +24,7 @@ use std::alloc::{AllocError, Global};
 use std::marker::Model;
 
 /// The world of one holder per port: the layout, and all entries so far. Contracts see the entries, the newest first.
-#[derive(Debug, Drop)]
+#[derive(Drop)]
 pub struct World {
     ledger: Ledger,
 }

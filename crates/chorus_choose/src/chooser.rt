@@ -13,7 +13,7 @@ use std::marker::Model;
 pub const ENABLED_LIMIT: usize = 32;
 
 /// An enabled port, with its priority: a greater one is looked at earlier.
-#[derive(Clone, Copy, Debug)]
+#[derive(Clone, Copy)]
 pub struct Enabled {
     pub port: Ui,
     pub priority: u8,
@@ -21,7 +21,7 @@ pub struct Enabled {
 
 /// The enabled ports, at most 32, in the order in which they are looked at: greater priority first, and equal
 /// priorities in the order of enabling. The order is this project's own.
-#[derive(Debug, Drop)]
+#[derive(Drop)]
 pub struct Chooser {
     pub(crate) enabled: Vec<Enabled>,
 }

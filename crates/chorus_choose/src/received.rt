@@ -5,7 +5,7 @@ use chorus_entry::Message;
 use chorus_ui::Ui;
 
 /// What a receive gives.
-#[derive(Debug, Drop, PartialEq, Eq)]
+#[derive(Drop, PartialEq, Eq)]
 pub enum Received {
     /// The first message of this port, at this position. Where it is a reply, `settled` says whether it ended the
     /// caller's call.
@@ -22,7 +22,7 @@ pub enum Received {
 }
 
 /// What a receive that waits gives.
-#[derive(Debug, Drop, PartialEq, Eq)]
+#[derive(Drop, PartialEq, Eq)]
 pub struct Waited {
     /// The port.
     pub port: Ui,

@@ -12,7 +12,7 @@ pub struct Job {
 }
 
 /// What a job gave: the position of the first message or 0, how many messages, and the sum of their values modulo 2^64.
-#[derive(Clone, Copy, Debug)]
+#[derive(Clone, Copy)]
 pub struct Tally {
     pub from: u64,
     pub count: u64,

@@ -4,7 +4,7 @@ ghost use Rattle.std.specs.Prelude.{◌≡◌};
 ghost use Rattle.chorus_entry.specs.Answer.{is_final};
 
 /// What became of a message at the place that decided on it, or of a group's post at the group's place.
-#[derive(Clone, Copy, Debug, PartialEq, Eq)]
+#[derive(Clone, Copy, PartialEq, Eq)]
 pub enum Answer {
     /// It stands in the port's queue, as the port's message number `pos`, counted from 0.
     Accepted { pos: u64 },

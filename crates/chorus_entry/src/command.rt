@@ -15,7 +15,7 @@ use std::alloc::AllocError;
 /// The commands are those of the Chorus article of 1988, without its memory: actors, ports, groups, migration and remote
 /// calls. A command is given under conditions, which [`Command::meets_conditions`] tests: each name in it is of the kind that
 /// it stands for, a capacity is from 1 to 64, and the site that a destination demands is from 1 to 16.
-#[derive(Debug, Drop)]
+#[derive(Drop)]
 pub enum Command {
     /// Makes a port of this actor, with room for `capacity` waiting messages, 1 to 64.
     Make { actor: Ui, capacity: u8 },

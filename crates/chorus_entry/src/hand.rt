@@ -3,7 +3,7 @@
 use chorus_ui::Ui;
 
 /// The request that a caller took last and has not replied to: what its reply answers.
-#[derive(Clone, Copy, Debug, PartialEq, Eq)]
+#[derive(Clone, Copy, PartialEq, Eq)]
 pub struct Hand {
     /// The caller that posted the request.
     pub client: u32,

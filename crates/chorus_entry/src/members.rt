@@ -10,7 +10,7 @@ use std::alloc::{AllocError, Global};
 use std::marker::Model;
 
 /// The members of a group that a post was turned into copies for, in order: at most 32.
-#[derive(Debug, Drop)]
+#[derive(Drop)]
 pub struct Members {
     uis: Vec<Ui>,
 }

@@ -8,7 +8,7 @@ use crate::record::PortRecord;
 use chorus_ui::Ui;
 
 /// What one place sends to another.
-#[derive(Debug, Drop)]
+#[derive(Drop)]
 pub struct Packet {
     /// The clock of the entry that caused it.
     pub clock: u64,
@@ -19,7 +19,7 @@ pub struct Packet {
 }
 
 /// The contents of a packet, which also says what is to be done with it.
-#[derive(Debug, Drop)]
+#[derive(Drop)]
 pub enum Cargo {
     /// A message for a port that the sending place located at the receiver by its hop `hop`. `route` is the group that the
     /// message went through, None for a direct one; `only` is the site that a message for one site demands.

@@ -16,7 +16,7 @@ use std::alloc::{AllocError, Global};
 ///
 /// A record keeps room for as many messages as any port may hold and for the clients that it may remember: what a port
 /// does after it is made takes no memory, wherever it goes.
-#[derive(Debug, Drop)]
+#[derive(Drop)]
 pub struct PortRecord {
     /// The port's name.
     pub ui: Ui,

@@ -25,7 +25,7 @@ use std::alloc::{AllocError, Global};
 use std::mem;
 
 /// Histories of one length that come to positions that are alike.
-#[derive(Debug, Drop)]
+#[derive(Drop)]
 struct Class {
     /// The moves of one of them, in order.
     moves: Vec<Move>,
@@ -36,7 +36,7 @@ struct Class {
 }
 
 /// The search so far.
-#[derive(Debug, Drop)]
+#[derive(Drop)]
 struct Search {
     explored: Explored,
     /// The classes of the next level, so far.

@@ -45,7 +45,7 @@ const ANSWERS_ROOM: usize = 256;
 const POSTS_ROOM: usize = 8;
 
 /// How far a script is.
-#[derive(Debug, Drop)]
+#[derive(Drop)]
 pub(crate) struct Progress {
     /// The number of its next command, counted from 0.
     next: usize,
@@ -91,7 +91,7 @@ impl Progress {
 }
 
 /// The sites, how far the scripts are, and the moves that led there.
-#[derive(Debug, Drop)]
+#[derive(Drop)]
 pub(crate) struct Stage {
     sites: Sites,
     scripts: Vec<Progress>,

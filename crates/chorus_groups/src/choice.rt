@@ -10,7 +10,7 @@ use chorus_ui::Ui;
 use std::alloc::{AllocError, Global};
 
 /// What a post to a group finds.
-#[derive(Debug, PartialEq, Eq, Drop)]
+#[derive(Drop)]
 pub enum Choice {
     /// These members, at least one, in the order of the copies.
     Members(Members),

@@ -16,7 +16,7 @@ use std::alloc::{AllocError, Global};
 use std::marker::Model;
 
 /// A group with room for all the members that it may have.
-#[derive(Debug, Drop)]
+#[derive(Drop)]
 pub(crate) struct Group {
     ui: Ui,
     members: Vec<Ui>,

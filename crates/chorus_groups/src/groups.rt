@@ -21,7 +21,7 @@ use std::marker::Model;
 /// The groups that were made at a place, with room for a number of them. That ports form groups, which a message reaches
 /// by broadcast or functionally, is from the Chorus article of 1988; the rotation, and the choice at a site by it, are this
 /// project's own.
-#[derive(Debug, Drop)]
+#[derive(Drop)]
 pub struct Groups {
     groups: Vec<Group>,
 }

@@ -12,7 +12,7 @@ use std::marker::Model;
 
 /// Where ports are, as far as a place knows: of each port that the layout can make, the place with the greatest hop that was
 /// learned, the first of them. An array by site and number, so each call takes constant time.
-#[derive(Debug, Drop)]
+#[derive(Drop)]
 pub struct Hints {
     layout: Layout,
     pairs: Vec<Option<(u16, u64)>>,

@@ -8,7 +8,7 @@ use crate::count::raise;
 use std::marker::Model;
 
 /// Which calls fail, by their numbers from 1, how many were made, and the count of faults.
-#[derive(Debug, Drop)]
+#[derive(Drop)]
 pub(crate) struct FaultPlan {
     failing: Vec<u64>,
     made: u64,

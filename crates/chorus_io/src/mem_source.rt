@@ -7,7 +7,7 @@ use crate::{Failed, Source};
 use std::marker::Model;
 
 /// Bytes in memory, and which reads fail.
-#[derive(Debug, Drop)]
+#[derive(Drop)]
 pub struct MemSource {
     bytes: Vec<u8>,
     at: usize,

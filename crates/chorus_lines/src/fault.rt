@@ -52,7 +52,7 @@ pub enum ReadFault {
 }
 
 /// Why reading stops at a line.
-#[derive(Debug, Drop)]
+#[derive(Drop)]
 pub enum Stop {
     Fault(Reason),
     Memory(AllocError),

@@ -4,7 +4,7 @@ ghost use Rattle.std.specs.Prelude.{◌≡◌};
 ghost use Rattle.chorus_lines.specs.Words.{word_of, verb_of, may_stand};
 
 /// What a message is posted to, where the line says only that.
-#[derive(Clone, Copy, Debug, PartialEq, Eq)]
+#[derive(Clone, Copy, PartialEq, Eq)]
 pub enum Target {
     /// To a port.
     Port,
@@ -15,7 +15,7 @@ pub enum Target {
 }
 
 /// The word of a command.
-#[derive(Clone, Copy, Debug, PartialEq, Eq)]
+#[derive(Clone, Copy, PartialEq, Eq)]
 pub enum Verb {
     /// `send`, `all` or `one`: sends to the target.
     Send(Target),
@@ -46,7 +46,7 @@ pub enum Verb {
 }
 
 /// The first field of a line.
-#[derive(Clone, Copy, Debug, PartialEq, Eq)]
+#[derive(Clone, Copy, PartialEq, Eq)]
 pub enum Word {
     /// `chorus`: says the version.
     Chorus,
@@ -75,7 +75,7 @@ pub enum Word {
 }
 
 /// How far a text has come, which decides what may follow.
-#[derive(Clone, Copy, Debug, PartialEq, Eq)]
+#[derive(Clone, Copy, PartialEq, Eq)]
 pub enum Section {
     /// Before the head.
     Head,

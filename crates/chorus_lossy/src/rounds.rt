@@ -16,7 +16,7 @@ use chorus_transport::{Chunk, Receiver, Sender};
 use std::alloc::{AllocError, Global};
 
 /// A run, so far as the ends do not tell it.
-#[derive(Debug, Drop)]
+#[derive(Drop)]
 pub(crate) struct Run {
     /// The bytes that were delivered.
     pub(crate) delivered: Vec<u8>,

@@ -8,13 +8,12 @@ use chorus_entry::{Command, Entry, Packet};
 use chorus_turn::Spent;
 use law_closing::Noted;
 use law_network::Placed;
-use std::fmt::{self, Debug, Formatter};
 
 /// What is left when the sites, or the places at which threads took turns, are closed.
 ///
 /// Its origin is private: [`Sites::close`](crate::Sites::close) alone makes one of sites, and [`Closed::of`] one of places at which
 /// passes took turns, which needs what is left of the pass that closed them.
-#[derive(Debug, Drop)]
+#[derive(Drop)]
 pub struct Closed {
     /// The journal of each place, by place, in order.
     pub journals: Vec<Vec<Entry>>,
@@ -36,15 +35,6 @@ pub(crate) enum Origin {
         spent: Spent<Noted<Caller, Command, Packet>>,
         worn: Option<u64>,
     },
-}
-
-impl Debug for Origin {
-    fn fmt<W: fmt::Write>(&self, f: &mut Formatter<W>) -> fmt::Result {
-        match self {
-            Origin::Sites => f.write_str("Sites"),
-            Origin::Turns { .. } => f.write_str("Turns"),
-        }
-    }
 }
 
 impl Closed {

@@ -32,7 +32,7 @@ use std::alloc::{AllocError, Global};
 use std::marker::Model;
 
 /// The sites of a layout on one thread: their places, and their callers.
-#[derive(Debug, Drop)]
+#[derive(Drop)]
 pub struct Sites {
     layout: Layout,
     places: Vec<Place>,

@@ -4,7 +4,7 @@ use chorus_calls::Settle;
 use chorus_entry::Message;
 
 /// A message that a take of a port handed out.
-#[derive(Debug, Drop, PartialEq, Eq)]
+#[derive(Drop, PartialEq, Eq)]
 pub struct TakenMessage {
     /// Its position in the port, from 0.
     pub position: u64,

@@ -7,7 +7,7 @@ const WHOLE: u32 = 8;
 /// link to its place, and at most places of a layout nothing ever happens: so a sweep leaves out where nothing was
 /// found, but for each eighth sweep, and for one behind a sweep that found nothing anywhere. A place is a bit, the last
 /// one of 64 the bit 0.
-#[derive(Clone, Copy, Debug)]
+#[derive(Clone, Copy)]
 pub(crate) struct Lately {
     /// In this sweep.
     found: u64,

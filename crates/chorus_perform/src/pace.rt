@@ -8,7 +8,7 @@ const MOST: u32 = 256;
 
 /// Behind how many commands a thread pumps: behind each at first; half as often after each pump that finds nothing, and
 /// twice as often after one that works off something.
-#[derive(Clone, Copy, Debug)]
+#[derive(Clone, Copy)]
 pub(crate) struct Pace {
     apart: u32,
     since: u32,

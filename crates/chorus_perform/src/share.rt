@@ -13,7 +13,7 @@ const PUMPERS: u32 = 4;
 /// The places that a thread pumps: while it performs commands its home place, and when they are done a range of places.
 /// The ranges of the threads that are done last have each place of the scenario's sites once; those of the other threads
 /// are empty. At other sites nothing happens, since the scenario names none of them.
-#[derive(Clone, Copy, Debug)]
+#[derive(Clone, Copy)]
 pub(crate) struct Share {
     places: u16,
     home: u16,
@@ -27,7 +27,7 @@ pub(crate) struct Share {
 }
 
 /// Places that follow one another.
-#[derive(Clone, Copy, Debug)]
+#[derive(Clone, Copy)]
 pub(crate) struct Stretch {
     /// The place before the first one.
     pub(crate) before: u16,

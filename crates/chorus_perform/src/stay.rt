@@ -16,7 +16,7 @@ const MUCH: u32 = 2;
 
 /// At which places a thread found much when it was there last. It stays where there is much, and goes on from elsewhere behind the
 /// first packet, for what that led to was sent to where it came from. A place is a bit, the last one of 64 the bit 0.
-#[derive(Clone, Copy, Debug)]
+#[derive(Clone, Copy)]
 pub(crate) struct Stay {
     much: u64,
     /// How many visits of other places there were, modulo 2^32.

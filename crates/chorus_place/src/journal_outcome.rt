@@ -13,7 +13,7 @@ use chorus_entry::{Act, Answer, Dest, Entry, MsgId};
 use law_machine::Outcome;
 
 /// What the journal says of a message: where its post goes, the answer of the post, and that of the message.
-#[derive(Clone, Copy, Debug)]
+#[derive(Clone, Copy)]
 struct Said {
     dest: Option<Dest>,
     post: Option<Answer>,

@@ -31,7 +31,7 @@ use std::alloc::{AllocError, Global};
 use std::marker::Model;
 
 /// A place of a layout. It is one pointer, so that it costs little to hand on.
-#[derive(Debug, Drop)]
+#[derive(Drop)]
 pub struct Place {
     tables: Box<Tables>,
 }

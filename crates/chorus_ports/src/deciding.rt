@@ -8,7 +8,7 @@ ghost use Rattle.chorus_entry.specs.Clients.{is_repeated, is_one_too_many, remem
 use chorus_entry::{CLIENTS_LIMIT, ClientTable, Message, PortRecord, Tag};
 
 /// What a port answers to a message. Each refusal hands the message back.
-#[derive(Debug, Drop, PartialEq, Eq)]
+#[derive(Drop)]
 pub enum Accept {
     /// It waits in the port, at this position among all that the port ever accepted, counted from 0.
     Accepted { pos: u64 },

@@ -21,7 +21,7 @@ use std::marker::Model;
 /// departs leaves no gap. Its room is that of `with_room` and of `reserve`; a record that leaves gives its room back.
 ///
 /// A place holds at most 32 ports of its own making and those that came to it, so a port is found by going over the records.
-#[derive(Debug, Drop)]
+#[derive(Drop)]
 pub struct Ports {
     records: Vec<PortRecord>,
     most: u16,

@@ -8,7 +8,7 @@ use chorus_entry::{Message, PortRecord};
 use chorus_ui::Ui;
 
 /// What an actor takes from a port.
-#[derive(Debug, Drop, PartialEq, Eq)]
+#[derive(Drop)]
 pub enum Taken {
     /// The first message that waited, and its position among all that the port ever accepted, counted from 0.
     Message { pos: u64, message: Message },

@@ -17,7 +17,7 @@ pub const LOAD_SITES: u16 = 8;
 pub(crate) const SETUP_COMMANDS: u16 = 2 * LOAD_SITES + 1;
 
 /// What is drawn for a command.
-#[derive(Debug, Drop)]
+#[derive(Drop)]
 pub(crate) struct Draw {
     /// The seat that performs it.
     pub(crate) seat: u32,

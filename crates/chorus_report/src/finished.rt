@@ -7,7 +7,7 @@ use chorus_net::Closed;
 use chorus_show::Status;
 
 /// How a top call ended.
-#[derive(Debug, Drop)]
+#[derive(Drop)]
 pub struct Finished {
     /// Whether it did all, or why it did not.
     pub status: Status,

@@ -3,7 +3,7 @@
 use chorus_net::Closed;
 
 /// What was played left, when that on which it was played is closed.
-#[derive(Debug, Drop)]
+#[derive(Drop)]
 pub struct Played {
     /// The journals, the packets and the ports that are left.
     pub closed: Closed,

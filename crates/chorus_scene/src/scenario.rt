@@ -9,7 +9,7 @@ use std::alloc::{AllocError, Global};
 use std::marker::Model;
 
 /// A line of the setup, performed by seat 0 before all scripts.
-#[derive(Clone, Copy, Debug)]
+#[derive(Clone, Copy)]
 pub enum SetupLine {
     /// Makes a port of this actor, with room for `capacity` messages, 1 to 64. Its name is the one that the making gives.
     Port { actor: Ui, capacity: u8 },
@@ -20,7 +20,7 @@ pub enum SetupLine {
 }
 
 /// One step of a schedule.
-#[derive(Clone, Copy, Debug)]
+#[derive(Clone, Copy)]
 pub enum Step {
     /// The next command of the script of this number; scripts are numbered from 1, in the order of the text.
     Step(u32),
@@ -31,7 +31,7 @@ pub enum Step {
 }
 
 /// The commands of one caller.
-#[derive(Debug, Drop)]
+#[derive(Drop)]
 pub struct Script {
     actor: Ui,
     commands: Vec<Command>,
@@ -82,7 +82,7 @@ impl Script {
 }
 
 /// What a scenario text says, with the layout for which it was read. Only reading makes one.
-#[derive(Debug, Drop)]
+#[derive(Drop)]
 pub struct Scenario {
     layout: Layout,
     version: u8,

@@ -15,7 +15,7 @@ pub struct PortMessage {
 }
 
 /// What a session was handed out.
-#[derive(Debug, Drop)]
+#[derive(Drop)]
 pub struct Hand {
     /// The session's seat: its number, from 1, in the order in which they came.
     pub seat: u32,

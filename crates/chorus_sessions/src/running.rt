@@ -22,7 +22,7 @@ use std::sync::Wait;
 use std::thread::{self, Threads};
 
 /// What came of sessions.
-#[derive(Debug, Drop)]
+#[derive(Drop)]
 pub struct Finished {
     /// What each session was handed out, that of the last behaviour first.
     pub hands: Vec<Hand>,

@@ -17,7 +17,7 @@ use std::sync::Wait;
 use std::thread;
 
 /// What is told of a message.
-#[derive(Clone, Copy, Debug, PartialEq, Eq)]
+#[derive(Clone, Copy, PartialEq, Eq)]
 enum Told {
     /// The port accepted it.
     Accepted,

@@ -10,7 +10,7 @@ use chorus_ui::Ui;
 
 /// A port that is made before sessions come. The ports of a place are numbered from 1, in the order in which they are
 /// made.
-#[derive(Clone, Copy, Debug)]
+#[derive(Clone, Copy)]
 pub struct NewPort {
     /// The actor that holds it first.
     pub actor: Ui,

@@ -22,7 +22,7 @@ pub enum Got {
 }
 
 /// The end that chunks are delivered from, in the order of their numbers. It keeps at most as many as its window is wide.
-#[derive(Debug, Drop)]
+#[derive(Drop)]
 pub struct Receiver {
     window: u16,
     delivered: u64,

@@ -33,7 +33,7 @@ pub enum Acked {
 }
 
 /// The end that chunks are put into. It keeps each until it is acknowledged, and at most as many as its window is wide.
-#[derive(Debug, Drop)]
+#[derive(Drop)]
 pub struct Sender {
     window: u16,
     base: u64,

@@ -1,7 +1,7 @@
 //! How a message is to be decided.
 
 /// How a message is to be decided at a place, and with which hop.
-#[derive(Clone, Copy, Debug)]
+#[derive(Clone, Copy)]
 pub enum Due {
     /// It is not to be decided there now.
     NotDue,

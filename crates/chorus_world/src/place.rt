@@ -4,7 +4,7 @@ use chorus_entry::MsgId;
 use chorus_ui::Ui;
 
 /// A message that was sent from a place: a direct post, or a copy, which goes by the route of its group.
-#[derive(Clone, Copy, Debug)]
+#[derive(Clone, Copy)]
 pub struct Sent {
     /// The post, or the copy of it, numbered from 1.
     pub id: MsgId,
@@ -15,7 +15,7 @@ pub struct Sent {
 }
 
 /// Where a place knows a port to be: at a place, and by which hop it came there.
-#[derive(Clone, Copy, Debug)]
+#[derive(Clone, Copy)]
 pub struct Location {
     /// The place, from 1; 0 where the layout has no place of the port.
     pub to: u16,
@@ -24,7 +24,7 @@ pub struct Location {
 }
 
 /// A reply that was taken: who took it, and the client and the number of the request that it answers.
-#[derive(Clone, Copy, Debug)]
+#[derive(Clone, Copy)]
 pub struct TakenReply {
     /// The caller that took it.
     pub taker: u32,

@@ -4,7 +4,7 @@ use chorus_entry::{Answer, Dest};
 use chorus_ui::Ui;
 
 /// How far a message is on its way.
-#[derive(Clone, Copy, Debug)]
+#[derive(Clone, Copy)]
 pub enum Progress {
     /// It waits where it was sent from, or it is not sent.
     Idle,

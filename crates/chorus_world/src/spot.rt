@@ -3,7 +3,7 @@
 use chorus_ui::Ui;
 
 /// Where a port is: with which actor, or nowhere any more.
-#[derive(Clone, Copy, Debug, PartialEq, Eq)]
+#[derive(Clone, Copy, PartialEq, Eq)]
 pub enum Spot {
     /// The actor holds it, at the last place of its path.
     Held(Ui),

@@ -3,7 +3,7 @@
 use crate::findings::Findings;
 
 /// What a search came to.
-#[derive(Debug, Drop)]
+#[derive(Drop)]
 pub struct Explored {
     /// The outcomes that were found.
     pub findings: Findings,

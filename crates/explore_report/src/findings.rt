@@ -9,7 +9,7 @@ use law_explore::Move;
 use std::alloc::{AllocError, Global};
 
 /// An outcome, how many of the histories that were counted come to it, and the first of these.
-#[derive(Debug, Drop)]
+#[derive(Drop)]
 pub struct Finding {
     /// The lines of its facts.
     pub text: Vec<u8>,
@@ -37,7 +37,7 @@ impl Finding {
 }
 
 /// The outcomes in the order in which they were found.
-#[derive(Debug, Drop)]
+#[derive(Drop)]
 pub struct Findings {
     /// No two have the same lines.
     pub items: Vec<Finding>,

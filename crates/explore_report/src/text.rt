@@ -15,7 +15,7 @@ use std::alloc::{AllocError, Global};
 pub(crate) const OUTCOMES_TOLD: usize = 64;
 
 /// A fact, and the number of the first outcome that has it.
-#[derive(Debug, Drop)]
+#[derive(Drop)]
 pub(crate) struct Told<'a> {
     pub(crate) outcome: u64,
     pub(crate) line: &'a [u8],

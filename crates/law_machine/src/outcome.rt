@@ -3,7 +3,7 @@
 use chorus_entry::Answer;
 
 /// What became of a message, as far as the place knows where it was posted.
-#[derive(Clone, Copy, Debug, PartialEq, Eq)]
+#[derive(Clone, Copy, PartialEq, Eq)]
 pub enum Outcome {
     /// It has this verdict; of a post to a group, it has this choice.
     Answer(Answer),

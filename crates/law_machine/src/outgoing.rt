@@ -3,7 +3,7 @@
 use chorus_entry::Packet;
 
 /// A packet, and the place that it goes to.
-#[derive(Debug, Drop)]
+#[derive(Drop)]
 pub struct Outgoing {
     /// The place, from 1.
     pub to: u16,

@@ -6,7 +6,7 @@ use chorus_ui::Ui;
 
 /// The reply to a command. Each comes exactly where the command's call appended the entry of the same meaning; the reply to
 /// a post is the verdict or the choice of its copy 0, or `Posted` where the call had neither yet.
-#[derive(Debug, Drop, PartialEq, Eq)]
+#[derive(Drop, PartialEq, Eq)]
 pub enum Reply {
     /// The port or the group is made, and has this name.
     Made(Ui),

@@ -3,7 +3,7 @@
 use chorus_entry::PortRecord;
 
 /// A port that is held at a place.
-#[derive(Debug, Drop)]
+#[derive(Drop)]
 pub struct Placed {
     /// The place's number, from 1.
     pub place: u16,

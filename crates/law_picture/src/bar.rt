@@ -3,7 +3,7 @@
 use crate::row::Row;
 
 /// What the entries on the line of a port say of its bar.
-#[derive(Clone, Copy, Debug)]
+#[derive(Clone, Copy)]
 pub struct Bar {
     /// Where the last of them stands.
     pub row: Row,

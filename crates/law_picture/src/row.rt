@@ -1,7 +1,7 @@
 //! Where an entry stands in a list, and what a packet between two entries is.
 
 /// Where an entry stands in a list of entries.
-#[derive(Clone, Copy, Debug)]
+#[derive(Clone, Copy)]
 pub struct Row {
     /// How many entries stand before it.
     pub number: u32,
@@ -12,7 +12,7 @@ pub struct Row {
 }
 
 /// What a packet carries, as [`Cargo`](chorus_entry::Cargo) says.
-#[derive(Clone, Copy, Debug, PartialEq, Eq)]
+#[derive(Clone, Copy, PartialEq, Eq)]
 pub enum PacketKind {
     /// A message, to where its port is located.
     Try,

@@ -9,7 +9,7 @@ use chorus_entry::Act;
 use law_picture::{PacketKind, Row};
 
 /// The shape of an entry.
-#[derive(Clone, Copy, Debug, PartialEq, Eq)]
+#[derive(Clone, Copy, PartialEq, Eq)]
 pub(crate) enum Mark {
     /// A command of the caller is carried out.
     Own,

@@ -20,7 +20,7 @@ use std::marker::Model;
 
 /// The entries of a place, in order, and what is counted from them: the clock of the last one, how many ports were made, which
 /// ports were made and which deleted, and the groups. It is appended to and never copied.
-#[derive(Debug, Drop)]
+#[derive(Drop)]
 pub struct Journal {
     layout: Layout,
     entries: Vec<Entry>,

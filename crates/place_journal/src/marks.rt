@@ -11,7 +11,7 @@ use std::alloc::{AllocError, Global};
 use std::marker::Model;
 
 /// The ports that are marked at a place: a mark for each port that the layout can make, so each call takes constant time.
-#[derive(Debug, Drop)]
+#[derive(Drop)]
 pub(crate) struct PortMarks {
     layout: Layout,
     flags: Vec<bool>,

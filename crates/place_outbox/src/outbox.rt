@@ -12,7 +12,7 @@ use std::marker::Model;
 
 /// The packets that wait to go to other places, of each place in the order put. Room for a packet is room for any place. A packet
 /// that was taken out may be put back, in room of its own.
-#[derive(Debug, Drop)]
+#[derive(Drop)]
 pub struct Outbox {
     /// For each place the packet that was put back.
     fronts: Vec<Option<Packet>>,

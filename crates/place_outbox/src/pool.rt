@@ -11,7 +11,7 @@ use std::alloc::{AllocError, Global};
 use std::marker::Model;
 
 /// A packet in the pool.
-#[derive(Debug, Drop)]
+#[derive(Drop)]
 pub(crate) struct Node {
     pub(crate) packet: Packet,
     /// The key of the packet behind it; of no meaning at the last one.
@@ -20,7 +20,7 @@ pub(crate) struct Node {
 
 /// The packets that wait for a place: the keys of the first and the last one, of no meaning where none waits, and how many
 /// there are.
-#[derive(Clone, Copy, Debug)]
+#[derive(Clone, Copy)]
 pub(crate) struct Chain {
     pub(crate) first: usize,
     pub(crate) last: usize,
@@ -29,7 +29,7 @@ pub(crate) struct Chain {
 
 /// The packets that wait to go to other places, of each place in the order put. There is one pool of packets, and each place
 /// has a chain in it, so room for a packet is room for any place.
-#[derive(Debug, Drop)]
+#[derive(Drop)]
 pub(crate) struct Pool {
     nodes: Slab<Node>,
     chains: Vec<Chain>,

@@ -7,7 +7,7 @@ use chorus_entry::{Act, Answer, Dest, Entry, MsgId};
 use chorus_ui::Ui;
 
 /// The port is at the place, by that hop.
-#[derive(Clone, Copy, Debug, PartialEq, Eq)]
+#[derive(Clone, Copy)]
 pub struct Lesson {
     pub ui: Ui,
     pub place: u16,

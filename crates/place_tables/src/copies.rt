@@ -12,14 +12,14 @@ use std::alloc::AllocError;
 use std::collections::VecDeque;
 
 /// A member for which messages go, and a copy of the one of them that is tried at another place.
-#[derive(Debug, Drop)]
+#[derive(Drop)]
 pub struct Course {
     pub port: Ui,
     pub again: Option<Wait>,
 }
 
 /// A member that is chosen for a post, and its copy of the post.
-#[derive(Debug, Drop)]
+#[derive(Drop)]
 pub struct MemberCopy {
     pub port: Ui,
     pub wait: Wait,

@@ -18,7 +18,7 @@ use std::collections::VecDeque;
 use std::marker::Model;
 
 /// The tables of a place, and the packets that the turn has put so far, in order.
-#[derive(Debug, Drop)]
+#[derive(Drop)]
 pub struct Tables {
     pub(crate) layout: Layout,
     pub(crate) number: u16,

@@ -28,7 +28,7 @@ use place_unsettled::{Key, Wait};
 use std::alloc::AllocError;
 
 /// How a message that is posted to a port goes.
-#[derive(Debug, Drop)]
+#[derive(Drop)]
 pub(crate) enum Way {
     /// It is decided here at once, by this hop of the port.
     AtOnce { hop: u64 },
@@ -37,7 +37,7 @@ pub(crate) enum Way {
 }
 
 /// What the post of a message to a port takes that can fail: a copy of the message, which waits or is decided, and its way.
-#[derive(Debug, Drop)]
+#[derive(Drop)]
 pub(crate) struct Ready {
     port: Ui,
     message: Message,

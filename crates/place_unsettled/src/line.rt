@@ -10,7 +10,7 @@ use std::collections::VecDeque;
 use std::marker::Model;
 
 /// The messages that wait for one port and route, in order, and where the first is under way to.
-#[derive(Debug, Drop)]
+#[derive(Drop)]
 pub(crate) struct Line {
     tried: Option<u16>,
     waits: VecDeque<Wait>,

@@ -16,21 +16,21 @@ use std::marker::Model;
 const COPIES: usize = MEMBERS_LIMIT + 1;
 
 /// A post: which caller's, and its how-manieth.
-#[derive(Clone, Copy, Debug, PartialEq, Eq, Hash)]
+#[derive(Clone, Copy, PartialEq, Eq, Hash)]
 pub(crate) struct Post {
     pub(crate) seat: u32,
     pub(crate) number: u32,
 }
 
 /// Of each copy of a post, by its number, whether nothing was heard of it.
-#[derive(Debug, Drop)]
+#[derive(Drop)]
 pub(crate) struct Copies {
     pub(crate) open: [bool; COPIES],
 }
 
 /// Which messages a place may still hear of: the post itself and each copy of a post that it asked another place to choose
 /// for, until a Report of it was heard. It grows with these posts.
-#[derive(Debug, Drop)]
+#[derive(Drop)]
 pub struct Unheard {
     posts: HashMap<Post, Copies>,
 }

@@ -7,7 +7,7 @@ use chorus_ui::Ui;
 use std::alloc::AllocError;
 
 /// A port, and the group through which messages go to it.
-#[derive(Clone, Copy, Debug, PartialEq, Eq, PartialOrd, Ord)]
+#[derive(Clone, Copy, PartialEq, Eq, PartialOrd, Ord)]
 pub struct Key {
     /// Where the messages go.
     pub port: Ui,
@@ -16,7 +16,7 @@ pub struct Key {
 }
 
 /// A message that is not settled.
-#[derive(Debug, Drop)]
+#[derive(Drop)]
 pub struct Wait {
     /// The message.
     pub message: Message,

@@ -13,7 +13,7 @@ use std::marker::Model;
 
 /// The messages that wait for their verdict: of each port and route in the order made, the first with the place that it is
 /// under way to. A key with nothing that waits, and no room taken, takes no memory.
-#[derive(Debug, Drop)]
+#[derive(Drop)]
 pub struct Waits {
     lines: BTreeMap<Key, Line>,
     alloc: Global,

@@ -20,7 +20,7 @@ const ROUNDS: u32 = 64;
 const BATCH: u8 = 2;
 
 /// What somebody does who comes to the queue.
-#[derive(Clone, Copy, Debug)]
+#[derive(Clone, Copy)]
 pub enum Role {
     /// Sends so many jobs, whose bodies are this name and a number, from 0.
     Client { name: u8, jobs: u8 },
@@ -29,7 +29,7 @@ pub enum Role {
 }
 
 /// Somebody who comes to the queue: in which actor, and to do what.
-#[derive(Clone, Copy, Debug)]
+#[derive(Clone, Copy)]
 pub struct Comer {
     /// An actor of the layout.
     pub actor: Ui,

@@ -14,7 +14,7 @@ use std::sync::Wait;
 use std::thread::Threads;
 
 /// What came of a queue of jobs.
-#[derive(Debug, Drop)]
+#[derive(Drop)]
 pub struct Finished {
     /// The queue: a port.
     pub queue: Ui,

@@ -10,7 +10,7 @@ use std::marker::Model;
 
 /// The clients whose requests a port accepted, each once, with the greatest number that it accepted from the client: what
 /// keeps a repeated request from being accepted again. It has room for 64 from the start.
-#[derive(Debug, Drop)]
+#[derive(Drop)]
 pub struct ClientTable {
     entries: Vec<(u32, u32)>,
 }

@@ -15,7 +15,7 @@ use std::marker::Model;
 /// The messages that wait in a port, in the order in which they were accepted. It has room for 64 from the start.
 ///
 /// It is a ring, so that taking the first message out costs the same however many wait behind it.
-#[derive(Debug, Drop)]
+#[derive(Drop)]
 pub struct Pending {
     messages: VecDeque<Message>,
 }

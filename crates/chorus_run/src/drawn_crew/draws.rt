@@ -9,7 +9,7 @@ use chorus_draw::number_of;
 pub const DRAWS_LIMIT: u32 = 65_536;
 
 /// How many messages, and the sum of their values.
-#[derive(Clone, Copy, Debug, PartialEq, Eq)]
+#[derive(Clone, Copy, PartialEq, Eq)]
 pub(crate) struct Tally {
     pub(crate) count: u64,
     pub(crate) total: u64,

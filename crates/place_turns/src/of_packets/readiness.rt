@@ -19,7 +19,7 @@ use place_unsettled::{Key, Wait};
 use std::alloc::AllocError;
 
 /// What is ready for a packet, beside the room.
-#[derive(Debug, Drop)]
+#[derive(Drop)]
 pub enum Ready {
     /// The room is all that it takes.
     Room,

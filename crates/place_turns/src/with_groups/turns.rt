@@ -35,7 +35,7 @@ use std::alloc::{AllocError, Global};
 use std::collections::VecDeque;
 
 /// A choice that is ready: who is chosen, the copy for each, and what is tried at other places then.
-#[derive(Debug, Drop)]
+#[derive(Drop)]
 pub struct Chosen {
     choice: Choice,
     copies: VecDeque<MemberCopy>,
