@@ -7,7 +7,7 @@ ghost use Rattle.std.specs.Prelude.{◌≡◌, IfSome};
 ghost use Rattle.chorus_ui.specs.declared.kind.Kind.TheVariants as kinds;
 ghost use Rattle.chorus_nucleus.specs.Passes.{IsPassOf};
 
-use chorus_entry::{Dest, Entry};
+use chorus_entry::Dest;
 use chorus_net::Closed;
 use chorus_nucleus::{CloseFault, Nucleus, Pass};
 use chorus_serve::Pump;
@@ -18,11 +18,11 @@ use std::sync::Wait;
 /// What a caller sends.
 pub(crate) const BODY: &[u8] = b"sixteen bytes...";
 
-/// The name that a measured caller uses, whose kind is looked at, so that what stands above can rest on it.
-fn named(site: u16, kind: Kind, number: u64) -> Option<Ui>
+/// The first name of this kind at the site for a measured caller; its kind is looked at, so that what stands above can rest on it.
+fn first_of(site: u16, kind: Kind) -> Option<Ui>
     ensures { IfSome result (λ ui. ui.kind ≡ kind) }
 {
-    let ui = Ui::new(site, kind, number)?;
+    let ui = Ui::new(site, kind, 1)?;
     if ui.kind() == kind { Some(ui) } else { None }
 }
 
@@ -30,14 +30,14 @@ fn named(site: u16, kind: Kind, number: u64) -> Option<Ui>
 pub(crate) fn actor_of(site: u16) -> Option<Ui>
     ensures { IfSome result (λ actor. actor.kind ≡ kinds.Actor) }
 {
-    named(site, Kind::Actor, 1)
+    first_of(site, Kind::Actor)
 }
 
-/// The port with this number of the site, both from 1 on, for a measured caller. None where there is no such site or number.
-pub(crate) fn port_of(site: u16, number: u64) -> Option<Ui>
+/// The first port of the site, from 1 on, for a measured caller. None where there is no such site.
+pub(crate) fn port_of(site: u16) -> Option<Ui>
     ensures { IfSome result (λ port. port.kind ≡ kinds.Port) }
 {
-    named(site, Kind::Port, number)
+    first_of(site, Kind::Port)
 }
 
 /// A nucleus to be measured, of so many sites of one place each, 1 to 16, and its opening pass, in the first actor of site 1.
@@ -126,11 +126,4 @@ fn wait_for_ever<R: Wait>(rt: &R, nucleus: Nucleus) -> Option<Closed> {
     let _kept = nucleus;
     for _ in rt.forever() {}
     unreachable!()
-}
-
-/// How many entries the journals of the measured nucleus have.
-pub(crate) fn entries_in(journals: &[Vec<Entry>]) -> usize {
-    journals
-        .iter()
-        .fold(0, |sum: usize, journal| sum.saturating_add(journal.len()))
 }

@@ -279,7 +279,7 @@ fn measure<R: Threads + Sync + Wait + Clock>(
     sends: u32,
 ) -> io::Result<(Told, Duration)> {
     let shared = Shared {
-        port: port_of(1, 1).ok_or(AllocError)?,
+        port: port_of(1).ok_or(AllocError)?,
         sends,
         ended: AtomicU32::new(0),
     };

@@ -6,10 +6,8 @@ ghost use Rattle.chorus_entry.specs.Command.{meets_conditions, has_body_in_limit
 use crate::callers::{BODY, actor_of, port_of};
 use chorus_entry::{Body, Command, Dest};
 use chorus_net::Sites;
-use chorus_ui::{Layout, Ui};
-use std::alloc::{AllocError, Global};
-use std::io;
-use std::time::{Clock, Duration, Instant};
+use chorus_ui::Layout;
+use std::alloc::Global;
 
 /// Performs a command of seat 0 at the measured sites.
 fn act(sites: &mut Sites, command: Command) -> Option<()>
@@ -41,15 +39,16 @@ pub(crate) fn start(alloc: Global, count: u16) -> Option<Sites> {
 
 /// Sends a message of 16 bytes by seat 0 to the first port of the site.
 pub(crate) fn send(alloc: Global, sites: &mut Sites, site: u16) -> Option<()> {
-    let dest = Dest::Port(port_of(site, 1)?);
+    let dest = Dest::Port(port_of(site)?);
     let body = Body::new(alloc, BODY).ok()?;
+    // The clause of `bytes` says that the body is within the limit, as `act` requires.
     let _within = body.bytes();
     act(sites, Command::Send { dest, body })
 }
 
 /// Takes by seat 0 at the first port of site 1.
 fn take(sites: &mut Sites) -> Option<()> {
-    let port = port_of(1, 1)?;
+    let port = port_of(1)?;
     act(sites, Command::Take { port })
 }
 
@@ -88,12 +87,4 @@ pub(crate) fn entries_at(sites: &Sites, place: u16) -> Option<usize> {
         return None;
     }
     Some(sites.journal(place).len())
-}
-
-/// How long so many sends and takes by seat 0 take, at sites without a nucleus.
-pub(crate) fn time<R: Clock>(rt: &R, alloc: Global, count: u32) -> io::Result<Duration> {
-    let mut sites = start(alloc, 1).ok_or(AllocError)?;
-    let began = Instant::now(rt)?;
-    send_and_take(alloc, &mut sites, count).ok_or(AllocError)?;
-    began.elapsed(rt)
 }

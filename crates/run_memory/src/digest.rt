@@ -3,6 +3,7 @@
 //! are more than 64 outcomes the exploration tells none, and there is no sum of theirs.
 
 use chorus_io::{Failed, Sink, write_all};
+use chorus_ui::parse_decimal;
 
 /// What is compared of an exploration.
 #[derive(Clone, Copy)]
@@ -67,10 +68,10 @@ impl Digest {
                 part: Part::Facts,
                 ..self
             }
-        } else if line.starts_with(b"outcomes ") {
+        } else if let Some(outcomes) = number_behind(b"outcomes ", line) {
             Digest {
                 part: Part::Outcomes,
-                outcomes: number_behind(b"outcomes ", line),
+                outcomes,
                 ..self
             }
         } else if line.starts_with(b"outcome ") || line.starts_with(b"schedule ") {
@@ -114,11 +115,8 @@ impl Digest {
 
     /// The digest with a line in front of the facts.
     fn with_front(self, line: &[u8]) -> Digest {
-        if line.starts_with(b"histories ") {
-            Digest {
-                histories: number_behind(b"histories ", line),
-                ..self
-            }
+        if let Some(histories) = number_behind(b"histories ", line) {
+            Digest { histories, ..self }
         } else {
             Digest {
                 is_whole: self.is_whole || line == b"all".as_slice(),
@@ -136,15 +134,9 @@ fn behind_space(line: &[u8]) -> &[u8] {
     }
 }
 
-/// The number behind a word that begins a line of an exploration, for its digest.
-fn number_behind(word: &[u8], line: &[u8]) -> u64 {
-    let mut number: u64 = 0;
-    for byte in line.iter().skip(word.len()) {
-        number = number
-            .wrapping_mul(10)
-            .wrapping_add(u64::from(byte.wrapping_sub(b'0')));
-    }
-    number
+/// The number that follows the word in a line of an exploration. None where it is another line.
+fn number_behind(word: &[u8], line: &[u8]) -> Option<u64> {
+    parse_decimal(line.strip_prefix(word)?)
 }
 
 /// A digest's sum of the line and its LF in which their places count, from what the lines before gave.

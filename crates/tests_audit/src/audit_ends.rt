@@ -1,7 +1,8 @@
 //! How sources and sinks end an audit: each read and each write fails in turn, and a text is longer than the limit.
 
+use crate::ground::{Run, sink_of, source_of};
 use chorus_audit::audit;
-use chorus_io::{Failed, MemSink, MemSource, Sink, Source};
+use chorus_io::{Failed, Sink, Source};
 use chorus_show::Status;
 use chorus_ui::Layout;
 use std::alloc::Global;
@@ -26,13 +27,6 @@ end
 /// What an audit writes for it.
 const LEGAL: &str = "legal 1\n";
 
-/// How an audit ended, and what it wrote.
-#[derive(Drop)]
-struct Run {
-    status: Status,
-    written: Vec<u8>,
-}
-
 /// Calls `audit` for eight sites of one place over this source and sink, and gives its status.
 fn audit_on<S: Source, K: Sink>(
     rt: &impl Abort,
@@ -44,41 +38,32 @@ fn audit_on<S: Source, K: Sink>(
     audit(alloc, layout, source, sink)
 }
 
-/// The list, for a source or a sink of an audit, by which the call of this number alone fails; by 0 none does.
-fn failing_at(rt: &impl Abort, alloc: Global, call: u64) -> Vec<u64> {
-    Vec::from_slice(alloc, &[call]).expect(rt, "memory")
-}
-
 /// Audits the journal, where this read and this write of one byte fail. None is numbered 0.
 fn run_on(rt: &impl Abort, alloc: Global, read: u64, write: u64) -> Run {
-    let bytes = Vec::from_slice(alloc, MADE.as_bytes()).expect(rt, "memory");
-    let mut source = MemSource::new(bytes, failing_at(rt, alloc, read));
-    let mut sink = MemSink::new(alloc, 1, failing_at(rt, alloc, write));
+    let mut source = source_of(rt, alloc, MADE, read);
+    let mut sink = sink_of(rt, alloc, 1, write);
     let status = audit_on(rt, alloc, &mut source, &mut sink);
-    Run {
-        status,
-        written: Vec::from_slice(alloc, sink.bytes()).expect(rt, "memory"),
-    }
+    Run::of(rt, alloc, status, &sink)
 }
 
 /// Asserts an audit's status and all that it wrote, and tells by `name` which source or sink it had.
 fn assert_ended(rt: &impl Abort, run: &Run, status: Status, written: &[u8], name: &str) {
     assert_eq!(rt; run.status, status, "{name}");
-    assert!(rt; run.written.as_slice() == written, "{name}");
+    assert!(rt; run.written.as_str().as_bytes() == written, "{name}");
 }
 
-/// Asserts how an audit ends where this read fails. The first gives the journal, the second finds its end.
-fn assert_read_fails(rt: &impl Abort, alloc: Global, read: u64, status: Status, written: &str) {
-    let run = run_on(rt, alloc, read, 0);
-    assert_ended(rt, &run, status, written.as_bytes(), "a source that fails");
-}
-
-/// An audit ends by the read that fails, and writes nothing then.
+/// An audit ends by the read that fails, and writes nothing then. The first read gives the journal, the second finds its end.
 #[test]
 fn each_read_fails(rt: HostRuntime) {
-    assert_read_fails(&rt, rt.alloc(), 1, Status::ReadFault, "");
-    assert_read_fails(&rt, rt.alloc(), 2, Status::ReadFault, "");
-    assert_read_fails(&rt, rt.alloc(), 3, Status::Done, LEGAL);
+    for (read, status, written) in [
+        (1, Status::ReadFault, ""),
+        (2, Status::ReadFault, ""),
+        (3, Status::Done, LEGAL),
+    ] {
+        let run = run_on(&rt, rt.alloc(), read, 0);
+        let name = "a source that fails";
+        assert_ended(&rt, &run, status, written.as_bytes(), name);
+    }
 }
 
 /// An audit ends by the write that fails, behind what it wrote.
@@ -110,16 +95,12 @@ impl Source for Endless {
     }
 }
 
-/// Asserts that an audit of a text without end is refused (line 0, reason 6) and writes nothing.
-fn assert_longer(rt: &impl Abort, alloc: Global) {
-    let mut sink = MemSink::new(alloc, 64, Vec::new(alloc));
-    let status = audit_on(rt, alloc, &mut Endless, &mut sink);
-    assert_eq!(rt; status, Status::Scenario { line: 0, reason: 6 });
-    assert!(rt; sink.bytes().is_empty());
-}
-
-/// An audit refuses a text without end, and writes nothing.
+/// An audit refuses a text without end as line 0 and reason 6, and writes nothing.
 #[test]
 fn a_longer_text_is_refused(rt: HostRuntime) {
-    assert_longer(&rt, rt.alloc());
+    let mut sink = sink_of(&rt, rt.alloc(), 64, 0);
+    let status = audit_on(&rt, rt.alloc(), &mut Endless, &mut sink);
+    let run = Run::of(&rt, rt.alloc(), status, &sink);
+    let refused = Status::Scenario { line: 0, reason: 6 };
+    assert_ended(&rt, &run, refused, b"", "a text without end");
 }

@@ -1,6 +1,7 @@
 //! Tests of what reads a printed journal. Of `chorus_audit`: texts with the entries that they are the report of, or with the first line
 //! that fails and its rule, and how sources and sinks end an audit (`audit_ends`); of `chorus_picture`: whole pictures, and how sources and
-//! sinks end one (`pictures`).
+//! sinks end one (`pictures`). `ground` has the runs of both in memory. Of `chorus_show`: what is printed of the entries that the lines of a
+//! journal have, and their summary (`summaries`).
 #![tactic(auto)]
 
 #[cfg(test)]
@@ -8,8 +9,12 @@ mod audit_ends;
 #[cfg(test)]
 mod drawings;
 #[cfg(test)]
+mod ground;
+#[cfg(test)]
 mod lines;
 #[cfg(test)]
 mod pictures;
+#[cfg(test)]
+mod summaries;
 #[cfg(test)]
 mod verdicts;

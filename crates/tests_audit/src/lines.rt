@@ -6,7 +6,7 @@ use std::alloc::Global;
 use std::process::Abort;
 
 /// The entry that an audit parses from the line; None where it has none.
-fn entry_of(rt: &impl Abort, alloc: Global, line: &str) -> Option<Entry> {
+pub(crate) fn entry_of(rt: &impl Abort, alloc: Global, line: &str) -> Option<Entry> {
     parse_entry(alloc, line.as_bytes()).expect(rt, "memory")
 }
 

@@ -48,32 +48,36 @@ fn text_of(rt: &impl Abort, alloc: Global, row: &str) -> String {
 }
 
 /// Audits the text of a row and asserts the verdict behind its `|`, on sites with so many places each.
-fn assert_row(rt: &impl Abort, alloc: Global, turns: u16, row: &str) {
+fn assert_row(rt: &impl Abort, alloc: Global, name: &str, turns: u16, row: &str) {
     let (text, want) = row.split_once('|').expect(rt, "a row");
     let text = text_of(rt, alloc, text);
     let told = told_of(rt, alloc, turns, text.as_str());
-    assert_eq!(rt; told.as_str(), want, "{row}");
+    assert_eq!(rt; told.as_str(), want, "{name}: {row}");
 }
 
-/// Asserts what each row says of the audit of its text, for one place on each site.
-fn assert_rows(rt: &impl Abort, alloc: Global, rows: &str) {
+/// Asserts what each row says of the audit of its text, on sites with so many places each.
+fn assert_rows(rt: &impl Abort, alloc: Global, name: &str, turns: u16, rows: &str) {
     for row in rows.lines() {
-        assert_row(rt, alloc, 1, row);
+        assert_row(rt, alloc, name, turns, row);
     }
 }
 
-const FULL_PORT: &str = "\
+/// Rows under a name, which tells what they are about, and how many places each site has for them.
+const ROWS: [(&str, u16, &str); 7] = [
+    // a full port, and a message that it cannot have accepted
+    (
+        "audit_finds_the_line",
+        1,
+        "\
 journal 8;1 1 0 make 1.p.1 1.a.1 1;2 1 1 post 1:1:0 port 1.p.1 plain =a;3 1 1 accept 1:1:0 1.p.1 0;4 1 1 post 1:2:0 port 1.p.1 plain =b;5 1 1 full 1:2:0 1.p.1 1;6 1 1 take 1.p.1 0 1:1:0;7 1 1 empty 1.p.1;8 1 1 empty 1.p.1;summary;posted 2;accepted 1;taken 1;queued 0;moving 0;refused 1;stale 0;departs 0;end;|legal 8
 journal 8;1 1 0 make 1.p.1 1.a.1 1;2 1 1 post 1:1:0 port 1.p.1 plain =a;3 1 1 accept 1:1:0 1.p.1 0;4 1 1 post 1:2:0 port 1.p.1 plain =b;5 1 1 accept 1:2:0 1.p.1 1;6 1 1 take 1.p.1 0 1:1:0;7 1 1 empty 1.p.1;8 1 1 empty 1.p.1;summary;posted 2;accepted 1;taken 1;queued 0;moving 0;refused 1;stale 0;departs 0;end;|wrong 6 6
-";
-
-/// An audit finds a journal of a full port legal, or its wrong line.
-#[test]
-fn audit_finds_the_line(rt: HostRuntime) {
-    assert_rows(&rt, rt.alloc(), FULL_PORT);
-}
-
-const FIRST_LINES: &str = "\
+",
+    ),
+    // the first line, which is `journal` and a count
+    (
+        "only_a_journal_line_is_taken_as_the_first_line",
+        1,
+        "\
 journal 0;$|legal 0
 |wrong 1 99
 journal 0|wrong 1 99
@@ -81,64 +85,62 @@ journal 0\r;$|wrong 1 99
 journal 00;$|wrong 1 99
 journal 4294967296;|wrong 1 99
 journal 4294967295;|wrong 2 99
-";
-
-/// An audit finds the first line wrong that is no `journal` with its count.
-#[test]
-fn only_a_journal_line_is_taken_as_the_first_line(rt: HostRuntime) {
-    assert_rows(&rt, rt.alloc(), FIRST_LINES);
-}
-
-const ENTRIES: &str = "\
+",
+    ),
+    // a line that is no entry, or none that may stand there
+    (
+        "lines_that_may_not_stand_are_found_with_their_rule",
+        1,
+        "\
 journal 1;1  1 0 make 1.p.1 1.a.1 1;|wrong 2 99
 journal 1;1 1 0 make 1.p.1 1.a.1 1\r;|wrong 2 99
 journal 1;1 1 0 make 1.p.1 1.a.1 1|wrong 2 99
 journal 1;1 1 0 choose 1:1:0 1.g.1;|wrong 2 15
 journal 1;0 1 0 make 1.p.1 1.a.1 1;|wrong 2 0
 journal 2;1 1 0 make 1.p.1 1.a.1 1;2 1 1 post 1:1:0 port 1.p.1 plain =%41;|wrong 3 99
-";
-
-/// An audit finds a line that may not stand, and tells its rule.
-#[test]
-fn lines_that_may_not_stand_are_found_with_their_rule(rt: HostRuntime) {
-    assert_rows(&rt, rt.alloc(), ENTRIES);
-}
-
-const SUMMARIES: &str = "\
+",
+    ),
+    // a summary that is cut, is followed by more, or is not that of the entries
+    (
+        "only_the_whole_summary_of_the_entries_is_taken",
+        1,
+        "\
 journal 0;summary;posted 0;accepted 0;taken 0;queued 0;moving 0;refused 0;stale 0;departs 0;|wrong 11 99
 journal 0;summary;posted 0;accepted 0;taken 0;queued 0;moving 0;refused 0;stale 0;departs 0;end|wrong 11 99
 journal 0;$;|wrong 12 99
 journal 0;$end;|wrong 12 99
 journal 0;summary;posted 2;accepted 1;taken 1;queued 0;moving 0;refused 1;stale 0;departs 0;end;|wrong 3 99
-";
+",
+    ),
+    // ports of places that a layout has, or has not
+    (
+        "a_layout_judges_its_own_journals",
+        1,
+        "\
+journal 1;1 2 0 make 1.p.2 1.a.2 1;$|wrong 2 1
+",
+    ),
+    (
+        "a_layout_judges_its_own_journals",
+        2,
+        "\
+journal 1;1 2 0 make 1.p.2 1.a.2 1;$|legal 1
+journal 1;1 3 0 make 1.p.3 1.a.3 1;$|wrong 2 1
+",
+    ),
+    (
+        "a_layout_judges_its_own_journals",
+        4,
+        "\
+journal 1;1 3 0 make 1.p.3 1.a.3 1;$|legal 1
+",
+    ),
+];
 
-/// An audit takes the whole summary of the entries, and no other.
+/// An audit finds a journal legal, or the first line that is wrong and its rule, by the layout's places of a site.
 #[test]
-fn only_the_whole_summary_of_the_entries_is_taken(rt: HostRuntime) {
-    assert_rows(&rt, rt.alloc(), SUMMARIES);
-}
-
-/// An audit judges a journal by the layout's places of a site.
-#[test]
-fn a_layout_judges_its_own_journals(rt: HostRuntime) {
-    for (turns, row) in [
-        (2, "journal 1;1 2 0 make 1.p.2 1.a.2 1;$|legal 1"),
-        (1, "journal 1;1 2 0 make 1.p.2 1.a.2 1;$|wrong 2 1"),
-        (4, "journal 1;1 3 0 make 1.p.3 1.a.3 1;$|legal 1"),
-        (2, "journal 1;1 3 0 make 1.p.3 1.a.3 1;$|wrong 2 1"),
-    ] {
-        assert_row(&rt, rt.alloc(), turns, row);
+fn texts_are_legal_or_wrong_in_a_line(rt: HostRuntime) {
+    for (name, turns, rows) in ROWS {
+        assert_rows(&rt, rt.alloc(), name, turns, rows);
     }
-}
-
-/// The ten entries of a message that a moved port's old place refuses, for eight sites; and an entry of no message.
-const MOVES: &str = "\
-journal 10;1 1 0 make 1.p.1 1.a.1 4;2 1 2 depart 1.p.1 2 2.a.1 1;2 3 1 post 1:1:0 port 1.p.1 plain =x;3 3 1 try 1:1:0 1.p.1 1 0;4 1 0 stale 1:1:0 1.p.1 0 2 1;5 3 0 told 1:1:0 stale 2 1;6 3 0 try 1:1:0 1.p.1 2 1;7 2 0 arrive 1.p.1 1;8 2 0 accept 1:1:0 1.p.1 0;9 3 0 told 1:1:0 accepted 0;summary;posted 1;accepted 1;taken 0;queued 1;moving 0;refused 0;stale 1;departs 1;end;|legal 10
-journal 1;1 1 0 accept 1:1:0 1.p.1 0;|wrong 2 6
-";
-
-/// An audit finds a message behind a port's move legal, and a lone accept wrong.
-#[test]
-fn world_refuses_and_follows_a_move(rt: HostRuntime) {
-    assert_rows(&rt, rt.alloc(), MOVES);
 }

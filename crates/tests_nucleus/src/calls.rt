@@ -147,7 +147,7 @@ fn assert_two_are_left<R: Wait + Abort>(rt: &R, nucleus: Nucleus, pass: Pass, ag
     assert!(rt; pass.keeper());
     match nucleus.close(rt, pass) {
         Ok(closed) => assert!(rt; closed.rest.len() == 2),
-        Err(CloseFault::Memory(_)) => assert!(rt; again),
+        Err(CloseFault::Memory(_)) => assert!(rt; again, "no memory"),
         Err(_out) => panic!(rt; "passes are out"),
     }
 }
@@ -166,20 +166,17 @@ fn assert_all_calls<R: Wait + Abort>(rt: &R, alloc: Global, again: bool) {
     assert_two_are_left(rt, nucleus, pass, again);
 }
 
-/// Two seats call a nucleus on one thread, and each call tells what it should.
+/// Two seats call a nucleus on one thread, and each call tells what it should; first where each call that finds no memory is made
+/// once more, since `bench/fail_allocations` runs the built test with each allocation refused in turn.
 #[test]
 fn nucleus_calls_on_one_thread(rt: HostRuntime) {
-    assert_all_calls(&rt, rt.alloc(), false);
-}
-
-/// Run with each allocation refused in turn, it ends as without: by `bench/fail_allocations`, over the built tests.
-#[test]
-fn calls_that_found_no_memory_are_made_again(rt: HostRuntime) {
-    assert_all_calls(&rt, rt.alloc(), true);
+    for again in [true, false] {
+        assert_all_calls(&rt, rt.alloc(), again);
+    }
 }
 
 /// Asserts that the nucleus is not closed, since the one pass that was entered is out; nucleus and pass come back.
-fn refused<R: Wait + Abort>(rt: &R, nucleus: Nucleus, pass: Pass) -> (Nucleus, Pass)
+fn assert_not_closed<R: Wait + Abort>(rt: &R, nucleus: Nucleus, pass: Pass) -> (Nucleus, Pass)
     requires { IsPassOf nucleus pass }
     ensures { (result.0 ≡ nucleus) × (result.1 ≡ pass) }
 {
@@ -198,7 +195,7 @@ fn refused<R: Wait + Abort>(rt: &R, nucleus: Nucleus, pass: Pass) -> (Nucleus, P
 fn close_asks_for_all_passes(rt: HostRuntime) {
     let (nucleus, mut pass) = start(&rt, rt.alloc(), 1, 1);
     let second = enter(&rt, &nucleus, &mut pass, 1, 1);
-    let (nucleus, mut pass) = refused(&rt, nucleus, pass);
+    let (nucleus, mut pass) = assert_not_closed(&rt, nucleus, pass);
     let accepted = Reply::Accepted {
         msg: id(0, 1),
         pos: 0,

@@ -23,7 +23,7 @@ enum Given {
 }
 
 /// What the receive of a chooser on one thread gave.
-fn outcome_of(received: &Received) -> Given {
+fn given_of(received: &Received) -> Given {
     match received {
         Received::Taken {
             port,
@@ -54,7 +54,7 @@ fn assert_gives(
     ensures { IsPassOf nucleus.now pass.new }
 {
     match chooser.receive(nucleus, pass) {
-        Ok(received) => assert!(rt; outcome_of(&received) == wanted),
+        Ok(received) => assert!(rt; given_of(&received) == wanted),
         Err(_) => panic!(rt; "refused"),
     }
 }
@@ -108,11 +108,17 @@ fn assert_journal(rt: &impl Abort, closed: &Closed, length: usize, index: usize,
     }
 }
 
-/// A chooser receives from the port of higher priority first, and then finds nothing.
+/// Asserts that a chooser of the first two ports of site 1 does not enable the first once more, nor disable the third.
+fn assert_refuses(rt: &impl Abort, chooser: &mut Chooser) {
+    assert!(rt; chooser.enable(port_of(rt, 1, 1), 3) == Err(EnableFault::There));
+    assert!(rt; chooser.disable(port_of(rt, 1, 3)) == Err(NotEnabled));
+}
+
+/// A chooser receives from the port of higher priority first, then finds nothing, and enables no enabled port and disables no other.
 #[test]
 fn receive_by_priority(rt: HostRuntime) {
     let (nucleus, mut pass) = start_with_messages(&rt, rt.alloc());
-    let chooser = chooser_of(&rt, rt.alloc(), &[(1, 1), (2, 5)]);
+    let mut chooser = chooser_of(&rt, rt.alloc(), &[(1, 1), (2, 5)]);
     let wanted = [
         Given::Message {
             number: 2,
@@ -125,45 +131,12 @@ fn receive_by_priority(rt: HostRuntime) {
         Given::Nothing { looked: 2 },
     ];
     assert_all_given(&rt, &nucleus, &mut pass, &chooser, &wanted);
+    assert_refuses(&rt, &mut chooser);
     let closed = close(&rt, nucleus, pass);
     let act = Act::Empty {
         port: port_of(&rt, 1, 2),
     };
     assert_journal(&rt, &closed, 11, 7, &act);
-}
-
-/// Enables the port with this number of site 1, and asserts what is told.
-fn assert_enables(
-    rt: &impl Abort,
-    chooser: &mut Chooser,
-    number: u64,
-    wanted: Result<(), EnableFault>,
-) {
-    assert!(rt; chooser.enable(port_of(rt, 1, number), 3) == wanted);
-}
-
-/// Disables the port with this number of site 1, and asserts what is told.
-fn assert_disables(
-    rt: &impl Abort,
-    chooser: &mut Chooser,
-    number: u64,
-    wanted: Result<(), NotEnabled>,
-) {
-    assert!(rt; chooser.disable(port_of(rt, 1, number)) == wanted);
-}
-
-/// A chooser refuses to enable a port once more, or one beyond 32, and to disable one that is not enabled.
-#[test]
-fn enabling_is_refused(rt: HostRuntime) {
-    let mut chooser = Chooser::start(rt.alloc()).expect(&rt, "memory");
-    for number in 1..=32u64 {
-        assert_enables(&rt, &mut chooser, number, Ok(()));
-    }
-    assert_enables(&rt, &mut chooser, 1, Err(EnableFault::There));
-    assert_enables(&rt, &mut chooser, 33, Err(EnableFault::EnabledFull));
-    assert_disables(&rt, &mut chooser, 33, Err(NotEnabled));
-    assert_disables(&rt, &mut chooser, 1, Ok(()));
-    assert_enables(&rt, &mut chooser, 33, Ok(()));
 }
 
 /// The pass moves both ports of the chooser to another actor of their site.

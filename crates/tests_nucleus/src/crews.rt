@@ -1,6 +1,5 @@
 //! Crews, whose handlers count their calls.
 
-ghost use Rattle.std.specs.Prelude.{◌≤◌};
 ghost use Rattle.chorus_nucleus.specs.Passes.{IsPassOf};
 
 use crate::ground::{actor_of, assert_lawful, close, enter, make, port_of, retire, send, start};
@@ -80,8 +79,8 @@ fn pairs_of(rt: &impl Abort, alloc: Global, task: &Task) -> Vec<(Ui, Ui)> {
     pairs
 }
 
-/// What a crew answers, which is to handle all that waits in these ports.
-fn answer<H: Handler, R: Threads + Wait + Abort + Sync>(
+/// Runs a crew, which is to handle all that waits in these ports, and gives what it answers.
+fn run_crew<H: Handler, R: Threads + Wait + Abort + Sync>(
     rt: &R,
     alloc: Global,
     nucleus: &Nucleus,
@@ -110,28 +109,27 @@ fn is_done(answer: &Result<Vec<Handled>, CrewFault>, task: &Task, turn: u64) -> 
     })
 }
 
-/// Has the crews do the task, one after another. Gives how many did.
-fn crews<H: Handler, R: Threads + Wait + Abort + Sync>(
+/// Runs the crews of the task, one after another, until one does not do its part. Whether all did.
+fn run_crews<H: Handler, R: Threads + Wait + Abort + Sync>(
     rt: &R,
     alloc: Global,
     nucleus: &Nucleus,
     pass: &mut Pass,
     task: &Task,
     handler: &H,
-) -> u64
+) -> bool
     requires { IsPassOf nucleus.now pass.old }
     ensures { IsPassOf nucleus.now pass.new }
 {
     let ports = pairs_of(rt, alloc, task);
-    let mut done: u64 = 0;
     for turn in 0..task.crews {
         fill_all(rt, alloc, nucleus, pass, task, turn == 0);
-        let answer = answer(rt, alloc, nucleus, pass, &ports, task.workers, handler);
-        if is_done(&answer, task, turn) {
-            done = done.saturating_add(1);
+        let answer = run_crew(rt, alloc, nucleus, pass, &ports, task.workers, handler);
+        if !is_done(&answer, task, turn) {
+            return false;
         }
     }
-    done
+    true
 }
 
 /// How many takes a journal of a crew's nucleus has.
@@ -154,33 +152,34 @@ fn takes_of(closed: &Closed) -> u64 {
     takes
 }
 
-/// Has the crews do the task on a nucleus of its own, and asserts that each pass that was drawn is retired. Gives how many of the crews
-/// did it, and what was closed.
-fn played<H: Handler, R: Threads + Wait + Abort + Sync>(
+/// Runs the crews of the task on a nucleus of its own, and asserts that each pass that was drawn is retired. Gives whether all did their
+/// part, and what was closed.
+fn run_task<H: Handler, R: Threads + Wait + Abort + Sync>(
     rt: &R,
     alloc: Global,
     task: &Task,
     handler: &H,
-) -> (u64, Closed) {
+) -> (bool, Closed) {
     let (nucleus, mut pass) = start(rt, alloc, task.sites, 1);
-    let done = crews(rt, alloc, &nucleus, &mut pass, task, handler);
+    let done = run_crews(rt, alloc, &nucleus, &mut pass, task, handler);
     let out = pass.made().saturating_sub(pass.ended());
     assert!(rt; out == 1, "a pass was not retired");
     (done, close(rt, nucleus, pass))
 }
 
-/// Asserts that all crews do the task, by so many takes, and that the merge of the journals is legal.
-fn assert_all_done<H: Handler, R: Threads + Wait + Abort + Sync>(
-    rt: &R,
+/// Asserts that all crews did the task, by so many takes, and that the merge of the journals is legal.
+fn assert_all_done(
+    rt: &impl Abort,
     alloc: Global,
     task: &Task,
-    handler: &H,
+    done: bool,
+    closed: &Closed,
     takes: u64,
 ) {
-    let (done, closed) = played(rt, alloc, task, handler);
-    assert!(rt; done == task.crews && takes_of(&closed) == takes);
+    assert!(rt; done, "a crew stopped");
+    assert!(rt; takes_of(closed) == takes);
     let layout = Layout::new(task.sites, 1).expect(rt, "a layout");
-    assert_lawful(rt, alloc, layout, &closed);
+    assert_lawful(rt, alloc, layout, closed);
 }
 
 /// Two workers are at work at once: two messages in two ports, and a handler that holds each until the other was begun.
@@ -194,42 +193,47 @@ fn row_crew(rt: HostRuntime) {
         crews: 1,
     };
     let handler = Meets::start();
-    assert_all_done(&rt, rt.alloc(), &task, &handler, 2);
+    let (done, closed) = run_task(&rt, rt.alloc(), &task, &handler);
+    assert_all_done(&rt, rt.alloc(), &task, done, &closed, 2);
     assert!(rt; !handler.missed());
 }
 
-/// Crews of 16 handle each of 64 messages in each of 64 ports once, and what is sent behind that, and two workers are at work at once.
-#[test]
-fn a_crew_handles_each_message_once(rt: HostRuntime) {
-    let task = Task {
-        sites: 2,
-        ports: 32,
-        messages: 64,
-        workers: 16,
-        crews: 2,
-    };
+/// Asserts that as many messages were handled as were taken, whatever a crew answers, and that all crews did the task, by so many takes.
+fn assert_all_handled<R: Threads + Wait + Abort + Sync>(
+    rt: &R,
+    alloc: Global,
+    task: &Task,
+    takes: u64,
+) {
     let handler = Counts::start();
-    assert_all_done(&rt, rt.alloc(), &task, &handler, 2 * 64 * 64);
-    assert!(rt; handler.counted() == (2 * 64 * 64, true));
+    let (done, closed) = run_task(rt, alloc, task, &handler);
+    assert!(rt;
+        takes_of(&closed) == handler.calls(),
+        "what was taken was not handled"
+    );
+    assert_all_done(rt, alloc, task, done, &closed, takes);
 }
 
-/// As many messages were handled as were taken, whatever the crew answers. A journal takes memory at its entry 513, which is one of these
-/// takes: 4 makes, 192 posts and as many accepts stand before them.
+/// Crews handle each message once: 4 workers 48 in each of 4 ports, then 16 workers 64 in each of 64 ports, and what is sent behind that.
+/// `bench/fail_allocations` runs the built test too: the first journal takes memory at its entry 513, which is one of the takes, since 4
+/// makes, 192 posts and as many accepts stand before them.
 #[test]
-fn what_a_crew_took_was_handled(rt: HostRuntime) {
-    let task = Task {
+fn a_crew_handles_each_message_once(rt: HostRuntime) {
+    let few = Task {
         sites: 1,
         ports: 4,
         messages: 48,
         workers: 4,
         crews: 1,
     };
-    let handler = Counts::start();
-    let (done, closed) = played(&rt, rt.alloc(), &task, &handler);
-    let (calls, _) = handler.counted();
-    assert!(rt; done == 0 || calls == 4 * 48, "a message was not handled");
-    assert!(rt;
-        takes_of(&closed) == calls,
-        "what was taken was not handled"
-    );
+    let many = Task {
+        sites: 2,
+        ports: 32,
+        messages: 64,
+        workers: 16,
+        crews: 2,
+    };
+    for (task, takes) in [(few, 4 * 48), (many, 2 * 64 * 64)] {
+        assert_all_handled(&rt, rt.alloc(), &task, takes);
+    }
 }

@@ -9,13 +9,10 @@ use std::thread;
 /// How many turns a handler waits for another at most.
 const WAIT_LIMIT: u64 = 1_000_000_000;
 
-/// Counts its calls, and sees whether two were made at once. A call takes from about a microsecond to about a
-/// tenth of a millisecond, by the position.
+/// Counts its calls.
 #[derive(Drop)]
 pub(crate) struct Counts {
     calls: AtomicU64,
-    running: AtomicU64,
-    met: AtomicBool,
 }
 
 impl Counts {
@@ -23,32 +20,20 @@ impl Counts {
     pub(crate) fn start() -> Counts {
         Counts {
             calls: AtomicU64::new(0),
-            running: AtomicU64::new(0),
-            met: AtomicBool::new(false),
         }
     }
 
-    /// How many calls of the counting handler were made, and whether two were at once.
-    pub(crate) fn counted(&self) -> (u64, bool) {
-        (
-            self.calls.load(Ordering::SeqCst),
-            self.met.load(Ordering::SeqCst),
-        )
+    /// How many calls of the counting handler were made.
+    pub(crate) fn calls(&self) -> u64 {
+        self.calls.load(Ordering::SeqCst)
     }
 }
 
 impl Handler for Counts {
     ghost value = { λ _ _ _ _. 1 };
 
-    /// Counts the call of the handler, and sees whether another one is running.
-    fn handle(&self, _port: Ui, pos: u64, _message: &Message) -> u64 {
-        if self.running.fetch_add(1, Ordering::SeqCst) > 0 {
-            self.met.store(true, Ordering::SeqCst);
-        }
-        for _ in 0..1_000u64 << (pos % 8) {
-            self.running.load(Ordering::Relaxed);
-        }
-        self.running.fetch_sub(1, Ordering::SeqCst);
+    /// Counts the call of the handler.
+    fn handle(&self, _port: Ui, _pos: u64, _message: &Message) -> u64 {
         self.calls.fetch_add(1, Ordering::SeqCst);
         1
     }

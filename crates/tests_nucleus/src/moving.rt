@@ -1,6 +1,6 @@
 //! 32 ports over four sites, which move while three callers send: one caller receives on all of them, and those who send bring them to it.
 
-ghost use Rattle.std.specs.Prelude.{◌≡◌, ◌<◌, true};
+ghost use Rattle.std.specs.Prelude.{◌≡◌, true};
 ghost use Rattle.std.specs.Thread.{IsSync};
 ghost use Rattle.chorus_ui.specs.NameKind.{is_actor, is_port};
 ghost use Rattle.chorus_nucleus.specs.Passes.{IsPassOf};
@@ -8,10 +8,10 @@ ghost use Rattle.chorus_nucleus.specs.Passes.{IsPassOf};
 use crate::ground::{
     actor_of, assert_lawful, close, enter, insist, make, port_of, retire, sending, start,
 };
-use chorus_choose::{Chooser, Received};
+use chorus_choose::{Chooser, EnableFault, Received};
 use chorus_entry::{Answer, Command, MsgId};
 use chorus_nucleus::{CallFault, Nucleus, Pass};
-use chorus_ui::Ui;
+use chorus_ui::{Layout, Ui};
 use law_machine::{Outcome, Reply};
 use std::alloc::Global;
 use std::process::Abort;
@@ -37,8 +37,6 @@ const TOTAL: u64 = 3 * SENDS;
 /// What those who take part have in common.
 #[derive(Drop)]
 struct Meeting {
-    /// How many places a site has.
-    turns: u64,
     chooser: Chooser,
     over: AtomicBool,
     sum: AtomicU64,
@@ -57,14 +55,13 @@ fn site_at(index: u64) -> u16 {
     (1 + index / PORTS_OF_SITE % 4) as u16
 }
 
-/// The port with this index, of the 32 that move, where a site has so many places: the number of a name says at which place of the
-/// site it was made.
-fn port_at(rt: &impl Abort, turns: u64, index: u64) -> Ui
+/// The port with this index, of the 32 that move: the number of a name says at which place of the site it was made.
+fn port_at(rt: &impl Abort, layout: Layout, index: u64) -> Ui
     ensures { is_port result ≡ true }
 {
     let site = site_at(index);
-    let turns = turns.max(1) % 5;
-    let place = u64::from(site.saturating_sub(1)) % turns.max(1);
+    let turns = u64::from(layout.turns());
+    let place = u64::from(site.saturating_sub(1)) % turns;
     port_of(rt, site, 1 + place + index % PORTS_OF_SITE * turns)
 }
 
@@ -177,7 +174,7 @@ fn send_and_bring<R: Wait + Abort>(
         if meeting.over.load(Ordering::SeqCst) {
             return pass;
         }
-        let port = port_at(rt, meeting.turns, step % PORTS);
+        let port = port_at(rt, nucleus.layout(), step % PORTS);
         if step < SENDS {
             send_number(rt, alloc, nucleus, &mut pass, port, first + step);
         }
@@ -242,7 +239,7 @@ fn receive_all<R: Wait + Abort>(
                 meeting.sum.fetch_add(number, Ordering::SeqCst);
             }
             Came::Nothing => {
-                let port = port_at(rt, meeting.turns, away % PORTS);
+                let port = port_at(rt, nucleus.layout(), away % PORTS);
                 move_to(rt, nucleus, &mut pass, port, (2 + away % 3) as u16);
                 pump_all(rt, nucleus, &mut pass);
                 away = away.wrapping_add(1);
@@ -334,7 +331,6 @@ fn enter_two<R: Wait + Abort>(
     rt: &R,
     nucleus: &Nucleus,
     keeper: &mut Pass,
-    turns: u64,
     sites: (u16, u16),
 ) -> Two
     requires { IsPassOf nucleus.now keeper.old }
@@ -342,37 +338,31 @@ fn enter_two<R: Wait + Abort>(
     ensures passes { IsPassOf nucleus.now result.0.0 × IsPassOf nucleus.now result.1.0 }
 {
     let (first, second) = sites;
-    let one = enter_one(rt, nucleus, keeper, turns, first);
-    let other = enter_one(rt, nucleus, keeper, turns, second);
+    let one = enter_one(rt, nucleus, keeper, first);
+    let other = enter_one(rt, nucleus, keeper, second);
     ((one, first), (other, second))
 }
 
 /// The caller of the site, which makes its share of the 32 ports that move.
-fn enter_one<R: Wait + Abort>(
-    rt: &R,
-    nucleus: &Nucleus,
-    keeper: &mut Pass,
-    turns: u64,
-    site: u16,
-) -> Pass
+fn enter_one<R: Wait + Abort>(rt: &R, nucleus: &Nucleus, keeper: &mut Pass, site: u16) -> Pass
     requires { IsPassOf nucleus.now keeper.old }
     ensures keeper { IsPassOf nucleus.now keeper.new }
     ensures pass { IsPassOf nucleus.now result }
 {
     let mut pass = enter(rt, nucleus, keeper, site, u64::from(site));
-    make_ports(rt, nucleus, &mut pass, turns, site);
+    make_ports(rt, nucleus, &mut pass, site);
     pass
 }
 
 /// Makes this site's share of the 32 ports that move, with capacity 64, by its caller's pass, and asserts which name each gets.
-fn make_ports<R: Wait + Abort>(rt: &R, nucleus: &Nucleus, pass: &mut Pass, turns: u64, site: u16)
+fn make_ports<R: Wait + Abort>(rt: &R, nucleus: &Nucleus, pass: &mut Pass, site: u16)
     requires { IsPassOf nucleus.now pass.old }
     ensures { IsPassOf nucleus.now pass.new }
 {
     for index in 0..PORTS {
         if site_at(index) == site {
             let made = make(rt, nucleus, pass, caller_of(rt, site), 64);
-            assert!(rt; made == port_at(rt, turns, index));
+            assert!(rt; made == port_at(rt, nucleus.layout(), index));
         }
     }
 }
@@ -399,20 +389,21 @@ fn all_meet<R: Threads + Wait + Abort + Sync>(
     requires { IsPassOf nucleus.now keeper.old }
     ensures { IsPassOf nucleus.now keeper.new }
 {
-    let low = enter_two(rt, nucleus, keeper, meeting.turns, (1, 2));
-    let high = enter_two(rt, nucleus, keeper, meeting.turns, (3, 4));
+    let low = enter_two(rt, nucleus, keeper, (1, 2));
+    let high = enter_two(rt, nucleus, keeper, (3, 4));
     let (low, high) = four_meet(rt, alloc, nucleus, low, high, meeting);
     retire_two(nucleus, low, keeper);
     retire_two(nucleus, high, keeper);
 }
 
-/// A chooser of all 32 ports that move, with five priorities.
-fn chooser_of_all(rt: &impl Abort, alloc: Global, turns: u64) -> Chooser {
+/// A chooser of all 32 ports that move, with five priorities, which enables no other port.
+fn chooser_of_all(rt: &impl Abort, alloc: Global, layout: Layout) -> Chooser {
     let mut chooser = Chooser::start(alloc).expect(rt, "memory");
     for index in 0..PORTS {
         let priority = (index % 5) as u8;
-        assert!(rt; chooser.enable(port_at(rt, turns, index), priority) == Ok(()));
+        assert!(rt; chooser.enable(port_at(rt, layout, index), priority) == Ok(()));
     }
+    assert!(rt; chooser.enable(port_of(rt, 1, 33), 3) == Err(EnableFault::EnabledFull));
     chooser
 }
 
@@ -420,30 +411,22 @@ fn chooser_of_all(rt: &impl Abort, alloc: Global, turns: u64) -> Chooser {
 /// places a site.
 fn assert_nothing_lost<R: Threads + Wait + Abort + Sync>(rt: &R, alloc: Global, turns: u16) {
     let (nucleus, mut keeper) = start(rt, alloc, 4, turns);
-    let turns = u64::from(turns);
+    let layout = nucleus.layout();
     let meeting = Meeting {
-        turns,
-        chooser: chooser_of_all(rt, alloc, turns),
+        chooser: chooser_of_all(rt, alloc, layout),
         over: AtomicBool::new(false),
         sum: AtomicU64::new(0),
     };
-    let layout = nucleus.layout();
     all_meet(rt, alloc, &nucleus, &mut keeper, &meeting);
     assert!(rt; meeting.sum.load(Ordering::SeqCst) == TOTAL * (TOTAL - 1) / 2);
     let closed = close(rt, nucleus, keeper);
     assert_lawful(rt, alloc, layout, &closed);
 }
 
-/// In a nucleus each message is received once while 32 ports move.
+/// In a nucleus of one, two or four places per site each message is received once while 32 ports move.
 #[test]
 fn nothing_is_lost_while_32_ports_move(rt: HostRuntime) {
-    assert_nothing_lost(&rt, rt.alloc(), 1);
-}
-
-/// In a nucleus of two or four places per site no moving port loses messages.
-#[test]
-fn nothing_is_lost_on_two_and_on_four_places_per_site(rt: HostRuntime) {
-    for turns in [2, 4] {
+    for turns in [1, 2, 4] {
         assert_nothing_lost(&rt, rt.alloc(), turns);
     }
 }

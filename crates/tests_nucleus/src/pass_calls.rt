@@ -237,6 +237,7 @@ fn assert_tells<R: Wait + Abort>(
     if again && told == Told::Memory {
         told = tell(rt, nucleus, pass, call);
     }
+    assert!(rt; !matches!(&told, Told::Memory), "no memory");
     assert!(rt; told == *wanted);
 }
 

@@ -1,8 +1,7 @@
 //! Posts to groups, in the three ways, over one site and two.
 
-use crate::playing::assert_rows;
-
-const GROUPS: &str = "\
+/// Members are chosen and reported.
+pub(crate) const GROUPS: &str = "\
 a broadcast from another site: 2 1
 port 1.p.1 1.a.1 1
 port 2.p.1 2.a.1 1
@@ -22,8 +21,6 @@ journal
 12 2 0 accept 1:1:2 2.p.1 0
 13 1 0 told 1:1:2 accepted 0
 14 2 0 heard 1:1:2 accepted 0
-told
-1 posted 1:1:0
 end
 groups with no member to choose: 2 1
 group 1.g.1
@@ -41,10 +38,6 @@ journal
 7 2 1 post 1:3:0 at 1.g.1 2 plain =m
 8 1 0 no-member 1:3:0 1.g.1
 9 2 0 heard 1:3:0 no-member
-told
-1 posted 1:1:0
-1 no-member 1:2:0
-1 posted 1:3:0
 end
 one rotation for both functional ways: 2 1
 port 1.p.1 1.a.1 4
@@ -83,16 +76,5 @@ journal
 25 1 1 try 1:5:1 2.p.1 2 0
 26 2 0 accept 1:5:1 2.p.1 1
 27 1 0 told 1:5:1 accepted 1
-told
-1 chosen 1:3:0 1
-1 left
-1 chosen 1:4:0 1
-1 chosen 1:5:0 1
 end
 ";
-
-/// Scenarios of groups are played over places: members are chosen and reported.
-#[test]
-fn members_are_chosen_and_reported(rt: HostRuntime) {
-    assert_rows(&rt, rt.alloc(), GROUPS);
-}

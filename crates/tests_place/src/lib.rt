@@ -1,9 +1,9 @@
 //! Tests of a place, and of places at the ends of their links, by public items alone. They stand apart, so that no crate below is proved
 //! twice.
 //!
-//! - Scenarios are played over places that are handed packets one by one: what callers are told and what journals say.
-//!   Tables of scenarios are texts, which `playing` plays over the places and callers of `net`; what callers are told is
-//!   written as `told_lines`. The worked rows are in `tests_rows`.
+//! - `scenarios` and `worked_rows` are played over places that are handed packets one by one, and leave their journals.
+//!   Tables of scenarios (`groups`, `messages`, `migration`, `names`) are texts, which `playing` plays over the places and
+//!   callers of `net`. The worked rows are in `tests_rows`.
 //! - `limits` has those that take many callers, many ports or late clocks.
 //! - `packets` has packets by hand, lawful and not, which it reads from `packet_words`; `records` are the ports in them.
 //! - `link_ends` has the ends of ruled links (`chorus_ends`, `chorus_ruled_ends`); `served_pair` two places at such ends, which serve
@@ -34,12 +34,12 @@ mod playing;
 #[cfg(test)]
 mod records;
 #[cfg(test)]
+mod scenarios;
+#[cfg(test)]
 mod served_hand;
 #[cfg(test)]
 mod served_pair;
 #[cfg(test)]
 mod served_row;
-#[cfg(test)]
-mod told_lines;
 #[cfg(test)]
 mod worked_rows;

@@ -1,9 +1,10 @@
 //! Limits that take many callers, many ports or late clocks.
 
-use crate::net::named;
+use crate::net::{Net, Plays, named};
 use crate::playing::{assert_ends, start};
 use chorus_calls::Caller;
 use chorus_entry::{Body, Command, Dest};
+use chorus_place::PlaceFault;
 use chorus_ui::{CLOCK_LIMIT, Kind, Ui};
 use std::alloc::Global;
 use std::process::Abort;
@@ -19,7 +20,6 @@ fn call(rt: &impl Abort, alloc: Global, port: Ui) -> Command {
 }
 
 const TABLE_FILLS: &str = "\
-journal
 128 1 64 post 64:1:0 port 1.p.1 request 1 1.p.1 =q
 129 1 64 accept 64:1:0 1.p.1 63
 130 1 65 post 65:1:0 port 1.p.1 request 1 1.p.1 =q
@@ -29,12 +29,6 @@ journal
 134 1 1 cancel 1
 135 1 1 post 1:2:0 port 1.p.1 request 2 1.p.1 =q
 136 1 1 full 1:2:0 1.p.1 64
-told
-64 accepted 64:1:0 63
-65 clients-full 65:1:0
-64 already 64:2:0
-1 cancelled 1
-1 full 1:2:0 64
 ";
 
 /// A place with a port of 64 clients refuses a call of a 65th.
@@ -56,17 +50,15 @@ fn at_most_once_table_fills(rt: HostRuntime) {
     assert_ends(&rt, alloc, "clients", &net, TABLE_FILLS);
 }
 
-/// How the journals and what callers are told end where a port with 64 messages is deleted: all are discarded, in their
-/// order.
+/// How the journal ends where a port with 64 messages is deleted: all are discarded, in their order.
 fn deleted_full(rt: &impl Abort, alloc: Global) -> String {
     let mut text = String::new(alloc);
-    text.push_str("journal\n129 1 1 accept 1:64:0 1.p.1 63\n130 1 1 delete 1.p.1")
+    text.push_str("129 1 1 accept 1:64:0 1.p.1 63\n130 1 1 delete 1.p.1")
         .expect(rt, "memory");
     for number in 1..=64_u32 {
         write!(text, " 1:{number}:0").expect(rt, "memory");
     }
-    text.push_str("\ntold\n1 accepted 1:64:0 63\n1 deleted 64\n")
-        .expect(rt, "memory");
+    text.push_str("\n").expect(rt, "memory");
     text
 }
 
@@ -91,12 +83,8 @@ fn a_full_port_is_deleted(rt: HostRuntime) {
 }
 
 const MEMBERS_FILL: &str = "\
-journal
 33 1 0 join 1.g.1 1.p.32
 34 1 0 members-full 1.g.1
-told
-0 joined
-0 members-full
 ";
 
 /// A place lets 32 ports join a group, and refuses a 33rd.
@@ -113,25 +101,41 @@ fn group_has_at_most_32_members(rt: HostRuntime) {
 }
 
 const WORN: &str = "\
-journal
 4611686018427387904 1 2 not-here 1.p.1
-told
-1 worn 4611686018427387904
-2 not-here
-3 worn 4611686018427387904
 ";
 
-/// The callers' last clocks are 2^62, 2^62 - 1, which is the last at which a place acts, and 0.
+/// Gives the place of a net a Take by a caller with this last clock. Asserts why it is refused, if it is, and what the
+/// caller's last clock and the number of entries are then.
+fn assert_take<P: Plays>(
+    rt: &impl Abort,
+    net: &mut Net<P>,
+    seat: u32,
+    last: u64,
+    fault: Option<PlaceFault>,
+    then: (u64, usize),
+) {
+    let mut caller = Caller::new(seat, named(rt, "1.a.1"), last);
+    let port = named(rt, "1.p.1");
+    let place = net.place(rt, 1);
+    let told = place.told(rt, &mut caller, Command::Take { port });
+    assert!(rt; told.err() == fault);
+    assert!(rt; (caller.last(), place.entries().len()) == then);
+}
+
+/// The callers' last clocks are 2^62, 2^62 - 1, which is the last at which a place acts, and 0. A refusal leaves them and
+/// the journal.
 #[test]
 fn worn_at_the_clock_limit(rt: HostRuntime) {
     let mut net = start(&rt, rt.alloc(), 1, 1);
-    let actor = named(&rt, "1.a.1");
-    let port = named(&rt, "1.p.1");
-    for last in [CLOCK_LIMIT, 4_611_686_018_427_387_903, 0] {
-        let seat = u32::try_from(net.callers.len()).expect(&rt, "a seat");
-        let caller = Caller::new(seat, actor, last);
-        net.callers.push(caller).ok().expect(&rt, "memory");
-        net.act(&rt, seat, Command::Take { port });
+    let worn = Some(PlaceFault::Worn {
+        clock: 4_611_686_018_427_387_904,
+    });
+    for (seat, last, fault, then) in [
+        (1, CLOCK_LIMIT, worn, (CLOCK_LIMIT, 0)),
+        (2, 4_611_686_018_427_387_903, None, (CLOCK_LIMIT, 1)),
+        (3, 0, worn, (0, 1)),
+    ] {
+        assert_take(&rt, &mut net, seat, last, fault, then);
     }
     assert_ends(&rt, rt.alloc(), "clocks", &net, WORN);
 }

@@ -1,8 +1,7 @@
 //! Messages to ports, and remote calls.
 
-use crate::playing::assert_rows;
-
-const MESSAGES: &str = "\
+/// Messages are decided where the port is, and calls are answered once.
+pub(crate) const MESSAGES: &str = "\
 no port of another site, and none of a site that is not there: 2 1
 script 1.a.1
 send 2.p.1 =x
@@ -15,19 +14,7 @@ journal
 4 1 0 told 1:1:0 no-port
 5 1 1 post 1:2:0 port 5.p.1 plain =y
 6 1 1 no-port 1:2:0 5.p.1
-told
-1 posted 1:1:0
-1 no-port 1:2:0
 end
-";
-
-/// Sends to ports that nobody made are played over places: each answers `no-port`.
-#[test]
-fn messages_are_decided_where_the_port_is(rt: HostRuntime) {
-    assert_rows(&rt, rt.alloc(), MESSAGES);
-}
-
-const CALLS: &str = "\
 the request taken last is in hand, and a reply taken by another seat is late: 1 1
 port 1.p.1 1.a.1 4
 port 1.p.2 1.a.1 4
@@ -65,13 +52,6 @@ journal
 12 1 3 no-request
 13 1 2 take 1.p.2 0 3:1:0
 14 1 2 done 1
-told
-3 no-request
-3 taken 0 1:1:0 request 1 1.p.2 =q
-3 taken 1 2:1:0 request 1 1.p.2 =r
-3 accepted 3:1:0 0
-3 no-request
-2 taken 0 3:1:0 reply 2 1 =yes done
 end
 a reply taken by another seat of the actor is late: 1 1
 port 1.p.1 1.a.1 4
@@ -105,11 +85,6 @@ journal
 11 1 1 already 1:2:0 1.p.1
 12 1 1 cancel 1
 13 1 1 no-call
-told
-2 taken 0 2:1:0 reply 1 1 =s late
-1 already 1:2:0
-1 cancelled 1
-1 no-call
 end
 calls and posts to a group over two sites: 2 1
 script 1.a.1
@@ -178,25 +153,5 @@ journal
 24 1 1 depart 1.p.1 2 2.a.1 1
 25 2 0 arrive 1.p.1 1
 26 2 2 delete 1.p.1 2:1:1 2:2:0
-told
-1 made 1.p.1
-2 made 2.p.1
-1 made 1.g.1
-1 joined
-1 joined
-2 posted 2:1:0
-1 posted 1:1:0
-2 taken 0 2:1:2 plain =x
-2 taken 1 1:1:0 request 1 1.p.1 =q
-2 posted 2:2:0
-1 posted 1:2:0
-1 departed 1
-2 deleted 2
 end
 ";
-
-/// Scenarios of calls are played over places: each call is answered once.
-#[test]
-fn calls_are_answered_once(rt: HostRuntime) {
-    assert_rows(&rt, rt.alloc(), CALLS);
-}

@@ -1,8 +1,7 @@
 //! Ports that migrate, and messages that come before and behind them.
 
-use crate::playing::assert_rows;
-
-const MOVES: &str = "\
+/// Ports move, and messages are early or stale.
+pub(crate) const MOVES: &str = "\
 a port comes back with what waits in it: 2 1
 port 1.p.1 1.a.1 4
 script 1.a.1
@@ -25,10 +24,6 @@ journal
 6 2 2 depart 1.p.1 1 1.a.1 2
 7 1 0 arrive 1.p.1 2
 8 1 1 take 1.p.1 0 1:1:0
-told
-1 departed 1
-2 departed 2
-1 taken 0 1:1:0 plain =a
 end
 early by what the place was told, and early by what was tried: 4 1
 port 1.p.1 1.a.1 4
@@ -77,17 +72,5 @@ journal
 18 2 0 told 3:1:0 early 4
 18 3 2 early 2:2:0 1.p.1 4
 19 3 0 arrive 1.p.1 4
-told
-4 departed 4
-3 posted 3:1:0
-2 posted 2:1:0
-1 posted 1:1:0
-2 early 2:2:0 4
 end
 ";
-
-/// Scenarios of ports that move, with messages early or stale, are played over places.
-#[test]
-fn messages_find_ports_that_move(rt: HostRuntime) {
-    assert_rows(&rt, rt.alloc(), MOVES);
-}

@@ -4,44 +4,14 @@
 ghost use Rattle.std.specs.Prelude.{◌≡◌, ◌<◌};
 ghost use Rattle.chorus_place.specs.Calls.{state, MayCall};
 
-use crate::told_lines::push_told;
 use chorus_calls::Caller;
-use chorus_entry::{Command, Entry, Hand, Packet};
+use chorus_entry::{Command, Entry, Packet};
 use chorus_merge::merge;
 use chorus_place::{Place, PlaceFault, Reply};
 use chorus_show::entry_line;
 use chorus_ui::{Layout, Ui};
 use std::alloc::Global;
 use std::process::Abort;
-
-/// What is seen of a place and a caller without memory.
-#[derive(Clone, Copy, PartialEq, Eq)]
-pub(crate) struct Seen {
-    pub(crate) entries: usize,
-    pub(crate) clock: u64,
-    pub(crate) waiting: u64,
-    pub(crate) puts: u64,
-    pub(crate) held: u16,
-    pub(crate) last: u64,
-    pub(crate) posts: u32,
-    pub(crate) given: u32,
-    pub(crate) hand: Option<Hand>,
-}
-
-/// What is seen of the place and the caller now.
-pub(crate) fn look(place: &Place, caller: &Caller) -> Seen {
-    Seen {
-        entries: place.journal().len(),
-        clock: place.clock(),
-        waiting: place.waiting(),
-        puts: place.puts(),
-        held: place.held(),
-        last: caller.last(),
-        posts: caller.posts(),
-        given: caller.client().given(),
-        hand: caller.hand(),
-    }
-}
 
 /// The name that the text is of, for tests of places.
 pub(crate) fn named(rt: &impl Abort, text: &str) -> Ui {
@@ -80,9 +50,6 @@ pub(crate) trait Plays: Drop {
     /// The place of this number, to be played, on which nothing happened yet.
     fn begun(rt: &impl Abort, alloc: Global, layout: Layout, number: u16) -> Self;
 
-    /// What is seen of the played place and the caller.
-    fn seen(&self, caller: &Caller) -> Seen;
-
     /// All entries of the played place, in order.
     fn entries(&self) -> &[Entry];
 
@@ -108,10 +75,6 @@ impl Plays for Place {
     fn begun(rt: &impl Abort, alloc: Global, layout: Layout, number: u16) -> Place {
         assert!(rt; layout.has_place(number));
         Place::start(alloc, layout, number).expect(rt, "memory")
-    }
-
-    fn seen(&self, caller: &Caller) -> Seen {
-        look(self, caller)
     }
 
     fn entries(&self) -> &[Entry] {
@@ -142,45 +105,12 @@ impl Plays for Place {
     }
 }
 
-/// The places of a layout, their callers, and what these were told, one line for each reply.
+/// The places of a layout and their callers.
 #[derive(Drop)]
 pub(crate) struct Net<P: Plays> {
-    pub(crate) layout: Layout,
-    pub(crate) places: Vec<P>,
-    pub(crate) callers: Vec<Caller>,
-    pub(crate) told: Vec<u8>,
-}
-
-/// Where the call of a played place was refused, what is seen of it and the caller is what was seen before.
-fn assert_stays<P: Plays>(
-    rt: &impl Abort,
-    is_refused: bool,
-    place: &P,
-    caller: &Caller,
-    before: &Seen,
-) {
-    assert!(rt; !is_refused || place.seen(caller) == *before);
-}
-
-/// Gives the place a command of the caller. A refusal changes nothing.
-fn act_at<P: Plays>(
-    rt: &impl Abort,
-    place: &mut P,
-    caller: &mut Caller,
-    command: Command,
-) -> Result<Reply, PlaceFault> {
-    let before = place.seen(caller);
-    let told = place.told(rt, caller, command);
-    assert_stays(rt, told.is_err(), place, caller, &before);
-    told
-}
-
-/// Hands the place a packet that is lawful there. A refusal changes nothing.
-fn work_at<P: Plays>(rt: &impl Abort, place: &mut P, caller: &mut Caller, packet: Packet) -> bool {
-    let before = place.seen(caller);
-    let worked = place.handed(rt, caller, packet);
-    assert_stays(rt, !worked, place, caller, &before);
-    worked
+    layout: Layout,
+    places: Vec<P>,
+    callers: Vec<Caller>,
 }
 
 impl<P: Plays> Net<P> {
@@ -196,7 +126,6 @@ impl<P: Plays> Net<P> {
             layout,
             places,
             callers: Vec::new(alloc),
-            told: Vec::new(alloc),
         };
         net.enter(rt, named(rt, "1.a.1"));
         net
@@ -219,13 +148,12 @@ impl<P: Plays> Net<P> {
         self.places.get_mut(at).expect(rt, "a place")
     }
 
-    /// Performs a command of the seat at its place of the net, and notes what it is told.
+    /// Performs a command of the seat at its place of the net.
     pub(crate) fn act(&mut self, rt: &impl Abort, seat: u32, command: Command) {
         let caller = self.callers.get_mut(seat as usize).expect(rt, "a caller");
         let number = number_for(rt, self.layout, caller.actor(), &command);
         let place = self.places.get_mut(index(rt, number)).expect(rt, "a place");
-        let told = act_at(rt, place, caller, command);
-        push_told(&mut self.told, seat, &told).expect(rt, "memory");
+        place.told(rt, caller, command).ok().expect(rt, "a reply");
     }
 
     /// Hands the first packet from one place to another, by seat 0; false where none waits. A packet that a place puts
@@ -244,7 +172,7 @@ impl<P: Plays> Net<P> {
     pub(crate) fn hand(&mut self, rt: &impl Abort, to: u16, packet: Packet) {
         let caller = self.callers.get_mut(0).expect(rt, "a caller");
         let place = self.places.get_mut(index(rt, to)).expect(rt, "a place");
-        assert!(rt; work_at(rt, place, caller, packet));
+        assert!(rt; place.handed(rt, caller, packet));
     }
 
     /// Delivers in rounds over all pairs of places, until a round serves nothing.
@@ -280,19 +208,24 @@ impl<P: Plays> Net<P> {
         sum
     }
 
-    /// The lines of all journals, by clock and then by place.
+    /// The lines of the journals of all places of the net.
     pub(crate) fn lines(&self, rt: &impl Abort, alloc: Global) -> Vec<u8> {
         let mut journals = Vec::new(alloc);
         for place in &self.places {
             let journal = copied(rt, alloc, place.entries());
             journals.push(journal).ok().expect(rt, "memory");
         }
-        let mut out = Vec::new(alloc);
-        for entry in &merge(alloc, &journals).expect(rt, "memory") {
-            entry_line(entry, &mut out).expect(rt, "memory");
-        }
-        out
+        lines_of(rt, alloc, &journals)
     }
+}
+
+/// The lines of these journals, by clock and then by place.
+pub(crate) fn lines_of(rt: &impl Abort, alloc: Global, journals: &[Vec<Entry>]) -> Vec<u8> {
+    let mut out = Vec::new(alloc);
+    for entry in &merge(alloc, journals).expect(rt, "memory") {
+        entry_line(entry, &mut out).expect(rt, "memory");
+    }
+    out
 }
 
 /// Copies a place's journal, so that it can be merged while the place goes on.

@@ -1,9 +1,8 @@
 //! Scenarios, played over places, and tables of them.
 //!
 //! A row of a table is a text: its name with the numbers of sites and of turns, and the lines of a scenario between the
-//! first and `end` (they may name sixteen sites). Behind these stand `journal` and `told` with the last lines of the
-//! journals, by clock and then by place, and of what callers are told; a test may have other rows, with what it likes
-//! in their place. A line `end` ends the row.
+//! first and `end` (they may name sixteen sites). Behind these stands `journal` with the last lines of the journals, by
+//! clock and then by place; a test may have other rows, with what it likes in its place. A line `end` ends the row.
 
 use crate::net::{Net, Plays};
 use chorus_entry::Command;
@@ -62,73 +61,62 @@ fn row_of<'a>(rt: &impl Abort, row: &'a str) -> Row<'a> {
     }
 }
 
-/// Plays each row of the table. The journals and what callers are told end as the row says, and no packet is left.
+/// Plays each row of the table.
 pub(crate) fn assert_rows(rt: &impl Abort, alloc: Global, table: &str) {
     for row in &rows_of(rt, alloc, table) {
-        let net = play(rt, alloc, row.sites, row.turns, row.lines);
-        assert_ends(rt, alloc, row.name, &net, row.lines);
+        assert_row(rt, alloc, row);
     }
 }
 
-/// Whether the text of journals, or of what callers are told, ends with these lines, the first of which begins where a
-/// line of the text does.
+/// Plays the row of a table. The journals end as it says, and no packet is left.
+fn assert_row(rt: &impl Abort, alloc: Global, row: &Row<'_>) {
+    let (lines, journal) = parted(rt, row.lines, "journal\n", "a journal");
+    let scenario = scenario_of(rt, alloc, lines, row.turns);
+    let net: Net<Place> = play(rt, alloc, row.sites, row.turns, &scenario);
+    assert_ends(rt, alloc, row.name, &net, journal);
+}
+
+/// Whether the text of journals ends with these lines, the first of which begins where a line of the text does.
 fn ends_with_lines(text: &[u8], lines: &[u8]) -> bool {
     let front = text.len().saturating_sub(lines.len());
     text.ends_with(lines) && (front == 0 || text[front - 1] == b'\n')
 }
 
-/// The journals and what callers were told end as these lines of a row say, and no packet is left.
+/// The journals end with these lines, and no packet is left.
 pub(crate) fn assert_ends<P: Plays>(
     rt: &impl Abort,
     alloc: Global,
     name: &str,
     net: &Net<P>,
-    lines: &str,
-) {
-    let (_, rest) = parted(rt, lines, "journal\n", "a journal");
-    let (journal, told) = parted(rt, rest, "told\n", "what is told");
-    assert_end(rt, alloc, name, net, journal, told);
-}
-
-/// The journals end with these lines, and what callers were told with those, and no packet is left.
-fn assert_end<P: Plays>(
-    rt: &impl Abort,
-    alloc: Global,
-    name: &str,
-    net: &Net<P>,
     journal: &str,
-    told: &str,
 ) {
     let entries = net.lines(rt, alloc);
     assert!(rt;
         ends_with_lines(&entries, journal.as_bytes()),
         "the journal of {name}"
     );
-    assert!(rt;
-        ends_with_lines(&net.told, told.as_bytes()),
-        "what {name} tells"
-    );
     assert!(rt; net.waiting() == 0, "the packets of {name}");
 }
 
-/// Plays the worked row. The journals are those that it prints, what callers are told ends as it says, and no packet is
-/// left.
-pub(crate) fn assert_worked(rt: &impl Abort, alloc: Global, row: &WorkedRow<'_>) {
-    let scenario = scenario_in(rt, alloc, row.text, row.turns);
-    let net: Net<Place> = perform_scenario(rt, alloc, row.sites, row.turns, &scenario);
+/// The lines of the journals that a worked row prints.
+pub(crate) fn journal_of<'a>(rt: &impl Abort, row: &WorkedRow<'a>) -> &'a str {
     let (_, printed) = parted(rt, row.printed, "\n", "a journal");
     let (journal, _) = parted(rt, printed, "summary\n", "a summary");
-    assert_end(rt, alloc, row.name, &net, journal, row.told);
+    journal
+}
+
+/// Plays the worked row. The journals are those that it prints, and no packet is left.
+pub(crate) fn assert_worked(rt: &impl Abort, alloc: Global, row: &WorkedRow<'_>) {
+    let scenario = scenario_in(rt, alloc, row.text, row.turns);
+    let net: Net<Place> = play(rt, alloc, row.sites, row.turns, &scenario);
+    let journal = journal_of(rt, row);
+    assert_ends(rt, alloc, row.name, &net, journal);
     let entries = net.lines(rt, alloc);
     assert!(rt; entries.len() == journal.len(), "the whole journal");
 }
 
-/// The scenario of a row's lines, up to a journal's.
+/// The scenario of a row's lines.
 fn scenario_of(rt: &impl Abort, alloc: Global, lines: &str, turns: u16) -> Scenario {
-    let lines = match lines.split_once("journal\n") {
-        Some((lines, _)) => lines,
-        None => lines,
-    };
     let text = format!(in alloc; "chorus 2\nsites 16\n{lines}end\n");
     scenario_in(rt, alloc, text.expect(rt, "memory").as_str(), turns)
 }
@@ -232,15 +220,8 @@ pub(crate) fn begin(
     net
 }
 
-/// The places after the scenario of these lines: the setup by seat 0, the schedule, the commands that it leaves, and a
-/// drain.
-fn play(rt: &impl Abort, alloc: Global, sites: u16, turns: u16, lines: &str) -> Net<Place> {
-    let scenario = scenario_of(rt, alloc, lines, turns);
-    perform_scenario(rt, alloc, sites, turns, &scenario)
-}
-
-/// The places after the scenario itself: the setup by seat 0, the schedule, the commands that it leaves, and a drain.
-fn perform_scenario<P: Plays>(
+/// The places after the scenario: the setup by seat 0, the schedule, the commands that it leaves, and a drain.
+fn play<P: Plays>(
     rt: &impl Abort,
     alloc: Global,
     sites: u16,

@@ -1,6 +1,7 @@
 //! A packet that a place may not work off stays in its hand.
 
-use crate::served_pair::{act, name, pump, second_holding};
+use crate::net::named;
+use crate::served_pair::{act, pump, second_holding};
 use chorus_calls::Caller;
 use chorus_ends::Moves;
 use chorus_entry::{Cargo, Command, Packet, PortRecord};
@@ -10,7 +11,7 @@ use std::process::Abort;
 
 /// A packet of place 1 that may stay in hand, with which `1.p.1` comes to `2.a.1` by this hop.
 fn transfer(rt: &impl Abort, alloc: Global, hop: u64) -> Packet {
-    let made = PortRecord::with_room(alloc, name(rt, "1.p.1"), name(rt, "2.a.1"), 4);
+    let made = PortRecord::with_room(alloc, named(rt, "1.p.1"), named(rt, "2.a.1"), 4);
     let mut port = made.expect(rt, "memory");
     port.hop = hop;
     Packet {
@@ -42,20 +43,15 @@ fn assert_serves<E: Moves<()>>(
     assert_eq!(rt; (desk.worked(), desk.is_holding(), desk.held()), wanted);
 }
 
-/// Moves the port to `1.a.1`, after which the packet in hand may be worked off.
-fn move_back<E: Moves<()>>(rt: &impl Abort, desk: &mut Desk<E>, caller: &mut Caller) {
-    let (port, actor) = (name(rt, "1.p.1"), name(rt, "1.a.1"));
-    act(rt, desk, caller, Command::Move { port, actor });
-}
-
 /// While the port is held that the first packet brought, the second one stays in hand, however often the place is served. When the port
 /// has left it is worked off.
 fn assert_stays_in_hand<E: Moves<()>>(rt: &impl Abort, mut desk: Desk<E>) {
-    let mut caller = Caller::new(1, name(rt, "2.a.1"), 0);
+    let mut caller = Caller::new(1, named(rt, "2.a.1"), 0);
     for wanted in [(1, false, 1), (1, true, 1), (1, true, 1)] {
         assert_serves(rt, &mut desk, &mut caller, wanted);
     }
-    move_back(rt, &mut desk, &mut caller);
+    let (port, actor) = (named(rt, "1.p.1"), named(rt, "1.a.1"));
+    act(rt, &mut desk, &mut caller, Command::Move { port, actor });
     assert_serves(rt, &mut desk, &mut caller, (2, false, 1));
 }
 

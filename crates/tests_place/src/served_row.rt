@@ -1,14 +1,15 @@
 //! Two places over ruled ends, on one thread.
 
-use crate::served_pair::{Pair, act, name, pump, send_command, start};
+use crate::net::{lines_of, named};
+use crate::playing::journal_of;
+use crate::served_pair::{Pair, act, pump, send_command, start};
 use chorus_calls::Caller;
 use chorus_ends::Moves;
 use chorus_entry::{Command, Entry};
-use chorus_merge::merge;
 use chorus_serve::{Desk, Pump};
-use chorus_show::entry_line;
 use std::alloc::Global;
 use std::process::Abort;
+use tests_rows::TWO_SITES_SEND_TO_ONE_PORT;
 
 /// What a place does for callers, on a ground of this type. The rows are written over this, so that they know of a place no more than
 /// they ask.
@@ -41,12 +42,6 @@ impl<R: Abort, E: Moves<R>> PlaysRow<R> for Desk<E> {
     }
 }
 
-/// Makes the port of the row over ruled ends, in the name of the keeper.
-fn make<R: Abort, D: PlaysRow<R>>(rt: &R, desk: &mut D, keeper: &mut Caller) {
-    let actor = name(rt, "2.a.1");
-    desk.act(rt, keeper, Command::Make { actor, capacity: 4 });
-}
-
 /// Sends the text to the port of the row, in the name of a new caller of this seat in the actor.
 fn send_from<R: Abort, D: PlaysRow<R>>(
     rt: &R,
@@ -56,8 +51,8 @@ fn send_from<R: Abort, D: PlaysRow<R>>(
     actor: &str,
     text: &str,
 ) {
-    let mut caller = Caller::new(seat, name(rt, actor), 1);
-    let command = send_command(rt, alloc, name(rt, "2.p.1"), text);
+    let mut caller = Caller::new(seat, named(rt, actor), 1);
+    let command = send_command(rt, alloc, named(rt, "2.p.1"), text);
     desk.act(rt, &mut caller, command);
 }
 
@@ -68,7 +63,9 @@ fn act_at_both<R: Abort, D: PlaysRow<R>>(
     pair: &mut Pair<D>,
     keeper: &mut Caller,
 ) {
-    make(rt, &mut pair.there, keeper);
+    let actor = named(rt, "2.a.1");
+    pair.there
+        .act(rt, keeper, Command::Make { actor, capacity: 4 });
     send_from(rt, alloc, &mut pair.here, 1, "1.a.1", "hi");
     send_from(rt, alloc, &mut pair.there, 2, "2.a.1", "yo");
 }
@@ -99,47 +96,26 @@ fn assert_both_serve<R: Abort, D: PlaysRow<R>>(rt: &R, pair: &mut Pair<D>, keepe
     }
 }
 
-/// The lines of the two places' journals, by clock and then by place.
-fn lines_of(rt: &impl Abort, alloc: Global, journals: &[Vec<Entry>]) -> Vec<u8> {
-    let mut out = Vec::new(alloc);
-    for entry in &merge(alloc, journals).expect(rt, "memory") {
-        entry_line(entry, &mut out).expect(rt, "memory");
-    }
-    out
-}
-
-/// Asserts that these are the lines of the two places' journals.
-fn assert_lines(rt: &impl Abort, alloc: Global, journals: &[Vec<Entry>], lines: &str) {
-    let written = lines_of(rt, alloc, journals);
-    assert!(rt; written.as_slice() == lines.as_bytes());
-}
-
 /// Asserts that nothing is left at the places, and that these are the lines of their journals.
 fn assert_leave<R: Abort, D: PlaysRow<R>>(rt: &R, alloc: Global, pair: Pair<D>, lines: &str) {
     let Pair { here, there } = pair;
     let (here, there) = (here.journal(rt), there.journal(rt));
     let journals = vec![in alloc; here, there].expect(rt, "memory");
-    assert_lines(rt, alloc, &journals, lines);
-}
-
-/// The lines of the journals of the row `two_sites_send_to_one_port`.
-fn lines_of_row(rt: &impl Abort) -> &'static str {
-    let printed = tests_rows::TWO_SITES_SEND_TO_ONE_PORT.printed;
-    let (_, lines) = printed.split_once("\n").expect(rt, "a journal");
-    let (lines, _) = lines.split_once("summary\n").expect(rt, "a summary");
-    lines
+    let written = lines_of(rt, alloc, &journals);
+    assert!(rt; written.as_slice() == lines.as_bytes());
 }
 
 /// Sends from both places to a port of the second, and asserts what each serves and the journals of the worked row.
 fn assert_packets_are_carried<R: Abort, D: PlaysRow<R>>(rt: &R, alloc: Global, mut pair: Pair<D>) {
-    let mut keeper = Caller::new(0, name(rt, "1.a.1"), 0);
+    let mut keeper = Caller::new(0, named(rt, "1.a.1"), 0);
     act_at_both(rt, alloc, &mut pair, &mut keeper);
     assert_both_serve(rt, &mut pair, &mut keeper);
-    assert_leave(rt, alloc, pair, lines_of_row(rt));
+    let lines = journal_of(rt, &TWO_SITES_SEND_TO_ONE_PORT);
+    assert_leave(rt, alloc, pair, lines);
 }
 
 /// Two places over ruled ends serve each other and leave the worked row's journals.
 #[test]
-fn two_places_play_the_worked_row(rt: HostRuntime) {
+fn ruled_ends_carry_packets(rt: HostRuntime) {
     assert_packets_are_carried(&rt, rt.alloc(), start(&rt, rt.alloc()));
 }

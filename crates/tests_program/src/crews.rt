@@ -53,7 +53,7 @@ port 8.p.1 64 28979
 end
 ";
 
-/// What the program's word `crew` prints for no draw, one, 100 and 1,000.
+/// What the program's word `crew` prints for no draw, one, 100 and 1,000, and twice for 65,536, of which all ports are full.
 #[test]
 fn crew_totals(rt: HostRuntime) {
     for (first, commands, printed) in [
@@ -61,19 +61,9 @@ fn crew_totals(rt: HostRuntime) {
         ("7", "1", NOTHING),
         ("42", "100", FEW),
         ("3", "1000", MANY),
+        ("1", "65536", FULL),
+        ("1", "65536", FULL),
     ] {
         assert_prints(&rt, rt.alloc(), &["crew", first, commands], "", printed);
     }
-}
-
-/// What the program's word `crew` prints for 65,536 draws, of which all ports are full.
-#[test]
-fn a_full_crew(rt: HostRuntime) {
-    assert_prints(&rt, rt.alloc(), &["crew", "1", "65536"], "", FULL);
-}
-
-/// What the program's word `crew` prints for the same 65,536 draws, in a second run.
-#[test]
-fn a_full_crew_again(rt: HostRuntime) {
-    assert_prints(&rt, rt.alloc(), &["crew", "1", "65536"], "", FULL);
 }

@@ -104,7 +104,7 @@ fn assert_performed<R: Abort + Threads + Wait + Sync, G: Gate>(
     text: &str,
     gate: &G,
 ) {
-    let mut source = source_of(rt, alloc, text, &[]);
+    let mut source = source_of(rt, alloc, text);
     let mut sink = sink_of(rt, alloc, 4096, &[]);
     let (status, closed) = run_on(rt, alloc, &mut source, &mut sink, gate);
     assert_same(rt, status, Status::Done, text);

@@ -29,10 +29,10 @@ fn status_of<R: Abort + Threads + Wait + Sync, S: Source, K: Sink>(
     start_program(alloc, rt, words, source, sink).status
 }
 
-/// A source of the text for a test of the program. `failing` lists the reads that fail.
-pub(crate) fn source_of(rt: &impl Abort, alloc: Global, text: &str, failing: &[u64]) -> MemSource {
+/// A source of the text for a test of the program, of which no read fails.
+pub(crate) fn source_of(rt: &impl Abort, alloc: Global, text: &str) -> MemSource {
     let bytes = Vec::from_slice(alloc, text.as_bytes()).expect(rt, "memory");
-    MemSource::new(bytes, Vec::from_slice(alloc, failing).expect(rt, "memory"))
+    MemSource::new(bytes, Vec::new(alloc))
 }
 
 /// An empty sink for a test of the program, which takes so many bytes at a write. `failing` lists the writes that fail.
@@ -58,17 +58,18 @@ pub(crate) fn assert_same<T: PartialEq + Debug + Copy, W: Debug + Copy>(
     assert_eq!(rt; told, wanted, "{of:?}");
 }
 
-/// What the program does for these words, over this source and a sink that takes so many bytes at a write and fails at these writes.
-pub(crate) fn run_over<S: Source>(
+/// What the program does for these words and this input, over a sink that takes so many bytes at a write and fails at these writes.
+pub(crate) fn run_over(
     rt: &(impl Abort + Threads + Wait + Sync),
     alloc: Global,
     words: &[&str],
-    source: &mut S,
+    input: &str,
     most: usize,
     failing: &[u64],
 ) -> Run {
+    let mut source = source_of(rt, alloc, input);
     let mut sink = sink_of(rt, alloc, most, failing);
-    let status = status_of(rt, alloc, words, source, &mut sink);
+    let status = status_of(rt, alloc, words, &mut source, &mut sink);
     Run {
         status,
         written: text_in(rt, alloc, &sink),
@@ -82,13 +83,7 @@ pub(crate) fn run_on(
     words: &[&str],
     input: &str,
 ) -> Run {
-    let mut source = source_of(rt, alloc, input, &[]);
-    run_over(rt, alloc, words, &mut source, 64, &[])
-}
-
-/// Asserts that the run of the program did all.
-pub(crate) fn assert_done(rt: &impl Abort, run: &Run, of: &str) {
-    assert_same(rt, run.status, Status::Done, of);
+    run_over(rt, alloc, words, input, 64, &[])
 }
 
 /// Asserts that for these words and this input the program does all, and writes this.

@@ -1,6 +1,7 @@
 //! What the word `run` prints: a journal, which the word `audit` is to find legal, and a summary.
 
-use crate::ground::{assert_done, assert_prints, assert_same, run_on};
+use crate::ground::{assert_prints, assert_same, run_on};
+use chorus_show::Status;
 use std::alloc::Global;
 use std::process::Abort;
 use std::sync::Wait;
@@ -14,7 +15,7 @@ pub(crate) fn printed_by_run(
     scenario: &str,
 ) -> String {
     let run = run_on(rt, alloc, &["run", turns], scenario);
-    assert_done(rt, &run, turns);
+    assert_same(rt, run.status, Status::Done, turns);
     assert_lawful(rt, alloc, turns, run.written.as_str());
     run.written
 }

@@ -1,5 +1,5 @@
-//! Tests of the crates `chorus_words` and `chorus_program`, over their public items: the words, what they print of scenarios, how limits,
-//! texts and faults end them, explorations too, and scenarios whose scripts run on threads. What explorations tell of races is in `tests_run`.
+//! Tests of the crates `chorus_words` and `chorus_program`, over their public items: the words, what they print, how writes that fail end
+//! them, and scenarios whose scripts run on threads. What replays, loads and explorations do beside that is in `tests_run`.
 #![tactic(auto)]
 
 #[cfg(test)]
@@ -21,10 +21,6 @@ mod journals;
 #[cfg(test)]
 mod movers;
 #[cfg(test)]
-mod one_byte_source;
-#[cfg(test)]
 mod replays;
-#[cfg(test)]
-mod texts;
 #[cfg(test)]
 mod words;

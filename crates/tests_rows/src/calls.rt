@@ -46,16 +46,6 @@ stale 0
 departs 0
 end
 ",
-    told: "\
-0 made 1.p.1
-1 accepted 1:1:0 0
-1 outstanding 1
-1 taken 0 1:1:0 request 1 1.p.1 =q
-1 accepted 1:2:0 1
-1 taken 1 1:2:0 reply 1 1 =s done
-1 no-call
-1 no-request
-",
 };
 
 /// A call is made again while its port moves to a third site: it is accepted once, and the late reply of the cancelled
@@ -137,15 +127,5 @@ refused 1
 stale 1
 departs 1
 end
-",
-    told: "\
-1 posted 1:1:0
-2 departed 1
-1 posted 1:2:0
-3 taken 0 1:1:0 request 1 2.p.1 =q
-1 cancelled 1
-1 posted 1:3:0
-3 posted 3:1:0
-1 taken 0 3:1:0 reply 1 1 =ans late
 ",
 };

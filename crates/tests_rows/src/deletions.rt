@@ -45,15 +45,6 @@ stale 0
 departs 0
 end
 ",
-    told: "\
-0 made 1.p.1
-1 accepted 1:1:0 0
-1 accepted 1:2:0 1
-1 taken 0 1:1:0 plain =a
-1 deleted 1
-1 gone 1:3:0
-1 not-here
-",
 };
 
 /// A port is deleted where it moved to.
@@ -106,10 +97,5 @@ refused 1
 stale 1
 departs 1
 end
-",
-    told: "\
-2 departed 1
-3 deleted 0
-1 posted 1:1:0
 ",
 };

@@ -62,13 +62,6 @@ stale 0
 departs 0
 end
 ",
-    told: "\
-1 no-member 1:1:0
-1 chosen 1:2:0 1
-1 chosen 1:3:0 1
-1 chosen 1:4:0 1
-1 chosen 1:5:0 1
-",
 };
 
 /// The member leaves the site that is demanded.
@@ -115,11 +108,6 @@ refused 1
 stale 0
 departs 1
 end
-",
-    told: "\
-0 joined
-1 chosen 1:1:0 1
-2 departed 1
 ",
 };
 
@@ -174,11 +162,6 @@ stale 0
 departs 1
 end
 ",
-    told: "\
-1 chosen 1:1:0 1
-1 chosen 1:2:0 1
-2 departed 1
-",
 };
 
 /// A post to all members, one of which is full.
@@ -229,10 +212,6 @@ stale 0
 departs 0
 end
 ",
-    told: "\
-1 accepted 1:1:0 0
-1 chosen 1:2:0 3
-",
 };
 
 /// The place that posted hears what became of it.
@@ -273,9 +252,5 @@ refused 0
 stale 0
 departs 0
 end
-",
-    told: "\
-0 joined
-1 posted 1:1:0
 ",
 };

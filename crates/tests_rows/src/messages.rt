@@ -41,14 +41,6 @@ stale 0
 departs 0
 end
 ",
-    told: "\
-0 made 1.p.1
-1 accepted 1:1:0 0
-1 full 1:2:0 1
-1 taken 0 1:1:0 plain =a
-1 empty
-1 empty
-",
 };
 
 /// Two sites send to one port.
@@ -91,11 +83,6 @@ stale 0
 departs 0
 end
 ",
-    told: "\
-0 made 2.p.1
-1 posted 1:1:0
-2 accepted 2:1:0 0
-",
 };
 
 /// A message to a port that there is not, and one to a port that there is.
@@ -130,10 +117,6 @@ refused 1
 stale 0
 departs 0
 end
-",
-    told: "\
-1 no-port 1:1:0
-1 accepted 1:2:0 0
 ",
 };
 
@@ -189,10 +172,5 @@ refused 0
 stale 1
 departs 1
 end
-",
-    told: "\
-2 departed 1
-1 posted 1:1:0
-1 posted 1:2:0
 ",
 };

@@ -56,12 +56,6 @@ stale 0
 departs 1
 end
 ",
-    told: "\
-1 departed 1
-2 taken 0 1:1:0 plain =a
-2 taken 1 1:2:0 plain =b
-2 taken 2 1:3:0 plain =c
-",
 };
 
 /// A place that the port has left names the newer one.
@@ -109,10 +103,6 @@ refused 0
 stale 1
 departs 1
 end
-",
-    told: "\
-2 departed 1
-1 posted 1:1:0
 ",
 };
 
@@ -169,10 +159,6 @@ refused 1
 stale 1
 departs 1
 end
-",
-    told: "\
-1 posted 1:1:0
-1 posted 1:2:0
 ",
 };
 
@@ -233,12 +219,6 @@ stale 1
 departs 3
 end
 ",
-    told: "\
-2 departed 1
-3 departed 2
-2 departed 3
-1 posted 1:1:0
-",
 };
 
 /// A port gets another actor of its site.
@@ -277,11 +257,5 @@ refused 0
 stale 0
 departs 0
 end
-",
-    told: "\
-1 accepted 1:1:0 0
-1 rehomed
-1 not-here
-2 taken 0 1:1:0 plain =a
 ",
 };

@@ -1,7 +1,7 @@
 //! What a worked row is.
 
 /// A worked row: a scenario, and what comes of it, worked out by hand.
-#[derive(Clone, Copy, Debug)]
+#[derive(Clone, Copy)]
 pub struct WorkedRow<'a> {
     /// Its name.
     pub name: &'a str,
@@ -13,6 +13,4 @@ pub struct WorkedRow<'a> {
     pub text: &'a str,
     /// What a replay of it prints: the lines of all journals, by clock and then by place, and the summary.
     pub printed: &'a str,
-    /// The last lines of what callers are told, one for each reply, as `tests_place` writes them.
-    pub told: &'a str,
 }

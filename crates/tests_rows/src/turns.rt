@@ -34,10 +34,6 @@ stale 0
 departs 0
 end
 ",
-    told: "\
-0 made 1.p.2
-1 posted 1:1:0
-",
 };
 
 /// A port moves to the place of the other site at which it stands there.
@@ -69,9 +65,5 @@ refused 0
 stale 0
 departs 1
 end
-",
-    told: "\
-0 made 1.p.2
-1 departed 1
 ",
 };

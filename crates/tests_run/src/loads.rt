@@ -73,32 +73,25 @@ fn loaded(rt: &impl Abort, alloc: Global, first: u64, commands: u32, writes: &[u
     run_of(rt, alloc, status, closed, &sink)
 }
 
-/// Asserts that the load of so many drawn commands from the first number on ends well and writes this summary.
-fn assert_loads(rt: &impl Abort, alloc: Global, first: u64, commands: u32, summary: &str) {
-    let run = loaded(rt, alloc, first, commands, &[]);
-    assert_done(rt, &run, summary, "a load");
-}
-
-/// Asserts that a load whose first write fails ends with a write fault, has written nothing and closed its sites.
-fn assert_write_fails(rt: &impl Abort, alloc: Global) {
-    let run = loaded(rt, alloc, 7, 1, &[1]);
-    assert_ended(rt, &run, Status::WriteFault, "", "a sink that fails");
-    assert!(rt; run.closed);
-}
+/// Loads, each with its name, its first number and how many commands are drawn, and the summary that it writes.
+const LOADS: [(&str, u64, u32, &str); 4] = [
+    ("of nothing", 7, 0, POSTS_NOTHING),
+    ("of one command", 7, 1, POSTS_ONE),
+    ("worked out by hand", 15_768, 14, POSTS_NINE),
+    ("load_fills_its_ports", 7, 2_000, FILLS_ALL_PORTS),
+];
 
 /// A load writes its summary alone, and ends where its write fails.
 #[test]
 fn load_writes_its_summary(rt: HostRuntime) {
-    assert_loads(&rt, rt.alloc(), 7, 0, POSTS_NOTHING);
-    assert_loads(&rt, rt.alloc(), 7, 1, POSTS_ONE);
-    assert_loads(&rt, rt.alloc(), 15_768, 14, POSTS_NINE);
-    assert_write_fails(&rt, rt.alloc());
-}
-
-/// The load of 2000 commands fills its eight ports, and its summary says so.
-#[test]
-fn load_fills_its_ports(rt: HostRuntime) {
-    assert_loads(&rt, rt.alloc(), 7, 2_000, FILLS_ALL_PORTS);
+    let alloc = rt.alloc();
+    for (name, first, commands, summary) in LOADS {
+        let run = loaded(&rt, alloc, first, commands, &[]);
+        assert_done(&rt, &run, summary, name);
+    }
+    let run = loaded(&rt, alloc, 7, 1, &[1]);
+    assert_ended(&rt, &run, Status::WriteFault, "", "a sink that fails");
+    assert_same(&rt, run.closed, true, "a sink that fails");
 }
 
 /// The number behind the word, with its blank, in the summary of a load.
@@ -122,17 +115,12 @@ fn assert_adds_up(rt: &impl Abort, summary: &str) {
     assert_same(rt, number(rt, summary, "moving "), 0, "moving");
 }
 
-/// Asserts that the load of 65536 commands from 1 on writes the same summary twice, and that its counts add up.
-fn assert_repeatable(rt: &impl Abort, alloc: Global) {
-    let run = loaded(rt, alloc, 1, 65_536, &[]);
-    let again = loaded(rt, alloc, 1, 65_536, &[]);
-    assert_same(rt, run.status, Status::Done, "a load");
-    assert_ended(rt, &again, Status::Done, run.written.as_str(), "again");
-    assert_adds_up(rt, run.written.as_str());
-}
-
 /// A load of 65536 commands writes the same summary twice, whose counts add up.
 #[test]
 fn load_is_repeatable(rt: HostRuntime) {
-    assert_repeatable(&rt, rt.alloc());
+    let run = loaded(&rt, rt.alloc(), 1, 65_536, &[]);
+    let again = loaded(&rt, rt.alloc(), 1, 65_536, &[]);
+    assert_same(&rt, run.status, Status::Done, "a load");
+    assert_ended(&rt, &again, Status::Done, run.written.as_str(), "again");
+    assert_adds_up(&rt, run.written.as_str());
 }

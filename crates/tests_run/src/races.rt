@@ -1,6 +1,6 @@
-//! What an exploration tells of three races, whole.
+//! What explorations tell: of three races, where their limit of events is met, and where there is nothing to do.
 
-use crate::exploring::told;
+use crate::exploring::{MANY, told};
 use crate::running::assert_same;
 
 const FULL_PORT: &str =
@@ -251,23 +251,104 @@ deliver 2 1
 end
 ";
 
-/// What an exploration tells of two sends to a port with room for one.
+const MOVES_WITH_FIFTY_EVENTS: &str = "\
+histories 33
+events 50
+some
+facts 10
+1 answer 1 1 post 1:1:0 port 1.p.1 plain =a
+1 answer 1 2 depart 1.p.1 2 2.a.1
+1 answer 1 3 post 1:2:0 port 1.p.1 plain =b
+1 answer 2 1 not-here 1.p.1
+1 answer 2 2 not-here 1.p.1
+2 answer 2 2 take 1.p.1 1:1:0
+1 verdict 1:1:0 accepted
+1 verdict 1:2:0 accepted
+1 port 1.p.1 2.a.1 1:1:0 1:2:0
+2 port 1.p.1 2.a.1 1:2:0
+outcomes 2
+outcome 1
+histories 16
+answer 1 1 post 1:1:0 port 1.p.1 plain =a
+answer 1 2 depart 1.p.1 2 2.a.1
+answer 1 3 post 1:2:0 port 1.p.1 plain =b
+answer 2 1 not-here 1.p.1
+answer 2 2 not-here 1.p.1
+verdict 1:1:0 accepted
+verdict 1:2:0 accepted
+port 1.p.1 2.a.1 1:1:0 1:2:0
+outcome 2
+histories 17
+answer 1 1 post 1:1:0 port 1.p.1 plain =a
+answer 1 2 depart 1.p.1 2 2.a.1
+answer 1 3 post 1:2:0 port 1.p.1 plain =b
+answer 2 1 not-here 1.p.1
+answer 2 2 take 1.p.1 1:1:0
+verdict 1:1:0 accepted
+verdict 1:2:0 accepted
+port 1.p.1 2.a.1 1:2:0
+schedule 1
+step 1
+step 1
+step 1
+step 2
+step 2
+deliver 1 2
+deliver 1 2
+deliver 2 1
+schedule 2
+step 1
+step 1
+step 1
+step 2
+deliver 1 2
+step 2
+deliver 1 2
+deliver 2 1
+end
+";
+
+const MOVES_WITH_TEN_EVENTS: &str = "histories 0\nevents 10\nsome\nfacts 0\noutcomes 0\nend\n";
+
+const MOVES_WITH_NONE: &str = "histories 0\nevents 0\nsome\nfacts 0\noutcomes 0\nend\n";
+
+const NOTHING: &str = "chorus 1\nsites 1\nschedule\nend\n";
+
+const NOTHING_MAY_COME: &str =
+    "histories 1\nevents 0\nall\nfacts 0\noutcomes 1\noutcome 1\nhistories 1\nschedule 1\nend\n";
+
+/// Scenarios, each with how many events are carried out at most, and what is told.
+const RACES: [(&str, u32, &str); 7] = [
+    // two sends to a port with room for one
+    (FULL_PORT, MANY, FULL_PORT_TOLD),
+    // a send and a take while the port moves
+    (MOVE, MANY, MOVE_TOLD),
+    // two sends with a move between them, while another script takes twice
+    (MOVES, MANY, MOVES_TOLD),
+    // the same, where the limit of events is met in the midst
+    (MOVES, 50, MOVES_WITH_FIFTY_EVENTS),
+    (MOVES, 10, MOVES_WITH_TEN_EVENTS),
+    (MOVES, 0, MOVES_WITH_NONE),
+    // no scripts: one schedule, in which nothing is done
+    (NOTHING, 10, NOTHING_MAY_COME),
+];
+
+/// What explorations tell, whole.
 #[test]
-fn a_full_port(rt: HostRuntime) {
-    let text = told(&rt, rt.alloc(), FULL_PORT);
-    assert_same(&rt, text.as_str(), FULL_PORT_TOLD, FULL_PORT);
+fn races_are_told_whole(rt: HostRuntime) {
+    let alloc = rt.alloc();
+    for (scenario, most, wanted) in RACES {
+        let text = told(&rt, alloc, most, scenario);
+        assert_same(&rt, text.as_str(), wanted, scenario);
+    }
 }
 
-/// What an exploration tells of a send and a take while the port moves.
+/// An exploration says `all` with a limit of events that just suffices, and `some` with one less.
 #[test]
-fn a_port_moves(rt: HostRuntime) {
-    let text = told(&rt, rt.alloc(), MOVE);
-    assert_same(&rt, text.as_str(), MOVE_TOLD, MOVE);
-}
-
-/// What an exploration tells of a race, whole: two sends with a move between them, while another script takes twice.
-#[test]
-fn two_sends_and_a_move(rt: HostRuntime) {
-    let text = told(&rt, rt.alloc(), MOVES);
-    assert_same(&rt, text.as_str(), MOVES_TOLD, MOVES);
+fn a_limit_that_suffices_is_not_met(rt: HostRuntime) {
+    let alloc = rt.alloc();
+    for (most, limit) in [(54, "\nall\n"), (53, "\nsome\n")] {
+        let text = told(&rt, alloc, most, MOVES);
+        assert_same(&rt, text.as_str().contains(limit), true, limit);
+    }
 }

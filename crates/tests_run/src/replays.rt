@@ -1,6 +1,6 @@
 //! What scenarios print that are no worked rows.
 
-use crate::running::{assert_prints, assert_same, replayed};
+use crate::running::{assert_prints, assert_same, replayed, sixteen};
 use chorus_show::Status;
 use std::alloc::Global;
 use std::fmt::Write;
@@ -11,10 +11,14 @@ pub(crate) const NOTHING: &str = "chorus 1\nsites 1\nscript 1.a.1\nschedule\nend
 pub(crate) const PRINTS_NOTHING: &str =
     "journal 0\nsummary\nposted 0\naccepted 0\ntaken 0\nqueued 0\nmoving 0\nrefused 0\nstale 0\ndeparts 0\nend\n";
 
-const PERCENT: &str =
-    "chorus 1\nsites 1\nport 1.p.1 1.a.1 1\nscript 1.a.1\nsend 1.p.1 =100%\nschedule\nend";
-
-const PRINTS_PERCENT: &str = "\
+/// Scenarios, each with its name, and what their replays print.
+const REPLAYS: [(&str, &str, &str); 5] = [
+    ("empty_scenario", NOTHING, PRINTS_NOTHING),
+    // a `%` is printed as `%25`
+    (
+        "percent_is_escaped",
+        "chorus 1\nsites 1\nport 1.p.1 1.a.1 1\nscript 1.a.1\nsend 1.p.1 =100%\nschedule\nend",
+        "\
 journal 3
 1 1 0 make 1.p.1 1.a.1 1
 2 1 1 post 1:1:0 port 1.p.1 plain =100%25
@@ -29,11 +33,33 @@ refused 0
 stale 0
 departs 0
 end
-";
-
-/// Three scripts of two actors, whose steps the schedule interleaves; the commands that it leaves come script by
-/// script.
-const INTERLEAVED: &str = "\
+",
+    ),
+    // the bytes of a body in hexadecimal digits are printed escaped
+    (
+        "binary_bodies",
+        "chorus 2\nsites 1\nport 1.p.1 1.a.1 1\nscript 1.a.1\nsend 1.p.1 x00ff\nschedule\nend\n",
+        "\
+journal 3
+1 1 0 make 1.p.1 1.a.1 1
+2 1 1 post 1:1:0 port 1.p.1 plain =%00%ff
+3 1 1 accept 1:1:0 1.p.1 0
+summary
+posted 1
+accepted 1
+taken 0
+queued 1
+moving 0
+refused 0
+stale 0
+departs 0
+end
+",
+    ),
+    // three scripts of two actors, whose steps the schedule interleaves; the commands that it leaves come script by script
+    (
+        "scripts_are_interleaved",
+        "\
 chorus 2
 sites 1
 port 1.p.1 1.a.1 2
@@ -59,9 +85,8 @@ step 3
 step 2
 step 1
 end
-";
-
-const PRINTS_INTERLEAVED: &str = "\
+",
+        "\
 journal 13
 1 1 0 make 1.p.1 1.a.1 2
 2 1 1 post 1:1:0 port 1.p.2 plain =a
@@ -86,13 +111,13 @@ refused 2
 stale 0
 departs 0
 end
-";
-
-/// The port of another actor, and one that there is not.
-const ANOTHER_ACTORS_PORT: &str =
-    "chorus 1\nsites 1\nport 1.p.1 1.a.1 1\nscript 1.a.2\ntake 1.p.1\ntake 1.p.2\nschedule\nend";
-
-const PRINTS_ANOTHER_ACTORS_PORT: &str = "\
+",
+    ),
+    // the port of another actor, and one that there is not
+    (
+        "another_actor_holds_the_port",
+        "chorus 1\nsites 1\nport 1.p.1 1.a.1 1\nscript 1.a.2\ntake 1.p.1\ntake 1.p.2\nschedule\nend",
+        "\
 journal 3
 1 1 0 make 1.p.1 1.a.1 1
 2 1 1 not-here 1.p.1
@@ -107,63 +132,30 @@ refused 0
 stale 0
 departs 0
 end
-";
+",
+    ),
+];
 
-const ENDS_SIXTY_FIVE_SENDS: &str = "
-131 1 1 full 1:65:0 1.p.1 64
-summary
-posted 65
-accepted 64
-taken 0
-queued 64
-moving 0
-refused 1
-stale 0
-departs 0
-end
-";
-
-/// The replay of a scenario without commands prints an empty journal.
+/// The replay of each scenario prints its journal and summary.
 #[test]
-fn empty_scenario(rt: HostRuntime) {
-    assert_prints(&rt, rt.alloc(), NOTHING, PRINTS_NOTHING);
+fn scenarios_are_replayed(rt: HostRuntime) {
+    for (name, text, printed) in REPLAYS {
+        assert_prints(&rt, rt.alloc(), sixteen(&rt), name, text, printed);
+    }
 }
 
-/// The replay of a send with a `%` prints it as `%25`.
-#[test]
-fn percent_is_escaped(rt: HostRuntime) {
-    assert_prints(&rt, rt.alloc(), PERCENT, PRINTS_PERCENT);
-}
-
-/// The replay of three scripts prints their commands as the schedule interleaves them.
-#[test]
-fn scripts_are_interleaved(rt: HostRuntime) {
-    assert_prints(&rt, rt.alloc(), INTERLEAVED, PRINTS_INTERLEAVED);
-}
-
-/// The replay of a take from another actor's port prints `not-here`.
-#[test]
-fn another_actor_holds_the_port(rt: HostRuntime) {
-    assert_prints(
-        &rt,
-        rt.alloc(),
-        ANOTHER_ACTORS_PORT,
-        PRINTS_ANOTHER_ACTORS_PORT,
-    );
-}
-
-/// So many letters, for a body in a scenario that is replayed.
-pub(crate) fn letters(rt: &impl Abort, alloc: Global, count: usize) -> String {
+/// A text that has this letter so many times, for a scenario that is replayed.
+pub(crate) fn letters(rt: &impl Abort, alloc: Global, letter: char, count: usize) -> String {
     let mut text = String::new(alloc);
     for _ in 0..count {
-        text.push('b').expect(rt, "memory");
+        text.push(letter).expect(rt, "memory");
     }
     text
 }
 
 /// A scenario to be replayed, with a port of capacity 64, and 65 sends of 240 bytes to it.
 fn sixty_five_sends(rt: &impl Abort, alloc: Global) -> String {
-    let body = letters(rt, alloc, 240);
+    let body = letters(rt, alloc, 'b', 240);
     let mut text = String::new(alloc);
     text.push_str("chorus 1\nsites 1\nport 1.p.1 1.a.1 64\nscript 1.a.1\n")
         .expect(rt, "memory");
@@ -186,34 +178,36 @@ fn assert_sixty_four_accepted(rt: &impl Abort, alloc: Global, printed: &str) {
     }
 }
 
-/// Asserts that a replay of 65 sends to a port of capacity 64 accepts 64 in order and refuses the last.
-fn assert_fills(rt: &impl Abort, alloc: Global) {
-    let text = sixty_five_sends(rt, alloc);
-    let run = replayed(rt, alloc, text.as_bytes(), &[], 4096, &[]);
-    assert_same(rt, run.status, Status::Done, "65 sends");
-    assert_sixty_four_accepted(rt, alloc, run.written.as_str());
-    assert!(rt; run.written.as_str().ends_with(ENDS_SIXTY_FIVE_SENDS));
-}
-
-/// The replay of 65 sends to a port of 64 prints the last as full.
-#[test]
-fn fills_to_capacity(rt: HostRuntime) {
-    assert_fills(&rt, rt.alloc());
-}
-
-const ENDS_SIXTEEN_SENDERS: &str = "
-33 1 16 full 16:1:0 1.p.1 1
+const ENDS_SIXTY_FIVE_SENDS: &str = "
+131 1 1 full 1:65:0 1.p.1 64
 summary
-posted 16
-accepted 1
+posted 65
+accepted 64
 taken 0
-queued 1
+queued 64
 moving 0
-refused 15
+refused 1
 stale 0
 departs 0
 end
 ";
+
+/// The replay of 65 sends to a port of 64 accepts 64 in their order, and prints the last as full.
+#[test]
+fn fills_to_capacity(rt: HostRuntime) {
+    let alloc = rt.alloc();
+    let text = sixty_five_sends(&rt, alloc);
+    let run = replayed(&rt, alloc, sixteen(&rt), text.as_bytes(), &[], 4096, &[]);
+    let printed = run.written.as_str();
+    assert_same(&rt, run.status, Status::Done, "65 sends");
+    assert_sixty_four_accepted(&rt, alloc, printed);
+    assert_same(
+        &rt,
+        printed.ends_with(ENDS_SIXTY_FIVE_SENDS),
+        true,
+        "65 sends",
+    );
+}
 
 /// A scenario to be replayed, with a port of capacity 1, and a send to it by each of 16 scripts.
 fn sixteen_senders(rt: &impl Abort, alloc: Global) -> String {
@@ -239,18 +233,34 @@ fn assert_sixteen_posts(rt: &impl Abort, alloc: Global, printed: &str) {
     }
 }
 
-/// Asserts the posts and the end of a replay of 16 scripts that send to a port of capacity 1, which accepts one.
-fn assert_sixteen_scripts(rt: &impl Abort, alloc: Global) {
-    let text = sixteen_senders(rt, alloc);
-    let run = replayed(rt, alloc, text.as_bytes(), &[], 4096, &[]);
-    assert_same(rt, run.status, Status::Done, "16 scripts");
-    assert_sixteen_posts(rt, alloc, run.written.as_str());
-    assert!(rt; run.written.as_str().starts_with("journal 33\n"));
-    assert!(rt; run.written.as_str().ends_with(ENDS_SIXTEEN_SENDERS));
-}
+const ENDS_SIXTEEN_SENDERS: &str = "
+33 1 16 full 16:1:0 1.p.1 1
+summary
+posted 16
+accepted 1
+taken 0
+queued 1
+moving 0
+refused 15
+stale 0
+departs 0
+end
+";
 
-/// The replay of 16 scripts that send prints each post by its own seat.
+/// The replay of 16 scripts that send to a port of 1 prints each post by its own seat, and accepts one.
 #[test]
 fn sixteen_scripts_are_replayed(rt: HostRuntime) {
-    assert_sixteen_scripts(&rt, rt.alloc());
+    let alloc = rt.alloc();
+    let text = sixteen_senders(&rt, alloc);
+    let run = replayed(&rt, alloc, sixteen(&rt), text.as_bytes(), &[], 4096, &[]);
+    let printed = run.written.as_str();
+    assert_same(&rt, run.status, Status::Done, "16 scripts");
+    assert_sixteen_posts(&rt, alloc, printed);
+    assert_same(&rt, printed.starts_with("journal 33\n"), true, "16 scripts");
+    assert_same(
+        &rt,
+        printed.ends_with(ENDS_SIXTEEN_SENDERS),
+        true,
+        "16 scripts",
+    );
 }

@@ -58,17 +58,19 @@ pub(crate) fn run_of(
     }
 }
 
-/// Replays what the source gives on so many sites, each with so many places. Gives how that ended, and whether it
-/// handed out what it closed.
+/// Sixteen sites for a replay or an exploration, each with one place.
+pub(crate) fn sixteen(rt: &impl Abort) -> Layout {
+    Layout::new(16, 1).expect(rt, "a layout")
+}
+
+/// Replays what the source gives on sites of this layout. Gives how that ended, and whether it handed out what it closed.
 fn replay_on<S: Source, K: Sink>(
     rt: &impl Abort,
     alloc: Global,
-    sites: u16,
-    turns: u16,
+    layout: Layout,
     source: &mut S,
     sink: &mut K,
 ) -> (Status, bool) {
-    let layout = Layout::new(sites, turns).expect(rt, "a layout");
     let Ok(sites) = Sites::start(alloc, layout) else {
         panic!(rt; "memory")
     };
@@ -76,11 +78,11 @@ fn replay_on<S: Source, K: Sink>(
     (finished.status, finished.closed.is_some())
 }
 
-/// Replays the text on sixteen sites, each with one place, with reads and writes that fail as listed and writes of at
-/// most `most` bytes.
+/// Replays the text on sites of this layout, with reads and writes that fail as listed and writes of at most `most` bytes.
 pub(crate) fn replayed(
     rt: &impl Abort,
     alloc: Global,
+    layout: Layout,
     text: &[u8],
     reads: &[u64],
     most: usize,
@@ -88,15 +90,7 @@ pub(crate) fn replayed(
 ) -> Run {
     let mut source = source_of(rt, alloc, text, reads);
     let mut sink = sink_of(rt, alloc, most, writes);
-    let (status, closed) = replay_on(rt, alloc, 16, 1, &mut source, &mut sink);
-    run_of(rt, alloc, status, closed, &sink)
-}
-
-/// Replays the text on two sites, each with two places.
-pub(crate) fn replayed_on_two_places_each(rt: &impl Abort, alloc: Global, text: &str) -> Run {
-    let mut source = source_of(rt, alloc, text.as_bytes(), &[]);
-    let mut sink = sink_of(rt, alloc, 4096, &[]);
-    let (status, closed) = replay_on(rt, alloc, 2, 2, &mut source, &mut sink);
+    let (status, closed) = replay_on(rt, alloc, layout, &mut source, &mut sink);
     run_of(rt, alloc, status, closed, &sink)
 }
 
@@ -122,17 +116,31 @@ pub(crate) fn assert_done(rt: &impl Abort, run: &Run, written: &str, name: &str)
     assert!(rt; run.closed, "{name}");
 }
 
-/// Asserts that the text is replayed and this is printed, whatever a write takes.
-pub(crate) fn assert_prints(rt: &impl Abort, alloc: Global, text: &str, printed: &str) {
+/// Asserts that the text of this name is replayed on sites of this layout and this is printed, whatever a write takes.
+pub(crate) fn assert_prints(
+    rt: &impl Abort,
+    alloc: Global,
+    layout: Layout,
+    name: &str,
+    text: &str,
+    printed: &str,
+) {
     for most in [1, 64, 4096] {
-        let run = replayed(rt, alloc, text.as_bytes(), &[], most, &[]);
-        assert_done(rt, &run, printed, text);
+        let run = replayed(rt, alloc, layout, text.as_bytes(), &[], most, &[]);
+        assert_done(rt, &run, printed, name);
     }
 }
 
-/// Asserts that the replay of the text is refused with this line and reason, and nothing is written or closed.
-pub(crate) fn assert_refused(rt: &impl Abort, alloc: Global, text: &str, line: u32, reason: u8) {
-    let run = replayed(rt, alloc, text.as_bytes(), &[], 4096, &[]);
-    assert_ended(rt, &run, Status::Scenario { line, reason }, "", text);
-    assert!(rt; !run.closed, "{text}");
+/// Asserts that the replay of the text of this name is refused with this line and reason, and nothing is written or closed.
+pub(crate) fn assert_refused(
+    rt: &impl Abort,
+    alloc: Global,
+    name: &str,
+    text: &str,
+    line: u32,
+    reason: u8,
+) {
+    let run = replayed(rt, alloc, sixteen(rt), text.as_bytes(), &[], 4096, &[]);
+    assert_ended(rt, &run, Status::Scenario { line, reason }, "", name);
+    assert!(rt; !run.closed, "{name}");
 }

@@ -6,6 +6,7 @@
 ghost use Rattle.std.specs.Prelude.{◌≡◌, true};
 ghost use Rattle.chorus_entry.specs.Command.{meets_conditions, has_body_in_limit};
 
+use crate::running::assert_same;
 use chorus_entry::{Body, Command, Dest};
 use chorus_merge::merge_lent;
 use chorus_net::{Closed, Sites};
@@ -13,11 +14,13 @@ use chorus_show::{journal_text, lent_summary_text};
 use chorus_ui::{Kind, Layout, Ui};
 use std::alloc::Global;
 use std::process::Abort;
-use tests_rows::WorkedRow;
+use tests_rows::{
+    DELETE_AFTER_A_MOVE, DELETE_DISCARDS, TWO_TURNS_AND_A_MOVE, TWO_TURNS_PER_SITE, WorkedRow,
+};
 
-/// The sites for a row's calls: so many, each with so many places, on which nothing happened.
-fn started(rt: &impl Abort, alloc: Global, sites: u16, turns: u16) -> Sites {
-    let layout = Layout::new(sites, turns).expect(rt, "a layout");
+/// The sites for a row's calls, on which nothing happened.
+fn started(rt: &impl Abort, alloc: Global, row: &WorkedRow<'_>) -> Sites {
+    let layout = Layout::new(row.sites, row.turns).expect(rt, "a layout");
     Sites::start(alloc, layout).expect(rt, "memory")
 }
 
@@ -212,76 +215,18 @@ fn text_of(rt: &impl Abort, alloc: Global, closed: &Closed) -> String {
     String::from_utf8(text).ok().expect(rt, "a text")
 }
 
-/// Asserts that the calls leave the journal and summary of the row, on as many sites and places.
-fn assert_leaves(rt: &impl Abort, alloc: Global, calls: &str, row: &WorkedRow<'_>) {
-    let mut sites = started(rt, alloc, row.sites, row.turns);
+/// Asserts that the calls of these sites leave the journal and summary of the row.
+fn assert_leaves(
+    rt: &impl Abort,
+    alloc: Global,
+    mut sites: Sites,
+    calls: &str,
+    row: &WorkedRow<'_>,
+) {
     perform_all(rt, alloc, &mut sites, calls);
     let closed = close(rt, alloc, sites);
     let left = text_of(rt, alloc, &closed);
-    assert_eq!(rt; left.as_str(), row.printed);
-}
-
-const POSTS: &str = "\
-make 0 1.a.2 4
-enter 1.a.1
-send 1 1.p.2 x
-drain
-";
-
-const MOVES: &str = "\
-make 0 1.a.2 4
-enter 1.a.2
-move 1 1.p.2 2.a.1
-drain
-";
-
-/// Asserts that sites on which these calls were made leave what they leave, and then what the others leave, as new ones
-/// do.
-fn assert_starts_again(rt: &impl Abort, alloc: Global, first: (&str, &str), then: (&str, &str)) {
-    let mut sites = started(rt, alloc, 2, 2);
-    perform_all(rt, alloc, &mut sites, first.0);
-    let (closed, mut sites) = restart(rt, alloc, sites);
-    assert_eq!(rt; text_of(rt, alloc, &closed).as_str(), first.1);
-    perform_all(rt, alloc, &mut sites, then.0);
-    let closed = close(rt, alloc, sites);
-    assert_eq!(rt; text_of(rt, alloc, &closed).as_str(), then.1);
-}
-
-/// Sites that are started again leave what new sites do by the same calls.
-#[test]
-fn sites_start_again(rt: HostRuntime) {
-    let posts = (POSTS, tests_rows::TWO_TURNS_PER_SITE.printed);
-    let moves = (MOVES, tests_rows::TWO_TURNS_AND_A_MOVE.printed);
-    assert_starts_again(&rt, rt.alloc(), posts, moves);
-    assert_starts_again(&rt, rt.alloc(), moves, moves);
-}
-
-/// Asserts of the first two places whether a packet waits to go from them, and from the one to the other.
-fn assert_waits(rt: &impl Abort, sites: &mut Sites, idle: (bool, bool), waits: (bool, bool)) {
-    assert!(rt; sites.layout().places() >= 2);
-    assert!(rt; sites.is_idle(1) == idle.0);
-    assert!(rt; sites.is_idle(2) == idle.1);
-    assert!(rt; sites.waits(1, 2) == waits.0);
-    assert!(rt; sites.waits(2, 1) == waits.1);
-}
-
-/// Calls, and what waits behind them.
-const WAITING: [(&str, (bool, bool), (bool, bool)); 4] = [
-    ("make 0 2.a.1 4\nenter 1.a.1", (true, true), (false, false)),
-    ("send 1 2.p.1 x", (false, true), (true, false)),
-    ("deliver 1 2", (true, false), (false, true)),
-    ("drain", (true, true), (false, false)),
-];
-
-/// Calls of the sites tell which place is idle and where a packet waits.
-#[test]
-fn packets_wait(rt: HostRuntime) {
-    let alloc = rt.alloc();
-    let mut sites = started(&rt, alloc, 2, 1);
-    for (calls, idle, waits) in WAITING {
-        perform_all(&rt, alloc, &mut sites, calls);
-        assert_waits(&rt, &mut sites, idle, waits);
-    }
+    assert_same(rt, left.as_str(), row.printed, row.name);
 }
 
 const DISCARD: &str = "\
@@ -295,13 +240,7 @@ send 1 1.p.1 c
 take 1 1.p.1
 ";
 
-/// Calls of the sites that delete a port leave the worked row's journal.
-#[test]
-fn delete_discards(rt: HostRuntime) {
-    assert_leaves(&rt, rt.alloc(), DISCARD, &tests_rows::DELETE_DISCARDS);
-}
-
-const DELETE_AFTER_A_MOVE: &str = "\
+const DELETE_BEHIND_A_MOVE: &str = "\
 make 0 1.a.1 4
 enter 3.a.1
 enter 1.a.1
@@ -316,9 +255,50 @@ deliver 3 2
 deliver 2 3
 ";
 
-/// Calls of the sites that delete a moved port leave the worked row's journal.
+/// Calls of the sites that delete a port leave the worked rows' journals.
 #[test]
-fn delete_after_a_move(rt: HostRuntime) {
-    let row = tests_rows::DELETE_AFTER_A_MOVE;
-    assert_leaves(&rt, rt.alloc(), DELETE_AFTER_A_MOVE, &row);
+fn ports_are_deleted_by_calls(rt: HostRuntime) {
+    for (calls, row) in [
+        (DISCARD, DELETE_DISCARDS),
+        (DELETE_BEHIND_A_MOVE, DELETE_AFTER_A_MOVE),
+    ] {
+        let sites = started(&rt, rt.alloc(), &row);
+        assert_leaves(&rt, rt.alloc(), sites, calls, &row);
+    }
+}
+
+/// Asserts whether a packet waits to go from the first place of the sites to the second, where it keeps the first from being idle.
+fn assert_waits(rt: &impl Abort, sites: &mut Sites, waits: bool) {
+    assert!(rt; sites.layout().places() >= 2);
+    assert!(rt; sites.is_idle(1) != waits);
+    assert!(rt; sites.waits(1, 2) == waits);
+}
+
+const POSTS: &str = "\
+make 0 1.a.2 4
+enter 1.a.1
+send 1 1.p.2 x
+";
+
+const MOVES: &str = "\
+make 0 1.a.2 4
+enter 1.a.2
+move 1 1.p.2 2.a.1
+drain
+";
+
+/// Sites tell that a packet waits until it is worked off, and are then started again as new ones.
+#[test]
+fn sites_start_again(rt: HostRuntime) {
+    let alloc = rt.alloc();
+    let row = TWO_TURNS_PER_SITE;
+    let mut sites = started(&rt, alloc, &row);
+    perform_all(&rt, alloc, &mut sites, POSTS);
+    assert_waits(&rt, &mut sites, true);
+    perform_all(&rt, alloc, &mut sites, "drain");
+    assert_waits(&rt, &mut sites, false);
+    let (closed, sites) = restart(&rt, alloc, sites);
+    let left = text_of(&rt, alloc, &closed);
+    assert_same(&rt, left.as_str(), row.printed, row.name);
+    assert_leaves(&rt, alloc, sites, MOVES, &TWO_TURNS_AND_A_MOVE);
 }

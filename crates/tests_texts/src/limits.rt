@@ -1,6 +1,6 @@
 //! The last that is taken and the first that is not, of all that is counted, as rows (see [`crate::rows`]).
 
-use crate::rows::{assert_rows, assert_rows_behind, layout_of};
+use crate::rows::{assert_rows, layout_of, repeated};
 use std::alloc::Global;
 use std::process::Abort;
 
@@ -39,25 +39,16 @@ member 1.g.1 1.p.1|69 6
 member 1.g.1 9.p.1|69 6
 ";
 
-/// Asserts that 32 ports of a site and 32 members of a group are read, and the 33rd is refused with its reason.
-fn assert_ports_and_members(rt: &impl Abort, alloc: Global) {
-    let eight = layout_of(rt, 8, 1);
-    let ports = all_ports(rt, alloc);
-    assert_rows(rt, alloc, eight, ports.as_str(), BEHIND_PORTS);
-    let members = all_members(rt, alloc);
-    assert_rows(rt, alloc, eight, members.as_str(), BEHIND_MEMBERS);
-}
-
 /// A scenario text is read with 32 ports or members, and refused with a 33rd.
 #[test]
 fn the_last_port_and_member_are_taken_and_the_next_refused(rt: HostRuntime) {
-    assert_ports_and_members(&rt, rt.alloc());
-}
-
-/// Asserts what the rows of a count say behind so many of these lines, on eight sites.
-fn assert_lines(rt: &impl Abort, alloc: Global, front: &str, line: &str, count: usize, rows: &str) {
-    let eight = layout_of(rt, 8, 1);
-    assert_rows_behind(rt, alloc, eight, front, line, count, rows);
+    let alloc = rt.alloc();
+    let eight = layout_of(&rt, 8, 1);
+    let ports = all_ports(&rt, alloc);
+    assert_rows(&rt, alloc, "ports", eight, ports.as_str(), BEHIND_PORTS);
+    let members = all_members(&rt, alloc);
+    let front = members.as_str();
+    assert_rows(&rt, alloc, "members", eight, front, BEHIND_MEMBERS);
 }
 
 const BEHIND_SCRIPTS: &str = "\
@@ -77,58 +68,119 @@ drain|131076 6
 step 9|131076 6
 ";
 
-/// Asserts that 16 scripts, 4096 commands and 131072 steps are read, and one more is refused with its reason.
-fn assert_scripts_commands_and_steps(rt: &impl Abort, alloc: Global) {
-    let head = "chorus 1\nsites 2\n";
-    assert_lines(rt, alloc, head, "script 1.a.1\n", 16, BEHIND_SCRIPTS);
-    let script = "chorus 1\nsites 2\nscript 1.a.1\n";
-    assert_lines(rt, alloc, script, "take 1.p.1\n", 4_096, BEHIND_COMMANDS);
-    let schedule = "chorus 1\nsites 2\nschedule\n";
-    assert_lines(rt, alloc, schedule, "drain\n", 131_072, BEHIND_STEPS);
-}
+/// Rows under the name of what is counted, with the sites of the layout, the front of the rows' texts, what follows it, and how often.
+const COUNTED: [(&str, u16, &str, &str, usize, &str); 14] = [
+    (
+        "scripts",
+        8,
+        "chorus 1\nsites 2\n",
+        "script 1.a.1\n",
+        16,
+        BEHIND_SCRIPTS,
+    ),
+    (
+        "commands",
+        8,
+        "chorus 1\nsites 2\nscript 1.a.1\n",
+        "take 1.p.1\n",
+        4_096,
+        BEHIND_COMMANDS,
+    ),
+    (
+        "steps",
+        8,
+        "chorus 1\nsites 2\nschedule\n",
+        "drain\n",
+        131_072,
+        BEHIND_STEPS,
+    ),
+    // the bytes of a text
+    ("refused_texts", 8, "", "\n", 4_194_304, "|4194305 9"),
+    ("refused_texts", 8, "", "\n", 4_194_305, "|0 6"),
+    // the bytes of a body of version 1
+    (
+        "limits_are_refused_with_line_and_reason",
+        16,
+        "chorus 1\nsites 1\nport 1.p.1 1.a.1 1\nscript 1.a.1\nsend 1.p.1 =",
+        "x",
+        240,
+        "|6 9",
+    ),
+    (
+        "limits_are_refused_with_line_and_reason",
+        16,
+        "chorus 1\nsites 1\nport 1.p.1 1.a.1 1\nscript 1.a.1\nsend 1.p.1 =",
+        "x",
+        241,
+        "|5 6",
+    ),
+    // a name that is no group's, and a site that there is not, come before a body that is too long
+    (
+        "a body to one",
+        16,
+        "chorus 1\nsites 2\nscript 1.a.1\none 1.p.1 =",
+        "x",
+        241,
+        "|4 3",
+    ),
+    (
+        "a body to one at a site",
+        16,
+        "chorus 1\nsites 2\nscript 1.a.1\nat 1.g.1 3 =",
+        "x",
+        241,
+        "|4 6",
+    ),
+    // the bytes of a body of version 2, as text and as digits
+    (
+        "a body",
+        16,
+        "chorus 2\nsites 2\nscript 1.a.1\nsend 1.p.1 =",
+        "x",
+        4_096,
+        "|5 9",
+    ),
+    (
+        "a body to a site that there is not",
+        16,
+        "chorus 2\nsites 2\nscript 1.a.1\nsend 9.p.1 =",
+        "x",
+        4_097,
+        "|4 6",
+    ),
+    (
+        "a body in digits",
+        16,
+        "chorus 2\nsites 2\nscript 1.a.1\nsend 1.p.1 x",
+        "0",
+        8_192,
+        "|5 9",
+    ),
+    (
+        "a body in digits",
+        16,
+        "chorus 2\nsites 2\nscript 1.a.1\nsend 1.p.1 x",
+        "0",
+        8_193,
+        "|4 3",
+    ),
+    (
+        "a body in digits",
+        16,
+        "chorus 2\nsites 2\nscript 1.a.1\nsend 1.p.1 x",
+        "0",
+        8_194,
+        "|4 6",
+    ),
+];
 
-/// A scenario text is read with 16 scripts, 4096 commands or 131072 steps, none more.
+/// A scenario text is read with as many of a thing as may be, and refused with one more.
 #[test]
-fn the_last_script_command_and_step_are_taken_and_the_next_refused(rt: HostRuntime) {
-    assert_scripts_commands_and_steps(&rt, rt.alloc());
-}
-
-/// Asserts what is told of a scenario's text that ends in so many of this letter, on sixteen sites.
-fn assert_letters(
-    rt: &impl Abort,
-    alloc: Global,
-    front: &str,
-    letter: &str,
-    count: usize,
-    row: &str,
-) {
-    let sixteen = layout_of(rt, 16, 1);
-    assert_rows_behind(rt, alloc, sixteen, front, letter, count, row);
-}
-
-/// Asserts which lengths of bodies are read in a scenario of version 2, and how others are refused.
-fn assert_long_bodies(rt: &impl Abort, alloc: Global) {
-    let bytes = "chorus 2\nsites 2\nscript 1.a.1\nsend 1.p.1 =";
-    assert_letters(rt, alloc, bytes, "x", 4_096, "|5 9");
-    let no_site = "chorus 2\nsites 2\nscript 1.a.1\nsend 9.p.1 =";
-    assert_letters(rt, alloc, no_site, "x", 4_097, "|4 6");
-    let digits = "chorus 2\nsites 2\nscript 1.a.1\nsend 1.p.1 x";
-    assert_letters(rt, alloc, digits, "0", 8_192, "|5 9");
-    assert_letters(rt, alloc, digits, "0", 8_193, "|4 3");
-    assert_letters(rt, alloc, digits, "0", 8_194, "|4 6");
-}
-
-/// Asserts how scenarios of version 1 with bodies of 241 bytes, one more than the longest, are refused.
-fn assert_bodies(rt: &impl Abort, alloc: Global) {
-    let one = "chorus 1\nsites 2\nscript 1.a.1\none 1.p.1 =";
-    assert_letters(rt, alloc, one, "x", 241, "|4 3");
-    let at = "chorus 1\nsites 2\nscript 1.a.1\nat 1.g.1 3 =";
-    assert_letters(rt, alloc, at, "x", 241, "|4 6");
-}
-
-/// A scenario text's longest body is taken, and a longer one refused.
-#[test]
-fn the_longest_body_is_taken_and_a_longer_one_refused(rt: HostRuntime) {
-    assert_long_bodies(&rt, rt.alloc());
-    assert_bodies(&rt, rt.alloc());
+fn the_last_is_taken_and_the_next_refused(rt: HostRuntime) {
+    let alloc = rt.alloc();
+    for (name, sites, front, line, count, rows) in COUNTED {
+        let layout = layout_of(&rt, sites, 1);
+        let front = repeated(&rt, alloc, front, line, count);
+        assert_rows(&rt, alloc, name, layout, front.as_str(), rows);
+    }
 }

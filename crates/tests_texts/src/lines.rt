@@ -8,20 +8,20 @@ use std::process::Abort;
 
 /// What the tests speak of: the names `1.p.1`, `2.a.8` and `4.g.2`, and the message `3:7:1`.
 #[derive(Clone, Copy)]
-pub(crate) struct Things {
-    pub(crate) port: Ui,
-    pub(crate) actor: Ui,
-    pub(crate) group: Ui,
-    pub(crate) id: MsgId,
+struct Things {
+    port: Ui,
+    actor: Ui,
+    group: Ui,
+    id: MsgId,
 }
 
 /// The name of this site, kind and number, of which the acts speak whose lines are tested.
-pub(crate) fn name(rt: &impl Abort, site: u16, kind: Kind, number: u64) -> Ui {
+fn name(rt: &impl Abort, site: u16, kind: Kind, number: u64) -> Ui {
     Ui::new(site, kind, number).expect(rt, "a name")
 }
 
 /// Builds the port, actor, group and message id that all tested lines name.
-pub(crate) fn named_things(rt: &impl Abort) -> Things {
+fn named_things(rt: &impl Abort) -> Things {
     Things {
         port: name(rt, 1, Kind::Port, 1),
         actor: name(rt, 2, Kind::Actor, 8),
@@ -34,49 +34,30 @@ pub(crate) fn named_things(rt: &impl Abort) -> Things {
     }
 }
 
-/// The entry of the act by clock, at place 2 and by seat 30, whose line therefore begins with `CLOCK 2 30`.
-pub(crate) fn entry(clock: u64, act: Act) -> Entry {
-    Entry {
-        clock,
-        place: 2,
-        seat: 30,
-        act,
-    }
-}
-
-/// The discarded messages that an act `Delete` lists.
-pub(crate) fn ids_of(rt: &impl Abort, alloc: Global, ids: &[MsgId]) -> Ids {
-    Ids::of(alloc, ids).expect(rt, "memory")
-}
-
 /// The body of a posted message, of at most 4096 bytes.
-pub(crate) fn body_of(rt: &impl Abort, alloc: Global, bytes: &[u8]) -> Body {
+fn body_of(rt: &impl Abort, alloc: Global, bytes: &[u8]) -> Body {
     assert!(rt; bytes.len() <= 4096);
     Body::new(alloc, bytes).expect(rt, "memory")
 }
 
-/// The text that these bytes are, to which `chorus_show` appended.
-pub(crate) fn text_of(rt: &impl Abort, bytes: Vec<u8>) -> String {
-    String::from_utf8(bytes).ok().expect(rt, "a text")
-}
-
-/// Asserts that what `chorus_show` wrote is exactly this text.
-pub(crate) fn assert_text(rt: &impl Abort, written: &str, text: &str) {
-    assert_eq!(rt; written, text);
-}
-
-/// The journal line of the act, behind what was there.
+/// The journal line of the act by clock 5, at place 2 and by seat 30, behind what was there.
 fn line_of(rt: &impl Abort, alloc: Global, act: Act) -> String {
+    let entry = Entry {
+        clock: 5,
+        place: 2,
+        seat: 30,
+        act,
+    };
     let mut out = Vec::from_slice(alloc, b"> ").expect(rt, "memory");
-    entry_line(&entry(5, act), &mut out).expect(rt, "memory");
-    text_of(rt, out)
+    entry_line(&entry, &mut out).expect(rt, "memory");
+    String::from_utf8(out).ok().expect(rt, "a text")
 }
 
 /// Asserts that the line of the act, behind what was there, is the entry's numbers and this text.
 fn assert_line(rt: &impl Abort, alloc: Global, act: Act, text: &str) {
     let written = line_of(rt, alloc, act);
     let line = format!(in alloc; "> 5 2 30 {text}\n").expect(rt, "memory");
-    assert_text(rt, written.as_str(), line.as_str());
+    assert_eq!(rt; written.as_str(), line.as_str());
 }
 
 /// Asserts the journal lines of acts on ports: made, refused, found empty or not here, rehomed, departed, arrived.
@@ -257,7 +238,7 @@ fn assert_chosen(rt: &impl Abort, alloc: Global) {
 fn assert_deleted(rt: &impl Abort, alloc: Global, ids: &[MsgId], text: &str) {
     let delete = Act::Delete {
         port: named_things(rt).port,
-        discarded: ids_of(rt, alloc, ids),
+        discarded: Ids::of(alloc, ids).expect(rt, "memory"),
     };
     assert_line(rt, alloc, delete, text);
 }

@@ -48,7 +48,12 @@ pub(crate) fn behind(rt: &impl Abort, alloc: Global, front: &str, text: &str) ->
 }
 
 /// The fault of the text of a scenario; None where it is read.
-fn fault_of(rt: &impl Abort, alloc: Global, layout: Layout, text: &[u8]) -> Option<SceneFault> {
+pub(crate) fn fault_of(
+    rt: &impl Abort,
+    alloc: Global,
+    layout: Layout,
+    text: &[u8],
+) -> Option<SceneFault> {
     match read(alloc, text, layout) {
         Ok(_) => None,
         Err(ReadFault::Scene(fault)) => Some(fault),
@@ -69,30 +74,23 @@ fn told_of(rt: &impl Abort, alloc: Global, layout: Layout, text: &[u8]) -> Strin
 }
 
 /// Reads the row's text behind the front, and asserts that it is read, or refused by the line and reason told.
-fn assert_row(rt: &impl Abort, alloc: Global, layout: Layout, front: &str, row: &str) {
+fn assert_row(rt: &impl Abort, alloc: Global, name: &str, layout: Layout, front: &str, row: &str) {
     let (text, told) = row.split_once('|').expect(rt, "a row");
     let whole = behind(rt, alloc, front, text);
     let found = told_of(rt, alloc, layout, &whole);
-    assert_eq!(rt; found.as_str(), told, "{row}");
+    assert_eq!(rt; found.as_str(), told, "{name}: {row}");
 }
 
-/// Asserts what each row says of its scenario's text, which stands behind the front.
-pub(crate) fn assert_rows(rt: &impl Abort, alloc: Global, layout: Layout, front: &str, rows: &str) {
-    for row in rows.lines() {
-        assert_row(rt, alloc, layout, front, row);
-    }
-}
-
-/// Asserts what the rows say where their texts stand behind so many of these lines, and those behind the front.
-pub(crate) fn assert_rows_behind(
+/// Asserts what each row under the name says of its scenario's text, which stands behind the front.
+pub(crate) fn assert_rows(
     rt: &impl Abort,
     alloc: Global,
+    name: &str,
     layout: Layout,
     front: &str,
-    line: &str,
-    count: usize,
     rows: &str,
 ) {
-    let front = repeated(rt, alloc, front, line, count);
-    assert_rows(rt, alloc, layout, front.as_str(), rows);
+    for row in rows.lines() {
+        assert_row(rt, alloc, name, layout, front, row);
+    }
 }

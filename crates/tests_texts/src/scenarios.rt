@@ -30,37 +30,30 @@ fn assert_printed_back(rt: &impl Abort, alloc: Global, layout: Layout, head: &st
     assert_prints(rt, alloc, layout, &text, &text);
 }
 
-/// Asserts that version 2 reads a body in hexadecimal digits and prints it back, and refuses an odd or capital one.
-fn assert_binary_bodies(rt: &impl Abort, alloc: Global) {
-    let sixteen = layout_of(rt, 16, 1);
-    let scenario = "sites 1;port 1.p.1 1.a.1 1;script 1.a.1;send 1.p.1 x00ff;schedule";
-    assert_printed_back(rt, alloc, sixteen, "chorus 2\n", scenario);
-    let front = "chorus 2\nsites 1\nport 1.p.1 1.a.1 1\nscript 1.a.1\nsend 1.p.1 ";
-    assert_rows(rt, alloc, sixteen, front, "x|6 9\nx0|5 3\nx0F|5 3\n");
-}
-
-/// A scenario text's body in hexadecimal digits is read and printed back in version 2.
+/// A scenario text's body in hexadecimal digits is read and printed back in version 2, and refused with an odd or a capital one.
 #[test]
 fn binary_bodies(rt: HostRuntime) {
-    assert_binary_bodies(&rt, rt.alloc());
+    let alloc = rt.alloc();
+    let sixteen = layout_of(&rt, 16, 1);
+    let scenario = "sites 1;port 1.p.1 1.a.1 1;script 1.a.1;send 1.p.1 x00ff;schedule";
+    assert_printed_back(&rt, alloc, sixteen, "chorus 2\n", scenario);
+    let front = "chorus 2\nsites 1\nport 1.p.1 1.a.1 1\nscript 1.a.1\nsend 1.p.1 ";
+    let rows = "x|6 9\nx0|5 3\nx0F|5 3\n";
+    assert_rows(&rt, alloc, "binary_bodies", sixteen, front, rows);
 }
 
 const DELETES: &str =
     "sites 3;port 1.p.1 1.a.1 4;script 3.a.1;send 1.p.1 =x;script 1.a.1;move 1.p.1 2.a.1;script 2.a.1;delete 1.p.1;schedule;step 2;deliver 1 2;step 3;step 1;deliver 3 1;deliver 1 3;deliver 3 2;deliver 2 3";
 
-/// Asserts that version 2 reads the command `delete` and prints it back, and version 1 refuses it.
-fn assert_deletes(rt: &impl Abort, alloc: Global) {
-    let sixteen = layout_of(rt, 16, 1);
-    assert_printed_back(rt, alloc, sixteen, "chorus 2\n", DELETES);
-    let scenario = DELETES;
-    let row = format!(in alloc; "{scenario};end|9 2").expect(rt, "memory");
-    assert_rows(rt, alloc, sixteen, "chorus 1\n", row.as_str());
-}
-
 /// A scenario text's `delete` is printed back in version 2, and refused in version 1.
 #[test]
 fn delete_in_scenarios(rt: HostRuntime) {
-    assert_deletes(&rt, rt.alloc());
+    let alloc = rt.alloc();
+    let sixteen = layout_of(&rt, 16, 1);
+    assert_printed_back(&rt, alloc, sixteen, "chorus 2\n", DELETES);
+    let row = format!(in alloc; "{DELETES};end|9 2").expect(&rt, "memory");
+    let name = "delete_in_scenarios";
+    assert_rows(&rt, alloc, name, sixteen, "chorus 1\n", row.as_str());
 }
 
 /// Scenarios that are already as they are printed.
@@ -110,7 +103,9 @@ fn assert_turns(rt: &impl Abort, alloc: Global) {
     let two_turns = layout_of(rt, 16, 2);
     assert_printed_back(rt, alloc, two_turns, "chorus 1\n", scenario);
     let row = format!(in alloc; "{scenario};end|3 7").expect(rt, "memory");
-    assert_rows(rt, alloc, layout_of(rt, 16, 1), "chorus 1\n", row.as_str());
+    let one_turn = layout_of(rt, 16, 1);
+    let name = "two places on a site";
+    assert_rows(rt, alloc, name, one_turn, "chorus 1\n", row.as_str());
 }
 
 /// A scenario text in its printed form is read and printed back as it is.
@@ -121,18 +116,13 @@ fn texts_are_read_and_printed_back(rt: HostRuntime) {
     assert_turns(&rt, rt.alloc());
 }
 
-/// Asserts the one form in which a scenario is printed that is spelled in another: skipped lines, a last LF, and bodies of digits
-/// that are text.
-fn assert_one_form(rt: &impl Abort, alloc: Global) {
+/// A scenario text that is spelled in another form is printed in the one: without skipped lines and a last LF, and as text where the
+/// digits of a body are text.
+#[test]
+fn other_forms_are_printed_in_the_one(rt: HostRuntime) {
     let text =
         "# c\n\nchorus 2\nsites 1\n# d\nscript 1.a.1\nreply x6869\nreply x\nreply x0a\nschedule\nend\n\n#";
     let want = "chorus 2\nsites 1\nscript 1.a.1\nreply =hi\nreply =\nreply x0a\nschedule\nend";
-    let sixteen = layout_of(rt, 16, 1);
-    assert_prints(rt, alloc, sixteen, text.as_bytes(), want.as_bytes());
-}
-
-/// A scenario text with comments and bodies in digits is printed in its one form.
-#[test]
-fn other_forms_are_printed_in_the_one(rt: HostRuntime) {
-    assert_one_form(&rt, rt.alloc());
+    let sixteen = layout_of(&rt, 16, 1);
+    assert_prints(&rt, rt.alloc(), sixteen, text.as_bytes(), want.as_bytes());
 }

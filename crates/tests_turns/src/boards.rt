@@ -176,7 +176,7 @@ fn assert_publish_is_seen<R: Abort + Wait>(rt: &R, alloc: Global) {
     assert_sees(rt, layout, board, reader, follower, idle);
 }
 
-/// The last four reads of the board are refused, since it has ended by then.
+/// The last four reads answer from what the readers keep, since the board has ended.
 #[test]
 fn board_reader_sees_a_publish(rt: HostRuntime) {
     assert_publish_is_seen(&rt, rt.alloc());

@@ -4,7 +4,6 @@ ghost use Rattle.std.specs.Prelude.{◌≡◌};
 ghost use Rattle.chorus_link.specs.Ends.{send_link, recv_link};
 
 use chorus_link::{RecvEnd, Rest, SendEnd, link, settle};
-use std::alloc::Global;
 use std::process::Abort;
 use std::sync::Wait;
 use std::thread;
@@ -40,17 +39,12 @@ fn assert_two_come<R: Abort + Wait>(rt: &R, recv: &mut RecvEnd<char>) {
     assert!(rt; recv.empties() == 1);
 }
 
-/// Makes a link with room for two, and asserts that packets leave it in the order in which they were put.
-fn assert_first_in_first_out<R: Abort + Wait>(rt: &R, alloc: Global) {
-    let (mut send, mut recv) = link(alloc, 2).expect(rt, "memory");
-    assert_two_fit(rt, &mut send);
-    assert_two_come(rt, &mut recv);
-}
-
 /// A link gives packets in the order put, and hands one back when full.
 #[test]
 fn link_is_first_in_first_out(rt: HostRuntime) {
-    assert_first_in_first_out(&rt, rt.alloc());
+    let (mut send, mut recv) = link(rt.alloc(), 2).expect(&rt, "memory");
+    assert_two_fit(&rt, &mut send);
+    assert_two_come(&rt, &mut recv);
 }
 
 /// Asserts that a link of one packet is empty, then full, then gives it, with `round` refusals at each end by then.
@@ -67,18 +61,13 @@ fn assert_round<R: Abort + Wait>(
     assert!(rt; send.fulls() == round && recv.empties() == round);
 }
 
-/// Fills and empties a link of one packet three times, so that a refusal does not stay.
-fn assert_rounds<R: Abort + Wait>(rt: &R, alloc: Global) {
-    let (mut send, mut recv) = link(alloc, 1).expect(rt, "memory");
-    for round in 1..4u64 {
-        assert_round(rt, &mut send, &mut recv, round);
-    }
-}
-
 /// A link that was filled and emptied takes a packet again, and one that holds a packet gives it.
 #[test]
 fn a_refusal_is_of_its_moment(rt: HostRuntime) {
-    assert_rounds(&rt, rt.alloc());
+    let (mut send, mut recv) = link(rt.alloc(), 1).expect(&rt, "memory");
+    for round in 1..4u64 {
+        assert_round(&rt, &mut send, &mut recv, round);
+    }
 }
 
 const MANY: u32 = 100_000;

@@ -1,6 +1,5 @@
 //! Frames that were worked out by hand, and what is wrong with damaged ones.
 
-use crate::ground::{named, port};
 use chorus_entry::{Answer, Cargo, Dest, MsgId, Packet, PortRecord, Tag};
 use chorus_frame::{DecodeFault, Frame, decode, encode};
 use chorus_ui::{Kind, Ui};
@@ -77,41 +76,17 @@ const TRAILING: &str = "
     3: 00000000 00000007 00
 ";
 
-/// What the hexadecimal digit of a frame worked out by hand stands for. None where it is none.
-fn digit(c: u8) -> Option<u8> {
-    match c {
-        b'0'..=b'9' => Some(c - b'0'),
-        b'a'..=b'f' => Some(c - b'a' + 10),
-        _ => None,
-    }
-}
-
-/// Appends the bytes of a frame in hexadecimal digits, two for each; what is no digit parts them for the eye.
-fn push_hex(rt: &impl Abort, text: &str, bytes: &mut Vec<u8>) {
-    let mut first = None;
-    for c in text.as_bytes() {
-        if let Some(value) = digit(*c) {
-            first = push_digit(rt, first, value, bytes);
-        }
-    }
-}
-
-/// Appends the byte of two hexadecimal digits of a frame. Gives the first one back where it is the only one so far.
-fn push_digit(rt: &impl Abort, first: Option<u8>, digit: u8, bytes: &mut Vec<u8>) -> Option<u8> {
-    let Some(high) = first else {
-        return Some(digit);
-    };
-    let byte = high % 16 * 16 + digit % 16;
-    bytes.push(byte).ok().expect(rt, "memory");
-    None
-}
-
-/// The bytes of the frame of this kind that ends so.
+/// The bytes of the frame of this kind that ends so. Spaces part its hexadecimal digits for the eye.
 fn bytes_of(rt: &impl Abort, alloc: Global, kind: u8, end: &str) -> Vec<u8> {
-    let mut bytes = Vec::new(alloc);
-    push_hex(rt, begin(kind), &mut bytes);
-    push_hex(rt, end, &mut bytes);
-    bytes
+    let front = begin(kind);
+    let text = format!(in alloc; "{front} {end}").expect(rt, "memory");
+    let mut digits = String::new(alloc);
+    for word in text.as_str().split_whitespace() {
+        digits.push_str(word).expect(rt, "memory");
+    }
+    hex::decode(alloc, digits.as_str())
+        .ok()
+        .expect(rt, "hexadecimal digits")
 }
 
 /// Why these bytes are no packet, where they are none.
@@ -238,56 +213,56 @@ fn assert_reported(rt: &impl Abort, alloc: Global, end: &str, expected: Answer) 
     );
 }
 
-/// Asserts how Verdict frames code the answers with numbers in them.
-fn assert_numbers_told(rt: &impl Abort, alloc: Global) {
-    let accepted = Answer::Accepted { pos: 9 };
-    assert_told(rt, alloc, "01 0000000000000009", accepted);
-    assert_told(rt, alloc, "02 40", Answer::Full { len: 64 });
-    let stale = Answer::Stale { to: 64, hop: 1 };
-    assert_told(rt, alloc, "03 0040 0000000000000001", stale);
-    assert_told(rt, alloc, "04 0000000000000000", Answer::Early { hop: 0 });
-    let elsewhere = Answer::Elsewhere { to: 2, hop: 9 };
-    assert_told(rt, alloc, "08 0002 0000000000000009", elsewhere);
-}
-
-/// Asserts the one-byte codes in Verdict frames of the answers without numbers: 05, 06, 07 and 0b.
-fn assert_others_told(rt: &impl Abort, alloc: Global) {
-    assert_told(rt, alloc, "05", Answer::NoPort);
-    assert_told(rt, alloc, "06", Answer::Already);
-    assert_told(rt, alloc, "07", Answer::ClientsFull);
-    assert_told(rt, alloc, "0b", Answer::Gone);
-}
-
-/// Asserts how Report frames code their answers: no member, how many were chosen, gone, and accepted.
-fn assert_all_reported(rt: &impl Abort, alloc: Global) {
-    assert_reported(rt, alloc, "09", Answer::NoMember);
-    assert_reported(rt, alloc, "0a 0020", Answer::Chosen { count: 32 });
-    assert_reported(rt, alloc, "0b", Answer::Gone);
-    let accepted = Answer::Accepted { pos: 5 };
-    assert_reported(rt, alloc, "01 0000000000000005", accepted);
-}
-
 /// Each answer has its code in the frame of a Verdict or a Report.
 #[test]
 fn each_answer_has_its_code(rt: HostRuntime) {
-    assert_numbers_told(&rt, rt.alloc());
-    assert_others_told(&rt, rt.alloc());
-    assert_all_reported(&rt, rt.alloc());
+    for (end, answer) in [
+        ("01 0000000000000009", Answer::Accepted { pos: 9 }),
+        ("02 40", Answer::Full { len: 64 }),
+        ("03 0040 0000000000000001", Answer::Stale { to: 64, hop: 1 }),
+        ("04 0000000000000000", Answer::Early { hop: 0 }),
+        ("05", Answer::NoPort),
+        ("06", Answer::Already),
+        ("07", Answer::ClientsFull),
+        (
+            "08 0002 0000000000000009",
+            Answer::Elsewhere { to: 2, hop: 9 },
+        ),
+        ("0b", Answer::Gone),
+    ] {
+        assert_told(&rt, rt.alloc(), end, answer);
+    }
+    for (end, answer) in [
+        ("01 0000000000000005", Answer::Accepted { pos: 5 }),
+        ("09", Answer::NoMember),
+        ("0a 0020", Answer::Chosen { count: 32 }),
+        ("0b", Answer::Gone),
+    ] {
+        assert_reported(&rt, rt.alloc(), end, answer);
+    }
 }
 
 /// Decoding a damaged frame tells the fault of its first bad field.
 #[test]
 fn the_first_field_at_fault_is_named(rt: HostRuntime) {
-    let alloc = rt.alloc();
-    assert_each_damaged(&rt, alloc, UNKNOWN, DecodeFault::Kind);
-    assert_each_damaged(&rt, alloc, OUT_OF_RANGE, DecodeFault::Range);
-    assert_each_damaged(&rt, alloc, SHORT, DecodeFault::Short);
-    assert_each_damaged(&rt, alloc, TRAILING, DecodeFault::Trailing);
+    for (lines, fault) in [
+        (UNKNOWN, DecodeFault::Kind),
+        (OUT_OF_RANGE, DecodeFault::Range),
+        (SHORT, DecodeFault::Short),
+        (TRAILING, DecodeFault::Trailing),
+    ] {
+        assert_each_damaged(&rt, rt.alloc(), lines, fault);
+    }
 }
 
 /// The group `2.g.1`, which the frames worked out by hand name as route or destination.
 fn group(rt: &impl Abort) -> Ui {
-    named(rt, 2, Kind::Group, 1)
+    Ui::new(2, Kind::Group, 1).expect(rt, "a name")
+}
+
+/// The port of site 1 with this number.
+fn port(rt: &impl Abort, number: u64) -> Ui {
+    Ui::new(1, Kind::Port, number).expect(rt, "a name")
 }
 
 /// Asserts that the frame of a Try carries a message that is tried by this route at site 16 alone, with hop 3.
@@ -320,33 +295,23 @@ fn assert_asks(rt: &impl Abort, cargo: &Cargo) {
     }
 }
 
-/// Asserts that the frame of a Try decodes to a request with body `hi`, routed by the group, at site 16 alone.
-fn assert_message_is_tried(rt: &impl Abort, alloc: Global) {
-    let end =
-        "0002030000000001 0010 0000000000000003 0001020000000001 00000003 00000007 0001 01 00000004 0001020000000002 0002 6869";
-    let packet = packet_in(rt, alloc, 1, end);
-    assert_tried(rt, &packet.cargo, Some(group(rt)));
-    assert_asks(rt, &packet.cargo);
-}
-
-/// The frame of a Try is read as a request to its port.
+/// The frame of a Try is read as a request with body `hi` to its port, routed by the group, at site 16 alone.
 #[test]
 fn a_message_is_tried(rt: HostRuntime) {
-    assert_message_is_tried(&rt, rt.alloc());
-}
-
-/// Asserts that a Try frame whose route is all zeros decodes to none, and still demands site 16.
-fn assert_tried_without_a_route(rt: &impl Abort, alloc: Global) {
     let end =
-        "0000000000000000 0010 0000000000000003 0001020000000001 00000003 00000007 0000 00 0000";
-    let packet = packet_in(rt, alloc, 1, end);
-    assert_tried(rt, &packet.cargo, None);
+        "0002030000000001 0010 0000000000000003 0001020000000001 00000003 00000007 0001 01 00000004 0001020000000002 0002 6869";
+    let packet = packet_in(&rt, rt.alloc(), 1, end);
+    assert_tried(&rt, &packet.cargo, Some(group(&rt)));
+    assert_asks(&rt, &packet.cargo);
 }
 
-/// The frame of a Try without a route still demands its site.
+/// The frame of a Try whose route is all zeros has none, and still demands its site.
 #[test]
 fn a_site_is_demanded_without_a_route(rt: HostRuntime) {
-    assert_tried_without_a_route(&rt, rt.alloc());
+    let end =
+        "0000000000000000 0010 0000000000000003 0001020000000001 00000003 00000007 0000 00 0000";
+    let packet = packet_in(&rt, rt.alloc(), 1, end);
+    assert_tried(&rt, &packet.cargo, None);
 }
 
 /// Asserts that the frame of an Ask that ends so is for this destination.
@@ -358,21 +323,26 @@ fn assert_asked(rt: &impl Abort, alloc: Global, end: &str, to: &Dest) {
     );
 }
 
-/// Asserts that the modes 01, 02 and 03 of an Ask frame are all of a group, one of it, and one of it at a site.
-fn assert_each_mode_is_asked(rt: &impl Abort, alloc: Global) {
-    let to = group(rt);
-    let all = "01 0002030000000001 0000 00000003 00000007 0000 02 00000005 00000004 0000";
-    assert_asked(rt, alloc, all, &Dest::All(to));
-    let one = "02 0002030000000001 0000 00000003 00000007 0000 02 00000005 00000004 0000";
-    assert_asked(rt, alloc, one, &Dest::One(to));
-    let at = "03 0002030000000001 0010 00000003 00000007 0000 02 00000005 00000004 0000";
-    assert_asked(rt, alloc, at, &Dest::OneAt(to, 16));
-}
-
-/// The frame of an Ask is for its group's members as its mode says.
+/// The frame of an Ask is for all of a group, for one of it, or for one of it at a site, as its mode 01, 02 or 03 says.
 #[test]
 fn a_message_is_asked(rt: HostRuntime) {
-    assert_each_mode_is_asked(&rt, rt.alloc());
+    let to = group(&rt);
+    for (end, dest) in [
+        (
+            "01 0002030000000001 0000 00000003 00000007 0000 02 00000005 00000004 0000",
+            Dest::All(to),
+        ),
+        (
+            "02 0002030000000001 0000 00000003 00000007 0000 02 00000005 00000004 0000",
+            Dest::One(to),
+        ),
+        (
+            "03 0002030000000001 0010 00000003 00000007 0000 02 00000005 00000004 0000",
+            Dest::OneAt(to, 16),
+        ),
+    ] {
+        assert_asked(&rt, rt.alloc(), end, &dest);
+    }
 }
 
 /// Asserts what the record of the port says that is transferred in a frame.
@@ -385,17 +355,12 @@ fn assert_record(rt: &impl Abort, record: &PortRecord) {
     assert_eq!(rt; record.clients.get(1), Some((0, 7)));
 }
 
-/// Asserts that the frame of a Transfer decodes to the port with its capacity, hop, waiting messages and clients.
-fn assert_transferred(rt: &impl Abort, alloc: Global) {
-    let packet = packet_in(rt, alloc, 3, "00000000 00000007");
-    match &packet.cargo {
-        Cargo::Transfer { port } => assert_record(rt, port),
-        _ => panic!(rt; "no Transfer"),
-    }
-}
-
-/// The frame of a Transfer is read as its port, with messages and clients.
+/// The frame of a Transfer is read as its port, with its capacity, hop, waiting messages and clients.
 #[test]
 fn a_port_is_transferred(rt: HostRuntime) {
-    assert_transferred(&rt, rt.alloc());
+    let packet = packet_in(&rt, rt.alloc(), 3, "00000000 00000007");
+    match &packet.cargo {
+        Cargo::Transfer { port } => assert_record(&rt, port),
+        _ => panic!(rt; "no Transfer"),
+    }
 }

@@ -48,16 +48,11 @@ fn assert_merged(
     assert!(rt; merged.as_slice() == journal(rt, alloc, want).as_slice());
 }
 
-/// Asserts that two journals merge by clock, at equal clocks by place, and that none merge into an empty one.
-fn assert_by_clock(rt: &impl Abort, alloc: Global) {
-    let rows: [&[(u64, u16, u32)]; 2] = [&[(1, 1, 0), (4, 1, 0)], &[(1, 2, 0), (2, 2, 0)]];
-    let want = [(1, 1, 0), (1, 2, 0), (2, 2, 0), (4, 1, 0)];
-    assert_merged(rt, alloc, &rows, &want);
-    assert_merged(rt, alloc, &[], &[]);
-}
-
-/// Two journals are merged by clock, and at equal clocks by place.
+/// Two journals are merged by clock, and at equal clocks by place; none are merged into an empty one.
 #[test]
 fn merge_by_clock_then_place(rt: HostRuntime) {
-    assert_by_clock(&rt, rt.alloc());
+    let rows: [&[(u64, u16, u32)]; 2] = [&[(1, 1, 0), (4, 1, 0)], &[(1, 2, 0), (2, 2, 0)]];
+    let want = [(1, 1, 0), (1, 2, 0), (2, 2, 0), (4, 1, 0)];
+    assert_merged(&rt, rt.alloc(), &rows, &want);
+    assert_merged(&rt, rt.alloc(), &[], &[]);
 }

@@ -22,22 +22,20 @@ fn assert_bits(rt: &impl Abort, name: Ui, bits: u64) {
     assert!(rt; Ui::of_bits(bits) == Some(name));
 }
 
-/// Asserts text and bits of three names, up to the greatest site and number: parsed, packed and written back.
-fn assert_names(rt: &impl Abort, alloc: Global) {
+/// A name is parsed from one text, packed into 64 bits, and written back, up to the greatest site and number.
+#[test]
+fn names_are_parsed_one_way(rt: HostRuntime) {
     let names: [(&[u8], u64); 3] = [
         (b"2.p.7", 565_148_976_676_871),
         (b"1.a.1", 0x0001_01_0000000001),
         (b"65535.g.1099511627775", 0xffff_03_ffffffffff),
     ];
     for (text, bits) in names {
-        let name = Ui::parse(text).expect(rt, "a name that has this text");
-        assert_bits(rt, name, bits);
-        assert_name_written(rt, alloc, name, text);
+        let name = Ui::parse(text).expect(&rt, "a name that has this text");
+        assert_bits(&rt, name, bits);
+        assert_name_written(&rt, rt.alloc(), name, text);
     }
-}
-
-/// Asserts that seven texts parse as no name: a zero, a leading zero, too great, an unknown kind, or empty.
-fn assert_no_names(rt: &impl Abort) {
+    // a zero, a leading zero, too great, an unknown kind, or empty
     let no_names: [&[u8]; 7] = [
         b"0.p.1",
         b"1.p.0",
@@ -50,11 +48,4 @@ fn assert_no_names(rt: &impl Abort) {
     for text in no_names {
         assert!(rt; Ui::parse(text).is_none());
     }
-}
-
-/// A name is parsed from one text, packed into 64 bits, and written back.
-#[test]
-fn names_are_parsed_one_way(rt: HostRuntime) {
-    assert_names(&rt, rt.alloc());
-    assert_no_names(&rt);
 }

@@ -1,14 +1,18 @@
 //! Calls and replies, and ports that are deleted.
 
-use super::{assert_follows, fate_of, follow, replay};
+use super::{fate_of, follow, replay};
 use chorus_world::Spot;
 use std::alloc::Global;
 use std::process::Abort;
 
-/// The checker follows a worked journal of a call and its reply on one site.
-#[test]
-fn call_and_reply_on_one_site(rt: HostRuntime) {
-    let journal = "
+/// Worked journals of calls and of a port that is deleted, with their sites and the places of each.
+pub(super) const JOURNALS: &[(&str, u16, u16, &str)] = &[
+    // a call and its reply on one site
+    (
+        "call_and_reply_on_one_site",
+        1,
+        1,
+        "
         1 1 0 make 1.p.1 1.a.1 4
         ! 35: 2 1 1 outstanding 1
         ! 38: 2 1 1 cancel 1
@@ -33,14 +37,14 @@ fn call_and_reply_on_one_site(rt: HostRuntime) {
         9 1 1 done 1
         10 1 1 no-call
         11 1 1 no-request
-    ";
-    assert_follows(&rt, rt.alloc(), 1, 1, journal);
-}
-
-/// The checker follows a call retried across a move, and refuses its second accept.
-#[test]
-fn retry_across_a_move_is_accepted_once(rt: HostRuntime) {
-    let journal = "
+        ",
+    ),
+    // a call retried across a move; its second accept is refused
+    (
+        "retry_across_a_move_is_accepted_once",
+        3,
+        1,
+        "
         1 1 0 make 1.p.1 1.a.1 4
         2 2 0 make 2.p.1 2.a.1 4
         3 2 1 post 1:1:0 port 1.p.1 request 1 2.p.1 =q
@@ -72,9 +76,29 @@ fn retry_across_a_move_is_accepted_once(rt: HostRuntime) {
         21 2 1 take 2.p.1 0 3:1:0
         ! 20: 22 2 1 done 1
         22 2 1 late 1
-    ";
-    assert_follows(&rt, rt.alloc(), 3, 1, journal);
-}
+        ",
+    ),
+    // a message that finds its moved port deleted; `no-port` is refused there
+    (
+        "delete_after_a_move",
+        3,
+        1,
+        "
+        1 1 0 make 1.p.1 1.a.1 4
+        2 1 2 depart 1.p.1 2 2.a.1 1
+        2 3 1 post 1:1:0 port 1.p.1 plain =x
+        3 2 0 arrive 1.p.1 1
+        3 3 1 try 1:1:0 1.p.1 1 0
+        4 1 0 stale 1:1:0 1.p.1 0 2 1
+        4 2 3 delete 1.p.1
+        5 3 0 told 1:1:0 stale 2 1
+        6 3 0 try 1:1:0 1.p.1 2 1
+        ! 12: 7 2 0 no-port 1:1:0 1.p.1
+        7 2 0 gone 1:1:0 1.p.1
+        8 3 0 told 1:1:0 gone
+        ",
+    ),
+];
 
 /// What follows the requests of 64 clients.
 const BEHIND_64_CLIENTS: &str = "
@@ -100,22 +124,20 @@ fn request_at(rt: &impl Abort, alloc: Global, at: u32) -> String {
     .expect(rt, "memory")
 }
 
-/// Asserts that the checker follows a port that accepts requests of 64 clients, and then refuses one of a 65th.
-fn assert_table_fills(rt: &impl Abort, alloc: Global) {
-    let mut world = replay(rt, alloc, 1, 1, "1 1 0 make 1.p.1 1.a.1 64");
-    for at in 0..64_u32 {
-        let journal = request_at(rt, alloc, at);
-        follow(rt, alloc, &mut world, journal.as_str());
-    }
-    follow(rt, alloc, &mut world, BEHIND_64_CLIENTS);
-}
-
 /// The checker follows a port that accepts requests of 64 clients and refuses a 65th.
 #[test]
 fn at_most_once_table_fills(rt: HostRuntime) {
-    assert_table_fills(&rt, rt.alloc());
+    let name = "at_most_once_table_fills";
+    let make = "1 1 0 make 1.p.1 1.a.1 64";
+    let mut world = replay(&rt, rt.alloc(), name, 1, 1, make);
+    for at in 0..64_u32 {
+        let journal = request_at(&rt, rt.alloc(), at);
+        follow(&rt, rt.alloc(), &mut world, name, journal.as_str());
+    }
+    follow(&rt, rt.alloc(), &mut world, name, BEHIND_64_CLIENTS);
 }
 
+/// A port is deleted while one message of two waits in it.
 const DELETED: &str = "
     1 1 0 make 1.p.1 1.a.1 2
     2 1 1 post 1:1:0 port 1.p.1 plain =a
@@ -130,34 +152,9 @@ const DELETED: &str = "
     10 1 1 not-here 1.p.1
 ";
 
-/// Asserts that the checker follows a deletion that discards what waits, and has the port as ended.
-fn assert_deleted(rt: &impl Abort, alloc: Global) {
-    let world = replay(rt, alloc, 1, 1, DELETED);
-    assert!(rt; fate_of(rt, &world, "1.p.1").spot() == Spot::Ended);
-}
-
 /// The checker follows a deletion that discards what waits, and has the port as ended.
 #[test]
 fn delete_discards(rt: HostRuntime) {
-    assert_deleted(&rt, rt.alloc());
-}
-
-/// The checker follows a message that finds its moved port deleted, and refuses `no-port` there.
-#[test]
-fn delete_after_a_move(rt: HostRuntime) {
-    let journal = "
-        1 1 0 make 1.p.1 1.a.1 4
-        2 1 2 depart 1.p.1 2 2.a.1 1
-        2 3 1 post 1:1:0 port 1.p.1 plain =x
-        3 2 0 arrive 1.p.1 1
-        3 3 1 try 1:1:0 1.p.1 1 0
-        4 1 0 stale 1:1:0 1.p.1 0 2 1
-        4 2 3 delete 1.p.1
-        5 3 0 told 1:1:0 stale 2 1
-        6 3 0 try 1:1:0 1.p.1 2 1
-        ! 12: 7 2 0 no-port 1:1:0 1.p.1
-        7 2 0 gone 1:1:0 1.p.1
-        8 3 0 told 1:1:0 gone
-    ";
-    assert_follows(&rt, rt.alloc(), 3, 1, journal);
+    let world = replay(&rt, rt.alloc(), "delete_discards", 1, 1, DELETED);
+    assert!(rt; fate_of(&rt, &world, "1.p.1").spot() == Spot::Ended);
 }

@@ -1,13 +1,17 @@
 //! Groups: choices, copies and reports.
 
-use super::{assert_follows, follow, replay};
+use super::{follow, replay};
 use std::alloc::Global;
 use std::process::Abort;
 
-/// The checker follows a group's copy for one site whose port left: elsewhere, not stale.
-#[test]
-fn functional_at_a_site(rt: HostRuntime) {
-    let journal = "
+/// Worked journals of groups, with their sites and the places of each.
+pub(super) const JOURNALS: &[(&str, u16, u16, &str)] = &[
+    // a group's copy for one site whose port left: elsewhere, not stale
+    (
+        "functional_at_a_site",
+        3,
+        1,
+        "
         1 2 0 make 2.p.1 2.a.1 4
         ! 27: 2 1 0 group 1.g.2
         2 1 0 group 1.g.1
@@ -22,14 +26,14 @@ fn functional_at_a_site(rt: HostRuntime) {
         7 2 0 elsewhere 1:1:1 2.p.1 3 1
         8 1 0 told 1:1:1 elsewhere 3 1
         9 3 0 arrive 2.p.1 1
-    ";
-    assert_follows(&rt, rt.alloc(), 3, 1, journal);
-}
-
-/// The checker follows reports of a group's choice and copy, and refuses each once more.
-#[test]
-fn report_reaches_the_home_place(rt: HostRuntime) {
-    let journal = "
+        ",
+    ),
+    // reports of a group's choice and copy; each is refused once more
+    (
+        "report_reaches_the_home_place",
+        2,
+        1,
+        "
         1 2 0 make 2.p.1 2.a.1 4
         2 1 0 group 1.g.1
         3 1 0 join 1.g.1 2.p.1
@@ -44,14 +48,14 @@ fn report_reaches_the_home_place(rt: HostRuntime) {
         10 2 0 heard 1:1:1 accepted 0
         ! 18: 11 2 0 heard 1:1:1 accepted 0
         ! 18: 11 2 0 heard 1:1:0 chosen 1
-    ";
-    assert_follows(&rt, rt.alloc(), 2, 1, journal);
-}
-
-/// The checker follows a group's rotation over three members, and refuses one out of turn.
-#[test]
-fn functional_send_rotates(rt: HostRuntime) {
-    let journal = "
+        ",
+    ),
+    // a group's rotation over three members; one out of turn is refused
+    (
+        "functional_send_rotates",
+        1,
+        1,
+        "
         1 1 0 make 1.p.1 1.a.1 1
         2 1 0 make 1.p.2 1.a.1 1
         3 1 0 make 1.p.3 1.a.1 1
@@ -82,14 +86,14 @@ fn functional_send_rotates(rt: HostRuntime) {
         ! 15: 21 1 1 choose 1:5:0 1.g.1 1.p.2
         21 1 1 choose 1:5:0 1.g.1 1.p.1
         22 1 1 full 1:5:1 1.p.1 1
-    ";
-    assert_follows(&rt, rt.alloc(), 1, 1, journal);
-}
-
-/// The checker follows copies for site 2 whose port comes to the group's own place.
-#[test]
-fn a_port_comes_to_the_groups_place(rt: HostRuntime) {
-    let journal = "
+        ",
+    ),
+    // copies for site 2 whose port comes to the group's own place
+    (
+        "a_port_comes_to_the_groups_place",
+        2,
+        1,
+        "
         1 2 0 make 2.p.1 2.a.1 4
         2 1 0 group 1.g.1
         3 1 0 join 1.g.1 2.p.1
@@ -105,14 +109,14 @@ fn a_port_comes_to_the_groups_place(rt: HostRuntime) {
         11 1 0 told 1:1:1 elsewhere 1 1
         ! 6: 12 1 0 accept 1:2:1 2.p.1 0
         12 1 0 elsewhere 1:2:1 2.p.1 1 1
-    ";
-    assert_follows(&rt, rt.alloc(), 2, 1, journal);
-}
-
-/// The checker follows a post to all of a group with one full port.
-#[test]
-fn broadcast_meets_full(rt: HostRuntime) {
-    let journal = "
+        ",
+    ),
+    // a post to all of a group with one full port
+    (
+        "broadcast_meets_full",
+        1,
+        1,
+        "
         1 1 0 make 1.p.1 1.a.1 2
         2 1 0 make 1.p.2 1.a.1 1
         3 1 0 make 1.p.3 1.a.1 2
@@ -128,14 +132,14 @@ fn broadcast_meets_full(rt: HostRuntime) {
         12 1 1 accept 1:2:1 1.p.1 0
         13 1 1 full 1:2:2 1.p.2 1
         14 1 1 accept 1:2:3 1.p.3 0
-    ";
-    assert_follows(&rt, rt.alloc(), 1, 1, journal);
-}
-
-/// The checker follows a group's rotation while members join and leave.
-#[test]
-fn members_take_turns_as_they_join_and_leave(rt: HostRuntime) {
-    let journal = "
+        ",
+    ),
+    // a group's rotation while members join and leave
+    (
+        "members_take_turns_as_they_join_and_leave",
+        1,
+        1,
+        "
         1 1 0 make 1.p.1 1.a.1 4
         2 1 0 make 1.p.2 1.a.1 4
         3 1 0 make 1.p.3 1.a.1 4
@@ -167,9 +171,9 @@ fn members_take_turns_as_they_join_and_leave(rt: HostRuntime) {
         28 1 1 post 1:6:0 one 1.g.1 plain =f
         29 1 1 choose 1:6:0 1.g.1 1.p.3
         30 1 1 accept 1:6:1 1.p.3 0
-    ";
-    assert_follows(&rt, rt.alloc(), 1, 1, journal);
-}
+        ",
+    ),
+];
 
 /// A site with four groups, as many as there may be.
 const FOUR_GROUPS: &str = "
@@ -197,18 +201,14 @@ fn joining(rt: &impl Abort, alloc: Global, number: u64) -> String {
     format!(in alloc; "{clock} 1 0 join 1.g.1 1.p.{number}").expect(rt, "memory")
 }
 
-/// Asserts that the checker lets four groups be made and 32 ports join, and refuses the next of each.
-fn assert_groups_fill(rt: &impl Abort, alloc: Global) {
-    let mut world = replay(rt, alloc, 1, 1, FOUR_GROUPS);
-    for number in 1..33_u64 {
-        let line = joining(rt, alloc, number);
-        follow(rt, alloc, &mut world, line.as_str());
-    }
-    follow(rt, alloc, &mut world, BEHIND_32_MEMBERS);
-}
-
 /// The checker lets four groups be made and 32 ports join, and refuses the next.
 #[test]
 fn groups_and_members_have_a_limit(rt: HostRuntime) {
-    assert_groups_fill(&rt, rt.alloc());
+    let name = "groups_and_members_have_a_limit";
+    let mut world = replay(&rt, rt.alloc(), name, 1, 1, FOUR_GROUPS);
+    for number in 1..33_u64 {
+        let line = joining(&rt, rt.alloc(), number);
+        follow(&rt, rt.alloc(), &mut world, name, line.as_str());
+    }
+    follow(&rt, rt.alloc(), &mut world, name, BEHIND_32_MEMBERS);
 }

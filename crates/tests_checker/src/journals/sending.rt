@@ -1,11 +1,13 @@
 //! Ports that are made, sent to and received from.
 
-use super::assert_follows;
-
-/// The checker follows a port that is full, is taken from, and is then empty.
-#[test]
-fn full_then_taken_then_empty(rt: HostRuntime) {
-    let journal = "
+/// Worked journals of sends, with their sites and the places of each.
+pub(super) const JOURNALS: &[(&str, u16, u16, &str)] = &[
+    // a port that is full, is taken from, and is then empty
+    (
+        "full_then_taken_then_empty",
+        1,
+        1,
+        "
         ! 1: 1 1 0 make 1.p.2 1.a.1 1
         ! 1: 1 1 0 make 1.p.1 1.a.1 0
         ! 2: 1 1 0 make-full 1.a.1
@@ -25,14 +27,14 @@ fn full_then_taken_then_empty(rt: HostRuntime) {
         7 1 1 empty 1.p.1
         8 1 1 empty 1.p.1
         ! 23: 9 1 1 not-here 1.a.1
-    ";
-    assert_follows(&rt, rt.alloc(), 1, 1, journal);
-}
-
-/// The checker follows two sites that send to one port, and refuses a wrong verdict.
-#[test]
-fn two_sites_send_to_one_port(rt: HostRuntime) {
-    let journal = "
+        ",
+    ),
+    // two sites that send to one port; a try to another place and a wrong verdict are refused
+    (
+        "two_sites_send_to_one_port",
+        2,
+        1,
+        "
         1 2 0 make 2.p.1 2.a.1 4
         2 1 1 post 1:1:0 port 2.p.1 plain =hi
         2 2 2 post 2:1:0 port 2.p.1 plain =yo
@@ -42,14 +44,14 @@ fn two_sites_send_to_one_port(rt: HostRuntime) {
         4 2 0 accept 1:1:0 2.p.1 1
         ! 17: 5 1 0 told 1:1:0 no-port
         5 1 0 told 1:1:0 accepted 1
-    ";
-    assert_follows(&rt, rt.alloc(), 2, 1, journal);
-}
-
-/// The checker takes `no-port` of ports that nobody made, and refuses it of others.
-#[test]
-fn no_port(rt: HostRuntime) {
-    let journal = "
+        ",
+    ),
+    // `no-port` is taken of ports that nobody made, and refused of others
+    (
+        "no_port",
+        1,
+        1,
+        "
         1 1 0 make 1.p.1 1.a.1 2
         2 1 1 post 1:1:0 port 1.p.9 plain =x
         ! 40: 3 1 1 gone 1:1:0 1.p.9
@@ -59,28 +61,28 @@ fn no_port(rt: HostRuntime) {
         5 1 1 accept 1:2:0 1.p.1 0
         6 1 1 post 1:3:0 port 2.p.1 plain =z
         7 1 1 no-port 1:3:0 2.p.1
-    ";
-    assert_follows(&rt, rt.alloc(), 1, 1, journal);
-}
-
-/// The checker follows a send between two places of a site, and a departure.
-#[test]
-fn two_turns_per_site(rt: HostRuntime) {
-    let journal = "
+        ",
+    ),
+    // a send between two places of a site, and a departure
+    (
+        "two_turns_per_site",
+        2,
+        2,
+        "
         1 2 0 make 1.p.2 1.a.2 4
         2 1 1 post 1:1:0 port 1.p.2 plain =x
         3 1 1 try 1:1:0 1.p.2 2 0
         4 2 0 accept 1:1:0 1.p.2 0
         5 1 0 told 1:1:0 accepted 0
         6 2 1 depart 1.p.2 4 2.a.1 1
-    ";
-    assert_follows(&rt, rt.alloc(), 2, 2, journal);
-}
-
-/// The checker refuses a message's try while another is under way to its port.
-#[test]
-fn one_message_under_way_per_route(rt: HostRuntime) {
-    let journal = "
+        ",
+    ),
+    // a message's try is refused while another is under way to its port
+    (
+        "one_message_under_way_per_route",
+        3,
+        1,
+        "
         1 1 0 make 1.p.1 1.a.1 4
         2 1 2 depart 1.p.1 2 2.a.1 1
         2 3 1 post 1:1:0 port 1.p.1 plain =x
@@ -96,14 +98,14 @@ fn one_message_under_way_per_route(rt: HostRuntime) {
         10 3 0 try 1:2:0 1.p.1 2 1
         11 2 0 accept 1:2:0 1.p.1 1
         12 3 0 told 1:2:0 accepted 1
-    ";
-    assert_follows(&rt, rt.alloc(), 3, 1, journal);
-}
-
-/// The checker lets one of four places make eight ports, its share, and no ninth.
-#[test]
-fn a_place_makes_its_share_of_the_ports(rt: HostRuntime) {
-    let journal = "
+        ",
+    ),
+    // one of four places makes eight ports, its share, and no ninth
+    (
+        "a_place_makes_its_share_of_the_ports",
+        1,
+        4,
+        "
         ! 2: 1 1 1 make-full 1.a.1
         1 1 1 make 1.p.1 1.a.1 1
         ! 2: 2 1 1 make-full 1.a.1
@@ -124,6 +126,6 @@ fn a_place_makes_its_share_of_the_ports(rt: HostRuntime) {
         9 1 1 make-full 1.a.1
         1 2 1 make 1.p.2 1.a.2 1
         10 1 1 no-actor 1.a.9
-    ";
-    assert_follows(&rt, rt.alloc(), 1, 4, journal);
-}
+        ",
+    ),
+];

@@ -1,5 +1,0 @@
-use Rattle.chorus_nucleus.specs.Passes.{IsPassOf}
-use Rattle.bench_parts.proofs.rounds.pump_often.Given as goal
-
-abbrev pub invariant-loop : goal.invariant-loop
-invariant-loop g l = IsPassOf l.nucleus l.pass

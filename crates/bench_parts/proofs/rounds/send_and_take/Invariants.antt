@@ -1,5 +1,0 @@
-use Rattle.chorus_nucleus.specs.Passes.{IsPassOf}
-use Rattle.bench_parts.proofs.rounds.send_and_take.Given as goal
-
-abbrev pub invariant-loop : goal.invariant-loop
-invariant-loop l = IsPassOf l.nucleus l.pass
