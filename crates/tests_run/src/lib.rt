@@ -1,5 +1,6 @@
 //! Tests of `chorus_replay`, `chorus_net` and `chorus_explore`: what scenarios print and what calls of the sites leave, what loads write, how
-//! texts, sources and sinks end a run, and what explorations tell (`exploring`: `races` and `counts`). The worked rows are in `tests_rows`.
+//! texts, sources and sinks end a run, and what explorations tell (`exploring`: `races`, `counts`, and `schedules`, which are replayed). The
+//! worked rows are in `tests_rows`.
 #![tactic(auto)]
 
 #[cfg(test)]
@@ -16,6 +17,8 @@ mod races;
 mod replays;
 #[cfg(test)]
 mod running;
+#[cfg(test)]
+mod schedules;
 #[cfg(test)]
 mod site_calls;
 #[cfg(test)]
