@@ -14,3 +14,4 @@ pub mod Alike
 pub mod Spares
 pub mod Happening
 pub mod Whole
+pub mod Likeness

@@ -6,10 +6,11 @@
 //! `specs/Explored.antt`, which say what is promised, and on `specs/Shown.antt`: what is shown is seen in a replay.
 //!
 //! Begin with `exploration` and with `level_search`: level by level, with the histories put together that come
-//! alike, as `specs/Searches.antt` says. `race_sites` performs the moves, and `sums` picks whom to compare; `explore_alike`
+//! alike, as `specs/Searches.antt` says. `race_sites` performs the moves, and `sums` picks whom to compare; `alike_sites`
 //! compares. What the moves came to `explore_report` tells, counts and writes down.
 #![tactic(auto)]
 
+mod alike_sites;
 mod exploration;
 mod exploring;
 mod laws;

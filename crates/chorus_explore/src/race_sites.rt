@@ -24,6 +24,7 @@ ghost use Rattle.explore_report.specs.Facts.{fact_line};
 ghost use Rattle.chorus_explore.specs.Stages.{AreAt, AreFresh, AreProgress, IsNext, IsOfScript, IsPlaceFor, IsReached, MayWear, comes, coming, may_go, moves_of, position, posted_lines};
 ghost use Rattle.chorus_explore.specs.Tellings.{kept_of, tells_of};
 
+use crate::alike_sites::are_alike;
 use crate::sums::sum_of;
 use chorus_entry::{Act, Command, Entry, MsgId};
 use chorus_net::Sites;
@@ -31,7 +32,6 @@ use chorus_place::PlaceFault;
 use chorus_replay::{enter, set_up};
 use chorus_scene::Scenario;
 use chorus_ui::Layout;
-use explore_alike::are_alike;
 use explore_report::{push_all_ports, push_answered, push_messages};
 use law_explore::Move;
 use std::alloc::{AllocError, Global};

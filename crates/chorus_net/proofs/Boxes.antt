@@ -9,7 +9,7 @@ use Rattle.chorus_entry.specs.declared.packet.Packet.{Packet}
 use Rattle.place_outbox.specs.Waiting.{list_to, with_last, with_first, without_first, count}
 use Rattle.law_machine.specs.declared.outgoing.Outgoing.{Outgoing}
 use Rattle.law_network.specs.Packets.{is_link, is_link_before, put, put_all, first_on, rest_on}
-use Rattle.chorus_place.specs.Sending.{with_all}
+use Rattle.chorus_place.specs.PlaceTables.Sending.{with_all}
 use Rattle.chorus_net.specs.Sites.{to_place, waiting_from, waiting_in, AreFrom, AllFrom}
 
 -- The pair of places of a packet stands before the pair (a, b), or behind it.

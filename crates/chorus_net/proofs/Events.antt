@@ -27,7 +27,7 @@ use Rattle.law_network.proofs.Holdings.Passing.{packets-lie-between}
 use Rattle.law_network.proofs.Places.Layouts.{schedule-keeps}
 use Rattle.law_network.proofs.Promises.Promised.{stands-at}
 use Rattle.chorus_place.specs.Calls.{Place, state, Ended, MayCall, Stays}
-use Rattle.chorus_place.specs.Sending.{with_all}
+use Rattle.chorus_place.specs.PlaceTables.Sending.{with_all}
 use Rattle.chorus_net.specs.Sites.{SitesState, waiting_in, boxes, net, AllFrom, IsPlaceOf, ArePlaces, IsScheduled, IsSites}
 use Rattle.chorus_net.proofs.Boxes.{IsPut, put-all-is, with-all-keeps}
 use Rattle.chorus_net.proofs.Changes.{place-of, are-set, finds, replaces, still, are-boxes, box-of, boxes-set-is, length-boxes, all-put-parts, both}

@@ -69,7 +69,7 @@ fn end_sites<R: Wait>(
     }
 }
 
-/// Ends the boards of a nucleus that is closed, and takes the places apart.
+/// What `Nucleus::close` does with the sites: it ends their boards, and has the desks taken apart.
 fn take_sites<R: Wait>(
     rt: &R,
     alloc: Global,

@@ -17,9 +17,9 @@ use Rattle.law_bounds.specs.Bounds.{IsWithin, IsCallerWithin, HasRanges, IsTurnW
 use Rattle.law_bounds.proofs.Starting.{start-within}
 use Rattle.law_bounds.proofs.Commands.{act-within}
 use Rattle.law_bounds.proofs.Packets.{work-within}
-use Rattle.place_tables.specs.Tables.{Tables, state, turn}
-use Rattle.place_tables.specs.Commands.{StaysOut}
-use Rattle.place_tables.specs.Sending.{with_all}
+use Rattle.chorus_place.specs.PlaceTables.Tables.{Tables, state, turn}
+use Rattle.chorus_place.specs.PlaceTables.Commands.{StaysOut}
+use Rattle.chorus_place.specs.PlaceTables.Sending.{with_all}
 use Rattle.chorus_place.specs.Calls.{IsAtRest}
 use Rattle.chorus_place.proofs.Ended.{Sent, begins, still-none}
 

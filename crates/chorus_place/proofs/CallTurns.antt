@@ -28,9 +28,9 @@ use Rattle.law_machine.specs.Choosing.{choice, by_group, all_go, chooses, choose
 use Rattle.law_machine.specs.Trying.{verdict_here, tries, settles_here, goes_on, goes_unless, go}
 use Rattle.law_machine.specs.Working.{opens}
 use Rattle.law_machine.specs.Replies.{post_reply}
-use Rattle.place_tables.specs.Commands.{Performed}
-use Rattle.place_tables.specs.Steps.{posted, told_by}
-use Rattle.place_tables.specs.Tables.{Tables, turn}
+use Rattle.chorus_place.specs.PlaceTables.Commands.{Performed}
+use Rattle.chorus_place.specs.PlaceTables.Steps.{posted, told_by}
+use Rattle.chorus_place.specs.PlaceTables.Tables.{Tables, turn}
 use Rattle.chorus_place.specs.CallTurns.{GaveWithinPosts}
 
 -- A turn gives a call number only with a post: what it leaves of a caller's calls and posts.

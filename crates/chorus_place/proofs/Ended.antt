@@ -8,10 +8,10 @@ use Rattle.law_machine.specs.declared.outgoing.Outgoing.{Outgoing}
 use Rattle.law_machine.specs.PlaceState.{Turn}
 use Rattle.law_machine.specs.PlaceMachine.{begun, act}
 use Rattle.law_machine.specs.Replies.{reply}
-use Rattle.place_tables.specs.Tables.{Tables, state, turn}
-use Rattle.place_tables.specs.Commands.{Performed, StaysOut}
-use Rattle.place_tables.specs.Room.{KeepsRoom}
-use Rattle.place_tables.specs.Sending.{with_all}
+use Rattle.chorus_place.specs.PlaceTables.Tables.{Tables, state, turn}
+use Rattle.chorus_place.specs.PlaceTables.Commands.{Performed, StaysOut}
+use Rattle.chorus_place.specs.PlaceTables.Room.{KeepsRoom}
+use Rattle.chorus_place.specs.PlaceTables.Sending.{with_all}
 use Rattle.chorus_place.specs.Calls as calls
 
 -- between turns nothing is put

@@ -1,3 +1,5 @@
+pub mod PlaceTables
+pub mod PlaceTurns
 pub mod CallTurns
 pub mod Ended
 pub mod Bounded

@@ -25,8 +25,8 @@ use Rattle.law_machine.specs.PlaceMachine.{begun, begun_by, act, work}
 use Rattle.law_machine.specs.Own.{held_by}
 use Rattle.law_machine.specs.Replies.{reply}
 use Rattle.law_bounds.specs.Bounds.{IsWithin, AreWaitingWithin}
-use Rattle.place_tables.specs.Tables.{Tables, state as state_of}
-use Rattle.place_tables.specs.Sending.{with_all}
+use Rattle.chorus_place.specs.PlaceTables.Tables.{Tables, state as state_of}
+use Rattle.chorus_place.specs.PlaceTables.Sending.{with_all}
 
 -- a place: its layout and number; its journal, the newest entry first; its tables; the packets that wait to go to other
 -- places, by these; and how many entries and packets need no memory

@@ -1,4 +1,5 @@
+pub mod PlaceTables
+pub mod PlaceTurns
 pub mod CallTurns
 pub mod Calls
 pub mod Outcomes
-pub use Rattle.place_tables.specs.Sending

@@ -4,15 +4,18 @@
 //! every command and every lawful packet on every layout, and give its reply; what they put waits behind what waited. A refusal
 //! changes nothing, and says why.
 //!
-//! Begin with `place`, then `perform`, which chooses the turn of a command. The turns, of packets too, are those of `place_turns`, the
-//! tables and the steps, with an entry each, those of `place_tables`. `journal_outcome` has what a journal alone tells of a message.
+//! Begin with `place`, then `perform`, which chooses the turn of a command. `turns` has the turns, of packets too, over `tables`,
+//! with the steps, an entry each. `journal_outcome` has what a journal alone tells of a message.
 #![tactic(auto)]
 
 mod fault;
 mod journal_outcome;
 mod perform;
 mod place;
+mod tables;
+mod turns;
 
 pub use fault::PlaceFault;
 pub use law_machine::{Outcome, Reply};
 pub use place::Place;
+pub use tables::Tables;

@@ -7,18 +7,18 @@ ghost use Rattle.chorus_entry.specs.Command.{demands_a_site};
 ghost use Rattle.chorus_entry.specs.Kinds.{has_kinds_in_dest};
 ghost use Rattle.law_machine.specs.PlaceState.{greatest_clock};
 ghost use Rattle.chorus_place.specs.Calls.{MayPerform, TakesNone};
-ghost use Rattle.place_tables.specs.Commands.{Performed, StaysOut};
-ghost use Rattle.place_tables.specs.Room.{KeepsRoom};
-ghost use Rattle.place_tables.specs.Tables.{state, turn};
+ghost use Rattle.chorus_place.specs.PlaceTables.Commands.{Performed, StaysOut};
+ghost use Rattle.chorus_place.specs.PlaceTables.Room.{KeepsRoom};
+ghost use Rattle.chorus_place.specs.PlaceTables.Tables.{state, turn};
 
-use chorus_calls::Caller;
-use chorus_entry::{Body, Command, Dest};
-use law_machine::Reply;
-use place_tables::Tables;
-use place_turns::{
+use crate::tables::Tables;
+use crate::turns::{
     call, cancel, delete, join, leave, make, make_group, move_port, post_to_group, retry,
     send_reply, send_to_port, take,
 };
+use chorus_calls::Caller;
+use chorus_entry::{Body, Command, Dest};
+use law_machine::Reply;
 use std::alloc::AllocError;
 
 /// Performs a caller's command at a place, by the turn for its kind. Want of memory changes nothing.

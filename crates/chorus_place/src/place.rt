@@ -18,6 +18,8 @@ ghost use Rattle.chorus_place.specs.Calls.{state, place_of, is_call, Called, IsW
 use crate::fault::PlaceFault;
 use crate::journal_outcome::outcome_in;
 use crate::perform::perform;
+use crate::tables::Tables;
+use crate::turns::{is_lawful, make_ready, open};
 use chorus_calls::Caller;
 use chorus_entry::{Command, Entry, MsgId, Packet};
 use chorus_ports::Ports;
@@ -25,8 +27,6 @@ use chorus_ui::{CLOCK_LIMIT, Layout, Ui};
 use law_bounds::are_within;
 use law_machine::{Outcome, Reply};
 use place_outbox::Outbox;
-use place_tables::Tables;
-use place_turns::{is_lawful, make_ready, open};
 use std::alloc::{AllocError, Global};
 use std::marker::Model;
 

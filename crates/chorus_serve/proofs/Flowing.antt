@@ -10,7 +10,7 @@ use Rattle.place_outbox.specs.Waiting.{list_to, with_last, with_first, without_f
 use Rattle.law_machine.specs.declared.outgoing.Outgoing.{Outgoing}
 use Rattle.law_machine.specs.PlaceState.{PlaceState}
 use Rattle.chorus_place.specs.Calls.{Place, state}
-use Rattle.chorus_place.specs.Sending.{with_all}
+use Rattle.chorus_place.specs.PlaceTables.Sending.{with_all}
 use Rattle.chorus_io.specs.Count.{Rose}
 use Rattle.chorus_ends.specs.Links.{Links, Counts, Sends, Receives, MovesNothing}
 use Rattle.law_history.specs.Turns.{puts_to, from_place}

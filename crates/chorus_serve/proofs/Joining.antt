@@ -20,7 +20,7 @@ use Rattle.law_machine.specs.Lawful.{is_lawful, is_lawful_cargo}
 use Rattle.law_machine.proofs.Machine.Stays.{act-stays, work-stays}
 use Rattle.law_machine.specs.declared.reply.Reply.{Reply}
 use Rattle.chorus_place.specs.Calls.{Place, state, Called, WorkedOff, IsWornBack, Stays}
-use Rattle.chorus_place.specs.Sending.{with_all}
+use Rattle.chorus_place.specs.PlaceTables.Sending.{with_all}
 use Rattle.chorus_place.specs.declared.fault.PlaceFault.{PlaceFault}
 use Rattle.chorus_serve.specs.declared.served.Pump.{Pump}
 use Rattle.chorus_serve.specs.declared.served.Pump.TheVariants as pumps

@@ -43,7 +43,7 @@ fn take_up<G, E: Moves<G>>(desk: &mut Desk<E>, ground: &G)
     }
 }
 
-/// Takes the packet in hand out of it, opened, as the place serves its links. Want of memory, the one error, leaves it in hand.
+/// A step of a serve: takes the packet in hand out of it, opened. Want of memory, the one error, leaves it in hand.
 fn lay_down<E: Ends>(desk: &mut Desk<E>) -> Result<Option<(u16, Packet)>, AllocError>
     ensures same { LaysDown (seen E.links E.packet desk.old) (seen E.links E.packet desk.new) }
     ensures packet { IfOk result (λ packet. packet ≡ in_hand E.packet desk.old.hand) }

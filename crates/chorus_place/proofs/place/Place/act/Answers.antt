@@ -1,7 +1,7 @@
 use Rattle.std.proofs.Common.{ap, subst, sym, ◌∙◌}
 use Rattle.chorus_place.specs.Calls.{Called, Stays}
 use Rattle.chorus_place.specs.Calls as calls
-use Rattle.place_turns.proofs.Posting.{on_err}
+use Rattle.chorus_place.proofs.PlaceTurns.Posting.{on_err}
 use Rattle.chorus_place.proofs.Ended.{called, stays}
 use Rattle.chorus_place.proofs.Bounded.{refused-at-rest, acts-at-rest}
 use Rattle.chorus_place.proofs.place.Place.act.Goals as goal

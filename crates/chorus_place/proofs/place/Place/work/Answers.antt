@@ -4,8 +4,8 @@ use Rattle.law_machine.specs.Lawful.{is_lawful}
 use Rattle.law_machine.specs.PlaceState.{Turn, greatest_clock}
 use Rattle.law_machine.specs.PlaceMachine.{work, begun, begun_by}
 use Rattle.chorus_calls.specs.Callers.{after_tick}
-use Rattle.place_tables.specs.Tables.{state}
-use Rattle.place_tables.proofs.Rooms.{kept-then}
+use Rattle.chorus_place.specs.PlaceTables.Tables.{state}
+use Rattle.chorus_place.proofs.PlaceTables.Rooms.{kept-then}
 use Rattle.chorus_place.specs.Calls as calls
 use Rattle.chorus_place.proofs.Ended.{begins, ended, stays, stays-then}
 use Rattle.chorus_place.proofs.Bounded.{refused-at-rest, works-at-rest}

@@ -1,7 +1,0 @@
-use Rattle.place_unsettled.specs.Queues.{queue}
-use Rattle.explore_alike.proofs.Lists.{SameBelow}
-use Rattle.explore_alike.proofs.hints_and_waits.is_same_queue.Given as goal
-
--- those passed are the same
-abbrev pub invariant-loop-at : goal.invariant-loop-at
-invariant-loop-at l = SameBelow (queue l.one l.key).waits (queue l.other l.key).waits l.at

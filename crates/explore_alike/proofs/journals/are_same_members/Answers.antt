@@ -1,8 +1,0 @@
-use Rattle.std.proofs.Common.{sym, ◌∙◌}
-use Rattle.explore_alike.proofs.journals.are_same_members.Goals as goal
-
-pub returns : goal.returns
-returns c = λ e.
-    sym (c.groups-mine.ensures.members c.args.group) ∙ sym c.members.ensures.members
-    ∙ c.are_same_names-same.ensures e
-    ∙ c.members-2.ensures.members ∙ c.groups-theirs.ensures.members c.args.group

@@ -1,9 +1,0 @@
-use Rattle.std.proofs.Common.{◌≡◌, ◌+◌, ◌++◌, drop}
-use Rattle.chorus_ui.specs.declared.ui.Ui.{Ui}
-use Rattle.chorus_world.specs.Places.{copies}
-use Rattle.explore_alike.specs.Journals.{ids_of}
-use Rattle.explore_alike.proofs.journals.push_each.Given as goal
-
--- what is left completes them
-abbrev pub invariant-loop-index : goal.invariant-loop-index
-invariant-loop-index l = (g : Ui) → l.ids.items ++ ids_of (copies l.id g (l.index + 1) (drop l.index l.members)) ≡ l.initial.ids.items ++ ids_of (copies l.id g 1 l.members)

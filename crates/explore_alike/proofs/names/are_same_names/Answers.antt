@@ -1,6 +1,0 @@
-use Rattle.std.proofs.Common.{sym, ◌∙◌}
-use Rattle.chorus_entry.proofs.Same.{from_same_uis}
-use Rattle.explore_alike.proofs.names.are_same_names.Goals as goal
-
-pub returns : goal.returns
-returns c = λ e. from_same_uis c.args.one.now c.args.other.now (sym c.eq.ensures ∙ e)

@@ -1,9 +1,0 @@
-use Rattle.std.proofs.Common.{ℕ, ◌≡◌, ◌<◌, Some, slice_get}
-use Rattle.chorus_place.specs.Calls.{Place}
-use Rattle.explore_alike.specs.Places.{SamePlace}
-use Rattle.explore_alike.proofs.sites.are_alike.Given as goal
-
--- the places passed are alike
-abbrev pub invariant-loop-at : goal.invariant-loop-at
-invariant-loop-at l =
-    (i : ℕ) → i < l.at → (p q : Place) → slice_get l.one.places i ≡ Some p → slice_get l.other.places i ≡ Some q → SamePlace p q

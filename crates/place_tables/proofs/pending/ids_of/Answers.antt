@@ -1,9 +1,0 @@
-use Rattle.std.proofs.Common.{rules, sym, ap, ◌∙◌}
-use Rattle.std.specs.Option.{option_copied}
-use Rattle.place_tables.proofs.Listed.{ids-more}
-use Rattle.place_tables.proofs.pending.ids_of.Goals as goal
-
-pub loop-at-preserved : goal.loop-at-preserved
-loop-at-preserved c =
-    let more = ids-more c.args.pending.now c.loop-at.at c.in-Some.message.now (sym c.get.ensures ∙ ap option_copied c.in-Some.is) in
-    search (rules, more)
