@@ -19,7 +19,7 @@ use std::alloc::AllocError;
 ///
 /// Posting, ports, groups, migration and remote calls follow Rozier and others, "CHORUS Distributed Operating Systems"
 /// (1988). The refusals, hops, positions and what a place tells another are this project's own.
-#[derive(Drop, PartialEq, Eq)]
+#[derive(Drop)]
 pub enum Act {
     /// A port is made, for the actor to receive from, with room for `capacity` messages. It starts at hop 0.
     Make {

@@ -9,7 +9,7 @@ use std::alloc::AllocError;
 ///
 /// Clocks follow Lamport (1978): an entry that another one led to has the greater clock. The events of all places are
 /// ordered by clock and then by place.
-#[derive(Drop, PartialEq, Eq)]
+#[derive(Drop)]
 pub struct Entry {
     /// The clock of the event, above that of every earlier entry of its place.
     pub clock: u64,

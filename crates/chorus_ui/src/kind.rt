@@ -4,7 +4,7 @@ ghost use Rattle.std.specs.Prelude.{◌≡◌};
 ghost use Rattle.chorus_ui.specs.Kind.{kind_number, kind_letter, kind_with_number, kind_with_text};
 
 /// What a name is the name of. Actors, ports and port groups are those of the Chorus article of 1988.
-#[derive(Clone, Copy, Debug, PartialEq, Eq, PartialOrd, Ord)]
+#[derive(Clone, Copy, Debug, PartialEq, Eq)]
 pub enum Kind {
     /// A unit of resources, which stays on its site. In a name's text it is `a`.
     Actor = 1,

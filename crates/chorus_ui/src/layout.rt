@@ -12,7 +12,7 @@ use std::marker::Model;
 
 /// How many sites there are, from 1 to 16, and how many places per site: 1, 2 or 4. Places are numbered from 1, those of
 /// site 1 first. Places are this project's own.
-#[derive(Clone, Copy, Debug)]
+#[derive(Clone, Copy)]
 pub struct Layout {
     sites: u16,
     turns: u16,

@@ -1,7 +1,7 @@
-//! Tests of what reads a printed journal. Of `chorus_audit`: texts with the entries that they are the report of, or with the first line
-//! that fails and its rule, and how sources and sinks end an audit (`audit_ends`); of `chorus_picture`: whole pictures, and how sources and
-//! sinks end one (`pictures`). `ground` has the runs of both in memory. Of `chorus_show`: what is printed of the entries that the lines of a
-//! journal have, and their summary (`summaries`).
+//! Tests of what reads a journal, by public items alone. Of `chorus_checker`: journals worked out by hand (`journals`). Of `chorus_audit`:
+//! texts with the entries that they are the report of, or with the first line that fails and its rule, and how sources and sinks end an
+//! audit (`audit_ends`); of `chorus_picture`: whole pictures, and how sources and sinks end one (`pictures`). `ground` has the runs of both
+//! in memory. Of `chorus_show`: what is printed of the entries that the lines of a journal have, and their summary (`summaries`).
 #![tactic(auto)]
 
 #[cfg(test)]
@@ -11,7 +11,9 @@ mod drawings;
 #[cfg(test)]
 mod ground;
 #[cfg(test)]
-mod lines;
+mod journals;
+#[cfg(test)]
+mod parsed_lines;
 #[cfg(test)]
 mod pictures;
 #[cfg(test)]

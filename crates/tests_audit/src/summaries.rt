@@ -1,6 +1,6 @@
 //! Journals with their summaries, printed of the entries that their lines have.
 
-use crate::lines::entry_of;
+use crate::parsed_lines::entry_of;
 use chorus_entry::Entry;
 use chorus_show::{journal_text, summary_text};
 use std::alloc::Global;

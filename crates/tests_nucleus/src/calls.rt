@@ -4,7 +4,7 @@ ghost use Rattle.std.specs.Prelude.{◌≡◌};
 ghost use Rattle.chorus_nucleus.specs.Passes.{IsPassOf};
 
 use crate::ground::{actor_of, close, enter, port_of, retire, start};
-use crate::pass_calls::{Call, Told, first_group, play};
+use crate::played_calls::{Call, Told, first_group, play};
 use chorus_board::Located;
 use chorus_entry::{Answer, MsgId};
 use chorus_net::EnterFault;

@@ -95,15 +95,14 @@ pub(crate) fn chooser_of(rt: &impl Abort, alloc: Global, enabled: &[(u64, u8)]) 
     chooser
 }
 
-/// Asserts that behind a chooser's receives the first place's journal has so many entries, of which the one with this index has
-/// this act.
-fn assert_journal(rt: &impl Abort, closed: &Closed, length: usize, index: usize, act: &Act) {
+/// The act with this index in the first place's journal, which has eleven entries behind a chooser's receives.
+fn act_at<'a>(rt: &impl Abort, closed: &'a Closed, index: usize) -> &'a Act {
     let Some(journal) = closed.journals.first() else {
         panic!(rt; "no journal")
     };
-    assert!(rt; journal.len() == length);
+    assert!(rt; journal.len() == 11);
     match journal.get(index) {
-        Some(entry) => assert!(rt; entry.act == *act),
+        Some(entry) => &entry.act,
         None => panic!(rt; "no entry"),
     }
 }
@@ -133,10 +132,9 @@ fn receive_by_priority(rt: HostRuntime) {
     assert_all_given(&rt, &nucleus, &mut pass, &chooser, &wanted);
     assert_refuses(&rt, &mut chooser);
     let closed = close(&rt, nucleus, pass);
-    let act = Act::Empty {
-        port: port_of(&rt, 1, 2),
-    };
-    assert_journal(&rt, &closed, 11, 7, &act);
+    assert!(rt;
+        matches!(act_at(&rt, &closed, 7), Act::Empty { port } if *port == port_of(&rt, 1, 2))
+    );
 }
 
 /// The pass moves both ports of the chooser to another actor of their site.
@@ -167,6 +165,8 @@ fn equal_priorities_and_ports_of_others(rt: HostRuntime) {
     let closed = close(&rt, nucleus, pass);
     for (index, number) in [(9, 2), (10, 1)] {
         let port = port_of(&rt, 1, number);
-        assert_journal(&rt, &closed, 11, index, &Act::NotHere { port });
+        assert!(rt;
+            matches!(act_at(&rt, &closed, index), Act::NotHere { port: found } if *found == port)
+        );
     }
 }

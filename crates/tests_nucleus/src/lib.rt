@@ -15,6 +15,6 @@ mod handlers;
 #[cfg(test)]
 mod moving;
 #[cfg(test)]
-mod pass_calls;
+mod played_calls;
 #[cfg(test)]
 mod serving;

@@ -343,7 +343,7 @@ fn enter_two<R: Wait + Abort>(
     ((one, first), (other, second))
 }
 
-/// The caller of the site, which makes its share of the 32 ports that move.
+/// Enters the caller of the site into the nucleus: it makes its share of the 32 ports that move, on which a chooser receives.
 fn enter_one<R: Wait + Abort>(rt: &R, nucleus: &Nucleus, keeper: &mut Pass, site: u16) -> Pass
     requires { IsPassOf nucleus.now keeper.old }
     ensures keeper { IsPassOf nucleus.now keeper.new }

@@ -10,35 +10,17 @@ pub(crate) fn entry_of(rt: &impl Abort, alloc: Global, line: &str) -> Option<Ent
     parse_entry(alloc, line.as_bytes()).expect(rt, "memory")
 }
 
-/// Asserts that an audit parses this entry from the line.
-fn assert_entry(rt: &impl Abort, alloc: Global, line: &str, entry: Entry) {
-    let found = entry_of(rt, alloc, line).expect(rt, "an entry");
-    assert!(rt; found == entry, "{line}");
-}
-
-/// Asserts that two journal lines parse into their entries, one of them with the greatest numbers.
-fn assert_entries(rt: &impl Abort, alloc: Global) {
-    let no_call = Entry {
-        clock: 5,
-        place: 2,
-        seat: 30,
-        act: Act::NoCall,
-    };
-    assert_entry(rt, alloc, "5 2 30 no-call", no_call);
-    let late = Entry {
-        clock: u64::MAX,
-        place: u16::MAX,
-        seat: u32::MAX,
-        act: Act::Late { number: 0 },
-    };
-    let line = "18446744073709551615 65535 4294967295 late 0";
-    assert_entry(rt, alloc, line, late);
-}
-
 /// An audit parses a journal line into its entry, up to the greatest numbers.
 #[test]
 fn lines_have_their_entries(rt: HostRuntime) {
-    assert_entries(&rt, rt.alloc());
+    let line = "5 2 30 no-call";
+    let entry = entry_of(&rt, rt.alloc(), line).expect(&rt, "an entry");
+    assert!(rt; (entry.clock, entry.place, entry.seat) == (5, 2, 30));
+    assert!(rt; matches!(entry.act, Act::NoCall));
+    let line = "18446744073709551615 65535 4294967295 late 0";
+    let entry = entry_of(&rt, rt.alloc(), line).expect(&rt, "an entry");
+    assert!(rt; (entry.clock, entry.place, entry.seat) == (u64::MAX, u16::MAX, u32::MAX));
+    assert!(rt; matches!(entry.act, Act::Late { number: 0 }));
 }
 
 /// Asserts that the audit parses no entry from this line.
