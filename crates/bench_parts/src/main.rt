@@ -6,7 +6,7 @@
 //! sent and received a second.
 #![tactic(auto)]
 
-mod callers;
+mod measured_nucleus;
 mod peers;
 mod sites;
 mod two_sites;

@@ -9,7 +9,7 @@ ghost use Rattle.std.specs.Prelude.{◌≤◌};
 ghost use Rattle.std.specs.Thread.{IsSync};
 ghost use Rattle.chorus_nucleus.specs.Passes.{IsPassOf};
 
-use crate::callers::{actor_of, close, enter, make, port_of, pump, send, start, take};
+use crate::measured_nucleus::{actor_of, close, enter, make, port_of, pump, send, start, take};
 use chorus_entry::{Act, Entry};
 use chorus_nucleus::{Nucleus, Pass};
 use chorus_serve::Pump;

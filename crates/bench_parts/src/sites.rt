@@ -3,7 +3,7 @@
 ghost use Rattle.std.specs.Prelude.{◌≡◌, true};
 ghost use Rattle.chorus_entry.specs.Command.{meets_conditions, has_body_in_limit};
 
-use crate::callers::{BODY, actor_of, port_of};
+use crate::measured_nucleus::{BODY, actor_of, port_of};
 use chorus_entry::{Body, Command, Dest};
 use chorus_net::Sites;
 use chorus_ui::Layout;

@@ -8,6 +8,7 @@ mod groups;
 mod messages;
 mod places;
 mod seats;
+mod sending;
 
 use crate::tables::Tables;
 use chorus_entry::Entry;

@@ -125,7 +125,7 @@ impl Board {
     }
 }
 
-/// Shows the board's readers what is pending at its writer.
+/// A part of `Board::publish`: shows the board's readers what is pending at its writer.
 pub(crate) fn show<R: Wait>(writer: TableWriter, rt: &R) -> (TableWriter, Result<(), AllocError>)
     requires { IsReady writer.desk.shown.value (drop writer.behind writer.log.items) }
     ensures { IsShown (after_all writer.desk.shown.value (drop writer.behind writer.log.items))
@@ -135,7 +135,7 @@ pub(crate) fn show<R: Wait>(writer: TableWriter, rt: &R) -> (TableWriter, Result
     writer.publish_as::<Shows, R>(rt)
 }
 
-/// Shows the board's readers what is pending at its writer, which stays where it lies.
+/// The last part of `Board::publish`: shows the board's readers what is pending at its writer, which stays where it lies.
 fn show_in<R: Wait>(writer: &mut TableWriter, rt: &R) -> Result<(), AllocError>
     requires { IsReady writer.old.desk.shown.value (drop writer.old.behind writer.old.log.items) }
     ensures shown { writer.new.desk.shown.value

@@ -42,7 +42,7 @@ impl Frame {
         Ok(Frame { bytes })
     }
 
-    /// The packet.
+    /// The packet whose frame this is.
     pub fn unpack(&self) -> Result<Packet, AllocError>
         ensures packet { IfOk result (λ packet. packet ≡ self.now) }
         ensures ranges { IfOk result (λ packet. IsTrue (has_ranges packet)) }

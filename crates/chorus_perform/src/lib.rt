@@ -6,7 +6,7 @@
 //! stopped, each gave the first of its commands. What replies they got is the nucleus's, and that nothing is lost is
 //! what closing it tells.
 //!
-//! Begin with `performing`. `setup`, `entering`, `running` and `rounds` are its steps; `commands` performs the commands
+//! Begin with `performing`. `setup`, `coming`, `running` and `rounds` are its steps; `commands` performs the commands
 //! of a thread, `pumping` moves packets meanwhile and then, at the `pace` and the places, its `share`, that are those
 //! of the thread; `lately` leaves places out at which nothing was found, and `stay` says how long a thread stays at one.
 //! The threads that are done with their commands last go on to pump, follow packets from place to place, and help one
@@ -18,8 +18,8 @@
 #![tactic(auto)]
 
 mod at_work;
+mod coming;
 mod commands;
-mod entering;
 mod gate;
 mod lately;
 mod pace;

@@ -7,7 +7,7 @@ ghost use Rattle.chorus_perform.specs.Rounds.{IsEven};
 ghost use Rattle.chorus_perform.specs.Scripts.{HasPerformed, IsOpening};
 ghost use Rattle.chorus_perform.specs.Runners.{IsSetUp};
 
-use crate::entering::{enter, retire};
+use crate::coming::{enter, retire};
 use crate::gate::Gate;
 use crate::rounds::settle;
 use crate::running::perform_scripts;

@@ -114,7 +114,7 @@ pub(crate) fn load_port(site: u16) -> Ui
     Ui::new(site, Kind::Port, 1).unwrap()
 }
 
-/// The group of a load, which stands on the first site.
+/// The group that drawn commands send to, which stands on the first site.
 pub(crate) fn load_group() -> Ui
     ensures { result ≡ load_group }
 {

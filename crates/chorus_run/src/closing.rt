@@ -70,7 +70,7 @@ fn worn(alloc: Global, closed: Closed, clock: u64) -> Result<Played, AllocError>
     }
 }
 
-/// Whether an entry of the closed journals has the clock for which all stopped.
+/// Whether an entry of the closed journals of a run or a crew has the clock for which all stopped.
 fn has_entry(alloc: Global, closed: &Closed, clock: u64) -> Result<bool, AllocError>
     ensures { result ≡ Ok true → HasClock clock (merge_of closed.now) }
 {

@@ -7,13 +7,13 @@
 //!
 //! Begin with `specs/DrawnCrew/Sends.antt` (what is sent and counted), then `handling` and `drawn`.
 
+mod decimals;
 mod drawn;
 mod draws;
 mod filling;
 mod handling;
 mod names;
 mod text;
-mod value;
 
 pub use drawn::handle_drawn;
 pub use draws::DRAWS_LIMIT;

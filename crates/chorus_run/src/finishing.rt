@@ -59,7 +59,7 @@ fn parts_of<R: Threads + Sync>(
     report_parts(alloc, rt, &closed.journals)
 }
 
-/// Writes the parts of the report of what a run closed, and hands that out.
+/// Ends a run: writes the parts of the report of what it closed, and hands that out.
 fn print<K: Sink>(sink: &mut K, parts: &[Vec<u8>], closed: Closed) -> Finished
     ensures status { (result.status ≡ Status.Done) ⊎ (result.status ≡ Status.WriteFault) }
     ensures write_fault { result.status ≡ Status.WriteFault →

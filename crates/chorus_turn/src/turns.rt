@@ -47,7 +47,7 @@ impl<S: Kept> Turns<S> {
         self.table.slot_count()
     }
 
-    /// One turn at a place, on the seat of the pass alone.
+    /// One turn at a place of the table, on the seat of the pass alone.
     fn work<J: Job<S>>(
         &self,
         seat: &mut Held<S, S::Remark>,

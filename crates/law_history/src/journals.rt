@@ -4,7 +4,7 @@ ghost use Rattle.law_history.specs.Entries.{TurnsAppendEntries};
 ghost use Rattle.law_history.specs.Journals.{JournalsAreASchedule};
 ghost use Rattle.law_history.specs.Runs.{JournalsKeepPromises, JournalsMergeAsARun};
 
-/// Each turn that a place may take appends an entry with the clock that is noted of it, and perhaps newer ones.
+/// Each turn that a place may take appends to its journal an entry with the clock that is noted of it, and perhaps newer ones.
 ///
 /// All of them are of the place and of the caller in whose turn it is. The place keeps its layout and its number, the caller its
 /// seat and its actor.

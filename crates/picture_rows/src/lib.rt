@@ -6,12 +6,13 @@
 //! places stand. Marks stand apart ([`marks_stand_apart`]) and tell what happened ([`marks_tell_what_happened`]).
 //!
 //! Begin with `shapes`, which has what stands for an entry, a packet and a port. `column` has the columns, `edge` what
-//! each row has of their right edge, and `row_heights` how far down a row stands; `mark` has the shape of an entry
-//! and `lines` its line, as the journal has it; `tables` keeps what is asked of the entries before, so that a row costs about the same whatever went
-//! before.
+//! each row has of their right edge, and `row_heights` how far down a row stands; `mark` has the shape of an entry, `arrow`
+//! the kind of an arrow and its texts, and `lines` an entry's line, as the journal has it; `tables` keeps what is asked of the entries before,
+//! so that a row costs about the same whatever went before.
 
 #![tactic(auto)]
 
+mod arrow;
 mod column;
 mod edge;
 mod laws;

@@ -101,7 +101,7 @@ fn place_of(mark: u8, text: &[u8]) -> usize
     found_in(mark, text).unwrap_or(text.len())
 }
 
-/// The place of the first of these bytes in the line of an entry that is drawn.
+/// Where the first byte that is this mark stands in the line of an entry that is drawn.
 fn found_in(mark: u8, text: &[u8]) -> Option<usize>
     ensures { result ≡ position (λ c. c == mark) text.now }
 {

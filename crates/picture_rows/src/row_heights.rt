@@ -1,4 +1,4 @@
-//! Where rows stand from above.
+//! Where rows, and the heads between them, stand from above.
 
 ghost use Rattle.std.specs.Prelude.{◌≡◌, ◌<◌, ◌^◌};
 ghost use Rattle.picture_rows.specs.Rows.{end_y, heads, row_y};

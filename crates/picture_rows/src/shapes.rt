@@ -14,14 +14,15 @@ ghost use Rattle.picture_rows.specs.Pieces.{bar_open, ends_piece, spot_piece, te
 ghost use Rattle.picture_texts.specs.Filling.{markup, shown_act};
 ghost use Rattle.picture_texts.specs.Stretches.{is_special};
 
+use crate::arrow::{packet_of, packet_open, packet_title};
 use crate::column::{Column, column_at, x_at};
 use crate::edge::Edge;
 use crate::limits::ENTRIES_LIMIT;
 use crate::lines::{Line, next_line};
-use crate::mark::{mark_of, mark_open, mark_use, packet_of, packet_open, packet_title};
+use crate::mark::{mark_of, mark_open, mark_use};
 use crate::row_heights::row_y;
 use crate::tables::{Before, Tables};
-use chorus_entry::{Act, Entry};
+use chorus_entry::Entry;
 use chorus_ui::{Ui, push_decimal};
 use itoa::Buffer;
 use law_picture::{Bar, PacketKind, Row};

@@ -7,7 +7,8 @@ use std::process::Abort;
 use std::sync::Wait;
 use std::thread::Threads;
 
-/// What `run` prints of the scenario, with so many places a site: a lawful journal, in which nothing is on its way at the end.
+/// The journal and the summary that `run` prints of the scenario, with so many places a site: the journal is lawful, and at its end
+/// nothing is on its way.
 pub(crate) fn printed_by_run(
     rt: &(impl Abort + Threads + Wait + Sync),
     alloc: Global,

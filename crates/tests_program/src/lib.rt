@@ -19,7 +19,7 @@ mod ground;
 #[cfg(test)]
 mod journals;
 #[cfg(test)]
-mod movers;
+mod mover_scripts;
 #[cfg(test)]
 mod replays;
 #[cfg(test)]

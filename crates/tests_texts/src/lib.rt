@@ -2,13 +2,13 @@
 //!
 //! - `chorus_scene` and `chorus_print`: scenarios that were worked out by hand from the grammar, with what each is read and
 //!   printed as (`scenarios`), or the line and the reason for which it is refused (`refused`, `limits`); `rows` reads their tables.
-//! - `chorus_show`: the line of each act (`lines`), and that of a fault (`refused`).
+//! - `chorus_show`: the line of each act (`printed_lines`), and that of a fault (`refused`).
 #![tactic(auto)]
 
 #[cfg(test)]
 mod limits;
 #[cfg(test)]
-mod lines;
+mod printed_lines;
 #[cfg(test)]
 mod refused;
 #[cfg(test)]

@@ -10,9 +10,9 @@ ghost use Rattle.chorus_run.specs.DrawnCrew.Names.{crew_pairs};
 ghost use Rattle.chorus_run.specs.DrawnCrew.Value.{message_value};
 ghost use Rattle.chorus_run.specs.DrawnCrew.Takes.{HasAllNotes, HasCrewed};
 
+use crate::drawn_crew::decimals::Decimals;
 use crate::drawn_crew::filling::fill;
 use crate::drawn_crew::names::crew_pairs;
-use crate::drawn_crew::value::Decimals;
 use chorus_crew::{CrewFault, Handled, crew};
 use chorus_nucleus::{Nucleus, Pass};
 use chorus_perform::{Halted, Stopped};

@@ -5,7 +5,7 @@ use Rattle.chorus_nucleus.specs.Passes.{caller_of}
 use Rattle.chorus_perform.specs.declared.runner.Runner.{Runner}
 use Rattle.chorus_perform.specs.Runners.{AreEnding, IsEndingAt}
 use Rattle.chorus_perform.proofs.Leavings.{but-last, retired-step}
-use Rattle.chorus_perform.proofs.entering.retire.Goals as goal
+use Rattle.chorus_perform.proofs.coming.retire.Goals as goal
 
 pub loop-runner-preserved : goal.loop-runner-preserved
 loop-runner-preserved c =

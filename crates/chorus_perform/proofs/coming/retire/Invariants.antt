@@ -2,7 +2,7 @@ use Rattle.std.proofs.Common.{◌≤◌, ◌-◌}
 use Rattle.std.specs.Vec.{vec_len}
 use Rattle.chorus_nucleus.specs.Passes.{caller_of, IsPassOf}
 use Rattle.chorus_perform.specs.Runners.{AreEnding, HasRetired}
-use Rattle.chorus_perform.proofs.entering.retire.Given as goal
+use Rattle.chorus_perform.proofs.coming.retire.Given as goal
 
 abbrev pub decreases-loop-runner : goal.decreases-loop-runner
 decreases-loop-runner l = vec_len l.runners

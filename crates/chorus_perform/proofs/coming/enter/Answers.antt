@@ -4,7 +4,7 @@ use Rattle.chorus_calls.specs.Callers.{Seated}
 use Rattle.chorus_nucleus.specs.Passes.{caller_of, known}
 use Rattle.chorus_perform.specs.Runners.{AreEntered}
 use Rattle.chorus_perform.proofs.Comings.{found-at, begins-at, entered-also, entered-more, new-ready}
-use Rattle.chorus_perform.proofs.entering.enter.Goals as goal
+use Rattle.chorus_perform.proofs.coming.enter.Goals as goal
 
 pub loop-index-preserved : goal.loop-index-preserved
 loop-index-preserved c =

@@ -2,7 +2,7 @@ use Rattle.std.proofs.Common.{◌≡◌, ◌≤◌, length}
 use Rattle.std.specs.Vec.{vec_len, vec_capacity}
 use Rattle.chorus_nucleus.specs.Passes.{caller_of, IsPassOf}
 use Rattle.chorus_perform.specs.Runners.{HasEntered, AreEntered}
-use Rattle.chorus_perform.proofs.entering.enter.Given as goal
+use Rattle.chorus_perform.proofs.coming.enter.Given as goal
 
 abbrev pub invariant-loop-index : goal.invariant-loop-index
 invariant-loop-index l =
