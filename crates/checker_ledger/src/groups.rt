@@ -34,7 +34,7 @@ impl Model for Group {
 }
 
 impl Group {
-    /// The row of a group that no entry names.
+    /// The ledger's row of a group that no entry names.
     fn new(alloc: Global) -> Group
         ensures { result ≡ no_group }
     {
@@ -45,14 +45,14 @@ impl Group {
         }
     }
 
-    /// Whether the group of the row was made at the place.
+    /// Whether the group of the ledger's row was made at the place.
     pub(crate) fn is_made(&self) -> bool
         ensures { result ≡ self.now.made }
     {
         self.made
     }
 
-    /// The members in a group's row, in the order in which they joined.
+    /// The members in the ledger's row of a group, in the order in which they joined.
     pub(crate) fn members(&self) -> &[Ui]
         ensures value { result.now ≡ self.now.members }
         ensures row { IsGroupRow self.now }
@@ -60,14 +60,14 @@ impl Group {
         self.members.as_slice()
     }
 
-    /// The rotation place in a group's row.
+    /// The rotation place in the ledger's row of a group.
     pub(crate) fn rotation(&self) -> usize
         ensures { result ≡ self.now.rotation }
     {
         self.rotation
     }
 
-    /// The port joins in the group's row, as the last member. An error leaves the group as it was.
+    /// The port joins in the ledger's row of the group, as the last member. An error leaves the group as it was.
     fn join(&mut self, port: Ui) -> Result<(), AllocError>
         ensures ok { OnOk result (self.new ≡ joined port self.old) }
         ensures err { OnErr result (self.new ≡ self.old) }
@@ -76,8 +76,8 @@ impl Group {
         Ok(())
     }
 
-    /// The port leaves in the group's row: the members behind it close up, and the rotation place moves one back where
-    /// the port was before it.
+    /// The port leaves in the ledger's row of the group: the members behind it close up, and the rotation place moves one back
+    /// where the port was before it.
     fn leave(&mut self, port: Ui)
         ensures { self.new ≡ left port self.old }
     {
@@ -88,7 +88,8 @@ impl Group {
         }
     }
 
-    /// Moves the rotation place in the group's row behind the one member that was chosen. It stays where none or several were.
+    /// Moves the rotation place in the ledger's row of the group behind the one member that was chosen. It stays where none or
+    /// several were.
     fn turn(&mut self, chosen: &[Ui])
         ensures { self.new ≡ turned_by chosen.now self.old }
     {
@@ -119,7 +120,7 @@ pub fn choosing_place(layout: Layout, group: Ui, from: u16) -> u16
     }
 }
 
-/// The group whose row the act changes, where it makes, leaves or chooses of one.
+/// The group whose row in the ledger the act changes, where it makes, leaves or chooses of one.
 fn changed_group(act: &Act) -> Option<Ui>
     ensures { result ≡ changed_group act.now }
 {
@@ -131,7 +132,7 @@ fn changed_group(act: &Act) -> Option<Ui>
     }
 }
 
-/// The row of a group at a place; None where no entry of the place names it.
+/// The ledger's row of a group at a place; None where no entry of the place names it.
 pub(crate) fn group_at(groups: &HashMap<NameAt, Group>, place: u16, group: Ui) -> Option<&Group>
     ensures { option_copied result ≡
         get same_name_at groups.now (record { place = place; name = group }) }

@@ -20,7 +20,7 @@ use Rattle.law_machine.specs.PlaceState.{PlaceState}
 use Rattle.law_replay.specs.Shown.{race_of}
 use Rattle.chorus_scene.specs.Scene.{Scene, Script}
 use Rattle.chorus_net.specs.Sites.{net}
-use Rattle.chorus_explore.proofs.Likeness.Lists.{length-map}
+use Rattle.chorus_explore.proofs.AlikeSites.Lists.{length-map}
 use Rattle.chorus_explore.specs.declared.race_sites.Progress.{Progress}
 use Rattle.chorus_explore.specs.declared.race_sites.Stage.{Stage}
 use Rattle.chorus_explore.specs.Stages.{AreProgress, IsReached, comes, moves_of, position}

@@ -14,4 +14,4 @@ pub mod Alike
 pub mod Spares
 pub mod Happening
 pub mod Whole
-pub mod Likeness
+pub mod AlikeSites

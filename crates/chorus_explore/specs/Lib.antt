@@ -5,4 +5,4 @@ pub mod Searches
 pub mod Explored
 pub mod Ends
 pub mod Shown
-pub mod Likeness
+pub mod AlikeSites

@@ -14,8 +14,8 @@ use Rattle.law_network.specs.Network.{NetState, Event, Enter, Deliver, commanded
 use Rattle.law_network.specs.Network.{Act as Acts}
 use Rattle.law_network.specs.Schedules.{has_number_left, may_give}
 use Rattle.chorus_place.specs.Calls.{is_call}
-use Rattle.chorus_place.specs.CallTurns.{GaveWithinPosts}
-use Rattle.chorus_place.proofs.CallTurns.{act-within, work-within}
+use Rattle.chorus_place.specs.GivenPosts.{GaveWithinPosts}
+use Rattle.chorus_place.proofs.GivenPosts.{act-within, work-within}
 use Rattle.chorus_net.specs.Sites.{IsScheduled}
 
 -- Each caller of a schedule.

@@ -13,7 +13,7 @@ use Rattle.chorus_entry.specs.Places.{place_for}
 use Rattle.chorus_calls.specs.Callers.{Seated}
 use Rattle.law_machine.specs.declared.reply.Reply.{Reply}
 use Rattle.chorus_place.specs.Calls.{Place, is_call}
-use Rattle.chorus_place.specs.CallTurns.{GaveWithinPosts}
+use Rattle.chorus_place.specs.GivenPosts.{GaveWithinPosts}
 use Rattle.chorus_place.specs.declared.fault.PlaceFault.{PlaceFault}
 use Rattle.chorus_ruled_ends.specs.Ruled.{Ruled}
 use Rattle.chorus_serve.specs.declared.served.Pump.{Pump}

@@ -14,8 +14,8 @@ use Rattle.chorus_ui.specs.NameKind.{is_actor}
 use Rattle.chorus_calls.specs.Callers.{Seated, new_caller}
 use Rattle.law_machine.specs.PlaceState.{PlaceState}
 use Rattle.law_machine.specs.PlaceMachine.{begun, begun_by}
-use Rattle.chorus_place.specs.CallTurns.{GaveWithinPosts}
-use Rattle.chorus_place.proofs.CallTurns.{act-within, work-within}
+use Rattle.chorus_place.specs.GivenPosts.{GaveWithinPosts}
+use Rattle.chorus_place.proofs.GivenPosts.{act-within, work-within}
 use Rattle.chorus_turn.specs.declared.knowledge.Remarked.{Remarked}
 use Rattle.chorus_turn.specs.declared.knowledge.Placed.{Placed}
 use Rattle.chorus_turn.specs.declared.knowledge.Knowledge.{Knowledge}

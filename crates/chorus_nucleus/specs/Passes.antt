@@ -16,7 +16,7 @@ use Rattle.chorus_ruled_ends.specs.Ruled.{Ruled, links}
 use Rattle.chorus_board.specs.declared.reader.BoardReader.{BoardReader}
 use Rattle.chorus_board.specs.Boards as boards
 use Rattle.chorus_calls.specs.Callers.{Seated}
-use Rattle.chorus_place.specs.CallTurns.{GaveWithinPosts}
+use Rattle.chorus_place.specs.GivenPosts.{GaveWithinPosts}
 use Rattle.chorus_serve.specs.Desks.{seen}
 use Rattle.chorus_turn.specs.declared.knowledge.Note.{Note}
 use Rattle.chorus_turn.specs.declared.knowledge.Knowledge.{Knowledge}

@@ -1,6 +1,6 @@
 pub mod PlaceTables
 pub mod PlaceTurns
-pub mod CallTurns
+pub mod GivenPosts
 pub mod Ended
 pub mod Bounded
 pub mod Passing

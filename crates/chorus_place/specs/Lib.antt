@@ -1,5 +1,5 @@
 pub mod PlaceTables
 pub mod PlaceTurns
-pub mod CallTurns
+pub mod GivenPosts
 pub mod Calls
 pub mod Outcomes

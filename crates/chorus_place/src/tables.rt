@@ -50,15 +50,15 @@ use std::marker::Model;
 /// The tables of a place, and the packets that the turn has put so far, in order.
 #[derive(Drop)]
 pub struct Tables {
-    pub(crate) layout: Layout,
-    pub(crate) number: u16,
-    pub(crate) journal: Journal,
-    pub(crate) ports: Ports,
-    pub(crate) hints: Hints,
-    pub(crate) waits: Waits,
-    pub(crate) unheard: Unheard,
-    pub(crate) puts: VecDeque<Outgoing>,
-    pub(crate) out: Outbox,
+    layout: Layout,
+    number: u16,
+    journal: Journal,
+    ports: Ports,
+    hints: Hints,
+    waits: Waits,
+    unheard: Unheard,
+    puts: VecDeque<Outgoing>,
+    out: Outbox,
 }
 
 impl Model for Tables {

@@ -14,6 +14,6 @@ mod with_groups;
 
 pub(crate) use calls::{call, cancel, retry, send_reply};
 pub(crate) use messages::send_to_port;
-pub(crate) use of_packets::{Ready, is_lawful, make_ready, open};
+pub(crate) use of_packets::{is_lawful, make_ready, open};
 pub(crate) use ports::{delete, make, move_port, take};
 pub(crate) use with_groups::{join, leave, make_group, post_to_group};

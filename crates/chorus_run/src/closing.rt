@@ -78,7 +78,7 @@ fn has_entry(alloc: Global, closed: &Closed, clock: u64) -> Result<bool, AllocEr
     Ok(has_clock(&entries, clock))
 }
 
-/// Whether one of the merged entries of what was closed has the clock.
+/// Whether one of the merged entries of a run or a crew that was closed has the clock for which all stopped.
 fn has_clock(entries: &[&Entry], clock: u64) -> bool
     ensures { result ≡ true → HasClock clock (lent entries.now) }
 {

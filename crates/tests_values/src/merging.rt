@@ -47,7 +47,9 @@ fn assert_merged(
     let merged = merge(alloc, &journals(rt, alloc, rows)).expect(rt, "memory");
     assert!(rt; merged.len() == want.len());
     for (entry, row) in merged.iter().zip(want) {
-        assert!(rt; (entry.clock, entry.place, entry.seat) == *row);
+        assert!(rt;
+            (entry.clock, entry.place, entry.seat) == *row && matches!(entry.act, Act::NoCall)
+        );
     }
 }
 

@@ -2,7 +2,7 @@
 
 ghost use Rattle.std.specs.Prelude.{◌≡◌, ℕ, ◌≤◌, true, slice_get};
 ghost use Rattle.law_explore.specs.Alike.{CallerAlike, SameButLast};
-ghost use Rattle.chorus_explore.specs.Likeness.Places.{AreOfOneSeat};
+ghost use Rattle.chorus_explore.specs.AlikeSites.Places.{AreOfOneSeat};
 
 use crate::alike_sites::names::is_same_name;
 use chorus_calls::{Caller, Client};

@@ -4,7 +4,7 @@ ghost use Rattle.std.specs.Prelude.{◌≡◌, true, Some, None};
 ghost use Rattle.std.specs.Option.{option_copied};
 ghost use Rattle.place_unsettled.specs.Queues.{queue, key_at};
 ghost use Rattle.place_unsettled.specs.Unheard.{is_unheard};
-ghost use Rattle.chorus_explore.specs.Likeness.Places.{AreIn};
+ghost use Rattle.chorus_explore.specs.AlikeSites.Places.{AreIn};
 
 use crate::alike_sites::names::{is_same_layout, is_same_name, is_same_number, is_same_route};
 use crate::alike_sites::records::is_same_message;

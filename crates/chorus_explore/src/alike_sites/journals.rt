@@ -14,7 +14,7 @@ ghost use Rattle.chorus_world.specs.Messages.{verdict};
 ghost use Rattle.chorus_world.specs.Views.{is_group};
 ghost use Rattle.law_explore.specs.Outcome.{plain_answer, is_stale_at, made_by, made_in};
 ghost use Rattle.law_explore.specs.Positions.{TellAlike};
-ghost use Rattle.chorus_explore.specs.Likeness.Journals.{ids_of, Agree, AgreeAll, HaveSame, TellSame};
+ghost use Rattle.chorus_explore.specs.AlikeSites.Journals.{ids_of, Agree, AgreeAll, HaveSame, TellSame};
 
 use crate::alike_sites::names::{are_same_ids, are_same_names};
 use chorus_entry::{Act, Answer, Entry, MsgId};

@@ -3,7 +3,7 @@
 ghost use Rattle.std.specs.Prelude.{◌≡◌, true, ◌+◌, map, length, slice_get, None};
 ghost use Rattle.std.specs.Option.{option_copied, option_map};
 ghost use Rattle.place_outbox.specs.Waiting.{list_to};
-ghost use Rattle.chorus_explore.specs.Likeness.Packets.{plain, are_plain};
+ghost use Rattle.chorus_explore.specs.AlikeSites.Packets.{plain, are_plain};
 
 use crate::alike_sites::names::{is_same_name, is_same_number, is_same_route};
 use crate::alike_sites::records::{is_same_message, is_same_record};

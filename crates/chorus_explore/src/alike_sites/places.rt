@@ -2,7 +2,7 @@
 
 ghost use Rattle.std.specs.Prelude.{◌≡◌, ◌+◌, true, length, IfOk};
 ghost use Rattle.chorus_ui.specs.Layout.{places};
-ghost use Rattle.chorus_explore.specs.Likeness.Places.{SamePlace};
+ghost use Rattle.chorus_explore.specs.AlikeSites.Places.{SamePlace};
 
 use crate::alike_sites::hints_and_waits::{are_same_hints, are_same_unheard, are_same_waits};
 use crate::alike_sites::journals::are_told_alike;

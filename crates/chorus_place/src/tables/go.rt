@@ -51,7 +51,7 @@ impl Tables {
     }
 
     /// Lets one message after the other go, until one is tried at another place: `again` is a copy of that one.
-    pub(crate) fn go_on(&mut self, key: &Key, again: Option<Wait>, caller: &mut Caller)
+    fn go_on(&mut self, key: &Key, again: Option<Wait>, caller: &mut Caller)
         requires may { MayGo key.now self.old caller.old }
         requires again { again ≡ leaving key.now (state self.old) }
         ensures turn { turn self.new caller.new ≡

@@ -1,4 +1,4 @@
-//! What is read of a place.
+//! The tables of a place, read.
 
 ghost use Rattle.std.specs.Prelude.{◌≡◌, ◌^◌, ◌<◌, ◌≤◌, min, true, length, reverse, is_some, IsSome, IfOk, IfSome};
 ghost use Rattle.chorus_ui.specs.declared.ui.Ui.{Ui};
@@ -79,7 +79,7 @@ impl Tables {
     }
 
     /// Whether the port was made here.
-    pub fn is_made(&self, port: Ui) -> bool
+    pub(crate) fn is_made(&self, port: Ui) -> bool
         ensures { result ≡ is_made_here port self.now.journal.past }
     {
         self.journal.is_made(port)

@@ -1,4 +1,4 @@
-use Rattle.chorus_explore.proofs.Likeness.Lists.{SameBelow}
+use Rattle.chorus_explore.proofs.AlikeSites.Lists.{SameBelow}
 use Rattle.chorus_explore.proofs.level_search.are_same_moves.Given as goal
 
 -- those passed are the same

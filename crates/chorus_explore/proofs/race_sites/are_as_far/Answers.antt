@@ -1,7 +1,7 @@
 use Rattle.std.proofs.Common.{◌≡◌, length, map, slice_get, Some, refl, sym, ◌∙◌, ap, arith}
 use Rattle.std.specs.Option.{option_map}
 use Rattle.std.proofs.lemmas.Option.{slice_get_read}
-use Rattle.chorus_explore.proofs.Likeness.Lists.{below-next, get-map, length-map, same-up-to}
+use Rattle.chorus_explore.proofs.AlikeSites.Lists.{below-next, get-map, length-map, same-up-to}
 use Rattle.chorus_explore.specs.Tellings.{kept_of}
 use Rattle.chorus_explore.proofs.race_sites.are_as_far.Goals as goal
 

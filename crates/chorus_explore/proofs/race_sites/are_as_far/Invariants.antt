@@ -1,5 +1,5 @@
 use Rattle.std.proofs.Common.{map}
-use Rattle.chorus_explore.proofs.Likeness.Lists.{SameBelow}
+use Rattle.chorus_explore.proofs.AlikeSites.Lists.{SameBelow}
 use Rattle.chorus_explore.specs.Tellings.{kept_of}
 use Rattle.chorus_explore.proofs.race_sites.are_as_far.Given as goal
 

@@ -41,8 +41,8 @@ use Rattle.chorus_place.specs.declared.tables.copies.MemberCopy.{MemberCopy}
 use Rattle.chorus_place.specs.PlaceTables.Tables.{Tables, state, turn, IsPort, IsSound}
 use Rattle.chorus_place.specs.PlaceTables.Going.{leaving_to}
 use Rattle.chorus_place.specs.PlaceTables.Groups.{ports_of, when_free, free_leaving, going, waiting_for, AllGoing, members_of, with_each, HaveLines, IsCopy, chosen, leaving_with, courses_of, posted_alone}
-use Rattle.chorus_place.specs.declared.turns.with_groups.turns.Chosen.{Chosen}
-use Rattle.chorus_place.specs.PlaceTurns.WithGroups.GroupTurns.{IsReady, IsPrepared, IsAskReady, chosen_go, copies}
+use Rattle.chorus_place.specs.declared.turns.with_groups.group_turns.Chosen.{Chosen}
+use Rattle.chorus_place.specs.PlaceTurns.WithGroups.GroupTurns.{IsChoiceReady, IsPrepared, IsAskReady, chosen_go, copies}
 use Rattle.chorus_place.proofs.PlaceTables.Reports.{at-key}
 use Rattle.chorus_place.proofs.PlaceTables.Groups.{Agree, or-none, not-at, other-key, not-here, member-first, member-more, waiting-same, put-elsewhere}
 
@@ -121,7 +121,7 @@ max-same n = omega arith
 
 -- once the copies wait, their messages may go
 pub carries : (x : MsgId) (g : Ui) (home : ℕ) (made : Choice) (cs : List MemberCopy) (course : List Course) (p : Tables) (c : Seated) (u : Turn) (entries packets : ℕ)
-    → IsReady g home made cs course 1 p → greatest_clock (turn p c) ≤ 4611686018427387904 → u ≡ chosen x g home cs (turn p c)
+    → IsChoiceReady g home made cs course 1 p → greatest_clock (turn p c) ≤ 4611686018427387904 → u ≡ chosen x g home cs (turn p c)
     → entries ≡ p.journal.spare - 1 → p.room ≤ packets + 1 → AllGoing g (ports_of course) u u course entries packets
 carries x g home made cs course p c u entries packets h clock is spare rest =
     subst (λ v. AllGoing g (ports_of course) v v course entries packets) (sym is) (subst (λ xs. AllGoing g (ports_of xs) v v xs entries packets) (sym h.courses) ready)
@@ -195,7 +195,7 @@ pub all-ready : (m : Message) (d : Dest) (g : Ui) (home : ℕ) (p r now : Tables
     → made ≡ made_of all → qs ≡ all → All IsPort all → are_distinct all ≡ true → length all ≤ 32 → IsSound m → cs ≡ copies m d home 1 qs
     → count ≡ waiting_for g qs (queue p.waits) + length qs → count ≤ 4611686018427387904 → r.waits ≡ p.waits → count + 2 ≤ r.journal.spare → count + length qs + 1 ≤ r.room
     → now ≡ record r { waits = now.waits } → ((k : Key) → queue now.waits k ≡ queue r.waits k) → HaveLines g now.waits qs → course ≡ courses_of g (state now) cs
-    → IsReady g home made cs course 2 now
+    → IsChoiceReady g home made cs course 2 now
 all-ready m d g home p r now made qs all cs course count is same kinds distinct few sound copied counted within waits spare packet kept queues lines courses =
     record {
       chosen = is ∙ ap made_of (sym ms);
@@ -258,7 +258,7 @@ answered-ask m d g home cs t u v e same made done =
 pub one-group : (d : Dest) (g h : Ui) → group_in d ≡ Some g → group_in d ≡ Some h → g ≡ h
 one-group d g h e f = cc
 
-ready-less : (g : Ui) (home : ℕ) (made : Choice) (cs : List MemberCopy) (course : List Course) (p : Tables) → IsReady g home made cs course 2 p → IsReady g home made cs course 1 p
+ready-less : (g : Ui) (home : ℕ) (made : Choice) (cs : List MemberCopy) (course : List Course) (p : Tables) → IsChoiceReady g home made cs course 2 p → IsChoiceReady g home made cs course 1 p
 ready-less g home made cs course p h =
     let spare = h.spare in
     record { chosen = h.chosen; kinds = h.kinds; distinct = h.distinct; copied = h.copied; courses = h.courses; lines = h.lines; few = h.few; spare = omega (arith, spare); room = h.room }
@@ -276,11 +276,11 @@ ask-ready (Ok made) m d g home p now e same ready those =
 ask-ready (Err x) m d g home p now e same ready those = tt
 
 -- the post was made, and all is still ready
-pub ready-posted : (g : Ui) (home : ℕ) (made : Choice) (cs : List MemberCopy) (course : List Course) (p now : Tables) → IsReady g home made cs course 2 p
-    → now ≡ record p { journal = now.journal } → now.journal.spare ≡ p.journal.spare - 1 → IsReady g home made cs course 1 now
+pub ready-posted : (g : Ui) (home : ℕ) (made : Choice) (cs : List MemberCopy) (course : List Course) (p now : Tables) → IsChoiceReady g home made cs course 2 p
+    → now ≡ record p { journal = now.journal } → now.journal.spare ≡ p.journal.spare - 1 → IsChoiceReady g home made cs course 1 now
 ready-posted g home made cs course p now h is entries =
     let spare = h.spare in
-    subst (IsReady g home made cs course 1) (sym is)
+    subst (IsChoiceReady g home made cs course 1) (sym is)
     (record { chosen = h.chosen; kinds = h.kinds; distinct = h.distinct; copied = h.copied; courses = h.courses; lines = h.lines; few = h.few; spare = omega (arith, spare, entries); room = h.room })
 
 same-choice : (m : Message) (d : Dest) (t : Turn) → choice d (posted_alone m d t).place ≡ choice d t.place

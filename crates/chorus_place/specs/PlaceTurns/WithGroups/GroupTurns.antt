@@ -15,7 +15,7 @@ use Rattle.law_machine.specs.PlaceState.{Turn}
 use Rattle.law_machine.specs.Choosing.{all_go, copy, choice}
 use Rattle.chorus_place.specs.declared.tables.copies.Course.{Course}
 use Rattle.chorus_place.specs.declared.tables.copies.MemberCopy.{MemberCopy}
-use Rattle.chorus_place.specs.declared.turns.with_groups.turns.Chosen.{Chosen}
+use Rattle.chorus_place.specs.declared.turns.with_groups.group_turns.Chosen.{Chosen}
 use Rattle.chorus_place.specs.PlaceTables.Tables.{Tables, state, IsPort}
 use Rattle.chorus_place.specs.PlaceTables.Groups.{waiting_for, members_of, HaveLines, IsCopy, courses_of, no_member, chosen}
 
@@ -25,7 +25,7 @@ copies m d home number [] = []
 copies m d home number (q ∷ qs) = record { port = q; wait = copy m d home number } ∷ copies m d home (number + 1) qs
 
 -- all is ready for this choice: `entries` more than the messages need that wait
-pub record IsReady (g : Ui) (home : ℕ) (choice : Choice) (copies : List MemberCopy) (course : List Course) (entries : ℕ)
+pub record IsChoiceReady (g : Ui) (home : ℕ) (choice : Choice) (copies : List MemberCopy) (course : List Course) (entries : ℕ)
     (p : Tables) : Type 0 where
   pub chosen : choice ≡ made_of (members_of copies)
   pub kinds : All IsPort (members_of copies)
@@ -39,7 +39,7 @@ pub record IsReady (g : Ui) (home : ℕ) (choice : Choice) (copies : List Member
 
 -- this choice is ready
 abbrev pub IsPrepared : Ui → ℕ → Chosen → ℕ → Tables → Type 0
-IsPrepared g home made entries p = IsReady g home made.choice made.copies.items made.courses.items entries p
+IsPrepared g home made entries p = IsChoiceReady g home made.choice made.copies.items made.courses.items entries p
 
 -- this choice is ready for a post that the place `home` asks for
 pub record IsAskReady (home : ℕ) (m : Message) (d : Dest) (made : Chosen) (p : Tables) : Type 0 where

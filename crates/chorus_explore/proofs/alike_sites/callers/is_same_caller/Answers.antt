@@ -1,5 +1,5 @@
 use Rattle.std.proofs.Common.{refl, sym, ◌∙◌}
-use Rattle.chorus_explore.proofs.Likeness.Networks.{same-caller}
+use Rattle.chorus_explore.proofs.AlikeSites.Networks.{same-caller}
 use Rattle.chorus_explore.proofs.alike_sites.callers.is_same_caller.Goals as goal
 
 pub returns : goal.returns

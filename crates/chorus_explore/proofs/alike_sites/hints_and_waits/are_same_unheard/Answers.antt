@@ -1,5 +1,5 @@
 use Rattle.std.proofs.Common.{refl}
-use Rattle.chorus_explore.proofs.Likeness.Kept.{same-unheard}
+use Rattle.chorus_explore.proofs.AlikeSites.Kept.{same-unheard}
 use Rattle.chorus_explore.proofs.alike_sites.hints_and_waits.are_same_unheard.Goals as goal
 
 pub returns : goal.returns

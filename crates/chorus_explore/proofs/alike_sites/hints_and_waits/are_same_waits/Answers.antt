@@ -1,8 +1,8 @@
 use Rattle.std.proofs.Common.{refl, ◌≡◌, Some, sym, ◌∙◌, subst, arith}
 use Rattle.place_unsettled.specs.declared.wait.Key.{Key}
 use Rattle.place_unsettled.specs.Queues.{queue, key_at}
-use Rattle.chorus_explore.proofs.Likeness.Kept.{same-queues, from-some}
-use Rattle.chorus_explore.proofs.Likeness.Lists.{below-next}
+use Rattle.chorus_explore.proofs.AlikeSites.Kept.{same-queues, from-some}
+use Rattle.chorus_explore.proofs.AlikeSites.Lists.{below-next}
 use Rattle.chorus_explore.proofs.alike_sites.hints_and_waits.are_same_waits.Goals as goal
 
 pub returns-in_default : goal.returns-in_default

@@ -1,6 +1,6 @@
 use Rattle.std.proofs.Common.{refl, sym, ◌∙◌, arith}
 use Rattle.place_unsettled.specs.Queues.{queue}
-use Rattle.chorus_explore.proofs.Likeness.Lists.{same-up-to}
+use Rattle.chorus_explore.proofs.AlikeSites.Lists.{same-up-to}
 use Rattle.chorus_explore.proofs.alike_sites.hints_and_waits.is_same_queue.Goals as goal
 
 pub returns : goal.returns

@@ -1,5 +1,5 @@
 use Rattle.place_unsettled.specs.Queues.{queue}
-use Rattle.chorus_explore.proofs.Likeness.Lists.{SameBelow}
+use Rattle.chorus_explore.proofs.AlikeSites.Lists.{SameBelow}
 use Rattle.chorus_explore.proofs.alike_sites.hints_and_waits.is_same_queue.Given as goal
 
 -- those passed are the same

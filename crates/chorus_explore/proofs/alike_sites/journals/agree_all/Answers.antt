@@ -1,7 +1,7 @@
 use Rattle.std.proofs.Common.{subst, All, take_all, arith}
 use Rattle.std.proofs.lemmas.List.Elements.{All-more}
 use Rattle.chorus_entry.specs.declared.entry.Entry.{Entry}
-use Rattle.chorus_explore.specs.Likeness.Journals.{Agree}
+use Rattle.chorus_explore.specs.AlikeSites.Journals.{Agree}
 use Rattle.chorus_explore.proofs.alike_sites.journals.agree_all.Goals as goal
 
 pub loop-entry-preserved : goal.loop-entry-preserved

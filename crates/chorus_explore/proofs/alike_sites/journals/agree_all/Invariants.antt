@@ -1,5 +1,5 @@
 use Rattle.std.proofs.Common.{take}
-use Rattle.chorus_explore.specs.Likeness.Journals.{AgreeAll}
+use Rattle.chorus_explore.specs.AlikeSites.Journals.{AgreeAll}
 use Rattle.chorus_explore.proofs.alike_sites.journals.agree_all.Given as goal
 
 -- they agree on what the entries passed name

@@ -1,6 +1,6 @@
 use Rattle.std.proofs.Common.{◌++◌, reverse, sym, ◌∙◌, ap}
 use Rattle.chorus_world.specs.GroupLaws.{copies_of}
-use Rattle.chorus_explore.specs.Likeness.Journals.{ids_of}
+use Rattle.chorus_explore.specs.AlikeSites.Journals.{ids_of}
 use Rattle.chorus_explore.proofs.alike_sites.journals.are_same_copies.Goals as goal
 
 pub returns : goal.returns

@@ -1,6 +1,6 @@
 use Rattle.std.proofs.Common.{◌≡◌, ◌++◌, reverse, take}
 use Rattle.chorus_world.specs.GroupLaws.{copies_of}
-use Rattle.chorus_explore.specs.Likeness.Journals.{ids_of}
+use Rattle.chorus_explore.specs.AlikeSites.Journals.{ids_of}
 use Rattle.chorus_explore.proofs.alike_sites.journals.push_copies.Given as goal
 
 -- those that the entries passed make

@@ -1,7 +1,7 @@
 use Rattle.std.proofs.Common.{◌≡◌, ◌+◌, ◌++◌, drop}
 use Rattle.chorus_ui.specs.declared.ui.Ui.{Ui}
 use Rattle.chorus_world.specs.Places.{copies}
-use Rattle.chorus_explore.specs.Likeness.Journals.{ids_of}
+use Rattle.chorus_explore.specs.AlikeSites.Journals.{ids_of}
 use Rattle.chorus_explore.proofs.alike_sites.journals.push_each.Given as goal
 
 -- what is left completes them

@@ -1,6 +1,6 @@
 use Rattle.std.proofs.Common.{refl, ◌≡◌, ◌≤◌, ◌+◌, [], length, map, slice_get, sym, ◌∙◌, arith}
-use Rattle.chorus_explore.specs.Likeness.Packets.{are_plain}
-use Rattle.chorus_explore.proofs.Likeness.Lists.{same-up-to, below-next, map-at, length-map}
+use Rattle.chorus_explore.specs.AlikeSites.Packets.{are_plain}
+use Rattle.chorus_explore.proofs.AlikeSites.Lists.{same-up-to, below-next, map-at, length-map}
 use Rattle.chorus_explore.proofs.alike_sites.packets.are_same_packets.Goals as goal
 
 pub loop-to-preserved : goal.loop-to-preserved

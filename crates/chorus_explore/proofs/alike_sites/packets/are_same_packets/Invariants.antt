@@ -1,6 +1,6 @@
 use Rattle.std.proofs.Common.{map}
-use Rattle.chorus_explore.specs.Likeness.Packets.{are_plain}
-use Rattle.chorus_explore.proofs.Likeness.Lists.{SameBelow}
+use Rattle.chorus_explore.specs.AlikeSites.Packets.{are_plain}
+use Rattle.chorus_explore.proofs.AlikeSites.Lists.{SameBelow}
 use Rattle.chorus_explore.proofs.alike_sites.packets.are_same_packets.Given as goal
 
 -- the lists passed carry the same

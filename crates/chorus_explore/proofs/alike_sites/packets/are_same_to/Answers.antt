@@ -1,8 +1,8 @@
 use Rattle.std.proofs.Common.{refl, ◌≡◌, slice_get, sym, ◌∙◌, ap, arith}
 use Rattle.std.specs.Option.{option_map}
 use Rattle.place_outbox.specs.Waiting.{list_to}
-use Rattle.chorus_explore.specs.Likeness.Packets.{plain, are_plain}
-use Rattle.chorus_explore.proofs.Likeness.Lists.{same-till-none, below-next, get-map}
+use Rattle.chorus_explore.specs.AlikeSites.Packets.{plain, are_plain}
+use Rattle.chorus_explore.proofs.AlikeSites.Lists.{same-till-none, below-next, get-map}
 use Rattle.chorus_explore.proofs.alike_sites.packets.are_same_to.Goals as goal
 
 pub returns-then-is_none_at : goal.returns-then-is_none_at

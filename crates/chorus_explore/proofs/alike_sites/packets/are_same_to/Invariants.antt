@@ -1,6 +1,6 @@
 use Rattle.place_outbox.specs.Waiting.{list_to}
-use Rattle.chorus_explore.specs.Likeness.Packets.{are_plain}
-use Rattle.chorus_explore.proofs.Likeness.Lists.{SameBelow}
+use Rattle.chorus_explore.specs.AlikeSites.Packets.{are_plain}
+use Rattle.chorus_explore.proofs.AlikeSites.Lists.{SameBelow}
 use Rattle.chorus_explore.proofs.alike_sites.packets.are_same_to.Given as goal
 
 -- those passed carry the same

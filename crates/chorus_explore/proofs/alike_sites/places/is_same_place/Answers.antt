@@ -5,8 +5,8 @@ use Rattle.place_unsettled.specs.Queues.{queue}
 use Rattle.place_unsettled.specs.Unheard.{is_unheard}
 use Rattle.chorus_ports.specs.Table.{Table}
 use Rattle.chorus_place.specs.Calls.{Place}
-use Rattle.chorus_explore.specs.Likeness.Packets.{are_plain}
-use Rattle.chorus_explore.proofs.Likeness.Networks.{same-tables}
+use Rattle.chorus_explore.specs.AlikeSites.Packets.{are_plain}
+use Rattle.chorus_explore.proofs.AlikeSites.Networks.{same-tables}
 use Rattle.chorus_explore.proofs.alike_sites.places.is_same_place.Goals as goal
 
 pub are_same_packets-requires-clause-one : goal.are_same_packets-requires-clause-one

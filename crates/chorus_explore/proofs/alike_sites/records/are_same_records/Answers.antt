@@ -1,5 +1,5 @@
 use Rattle.std.proofs.Common.{arith}
-use Rattle.chorus_explore.proofs.Likeness.Lists.{same-up-to}
+use Rattle.chorus_explore.proofs.AlikeSites.Lists.{same-up-to}
 use Rattle.chorus_explore.proofs.alike_sites.records.are_same_records.Goals as goal
 
 pub returns : goal.returns

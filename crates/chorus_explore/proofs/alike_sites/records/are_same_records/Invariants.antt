@@ -1,4 +1,4 @@
-use Rattle.chorus_explore.proofs.Likeness.Lists.{SameBelow}
+use Rattle.chorus_explore.proofs.AlikeSites.Lists.{SameBelow}
 use Rattle.chorus_explore.proofs.alike_sites.records.are_same_records.Given as goal
 
 -- those passed are the same

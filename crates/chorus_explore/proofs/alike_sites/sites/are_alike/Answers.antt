@@ -3,9 +3,9 @@ use Rattle.chorus_ui.specs.Layout.{places}
 use Rattle.chorus_calls.specs.Callers.{Seated}
 use Rattle.chorus_place.specs.Calls.{Place}
 use Rattle.law_explore.specs.Alike.{CallerAlike}
-use Rattle.chorus_explore.specs.Likeness.Places.{SamePlace}
-use Rattle.chorus_explore.proofs.Likeness.Lists.{below-next}
-use Rattle.chorus_explore.proofs.Likeness.Networks.{read-place, read-alike, as-many, nets-alike}
+use Rattle.chorus_explore.specs.AlikeSites.Places.{SamePlace}
+use Rattle.chorus_explore.proofs.AlikeSites.Lists.{below-next}
+use Rattle.chorus_explore.proofs.AlikeSites.Networks.{read-place, read-alike, as-many, nets-alike}
 use Rattle.chorus_explore.proofs.alike_sites.sites.are_alike.Goals as goal
 
 pub is_same_place-requires-clause-layout : goal.is_same_place-requires-clause-layout

@@ -1,6 +1,6 @@
 use Rattle.std.proofs.Common.{ℕ, ◌≡◌, ◌<◌, Some, slice_get}
 use Rattle.chorus_place.specs.Calls.{Place}
-use Rattle.chorus_explore.specs.Likeness.Places.{SamePlace}
+use Rattle.chorus_explore.specs.AlikeSites.Places.{SamePlace}
 use Rattle.chorus_explore.proofs.alike_sites.sites.are_alike.Given as goal
 
 -- the places passed are alike

@@ -1,6 +1,6 @@
 use Rattle.chorus_place.specs.PlaceTables.Tables.{state, turn}
 use Rattle.chorus_place.proofs.PlaceTurns.WithGroups.GroupTurns.{carries, carried}
-use Rattle.chorus_place.proofs.turns.with_groups.turns.carry_out.Goals as goal
+use Rattle.chorus_place.proofs.turns.with_groups.group_turns.carry_out.Goals as goal
 
 pub go_all-requires : goal.go_all-requires
 go_all-requires c =

@@ -24,7 +24,7 @@ use Rattle.chorus_world.specs.Views.{makes_group, is_group}
 use Rattle.chorus_groups.specs.Groups as table
 use Rattle.law_explore.specs.Outcome.{plain_answer, is_stale_by, is_stale_at, made_by}
 use Rattle.law_explore.specs.Positions.{TellAlike}
-use Rattle.chorus_explore.specs.Likeness.Journals.{ids_of, TellSame, HaveSame, Agree, AgreeAll}
+use Rattle.chorus_explore.specs.AlikeSites.Journals.{ids_of, TellSame, HaveSame, Agree, AgreeAll}
 
 abbrev pub AgreeEach : List Entry → List Entry → List Entry → Type 0
 AgreeEach j k [] = Unit {0}

@@ -3,7 +3,7 @@ use Rattle.law_machine.specs.Doing.{choosing_place}
 use Rattle.chorus_place.specs.PlaceTables.Tables.{state, turn}
 use Rattle.chorus_place.proofs.PlaceTables.Going.{eq-yes}
 use Rattle.chorus_place.proofs.PlaceTurns.WithGroups.GroupTurns.{sent-here}
-use Rattle.chorus_place.proofs.turns.with_groups.turns.post_to_group.Goals as goal
+use Rattle.chorus_place.proofs.turns.with_groups.group_turns.post_to_group.Goals as goal
 
 pub returns-then-place-number-clause-performed : goal.returns-then-place-number-clause-performed
 returns-then-place-number-clause-performed c =

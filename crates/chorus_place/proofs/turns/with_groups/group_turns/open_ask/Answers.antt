@@ -2,7 +2,7 @@ use Rattle.std.proofs.Common.{refl, subst, sym, ◌∙◌}
 use Rattle.chorus_place.specs.PlaceTables.Tables.{turn}
 use Rattle.chorus_place.specs.PlaceTurns.WithGroups.GroupTurns.{IsPrepared}
 use Rattle.chorus_place.proofs.PlaceTurns.WithGroups.GroupTurns.{answered-ask, one-group}
-use Rattle.chorus_place.proofs.turns.with_groups.turns.open_ask.Goals as goal
+use Rattle.chorus_place.proofs.turns.with_groups.group_turns.open_ask.Goals as goal
 
 pub carry_out-requires-clause-ready : goal.carry_out-requires-clause-ready
 carry_out-requires-clause-ready c =

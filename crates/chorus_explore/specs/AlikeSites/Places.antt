@@ -8,7 +8,7 @@ use Rattle.place_unsettled.specs.Unheard.{post_at, copies_of}
 use Rattle.chorus_place.specs.Calls.{Place, state}
 use Rattle.law_explore.specs.Alike.{PlaceAlike}
 use Rattle.law_explore.specs.Positions.{TellAlike}
-use Rattle.chorus_explore.specs.Likeness.Packets.{are_plain}
+use Rattle.chorus_explore.specs.AlikeSites.Packets.{are_plain}
 
 -- of each post of the ones the others keep the same
 abbrev pub AreIn : List (Post × Copies) → List (Post × Copies) → Type 0

@@ -15,9 +15,9 @@ use Rattle.chorus_net.specs.Sites.{to_place, waiting_from, all_waiting, net, Sit
 use Rattle.chorus_net.proofs.Changes.{place-of}
 use Rattle.law_explore.specs.Alike.{SameButLast, CallerAlike, PlacesAlike, NetsAlike, unclocked}
 use Rattle.law_explore.specs.Positions.{TellAlike}
-use Rattle.chorus_explore.specs.Likeness.Packets.{plain, are_plain}
-use Rattle.chorus_explore.specs.Likeness.Places.{SamePlace}
-use Rattle.chorus_explore.proofs.Likeness.Lists.{some}
+use Rattle.chorus_explore.specs.AlikeSites.Packets.{plain, are_plain}
+use Rattle.chorus_explore.specs.AlikeSites.Places.{SamePlace}
+use Rattle.chorus_explore.proofs.AlikeSites.Lists.{some}
 
 -- Callers.
 

@@ -11,7 +11,7 @@ use Rattle.place_unsettled.specs.declared.unheard.Copies.{Copies}
 use Rattle.place_unsettled.specs.Queues.{Row, queue, empty_row, same_key, key_at}
 use Rattle.place_unsettled.specs.Unheard.{same_post, post_of, is_open, is_unheard, post_at, copies_of}
 use Rattle.place_unsettled.proofs.Keys.{same_row}
-use Rattle.chorus_explore.specs.Likeness.Places.{AreIn}
+use Rattle.chorus_explore.specs.AlikeSites.Places.{AreIn}
 
 -- What waits.
 

@@ -1,4 +1,4 @@
--- Calls, and what the caller keeps of them. c is the caller.
+-- How many call numbers a caller gave. c is the caller.
 use Rattle.std.specs.Prelude.{◌≤◌}
 use Rattle.chorus_calls.specs.Callers.{Seated}
 

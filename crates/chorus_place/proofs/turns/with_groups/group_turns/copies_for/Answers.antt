@@ -1,7 +1,7 @@
 use Rattle.std.proofs.Common.{◌++◌, ◌∷◌, [], take, ap, sym, ◌∙◌, arith}
 use Rattle.chorus_place.specs.PlaceTurns.WithGroups.GroupTurns.{copies}
 use Rattle.chorus_place.proofs.PlaceTurns.WithGroups.GroupTurns.{copies-more}
-use Rattle.chorus_place.proofs.turns.with_groups.turns.copies_for.Goals as goal
+use Rattle.chorus_place.proofs.turns.with_groups.group_turns.copies_for.Goals as goal
 
 pub loop-at-preserved : goal.loop-at-preserved
 loop-at-preserved c =

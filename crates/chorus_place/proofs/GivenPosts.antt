@@ -1,4 +1,4 @@
--- What the machine does on a command with calls, by what its code found.
+-- A turn of a caller gives a call number only with a post.
 -- t is the turn before, u the turn after, m a message, q a port, c the caller.
 use Rattle.std.proofs.Common.{◌≡◌, ℕ, ◌+◌, ◌≤◌, ◌==◌, ◌&&◌, Bool, true, false, cond, Option, Some, None, List, [], ◌∷◌, refl, sym, ◌∙◌, ap, subst, arith}
 use Rattle.chorus_ui.specs.declared.ui.Ui.{Ui}
@@ -31,9 +31,9 @@ use Rattle.law_machine.specs.Replies.{post_reply}
 use Rattle.chorus_place.specs.PlaceTables.Commands.{Performed}
 use Rattle.chorus_place.specs.PlaceTables.Steps.{posted, told_by}
 use Rattle.chorus_place.specs.PlaceTables.Tables.{Tables, turn}
-use Rattle.chorus_place.specs.CallTurns.{GaveWithinPosts}
+use Rattle.chorus_place.specs.GivenPosts.{GaveWithinPosts}
 
--- A turn gives a call number only with a post: what it leaves of a caller's calls and posts.
+-- what a turn leaves of a caller's calls and posts
 
 abbrev calls : Turn → Calling × ℕ
 calls t = (t.caller.client, t.caller.posts)

@@ -6,7 +6,7 @@ use Rattle.chorus_place.specs.PlaceTables.Tables.{state}
 use Rattle.chorus_place.specs.PlaceTables.Groups.{HaveLines, waiting_for}
 use Rattle.chorus_place.specs.PlaceTurns.WithGroups.GroupTurns.{copies}
 use Rattle.chorus_place.proofs.PlaceTurns.WithGroups.GroupTurns.{chosen-list, kinds-copies, all-ready}
-use Rattle.chorus_place.proofs.turns.with_groups.turns.prepare.Goals as goal
+use Rattle.chorus_place.proofs.turns.with_groups.group_turns.prepare.Goals as goal
 
 pub courses_for-requires : goal.courses_for-requires
 courses_for-requires c =

@@ -6,7 +6,7 @@ use Rattle.law_machine.specs.Choosing.{choice}
 use Rattle.chorus_place.specs.PlaceTables.Tables.{Tables, state, turn}
 use Rattle.chorus_place.specs.PlaceTables.Groups.{members_of}
 use Rattle.chorus_place.proofs.PlaceTurns.WithGroups.GroupTurns.{on-err, posted-here, posted-clock, members-copies, ready-posted}
-use Rattle.chorus_place.proofs.turns.with_groups.turns.post_here.Goals as goal
+use Rattle.chorus_place.proofs.turns.with_groups.group_turns.post_here.Goals as goal
 
 pub returns-in_err-chosen-clause-refused : goal.returns-in_err-chosen-clause-refused
 returns-in_err-chosen-clause-refused c = on-err _ _ (c.prepare.ensures.turn c.args.caller.now)

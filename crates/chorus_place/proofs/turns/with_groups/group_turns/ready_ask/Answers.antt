@@ -1,6 +1,6 @@
 use Rattle.std.proofs.Common.{sym, ◌∙◌}
 use Rattle.chorus_place.proofs.PlaceTurns.WithGroups.GroupTurns.{ask-ready}
-use Rattle.chorus_place.proofs.turns.with_groups.turns.ready_ask.Goals as goal
+use Rattle.chorus_place.proofs.turns.with_groups.group_turns.ready_ask.Goals as goal
 
 pub returns-clause-ready : goal.returns-clause-ready
 returns-clause-ready c =
