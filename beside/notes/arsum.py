@@ -1,6 +1,6 @@
 import sys,re,collections
 for c in sys.argv[1:]:
-    p=f'TEAM/gateVd6P/gate/crates/{c}/out/rlib/{c}.rlib/toolchain/checked.a'
+    p=f'TEAM/g1/crates/{c}/out/rlib/{c}.rlib/toolchain/checked.a'
     b=open(p,'rb').read(); o=8; names=b''; k=collections.Counter(); n=collections.Counter(); big=[]
     while o<len(b):
         h=b[o:o+60]; nm=h[:16].decode().strip(); sz=int(h[48:58]); d=o+60
