@@ -11,8 +11,8 @@ use law_network::Placed;
 
 /// What is left when the sites, or the places at which threads took turns, are closed.
 ///
-/// Its origin is private: [`Sites::close`](crate::Sites::close) alone makes one of sites, and [`Closed::of`] one of places at which
-/// passes took turns, which needs what is left of the pass that closed them.
+/// Its origin is private: [`Sites::close`](crate::Sites::close) and [`Sites::restart`](crate::Sites::restart) alone make one of sites,
+/// and [`Closed::of`] one of places at which passes took turns, which needs what is left of the pass that closed them.
 #[derive(Drop)]
 pub struct Closed {
     /// The journal of each place, by place, in order.
@@ -28,7 +28,7 @@ pub struct Closed {
 /// What a `Closed` was made by.
 #[derive(Drop)]
 pub(crate) enum Origin {
-    /// `Sites::close`.
+    /// `Sites::close` or `Sites::restart`.
     Sites,
     /// `Closed::of`, of the pass that closed the places, and the clock that the caller gave as worn.
     Turns {

@@ -62,7 +62,8 @@ impl Sites {
     }
 
     /// Takes the sites apart and starts them again: what is left of them, and sites of the same layout on which nothing happened yet.
-    /// Of the places only those on which something happened take memory. The only error is want of memory.
+    /// Of the places only those on which something happened take memory. The only error is want of memory: then the sites are gone, with
+    /// all that is left of them.
     pub fn restart(self, alloc: Global) -> Result<(Closed, Sites), AllocError>
         ensures closed { IfOk result (λ r. IsClosed (net self) r.0) }
         ensures started { IfOk result (λ r. net r.1 ≡ just_started self.layout) }
@@ -162,7 +163,7 @@ impl Sites {
     /// Performs a command of the seat at its place, and gives the reply.
     ///
     /// It is refused as worn exactly where the greater of the place's and the seat's last clocks is at least 2^62, and else only
-    /// for want of memory. A refusal changes nothing.
+    /// for want of memory. A refusal changes nothing, and drops the command.
     pub fn act(&mut self, seat: u32, command: Command) -> Result<Reply, PlaceFault>
         requires { may_happen (Act seat command) (net self.old) ≡ true }
         ensures ok { OnOk result (net self.new ≡ happened (Act seat command) (net self.old)) }

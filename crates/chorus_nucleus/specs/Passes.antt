@@ -62,11 +62,6 @@ row_at p rows = readers_in (slice_get rows (p - 1))
 abbrev pub readers_at : ℕ → Pass → ℕ
 readers_at p pass = length (row_at p pass.sight.spare.items)
 
--- the entries that the reader has seen, if there is one
-abbrev pub seen_by : Option BoardReader → List Entry
-seen_by None = []
-seen_by (Some r) = boards.entries_seen r
-
 -- the home place of an actor of the layout
 abbrev pub home_of : Layout → Seated → ℕ
 home_of l w = creation_place l w.actor

@@ -74,7 +74,8 @@ impl Nucleus {
     }
 
     /// What became of the message, which the caller posted itself: it looks at the journal of the caller's home place, in one turn.
-    /// Another seat's id is `Unknown`. The only fault is `Busy`. Takes no memory.
+    /// Another seat's id is `Unknown`. The only fault is `Busy`. Takes no memory. It reads that journal from end to end, and has the
+    /// place meanwhile.
     pub fn outcome(&self, pass: &mut Pass, id: MsgId) -> Result<Outcome, CallFault>
         requires { IsPassOf self.now pass.old }
         ensures { IsOutcome self.now id pass.old pass.new result }

@@ -1,10 +1,10 @@
-//! Why a call did nothing.
+//! Why a call was refused.
 
 use std::alloc::AllocError;
 use thiserror::Error;
 
-/// Why a call did nothing. The caller is then as it was and the pass made nothing; after `Memory` and `Worn` it may have seen more of
-/// the place's journal.
+/// Why a call was refused. No entry was appended, and the caller is as it was; after `Memory` and `Worn` the pass may have seen more of
+/// the place's journal. A pump may have moved packets before it was refused, and a publish may have published a beginning.
 #[derive(Clone, Copy, Debug, PartialEq, Eq, Error)]
 pub enum CallFault {
     /// Another pass had the place: the number of the one that held it at the call's one try.

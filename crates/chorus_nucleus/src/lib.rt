@@ -1,10 +1,10 @@
 //! The nucleus of running threads: the places of a layout, at which callers take turns.
 //!
-//! Each call is one turn at one place and tries that place once. A command waits for nobody; `pump`, `publish` and `close` may wait. The
-//! layer above rests on this: a call that answers has appended the entries that the place machine gives, of which the first is the
-//! command's own act; a pump works off one packet as that machine does, or adds nothing; a publish or a locate tells where ports are
-//! without an entry; and what a closed nucleus hands out is the network of every schedule of its turns, so that the merge of its
-//! journals is a run of the world.
+//! A command, a look at an outcome, a pump and a publish are one turn each, at one place, which they try once; only `take_when_free`
+//! tries again. A command waits for nobody; `start`, `pump`, `publish`, `close` and `take_when_free` may wait. The layer above rests on
+//! this: a call that answers has appended the entries that the place machine gives, of which the first is the command's own act; a pump
+//! works off one packet as that machine does, or adds nothing; a publish or a locate tells where ports are without an entry; and what a
+//! closed nucleus hands out is the network of every schedule of its turns, so that the merge of its journals is a run of the world.
 //!
 //! `site_turns` has the state at which callers take turns, and a job for each kind of turn.
 //!

@@ -13,6 +13,9 @@ use chorus_ui::{Kind, Ui};
 use std::mem;
 
 /// The leave to take turns at the places of one nucleus, in the name of a caller.
+///
+/// A pass ends by [`Nucleus::retire`](crate::Nucleus::retire) or [`Nucleus::close`](crate::Nucleus::close); where one is dropped, its
+/// nucleus can never be closed.
 #[derive(Drop)]
 pub struct Pass {
     pub(crate) turner: Turner<Remark>,
@@ -71,7 +74,8 @@ impl Pass {
         self.turner.keeper()
     }
 
-    /// How many numbers the keeper of the nucleus has drawn, at most 1,048,576; 0 for any other pass.
+    /// How many numbers the keeper of the nucleus has drawn, its first one included, at most 1,048,576; 0 for any other pass. The nucleus
+    /// can be closed once `ended` is one less.
     pub fn made(&self) -> u32
         ensures { result ≡ (known self.now).made }
     {

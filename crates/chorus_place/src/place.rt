@@ -157,8 +157,8 @@ impl Place {
     /// they cause wait to go.
     ///
     /// It is refused as worn exactly where the greater of the place's and the caller's last clocks is at least 2^62, and else only
-    /// for want of memory. A refusal changes nothing. Before a command that posts the caller has posted fewer than 2^32 - 1
-    /// messages, and before a call its client has given fewer than 2^32 - 1 numbers.
+    /// for want of memory. A refusal changes nothing, and drops the command. Before a command that posts the caller has posted fewer
+    /// than 2^32 - 1 messages, and before a call its client has given fewer than 2^32 - 1 numbers.
     pub fn act(&mut self, caller: &mut Caller, command: Command) -> Result<Reply, PlaceFault>
         requires may { MayCall (state self.old) caller.old command }
         requires posts { is_post command ≡ true → caller.old.posts < u32.MAX }

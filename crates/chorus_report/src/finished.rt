@@ -11,8 +11,8 @@ use chorus_show::Status;
 pub struct Finished {
     /// Whether it did all, or why it did not.
     pub status: Status,
-    /// What was left when the sites, or the places of threads, were closed: of a replay, a load and a run Some exactly at `Done`,
-    /// `WriteFault` and `Worn`. Of what plays no scenario and no load it is None.
+    /// What was left when the sites, or the places of threads, were closed: of a replay, a load, a run and a crew Some exactly at
+    /// `Done`, `WriteFault` and `Worn`. Of any other call it is None.
     pub closed: Option<Closed>,
 }
 

@@ -179,7 +179,8 @@ impl<E: Ends> Desk<E> {
         self.place.reserve(more)
     }
 
-    /// Performs a caller's command as [`Place::act`] does. What it puts waits behind what waited; it touches no link.
+    /// Performs a caller's command as [`Place::act`] does, which drops a command that it refuses. What it puts waits behind what waited;
+    /// it touches no link.
     pub fn act(&mut self, caller: &mut Caller, command: Command) -> Result<Reply, PlaceFault>
         requires may { MayCall (state self.old.place) caller.old command }
         requires posts { is_post command ≡ true → caller.old.posts < u32.MAX }

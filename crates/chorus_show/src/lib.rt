@@ -1,8 +1,9 @@
 //! The texts that are written: the journal, its summary, and the line of a fault. They are this project's own.
 //!
-//! Each text has one definition, `specs/Lines.antt` for the forty lines of a journal above all, and the calls here append
-//! exactly its bytes, or nothing where there is no memory. The program prints with these calls, and the reader of a printed
-//! journal stands on the laws that a line has one entry and is read back.
+//! Each text has one definition, `specs/Lines.antt` for the forty lines of a journal above all, and the calls here append exactly its
+//! bytes; for want of memory nothing, but that those named `push_..` may leave a part. The program prints with these calls, but for the
+//! line of a fault, which `chorus_program` writes without memory. The reader of a printed journal stands on the laws that a line has
+//! one entry and is read back.
 //!
 //! Begin with [`entry_line`].
 

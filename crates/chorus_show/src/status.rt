@@ -49,7 +49,7 @@ impl Status {
     }
 }
 
-/// Appends the line, with its LF, that says what went wrong, and nothing at `Done`. An error leaves `out` as it was.
+/// Appends the fault line of the status, with its LF, and nothing at `Done`. An error leaves `out` as it was.
 pub fn fault_text(status: Status, out: &mut Vec<u8>) -> Result<(), AllocError>
     ensures ok { OnOk result (out.new.items ≡ out.old.items ++ fault_line status) }
     ensures err { OnErr result (out.new.items ≡ out.old.items) }
@@ -59,7 +59,7 @@ pub fn fault_text(status: Status, out: &mut Vec<u8>) -> Result<(), AllocError>
     out.extend_from_slice(&line)
 }
 
-/// Appends the line, with its LF, that says what went wrong, and nothing at `Done`. After an error a part of it may stand there.
+/// Appends the fault line of the status, with its LF, and nothing at `Done`. After an error a part of it may stand there.
 fn push_fault(status: Status, out: &mut Vec<u8>) -> Result<(), AllocError>
     ensures { OnOk result (out.new.items ≡ out.old.items ++ fault_line status) }
 {

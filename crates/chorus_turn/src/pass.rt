@@ -8,7 +8,8 @@ use atomic_table::Badge;
 
 /// The leave to take turns at the places of one table, with a number (a seat) of its own.
 ///
-/// A pass ends by `Turns::retire` or `Turns::close`. What its caller knows stands in contracts alone.
+/// A pass ends by `Turns::retire` or `Turns::close`; where one is dropped, the places can never be closed. What its caller knows stands
+/// in contracts alone.
 #[derive(Drop)]
 pub struct Pass<R> {
     pub(crate) badge: Badge<View<R>>,
