@@ -49,7 +49,7 @@ impl Chooser {
     }
 
     /// Receives, and where there was no message waits for a ring and receives again. While another pass has a place it
-    /// tries the same take again, so it never answers `Busy` and begins no round anew.
+    /// tries the same take again, so it never answers `Busy` and begins no round anew. Where no port is enabled it never returns.
     ///
     /// `parks` counts the waits, each of which took one token; at 4,294,967,295 it goes on without counting. At a fault
     /// the tokens that it took are spent and the entries of its rounds stand.

@@ -107,6 +107,7 @@ worked-alone value l q (Ok t) v u none w = record {
   took = w.took;
   rest = w.last ∷ [];
   vain = All-cons (IsMiss q) w.last [] w.missed (All-nil (IsMiss q));
+  few = omega arith;
   acts = made-acts (took_acts q w.took ++ w.last ∷ []) v u none w.appends;
 }
 worked-alone value l q (Err f) v u none w = record {
@@ -114,6 +115,7 @@ worked-alone value l q (Err f) v u none w = record {
   took = w.took;
   rest = [];
   vain = All-nil (IsMiss q);
+  few = omega arith;
   acts = made-acts (took_acts q w.took) v u none w.appends ∙ sym (append-nil (took_acts q w.took));
 }
 
@@ -129,7 +131,7 @@ done-alone value n index seat (p ∷ pairs) (j ∷ jobs) (x ∷ dones) e d =
     (All-cons (λ (m : Note PlaceNote). TookAlone m.mine) (note_of (known x.pass)) (notes_of (passes_of dones)) (worked-alone value (layout_of n) j.port x.result (known j.pass) (known x.pass) e.0.nothing d.0.work.work) more.0, ap suc more.1)
 
 fresh-alone : (n : Nucleus) (index seat : ℕ) (p : Ui × Ui) (j : Job) → IsEntered n index seat p j → TookAlone (known j.pass).mine
-fresh-alone n index seat p j e = record { port = p.0; took = []; rest = []; vain = All-nil (IsMiss p.0); acts = ap acts_made e.nothing }
+fresh-alone n index seat p j e = record { port = p.0; took = []; rest = []; vain = All-nil (IsMiss p.0); few = omega arith; acts = ap acts_made e.nothing }
 
 pub fresh-all : (n : Nucleus) (index seat : ℕ) (pairs : List (Ui × Ui)) (jobs : List Job) → AreEntered n index seat pairs jobs → All (λ (j : Job). IsPlain n j.pass × TookAlone (known j.pass).mine) jobs
 fresh-all n index seat [] [] e = All-nil (λ (j : Job). IsPlain n j.pass × TookAlone (known j.pass).mine)

@@ -1,6 +1,6 @@
 -- How the passes of jobs end in the caller's.
 -- n is the nucleus, `ended` are the passes that were retired, in this order.
-use Rattle.std.specs.Prelude.{ℕ, ◌≡◌, ◌+◌, Bool, true, false, ◌&&◌, Option, Some, List, [], ◌∷◌, ◌++◌, length, map, Result, Ok, Err}
+use Rattle.std.specs.Prelude.{ℕ, ◌≡◌, ◌≤◌, ◌+◌, Bool, true, false, ◌&&◌, Option, Some, List, [], ◌∷◌, ◌++◌, length, map, Result, Ok, Err}
 use Rattle.std.specs.List.{All}
 use Rattle.std.specs.Option.{option_or}
 use Rattle.chorus_ui.specs.declared.ui.Ui.{Ui}
@@ -64,12 +64,13 @@ pub record TakesIn (n : Nucleus) (old new : Pass) (ended : List Pass) : Type 0 w
   pub sees : SeesMore (known old) (known new)
   pub seen : All (λ (p : Pass). SeesMore (known p) (known new)) ended
 
--- the pass made nothing but takes of one port, and maybe one in vain at the end
+-- the pass made nothing but takes of one port, and at most one in vain at the end
 pub record TookAlone (made : List (Placed PlaceNote)) : Type 0 where
   pub port : Ui
   pub took : List TakenMessage
   pub rest : List Act
   pub vain : All (IsMiss port) rest
+  pub few : length rest ≤ 1
   pub acts : acts_made made ≡ took_acts port took ++ rest
 
 -- the caller's pass is still the keeper, and each pass that was drawn ended in it: so the numbers drawn, less the

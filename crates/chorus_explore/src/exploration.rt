@@ -20,7 +20,8 @@ pub enum ExploreFault {
     Worn { clock: u64 },
 }
 
-/// Goes over the schedules of the scenario, and carries out so many events at most: gives the text of what may come.
+/// Goes over the schedules of the scenario, and carries out so many events at most: gives the text of what may come. Events that are
+/// done again, to come back to a position or to compare two, do not count.
 ///
 /// At `all` nothing is missing; at `some`, where a limit was met, of the events or of the moves of a history, what is told
 /// may come all the same. Worn comes only where a schedule wears that clock; want of memory is free.

@@ -13,7 +13,7 @@ use chorus_ui::Layout;
 use std::alloc::Global;
 
 /// Reads the source to its end, goes over the schedules of the scenario that it gives for this layout, and writes what
-/// may come of them, as [`explore_scenario`] tells it; `most` is how many events are carried out at most.
+/// may come of them, as [`explore_scenario`] tells it; `most` is how many events are carried out at most, those apart that are done again.
 ///
 /// A text that is refused ends it with its line and reason, a clock that some schedule wears with that clock; then
 /// nothing is written. Want of memory is the one ending without a cause.

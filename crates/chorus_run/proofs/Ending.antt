@@ -54,7 +54,7 @@ plays-all n c v closed same keeps performed even h =
     let done = plays-done c shape keeps true (known v) performed closed closes refl even' in
     record {
       plays = (done, plays-write c shape keeps true (known v) performed closed closes refl even');
-      origin = is-of-nucleus n v closed h performed.first;
+      origin = is-of-nucleus n v closed h performed.seat performed.first;
       high = λ clock is. no-clock clock is;
       entry = λ clock is. no-clock clock is;
       of_pass = λ clock is. no-clock clock is;
@@ -72,7 +72,7 @@ played-worn n c v closed clock same keeps performed h high entry worn =
     let first = plays-first c (subst IsLayout (sym same) h.shape) keeps false (known v) performed closed closes clock in
     record {
       plays = first;
-      origin = is-of-nucleus n v closed h performed.first;
+      origin = is-of-nucleus n v closed h performed.seat performed.first;
       high = λ k is. subst (λ m. CLOCK_LIMIT ≤ m) (some-is clock k is) high;
       entry = λ k is. subst (λ m. HasClock m (merge_of closed)) (some-is clock k is) entry;
       of_pass = λ k is. closed-worn n v closed h ∙ worn ∙ is;

@@ -82,5 +82,5 @@ is-closed-by n last closed h = record {
     shows : (p : ℕ) (journal : List Entry) → slice_get (closed_journals closed) p ≡ Some journal → Shows (p + 1) (known last) (h.closes.log (p + 1))
     shows p journal found = let count = journals-of n last closed h in let lt = inside (closed_journals closed) p journal found in h.closes.tells.shows p (omega (arith, lt, count))
 
-pub is-of-nucleus : (n : Nucleus) (last : Pass) (closed : Closed) → IsClosed n last closed → IsSetUpFirst (known last) → IsOfNucleus n closed
-is-of-nucleus n last closed h first = record { last = last; by_last = is-closed-by n last closed h; first = first }
+pub is-of-nucleus : (n : Nucleus) (last : Pass) (closed : Closed) → IsClosed n last closed → (known last).seat ≡ 0 → IsSetUpFirst (known last) → IsOfNucleus n closed
+is-of-nucleus n last closed h opening first = record { last = last; by_last = is-closed-by n last closed h; opening = opening; first = first }

@@ -41,11 +41,12 @@ pub record IsClosedBy (n : Nucleus) (last : Pass) (closed : Closed) : Type 0 whe
   pub own : HasOwnIn closed (known last).seat (known last).mine
   pub noted : All (λ (m : Note PlaceNote). HasOwnIn closed m.seat m.mine) (known last).notes
 
--- It is this nucleus that was closed, by one of its passes. What that pass itself was asked, the setup, stands before
+-- It is this nucleus that was closed, by the pass of seat 0. What that pass itself was asked, the setup, stands before
 -- all that the others made.
 pub record IsOfNucleus (n : Nucleus) (closed : Closed) : Type 0 where
   pub last : Pass
   pub by_last : IsClosedBy n last closed
+  pub opening : (known last).seat ≡ 0
   pub first : IsSetUpFirst (known last)
 
 -- where a clock was worn it is that of the pass that closed the nucleus

@@ -43,7 +43,7 @@ pub fn close_unused<R: Wait>(rt: &R, nucleus: Nucleus, pass: Pass)
 }
 
 /// What is left of a run or a crew that stopped: what was closed, where all stopped for a clock that an entry of it
-/// has.
+/// has. Else, and for want of memory, the error is that of memory, and what was closed is dropped.
 pub fn stop(alloc: Global, closed: Closed, why: Stopped) -> Result<Played, AllocError>
     ensures { IfOk result (λ played. StopsAt why closed played) }
 {

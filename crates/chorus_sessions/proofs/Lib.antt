@@ -6,4 +6,5 @@ pub mod Quiet
 pub mod Holding
 pub mod Steps
 pub mod Comings
+pub mod Seats
 pub mod Standing

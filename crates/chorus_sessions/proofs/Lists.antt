@@ -3,7 +3,7 @@
 use Rattle.std.proofs.Common.{ℕ, zero, suc, ◌≡◌, ◌<◌, ◌⊎◌, inl, inr, Bool, true, false, cond, List, [], ◌∷◌, ◌++◌, map, length, reverse, Some, slice_get, slice_index_or, refl, sym, ◌∙◌, ap, subst, arith}
 use Rattle.std.specs.List.{All, filter}
 use Rattle.std.proofs.lemmas.List.{reverse-append}
-use Rattle.std.proofs.lemmas.List.Elements.{All-head, All-tail}
+use Rattle.std.proofs.lemmas.List.Elements.{All-nil, All-cons, All-head, All-tail, All-weaker}
 
 module _ {X : Type 0} where
   abbrev pub In : X → List X → Type 0
@@ -54,6 +54,10 @@ module _ {X : Type 0} where
   all-in P x [] h a = absurd a
   all-in P x (y ∷ xs) h (inl is) = subst P is (All-head P y xs h)
   all-in P x (y ∷ xs) h (inr a) = all-in P x xs (All-tail P y xs h) a
+
+  pub each-in : (xs : List X) → All (λ (x : X). In x xs) xs
+  each-in [] = All-nil (λ (x : X). In x [])
+  each-in (y ∷ xs) = All-cons (λ (x : X). In x (y ∷ xs)) y xs (inl refl) (All-weaker (λ (x : X). In x xs) (λ (x : X). In x (y ∷ xs)) (λ x there. inr there) xs (each-in xs))
 
   pub in-reverse : (x : X) (xs : List X) → In x xs → In x (reverse xs)
   in-reverse x [] a = absurd a

@@ -40,12 +40,13 @@ use Rattle.chorus_nucleus.specs.Runs.{IsARun}
 use Rattle.chorus_nucleus.proofs.Running.{a-closed-nucleus-is-a-run}
 use Rattle.chorus_sessions.specs.declared.hand.Hand.{Hand}
 use Rattle.chorus_sessions.specs.declared.hand.PortMessage.{PortMessage}
-use Rattle.chorus_sessions.specs.Sessions.{IsRunOf}
-use Rattle.chorus_sessions.specs.Hands.{hands_out, entries_made, HandNothingOut, AreHandedOut, AreKept, IsInSomeHand, IsKept}
-use Rattle.chorus_sessions.proofs.Lists.{In, in-filter, in-filter-back, in-filter-holds, in-map, in-map-back, in-reverse, in-row, all-in, get-low, get-or, get-some}
+use Rattle.chorus_sessions.specs.Sessions.{HasAllBack, IsRunOf}
+use Rattle.chorus_sessions.specs.Hands.{hands_out, entries_made, AreHandedOut, AreKept, IsInSomeHand, IsKept}
+use Rattle.chorus_sessions.proofs.Lists.{In, in-filter, in-filter-back, in-filter-holds, in-map, in-map-back, in-reverse, in-row, all-in, each-in, get-low, get-or, get-some}
 use Rattle.chorus_sessions.proofs.Received.{in-so, stands-so, one-entry}
 use Rattle.chorus_sessions.proofs.Once.{received-once}
 use Rattle.chorus_sessions.proofs.Positions.{has-position}
+use Rattle.chorus_sessions.proofs.Seats.{one-index}
 
 count-numbers : (m p : ℕ) → length (numbers m p) ≡ m
 count-numbers zero p = refl
@@ -69,7 +70,7 @@ same-test p k h = grind (arith, nat_tests)
 same-number : (p k : ℕ) → (p == k) ≡ true → p ≡ k
 same-number p k h = grind (arith, nat_tests)
 
-module _ (n : Nucleus) (pass : Pass) (c : Closed) (h : IsClosed n pass c) (is : IsPassOf n pass) (quiet : HandNothingOut (known pass).mine) where
+module _ (n : Nucleus) (pass : Pass) (c : Closed) (h : IsClosed n pass c) (is : IsPassOf n pass) (back : HasAllBack pass) where
   abbrev l : Layout
   l = layout_of n
 
@@ -199,7 +200,7 @@ module _ (n : Nucleus) (pass : Pass) (c : Closed) (h : IsClosed n pass c) (is : 
   out-own : (p : ℕ) (hands : List Hand) → by_seat v.seat (h.closes.log p) ≡ at_place p v.mine → Out p hands v.seat
   out-own p hands own r q m x there same act =
       let z = by-it p v.seat v.mine own r there same in
-      let none = all-in (λ (z : Placed PlaceNote). hands_out z.remarked.entry.act ≡ false) z.0 v.mine quiet z.2 in
+      let none = all-in (λ (z : Placed PlaceNote). hands_out z.remarked.entry.act ≡ false) z.0 v.mine back.quiet z.2 in
       absurd (false≢true (sym none ∙ ap (λ (r : Remarked PlaceNote). hands_out r.entry.act) z.1 ∙ ap hands_out act))
 
   behind : (q : Ui) (m : ℕ) (x : MsgId) (hand : Hand) (hands : List Hand) → IsInSomeHand q m x hands → IsInSomeHand q m x (hand ∷ hands)
@@ -239,6 +240,23 @@ module _ (n : Nucleus) (pass : Pass) (c : Closed) (h : IsClosed n pass c) (is : 
   kept-at [] (other ∷ hands) all a hand found = absurd all
   kept-at (note ∷ notes) [] all a hand found = absurd all
 
+  -- the seat of a hand is that of its note
+  seat-at : (notes : List (Note PlaceNote)) (hands : List Hand) → AreKept notes hands → (a : ℕ) (hand : Hand) → slice_get hands a ≡ Some hand → slice_get (seats_of notes) a ≡ Some hand.seat
+  seat-at [] [] all a hand found = absurd (cc)
+  seat-at (note ∷ notes) (other ∷ hands) all zero hand found = let same : other ≡ hand = cc in ap Some (all.0.seat_is ∙ ap (λ (x : Hand). x.seat) same)
+  seat-at (note ∷ notes) (other ∷ hands) all (suc a) hand found = seat-at notes hands all.1 a hand found
+  seat-at [] (other ∷ hands) all a hand found = absurd all
+  seat-at (note ∷ notes) [] all a hand found = absurd all
+
+  -- and no seat stands twice: they are as many as numbers were drawn, and each of these is among them
+  one-hand : (hands : List Hand) → AreKept v.notes hands → (a b : ℕ) (first other : Hand) → slice_get hands a ≡ Some first → slice_get hands b ≡ Some other → first.seat ≡ other.seat → a ≡ b
+  one-hand hands all a b first other here there same =
+      let seats = v.seat ∷ seats_of v.notes in
+      let long : length seats ≡ length v.notes + 1 = ap suc (length-map v.notes (λ (k : Note PlaceNote). k.seat)) ∙ omega arith in
+      let every : (q : ℕ) → q < length seats → In q seats = λ q low. All-contains (λ (k : ℕ). In k seats) seats q (each-in seats) (h.closes.tells.every q (omega (arith, low, long, back.ended))) in
+      let is = one-index seats (suc a) (suc b) other.seat every (seat-at v.notes hands all a first here ∙ ap Some same) (seat-at v.notes hands all b other there) in
+      omega (arith, is)
+
   pub are-handed-out : (hands : List Hand) → AreKept v.notes hands → AreHandedOut (past_of c) hands
   are-handed-out hands all = record {
     each = λ a i hand got here found.
@@ -259,7 +277,7 @@ module _ (n : Nucleus) (pass : Pass) (c : Closed) (h : IsClosed n pass c) (is : 
         let one-here = out k.0 first k.1 k.2 i x found in
         let one-there = out m.0 other m.1 m.2 j y found' in
         let equal = same-entry x y (k.2.holds.entry i) (m.2.holds.entry j) one-here.0 one-there.0 (k.2.holds.by i x found).act (m.2.holds.by j y found').act same in
-        sym one-here.1 ∙ ap (λ (e : Entry). e.seat) equal ∙ one-there.1);
+        one-hand hands all a b first other here there (sym one-here.1 ∙ ap (λ (e : Entry). e.seat) equal ∙ one-there.1));
     none_lost = λ e q m x stands act. lost-none hands all e q m x (in-so e (past_of c) stands) act;
   }
 

@@ -42,8 +42,8 @@ abbrev pub IsInSomeHand : Ui → ℕ → MsgId → List Hand → Type 0
 IsInSomeHand q n x hands =
     (a : ℕ) × (hand : Hand) × (slice_get hands a ≡ Some hand) × IsInHand q n x hand.taken.items
 
--- Each message in a hand was handed out to its seat; none is there twice, and none is in the hand of another seat; and
--- each message that was handed out, by any port, is in a hand.
+-- Each message in a hand was handed out to its seat; none is there twice, and none is in another hand; and each message
+-- that was handed out, by any port, is in a hand.
 pub record AreHandedOut (past : List Entry) (hands : List Hand) : Type 0 where
   pub each : (a i : ℕ) (hand : Hand) (got : PortMessage) → slice_get hands a ≡ Some hand
       → slice_get hand.taken.items i ≡ Some got → WasHandedOut past hand.seat got
@@ -52,7 +52,7 @@ pub record AreHandedOut (past : List Entry) (hands : List Hand) : Type 0 where
       → i ≡ j
   pub alone : (a b i j : ℕ) (one other : Hand) (m k : PortMessage) → slice_get hands a ≡ Some one
       → slice_get hands b ≡ Some other → slice_get one.taken.items i ≡ Some m
-      → slice_get other.taken.items j ≡ Some k → m.message.id ≡ k.message.id → one.seat ≡ other.seat
+      → slice_get other.taken.items j ≡ Some k → m.message.id ≡ k.message.id → a ≡ b
   pub none_lost : (e : Entry) (q : Ui) (n : ℕ) (x : MsgId) → StandsIn e past → e.act ≡ Act.Take q n x
       → IsInSomeHand q n x hands
 

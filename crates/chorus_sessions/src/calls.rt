@@ -19,7 +19,7 @@ use chorus_ui::Ui;
 use law_machine::Outcome;
 
 impl Session {
-    /// Gives any command but a take, as [`Nucleus::act`] does.
+    /// A call: gives any command but a take, by one turn at one place, as [`Nucleus::act`] does.
     #[tactic(auto, using(crate::proofs::Steps::sessions))]
     pub fn act(&mut self, nucleus: &Nucleus, command: &Command) -> Result<Reply, CallFault>
         requires session { IsSession nucleus.now self.old }
@@ -50,7 +50,8 @@ impl Session {
         nucleus.send(&mut self.pass, Dest::Port(port), body)
     }
 
-    /// What became of a message that the session posted, as [`Nucleus::outcome`] tells.
+    /// What became of a message that the session posted, as [`Nucleus::outcome`] tells, which reads the journal of the session's home
+    /// place from end to end.
     #[tactic(auto, using(crate::proofs::Steps::sessions))]
     pub fn outcome(&mut self, nucleus: &Nucleus, id: MsgId) -> Result<Outcome, CallFault>
         requires { IsSession nucleus.now self.old }

@@ -106,8 +106,8 @@ fn finish_one<B: Behaviour>(
     }
 }
 
-/// The sessions run, packets are moved until none is left, and the sessions finish; all this where all came. Where memory is wanting to
-/// move them, no session finishes.
+/// The sessions run, packets are moved until none is left or a clock is worn, and the sessions finish; all this where all came. Where
+/// memory is wanting to move them, no session finishes.
 fn run_to_the_end<R: Threads + Wait + Sync, B: Behaviour>(
     rt: &R,
     nucleus: &Nucleus,
@@ -172,10 +172,11 @@ fn close<R: Wait>(rt: &R, nucleus: Nucleus, pass: Pass) -> Result<Closed, AllocE
 
 /// Runs sessions on a nucleus of this layout, one for each behaviour, in their order. The ports are made first. Then
 /// the sessions come, each in its actor, and run, each in a thread of its own where one can be made. When all have run,
-/// packets are moved until none is left, and they finish, one after the other. Then the nucleus is closed.
+/// packets are moved until none is left or a clock is worn, and they finish, one after the other. Then the nucleus is closed.
 ///
 /// `NoPort` comes where a port was not made, `NoSession` where a session did not come; no behaviour has run then. `Memory` comes also
-/// behind behaviours that ran, where no packet can be moved for want of it.
+/// behind behaviours that ran, where no packet can be moved or the nucleus cannot be closed for want of it: what was handed out is lost
+/// then. At the close it comes in place of the other two.
 pub fn run_sessions<R: Threads + Wait + Sync, B: Behaviour>(
     alloc: Global,
     rt: &R,

@@ -142,7 +142,7 @@ fn send_until_told<R: Wait>(
 
 impl Session {
     /// Sends a message with this body, at most 4,096 bytes, to the port, and waits for its verdict; meanwhile it moves
-    /// packets. A message that overtook the port is sent again, as another message, and so is one that found its place
+    /// packets, and looks at the outcome behind each round in which some moved. A message that overtook the port is sent again, as another message, and so is one that found its place
     /// busy. True where the port accepted it; false where it was refused, or the session has posted 2^32 - 1 messages, or there is no
     /// memory or a clock is worn: what was posted before that may still be accepted.
     #[tactic(auto, using(crate::proofs::Steps::sessions))]

@@ -34,7 +34,7 @@ pub fn push_messages(
     Ok(())
 }
 
-/// Appends the lines of what became of the message and of its copies.
+/// Appends, for an outcome, the lines of what became of the message and of its copies.
 fn push_message(id: MsgId, journals: &[Vec<Entry>], text: &mut Vec<u8>) -> Result<(), AllocError>
     ensures { OnOk result (text.new.items
         ≡ text.old.items ++ message_lines (journals_of journals.now) id) }
@@ -91,7 +91,7 @@ fn push_chosen(
             members,
         } => {
             if *chosen == id {
-                push_each(*chosen, *group, members.uis(), journals, text)
+                push_each_copy(*chosen, *group, members.uis(), journals, text)
             } else {
                 Ok(())
             }
@@ -100,8 +100,8 @@ fn push_chosen(
     }
 }
 
-/// Appends the lines of what became of the copies for these members.
-fn push_each(
+/// Appends, for an outcome, the lines of what became of the copies for these members.
+fn push_each_copy(
     id: MsgId,
     group: Ui,
     members: &[Ui],
@@ -145,7 +145,7 @@ pub fn verdict_at(id: MsgId, journal: &[Entry]) -> Option<Answer>
     found
 }
 
-/// The verdict of the message that the act of a journal's entry is, if it is one.
+/// The verdict of the message that the act of a journal's entry is, if it is one, for the lines of what a schedule came to.
 fn verdict_by(id: MsgId, act: &Act) -> Option<Answer>
     ensures { result ≡ verdict_by id act.now }
 {
@@ -179,7 +179,7 @@ pub fn is_stale_at(id: MsgId, journal: &[Entry]) -> bool
     found
 }
 
-/// Whether the act of a journal's entry tells the message that it is stale.
+/// Whether the act of a journal's entry tells the message that it is stale, for the lines of what a schedule came to.
 fn is_stale_by(id: MsgId, act: &Act) -> bool
     ensures { result ≡ is_stale_by id act.now }
 {

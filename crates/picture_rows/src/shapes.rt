@@ -372,7 +372,7 @@ fn push_title(line: &[u8], special: bool, out: &mut Vec<u8>) -> Result<(), Alloc
     Ok(())
 }
 
-/// Appends the place of a mark, up to the height of its clock.
+/// Appends, of what stands for an entry, where its mark is, up to the height of its clock.
 fn push_spot(x: u64, y: u64, out: &mut Vec<u8>) -> Result<(), AllocError>
     ensures { OnOk result (out.new.items ≡ out.old.items ++ spot_piece x y) }
 {

@@ -1,4 +1,4 @@
-//! A queue of jobs that moves between two sites, while three clients send jobs from a third and two workers take them.
+//! A queue of jobs that moves between two sites, while three clients send jobs, two of them from a third site, and two workers take them.
 //!
 //! The queue is a port, and a job is a message to it. Its promise (`specs/Promise.antt`): the jobs that were handed out are the first
 //! that the queue accepted, in the order in which it accepted them, each at most once, whoever held the queue and wherever it was; and

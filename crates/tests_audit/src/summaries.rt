@@ -107,7 +107,7 @@ end
     ),
 ];
 
-/// The entries whose lines stand in the printed journal.
+/// The entries whose lines stand in the printed journal, to be printed again with their summary.
 fn entries_in(rt: &impl Abort, alloc: Global, printed: &str) -> Vec<Entry> {
     let mut entries = Vec::new(alloc);
     for line in printed.lines() {

@@ -1,9 +1,7 @@
-//! The tests of the nucleus (`chorus_nucleus`), of receiving on any enabled port (`chorus_choose`) and of the crew (`chorus_crew`): calls
-//! and receives on one thread, callers on threads of their own, and crews.
+//! The tests of the nucleus (`chorus_nucleus`), of receiving on any enabled port (`chorus_choose`), of the crew (`chorus_crew`) and of
+//! sessions (`chorus_sessions`): calls and receives on one thread, callers on threads of their own, crews and sessions.
 #![tactic(auto)]
 
-#[cfg(test)]
-mod calls;
 #[cfg(test)]
 mod choosing;
 #[cfg(test)]
@@ -15,6 +13,10 @@ mod handlers;
 #[cfg(test)]
 mod moving;
 #[cfg(test)]
+mod one_thread;
+#[cfg(test)]
 mod played_calls;
 #[cfg(test)]
 mod serving;
+#[cfg(test)]
+mod sessions;

@@ -41,6 +41,8 @@ pub(crate) enum Call {
     Take,
     /// The port moves to this actor of the site.
     Move { site: u16, number: u64 },
+    /// The port is deleted.
+    Delete,
     /// What became of a message.
     Outcome(MsgId),
     /// The place is served.
@@ -154,6 +156,7 @@ fn command(
         Call::Cancel => nucleus.cancel(pass),
         Call::Take => nucleus.take(pass, own),
         Call::Move { site, number } => nucleus.move_port(pass, own, actor_of(rt, site, number)),
+        Call::Delete => nucleus.delete(pass, own),
         _ => make_or_join(rt, nucleus, pass, call),
     }
 }

@@ -5,7 +5,7 @@
 //!   Tables of scenarios (`groups`, `messages`, `migration`, `names`) are texts, which `playing` plays over the places and
 //!   callers of `net`. The worked rows are in `tests_rows`.
 //! - `limits` has those that take many callers, many ports or late clocks.
-//! - `packets` has packets by hand, lawful and not, which it reads from `packet_words`; `records` are the ports in them.
+//! - `packets` has packets by hand, lawful and not, which it reads from `line_words`; `records` are the ports in them.
 //! - `link_ends` has the ends of ruled links (`chorus_ends`, `chorus_ruled_ends`); `served_pair` two places at such ends, which serve
 //!   (`chorus_serve`) a worked row (`served_row`), and one over ends in memory, which keeps in hand what it may not work off
 //!   (`served_hand`).
@@ -16,6 +16,8 @@ mod groups;
 #[cfg(test)]
 mod limits;
 #[cfg(test)]
+mod line_words;
+#[cfg(test)]
 mod link_ends;
 #[cfg(test)]
 mod messages;
@@ -25,8 +27,6 @@ mod migration;
 mod names;
 #[cfg(test)]
 mod net;
-#[cfg(test)]
-mod packet_words;
 #[cfg(test)]
 mod packets;
 #[cfg(test)]

@@ -30,7 +30,7 @@ fn number_for(rt: &impl Abort, layout: Layout, actor: Ui, command: &Command) -> 
     command.place_for(layout, actor)
 }
 
-/// The caller may give the place the command, or else the test ends.
+/// For the places of a net, and for served ones: the caller may give the place the command, or else the test ends.
 pub(crate) fn assert_may(rt: &impl Abort, place: &Place, caller: &Caller, command: &Command)
     ensures may { MayCall (state place.now) caller.now command.now }
     ensures posts { caller.now.posts < u32.MAX }

@@ -6,8 +6,8 @@
 //! no tag stands; of a port there are its name, its holder, its capacity, hop and first position, the number of client 7 or `-`, and
 //! the ids that wait in it.
 
+use crate::line_words::Words;
 use crate::net::Net;
-use crate::packet_words::Words;
 use crate::playing::{Row, begin, rows_of};
 use crate::records::{push_client, push_message};
 use chorus_entry::{Answer, Body, Cargo, Dest, Message, MsgId, Packet, PortRecord, Tag};

@@ -2,15 +2,11 @@
 //!
 //! The contract of `run` is long, so it is called in one function, which is generic in its source and sink.
 
-ghost use Rattle.chorus_nucleus.specs.Passes.{IsPassOf};
-ghost use Rattle.chorus_perform.specs.Scripts.{IsOpening};
-
 use crate::ground::{assert_same, sink_of, source_of};
+use crate::handed_in::started;
 use chorus_io::{Sink, Source};
-use chorus_nucleus::{Nucleus, Pass};
 use chorus_run::{Gate, run};
 use chorus_show::Status;
-use chorus_ui::Layout;
 use std::alloc::Global;
 use std::process::Abort;
 use std::sync::Wait;
@@ -71,18 +67,6 @@ schedule
 end
 ";
 
-/// A nucleus of 16 sites with one place each, for two scripts that wait for each other, and its opening pass.
-fn started<R: Abort + Threads + Wait + Sync>(rt: &R, alloc: Global) -> (Nucleus, Pass)
-    ensures pass { IsPassOf result.0 result.1 }
-    ensures opening { IsOpening result.1 }
-{
-    let layout = Layout::new(16, 1).expect(rt, "a layout");
-    let Ok((nucleus, pass)) = Nucleus::start(alloc, rt, layout) else {
-        panic!(rt; "memory")
-    };
-    (nucleus, pass)
-}
-
 /// Performs what the source gives over this gate, on a nucleus of 16 sites with one place each. Gives how that ended, and whether
 /// it handed out what it closed.
 fn run_on<R: Abort + Threads + Wait + Sync, S: Source, K: Sink, G: Gate>(
@@ -92,7 +76,7 @@ fn run_on<R: Abort + Threads + Wait + Sync, S: Source, K: Sink, G: Gate>(
     sink: &mut K,
     gate: &G,
 ) -> (Status, bool) {
-    let (nucleus, pass) = started(rt, alloc);
+    let (nucleus, pass) = started(rt, alloc, 16, 1);
     let finished = run(alloc, rt, source, sink, nucleus, pass, gate);
     (finished.status, finished.closed.is_some())
 }

@@ -43,7 +43,7 @@ pub(crate) fn sink_of(rt: &impl Abort, alloc: Global, most: usize, failing: &[u6
 }
 
 /// What the sink holds of the program's output.
-fn text_in(rt: &impl Abort, alloc: Global, sink: &MemSink) -> String {
+pub(crate) fn text_in(rt: &impl Abort, alloc: Global, sink: &MemSink) -> String {
     let bytes = Vec::from_slice(alloc, sink.bytes()).expect(rt, "memory");
     String::from_utf8(bytes).ok().expect(rt, "a text")
 }

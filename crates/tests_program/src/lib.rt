@@ -17,6 +17,8 @@ mod gates;
 #[cfg(test)]
 mod ground;
 #[cfg(test)]
+mod handed_in;
+#[cfg(test)]
 mod journals;
 #[cfg(test)]
 mod mover_scripts;

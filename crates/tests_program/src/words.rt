@@ -112,7 +112,8 @@ fn the_list_and_nothing_else(rt: HostRuntime) {
 const LOADS_NOTHING: &str =
     "summary\nposted 0\naccepted 0\ntaken 0\nqueued 0\nmoving 0\nrefused 0\nstale 0\ndeparts 0\nend\n";
 
-const LOADS_ONE_COMMAND: &str =
+/// What a load of one command from 7 prints.
+pub(crate) const LOADS_ONE_COMMAND: &str =
     "summary\nposted 1\naccepted 1\ntaken 0\nqueued 1\nmoving 0\nrefused 0\nstale 0\ndeparts 0\nend\n";
 
 /// Asserts that the program, started with these words, ends with the usage fault and writes nothing.

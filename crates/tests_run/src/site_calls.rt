@@ -3,8 +3,7 @@
 //! A call is a line of words: what is called, and with what. Names are as in texts, and a number in front of one is the
 //! seat that acts.
 
-ghost use Rattle.std.specs.Prelude.{◌≡◌, true};
-ghost use Rattle.chorus_entry.specs.Command.{meets_conditions, has_body_in_limit};
+ghost use Rattle.std.specs.Prelude.{◌≡◌};
 
 use crate::running::assert_same;
 use chorus_entry::{Body, Command, Dest};
@@ -71,18 +70,14 @@ fn actor(rt: &impl Abort, text: &str) -> Ui
 }
 
 /// The port that a word of a call of the sites in a row names.
-fn port(rt: &impl Abort, text: &str) -> Ui
-    ensures { result.kind ≡ Kind.Port }
-{
+fn port(rt: &impl Abort, text: &str) -> Ui {
     name(rt, text, Kind::Port)
 }
 
-/// What the rows call. The words are read over this, so that no more is known there than a call asks.
+/// What the rows call.
 trait SiteCalls {
-    /// The sites perform a command of the seat, as a worked row asks.
-    fn act(&mut self, rt: &impl Abort, seat: u32, command: Command)
-        requires conditions { meets_conditions command ≡ true }
-        requires body { has_body_in_limit command ≡ true };
+    /// The sites perform a command that the seat may give, as a worked row asks.
+    fn act(&mut self, rt: &impl Abort, seat: u32, command: Command);
 
     /// Gives the next seat on the sites to a caller in this actor, by which calls of the row behind it can be made.
     fn enter(&mut self, rt: &impl Abort, actor: Ui)
@@ -97,8 +92,7 @@ trait SiteCalls {
 
 impl SiteCalls for Sites {
     fn act(&mut self, rt: &impl Abort, seat: u32, command: Command) {
-        assert!(rt; seat < self.seats());
-        assert!(rt; self.posts(seat) < u32::MAX);
+        assert!(rt; self.may_act(seat, &command));
         Sites::act(self, seat, command).expect(rt, "a reply");
     }
 
@@ -133,8 +127,6 @@ fn make<S: SiteCalls>(rt: &impl Abort, sites: &mut S, words: &str) {
     let (holder, capacity) = first(words);
     let actor = actor(rt, holder);
     let capacity: u8 = capacity.parse().ok().expect(rt, "a capacity");
-    assert!(rt; capacity > 0);
-    assert!(rt; capacity <= 64);
     sites.act(rt, seat, Command::Make { actor, capacity });
 }
 
@@ -150,7 +142,6 @@ fn send<S: SiteCalls>(rt: &impl Abort, alloc: Global, sites: &mut S, words: &str
     let (to, text) = first(words);
     let dest = Dest::Port(port(rt, to));
     let body = body_of(rt, alloc, text);
-    let _within = body.bytes();
     sites.act(rt, seat, Command::Send { dest, body });
 }
 

@@ -7,4 +7,4 @@ returns-clause-run g c = run-of c.in_ok-nucleus.nucleus c.args.layout c.play-han
 pub returns-clause-hands : goal.returns-clause-hands
 returns-clause-hands g c =
     let e = c.play-hands.ensures in
-    are-handed-out c.in_ok-nucleus.nucleus c.play-hands.new.pass c.in_ok-closed.closed c.in_ok-closed.ensures e.pass e.back.quiet c.in_ok-hands.field-0.items c.in_ok-hands.ensures.kept
+    are-handed-out c.in_ok-nucleus.nucleus c.play-hands.new.pass c.in_ok-closed.closed c.in_ok-closed.ensures e.pass e.back c.in_ok-hands.field-0.items c.in_ok-hands.ensures.kept

@@ -29,6 +29,12 @@ fn posted(seat: u32, number: u32) -> Told {
     Told::Replied(Reply::Posted(id(seat, number)))
 }
 
+/// What a call on one thread is to tell: the message of seat 0 is posted and accepted at once.
+fn accepted(number: u32, pos: u64) -> Told {
+    let msg = id(0, number);
+    Told::Replied(Reply::Accepted { msg, pos })
+}
+
 /// What a call on one thread is to tell: the first port of the site is made.
 fn made(rt: &impl Abort, site: u16) -> Told {
     Told::Replied(Reply::Made(port_of(rt, site, 1)))
@@ -196,14 +202,14 @@ fn close_asks_for_all_passes(rt: HostRuntime) {
     let (nucleus, mut pass) = start(&rt, rt.alloc(), 1, 1);
     let second = enter(&rt, &nucleus, &mut pass, 1, 1);
     let (nucleus, mut pass) = assert_not_closed(&rt, nucleus, pass);
-    let accepted = Reply::Accepted {
-        msg: id(0, 1),
-        pos: 0,
-    };
+    let deleted = Reply::Deleted { discarded: 1 };
     let rows = [
         (Call::MakePort { site: 1 }, made(&rt, 1)),
-        (Call::Send, Told::Replied(accepted)),
+        (Call::Send, accepted(1, 0)),
         (Call::Take, Told::Taken(0)),
+        (Call::Send, accepted(2, 1)),
+        (Call::Delete, Told::Replied(deleted)),
+        (Call::Take, Told::Replied(Reply::NotHere)),
     ];
     play(&rt, &nucleus, &mut pass, &rows, false);
     retire(&nucleus, second, &mut pass);

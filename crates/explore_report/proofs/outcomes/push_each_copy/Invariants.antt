@@ -2,7 +2,7 @@ use Rattle.std.proofs.Common.{◌≡◌, ◌+◌, ◌++◌, drop}
 use Rattle.chorus_merge.specs.Steps.{journals_of}
 use Rattle.chorus_world.specs.Places.{copies}
 use Rattle.explore_report.specs.Outcomes.{sent_lines}
-use Rattle.explore_report.proofs.outcomes.push_each.Given as goal
+use Rattle.explore_report.proofs.outcomes.push_each_copy.Given as goal
 
 -- what is left completes the lines
 abbrev pub invariant-loop-index : goal.invariant-loop-index

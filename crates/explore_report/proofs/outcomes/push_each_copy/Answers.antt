@@ -3,7 +3,7 @@ use Rattle.chorus_merge.specs.Steps.{journals_of}
 use Rattle.chorus_world.specs.Places.{copies}
 use Rattle.explore_report.specs.Outcomes.{lines_about, sent_lines}
 use Rattle.explore_report.proofs.Lines.{drop-some}
-use Rattle.explore_report.proofs.outcomes.push_each.Goals as goal
+use Rattle.explore_report.proofs.outcomes.push_each_copy.Goals as goal
 
 pub loop-index-preserved : goal.loop-index-preserved
 loop-index-preserved c =
