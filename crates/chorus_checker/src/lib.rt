@@ -5,13 +5,12 @@
 //! step relation is read from the tables of a `checker_ledger::Ledger`, so that an entry costs about the same whatever went
 //! before.
 //!
-//! Begin with `world`. Its modules have the test of each act, by subject; `port`, `message` and `group` have what is asked of
-//! one port, message and group.
+//! Begin with `world`. Its modules have the test of each act, by subject, and `world::due` how a message is due; `port` and `group` have
+//! what is asked of one port and of one group.
 #![tactic(auto)]
 
 mod fault;
 mod group;
-mod message;
 mod port;
 mod rule;
 mod world;

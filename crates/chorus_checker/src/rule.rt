@@ -5,7 +5,7 @@ ghost use Rattle.chorus_checker.specs.Rules.{act_number};
 
 use chorus_entry::Act;
 
-/// The number of the act, which is that of its rule.
+/// The number of the act, which is that of the rule that the checker names.
 pub(crate) fn act_number(act: &Act) -> u8
     ensures { result ≡ act_number act.now }
 {

@@ -10,6 +10,9 @@ ghost use Rattle.chorus_world.specs.Views.{on};
 ghost use Rattle.chorus_checker.specs.Worlds.{is_next, is_on_time};
 
 mod acts;
+mod choosing;
+mod deciding;
+mod due;
 mod groups;
 mod ports;
 mod seats;

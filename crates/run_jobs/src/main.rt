@@ -38,7 +38,7 @@ fn main(rt: HostRuntime) -> ExitCode {
     }
 }
 
-/// Runs a job queue with two workers on sites 1 and 2 and three clients; None where a name or the run fails.
+/// The run of this program: its two workers, on sites 1 and 2, and its three clients come to a queue; None where a name or the run fails.
 fn run<R: Threads + Wait + Sync>(alloc: Global, rt: &R) -> Option<Finished> {
     let comers = [
         Comer {

@@ -37,8 +37,8 @@ fn parties_at(alloc: Global, queue: Ui, comers: &[Comer]) -> Result<Vec<Party>, 
 }
 
 /// Runs a queue of jobs on a nucleus of this layout: it is made at the first actor of the site `first`, with room for 64 jobs; each comer
-/// comes and runs in a thread of its own where one can be made; when all have run, packets are moved until none is left, and the workers take what is left of
-/// the queue. Where not all could come, none runs.
+/// comes and runs in a thread of its own where one can be made; when all have run, packets are moved until none is left, and the workers
+/// take what is left of the queue. Where not all could come, none runs.
 pub fn run_queue<R: Threads + Wait + Sync>(
     alloc: Global,
     rt: &R,

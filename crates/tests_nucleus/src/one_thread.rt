@@ -145,8 +145,8 @@ fn start_two_sites<R: Wait + Abort>(rt: &R, alloc: Global, again: bool) -> (Nucl
     start(rt, alloc, 2, 1)
 }
 
-/// Ends the nucleus behind the calls of two seats, and asserts that two packets are left. Where there may be no memory it may be
-/// given up.
+/// Ends the nucleus behind the calls of two seats on one thread, and asserts that two packets are left. Where there may be no memory it
+/// may be given up.
 fn assert_two_are_left<R: Wait + Abort>(rt: &R, nucleus: Nucleus, pass: Pass, again: bool)
     requires { IsPassOf nucleus pass }
 {
