@@ -1,5 +1,5 @@
 -- A caller, as contracts see it.
-use Rattle.std.specs.Prelude.{ℕ, ◌≡◌, ◌+◌, ◌≤◌, Option, None, IfSome}
+use Rattle.std.specs.Prelude.{ℕ, ◌≡◌, ◌+◌, ◌≤◌, max, Option, None, IfSome}
 use Rattle.chorus_ui.specs.declared.ui.Ui.{Ui}
 use Rattle.chorus_ui.specs.declared.kind.Kind.TheVariants as kinds
 use Rattle.chorus_entry.specs.declared.hand.Hand.{Hand}
@@ -29,6 +29,10 @@ HasBack hand = IfSome hand (λ h. h.back.kind ≡ kinds.Port)
 
 abbrev pub after_tick : Seated → ℕ → Seated
 after_tick c last = record c { last = last }
+
+-- who has seen an entry with this clock: its own is at least that
+abbrev pub raised : ℕ → Seated → Seated
+raised clock c = after_tick c (max c.last clock)
 
 abbrev pub after_post : Seated → Seated
 after_post c = record c { posts = c.posts + 1 }

@@ -2,7 +2,7 @@
 
 ghost use Rattle.std.specs.Prelude.{◌≡◌, ◌+◌, ◌<◌};
 ghost use Rattle.std.specs.Borrow.{sem};
-ghost use Rattle.chorus_calls.specs.Callers.{new_caller, after_tick, after_post, with_hand, IsNumbered, HasBack};
+ghost use Rattle.chorus_calls.specs.Callers.{new_caller, after_tick, raised, after_post, with_hand, IsNumbered, HasBack};
 ghost use Rattle.chorus_calls.specs.Lending.{LendsClient};
 
 use crate::client::Client;
@@ -103,6 +103,14 @@ impl Caller {
         ensures { self.new ≡ after_tick self.old last }
     {
         self.last = last;
+    }
+
+    /// It has seen an entry with this clock: from then on its own is at least that, so that what it does next stands behind
+    /// that entry.
+    pub fn see(&mut self, clock: u64)
+        ensures { self.new ≡ raised clock self.old }
+    {
+        self.last = self.last.max(clock);
     }
 
     /// Counts one post more and gives its number. Fewer than 2^32 - 1 are to have been counted before.

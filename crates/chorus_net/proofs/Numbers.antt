@@ -10,7 +10,7 @@ use Rattle.chorus_entry.specs.declared.packet.Packet.{Packet}
 use Rattle.chorus_entry.specs.Command.{meets_conditions, has_body_in_limit, is_post}
 use Rattle.chorus_calls.specs.Callers.{Seated, new_caller}
 use Rattle.law_network.specs.Packets.{first_on}
-use Rattle.law_network.specs.Network.{NetState, Event, Enter, Deliver, commanded, works_off, delivered, schedule}
+use Rattle.law_network.specs.Network.{NetState, Event, Enter, Deliver, See, commanded, works_off, delivered, shown, schedule}
 use Rattle.law_network.specs.Network.{Act as Acts}
 use Rattle.law_network.specs.Schedules.{has_number_left, may_give}
 use Rattle.chorus_place.specs.Calls.{is_call}
@@ -37,11 +37,16 @@ delivered-within : (k a b : ℕ) (o : Option Seated) (n : NetState) → slice_ge
 delivered-within k a b None n e h = h
 delivered-within k a b (Some x) n e h = worked-within k a b x (first_on a b n.packets) n (among n.callers k x e h) h
 
+shown-within : (k clock : ℕ) (o : Option Seated) (n : NetState) → slice_get n.callers k ≡ o → All GaveWithinPosts n.callers → All GaveWithinPosts (shown k clock o n).callers
+shown-within k clock None n e h = h
+shown-within k clock (Some x) n e h = All-set GaveWithinPosts n.callers k _ (among n.callers k x e h) h
+
 pub all-within : (l : Layout) (es : List Event) → All GaveWithinPosts (schedule l es).callers
 all-within l [] = All-nil GaveWithinPosts
 all-within l (Enter actor last ∷ es) = All-push GaveWithinPosts (schedule l es).callers (new_caller (length (schedule l es).callers) actor last) (all-within l es) (omega arith)
 all-within l (Acts k c ∷ es) = commanded-within k c (slice_get (schedule l es).callers k) (schedule l es) refl (all-within l es)
 all-within l (Deliver k a b ∷ es) = delivered-within k a b (slice_get (schedule l es).callers k) (schedule l es) refl (all-within l es)
+all-within l (See k clock ∷ es) = shown-within k clock (slice_get (schedule l es).callers k) (schedule l es) refl (all-within l es)
 
 posts-call : (c : Command) → is_call c ≡ true → is_post c ≡ true
 posts-call (commands.Call q back body) h = refl

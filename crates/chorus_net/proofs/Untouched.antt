@@ -16,7 +16,7 @@ use Rattle.law_machine.specs.PlaceMachine.{act, begun_by, work}
 use Rattle.law_machine.specs.Working.{opens}
 use Rattle.law_machine.proofs.Machine.Chains.{act-gives}
 use Rattle.law_network.specs.Packets.{first_on}
-use Rattle.law_network.specs.Network.{NetState, Event, Enter, Act, Deliver, after, commanded, delivered, happened, place, place_in, place_numbers, opening, schedule, turn_for, with_place, works_off}
+use Rattle.law_network.specs.Network.{NetState, Event, Enter, Act, Deliver, See, shown, after, commanded, delivered, happened, place, place_in, place_numbers, opening, schedule, turn_for, with_place, works_off}
 use Rattle.law_history.specs.PlaceTurns.{brings_entry}
 use Rattle.law_history.proofs.Working.{work-gives}
 use Rattle.chorus_net.specs.Starting.{IsUntouched}
@@ -93,10 +93,15 @@ by-delivery : (k a b : ℕ) (n : NetState) (o : Option Seated) → All IsUntouch
 by-delivery k a b n None h = h
 by-delivery k a b n (Some w) h = by-packet k a b n w (first_on a b n.packets) h
 
+by-showing : (k clock : ℕ) (n : NetState) (o : Option Seated) → All IsUntouched n.places → All IsUntouched (shown k clock o n).places
+by-showing k clock n None h = h
+by-showing k clock n (Some w) h = h
+
 happens-untouched : (e : Event) (n : NetState) → All IsUntouched n.places → All IsUntouched (happened e n).places
 happens-untouched (Enter actor last) n h = h
 happens-untouched (Act k c) n h = by-command k c n (slice_get n.callers k) h
 happens-untouched (Deliver k a b) n h = by-delivery k a b n (slice_get n.callers k) h
+happens-untouched (See k clock) n h = by-showing k clock n (slice_get n.callers k) h
 
 opens-untouched : (l : Layout) (ks : List ℕ) → All IsUntouched (map (started l) ks)
 opens-untouched l [] = All-nil IsUntouched

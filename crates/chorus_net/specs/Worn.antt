@@ -4,14 +4,15 @@ use Rattle.std.specs.Prelude.{ℕ, ◌≡◌, ◌≤◌, ◌<◌, List, [], ◌�
 use Rattle.chorus_ui.specs.declared.layout.Layout.{Layout}
 use Rattle.chorus_ui.specs.declared.limits.TheConstants.{CLOCK_LIMIT}
 use Rattle.law_network.specs.Calls.{compared, compared_at}
-use Rattle.law_network.specs.Network.{NetState, Event, Enter, Act, Deliver, happened, after, rounds}
+use Rattle.law_network.specs.Network.{NetState, Event, Enter, Act, Deliver, See, happened, after, rounds}
 
--- the greatest of the clocks that an event compares; a caller that comes compares none, and neither does a delivery of
--- nothing
+-- the greatest of the clocks that an event compares; a caller that comes, or sees an entry, compares none, and neither
+-- does a delivery of nothing
 abbrev pub compared_by : Event → NetState → Option ℕ
 compared_by (Enter actor last) n = None
 compared_by (Act seat command) n = Some (compared seat command n)
 compared_by (Deliver seat a b) n = compared_at seat a b n
+compared_by (See seat clock) n = None
 
 -- no event compared a clock from 2^62 on
 abbrev pub IsUnworn : Option ℕ → Type 0

@@ -8,11 +8,11 @@ use Rattle.chorus_ui.specs.declared.ui.Ui.{Ui}
 use Rattle.chorus_ui.specs.declared.layout.Layout.{Layout}
 use Rattle.chorus_entry.specs.declared.command.Command.{Command}
 use Rattle.chorus_entry.specs.declared.packet.Packet.{Packet}
-use Rattle.chorus_calls.specs.Callers.{Seated, new_caller}
+use Rattle.chorus_calls.specs.Callers.{Seated, new_caller, raised}
 use Rattle.law_machine.specs.PlaceMachine.{begun_by, act, work}
 use Rattle.law_machine.proofs.Machine.Stays.{act-stays, work-stays}
 use Rattle.law_network.specs.Packets.{first_on}
-use Rattle.law_network.specs.Network.{NetState, Event, Enter, Act, Deliver, schedule, commanded, works_off, delivered, turn_for, place, round, rounds}
+use Rattle.law_network.specs.Network.{NetState, Event, Enter, Act, Deliver, See, shown, schedule, commanded, works_off, delivered, turn_for, place, round, rounds}
 use Rattle.law_network.specs.Calls.{first_actor, starting}
 use Rattle.law_network.specs.Stands.{actor_of}
 use Rattle.law_network.specs.Tasks.{Task, Do, Drain, CarryOut, CarryFront, AreDeliveries}
@@ -33,6 +33,7 @@ actors_in [] = []
 actors_in (Enter actor last ∷ es) = actor ∷ actors_in es
 actors_in (Act k c ∷ es) = actors_in es
 actors_in (Deliver k a b ∷ es) = actors_in es
+actors_in (See k clock ∷ es) = actors_in es
 
 abbrev pub actor_in : Seated → Ui
 actor_in caller = caller.actor
@@ -57,6 +58,10 @@ brought : (k a b : ℕ) (n : NetState) (o : Option Seated) → slice_get n.calle
 brought k a b n None found = refl
 brought k a b n (Some caller) found = worked k a b caller (first_on a b n.packets) n found
 
+saw : (k clock : ℕ) (n : NetState) (o : Option Seated) → slice_get n.callers k ≡ o → map actor_in (shown k clock o n).callers ≡ map actor_in n.callers
+saw k clock n None found = refl
+saw k clock n (Some caller) found = set-actor n.callers k caller (raised clock caller) found refl
+
 pub callers-after : (l : Layout) (es : List Event) → map actor_in (schedule l es).callers ≡ reverse (actors_in es)
 callers-after l [] = refl
 callers-after l (Enter actor last ∷ es) =
@@ -66,6 +71,7 @@ callers-after l (Enter actor last ∷ es) =
     ∙ sym (reverse-append (actor ∷ []) (actors_in es))
 callers-after l (Act k c ∷ es) = given k c (schedule l es) (slice_get (schedule l es).callers k) refl ∙ callers-after l es
 callers-after l (Deliver k a b ∷ es) = brought k a b (schedule l es) (slice_get (schedule l es).callers k) refl ∙ callers-after l es
+callers-after l (See k clock ∷ es) = saw k clock (schedule l es) (slice_get (schedule l es).callers k) refl ∙ callers-after l es
 
 pub actor-after : (l : Layout) (es : List Event) (k : ℕ) → actor_of (schedule l es) k ≡ slice_get (reverse (actors_in es)) k
 actor-after l es k = sym (slice_get-map actor_in (schedule l es).callers k) ∙ ap (λ z. slice_get z k) (callers-after l es)
@@ -77,6 +83,7 @@ actors_by [] = []
 actors_by (Do (Enter actor last) ∷ ts) = actor ∷ actors_by ts
 actors_by (Do (Act k c) ∷ ts) = actors_by ts
 actors_by (Do (Deliver k a b) ∷ ts) = actors_by ts
+actors_by (Do (See k clock) ∷ ts) = actors_by ts
 actors_by (Drain k ∷ ts) = actors_by ts
 
 none-come : (k : ℕ) (done older : List Event) → AreDeliveries k done → actors_in (done ++ older) ≡ actors_in older
@@ -96,6 +103,7 @@ one-more : (e : Event) (es : List Event) (ts : List Task) → actors_in es ≡ a
 one-more (Enter actor last) es ts h = ap (λ z. actor ∷ z) h
 one-more (Act k c) es ts h = h
 one-more (Deliver k a b) es ts h = h
+one-more (See k clock) es ts h = h
 
 pub carried-actors : (l : Layout) (ts : List Task) (es : List Event) → CarryOut l ts es → actors_in es ≡ actors_by ts
 carried-actors l [] es c = ap actors_in c
@@ -108,6 +116,7 @@ more : (e : Event) (ts : List Task) (xs : List Ui) → (later : List Ui) × (act
 more (Enter actor last) ts xs h = (actor ∷ h.0, ap (λ z. actor ∷ z) h.1)
 more (Act k c) ts xs h = h
 more (Deliver k a b) ts xs h = h
+more (See k clock) ts xs h = h
 
 pub front-actors : (l : Layout) (ts : List Task) (es : List Event) → CarryFront l ts es → (later : List Ui) × (actors_by ts ≡ later ++ actors_in es)
 front-actors l [] es c = ([], sym (ap actors_in c))
@@ -126,12 +135,14 @@ actors-append [] us = refl
 actors-append (Do (Enter actor last) ∷ ts) us = ap (λ z. actor ∷ z) (actors-append ts us)
 actors-append (Do (Act k c) ∷ ts) us = actors-append ts us
 actors-append (Do (Deliver k a b) ∷ ts) us = actors-append ts us
+actors-append (Do (See k clock) ∷ ts) us = actors-append ts us
 actors-append (Drain k ∷ ts) us = actors-append ts us
 
 last-actor : (t : Task) (ts : List Task) → reverse (actors_by ts) ++ actors_by (t ∷ []) ≡ reverse (actors_by (t ∷ ts))
 last-actor (Do (Enter actor last)) ts = sym (reverse-append (actor ∷ []) (actors_by ts))
 last-actor (Do (Act k c)) ts = append-nil (reverse (actors_by ts))
 last-actor (Do (Deliver k a b)) ts = append-nil (reverse (actors_by ts))
+last-actor (Do (See k clock)) ts = append-nil (reverse (actors_by ts))
 last-actor (Drain k) ts = append-nil (reverse (actors_by ts))
 
 pub actors-reverse : (ts : List Task) → actors_by (reverse ts) ≡ reverse (actors_by ts)

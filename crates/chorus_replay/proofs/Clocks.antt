@@ -16,7 +16,7 @@ use Rattle.chorus_entry.specs.Order.{is_at}
 use Rattle.chorus_entry.specs.Places.{place_for}
 use Rattle.chorus_world.specs.Views.{at}
 use Rattle.chorus_world.specs.Places.{last_clock}
-use Rattle.chorus_calls.specs.Callers.{Seated, new_caller}
+use Rattle.chorus_calls.specs.Callers.{Seated, new_caller, raised}
 use Rattle.law_machine.specs.declared.outgoing.Outgoing.{Outgoing}
 use Rattle.law_machine.specs.PlaceState.{Turn, Change, packed, next_entry, next_clock, say}
 use Rattle.law_machine.specs.PlaceMachine.{begun_by, act, work}
@@ -24,7 +24,7 @@ use Rattle.law_machine.proofs.Machine.Chains.{act-keeps, work-keeps}
 use Rattle.law_machine.proofs.Machine.Follows.{IsSame}
 use Rattle.law_network.specs.Packets.{is_link, is_link_before, put, put_all, first_on, rest_on}
 use Rattle.law_network.specs.Network as net
-use Rattle.law_network.specs.Network.{NetState, Event, Enter, Deliver, schedule, place, turn_for, ended, commanded, works_off, delivered}
+use Rattle.law_network.specs.Network.{NetState, Event, Enter, Deliver, See, shown, schedule, place, turn_for, ended, commanded, works_off, delivered}
 use Rattle.law_network.specs.Calls.{starting, last_of, compared_with, compared_on}
 use Rattle.law_network.specs.History.{history, newer}
 use Rattle.law_network.specs.Left.{merged_past}
@@ -218,11 +218,24 @@ after-delivery : (past : List Entry) (k a b : ℕ) (n : NetState) (o : Option Se
 after-delivery past k a b n None found h = h
 after-delivery past k a b n (Some caller) found h = after-packet past k a b n caller (first_on a b n.packets) found refl h
 
--- a caller that comes begins with a clock of an entry
+after-showing : (past : List Entry) (k clock : ℕ) (n : NetState) (o : Option Seated) → slice_get n.callers k ≡ o → IsClock past clock → HaveClocks past n → HaveClocks past (shown k clock o n)
+after-showing past k clock n None found is h = h
+after-showing past k clock n (Some caller) found is h = record { lasts = λ j v e. go j v e (k == j) refl; packets = h.packets }
+  where
+    go : (j : ℕ) (v : Seated) → slice_get (slice_set n.callers k (raised clock caller)) j ≡ Some v → (b : Bool) → (k == j) ≡ b → IsClock past v.last
+    go j v e false ne = h.lasts j v (sym (get-other n.callers k j (raised clock caller) (eqb-false k j ne)) ∙ e)
+    go j v e true same =
+        let now : Some (raised clock caller) ≡ Some v =
+        sym (get-replaced n.callers k caller (raised clock caller) found) ∙ ap (slice_get (slice_set n.callers k (raised clock caller))) (eqb-true k j same) ∙ e in
+        let it : raised clock caller ≡ v = cc in
+        subst (λ (z : Seated). IsClock past z.last) it (max-is past caller.last clock (h.lasts k caller found) is)
+
+-- a caller that comes begins with a clock of an entry, and so is each clock that is shown
 abbrev pub BeginsSo : List Entry → Event → Type 0
 BeginsSo past (Enter actor last) = IsClock past last
 BeginsSo past (net.Act k c) = Unit {0}
 BeginsSo past (Deliver k a b) = Unit {0}
+BeginsSo past (See k clock) = IsClock past clock
 
 -- A list with one more at its end.
 
@@ -250,6 +263,7 @@ clocks-more l (Enter actor last) es begins h = record { lasts = λ k v e. go k v
     go k v (inr now) = subst (λ (z : Seated). IsClock (history l es) z.last) now.1 begins
 clocks-more l (net.Act k c) es begins h = after-command (history l es) k c (schedule l es) (slice_get (schedule l es).callers k) refl h
 clocks-more l (Deliver k a b) es begins h = after-delivery (history l es) k a b (schedule l es) (slice_get (schedule l es).callers k) refl h
+clocks-more l (See k clock) es begins h = after-showing (history l es) k clock (schedule l es) (slice_get (schedule l es).callers k) refl begins h
 
 pub clocks-delivered : (l : Layout) (k : ℕ) (done es : List Event) → AreDeliveries k done → HaveClocks (history l es) (schedule l es) → HaveClocks (history l (done ++ es)) (schedule l (done ++ es))
 clocks-delivered l k [] es are h = h
@@ -298,6 +312,7 @@ module _ (l : Layout) (es : List Event) (shape : IsLayout l) (may : may_be l es 
 
   compared-is : (e : Event) (clock : ℕ) → compared_by e n ≡ Some clock → IsClock past clock
   compared-is (Enter actor last) clock is = absurd (cc)
+  compared-is (See seat seen) clock is = absurd (cc)
   compared-is (net.Act k c) clock is =
       subst (IsClock past) (some (compared_with c (slice_get n.callers k) n) clock is) (with-caller c (slice_get n.callers k) k refl)
   compared-is (Deliver k a b) clock is = on-packet b (slice_get n.callers k) (first_on a b n.packets) k a clock refl refl is

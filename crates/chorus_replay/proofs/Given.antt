@@ -7,7 +7,7 @@ use Rattle.std.proofs.lemmas.List.Sums.{sum_by-append}
 use Rattle.std.proofs.lemmas.Option.{slice_get-map, slice_get-get_or, get_or_from_slice_get}
 use Rattle.chorus_ui.specs.declared.layout.Layout.{Layout}
 use Rattle.chorus_entry.specs.declared.command.Command.{Command}
-use Rattle.law_network.specs.Network.{Enter, Act, Deliver}
+use Rattle.law_network.specs.Network.{Enter, Act, Deliver, See}
 use Rattle.law_network.specs.Tasks.{Task, Do, Drain, commands_in}
 use Rattle.chorus_scene.specs.declared.scenario.Step as step
 use Rattle.chorus_scene.specs.declared.scenario.Step.TheVariants as steps
@@ -29,6 +29,7 @@ commands-append k [] fs = refl
 commands-append k (Drain s ∷ es) fs = commands-append k es fs
 commands-append k (Do (Enter actor last) ∷ es) fs = commands-append k es fs
 commands-append k (Do (Deliver s a b) ∷ es) fs = commands-append k es fs
+commands-append k (Do (See s clock) ∷ es) fs = commands-append k es fs
 commands-append k (Do (Act s c) ∷ es) fs = append-case (s == k) c (commands_in k (es ++ fs)) (commands_in k es) (commands_in k fs) (commands-append k es fs)
 
 last-case : (b : Bool) (c : Command) (cs : List Command) → reverse cs ++ cond b (c ∷ []) [] ≡ reverse (cond b (c ∷ cs) cs)
@@ -39,6 +40,7 @@ last-one : (k : ℕ) (e : Task) (es : List Task) → reverse (commands_in k es) 
 last-one k (Drain s) es = append-nil (reverse (commands_in k es))
 last-one k (Do (Enter actor last)) es = append-nil (reverse (commands_in k es))
 last-one k (Do (Deliver s a b)) es = append-nil (reverse (commands_in k es))
+last-one k (Do (See s clock)) es = append-nil (reverse (commands_in k es))
 last-one k (Do (Act s c)) es = last-case (s == k) c (commands_in k es)
 
 pub commands-reverse : (k : ℕ) (es : List Task) → commands_in k (reverse es) ≡ reverse (commands_in k es)

@@ -12,7 +12,7 @@ use Rattle.chorus_ui.specs.declared.limits.TheConstants.{CLOCK_LIMIT, SEATS_LIMI
 use Rattle.chorus_entry.specs.declared.command.Command.{Command}
 use Rattle.chorus_calls.specs.Callers.{Seated, new_caller}
 use Rattle.chorus_place.specs.declared.fault.PlaceFault.{PlaceFault}
-use Rattle.law_network.specs.Network.{NetState, Event, Enter, Act, Deliver, happened, schedule}
+use Rattle.law_network.specs.Network.{NetState, Event, Enter, Act, Deliver, See, happened, schedule}
 use Rattle.law_network.specs.Calls as calls
 use Rattle.law_network.specs.Calls.{first_actor, starting, last_of}
 use Rattle.law_network.specs.Tasks.{Task, Do, Drain}
@@ -138,6 +138,7 @@ first-last [] = refl
 first-last (Enter actor last ∷ es) = ap (λ z. actor ∷ z) (first-last es)
 first-last (Act k c ∷ es) = first-last es
 first-last (Deliver k a b ∷ es) = first-last es
+first-last (See k clock ∷ es) = first-last es
 
 -- seat 0 has come behind a setup
 pub after-some : (l : Layout) (setup : List Command) → is_some (slice_get (after_setup l setup).callers 0) ≡ true

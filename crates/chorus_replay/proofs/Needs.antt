@@ -16,7 +16,7 @@ use Rattle.chorus_world.specs.Views.{by}
 use Rattle.chorus_world.specs.Seats.{posts, posts_after}
 use Rattle.chorus_world.specs.Commands.{performs, answers, is_own_of}
 use Rattle.chorus_calls.specs.Callers.{Seated}
-use Rattle.law_network.specs.Network.{Event, Enter, Act, Deliver, schedule}
+use Rattle.law_network.specs.Network.{Event, Enter, Act, Deliver, See, schedule}
 use Rattle.law_network.specs.History.{history}
 use Rattle.law_network.specs.Schedules.{has_number_left, may_give, may_happen, may_be, commands_of, command_in}
 use Rattle.law_network.specs.Tasks.{Task, Do, Drain, CarryOut, MayAll, commands_in}
@@ -48,6 +48,7 @@ abbrev pub Needs : Layout → ℕ → Task → Type 0
 Needs l n (Do (Enter actor last)) = (is_actor actor ≡ true) × (has_actor l actor ≡ true)
 Needs l n (Do (Act k c)) = (k < n) × ((meets_conditions c ≡ true) × ((has_body_in_limit c ≡ true) × ((is_post c ≡ false) ⊎ (1 ≤ k))))
 Needs l n (Do (Deliver k a b)) = (k < n) × ((has_place l a ≡ true) × ((has_place l b ≡ true) × ((a == b) ≡ false)))
+Needs l n (Do (See k clock)) = k < n
 Needs l n (Drain k) = k < n
 
 abbrev pub HasAll : Layout → List Task → Type 0
@@ -165,10 +166,12 @@ module _ (l : Layout) (shape : IsLayout l) (ts : List Task) (es : List Event) (c
       and_from (some && has_place n.layout a && has_place n.layout b) (not (a == b))
       (and_from (some && has_place n.layout a) (has_place n.layout b) (and_from some (has_place n.layout a) (ap is_some (came k needs.0).1) from) to)
       (ap not needs.1.1.1)
+  happens (See k clock) needs few = ap is_some (came k needs).1
 
 fewer : (k : ℕ) (e : Event) (cs : List Command) → length cs ≤ length (command_in k e cs)
 fewer k (Enter actor last) cs = omega arith
 fewer k (Deliver s a b) cs = omega arith
+fewer k (See s clock) cs = omega arith
 fewer k (Act s c) cs = go (s == k)
   where
     go : (b : Bool) → length cs ≤ length (cond b (c ∷ cs) cs)
@@ -195,6 +198,7 @@ NeedsOn l n [] = Unit {0}
 NeedsOn l n (Do (Enter actor last) ∷ ts) = Needs l n (Do (Enter actor last)) × NeedsOn l (suc n) ts
 NeedsOn l n (Do (Act k c) ∷ ts) = Needs l n (Do (Act k c)) × NeedsOn l n ts
 NeedsOn l n (Do (Deliver k a b) ∷ ts) = Needs l n (Do (Deliver k a b)) × NeedsOn l n ts
+NeedsOn l n (Do (See k clock) ∷ ts) = Needs l n (Do (See k clock)) × NeedsOn l n ts
 NeedsOn l n (Drain k ∷ ts) = Needs l n (Drain k) × NeedsOn l n ts
 
 turn : (t : Task) (ts older : List Task) → reverse (t ∷ ts) ++ older ≡ reverse ts ++ t ∷ older
@@ -208,6 +212,8 @@ all-of l older (Do (Act k c) ∷ ts) needs has =
     let t = Do (Act k c) in subst (HasAll l) (sym (turn t ts older)) (all-of l (t ∷ older) ts needs.1 (needs.0, has))
 all-of l older (Do (Deliver k a b) ∷ ts) needs has =
     let t = Do (Deliver k a b) in subst (HasAll l) (sym (turn t ts older)) (all-of l (t ∷ older) ts needs.1 (needs.0, has))
+all-of l older (Do (See k clock) ∷ ts) needs has =
+    let t = Do (See k clock) in subst (HasAll l) (sym (turn t ts older)) (all-of l (t ∷ older) ts needs.1 (needs.0, has))
 all-of l older (Drain k ∷ ts) needs has =
     let t = Drain k in subst (HasAll l) (sym (turn t ts older)) (all-of l (t ∷ older) ts needs.1 (needs.0, has))
 
@@ -222,6 +228,7 @@ on-append l n m (Do (Enter actor last) ∷ ts) us e one two = (one.0, on-append 
     later a n = omega arith
 on-append l n m (Do (Act k c) ∷ ts) us e one two = (one.0, on-append l n m ts us e one.1 two)
 on-append l n m (Do (Deliver k a b) ∷ ts) us e one two = (one.0, on-append l n m ts us e one.1 two)
+on-append l n m (Do (See k clock) ∷ ts) us e one two = (one.0, on-append l n m ts us e one.1 two)
 on-append l n m (Drain k ∷ ts) us e one two = (one.0, on-append l n m ts us e one.1 two)
 
 -- behind tasks by which nobody comes

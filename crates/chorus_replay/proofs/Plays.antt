@@ -14,7 +14,7 @@ use Rattle.chorus_net.specs.declared.closed.Closed.{Closed}
 use Rattle.law_network.specs.Calls.{starting}
 use Rattle.chorus_net.specs.Closing.{IsLeft, past_of}
 use Rattle.law_network.specs.Left.{merged_past}
-use Rattle.law_network.specs.Network.{NetState, Event, Enter, Act, Deliver, schedule, round, rounds}
+use Rattle.law_network.specs.Network.{NetState, Event, Enter, Act, Deliver, See, schedule, round, rounds}
 use Rattle.law_network.specs.Quiet.{IsQuiet}
 use Rattle.law_network.specs.Schedules.{may_give, may_happen, may_be, commands_of}
 use Rattle.law_network.specs.Stands.{actor_of}
@@ -85,6 +85,8 @@ ungiven l (Enter actor last ∷ es) k may h =
     ungiven l es k two.1 (none-before (reverse (actors_in es)) (actor ∷ []) k (ap (λ z. slice_get z k) (sym (reverse-append (actor ∷ []) (actors_in es))) ∙ h))
 ungiven l (Deliver j a b ∷ es) k may h =
     let two = and_parts (may_happen (Deliver j a b) (schedule l es)) (may_be l es) may in ungiven l es k two.1 h
+ungiven l (See j clock ∷ es) k may h =
+    let two = and_parts (may_happen (See j clock) (schedule l es)) (may_be l es) may in ungiven l es k two.1 h
 ungiven l (Act j c ∷ es) k may h =
     let two = and_parts (may_happen (Act j c) (schedule l es)) (may_be l es) may in by-seat (ungiven l es k two.1 h) two.0 (j == k) refl
   where

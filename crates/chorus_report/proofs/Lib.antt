@@ -2,6 +2,4 @@ pub mod Read
 pub mod Texts
 pub mod Ends
 pub mod Seating
-pub mod Holding
 pub mod Playing
-mod Examples

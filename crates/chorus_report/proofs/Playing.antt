@@ -31,10 +31,10 @@ use Rattle.law_network.proofs.Merge.Parts.{part}
 use Rattle.law_network.proofs.Places.Layouts.{schedule-keeps}
 use Rattle.law_network.proofs.Promises.Promised.{stands-at, runs-at, journals-at, closes-at, receives-at}
 use Rattle.chorus_show.specs.declared.status.Status.{Status}
-use Rattle.chorus_report.specs.Fates.{WorldHolds}
+use Rattle.law_network.specs.Fates.{WorldHolds}
 use Rattle.chorus_report.specs.Headline.{PerformsUnless, IsQuietUnless, Plays}
 use Rattle.chorus_report.proofs.Seating.{run-more}
-use Rattle.chorus_report.proofs.Holding.{holds-by-fate, world-holds}
+use Rattle.law_network.proofs.Holdings.ByFate.{holds-by-fate, world-holds}
 
 -- A seat that made nothing performs no command.
 

@@ -20,7 +20,7 @@ use Rattle.chorus_show.specs.Bounds.{AreWithin}
 use Rattle.chorus_show.specs.declared.status.Status.{Status}
 use Rattle.chorus_show.specs.declared.status.Status.TheVariants.{Worn}
 use Rattle.chorus_scene.specs.Scene.{Scene, Script}
-use Rattle.chorus_report.specs.Fates.{HoldsByFate, WorldHolds}
+use Rattle.law_network.specs.Fates.{HoldsByFate, WorldHolds}
 use Rattle.chorus_report.specs.Setup.{setup_commands}
 use Rattle.chorus_report.specs.Reading.{IsGiven}
 

@@ -51,12 +51,12 @@ module _ {S R : Type 0} (journal : S → List (Remarked R) → Type 0) (marked :
       → Turned journal marked (stepped s (word_of (k + 1)) 0 id ((k, Some x) ∷ []) (given_view (k + 1) news v) gives)
   given s r id k v x news at live held inside all fit has = let w : View R = given_view (k + 1) news v in let h : ℕ = v.knows.seat in let mine = r.each id v at live in let hold = mine.holds k held in
       let wide = r.wide in
-      let work : ℕ → List (Placed R) = work_after h (k + 1) news r.work in
-      let log : ℕ → List (Remarked R) = log_after h (k + 1) news r.log in
-      let same_work : (q : ℕ) → q ≢ h → work q ≡ r.work q = work_elsewhere h (k + 1) news r.work in
-      let same_log : (i : ℕ) → i ≢ k + 1 → log i ≡ r.log i = log_elsewhere h (k + 1) news r.log in
-      let grows : (i : ℕ) (front : List (Remarked R)) → StartsWith (r.log i) front → StartsWith (log i) front = log_grows h (k + 1) news r.log in
-      let now : log (k + 1) ≡ v.took ++ news = log_here h (k + 1) news r.log ∙ ap (λ l. l ++ news) (sym hold.1) in
+      let work : ℕ → List (Placed R) = work_after h (k + 1) v.knows.seen news r.work in
+      let log : ℕ → List (Remarked R) = log_after h (k + 1) v.knows.seen news r.log in
+      let same_work : (q : ℕ) → q ≢ h → work q ≡ r.work q = work_elsewhere h (k + 1) v.knows.seen news r.work in
+      let same_log : (i : ℕ) → i ≢ k + 1 → log i ≡ r.log i = log_elsewhere h (k + 1) v.knows.seen news r.log in
+      let grows : (i : ℕ) (front : List (Remarked R)) → StartsWith (r.log i) front → StartsWith (log i) front = log_grows h (k + 1) v.knows.seen news r.log in
+      let now : log (k + 1) ≡ v.took ++ news = log_here h (k + 1) v.knows.seen news r.log ∙ ap (λ l. l ++ news) (sym hold.1) in
       let below = seat_below (get_or s.words 0 0) s.views r.numbered id v at live in
       let ws : List ℕ = set s.words (word_of (k + 1)) 0 in
       let first : get_or ws 0 0 ≡ get_or s.words 0 0 = get_or-set_other s.words (word_of (k + 1)) 0 0 0 (λ e. omega arith) in
@@ -73,7 +73,7 @@ module _ {S R : Type 0} (journal : S → List (Remarked R) → Type 0) (marked :
               sees = seen_after (k + 1) v.knows.seen (v.took ++ news) log now (λ i. grows i (list_at i v.knows.seen) (mine.sees i));
               saw = λ i. grows i (list_at i v.former) (mine.saw i);
               heard = λ i. grows i (list_at i v.heard) (mine.heard i);
-              own = ap (λ l. l ++ with_place (k + 1) news) mine.own ∙ sym (work_here h (k + 1) news r.work);
+              own = ap (λ l. l ++ with_place (k + 1) v.knows.seen news) mine.own ∙ sym (work_here h (k + 1) v.knows.seen news r.work);
               noted = notes_apart h (λ (n : Note R). n.mine ≡ r.work n.seat) (λ (n : Note R). n.mine ≡ work n.seat) v.knows.notes own_once.1 (λ n apart e. e ∙ sym (same_work n.seat apart)) mine.noted;
               unused = λ q there. same_work q (λ e. let z = own_once.0 in let t = ap (λ (n : ℕ). times n v.drawn) e in omega arith) ∙ mine.unused q there;
               counts = λ e. mine.counts e ∙ sym first;
@@ -91,7 +91,7 @@ module _ {S R : Type 0} (journal : S → List (Remarked R) → Type 0) (marked :
               plain = b.plain;
               holds = λ i e. let p = b.holds i e in let ne : i ≢ k = λ same. let t = ap (λ (n : ℕ). get_or s.words (word_of (n + 1)) 0) same in let a = p.0 in let c = hold.0 in differ (omega arith) in (other i ne ∙ p.0, p.1 ∙ sym (same_log (i + 1) (λ e. ne (omega arith))));
             });
-        made = made_after h (k + 1) news r.work r.log r.made all;
+        made = made_after h (k + 1) v.knows.seen news r.work r.log r.made all;
         unmade = λ q le. same_work q (λ e. omega arith) ∙ r.unmade q (omega arith);
         home = λ i b z. dite (ℕ_discrete i k)
             (λ e. (x, ap (λ (n : ℕ). get_elem? (set s.homes k (some (Some x))) n) e ∙ set_here s.homes k (some (Some x)) inside, subst (λ (l : List (Remarked R)). journal x l) (sym (ap (λ (n : ℕ). log (n + 1)) e ∙ now)) fit, subst (λ (n : ℕ). marked (n + 1) x) (sym e) has))

@@ -29,16 +29,16 @@ module _ {R : Type 0} where
   pub at_place-append : (p : ℕ) (a b : List (Placed R)) → at_place p (a ++ b) ≡ at_place p a ++ at_place p b
   at_place-append p a b = ap (map (λ (m : Placed R). m.remarked)) (filter-append (λ (m : Placed R). eqb m.place p) a b) ∙ map-append (λ (m : Placed R). m.remarked) (filter (λ (m : Placed R). eqb m.place p) a) (filter (λ (m : Placed R). eqb m.place p) b)
 
-  abbrev kept_at : Bool → Remarked R → List (Placed R) → ℕ → List (Remarked R)
-  kept_at b e ms p = map (λ (m : Placed R). m.remarked) (cond b (record { place = p; remarked = e } ∷ ms) ms)
+  abbrev kept_at : Bool → Remarked R → List (Placed R) → ℕ → List (List (Remarked R)) → List (Remarked R)
+  kept_at b e ms p seen = map (λ (m : Placed R). m.remarked) (cond b (record { place = p; seen = seen; remarked = e } ∷ ms) ms)
 
-  pub at_place-with_place : (p : ℕ) (es : List (Remarked R)) → at_place p (with_place p es) ≡ es
-  at_place-with_place p [] = refl
-  at_place-with_place p (e ∷ es) = ap (λ b. kept_at b e (filter (λ (m : Placed R). eqb m.place p) (with_place p es)) p) (eq-eqb p p refl) ∙ ap (λ l. e ∷ l) (at_place-with_place p es)
+  pub at_place-with_place : (p : ℕ) (seen : List (List (Remarked R))) (es : List (Remarked R)) → at_place p (with_place p seen es) ≡ es
+  at_place-with_place p seen [] = refl
+  at_place-with_place p seen (e ∷ es) = ap (λ b. kept_at b e (filter (λ (m : Placed R). eqb m.place p) (with_place p seen es)) p seen) (eq-eqb p p refl) ∙ ap (λ l. e ∷ l) (at_place-with_place p seen es)
 
-  pub at_place-elsewhere : (p q : ℕ) (es : List (Remarked R)) → p ≢ q → at_place q (with_place p es) ≡ []
-  at_place-elsewhere p q [] apart = refl
-  at_place-elsewhere p q (e ∷ es) apart = ap (λ b. kept_at b e (filter (λ (m : Placed R). eqb m.place q) (with_place p es)) p) (ne_eqb p q apart) ∙ at_place-elsewhere p q es apart
+  pub at_place-elsewhere : (p q : ℕ) (seen : List (List (Remarked R))) (es : List (Remarked R)) → p ≢ q → at_place q (with_place p seen es) ≡ []
+  at_place-elsewhere p q seen [] apart = refl
+  at_place-elsewhere p q seen (e ∷ es) apart = ap (λ b. kept_at b e (filter (λ (m : Placed R). eqb m.place q) (with_place p seen es)) p seen) (ne_eqb p q apart) ∙ at_place-elsewhere p q seen es apart
 
   pub length-seats_of : (ns : List (Note R)) → length (seats_of ns) ≡ length ns
   length-seats_of ns = length-map ns (λ (n : Note R). n.seat)

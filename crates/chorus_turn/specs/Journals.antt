@@ -22,9 +22,9 @@ module _ {R : Type 0} where
   abbrev pub IsBy : ℕ → List (Remarked R) → Type 0
   IsBy seat log = All (λ (r : Remarked R). r.entry.seat ≡ seat) log
 
-  -- the entries, as made at this place
-  abbrev pub with_place : ℕ → List (Remarked R) → List (Placed R)
-  with_place place log = map (λ (r : Remarked R). record { place = place; remarked = r }) log
+  -- the entries, as made at this place by a pass that had seen this of each place
+  abbrev pub with_place : ℕ → List (List (Remarked R)) → List (Remarked R) → List (Placed R)
+  with_place place seen log = map (λ (r : Remarked R). record { place = place; seen = seen; remarked = r }) log
 
   -- of what was made, the entries of one place
   abbrev pub at_place : ℕ → List (Placed R) → List (Remarked R)

@@ -39,7 +39,7 @@ module _ {R : Type 0} where
   -- of v, which has found this journal at the place, and has added the new entries
   abbrev pub after_turn : ℕ → List (Remarked R) → List (Remarked R) → Knowledge R → Knowledge R
   after_turn place found news v =
-      record v { seen = list_put place (found ++ news) v.seen; mine = v.mine ++ with_place place news }
+      record v { seen = list_put place (found ++ news) v.seen; mine = v.mine ++ with_place place v.seen news }
 
   abbrev pub note_of : Knowledge R → Note R
   note_of w = record { seat = w.seat; mine = w.mine }

@@ -8,9 +8,11 @@ pub struct Remarked<R> {
     pub remark: R,
 }
 
-/// An entry with the place (from 1) whose turn added it, whatever place the entry itself names.
+/// An entry with the place (from 1) whose turn added it, whatever place the entry itself names, and with what its pass had seen
+/// of each place before that turn.
 pub struct Placed<R> {
     pub place: u16,
+    pub seen: LinkedList<LinkedList<Remarked<R>>>,
     pub remarked: Remarked<R>,
 }
 

@@ -30,7 +30,7 @@ use Rattle.law_machine.specs.declared.outgoing.Outgoing.{Outgoing}
 use Rattle.law_machine.specs.PlaceState.{Turn, next_entry}
 use Rattle.law_machine.specs.PlaceMachine.{act, begun_by, work}
 use Rattle.law_network.specs.Packets.{first_on, put_all, rest_on}
-use Rattle.law_network.specs.Network.{NetState, Event, Enter, Act, Deliver, commanded, delivered, ended, happened, place, schedule, turn_for, works_off}
+use Rattle.law_network.specs.Network.{NetState, Event, Enter, Act, Deliver, See, commanded, delivered, ended, happened, place, schedule, turn_for, works_off}
 use Rattle.law_network.specs.Schedules.{may_be, may_happen}
 use Rattle.law_network.specs.Stands.{Stands, actor_of}
 use Rattle.law_network.specs.UnderWay.{carries, far_place, moves, transfer_in, transfer_of}
@@ -259,6 +259,7 @@ module _ (n : NetState) (past : List Entry) (a b : ℕ) (caller : Seated) (k : P
 
 step : (n : NetState) (past : List Entry) (e : Event) → IsLayout n.layout → may_happen e n ≡ true → Stands n past → Stands (happened e n) (said_by e n ++ past) → arrows (said_by e n ++ past) ≡ served_by e n ++ arrows past
 step n past (Enter actor last) shape may h k = refl
+step n past (See seat clock) shape may h k = refl
 step n past (Act seat c) shape may h k = by (slice_get n.callers seat) k
   where
     by : (o : Option Seated) → Stands (commanded seat c o n) (said_with c o n ++ past) → arrows (said_with c o n ++ past) ≡ arrows past

@@ -8,7 +8,7 @@ use Rattle.chorus_entry.specs.declared.packet.Packet.{Packet}
 use Rattle.chorus_entry.specs.declared.packet.Cargo.{Cargo}
 use Rattle.chorus_calls.specs.Callers.{Seated}
 use Rattle.law_network.specs.Packets.{first_on}
-use Rattle.law_network.specs.Network.{NetState, Event, Enter, Act, Deliver, schedule}
+use Rattle.law_network.specs.Network.{NetState, Event, Enter, Act, Deliver, See, schedule}
 use Rattle.law_network.specs.Schedules.{OfSchedules}
 use Rattle.law_network.specs.History.{history}
 use Rattle.law_network.specs.Left.{merged_past}
@@ -54,6 +54,7 @@ abbrev pub served_by : Event → NetState → List Arrow
 served_by (Deliver seat a b) n = served b (slice_get n.callers seat) (first_on a b n.packets)
 served_by (Enter actor last) n = []
 served_by (Act seat command) n = []
+served_by (See seat clock) n = []
 
 abbrev pub worked_off : Layout → List Event → List Arrow
 worked_off l [] = []

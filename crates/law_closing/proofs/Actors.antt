@@ -9,7 +9,7 @@ use Rattle.chorus_ui.specs.declared.layout.Layout.{Layout}
 use Rattle.chorus_ui.specs.Layout.{has_actor}
 use Rattle.chorus_ui.specs.NameKind.{is_actor}
 use Rattle.chorus_entry.specs.declared.packet.Packet.{Packet}
-use Rattle.chorus_calls.specs.Callers.{Seated, new_caller}
+use Rattle.chorus_calls.specs.Callers.{Seated, new_caller, raised}
 use Rattle.law_machine.specs.PlaceState.{PlaceState}
 use Rattle.chorus_turn.specs.declared.knowledge.Placed.{Placed}
 use Rattle.chorus_turn.specs.declared.knowledge.Note.{Note}
@@ -17,6 +17,7 @@ use Rattle.chorus_turn.specs.declared.knowledge.Knowledge.{Knowledge}
 use Rattle.chorus_turn.specs.Knowing.{seats_of}
 use Rattle.law_history.specs.Histories.{Follows}
 use Rattle.law_history.specs.Network.{Network}
+use Rattle.law_history.specs.PlaceTurns.{machine}
 use Rattle.law_history.specs.Runs.{actor_among}
 use Rattle.law_history.specs.Journals.{PlaceTurn, Comer, IsComer, new_from, AreHistories}
 use Rattle.law_closing.specs.Places.{PlaceNote}
@@ -67,19 +68,19 @@ in-layout l actors n i (c ∷ cs) end kinds has =
     (in-layout l actors n (i + 1) cs (omega (arith, end)) kinds has)
 
 -- a caller that takes a turn in the actor came in it
-same-new : (q : ℕ) (a : Ui) (o : Option Comer) (w : Seated) → w ≡ new_from q o → w.actor ≡ a → new_from q o ≡ new_from q (option_map (in_actor a) o)
+same-new : (q : ℕ) (a : Ui) (o : Option Comer) (w : Seated) → w ≡ raised w.last (new_from q o) → w.actor ≡ a → raised w.last (new_from q o) ≡ raised w.last (new_from q (option_map (in_actor a) o))
 same-new q a None w e is = refl
-same-new q a (Some c) w e is = ap (λ z. new_caller q z c.last) (sym (ap (λ (x : Seated). x.actor) e) ∙ is)
+same-new q a (Some c) w e is = ap (λ z. raised w.last (new_caller q z c.last)) (sym (ap (λ (x : Seated). x.actor) e) ∙ is)
 
 -- the caller at the end: that of the last turn; where there is none, the new one
 abbrev ends_with : List PlaceTurn → Seated → Seated → Seated
 ends_with [] new last = new
 ends_with (t ∷ ts) new last = last
 
-follows-in : (q : ℕ) (a : Ui) (o : Option Comer) (ts : List PlaceTurn) (last : Seated) → All (InTurn a) ts → Follows (new_from q o) ts last
-    → Follows (new_from q (option_map (in_actor a) o)) ts (ends_with ts (new_from q (option_map (in_actor a) o)) last)
-follows-in q a o [] last all h = refl
-follows-in q a o (t ∷ ts) last all h = (h.0 ∙ same-new q a o t.before h.0 (All-head (InTurn a) t ts all), h.1)
+follows-in : (l : Layout) (q : ℕ) (a : Ui) (o : Option Comer) (ts : List PlaceTurn) (last : Seated) → All (InTurn a) ts → Follows (machine l) (new_from q o) ts last
+    → Follows (machine l) (new_from q (option_map (in_actor a) o)) ts (ends_with ts (new_from q (option_map (in_actor a) o)) last)
+follows-in l q a o [] last all h = refl
+follows-in l q a o (t ∷ ts) last all h = (h.0 ∙ same-new q a o t.before h.0 (All-head (InTurn a) t ts all), h.1)
 
 none-in : (a : Ui) (o : Option Comer) → option_map (in_actor a) o ≡ None → o ≡ None
 none-in a None e = refl
@@ -137,8 +138,8 @@ module _ (l : Layout) (actors : ℕ → Ui) (v : Knowledge PlaceNote) (is : AreA
     histories = record {
       takes = h.histories.takes;
       follows = λ q.
-          subst (λ o. Follows (new_from q o) (of_seats q) (ends_with (of_seats q) (new_from q o) (closing.callers q))) (sym (came-at q))
-          (follows-in q (actors q) (slice_get comers q) (of_seats q) (closing.callers q) (acts q) (h.histories.follows q));
+          subst (λ o. Follows (machine l) (new_from q o) (of_seats q) (ends_with (of_seats q) (new_from q o) (closing.callers q))) (sym (came-at q))
+          (follows-in l q (actors q) (slice_get comers q) (of_seats q) (closing.callers q) (acts q) (h.histories.follows q));
       shared = h.histories.shared;
       in_order = h.histories.in_order;
     };

@@ -19,7 +19,7 @@ use Rattle.chorus_entry.specs.declared.answer.Answer.TheVariants as answers
 use Rattle.chorus_entry.specs.declared.command.Command.{Command}
 use Rattle.chorus_entry.specs.declared.packet.Packet.{Packet}
 use Rattle.chorus_entry.specs.declared.packet.Cargo.{Cargo}
-use Rattle.chorus_calls.specs.Callers.{Seated, new_caller}
+use Rattle.chorus_calls.specs.Callers.{Seated, new_caller, raised}
 use Rattle.chorus_turn.specs.declared.knowledge.Remarked.{Remarked}
 use Rattle.chorus_turn.specs.declared.knowledge.Placed.{Placed}
 use Rattle.chorus_turn.specs.declared.knowledge.Note.{Note}
@@ -149,10 +149,10 @@ left _ _ = []
 -- The pass that closes is the first caller's, with a note of the second's.
 
 abbrev note : Note PlaceNote
-note = record { seat = 1; mine = with_place 2 (log 2) }
+note = record { seat = 1; mine = with_place 2 [] (log 2) }
 
 abbrev known : Knowledge PlaceNote
-known = record { seat = 0; seen = []; mine = with_place 1 (log 1); refused = []; notes = note ∷ []; keeper = true; made = 2 }
+known = record { seat = 0; seen = []; mine = with_place 1 [] (log 1); refused = []; notes = note ∷ []; keeper = true; made = 2 }
 
 -- It meets each premise.
 
@@ -248,11 +248,11 @@ every (suc (suc q)) lt = absurd (omega (arith, lt))
 abbrev IsWithin : Placed PlaceNote → Type 0
 IsWithin m = IsPlace 2 m.place
 
-within : (p : ℕ) → IsPlace 2 p → (rs : Log) → All IsWithin (with_place p rs)
+within : (p : ℕ) → IsPlace 2 p → (rs : Log) → All IsWithin (with_place p [] rs)
 within p is [] = All-nil IsWithin
-within p is (r ∷ rs) = All-cons IsWithin (record { place = p; remarked = r }) (with_place p rs) is (within p is rs)
+within p is (r ∷ rs) = All-cons IsWithin (record { place = p; seen = []; remarked = r }) (with_place p [] rs) is (within p is rs)
 
-first-thread : IsThread (is_new two_sites) 2 0 (with_place 1 (log 1))
+first-thread : IsThread (machine two_sites) (is_new two_sites) 2 0 (with_place 1 [] (log 1))
 first-thread = record {
   first = sender;
   last = (after 4).1;
@@ -261,7 +261,7 @@ first-thread = record {
   within = within 1 (omega arith, omega arith) (log 1);
 }
 
-second-thread : IsThread (is_new two_sites) 2 1 (with_place 2 (log 2))
+second-thread : IsThread (machine two_sites) (is_new two_sites) 2 1 (with_place 2 [] (log 2))
 second-thread = record {
   first = worker;
   last = worked.1;
@@ -288,7 +288,7 @@ meets = record {
   finished = record { shows = shown; seats = drawn; every = every };
   keeps = keeps;
   thread = first-thread;
-  threads = All-cons (λ (n : Note PlaceNote). IsThread (is_new two_sites) 2 n.seat n.mine) note [] second-thread (All-nil _);
+  threads = All-cons (λ (n : Note PlaceNote). IsThread (machine two_sites) (is_new two_sites) 2 n.seat n.mine) note [] second-thread (All-nil _);
   settled = λ a b _ _. settled a b;
   apart = from-elsewhere;
 }
@@ -308,21 +308,21 @@ actors q = actor (q + 1)
 abbrev MadeIn : Ui → Placed PlaceNote → Type 0
 MadeIn a m = m.remarked.remark.before.actor ≡ a
 
-both-in : (a : Ui) (r : Noted Seated Command Packet) (d e : Entry) (rest : List (Placed PlaceNote)) → r.before.actor ≡ a → All (MadeIn a) rest → All (MadeIn a) (with_place 1 (remarked r (d ∷ e ∷ [])) ++ rest)
+both-in : (a : Ui) (r : Noted Seated Command Packet) (d e : Entry) (rest : List (Placed PlaceNote)) → r.before.actor ≡ a → All (MadeIn a) rest → All (MadeIn a) (with_place 1 [] (remarked r (d ∷ e ∷ [])) ++ rest)
 both-in a r d e rest is h =
-    All-cons (MadeIn a) (record { place = 1; remarked = record { entry = d; remark = record r { nth = 0 } } })
-    (record { place = 1; remarked = record { entry = e; remark = record r { nth = 1 } } } ∷ rest) is
-    (All-cons (MadeIn a) (record { place = 1; remarked = record { entry = e; remark = record r { nth = 1 } } }) rest is h)
+    All-cons (MadeIn a) (record { place = 1; seen = []; remarked = record { entry = d; remark = record r { nth = 0 } } })
+    (record { place = 1; seen = []; remarked = record { entry = e; remark = record r { nth = 1 } } } ∷ rest) is
+    (All-cons (MadeIn a) (record { place = 1; seen = []; remarked = record { entry = e; remark = record r { nth = 1 } } }) rest is h)
 
-in-first : AreIn (actor 1) (with_place 1 (log 1))
+in-first : AreIn (actor 1) (with_place 1 [] (log 1))
 in-first =
-    both-in (actor 1) (remark 0) (posting 0) (trying 0) (with_place 1 (sent 1 ++ (sent 2 ++ sent 3))) refl
-    (both-in (actor 1) (remark 1) (posting 1) (trying 1) (with_place 1 (sent 2 ++ sent 3)) refl
-    (both-in (actor 1) (remark 2) (posting 2) (trying 2) (with_place 1 (sent 3)) refl
+    both-in (actor 1) (remark 0) (posting 0) (trying 0) (with_place 1 [] (sent 1 ++ (sent 2 ++ sent 3))) refl
+    (both-in (actor 1) (remark 1) (posting 1) (trying 1) (with_place 1 [] (sent 2 ++ sent 3)) refl
+    (both-in (actor 1) (remark 2) (posting 2) (trying 2) (with_place 1 [] (sent 3)) refl
     (both-in (actor 1) (remark 3) (posting 3) (trying 3) [] refl (All-nil (MadeIn (actor 1))))))
 
 abbrev refused : Placed PlaceNote
-refused = record { place = 2; remarked = record { entry = refusing; remark = noted (machine two_sites) 2 work (started two_sites 2) worker } }
+refused = record { place = 2; seen = []; remarked = record { entry = refusing; remark = noted (machine two_sites) 2 work (started two_sites 2) worker } }
 
 pub in-actors : AreActors two_sites actors known
 in-actors = record {
@@ -398,19 +398,19 @@ hand-forgotten v ends sends waits hands rests none h =
     (let e : try 1 ∷ try 2 ∷ [] ≡ try 1 ∷ [] = (h.keeps 2 (omega arith, omega arith)).got 1 ∙ ap (λ ks. got_from 1 (turns_at 2 (log 2)) ++ ks) none in absurd (cc))
 
 -- the closing pass began with a caller that was not new
-pub not-new : (v : Knowledge PlaceNote) (ends : ℕ → PlaceState) (sends waits receives hands rests : Links) → v.seat ≡ 0 → v.mine ≡ with_place 1 (sent 1) →
+pub not-new : (v : Knowledge PlaceNote) (ends : ℕ → PlaceState) (sends waits receives hands rests : Links) → v.seat ≡ 0 → v.mine ≡ with_place 1 [] (sent 1) →
     ArePlacesClosed two_sites log v ends sends waits receives hands rests → ⊥
 not-new v ends sends waits receives hands rests seat mine h = absurd (false≢true (ap₂ (is_new two_sites) (sym seat) first ∙ h.thread.new))
   where
-    first : (after 1).1 ≡ h.thread.first
-    first = (subst (λ ms. Follows h.thread.first (turns_in ms) h.thread.last) mine h.thread.follows).0
+    first : (after 1).1 ≡ raised (after 1).1.last h.thread.first
+    first = (subst (λ ms. Follows (machine two_sites) h.thread.first (turns_in ms) h.thread.last) mine h.thread.follows).0
 
 -- a pass in the notes was at a place that there is not
 pub nowhere : (logs : ℕ → Log) (ends : ℕ → PlaceState) (sends waits receives hands rests : Links) →
-    ArePlacesClosed two_sites logs (record known { notes = record { seat = 1; mine = with_place 3 (sent 0) } ∷ [] }) ends sends waits receives hands rests → ⊥
+    ArePlacesClosed two_sites logs (record known { notes = record { seat = 1; mine = with_place 3 [] (sent 0) } ∷ [] }) ends sends waits receives hands rests → ⊥
 nowhere logs ends sends waits receives hands rests h =
-    (let t = All-head (λ (n : Note PlaceNote). IsThread (is_new two_sites) 2 n.seat n.mine) (record { seat = 1; mine = with_place 3 (sent 0) }) [] h.threads in
-    let is = All-head IsWithin (record { place = 3; remarked = record { entry = posting 0; remark = remark 0 } }) (record { place = 3; remarked = record { entry = trying 0; remark = record (remark 0) { nth = 1 } } } ∷ []) t.within in
+    (let t = All-head (λ (n : Note PlaceNote). IsThread (machine two_sites) (is_new two_sites) 2 n.seat n.mine) (record { seat = 1; mine = with_place 3 [] (sent 0) }) [] h.threads in
+    let is = All-head IsWithin (record { place = 3; seen = []; remarked = record { entry = posting 0; remark = remark 0 } }) (record { place = 3; seen = []; remarked = record { entry = trying 0; remark = record (remark 0) { nth = 1 } } } ∷ []) t.within in
     let most = is.1 in omega (arith, most))
 
 -- what a link held when it was settled is gone

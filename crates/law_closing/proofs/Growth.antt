@@ -7,9 +7,10 @@ use Rattle.std.proofs.lemmas.List.Elements.{All-nil, All-cons, All-append, filte
 use Rattle.chorus_entry.specs.declared.entry.Entry.{Entry}
 use Rattle.law_history.specs.declared.turns.Input.{Input}
 use Rattle.law_history.specs.Turns.{Machine, Turn, put_to, got_from, puts_to, packet_from}
-use Rattle.law_history.specs.Histories.{IsTurn, Takes, Follows}
+use Rattle.law_history.specs.Histories.{IsTurn, Takes, IsShown, Follows}
 use Rattle.chorus_turn.specs.declared.knowledge.Remarked.{Remarked}
 use Rattle.chorus_turn.specs.declared.knowledge.Placed.{Placed}
+use Rattle.chorus_turn.specs.Journals.{with_place}
 use Rattle.law_closing.specs.declared.noted.Noted.{Noted}
 use Rattle.law_closing.specs.Remarks.{turn_of, begins, turns_at, turns_in, numbered, remarked}
 use Rattle.law_closing.specs.Growth.{TurnsKeepPlaces, MovesKeepPlaces, TurnsKeepPasses}
@@ -28,9 +29,9 @@ module _ {C M K : Type 0} where
       ap (λ ms. map own ms) (filter-append heads made more) ∙ map-append own (filter heads made) (filter heads more)
 
   -- the entries as made at the place
-  pub turns_in-placed : (p : ℕ) (news : List (Remarked (Noted C M K))) → turns_in (map (λ (r : Remarked (Noted C M K)). record { place = p; remarked = r }) news) ≡ turns_at p news
-  turns_in-placed p news =
-      let put : Remarked (Noted C M K) → Placed (Noted C M K) = λ r. record { place = p; remarked = r } in
+  pub turns_in-placed : (p : ℕ) (seen : List (List (Remarked (Noted C M K)))) (news : List (Remarked (Noted C M K))) → turns_in (with_place p seen news) ≡ turns_at p news
+  turns_in-placed p seen news =
+      let put : Remarked (Noted C M K) → Placed (Noted C M K) = λ r. record { place = p; seen = seen; remarked = r } in
       let heads : Placed (Noted C M K) → Bool = λ m. begins m.remarked in
       let own : Placed (Noted C M K) → Turn C M K = λ m. turn_of m.place m.remarked in
       ap (λ ms. map own ms) (filter-map heads put news) ∙ map_twice own put (filter begins news)
@@ -44,10 +45,6 @@ module _ {C M K : Type 0} where
   pub turns_at-remarked : (p : ℕ) (r : Noted C M K) (e : Entry) (es : List Entry) → turns_at p (remarked r (e ∷ es)) ≡ turn_of p record { entry = e; remark = r } ∷ []
   turns_at-remarked p r e es = ap (λ rs. turn_of p record { entry = e; remark = r } ∷ map (turn_of p) rs) (none_begin 0 r es)
 
-  pub follows-push : (ts : List (Turn C M K)) (t : Turn C M K) (c d : C) → Follows c ts d → t.before ≡ d → Follows c (ts ++ t ∷ []) t.after
-  follows-push [] t c d h same = (same ∙ sym h, refl)
-  follows-push (u ∷ ts) t c d h same = (h.0, follows-push ts t u.after d h.1 same)
-
   pub put_to-push : (b : ℕ) (ts : List (Turn C M K)) (t : Turn C M K) → put_to b (ts ++ t ∷ []) ≡ put_to b ts ++ puts_to b t.puts
   put_to-push b ts t =
       flat_map-append (λ (t : Turn C M K). puts_to b t.puts) ts (t ∷ []) ∙ ap (λ ks. put_to b ts ++ ks) (append-nil (puts_to b t.puts))
@@ -56,31 +53,34 @@ module _ {C M K : Type 0} where
   got_from-push a ts t =
       flat_map-append (λ (t : Turn C M K). packet_from a t.input) ts (t ∷ []) ∙ ap (λ ks. got_from a ts ++ ks) (append-nil (packet_from a t.input))
 
-  pub all_put : (count p : ℕ) (news : List (Remarked (Noted C M K))) → IsPlace count p → All (λ (m : Placed (Noted C M K)). IsPlace count m.place) (map (λ (r : Remarked (Noted C M K)). record { place = p; remarked = r }) news)
-  all_put count p [] is = All-nil (λ (m : Placed (Noted C M K)). IsPlace count m.place)
-  all_put count p (r ∷ news) is =
-      let put : Remarked (Noted C M K) → Placed (Noted C M K) = λ r. record { place = p; remarked = r } in
-      All-cons (λ (m : Placed (Noted C M K)). IsPlace count m.place) (put r) (map put news) is (all_put count p news is)
+  pub all_put : (count p : ℕ) (seen : List (List (Remarked (Noted C M K)))) (news : List (Remarked (Noted C M K))) → IsPlace count p → All (λ (m : Placed (Noted C M K)). IsPlace count m.place) (with_place p seen news)
+  all_put count p seen [] is = All-nil (λ (m : Placed (Noted C M K)). IsPlace count m.place)
+  all_put count p seen (r ∷ news) is =
+      All-cons (λ (m : Placed (Noted C M K)). IsPlace count m.place) record { place = p; seen = seen; remarked = r } (with_place p seen news) is (all_put count p seen news is)
 
-  -- a pass has taken a turn more, at the place p, from the caller that its last turn left
-  pub thread_turn : (is_new : ℕ → C → Bool) (count q p : ℕ) (mine : List (Placed (Noted C M K))) (t : IsThread is_new count q mine) (r : Noted C M K) (e : Entry) (es : List Entry) → IsPlace count p → r.before ≡ t.last → (u : IsThread is_new count q (mine ++ map (λ (r : Remarked (Noted C M K)). record { place = p; remarked = r }) (remarked r (e ∷ es)))) × (u.last ≡ r.after)
-  thread_turn is_new count q p mine t r e es is same =
-      let put : Remarked (Noted C M K) → Placed (Noted C M K) = λ r. record { place = p; remarked = r } in
+module _ {P C M K : Type 0} (m : Machine P C M K) where
+  pub follows-push : (ts : List (Turn C M K)) (t : Turn C M K) (c d : C) → Follows m c ts d → IsShown m d t.before → Follows m c (ts ++ t ∷ []) t.after
+  follows-push [] t c d h same = (same ∙ ap (m.shown (m.last t.before)) (sym h), refl)
+  follows-push (u ∷ ts) t c d h same = (h.0, follows-push ts t u.after d h.1 same)
+
+  -- a pass has taken a turn more, at the place p, from the caller that its last turn left, to whom entries may have been shown
+  pub thread_turn : (is_new : ℕ → C → Bool) (count q p : ℕ) (mine : List (Placed (Noted C M K))) (t : IsThread m is_new count q mine) (seen : List (List (Remarked (Noted C M K)))) (r : Noted C M K) (e : Entry) (es : List Entry) → IsPlace count p → IsShown m t.last r.before
+      → (u : IsThread m is_new count q (mine ++ with_place p seen (remarked r (e ∷ es)))) × (u.last ≡ r.after)
+  thread_turn is_new count q p mine t seen r e es is same =
       let news : List (Remarked (Noted C M K)) = remarked r (e ∷ es) in
       let head : Turn C M K = turn_of p record { entry = e; remark = r } in
-      let all : turns_in (mine ++ map put news) ≡ turns_in mine ++ head ∷ [] =
-      turns_in-append mine (map put news) ∙ ap (λ ts. turns_in mine ++ ts) (turns_in-placed p news ∙ turns_at-remarked p r e es) in (
+      let all : turns_in (mine ++ with_place p seen news) ≡ turns_in mine ++ head ∷ [] =
+      turns_in-append mine (with_place p seen news) ∙ ap (λ ts. turns_in mine ++ ts) (turns_in-placed p seen news ∙ turns_at-remarked p r e es) in (
         record {
           first = t.first;
           last = r.after;
           new = t.new;
-          follows = subst (λ ts. Follows t.first ts r.after) (sym all) (follows-push (turns_in mine) head t.first t.last t.follows same);
-          within = All-append (λ (m : Placed (Noted C M K)). IsPlace count m.place) mine (map put news) t.within (all_put count p news is);
+          follows = subst (λ ts. Follows m t.first ts r.after) (sym all) (follows-push (turns_in mine) head t.first t.last t.follows same);
+          within = All-append (λ (m : Placed (Noted C M K)). IsPlace count m.place) mine (with_place p seen news) t.within (all_put count p seen news is);
         },
         refl,
       )
 
-module _ {P C M K : Type 0} (m : Machine P C M K) where
   pub takes-push : (p : ℕ) (ts : List (Turn C M K)) (t : Turn C M K) (x y : P) → Takes m p x ts y → IsTurn m p y t → Takes m p x (ts ++ t ∷ []) (m.turn p t.input y t.before).place
   takes-push p [] t x y h is = (subst (λ z. IsTurn m p z t) (sym h) is, ap (λ z. (m.turn p t.input z t.before).place) h)
   takes-push p (u ∷ ts) t x y h is = (h.0, takes-push p ts t (m.turn p u.input x u.before).place y h.1 is)
@@ -120,6 +120,5 @@ module _ (P C M K : Type 0) where
   moves-keep-places m start p log x pushed out popped hand pushed_now out_now popped_now hand_now more keeps puts pops holds =
       keeps_moves m start p log x pushed out popped hand pushed_now out_now popped_now hand_now more keeps puts pops holds
 
-module _ (C M K : Type 0) where
-  pub turns-keep-passes : TurnsKeepPasses C M K
-  turns-keep-passes is_new count q p mine t r e es is same = thread_turn is_new count q p mine t r e es is same
+  pub turns-keep-passes : TurnsKeepPasses P C M K
+  turns-keep-passes m is_new count q p mine t seen r e es is same = thread_turn m is_new count q p mine t seen r e es is same

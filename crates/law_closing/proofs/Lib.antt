@@ -4,4 +4,5 @@ pub mod Growth
 pub mod Places
 pub mod Actors
 pub mod Seen
+pub mod Behind
 mod Examples

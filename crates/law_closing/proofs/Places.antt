@@ -123,16 +123,16 @@ module _ (l : Layout) (shape : IsLayout l) (log : ℕ → List (Remarked PlaceNo
   abbrev closing : Network PlaceState Seated Packet
   closing = record { places = has.closing.places; links = has.closing.links; callers = callers_end }
 
-  follows-on : (q : ℕ) → Follows (new_from q (slice_get comers q)) (has.seats q) (callers_end q)
+  follows-on : (q : ℕ) → Follows (machine l) (new_from q (slice_get comers q)) (has.seats q) (callers_end q)
   follows-on q =
       elim (cases_lt q v.made) [
         | inl lt ↦
             (let last : has.closing.callers q ≡ callers_end q = sym (ap (λ b. cond b (has.closing.callers q) (new_from q (slice_get comers q))) (lt-ltb q v.made lt)) in
-            subst (λ w. Follows w (has.seats q) (callers_end q)) (sym (same-caller q lt))
-            (subst (λ w. Follows (has.callers q) (has.seats q) w) last (has.histories.follows q)))
+            subst (λ w. Follows (machine l) w (has.seats q) (callers_end q)) (sym (same-caller q lt))
+            (subst (λ w. Follows (machine l) (has.callers q) (has.seats q) w) last (has.histories.follows q)))
         | inr le ↦
             (let last : new_from q (slice_get comers q) ≡ callers_end q = sym (ap (λ b. cond b (has.closing.callers q) (new_from q (slice_get comers q))) (le-ltb q v.made le)) in
-            subst (λ ts. Follows (new_from q (slice_get comers q)) ts (callers_end q)) (sym (has.undrawn q le)) last)
+            subst (λ ts. Follows (machine l) (new_from q (slice_get comers q)) ts (callers_end q)) (sym (has.undrawn q le)) last)
       ]
 
   nobody : (q : ℕ) → slice_get comers q ≡ None → has.seats q ≡ []

@@ -48,7 +48,7 @@ only_out n p x d out =
 all_both : {X : Type 0} → (F G : X → Type 0) (xs : List X) → All F xs → All G xs → All (λ x. F x × G x) xs
 all_both F G xs f g = λ k d lt. (f k d lt, g k d lt)
 
-module _ {C M K : Type 0} (is_new : ℕ → C → Bool) (count : ℕ) (log : ℕ → List (Remarked (Noted C M K))) where
+module _ {P C M K : Type 0} (m : Machine P C M K) (is_new : ℕ → C → Bool) (count : ℕ) (log : ℕ → List (Remarked (Noted C M K))) where
   -- the turns of each place
   abbrev places_of : ℕ → List (Turn C M K)
   places_of p = only count p (turns_at p (log p)) []
@@ -59,7 +59,7 @@ module _ {C M K : Type 0} (is_new : ℕ → C → Bool) (count : ℕ) (log : ℕ
     pub first : C
     pub last : C
     pub new : is_new q first ≡ true
-    pub follows : Follows first turns last
+    pub follows : Follows m first turns last
     pub shared : (p : ℕ) → filter (is_by q) (places_of p) ≡ filter (is_at p) turns
 
   -- the logs have of the seat just this
@@ -83,12 +83,12 @@ module _ {C M K : Type 0} (is_new : ℕ → C → Bool) (count : ℕ) (log : ℕ
             ∙ sym (at_turns_in p mine)
       ]
 
-  known : (q : ℕ) (mine : List (Placed (Noted C M K))) → IsThread is_new count q mine → Shown q mine → Known q
+  known : (q : ℕ) (mine : List (Placed (Noted C M K))) → IsThread m is_new count q mine → Shown q mine → Known q
   known q mine t shown =
       record { turns = turns_in mine; first = t.first; last = t.last; new = t.new; follows = t.follows; shared = shared_by q mine shown t.within }
 
   abbrev Told : Note (Noted C M K) → Type 0
-  Told n = IsThread is_new count n.seat n.mine × Shown n.seat n.mine
+  Told n = IsThread m is_new count n.seat n.mine × Shown n.seat n.mine
 
   find : (q : ℕ) (notes : List (Note (Noted C M K))) → All Told notes → Known q ⊎ All (λ (n : Note (Noted C M K)). n.seat ≢ q) notes
   find q [] told = inr (All-nil (λ (n : Note (Noted C M K)). n.seat ≢ q))
@@ -121,17 +121,17 @@ module _ {P C M K : Type 0} (m : Machine P C M K) (is_new : ℕ → C → Bool) 
       let at : p - 1 + 1 ≡ p = (let low = is.0 in omega arith) in
       subst (λ x. All (λ (r : Remarked (Noted C M K)). r.entry.seat < v.made) (log x)) at (h.finished.seats (p - 1) (let low = is.0 in let high = is.1 in omega arith))
 
-  told : IsClosed m is_new start count log v end pushed out popped hand left → All (Told is_new count log) (own_note ∷ v.notes)
+  told : IsClosed m is_new start count log v end pushed out popped hand left → All (Told m is_new count log) (own_note ∷ v.notes)
   told h =
-      let Thread : Note (Noted C M K) → Type 0 = λ n. IsThread is_new count n.seat n.mine in
-      let Has : Note (Noted C M K) → Type 0 = λ n. Shown is_new count log n.seat n.mine in
+      let Thread : Note (Noted C M K) → Type 0 = λ n. IsThread m is_new count n.seat n.mine in
+      let Has : Note (Noted C M K) → Type 0 = λ n. Shown m is_new count log n.seat n.mine in
       all_both Thread Has (own_note ∷ v.notes) (All-cons Thread own_note v.notes h.thread h.threads)
       (All-cons Has own_note v.notes (λ p is. (shows_at h p is).own) (λ k d lt p is. (shows_at h p is).noted k d lt))
 
   -- what is known of each seat
-  known_of : IsClosed m is_new start count log v end pushed out popped hand left → ((q : ℕ) → (c : C) × (is_new q c ≡ true)) → (q : ℕ) → Known is_new count log q
+  known_of : IsClosed m is_new start count log v end pushed out popped hand left → ((q : ℕ) → (c : C) × (is_new q c ≡ true)) → (q : ℕ) → Known m is_new count log q
   known_of h fresh q =
-      elim (find is_new count log q (own_note ∷ v.notes) (told h)) [
+      elim (find m is_new count log q (own_note ∷ v.notes) (told h)) [
         | inl found ↦ found
         | inr none ↦
             (let others : All (λ (s : ℕ). s ≢ q) (v.seat ∷ seats_of v.notes) = All-map (λ (s : ℕ). s ≢ q) (λ (n : Note (Noted C M K)). n.seat) (own_note ∷ v.notes) none in
@@ -140,7 +140,7 @@ module _ {P C M K : Type 0} (m : Machine P C M K) (is_new : ℕ → C → Bool) 
               | inr le ↦ le
             ] in
             let c = fresh q in
-            nobody is_new count log q c.0 c.1 (λ p is.
+            nobody m is_new count log q c.0 c.1 (λ p is.
             filter_none (λ (r : Remarked (Noted C M K)). eqb r.entry.seat q) (log p)
             (All-weaker (λ (r : Remarked (Noted C M K)). r.entry.seat < v.made) (λ (r : Remarked (Noted C M K)). eqb r.entry.seat q ≡ false) (λ r lt. ne_eqb r.entry.seat q (λ e. omega arith)) (log p) (seats_at h p is))))
       ]
@@ -153,28 +153,28 @@ module _ {P C M K : Type 0} (m : Machine P C M K) (is_new : ℕ → C → Bool) 
   gets_nothing [] ks e = refl
   gets_nothing (l ∷ ls) ks e = cc
 
-  in_order : IsClosed m is_new start count log v end pushed out popped hand left → (a b : ℕ) → put_to b (places_of is_new count log a) ≡ got_from a (places_of is_new count log b) ++ rest_of a b
+  in_order : IsClosed m is_new start count log v end pushed out popped hand left → (a b : ℕ) → put_to b (places_of m is_new count log a) ≡ got_from a (places_of m is_new count log b) ++ rest_of a b
   in_order h a b =
       elim (place_or count a) [
         | inl ina ↦
-            (let from : places_of is_new count log a ≡ turns_at a (log a) = only_in count a (turns_at a (log a)) [] ina in
+            (let from : places_of m is_new count log a ≡ turns_at a (log a) = only_in count a (turns_at a (log a)) [] ina in
             elim (place_or count b) [
               | inl inb ↦
-                  (let to : places_of is_new count log b ≡ turns_at b (log b) = only_in count b (turns_at b (log b)) [] inb in
+                  (let to : places_of m is_new count log b ≡ turns_at b (log b) = only_in count b (turns_at b (log b)) [] inb in
                   let rest : rest_of a b ≡ hand a b ++ (left a b ++ out a b) = only_in count a (only count b (hand a b ++ (left a b ++ out a b)) (put_to b (turns_at a (log a)))) [] ina ∙ only_in count b (hand a b ++ (left a b ++ out a b)) (put_to b (turns_at a (log a))) inb in
                   let got : List K = got_from a (turns_at b (log b)) in
                   ap (λ ts. put_to b ts) from ∙ (h.keeps a ina).put b ∙ ap (λ ks. ks ++ out a b) (h.settled a b ina inb ∙ ap (λ ks. ks ++ left a b) ((h.keeps b inb).got a))
                   ∙ append_assoc (got ++ hand a b) (left a b) (out a b) ∙ append_assoc got (hand a b) (left a b ++ out a b)
                   ∙ ap (λ ks. got ++ ks) (sym rest) ∙ ap (λ ts. got_from a ts ++ rest_of a b) (sym to))
               | inr outb ↦
-                  (let to : places_of is_new count log b ≡ [] = only_out count b (turns_at b (log b)) [] outb in
+                  (let to : places_of m is_new count log b ≡ [] = only_out count b (turns_at b (log b)) [] outb in
                   let rest : rest_of a b ≡ put_to b (turns_at a (log a)) = only_in count a (only count b (hand a b ++ (left a b ++ out a b)) (put_to b (turns_at a (log a)))) [] ina ∙ only_out count b (hand a b ++ (left a b ++ out a b)) (put_to b (turns_at a (log a))) outb in
                   ap (λ ts. put_to b ts) from ∙ sym rest ∙ ap (λ ts. got_from a ts ++ rest_of a b) (sym to))
             ])
         | inr outa ↦
-            (let from : places_of is_new count log a ≡ [] = only_out count a (turns_at a (log a)) [] outa in
+            (let from : places_of m is_new count log a ≡ [] = only_out count a (turns_at a (log a)) [] outa in
             let rest : rest_of a b ≡ [] = only_out count a (only count b (hand a b ++ (left a b ++ out a b)) (put_to b (turns_at a (log a)))) [] outa in
-            let none : got_from a (places_of is_new count log b) ≡ [] = elim (place_or count b) [
+            let none : got_from a (places_of m is_new count log b) ≡ [] = elim (place_or count b) [
               | inl inb ↦
                   ap (λ ts. got_from a ts) (only_in count b (turns_at b (log b)) [] inb) ∙ gets_nothing (got_from a (turns_at b (log b))) (hand a b) (sym (h.apart a b outa inb) ∙ (h.keeps b inb).got a)
               | inr outb ↦ ap (λ ts. got_from a ts) (only_out count b (turns_at b (log b)) [] outb)
@@ -182,14 +182,14 @@ module _ {P C M K : Type 0} (m : Machine P C M K) (is_new : ℕ → C → Bool) 
             ap (λ ts. put_to b ts) from ∙ sym rest ∙ ap (λ ks. ks ++ rest_of a b) (sym none))
       ]
 
-  takes : IsClosed m is_new start count log v end pushed out popped hand left → (p : ℕ) → Takes m p (start p) (places_of is_new count log p) (only count p (end p) (start p))
+  takes : IsClosed m is_new start count log v end pushed out popped hand left → (p : ℕ) → Takes m p (start p) (places_of m is_new count log p) (only count p (end p) (start p))
   takes h p =
       elim (place_or count p) [
         | inl is ↦
-            subst (λ y. Takes m p (start p) (places_of is_new count log p) y) (sym (only_in count p (end p) (start p) is))
+            subst (λ y. Takes m p (start p) (places_of m is_new count log p) y) (sym (only_in count p (end p) (start p) is))
             (subst (λ ts. Takes m p (start p) ts (end p)) (sym (only_in count p (turns_at p (log p)) [] is)) (h.keeps p is).takes)
         | inr out ↦
-            subst (λ y. Takes m p (start p) (places_of is_new count log p) y) (sym (only_out count p (end p) (start p) out))
+            subst (λ y. Takes m p (start p) (places_of m is_new count log p) y) (sym (only_out count p (end p) (start p) out))
             (subst (λ ts. Takes m p (start p) ts (start p)) (sym (only_out count p (turns_at p (log p)) [] out)) refl)
       ]
 
@@ -199,7 +199,7 @@ module _ {P C M K : Type 0} (m : Machine P C M K) (is_new : ℕ → C → Bool) 
   none-at (t ∷ ts) none =
       let here : t ∷ filter (is_at t.place) ts ≡ [] = sym (filter_takes (is_at t.place) t ts (eqb_same t.place)) ∙ none t.place in absurd (cc)
 
-  undrawn-at : IsClosed m is_new start count log v end pushed out popped hand left → (q : ℕ) → v.made ≤ q → (p : ℕ) → filter (is_by q) (places_of is_new count log p) ≡ []
+  undrawn-at : IsClosed m is_new start count log v end pushed out popped hand left → (q : ℕ) → v.made ≤ q → (p : ℕ) → filter (is_by q) (places_of m is_new count log p) ≡ []
   undrawn-at h q late p =
       elim (place_or count p) [
         | inl is ↦
@@ -212,8 +212,8 @@ module _ {P C M K : Type 0} (m : Machine P C M K) (is_new : ℕ → C → Bool) 
 
   pub closed : Rises m → ((q : ℕ) → (c : C) × (is_new q c ≡ true)) → IsClosed m is_new start count log v end pushed out popped hand left → HasSchedule m is_new start count log v end out hand left
   closed r fresh h =
-      let who : (q : ℕ) → Known is_new count log q = known_of h fresh in
-      let places : ℕ → List (Turn C M K) = places_of is_new count log in
+      let who : (q : ℕ) → Known m is_new count log q = known_of h fresh in
+      let places : ℕ → List (Turn C M K) = places_of m is_new count log in
       let seats : ℕ → List (Turn C M K) = λ q. (who q).turns in
       let opening : Network P C K = record { places = start; links = λ a b. []; callers = λ q. (who q).first } in
       let closing : Network P C K = record { places = λ p. only count p (end p) (start p); links = rest_of; callers = λ q. (who q).last } in
@@ -228,10 +228,10 @@ module _ {P C M K : Type 0} (m : Machine P C M K) (is_new : ℕ → C → Bool) 
       let turns : List (Turn C M K) = found.0 in
       let is : IsScheduled m opening places seats closing turns = found.1 in
       let sound_at : (p : ℕ) → All (IsSound m) (places p) = λ p. sound_takes m r p (places p) (start p) (only count p (end p) (start p)) (takes h p) in
-      let same : (n : Note (Noted C M K)) → Told is_new count log n → seats n.seat ≡ turns_in n.mine =
-      λ n t. sym (is.by_seat n.seat) ∙ seat_same m places turns is.sorted is.by_place sound_at n.seat (turns_in n.mine) t.0.first t.0.last t.0.follows (shared_by is_new count log n.seat n.mine t.1 t.0.within) in
+      let same : (n : Note (Noted C M K)) → Told m is_new count log n → seats n.seat ≡ turns_in n.mine =
+      λ n t. sym (is.by_seat n.seat) ∙ seat_same m r places turns is.sorted is.by_place sound_at n.seat (turns_in n.mine) t.0.first t.0.last t.0.follows (shared_by m is_new count log n.seat n.mine t.1 t.0.within) in
       let all : All (λ (n : Note (Noted C M K)). seats n.seat ≡ turns_in n.mine) (own_note ∷ v.notes) =
-      All-weaker (Told is_new count log) (λ (n : Note (Noted C M K)). seats n.seat ≡ turns_in n.mine) same (own_note ∷ v.notes) (told h) in
+      All-weaker (Told m is_new count log) (λ (n : Note (Noted C M K)). seats n.seat ≡ turns_in n.mine) same (own_note ∷ v.notes) (told h) in
       record {
         callers = opening.callers;
         closing = closing;

@@ -26,13 +26,14 @@ pub record Tells {R : Type 0} (count : ℕ) (log : ℕ → List (Remarked R)) (v
   pub every : (q : ℕ) → q < v.made → Contains (v.seat ∷ seats_of v.notes) q
 
 -- What a pass keeps of what it made, and of each note of another pass: it is at the places, and its turns go from a new
--- caller of this seat to a last one, each from the caller that the turn before left.
-pub record IsThread {C M K : Type 0} (is_new : ℕ → C → Bool) (count : ℕ) (seat : ℕ)
+-- caller of this seat to a last one, each from the caller that the turn before left, to whom entries may have been
+-- shown since.
+pub record IsThread {P C M K : Type 0} (m : Machine P C M K) (is_new : ℕ → C → Bool) (count : ℕ) (seat : ℕ)
     (mine : List (Placed (Noted C M K))) : Type 0 where
   pub first : C
   pub last : C
   pub new : is_new seat first ≡ true
-  pub follows : Follows first (turns_in mine) last
+  pub follows : Follows m first (turns_in mine) last
   pub within : All (λ (m : Placed (Noted C M K)). IsPlace count m.place) mine
 
 -- What a place keeps of its state: it is the state of the machine after its turns. For each other place, what it put is
@@ -50,8 +51,8 @@ module _ {P C M K : Type 0} (m : Machine P C M K) (is_new : ℕ → C → Bool) 
     pub finished : Tells count log v
     pub keeps : (p : ℕ) → IsPlace count p → Keeps m (start p) p (log p) (end p) (pushed p) (out p) (λ a. popped a p)
         (λ a. hand a p)
-    pub thread : IsThread is_new count v.seat v.mine
-    pub threads : All (λ (n : Note (Noted C M K)). IsThread is_new count n.seat n.mine) v.notes
+    pub thread : IsThread m is_new count v.seat v.mine
+    pub threads : All (λ (n : Note (Noted C M K)). IsThread m is_new count n.seat n.mine) v.notes
     -- of each two places, when the link is settled
     pub settled : (a b : ℕ) → IsPlace count a → IsPlace count b → pushed a b ≡ popped a b ++ left a b
     -- no link comes from elsewhere

@@ -8,6 +8,7 @@ use Rattle.chorus_turn.specs.declared.knowledge.Placed.{Placed}
 use Rattle.chorus_turn.specs.Journals.{with_place}
 use Rattle.law_history.specs.declared.turns.Input.{Input}
 use Rattle.law_history.specs.Turns.{Machine, puts_to, packet_from}
+use Rattle.law_history.specs.Histories.{IsShown}
 use Rattle.law_closing.specs.declared.noted.Noted.{Noted}
 use Rattle.law_closing.specs.Remarks.{remarked}
 use Rattle.law_closing.specs.Closing.{IsPlace, IsThread, Keeps}
@@ -39,9 +40,11 @@ MovesKeepPlaces P C M K =
     ((b : ℕ) → pushed_now b ++ out_now b ≡ pushed b ++ out b) → ((a : ℕ) → popped_now a ≡ popped a ++ more a) →
     ((a : ℕ) → hand_now a ≡ hand a ++ more a) → Keeps m start p log x pushed_now out_now popped_now hand_now
 
--- a pass has taken a turn more, at the place p, from the caller that its last turn left
-abbrev pub TurnsKeepPasses : Type 0 → Type 0 → Type 0 → Type 0
-TurnsKeepPasses C M K =
-    (is_new : ℕ → C → Bool) (count q p : ℕ) (mine : List (Placed (Noted C M K))) (t : IsThread is_new count q mine)
-    (r : Noted C M K) (e : Entry) (es : List Entry) → IsPlace count p → r.before ≡ t.last →
-    (u : IsThread is_new count q (mine ++ with_place p (remarked r (e ∷ es)))) × (u.last ≡ r.after)
+-- a pass has taken a turn more, at the place p, from the caller that its last turn left, to whom entries may have been
+-- shown since
+abbrev pub TurnsKeepPasses : Type 0 → Type 0 → Type 0 → Type 0 → Type 0
+TurnsKeepPasses P C M K =
+    (m : Machine P C M K) (is_new : ℕ → C → Bool) (count q p : ℕ) (mine : List (Placed (Noted C M K)))
+    (t : IsThread m is_new count q mine) (seen : List (List (Remarked (Noted C M K))))
+    (r : Noted C M K) (e : Entry) (es : List Entry) → IsPlace count p → IsShown m t.last r.before →
+    (u : IsThread m is_new count q (mine ++ with_place p seen (remarked r (e ∷ es)))) × (u.last ≡ r.after)

@@ -4,3 +4,4 @@ pub mod Growth
 pub mod Places
 pub mod Actors
 pub mod Seen
+pub mod Behind

@@ -1,5 +1,6 @@
 //! The laws of closing. They speak of the definitions alone and make no call.
 
+ghost use Rattle.law_closing.specs.Behind.{MergesFollow};
 ghost use Rattle.law_closing.specs.Actors.{ClosedPlacesHaveHistoriesIn};
 ghost use Rattle.law_closing.specs.Closing.{ClosedHasSchedule};
 ghost use Rattle.law_closing.specs.Growth.{MovesKeepPlaces, TurnsKeepPasses, TurnsKeepPlaces};
@@ -21,7 +22,7 @@ pub fn closed_has_schedule<P, C, M, K>()
 /// a link into the hand, without an entry (`moves`).
 pub fn turns_keep_what_closing_needs<P, C, M, K>()
     ensures place { TurnsKeepPlaces P C M K }
-    ensures pass { TurnsKeepPasses C M K }
+    ensures pass { TurnsKeepPasses P C M K }
     ensures moves { MovesKeepPlaces P C M K }
 {}
 
@@ -39,4 +40,10 @@ pub fn closed_places_have_histories()
 /// are those that it saw.
 pub fn closed_journals_are_those_seen<R>()
     ensures { AllWasSeen R }
+{}
+
+/// What stands by its clock behind all that its pass had seen stands so in the merge of the closed journals, at whatever places it was
+/// seen and made: nothing stands there before what its maker had seen.
+pub fn merges_follow_what_was_seen<R>()
+    ensures { MergesFollow R }
 {}

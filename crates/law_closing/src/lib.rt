@@ -5,8 +5,8 @@
 //! such histories holds of it; and that one turn more, and packets that move, keep what a place and a pass have to keep until then.
 //!
 //! The layer above rests on [`closed_has_schedule`], for any machine whose clocks rise, on [`closed_places_have_histories`], for the
-//! places of this project, on [`closed_journals_are_those_seen`] and on [`turns_keep_what_closing_needs`]. The crate has no code but
-//! the laws, which make no call, and the type that definitions name.
+//! places of this project, on [`closed_journals_are_those_seen`], on [`turns_keep_what_closing_needs`] and on
+//! [`merges_follow_what_was_seen`]. The crate has no code but the laws, which make no call, and the type that definitions name.
 //!
 //! Begin with `specs/Remarks.antt`, then `specs/Closing.antt`.
 #![tactic(auto)]
@@ -16,6 +16,6 @@ mod noted;
 
 pub use closing::{
     closed_has_schedule, closed_journals_are_those_seen, closed_places_have_histories,
-    turns_keep_what_closing_needs,
+    merges_follow_what_was_seen, turns_keep_what_closing_needs,
 };
 pub use noted::Noted;

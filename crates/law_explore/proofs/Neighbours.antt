@@ -13,7 +13,7 @@ use Rattle.law_machine.specs.declared.outgoing.Outgoing.{Outgoing}
 use Rattle.law_machine.specs.PlaceState.{PlaceState, Turn}
 use Rattle.law_machine.specs.PlaceMachine.{begun, begun_by, act, work}
 use Rattle.law_network.specs.Packets.{AreByLink, put_all, first_on, rest_on}
-use Rattle.law_network.specs.Network.{NetState, place_in, with_place, commanded, works_off, delivered, Event, Enter, Act, Deliver, happened}
+use Rattle.law_network.specs.Network.{NetState, place_in, with_place, commanded, works_off, delivered, Event, Enter, Act, Deliver, See, happened}
 use Rattle.law_network.specs.Stands.{actor_of}
 use Rattle.law_network.proofs.Links.LinkViews.{rest-order}
 use Rattle.law_network.proofs.Places.PlacesStay.{place-other}
@@ -30,22 +30,26 @@ use Rattle.law_explore.proofs.Turns.{Puts, act-puts, work-puts}
 
 abbrev pub turn_at : Event → PlaceState → Seated → Option Packet → Turn
 turn_at (Enter actor last) s w o = begun s w
+turn_at (See seat clock) s w o = begun s w
 turn_at (Act k c) s w o = act c (begun s w)
 turn_at (Deliver k a b) s w None = begun s w
 turn_at (Deliver k a b) s w (Some q) = work q (begun_by s w q)
 
 abbrev pub packet_of : Event → List Outgoing → Option Packet
 packet_of (Enter actor last) us = None
+packet_of (See seat clock) us = None
 packet_of (Act k c) us = None
 packet_of (Deliver k a b) us = first_on a b us
 
 abbrev pub rest_of : Event → List Outgoing → List Outgoing
 rest_of (Enter actor last) us = us
+rest_of (See seat clock) us = us
 rest_of (Act k c) us = us
 rest_of (Deliver k a b) us = rest_on a b us
 
 abbrev pub stands_at : Layout → Seated → Event → ℕ
 stands_at l w (Enter actor last) = 0
+stands_at l w (See seat clock) = 0
 stands_at l w (Act k c) = place_for l w.actor c
 stands_at l w (Deliver k a b) = b
 
@@ -61,6 +65,7 @@ behind e t n ps us cs = net_with n (with_place t.place ps) (put_all t.puts (rest
 
 turn-puts : (e : Event) (s : PlaceState) (w : Seated) (o : Option Packet) (p : ℕ) → s.number ≡ p → Puts p (turn_at e s w o)
 turn-puts (Enter actor last) s w o p h = record { number = h; puts = All-nil (IsFrom p) }
+turn-puts (See seat clock) s w o p h = record { number = h; puts = All-nil (IsFrom p) }
 turn-puts (Act k c) s w o p h = act-puts c s w p h
 turn-puts (Deliver k a b) s w None p h = record { number = h; puts = All-nil (IsFrom p) }
 turn-puts (Deliver k a b) s w (Some q) p h = work-puts q s w p h
@@ -72,6 +77,7 @@ turn-in-puts e n ps us w =
 pub happens : (e : Event) (n : NetState) (ps : List PlaceState) (us : List Outgoing) (cs : List Seated) (w : Seated) → slice_get cs (seat_of e) ≡ Some w → has_packet e us ≡ true
     → happened e (net_with n ps us cs) ≡ behind e (turn_in e n ps us w) n ps us cs
 happens (Enter actor last) n ps us cs w found some = absurd (false≢true some)
+happens (See seat clock) n ps us cs w found some = absurd (false≢true some)
 happens (Act k c) n ps us cs w found some = ap (λ o. commanded k c o (net_with n ps us cs)) found
 happens (Deliver k a b) n ps us cs w found some =
     ap (λ o. delivered k a b o (net_with n ps us cs)) found ∙ by (first_on a b us) some
@@ -84,40 +90,49 @@ happens (Deliver k a b) n ps us cs w found some =
 
 packet-past : (l : Layout) (e f : Event) (w v : Seated) (us : List Outgoing) → (stands_at l w e == stands_at l v f) ≡ false → packet_of e (rest_of f us) ≡ packet_of e us
 packet-past l (Enter actor last) f w v us ne = refl
+packet-past l (See seat clock) f w v us ne = refl
 packet-past l (Act k c) f w v us ne = refl
 packet-past l (Deliver k a b) (Enter actor last) w v us ne = refl
+packet-past l (Deliver k a b) (See seat clock) w v us ne = refl
 packet-past l (Deliver k a b) (Act j d) w v us ne = refl
 packet-past l (Deliver k a b) (Deliver j c d) w v us ne = first-rest a b c d us ne
 
 pub some-past : (l : Layout) (e f : Event) (w v : Seated) (us : List Outgoing) → (stands_at l w e == stands_at l v f) ≡ false → has_packet e us ≡ true → has_packet e (rest_of f us) ≡ true
 some-past l (Enter actor last) f w v us ne some = some
+some-past l (See seat clock) f w v us ne some = some
 some-past l (Act k c) f w v us ne some = some
 some-past l (Deliver k a b) f w v us ne some = ap is_some (packet-past l (Deliver k a b) f w v us ne) ∙ some
 
 rest-swap : (l : Layout) (e f : Event) (w v : Seated) (us : List Outgoing) → (stands_at l w e == stands_at l v f) ≡ false → rest_of e (rest_of f us) ≡ rest_of f (rest_of e us)
 rest-swap l (Enter actor last) f w v us ne = refl
+rest-swap l (See seat clock) f w v us ne = refl
 rest-swap l (Act k c) f w v us ne = refl
 rest-swap l (Deliver k a b) (Enter actor last) w v us ne = refl
+rest-swap l (Deliver k a b) (See seat clock) w v us ne = refl
 rest-swap l (Deliver k a b) (Act j d) w v us ne = refl
 rest-swap l (Deliver k a b) (Deliver j c d) w v us ne = rest-rest a b c d us ne
 
 packet-put : (e : Event) (os us : List Outgoing) → AreByLink us → has_packet e us ≡ true → packet_of e (put_all os us) ≡ packet_of e us
 packet-put (Enter actor last) os us order some = refl
+packet-put (See seat clock) os us order some = refl
 packet-put (Act k c) os us order some = refl
 packet-put (Deliver k a b) os us order some = first-put-all a b os us order some
 
 pub some-put : (e : Event) (os us : List Outgoing) → AreByLink us → has_packet e us ≡ true → has_packet e (put_all os us) ≡ true
 some-put (Enter actor last) os us order some = some
+some-put (See seat clock) os us order some = some
 some-put (Act k c) os us order some = refl
 some-put (Deliver k a b) os us order some = ap is_some (first-put-all a b os us order some) ∙ some
 
 rest-put : (e : Event) (os us : List Outgoing) → AreByLink us → has_packet e us ≡ true → rest_of e (put_all os us) ≡ put_all os (rest_of e us)
 rest-put (Enter actor last) os us order some = refl
+rest-put (See seat clock) os us order some = refl
 rest-put (Act k c) os us order some = refl
 rest-put (Deliver k a b) os us order some = rest-put-all a b os us order some
 
 pub order-rest : (e : Event) (us : List Outgoing) → AreByLink us → AreByLink (rest_of e us)
 order-rest (Enter actor last) us order = order
+order-rest (See seat clock) us order = order
 order-rest (Act k c) us order = order
 order-rest (Deliver k a b) us order = rest-order a b us order
 
@@ -198,6 +213,7 @@ some-is (Some x) h = (x, refl)
 
 place-is : (n : NetState) (e : Event) (w : Seated) → slice_get n.callers (seat_of e) ≡ Some w → place_of n.layout (actor_of n) e ≡ stands_at n.layout w e
 place-is n (Enter actor last) w found = refl
+place-is n (See seat clock) w found = refl
 place-is n (Act k c) w found = ap (λ (o : Option Seated). command_place n.layout c (option_map (λ (caller : Seated). caller.actor) o)) found
 place-is n (Deliver k a b) w found = refl
 
@@ -245,6 +261,7 @@ module _ (n : NetState) (e f : Event) (order : AreByLink n.packets) (h : AreNeig
     where
       by : (x : Event) → e ≡ x → own_of x (happened f n) ≡ own_of x n
       by (Enter actor last) is = refl
+      by (See seat clock) is = refl
       by (Act k c) is =
           subst (λ (x : Event). own_of x (happened f n) ≡ own_of x n) is
           (begins-same n n.places n.packets n.callers order e f w.0 v.0 w.1 v.1 one_parts.1 other_parts.1 (turned (seat_of e) (seat_of f) seats) places c (is ∙ ap (λ j. Act j c) (sym (ap seat_of is))))

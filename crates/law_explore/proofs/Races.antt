@@ -14,7 +14,7 @@ use Rattle.law_machine.specs.PlaceState.{PlaceState, Turn}
 use Rattle.law_machine.specs.PlaceMachine.{begun, begun_by}
 use Rattle.law_machine.proofs.Machine.Stays.{act-stays, work-stays}
 use Rattle.law_network.specs.Packets.{is_link, is_link_before, AreByLink, put, put_all, first_on, rest_on}
-use Rattle.law_network.specs.Network.{NetState, place_in, Event, Enter, Act, Deliver, happened}
+use Rattle.law_network.specs.Network.{NetState, place_in, Event, Enter, Act, Deliver, See, happened}
 use Rattle.law_network.specs.Stands.{actor_of}
 use Rattle.law_network.proofs.Standing.CallerList.{get-other, get-replaced}
 use Rattle.law_explore.specs.Neighbours.{seat_of, command_place, place_of, are_apart, has_packet, is_ready, AreNeighbours}
@@ -32,6 +32,7 @@ use Rattle.law_explore.proofs.Normals.{normals_suffice}
 
 turn-actor : (e : Event) (s : PlaceState) (w : Seated) (o : Option Packet) → (turn_at e s w o).caller.actor ≡ w.actor
 turn-actor (Enter actor last) s w o = refl
+turn-actor (See seat clock) s w o = refl
 turn-actor (Act k c) s w o = (act-stays c (begun s w)).actor
 turn-actor (Deliver k a b) s w None = refl
 turn-actor (Deliver k a b) s w (Some q) = (work-stays q (begun_by s w q)).actor
@@ -76,6 +77,7 @@ module _ (e : Event) (n : NetState) (h : is_ready e n ≡ true) where
 
   pub same-place : (g : Event) → place_of (happened e n).layout (actor_of (happened e n)) g ≡ place_of n.layout (actor_of n) g
   same-place (Enter actor last) = refl
+  same-place (See seat clock) = refl
   same-place (Act k c) = ap (λ l. command_place l c (actor_of (happened e n) k)) same-layout ∙ ap (command_place n.layout c) (same-actors k)
   same-place (Deliver k a b) = refl
 
@@ -90,6 +92,7 @@ module _ (e : Event) (n : NetState) (h : is_ready e n ≡ true) where
     where
       by : (g : Event) (w : Seated) → slice_get n.callers (seat_of g) ≡ Some w → place_of n.layout (actor_of n) g ≡ stands_at n.layout w g
       by (Enter actor last) w found = refl
+      by (See seat clock) w found = refl
       by (Act k c) w found = ap (λ (o : Option Seated). command_place n.layout c (option_map (λ (x : Seated). x.actor) o)) found
       by (Deliver k a b) w found = refl
 
@@ -122,6 +125,7 @@ rest-some a b c d (u ∷ us) h = by (is_link a b u) (is_link c d u) refl h (rest
 
 some-before : (f : Event) (a b : ℕ) (us : List Outgoing) → is_some (first_on a b (rest_of f us)) ≡ true → is_some (first_on a b us) ≡ true
 some-before (Enter actor last) a b us h = h
+some-before (See seat clock) a b us h = h
 some-before (Act k c) a b us h = h
 some-before (Deliver k c d) a b us h = rest-some a b c d us h
 
@@ -145,6 +149,7 @@ module _ (n : NetState) (e f g : Event) (h : AreNeighbours e f n) where
 
   packet-before : (x : Event) → is_ready x (happened e n) ≡ true → is_ready x (happened f n) ≡ true → has_packet x n.packets ≡ true
   packet-before (Enter actor last) k j = absurd (false≢true ((and_parts (is_some (slice_get (happened e n).callers 0)) false k).1))
+  packet-before (See seat clock) k j = absurd (false≢true ((and_parts (is_some (slice_get (happened e n).callers seat)) false k).1))
   packet-before (Act i c) k j = refl
   packet-before (Deliver i a b) k j =
       elim (cases_Bool (place_of n.layout (actor_of n) e == a)) [

@@ -7,12 +7,13 @@ use Rattle.chorus_entry.specs.declared.command.Command.{Command}
 use Rattle.chorus_entry.specs.Places.{place_for}
 use Rattle.law_machine.specs.declared.outgoing.Outgoing.{Outgoing}
 use Rattle.law_network.specs.Packets.{AreByLink, first_on}
-use Rattle.law_network.specs.Network.{NetState, Event, Enter, Act, Deliver, happened}
+use Rattle.law_network.specs.Network.{NetState, Event, Enter, Act, Deliver, See, happened}
 use Rattle.law_network.specs.Stands.{actor_of}
 
 -- whose event it is; entering is not asked
 abbrev pub seat_of : Event → ℕ
 seat_of (Enter actor last) = 0
+seat_of (See seat clock) = seat
 seat_of (Act k c) = k
 seat_of (Deliver k a b) = k
 
@@ -23,6 +24,7 @@ command_place l c (Some actor) = place_for l actor c
 
 abbrev pub place_of : Layout → (ℕ → Option Ui) → Event → ℕ
 place_of l actors (Enter actor last) = 0
+place_of l actors (See seat clock) = 0
 place_of l actors (Act k c) = command_place l c (actors k)
 place_of l actors (Deliver k a b) = b
 
@@ -30,9 +32,10 @@ place_of l actors (Deliver k a b) = b
 abbrev pub are_apart : Layout → (ℕ → Option Ui) → Event → Event → Bool
 are_apart l actors e f = not (seat_of e == seat_of f) && not (place_of l actors e == place_of l actors f)
 
--- the caller is there, and so is the packet of a delivery; a caller that enters is none of these events
+-- the caller is there, and so is the packet of a delivery; a caller that enters or sees an entry is none of these events
 abbrev pub has_packet : Event → List Outgoing → Bool
 has_packet (Enter actor last) us = false
+has_packet (See seat clock) us = false
 has_packet (Act k c) us = true
 has_packet (Deliver k a b) us = is_some (first_on a b us)
 

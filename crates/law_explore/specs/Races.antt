@@ -11,7 +11,7 @@ use Rattle.chorus_entry.specs.declared.command.Command.{Command}
 use Rattle.chorus_calls.specs.Callers.{Seated}
 use Rattle.law_machine.specs.Own.{own}
 use Rattle.law_network.specs.Packets.{AreByLink}
-use Rattle.law_network.specs.Network.{NetState, Event, Enter, Act, Deliver, happened, numbers, place_numbers, turn_for}
+use Rattle.law_network.specs.Network.{NetState, Event, Enter, Act, Deliver, See, happened, numbers, place_numbers, turn_for}
 use Rattle.law_network.specs.Stands.{actor_of}
 use Rattle.law_explore.specs.declared.moves.Move.{Move}
 use Rattle.law_explore.specs.declared.moves.Move.TheVariants.{Go, Carry}
@@ -60,6 +60,7 @@ own_by c n (Some w) = Some (own c (turn_for c w n))
 
 abbrev pub own_of : Event → NetState → Option acts.Act
 own_of (Enter actor last) n = None
+own_of (See seat clock) n = None
 own_of (Act k c) n = own_by c n (slice_get n.callers k)
 own_of (Deliver k a b) n = None
 

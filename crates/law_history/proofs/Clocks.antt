@@ -61,12 +61,14 @@ module _ {P C M K : Type 0} (m : Machine P C M K) where
         (above_weaker t.first (m.clock o.place) ts (omega arith) next.0, next.1),
       )
 
-  pub rising_follows : (ts : List (Turn C M K)) (c d : C) → All IsSound ts → Follows c ts d → All (λ (t : Turn C M K). m.last c < t.first) ts × IsRising ts
-  rising_follows [] c d s h = (All-nil (Above (m.last c)), tt)
-  rising_follows (t ∷ ts) c d s h =
+  pub rising_follows : Rises m → (ts : List (Turn C M K)) (c d : C) → All IsSound ts → Follows m c ts d → All (λ (t : Turn C M K). m.last c < t.first) ts × IsRising ts
+  rising_follows r [] c d s h = (All-nil (Above (m.last c)), tt)
+  rising_follows r (t ∷ ts) c d s h =
       let is = All-head IsSound t ts s in
-      let next = rising_follows ts t.after d (All-tail IsSound t ts s) h.1 in
-      let here : m.last c < t.first = subst (λ w. m.last w < t.first) h.0 is.above in
+      let next = rising_follows r ts t.after d (All-tail IsSound t ts s) h.1 in
+      let above : m.last (m.shown (m.last t.before) c) < t.first = subst (λ w. m.last w < t.first) h.0 is.above in
+      let up = r.to_shown (m.last t.before) c in
+      let here : m.last c < t.first = omega (arith, above, up) in
       let to = is.left in (
         All-cons (Above (m.last c)) t ts here (above_weaker (m.last c) (m.last t.after) ts (omega arith) next.0),
         (above_weaker t.first (m.last t.after) ts to next.0, next.1),

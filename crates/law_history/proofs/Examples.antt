@@ -16,7 +16,7 @@ use Rattle.chorus_entry.specs.declared.packet.Packet.{Packet}
 use Rattle.chorus_entry.specs.declared.packet.Cargo.{Cargo}
 use Rattle.chorus_calls.specs.Callers.{Seated, new_caller}
 use Rattle.law_machine.specs.PlaceState.{PlaceState, started}
-use Rattle.law_network.specs.Network.{Event, Enter, Act as Acts, Deliver, schedule}
+use Rattle.law_network.specs.Network.{Event, Enter, Act as Acts, Deliver, See, schedule}
 use Rattle.law_network.specs.Schedules.{may_be}
 use Rattle.law_history.specs.Turns.{Input, is_at, is_by, put_to, got_from, before}
 use Rattle.law_history.specs.Network.{Network}
@@ -129,7 +129,7 @@ takes (suc zero) = (record { place = refl; may = refl; first = refl; after = ref
 takes (suc (suc zero)) = (record { place = refl; may = refl; first = refl; after = refl; puts = refl }, refl)
 takes (suc (suc (suc p))) = refl
 
-follows : (q : ℕ) → Follows ((at_start two_sites comers).callers q) (of_seats q) (callers_end q)
+follows : (q : ℕ) → Follows (machine two_sites) ((at_start two_sites comers).callers q) (of_seats q) (callers_end q)
 follows zero = (refl, refl)
 follows (suc zero) = (refl, refl)
 follows (suc (suc q)) = refl
@@ -187,7 +187,7 @@ meets =
 abbrev its_events : List Event
 its_events = events comers (send_turn ∷ work_turn ∷ [])
 
-pub are-its-events : its_events ≡ Deliver 1 1 2 ∷ Acts 0 (Command.Send (Dest.Port port) []) ∷ Enter (actor 2) 5 ∷ Enter (actor 1) 0 ∷ []
+pub are-its-events : its_events ≡ Deliver 1 1 2 ∷ See 1 5 ∷ Acts 0 (Command.Send (Dest.Port port) []) ∷ See 0 0 ∷ Enter (actor 2) 5 ∷ Enter (actor 1) 0 ∷ []
 are-its-events = refl
 
 pub in-order : before send_turn work_turn ≡ true
@@ -224,10 +224,18 @@ pub elsewhere : (seats : ℕ → List PlaceTurn) (closing : Network PlaceState S
     AreHistories two_sites comers (λ p. cond (p == 2) (record send_turn { place = 2 } ∷ []) []) seats closing → ⊥
 elsewhere seats closing h = (let is = (h.histories.takes 2).0 in absurd (false≢true is.may))
 
--- the turn begins with a caller that has another last clock
+-- the turn begins with a caller that has a lower last clock, or posted more
+pub lower-clock : (places : ℕ → List PlaceTurn) (closing : Network PlaceState Seated Packet) →
+    AreHistories two_sites comers places (λ q. cond (q == 1) (record work_turn { before = new_caller 1 (actor 2) 3 } ∷ []) []) closing → ⊥
+lower-clock places closing h = (let e = ap (λ (w : Seated). w.last) (h.histories.follows 1).0 in absurd (omega (arith, e)))
+
 pub other-caller : (places : ℕ → List PlaceTurn) (closing : Network PlaceState Seated Packet) →
-    AreHistories two_sites comers places (λ q. cond (q == 0) (record send_turn { before = new_caller 0 (actor 1) 3 } ∷ []) []) closing → ⊥
-other-caller places closing h = (let e = ap (λ (w : Seated). w.last) (h.histories.follows 0).0 in absurd (omega (arith, e)))
+    AreHistories two_sites comers places (λ q. cond (q == 0) (record send_turn { before = record sender { posts = 1 } } ∷ []) []) closing → ⊥
+other-caller places closing h = (let e = ap (λ (w : Seated). w.posts) (h.histories.follows 0).0 in absurd (omega (arith, e)))
+
+-- it may begin with one that was shown entries since, and so has a higher last clock
+pub higher-clock : Follows (machine two_sites) worker (record work_turn { before = record worker { last = 7 } } ∷ []) work_turn.after
+higher-clock = (refl, refl)
 
 -- the first entry has another clock, or what the turn put is not noted
 pub other-clock : (seats : ℕ → List PlaceTurn) (closing : Network PlaceState Seated Packet) →

@@ -7,6 +7,7 @@ pub mod Counts
 pub mod Working
 pub mod Rising
 pub mod Appending
+pub mod Falling
 pub mod Showing
 pub mod Arriving
 pub mod Happening

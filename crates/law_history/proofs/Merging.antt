@@ -16,7 +16,7 @@ use Rattle.chorus_calls.specs.Callers.{Seated}
 use Rattle.law_machine.specs.declared.outgoing.Outgoing.{Outgoing}
 use Rattle.law_machine.specs.PlaceState.{PlaceState}
 use Rattle.law_network.specs.Packets.{is_link}
-use Rattle.law_network.specs.Network.{NetState, Event, place_in, schedule}
+use Rattle.law_network.specs.Network.{NetState, Event, See, place_in, schedule}
 use Rattle.law_network.specs.Left.{journals, merged_past}
 use Rattle.law_network.specs.Quiet.{IsQuiet}
 use Rattle.law_network.specs.Stands.{actor_of}
@@ -24,11 +24,12 @@ use Rattle.law_network.specs.Schedules.{commands_of, command_in}
 use Rattle.law_network.specs.Promises.{Promises}
 use Rattle.law_network.proofs.Merge.Journals.{map-places, map-from}
 use Rattle.law_network.proofs.Commands.Performing.{actor_in, given-actors, delivered-actors}
+use Rattle.law_network.proofs.Events.Seeing.{shown-actors}
 use Rattle.law_network.proofs.Places.Layouts.{schedule-keeps}
 use Rattle.law_network.proofs.Promises.AllPromises.{keeps-promises}
 use Rattle.law_history.specs.Turns.{Input, is_by}
 use Rattle.law_history.specs.Network.{Network}
-use Rattle.law_history.specs.Journals.{PlaceTurn, Comer, new_from, coming, event_with, event_of, events, IsTheirSchedule}
+use Rattle.law_history.specs.Journals.{PlaceTurn, Comer, new_from, coming, event_with, event_of, events_after, events, IsTheirSchedule}
 use Rattle.law_history.specs.Runs.{with_command, commands_given, journals_at, merged_at, actor_among, MergesAsARun, KeepsPromises, JournalsMergeAsARun, JournalsKeepPromises}
 use Rattle.law_history.proofs.Lists.{reverse-first}
 use Rattle.law_history.proofs.Showing.{packets_on}
@@ -54,11 +55,10 @@ one-command q t ts cs =
     by false = refl
 
 commands-are : (q : ℕ) (ts : List PlaceTurn) (es : List Event) →
-    commands_of q (reverse (map event_of ts) ++ es) ≡ reverse (commands_given (filter (is_by q) ts)) ++ commands_of q es
+    commands_of q (events_after ts es) ≡ reverse (commands_given (filter (is_by q) ts)) ++ commands_of q es
 commands-are q [] es = refl
 commands-are q (t ∷ ts) es =
-    ap (commands_of q) (reverse-first (event_of t) (map event_of ts) es) ∙ commands-are q ts (event_of t ∷ es)
-    ∙ one-command q t ts (commands_of q es)
+    commands-are q ts (event_of t ∷ See t.seat t.before.last ∷ es) ∙ one-command q t ts (commands_of q es)
 
 none-come : (q : ℕ) (cs : List Comer) (es : List Event) → commands_of q (reverse (map coming cs) ++ es) ≡ commands_of q es
 none-come q [] es = refl
@@ -74,17 +74,20 @@ commands-given q comers ts =
 -- The actors of the seats are those in which the callers came.
 
 module _ (l : Layout) where
-  turned : (t : PlaceTurn) (es : List Event) (q : ℕ) → actor_of (schedule l (event_of t ∷ es)) q ≡ actor_of (schedule l es) q
-  turned t es q = by t.input
+  turned-by : (t : PlaceTurn) (es : List Event) (q : ℕ) → actor_of (schedule l (event_of t ∷ es)) q ≡ actor_of (schedule l es) q
+  turned-by t es q = by t.input
     where
       by : (i : Input Command Packet) → actor_of (schedule l (event_with t.place t.seat i ∷ es)) q ≡ actor_of (schedule l es) q
       by (Input.Command c) = given-actors t.seat c (schedule l es) (slice_get (schedule l es).callers t.seat) q refl
       by (Input.Packet a k) = delivered-actors t.seat a t.place (schedule l es) (slice_get (schedule l es).callers t.seat) q refl
 
-  all-turned : (ts : List PlaceTurn) (es : List Event) (q : ℕ) → actor_of (schedule l (reverse (map event_of ts) ++ es)) q ≡ actor_of (schedule l es) q
+  turned : (t : PlaceTurn) (es : List Event) (q : ℕ) → actor_of (schedule l (event_of t ∷ See t.seat t.before.last ∷ es)) q ≡ actor_of (schedule l es) q
+  turned t es q =
+      turned-by t (See t.seat t.before.last ∷ es) q ∙ shown-actors (schedule l es) t.seat t.before.last (slice_get (schedule l es).callers t.seat) q refl
+
+  all-turned : (ts : List PlaceTurn) (es : List Event) (q : ℕ) → actor_of (schedule l (events_after ts es)) q ≡ actor_of (schedule l es) q
   all-turned [] es q = refl
-  all-turned (t ∷ ts) es q =
-      ap (λ fs. actor_of (schedule l fs) q) (reverse-first (event_of t) (map event_of ts) es) ∙ all-turned ts (event_of t ∷ es) q ∙ turned t es q
+  all-turned (t ∷ ts) es q = all-turned ts (event_of t ∷ See t.seat t.before.last ∷ es) q ∙ turned t es q
 
   came-in : (q : ℕ) (o : Option Comer) → actor_in (option_map (λ (c : Comer). new_from q o) o) ≡ option_map (λ (c : Comer). c.actor) o
   came-in q None = refl

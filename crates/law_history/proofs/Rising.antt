@@ -119,4 +119,5 @@ place-rises l =
       to_place = to-place l;
       to_caller = to-caller l;
       to_packets = to-packets l;
+      to_shown = λ clock w. omega arith;
     }

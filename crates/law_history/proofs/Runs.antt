@@ -5,7 +5,7 @@ use Rattle.std.proofs.lemmas.Bool.{eqb-true, cases_Bool, cond_both}
 use Rattle.std.proofs.lemmas.List.{append-nil}
 use Rattle.std.proofs.lemmas.List.Elements.{All-nil, All-cons, All-head, All-tail, All-weaker, All-filter, All-append}
 use Rattle.law_history.specs.Turns.{Input, Sent, Outcome, Machine, Turn, Rises, is_at, is_by, puts_to, packet_from, put_to, got_from, before, IsInOrder}
-use Rattle.law_history.specs.Network.{Network, set, relinked, did, carried, happens, May, MayCarry, MayHappen, run, IsSchedule}
+use Rattle.law_history.specs.Network.{Network, set, relinked, caller_shown, did, carried, happens, May, MayCarry, MayHappen, run, IsSchedule}
 use Rattle.law_history.specs.Histories.{event_for, event_of, IsTurn, Takes, Follows, Histories, IsScheduled}
 use Rattle.law_history.proofs.Lists.{filter_skip, filter_takes, filter_swap, set_here, set_else, eqb_same, flat_map-cond, append_choice, cancel_front, split_choice, nothing_choice}
 use Rattle.law_history.proofs.Order.{before-true, in_order-filter, in_order-rising, same_in_order, IsRising}
@@ -18,36 +18,38 @@ module _ {P C M K : Type 0} (m : Machine P C M K) where
   ToCome n zs closing = Histories m n (λ p. filter (is_at p) zs) (λ q. filter (is_by q) zs) closing
 
   record Leads (n : Network P C K) (zs : List (Turn C M K)) (closing : Network P C K) : Type 0 where
-    pub schedule : IsSchedule m (map event_of zs) n
-    pub places_end : (p : ℕ) → (run m (map event_of zs) n).places p ≡ closing.places p
-    pub links_end : (a b : ℕ) → (run m (map event_of zs) n).links a b ≡ closing.links a b
-    pub callers_end : (q : ℕ) → (run m (map event_of zs) n).callers q ≡ closing.callers q
+    pub schedule : IsSchedule m (map (event_of m) zs) n
+    pub places_end : (p : ℕ) → (run m (map (event_of m) zs) n).places p ≡ closing.places p
+    pub links_end : (a b : ℕ) → (run m (map (event_of m) zs) n).links a b ≡ closing.links a b
+    pub callers_end : (q : ℕ) → (run m (map (event_of m) zs) n).callers q ≡ closing.callers q
 
-  -- the event takes what the turn takes; the links are those without its packet
-  record IsTaken (p q : ℕ) (i : Input M K) (n : Network P C K) : Type 0 where
+  -- the event takes what the turn takes, as the caller w; the links are those without its packet
+  record IsTaken (p q clock : ℕ) (w : C) (i : Input M K) (n : Network P C K) : Type 0 where
     pub links : ℕ → ℕ → List K
     pub splits : (a b : ℕ) → n.links a b ≡ cond (eqb p b) (packet_from a i) [] ++ links a b
-    pub happens_so : happens m (event_for p q i) n ≡ did m p q i links n
-    pub may : MayHappen m (event_for p q i) n
+    pub happens_so : happens m (event_for p q clock i) n ≡ did m p q w i links n
+    pub may : MayHappen m (event_for p q clock i) n
 
-  taken : Rises m → (p q : ℕ) (i : Input M K) (n : Network P C K) → May m p q i n → ((a : ℕ) (k : K) → i ≡ Input.Packet a k → (ks : List K) × (n.links a p ≡ k ∷ ks)) → IsTaken p q i n
-  taken r p q (Input.Command c) n may first =
-      let at = r.at_place p c (n.places p) (n.callers q) may in
+  taken : Rises m → (p q clock : ℕ) (i : Input M K) (n : Network P C K) → May m p (caller_shown m q clock n) i n → ((a : ℕ) (k : K) → i ≡ Input.Packet a k → (ks : List K) × (n.links a p ≡ k ∷ ks)) → IsTaken p q clock (caller_shown m q clock n) i n
+  taken r p q clock (Input.Command c) n may first =
+      let w = caller_shown m q clock n in
+      let at = r.at_place p c (n.places p) w may in
       record {
         links = n.links;
         splits = λ a b. nothing_choice (eqb p b) (n.links a b);
-        happens_so = ap (λ x. did m x q (Input.Command c) n.links n) at;
-        may = subst (λ x. May m x q (Input.Command c) n) (sym at) may;
+        happens_so = ap (λ x. did m x q w (Input.Command c) n.links n) at;
+        may = subst (λ x. May m x w (Input.Command c) n) (sym at) may;
       }
-  taken r p q (Input.Packet a k) n may first =
+  taken r p q clock (Input.Packet a k) n may first =
+      let w = caller_shown m q clock n in
       let found = first a k refl in
       let ks : List K = found.0 in
       let is : n.links a p ≡ k ∷ ks = found.1 in
       record {
         links = relinked a p ks n.links;
         splits = λ x b. split_choice (eqb p b) (eqb a x) k ks (n.links x b) (λ u v. ap (λ y. n.links y b) (sym (eqb-true a x v)) ∙ ap (λ z. n.links a z) (sym (eqb-true p b u)) ∙ is);
-        happens_so = ap (λ ls. carried m q a p ls n) is;
-        may = subst (λ ls. MayCarry m q a p ls n) (sym is) may;
+        happens_so = ap (λ ls. carried m q w a p ls n) is;
+        may = subst (λ ls. MayCarry m w a p ls n) (sym is) may;
       }
 
   -- what is put has a clock as high
@@ -94,11 +96,11 @@ module _ {P C M K : Type 0} (m : Machine P C M K) where
   first_on n [] us rest k lt a e = (let le = All-head (AtLeast n) k rest (subst (All (AtLeast n)) e a) in absurd (omega arith))
   first_on n (l ∷ ls) us rest k lt a e = (ls, ap (λ x. x ∷ ls) (same_head l k (ls ++ us) rest e))
 
-  step : (e : Turn C M K) (zs : List (Turn C M K)) (n closing : Network P C K) → (h : ToCome n (e ∷ zs) closing) → (its : IsTurn m e.place (n.places e.place) e) → (same : e.before ≡ n.callers e.seat) → (t : IsTaken e.place e.seat e.input n) → ToCome (did m e.place e.seat e.input t.links n) zs closing
+  step : (e : Turn C M K) (zs : List (Turn C M K)) (n closing : Network P C K) → (h : ToCome n (e ∷ zs) closing) → (its : IsTurn m e.place (n.places e.place) e) → (same : e.before ≡ caller_shown m e.seat (m.last e.before) n) → (t : IsTaken e.place e.seat (m.last e.before) (caller_shown m e.seat (m.last e.before) n) e.input n) → ToCome (did m e.place e.seat (caller_shown m e.seat (m.last e.before) n) e.input t.links n) zs closing
   step e zs n closing h its same t =
       let p = e.place in
       let q = e.seat in
-      let o : Outcome P C K = m.turn p e.input (n.places p) (n.callers q) in
+      let o : Outcome P C K = m.turn p e.input (n.places p) (caller_shown m q (m.last e.before) n) in
       let was : m.turn p e.input (n.places p) e.before ≡ o = ap (λ w. m.turn p e.input (n.places p) w) same in
       record {
         takes = λ r. elim (cases_Bool (eqb p r)) [
@@ -113,12 +115,12 @@ module _ {P C M K : Type 0} (m : Machine P C M K) where
         ];
         follows = λ r. elim (cases_Bool (eqb q r)) [
           | inl here ↦
-              (let now = subst (λ ts. Follows (n.callers r) ts (closing.callers r)) (filter_takes (is_by r) e zs here) (h.follows r) in
+              (let now = subst (λ ts. Follows m (n.callers r) ts (closing.callers r)) (filter_takes (is_by r) e zs here) (h.follows r) in
               let there : e.after ≡ set q o.caller n.callers r = its.after ∙ ap (λ (z : Outcome P C K). z.caller) was ∙ sym (set_here q o.caller n.callers r here) in
-              subst (λ x. Follows x (filter (is_by r) zs) (closing.callers r)) there now.1)
+              subst (λ x. Follows m x (filter (is_by r) zs) (closing.callers r)) there now.1)
           | inr away ↦
-              subst (λ x. Follows x (filter (is_by r) zs) (closing.callers r)) (sym (set_else q o.caller n.callers r away))
-              (subst (λ ts. Follows (n.callers r) ts (closing.callers r)) (filter_skip (is_by r) e zs away) (h.follows r))
+              subst (λ x. Follows m x (filter (is_by r) zs) (closing.callers r)) (sym (set_else q o.caller n.callers r away))
+              (subst (λ ts. Follows m (n.callers r) ts (closing.callers r)) (filter_skip (is_by r) e zs away) (h.follows r))
         ];
         shared = λ r s. filter_swap (is_by s) (is_at r) zs;
         in_order = λ a b.
@@ -146,33 +148,34 @@ module _ {P C M K : Type 0} (m : Machine P C M K) where
       let q = e.seat in
       let now = subst (λ ts. Takes m p (n.places p) ts (closing.places p)) (filter_takes (is_at p) e zs (eqb_same p)) (h.takes p) in
       let its : IsTurn m p (n.places p) e = now.0 in
-      let mine = subst (λ ts. Follows (n.callers q) ts (closing.callers q)) (filter_takes (is_by q) e zs (eqb_same q)) (h.follows q) in
-      let same : e.before ≡ n.callers q = mine.0 in
+      let mine = subst (λ ts. Follows m (n.callers q) ts (closing.callers q)) (filter_takes (is_by q) e zs (eqb_same q)) (h.follows q) in
+      let w = caller_shown m q (m.last e.before) n in
+      let same : e.before ≡ w = mine.0 in
       let sound = All-head (IsSound m) e zs s in
       let above = to_come-above e zs o s in
-      let t = taken r p q e.input n (subst (λ w. m.may p e.input (n.places p) w ≡ true) same its.may)
+      let t = taken r p q (m.last e.before) e.input n (subst (λ w. m.may p e.input (n.places p) w ≡ true) same its.may)
       (λ a k is.
       let gets = flat_map-cond (λ (t : Turn C M K). packet_from a t.input) (eqb p p) e (filter (is_at p) zs) ∙ ap (λ b. cond b (packet_from a e.input) [] ++ got_from a (filter (is_at p) zs)) (eqb_same p)
       ∙ ap (λ i. packet_from a i ++ got_from a (filter (is_at p) zs)) is ∙ ap (λ b. cond b (k ∷ []) [] ++ got_from a (filter (is_at p) zs)) (eqb_same a) in
       let whole = h.in_order a p ∙ ap (λ ls. ls ++ closing.links a p) gets in
       first_on e.first (n.links a p) (put_to p (filter (is_at a) (e ∷ zs))) (got_from a (filter (is_at p) zs) ++ closing.links a p) k (sound.packet a k is)
       (put_to-above e.first p (filter (is_at a) (e ∷ zs)) (All-filter (is_at a) (PutsAbove e.first) (e ∷ zs) above)) whole) in
-      let after : Network P C K = did m p q e.input t.links n in
+      let after : Network P C K = did m p q w e.input t.links n in
       let ih = leads r zs after closing o.1 (All-tail (IsSound m) e zs s) (step e zs n closing h its same t) in
-      let is : happens m (event_of e) n ≡ after = t.happens_so in
-      let back : after ≡ happens m (event_of e) n = sym is in
+      let is : happens m (event_of m e) n ≡ after = t.happens_so in
+      let back : after ≡ happens m (event_of m e) n = sym is in
       record {
-        schedule = (t.may, subst (λ x. IsSchedule m (map event_of zs) x) back ih.schedule);
-        places_end = λ x. ap (λ y. (run m (map event_of zs) y).places x) is ∙ ih.places_end x;
-        links_end = λ a b. ap (λ y. (run m (map event_of zs) y).links a b) is ∙ ih.links_end a b;
-        callers_end = λ x. ap (λ y. (run m (map event_of zs) y).callers x) is ∙ ih.callers_end x;
+        schedule = (t.may, subst (λ x. IsSchedule m (map (event_of m) zs) x) back ih.schedule);
+        places_end = λ x. ap (λ y. (run m (map (event_of m) zs) y).places x) is ∙ ih.places_end x;
+        links_end = λ a b. ap (λ y. (run m (map (event_of m) zs) y).links a b) is ∙ ih.links_end a b;
+        callers_end = λ x. ap (λ y. (run m (map (event_of m) zs) y).callers x) is ∙ ih.callers_end x;
       }
 
   -- the turns of a seat, which go from caller to caller, stand in the order of all as they stand in its own
-  pub seat_same : (places : ℕ → List (Turn C M K)) (turns : List (Turn C M K)) → IsInOrder turns → ((p : ℕ) → filter (is_at p) turns ≡ places p) → ((p : ℕ) → All (IsSound m) (places p)) → (q : ℕ) (ts : List (Turn C M K)) (c d : C) → Follows c ts d → ((p : ℕ) → filter (is_by q) (places p) ≡ filter (is_at p) ts) → filter (is_by q) turns ≡ ts
-  seat_same places turns sorted by_place sound_at q ts c d follows shared =
+  pub seat_same : Rises m → (places : ℕ → List (Turn C M K)) (turns : List (Turn C M K)) → IsInOrder turns → ((p : ℕ) → filter (is_at p) turns ≡ places p) → ((p : ℕ) → All (IsSound m) (places p)) → (q : ℕ) (ts : List (Turn C M K)) (c d : C) → Follows m c ts d → ((p : ℕ) → filter (is_by q) (places p) ≡ filter (is_at p) ts) → filter (is_by q) turns ≡ ts
+  seat_same r places turns sorted by_place sound_at q ts c d follows shared =
       let sound : All (IsSound m) ts = all_from_places (IsSound m) ts (λ p. subst (All (IsSound m)) (shared p) (All-filter (is_by q) (IsSound m) (places p) (sound_at p))) in
-      same_in_order (filter (is_by q) turns) ts (in_order-filter (is_by q) turns sorted) (in_order-rising ts (rising_follows m ts c d sound follows).1)
+      same_in_order (filter (is_by q) turns) ts (in_order-filter (is_by q) turns sorted) (in_order-rising ts (rising_follows m r ts c d sound follows).1)
       (λ p. filter_swap (is_at p) (is_by q) turns ∙ ap (λ us. filter (is_by q) us) (by_place p) ∙ shared p)
 
   pub scheduled : (count : ℕ) (opening closing : Network P C K) (places seats : ℕ → List (Turn C M K)) → Rises m → ((p : ℕ) → count ≤ p → places p ≡ []) → Histories m opening places seats closing → (turns : List (Turn C M K)) × IsScheduled m opening places seats closing turns
@@ -186,10 +189,10 @@ module _ {P C M K : Type 0} (m : Machine P C M K) where
       let by_place : (p : ℕ) → filter (is_at p) turns ≡ places p = one.2 in
       let sound : All (IsSound m) turns = all_from_places (IsSound m) turns (λ p. subst (All (IsSound m)) (sym (by_place p)) (sound_at p)) in
       let by_seat : (q : ℕ) → filter (is_by q) turns ≡ seats q =
-      λ q. seat_same places turns sorted by_place sound_at q (seats q) (opening.callers q) (closing.callers q) (h.follows q) (λ p. h.shared p q) in
+      λ q. seat_same r places turns sorted by_place sound_at q (seats q) (opening.callers q) (closing.callers q) (h.follows q) (λ p. h.shared p q) in
       let come : ToCome opening turns closing = record {
         takes = λ p. subst (λ ts. Takes m p (opening.places p) ts (closing.places p)) (sym (by_place p)) (h.takes p);
-        follows = λ q. subst (λ ts. Follows (opening.callers q) ts (closing.callers q)) (sym (by_seat q)) (h.follows q);
+        follows = λ q. subst (λ ts. Follows m (opening.callers q) ts (closing.callers q)) (sym (by_seat q)) (h.follows q);
         shared = λ p q. filter_swap (is_by q) (is_at p) turns;
         in_order = λ a b. ap (λ ts. opening.links a b ++ put_to b ts) (by_place a) ∙ h.in_order a b ∙ ap (λ ts. got_from a ts ++ closing.links a b) (sym (by_place b));
       } in

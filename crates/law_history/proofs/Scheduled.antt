@@ -17,7 +17,7 @@ use Rattle.law_history.specs.Network.{Network, run}
 use Rattle.law_history.specs.Histories as histories
 use Rattle.law_history.specs.Histories.{Takes, IsScheduled}
 use Rattle.law_history.specs.PlaceTurns.{may_come, machine}
-use Rattle.law_history.specs.Journals.{Comer, PlaceTurn, at_start, AreHistories, coming, event_of, events, IsTheirSchedule, JournalsAreASchedule}
+use Rattle.law_history.specs.Journals.{Comer, PlaceTurn, at_start, AreHistories, coming, events_after, events, IsTheirSchedule, JournalsAreASchedule}
 use Rattle.law_history.proofs.Lists.{filter_takes, eqb_same}
 use Rattle.law_history.proofs.Runs.{scheduled}
 use Rattle.law_history.proofs.Rising.{place-rises}
@@ -66,9 +66,9 @@ module _ (l : Layout) (comers : List Comer) (places-of seats : ℕ → List Plac
       let is : IsScheduled (machine l) open_net places-of seats closing ts = found.1 in
       let older = reverse (map coming comers) ++ [] in
       let shown = turns-show l comers ts older open_net (all-come l comers) (may-come l comers [] h.came refl) (all-came ts is.by_seat) is.schedule in
-      let same : reverse (map event_of ts) ++ older ≡ events comers ts = ap (λ es. reverse (map event_of ts) ++ es) (append-nil (reverse (map coming comers))) in
-      let shows : Shows comers (run (machine l) (map histories.event_of ts) open_net) (schedule l (events comers ts)) =
-      subst (λ es. Shows comers (run (machine l) (map histories.event_of ts) open_net) (schedule l es)) same shown.0 in (
+      let same : events_after ts older ≡ events comers ts = ap (events_after ts) (append-nil (reverse (map coming comers))) in
+      let done = run (machine l) (map (histories.event_of (machine l)) ts) open_net in
+      let shows : Shows comers done (schedule l (events comers ts)) = subst (λ es. Shows comers done (schedule l es)) same shown.0 in (
         ts,
         record {
           sorted = is.sorted;

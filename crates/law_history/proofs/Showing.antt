@@ -155,16 +155,16 @@ module _ (l : Layout) (comers : List Comer) (n : Network PlaceState Seated Packe
             ∙ sym (ap (λ c. cond c (n.links a b ++ puts_to b (map as_sent u.puts)) (n.links a b)) away))
       ]
 
-  called : (q : ℕ) (u : Turn) (w : Seated) → slice_get s.callers q ≡ Some w → (r : ℕ) → slice_get (slice_set s.callers q u.caller) r ≡ option_map (λ (c : Comer). set q u.caller n.callers r) (slice_get comers r)
+  pub called : (q : ℕ) (u w : Seated) → slice_get s.callers q ≡ Some w → (r : ℕ) → slice_get (slice_set s.callers q u) r ≡ option_map (λ (c : Comer). set q u n.callers r) (slice_get comers r)
   called q u w is r =
       elim (cases_Bool (eqb q r)) [
         | inl here ↦
             (let same : q ≡ r = eqb-true q r here in
-            let new : slice_get (slice_set s.callers q u.caller) r ≡ Some u.caller = ap (λ v. slice_get (slice_set s.callers q u.caller) v) (sym same) ∙ get-replaced s.callers q w u.caller is in
+            let new : slice_get (slice_set s.callers q u) r ≡ Some u = ap (λ v. slice_get (slice_set s.callers q u) v) (sym same) ∙ get-replaced s.callers q w u is in
             let some = sym (h.callers r) ∙ ap (slice_get s.callers) (sym same) ∙ is in
-            new ∙ came (slice_get comers r) (n.callers r) w some u.caller ∙ ap (λ x. option_map (λ (c : Comer). x) (slice_get comers r)) (sym (set_here q u.caller n.callers r here)))
+            new ∙ came (slice_get comers r) (n.callers r) w some u ∙ ap (λ x. option_map (λ (c : Comer). x) (slice_get comers r)) (sym (set_here q u n.callers r here)))
         | inr away ↦
-            (get-other s.callers q r u.caller (eqb-false q r away) ∙ h.callers r ∙ ap (λ x. option_map (λ (c : Comer). x) (slice_get comers r)) (sym (set_else q u.caller n.callers r away)))
+            (get-other s.callers q r u (eqb-false q r away) ∙ h.callers r ∙ ap (λ x. option_map (λ (c : Comer). x) (slice_get comers r)) (sym (set_else q u n.callers r away)))
       ]
     where
       came : (o : Option Comer) (x w : Seated) → option_map (λ (c : Comer). x) o ≡ Some w → (y : Seated) → Some y ≡ option_map (λ (c : Comer). y) o
@@ -177,5 +177,5 @@ module _ (l : Layout) (comers : List Comer) (n : Network PlaceState Seated Packe
         order = order-all u.puts s.packets h.order;
         places = placed p q t u there number;
         links = linked p q t u puts;
-        callers = called q u w is;
+        callers = called q u.caller w is;
       }

@@ -5,14 +5,15 @@ use Rattle.law_history.specs.Turns.{Input, Machine, Turn, Rises, is_at, is_by, p
 use Rattle.law_history.specs.Network.{Network, Event, run, IsSchedule}
 
 -- the event that a turn is
-abbrev pub event_for : {M K : Type 0} → ℕ → ℕ → Input M K → Event M
-event_for p q (Input.Command c) = Event.Gives q c
-event_for p q (Input.Packet a k) = Event.Carries q a p
-
-abbrev pub event_of : {C M K : Type 0} → Turn C M K → Event M
-event_of t = event_for t.place t.seat t.input
+abbrev pub event_for : {M K : Type 0} → ℕ → ℕ → ℕ → Input M K → Event M
+event_for p q clock (Input.Command c) = Event.Gives q clock c
+event_for p q clock (Input.Packet a k) = Event.Carries q clock a p
 
 module _ {P C M K : Type 0} (m : Machine P C M K) where
+  -- the caller was shown what it had seen when the turn began
+  abbrev pub event_of : Turn C M K → Event M
+  event_of t = event_for t.place t.seat (m.last t.before) t.input
+
   -- what is noted of the turn is what the machine does at the place p in the state x
   pub record IsTurn (p : ℕ) (x : P) (t : Turn C M K) : Type 0 where
     pub place : t.place ≡ p
@@ -26,17 +27,20 @@ module _ {P C M K : Type 0} (m : Machine P C M K) where
   Takes p x [] y = x ≡ y
   Takes p x (t ∷ ts) y = IsTurn p x t × Takes p (m.turn p t.input x t.before).place ts y
 
--- each turn begins with the caller that the one before left
-abbrev pub Follows : {C M K : Type 0} → C → List (Turn C M K) → C → Type 0
-Follows c [] d = c ≡ d
-Follows c (t ∷ ts) d = (t.before ≡ c) × Follows t.after ts d
+  -- The second caller is the first, to whom entries may have been shown: only its last clock may be higher.
+  abbrev pub IsShown : C → C → Type 0
+  IsShown c d = d ≡ m.shown (m.last d) c
 
-module _ {P C M K : Type 0} (m : Machine P C M K) where
+  -- each turn begins with the caller that the one before left, to whom entries may have been shown since
+  abbrev pub Follows : C → List (Turn C M K) → C → Type 0
+  Follows c [] d = c ≡ d
+  Follows c (t ∷ ts) d = IsShown c t.before × Follows t.after ts d
+
   -- Of each place and of each seat the turns in order. A place's turns by a seat are the seat's turns at the place. Of
   -- each pair of places what was there or was put is what was got and then what is left.
   pub record Histories (opening : Network P C K) (places seats : ℕ → List (Turn C M K))
       (closing : Network P C K) : Type 0 where
-    pub takes : (p : ℕ) → Takes m p (opening.places p) (places p) (closing.places p)
+    pub takes : (p : ℕ) → Takes p (opening.places p) (places p) (closing.places p)
     pub follows : (q : ℕ) → Follows (opening.callers q) (seats q) (closing.callers q)
     pub shared : (p q : ℕ) → filter (is_by q) (places p) ≡ filter (is_at p) (seats q)
     pub in_order : (a b : ℕ) → opening.links a b ++ put_to b (places a) ≡ got_from a (places b) ++ closing.links a b

@@ -1,7 +1,7 @@
 -- Journals are a schedule: the turns that places took and callers were given, in one order, are a schedule of the
 -- network machine. l is a layout, p, a and b are numbers of places, q is a seat, t a turn, n a network, ts are turns,
 -- the first one first, and es are events, the latest first.
-use Rattle.std.specs.Prelude.{ℕ, ◌≡◌, true, List, [], ◌++◌, map, reverse, Option, Some, None, slice_get}
+use Rattle.std.specs.Prelude.{ℕ, ◌≡◌, true, List, [], ◌∷◌, map, reverse, Option, Some, None, slice_get}
 use Rattle.std.specs.List.{All, filter}
 use Rattle.std.specs.Option.{option_map}
 use Rattle.chorus_ui.specs.declared.ui.Ui.{Ui}
@@ -14,7 +14,7 @@ use Rattle.chorus_calls.specs.Callers.{Seated, new_caller}
 use Rattle.law_machine.specs.declared.outgoing.Outgoing.{Outgoing}
 use Rattle.law_machine.specs.PlaceState.{PlaceState, started}
 use Rattle.law_network.specs.Packets.{is_link}
-use Rattle.law_network.specs.Network.{NetState, Event, Enter, Act, Deliver, place, schedule}
+use Rattle.law_network.specs.Network.{NetState, Event, Enter, Act, Deliver, See, place, schedule}
 use Rattle.law_network.specs.Calls.{first_actor}
 use Rattle.law_network.specs.Schedules.{may_be}
 use Rattle.law_history.specs.Turns.{Input, Turn, is_at, is_by, IsInOrder}
@@ -59,7 +59,7 @@ pub record AreHistories (l : Layout) (comers : List Comer) (places seats : ℕ �
   pub histories : Histories (machine l) (at_start l comers) places seats closing
   pub no_caller : (q : ℕ) → slice_get comers q ≡ None → seats q ≡ []
 
--- The schedule: all come, and then the turns happen in their order.
+-- The schedule: all come, and then the turns happen in their order; before each its caller sees up to its last clock.
 
 abbrev pub coming : Comer → Event
 coming c = Enter c.actor c.last
@@ -71,8 +71,13 @@ event_with p q (Input.Packet a k) = Deliver q a p
 abbrev pub event_of : PlaceTurn → Event
 event_of t = event_with t.place t.seat t.input
 
+-- the events of the turns, behind older ones
+abbrev pub events_after : List PlaceTurn → List Event → List Event
+events_after [] es = es
+events_after (t ∷ ts) es = events_after ts (event_of t ∷ See t.seat t.before.last ∷ es)
+
 abbrev pub events : List Comer → List PlaceTurn → List Event
-events comers ts = reverse (map event_of ts) ++ reverse (map coming comers)
+events comers ts = events_after ts (reverse (map coming comers))
 
 -- the packets from a to b, in the order in which they were put
 abbrev pub on_link : ℕ → ℕ → NetState → List Packet

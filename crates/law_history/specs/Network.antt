@@ -8,10 +8,11 @@ pub record Network (P C K : Type 0) : Type 0 where
   pub links : ℕ → ℕ → List K
   pub callers : ℕ → C
 
--- a seat gives a command, or takes the first packet from a place to another to that place
+-- a seat, to which an entry with this clock was shown, gives a command, or takes the first packet from a place to
+-- another to that place
 pub data Event (M : Type 0) : Type 0 where
-  Gives : (seat : ℕ) (command : M) → Event M
-  Carries : (seat from to : ℕ) → Event M
+  Gives : (seat shown : ℕ) (command : M) → Event M
+  Carries : (seat shown from to : ℕ) → Event M
 
 abbrev pub set : {A : Type 0} → ℕ → A → (ℕ → A) → ℕ → A
 set p x f q = cond (p == q) x (f q)
@@ -30,28 +31,35 @@ module _ {P C M K : Type 0} (m : Machine P C M K) where
   ended p q links o n =
       record { places = set p o.place n.places; links = sent p o.puts links; callers = set q o.caller n.callers }
 
-  abbrev pub did : ℕ → ℕ → Input M K → (ℕ → ℕ → List K) → Network P C K → Network P C K
-  did p q i links n = ended p q links (m.turn p i (n.places p) (n.callers q)) n
+  -- the caller of a seat, to whom an entry with this clock was shown
+  abbrev pub caller_shown : ℕ → ℕ → Network P C K → C
+  caller_shown q clock n = m.shown clock (n.callers q)
 
-  abbrev pub carried : ℕ → ℕ → ℕ → List K → Network P C K → Network P C K
-  carried q a b [] n = n
-  carried q a b (k ∷ ks) n = did b q (Input.Packet a k) (relinked a b ks n.links) n
+  -- as the caller w
+  abbrev pub did : ℕ → ℕ → C → Input M K → (ℕ → ℕ → List K) → Network P C K → Network P C K
+  did p q w i links n = ended p q links (m.turn p i (n.places p) w) n
+
+  abbrev pub carried : ℕ → C → ℕ → ℕ → List K → Network P C K → Network P C K
+  carried q w a b [] n = n
+  carried q w a b (k ∷ ks) n = did b q w (Input.Packet a k) (relinked a b ks n.links) n
 
   abbrev pub happens : Event M → Network P C K → Network P C K
-  happens (Event.Gives q c) n = did (m.goes (n.callers q) c) q (Input.Command c) n.links n
-  happens (Event.Carries q a b) n = carried q a b (n.links a b) n
+  happens (Event.Gives q clock c) n =
+      let w = caller_shown q clock n in did (m.goes w c) q w (Input.Command c) n.links n
+  happens (Event.Carries q clock a b) n = carried q (caller_shown q clock n) a b (n.links a b) n
 
   -- the place takes it
-  abbrev pub May : ℕ → ℕ → Input M K → Network P C K → Type 0
-  May p q i n = m.may p i (n.places p) (n.callers q) ≡ true
+  abbrev pub May : ℕ → C → Input M K → Network P C K → Type 0
+  May p w i n = m.may p i (n.places p) w ≡ true
 
-  abbrev pub MayCarry : ℕ → ℕ → ℕ → List K → Network P C K → Type 0
-  MayCarry q a b [] n = ⊥
-  MayCarry q a b (k ∷ ks) n = May b q (Input.Packet a k) n
+  abbrev pub MayCarry : C → ℕ → ℕ → List K → Network P C K → Type 0
+  MayCarry w a b [] n = ⊥
+  MayCarry w a b (k ∷ ks) n = May b w (Input.Packet a k) n
 
   abbrev pub MayHappen : Event M → Network P C K → Type 0
-  MayHappen (Event.Gives q c) n = May (m.goes (n.callers q) c) q (Input.Command c) n
-  MayHappen (Event.Carries q a b) n = MayCarry q a b (n.links a b) n
+  MayHappen (Event.Gives q clock c) n =
+      let w = caller_shown q clock n in May (m.goes w c) w (Input.Command c) n
+  MayHappen (Event.Carries q clock a b) n = MayCarry (caller_shown q clock n) a b (n.links a b) n
 
   abbrev pub run : List (Event M) → Network P C K → Network P C K
   run [] n = n

@@ -10,7 +10,7 @@ use Rattle.chorus_entry.specs.declared.packet.Packet.{Packet}
 use Rattle.chorus_entry.specs.declared.packet.Cargo.{Cargo}
 use Rattle.chorus_entry.specs.Places.{place_for}
 use Rattle.chorus_world.specs.Places.{last_clock}
-use Rattle.chorus_calls.specs.Callers.{Seated}
+use Rattle.chorus_calls.specs.Callers.{Seated, raised}
 use Rattle.law_machine.specs.PlaceState as place
 use Rattle.law_machine.specs.declared.outgoing.Outgoing.{Outgoing}
 use Rattle.law_machine.specs.PlaceState.{PlaceState, next_clock}
@@ -56,4 +56,5 @@ machine l =
       clock = λ s. last_clock s.journal;
       last = λ w. w.last;
       stamp = λ k. k.clock;
+      shown = raised;
     }

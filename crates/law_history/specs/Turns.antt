@@ -24,6 +24,8 @@ pub record Machine (P C M K : Type 0) : Type 0 where
   pub clock : P → ℕ
   pub last : C → ℕ
   pub stamp : K → ℕ
+  -- a caller to whom an entry with this clock was shown
+  pub shown : ℕ → C → C
 
 -- a turn as it is noted
 pub record Turn (C M K : Type 0) : Type 0 where
@@ -36,7 +38,8 @@ pub record Turn (C M K : Type 0) : Type 0 where
   pub puts : List (Sent K)
 
 -- What a machine owes: a command is taken at its place alone, and the clock of a turn's first entry is above all clocks
--- that it goes out from, and at most those that it leaves.
+-- that it goes out from, and at most those that it leaves; and where an entry is shown to a caller, its last clock does
+-- not fall.
 pub record Rises {P C M K : Type 0} (m : Machine P C M K) : Type 0 where
   pub at_place : (p : ℕ) (c : M) (x : P) (w : C) → m.may p (Input.Command c) x w ≡ true → m.goes w c ≡ p
   pub above_place : (p : ℕ) (i : Input M K) (x : P) (w : C) → m.may p i x w ≡ true → m.clock x < (m.turn p i x w).first
@@ -49,6 +52,7 @@ pub record Rises {P C M K : Type 0} (m : Machine P C M K) : Type 0 where
       (m.turn p i x w).first ≤ m.last (m.turn p i x w).caller
   pub to_packets : (p : ℕ) (i : Input M K) (x : P) (w : C) → m.may p i x w ≡ true →
       All (λ (s : Sent K). (m.turn p i x w).first ≤ m.stamp s.packet) (m.turn p i x w).puts
+  pub to_shown : (clock : ℕ) (w : C) → m.last w ≤ m.last (m.shown clock w)
 
 -- of what is put, the packets for one place
 abbrev pub puts_to : {K : Type 0} → ℕ → List (Sent K) → List K

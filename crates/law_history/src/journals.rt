@@ -1,6 +1,6 @@
 //! The laws of journals. They speak of the definitions alone and make no call.
 
-ghost use Rattle.law_history.specs.Entries.{TurnsAppendEntries};
+ghost use Rattle.law_history.specs.Entries.{JournalsFall, TurnsAppendEntries, TurnsClimb};
 ghost use Rattle.law_history.specs.Journals.{JournalsAreASchedule};
 ghost use Rattle.law_history.specs.Runs.{JournalsKeepPromises, JournalsMergeAsARun};
 
@@ -10,6 +10,16 @@ ghost use Rattle.law_history.specs.Runs.{JournalsKeepPromises, JournalsMergeAsAR
 /// seat and its actor.
 pub fn turns_append_entries()
     ensures { TurnsAppendEntries }
+{}
+
+/// The clocks of a place's journal rise: after its turns, from the started place on, each entry has a clock above those of all
+/// entries before it.
+///
+/// A turn goes on so, and leaves its caller with the clock of the place's last entry: so it has then seen nothing above its own
+/// last clock.
+pub fn journals_rise()
+    ensures turn { TurnsClimb }
+    ensures all { JournalsFall }
 {}
 
 /// The journals of places that callers worked at side by side are those of a schedule.

@@ -19,7 +19,9 @@ mod places;
 mod turns;
 
 pub use histories::{equal_counts_leave_nothing, histories_are_scheduled, stands_behind_all_seen};
-pub use journals::{journals_are_a_schedule, journals_merge_as_a_run, turns_append_entries};
+pub use journals::{
+    journals_are_a_schedule, journals_merge_as_a_run, journals_rise, turns_append_entries,
+};
 pub use places::{
     counts_tell_what_is_left, schedules_leave_places_and_links, turns_put_for_other_places,
 };

@@ -1,4 +1,5 @@
 pub mod Entering
+pub mod Seeing
 pub mod HavePlaces
 pub mod Cases
 pub mod EachEvent

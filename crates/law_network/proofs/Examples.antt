@@ -17,3 +17,4 @@ pub mod Quiet
 pub mod Packets
 pub mod Ended
 pub mod Deciding
+pub mod Fates

@@ -3,3 +3,4 @@ pub mod Packets
 pub mod Closed
 pub mod Passing
 pub mod EachMessage
+pub mod ByFate

@@ -12,7 +12,7 @@ use Rattle.law_machine.specs.declared.outgoing.Outgoing.{Outgoing}
 use Rattle.law_machine.specs.PlaceState.{Turn}
 use Rattle.law_machine.specs.PlaceMachine.{begun_by, act, work}
 use Rattle.law_network.specs.Packets.{first_on}
-use Rattle.law_network.specs.Network.{NetState, Event, Enter, Act, Deliver, place, turn_for, happened, schedule}
+use Rattle.law_network.specs.Network.{NetState, Event, Enter, Act, Deliver, See, place, turn_for, happened, schedule}
 use Rattle.law_network.specs.Schedules.{may_happen, OfSchedules}
 use Rattle.law_network.specs.Stands.{Stands}
 use Rattle.law_network.specs.Ready.{IsReady}
@@ -41,6 +41,7 @@ abbrev pub taken_by : Event → NetState → Option Taken
 taken_by (Enter actor last) n = None
 taken_by (Act seat command) n = taken_with command (slice_get n.callers seat) n
 taken_by (Deliver seat a b) n = taken_at a b (slice_get n.callers seat) n
+taken_by (See seat clock) n = None
 
 -- what a list has before the end that it shares with an older one
 abbrev pub newer : List Entry → List Entry → List Entry

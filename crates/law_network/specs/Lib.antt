@@ -15,4 +15,5 @@ pub mod Promises
 pub mod Answering
 pub mod Merging
 pub mod EachMessage
+pub mod Fates
 pub mod ByPlace

@@ -1,4 +1,5 @@
--- The network machine: a caller comes, gives a command, or works off the first packet from one place to another.
+-- The network machine: a caller comes, gives a command, works off the first packet from one place to another, or sees an
+-- entry, which raises its last clock.
 -- n is a network, l a layout, p, a and b are numbers of places, s is a place, t a turn, es are events, the latest
 -- first.
 use Rattle.std.specs.Prelude.{ℕ, zero, suc, ◌+◌, ◌==◌, Bool, ◌&&◌, if◌then◌else◌, is_some, List, [], ◌∷◌, ◌++◌, length, reverse, map, Option, Some, None, slice_get, slice_set}
@@ -9,7 +10,7 @@ use Rattle.chorus_ui.specs.Layout as layout
 use Rattle.chorus_entry.specs.declared.command.Command.{Command}
 use Rattle.chorus_entry.specs.declared.packet.Packet.{Packet}
 use Rattle.chorus_entry.specs.Places.{place_for}
-use Rattle.chorus_calls.specs.Callers.{Seated, new_caller}
+use Rattle.chorus_calls.specs.Callers.{Seated, new_caller, raised}
 use Rattle.law_machine.specs.declared.reply.Reply.{Reply}
 use Rattle.law_machine.specs.declared.outgoing.Outgoing.{Outgoing}
 use Rattle.law_machine.specs.PlaceState.{PlaceState, Turn, started}
@@ -95,16 +96,23 @@ delivery_of (Some packet) = Delivered.Served
 abbrev pub delivery : ℕ → ℕ → NetState → Delivered
 delivery a b n = delivery_of (first_on a b n.packets)
 
+-- the caller of this seat has seen an entry with this clock
+abbrev pub shown : ℕ → ℕ → Option Seated → NetState → NetState
+shown seat clock None n = n
+shown seat clock (Some caller) n = record n { callers = slice_set n.callers seat (raised clock caller) }
+
 -- Events, and lists of them, the latest first.
 pub data Event : Type 0 where
   Enter : (actor : Ui) (last : ℕ) → Event
   Act : (seat : ℕ) (command : Command) → Event
   Deliver : (seat from to : ℕ) → Event
+  See : (seat clock : ℕ) → Event
 
 abbrev pub happened : Event → NetState → NetState
 happened (Enter actor last) n = entered actor last n
 happened (Act seat command) n = commanded seat command (slice_get n.callers seat) n
 happened (Deliver seat a b) n = delivered seat a b (slice_get n.callers seat) n
+happened (See seat clock) n = shown seat clock (slice_get n.callers seat) n
 
 abbrev pub after : List Event → NetState → NetState
 after [] n = n
@@ -143,6 +151,7 @@ one_if b = if b then 1 else 0
 abbrev pub serves : Event → NetState → ℕ
 serves (Enter actor last) n = 1
 serves (Act seat command) n = 1
+serves (See seat clock) n = 1
 serves (Deliver seat a b) n = one_if (is_some (slice_get n.callers seat) && is_some (first_on a b n.packets))
 
 abbrev pub served : List Event → NetState → ℕ

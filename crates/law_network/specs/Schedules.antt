@@ -7,7 +7,7 @@ use Rattle.chorus_ui.specs.Layout.{IsLayout, has_actor, has_place}
 use Rattle.chorus_entry.specs.declared.command.Command.{Command}
 use Rattle.chorus_ui.specs.NameKind.{is_actor}
 use Rattle.chorus_calls.specs.Callers.{Seated}
-use Rattle.law_network.specs.Network.{NetState, Event, Enter, Act, Deliver, schedule}
+use Rattle.law_network.specs.Network.{NetState, Event, Enter, Act, Deliver, See, schedule}
 
 -- a caller that posts has posted fewer than 2^32 - 1 messages
 abbrev pub has_number_left : Seated → Command → Bool
@@ -20,12 +20,13 @@ may_give (Some caller) command =
     meets_conditions command && has_body_in_limit command && has_number_left caller command
 
 -- a caller comes in an actor of the layout; a packet is worked off by somebody who came, between two places of the
--- layout
+-- layout; who came may see entries
 abbrev pub may_happen : Event → NetState → Bool
 may_happen (Enter actor last) n = is_actor actor && has_actor n.layout actor
 may_happen (Act seat command) n = may_give (slice_get n.callers seat) command
 may_happen (Deliver seat a b) n =
     is_some (slice_get n.callers seat) && has_place n.layout a && has_place n.layout b && not (a == b)
+may_happen (See seat clock) n = is_some (slice_get n.callers seat)
 
 -- each event of the list may happen when it comes
 abbrev pub may_be : Layout → List Event → Bool
@@ -37,6 +38,7 @@ abbrev pub command_in : ℕ → Event → List Command → List Command
 command_in seat (Enter actor last) commands = commands
 command_in seat (Act giver command) commands = if giver == seat then command ∷ commands else commands
 command_in seat (Deliver giver a b) commands = commands
+command_in seat (See seer clock) commands = commands
 
 abbrev pub commands_of : ℕ → List Event → List Command
 commands_of seat [] = []

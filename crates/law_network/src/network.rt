@@ -2,6 +2,7 @@
 
 ghost use Rattle.law_network.specs.ByPlace.{SchedulesStandByPlace};
 ghost use Rattle.law_network.specs.EachMessage.{ClosedHoldEach, HoldingsHoldEach, NetworksHoldEach};
+ghost use Rattle.law_network.specs.Fates.{HoldingsHoldByFate, WorldsHoldByFate};
 ghost use Rattle.law_network.specs.History.{EventsStand, SchedulesStandInOrder};
 ghost use Rattle.law_network.specs.Promises.{SchedulesKeepPromises};
 ghost use Rattle.law_network.specs.Tasks.{CarriedOutOnce, DrainsEnd, DrainsLeaveNothing, DrainsRest, FrontsPerformed, TasksCarriedOut};
@@ -52,10 +53,16 @@ pub fn drains_leave_nothing_to_do()
 /// the record of its port at one place, and one that is under way in one Transfer: there alone, once, at its position behind
 /// those taken. One that was received or discarded waits in none. And nothing else waits in them (`holdings`). So it is of what
 /// a network holds after each schedule, for the merge of its journals (`network`), also when it is closed (`closed`).
+///
+/// The entries tell which it is: a Take of the port has the message, at its position, exactly where it was received; the port's
+/// Delete has it exactly where it was discarded. So it always is in the world of a legal list (`world`), and in all holdings that
+/// stand for one (`by_fate`).
 pub fn each_message_stands_once()
     ensures holdings { HoldingsHoldEach }
     ensures network { NetworksHoldEach }
     ensures closed { ClosedHoldEach }
+    ensures world { WorldsHoldByFate }
+    ensures by_fate { HoldingsHoldByFate }
 {}
 
 /// The network of a schedule has the places of its layout by their numbers, and its packets stand by the place that put them and then

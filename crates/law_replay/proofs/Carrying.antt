@@ -7,7 +7,7 @@ use Rattle.std.proofs.lemmas.List.Elements.{All-nil, All-cons, All-head, All-tai
 use Rattle.chorus_ui.specs.declared.layout.Layout.{Layout}
 use Rattle.chorus_ui.specs.Layout.{IsLayout}
 use Rattle.law_machine.specs.PlaceState.{PlaceState}
-use Rattle.law_network.specs.Network.{NetState, Event, Enter, Act, Deliver, after, opening, schedule, round, rounds, serves, served}
+use Rattle.law_network.specs.Network.{NetState, Event, Enter, Act, Deliver, See, after, opening, schedule, round, rounds, serves, served}
 use Rattle.law_network.specs.Schedules.{may_be}
 use Rattle.law_network.specs.Tasks.{Task, Do, Drain, CarryOut}
 use Rattle.law_network.proofs.Draining.Drains.{idle, round-deliveries}
@@ -38,6 +38,7 @@ all-serve-none (e ∷ es) net h =
 serves-on : (n : ℕ) (more : List PlaceState) (net : NetState) (e : Event) → serves e (net_on n more net) ≡ serves e net
 serves-on n more net (Enter actor last) = refl
 serves-on n more net (Act seat c) = refl
+serves-on n more net (See seat clock) = refl
 serves-on n more net (Deliver seat a b) = refl
 
 -- An event of a task is within, and near.

@@ -23,7 +23,7 @@ use Rattle.law_machine.specs.PlaceState.{PlaceState, Turn}
 use Rattle.law_machine.specs.PlaceMachine.{begun, begun_by, act, work}
 use Rattle.law_machine.proofs.Machine.Stays.{act-stays, work-stays}
 use Rattle.law_network.specs.Packets.{put_all, is_link, first_on, rest_on}
-use Rattle.law_network.specs.Network.{NetState, place_in, place, with_place, ended, turn_for, commanded, works_off, delivered, Event, Enter, Act, Deliver, happened}
+use Rattle.law_network.specs.Network.{NetState, place_in, place, with_place, ended, turn_for, commanded, works_off, delivered, Event, Enter, Act, Deliver, See, shown, happened}
 use Rattle.law_network.specs.Schedules.{may_happen}
 use Rattle.law_network.specs.Stands.{Stands}
 use Rattle.law_network.proofs.Places.PlacesStay.{stands_in}
@@ -43,11 +43,13 @@ abbrev pub EventWithin : ℕ → Layout → Event → Type 0
 EventWithin n l (Enter actor last) = Within n l actor
 EventWithin n l (Act seat command) = CommandWithin n l command
 EventWithin n l (Deliver seat a b) = Unit {0}
+EventWithin n l (See seat clock) = Unit {0}
 
 -- it is not a delivery from or to a place that the layout does not have
 abbrev pub is_near : Layout → Event → Bool
 is_near l (Enter actor last) = true
 is_near l (Act seat command) = true
+is_near l (See seat clock) = true
 is_near l (Deliver seat a b) = has_place l a && has_place l b
 
 abbrev pub near : Layout → List Event → List Event
@@ -159,10 +161,15 @@ module _ (n : ℕ) (more : List PlaceState) (net : NetState) (past : List Entry)
   commanded-on seat c None found h = refl
   commanded-on seat c (Some caller) found h = given-on seat caller found c h
 
+  shown-on : (seat clock : ℕ) (o : Option Seated) → shown seat clock o (net_on n more net) ≡ net_on n more (shown seat clock o net)
+  shown-on seat clock None = refl
+  shown-on seat clock (Some caller) = refl
+
   -- an event that is near does the same
   pub happened-on : (e : Event) → EventWithin n net.layout e → is_near net.layout e ≡ true → happened e (net_on n more net) ≡ net_on n more (happened e net)
   happened-on (Enter actor last) h near = refl
   happened-on (Act seat c) h near = commanded-on seat c (slice_get net.callers seat) refl h
+  happened-on (See seat clock) h near = shown-on seat clock (slice_get net.callers seat)
   happened-on (Deliver seat a b) h near =
       delivered-on a b (and_parts (has_place net.layout a) (has_place net.layout b) near).1 seat (slice_get net.callers seat)
 
@@ -188,6 +195,7 @@ module _ (n : ℕ) (more : List PlaceState) (net : NetState) (past : List Entry)
   pub far-nothing : (e : Event) → is_near net.layout e ≡ false → happened e (net_on n more net) ≡ net_on n more net
   far-nothing (Enter actor last) far = absurd (false≢true (sym far))
   far-nothing (Act seat c) far = absurd (false≢true (sym far))
+  far-nothing (See seat clock) far = absurd (false≢true (sym far))
   far-nothing (Deliver seat a b) far = go (slice_get net.callers seat)
     where
       off : (caller : Seated) (o : Option Packet) → o ≡ None → works_off seat a b caller o (net_on n more net) ≡ net_on n more net
@@ -201,6 +209,7 @@ module _ (n : ℕ) (more : List PlaceState) (net : NetState) (past : List Entry)
   pub may-down : (e : Event) → EventWithin n net.layout e → is_near net.layout e ≡ true → may_happen e (net_on n more net) ≡ true → may_happen e net ≡ true
   may-down (Enter actor last) h near may = ap (λ b. is_actor actor && b) (sym (actor-same n net.layout actor h)) ∙ may
   may-down (Act seat c) h near may = may
+  may-down (See seat clock) h near may = may
   may-down (Deliver seat a b) h near may =
       let two = and_parts (has_place net.layout a) (has_place net.layout b) near in
       let some = is_some (slice_get net.callers seat) in

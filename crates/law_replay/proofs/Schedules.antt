@@ -17,7 +17,7 @@ use Rattle.law_machine.specs.PlaceState.{PlaceState, next_entry}
 use Rattle.law_machine.specs.Own.{own}
 use Rattle.law_machine.specs.PlaceMachine.{begun_by}
 use Rattle.law_network.specs.Packets.{first_on}
-use Rattle.law_network.specs.Network.{NetState, place, turn_for, Event, Enter, Act, Deliver, happened, opening, schedule}
+use Rattle.law_network.specs.Network.{NetState, place, turn_for, Event, Enter, Act, Deliver, See, happened, opening, schedule}
 use Rattle.law_network.specs.Schedules.{may_happen, may_be}
 use Rattle.law_network.specs.Stands.{IsCaller}
 use Rattle.law_network.specs.History.{said_by, history}
@@ -57,6 +57,7 @@ module _ (n : ℕ) (l : Layout) where
   module _ (shape : IsLayout l) where
     said-within : (es : List Event) → may_be l es ≡ true → All (EntryWithin n l) (history l es) → (e : Event) → EventWithin n l e → All (EntryWithin n l) (said_by e (schedule l es))
     said-within es may all (Enter actor last) h = All-nil (EntryWithin n l)
+    said-within es may all (See seat clock) h = All-nil (EntryWithin n l)
     said-within es may all (Act seat c) h =
         let net = schedule l es in
         given-within c (slice_get net.callers seat) net h

@@ -12,7 +12,7 @@ use Rattle.chorus_entry.specs.declared.packet.Packet.{Packet}
 use Rattle.chorus_calls.specs.Callers.{Seated}
 use Rattle.law_machine.specs.PlaceState.{PlaceState, Turn, greatest_clock}
 use Rattle.law_network.specs.Packets.{first_on}
-use Rattle.law_network.specs.Network.{NetState, Event, Enter, Act, Deliver, opening, schedule, round}
+use Rattle.law_network.specs.Network.{NetState, Event, Enter, Act, Deliver, See, opening, schedule, round}
 use Rattle.law_network.specs.Calls.{compared_with, compared_on}
 use Rattle.law_network.specs.Schedules.{may_be}
 use Rattle.law_network.specs.Tasks.{Task, Do, Drain}
@@ -38,6 +38,7 @@ module _ (n : ℕ) (more : List PlaceState) (net : NetState) (past : List Entry)
 
   compared-same : (e : Event) → EventWithin n net.layout e → is_near net.layout e ≡ true → compared_by e (net_on n more net) ≡ compared_by e net
   compared-same (Enter actor last) h t = refl
+  compared-same (See seat clock) h t = refl
   compared-same (Act seat c) h t = ap (λ (m : ℕ). Some m) (given-same seat c (slice_get net.callers seat) refl h)
   compared-same (Deliver seat a b) h t =
       worked-same a b (and_parts (has_place net.layout a) (has_place net.layout b) t).1 (slice_get net.callers seat) (first_on a b net.packets)
@@ -49,6 +50,7 @@ module _ (n : ℕ) (more : List PlaceState) (net : NetState) (past : List Entry)
   -- what compares a clock is near
   compares-near : (e : Event) (clock : ℕ) → compared_by e (net_on n more net) ≡ Some clock → is_near net.layout e ≡ true
   compares-near (Enter actor last) clock h = refl
+  compares-near (See seat seen) clock h = refl
   compares-near (Act seat c) clock h = refl
   compares-near (Deliver seat a b) clock h = by (has_place net.layout a && has_place net.layout b) refl
     where

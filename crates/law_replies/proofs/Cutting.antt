@@ -43,7 +43,7 @@ module _ {P C M K : Type 0} (m : Machine P C M K) where
   takes-one p [] x y h = sym h
   takes-one p (t ∷ ts) x y h = takes-one p ts (m.turn p t.input x t.before).place y h.1
 
-  follows-front : (xs ys : List (Turn C M K)) (c d : C) → Follows c (xs ++ ys) d → Follows c xs (caller_after c xs)
+  follows-front : (xs ys : List (Turn C M K)) (c d : C) → Follows m c (xs ++ ys) d → Follows m c xs (caller_after c xs)
   follows-front [] ys c d h = refl
   follows-front (t ∷ xs) ys c d h = (h.0, follows-front xs ys t.after d h.1)
 
@@ -126,10 +126,10 @@ module _ {P C M K : Type 0} (m : Machine P C M K) where
         (takes-front p (filter (is_at p) front) (filter (is_at p) back) (opening.places p) (closing.places p)
         (subst (λ ts. Takes m p (opening.places p) ts (closing.places p)) (place-split p) (h.takes p))).0
 
-    follows-there : (q : ℕ) → Follows (opening.callers q) (filter (is_by q) front) (caller_after (opening.callers q) (filter (is_by q) front))
+    follows-there : (q : ℕ) → Follows m (opening.callers q) (filter (is_by q) front) (caller_after (opening.callers q) (filter (is_by q) front))
     follows-there q =
         follows-front (filter (is_by q) front) (filter (is_by q) back) (opening.callers q) (closing.callers q)
-        (subst (λ ts. Follows (opening.callers q) ts (closing.callers q)) (seat-split q) (h.follows q))
+        (subst (λ ts. Follows m (opening.callers q) ts (closing.callers q)) (seat-split q) (h.follows q))
 
     -- what was put up to there is what was taken and then what is left
     links-there : (a b : ℕ) → (rest : List K) × (opening.links a b ++ put_to b (filter (is_at a) front) ≡ got_from a (filter (is_at b) front) ++ rest)

@@ -20,12 +20,13 @@ use Rattle.law_machine.specs.Own.{own}
 use Rattle.law_machine.specs.PlaceMachine.{begun_by, act, work}
 use Rattle.law_machine.proofs.Machine.Stays.{act-stays, work-stays}
 use Rattle.law_network.specs.Packets.{first_on, rest_on}
-use Rattle.law_network.specs.Network.{NetState, Event, Enter, Act, Deliver, place, turn_for, ended, commanded, works_off, delivered, happened, schedule}
+use Rattle.law_network.specs.Network.{NetState, Event, Enter, Act, Deliver, See, place, turn_for, ended, commanded, works_off, delivered, happened, schedule}
 use Rattle.law_network.specs.Stands.{actor_of}
 use Rattle.law_network.specs.Schedules.{may_give, may_happen, may_be, command_in, commands_of}
 use Rattle.law_network.proofs.Places.Layouts.{schedule-keeps}
 use Rattle.law_network.specs.History.{history}
 use Rattle.law_network.proofs.Events.InOrder.{in-order}
+use Rattle.law_network.proofs.Events.Seeing.{shown-actors}
 use Rattle.law_network.proofs.Commands.OwnAnswers.{own-answers}
 use Rattle.law_network.proofs.Events.Said.{said, said_with, said_on, said_at, act-goes, work-goes, said-act, said-work, own-is}
 
@@ -158,6 +159,7 @@ ungiven l (e ∷ es) k may h = go e two.0 h (ungiven l es k two.1)
             let none : slice_get (schedule l es).callers j ≡ None = ap (slice_get (schedule l es).callers) (eqb-true j k e) ∙ none-actor (slice_get (schedule l es).callers k) was in
             absurd (false≢true (ap (λ o. may_give o c) (sym none) ∙ m))
     go (Deliver j x y) m g ih = ih (sym (delivered-actors j x y (schedule l es) (slice_get (schedule l es).callers j) k refl) ∙ g)
+    go (See j c) m g ih = ih (sym (shown-actors (schedule l es) j c (slice_get (schedule l es).callers j) k refl) ∙ g)
 
 -- The history.
 
@@ -209,3 +211,6 @@ module _ (l : Layout) (shape : IsLayout l) where
       let two = and_parts (may_happen (Deliver j x y) (schedule l es)) (may_be l es) may in
       performs-deliver l k a x y (slice_get (schedule l es).callers j) (schedule l es) (history l es) (commands_of k es)
       ∙ performs-history es two.1 k a (sym (delivered-actors j x y (schedule l es) (slice_get (schedule l es).callers j) k refl) ∙ h)
+  performs-history (See j c ∷ es) may k a h =
+      let two = and_parts (may_happen (See j c) (schedule l es)) (may_be l es) may in
+      performs-history es two.1 k a (sym (shown-actors (schedule l es) j c (slice_get (schedule l es).callers j) k refl) ∙ h)

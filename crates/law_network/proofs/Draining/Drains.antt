@@ -11,7 +11,7 @@ use Rattle.chorus_entry.specs.declared.command.Command.{Command}
 use Rattle.chorus_calls.specs.Callers.{Seated}
 use Rattle.law_machine.specs.declared.outgoing.Outgoing.{Outgoing}
 use Rattle.law_network.specs.Packets.{first_on}
-use Rattle.law_network.specs.Network.{NetState, Event, Enter, Act, Deliver, commanded, works_off, delivered, happened, after, opening, schedule, from_one, from_each, place_numbers, round, rounds, one_if, serves, served, drains_on, drained}
+use Rattle.law_network.specs.Network.{NetState, Event, Enter, Act, Deliver, See, commanded, works_off, delivered, shown, happened, after, opening, schedule, from_one, from_each, place_numbers, round, rounds, one_if, serves, served, drains_on, drained}
 use Rattle.law_network.specs.Schedules.{command_in, commands_of}
 use Rattle.law_network.specs.Tasks.{Task, Do, Drain, IsDrain, CarryOut, commands_in, CarriedOutOnce}
 use Rattle.law_network.proofs.Merge.Parts.{All-reverse}
@@ -30,6 +30,7 @@ pub idle-event : (e : Event) (n : NetState) → serves e n ≡ 0 → happened e 
 idle-event (Enter actor last) n h = absurd (omega (arith, h))
 idle-event (Act k c) n h = absurd (omega (arith, h))
 idle-event (Deliver k a b) n h = idle-delivery k a b (slice_get n.callers k) n h
+idle-event (See k c) n h = absurd (omega (arith, h))
 
 pub idle : (es : List Event) (n : NetState) → served es n ≡ 0 → after es n ≡ n
 idle [] n h = refl
@@ -136,10 +137,15 @@ delivered-layout : (k a b : ℕ) (o : Option Seated) (n : NetState) → (deliver
 delivered-layout k a b None n = refl
 delivered-layout k a b (Some caller) n = worked-layout k a b caller (first_on a b n.packets) n
 
+shown-layout : (k c : ℕ) (o : Option Seated) (n : NetState) → (shown k c o n).layout ≡ n.layout
+shown-layout k c None n = refl
+shown-layout k c (Some caller) n = refl
+
 one-layout : (e : Event) (n : NetState) → (happened e n).layout ≡ n.layout
 one-layout (Enter actor last) n = refl
 one-layout (Act k c) n = given-layout k c (slice_get n.callers k) n
 one-layout (Deliver k a b) n = delivered-layout k a b (slice_get n.callers k) n
+one-layout (See k c) n = shown-layout k c (slice_get n.callers k) n
 
 pub layout-stays : (es : List Event) (n : NetState) → (after es n).layout ≡ n.layout
 layout-stays [] n = refl

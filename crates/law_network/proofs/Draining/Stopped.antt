@@ -3,7 +3,7 @@ use Rattle.std.proofs.Common.{ℕ, ◌≡◌, Bool, true, false, ◌==◌, cond,
 use Rattle.std.proofs.lemmas.List.Elements.{All-head, All-tail}
 use Rattle.chorus_ui.specs.declared.layout.Layout.{Layout}
 use Rattle.chorus_entry.specs.declared.command.Command.{Command}
-use Rattle.law_network.specs.Network.{Event, Enter, Act, Deliver}
+use Rattle.law_network.specs.Network.{Event, Enter, Act, Deliver, See}
 use Rattle.law_network.specs.Schedules.{command_in, commands_of}
 use Rattle.law_network.specs.Tasks.{Task, Do, Drain, commands_in, AreDeliveries, CarryFront, FrontsPerformed}
 use Rattle.law_network.proofs.Draining.Drains.{carried-commands}
@@ -21,6 +21,7 @@ deliveries-give seat k (e ∷ done) older h =
 given-more : (seat : ℕ) (e : Event) (cs ds : List Command) → (later : List Command) × (cs ≡ later ++ ds) → (later : List Command) × (command_in seat e cs ≡ later ++ ds)
 given-more seat (Enter actor last) cs ds h = h
 given-more seat (Deliver k a b) cs ds h = h
+given-more seat (See k c) cs ds h = h
 given-more seat (Act k c) cs ds h = go (k == seat)
   where
     go : (b : Bool) → (later : List Command) × (cond b (c ∷ cs) cs ≡ later ++ ds)

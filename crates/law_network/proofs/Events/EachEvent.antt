@@ -21,7 +21,7 @@ use Rattle.law_machine.specs.PlaceMachine.{begun, begun_by, act, work}
 use Rattle.law_machine.proofs.Machine.Stays.{act-stays, work-stays}
 use Rattle.law_machine.proofs.Machine.Ready.{ReadyHere, acts-ready, works-ready}
 use Rattle.law_network.specs.Packets.{first_on, rest_on}
-use Rattle.law_network.specs.Network.{NetState, Event, Enter, Act, Deliver, place, ended, turn_for, commanded, works_off, delivered, happened, entered}
+use Rattle.law_network.specs.Network.{NetState, Event, Enter, Act, Deliver, See, place, ended, turn_for, commanded, works_off, delivered, shown, happened, entered}
 use Rattle.law_network.specs.Stands.{Stands}
 use Rattle.law_network.specs.Ready.{IsReady}
 use Rattle.law_network.specs.Schedules.{may_happen, may_give, has_number_left}
@@ -31,6 +31,7 @@ use Rattle.law_network.proofs.Standing.Leading.{Calm, LeadsOn}
 use Rattle.law_network.proofs.Standing.Turning.{begins, raised, ends, number-is, layout-is, stands-there}
 use Rattle.law_network.specs.History.{EventsStand}
 use Rattle.law_network.proofs.Events.Entering.{enters}
+use Rattle.law_network.proofs.Events.Seeing.{shown-stands}
 use Rattle.law_network.proofs.Events.HavePlaces.{have-places}
 use Rattle.law_network.proofs.Events.Cases.{commands-stand, packets-stand}
 use Rattle.law_network.proofs.Standing.Given.{IsGiven, Comes}
@@ -160,6 +161,9 @@ event-stays n past (Deliver k a b) shape h w r =
     let two = and_parts (is_some (slice_get n.callers k) && has_place n.layout a && has_place n.layout b) (not (a == b)) h in
     let one = and_parts (is_some (slice_get n.callers k) && has_place n.layout a) (has_place n.layout b) two.0 in
     delivered-stands n past k a b (slice_get n.callers k) shape w r refl one.1 (not-true (a == b) two.1)
+event-stays n past (See k c) shape h w r =
+    let now = happened (See k c) n in
+    stay (λ past. Stands now past × IsReady now past) past (shown-stands n past k c (slice_get n.callers k) refl w r)
 
 pub events-stand : EventsStand
 events-stand n past e shape h w r =

@@ -18,7 +18,7 @@ use Rattle.law_machine.specs.Own.{own}
 use Rattle.law_machine.specs.PlaceMachine.{begun_by, act, work}
 use Rattle.law_machine.proofs.Machine.Stays.{act-stays, work-stays}
 use Rattle.law_network.specs.Packets.{first_on, rest_on}
-use Rattle.law_network.specs.Network.{NetState, place_numbers, opening, Event, Enter, Act, Deliver, place, place_in, with_place, ended, turn_for, commanded, works_off, delivered, happened, schedule}
+use Rattle.law_network.specs.Network.{NetState, place_numbers, opening, Event, Enter, Act, Deliver, See, place, place_in, with_place, ended, turn_for, commanded, works_off, delivered, shown, happened, schedule}
 use Rattle.law_network.specs.Stands.{Stands}
 use Rattle.law_network.specs.Ready.{IsReady}
 use Rattle.law_network.specs.Schedules.{may_happen, may_be}
@@ -97,6 +97,10 @@ delivered-new : (n : NetState) (past new : List Entry) (k x y : ℕ) (o : Option
 delivered-new n past new k x y None inside s r = no-entries n n past new s r (λ i. refl)
 delivered-new n past new k x y (Some caller) inside s r = worked-new n past new k x y caller (first_on x y n.packets) inside s r
 
+shown-new : (n : NetState) (past new : List Entry) (k c : ℕ) (o : Option Seated) → Stands n past → Stands (shown k c o n) (new ++ past) → new ≡ []
+shown-new n past new k c None s r = no-entries n n past new s r (λ i. refl)
+shown-new n past new k c (Some caller) s r = no-entries n (shown k c (Some caller) n) past new s r (λ i. refl)
+
 event-new : (n : NetState) (past new : List Entry) (e : Event) → IsLayout n.layout → may_happen e n ≡ true → Stands n past → Stands (happened e n) (new ++ past) → new ≡ said_by e n
 event-new n past new (Enter actor last) shape h s r = no-entries n (happened (Enter actor last) n) past new s r (λ i. refl)
 event-new n past new (Act k c) shape h s r =
@@ -105,6 +109,7 @@ event-new n past new (Deliver k x y) shape h s r =
     let two = and_parts (is_some (slice_get n.callers k) && has_place n.layout x && has_place n.layout y) (not (x == y)) h in
     let one = and_parts (is_some (slice_get n.callers k) && has_place n.layout x) (has_place n.layout y) two.0 in
     delivered-new n past new k x y (slice_get n.callers k) one.1 s r
+event-new n past new (See k c) shape h s r = shown-new n past new k c (slice_get n.callers k) s r
 
 -- nothing happened yet
 new-place : (l : Layout) (p : ℕ) (ks : List ℕ) → place_in l p (map (started l) ks) ≡ started l p

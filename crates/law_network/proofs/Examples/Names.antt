@@ -12,7 +12,7 @@ use Rattle.chorus_entry.specs.declared.packet.Cargo.{Cargo}
 use Rattle.law_machine.specs.declared.outgoing.Outgoing.{Outgoing}
 use Rattle.law_network.specs.declared.placed.Placed.{Placed}
 use Rattle.law_machine.specs.declared.reply.Reply.{Reply}
-use Rattle.law_network.specs.Network.{NetState, Event, Enter, Act as Acts, Deliver, opening, happened, schedule, replied}
+use Rattle.law_network.specs.Network.{NetState, Event, Enter, Act as Acts, Deliver, See, opening, happened, schedule, replied}
 
 -- by site and number
 abbrev pub actor : ℕ → ℕ → Ui
@@ -52,6 +52,7 @@ abbrev pub reply_at : Event → NetState → Option Reply
 reply_at (Enter actor last) n = None
 reply_at (Acts seat command) n = replied seat command n
 reply_at (Deliver seat from to) n = None
+reply_at (See seat clock) n = None
 
 abbrev pub replies_from : NetState → List Event → List Reply
 replies_from n [] = []

@@ -10,7 +10,7 @@ use Rattle.law_machine.specs.PlaceState.{PlaceState, Turn, started}
 use Rattle.law_machine.specs.PlaceMachine.{act, work, begun_by}
 use Rattle.law_machine.proofs.Machine.Stays.{act-stays, work-stays}
 use Rattle.law_network.specs.Packets.{first_on, rest_on}
-use Rattle.law_network.specs.Network.{NetState, Event, Enter, Act, Deliver, place, place_in, place_numbers, ended, turn_for, commanded, works_off, delivered, happened, schedule}
+use Rattle.law_network.specs.Network.{NetState, Event, Enter, Act, Deliver, See, place, place_in, place_numbers, ended, turn_for, commanded, works_off, delivered, shown, happened, schedule}
 use Rattle.law_network.specs.Stands.{AreOf}
 use Rattle.law_network.proofs.Places.PlacesStay.{with-numbers, with-layouts}
 
@@ -54,10 +54,15 @@ delivered-keeps : (l : Layout) (k a b : ℕ) (o : Option Seated) (n : NetState) 
 delivered-keeps l k a b None n h = h
 delivered-keeps l k a b (Some caller) n h = worked-keeps l k a b caller (first_on a b n.packets) n h
 
+shown-keeps : (l : Layout) (k c : ℕ) (o : Option Seated) (n : NetState) → Keeps l n → Keeps l (shown k c o n)
+shown-keeps l k c None n h = h
+shown-keeps l k c (Some caller) n h = record { layout = h.layout; numbers = h.numbers; layouts = h.layouts }
+
 happened-keeps : (l : Layout) (e : Event) (n : NetState) → Keeps l n → Keeps l (happened e n)
 happened-keeps l (Enter actor last) n h = record { layout = h.layout; numbers = h.numbers; layouts = h.layouts }
 happened-keeps l (Act k c) n h = commanded-keeps l k c (slice_get n.callers k) n h
 happened-keeps l (Deliver k a b) n h = delivered-keeps l k a b (slice_get n.callers k) n h
+happened-keeps l (See k c) n h = shown-keeps l k c (slice_get n.callers k) n h
 
 started-numbers : (l : Layout) (ks : List ℕ) → map (λ (s : PlaceState). s.number) (map (started l) ks) ≡ ks
 started-numbers l [] = refl

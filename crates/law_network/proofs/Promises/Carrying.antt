@@ -15,7 +15,7 @@ use Rattle.law_machine.specs.PlaceState.{Turn, next_entry}
 use Rattle.law_machine.specs.Own.{own}
 use Rattle.law_machine.specs.PlaceMachine.{begun_by, act, work}
 use Rattle.law_network.specs.Packets.{is_link, is_link_before, put, put_all, first_on, rest_on}
-use Rattle.law_network.specs.Network.{NetState, Event, Enter, Act, Deliver, place, turn_for, commanded, works_off, delivered, happened, schedule, one_if}
+use Rattle.law_network.specs.Network.{NetState, Event, Enter, Act, Deliver, See, place, turn_for, commanded, works_off, delivered, shown, happened, schedule, one_if}
 use Rattle.law_network.specs.History.{newer, taken_with, taken_on, taken_at, put_in, said_by, put_by, history, all_put}
 use Rattle.law_network.specs.Promises.{carries_over}
 use Rattle.law_network.proofs.Events.Said.{said, said_with, said_on, said_at, act-goes, work-goes, newer-is}
@@ -116,10 +116,15 @@ module _ (x : MsgId) where
   delivered-balance k a b None n = nothing n.packets
   delivered-balance k a b (Some caller) n = worked-balance k a b caller (first_on a b n.packets) n refl
 
+  shown-balance : (k c : ℕ) (o : Option Seated) (n : NetState) → Balance [] [] n.packets (shown k c o n).packets
+  shown-balance k c None n = nothing n.packets
+  shown-balance k c (Some caller) n = nothing n.packets
+
   event-balance : (e : Event) (n : NetState) → Balance (put_by e n) (said_by e n) n.packets (happened e n).packets
   event-balance (Enter actor last) n = nothing n.packets
   event-balance (Act k c) n = given-balance k c (slice_get n.callers k) n
   event-balance (Deliver k a b) n = delivered-balance k a b (slice_get n.callers k) n
+  event-balance (See k c) n = shown-balance k c (slice_get n.callers k) n
 
   pub all-tries : (l : Layout) (es : List Event) → count (is_try_of x) (all_put l es) ≡ tries_of x (history l es)
   all-tries l [] = refl

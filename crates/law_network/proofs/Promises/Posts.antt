@@ -43,7 +43,7 @@ use Rattle.law_machine.specs.PlaceState.{PlaceState, next_entry}
 use Rattle.law_machine.specs.Own.{own, next_port, next_group, take_act, move_act, delete_act, held_by, call_act, retry_act, cancel_act, reply_act, next_message}
 use Rattle.law_machine.specs.PlaceMachine.{begun_by}
 use Rattle.law_network.specs.Packets.{first_on}
-use Rattle.law_network.specs.Network.{NetState, Event, Enter, Act as Acts, Deliver, place, turn_for, schedule}
+use Rattle.law_network.specs.Network.{NetState, Event, Enter, Act as Acts, Deliver, See, place, turn_for, schedule}
 use Rattle.law_network.specs.Records.{as_called, outstanding_as, outstanding}
 use Rattle.law_network.specs.Stands.{Stands}
 use Rattle.law_network.specs.Schedules.{has_number_left, may_give, may_happen, may_be}
@@ -290,3 +290,4 @@ module _ (l : Layout) (shape : IsLayout l) where
   history-fits (Deliver k a b ∷ es) may =
       let two = and_parts (may_happen (Deliver k a b) (schedule l es)) (may_be l es) may in
       All-append PostsFit (said_by (Deliver k a b) (schedule l es)) (history l es) (delivered-fits a b (slice_get (schedule l es).callers k) (schedule l es)) (history-fits es two.1)
+  history-fits (See k c ∷ es) may = history-fits es (and_parts (may_happen (See k c) (schedule l es)) (may_be l es) may).1

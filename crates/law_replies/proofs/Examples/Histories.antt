@@ -87,7 +87,7 @@ takes (suc zero) = (
 )
 takes (suc (suc p)) = refl
 
-follows : (q : ℕ) → Follows ((at_start one_place comers).callers q) (of_seats q) (callers_end q)
+follows : (q : ℕ) → Follows (machine one_place) ((at_start one_place comers).callers q) (of_seats q) (callers_end q)
 follows zero = (refl, (refl, refl))
 follows (suc q) = refl
 

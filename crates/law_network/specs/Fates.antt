@@ -1,9 +1,11 @@
 -- What becomes of each message that a port accepted: it was received, or discarded with its deleted port, or it waits
 -- in one record or one Transfer. q and r are ports, i and j positions in them, x is the id of a message. A past has its
 -- newest entry first.
-use Rattle.std.specs.Prelude.{ℕ, ◌≡◌, ◌≤◌, ◌-◌, ◌↔◌, List, [], ◌∷◌, Some, slice_get}
+use Rattle.std.specs.Prelude.{ℕ, ◌≡◌, ◌≤◌, ◌-◌, ◌↔◌, true, List, [], ◌∷◌, Some, slice_get}
 use Rattle.std.specs.List.{All, flat_map}
 use Rattle.chorus_ui.specs.declared.ui.Ui.{Ui}
+use Rattle.chorus_ui.specs.declared.layout.Layout.{Layout}
+use Rattle.chorus_ui.specs.Layout.{IsLayout}
 use Rattle.chorus_entry.specs.declared.entry.Entry.{Entry}
 use Rattle.chorus_entry.specs.declared.id.MsgId.{MsgId}
 use Rattle.chorus_entry.specs.declared.act.Act.{Act}
@@ -11,8 +13,10 @@ use Rattle.chorus_entry.specs.declared.act.Act.TheVariants.{Make}
 use Rattle.chorus_world.specs.Views.{on}
 use Rattle.chorus_world.specs.Fates.{MessageFate}
 use Rattle.chorus_world.specs.Fates.MessageFate.{Received, Discarded}
+use Rattle.chorus_world.specs.Steps.{is_legal}
+use Rattle.chorus_world.specs.Always.{LayoutAlways}
 use Rattle.chorus_world.specs.AcceptedLaws.{accepted_by, taken_by, received, discarded}
-use Rattle.law_network.specs.Holdings.{Holding, holding_told}
+use Rattle.law_network.specs.Holdings.{Holding, holding_told, StandsFor}
 use Rattle.law_network.specs.EachMessage.{StandsByFate, HoldsAccepted}
 
 -- The records and Transfers of the world at a moment.
@@ -62,3 +66,13 @@ pub record HoldsByFate (past : List Entry) (holdings : List Holding) : Type 0 wh
 -- so it is of the records and Transfers of the world
 abbrev pub WorldHolds : List Entry → Type 0
 WorldHolds past = HoldsByFate past (holdings_told past)
+
+-- it always is, of a legal list over a layout that may be
+abbrev pub WorldsHoldByFate : Type 0
+WorldsHoldByFate = LayoutAlways WorldHolds
+
+-- and of all holdings that stand for such a list
+abbrev pub HoldingsHoldByFate : Type 0
+HoldingsHoldByFate =
+    (l : Layout) (past : List Entry) (holdings : List Holding) → IsLayout l → is_legal l past ≡ true →
+    StandsFor past holdings → HoldsByFate past holdings

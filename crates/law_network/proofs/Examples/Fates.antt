@@ -15,8 +15,8 @@ use Rattle.chorus_world.specs.Fates.{MessageFate}
 use Rattle.chorus_world.specs.Fates.MessageFate.{Received, Queued, UnderWay, Discarded}
 use Rattle.law_network.specs.Holdings.{Holding, At}
 use Rattle.law_network.specs.EachMessage.{HoldsAccepted}
-use Rattle.chorus_report.specs.Fates.{holdings_told, HasFate, HoldsByFate, WorldHolds}
-use Rattle.chorus_report.proofs.Holding.{world-holds}
+use Rattle.law_network.specs.Fates.{holdings_told, HasFate, HoldsByFate, WorldHolds}
+use Rattle.law_network.proofs.Holdings.ByFate.{world-holds}
 
 abbrev one_site : Layout
 one_site = record { sites = 1; turns = 1 }

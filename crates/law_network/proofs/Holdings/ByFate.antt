@@ -31,7 +31,7 @@ use Rattle.law_network.specs.UnderWay.{before_last}
 use Rattle.law_network.specs.Holdings.{Holding, At, OnTheWay, holds, told_in, told_of, holding_told, StandsFor}
 use Rattle.law_network.specs.EachMessage.{StandsByFate}
 use Rattle.law_network.proofs.Holdings.EachMessage.{holdings-hold-each}
-use Rattle.chorus_report.specs.Fates.{ports_in, with_made, holdings_told, HasFate, HoldsByFate, WorldHolds}
+use Rattle.law_network.specs.Fates.{ports_in, with_made, holdings_told, HasFate, HoldsByFate, WorldHolds}
 
 -- Each port is made once.
 
